@@ -1,0 +1,32 @@
+-- Tokens with their lines.
+use Rattle.std.specs.Prelude.{◌≡◌, ◌≢◌, ℕ, List, [], ◌∷◌, map, Option, Some, None}
+use Rattle.qbf_text.specs.declared.token.Token.{Token}
+use Rattle.qbf_text.specs.declared.token.Token.TheVariants as token
+
+-- a token and its line
+abbrev pub Lined : Type 0
+Lined = Token × ℕ
+
+-- the tokens without their lines
+abbrev pub unlined : List Lined → List Token
+unlined ts = map (λ t. t.0) ts
+
+-- End comes last, and nowhere else
+abbrev pub EndsOnce : List Lined → Type 0
+EndsOnce [] = ⊥
+EndsOnce (t ∷ []) = t.0 ≡ token.End
+EndsOnce (t ∷ u ∷ ts) = (t.0 ≢ token.End) × EndsOnce (u ∷ ts)
+
+-- the tokens that are left, where the source tells its bytes
+abbrev pub Known : Type 0
+Known = Option (List Lined)
+
+-- with a token put on the front
+abbrev pub put_on : Token → ℕ → Known → Known
+put_on t line None = None
+put_on t line (Some ts) = Some ((t, line) ∷ ts)
+
+-- how much a token uses up of what can still come
+abbrev pub weight : Token → ℕ
+weight token.End = 0
+weight t = 1

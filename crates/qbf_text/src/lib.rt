@@ -1,0 +1,16 @@
+//! Bytes in and out, and the tokens of QDIMACS and QRP texts.
+#![tactic(auto)]
+
+mod pieces;
+mod run;
+mod scanner;
+mod sink;
+mod source;
+mod token;
+mod window;
+
+pub use pieces::{PieceSink, PieceSource};
+pub use scanner::{ScanFault, Scanner};
+pub use sink::{put_bytes, put_number, Sink, SinkFault, ToWrite, VecSink};
+pub use source::{FromRead, SliceSource, Source, SourceFault};
+pub use token::{Comments, Token, Word};

@@ -1,0 +1,206 @@
+ghost use Rattle.std.specs.Prelude.{◌≡◌, ℕ, ◌+◌, ◌-◌, ◌^◌, ◌<◌, ◌≤◌, Option, Some, None, List, [], ◌∷◌, ◌++◌, length, take, drop, IfSome, IfNone, false, true, ◌≢◌, IsOk, IsErr, IfOk, OnOk, OnErr};
+ghost use Rattle.std.specs.Io.KnownBytes.{Consumes, IsAtEnd};
+ghost use Rattle.qbf_text.specs.Ahead.{ahead, first_of};
+ghost use Rattle.qbf_text.specs.Tokens.{kind, is_blank, is_line_end};
+ghost use Rattle.qbf_text.specs.Left.{is_separator, IsUnbroken, IsWithinLine, EndsRun, EndsLine, Gives, is_end};
+
+use crate::run::Run;
+use crate::source::{Source, SourceFault};
+use crate::token::{Comments, Token};
+use crate::window::Window;
+use std::marker::Model;
+
+fn is_blank(byte: u8) -> bool
+    ensures { result ≡ is_blank byte }
+{
+    byte == b' ' || byte == b'\t' || byte == b'\r'
+}
+
+fn is_separator(byte: u8) -> bool
+    ensures { result ≡ is_separator byte }
+{
+    is_blank(byte) || byte == b'\n'
+}
+
+/// Goes to the end of the line.
+fn skip_line<S: Source>(window: &mut Window, source: &mut S) -> Result<(), SourceFault>
+    ensures skipped { OnOk result ((skipped : List ℕ) × IsWithinLine skipped
+        × Consumes (ahead window.old (S.remaining source.old)) (ahead window.new (S.remaining source.new)) skipped) }
+    ensures end { OnOk result (IfSome (ahead window.new (S.remaining source.new)) EndsLine) }
+    ensures bound { OnOk result (length window.new + S.bound source.new ≤ length window.old + S.bound source.old) }
+    ensures ok { OnOk result (S.failures source.new ≡ S.failures source.old) }
+    ensures err { OnErr result (S.failures source.old < 2 ^ 64 - 1 → S.failures source.old < S.failures source.new) }
+{
+    while let Some(byte) = window.peek(source)? {
+        if byte == b'\n' {
+            break;
+        }
+        window.advance();
+    }
+    Ok(())
+}
+
+/// The kind of the run that begins with `first`, which was taken, and goes on with what is ahead.
+fn read_run<S: Source>(first: u8, window: &mut Window, source: &mut S) -> Result<Token, SourceFault>
+    ensures run { IfOk result (λ token. (more : List ℕ) × (token ≡ kind (first ∷ more)) × IsUnbroken more
+        × Consumes (ahead window.old (S.remaining source.old)) (ahead window.new (S.remaining source.new)) more) }
+    ensures end { OnOk result (IfSome (ahead window.new (S.remaining source.new)) EndsRun) }
+    ensures bound { OnOk result (length window.new + S.bound source.new ≤ length window.old + S.bound source.old) }
+    ensures ok { OnOk result (S.failures source.new ≡ S.failures source.old) }
+    ensures err { OnErr result (S.failures source.old < 2 ^ 64 - 1 → S.failures source.old < S.failures source.new) }
+{
+    let mut run = Run::new();
+    run.push(first);
+    while let Some(byte) = window.peek(source)? {
+        if is_separator(byte) {
+            break;
+        }
+        run.push(byte);
+        window.advance();
+    }
+    Ok(run.kind())
+}
+
+/// Where the next byte stands in the text.
+#[derive(Drop)]
+struct Place {
+    comments: Comments,
+    line: u64,
+    /// Whether a token stands before it on its line.
+    begun: bool,
+    window: Window,
+}
+
+impl Place {
+    ghost use Rattle.qbf_text.specs.Places.{left_at};
+    ghost use Rattle.qbf_text.specs.declared.token.Token.TheVariants.{End};
+
+    /// The next token, or None at the end.
+    fn scan<S: Source>(&mut self, source: &mut S) -> Result<Option<Token>, SourceFault>
+        ensures some { IfOk result (λ found. IfSome found (λ token.
+            Gives (left_at self.old (S.remaining source.old)) (left_at self.new (S.remaining source.new)) ((token, self.new.line) ∷ []))) }
+        ensures no_end { IfOk result (λ found. IfSome found (λ token. is_end token ≡ false)) }
+        ensures none { IfOk result (λ found. IfNone found
+            (Gives (left_at self.old (S.remaining source.old)) (left_at self.new (S.remaining source.new)) []
+            × IfSome (left_at self.new (S.remaining source.new)) (λ left. left ≡ (End, self.new.line) ∷ []))) }
+        ensures at_end { IfOk result (λ found. IfNone found (IsAtEnd (S.remaining source.new))) }
+        ensures bound { IfOk result (λ found. IfSome found (λ _.
+            length self.new.window + S.bound source.new < length self.old.window + S.bound source.old)) }
+        ensures no_more { OnOk result (length self.new.window + S.bound source.new ≤ length self.old.window + S.bound source.old) }
+        ensures ok { OnOk result (S.failures source.new ≡ S.failures source.old) }
+        ensures err { OnErr result (S.failures source.old < 2 ^ 64 - 1 → S.failures source.old < S.failures source.new) }
+    {
+        // The proof reads here that the number has 64 bits.
+        let _line = self.line;
+        while let Some(byte) = self.window.peek(source)? {
+            if byte == b'\n' {
+                self.window.advance();
+                self.line = self.line.saturating_add(1);
+                self.begun = false;
+            } else if is_blank(byte) {
+                self.window.advance();
+            } else if !self.begun && self.comments.begins_with(byte) {
+                self.window.advance();
+                skip_line(&mut self.window, source)?;
+            } else {
+                self.window.advance();
+                let token = read_run(byte, &mut self.window, source)?;
+                self.begun = true;
+                return Ok(Some(token));
+            }
+        }
+        Ok(None)
+    }
+}
+
+/// The source failed.
+#[derive(Clone, Copy, Debug)]
+pub struct ScanFault;
+
+#[derive(Clone, Copy)]
+enum State {
+    Open,
+    Ended,
+    Failed,
+}
+
+/// Reads a text token by token, in the same room for tokens of any length.
+#[derive(Drop)]
+pub struct Scanner {
+    place: Place,
+    state: State,
+}
+
+impl Model for Scanner {
+    ghost use Rattle.qbf_text.specs.Reading.{Reading};
+
+    ghost Value = { Reading };
+
+    ghost view = { λ s. record {
+      comments = s.place.comments;
+      line = s.place.line;
+      begun = s.place.begun;
+      pending = s.place.window;
+      state = s.state;
+    } };
+}
+
+impl Scanner {
+    ghost use Rattle.qbf_text.specs.Tokens.{tokens};
+    ghost use Rattle.qbf_text.specs.Reading.{left, GivesNext, HasEnded, HasFailed, IsReady};
+
+    #[tactic(auto, unfolding(crate::specs::Reading::left))]
+    pub fn new(comments: Comments) -> Scanner
+        ensures left { (bytes : List ℕ) → left result (Some bytes) ≡ Some (tokens comments bytes) }
+        ensures open { ¬ HasEnded result × ¬ HasFailed result }
+    {
+        Scanner {
+            place: Place {
+                comments,
+                line: 1,
+                begun: false,
+                window: Window::new(),
+            },
+            state: State::Open,
+        }
+    }
+
+    /// The next token and its line.
+    #[tactic(auto, unfolding(crate::specs::Reading::left))]
+    pub fn next_token<S: Source>(&mut self, source: &mut S) -> Result<(Token, u64), ScanFault>
+        ensures token { IfOk result (λ token.
+            GivesNext (left self.old (S.remaining source.old)) (left self.new (S.remaining source.new)) token) }
+        // With each token but End less can still come.
+        ensures bound { IfOk result (λ token. is_end token.0 ≡ false →
+            length self.new.pending + S.bound source.new < length self.old.pending + S.bound source.old) }
+        ensures no_more { OnOk result (length self.new.pending + S.bound source.new ≤ length self.old.pending + S.bound source.old) }
+        // End and a fault are given for good, and nothing is pulled then.
+        ensures end { IfOk result (λ token. is_end token.0 ≡ true → HasEnded self.new) }
+        // No byte remains behind End.
+        ensures ready { OnOk result (IsReady self.old (S.remaining source.old) → IsReady self.new (S.remaining source.new)) }
+        ensures ended { HasEnded self.old → IsOk result × (self.new ≡ self.old) × (source.new ≡ source.old) }
+        ensures fault { OnErr result (HasFailed self.new) }
+        ensures failed { HasFailed self.old → IsErr result × (self.new ≡ self.old) × (source.new ≡ source.old) }
+        // A fault is first given where the source failed in the call.
+        ensures ok { OnOk result (S.failures source.new ≡ S.failures source.old) }
+        ensures err { OnErr result (¬ HasFailed self.old →
+            S.failures source.old < 2 ^ 64 - 1 → S.failures source.old < S.failures source.new) }
+    {
+        match self.state {
+            State::Failed => return Err(ScanFault),
+            State::Ended => return Ok((Token::End, self.place.line)),
+            State::Open => {}
+        }
+        match self.place.scan(source) {
+            Ok(Some(token)) => Ok((token, self.place.line)),
+            Ok(None) => {
+                self.state = State::Ended;
+                Ok((Token::End, self.place.line))
+            }
+            Err(_) => {
+                self.state = State::Failed;
+                Err(ScanFault)
+            }
+        }
+    }
+}

@@ -1,0 +1,191 @@
+-- Reading from the first token on, to the formula or to the first fault.
+use Rattle.std.specs.Prelude.{◌≡◌, ℕ, zero, suc, ◌≤◌, Bool, true, false, List, [], ◌∷◌, ◌++◌, length, map, Option, Some, None, IfSome, Result, Ok, Err, nat_lt, nat_eq, if◌then◌else◌}
+use Rattle.qbf_core.specs.declared.quantifier.Quantifier.{Quantifier}
+use Rattle.qbf_core.specs.declared.quantifier.Quantifier.TheVariants.{All, Exists}
+use Rattle.qbf_core.specs.Literal.{Literal}
+use Rattle.qbf_core.specs.Blocks.{Block, pairs, blocks_of, is_bound}
+use Rattle.qbf_core.specs.Qbf.{Qbf}
+use Rattle.qdimacs.specs.declared.fault.FormulaFault.{FormulaFault}
+use Rattle.qdimacs.specs.declared.fault.FormulaFault.TheVariants.{F2, F3, F4, F5, F6, F7, F8, F9, F1}
+use Rattle.qbf_text.specs.declared.token.Token.{Token}
+use Rattle.qbf_text.specs.declared.token.Token.TheVariants as token
+use Rattle.qbf_text.specs.declared.token.Word.TheVariants as word
+use Rattle.qbf_text.specs.Lined.{Lined}
+use Rattle.qbf_text.specs.Lined.{Known}
+use Rattle.qbf_text.specs.declared.token.Comments.TheVariants.{Qdimacs}
+use Rattle.qbf_text.specs.Tokens as text
+
+pub record Heading : Type 0 where
+  pub max_var : ℕ
+  pub count : ℕ
+
+-- Where a token stands, after what the tokens before it spell.
+pub data Place : Type 0 where
+  -- in the header
+  AtP : Place
+  AtCnf : Place
+  AtVars : Place
+  AtCount : (max_var : ℕ) → Place
+  -- after whole sets and whole clauses
+  Between : Heading → List (Quantifier × ℕ) → List (List Literal) → Place
+  -- in a set, the pairs of its own variables the last
+  InSet : Heading → List (Quantifier × ℕ) → Quantifier → Place
+  -- in a clause that has begun with these literals
+  InClause : Heading → List (Quantifier × ℕ) → List (List Literal) → List Literal → Place
+
+-- What the row of a place makes of a token.
+pub data Row : Type 0 where
+  Goes : Place → Row
+  Ends : Qbf → Row
+  Fails : FormulaFault → Row
+
+-- ---- the header
+
+abbrev pub header_fault : Token → FormulaFault
+header_fault token.End = F7
+header_fault t = F2
+
+-- a number without `-` that a header may have
+abbrev pub header_number : Token → Option ℕ
+header_number (token.Number false n) = if nat_lt 2147483647 n then None else Some n
+header_number t = None
+
+abbrev pub number_row : (ℕ → Place) → Token → Option ℕ → Row
+number_row next t None = Fails (header_fault t)
+number_row next t (Some n) = Goes (next n)
+
+abbrev pub is_p : Token → Bool
+is_p (token.Word word.P) = true
+is_p t = false
+
+abbrev pub is_cnf : Token → Bool
+is_cnf (token.Word word.Cnf) = true
+is_cnf t = false
+
+abbrev pub word_row : Place → Token → Bool → Row
+word_row next t true = Goes next
+word_row next t false = Fails (header_fault t)
+
+-- ---- a set
+
+-- the variable that a token says in a set, or None where it closes the set
+abbrev pub member : ℕ → Token → Result (Option ℕ) FormulaFault
+member max_var (token.Number false zero) = Ok None
+member max_var (token.Number false (suc n)) = if nat_lt max_var (suc n) then Err F4 else Ok (Some (suc n))
+member max_var (token.Number true n) = Err F4
+member max_var token.Big = Err F4
+member max_var token.End = Err F7
+member max_var (token.Word w) = Err F3
+member max_var token.Bad = Err F3
+
+abbrev pub set_row : Heading → List (Quantifier × ℕ) → Quantifier → Result (Option ℕ) FormulaFault → Row
+set_row h ps q (Err f) = Fails f
+set_row h ps q (Ok None) = Goes (Between h ps [])
+set_row h ps q (Ok (Some v)) = if is_bound v ps then Fails F5 else Goes (InSet h (ps ++ (q, v) ∷ []) q)
+
+-- ---- a clause
+
+-- the literal that a token says in a clause, or None where it closes the clause
+abbrev pub literal_in : ℕ → List (Quantifier × ℕ) → Token → Result (Option Literal) FormulaFault
+literal_in max_var ps (token.Number false zero) = Ok None
+literal_in max_var ps (token.Number true zero) = Err F3
+literal_in max_var ps (token.Number negative (suc n)) =
+    if nat_lt max_var (suc n) then Err F4
+    else if is_bound (suc n) ps then Ok (Some (record { var = suc n; negative = negative })) else Err F6
+literal_in max_var ps token.Big = Err F4
+literal_in max_var ps token.End = Err F7
+literal_in max_var ps (token.Word w) = Err F3
+literal_in max_var ps token.Bad = Err F3
+
+abbrev pub clause_row : Heading → List (Quantifier × ℕ) → List (List Literal) → List Literal → Result (Option Literal) FormulaFault → Row
+clause_row h ps cs ls (Err f) = Fails f
+clause_row h ps cs ls (Ok None) = Goes (Between h ps (cs ++ ls ∷ []))
+clause_row h ps cs ls (Ok (Some l)) = Goes (InClause h ps cs (ls ++ l ∷ []))
+
+-- ---- between lists
+
+abbrev pub set_letter : Token → Option Quantifier
+set_letter (token.Word word.A) = Some All
+set_letter (token.Word word.E) = Some Exists
+set_letter t = None
+
+-- the set that a token begins: none, once a clause was begun
+abbrev pub begun_set : List (List Literal) → Token → Option Quantifier
+begun_set [] t = set_letter t
+begun_set (c ∷ cs) t = None
+
+-- whether clauses are still to come
+abbrev pub has_more : Heading → List (List Literal) → Bool
+has_more h cs = nat_lt (length cs) h.count
+
+-- what a token that begins no set says: that a clause begins (true), or that all is read (false)
+abbrev pub clause_or_end : Bool → Token → Result Bool FormulaFault
+clause_or_end true (token.Number negative n) = Ok true
+clause_or_end false (token.Number negative n) = Err F8
+clause_or_end true token.Big = Err F4
+clause_or_end false token.Big = Err F8
+clause_or_end true token.End = Err F8
+clause_or_end false token.End = Ok false
+clause_or_end more (token.Word w) = Err F3
+clause_or_end more token.Bad = Err F3
+
+abbrev pub between_row : Heading → List (Quantifier × ℕ) → List (List Literal) → Option Quantifier → Result Bool FormulaFault → Result (Option Literal) FormulaFault → Row
+between_row h ps cs (Some q) mark first = Goes (InSet h ps q)
+between_row h ps cs None (Err f) first = Fails f
+between_row h ps cs None (Ok true) first = clause_row h ps cs [] first
+between_row h ps cs None (Ok false) first = Ends (record { max_var = h.max_var; blocks = blocks_of ps; clauses = cs })
+
+-- ---- the whole
+
+abbrev pub row : Place → Token → Row
+row AtP t = word_row AtCnf t (is_p t)
+row AtCnf t = word_row AtVars t (is_cnf t)
+row AtVars t = number_row AtCount t (header_number t)
+row (AtCount v) t = number_row (λ c. Between (record { max_var = v; count = c }) [] []) t (header_number t)
+row (Between h ps cs) t =
+    between_row h ps cs (begun_set cs t) (clause_or_end (has_more h cs) t) (literal_in h.max_var ps t)
+row (InSet h ps q) t = set_row h ps q (member h.max_var t)
+row (InClause h ps cs ls) t = clause_row h ps cs ls (literal_in h.max_var ps t)
+
+-- What is read from a place on.
+unfoldable pub read_from : Place → List Lined → Result Qbf (FormulaFault × ℕ)
+read_from place [] = Err (F7, 0)
+read_from place (t ∷ ts) =
+    elim (row place t.0) [ Goes next ↦ read_from next ts | Ends f ↦ Ok f | Fails f ↦ Err (f, t.1) ]
+
+abbrev pub read : List Lined → Result Qbf (FormulaFault × ℕ)
+read ts = read_from AtP ts
+
+-- The same, where the tokens are told.
+abbrev pub reads_from : Place → Known → Option (Result Qbf (FormulaFault × ℕ))
+reads_from place None = None
+reads_from place (Some ts) = Some (read_from place ts)
+
+-- Who returned this fault did so as reading does, unless the source failed, untold or out of memory.
+abbrev pub Stops : FormulaFault → ℕ → Option (Result Qbf (FormulaFault × ℕ)) → Type 0
+Stops F1 line whole = Unit {0}
+Stops F9 line whole = Unit {0}
+Stops f line whole = IfSome whole (λ r. r ≡ Err (f, line))
+
+-- What was to be read, where that is known, is what is still to be read.
+abbrev pub Leads : Option (Result Qbf (FormulaFault × ℕ)) → Option (Result Qbf (FormulaFault × ℕ)) → Type 0
+Leads None rest = Unit {0}
+Leads (Some r) rest = rest ≡ Some r
+
+-- What was to be read is what is still to be read, or the fault that is returned.
+abbrev pub Continues : {X : Type 0} → (X → Option (Result Qbf (FormulaFault × ℕ))) → Result X (FormulaFault × ℕ) → Option (Result Qbf (FormulaFault × ℕ)) → Type 0
+Continues rest (Ok x) whole = Leads whole (rest x)
+Continues rest (Err e) whole = Stops e.0 e.1 whole
+
+abbrev pub Gives : Result Qbf (FormulaFault × ℕ) → Option (Result Qbf (FormulaFault × ℕ)) → Type 0
+Gives (Ok f) whole = IfSome whole (λ r. r ≡ Ok f)
+Gives (Err e) whole = Stops e.0 e.1 whole
+
+-- The same of bytes.
+abbrev pub read_formula : List ℕ → Result Qbf (FormulaFault × ℕ)
+read_formula bytes = read (text.tokens Qdimacs bytes)
+
+-- where the bytes are told
+abbrev pub reads_bytes : Option (List ℕ) → Option (Result Qbf (FormulaFault × ℕ))
+reads_bytes None = None
+reads_bytes (Some bytes) = Some (read_formula bytes)

@@ -1,0 +1,8 @@
+mod Rows
+pub mod Numbers
+pub mod Positions
+pub mod Leads
+pub mod Complete
+pub mod TextMore
+pub mod Sound
+pub mod Goes

@@ -1,0 +1,39 @@
+-- What contracts see of a trace (QRP).
+use Rattle.std.specs.Prelude.{◌<◌, ◌^◌, List, [], ◌∷◌, ◌++◌, map, length, nat_eq}
+use Rattle.std.specs.List.{AllByRecursion, IsDistinct}
+use Rattle.qbf_core.specs.Blocks.{Block, IsVariable}
+use Rattle.qrp.specs.declared.item.Header.{Header}
+use Rattle.qrp.specs.declared.item.Outcome.{Outcome}
+use Rattle.qrp.specs.declared.item.Item.{Item}
+use Rattle.qrp.specs.declared.item.Item.TheVariants as item
+use Rattle.qrp.specs.Inferences.{Inference, IsInference, numbers}
+
+-- a trace: its header, its sets and steps as written, and its result
+pub record Derivation : Type 0 where
+  pub header : Header
+  pub sets : List Block
+  pub steps : List Inference
+  pub result : Outcome
+
+-- what the grammar asks of sets and steps: their numbers are in range, and no two steps have one number
+pub record AreGrammatical (sets : List Block) (steps : List Inference) : Type 0 where
+  pub variables : AllByRecursion (λ s. AllByRecursion IsVariable s.vars) sets
+  pub inferences : AllByRecursion IsInference steps
+  pub distinct : IsDistinct nat_eq (numbers steps)
+
+-- every number is a number of 64 bits
+pub record FitsIn64 (d : Derivation) : Type 0 where
+  pub vars : d.header.vars < 2 ^ 64
+  pub steps : d.header.steps < 2 ^ 64
+  pub numbers_fit : AllByRecursion (λ n. n < 2 ^ 64) (numbers d.steps)
+  pub ants_fit : AllByRecursion (λ s. AllByRecursion (λ n. n < 2 ^ 64) s.ants) d.steps
+  pub count : length d.steps < 2 ^ 64
+
+-- what a kept trace meets
+pub record IsWellFormed (d : Derivation) : Type 0 where
+  pub grammatical : AreGrammatical d.sets d.steps
+  pub fits : FitsIn64 d
+
+-- the parts of a trace in order: its header, its sets, its steps and its result
+abbrev pub items_of : Derivation → List Item
+items_of d = item.Header d.header ∷ map item.Set d.sets ++ map item.Step d.steps ++ item.Result d.result ∷ []

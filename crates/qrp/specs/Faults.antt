@@ -1,0 +1,54 @@
+-- Where the first fault stands: the tokens before it are accepted, and the row of its place refuses it.
+use Rattle.std.specs.Prelude.{◌≡◌, ◌≤◌, ℕ, false, List, [], ◌∷◌, ◌++◌, map, length, Result, Ok, Err}
+use Rattle.std.specs.List.{AllByRecursion}
+use Rattle.qbf_core.specs.declared.quantifier.Quantifier.{Quantifier}
+use Rattle.qbf_core.specs.Literal.{Literal}
+use Rattle.qbf_core.specs.Blocks.{Block, IsVariable}
+use Rattle.qbf_text.specs.declared.token.Token.{Token}
+use Rattle.qbf_text.specs.declared.token.Token.TheVariants as token
+use Rattle.qbf_text.specs.declared.token.Word.TheVariants as word
+use Rattle.qbf_text.specs.Lined.{Lined, unlined}
+use Rattle.qrp.specs.declared.fault.TraceFault.{TraceFault}
+use Rattle.qrp.specs.declared.item.Header.{Header}
+use Rattle.qrp.specs.Inferences.{Inference, IsLiteral, IsNumber, numbers}
+use Rattle.qrp.specs.Derivations.{Derivation, AreGrammatical}
+use Rattle.qrp.specs.Grammar.{number, literal, letter, lists, IsTrace}
+use Rattle.qrp.specs.Reading.{Fault, Place, AtP, AtQrp, AtVars, AtSteps, Between, InSet, InLits, InAnts, AtResult, is_used, row, Fails}
+
+-- whole sets and whole steps with these numbers, before the tokens of a list that is begun
+pub record AreLists (ts begun : List Token) (ns : List ℕ) : Type 0 where
+  pub header : Header
+  pub sets : List Block
+  pub steps : List Inference
+  pub spelled : ts ≡ lists header sets steps ++ begun
+  pub numbered : numbers steps ≡ ns
+  pub grammatical : AreGrammatical sets steps
+
+-- The tokens before a place: an unfinished header, or whole sets and whole steps and then nothing, one begun list, or `r`.
+abbrev pub Spells : List Token → Place → Type 0
+Spells ts AtP = ts ≡ []
+Spells ts AtQrp = ts ≡ token.Word word.P ∷ []
+Spells ts AtVars = ts ≡ token.Word word.P ∷ token.Word word.Qrp ∷ []
+Spells ts (AtSteps v) = ts ≡ token.Word word.P ∷ token.Word word.Qrp ∷ number v ∷ []
+Spells ts (Between ns) = AreLists ts [] ns
+Spells ts (InSet q vs) = AreLists ts (letter q ∷ map number vs) [] × AllByRecursion IsVariable vs
+Spells ts (InLits ns n ls) = AreLists ts (number n ∷ map literal ls) ns
+    × IsNumber n × (is_used n ns ≡ false) × AllByRecursion IsLiteral ls
+Spells ts (InAnts ns n ls ants) = AreLists ts (number n ∷ (map literal ls ++ number 0 ∷ map number ants)) ns
+    × IsNumber n × (is_used n ns ≡ false) × AllByRecursion IsLiteral ls × AllByRecursion IsNumber ants × (length ants ≤ 2)
+Spells ts AtResult = (ns : List ℕ) × AreLists ts (token.Word word.R ∷ []) ns
+
+-- The fault stands on this line.
+pub record IsFault (ts : List Lined) (fault : TraceFault) (line : ℕ) : Type 0 where
+  pub before : List Lined
+  pub wrong : Token
+  pub after : List Lined
+  pub whole : ts ≡ before ++ (wrong, line) ∷ after
+  pub place : Place
+  pub stands : Spells (unlined before) place
+  pub refused : row place wrong ≡ Fails fault
+
+-- What the tokens read as: the trace that they spell, or the fault that stands.
+abbrev pub Reads : List Lined → Result Derivation Fault → Type 0
+Reads ts (Ok d) = IsTrace (unlined ts) d
+Reads ts (Err e) = IsFault ts e.0 e.1

@@ -1,0 +1,9 @@
+pub mod Inferences
+pub mod Derivations
+pub mod Kept
+pub mod Grammar
+pub mod Reading
+pub mod Faults
+pub mod Laws
+pub mod Given
+pub mod Parts

@@ -1,0 +1,16 @@
+//! Traces of Q-resolution proofs: reading them from bytes, keeping them, and writing their canonical text.
+#![tactic(auto)]
+
+mod fault;
+mod item;
+mod laws;
+mod reading;
+mod steps;
+mod tokens;
+mod trace;
+
+pub use fault::TraceFault;
+pub use item::{Header, Item, Outcome, QuantSet, Step};
+pub use laws::trace_laws;
+pub use steps::Steps;
+pub use trace::Trace;
