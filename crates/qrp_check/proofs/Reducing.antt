@@ -123,7 +123,7 @@ module _ (side : Side) (blocks : List Block) (reduced deciding : Quantifier) (bl
   resolvent_told a b to x n in_a in_b same is_a is_b both =
       let whole_n : IsInnermost blocks deciding None (resolvent a b n) block = innermost_resolvent blocks deciding a b n in_a in_b block is_a is_b both in
       subst (λ (y : ℕ). ((l : Literal) → l ∈ resolvent a b y → (l ∈ to) ⊎ IsReducible side blocks (resolvent a b y) l)
-          ↔ (((l : Literal) → l ∈ a → IsAccounted blocks reduced block (Some n) to l) × ((l : Literal) → l ∈ b → IsAccounted blocks reduced block (Some n) to l))) same (
+      ↔ (((l : Literal) → l ∈ a → IsAccounted blocks reduced block (Some n) to l) × ((l : Literal) → l ∈ b → IsAccounted blocks reduced block (Some n) to l))) same (
         (λ all. ((λ l h. resolvent_accounted a b to n whole_n all l (append_left a b l h)), (λ l h. resolvent_accounted a b to n whole_n all l (append_right a b l h)))),
         (λ each. resolvent_reducible a b to n whole_n each.0 each.1),
       )

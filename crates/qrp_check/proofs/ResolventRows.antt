@@ -40,8 +40,19 @@ module _ (side : Side) (blocks : List Block) (a b to : List Literal) where
 
   pub fails_left_out : (x : ℕ) → IsOnlyClash a b x → Decides x → to ⊆ resolvent a b x → (Accounts x → ⊥) → Fails S12
   fails_left_out x one d w not =
-      inr ((x, one.clashes), inr (one_at_most x one, inr (at_each x Decides one d, inr (at_each x (λ v. to ⊆ resolvent a b v) one w,
-          inl ((λ h. not (h x one.clashes)), refl)))))
+      inr (
+        (x, one.clashes),
+        inr (
+          one_at_most x one,
+          inr (
+            at_each x Decides one d,
+            inr (
+              at_each x (λ v. to ⊆ resolvent a b v) one w,
+              inl ((λ h. not (h x one.clashes)), refl),
+            ),
+          ),
+        ),
+      )
 
   pub all_hold : (x : ℕ) → IsOnlyClash a b x → Decides x → to ⊆ resolvent a b x → Accounts x → AllHold (resolvent_conditions side blocks a b to)
   all_hold x one d w acc =

@@ -30,12 +30,7 @@ pub fn is_bound_by(prefix: &Prefix, quantifier: Quantifier, var: Var) -> bool
 }
 
 /// The block of a variable that has the quantifier and is not left aside.
-fn block_if(
-    prefix: &Prefix,
-    quantifier: Quantifier,
-    spared: Option<u32>,
-    var: Var,
-) -> Option<usize>
+fn block_if(prefix: &Prefix, quantifier: Quantifier, spared: Option<u32>, var: Var) -> Option<usize>
     ensures { (k : ℕ) → IsAfter result k ↔ IsHeldBefore prefix.now quantifier spared var k }
 {
     if is_spared(spared, var) || !is_bound_by(prefix, quantifier, var) {

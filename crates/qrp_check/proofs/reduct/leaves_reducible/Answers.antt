@@ -18,7 +18,7 @@ returns-then-not-is_left c = (
       let i : ℕ = c.loop-lit.lit-index in
       let x : Literal = c.lit-item.result in
       let rest : IsSpared c.args.spared x.var ⊎ StandsAfter c.args.prefix.now c.args.reduced c.args.block x.var → IsSpared c.args.spared c.var.result ⊎ StandsAfter c.args.prefix.now c.args.reduced c.args.block c.var.result =
-          λ k. subst (λ (v : ℕ). IsSpared c.args.spared v ⊎ StandsAfter c.args.prefix.now c.args.reduced c.args.block v) (sym c.var.ensures) k in
+      λ k. subst (λ (v : ℕ). IsSpared c.args.spared v ⊎ StandsAfter c.args.prefix.now c.args.reduced c.args.block v) (sym c.var.ensures) k in
       c.if-not-is_left.ensures.1 (elim (all x (in_at c.args.from.now i x c.loop-lit-test.true c.lit-item.is)) [
         | inl h ↦ inl (c.seek-kept.ensures.found.1 (reach_in c.args.to.now c.loop-lit.rest.now c.args.from.now i x x c.loop-lit-test.true c.lit-item.is c.loop-lit.invariant.reach refl h))
         | inr k ↦ inr (rest k)
@@ -30,7 +30,7 @@ loop-lit-preserved c =
     let i : ℕ = c.loop-lit.lit-index in
     let x : Literal = c.lit-item.result in
     let left : IsTrue c.seek-kept.result.1 ⊎ (IsSpared c.args.spared x.var ⊎ StandsAfter c.args.prefix.now c.args.reduced c.args.block x.var) =
-        subst (λ (v : ℕ). IsTrue c.seek-kept.result.1 ⊎ (IsSpared c.args.spared v ⊎ StandsAfter c.args.prefix.now c.args.reduced c.args.block v)) c.var.ensures (c.if-not-is_left.ensures.0 refl) in
+    subst (λ (v : ℕ). IsTrue c.seek-kept.result.1 ⊎ (IsSpared c.args.spared v ⊎ StandsAfter c.args.prefix.now c.args.reduced c.args.block v)) c.var.ensures (c.if-not-is_left.ensures.0 refl) in
     let is : IsAccounted c.args.prefix.now c.args.reduced c.args.block c.args.spared c.args.to.now x = elim left [
       | inl t ↦ inl (c.loop-lit.invariant.reach.within x (c.seek-kept.ensures.found.0 t))
       | inr k ↦ inr k
