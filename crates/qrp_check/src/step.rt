@@ -51,7 +51,10 @@ fn earlier<'a, T: Steps>(
     ensures none { IfNone result (IsNumberOf (take place (T.steps trace.now)) number → ⊥) }
 {
     let index = trace.position(number)?;
-    match kept.get(index)? {
+    if index >= kept.len() {
+        return None;
+    }
+    match &kept[index] {
         Some(set) => Some(set),
         None => unreachable!(),
     }
@@ -124,6 +127,8 @@ fn antecedent_fault<S: Side, T: Steps>(
     ensures { IfOk result (λ fault. (step : Inference) → IsAt (T.steps trace.now) place step
         → IsAnswer (later_conditions S.side formula.now (take place (T.steps trace.now)) step) fault) }
 {
+    // The length comes with the fact that no step has more than two antecedents.
+    let _steps = trace.len();
     match trace.ants(place) {
         [] => S::initial_fault(alloc, formula, set),
         [number] => Ok(one_fault::<S, T>(formula, trace, place, kept, set, *number)),
