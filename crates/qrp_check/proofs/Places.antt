@@ -1,5 +1,5 @@
 -- Steps at their places.
-use Rattle.std.proofs.Common.{◌≡◌, ℕ, zero, suc, ◌<◌, ◌≤◌, Bool, true, false, List, [], ◌∷◌, Some, refl, sym, ap, ◌∙◌, arith, length, eqb, subst, inl, inr}
+use Rattle.std.proofs.Common.{◌≡◌, ℕ, zero, suc, ◌<◌, ◌≤◌, Bool, true, false, List, [], ◌∷◌, ◌++◌, ◌⊎◌, Some, refl, sym, ap, ◌∙◌, arith, length, eqb, subst, inl, inr}
 use Rattle.std.specs.Prelude.{slice_get}
 use Rattle.std.proofs.Math.Dec.{eqb-suc-zero}
 use Rattle.std.proofs.lemmas.Bool.{false≢true, cases_eq}
@@ -44,3 +44,20 @@ later_step steps i p is full later j step here empty = elim (cases_eq j p) [
   | inl e ↦ absurd (full step (subst (λ (k : ℕ). IsAt steps k step) e here) empty)
   | inr ne ↦ (let less : j < i = later j step here empty in omega (arith, less, is, ne))
 ]
+
+-- ---- a list with one more
+
+pub pushed_cases : {A : Type 0} (xs : List A) (x : A) (k : ℕ) (a : A) → slice_get (xs ++ x ∷ []) k ≡ Some a → (slice_get xs k ≡ Some a) ⊎ ((k ≡ length xs) × (a ≡ x))
+pushed_cases [] x zero a h = inr (refl, cc h)
+pushed_cases [] x (suc k) a h = cc h
+pushed_cases (y ∷ xs) x zero a h = inl h
+pushed_cases (y ∷ xs) x (suc k) a h = elim (pushed_cases xs x k a h) [ inl g ↦ inl g | inr (e, f) ↦ inr (ap suc e, f) ]
+
+pub pushed_old : {A : Type 0} (xs : List A) (x : A) (k : ℕ) (a : A) → slice_get xs k ≡ Some a → slice_get (xs ++ x ∷ []) k ≡ Some a
+pushed_old [] x k a h = cc h
+pushed_old (y ∷ xs) x zero a h = h
+pushed_old (y ∷ xs) x (suc k) a h = pushed_old xs x k a h
+
+pub pushed_new : {A : Type 0} (xs : List A) (x : A) → slice_get (xs ++ x ∷ []) (length xs) ≡ Some x
+pushed_new [] x = refl
+pushed_new (y ∷ xs) x = pushed_new xs x

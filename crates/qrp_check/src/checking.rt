@@ -55,17 +55,19 @@ impl Followed {
     }
 }
 
-/// The places of the core, where each of its steps follows from those before it.
+/// The places of the core beside what they show, where each of its steps follows from those before it.
 fn check_core<S: Side, T: Steps>(
     alloc: Global,
     formula: &Formula,
     trace: &T,
     goal: usize,
+    truth: bool,
     rules: Rules,
-) -> Result<Vec<usize>, CheckFault>
+) -> Result<Verified, CheckFault>
     requires { IsGoal (T.steps trace.now) goal }
     ensures derives { OnOk result (Derives S.side formula.now (T.steps trace.now)) }
-    ensures core { IfOk result (λ core. ListsCore (T.steps trace.now) core.items) }
+    ensures core { IfOk result (λ v. ListsCore (T.steps trace.now) v.core.items) }
+    ensures claim { IfOk result (λ v. v.truth ≡ truth) }
     ensures refused { IfErr result (IsCoreFault S.side formula.now (T.steps trace.now)) }
 {
     let Ok(marks) = mark_core(alloc, trace, goal) else {
@@ -86,7 +88,10 @@ fn check_core<S: Side, T: Steps>(
             Err(StepFault::Memory) => return Err(CheckFault::C5),
         }
     }
-    Ok(followed.core)
+    Ok(Verified {
+        truth,
+        core: followed.core,
+    })
 }
 
 /// Whether sets, steps and outcome of a trace prove the outcome of the formula.
@@ -123,13 +128,7 @@ pub fn check<T: Steps>(
         return Err(CheckFault::C4);
     };
     match outcome {
-        Outcome::Unsat => Ok(Verified {
-            truth: false,
-            core: check_core::<Clauses, T>(alloc, formula, trace, goal, rules)?,
-        }),
-        Outcome::Sat => Ok(Verified {
-            truth: true,
-            core: check_core::<Cubes, T>(alloc, formula, trace, goal, rules)?,
-        }),
+        Outcome::Unsat => check_core::<Clauses, T>(alloc, formula, trace, goal, false, rules),
+        Outcome::Sat => check_core::<Cubes, T>(alloc, formula, trace, goal, true, rules),
     }
 }
