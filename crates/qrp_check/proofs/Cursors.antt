@@ -5,7 +5,7 @@ use Rattle.std.specs.List.{IsFirstAndRest}
 use Rattle.qbf_core.specs.Literal.{Literal}
 use Rattle.qbf_core.specs.Lists.{◌∈◌, ◌⊆◌}
 use Rattle.qbf_core.specs.Sets.{IsOrdered}
-use Rattle.qbf_core.proofs.Members.{in_at, lit_test, lit_test_same}
+use Rattle.qbf_core.proofs.Members.{lit_test, lit_test_same}
 
 -- v is the variable of a literal of the list
 abbrev pub HasVar : List Literal → ℕ → Type 0

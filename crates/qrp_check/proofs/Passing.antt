@@ -1,8 +1,7 @@
 -- How far the sets of a trace agree: one pair more, and one list of pairs more.
-use Rattle.std.proofs.Common.{◌≡◌, ◌≤◌, ◌<◌, ◌+◌, ◌↔◌, ℕ, zero, suc, List, [], ◌∷◌, ◌++◌, ◌⊎◌, inl, inr, refl, sym, ap, subst, ◌∙◌, arith, length, get_or, take, drop, map, slice_get, Some, None, false}
+use Rattle.std.proofs.Common.{◌≡◌, ◌≤◌, ◌<◌, ◌+◌, ℕ, zero, suc, List, [], ◌∷◌, ◌++◌, ◌⊎◌, inl, inr, refl, sym, ap, subst, ◌∙◌, arith, length, get_or, take, drop, slice_get, Some}
 use Rattle.std.proofs.lemmas.List.{append_assoc}
 use Rattle.qbf_core.specs.declared.quantifier.Quantifier.{Quantifier}
-use Rattle.qbf_core.specs.Lists.{◌∈◌}
 use Rattle.qbf_core.specs.Blocks.{Block, Binds, IsBound, block_in, pairs, pairs_of_block}
 use Rattle.qbf_core.proofs.Bound.{binds_in, in_bound}
 use Rattle.qbf_core.proofs.Members.{in_push, push_in}

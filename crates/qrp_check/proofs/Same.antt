@@ -2,8 +2,7 @@
 use Rattle.std.proofs.Common.{◌≡◌, ℕ, List, [], ◌∷◌, ◌++◌, ◌⊎◌, Option, Some, None, inl, inr, refl, ◌∙◌}
 use Rattle.qbf_core.specs.Literal.{Literal, positive, negative}
 use Rattle.qbf_core.specs.Lists.{◌∈◌, ◌⊆◌}
-use Rattle.qbf_core.specs.Blocks.{Block, IsBound, AreBound}
-use Rattle.qbf_core.proofs.Bound.{in_all, bound_each}
+use Rattle.qbf_core.specs.Blocks.{Block}
 use Rattle.qbf_core.specs.Qbf.{Qbf}
 use Rattle.qbf_core.specs.Rules.{Side, Clauses, Cubes, IsReducible, IsReduct, Clashes, resolvent, IsInitial}
 use Rattle.qbf_core.specs.Sets.{HasMembersOf}
@@ -131,10 +130,7 @@ pub initial_same : (side : Side) (f : Qbf) (to to' : List Literal) → HasMember
 initial_same Clauses f to to' t = (refl, initial_to Clauses f to to' t, initial_to Clauses f to' to (same_back to to' t), tt)
 initial_same Cubes f to to' t = (refl, initial_to Cubes f to to' t, initial_to Cubes f to' to (same_back to to' t), tt)
 
--- the set of a list in its place: bound variables, and the answers of the tests
-pub bound_same : (blocks : List Block) (a b : List Literal) → HasMembersOf a b → AreBound blocks b → AreBound blocks a
-bound_same blocks a b s bound = in_all (λ l. IsBound blocks l.var) a (λ l h. bound_each blocks b bound l (s.0 l h))
-
+-- the answers of the tests, of the set of a list in its place
 pub reduct_answer : (side : Side) (blocks : List Block) (a a' to to' : List Literal) (answer : Option RuleFault) → HasMembersOf a a' → HasMembersOf to to'
     → IsAnswer (reduct_conditions side blocks a to) answer → IsAnswer (reduct_conditions side blocks a' to') answer
 reduct_answer side blocks a a' to to' answer s t =

@@ -56,7 +56,7 @@ fn set_block(prefix: &Prefix, set: &QuantSet, highest: usize) -> Result<usize, C
 /// They agree if each variable that they name is bound by the prefix, with that quantifier, and its block is no
 /// smaller than that of any variable named before it. The answer speaks of the first variable in file order that
 /// fails, and is the first of `C1`, `C2` and `C3` that fits it.
-pub fn sets_fault(prefix: &Prefix, sets: &[QuantSet]) -> Option<CheckFault>
+pub(crate) fn sets_fault(prefix: &Prefix, sets: &[QuantSet]) -> Option<CheckFault>
     ensures none { IfNone result (SetsAgree prefix.now sets.now) }
     ensures some { IfSome result (λ fault. IsSetFault prefix.now sets.now fault) }
 {

@@ -34,7 +34,7 @@ fn has_reduct(
 }
 
 /// Why the set is no initial clause.
-pub fn initial_clause_fault(
+pub(crate) fn initial_clause_fault(
     alloc: Global,
     formula: &Formula,
     set: &LitSet,
@@ -95,7 +95,7 @@ fn meets(set: &LitSet, clause: &[Lit]) -> bool
 }
 
 /// Why the set is no initial cube.
-pub fn initial_cube_fault(formula: &Formula, set: &LitSet) -> Option<RuleFault>
+pub(crate) fn initial_cube_fault(formula: &Formula, set: &LitSet) -> Option<RuleFault>
     ensures { IsAnswer (initial_condition Cubes formula.now set.now ∷ []) result }
 {
     for i in 0..formula.clauses() {

@@ -23,7 +23,7 @@ fn is_spared(spared: Option<u32>, var: Var) -> bool
 }
 
 /// Whether the quantifier binds a variable.
-pub fn is_bound_by(prefix: &Prefix, quantifier: Quantifier, var: Var) -> bool
+pub(crate) fn is_bound_by(prefix: &Prefix, quantifier: Quantifier, var: Var) -> bool
     ensures { IsTrue result ↔ Binds prefix.now quantifier var }
 {
     prefix.quantifier(var) == Some(quantifier)
@@ -40,14 +40,14 @@ fn block_if(prefix: &Prefix, quantifier: Quantifier, spared: Option<u32>, var: V
 }
 
 /// The inner one of two blocks.
-pub fn inner(a: Option<usize>, b: Option<usize>) -> Option<usize>
+pub(crate) fn inner(a: Option<usize>, b: Option<usize>) -> Option<usize>
     ensures { (k : ℕ) → IsAfter result k ↔ (IsAfter a k × IsAfter b k) }
 {
     a.max(b)
 }
 
 /// The innermost block of the literals that have the quantifier, where one variable may be left aside.
-pub fn innermost(
+pub(crate) fn innermost(
     prefix: &Prefix,
     quantifier: Quantifier,
     spared: Option<u32>,
@@ -97,7 +97,7 @@ fn is_left(
 }
 
 /// Whether each literal that is not kept stands after the block under the reduced quantifier, or is left aside.
-pub fn leaves_reducible(
+pub(crate) fn leaves_reducible(
     prefix: &Prefix,
     reduced: Quantifier,
     block: Option<usize>,
@@ -122,7 +122,7 @@ pub fn leaves_reducible(
 }
 
 /// Why one set is no reduct of the other, for a side with these quantifiers.
-pub fn reduct_by(
+pub(crate) fn reduct_by(
     prefix: &Prefix,
     reduced: Quantifier,
     deciding: Quantifier,

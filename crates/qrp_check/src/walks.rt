@@ -36,7 +36,7 @@ fn begins(lits: &[Lit], lit: Lit) -> bool
 }
 
 /// What is left of an ordered list from the variable of a literal on, and whether the literal is in it.
-pub fn seek(lits: &[Lit], lit: Lit) -> (&[Lit], bool)
+pub(crate) fn seek(lits: &[Lit], lit: Lit) -> (&[Lit], bool)
     requires { IsOrdered lits.now }
     ensures ordered { IsOrdered result.0.now }
     ensures within { result.0.now ⊆ lits.now }
@@ -48,7 +48,7 @@ pub fn seek(lits: &[Lit], lit: Lit) -> (&[Lit], bool)
 }
 
 /// Whether each literal of one ordered list is in the other.
-pub fn is_subset(part: &[Lit], whole: &[Lit]) -> bool
+pub(crate) fn is_subset(part: &[Lit], whole: &[Lit]) -> bool
     requires part { IsOrdered part.now }
     requires whole { IsOrdered whole.now }
     ensures { IsTrue result ↔ part.now ⊆ whole.now }

@@ -1,4 +1,4 @@
-use Rattle.std.proofs.Common.{◌+◌, ◌++◌, ℕ, List, take, drop, subst, sym}
+use Rattle.std.proofs.Common.{◌+◌, ℕ, List, take, drop, subst, sym}
 use Rattle.std.proofs.lemmas.List.{take_all}
 use Rattle.qbf_core.specs.Blocks.{Block, pairs, pairs_of_block}
 use Rattle.qrp_check.specs.Passed.{Passes, FailsIn}

@@ -1,10 +1,9 @@
-use Rattle.std.proofs.Common.{◌↔◌, ◌∙◌, arith, refl, sym, subst, inl, inr, List, IsTrue}
+use Rattle.std.proofs.Common.{◌↔◌, ◌∙◌, sym, subst, inl, inr, List, IsTrue}
 use Rattle.std.proofs.lemmas.Bool.{false≢true}
 use Rattle.qbf_core.specs.Literal.{Literal}
 use Rattle.qbf_core.specs.Blocks.{Block, AreBound}
 use Rattle.qbf_core.specs.Rules.{IsClean, IsReduct, Clauses}
 use Rattle.qbf_core.proofs.Bound.{all_in}
-use Rattle.qbf_core.proofs.Members.{in_take_all}
 use Rattle.qrp_check.proofs.Starts.{got_in, got_more}
 use Rattle.qrp_check.proofs.initial.initial_clause_fault.Goals as goal
 

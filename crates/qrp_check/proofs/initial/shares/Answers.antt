@@ -1,5 +1,5 @@
-use Rattle.std.proofs.Common.{refl, sym, subst, inl, inr, ◌∙◌}
-use Rattle.std.proofs.lemmas.Bool.{false≢true, true≢false}
+use Rattle.std.proofs.Common.{refl, subst, inl, inr}
+use Rattle.std.proofs.lemmas.Bool.{false≢true}
 use Rattle.qbf_core.specs.Literal.{Literal}
 use Rattle.qbf_core.specs.Lists.{◌∈◌}
 use Rattle.qbf_core.proofs.Members.{in_at, in_take_more, in_take_all}

@@ -1,4 +1,4 @@
-use Rattle.std.proofs.Common.{ℕ, ◌+◌, ◌↔◌, take, subst, inl, inr}
+use Rattle.std.proofs.Common.{ℕ, ◌+◌, ◌↔◌, take, subst}
 use Rattle.qbf_core.specs.Literal.{Literal}
 use Rattle.qbf_core.proofs.Members.{in_take_more, in_take_all}
 use Rattle.qbf_core.proofs.Order.{take_more_in, take_within}

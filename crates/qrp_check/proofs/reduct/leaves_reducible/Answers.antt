@@ -1,7 +1,6 @@
 use Rattle.std.proofs.Common.{ℕ, ◌⊎◌, IsTrue, refl, sym, subst, inl, inr}
 use Rattle.std.proofs.lemmas.Bool.{false≢true}
 use Rattle.qbf_core.specs.Literal.{Literal}
-use Rattle.qbf_core.specs.Lists.{◌∈◌}
 use Rattle.qbf_core.proofs.Members.{in_at, in_take_more, in_take_all}
 use Rattle.qrp_check.specs.Walks.{IsSpared, StandsAfter}
 use Rattle.qrp_check.proofs.Cursors.{reach_start, reach_more, reach_in}

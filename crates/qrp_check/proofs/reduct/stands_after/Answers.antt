@@ -1,4 +1,4 @@
-use Rattle.std.proofs.Common.{sym, ◌∙◌}
+use Rattle.std.proofs.Common.{sym}
 use Rattle.std.proofs.lemmas.Bool.{false≢true}
 use Rattle.qrp_check.proofs.Reducing.{binds_block}
 use Rattle.qrp_check.proofs.reduct.stands_after.Goals as goal
