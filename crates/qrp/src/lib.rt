@@ -2,6 +2,7 @@
 #![tactic(auto)]
 
 mod fault;
+mod index;
 mod item;
 mod laws;
 mod reading;
@@ -10,6 +11,7 @@ mod tokens;
 mod trace;
 
 pub use fault::TraceFault;
+pub use index::StepIndex;
 pub use item::{Header, Item, Outcome, QuantSet, Step};
 pub use laws::trace_laws;
 pub use steps::Steps;

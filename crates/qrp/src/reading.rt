@@ -79,7 +79,11 @@ fn push_literal(lits: &mut Vec<Lit>, lit: Lit) -> Result<(), Fault>
 }
 
 /// The literals of a step.
-fn read_literals<S: Source>(alloc: Global, scanner: &mut Scanner, source: &mut S) -> Result<Vec<Lit>, Fault>
+fn read_literals<S: Source>(
+    alloc: Global,
+    scanner: &mut Scanner,
+    source: &mut S,
+) -> Result<Vec<Lit>, Fault>
     requires ready { IsReady scanner.old (S.remaining source.old) }
     ensures reads { (ns : List ℕ) (n : ℕ) → Continues (λ lits. known_items (InAnts ns n lits.items []) (left scanner.new (S.remaining source.new))) result
         (known_items (InLits ns n []) (left scanner.old (S.remaining source.old))) }
@@ -116,7 +120,11 @@ fn has_room(ants: &Vec<u64>) -> bool
 }
 
 /// The antecedents of a step, with which it closes.
-fn read_antecedents<S: Source>(alloc: Global, scanner: &mut Scanner, source: &mut S) -> Result<Vec<u64>, Fault>
+fn read_antecedents<S: Source>(
+    alloc: Global,
+    scanner: &mut Scanner,
+    source: &mut S,
+) -> Result<Vec<u64>, Fault>
     requires ready { IsReady scanner.old (S.remaining source.old) }
     ensures reads { (ns : List ℕ) (n : ℕ) (ls : List Literal) → Continues (λ ants. item_then (item.Step (record { number = n; lits = ls; ants = ants.items }))
         (known_items (Between (ns ++ n ∷ [])) (left scanner.new (S.remaining source.new)))) result

@@ -32,7 +32,10 @@ pub fn header_number(token: Token) -> Option<u64>
     ensures { result ≡ header_number token }
 {
     match token {
-        Token::Number { negative: false, value } => Some(value),
+        Token::Number {
+            negative: false,
+            value,
+        } => Some(value),
         _ => None,
     }
 }
@@ -42,8 +45,14 @@ pub fn member(token: Token) -> Result<Option<Var>, TraceFault>
     ensures { result ≡ member token }
 {
     match token {
-        Token::Number { negative: false, value: 0 } => Ok(None),
-        Token::Number { negative: false, value } => Ok(Some(variable(value)?)),
+        Token::Number {
+            negative: false,
+            value: 0,
+        } => Ok(None),
+        Token::Number {
+            negative: false,
+            value,
+        } => Ok(Some(variable(value)?)),
         Token::Number { negative: true, .. } | Token::Big => Err(TraceFault::P4),
         Token::End => Err(TraceFault::P7),
         Token::Word(_) | Token::Bad => Err(TraceFault::P3),
@@ -68,8 +77,14 @@ pub fn literal(token: Token) -> Result<Option<Lit>, TraceFault>
     ensures { result ≡ literal_in token }
 {
     match token {
-        Token::Number { negative: false, value: 0 } => Ok(None),
-        Token::Number { negative: true, value: 0 } => Err(TraceFault::P4),
+        Token::Number {
+            negative: false,
+            value: 0,
+        } => Ok(None),
+        Token::Number {
+            negative: true,
+            value: 0,
+        } => Err(TraceFault::P4),
         Token::Number { negative, value } => Ok(Some(Lit::new(variable(value)?, negative))),
         Token::Big => Err(TraceFault::P4),
         Token::End => Err(TraceFault::P7),
@@ -82,8 +97,14 @@ pub fn antecedent(room: bool, token: Token) -> Result<Option<u64>, TraceFault>
     ensures { result ≡ antecedent room token }
 {
     match token {
-        Token::Number { negative: false, value: 0 } => Ok(None),
-        Token::Number { negative: false, value } if room => Ok(Some(value)),
+        Token::Number {
+            negative: false,
+            value: 0,
+        } => Ok(None),
+        Token::Number {
+            negative: false,
+            value,
+        } if room => Ok(Some(value)),
         Token::Number { .. } | Token::Big if !room => Err(TraceFault::P6),
         Token::Number { .. } | Token::Big => Err(TraceFault::P4),
         Token::End => Err(TraceFault::P7),

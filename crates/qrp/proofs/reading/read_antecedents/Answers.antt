@@ -12,12 +12,14 @@ returns-in-Ok-None-clause-reads g c = λ ns n ls.
     closes whole (InAnts ns n ls c.ants.ants.items) _ (c.ants.invariant.so_far ns n ls) c.in_ok-token.token c.in_ok-token.line _ c.in_ok-token.ensures.gives _ _ (ants_close ns n ls c.ants.ants.items c.in_ok-token.token c.has_room-room.result c.has_room-room.ensures (rw c.in-Ok-None.field-0-is at c.in-Ok-None.ensures))
 
 pub ants-preserved : goal.ants-preserved
-ants-preserved g c = record { works = grind arith;
-    ready = c.in_ok-token.ensures.ready;
-    so_far = λ ns n ls.
-    let whole = known_items (InAnts ns n ls []) (left c.args.scanner.now (g.S.Source.remaining c.args.source.now)) in
-    Leads-along whole _ _ (goes whole (InAnts ns n ls c.ants.ants.items) _ (c.ants.invariant.so_far ns n ls) c.in_ok-token.token c.in_ok-token.line _ c.in_ok-token.ensures.gives _ (ants_grow ns n ls c.ants.ants.items c.in_ok-token.token c.has_room-room.result c.in-Ok-Some.number c.has_room-room.ensures (rw c.in-Ok-Some.field-0-is at c.in-Ok-Some.ensures)))
-    (ap (λ (vs : List ℕ). known_items (InAnts ns n ls vs) (left c.next.new.scanner (g.S.Source.remaining c.next.new.source))) (sym c.in_ok-push_number-in-Ok-Some.ensures.pushed)); }
+ants-preserved g c = record {
+  works = grind arith;
+  ready = c.in_ok-token.ensures.ready;
+  so_far = λ ns n ls.
+      let whole = known_items (InAnts ns n ls []) (left c.args.scanner.now (g.S.Source.remaining c.args.source.now)) in
+      Leads-along whole _ _ (goes whole (InAnts ns n ls c.ants.ants.items) _ (c.ants.invariant.so_far ns n ls) c.in_ok-token.token c.in_ok-token.line _ c.in_ok-token.ensures.gives _ (ants_grow ns n ls c.ants.ants.items c.in_ok-token.token c.has_room-room.result c.in-Ok-Some.number c.has_room-room.ensures (rw c.in-Ok-Some.field-0-is at c.in-Ok-Some.ensures)))
+      (ap (λ (vs : List ℕ). known_items (InAnts ns n ls vs) (left c.next.new.scanner (g.S.Source.remaining c.next.new.source))) (sym c.in_ok-push_number-in-Ok-Some.ensures.pushed));
+}
 
 pub returns-in-Err-clause-reads : goal.returns-in-Err-clause-reads
 returns-in-Err-clause-reads g c = λ ns n ls.

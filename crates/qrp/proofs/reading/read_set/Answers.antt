@@ -11,12 +11,14 @@ returns-in-Ok-None-clause-reads g c =
     closes whole (InSet c.args.quantifier c.members.vars.items) _ c.members.invariant.so_far c.in_ok-token.token c.in_ok-token.line _ c.in_ok-token.ensures.gives _ _ (set_closes c.args.quantifier c.members.vars.items _ (rw c.in-Ok-None.field-0-is at c.in-Ok-None.ensures))
 
 pub members-preserved : goal.members-preserved
-members-preserved g c = record { works = grind arith;
-    ready = c.in_ok-token.ensures.ready;
-    so_far =
-    let whole = known_items (InSet c.args.quantifier []) (left c.args.scanner.now (g.S.Source.remaining c.args.source.now)) in
-    Leads-along whole _ _ (goes whole (InSet c.args.quantifier c.members.vars.items) _ c.members.invariant.so_far c.in_ok-token.token c.in_ok-token.line _ c.in_ok-token.ensures.gives _ (set_grows c.args.quantifier c.members.vars.items _ c.in-Ok-Some.var (rw c.in-Ok-Some.field-0-is at c.in-Ok-Some.ensures)))
-    (ap (λ (vs : List ℕ). known_items (InSet c.args.quantifier vs) (left c.next.new.scanner (g.S.Source.remaining c.next.new.source))) (sym c.in_ok-push-in-Ok-Some.ensures.pushed)); }
+members-preserved g c = record {
+  works = grind arith;
+  ready = c.in_ok-token.ensures.ready;
+  so_far =
+      let whole = known_items (InSet c.args.quantifier []) (left c.args.scanner.now (g.S.Source.remaining c.args.source.now)) in
+      Leads-along whole _ _ (goes whole (InSet c.args.quantifier c.members.vars.items) _ c.members.invariant.so_far c.in_ok-token.token c.in_ok-token.line _ c.in_ok-token.ensures.gives _ (set_grows c.args.quantifier c.members.vars.items _ c.in-Ok-Some.var (rw c.in-Ok-Some.field-0-is at c.in-Ok-Some.ensures)))
+      (ap (λ (vs : List ℕ). known_items (InSet c.args.quantifier vs) (left c.next.new.scanner (g.S.Source.remaining c.next.new.source))) (sym c.in_ok-push-in-Ok-Some.ensures.pushed));
+}
 
 pub returns-in-Err-clause-reads : goal.returns-in-Err-clause-reads
 returns-in-Err-clause-reads g c =
