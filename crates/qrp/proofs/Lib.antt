@@ -6,3 +6,4 @@ pub mod Complete
 pub mod TextMore
 pub mod Sound
 pub mod Goes
+pub mod Gathering

@@ -7,3 +7,4 @@ pub mod Faults
 pub mod Laws
 pub mod Parts
 pub mod Given
+pub mod Answers

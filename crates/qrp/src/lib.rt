@@ -10,6 +10,7 @@ mod reading;
 mod steps;
 mod tokens;
 mod trace;
+mod whole;
 
 pub use fault::TraceFault;
 pub use index::StepIndex;
@@ -17,4 +18,4 @@ pub use item::{Header, Item, Outcome, QuantSet, Step};
 pub use laws::trace_laws;
 pub use reader::TraceReader;
 pub use steps::Steps;
-pub use trace::Trace;
+pub use trace::{read_trace, Trace};

@@ -108,6 +108,7 @@ impl TraceReader {
         ensures gives { GivesNextItem (items_left self.old (S.remaining source.old)) (items_left self.new (S.remaining source.new)) result }
         // The result and a fault are given for good, and nothing is pulled then.
         ensures last { is_last result ≡ true → IsDone self.new }
+        ensures more { is_last result ≡ false → ¬ IsDone self.new }
         ensures done { IsDone self.old → (self.new ≡ self.old) × (source.new ≡ source.old) }
         ensures stays { IsDone self.old → is_last result ≡ true }
         // With each other item less can still come.
