@@ -105,6 +105,7 @@ answered ts (Err e) h ends = by e.0 e.1 h
   where
     stands : (f : TraceFault) (line : ℕ) → read ts ≡ Err (f, line) → Reads ts (Err (f, line))
     stands f line e = subst (Reads ts) e (read_explained ts ends)
+
     by : (f : TraceFault) (line : ℕ) → Refuses f line (Some (read ts)) → StandsUnless ts f line
     by P1 line k = tt
     by P9 line k = tt
@@ -128,8 +129,10 @@ failure_told {X = X} (Err e) old new works kept line rose = by e.0 e.1 kept line
   where
     failed : Result X Fault
     failed = Err (P1, 0)
+
     other : (f : TraceFault) (n : ℕ) → new ≡ old → Err (f, n) ≡ failed
     other f n same = absurd (omega arith)
+
     by : (f : TraceFault) (n : ℕ) → (f ≢ P1 → new ≡ old) → (f ≡ P1 → n ≡ 0) → Err (f, n) ≡ failed
     by P1 n kept line = ap (λ (m : ℕ). Err (P1, m)) (line refl)
     by P2 n kept line = other P2 n (kept (λ e. cc))

@@ -7,3 +7,4 @@ pub mod TextMore
 pub mod Sound
 pub mod Goes
 pub mod Gathering
+pub mod WritingMore

@@ -8,3 +8,4 @@ pub mod Laws
 pub mod Parts
 pub mod Given
 pub mod Answers
+pub mod Texts

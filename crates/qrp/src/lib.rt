@@ -11,6 +11,7 @@ mod steps;
 mod tokens;
 mod trace;
 mod whole;
+mod writing;
 
 pub use fault::TraceFault;
 pub use index::StepIndex;
@@ -18,4 +19,5 @@ pub use item::{Header, Item, Outcome, QuantSet, Step};
 pub use laws::trace_laws;
 pub use reader::TraceReader;
 pub use steps::Steps;
-pub use trace::{read_trace, Trace};
+pub use trace::{Trace, read_trace};
+pub use writing::write_trace;

@@ -8,7 +8,7 @@ ghost use Rattle.qrp.specs.Reading.{items};
 use crate::fault::TraceFault;
 use crate::index::StepIndex;
 use crate::item::{Item, Outcome};
-use crate::reading::{header_item, list_item, Fault};
+use crate::reading::{Fault, header_item, list_item};
 use qbf_text::{Comments, Scanner, Source};
 use std::alloc::Global;
 use std::marker::Model;
@@ -125,7 +125,13 @@ impl TraceReader {
         // Where the source failed, the call says so.
         ensures failed { S.failures source.old < S.failures source.new → result ≡ Err (P1, 0) }
     {
-        let answer = item_at(self.stage, self.alloc, &mut self.scanner, &mut self.index, source);
+        let answer = item_at(
+            self.stage,
+            self.alloc,
+            &mut self.scanner,
+            &mut self.index,
+            source,
+        );
         self.stage = stage_after(&answer);
         answer
     }

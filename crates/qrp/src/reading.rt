@@ -14,7 +14,10 @@ ghost use Rattle.qrp.specs.Reading.{AtP, Between, InSet, InLits, InAnts, AtResul
 use crate::fault::TraceFault;
 use crate::index::StepIndex;
 use crate::item::{Header, Item, Outcome, QuantSet, Step};
-use crate::tokens::{antecedent, header_fault, header_number, is_p, is_qrp, literal, member, opened, outcome_of, Opening};
+use crate::tokens::{
+    Opening, antecedent, header_fault, header_number, is_p, is_qrp, literal, member, opened,
+    outcome_of,
+};
 use qbf_core::{Lit, Quantifier, Var};
 use qbf_text::{Scanner, Source, Token};
 use std::alloc::Global;
@@ -129,7 +132,11 @@ fn push_literal(lits: &mut Vec<Lit>, lit: Lit) -> Result<(), Fault>
 }
 
 /// The literals of a step.
-fn read_literals<S: Source>(alloc: Global, scanner: &mut Scanner, source: &mut S) -> Result<Vec<Lit>, Fault>
+fn read_literals<S: Source>(
+    alloc: Global,
+    scanner: &mut Scanner,
+    source: &mut S,
+) -> Result<Vec<Lit>, Fault>
     requires ready { ¬ HasFailed scanner.old }
     ensures reads { (ns : List ℕ) (n : ℕ) → Continues (λ lits. known_items (InAnts ns n lits.items []) (left scanner.new (S.remaining source.new))) result
         (known_items (InLits ns n []) (left scanner.old (S.remaining source.old))) }
@@ -172,7 +179,11 @@ fn has_room(ants: &Vec<u64>) -> bool
 }
 
 /// The antecedents of a step, with which it closes.
-fn read_antecedents<S: Source>(alloc: Global, scanner: &mut Scanner, source: &mut S) -> Result<Vec<u64>, Fault>
+fn read_antecedents<S: Source>(
+    alloc: Global,
+    scanner: &mut Scanner,
+    source: &mut S,
+) -> Result<Vec<u64>, Fault>
     requires ready { ¬ HasFailed scanner.old }
     ensures reads { (ns : List ℕ) (n : ℕ) (ls : List Literal) → Continues (λ ants. item_then (item.Step (record { number = n; lits = ls; ants = ants.items }))
         (known_items (Between (ns ++ n ∷ [])) (left scanner.new (S.remaining source.new)))) result
@@ -284,7 +295,11 @@ fn new_step(index: &StepIndex, number: u64, line: u64) -> Result<Opening, Fault>
 }
 
 /// What begins between lists, a step only with a new number.
-fn read_opening<S: Source>(scanner: &mut Scanner, index: &StepIndex, source: &mut S) -> Result<Opening, Fault>
+fn read_opening<S: Source>(
+    scanner: &mut Scanner,
+    index: &StepIndex,
+    source: &mut S,
+) -> Result<Opening, Fault>
     requires ready { ¬ HasFailed scanner.old }
     ensures reads { Continues (λ o. known_items (place_of index.now o) (left scanner.new (S.remaining source.new))) result
         (known_items (Between index.now) (left scanner.old (S.remaining source.old))) }

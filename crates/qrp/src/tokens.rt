@@ -62,7 +62,10 @@ pub fn opened(begun: bool, token: Token) -> Result<Opening, TraceFault>
         Token::Word(Word::A) if !begun => Ok(Opening::Set(Quantifier::All)),
         Token::Word(Word::E) if !begun => Ok(Opening::Set(Quantifier::Exists)),
         Token::Word(Word::R) => Ok(Opening::Result),
-        Token::Number { negative: false, value } if 1 <= value => Ok(Opening::Step(value)),
+        Token::Number {
+            negative: false,
+            value,
+        } if 1 <= value => Ok(Opening::Step(value)),
         Token::Number { .. } | Token::Big => Err(TraceFault::P4),
         Token::End => Err(TraceFault::P7),
         Token::Word(_) | Token::Bad => Err(TraceFault::P3),

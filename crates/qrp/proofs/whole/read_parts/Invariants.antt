@@ -15,7 +15,7 @@ invariant-items g l = record {
   undone : ¬ IsDone l.reader;
   works : g.S.Source.failures l.source ≡ g.S.Source.failures l.fn.source;
   so_far : Becomes (reads_bytes (g.S.Source.remaining l.fn.source))
-    (gathered_known (record { header = l.header; sets = l.sets.items; steps = steps; result = Sat }) (items_left l.reader (g.S.Source.remaining l.source)));
+      (gathered_known (record { header = l.header; sets = l.sets.items; steps = steps; result = Sat }) (items_left l.reader (g.S.Source.remaining l.source)));
   variables : AllByRecursion (λ s. AllByRecursion IsVariable s.vars) l.sets.items;
   inferences : AllByRecursion IsInference steps;
   numbers_fit : AllByRecursion (λ n. n < 2 ^ 64) (numbers steps);
