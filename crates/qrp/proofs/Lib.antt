@@ -8,3 +8,4 @@ pub mod Sound
 pub mod Goes
 pub mod Gathering
 pub mod WritingMore
+pub mod Flats

@@ -9,3 +9,4 @@ pub mod Parts
 pub mod Given
 pub mod Answers
 pub mod Texts
+pub mod Flat

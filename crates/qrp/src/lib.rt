@@ -2,6 +2,7 @@
 #![tactic(auto)]
 
 mod fault;
+mod flat;
 mod index;
 mod item;
 mod laws;
@@ -14,6 +15,7 @@ mod whole;
 mod writing;
 
 pub use fault::TraceFault;
+pub use flat::{FlatTrace, read_flat};
 pub use index::StepIndex;
 pub use item::{Header, Item, Outcome, QuantSet, Step};
 pub use laws::trace_laws;

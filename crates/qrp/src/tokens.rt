@@ -90,15 +90,9 @@ pub fn member(token: Token) -> Result<Option<Var>, TraceFault>
     ensures range { IfOk result (λ o. IfSome o IsVariable) }
 {
     match token {
-        Token::Number {
-            negative: false,
-            value: 0,
-        } => Ok(None),
-        Token::Number {
-            negative: false,
-            value,
-        } => Ok(Some(variable(value)?)),
         Token::Number { negative: true, .. } | Token::Big => Err(TraceFault::P4),
+        Token::Number { value, .. } if 1 <= value => Ok(Some(variable(value)?)),
+        Token::Number { .. } => Ok(None),
         Token::End => Err(TraceFault::P7),
         Token::Word(_) | Token::Bad => Err(TraceFault::P3),
     }
