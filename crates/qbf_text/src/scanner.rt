@@ -114,7 +114,7 @@ impl Place {
 }
 
 /// The source failed.
-#[derive(Clone, Copy, Debug)]
+#[derive(Clone, Copy, Debug, PartialEq, Eq)]
 pub struct ScanFault;
 
 #[derive(Clone, Copy)]
