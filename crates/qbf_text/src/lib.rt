@@ -14,3 +14,6 @@ pub use scanner::{ScanFault, Scanner};
 pub use sink::{Sink, SinkFault, ToWrite, VecSink, put_bytes, put_number};
 pub use source::{FromRead, SliceSource, Source, SourceFault};
 pub use token::{Comments, Token, Word};
+
+#[cfg(test)]
+mod tests;
