@@ -33,14 +33,17 @@ pull_failed s = record s { pulls = one_more s.pulls; failures = one_more s.failu
 
 -- ---- sinks that keep what was sent
 
--- the bytes that were sent, and how often the sink failed
+-- the bytes that were sent, how many bytes the memory at hand holds, and how often the sink failed
 pub record Kept : Type 0 where
   pub bytes : List ℕ
+  pub capacity : ℕ
   pub failures : ℕ
 
--- the bytes that were sent, the most that a push takes, the room until the one failure, whether `finish` fails, and how often the sink failed
+-- the bytes that were sent, how many bytes the memory at hand holds, the most that a push takes, the room until the one failure,
+-- whether `finish` fails, and how often the sink failed
 pub record Store : Type 0 where
   pub bytes : List ℕ
+  pub capacity : ℕ
   pub piece : ℕ
   pub room : Option ℕ
   pub finish_fails : Bool
@@ -60,14 +63,18 @@ room_after (Some room) n = Some (room - n)
 abbrev pub push_size : Store → ℕ → ℕ
 push_size s count = within s.room (min s.piece count)
 
--- after a push of these bytes
-abbrev pub pushed : Store → List ℕ → Store
-pushed s sent = record s { bytes = s.bytes ++ sent; room = room_after s.room (length sent) }
+-- after a push of these bytes, with memory for so many
+abbrev pub pushed : Store → List ℕ → ℕ → Store
+pushed s sent capacity = record s { bytes = s.bytes ++ sent; room = room_after s.room (length sent); capacity = capacity }
 
 -- after the push that meets the room used up: none fails for want of room again
 abbrev pub room_failed : Store → Store
 room_failed s = record s { room = None; failures = one_more s.failures }
 
--- after another failure
-abbrev pub store_failed : Store → Store
-store_failed s = record s { failures = one_more s.failures }
+-- after a failure of `finish`
+abbrev pub finish_failed : Store → Store
+finish_failed s = record s { failures = one_more s.failures }
+
+-- after a refused growth, with memory for so many
+abbrev pub refused : Store → ℕ → Store
+refused s capacity = record s { failures = one_more s.failures; capacity = capacity }

@@ -72,9 +72,10 @@ all_append [] ys h k = k
 all_append (x ∷ xs) ys h k = (h.0, all_append xs ys h.1 k)
 
 lines_written : (f : Qbf) → IsWellFormed f → AllByRecursion IsLine (lines f)
-lines_written f w =
-    ((tt, (tt, (tt, (omega (arith, w.numbers), (omega (arith, w.count), tt))))),
-     all_append (map set f.blocks) (map clause f.clauses) (sets_lines f.blocks w.prefix.within) (clauses_lines f.blocks f.clauses w.prefix.within w.closed))
+lines_written f w = (
+  (tt, (tt, (tt, (omega (arith, w.numbers), (omega (arith, w.count), tt))))),
+  all_append (map set f.blocks) (map clause f.clauses) (sets_lines f.blocks w.prefix.within) (clauses_lines f.blocks f.clauses w.prefix.within w.closed),
+)
 
 -- ---- the tokens of the lines
 
