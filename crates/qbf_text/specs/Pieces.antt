@@ -7,7 +7,8 @@ one_more n = min (n + 1) (2 ^ 64 - 1)
 
 -- ---- a source that gives its bytes in pieces
 
--- the bytes that remain, the most that a pull gives, the number of the pull that fails, how many pulls there were, and how many of them failed
+-- the bytes that remain, the most that a pull gives, the number of the pull that fails, how many pulls there were,
+-- and how many of them failed
 pub record Supply : Type 0 where
   pub rest : List ℕ
   pub piece : ℕ
@@ -39,8 +40,8 @@ pub record Kept : Type 0 where
   pub capacity : ℕ
   pub failures : ℕ
 
--- the bytes that were sent, how many bytes the memory at hand holds, the most that a push takes, the room until the one failure,
--- whether `finish` fails, and how often the sink failed
+-- the bytes that were sent, how many bytes the memory at hand holds, the most that a push takes, the room until
+-- the one failure, whether `finish` fails, and how often the sink failed
 pub record Store : Type 0 where
   pub bytes : List ℕ
   pub capacity : ℕ

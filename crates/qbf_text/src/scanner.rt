@@ -82,7 +82,8 @@ impl Place {
     /// The next token, or None at the end.
     fn scan<S: Source>(&mut self, source: &mut S) -> Result<Option<Token>, SourceFault>
         ensures some { IfOk result (λ found. IfSome found (λ token.
-            Gives (left_at self.old (S.remaining source.old)) (left_at self.new (S.remaining source.new)) ((token, self.new.line) ∷ []))) }
+            Gives (left_at self.old (S.remaining source.old)) (left_at self.new (S.remaining source.new))
+            ((token, self.new.line) ∷ []))) }
         ensures no_end { IfOk result (λ found. IfSome found (λ token. is_end token ≡ false)) }
         ensures none { IfOk result (λ found. IfNone found
             (Gives (left_at self.old (S.remaining source.old)) (left_at self.new (S.remaining source.new)) []
@@ -90,7 +91,8 @@ impl Place {
         ensures at_end { IfOk result (λ found. IfNone found (IsAtEnd (S.remaining source.new))) }
         ensures bound { IfOk result (λ found. IfSome found (λ _.
             length self.new.window + S.bound source.new < length self.old.window + S.bound source.old)) }
-        ensures no_more { OnOk result (length self.new.window + S.bound source.new ≤ length self.old.window + S.bound source.old) }
+        ensures no_more { OnOk result (
+            length self.new.window + S.bound source.new ≤ length self.old.window + S.bound source.old) }
         ensures ok { OnOk result (S.failures source.new ≡ S.failures source.old) }
         ensures err { OnErr result (S.failures source.old < 2 ^ 64 - 1 → S.failures source.old < S.failures source.new) }
     {
@@ -179,8 +181,8 @@ impl Scanner {
 
     /// The next token and its line.
     ///
-    /// Lines end at byte 10 and are counted from 1; the count stays at 18446744073709551615. End stands on the line after the last
-    /// byte 10. After End every call answers the same End and pulls nothing.
+    /// Lines end at byte 10 and are counted from 1; the count stays at 18446744073709551615.
+    /// End stands on the line after the last byte 10. After End every call answers the same End and pulls nothing.
     ///
     /// X1 where the source failed. Every later call answers X1 and pulls nothing.
     #[tactic(auto, unfolding(crate::specs::Reading::left))]
@@ -190,11 +192,13 @@ impl Scanner {
         // With each token but End less can still come.
         ensures bound { IfOk result (λ token. is_end token.0 ≡ false →
             length self.new.pending + S.bound source.new < length self.old.pending + S.bound source.old) }
-        ensures no_more { OnOk result (length self.new.pending + S.bound source.new ≤ length self.old.pending + S.bound source.old) }
+        ensures no_more { OnOk result (
+            length self.new.pending + S.bound source.new ≤ length self.old.pending + S.bound source.old) }
         // End and a fault are given for good, and nothing is pulled then.
         ensures end { IfOk result (λ token. is_end token.0 ≡ true → HasEnded self.new) }
         // No byte remains behind End.
-        ensures ready { OnOk result (IsReady self.old (S.remaining source.old) → IsReady self.new (S.remaining source.new)) }
+        ensures ready { OnOk result (
+            IsReady self.old (S.remaining source.old) → IsReady self.new (S.remaining source.new)) }
         ensures ended { HasEnded self.old → IsOk result × (self.new ≡ self.old) × (source.new ≡ source.old) }
         ensures fault { OnErr result (HasFailed self.new) }
         ensures failed { HasFailed self.old → IsErr result × (self.new ≡ self.old) × (source.new ≡ source.old) }

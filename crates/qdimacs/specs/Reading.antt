@@ -1,5 +1,6 @@
 -- Reading from the first token on, to the formula or to the first fault.
--- QDIMACS 1.1, input format, token by token: for each place in the text a row says which tokens go on, which end, and what is a fault.
+-- QDIMACS 1.1, input format, token by token: for each place in the text a row says which tokens go on, which end,
+-- and what is a fault.
 use Rattle.std.specs.Prelude.{◌≡◌, ℕ, zero, suc, ◌≤◌, Bool, true, false, List, [], ◌∷◌, ◌++◌, length, map, Option, Some, None, IfSome, Result, Ok, Err, nat_lt, nat_eq, if◌then◌else◌}
 use Rattle.qbf_core.specs.declared.quantifier.Quantifier.{Quantifier}
 use Rattle.qbf_core.specs.declared.quantifier.Quantifier.TheVariants.{All, Exists}
@@ -105,7 +106,8 @@ literal_in max_var ps (token.Word w) = Err F3
 literal_in max_var ps token.Bad = Err F3
 
 -- in a clause
-abbrev pub clause_row : Heading → List (Quantifier × ℕ) → List (List Literal) → List Literal → Result (Option Literal) FormulaFault → Row
+abbrev pub clause_row : Heading → List (Quantifier × ℕ) → List (List Literal) → List Literal
+    → Result (Option Literal) FormulaFault → Row
 clause_row h ps cs ls (Err f) = Fails f
 clause_row h ps cs ls (Ok None) = Goes (Between h ps (cs ++ ls ∷ []))
 clause_row h ps cs ls (Ok (Some l)) = Goes (InClause h ps cs (ls ++ l ∷ []))
@@ -138,7 +140,8 @@ clause_or_end more (token.Word w) = Err F3
 clause_or_end more token.Bad = Err F3
 
 -- between lists: a set or a clause begins, or all is read
-abbrev pub between_row : Heading → List (Quantifier × ℕ) → List (List Literal) → Option Quantifier → Result Bool FormulaFault → Result (Option Literal) FormulaFault → Row
+abbrev pub between_row : Heading → List (Quantifier × ℕ) → List (List Literal) → Option Quantifier
+    → Result Bool FormulaFault → Result (Option Literal) FormulaFault → Row
 between_row h ps cs (Some q) mark first = Goes (InSet h ps q)
 between_row h ps cs None (Err f) first = Fails f
 between_row h ps cs None (Ok true) first = clause_row h ps cs [] first
@@ -184,7 +187,8 @@ Leads None rest = Unit {0}
 Leads (Some r) rest = rest ≡ Some r
 
 -- What was to be read is what is still to be read, or the fault that is returned.
-abbrev pub Continues : {X : Type 0} → (X → Option (Result Qbf (FormulaFault × ℕ))) → Result X (FormulaFault × ℕ) → Option (Result Qbf (FormulaFault × ℕ)) → Type 0
+abbrev pub Continues : {X : Type 0} → (X → Option (Result Qbf (FormulaFault × ℕ))) → Result X (FormulaFault × ℕ)
+    → Option (Result Qbf (FormulaFault × ℕ)) → Type 0
 Continues rest (Ok x) whole = Leads whole (rest x)
 Continues rest (Err e) whole = Stops e.0 e.1 whole
 

@@ -42,12 +42,17 @@ fn read_clause<S: Source>(
 ) -> Result<Vec<Lit>, Fault>
     requires ready { IsReady scanner.old (S.remaining source.old) }
     requires number { max_var ≤ 2147483647 }
-    ensures reads { (count : ℕ) (cs : List (List Literal)) → let h : Heading = record { max_var = max_var; count = count } in
-        Continues (λ lits. reads_from (Between h (pairs prefix.now) (cs ++ lits.items ∷ [])) (left scanner.new (S.remaining source.new))) result
-        (reads_from (InClause h (pairs prefix.now) cs []) (put_on first.0 first.1 (left scanner.old (S.remaining source.old)))) }
+    ensures reads { (count : ℕ) (cs : List (List Literal)) →
+        let h : Heading = record { max_var = max_var; count = count } in
+        Continues (λ lits. reads_from (Between h (pairs prefix.now) (cs ++ lits.items ∷ []))
+        (left scanner.new (S.remaining source.new))) result
+        (reads_from (InClause h (pairs prefix.now) cs [])
+        (put_on first.0 first.1 (left scanner.old (S.remaining source.old)))) }
     ensures bound { IfOk result (λ lits. AreBound prefix.now lits.items) }
-    ensures shorter { OnOk result ((length scanner.new.pending + S.bound source.new) ≤ (length scanner.old.pending + S.bound source.old)) }
-    ensures source { IfErr result (λ e. e.0 ≡ F1 → S.failures source.old < 2 ^ 64 - 1 → S.failures source.old < S.failures source.new) }
+    ensures shorter { OnOk result (
+        length scanner.new.pending + S.bound source.new ≤ length scanner.old.pending + S.bound source.old) }
+    ensures source { IfErr result (λ e. e.0 ≡ F1
+        → S.failures source.old < 2 ^ 64 - 1 → S.failures source.old < S.failures source.new) }
     ensures kept { IfErr result (λ e. e.0 ≢ F1 → S.failures source.new ≡ S.failures source.old) }
     ensures line_1 { IfErr result (λ e. e.0 ≡ F1 → e.1 ≡ 0) }
     ensures line_9 { IfErr result (λ e. e.0 ≡ F9 → e.1 ≡ 0) }
@@ -70,7 +75,8 @@ fn read_clause<S: Source>(
 fn push_clause(formula: &mut Formula, clause: Vec<Lit>) -> Result<(), Fault>
     requires bound { AreBound formula.old.blocks clause.items }
     requires few { length formula.old.clauses < 2147483647 }
-    ensures pushed { OnOk result (formula.new ≡ record formula.old { clauses = formula.old.clauses ++ clause.items ∷ [] }) }
+    ensures pushed { OnOk result (formula.new
+        ≡ record formula.old { clauses = formula.old.clauses ++ clause.items ∷ [] }) }
     ensures memory { IfErr result (λ e. e ≡ (F9, 0)) }
 {
     match formula.push_clause(clause) {
@@ -95,8 +101,10 @@ pub(crate) fn read_clauses<S: Source>(
     requires end { is_end first.0 ≡ true → IsAtEnd (S.remaining source.old) }
     ensures rest { OnOk result (IsAtEnd (S.remaining source.new)) }
     ensures gives { let h : Heading = record { max_var = formula.max_var; count = count } in
-        Gives result (reads_from (Between h (pairs formula.blocks) []) (put_on first.0 first.1 (left scanner.old (S.remaining source.old)))) }
-    ensures source { IfErr result (λ e. e.0 ≡ F1 → S.failures source.old < 2 ^ 64 - 1 → S.failures source.old < S.failures source.new) }
+        Gives result (reads_from (Between h (pairs formula.blocks) [])
+        (put_on first.0 first.1 (left scanner.old (S.remaining source.old)))) }
+    ensures source { IfErr result (λ e. e.0 ≡ F1
+        → S.failures source.old < 2 ^ 64 - 1 → S.failures source.old < S.failures source.new) }
     ensures kept { IfErr result (λ e. e.0 ≢ F1 → S.failures source.new ≡ S.failures source.old) }
     ensures line_1 { IfErr result (λ e. e.0 ≡ F1 → e.1 ≡ 0) }
     ensures line_9 { IfErr result (λ e. e.0 ≡ F9 → e.1 ≡ 0) }

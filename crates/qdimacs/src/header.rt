@@ -24,10 +24,13 @@ pub(crate) fn read_header<S: Source>(
     source: &mut S,
 ) -> Result<(u32, u32), Fault>
     requires ready { IsReady scanner.old (S.remaining source.old) }
-    ensures reads { Continues (λ h. reads_from (Between (record { max_var = h.0; count = h.1 }) [] []) (left scanner.new (S.remaining source.new))) result
+    ensures reads { Continues
+        (λ h. reads_from (Between (record { max_var = h.0; count = h.1 }) [] []) (left scanner.new (S.remaining source.new)))
+        result
         (reads_from AtP (left scanner.old (S.remaining source.old))) }
     ensures small { IfOk result (λ h. (h.0 ≤ 2147483647) × (h.1 ≤ 2147483647)) }
-    ensures source { IfErr result (λ e. e.0 ≡ F1 → S.failures source.old < 2 ^ 64 - 1 → S.failures source.old < S.failures source.new) }
+    ensures source { IfErr result (λ e. e.0 ≡ F1
+        → S.failures source.old < 2 ^ 64 - 1 → S.failures source.old < S.failures source.new) }
     ensures kept { IfErr result (λ e. e.0 ≢ F1 → S.failures source.new ≡ S.failures source.old) }
     ensures line_1 { IfErr result (λ e. e.0 ≡ F1 → e.1 ≡ 0) }
     ensures line_9 { IfErr result (λ e. e.0 ≡ F9 → e.1 ≡ 0) }

@@ -22,11 +22,12 @@ use qbf_core::Formula;
 use qbf_text::{Comments, Scanner, Source};
 use std::alloc::Global;
 
-/// Reads a formula in QDIMACS 1.1 to the end of its source: the formula that the bytes spell, or the first fault and its line.
+/// Reads a formula in QDIMACS 1.1 to the end of its source: the formula that the bytes spell, or the first fault
+/// and its line.
 ///
-/// Numbers are at most 2147483647. Clauses are kept as written. Beside the standard, neighbouring sets of one quantifier are joined,
-/// empty sets are dropped, the innermost block may be universal, and clauses may be empty, repeat literals or hold both of a variable.
-/// Comment lines may stand anywhere. Free variables are refused.
+/// Numbers are at most 2147483647. Clauses are kept as written. Beside the standard, neighbouring sets of one quantifier
+/// are joined, empty sets are dropped, the innermost block may be universal, clauses may be empty, repeat literals or hold
+/// both literals of a variable, and comment lines may stand anywhere. Against it, free variables are refused.
 ///
 /// F1 exactly where the source failed, F9 only where memory was refused, else F2 to F8 as they are listed.
 pub fn read_formula<S: Source>(alloc: Global, source: &mut S) -> Result<Formula, Fault>
@@ -36,7 +37,8 @@ pub fn read_formula<S: Source>(alloc: Global, source: &mut S) -> Result<Formula,
     ensures exact { Gives result (reads_bytes (S.remaining source.old)) }
     // No byte remains after a formula.
     ensures rest { OnOk result (IsAtEnd (S.remaining source.new)) }
-    ensures source { IfErr result (λ e. e.0 ≡ F1 → S.failures source.old < 2 ^ 64 - 1 → S.failures source.old < S.failures source.new) }
+    ensures source { IfErr result (λ e. e.0 ≡ F1
+        → S.failures source.old < 2 ^ 64 - 1 → S.failures source.old < S.failures source.new) }
     ensures kept { IfErr result (λ e. e.0 ≢ F1 → S.failures source.new ≡ S.failures source.old) }
     ensures line_1 { IfErr result (λ e. e.0 ≡ F1 → e.1 ≡ 0) }
     ensures line_9 { IfErr result (λ e. e.0 ≡ F9 → e.1 ≡ 0) }
@@ -57,7 +59,8 @@ fn read_parts<S: Source>(
     requires ready { IsReady scanner.old (S.remaining source.old) }
     ensures gives { Gives result (reads_from AtP (left scanner.old (S.remaining source.old))) }
     ensures rest { OnOk result (IsAtEnd (S.remaining source.new)) }
-    ensures source { IfErr result (λ e. e.0 ≡ F1 → S.failures source.old < 2 ^ 64 - 1 → S.failures source.old < S.failures source.new) }
+    ensures source { IfErr result (λ e. e.0 ≡ F1
+        → S.failures source.old < 2 ^ 64 - 1 → S.failures source.old < S.failures source.new) }
     ensures kept { IfErr result (λ e. e.0 ≢ F1 → S.failures source.new ≡ S.failures source.old) }
     ensures line_1 { IfErr result (λ e. e.0 ≡ F1 → e.1 ≡ 0) }
     ensures line_9 { IfErr result (λ e. e.0 ≡ F9 → e.1 ≡ 0) }

@@ -46,11 +46,13 @@ fn read_set<S: Source>(
     requires number { max_var ≤ 2147483647 }
     requires top { AllByRecursion (λ v. v ≤ max_var) (variables (pairs prefix.old)) }
     ensures top { OnOk result (AllByRecursion (λ v. v ≤ max_var) (variables (pairs prefix.new))) }
-    ensures shorter { OnOk result ((length scanner.new.pending + S.bound source.new) ≤ (length scanner.old.pending + S.bound source.old)) }
+    ensures shorter { OnOk result (
+        length scanner.new.pending + S.bound source.new ≤ length scanner.old.pending + S.bound source.old) }
     ensures reads { (count : ℕ) → let h : Heading = record { max_var = max_var; count = count } in
         Continues (λ _. reads_from (Between h (pairs prefix.new) []) (left scanner.new (S.remaining source.new))) result
         (reads_from (InSet h (pairs prefix.old) quantifier) (left scanner.old (S.remaining source.old))) }
-    ensures source { IfErr result (λ e. e.0 ≡ F1 → S.failures source.old < 2 ^ 64 - 1 → S.failures source.old < S.failures source.new) }
+    ensures source { IfErr result (λ e. e.0 ≡ F1
+        → S.failures source.old < 2 ^ 64 - 1 → S.failures source.old < S.failures source.new) }
     ensures kept { IfErr result (λ e. e.0 ≢ F1 → S.failures source.new ≡ S.failures source.old) }
     ensures line_1 { IfErr result (λ e. e.0 ≡ F1 → e.1 ≡ 0) }
     ensures line_9 { IfErr result (λ e. e.0 ≡ F9 → e.1 ≡ 0) }
@@ -80,9 +82,11 @@ pub(crate) fn read_sets<S: Source>(
     ensures no_set { IfOk result (λ r. set_letter r.1.0 ≡ None) }
     ensures end { IfOk result (λ r. is_end r.1.0 ≡ true → IsAtEnd (S.remaining source.new)) }
     ensures reads { (count : ℕ) → let h : Heading = record { max_var = max_var; count = count } in
-        Continues (λ r. reads_from (Between h (pairs r.0) []) (put_on r.1.0 r.1.1 (left scanner.new (S.remaining source.new)))) result
+        Continues (λ r. reads_from (Between h (pairs r.0) [])
+        (put_on r.1.0 r.1.1 (left scanner.new (S.remaining source.new)))) result
         (reads_from (Between h [] []) (left scanner.old (S.remaining source.old))) }
-    ensures source { IfErr result (λ e. e.0 ≡ F1 → S.failures source.old < 2 ^ 64 - 1 → S.failures source.old < S.failures source.new) }
+    ensures source { IfErr result (λ e. e.0 ≡ F1
+        → S.failures source.old < 2 ^ 64 - 1 → S.failures source.old < S.failures source.new) }
     ensures kept { IfErr result (λ e. e.0 ≢ F1 → S.failures source.new ≡ S.failures source.old) }
     ensures line_1 { IfErr result (λ e. e.0 ≡ F1 → e.1 ≡ 0) }
     ensures line_9 { IfErr result (λ e. e.0 ≡ F9 → e.1 ≡ 0) }

@@ -21,11 +21,14 @@ use qbf_text::{Scanner, Source, Token, Word};
 /// The next token and its line, or F1 where the source failed.
 pub(crate) fn next<S: Source>(scanner: &mut Scanner, source: &mut S) -> Result<(Token, u64), Fault>
     requires ready { IsReady scanner.old (S.remaining source.old) }
-    ensures gives { IfOk result (λ t. GivesNext (left scanner.old (S.remaining source.old)) (left scanner.new (S.remaining source.new)) t) }
-    ensures fewer { IfOk result (λ t. (length scanner.new.pending + S.bound source.new) + weight t.0 ≤ length scanner.old.pending + S.bound source.old) }
+    ensures gives { IfOk result (λ t.
+        GivesNext (left scanner.old (S.remaining source.old)) (left scanner.new (S.remaining source.new)) t) }
+    ensures fewer { IfOk result (λ t.
+        length scanner.new.pending + S.bound source.new + weight t.0 ≤ length scanner.old.pending + S.bound source.old) }
     ensures end { IfOk result (λ t. is_end t.0 ≡ true → IsAtEnd (S.remaining source.new)) }
     ensures failed { IfErr result (λ e. e ≡ (F1, 0)) }
-    ensures source { IfErr result (λ e. e.0 ≡ F1 → S.failures source.old < 2 ^ 64 - 1 → S.failures source.old < S.failures source.new) }
+    ensures source { IfErr result (λ e. e.0 ≡ F1
+        → S.failures source.old < 2 ^ 64 - 1 → S.failures source.old < S.failures source.new) }
     ensures kept { IfErr result (λ e. e.0 ≢ F1 → S.failures source.new ≡ S.failures source.old) }
     ensures line_1 { IfErr result (λ e. e.0 ≡ F1 → e.1 ≡ 0) }
     ensures line_9 { IfErr result (λ e. e.0 ≡ F9 → e.1 ≡ 0) }

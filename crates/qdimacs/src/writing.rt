@@ -6,7 +6,7 @@ ghost use Rattle.qbf_core.specs.Blocks.{pairs, is_quantifier};
 ghost use Rattle.qbf_text.specs.Written.{AppendsFront};
 ghost use Rattle.qbf_text.specs.Canonical.{spelled, line_text};
 ghost use Rattle.qdimacs.specs.Grammar.{header, literal, text};
-ghost use Rattle.qdimacs.specs.Texts.{opening, spaced, prefix_rest, literal_text, clause_rest, sets_text, clauses_text};
+ghost use Rattle.qdimacs.specs.Texts.{zero_text, opening, spaced, prefix_rest, literal_text, clause_rest, sets_text, clauses_text};
 
 use qbf_core::{Formula, Lit, Prefix, Quantifier};
 use qbf_text::{Sink, SinkFault, put_bytes, put_number};
@@ -114,8 +114,8 @@ fn put_opening<K: Sink>(
 
 /// The zero of a block, and the letter of the next.
 fn put_next<K: Sink>(sink: &mut K, quantifier: Quantifier) -> Result<(), SinkFault>
-    ensures ok { OnOk result (Appends (K.written sink.old) (K.written sink.new) ((32 ∷ 48 ∷ 10 ∷ []) ++ opening None quantifier)) }
-    ensures err { OnErr result (AppendsFront (K.written sink.old) (K.written sink.new) ((32 ∷ 48 ∷ 10 ∷ []) ++ opening None quantifier)) }
+    ensures ok { OnOk result (Appends (K.written sink.old) (K.written sink.new) (zero_text ++ opening None quantifier)) }
+    ensures err { OnErr result (AppendsFront (K.written sink.old) (K.written sink.new) (zero_text ++ opening None quantifier)) }
     ensures failures_ok { OnOk result (K.failures sink.new ≡ K.failures sink.old) }
     ensures failures_err { OnErr result (K.failures sink.old < 2 ^ 64 - 1 → K.failures sink.old < K.failures sink.new) }
 {
@@ -139,7 +139,8 @@ fn put_closing<K: Sink>(sink: &mut K, last: Option<Quantifier>) -> Result<(), Si
 /// The blocks, each with its letter and its zero.
 fn put_prefix<K: Sink>(sink: &mut K, prefix: &Prefix) -> Result<(), SinkFault>
     ensures ok { OnOk result (Appends (K.written sink.old) (K.written sink.new) (prefix_rest None (pairs prefix.now))) }
-    ensures err { OnErr result (AppendsFront (K.written sink.old) (K.written sink.new) (prefix_rest None (pairs prefix.now))) }
+    ensures err { OnErr result (
+        AppendsFront (K.written sink.old) (K.written sink.new) (prefix_rest None (pairs prefix.now))) }
     ensures failures_ok { OnOk result (K.failures sink.new ≡ K.failures sink.old) }
     ensures failures_err { OnErr result (K.failures sink.old < 2 ^ 64 - 1 → K.failures sink.old < K.failures sink.new) }
 {
@@ -156,7 +157,8 @@ fn put_prefix<K: Sink>(sink: &mut K, prefix: &Prefix) -> Result<(), SinkFault>
 /// The clauses, each on its line.
 fn put_clauses<K: Sink>(sink: &mut K, formula: &Formula) -> Result<(), SinkFault>
     ensures ok { OnOk result (Appends (K.written sink.old) (K.written sink.new) (clauses_text formula.now.clauses)) }
-    ensures err { OnErr result (AppendsFront (K.written sink.old) (K.written sink.new) (clauses_text formula.now.clauses)) }
+    ensures err { OnErr result (
+        AppendsFront (K.written sink.old) (K.written sink.new) (clauses_text formula.now.clauses)) }
     ensures failures_ok { OnOk result (K.failures sink.new ≡ K.failures sink.old) }
     ensures failures_err { OnErr result (K.failures sink.old < 2 ^ 64 - 1 → K.failures sink.old < K.failures sink.new) }
 {
@@ -169,7 +171,8 @@ fn put_clauses<K: Sink>(sink: &mut K, formula: &Formula) -> Result<(), SinkFault
 /// The line of the header.
 fn put_header<K: Sink>(sink: &mut K, max_var: u32, count: u32) -> Result<(), SinkFault>
     ensures ok { OnOk result (Appends (K.written sink.old) (K.written sink.new) (line_text (header max_var count))) }
-    ensures err { OnErr result (AppendsFront (K.written sink.old) (K.written sink.new) (line_text (header max_var count))) }
+    ensures err { OnErr result (
+        AppendsFront (K.written sink.old) (K.written sink.new) (line_text (header max_var count))) }
     ensures failures_ok { OnOk result (K.failures sink.new ≡ K.failures sink.old) }
     ensures failures_err { OnErr result (K.failures sink.old < 2 ^ 64 - 1 → K.failures sink.old < K.failures sink.new) }
 {
@@ -181,8 +184,9 @@ fn put_header<K: Sink>(sink: &mut K, max_var: u32, count: u32) -> Result<(), Sin
 
 /// Writes the canonical text of the formula in QDIMACS 1.1, and does not `finish` the sink.
 ///
-/// The lines are the header, each block as a set, outermost first, and each clause with its literals as kept. Parts of a line are
-/// separated by one blank, numbers are decimal without leading zeros, and each line ends with byte 10. Reading the text gives the formula.
+/// The lines are the header, each block as a set, outermost first, and each clause with its literals as kept.
+/// Parts of a line are separated by one blank, numbers are decimal without leading zeros, and each line ends with byte 10.
+/// Reading the text gives the formula.
 ///
 /// A `SinkFault` where the sink failed. What went out is a beginning of the text then.
 pub fn write_formula<K: Sink>(formula: &Formula, sink: &mut K) -> Result<(), SinkFault>
