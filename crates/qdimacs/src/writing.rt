@@ -1,11 +1,12 @@
 //! The canonical text of a formula.
 
-ghost use Rattle.std.specs.Prelude.{◌≡◌, ◌<◌, ◌-◌, ◌^◌, [], ◌∷◌, ◌++◌, None, length, decimal, OnOk, OnErr};
+ghost use Rattle.std.specs.Prelude.{Ok, ◌≡◌, ◌<◌, ◌-◌, ◌^◌, [], ◌∷◌, ◌++◌, None, length, decimal, OnOk, OnErr};
 ghost use Rattle.std.specs.Io.KnownBytes.{Appends};
 ghost use Rattle.qbf_core.specs.Blocks.{pairs, is_quantifier};
 ghost use Rattle.qbf_text.specs.Written.{AppendsFront};
 ghost use Rattle.qbf_text.specs.Canonical.{spelled, line_text};
 ghost use Rattle.qdimacs.specs.Grammar.{header, literal, text};
+ghost use Rattle.qdimacs.specs.Reading.{read_formula};
 ghost use Rattle.qdimacs.specs.Texts.{zero_text, opening, spaced, prefix_rest, literal_text, clause_rest, sets_text, clauses_text};
 
 use qbf_core::{Formula, Lit, Prefix, Quantifier};
@@ -194,6 +195,8 @@ pub fn write_formula<K: Sink>(formula: &Formula, sink: &mut K) -> Result<(), Sin
     ensures err { OnErr result (AppendsFront (K.written sink.old) (K.written sink.new) (text formula.now)) }
     ensures failures_ok { OnOk result (K.failures sink.new ≡ K.failures sink.old) }
     ensures failures_err { OnErr result (K.failures sink.old < 2 ^ 64 - 1 → K.failures sink.old < K.failures sink.new) }
+    // The text is read as the formula.
+    ensures reads_back { read_formula (text formula.now) ≡ Ok formula.now }
 {
     put_header(sink, formula.max_var(), formula.clauses() as u32)?;
     put_prefix(sink, formula.prefix())?;
