@@ -1,5 +1,5 @@
 -- What the source and the sinks over memory keep, and what a call of each does to it.
-use Rattle.std.specs.Prelude.{◌≡◌, ℕ, ◌+◌, ◌-◌, ◌^◌, min, Bool, ◌&&◌, ◌==◌, nat_lt, List, ◌++◌, length, take, drop, Option, Some, None}
+use Rattle.std.specs.Prelude.{ℕ, ◌+◌, ◌-◌, ◌^◌, min, Bool, ◌&&◌, ◌==◌, nat_lt, List, ◌++◌, length, drop, Option, Some, None}
 
 -- a count that stays at its greatest value
 abbrev pub one_more : ℕ → ℕ

@@ -1,11 +1,11 @@
 -- Reading from the first token on, to the formula or to the first fault.
 -- QDIMACS 1.1, input format, token by token: for each place in the text a row says which tokens go on, which end,
 -- and what is a fault.
-use Rattle.std.specs.Prelude.{◌≡◌, ℕ, zero, suc, ◌≤◌, Bool, true, false, List, [], ◌∷◌, ◌++◌, length, map, Option, Some, None, IfSome, Result, Ok, Err, nat_lt, nat_eq, if◌then◌else◌}
+use Rattle.std.specs.Prelude.{◌≡◌, ℕ, zero, suc, Bool, true, false, List, [], ◌∷◌, ◌++◌, length, Option, Some, None, IfSome, Result, Ok, Err, nat_lt, if◌then◌else◌}
 use Rattle.qbf_core.specs.declared.quantifier.Quantifier.{Quantifier}
 use Rattle.qbf_core.specs.declared.quantifier.Quantifier.TheVariants.{All, Exists}
 use Rattle.qbf_core.specs.Literal.{Literal}
-use Rattle.qbf_core.specs.Blocks.{Block, pairs, blocks_of, is_bound}
+use Rattle.qbf_core.specs.Blocks.{blocks_of, is_bound}
 use Rattle.qbf_core.specs.Qbf.{Qbf}
 use Rattle.qdimacs.specs.declared.fault.FormulaFault.{FormulaFault}
 use Rattle.qdimacs.specs.declared.fault.FormulaFault.TheVariants.{F2, F3, F4, F5, F6, F7, F8, F9, F1}

@@ -1,5 +1,4 @@
-use Rattle.std.proofs.Common.{arith, refl, ap, ◌∙◌, sym, List, ℕ, Ok, [], ◌∷◌, subst}
-use Rattle.std.specs.List.{AllByRecursion}
+use Rattle.std.proofs.Common.{arith, ap, sym, List, [], subst}
 use Rattle.qbf_core.specs.Literal.{Literal}
 use Rattle.qbf_core.specs.Blocks.{IsBound, AreBound}
 use Rattle.qbf_core.specs.Blocks.{pairs}

@@ -1,6 +1,5 @@
 use Rattle.qbf_text.specs.Reading.{left, IsReady}
-use Rattle.std.proofs.Common.{◌≡◌, ℕ, ◌≤◌, length, List, [], ◌∷◌}
-use Rattle.std.specs.List.{AllByRecursion}
+use Rattle.std.proofs.Common.{◌≡◌, ℕ, ◌≤◌, length, List, []}
 use Rattle.qbf_core.specs.Blocks.{AreBound}
 use Rattle.qbf_core.specs.Literal.{Literal}
 use Rattle.qbf_core.specs.Blocks.{pairs}

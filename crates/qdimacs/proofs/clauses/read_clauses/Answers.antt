@@ -1,11 +1,11 @@
-use Rattle.std.proofs.Common.{arith, ◌∙◌, ◌∷◌, ◌≡◌, sym, ap, [], List, ℕ, Ok, Bool, nat_lt}
+use Rattle.std.proofs.Common.{arith, ◌∙◌, sym, ap, [], ℕ, nat_lt}
 use Rattle.std.proofs.lemmas.Result.{err_from_is_err_and}
-use Rattle.qbf_core.specs.Blocks.{Block, pairs, blocks_of}
+use Rattle.qbf_core.specs.Blocks.{pairs, blocks_of}
 use Rattle.qbf_core.specs.Qbf.{Qbf}
 use Rattle.qbf_core.proofs.BlockLaws.{blocks_of-pairs}
 use Rattle.qbf_text.specs.Reading.{left}
 use Rattle.qbf_text.specs.Lined.{put_on}
-use Rattle.qdimacs.specs.Reading.{Heading, InClause, Between, reads_from, begun_set, has_more}
+use Rattle.qdimacs.specs.Reading.{Heading, Between, reads_from, begun_set}
 use Rattle.qdimacs.proofs.Steps.{ends_same, one_stops, one_ends, peeked, between_fails, between_ends, clause_begins, no_set_begins, clause_same, between_same, Stops-along, Leads-along, Leads-trans}
 use Rattle.qdimacs.proofs.clauses.read_clauses.Goals as goal
 

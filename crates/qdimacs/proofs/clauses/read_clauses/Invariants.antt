@@ -2,9 +2,9 @@ use Rattle.qbf_text.specs.Reading.{left, IsReady}
 use Rattle.qbf_text.specs.Left.{is_end}
 use Rattle.std.specs.Io.KnownBytes.{IsAtEnd}
 use Rattle.std.proofs.Common.{true}
-use Rattle.std.proofs.Common.{◌≡◌, ◌∷◌, ℕ, length, [], None}
+use Rattle.std.proofs.Common.{◌≡◌, length, [], None}
 use Rattle.qbf_core.specs.Blocks.{pairs}
-use Rattle.qdimacs.specs.Reading.{Heading, Between, begun_set, reads_from, Leads}
+use Rattle.qdimacs.specs.Reading.{Between, begun_set, reads_from, Leads}
 use Rattle.qbf_text.specs.Lined.{put_on, weight}
 use Rattle.std.proofs.Common.{◌+◌}
 use Rattle.qdimacs.proofs.clauses.read_clauses.Given as goal
