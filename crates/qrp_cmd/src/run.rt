@@ -93,3 +93,6 @@ pub fn run<F: Source, T: Source, O: Sink, E: Sink>(
         Job::Format => format(alloc, formula, out, err),
     }
 }
+
+#[cfg(test)]
+mod tests;

@@ -40,3 +40,22 @@ impl Start {
         }
     }
 }
+
+#[cfg(test)]
+mod tests {
+    use super::*;
+
+    #[test]
+    fn lines_and_statuses(rt: HostRuntime) {
+        let rows = [
+            (Start::Usage, "USAGE\n", 5),
+            (Start::NoFormula, "DEVICE formula\n", 3),
+            (Start::NoTrace, "DEVICE trace\n", 3),
+            (Start::NoMemory, "NO MEMORY\n", 4),
+        ];
+        for (start, line, status) in rows {
+            assert_eq!(rt; start.line(), line);
+            assert_eq!(rt; start.status(), status);
+        }
+    }
+}

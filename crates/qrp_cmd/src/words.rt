@@ -25,3 +25,6 @@ pub fn request(words: &[String]) -> Option<(Job, usize, Option<usize>)>
         _ => None,
     }
 }
+
+#[cfg(test)]
+mod tests;
