@@ -24,7 +24,13 @@ fn given_words(rt: &HostRuntime) -> Result<Vec<String>, Start> {
         Err(error) if error.kind() == ErrorKind::OutOfMemory => return Err(Start::NoMemory),
         Err(_) => return Err(Start::Usage),
     };
-    args.skip(1).collect(rt.alloc()).map_err(|_| Start::NoMemory)
+    let mut words = Vec::new(rt.alloc());
+    for word in args.skip(1) {
+        if words.push(word).is_err() {
+            return Err(Start::NoMemory);
+        }
+    }
+    Ok(words)
 }
 
 /// Ends before a job begins. The status stays whether or not the line went out.
