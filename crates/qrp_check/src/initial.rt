@@ -7,7 +7,6 @@ ghost use Rattle.qrp_check.specs.Conditions.{IsAnswer, initial_condition};
 
 use crate::fault::RuleFault;
 use crate::reduct::reduct_by;
-use crate::walks::seek;
 use qbf_core::{Formula, Lit, LitSet, Prefix, Quantifier, SetFault};
 use std::alloc::{AllocError, Global};
 

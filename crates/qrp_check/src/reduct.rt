@@ -129,7 +129,8 @@ pub(crate) fn reduct_by(
     from: &LitSet,
     to: &LitSet,
 ) -> Option<RuleFault>
-    ensures { (side : Rattle.qbf_core.specs.Rules.Side) → reduced ≡ reduced_quantifier side → deciding ≡ deciding_quantifier side
+    ensures { (side : Rattle.qbf_core.specs.Rules.Side)
+        → reduced ≡ reduced_quantifier side → deciding ≡ deciding_quantifier side
         → IsAnswer (reduct_conditions side prefix.now from.now to.now) result }
 {
     let lits = from.as_slice();
