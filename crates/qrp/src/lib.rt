@@ -23,3 +23,6 @@ pub use reader::TraceReader;
 pub use steps::Steps;
 pub use trace::{Trace, read_trace};
 pub use writing::write_trace;
+
+#[cfg(test)]
+mod tests;
