@@ -7,7 +7,12 @@ use Rattle.qbf_core.specs.Qbf.{Qbf}
 use Rattle.qdimacs.specs.declared.fault.FormulaFault.{FormulaFault}
 use Rattle.qdimacs.specs.declared.fault.FormulaFault.TheVariants.{F1, F2, F3, F4, F5, F6, F7, F8, F9}
 use Rattle.qdimacs.specs.Reading.{Gives, Stops, reads_bytes, read_formula}
-use Rattle.qrp_cmd.specs.Output.{HasFailed, IsSent, IsFormulaRead, IsFormulaFault}
+use Rattle.qrp_check.specs.declared.verdict.Rules.{Rules}
+use Rattle.qrp_cmd.specs.declared.job.Job.{Job}
+use Rattle.qrp_cmd.specs.declared.job.Job.TheVariants as job
+use Rattle.qrp_check.specs.declared.verdict.Verified.{Verified}
+use Rattle.qrp_check.specs.declared.verdict.Fault.{Fault}
+use Rattle.qrp_cmd.specs.Output.{HasFailed, IsSent, IsOn, IsOutput, IsChecked, Reading, IsFormulaRead, IsFormulaFault, check_report}
 
 -- a text that went out, and then the end of it
 pub sent_ended : (a b c : Option (List ℕ)) (x y z : ℕ) (text : List ℕ) (status answer : ℕ)
@@ -44,3 +49,13 @@ formula_refused told before after F5 n s failed kept one nine = (stopped told F5
 formula_refused told before after F6 n s failed kept one nine = (stopped told F6 n s, kept (λ e. cc e))
 formula_refused told before after F7 n s failed kept one nine = (stopped told F7 n s, kept (λ e. cc e))
 formula_refused told before after F8 n s failed kept one nine = (stopped told F8 n s, kept (λ e. cc e))
+
+-- a check says everything on the one sink
+pub check_goes_out : (rules : Rules) (answer : Result Verified Fault) (A B : Type 0) → A → IsOn (check_report rules answer).sink A B
+check_goes_out rules (Ok v) A B out = out
+check_goes_out rules (Err e) A B out = out
+
+pub check_output : (j : Job) (rules : Rules) (formula trace : Reading) (answer : Result Verified Fault) → j ≡ job.Check rules → IsChecked formula trace answer
+    → IsOutput j formula trace (check_report rules answer)
+check_output j rules formula trace answer is checked =
+    subst (λ (k : Job). IsOutput k formula trace (check_report rules answer)) (sym is) (answer, checked, refl)

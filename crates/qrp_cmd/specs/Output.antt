@@ -1,5 +1,5 @@
 -- What a run reports, and to which sink.
-use Rattle.std.specs.Prelude.{◌≡◌, ℕ, ◌-◌, ◌^◌, ◌<◌, List, ◌⊎◌, Option, IfSome, Result, Ok, Err}
+use Rattle.std.specs.Prelude.{◌≡◌, ℕ, ◌-◌, ◌^◌, ◌<◌, ◌↔◌, List, ◌⊎◌, Option, IfSome, Result, Ok, Err}
 use Rattle.std.specs.Io.KnownBytes.{Appends}
 use Rattle.qbf_core.specs.Qbf.{Qbf}
 use Rattle.qbf_text.specs.Written.{AppendsFront}
@@ -9,7 +9,12 @@ use Rattle.qdimacs.specs.Grammar.{text}
 use Rattle.qdimacs.specs.Reading.{read_formula}
 use Rattle.qrp_cmd.specs.declared.job.Job.{Job}
 use Rattle.qrp_cmd.specs.declared.job.Job.TheVariants as job
-use Rattle.qrp_cmd.specs.Lines.{formula_line, formula_status}
+use Rattle.qrp_check.specs.declared.verdict.Rules.{Rules}
+use Rattle.qrp_check.specs.declared.verdict.Verified.{Verified}
+use Rattle.qrp_check.specs.declared.verdict.Fault.{Fault}
+use Rattle.qrp_check.specs.declared.verdict.Fault.TheVariants as fault
+use Rattle.qrp_check.specs.Verdict.{IsVerdictUnless, IsFormulaDevice, IsTraceDevice}
+use Rattle.qrp_cmd.specs.Lines.{fault_line, fault_status, verdict_line}
 
 -- the two sinks of a run
 pub data Sink : Type 0 where
@@ -25,10 +30,20 @@ pub record Report : Type 0 where
 abbrev pub success : List ℕ → Report
 success t = record { sink = Out; text = t; status = 0 }
 
+-- a refusal: `check` writes it where its verdict would stand, the other jobs on the other sink
+abbrev pub refusal : Job → Fault → Report
+refusal (job.Check rules) e = record { sink = Out; text = fault_line e; status = fault_status e }
+refusal job.Format e = record { sink = Errors; text = fault_line e; status = fault_status e }
+
 -- the canonical text, or the refusal of the formula's text
 abbrev pub format_report : Result Qbf (FormulaFault × ℕ) → Report
 format_report (Ok f) = success (text f)
-format_report (Err e) = record { sink = Errors; text = formula_line e.0 e.1; status = formula_status e.0 }
+format_report (Err e) = refusal job.Format (fault.Formula e.0 e.1)
+
+-- the verdict, or the refusal of a text or of the proof
+abbrev pub check_report : Rules → Result Verified Fault → Report
+check_report rules (Ok v) = success (verdict_line v.truth)
+check_report rules (Err e) = refusal (job.Check rules) e
 
 -- a source failed in a call that began with its count of failures below the limit
 abbrev pub HasFailed : ℕ → ℕ → Type 0
@@ -45,9 +60,25 @@ abbrev pub IsFormulaRead : Option (List ℕ) → ℕ → ℕ → Result Qbf (For
 IsFormulaRead told before after (Ok f) = IfSome told (λ bytes. read_formula bytes ≡ Ok f) × (after ≡ before)
 IsFormulaRead told before after (Err e) = IsFormulaFault told before after e.0 e.1
 
--- the report of a job on what its formula's text reads as
-abbrev pub IsOutput : Job → (Result Qbf (FormulaFault × ℕ) → Type 0) → Report → Type 0
-IsOutput job.Format IsRead r = (reading : Result Qbf (FormulaFault × ℕ)) × IsRead reading × (r ≡ format_report reading)
+-- what a source has to do with a run: its bytes, where they are told, and its count of failures before and after
+pub record Reading : Type 0 where
+  pub told : Option (List ℕ)
+  pub before : ℕ
+  pub after : ℕ
+
+-- What the check of two texts answers: the verdict on their bytes, or that a source failed, exactly where it did, or
+-- want of memory.
+pub record IsChecked (formula trace : Reading) (answer : Result Verified Fault) : Type 0 where
+  pub verdict : IsVerdictUnless formula.told trace.told answer
+  pub formula_failed : formula.before < 2 ^ 64 - 1 → IsFormulaDevice answer ↔ (formula.before < formula.after)
+  pub trace_failed : trace.before < 2 ^ 64 - 1 → IsTraceDevice answer ↔ (trace.before < trace.after)
+
+-- the report of a job on its texts
+abbrev pub IsOutput : Job → Reading → Reading → Report → Type 0
+IsOutput job.Format formula trace r =
+    (reading : Result Qbf (FormulaFault × ℕ)) × IsFormulaRead formula.told formula.before formula.after reading × (r ≡ format_report reading)
+IsOutput (job.Check rules) formula trace r =
+    (answer : Result Verified Fault) × IsChecked formula trace answer × (r ≡ check_report rules answer)
 
 -- A text is to go out with a status, and a sink went from `old` to `new` and its count of failures from `before` to
 -- `after`: all of the text went out and the answer is the status; or the sink failed, a beginning of the text went out,

@@ -1,5 +1,6 @@
 -- The words of the command line.
-use Rattle.std.specs.Prelude.{◌≡◌, ℕ, List, [], ◌∷◌, Option, None, codes}
+use Rattle.std.specs.Prelude.{◌≡◌, ℕ, List, [], ◌∷◌, ◌⊎◌, Option, Some, None, codes}
+use Rattle.qrp_check.specs.declared.verdict.Rules.{Rules}
 use Rattle.qrp_cmd.specs.declared.job.Job.{Job}
 use Rattle.qrp_cmd.specs.declared.job.Job.TheVariants as job
 
@@ -9,6 +10,12 @@ pub record Request : Type 0 where
   pub formula : ℕ
   pub trace : Option ℕ
 
+-- Q-resolution and term resolution, with no flag
+abbrev pub plain : Rules
+plain = record {}
+
 -- the words after the program's name are a row of the usage; any word may name a file
 abbrev pub IsRow : List (List ℕ) → Request → Type 0
-IsRow words r = (f : List ℕ) × (words ≡ codes "format" ∷ f ∷ []) × (r ≡ record { job = job.Format; formula = 1; trace = None })
+IsRow words r =
+    ((f t : List ℕ) × (words ≡ codes "check" ∷ f ∷ t ∷ []) × (r ≡ record { job = job.Check plain; formula = 1; trace = Some 2 }))
+    ⊎ ((f : List ℕ) × (words ≡ codes "format" ∷ f ∷ []) × (r ≡ record { job = job.Format; formula = 1; trace = None }))

@@ -21,29 +21,71 @@ fn open<R: Files>(rt: &R, path: &str, fault: Start) -> Result<FromRead<R::File>,
     }
 }
 
-/// Does what the words ask for. An `Err` says why the job did not begin.
-pub fn answer<R: Files + AllocGlobal, O: Write + Drop, E: Write + Drop>(
+/// Does a job over two files that writes a line. An `Err` says why it did not begin.
+fn check<R: Files + AllocGlobal, O: Write + Drop, E: Write + Drop>(
     rt: &R,
-    words: &[String],
+    job: Job,
+    formula: &str,
+    trace: &str,
     out: O,
     err: E,
 ) -> Result<Status, Start> {
-    let Some((job, formula, _)) = request(words) else {
-        return Err(Start::Usage);
-    };
-    let mut formula = open(rt, words[formula].as_str(), Start::NoFormula)?;
+    let mut formula = open(rt, formula, Start::NoFormula)?;
+    let mut trace = open(rt, trace, Start::NoTrace)?;
+    let mut out = ToWrite::new(out);
+    let mut err = ToWrite::new(err);
+    Ok(run(rt.alloc(), job, &mut formula, &mut trace, &mut out, &mut err))
+}
+
+/// Does a job over the formula that writes a text. An `Err` says why it did not begin.
+fn format<R: Files + AllocGlobal, O: Write + Drop, E: Write + Drop>(
+    rt: &R,
+    job: Job,
+    formula: &str,
+    out: O,
+    err: E,
+) -> Result<Status, Start> {
+    let mut formula = open(rt, formula, Start::NoFormula)?;
     let Ok(mut out) = BufWriter::new(rt.alloc(), out) else {
         return Err(Start::NoMemory);
     };
-    let status = run(
-        rt.alloc(),
-        job,
-        &mut formula,
-        &mut SliceSource::new(&[]),
-        &mut ToWrite::new(&mut out),
-        &mut ToWrite::new(err),
-    );
+    let mut trace = SliceSource::new(&[]);
+    let mut sink = ToWrite::new(&mut out);
+    let mut err = ToWrite::new(err);
+    let status = run(rt.alloc(), job, &mut formula, &mut trace, &mut sink, &mut err);
     // What a failed writer still holds is not sent again.
     let (_out, _unsent) = out.into_parts();
     Ok(status)
+}
+
+/// Ends before a job begins. The status stays whether or not the line went out.
+pub fn stop<W: Write + Drop>(mut writer: W, start: Start) -> Status {
+    let _ = writer.write_all(start.line().as_bytes());
+    start.status()
+}
+
+/// Does what the words after the program's name ask for.
+pub fn answer<R: Files + AllocGlobal, O: Write + Drop, E: Write + Drop>(
+    rt: &R,
+    words: &[String],
+    mut out: O,
+    mut err: E,
+) -> Status {
+    match request(words) {
+        Some((job, formula, Some(trace))) => {
+            let formula = words[formula].as_str();
+            let trace = words[trace].as_str();
+            match check(rt, job, formula, trace, &mut out, &mut err) {
+                Ok(status) => status,
+                Err(start) => stop(out, start),
+            }
+        }
+        Some((job, formula, None)) => {
+            match format(rt, job, words[formula].as_str(), &mut out, &mut err) {
+                Ok(status) => status,
+                Err(start) => stop(err, start),
+            }
+        }
+        None => stop(err, Start::Usage),
+    }
 }

@@ -1,8 +1,12 @@
 //! What the program can be asked to do.
 
+use qrp_check::Rules;
+
 /// What the program is to do.
 #[derive(Clone, Copy, Debug, PartialEq, Eq)]
 pub enum Job {
+    /// Tells whether the trace proves its result of the formula.
+    Check(Rules),
     /// Prints the canonical text of the formula.
     Format,
 }

@@ -1,12 +1,16 @@
 //! The lines of the program, written part by part.
 
-ghost use Rattle.std.specs.Prelude.{◌≡◌, ◌<◌, ◌-◌, ◌^◌, OnOk, OnErr};
+ghost use Rattle.std.specs.Prelude.{◌≡◌, ◌<◌, ◌-◌, ◌^◌, ◌++◌, decimal, OnOk, OnErr};
 ghost use Rattle.std.specs.Io.KnownBytes.{Appends};
 ghost use Rattle.qbf_text.specs.Written.{AppendsFront};
-ghost use Rattle.qrp_cmd.specs.Lines.{formula_fault_name, formula_line, formula_status, part_text, parts_text};
+ghost use Rattle.qrp_cmd.specs.Lines.{formula_line, trace_line, check_line, fault_line, fault_status, line, verdict_line, part_text, parts_text};
 
+use crate::names::{formula_fault_name, rule_fault_name, trace_fault_name};
+use qbf_core::Var;
 use qbf_text::{put_bytes, put_number, Sink, SinkFault};
 use qdimacs::FormulaFault;
+use qrp::TraceFault;
+use qrp_check::{CheckFault, Fault};
 
 /// A part of a line.
 #[derive(Clone, Copy)]
@@ -39,24 +43,7 @@ fn put_parts<S: Sink>(sink: &mut S, parts: &[Part]) -> Result<(), SinkFault>
     Ok(())
 }
 
-fn formula_fault_name(fault: FormulaFault) -> &'static str
-    ensures { result.now ≡ formula_fault_name fault }
-{
-    match fault {
-        FormulaFault::F1 => "F1",
-        FormulaFault::F2 => "F2",
-        FormulaFault::F3 => "F3",
-        FormulaFault::F4 => "F4",
-        FormulaFault::F5 => "F5",
-        FormulaFault::F6 => "F6",
-        FormulaFault::F7 => "F7",
-        FormulaFault::F8 => "F8",
-        FormulaFault::F9 => "F9",
-    }
-}
-
-/// Sends the line for a fault of the formula's text.
-pub fn put_formula_fault<S: Sink>(sink: &mut S, fault: FormulaFault, line: u64) -> Result<(), SinkFault>
+fn put_formula_fault<S: Sink>(sink: &mut S, fault: FormulaFault, line: u64) -> Result<(), SinkFault>
     ensures ok { OnOk result (Appends (S.written sink.old) (S.written sink.new) (formula_line fault line)) }
     ensures err { OnErr result (AppendsFront (S.written sink.old) (S.written sink.new) (formula_line fault line)) }
     ensures failures_ok { OnOk result (S.failures sink.new ≡ S.failures sink.old) }
@@ -78,13 +65,107 @@ pub fn put_formula_fault<S: Sink>(sink: &mut S, fault: FormulaFault, line: u64) 
     }
 }
 
-/// The status for a fault of the formula's text.
-pub fn formula_status(fault: FormulaFault) -> u8
-    ensures { result ≡ formula_status fault }
+fn put_trace_fault<S: Sink>(sink: &mut S, fault: TraceFault, line: u64) -> Result<(), SinkFault>
+    ensures ok { OnOk result (Appends (S.written sink.old) (S.written sink.new) (trace_line fault line)) }
+    ensures err { OnErr result (AppendsFront (S.written sink.old) (S.written sink.new) (trace_line fault line)) }
+    ensures failures_ok { OnOk result (S.failures sink.new ≡ S.failures sink.old) }
+    ensures failures_err { OnErr result (S.failures sink.old < 2 ^ 64 - 1 → S.failures sink.old < S.failures sink.new) }
 {
     match fault {
-        FormulaFault::F1 => 3,
-        FormulaFault::F9 => 4,
-        _ => 2,
+        TraceFault::P1 => put_parts(sink, &[Part::Text("DEVICE trace\n")]),
+        TraceFault::P9 => put_parts(sink, &[Part::Text("NO MEMORY\n")]),
+        _ => put_parts(
+            sink,
+            &[
+                Part::Text("REFUSED trace "),
+                Part::Text(trace_fault_name(fault)),
+                Part::Text(" line "),
+                Part::Number(line),
+                Part::Text("\n"),
+            ],
+        ),
     }
+}
+
+/// Sends the line that ends in the variable of a faulty quantifier set.
+fn put_set_fault<S: Sink>(sink: &mut S, beginning: &'static str, var: Var) -> Result<(), SinkFault>
+    ensures ok { OnOk result (Appends (S.written sink.old) (S.written sink.new) (beginning.now ++ line (decimal var))) }
+    ensures err { OnErr result (AppendsFront (S.written sink.old) (S.written sink.new) (beginning.now ++ line (decimal var))) }
+    ensures failures_ok { OnOk result (S.failures sink.new ≡ S.failures sink.old) }
+    ensures failures_err { OnErr result (S.failures sink.old < 2 ^ 64 - 1 → S.failures sink.old < S.failures sink.new) }
+{
+    put_parts(
+        sink,
+        &[
+            Part::Text(beginning),
+            Part::Number(u64::from(var.number())),
+            Part::Text("\n"),
+        ],
+    )
+}
+
+fn put_check_fault<S: Sink>(sink: &mut S, fault: CheckFault) -> Result<(), SinkFault>
+    ensures ok { OnOk result (Appends (S.written sink.old) (S.written sink.new) (check_line fault)) }
+    ensures err { OnErr result (AppendsFront (S.written sink.old) (S.written sink.new) (check_line fault)) }
+    ensures failures_ok { OnOk result (S.failures sink.new ≡ S.failures sink.old) }
+    ensures failures_err { OnErr result (S.failures sink.old < 2 ^ 64 - 1 → S.failures sink.old < S.failures sink.new) }
+{
+    match fault {
+        CheckFault::C1(var) => put_set_fault(sink, "REFUSED set C1 variable ", var),
+        CheckFault::C2(var) => put_set_fault(sink, "REFUSED set C2 variable ", var),
+        CheckFault::C3(var) => put_set_fault(sink, "REFUSED set C3 variable ", var),
+        CheckFault::C4 => put_parts(sink, &[Part::Text("REFUSED trace C4\n")]),
+        CheckFault::C5 => put_parts(sink, &[Part::Text("NO MEMORY\n")]),
+        CheckFault::C6(number, fault) => put_parts(
+            sink,
+            &[
+                Part::Text("REFUSED step "),
+                Part::Number(number),
+                Part::Text(" "),
+                Part::Text(rule_fault_name(fault)),
+                Part::Text("\n"),
+            ],
+        ),
+    }
+}
+
+/// Sends the line for a fault.
+pub fn put_fault<S: Sink>(sink: &mut S, fault: &Fault) -> Result<(), SinkFault>
+    ensures ok { OnOk result (Appends (S.written sink.old) (S.written sink.new) (fault_line fault.now)) }
+    ensures err { OnErr result (AppendsFront (S.written sink.old) (S.written sink.new) (fault_line fault.now)) }
+    ensures failures_ok { OnOk result (S.failures sink.new ≡ S.failures sink.old) }
+    ensures failures_err { OnErr result (S.failures sink.old < 2 ^ 64 - 1 → S.failures sink.old < S.failures sink.new) }
+{
+    match *fault {
+        Fault::Formula(fault, line) => put_formula_fault(sink, fault, line),
+        Fault::Trace(fault, line) => put_trace_fault(sink, fault, line),
+        Fault::Check(fault) => put_check_fault(sink, fault),
+    }
+}
+
+/// The status for a fault.
+pub fn fault_status(fault: &Fault) -> u8
+    ensures { result ≡ fault_status fault.now }
+{
+    match *fault {
+        Fault::Formula(FormulaFault::F1, _) | Fault::Trace(TraceFault::P1, _) => 3,
+        Fault::Formula(FormulaFault::F9, _)
+        | Fault::Trace(TraceFault::P9, _)
+        | Fault::Check(CheckFault::C5) => 4,
+        Fault::Formula(_, _) | Fault::Trace(_, _) => 2,
+        Fault::Check(_) => 1,
+    }
+}
+
+/// Sends the line of a verdict.
+pub fn put_verdict<S: Sink>(sink: &mut S, truth: bool) -> Result<(), SinkFault>
+    ensures ok { OnOk result (Appends (S.written sink.old) (S.written sink.new) (verdict_line truth)) }
+    ensures err { OnErr result (AppendsFront (S.written sink.old) (S.written sink.new) (verdict_line truth)) }
+    ensures failures_ok { OnOk result (S.failures sink.new ≡ S.failures sink.old) }
+    ensures failures_err { OnErr result (S.failures sink.old < 2 ^ 64 - 1 → S.failures sink.old < S.failures sink.new) }
+{
+    if truth {
+        return put_bytes(sink, b"VERIFIED true\n");
+    }
+    put_bytes(sink, b"VERIFIED false\n")
 }

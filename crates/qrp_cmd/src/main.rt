@@ -4,6 +4,7 @@
 mod files;
 mod job;
 mod lines;
+mod names;
 mod run;
 mod start;
 mod words;
@@ -14,7 +15,7 @@ pub use start::Start;
 pub use words::request;
 
 use std::env;
-use std::io::{ErrorKind, Write};
+use std::io::ErrorKind;
 use std::process::ExitCode;
 
 /// The words after the program's name.
@@ -33,13 +34,10 @@ fn given_words(rt: &HostRuntime) -> Result<Vec<String>, Start> {
     Ok(words)
 }
 
-/// Ends before a job begins. The status stays whether or not the line went out.
-fn stop<W: Write + Drop>(mut writer: W, start: Start) -> Status {
-    let _ = writer.write_all(start.line().as_bytes());
-    start.status()
-}
-
 fn main(rt: HostRuntime) -> ExitCode {
-    let ended = given_words(&rt).and_then(|words| files::answer(&rt, &words, rt.stdout(), rt.stderr()));
-    ExitCode::from(ended.unwrap_or_else(|start| stop(rt.stderr(), start)))
+    let status = match given_words(&rt) {
+        Ok(words) => files::answer(&rt, &words, rt.stdout(), rt.stderr()),
+        Err(start) => files::stop(rt.stderr(), start),
+    };
+    ExitCode::from(status)
 }

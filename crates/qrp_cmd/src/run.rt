@@ -1,17 +1,22 @@
 //! A job from its sources to its sinks.
 
-ghost use Rattle.std.specs.Prelude.{◌≡◌, ◌⊎◌};
+ghost use Rattle.std.specs.Prelude.{◌≡◌, ◌⊎◌, ℕ, Result};
 ghost use Rattle.std.specs.Io.KnownBytes.{Keeps};
+ghost use Rattle.qbf_core.specs.Qbf.{Qbf};
+ghost use Rattle.qdimacs.specs.declared.fault.FormulaFault.{FormulaFault};
 ghost use Rattle.qdimacs.specs.Grammar.{text};
-ghost use Rattle.qrp_cmd.specs.Lines.{formula_line, formula_status};
-ghost use Rattle.qrp_cmd.specs.declared.job.Job.TheVariants as job;
-ghost use Rattle.qrp_cmd.specs.Output.{Report, IsOutput, IsFormulaRead, HasFailed, IsSent, IsOn};
+ghost use Rattle.qrp_check.specs.declared.verdict.Verified.{Verified};
+ghost use Rattle.qrp_check.specs.declared.verdict.Fault.{Fault};
+ghost use Rattle.qrp_cmd.specs.Lines.{fault_line, fault_status, verdict_line};
+ghost use Rattle.qrp_cmd.specs.declared.job.Job.TheVariants.{Format};
+ghost use Rattle.qrp_cmd.specs.Output.{Report, IsOutput, IsFormulaRead, IsChecked, format_report, check_report, HasFailed, IsSent, IsOn};
 
 use crate::job::Job;
-use crate::lines::{formula_status, put_formula_fault};
+use crate::lines::{fault_status, put_fault, put_verdict};
 use qbf_core::Formula;
 use qbf_text::{Sink, Source};
-use qdimacs::{read_formula, write_formula, FormulaFault};
+use qdimacs::{read_formula, write_formula};
+use qrp_check::{verify, Fault, Rules};
 use std::alloc::Global;
 
 /// The status of the program: 0 done, 1 the proof is refused, 2 a text is refused, 3 a device failed,
@@ -43,36 +48,71 @@ fn send_formula<S: Sink>(formula: &Formula, sink: &mut S) -> Status
     }
 }
 
-/// Sends the line for a fault of the formula's text.
-fn refuse_formula<S: Sink>(sink: &mut S, fault: FormulaFault, line: u64) -> Status
-    ensures { IsSent (S.written sink.old) (S.written sink.new) (S.failures sink.old) (S.failures sink.new) (formula_line fault line) (formula_status fault) result }
+/// Sends the line for a fault.
+fn send_fault<S: Sink>(sink: &mut S, fault: &Fault) -> Status
+    ensures { IsSent (S.written sink.old) (S.written sink.new) (S.failures sink.old) (S.failures sink.new) (fault_line fault.now) (fault_status fault.now) result }
 {
-    match put_formula_fault(sink, fault, line) {
-        Ok(()) => end_text(sink, formula_status(fault)),
+    match put_fault(sink, fault) {
+        Ok(()) => end_text(sink, fault_status(fault)),
+        Err(_) => DEVICE_FAILED,
+    }
+}
+
+/// Sends the line of a verdict.
+fn send_verdict<S: Sink>(sink: &mut S, truth: bool) -> Status
+    ensures { IsSent (S.written sink.old) (S.written sink.new) (S.failures sink.old) (S.failures sink.new) (verdict_line truth) 0 result }
+{
+    match put_verdict(sink, truth) {
+        Ok(()) => end_text(sink, 0),
         Err(_) => DEVICE_FAILED,
     }
 }
 
 /// Writes the canonical text of the formula to `out`, or its refusal to `err`.
-fn format<F: Source, O: Sink, E: Sink>(alloc: Global, formula: &mut F, out: &mut O, err: &mut E) -> Status
+fn format<F: Source, O: Sink, E: Sink>(
+    alloc: Global,
+    formula: &mut F,
+    out: &mut O,
+    err: &mut E,
+) -> Status
     ensures { (r : Report)
-        × IsOutput job.Format (IsFormulaRead (F.remaining formula.old) (F.failures formula.old) (F.failures formula.new)) r
+        × ((reading : Result Qbf (FormulaFault × ℕ))
+            × IsFormulaRead (F.remaining formula.old) (F.failures formula.old) (F.failures formula.new) reading × (r ≡ format_report reading))
         × IsOn r.sink
             (IsSent (O.written out.old) (O.written out.new) (O.failures out.old) (O.failures out.new) r.text r.status result × (err.new ≡ err.old))
             (IsSent (E.written err.old) (E.written err.new) (E.failures err.old) (E.failures err.new) r.text r.status result × (out.new ≡ out.old)) }
 {
     match read_formula(alloc, formula) {
         Ok(read) => send_formula(&read, out),
-        Err((fault, line)) => refuse_formula(err, fault, line),
+        Err((fault, line)) => send_fault(err, &Fault::Formula(fault, line)),
+    }
+}
+
+/// Writes the verdict on the trace, or its refusal, to `out`.
+fn check<F: Source, T: Source, O: Sink>(
+    alloc: Global,
+    rules: Rules,
+    formula: &mut F,
+    trace: &mut T,
+    out: &mut O,
+) -> Status
+    ensures { (answer : Result Verified Fault)
+        × IsChecked (record { told = F.remaining formula.old; before = F.failures formula.old; after = F.failures formula.new })
+            (record { told = T.remaining trace.old; before = T.failures trace.old; after = T.failures trace.new }) answer
+        × IsSent (O.written out.old) (O.written out.new) (O.failures out.old) (O.failures out.new) (check_report rules answer).text (check_report rules answer).status result }
+{
+    match verify(alloc, formula, trace, rules) {
+        Ok(verified) => send_verdict(out, verified.truth),
+        Err(fault) => send_fault(out, &fault),
     }
 }
 
 /// Does a job: reads the formula and, where the job asks for it, the trace, and writes the report to `out` or `err`.
 ///
 /// Where the bytes of the sources are told, the report is the one for what they spell. A source that fails is told in
-/// a line with status 3, want of memory in a line with status 4, on the sink that takes the refusals of the job. The
-/// other sink gets nothing. Where the sink of the report fails, in a write or in `finish`, the status is 3 and a
-/// beginning of the text went out. For `Format` the trace is not pulled.
+/// a line with status 3, want of memory in a line with status 4, on the sink that takes the refusals of the job: `out`
+/// for `Check`, `err` for the others. The other sink gets nothing. Where the sink of the report fails, in a write or in
+/// `finish`, the status is 3 and a beginning of the text went out. For `Format` the trace is not pulled.
 pub fn run<F: Source, T: Source, O: Sink, E: Sink>(
     alloc: Global,
     job: Job,
@@ -82,14 +122,16 @@ pub fn run<F: Source, T: Source, O: Sink, E: Sink>(
     err: &mut E,
 ) -> Status
     ensures report { (r : Report)
-        × IsOutput job (IsFormulaRead (F.remaining formula.old) (F.failures formula.old) (F.failures formula.new)) r
+        × IsOutput job
+            (record { told = F.remaining formula.old; before = F.failures formula.old; after = F.failures formula.new })
+            (record { told = T.remaining trace.old; before = T.failures trace.old; after = T.failures trace.new }) r
         × IsOn r.sink
             (IsSent (O.written out.old) (O.written out.new) (O.failures out.old) (O.failures out.new) r.text r.status result × (err.new ≡ err.old))
             (IsSent (E.written err.old) (E.written err.new) (E.failures err.old) (E.failures err.new) r.text r.status result × (out.new ≡ out.old)) }
-    ensures not_pulled { trace.new ≡ trace.old }
+    ensures not_pulled { job ≡ Format → trace.new ≡ trace.old }
 {
-    let _trace = trace;
     match job {
+        Job::Check(rules) => check(alloc, rules, formula, trace, out),
         Job::Format => format(alloc, formula, out, err),
     }
 }

@@ -15,4 +15,4 @@ returns-in-Err g c =
      (Err (c.in-Err.fault, c.in-Err.line),
       formula_refused _ _ _ c.in-Err.fault c.in-Err.line c.in-Err.ensures.exact c.in-Err.ensures.source c.in-Err.ensures.kept c.in-Err.ensures.line_1 c.in-Err.ensures.line_9,
       refl),
-     (c.refuse_formula.ensures, refl))
+     (c.send_fault.ensures, refl))
