@@ -1,7 +1,7 @@
 //! From the words of the command line to a run over files.
 
 use crate::job::Job;
-use crate::run::{run, Status};
+use crate::run::{Status, run};
 use crate::start::Start;
 use crate::words::request;
 use qbf_text::{FromRead, SliceSource, ToWrite};
@@ -34,7 +34,14 @@ fn check<R: Files + AllocGlobal, O: Write + Drop, E: Write + Drop>(
     let mut trace = open(rt, trace, Start::NoTrace)?;
     let mut out = ToWrite::new(out);
     let mut err = ToWrite::new(err);
-    Ok(run(rt.alloc(), job, &mut formula, &mut trace, &mut out, &mut err))
+    Ok(run(
+        rt.alloc(),
+        job,
+        &mut formula,
+        &mut trace,
+        &mut out,
+        &mut err,
+    ))
 }
 
 /// Does a job over the formula that writes a text. An `Err` says why it did not begin.
@@ -52,7 +59,14 @@ fn format<R: Files + AllocGlobal, O: Write + Drop, E: Write + Drop>(
     let mut trace = SliceSource::new(&[]);
     let mut sink = ToWrite::new(&mut out);
     let mut err = ToWrite::new(err);
-    let status = run(rt.alloc(), job, &mut formula, &mut trace, &mut sink, &mut err);
+    let status = run(
+        rt.alloc(),
+        job,
+        &mut formula,
+        &mut trace,
+        &mut sink,
+        &mut err,
+    );
     // What a failed writer still holds is not sent again.
     let (_out, _unsent) = out.into_parts();
     Ok(status)

@@ -7,7 +7,7 @@ ghost use Rattle.qrp_cmd.specs.Lines.{formula_line, trace_line, check_line, faul
 
 use crate::names::{formula_fault_name, rule_fault_name, trace_fault_name};
 use qbf_core::Var;
-use qbf_text::{put_bytes, put_number, Sink, SinkFault};
+use qbf_text::{Sink, SinkFault, put_bytes, put_number};
 use qdimacs::FormulaFault;
 use qrp::TraceFault;
 use qrp_check::{CheckFault, Fault};

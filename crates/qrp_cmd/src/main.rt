@@ -10,13 +10,12 @@ mod start;
 mod words;
 
 pub use job::Job;
-pub use run::{run, Status};
+pub use run::{Status, run};
 pub use start::Start;
-pub use words::request;
-
 use std::env;
 use std::io::ErrorKind;
 use std::process::ExitCode;
+pub use words::request;
 
 /// The words after the program's name.
 fn given_words(rt: &HostRuntime) -> Result<Vec<String>, Start> {

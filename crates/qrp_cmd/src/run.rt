@@ -16,7 +16,7 @@ use crate::lines::{fault_status, put_fault, put_verdict};
 use qbf_core::Formula;
 use qbf_text::{Sink, Source};
 use qdimacs::{read_formula, write_formula};
-use qrp_check::{verify, Fault, Rules};
+use qrp_check::{Fault, Rules, verify};
 use std::alloc::Global;
 
 /// The status of the program: 0 done, 1 the proof is refused, 2 a text is refused, 3 a device failed,
@@ -77,10 +77,10 @@ fn format<F: Source, O: Sink, E: Sink>(
 ) -> Status
     ensures { (r : Report)
         × ((reading : Result Qbf (FormulaFault × ℕ))
-            × IsFormulaRead (F.remaining formula.old) (F.failures formula.old) (F.failures formula.new) reading × (r ≡ format_report reading))
+        × IsFormulaRead (F.remaining formula.old) (F.failures formula.old) (F.failures formula.new) reading × (r ≡ format_report reading))
         × IsOn r.sink
-            (IsSent (O.written out.old) (O.written out.new) (O.failures out.old) (O.failures out.new) r.text r.status result × (err.new ≡ err.old))
-            (IsSent (E.written err.old) (E.written err.new) (E.failures err.old) (E.failures err.new) r.text r.status result × (out.new ≡ out.old)) }
+        (IsSent (O.written out.old) (O.written out.new) (O.failures out.old) (O.failures out.new) r.text r.status result × (err.new ≡ err.old))
+        (IsSent (E.written err.old) (E.written err.new) (E.failures err.old) (E.failures err.new) r.text r.status result × (out.new ≡ out.old)) }
 {
     match read_formula(alloc, formula) {
         Ok(read) => send_formula(&read, out),
@@ -98,7 +98,7 @@ fn check<F: Source, T: Source, O: Sink>(
 ) -> Status
     ensures { (answer : Result Verified Fault)
         × IsChecked (record { told = F.remaining formula.old; before = F.failures formula.old; after = F.failures formula.new })
-            (record { told = T.remaining trace.old; before = T.failures trace.old; after = T.failures trace.new }) answer
+        (record { told = T.remaining trace.old; before = T.failures trace.old; after = T.failures trace.new }) answer
         × IsSent (O.written out.old) (O.written out.new) (O.failures out.old) (O.failures out.new) (check_report rules answer).text (check_report rules answer).status result }
 {
     match verify(alloc, formula, trace, rules) {
@@ -123,11 +123,11 @@ pub fn run<F: Source, T: Source, O: Sink, E: Sink>(
 ) -> Status
     ensures report { (r : Report)
         × IsOutput job
-            (record { told = F.remaining formula.old; before = F.failures formula.old; after = F.failures formula.new })
-            (record { told = T.remaining trace.old; before = T.failures trace.old; after = T.failures trace.new }) r
+        (record { told = F.remaining formula.old; before = F.failures formula.old; after = F.failures formula.new })
+        (record { told = T.remaining trace.old; before = T.failures trace.old; after = T.failures trace.new }) r
         × IsOn r.sink
-            (IsSent (O.written out.old) (O.written out.new) (O.failures out.old) (O.failures out.new) r.text r.status result × (err.new ≡ err.old))
-            (IsSent (E.written err.old) (E.written err.new) (E.failures err.old) (E.failures err.new) r.text r.status result × (out.new ≡ out.old)) }
+        (IsSent (O.written out.old) (O.written out.new) (O.failures out.old) (O.failures out.new) r.text r.status result × (err.new ≡ err.old))
+        (IsSent (E.written err.old) (E.written err.new) (E.failures err.old) (E.failures err.new) r.text r.status result × (out.new ≡ out.old)) }
     ensures not_pulled { job ≡ Format → trace.new ≡ trace.old }
 {
     match job {

@@ -15,12 +15,18 @@ fn given(alloc: Global, words: &[&str]) -> Result<Vec<String>, AllocError> {
 fn rows_of_the_usage(rt: HostRuntime) -> Result<(), Fail> {
     let format = given(rt.alloc(), &["format", "-x"])?;
     assert_eq!(rt; request(&format), Some((Job::Format, 1, None)));
-    let rows: [&[&str]; 6] = [
+    let check = given(rt.alloc(), &["check", "check", "--qu"])?;
+    assert_eq!(rt;
+        request(&check),
+        Some((Job::Check(Rules::plain()), 1, Some(2)))
+    );
+    let rows: [&[&str]; 7] = [
         &[],
         &["format"],
         &["format", "f", "t"],
         &["Format", "f"],
-        &["check", "f", "t"],
+        &["check", "f"],
+        &["check", "--qu", "f", "t"],
         &["trim", "f", "t"],
     ];
     for row in rows {

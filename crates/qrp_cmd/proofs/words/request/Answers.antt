@@ -12,6 +12,9 @@ pub returns-in-len3-clause-row : goal.returns-in-len3-clause-row
 returns-in-len3-clause-row c =
     let command = c.command-item-then-words-lt4 in
     let three = three_words (λ w. string_bytes w) c.args.words.now command.result c.in-len3.len_at_least c.in-len3.len_below in
-    inl (three.0, three.1,
-         three.2 ∙ ap (λ (k : List ℕ). k ∷ three.0 ∷ three.1 ∷ []) (ap (λ w. string_bytes w) (sym command.is) ∙ c.is_word-then-words-lt4.ensures.0 c.if-is_word-2.true),
-         refl)
+    inl (
+      three.0,
+      three.1,
+      three.2 ∙ ap (λ (k : List ℕ). k ∷ three.0 ∷ three.1 ∷ []) (ap (λ w. string_bytes w) (sym command.is) ∙ c.is_word-then-words-lt4.ensures.0 c.if-is_word-2.true),
+      refl,
+    )
