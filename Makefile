@@ -19,12 +19,15 @@ $(PROGRAM): $(shell find crates -path '*/out' -prune -o -type f -print) crates.t
 	cp crates/qrp_cmd/out/qrp_cmd $(PROGRAM)
 
 demo: all
+	$(PROGRAM) check examples/blind-box/blind-box.qdimacs examples/blind-box/blind-box.qrp
+	$(PROGRAM) check examples/carry-from-tables/carry-from-tables.qdimacs examples/carry-from-tables/carry-from-tables.qrp
 	$(PROGRAM) format examples/two_clauses.qdimacs
 
 test:
 	$(RT) ci
 	$(MAKE) all
 	scripts/test-program $(PROGRAM)
+	examples/check-all $(PROGRAM)
 
 bench: all
 	scripts/bench $(PROGRAM)
