@@ -11,6 +11,9 @@ mod window;
 
 pub use pieces::{PieceSink, PieceSource};
 pub use scanner::{ScanFault, Scanner};
-pub use sink::{put_bytes, put_number, Sink, SinkFault, ToWrite, VecSink};
+pub use sink::{Sink, SinkFault, ToWrite, VecSink, put_bytes, put_number};
 pub use source::{FromRead, SliceSource, Source, SourceFault};
 pub use token::{Comments, Token, Word};
+
+#[cfg(test)]
+mod tests;

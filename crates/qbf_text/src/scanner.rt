@@ -1,3 +1,5 @@
+//! Texts as tokens with their lines, read from a source.
+
 ghost use Rattle.std.specs.Prelude.{◌≡◌, ℕ, ◌+◌, ◌-◌, ◌^◌, ◌<◌, ◌≤◌, Option, Some, None, List, [], ◌∷◌, ◌++◌, length, take, drop, IfSome, IfNone, false, true, ◌≢◌, IsOk, IsErr, IfOk, OnOk, OnErr};
 ghost use Rattle.std.specs.Io.KnownBytes.{Consumes, IsAtEnd};
 ghost use Rattle.qbf_text.specs.Ahead.{ahead, first_of};
@@ -10,12 +12,14 @@ use crate::token::{Comments, Token};
 use crate::window::Window;
 use std::marker::Model;
 
+/// Whether the byte parts tokens within a line: a space, a tab or a carriage return.
 fn is_blank(byte: u8) -> bool
     ensures { result ≡ is_blank byte }
 {
     byte == b' ' || byte == b'\t' || byte == b'\r'
 }
 
+/// Whether the byte ends a token: a blank or a line end.
 fn is_separator(byte: u8) -> bool
     ensures { result ≡ is_separator byte }
 {
@@ -78,7 +82,8 @@ impl Place {
     /// The next token, or None at the end.
     fn scan<S: Source>(&mut self, source: &mut S) -> Result<Option<Token>, SourceFault>
         ensures some { IfOk result (λ found. IfSome found (λ token.
-            Gives (left_at self.old (S.remaining source.old)) (left_at self.new (S.remaining source.new)) ((token, self.new.line) ∷ []))) }
+            Gives (left_at self.old (S.remaining source.old)) (left_at self.new (S.remaining source.new))
+            ((token, self.new.line) ∷ []))) }
         ensures no_end { IfOk result (λ found. IfSome found (λ token. is_end token ≡ false)) }
         ensures none { IfOk result (λ found. IfNone found
             (Gives (left_at self.old (S.remaining source.old)) (left_at self.new (S.remaining source.new)) []
@@ -86,7 +91,8 @@ impl Place {
         ensures at_end { IfOk result (λ found. IfNone found (IsAtEnd (S.remaining source.new))) }
         ensures bound { IfOk result (λ found. IfSome found (λ _.
             length self.new.window + S.bound source.new < length self.old.window + S.bound source.old)) }
-        ensures no_more { OnOk result (length self.new.window + S.bound source.new ≤ length self.old.window + S.bound source.old) }
+        ensures no_more { OnOk result (
+            length self.new.window + S.bound source.new ≤ length self.old.window + S.bound source.old) }
         ensures ok { OnOk result (S.failures source.new ≡ S.failures source.old) }
         ensures err { OnErr result (S.failures source.old < 2 ^ 64 - 1 → S.failures source.old < S.failures source.new) }
     {
@@ -113,18 +119,25 @@ impl Place {
     }
 }
 
-/// The source failed.
-#[derive(Clone, Copy, Debug)]
+/// X1: the source failed. Nothing is said of the tokens after those that were given.
+#[derive(Clone, Copy, Debug, PartialEq, Eq)]
 pub struct ScanFault;
 
+/// What was given last.
 #[derive(Clone, Copy)]
 enum State {
+    /// A token, or nothing yet.
     Open,
+    /// End.
     Ended,
+    /// A fault.
     Failed,
 }
 
-/// Reads a text token by token, in the same room for tokens of any length.
+/// Reads a text of QDIMACS 1.1 or of QRP token by token, and takes no memory: a token of any length fits.
+///
+/// It pulls up to 4,096 bytes at a time, so it is lent the same source at each call.
+/// Contracts see a `Reading`.
 #[derive(Drop)]
 pub struct Scanner {
     place: Place,
@@ -149,6 +162,7 @@ impl Scanner {
     ghost use Rattle.qbf_text.specs.Tokens.{tokens};
     ghost use Rattle.qbf_text.specs.Reading.{left, GivesNext, HasEnded, HasFailed, IsReady};
 
+    /// A scanner at the beginning of a text of this format.
     #[tactic(auto, unfolding(crate::specs::Reading::left))]
     pub fn new(comments: Comments) -> Scanner
         ensures left { (bytes : List ℕ) → left result (Some bytes) ≡ Some (tokens comments bytes) }
@@ -166,6 +180,11 @@ impl Scanner {
     }
 
     /// The next token and its line.
+    ///
+    /// Lines end at byte 10 and are counted from 1; the count stays at 18446744073709551615.
+    /// End stands on the line after the last byte 10. After End every call answers the same End and pulls nothing.
+    ///
+    /// X1 where the source failed. Every later call answers X1 and pulls nothing.
     #[tactic(auto, unfolding(crate::specs::Reading::left))]
     pub fn next_token<S: Source>(&mut self, source: &mut S) -> Result<(Token, u64), ScanFault>
         ensures token { IfOk result (λ token.
@@ -173,11 +192,13 @@ impl Scanner {
         // With each token but End less can still come.
         ensures bound { IfOk result (λ token. is_end token.0 ≡ false →
             length self.new.pending + S.bound source.new < length self.old.pending + S.bound source.old) }
-        ensures no_more { OnOk result (length self.new.pending + S.bound source.new ≤ length self.old.pending + S.bound source.old) }
+        ensures no_more { OnOk result (
+            length self.new.pending + S.bound source.new ≤ length self.old.pending + S.bound source.old) }
         // End and a fault are given for good, and nothing is pulled then.
         ensures end { IfOk result (λ token. is_end token.0 ≡ true → HasEnded self.new) }
         // No byte remains behind End.
-        ensures ready { OnOk result (IsReady self.old (S.remaining source.old) → IsReady self.new (S.remaining source.new)) }
+        ensures ready { OnOk result (
+            IsReady self.old (S.remaining source.old) → IsReady self.new (S.remaining source.new)) }
         ensures ended { HasEnded self.old → IsOk result × (self.new ≡ self.old) × (source.new ≡ source.old) }
         ensures fault { OnErr result (HasFailed self.new) }
         ensures failed { HasFailed self.old → IsErr result × (self.new ≡ self.old) × (source.new ≡ source.old) }

@@ -1,5 +1,5 @@
 -- What is read is spelled, and a fault that is found stands.
-use Rattle.std.proofs.Common.{◌≡◌, ◌≢◌, ℕ, zero, suc, ◌<◌, ◌≤◌, ◌+◌, Bool, true, false, cond, ◌||◌, List, [], ◌∷◌, ◌++◌, length, map, Option, Some, None, IfSome, Result, Ok, Err, refl, ap, sym, subst, ◌∙◌, arith, append_assoc, nat_eq, nat_lt}
+use Rattle.std.proofs.Common.{◌≡◌, ◌≢◌, ℕ, zero, suc, ◌<◌, ◌≤◌, Bool, true, false, cond, ◌||◌, List, [], ◌∷◌, ◌++◌, length, map, Option, Some, None, IfSome, Result, Ok, Err, refl, ap, sym, subst, ◌∙◌, arith, append_assoc, nat_eq, nat_lt}
 use Rattle.std.specs.Prelude.{OnOk, IfErr}
 use Rattle.std.proofs.lemmas.List.{append-nil, map-append, length-append}
 use Rattle.std.proofs.lemmas.Grind.{flat_map-append}
@@ -9,7 +9,7 @@ use Rattle.qbf_core.specs.declared.quantifier.Quantifier.{Quantifier}
 use Rattle.qbf_core.specs.declared.quantifier.Quantifier.TheVariants.{All, Exists}
 use Rattle.qbf_core.specs.Literal.{Literal}
 use Rattle.qbf_core.specs.Blocks.{Block, pairs, pairs_of_block, is_bound, blocks_of, variables}
-use Rattle.qbf_core.specs.Qbf.{Qbf, IsWellFormed}
+use Rattle.qbf_core.specs.Qbf.{Qbf}
 use Rattle.qbf_core.proofs.BlockLaws.{pairs-blocks_of, Alternates-blocks_of}
 use Rattle.qdimacs.specs.declared.fault.FormulaFault.{FormulaFault}
 use Rattle.qdimacs.specs.declared.fault.FormulaFault.TheVariants.{F2, F3, F4, F5, F6, F7, F8, F1, F9}
@@ -19,7 +19,7 @@ use Rattle.qbf_text.specs.declared.token.Word.TheVariants as word
 use Rattle.qbf_text.specs.Lined.{Lined, EndsOnce}
 use Rattle.qbf_text.specs.Lined.{Known}
 use Rattle.qdimacs.proofs.Steps.{Stops-from, read-one, after, no_place_after_end}
-use Rattle.qdimacs.specs.Grammar.{number, literal, letter, header, set, clause, spelling, IsFormula}
+use Rattle.qdimacs.specs.Grammar.{number, literal, letter, header, set, clause, IsFormula}
 use Rattle.qbf_text.specs.Lined.{unlined}
 use Rattle.qdimacs.specs.Faults.{Reads, ReadsUnless, Answers, IsSoFar, Spells, IsFault}
 use Rattle.qdimacs.specs.Reading.{Heading, Place, AtP, AtCnf, AtVars, AtCount, Between, InSet, InClause, Row, Goes, Ends, Fails, row, is_p, is_cnf, word_row, header_number, number_row, member, set_row, literal_in, clause_row, begun_set, set_letter, has_more, clause_or_end, between_row, read_from, read, Stops, Gives, reads_from, reads_bytes}
@@ -144,14 +144,20 @@ none_so_far h lv lc = record { max_var = lv; count = lc; distinct = tt; within =
 
 more_variables : (h : Heading) (ps : List (Quantifier × ℕ)) (q : Quantifier) (v : ℕ) → IsSoFar h ps [] → 1 ≤ v → v ≤ h.max_var → is_bound v ps ≡ false → IsSoFar h (ps ++ (q, v) ∷ []) []
 more_variables h ps q v s low high fresh = record {
-  max_var = s.max_var; count = s.count; closed = tt; few = s.few;
+  max_var = s.max_var;
+  count = s.count;
+  closed = tt;
+  few = s.few;
   distinct = push_distinct ps q v s.distinct fresh;
   within = push_variables (λ w. (1 ≤ w) × (w ≤ h.max_var)) ps q v s.within (low, high);
 }
 
 more_clauses : (h : Heading) (ps : List (Quantifier × ℕ)) (cs : List (List Literal)) (ls : List Literal) → IsSoFar h ps cs → AllByRecursion (λ l. is_bound l.var ps ≡ true) ls → length cs < h.count → IsSoFar h ps (cs ++ ls ∷ [])
 more_clauses h ps cs ls s bound more = record {
-  max_var = s.max_var; count = s.count; distinct = s.distinct; within = s.within;
+  max_var = s.max_var;
+  count = s.count;
+  distinct = s.distinct;
+  within = s.within;
   closed = push_all (AllByRecursion (λ l. is_bound l.var ps ≡ true)) cs ls s.closed bound;
   few = omega (arith, length-append cs (ls ∷ []));
 }
@@ -191,18 +197,18 @@ clause_step ts h ps cs ls t next b e = by (literal_in h.max_var ps t) refl e
     by (Ok None) is e =
         let to : Between h ps (cs ++ ls ∷ []) ≡ next = cc in
         let spelled : ts ++ t ∷ [] ≡ front h b.sets (cs ++ ls ∷ []) =
-            (λ i. b.spelled i ++ literal_none h.max_var ps t is i ∷ [])
-            ∙ append_assoc (front h b.sets cs) (map literal ls) (number 0 ∷ [])
-            ∙ append_assoc (header h.max_var h.count ++ flat_map set b.sets) (flat_map clause cs) (clause ls)
-            ∙ ap (λ (x : List Token). header h.max_var h.count ++ flat_map set b.sets ++ x) (sym (clause_pushed cs ls)) in
+        (λ i. b.spelled i ++ literal_none h.max_var ps t is i ∷ [])
+        ∙ append_assoc (front h b.sets cs) (map literal ls) (number 0 ∷ [])
+        ∙ append_assoc (header h.max_var h.count ++ flat_map set b.sets) (flat_map clause cs) (clause ls)
+        ∙ ap (λ (x : List Token). header h.max_var h.count ++ flat_map set b.sets ++ x) (sym (clause_pushed cs ls)) in
         subst (Spells (ts ++ t ∷ [])) to (b.sets, spelled, b.bound, more_clauses h ps cs ls b.so_far b.free b.more)
     by (Ok (Some l)) is e =
         let to : InClause h ps cs (ls ++ l ∷ []) ≡ next = cc in
         let k = literal_some h.max_var ps t l is in
         let spelled : ts ++ t ∷ [] ≡ front h b.sets cs ++ map literal (ls ++ l ∷ []) =
-            (λ i. b.spelled i ++ k.0 i ∷ [])
-            ∙ append_assoc (front h b.sets cs) (map literal ls) (literal l ∷ [])
-            ∙ ap (λ (x : List Token). front h b.sets cs ++ x) (sym (map-append literal ls (l ∷ []))) in
+        (λ i. b.spelled i ++ k.0 i ∷ [])
+        ∙ append_assoc (front h b.sets cs) (map literal ls) (literal l ∷ [])
+        ∙ ap (λ (x : List Token). front h b.sets cs ++ x) (sym (map-append literal ls (l ∷ []))) in
         subst (Spells (ts ++ t ∷ [])) to (b.sets, spelled, b.bound, b.so_far, push_all (λ x. is_bound x.var ps ≡ true) ls l b.free k.1, some_pushed ls l, b.more)
 
 set_step : (ts : List Token) (h : Heading) (ps : List (Quantifier × ℕ)) (q : Quantifier) (t : Token) (next : Place) → Spells ts (InSet h ps q) → set_row h ps q (member h.max_var t) ≡ Goes next → Spells (ts ++ t ∷ []) next
@@ -215,14 +221,15 @@ set_step ts h ps q t next b e = by (member h.max_var t) refl e
         let m = member_some h.max_var t v k in
         let base : List Token = header h.max_var h.count ++ flat_map set b.0 in
         let spelled : ts ++ t ∷ [] ≡ base ++ letter q ∷ map number (b.1 ++ v ∷ []) =
-            (λ i. b.2 i ++ m.0 i ∷ [])
-            ∙ append_assoc base (letter q ∷ map number b.1) (number v ∷ [])
-            ∙ ap (λ (x : List Token). base ++ letter q ∷ x) (sym (map-append number b.1 (v ∷ []))) in
+        (λ i. b.2 i ++ m.0 i ∷ [])
+        ∙ append_assoc base (letter q ∷ map number b.1) (number v ∷ [])
+        ∙ ap (λ (x : List Token). base ++ letter q ∷ x) (sym (map-append number b.1 (v ∷ []))) in
         let pairs_are : pairs b.0 ++ map (λ w. (q, w)) (b.1 ++ v ∷ []) ≡ ps ++ (q, v) ∷ [] =
-            ap (λ (x : List (Quantifier × ℕ)). pairs b.0 ++ x) (map-append (λ w. (q, w)) b.1 (v ∷ []))
-            ∙ sym (append_assoc (pairs b.0) (map (λ w. (q, w)) b.1) ((q, v) ∷ []))
-            ∙ ap (λ (x : List (Quantifier × ℕ)). x ++ (q, v) ∷ []) b.3 in
+        ap (λ (x : List (Quantifier × ℕ)). pairs b.0 ++ x) (map-append (λ w. (q, w)) b.1 (v ∷ []))
+        ∙ sym (append_assoc (pairs b.0) (map (λ w. (q, w)) b.1) ((q, v) ∷ []))
+        ∙ ap (λ (x : List (Quantifier × ℕ)). x ++ (q, v) ∷ []) b.3 in
         subst (Spells (ts ++ t ∷ [])) to (b.0, b.1 ++ v ∷ [], spelled, pairs_are, more_variables h ps q v b.4 m.1 m.2 is)
+
     by : (r : Result (Option ℕ) FormulaFault) → member h.max_var t ≡ r → set_row h ps q r ≡ Goes next → Spells (ts ++ t ∷ []) next
     by (Err f) is e = absurd cc
     by (Ok None) is e =
@@ -230,11 +237,11 @@ set_step ts h ps q t next b e = by (member h.max_var t) refl e
         let s : Block = record { quantifier = q; vars = b.1 } in
         let base : List Token = header h.max_var h.count ++ flat_map set b.0 in
         let spelled : ts ++ t ∷ [] ≡ front h (b.0 ++ s ∷ []) [] =
-            (λ i. b.2 i ++ member_none h.max_var t is i ∷ [])
-            ∙ append_assoc base (letter q ∷ map number b.1) (number 0 ∷ [])
-            ∙ append_assoc (header h.max_var h.count) (flat_map set b.0) (set s)
-            ∙ ap (λ (x : List Token). header h.max_var h.count ++ x) (sym (set_pushed b.0 s))
-            ∙ sym (append-nil (header h.max_var h.count ++ flat_map set (b.0 ++ s ∷ []))) in
+        (λ i. b.2 i ++ member_none h.max_var t is i ∷ [])
+        ∙ append_assoc base (letter q ∷ map number b.1) (number 0 ∷ [])
+        ∙ append_assoc (header h.max_var h.count) (flat_map set b.0) (set s)
+        ∙ ap (λ (x : List Token). header h.max_var h.count ++ x) (sym (set_pushed b.0 s))
+        ∙ sym (append-nil (header h.max_var h.count ++ flat_map set (b.0 ++ s ∷ []))) in
         subst (Spells (ts ++ t ∷ [])) to (b.0 ++ s ∷ [], spelled, pairs_pushed b.0 s ∙ b.3, b.4)
     by (Ok (Some v)) is e = grown v (is_bound v ps) refl is e
 
@@ -263,7 +270,7 @@ between_step ts h ps [] t next (Some q) which b e =
     let to : InSet h ps q ≡ next = cc in
     let base : List Token = header h.max_var h.count ++ flat_map set b.0 in
     let spelled : ts ++ t ∷ [] ≡ base ++ letter q ∷ [] =
-        (λ i. b.1 i ++ letter_is t q which i ∷ []) ∙ ap (λ (x : List Token). x ++ letter q ∷ []) (append-nil base) in
+    (λ i. b.1 i ++ letter_is t q which i ∷ []) ∙ ap (λ (x : List Token). x ++ letter q ∷ []) (append-nil base) in
     subst (Spells (ts ++ t ∷ [])) to (b.0, [], spelled, append-nil (pairs b.0) ∙ b.2, b.3)
 between_step ts h ps (c ∷ cs) t next (Some q) which b e = absurd cc
 between_step ts h ps cs t next None which b e = by (clause_or_end (has_more h cs) t) refl e
@@ -395,7 +402,7 @@ explains_from before p (t ∷ ts) b once =
         let k = ends (unlined before) p t.0 f b is in
         let none = once_end t ts k.0 once in
         let spelled : unlined before ++ token.End ∷ [] ≡ unlined (before ++ t ∷ ts) =
-            (λ i. unlined before ++ sym k.0 i ∷ []) ∙ sym (tokens_pushed before t) ∙ ap (λ (x : List Lined). unlined (before ++ t ∷ x)) (sym none) in
+        (λ i. unlined before ++ sym k.0 i ∷ []) ∙ sym (tokens_pushed before t) ∙ ap (λ (x : List Lined). unlined (before ++ t ∷ x)) (sym none) in
         subst (λ (x : List Token). IsFormula x f) spelled k.1
     by (Fails f) is go = record { before = before; wrong = t.0; after = ts; whole = refl; place = p; stands = b; refused = is }
 
@@ -408,6 +415,7 @@ Answers-from ts e h once = by e.0 h
   where
     fault : (f : FormulaFault) (line : ℕ) → read ts ≡ Err (f, line) → IsFault ts f line
     fault f line is = subst (Reads ts) is (read_explained ts once)
+
     by : (f : FormulaFault) → Stops f e.1 (Some (read ts)) → ReadsUnless ts f e.1
     by F1 h = tt
     by F9 h = tt
@@ -444,6 +452,7 @@ failure_told {X = X} (Err e) old new works kept line rose = by e.0 e.1 kept line
   where
     other : (f : FormulaFault) (n : ℕ) → new ≡ old → faulty X f n ≡ faulty X F1 0
     other f n same = absurd (omega arith)
+
     by : (f : FormulaFault) (n : ℕ) → (f ≢ F1 → new ≡ old) → (f ≡ F1 → n ≡ 0) → faulty X f n ≡ faulty X F1 0
     by F1 n kept line = ap (λ (m : ℕ). faulty X F1 m) (line refl)
     by F2 n kept line = other F2 n (kept (λ e. cc))

@@ -1,20 +1,19 @@
 -- The canonical text is read again.
-use Rattle.std.proofs.Common.{◌≡◌, ◌≢◌, ℕ, zero, suc, ◌<◌, ◌≤◌, ◌^◌, Bool, true, false, List, [], ◌∷◌, ◌++◌, length, map, Result, Ok, refl, ap, sym, subst, ◌∙◌, arith, append_assoc}
+use Rattle.std.proofs.Common.{◌≡◌, ℕ, Bool, true, false, List, [], ◌∷◌, ◌++◌, length, map, refl, ap, sym, subst, ◌∙◌, arith, append_assoc}
 use Rattle.std.proofs.lemmas.Grind.{flat_map-append}
 use Rattle.std.specs.List.{flat_map, AllByRecursion}
 use Rattle.qbf_core.specs.declared.quantifier.Quantifier.{Quantifier}
 use Rattle.qbf_core.specs.declared.quantifier.Quantifier.TheVariants.{All, Exists}
 use Rattle.qbf_core.specs.Literal.{Literal}
-use Rattle.qbf_core.specs.Blocks.{Block, pairs, pairs_of_block, variables, is_bound, IsVariable, AreBound}
+use Rattle.qbf_core.specs.Blocks.{Block, pairs, variables, IsVariable, AreBound}
 use Rattle.qbf_core.specs.Qbf.{Qbf, IsWellFormed}
 use Rattle.qbf_text.specs.declared.token.Comments.TheVariants.{Qdimacs}
 use Rattle.qbf_text.specs.declared.token.Token.{Token}
 use Rattle.qbf_text.specs.declared.token.Token.TheVariants as token
-use Rattle.qbf_text.specs.Lined.{unlined}
 use Rattle.qbf_text.specs.Tokens.{tokens}
-use Rattle.qbf_text.specs.Canonical.{IsPlain, IsOpening, IsLine, lines_text}
+use Rattle.qbf_text.specs.Canonical.{IsPlain, IsLine}
 use Rattle.qbf_text.proofs.CanonicalMore.{joined, tokens-lines_text}
-use Rattle.qdimacs.specs.Grammar.{number, literal, letter, header, set, clause, spelling, lines, text, IsFormula}
+use Rattle.qdimacs.specs.Grammar.{number, literal, letter, header, set, clause, spelling, lines, text}
 use Rattle.qdimacs.specs.Laws.{ReadsText}
 use Rattle.qdimacs.proofs.Run.{bound_one}
 use Rattle.qdimacs.proofs.Complete.{spelled_is_read}
@@ -72,9 +71,10 @@ all_append [] ys h k = k
 all_append (x ∷ xs) ys h k = (h.0, all_append xs ys h.1 k)
 
 lines_written : (f : Qbf) → IsWellFormed f → AllByRecursion IsLine (lines f)
-lines_written f w =
-    ((tt, (tt, (tt, (omega (arith, w.numbers), (omega (arith, w.count), tt))))),
-     all_append (map set f.blocks) (map clause f.clauses) (sets_lines f.blocks w.prefix.within) (clauses_lines f.blocks f.clauses w.prefix.within w.closed))
+lines_written f w = (
+  (tt, (tt, (tt, (omega (arith, w.numbers), (omega (arith, w.count), tt))))),
+  all_append (map set f.blocks) (map clause f.clauses) (sets_lines f.blocks w.prefix.within) (clauses_lines f.blocks f.clauses w.prefix.within w.closed),
+)
 
 -- ---- the tokens of the lines
 

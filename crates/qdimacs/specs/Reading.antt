@@ -1,20 +1,22 @@
 -- Reading from the first token on, to the formula or to the first fault.
-use Rattle.std.specs.Prelude.{◌≡◌, ℕ, zero, suc, ◌≤◌, Bool, true, false, List, [], ◌∷◌, ◌++◌, length, map, Option, Some, None, IfSome, Result, Ok, Err, nat_lt, nat_eq, if◌then◌else◌}
+-- QDIMACS 1.1, input format, token by token: for each place in the text a row says which tokens go on, which end,
+-- and what is a fault.
+use Rattle.std.specs.Prelude.{◌≡◌, ℕ, zero, suc, Bool, true, false, List, [], ◌∷◌, ◌++◌, length, Option, Some, None, IfSome, Result, Ok, Err, nat_lt, if◌then◌else◌}
 use Rattle.qbf_core.specs.declared.quantifier.Quantifier.{Quantifier}
 use Rattle.qbf_core.specs.declared.quantifier.Quantifier.TheVariants.{All, Exists}
 use Rattle.qbf_core.specs.Literal.{Literal}
-use Rattle.qbf_core.specs.Blocks.{Block, pairs, blocks_of, is_bound}
+use Rattle.qbf_core.specs.Blocks.{blocks_of, is_bound}
 use Rattle.qbf_core.specs.Qbf.{Qbf}
 use Rattle.qdimacs.specs.declared.fault.FormulaFault.{FormulaFault}
 use Rattle.qdimacs.specs.declared.fault.FormulaFault.TheVariants.{F2, F3, F4, F5, F6, F7, F8, F9, F1}
 use Rattle.qbf_text.specs.declared.token.Token.{Token}
 use Rattle.qbf_text.specs.declared.token.Token.TheVariants as token
 use Rattle.qbf_text.specs.declared.token.Word.TheVariants as word
-use Rattle.qbf_text.specs.Lined.{Lined}
-use Rattle.qbf_text.specs.Lined.{Known}
+use Rattle.qbf_text.specs.Lined.{Lined, Known}
 use Rattle.qbf_text.specs.declared.token.Comments.TheVariants.{Qdimacs}
 use Rattle.qbf_text.specs.Tokens as text
 
+-- the numbers of the header
 pub record Heading : Type 0 where
   pub max_var : ℕ
   pub count : ℕ
@@ -41,6 +43,7 @@ pub data Row : Type 0 where
 
 -- ---- the header
 
+-- what is wrong with a token that the header does not accept
 abbrev pub header_fault : Token → FormulaFault
 header_fault token.End = F7
 header_fault t = F2
@@ -50,18 +53,22 @@ abbrev pub header_number : Token → Option ℕ
 header_number (token.Number false n) = if nat_lt 2147483647 n then None else Some n
 header_number t = None
 
+-- where a number is wanted
 abbrev pub number_row : (ℕ → Place) → Token → Option ℕ → Row
 number_row next t None = Fails (header_fault t)
 number_row next t (Some n) = Goes (next n)
 
+-- the word `p`
 abbrev pub is_p : Token → Bool
 is_p (token.Word word.P) = true
 is_p t = false
 
+-- the word `cnf`
 abbrev pub is_cnf : Token → Bool
 is_cnf (token.Word word.Cnf) = true
 is_cnf t = false
 
+-- where a word is wanted
 abbrev pub word_row : Place → Token → Bool → Row
 word_row next t true = Goes next
 word_row next t false = Fails (header_fault t)
@@ -78,6 +85,7 @@ member max_var token.End = Err F7
 member max_var (token.Word w) = Err F3
 member max_var token.Bad = Err F3
 
+-- in a set
 abbrev pub set_row : Heading → List (Quantifier × ℕ) → Quantifier → Result (Option ℕ) FormulaFault → Row
 set_row h ps q (Err f) = Fails f
 set_row h ps q (Ok None) = Goes (Between h ps [])
@@ -97,7 +105,9 @@ literal_in max_var ps token.End = Err F7
 literal_in max_var ps (token.Word w) = Err F3
 literal_in max_var ps token.Bad = Err F3
 
-abbrev pub clause_row : Heading → List (Quantifier × ℕ) → List (List Literal) → List Literal → Result (Option Literal) FormulaFault → Row
+-- in a clause
+abbrev pub clause_row : Heading → List (Quantifier × ℕ) → List (List Literal) → List Literal
+    → Result (Option Literal) FormulaFault → Row
 clause_row h ps cs ls (Err f) = Fails f
 clause_row h ps cs ls (Ok None) = Goes (Between h ps (cs ++ ls ∷ []))
 clause_row h ps cs ls (Ok (Some l)) = Goes (InClause h ps cs (ls ++ l ∷ []))
@@ -129,7 +139,9 @@ clause_or_end false token.End = Ok false
 clause_or_end more (token.Word w) = Err F3
 clause_or_end more token.Bad = Err F3
 
-abbrev pub between_row : Heading → List (Quantifier × ℕ) → List (List Literal) → Option Quantifier → Result Bool FormulaFault → Result (Option Literal) FormulaFault → Row
+-- between lists: a set or a clause begins, or all is read
+abbrev pub between_row : Heading → List (Quantifier × ℕ) → List (List Literal) → Option Quantifier
+    → Result Bool FormulaFault → Result (Option Literal) FormulaFault → Row
 between_row h ps cs (Some q) mark first = Goes (InSet h ps q)
 between_row h ps cs None (Err f) first = Fails f
 between_row h ps cs None (Ok true) first = clause_row h ps cs [] first
@@ -137,6 +149,7 @@ between_row h ps cs None (Ok false) first = Ends (record { max_var = h.max_var; 
 
 -- ---- the whole
 
+-- the row of each place
 abbrev pub row : Place → Token → Row
 row AtP t = word_row AtCnf t (is_p t)
 row AtCnf t = word_row AtVars t (is_cnf t)
@@ -153,6 +166,7 @@ read_from place [] = Err (F7, 0)
 read_from place (t ∷ ts) =
     elim (row place t.0) [ Goes next ↦ read_from next ts | Ends f ↦ Ok f | Fails f ↦ Err (f, t.1) ]
 
+-- What tokens are read as.
 abbrev pub read : List Lined → Result Qbf (FormulaFault × ℕ)
 read ts = read_from AtP ts
 
@@ -173,10 +187,12 @@ Leads None rest = Unit {0}
 Leads (Some r) rest = rest ≡ Some r
 
 -- What was to be read is what is still to be read, or the fault that is returned.
-abbrev pub Continues : {X : Type 0} → (X → Option (Result Qbf (FormulaFault × ℕ))) → Result X (FormulaFault × ℕ) → Option (Result Qbf (FormulaFault × ℕ)) → Type 0
+abbrev pub Continues : {X : Type 0} → (X → Option (Result Qbf (FormulaFault × ℕ))) → Result X (FormulaFault × ℕ)
+    → Option (Result Qbf (FormulaFault × ℕ)) → Type 0
 Continues rest (Ok x) whole = Leads whole (rest x)
 Continues rest (Err e) whole = Stops e.0 e.1 whole
 
+-- The answer is what was to be read, unless the source failed or memory ran out.
 abbrev pub Gives : Result Qbf (FormulaFault × ℕ) → Option (Result Qbf (FormulaFault × ℕ)) → Type 0
 Gives (Ok f) whole = IfSome whole (λ r. r ≡ Ok f)
 Gives (Err e) whole = Stops e.0 e.1 whole

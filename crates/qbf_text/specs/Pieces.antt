@@ -1,0 +1,81 @@
+-- What the source and the sinks over memory keep, and what a call of each does to it.
+use Rattle.std.specs.Prelude.{ℕ, ◌+◌, ◌-◌, ◌^◌, min, Bool, ◌&&◌, ◌==◌, nat_lt, List, ◌++◌, length, drop, Option, Some, None}
+
+-- a count that stays at its greatest value
+abbrev pub one_more : ℕ → ℕ
+one_more n = min (n + 1) (2 ^ 64 - 1)
+
+-- ---- a source that gives its bytes in pieces
+
+-- the bytes that remain, the most that a pull gives, the number of the pull that fails, how many pulls there were,
+-- and how many of them failed
+pub record Supply : Type 0 where
+  pub rest : List ℕ
+  pub piece : ℕ
+  pub fail_at : ℕ
+  pub pulls : ℕ
+  pub failures : ℕ
+
+-- the next pull is the one that fails
+abbrev pub fails_next : Supply → Bool
+fails_next s = nat_lt s.pulls (2 ^ 64 - 1) && (s.pulls + 1 == s.fail_at)
+
+-- how many bytes a pull gives: the least of the piece, of what remains and of the room for them
+abbrev pub pull_size : Supply → ℕ → ℕ
+pull_size s room = min s.piece (min (length s.rest) room)
+
+-- after a pull of n bytes
+abbrev pub pulled : Supply → ℕ → Supply
+pulled s n = record s { rest = drop n s.rest; pulls = one_more s.pulls }
+
+-- after the pull that fails no byte is gone
+abbrev pub pull_failed : Supply → Supply
+pull_failed s = record s { pulls = one_more s.pulls; failures = one_more s.failures }
+
+-- ---- sinks that keep what was sent
+
+-- the bytes that were sent, how many bytes the memory at hand holds, and how often the sink failed
+pub record Kept : Type 0 where
+  pub bytes : List ℕ
+  pub capacity : ℕ
+  pub failures : ℕ
+
+-- the bytes that were sent, how many bytes the memory at hand holds, the most that a push takes, the room until
+-- the one failure, whether `finish` fails, and how often the sink failed
+pub record Store : Type 0 where
+  pub bytes : List ℕ
+  pub capacity : ℕ
+  pub piece : ℕ
+  pub room : Option ℕ
+  pub finish_fails : Bool
+  pub failures : ℕ
+
+-- no more than the room
+abbrev pub within : Option ℕ → ℕ → ℕ
+within None n = n
+within (Some room) n = min room n
+
+-- the room behind n bytes
+abbrev pub room_after : Option ℕ → ℕ → Option ℕ
+room_after None n = None
+room_after (Some room) n = Some (room - n)
+
+-- how many bytes a push takes of so many: the least of the piece, of these and of the room
+abbrev pub push_size : Store → ℕ → ℕ
+push_size s count = within s.room (min s.piece count)
+
+-- after a push of these bytes, with memory for so many
+abbrev pub pushed : Store → List ℕ → ℕ → Store
+pushed s sent capacity = record s { bytes = s.bytes ++ sent; room = room_after s.room (length sent); capacity = capacity }
+
+-- after the push that meets the room used up: none fails for want of room again
+abbrev pub room_failed : Store → Store
+room_failed s = record s { room = None; failures = one_more s.failures }
+
+-- after a failure of `finish`
+abbrev pub finish_failed : Store → Store
+finish_failed s = record s { failures = one_more s.failures }
+
+-- after a refused growth, with memory for so many
+abbrev pub refused : Store → ℕ → Store
+refused s capacity = record s { failures = one_more s.failures; capacity = capacity }

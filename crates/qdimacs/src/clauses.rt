@@ -1,0 +1,134 @@
+//! The clauses of a formula, and its end.
+
+ghost use Rattle.std.specs.Prelude.{Ok, Err, None, ◌≢◌, ◌-◌, ◌^◌, length, ◌<◌, ◌+◌, ◌++◌, ◌⊎◌, nat_lt, if◌then◌else◌, ◌≡◌, ℕ, ◌≤◌, List, [], ◌∷◌, true, false, IfSome, IfOk, OnOk, IfErr};
+ghost use Rattle.std.specs.List.{AllByRecursion};
+ghost use Rattle.qbf_core.specs.Blocks.{pairs, variables, is_bound, IsBound, AreBound};
+ghost use Rattle.qdimacs.specs.declared.fault.FormulaFault.TheVariants.{F1, F4, F5, F9};
+ghost use Rattle.qbf_core.specs.Literal.{Literal};
+ghost use Rattle.std.specs.Io.KnownBytes.{IsAtEnd};
+ghost use Rattle.qbf_text.specs.Reading.{left, GivesNext, IsReady};
+ghost use Rattle.qbf_text.specs.Left.{is_end};
+ghost use Rattle.qbf_text.specs.Tokens.{tokens};
+ghost use Rattle.qbf_text.specs.declared.token.Comments.TheVariants.{Qdimacs};
+ghost use Rattle.qbf_text.specs.Lined.{put_on, weight};
+ghost use Rattle.qdimacs.specs.Faults.{Answers};
+ghost use Rattle.qdimacs.specs.Reading.{set_letter, clause_or_end, is_p, is_cnf, Heading, Between, InSet, AtP, header_fault, header_number, member, literal_in, InClause, reads_from, reads_bytes, Gives, Stops, Continues};
+
+use crate::fault::{Fault, FormulaFault};
+use crate::tokens::{clause_or_end, literal, next};
+use qbf_core::{Formula, Lit, Prefix};
+use qbf_text::{Scanner, Source, Token};
+use std::alloc::Global;
+
+/// Adds a literal to a clause.
+fn push(lits: &mut Vec<Lit>, lit: Lit) -> Result<(), Fault>
+    ensures pushed { OnOk result (lits.new.items ≡ lits.old.items ++ lit ∷ []) }
+    ensures memory { IfErr result (λ e. e ≡ (F9, 0)) }
+{
+    match lits.push(lit) {
+        Ok(()) => Ok(()),
+        Err(_) => Err((FormulaFault::F9, 0)),
+    }
+}
+
+/// The clause that begins with the token `first`.
+fn read_clause<S: Source>(
+    alloc: Global,
+    scanner: &mut Scanner,
+    source: &mut S,
+    max_var: u32,
+    prefix: &Prefix,
+    first: (Token, u64),
+) -> Result<Vec<Lit>, Fault>
+    requires ready { IsReady scanner.old (S.remaining source.old) }
+    requires number { max_var ≤ 2147483647 }
+    ensures reads { (count : ℕ) (cs : List (List Literal)) →
+        let h : Heading = record { max_var = max_var; count = count } in
+        Continues (λ lits. reads_from (Between h (pairs prefix.now) (cs ++ lits.items ∷ []))
+        (left scanner.new (S.remaining source.new))) result
+        (reads_from (InClause h (pairs prefix.now) cs [])
+        (put_on first.0 first.1 (left scanner.old (S.remaining source.old)))) }
+    ensures bound { IfOk result (λ lits. AreBound prefix.now lits.items) }
+    ensures shorter { OnOk result (
+        length scanner.new.pending + S.bound source.new ≤ length scanner.old.pending + S.bound source.old) }
+    ensures source { IfErr result (λ e. e.0 ≡ F1
+        → S.failures source.old < 2 ^ 64 - 1 → S.failures source.old < S.failures source.new) }
+    ensures kept { IfErr result (λ e. e.0 ≢ F1 → S.failures source.new ≡ S.failures source.old) }
+    ensures line_1 { IfErr result (λ e. e.0 ≡ F1 → e.1 ≡ 0) }
+    ensures line_9 { IfErr result (λ e. e.0 ≡ F9 → e.1 ≡ 0) }
+    ensures works { OnOk result (S.failures source.new ≡ S.failures source.old) }
+    ensures ready { OnOk result (IsReady scanner.new (S.remaining source.new)) }
+{
+    let mut lits = Vec::new(alloc);
+    let (mut token, mut line) = first;
+    'lits: loop {
+        match literal(max_var, prefix, token) {
+            Ok(None) => return Ok(lits),
+            Ok(Some(lit)) => push(&mut lits, lit)?,
+            Err(fault) => return Err((fault, line)),
+        }
+        (token, line) = next(scanner, source)?;
+    }
+}
+
+/// Adds a clause to the formula.
+fn push_clause(formula: &mut Formula, clause: Vec<Lit>) -> Result<(), Fault>
+    requires bound { AreBound formula.old.blocks clause.items }
+    requires few { length formula.old.clauses < 2147483647 }
+    ensures pushed { OnOk result (formula.new
+        ≡ record formula.old { clauses = formula.old.clauses ++ clause.items ∷ [] }) }
+    ensures memory { IfErr result (λ e. e ≡ (F9, 0)) }
+{
+    match formula.push_clause(clause) {
+        Ok(()) => Ok(()),
+        Err(_) => Err((FormulaFault::F9, 0)),
+    }
+}
+
+/// The clauses, of which the first token is given, and the end.
+pub(crate) fn read_clauses<S: Source>(
+    alloc: Global,
+    scanner: &mut Scanner,
+    source: &mut S,
+    count: u32,
+    mut formula: Formula,
+    first: (Token, u64),
+) -> Result<Formula, Fault>
+    requires ready { IsReady scanner.old (S.remaining source.old) }
+    requires number { count ≤ 2147483647 }
+    requires none { formula.clauses ≡ [] }
+    requires no_set { set_letter first.0 ≡ None }
+    requires end { is_end first.0 ≡ true → IsAtEnd (S.remaining source.old) }
+    ensures rest { OnOk result (IsAtEnd (S.remaining source.new)) }
+    ensures gives { let h : Heading = record { max_var = formula.max_var; count = count } in
+        Gives result (reads_from (Between h (pairs formula.blocks) [])
+        (put_on first.0 first.1 (left scanner.old (S.remaining source.old)))) }
+    ensures source { IfErr result (λ e. e.0 ≡ F1
+        → S.failures source.old < 2 ^ 64 - 1 → S.failures source.old < S.failures source.new) }
+    ensures kept { IfErr result (λ e. e.0 ≢ F1 → S.failures source.new ≡ S.failures source.old) }
+    ensures line_1 { IfErr result (λ e. e.0 ≡ F1 → e.1 ≡ 0) }
+    ensures line_9 { IfErr result (λ e. e.0 ≡ F9 → e.1 ≡ 0) }
+    ensures works { OnOk result (S.failures source.new ≡ S.failures source.old) }
+{
+    let (mut token, mut line) = first;
+    'clauses: loop {
+        let max_var = formula.max_var();
+        let more = formula.clauses() < count as usize;
+        match clause_or_end(more, token) {
+            Ok(true) => {
+                let clause = read_clause(
+                    alloc,
+                    scanner,
+                    source,
+                    max_var,
+                    formula.prefix(),
+                    (token, line),
+                )?;
+                push_clause(&mut formula, clause)?;
+            }
+            Ok(false) => return Ok(formula),
+            Err(fault) => return Err((fault, line)),
+        }
+        (token, line) = next(scanner, source)?;
+    }
+}

@@ -1,0 +1,46 @@
+ghost use Rattle.std.specs.Prelude.{◌≡◌, ◌-◌, ◌^◌, ◌<◌, ◌↔◌};
+ghost use Rattle.qrp_check.specs.Verdict.{IsVerdictUnless, IsFormulaDevice, IsTraceDevice, IsFormulaFault};
+
+use crate::checking::check;
+use crate::verdict::{Fault, Rules, Verified};
+use qbf_text::Source;
+use qdimacs::read_formula;
+use qrp::read_flat;
+use std::alloc::Global;
+
+/// Whether a trace (QRP) proves its result of a formula (QDIMACS 1.1), both from their bytes.
+///
+/// For all formula and trace bytes, it answers Verified exactly where the bytes spell a closed prenex formula and a
+/// trace whose sets agree with it and whose last empty step, with all steps below that one, follows by the rules; and
+/// whenever it answers Verified, that formula is false if the trace says `r unsat` and true if it says `r sat`.
+///
+/// # Errors
+/// The formula's fault with its line, and then the trace is not pulled; else the trace's fault with its line; else the
+/// first fault of the check. In place of any of these `F9`, `P9` or `C5` if memory was refused, and `F1` or `P1` exactly
+/// where the source failed.
+pub fn verify<A: Source, B: Source>(
+    alloc: Global,
+    formula: &mut A,
+    trace: &mut B,
+    rules: Rules,
+) -> Result<Verified, Fault>
+    ensures verdict { IsVerdictUnless (A.remaining formula.old) (B.remaining trace.old) result }
+    ensures formula_failed { A.failures formula.old < 2 ^ 64 - 1 →
+        (IsFormulaDevice result ↔ (A.failures formula.old < A.failures formula.new)) }
+    ensures trace_failed { B.failures trace.old < 2 ^ 64 - 1 →
+        (IsTraceDevice result ↔ (B.failures trace.old < B.failures trace.new)) }
+    ensures not_pulled { IsFormulaFault result → trace.new ≡ trace.old }
+{
+    let read = match read_formula(alloc, formula) {
+        Ok(read) => read,
+        Err((fault, line)) => return Err(Fault::Formula(fault, line)),
+    };
+    let flat = match read_flat(alloc, trace) {
+        Ok(flat) => flat,
+        Err((fault, line)) => return Err(Fault::Trace(fault, line)),
+    };
+    match check(alloc, &read, &flat, flat.sets(), flat.result(), rules) {
+        Ok(verified) => Ok(verified),
+        Err(fault) => Err(Fault::Check(fault)),
+    }
+}
