@@ -48,10 +48,10 @@ kept_push blocks steps i kept set is are = record {
   sets = λ j other step has here. elim (pushed_cases kept (Some set) j (Some other) has) [
     | inl old ↦ are.sets j other step old here
     | inr (at, e) ↦ (
-      let f : Some other ≡ Some set = e in
-      let same : set ≡ other = cc f in
-      let place : j ≡ i = at ∙ are.count in
-      subst (λ (s : List Literal). IsSetOf blocks s step.lits) same (is step (subst (λ (k : ℕ). IsAt steps k step) place here)))
+        let f : Some other ≡ Some set = e in
+        let same : set ≡ other = cc f in
+        let place : j ≡ i = at ∙ are.count in
+        subst (λ (s : List Literal). IsSetOf blocks s step.lits) same (is step (subst (λ (k : ℕ). IsAt steps k step) place here)))
   ];
 }
 

@@ -105,7 +105,7 @@ pub one_follows : (side : Side) (blocks : List Block) (before : List Inference) 
     → IsAnswer ((S3, IsNumberOf before number) ∷ reduct_conditions side blocks (lits_of before number) set) answer
 one_follows side blocks before number from set answer (is, s) a =
     answer_after S3 (IsNumberOf before number) (reduct_conditions side blocks (lits_of before number) set) answer is
-        (same_answer (reduct_conditions side blocks from set) (reduct_conditions side blocks (lits_of before number) set) answer (reduct_same side blocks from (lits_of before number) set set s.members (same_self set)) a)
+    (same_answer (reduct_conditions side blocks from set) (reduct_conditions side blocks (lits_of before number) set) answer (reduct_same side blocks from (lits_of before number) set set s.members (same_self set)) a)
 
 pub two_follow : (side : Side) (blocks : List Block) (before : List Inference) (m n : ℕ) (a b set : List Literal) (answer : Option RuleFault)
     → IsNumberOf before m × IsSetOf blocks a (lits_of before m) → IsNumberOf before n × IsSetOf blocks b (lits_of before n)
@@ -113,7 +113,7 @@ pub two_follow : (side : Side) (blocks : List Block) (before : List Inference) (
     → IsAnswer ((S3, IsNumberOf before m × IsNumberOf before n) ∷ resolvent_conditions side blocks (lits_of before m) (lits_of before n) set) answer
 two_follow side blocks before m n a b set answer (is_m, s) (is_n, t) w =
     answer_after S3 (IsNumberOf before m × IsNumberOf before n) (resolvent_conditions side blocks (lits_of before m) (lits_of before n) set) answer (is_m, is_n)
-        (same_answer (resolvent_conditions side blocks a b set) (resolvent_conditions side blocks (lits_of before m) (lits_of before n) set) answer (resolvent_same side blocks a (lits_of before m) b (lits_of before n) set set s.members t.members (same_self set)) w)
+    (same_answer (resolvent_conditions side blocks a b set) (resolvent_conditions side blocks (lits_of before m) (lits_of before n) set) answer (resolvent_same side blocks a (lits_of before m) b (lits_of before n) set set s.members t.members (same_self set)) w)
 
 -- from a set to the literals of the step
 abbrev named_all : List Inference → List ℕ → Type 0
@@ -123,7 +123,7 @@ pub no_antecedent : (side : Side) (f : Qbf) (before : List Inference) (step : In
     → step.ants ≡ [] → IsSetOf f.blocks set step.lits → IsAnswer (initial_condition side f set ∷ []) answer → IsAnswer (later_conditions side f before step) answer
 no_antecedent side f before step set answer none s a =
     rw none (answer_after S3 (named_all before []) (initial_condition side f step.lits ∷ []) answer (λ n h. absurd h)
-        (same_answer (initial_condition side f set ∷ []) (initial_condition side f step.lits ∷ []) answer (initial_same side f set step.lits s.members) a))
+    (same_answer (initial_condition side f set ∷ []) (initial_condition side f step.lits ∷ []) answer (initial_same side f set step.lits s.members) a))
 
 pub one_antecedent : (side : Side) (f : Qbf) (before : List Inference) (step : Inference) (set : List Literal) (number : ℕ) (answer : Option RuleFault)
     → step.ants ≡ number ∷ [] → IsSetOf f.blocks set step.lits
@@ -131,12 +131,13 @@ pub one_antecedent : (side : Side) (f : Qbf) (before : List Inference) (step : I
     → IsAnswer (later_conditions side f before step) answer
 one_antecedent side f before step set number answer one s a =
     rw one (same_answer ((S3, IsNumberOf before number) ∷ reduct_conditions side f.blocks (lits_of before number) set)
-        ((S3, named_all before (number ∷ [])) ∷ reduct_conditions side f.blocks (lits_of before number) step.lits) answer
-        (refl,
-         (λ is n h. elim h [ inl e ↦ subst (IsNumberOf before) (sym e) is | inr k ↦ absurd k ]),
-         (λ all. all number (inl refl)),
-         reduct_same side f.blocks (lits_of before number) (lits_of before number) set step.lits (same_self (lits_of before number)) s.members)
-        a)
+    ((S3, named_all before (number ∷ [])) ∷ reduct_conditions side f.blocks (lits_of before number) step.lits) answer (
+      refl,
+      (λ is n h. elim h [ inl e ↦ subst (IsNumberOf before) (sym e) is | inr k ↦ absurd k ]),
+      (λ all. all number (inl refl)),
+      reduct_same side f.blocks (lits_of before number) (lits_of before number) set step.lits (same_self (lits_of before number)) s.members,
+    )
+    a)
 
 pub two_antecedents : (side : Side) (f : Qbf) (before : List Inference) (step : Inference) (set : List Literal) (m n : ℕ) (answer : Option RuleFault)
     → step.ants ≡ m ∷ n ∷ [] → IsSetOf f.blocks set step.lits
@@ -144,16 +145,17 @@ pub two_antecedents : (side : Side) (f : Qbf) (before : List Inference) (step : 
     → IsAnswer (later_conditions side f before step) answer
 two_antecedents side f before step set m n answer two s a =
     rw two (same_answer ((S3, IsNumberOf before m × IsNumberOf before n) ∷ resolvent_conditions side f.blocks (lits_of before m) (lits_of before n) set)
-        ((S3, named_all before (m ∷ n ∷ [])) ∷ resolvent_conditions side f.blocks (lits_of before m) (lits_of before n) step.lits) answer
-        (refl,
-         (λ is x h. elim h [
-           | inl e ↦ subst (IsNumberOf before) (sym e) is.0
-           | inr k ↦ elim k [ inl e ↦ subst (IsNumberOf before) (sym e) is.1 | inr g ↦ absurd g ]
-         ]),
-         (λ all. (all m (inl refl), all n (inr (inl refl)))),
-         resolvent_same side f.blocks (lits_of before m) (lits_of before m) (lits_of before n) (lits_of before n) set step.lits
-             (same_self (lits_of before m)) (same_self (lits_of before n)) s.members)
-        a)
+    ((S3, named_all before (m ∷ n ∷ [])) ∷ resolvent_conditions side f.blocks (lits_of before m) (lits_of before n) step.lits) answer (
+      refl,
+      (λ is x h. elim h [
+        | inl e ↦ subst (IsNumberOf before) (sym e) is.0
+        | inr k ↦ elim k [ inl e ↦ subst (IsNumberOf before) (sym e) is.1 | inr g ↦ absurd g ]
+      ]),
+      (λ all. (all m (inl refl), all n (inr (inl refl)))),
+      resolvent_same side f.blocks (lits_of before m) (lits_of before m) (lits_of before n) (lits_of before n) set step.lits
+          (same_self (lits_of before m)) (same_self (lits_of before n)) s.members,
+    )
+    a)
 
 -- ---- lists of antecedents
 

@@ -1,4 +1,6 @@
-ghost use Rattle.std.specs.Prelude.{◌≡◌, ◌≢◌, ◌↔◌, ℕ, ◌++◌, ◌∷◌, [], Some, None, IsTrue, OnOk, IfOk, IfErr};
+ghost use Rattle.std.specs.Prelude.{◌≡◌, ◌≢◌, ◌↔◌, ℕ, ◌<◌, length, ◌++◌, ◌∷◌, [], Some, None, IsTrue, OnOk, IfOk, IfErr};
+ghost use Rattle.std.specs.List.{AllByRecursion};
+ghost use Rattle.std.specs.List.Sorted.{IsStrictlyIncreasing};
 ghost use Rattle.qbf_core.specs.Truth.{IsTrueFormula};
 ghost use Rattle.qrp_check.specs.declared.fault.CheckFault.TheVariants.{C5};
 ghost use Rattle.qrp_check.specs.Core.{IsGoal, ListsCore};
@@ -11,7 +13,7 @@ use crate::fault::CheckFault;
 use crate::goal::find_goal;
 use crate::marks::mark_core;
 use crate::side::{Clauses, Cubes, Side};
-use crate::step::{step_set, StepFault};
+use crate::step::{StepFault, step_set};
 use crate::verdict::{Rules, Verified};
 use qbf_core::{Formula, LitSet};
 use qrp::{Outcome, QuantSet, Steps};
@@ -115,6 +117,8 @@ pub fn check<T: Steps>(
 ) -> Result<Verified, CheckFault>
     ensures proves { OnOk result (Proves formula.now sets.now (T.steps trace.now) outcome) }
     ensures core { IfOk result (λ v. ListsCore (T.steps trace.now) v.core.items) }
+    ensures rises { IfOk result (λ v. IsStrictlyIncreasing v.core.items) }
+    ensures within { IfOk result (λ v. AllByRecursion (λ i. i < length (T.steps trace.now)) v.core.items) }
     ensures claim { IfOk result (λ v. v.truth ≡ is_sat outcome) }
     ensures truth { IfOk result (λ v. IsTrue v.truth ↔ IsTrueFormula formula.now) }
     ensures refused { IfErr result (λ e. e ≢ C5 → IsFirstFault formula.now sets.now (T.steps trace.now) outcome e) }

@@ -100,7 +100,7 @@ fn two_fault<S: Side, T: Steps>(
     requires bound { AreBound formula.now.blocks set.now }
     ensures { IsAnswer ((S3, IsNumberOf (take place (T.steps trace.now)) first × IsNumberOf (take place (T.steps trace.now)) second)
         ∷ resolvent_conditions S.side formula.now.blocks (lits_of (take place (T.steps trace.now)) first)
-            (lits_of (take place (T.steps trace.now)) second) set.now) result }
+        (lits_of (take place (T.steps trace.now)) second) set.now) result }
 {
     let Some(a) = earlier(formula, trace, place, kept, first) else {
         return Some(RuleFault::S3);

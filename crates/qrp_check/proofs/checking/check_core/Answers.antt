@@ -38,16 +38,16 @@ loop-place-preserved-then-not-index g c =
 pub step_set-requires-clause-core : goal.step_set-requires-clause-core
 step_set-requires-clause-core g c =
     (c.in-Ok.ensures.core c.loop-place.place).0
-        (marked c.in-Ok.marks.items c.loop-place.place c.index.result.now
-            (omega (arith, c.loop-place-test.true, c.len-place-end.ensures.len, c.in-Ok.ensures.len)) c.index.ensures c.if-not-index.false)
+    (marked c.in-Ok.marks.items c.loop-place.place c.index.result.now
+    (omega (arith, c.loop-place-test.true, c.len-place-end.ensures.len, c.in-Ok.ensures.len)) c.index.ensures c.if-not-index.false)
 
 pub returns-in-Err-Rule-clause-refused : goal.returns-in-Err-Rule-clause-refused
 returns-in-Err-Rule-clause-refused g c =
     let steps : List Inference = g.T.Steps.steps c.args.trace.now in
     let is = marked c.in-Ok.marks.items c.loop-place.place c.index.result.now
-        (omega (arith, c.loop-place-test.true, c.len-place-end.ensures.len, c.in-Ok.ensures.len)) c.index.ensures c.if-not-index.false in
+    (omega (arith, c.loop-place-test.true, c.len-place-end.ensures.len, c.in-Ok.ensures.len)) c.index.ensures c.if-not-index.false in
     let fails : IsStepFault g.S.Side.side c.args.formula.now steps c.loop-place.place c.in-Err-Rule.fault =
-        subst (λ (e : StepFault). IfRule e (IsStepFault g.S.Side.side c.args.formula.now steps c.loop-place.place)) c.in-Err-Rule.field-0-is c.in-Err-Rule.ensures.fault in
+    subst (λ (e : StepFault). IfRule e (IsStepFault g.S.Side.side c.args.formula.now steps c.loop-place.place)) c.in-Err-Rule.field-0-is c.in-Err-Rule.ensures.fault in
     subst (IsFirstFaultyStep g.S.Side.side c.args.formula.now steps c.number.result) (sym c.in-Err-Rule.fault-is) (record {
       place = c.loop-place.place;
       needed = (c.in-Ok.ensures.core c.loop-place.place).0 is;
@@ -60,7 +60,7 @@ pub loop-place-preserved : goal.loop-place-preserved
 loop-place-preserved g c =
     let i : ℕ = c.loop-place.place in
     let is = marked c.in-Ok.marks.items i c.index.result.now
-        (omega (arith, c.loop-place-test.true, c.len-place-end.ensures.len, c.in-Ok.ensures.len)) c.index.ensures c.if-not-index.false in
+    (omega (arith, c.loop-place-test.true, c.len-place-end.ensures.len, c.in-Ok.ensures.len)) c.index.ensures c.if-not-index.false in
     record {
       follows = below_more
           (λ (j : ℕ). IsInCore (g.T.Steps.steps c.args.trace.now) j → StepFollows g.S.Side.side c.args.formula.now (g.T.Steps.steps c.args.trace.now) j)
@@ -83,4 +83,4 @@ returns-clause-derives g c = record {
 pub returns-clause-core : goal.returns-clause-core
 returns-clause-core g c =
     listing_done (g.T.Steps.steps c.args.trace.now) c.in-Ok.marks.items c.loop-place.place c.loop-place.followed.core.items
-        (omega (arith, c.loop-place-test.false, c.len-place-end.ensures.len)) c.in-Ok.ensures.core c.loop-place.invariant.listing
+    (omega (arith, c.loop-place-test.false, c.len-place-end.ensures.len)) c.in-Ok.ensures.core c.loop-place.invariant.listing

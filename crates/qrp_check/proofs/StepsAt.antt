@@ -1,0 +1,124 @@
+-- The steps at some places: what holds of them, and that rising places give steps of different numbers.
+use Rattle.std.proofs.Common.{◌≡◌, ℕ, zero, suc, ◌+◌, ◌^◌, ◌<◌, ◌≤◌, Bool, true, false, ◌||◌, List, [], ◌∷◌, ◌++◌, inl, inr, refl, sym, ap, ◌∙◌, subst, length, take, map, get_or, Some, arith, nat_eq}
+use Rattle.std.specs.Prelude.{slice_get, Result, Ok, Err, IfOk}
+use Rattle.std.specs.List.{AllByRecursion, IsDistinct, filter_map, cons_option}
+use Rattle.std.specs.List.Sorted.{IsStrictlyIncreasing}
+use Rattle.std.proofs.lemmas.Bool.{ne_eqb}
+use Rattle.std.proofs.lemmas.List.{take_more}
+use Rattle.std.proofs.lemmas.List.Elements.{filter_map-append}
+use Rattle.std.proofs.lemmas.List.Kept.{AllPairs-from_increasing}
+use Rattle.std.proofs.lemmas.Map.Keys.{IsDistinct-cons}
+use Rattle.std.proofs.lemmas.Option.{slice_get_cases, slice_get-get_or, slice_get_within}
+use Rattle.qbf_core.specs.Lists.{◌∈◌}
+use Rattle.qrp.specs.Inferences.{Inference, IsAt, numbers}
+use Rattle.qrp.specs.Reading.{is_used}
+use Rattle.qrp.proofs.Numbers.{HasOwnNumbers}
+use Rattle.qrp_check.specs.Core.{ListsCore}
+use Rattle.qrp_check.specs.Trim.{steps_at}
+use Rattle.qrp_check.specs.declared.fault.CheckFault.{CheckFault}
+use Rattle.qrp_check.specs.declared.verdict.Verified.{Verified}
+use Rattle.qrp_check.proofs.Marking.{core_within}
+
+-- ---- lists by places
+
+pub at_holds : {X : Type 0} (P : X → Type 0) (xs : List X) (i : ℕ) (x : X) → AllByRecursion P xs → slice_get xs i ≡ Some x → P x
+at_holds P [] i x all here = absurd (cc here)
+at_holds P (y ∷ xs) zero x all here = let e : y ≡ x = cc here in subst P e all.0
+at_holds P (y ∷ xs) (suc i) x all here = at_holds P xs i x all.1 here
+
+all_at : {X : Type 0} (P : X → Type 0) (xs : List X) → ((k : ℕ) (x : X) → slice_get xs k ≡ Some x → P x) → AllByRecursion P xs
+all_at P [] each = tt
+all_at P (x ∷ xs) each = (each 0 x refl, all_at P xs (λ k y here. each (suc k) y here))
+
+in_front : (xs : List ℕ) (k x : ℕ) → x ∈ take k xs → (j : ℕ) × (j < k) × (get_or xs j 0 ≡ x)
+in_front [] zero x h = absurd h
+in_front [] (suc k) x h = absurd h
+in_front (y ∷ xs) zero x h = absurd h
+in_front (y ∷ xs) (suc k) x (inl e) = (0, omega arith, sym e)
+in_front (y ∷ xs) (suc k) x (inr h) = let w = in_front xs k x h in (suc w.0, (let less : w.0 < k = w.1 in omega (arith, less)), w.2)
+
+-- what rises is not met again
+not_before : (xs : List ℕ) (k : ℕ) → IsStrictlyIncreasing xs → k < length xs → get_or xs k 0 ∈ take k xs → ⊥
+not_before xs k rises less h =
+    let w = in_front xs k (get_or xs k 0) h in
+    let below : get_or xs w.0 0 < get_or xs k 0 = AllPairs-from_increasing xs rises w.0 k 0 w.1 less in
+    omega (arith, below, w.2)
+
+-- ---- the places of a core
+
+pub core_rises : (steps : List Inference) (core : List ℕ) → ListsCore steps core → IsStrictlyIncreasing core
+core_rises steps core lists = λ k less.
+    lists.rises k (k + 1) (get_or core k 0) (get_or core (k + 1) 0)
+    (slice_get-get_or core k 0 (omega (arith, less))) (slice_get-get_or core (k + 1) 0 less) (omega arith)
+
+pub core_inside : (steps : List Inference) (core : List ℕ) → ListsCore steps core → AllByRecursion (λ i. i < length steps) core
+core_inside steps core lists = all_at (λ i. i < length steps) core (λ k i here. core_within steps i (lists.sound k i here))
+
+-- ---- the steps
+
+pub length_at : (steps : List Inference) (places : List ℕ) → AllByRecursion (λ i. i < length steps) places → length (steps_at steps places) ≡ length places
+length_at steps [] inside = refl
+length_at steps (p ∷ places) inside = elim (slice_get_cases steps p).1 [
+  | inl (s, _, is, _) ↦ rw is (ap suc (length_at steps places inside.1))
+  | inr (past, _) ↦ absurd (let less : p < length steps = inside.0 in omega (arith, less, past))
+]
+
+pub next_at : (steps : List Inference) (places : List ℕ) (k : ℕ) (s : Inference) → k < length places → IsAt steps (get_or places k 0) s
+    → steps_at steps (take (k + 1) places) ≡ steps_at steps (take k places) ++ s ∷ []
+next_at steps places k s less here =
+    ap (λ ps. steps_at steps ps) (take_more places k 0 less)
+    ∙ filter_map-append (slice_get steps) (take k places) (get_or places k 0 ∷ [])
+    ∙ ap (λ o. steps_at steps (take k places) ++ cons_option o []) here
+
+pub each_at : (P : Inference → Type 0) (steps : List Inference) (places : List ℕ) → AllByRecursion P steps → AllByRecursion P (steps_at steps places)
+each_at P steps [] all = tt
+each_at P steps (p ∷ places) all = elim (slice_get_cases steps p).1 [
+  | inl (s, _, is, _) ↦ rw is (at_holds P steps p s all is, each_at P steps places all)
+  | inr (_, none) ↦ rw none (each_at P steps places all)
+]
+
+-- ---- their numbers
+
+number_holds : (P : ℕ → Type 0) (steps : List Inference) → AllByRecursion P (numbers steps) → AllByRecursion (λ s. P s.number) steps
+number_holds P [] all = tt
+number_holds P (s ∷ steps) all = (all.0, number_holds P steps all.1)
+
+holds_number : (P : ℕ → Type 0) (steps : List Inference) → AllByRecursion (λ s. P s.number) steps → AllByRecursion P (numbers steps)
+holds_number P [] all = tt
+holds_number P (s ∷ steps) all = (all.0, holds_number P steps all.1)
+
+pub numbers_at : (P : ℕ → Type 0) (steps : List Inference) (places : List ℕ) → AllByRecursion P (numbers steps) → AllByRecursion P (numbers (steps_at steps places))
+numbers_at P steps places all = holds_number P (steps_at steps places) (each_at (λ s. P s.number) steps places (number_holds P steps all))
+
+-- the steps at other places have other numbers
+pub others_at : (steps : List Inference) (places : List ℕ) (i : ℕ) (s : Inference) → HasOwnNumbers steps → IsAt steps i s → (i ∈ places → ⊥)
+    → AllByRecursion (λ n. nat_eq s.number n ≡ false) (numbers (steps_at steps places))
+others_at steps [] i s own here out = tt
+others_at steps (p ∷ places) i s own here out = elim (slice_get_cases steps p).1 [
+  | inl (t, _, is, _) ↦ rw is (
+    ne_eqb s.number t.number (λ same. out (inl (own i p s t here is same))),
+    others_at steps places i s own here (λ h. out (inr h)),
+  )
+  | inr (_, none) ↦ rw none (others_at steps places i s own here (λ h. out (inr h)))
+]
+
+unused : (n : ℕ) (ns : List ℕ) → AllByRecursion (λ m. nat_eq n m ≡ false) ns → is_used n ns ≡ false
+unused n [] all = refl
+unused n (m ∷ ns) all = ap (λ b. b || is_used n ns) all.0 ∙ unused n ns all.1
+
+pub fresh_at : (steps : List Inference) (core : List ℕ) (k : ℕ) (s : Inference) → HasOwnNumbers steps → IsStrictlyIncreasing core → k < length core
+    → IsAt steps (get_or core k 0) s → is_used s.number (numbers (steps_at steps (take k core))) ≡ false
+fresh_at steps core k s own rises less here =
+    unused s.number (numbers (steps_at steps (take k core)))
+    (others_at steps (take k core) (get_or core k 0) s own here (not_before core k rises less))
+
+-- ---- what a check answers
+
+pub answer_rises : (steps : List Inference) (r : Result Verified CheckFault) → IfOk r (λ v. ListsCore steps v.core.items) → IfOk r (λ v. IsStrictlyIncreasing v.core.items)
+answer_rises steps (Ok v) h = core_rises steps v.core.items h
+answer_rises steps (Err e) h = tt
+
+pub answer_inside : (steps : List Inference) (r : Result Verified CheckFault) → IfOk r (λ v. ListsCore steps v.core.items)
+    → IfOk r (λ v. AllByRecursion (λ i. i < length steps) v.core.items)
+answer_inside steps (Ok v) h = core_inside steps v.core.items h
+answer_inside steps (Err e) h = tt

@@ -1,0 +1,102 @@
+-- A trimmed trace is well formed, and so its text reads as it.
+use Rattle.std.proofs.Common.{◌≡◌, ℕ, zero, suc, ◌^◌, ◌<◌, ◌≤◌, false, List, [], ◌∷◌, inl, inr, refl, sym, ap, ◌∙◌, subst, length, Some, arith, nat_eq}
+use Rattle.std.specs.Prelude.{slice_get}
+use Rattle.std.specs.List.{AllByRecursion, IsDistinct}
+use Rattle.std.proofs.lemmas.Map.Keys.{IsDistinct-cons}
+use Rattle.std.proofs.lemmas.Option.{slice_get_cases, slice_get_within}
+use Rattle.qbf_core.specs.Lists.{◌∈◌}
+use Rattle.qrp.specs.Inferences.{Inference, IsInference, numbers}
+use Rattle.qrp.specs.Derivations.{Derivation, IsWellFormed}
+use Rattle.qrp.proofs.Numbers.{HasOwnNumbers, own_numbers}
+use Rattle.qrp.proofs.TextMore.{text_is_read}
+use Rattle.qrp_check.specs.Core.{ListsCore}
+use Rattle.qrp_check.specs.Laws.{TrimmedTextProves}
+use Rattle.qrp_check.specs.Trim.{steps_at, trimmed}
+use Rattle.qrp_check.proofs.Marking.{core_within}
+use Rattle.qrp_check.proofs.StepsAt.{core_inside, length_at, each_at, numbers_at, others_at}
+use Rattle.qrp_check.proofs.TrimKeeps.{trimming_keeps}
+use Rattle.qrp_check.proofs.TrimAgain.{trimmed_is_fixed}
+
+-- places that rise, by those that stand in order
+abbrev Rises : List ℕ → Type 0
+Rises places = (k l i j : ℕ) → slice_get places k ≡ Some i → slice_get places l ≡ Some j → k < l → i < j
+
+place_in : (places : List ℕ) (i : ℕ) → i ∈ places → (k : ℕ) × (slice_get places k ≡ Some i)
+place_in [] i h = absurd h
+place_in (p ∷ places) i (inl e) = (0, ap (λ x. Some x) (sym e))
+place_in (p ∷ places) i (inr h) = let w = place_in places i h in (suc w.0, w.1)
+
+head_out : (p : ℕ) (places : List ℕ) → Rises (p ∷ places) → p ∈ places → ⊥
+head_out p places rises h =
+    let w = place_in places p h in
+    let worse : p < p = rises 0 (suc w.0) p p refl w.1 (omega arith) in
+    omega (arith, worse)
+
+tail_rises : (p : ℕ) (places : List ℕ) → Rises (p ∷ places) → Rises places
+tail_rises p places rises = λ k l i j at_k at_l less. rises (suc k) (suc l) i j at_k at_l (omega (arith, less))
+
+distinct_at : (steps : List Inference) (places : List ℕ) → HasOwnNumbers steps → Rises places → IsDistinct nat_eq (numbers (steps_at steps places))
+unfolding IsDistinct
+distinct_at steps [] own rises = tt
+distinct_at steps (p ∷ places) own rises = elim (slice_get_cases steps p).1 [
+  | inl (s, _, is, _) ↦ rw is (
+    others_at steps places p s own is (head_out p places rises),
+    distinct_at steps places own (tail_rises p places rises),
+  )
+  | inr (_, none) ↦ rw none (distinct_at steps places own (tail_rises p places rises))
+]
+
+-- rising places are no fewer than one another's count
+climbs : (places : List ℕ) (k i : ℕ) → Rises places → slice_get places k ≡ Some i → k ≤ i
+climbs places zero i rises here = omega arith
+climbs places (suc k) i rises here = elim (slice_get_cases places k).1 [
+  | inl (j, _, at_k, _) ↦
+      (let low : k ≤ j = climbs places k j rises at_k in
+      let less : j < i = rises k (suc k) j i at_k here (omega arith) in
+      omega (arith, low, less))
+  | inr (past, _) ↦ absurd (let within : suc k < length places = slice_get_within places (suc k) i here in omega (arith, within, past))
+]
+
+few_places : (n m : ℕ) (places : List ℕ) → length places ≡ m → Rises places → ((k i : ℕ) → slice_get places k ≡ Some i → i < n) → m ≤ n
+few_places n zero places count rises inside = omega arith
+few_places n (suc m) places count rises inside = elim (slice_get_cases places m).1 [
+  | inl (i, _, here, _) ↦
+      (let low : m ≤ i = climbs places m i rises here in
+      let less : i < n = inside m i here in
+      omega (arith, low, less))
+  | inr (past, _) ↦ absurd (omega (arith, count, past))
+]
+
+pub well_formed : (d : Derivation) (core : List ℕ) → IsWellFormed d → ListsCore d.steps core → IsWellFormed (trimmed d core)
+well_formed d core formed lists =
+    let count : length (steps_at d.steps core) ≡ length core = length_at d.steps core (core_inside d.steps core lists) in
+    let few : length core ≤ length d.steps =
+    few_places (length d.steps) (length core) core refl lists.rises (λ k i here. core_within d.steps i (lists.sound k i here)) in
+    let all : length d.steps < 2 ^ 64 = formed.fits.count in
+    let fits : length (steps_at d.steps core) < 2 ^ 64 = omega (arith, count, few, all) in
+    record {
+      grammatical = record {
+        variables = formed.grammatical.variables;
+        inferences = each_at IsInference d.steps core formed.grammatical.inferences;
+        distinct = distinct_at d.steps core (own_numbers d.steps formed.grammatical.distinct) lists.rises;
+      };
+      fits = record {
+        vars = formed.fits.vars;
+        steps = fits;
+        numbers_fit = numbers_at (λ n. n < 2 ^ 64) d.steps core formed.fits.numbers_fit;
+        ants_fit = each_at (λ s. AllByRecursion (λ n. n < 2 ^ 64) s.ants) d.steps core formed.fits.ants_fit;
+        count = fits;
+      };
+    }
+
+pub trimmed_text_proves : TrimmedTextProves
+trimmed_text_proves f d core formed lists proof =
+    let kept = trimming_keeps f d core formed.grammatical.distinct lists proof in
+    let again = well_formed d core formed lists in
+    record {
+      proves = kept.0;
+      all = kept.1;
+      fixed = λ other other_lists. trimmed_is_fixed f d core other formed.grammatical.distinct lists proof other_lists;
+      formed = again;
+      read = text_is_read (trimmed d core) again;
+    }
