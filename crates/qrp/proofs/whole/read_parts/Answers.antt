@@ -41,7 +41,7 @@ pub items-preserved-in-Continue-branch-3 : goal.items-preserved-in-Continue-bran
 items-preserved-in-Continue-branch-3 g c =
     let i = c.items.invariant in
     let d : Derivation = record { header = c.items.header; sets = c.items.sets.items; steps = i.steps; result = Sat } in
-    let pushed = c.in_ok-keep_set-in-Set.ensures.pushed in
+    let pushed = c.in_ok-push-in-Set.ensures.pushed in
     let P : Block → Type 0 = λ s. AllByRecursion IsVariable s.vars in
     record {
       steps = i.steps;

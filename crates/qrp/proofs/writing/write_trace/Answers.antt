@@ -37,14 +37,14 @@ returns-clause-err g c = on_err_weaker c.put_result.result (λ front. (later_fai
 pub returns-clause-ok : goal.returns-clause-ok
 returns-clause-ok g c = on_ok_weaker c.put_result.result (λ whole. (both_go (g.K.Sink.written c.args.sink.now) _ _ (text c.args.trace.now) (line_text (header c.header.result)) ((sets_text c.args.trace.now.sets) ++ ((steps_text c.args.trace.now.steps) ++ (line_text (result c.args.trace.now.result)))) (text_parts c.args.trace.now ∙ ap (λ (h : Header). line_text (header h) ++ (sets_text c.args.trace.now.sets ++ (steps_text c.args.trace.now.steps ++ (line_text (result c.args.trace.now.result))))) (sym c.header.ensures.value)) c.in_ok-put_header.ensures.ok (both_go _ _ _ ((sets_text c.args.trace.now.sets) ++ ((steps_text c.args.trace.now.steps) ++ (line_text (result c.args.trace.now.result)))) (sets_text c.sets.result.now) ((steps_text c.args.trace.now.steps) ++ (line_text (result c.args.trace.now.result))) (ap (λ (ss : List Block). sets_text ss ++ (steps_text c.args.trace.now.steps ++ (line_text (result c.args.trace.now.result)))) (sym c.sets.ensures)) c.in_ok-put_sets.ensures.ok (both_go _ _ _ ((steps_text c.args.trace.now.steps) ++ (line_text (result c.args.trace.now.result))) (steps_text c.steps.result.now) (line_text (result c.args.trace.now.result)) (ap (λ (ss : List Inference). steps_text ss ++ (line_text (result c.args.trace.now.result))) (sym c.steps.ensures)) c.in_ok-put_steps.ensures.ok (subst (λ (o : Outcome). Appends (g.K.Sink.written c.put_steps.new.sink) (g.K.Sink.written c.put_result.new.sink) (line_text (result o))) c.result.ensures whole))))) c.put_result.ensures.ok
 
-pub returns-in_err-put_header-clause-read_back : goal.returns-in_err-put_header-clause-read_back
-returns-in_err-put_header-clause-read_back g c = text_is_read c.args.trace.now c.header.ensures.sound
+pub returns-in_err-put_header-clause-reads_back : goal.returns-in_err-put_header-clause-reads_back
+returns-in_err-put_header-clause-reads_back g c = text_is_read c.args.trace.now c.header.ensures.sound
 
-pub returns-in_err-put_sets-clause-read_back : goal.returns-in_err-put_sets-clause-read_back
-returns-in_err-put_sets-clause-read_back g c = text_is_read c.args.trace.now c.header.ensures.sound
+pub returns-in_err-put_sets-clause-reads_back : goal.returns-in_err-put_sets-clause-reads_back
+returns-in_err-put_sets-clause-reads_back g c = text_is_read c.args.trace.now c.header.ensures.sound
 
-pub returns-in_err-put_steps-clause-read_back : goal.returns-in_err-put_steps-clause-read_back
-returns-in_err-put_steps-clause-read_back g c = text_is_read c.args.trace.now c.header.ensures.sound
+pub returns-in_err-put_steps-clause-reads_back : goal.returns-in_err-put_steps-clause-reads_back
+returns-in_err-put_steps-clause-reads_back g c = text_is_read c.args.trace.now c.header.ensures.sound
 
-pub returns-clause-read_back : goal.returns-clause-read_back
-returns-clause-read_back g c = text_is_read c.args.trace.now c.header.ensures.sound
+pub returns-clause-reads_back : goal.returns-clause-reads_back
+returns-clause-reads_back g c = text_is_read c.args.trace.now c.header.ensures.sound
