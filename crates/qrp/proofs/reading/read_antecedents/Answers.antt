@@ -1,14 +1,12 @@
 use Rattle.std.proofs.Common.{subst, ◌<◌, ◌^◌, length-append}
 use Rattle.std.specs.List.{AllByRecursion}
-use Rattle.qbf_core.specs.Blocks.{IsVariable}
-use Rattle.qrp.specs.Inferences.{IsLiteral, IsNumber}
+use Rattle.qrp.specs.Inferences.{IsNumber}
 use Rattle.qbf_core.proofs.PrefixLaws.{AllByRecursion-push}
-use Rattle.std.proofs.Common.{arith, ap, sym, refl, ◌∙◌, ℕ, List, [], ◌∷◌, ◌++◌, nat_lt}
-use Rattle.qbf_core.specs.Literal.{Literal}
+use Rattle.std.proofs.Common.{arith, ap, sym, ℕ, List, [], ◌∷◌}
 use Rattle.qbf_text.specs.Reading.{left}
-use Rattle.qrp.specs.Reading.{InLits, InAnts}
+use Rattle.qrp.specs.Reading.{InAnts}
 use Rattle.qrp.specs.Parts.{known_items}
-use Rattle.qrp.proofs.Goes.{goes, closes, stops, lits_close, lits_grow, lits_fail, ants_close, ants_grow, ants_fail, Leads-along}
+use Rattle.qrp.proofs.Goes.{goes, closes, stops, ants_close, ants_grow, ants_fail, Leads-along}
 use Rattle.qrp.proofs.reading.read_antecedents.Goals as goal
 
 pub returns-in-Ok-None-clause-reads : goal.returns-in-Ok-None-clause-reads

@@ -1,19 +1,16 @@
-use Rattle.std.proofs.Common.{◌≡◌, refl, sym, ap, subst, arith, ◌∙◌, ℕ, List, [], ◌∷◌, ◌++◌, ◌+◌, drop, length, get_or}
-use Rattle.std.specs.Prelude.{decimal, codes}
-use Rattle.std.specs.List.{flat_map}
+use Rattle.std.proofs.Common.{sym, ap, subst, ◌∙◌, List, ◌++◌}
 use Rattle.std.proofs.lemmas.Result.{err_from_is_err_and, on_ok_weaker, on_err_weaker}
 use Rattle.qbf_core.specs.Blocks.{Block}
-use Rattle.qbf_text.specs.Canonical.{spelled, line_text}
+use Rattle.qbf_text.specs.Canonical.{line_text}
 use Rattle.std.specs.Io.KnownBytes.{Appends}
 use Rattle.qrp.proofs.TextMore.{text_is_read}
 use Rattle.qbf_text.specs.Written.{AppendsFront}
-use Rattle.qbf_text.proofs.SentMore.{sent_step, sent_front}
 use Rattle.qrp.specs.declared.item.Header.{Header}
 use Rattle.qrp.specs.declared.item.Outcome.{Outcome}
 use Rattle.qrp.specs.Inferences.{Inference}
-use Rattle.qrp.specs.Grammar.{header, letter, literal, result, text}
-use Rattle.qrp.specs.Texts.{spaced, spaced_numbers, spaced_literal, spaced_literals, zero_text, closing, set_text, step_text, sets_text, steps_text}
-use Rattle.qrp.proofs.WritingMore.{first_fails, later_fails, both_go, parts_next, numbers_next, text_parts}
+use Rattle.qrp.specs.Grammar.{header, result, text}
+use Rattle.qrp.specs.Texts.{sets_text, steps_text}
+use Rattle.qrp.proofs.WritingMore.{first_fails, later_fails, both_go, text_parts}
 use Rattle.qrp.proofs.writing.write_trace.Goals as goal
 
 pub returns-in_err-put_header-clause-err : goal.returns-in_err-put_header-clause-err
