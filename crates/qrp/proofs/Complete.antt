@@ -1,33 +1,23 @@
 -- What tokens spell is read, and a fault that stands is found.
-use Rattle.std.proofs.Common.{◌≡◌, ◌≢◌, ℕ, zero, suc, ◌<◌, ◌≤◌, ◌^◌, Bool, true, false, List, [], ◌∷◌, ◌++◌, length, map, Result, Ok, Err, refl, ap, sym, subst, ◌∙◌, arith, append_assoc, append-nil}
-use Rattle.std.proofs.lemmas.Grind.{flat_map-append}
+use Rattle.std.proofs.Common.{◌≡◌, ℕ, List, [], ◌∷◌, ◌++◌, map, Ok, Err, refl, ap, sym, subst, ◌∙◌, append_assoc, append-nil}
 use Rattle.std.proofs.lemmas.List.{map-append}
-use Rattle.std.specs.List.{flat_map, AllByRecursion}
-use Rattle.qbf_core.specs.declared.quantifier.Quantifier.{Quantifier}
-use Rattle.qbf_core.specs.declared.quantifier.Quantifier.TheVariants.{All, Exists}
-use Rattle.qbf_core.specs.Literal.{Literal}
-use Rattle.qbf_core.specs.Blocks.{Block, IsVariable}
-use Rattle.qbf_text.specs.declared.token.Comments.TheVariants.{Qrp}
+use Rattle.qbf_core.specs.Blocks.{Block}
 use Rattle.qbf_text.specs.declared.token.Token.{Token}
 use Rattle.qbf_text.specs.declared.token.Token.TheVariants as token
 use Rattle.qbf_text.specs.declared.token.Word.TheVariants as word
 use Rattle.qbf_text.specs.Lined.{Lined, unlined}
-use Rattle.qbf_text.specs.Tokens.{tokens}
-use Rattle.qbf_text.specs.Canonical.{IsPlain, IsOpening, IsLine, lines_text}
-use Rattle.qbf_text.proofs.CanonicalMore.{joined, tokens-lines_text}
 use Rattle.qrp.specs.declared.fault.TraceFault.{TraceFault}
 use Rattle.qrp.specs.declared.item.Header.{Header}
 use Rattle.qrp.specs.declared.item.Outcome.{Outcome}
 use Rattle.qrp.specs.declared.item.Outcome.TheVariants.{Sat, Unsat}
 use Rattle.qrp.specs.declared.item.Item.{Item}
 use Rattle.qrp.specs.declared.item.Item.TheVariants as item
-use Rattle.qrp.specs.Inferences.{Inference, IsInference, IsLiteral, IsNumber, numbers}
-use Rattle.qrp.specs.Derivations.{Derivation, AreGrammatical, FitsIn64, IsWellFormed, items_of}
-use Rattle.qrp.specs.Grammar.{number, literal, letter, header, set, step, result, result_word, lists, lines, text, IsTrace}
+use Rattle.qrp.specs.Inferences.{Inference, numbers}
+use Rattle.qrp.specs.Derivations.{Derivation, AreGrammatical}
+use Rattle.qrp.specs.Grammar.{number, literal, letter, result, result_word, lists, IsTrace}
 use Rattle.qrp.specs.Faults.{AreLists, Spells, IsFault}
-use Rattle.qrp.specs.Laws.{ReadsText}
-use Rattle.qrp.specs.Reading.{Fault, Place, AtP, AtQrp, AtVars, AtSteps, Between, InSet, InLits, InAnts, AtResult, Row, Goes, Closes, Ends, Fails, row, items_from, items, gathered, nothing, read}
-use Rattle.qrp.proofs.Leads.{Answer, after, items-one, Leads, leads_nothing, leads_goes, leads_closes, leads_lists, leads_open_set, leads_open_lits, leads_open_ants, leads_lits, number_row, letter_row}
+use Rattle.qrp.specs.Reading.{Fault, Place, AtP, AtQrp, AtVars, AtSteps, Between, InSet, InLits, InAnts, AtResult, Row, Ends, row, items_from, items, gathered, nothing, read}
+use Rattle.qrp.proofs.Leads.{Answer, after, items-one, Leads, leads_nothing, leads_goes, leads_lists, leads_open_set, leads_open_lits, leads_open_ants, leads_lits, number_row, letter_row}
 
 -- ---- lists of tokens on lines, split
 

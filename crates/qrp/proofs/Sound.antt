@@ -1,5 +1,5 @@
 -- What is read is spelled, and a fault that is found stands.
-use Rattle.std.proofs.Common.{◌≡◌, ◌≢◌, ℕ, zero, suc, ◌<◌, ◌≤◌, ◌+◌, Bool, true, false, cond, ◌||◌, List, [], ◌∷◌, ◌++◌, length, map, Option, Some, None, Result, Ok, Err, refl, ap, sym, subst, ◌∙◌, arith, append_assoc, append-nil, nat_eq, nat_lt}
+use Rattle.std.proofs.Common.{◌≡◌, ◌≢◌, ℕ, zero, suc, ◌≤◌, Bool, true, false, cond, ◌||◌, List, [], ◌∷◌, ◌++◌, length, map, Some, Ok, Err, refl, ap, sym, subst, ◌∙◌, arith, append_assoc, append-nil, nat_eq, nat_lt}
 use Rattle.std.proofs.lemmas.Grind.{flat_map-append}
 use Rattle.std.proofs.lemmas.List.{map-append, length-append}
 use Rattle.std.proofs.lemmas.Bool.{ltb-false, ltb-true, eqb-false, ne_eqb}
@@ -12,18 +12,16 @@ use Rattle.qbf_text.specs.declared.token.Token.{Token}
 use Rattle.qbf_text.specs.declared.token.Token.TheVariants as token
 use Rattle.qbf_text.specs.declared.token.Word.TheVariants as word
 use Rattle.qbf_text.specs.Lined.{Lined, unlined, EndsOnce}
-use Rattle.qrp.specs.declared.fault.TraceFault.{TraceFault}
-use Rattle.qrp.specs.declared.fault.TraceFault.TheVariants.{P2, P3, P4, P5, P6, P7, P8}
+use Rattle.qrp.specs.declared.fault.TraceFault.TheVariants.{P4, P5}
 use Rattle.qrp.specs.declared.item.Header.{Header}
 use Rattle.qrp.specs.declared.item.Outcome.{Outcome}
 use Rattle.qrp.specs.declared.item.Outcome.TheVariants.{Sat, Unsat}
-use Rattle.qrp.specs.declared.item.Item.{Item}
 use Rattle.qrp.specs.declared.item.Item.TheVariants as item
 use Rattle.qrp.specs.Inferences.{Inference, IsInference, IsLiteral, IsNumber, numbers}
 use Rattle.qrp.specs.Derivations.{Derivation, AreGrammatical}
-use Rattle.qrp.specs.Grammar.{number, literal, letter, header, set, step, result, result_word, lists, IsTrace}
-use Rattle.qrp.specs.Faults.{AreLists, Spells, IsFault, Reads}
-use Rattle.qrp.specs.Reading.{Fault, Place, AtP, AtQrp, AtVars, AtSteps, Between, InSet, InLits, InAnts, AtResult, Row, Goes, Closes, Ends, Fails, row, is_used, set_begins, set_row, lits_row, antecedent, has_room, ants_row, items_from, items, gathered, nothing, read}
+use Rattle.qrp.specs.Grammar.{number, literal, letter, header, set, step, result_word, lists, IsTrace}
+use Rattle.qrp.specs.Faults.{AreLists, Spells, Reads}
+use Rattle.qrp.specs.Reading.{Fault, Place, AtP, AtQrp, AtVars, AtSteps, Between, InSet, InLits, InAnts, AtResult, Row, Goes, Closes, Ends, Fails, row, is_used, set_begins, set_row, lits_row, antecedent, has_room, ants_row, items_from, gathered, nothing, read}
 use Rattle.qrp.proofs.Leads.{Answer, after, items-one}
 
 -- header, sets and steps as gathered, before the tokens of a list that is begun

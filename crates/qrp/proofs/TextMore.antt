@@ -1,5 +1,5 @@
 -- The canonical text is read again.
-use Rattle.std.proofs.Common.{◌≡◌, ◌≢◌, ℕ, zero, suc, ◌<◌, ◌≤◌, ◌^◌, Bool, true, false, List, [], ◌∷◌, ◌++◌, length, map, Result, Ok, refl, ap, sym, subst, ◌∙◌, arith, append_assoc}
+use Rattle.std.proofs.Common.{◌≡◌, ℕ, ◌<◌, ◌^◌, Bool, true, false, List, [], ◌∷◌, ◌++◌, map, Ok, refl, ap, sym, ◌∙◌, arith, append_assoc}
 use Rattle.std.proofs.lemmas.Grind.{flat_map-append}
 use Rattle.std.proofs.lemmas.List.{map-append}
 use Rattle.std.specs.List.{flat_map, AllByRecursion}
@@ -10,19 +10,16 @@ use Rattle.qbf_core.specs.Blocks.{Block, IsVariable}
 use Rattle.qbf_text.specs.declared.token.Comments.TheVariants.{Qrp}
 use Rattle.qbf_text.specs.declared.token.Token.{Token}
 use Rattle.qbf_text.specs.declared.token.Token.TheVariants as token
-use Rattle.qbf_text.specs.Lined.{Lined, unlined}
 use Rattle.qbf_text.specs.Tokens.{tokens}
-use Rattle.qbf_text.specs.Canonical.{IsPlain, IsLine, lines_text}
+use Rattle.qbf_text.specs.Canonical.{IsPlain, IsLine}
 use Rattle.qbf_text.proofs.CanonicalMore.{joined, tokens-lines_text}
 use Rattle.qrp.specs.declared.item.Outcome.{Outcome}
 use Rattle.qrp.specs.declared.item.Outcome.TheVariants.{Sat, Unsat}
-use Rattle.qrp.specs.declared.item.Item.{Item}
 use Rattle.qrp.specs.declared.item.Item.TheVariants as item
-use Rattle.qrp.specs.Inferences.{Inference, IsInference, IsLiteral, IsNumber, numbers}
-use Rattle.qrp.specs.Derivations.{Derivation, IsWellFormed, items_of}
-use Rattle.qrp.specs.Grammar.{number, literal, letter, header, set, step, result, lists, lines, text, IsTrace}
+use Rattle.qrp.specs.Inferences.{Inference, IsInference, IsLiteral, numbers}
+use Rattle.qrp.specs.Derivations.{Derivation, IsWellFormed}
+use Rattle.qrp.specs.Grammar.{number, literal, letter, header, set, step, result, lists, lines, text}
 use Rattle.qrp.specs.Laws.{ReadsText, ItemsOfTrace}
-use Rattle.qrp.specs.Reading.{Fault}
 use Rattle.qrp.proofs.Complete.{spelled_is_read, spelled_items}
 
 appended : (ts us : List Token) → AllByRecursion IsPlain ts → AllByRecursion IsPlain us → AllByRecursion IsPlain (ts ++ us)

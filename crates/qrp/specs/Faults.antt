@@ -1,8 +1,6 @@
 -- Where the first fault stands: the tokens before it are accepted, and the row of its place refuses it.
 use Rattle.std.specs.Prelude.{◌≡◌, ◌≤◌, ℕ, false, List, [], ◌∷◌, ◌++◌, map, length, Result, Ok, Err}
 use Rattle.std.specs.List.{AllByRecursion}
-use Rattle.qbf_core.specs.declared.quantifier.Quantifier.{Quantifier}
-use Rattle.qbf_core.specs.Literal.{Literal}
 use Rattle.qbf_core.specs.Blocks.{Block, IsVariable}
 use Rattle.qbf_text.specs.declared.token.Token.{Token}
 use Rattle.qbf_text.specs.declared.token.Token.TheVariants as token

@@ -1,11 +1,11 @@
 -- The parts of a canonical text, as they are written one after the other.
-use Rattle.std.specs.Prelude.{ℕ, List, [], ◌∷◌, ◌++◌, map, decimal}
+use Rattle.std.specs.Prelude.{ℕ, List, [], ◌∷◌, ◌++◌, decimal}
 use Rattle.std.specs.List.{flat_map}
 use Rattle.qbf_core.specs.Literal.{Literal}
 use Rattle.qbf_core.specs.Blocks.{Block}
-use Rattle.qbf_text.specs.Canonical.{spelled, lines_text}
+use Rattle.qbf_text.specs.Canonical.{spelled}
 use Rattle.qrp.specs.Inferences.{Inference}
-use Rattle.qrp.specs.Grammar.{letter, literal, set, step}
+use Rattle.qrp.specs.Grammar.{letter, literal}
 
 -- a number behind a blank
 abbrev pub spaced : ℕ → List ℕ

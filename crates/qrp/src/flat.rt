@@ -1,3 +1,5 @@
+//! Traces whose steps lie in flat buffers.
+
 ghost use Rattle.std.specs.Prelude.{◌≡◌, ◌≢◌, ℕ, ◌<◌, ◌≤◌, ◌-◌, ◌^◌, Some, Err, List, [], ◌∷◌, ◌++◌, length, map, slice_get, slice_range, IfSome, OnOk, OnErr, IfErr};
 ghost use Rattle.qbf_text.specs.Tokens.{tokens};
 ghost use Rattle.qbf_text.specs.declared.token.Comments.TheVariants.{Qrp};
@@ -7,7 +9,7 @@ ghost use Rattle.qrp.specs.Derivations.{IsWellFormed};
 ghost use Rattle.qrp.specs.Flat.{Body, body, front, start_of};
 ghost use Rattle.qrp.specs.Inferences.{Inference};
 
-use crate::fault::TraceFault;
+use crate::fault::Fault;
 use crate::index::StepIndex;
 use crate::item::{Header, Outcome, QuantSet, Step};
 use crate::steps::Steps;
@@ -142,7 +144,9 @@ impl Keeping for FlatSteps {
     }
 }
 
-/// A trace that keeps the literals of all steps in one buffer, and their antecedents in another.
+/// A trace that keeps the literals of all its steps in one buffer and their antecedents in another.
+///
+/// Contracts see the same value as of a `Trace`.
 #[derive(Drop)]
 pub struct FlatTrace {
     header: Header,
@@ -159,9 +163,20 @@ impl Model for FlatTrace {
 
     ghost Value = { Derivation };
 
-    ghost view = { λ t. record { header = t.header; sets = t.sets.items; steps = numbered t.index t.steps; result = t.result } };
+    ghost view = { λ t. record {
+      header = t.header;
+      sets = t.sets.items;
+      steps = numbered t.index t.steps;
+      result = t.result;
+    } };
 
-    ghost invariant = { λ t. IsKept (record { header = t.header; sets = t.sets.items; steps = numbered t.index t.steps; result = t.result }) t.index };
+    ghost invariant = { λ t. IsKept
+        (record {
+          header = t.header;
+          sets = t.sets.items;
+          steps = numbered t.index t.steps;
+          result = t.result;
+        }) t.index };
 }
 
 impl FlatTrace {
@@ -212,13 +227,14 @@ impl Steps for FlatTrace {
     }
 }
 
-/// Reads a trace (QRP) as `read_trace` does, and keeps it in flat buffers.
-pub fn read_flat<S: Source>(alloc: Global, source: &mut S) -> Result<FlatTrace, (TraceFault, u64)>
+/// Reads a trace as `read_trace` does, with the same faults, and keeps its steps in flat buffers.
+pub fn read_flat<S: Source>(alloc: Global, source: &mut S) -> Result<FlatTrace, Fault>
     // The trace where the bytes spell one, else the fault that stands.
     ensures reads { IfSome (S.remaining source.old) (λ bytes. Answers (tokens Qrp bytes) result) }
     // The same by the function that reads.
     ensures exact { Gives result (reads_bytes (S.remaining source.old)) }
-    ensures source { IfErr result (λ e. e.0 ≡ P1 → S.failures source.old < 2 ^ 64 - 1 → S.failures source.old < S.failures source.new) }
+    ensures source { IfErr result (λ e. e.0 ≡ P1
+        → S.failures source.old < 2 ^ 64 - 1 → S.failures source.old < S.failures source.new) }
     ensures kept { IfErr result (λ e. e.0 ≢ P1 → S.failures source.new ≡ S.failures source.old) }
     ensures line_1 { IfErr result (λ e. e.0 ≡ P1 → e.1 ≡ 0) }
     ensures line_9 { IfErr result (λ e. e.0 ≡ P9 → e.1 ≡ 0) }

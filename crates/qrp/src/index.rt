@@ -1,3 +1,5 @@
+//! The places of step numbers.
+
 ghost use Rattle.std.specs.Prelude.{◌≡◌, ℕ, ◌<◌, false, [], ◌∷◌, ◌++◌, length, nat_eq, slice_get, Some, IfSome, OnOk, OnErr};
 ghost use Rattle.std.specs.List.{IsDistinct};
 ghost use Rattle.qrp.specs.Kept.{AreStepNumbers};
@@ -7,7 +9,9 @@ use indexmap::IndexSet;
 use std::alloc::{AllocError, Global};
 use std::marker::Model;
 
-/// The numbers of steps in their order, no two of them the same, and the place of each.
+/// The numbers of steps in the order of a file, no two of them the same, with the place of each.
+///
+/// Contracts see the list of the numbers.
 #[derive(Drop)]
 pub struct StepIndex {
     numbers: IndexSet<u64>,

@@ -1,19 +1,22 @@
+//! Reading a trace item by item.
+
 ghost use Rattle.std.specs.Prelude.{◌≡◌, ◌≢◌, ℕ, ◌<◌, ◌+◌, ◌-◌, ◌^◌, true, false, Some, Ok, Err, List, [], length, IfOk, OnOk, IfErr};
 ghost use Rattle.qbf_text.specs.Tokens.{tokens};
 ghost use Rattle.qbf_text.specs.declared.token.Comments.TheVariants.{Qrp};
 ghost use Rattle.qrp.specs.declared.fault.TraceFault.TheVariants.{P1, P9};
-ghost use Rattle.qrp.specs.Given.{left_at, items_left, is_last, stage_after, numbers_with, GivesNextItem, IsDone, IsOver, IsProper, IsInStage};
+ghost use Rattle.qrp.specs.Given.{left_at, items_left, is_last, stage_after, numbers_with};
+ghost use Rattle.qrp.specs.Given.{GivesNextItem, IsDone, IsOver, IsProper, IsInStage};
 ghost use Rattle.qrp.specs.Reading.{items};
 
-use crate::fault::TraceFault;
+use crate::fault::{Fault, TraceFault};
 use crate::index::StepIndex;
 use crate::item::{Item, Outcome};
-use crate::reading::{Fault, header_item, list_item};
+use crate::reading::{header_item, list_item};
 use qbf_text::{Comments, Scanner, Source};
 use std::alloc::Global;
 use std::marker::Model;
 
-/// How far a reader is. The result and a fault are given for good.
+/// How far a reader is: before the header, between lists, or done for good.
 #[derive(Clone, Copy)]
 enum Stage {
     AtHeader,
@@ -42,16 +45,20 @@ fn item_at<S: Source>(
     source: &mut S,
 ) -> Result<Item, Fault>
     requires kept { IsInStage stage (record { scanner = scanner.old; numbers = index.old; stage = stage }) }
-    ensures gives { GivesNextItem (left_at stage (record { scanner = scanner.old; numbers = index.old; stage = stage }) (S.remaining source.old))
-        (left_at (stage_after result) (record { scanner = scanner.new; numbers = index.new; stage = stage_after result }) (S.remaining source.new)) result }
-    ensures kept { IsInStage (stage_after result) (record { scanner = scanner.new; numbers = index.new; stage = stage_after result }) }
+    ensures gives { GivesNextItem
+        (left_at stage (record { scanner = scanner.old; numbers = index.old; stage = stage }) (S.remaining source.old))
+        (left_at (stage_after result) (record { scanner = scanner.new; numbers = index.new; stage = stage_after result })
+        (S.remaining source.new)) result }
+    ensures kept { IsInStage (stage_after result)
+        (record { scanner = scanner.new; numbers = index.new; stage = stage_after result }) }
     ensures done { IsOver stage → (scanner.new ≡ scanner.old) × (index.new ≡ index.old) × (source.new ≡ source.old) }
     ensures stays { IsOver stage → stage_after result ≡ stage }
     ensures less { is_last result ≡ false →
         length scanner.new.pending + S.bound source.new < length scanner.old.pending + S.bound source.old }
     ensures proper { IfOk result (λ i. IsProper index.old i) }
     ensures numbers { index.new ≡ numbers_with index.old result }
-    ensures source { ¬ IsOver stage → IfErr result (λ e. e.0 ≡ P1 → S.failures source.old < 2 ^ 64 - 1 → S.failures source.old < S.failures source.new) }
+    ensures source { ¬ IsOver stage → IfErr result (λ e. e.0 ≡ P1
+        → S.failures source.old < 2 ^ 64 - 1 → S.failures source.old < S.failures source.new) }
     ensures fault { IfErr result (λ e. e.0 ≢ P1 → S.failures source.new ≡ S.failures source.old) }
     ensures line_1 { IfErr result (λ e. e.0 ≡ P1 → e.1 ≡ 0) }
     ensures line_9 { IfErr result (λ e. e.0 ≡ P9 → e.1 ≡ 0) }
@@ -65,7 +72,9 @@ fn item_at<S: Source>(
     }
 }
 
-/// Reads a trace (QRP) item by item.
+/// Reads a trace (the text form of QRP) item by item, and keeps of it the numbers of its steps alone.
+///
+/// Contracts see a `Position`: how far the reader is, and the numbers of the steps that it gave.
 #[derive(Drop)]
 pub struct TraceReader {
     alloc: Global,
@@ -100,12 +109,15 @@ impl TraceReader {
         }
     }
 
-    /// The next item: the header, each set, each step and the result, each when it is complete. Each call is lent the
-    /// same source. The fault comes with its line, and P1 (the source failed) and P9 (want of memory) with 0. After the
-    /// result each call gives it again, after a fault that fault, and then nothing is pulled.
-    pub fn next_item<S: Source>(&mut self, source: &mut S) -> Result<Item, (TraceFault, u64)>
+    /// The next item: the header, then each set, each step and the result, each when it is complete. Each call is lent
+    /// the same source.
+    ///
+    /// An error is the first fault and its line, counted from 1; P1 (the source failed) and P9 (want of memory) stand on
+    /// line 0. After the result every call gives the result, after a fault that fault, and then nothing is pulled.
+    pub fn next_item<S: Source>(&mut self, source: &mut S) -> Result<Item, Fault>
         // What was left to give is the answer, followed by what is left now.
-        ensures gives { GivesNextItem (items_left self.old (S.remaining source.old)) (items_left self.new (S.remaining source.new)) result }
+        ensures gives { GivesNextItem (items_left self.old (S.remaining source.old))
+            (items_left self.new (S.remaining source.new)) result }
         // The result and a fault are given for good, and nothing is pulled then.
         ensures last { is_last result ≡ true → IsDone self.new }
         ensures more { is_last result ≡ false → ¬ IsDone self.new }
@@ -117,7 +129,8 @@ impl TraceReader {
         ensures proper { IfOk result (λ i. IsProper self.old.numbers i) }
         ensures numbers { self.new.numbers ≡ numbers_with self.old.numbers result }
         // P1 is first given in a call in which the source failed.
-        ensures source { ¬ IsDone self.old → IfErr result (λ e. e.0 ≡ P1 → S.failures source.old < 2 ^ 64 - 1 → S.failures source.old < S.failures source.new) }
+        ensures source { ¬ IsDone self.old → IfErr result (λ e. e.0 ≡ P1
+            → S.failures source.old < 2 ^ 64 - 1 → S.failures source.old < S.failures source.new) }
         ensures kept { IfErr result (λ e. e.0 ≢ P1 → S.failures source.new ≡ S.failures source.old) }
         ensures line_1 { IfErr result (λ e. e.0 ≡ P1 → e.1 ≡ 0) }
         ensures line_9 { IfErr result (λ e. e.0 ≡ P9 → e.1 ≡ 0) }
@@ -136,7 +149,7 @@ impl TraceReader {
         answer
     }
 
-    /// The numbers of the steps that were given, in their order.
+    /// The numbers of the steps that were given, in the order of the file. It takes no memory.
     pub fn into_index(self) -> StepIndex
         ensures { result ≡ self.numbers }
     {

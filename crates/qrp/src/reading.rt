@@ -1,3 +1,5 @@
+//! The parts of a trace, each read from a scanner: the header, a set, a step, the result.
+
 ghost use Rattle.std.specs.Prelude.{◌≡◌, ◌≢◌, ℕ, ◌<◌, ◌≤◌, ◌+◌, ◌-◌, ◌^◌, true, false, Some, Ok, Err, List, [], ◌∷◌, ◌++◌, length, IfOk, OnOk, IfErr, OnErr};
 ghost use Rattle.std.specs.List.{AllByRecursion};
 ghost use Rattle.qbf_core.specs.Blocks.{IsVariable};
@@ -11,7 +13,7 @@ ghost use Rattle.qrp.specs.Inferences.{IsInference, IsLiteral, IsNumber};
 ghost use Rattle.qrp.specs.Parts.{known_items, item_then, given, has_steps, new_step, place_of, Continues, IsOpening};
 ghost use Rattle.qrp.specs.Reading.{AtP, Between, InSet, InLits, InAnts, AtResult, has_room, is_used};
 
-use crate::fault::TraceFault;
+use crate::fault::{Fault, TraceFault};
 use crate::index::StepIndex;
 use crate::item::{Header, Item, Outcome, QuantSet, Step};
 use crate::tokens::{
@@ -22,16 +24,16 @@ use qbf_core::{Lit, Quantifier, Var};
 use qbf_text::{Scanner, Source, Token};
 use std::alloc::Global;
 
-/// A fault and its line.
-pub type Fault = (TraceFault, u64);
-
 /// The next token and its line.
 fn next<S: Source>(scanner: &mut Scanner, source: &mut S) -> Result<(Token, u64), Fault>
     requires ready { ¬ HasFailed scanner.old }
-    ensures gives { IfOk result (λ t. GivesNext (left scanner.old (S.remaining source.old)) (left scanner.new (S.remaining source.new)) t) }
-    ensures fewer { IfOk result (λ t. (length scanner.new.pending + S.bound source.new) + weight t.0 ≤ length scanner.old.pending + S.bound source.old) }
+    ensures gives { IfOk result (λ t.
+        GivesNext (left scanner.old (S.remaining source.old)) (left scanner.new (S.remaining source.new)) t) }
+    ensures fewer { IfOk result (λ t. (length scanner.new.pending + S.bound source.new) + weight t.0
+        ≤ length scanner.old.pending + S.bound source.old) }
     ensures failed { IfErr result (λ e. e ≡ (P1, 0)) }
-    ensures source { IfErr result (λ e. e.0 ≡ P1 → S.failures source.old < 2 ^ 64 - 1 → S.failures source.old < S.failures source.new) }
+    ensures source { IfErr result (λ e. e.0 ≡ P1
+        → S.failures source.old < 2 ^ 64 - 1 → S.failures source.old < S.failures source.new) }
     ensures kept { IfErr result (λ e. e.0 ≢ P1 → S.failures source.new ≡ S.failures source.old) }
     ensures line_1 { IfErr result (λ e. e.0 ≡ P1 → e.1 ≡ 0) }
     ensures line_9 { IfErr result (λ e. e.0 ≡ P9 → e.1 ≡ 0) }
@@ -44,14 +46,28 @@ fn next<S: Source>(scanner: &mut Scanner, source: &mut S) -> Result<(Token, u64)
     }
 }
 
+/// Adds an item at the end.
+pub fn push<T: Drop>(items: &mut Vec<T>, item: T) -> Result<(), Fault>
+    ensures pushed { OnOk result (items.new.items ≡ items.old.items ++ item ∷ []) }
+    ensures memory { IfErr result (λ e. e ≡ (P9, 0)) }
+{
+    match items.push(item) {
+        Ok(()) => Ok(()),
+        Err(_) => Err((TraceFault::P9, 0)),
+    }
+}
+
 /// The numbers of variables and of steps.
 fn read_header<S: Source>(scanner: &mut Scanner, source: &mut S) -> Result<Header, Fault>
     requires ready { ¬ HasFailed scanner.old }
-    ensures reads { Continues (λ h. item_then (item.Header h) (known_items (Between []) (left scanner.new (S.remaining source.new)))) result
+    ensures reads { Continues (λ h. item_then (item.Header h)
+        (known_items (Between []) (left scanner.new (S.remaining source.new)))) result
         (known_items AtP (left scanner.old (S.remaining source.old))) }
     ensures fit { IfOk result (λ h. (h.vars < 2 ^ 64) × (h.steps < 2 ^ 64)) }
-    ensures less { OnOk result (length scanner.new.pending + S.bound source.new < length scanner.old.pending + S.bound source.old) }
-    ensures source { IfErr result (λ e. e.0 ≡ P1 → S.failures source.old < 2 ^ 64 - 1 → S.failures source.old < S.failures source.new) }
+    ensures less { OnOk result (
+        length scanner.new.pending + S.bound source.new < length scanner.old.pending + S.bound source.old) }
+    ensures source { IfErr result (λ e. e.0 ≡ P1
+        → S.failures source.old < 2 ^ 64 - 1 → S.failures source.old < S.failures source.new) }
     ensures kept { IfErr result (λ e. e.0 ≢ P1 → S.failures source.new ≡ S.failures source.old) }
     ensures line_1 { IfErr result (λ e. e.0 ≡ P1 → e.1 ≡ 0) }
     ensures line_9 { IfErr result (λ e. e.0 ≡ P9 → e.1 ≡ 0) }
@@ -79,16 +95,6 @@ fn read_header<S: Source>(scanner: &mut Scanner, source: &mut S) -> Result<Heade
 
 // ---- a set
 
-fn push(vars: &mut Vec<Var>, var: Var) -> Result<(), Fault>
-    ensures pushed { OnOk result (vars.new.items ≡ vars.old.items ++ var ∷ []) }
-    ensures memory { IfErr result (λ e. e ≡ (P9, 0)) }
-{
-    match vars.push(var) {
-        Ok(()) => Ok(()),
-        Err(_) => Err((TraceFault::P9, 0)),
-    }
-}
-
 /// The set of which the quantifier was read.
 fn read_set<S: Source>(
     alloc: Global,
@@ -97,11 +103,14 @@ fn read_set<S: Source>(
     quantifier: Quantifier,
 ) -> Result<QuantSet, Fault>
     requires ready { ¬ HasFailed scanner.old }
-    ensures reads { Continues (λ set. item_then (item.Set set) (known_items (Between []) (left scanner.new (S.remaining source.new)))) result
+    ensures reads { Continues (λ set. item_then (item.Set set)
+        (known_items (Between []) (left scanner.new (S.remaining source.new)))) result
         (known_items (InSet quantifier []) (left scanner.old (S.remaining source.old))) }
     ensures range { IfOk result (λ set. AllByRecursion IsVariable set.vars) }
-    ensures shorter { OnOk result (length scanner.new.pending + S.bound source.new ≤ length scanner.old.pending + S.bound source.old) }
-    ensures source { IfErr result (λ e. e.0 ≡ P1 → S.failures source.old < 2 ^ 64 - 1 → S.failures source.old < S.failures source.new) }
+    ensures shorter { OnOk result (
+        length scanner.new.pending + S.bound source.new ≤ length scanner.old.pending + S.bound source.old) }
+    ensures source { IfErr result (λ e. e.0 ≡ P1
+        → S.failures source.old < 2 ^ 64 - 1 → S.failures source.old < S.failures source.new) }
     ensures kept { IfErr result (λ e. e.0 ≢ P1 → S.failures source.new ≡ S.failures source.old) }
     ensures line_1 { IfErr result (λ e. e.0 ≡ P1 → e.1 ≡ 0) }
     ensures line_9 { IfErr result (λ e. e.0 ≡ P9 → e.1 ≡ 0) }
@@ -121,16 +130,6 @@ fn read_set<S: Source>(
 
 // ---- a step
 
-fn push_literal(lits: &mut Vec<Lit>, lit: Lit) -> Result<(), Fault>
-    ensures pushed { OnOk result (lits.new.items ≡ lits.old.items ++ lit ∷ []) }
-    ensures memory { IfErr result (λ e. e ≡ (P9, 0)) }
-{
-    match lits.push(lit) {
-        Ok(()) => Ok(()),
-        Err(_) => Err((TraceFault::P9, 0)),
-    }
-}
-
 /// The literals of a step.
 fn read_literals<S: Source>(
     alloc: Global,
@@ -138,11 +137,14 @@ fn read_literals<S: Source>(
     source: &mut S,
 ) -> Result<Vec<Lit>, Fault>
     requires ready { ¬ HasFailed scanner.old }
-    ensures reads { (ns : List ℕ) (n : ℕ) → Continues (λ lits. known_items (InAnts ns n lits.items []) (left scanner.new (S.remaining source.new))) result
+    ensures reads { (ns : List ℕ) (n : ℕ) → Continues
+        (λ lits. known_items (InAnts ns n lits.items []) (left scanner.new (S.remaining source.new))) result
         (known_items (InLits ns n []) (left scanner.old (S.remaining source.old))) }
     ensures range { IfOk result (λ lits. AllByRecursion IsLiteral lits.items) }
-    ensures shorter { OnOk result (length scanner.new.pending + S.bound source.new ≤ length scanner.old.pending + S.bound source.old) }
-    ensures source { IfErr result (λ e. e.0 ≡ P1 → S.failures source.old < 2 ^ 64 - 1 → S.failures source.old < S.failures source.new) }
+    ensures shorter { OnOk result (
+        length scanner.new.pending + S.bound source.new ≤ length scanner.old.pending + S.bound source.old) }
+    ensures source { IfErr result (λ e. e.0 ≡ P1
+        → S.failures source.old < 2 ^ 64 - 1 → S.failures source.old < S.failures source.new) }
     ensures kept { IfErr result (λ e. e.0 ≢ P1 → S.failures source.new ≡ S.failures source.old) }
     ensures line_1 { IfErr result (λ e. e.0 ≡ P1 → e.1 ≡ 0) }
     ensures line_9 { IfErr result (λ e. e.0 ≡ P9 → e.1 ≡ 0) }
@@ -154,19 +156,9 @@ fn read_literals<S: Source>(
         let (token, line) = next(scanner, source)?;
         match literal(token) {
             Ok(None) => return Ok(lits),
-            Ok(Some(lit)) => push_literal(&mut lits, lit)?,
+            Ok(Some(lit)) => push(&mut lits, lit)?,
             Err(fault) => return Err((fault, line)),
         }
-    }
-}
-
-fn push_number(numbers: &mut Vec<u64>, number: u64) -> Result<(), Fault>
-    ensures pushed { OnOk result (numbers.new.items ≡ numbers.old.items ++ number ∷ []) }
-    ensures memory { IfErr result (λ e. e ≡ (P9, 0)) }
-{
-    match numbers.push(number) {
-        Ok(()) => Ok(()),
-        Err(_) => Err((TraceFault::P9, 0)),
     }
 }
 
@@ -185,14 +177,17 @@ fn read_antecedents<S: Source>(
     source: &mut S,
 ) -> Result<Vec<u64>, Fault>
     requires ready { ¬ HasFailed scanner.old }
-    ensures reads { (ns : List ℕ) (n : ℕ) (ls : List Literal) → Continues (λ ants. item_then (item.Step (record { number = n; lits = ls; ants = ants.items }))
+    ensures reads { (ns : List ℕ) (n : ℕ) (ls : List Literal) → Continues
+        (λ ants. item_then (item.Step (record { number = n; lits = ls; ants = ants.items }))
         (known_items (Between (ns ++ n ∷ [])) (left scanner.new (S.remaining source.new)))) result
         (known_items (InAnts ns n ls []) (left scanner.old (S.remaining source.old))) }
     ensures range { IfOk result (λ ants. AllByRecursion IsNumber ants.items) }
     ensures fit { IfOk result (λ ants. AllByRecursion (λ n. n < 2 ^ 64) ants.items) }
     ensures few { IfOk result (λ ants. length ants.items ≤ 2) }
-    ensures shorter { OnOk result (length scanner.new.pending + S.bound source.new ≤ length scanner.old.pending + S.bound source.old) }
-    ensures source { IfErr result (λ e. e.0 ≡ P1 → S.failures source.old < 2 ^ 64 - 1 → S.failures source.old < S.failures source.new) }
+    ensures shorter { OnOk result (
+        length scanner.new.pending + S.bound source.new ≤ length scanner.old.pending + S.bound source.old) }
+    ensures source { IfErr result (λ e. e.0 ≡ P1
+        → S.failures source.old < 2 ^ 64 - 1 → S.failures source.old < S.failures source.new) }
     ensures kept { IfErr result (λ e. e.0 ≢ P1 → S.failures source.new ≡ S.failures source.old) }
     ensures line_1 { IfErr result (λ e. e.0 ≡ P1 → e.1 ≡ 0) }
     ensures line_9 { IfErr result (λ e. e.0 ≡ P9 → e.1 ≡ 0) }
@@ -205,7 +200,7 @@ fn read_antecedents<S: Source>(
         let room = has_room(&ants);
         match antecedent(room, token) {
             Ok(None) => return Ok(ants),
-            Ok(Some(number)) => push_number(&mut ants, number)?,
+            Ok(Some(number)) => push(&mut ants, number)?,
             Err(fault) => return Err((fault, line)),
         }
     }
@@ -235,15 +230,18 @@ fn read_step<S: Source>(
     requires ready { ¬ HasFailed scanner.old }
     requires number { IsNumber number }
     requires fresh { is_used number index.old ≡ false }
-    ensures reads { Continues (λ step. item_then (item.Step step) (known_items (Between index.new) (left scanner.new (S.remaining source.new)))) result
+    ensures reads { Continues (λ step. item_then (item.Step step)
+        (known_items (Between index.new) (left scanner.new (S.remaining source.new)))) result
         (known_items (InLits index.old number []) (left scanner.old (S.remaining source.old))) }
     ensures number { IfOk result (λ step. step.number ≡ number) }
     ensures step { IfOk result IsInference }
     ensures fit { IfOk result (λ step. AllByRecursion (λ n. n < 2 ^ 64) step.ants) }
     ensures pushed { OnOk result (index.new ≡ index.old ++ number ∷ []) }
     ensures err { OnErr result (index.new ≡ index.old) }
-    ensures shorter { OnOk result (length scanner.new.pending + S.bound source.new ≤ length scanner.old.pending + S.bound source.old) }
-    ensures source { IfErr result (λ e. e.0 ≡ P1 → S.failures source.old < 2 ^ 64 - 1 → S.failures source.old < S.failures source.new) }
+    ensures shorter { OnOk result (
+        length scanner.new.pending + S.bound source.new ≤ length scanner.old.pending + S.bound source.old) }
+    ensures source { IfErr result (λ e. e.0 ≡ P1
+        → S.failures source.old < 2 ^ 64 - 1 → S.failures source.old < S.failures source.new) }
     ensures kept { IfErr result (λ e. e.0 ≢ P1 → S.failures source.new ≡ S.failures source.old) }
     ensures line_1 { IfErr result (λ e. e.0 ≡ P1 → e.1 ≡ 0) }
     ensures line_9 { IfErr result (λ e. e.0 ≡ P9 → e.1 ≡ 0) }
@@ -261,9 +259,12 @@ fn read_step<S: Source>(
 /// The result word.
 fn read_result<S: Source>(scanner: &mut Scanner, source: &mut S) -> Result<Outcome, Fault>
     requires ready { ¬ HasFailed scanner.old }
-    ensures reads { Continues (λ o. Some (Ok (item.Result o) ∷ [])) result (known_items AtResult (left scanner.old (S.remaining source.old))) }
-    ensures shorter { OnOk result (length scanner.new.pending + S.bound source.new ≤ length scanner.old.pending + S.bound source.old) }
-    ensures source { IfErr result (λ e. e.0 ≡ P1 → S.failures source.old < 2 ^ 64 - 1 → S.failures source.old < S.failures source.new) }
+    ensures reads { Continues (λ o. Some (Ok (item.Result o) ∷ [])) result
+        (known_items AtResult (left scanner.old (S.remaining source.old))) }
+    ensures shorter { OnOk result (
+        length scanner.new.pending + S.bound source.new ≤ length scanner.old.pending + S.bound source.old) }
+    ensures source { IfErr result (λ e. e.0 ≡ P1
+        → S.failures source.old < 2 ^ 64 - 1 → S.failures source.old < S.failures source.new) }
     ensures kept { IfErr result (λ e. e.0 ≢ P1 → S.failures source.new ≡ S.failures source.old) }
     ensures line_1 { IfErr result (λ e. e.0 ≡ P1 → e.1 ≡ 0) }
     ensures line_9 { IfErr result (λ e. e.0 ≡ P9 → e.1 ≡ 0) }
@@ -304,8 +305,10 @@ fn read_opening<S: Source>(
     ensures reads { Continues (λ o. known_items (place_of index.now o) (left scanner.new (S.remaining source.new))) result
         (known_items (Between index.now) (left scanner.old (S.remaining source.old))) }
     ensures fits { IfOk result (λ o. IsOpening index.now o) }
-    ensures less { OnOk result (length scanner.new.pending + S.bound source.new < length scanner.old.pending + S.bound source.old) }
-    ensures source { IfErr result (λ e. e.0 ≡ P1 → S.failures source.old < 2 ^ 64 - 1 → S.failures source.old < S.failures source.new) }
+    ensures less { OnOk result (
+        length scanner.new.pending + S.bound source.new < length scanner.old.pending + S.bound source.old) }
+    ensures source { IfErr result (λ e. e.0 ≡ P1
+        → S.failures source.old < 2 ^ 64 - 1 → S.failures source.old < S.failures source.new) }
     ensures kept { IfErr result (λ e. e.0 ≢ P1 → S.failures source.new ≡ S.failures source.old) }
     ensures line_1 { IfErr result (λ e. e.0 ≡ P1 → e.1 ≡ 0) }
     ensures line_9 { IfErr result (λ e. e.0 ≡ P9 → e.1 ≡ 0) }
@@ -329,8 +332,10 @@ pub fn header_item<S: Source>(scanner: &mut Scanner, source: &mut S) -> Result<I
         (known_items AtP (left scanner.old (S.remaining source.old))) }
     ensures proper { IfOk result (λ i. IsProper [] i) }
     ensures numbers { numbers_with [] result ≡ [] }
-    ensures less { OnOk result (length scanner.new.pending + S.bound source.new < length scanner.old.pending + S.bound source.old) }
-    ensures source { IfErr result (λ e. e.0 ≡ P1 → S.failures source.old < 2 ^ 64 - 1 → S.failures source.old < S.failures source.new) }
+    ensures less { OnOk result (
+        length scanner.new.pending + S.bound source.new < length scanner.old.pending + S.bound source.old) }
+    ensures source { IfErr result (λ e. e.0 ≡ P1
+        → S.failures source.old < 2 ^ 64 - 1 → S.failures source.old < S.failures source.new) }
     ensures kept { IfErr result (λ e. e.0 ≢ P1 → S.failures source.new ≡ S.failures source.old) }
     ensures line_1 { IfErr result (λ e. e.0 ≡ P1 → e.1 ≡ 0) }
     ensures line_9 { IfErr result (λ e. e.0 ≡ P9 → e.1 ≡ 0) }
@@ -352,8 +357,10 @@ pub fn list_item<S: Source>(
         (known_items (Between index.old) (left scanner.old (S.remaining source.old))) }
     ensures proper { IfOk result (λ i. IsProper index.old i) }
     ensures numbers { index.new ≡ numbers_with index.old result }
-    ensures less { OnOk result (length scanner.new.pending + S.bound source.new < length scanner.old.pending + S.bound source.old) }
-    ensures source { IfErr result (λ e. e.0 ≡ P1 → S.failures source.old < 2 ^ 64 - 1 → S.failures source.old < S.failures source.new) }
+    ensures less { OnOk result (
+        length scanner.new.pending + S.bound source.new < length scanner.old.pending + S.bound source.old) }
+    ensures source { IfErr result (λ e. e.0 ≡ P1
+        → S.failures source.old < 2 ^ 64 - 1 → S.failures source.old < S.failures source.new) }
     ensures kept { IfErr result (λ e. e.0 ≢ P1 → S.failures source.new ≡ S.failures source.old) }
     ensures line_1 { IfErr result (λ e. e.0 ≡ P1 → e.1 ≡ 0) }
     ensures line_9 { IfErr result (λ e. e.0 ≡ P9 → e.1 ≡ 0) }

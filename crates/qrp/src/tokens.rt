@@ -1,3 +1,5 @@
+//! What one token says at its place in a trace.
+
 ghost use Rattle.std.specs.Prelude.{◌≡◌, ◌≤◌, ◌<◌, ◌^◌, true, nat_lt, if◌then◌else◌, Ok, Err, IfOk, OnOk, IfSome};
 ghost use Rattle.qrp.specs.declared.fault.TraceFault.TheVariants.{P4};
 ghost use Rattle.qbf_core.specs.Blocks.{IsVariable};

@@ -1,17 +1,19 @@
+//! Reading a trace to its end, however its steps are kept.
+
 ghost use Rattle.std.specs.Prelude.{◌≡◌, ◌≢◌, ◌<◌, ◌-◌, ◌^◌, List, [], ◌∷◌, ◌++◌, IfOk, OnOk, IfErr};
 ghost use Rattle.qrp.specs.declared.fault.TraceFault.TheVariants.{P1, P9};
 ghost use Rattle.qrp.specs.Answers.{reads_bytes, Refuses, IsRead};
 ghost use Rattle.qrp.specs.Inferences.{Inference};
 
-use crate::fault::TraceFault;
+use crate::fault::{Fault, TraceFault};
 use crate::index::StepIndex;
 use crate::item::{Header, Item, Outcome, QuantSet, Step};
 use crate::reader::TraceReader;
-use crate::reading::Fault;
+use crate::reading::push;
 use qbf_text::Source;
 use std::alloc::{AllocError, Global};
 
-/// How steps are kept while a trace is read, all but their numbers' places.
+/// Where steps are put while a trace is read. The places of their numbers are with the reader.
 pub trait Keeping: Drop {
     /// It keeps these steps.
     ghost keeps: { Self → List Inference → Type 0 };
@@ -35,18 +37,10 @@ pub struct Parts<K> {
     pub index: StepIndex,
 }
 
-fn keep_set(sets: &mut Vec<QuantSet>, set: QuantSet) -> Result<(), Fault>
-    ensures pushed { OnOk result (sets.new.items ≡ sets.old.items ++ set ∷ []) }
-    ensures memory { IfErr result (λ e. e ≡ (P9, 0)) }
-{
-    match sets.push(set) {
-        Ok(()) => Ok(()),
-        Err(_) => Err((TraceFault::P9, 0)),
-    }
-}
-
+/// Adds a step at the end.
 fn keep_step<K: Keeping>(steps: &mut K, step: Step) -> Result<(), Fault>
-    ensures pushed { OnOk result ((before : List Inference) → K.keeps steps.old before → K.keeps steps.new (before ++ step ∷ [])) }
+    ensures pushed { OnOk result ((before : List Inference)
+        → K.keeps steps.old before → K.keeps steps.new (before ++ step ∷ [])) }
     ensures memory { IfErr result (λ e. e ≡ (P9, 0)) }
 {
     match steps.keep(step) {
@@ -55,11 +49,13 @@ fn keep_step<K: Keeping>(steps: &mut K, step: Step) -> Result<(), Fault>
     }
 }
 
-/// Reads a whole trace.
+/// Reads the items up to the result. The index of the steps is the one that the reader grew.
 pub fn read_parts<K: Keeping, S: Source>(alloc: Global, source: &mut S) -> Result<Parts<K>, Fault>
-    ensures read { IfOk result (λ p. IsRead (K.keeps p.steps) p.header p.sets.items p.index p.result (reads_bytes (S.remaining source.old))) }
+    ensures read { IfOk result (λ p.
+        IsRead (K.keeps p.steps) p.header p.sets.items p.index p.result (reads_bytes (S.remaining source.old))) }
     ensures refuses { IfErr result (λ e. Refuses e.0 e.1 (reads_bytes (S.remaining source.old))) }
-    ensures source { IfErr result (λ e. e.0 ≡ P1 → S.failures source.old < 2 ^ 64 - 1 → S.failures source.old < S.failures source.new) }
+    ensures source { IfErr result (λ e. e.0 ≡ P1
+        → S.failures source.old < 2 ^ 64 - 1 → S.failures source.old < S.failures source.new) }
     ensures kept { IfErr result (λ e. e.0 ≢ P1 → S.failures source.new ≡ S.failures source.old) }
     ensures line_1 { IfErr result (λ e. e.0 ≡ P1 → e.1 ≡ 0) }
     ensures line_9 { IfErr result (λ e. e.0 ≡ P9 → e.1 ≡ 0) }
@@ -72,7 +68,7 @@ pub fn read_parts<K: Keeping, S: Source>(alloc: Global, source: &mut S) -> Resul
     'items: loop {
         match reader.next_item(source)? {
             Item::Header(written) => header = written,
-            Item::Set(set) => keep_set(&mut sets, set)?,
+            Item::Set(set) => push(&mut sets, set)?,
             Item::Step(step) => keep_step(&mut steps, step)?,
             Item::Result(result) => {
                 let index = reader.into_index();

@@ -1,10 +1,13 @@
+//! Writing the canonical text of a trace.
+
 ghost use Rattle.std.specs.Prelude.{◌≡◌, ◌<◌, ◌-◌, ◌^◌, Ok, ◌∷◌, decimal, OnOk, OnErr};
 ghost use Rattle.std.specs.Io.KnownBytes.{Appends};
 ghost use Rattle.qbf_text.specs.Canonical.{spelled, line_text};
 ghost use Rattle.qbf_text.specs.Written.{AppendsFront};
 ghost use Rattle.qrp.specs.Grammar.{header, letter, literal, result as result_line, text};
 ghost use Rattle.qrp.specs.Reading.{read_trace};
-ghost use Rattle.qrp.specs.Texts.{spaced, spaced_numbers, spaced_literal, spaced_literals, set_text, step_text, sets_text, steps_text};
+ghost use Rattle.qrp.specs.Texts.{spaced, spaced_numbers, spaced_literal, spaced_literals};
+ghost use Rattle.qrp.specs.Texts.{set_text, step_text, sets_text, steps_text};
 
 use crate::item::{Header, Outcome, QuantSet, Step};
 use crate::trace::Trace;
@@ -174,16 +177,20 @@ fn put_result<K: Sink>(sink: &mut K, outcome: Outcome) -> Result<(), SinkFault>
     }
 }
 
-/// Writes the canonical text of the trace: the header, each set, each step and the result on a line of its own, parted
-/// by one blank, numbers without leading zeros. An error means that the sink failed, and a beginning of the text went
-/// out. It takes no memory.
+/// Writes the canonical text of the trace in the text form of QRP, and does not `finish` the sink. It takes no memory.
+///
+/// The lines are the header, each set, each step with its literals and antecedents as kept, and the result.
+/// Parts of a line are separated by one blank, numbers are decimal without leading zeros, and each line ends with byte 10.
+/// Reading the text gives the trace.
+///
+/// A `SinkFault` where the sink failed. What went out is a beginning of the text then.
 pub fn write_trace<K: Sink>(trace: &Trace, sink: &mut K) -> Result<(), SinkFault>
     ensures ok { OnOk result (Appends (K.written sink.old) (K.written sink.new) (text trace.now)) }
     ensures err { OnErr result (AppendsFront (K.written sink.old) (K.written sink.new) (text trace.now)) }
     ensures failures_ok { OnOk result (K.failures sink.new ≡ K.failures sink.old) }
     ensures failures_err { OnErr result (K.failures sink.old < 2 ^ 64 - 1 → K.failures sink.old < K.failures sink.new) }
     // Reading the text gives the trace.
-    ensures read_back { read_trace (text trace.now) ≡ Ok trace.now }
+    ensures reads_back { read_trace (text trace.now) ≡ Ok trace.now }
 {
     put_header(sink, trace.header())?;
     put_sets(sink, trace.sets())?;

@@ -1,6 +1,6 @@
 use Rattle.qbf_text.specs.Reading.{left}
-use Rattle.std.proofs.Common.{refl, []}
-use Rattle.qrp.specs.Reading.{AtP, AtQrp, AtVars, AtSteps, Between}
+use Rattle.std.proofs.Common.{refl}
+use Rattle.qrp.specs.Reading.{AtP, AtQrp, AtVars, AtSteps}
 use Rattle.qrp.specs.Parts.{known_items}
 use Rattle.qrp.proofs.Goes.{Leads-same, goes, closes, stops, word_goes, word_fails, vars_go, vars_fail, steps_close, steps_fail}
 use Rattle.qrp.proofs.reading.read_header.Goals as goal

@@ -1,4 +1,4 @@
-use Rattle.std.proofs.Common.{refl, sym}
+use Rattle.std.proofs.Common.{refl}
 use Rattle.qbf_text.specs.Reading.{left}
 use Rattle.qrp.specs.Reading.{AtResult}
 use Rattle.qrp.specs.Parts.{known_items}

@@ -1,9 +1,8 @@
-use Rattle.std.proofs.Common.{subst, ◌<◌, ◌^◌, length-append}
+use Rattle.std.proofs.Common.{subst}
 use Rattle.std.specs.List.{AllByRecursion}
 use Rattle.qbf_core.specs.Blocks.{IsVariable}
-use Rattle.qrp.specs.Inferences.{IsLiteral, IsNumber}
 use Rattle.qbf_core.proofs.PrefixLaws.{AllByRecursion-push}
-use Rattle.std.proofs.Common.{arith, ap, sym, ◌∙◌, ℕ, List, [], ◌∷◌, ◌++◌}
+use Rattle.std.proofs.Common.{arith, ap, sym, ℕ, List, []}
 use Rattle.qbf_text.specs.Reading.{left}
 use Rattle.qrp.specs.Reading.{InSet}
 use Rattle.qrp.specs.Parts.{known_items}

@@ -1,4 +1,4 @@
-use Rattle.std.proofs.Common.{◌≡◌, ℕ, ◌<◌, ◌^◌, List, [], ◌∷◌, ◌++◌, length, refl, sym, ap, subst, ◌∙◌, arith}
+use Rattle.std.proofs.Common.{◌≡◌, ℕ, ◌<◌, ◌^◌, List, [], ◌∷◌, ◌++◌, length, refl, ap, subst, ◌∙◌, arith}
 use Rattle.std.proofs.lemmas.List.{length-map}
 use Rattle.std.proofs.lemmas.Result.{err_from_is_err_and}
 use Rattle.std.specs.List.{AllByRecursion, IsDistinct}
@@ -6,9 +6,7 @@ use Rattle.std.specs.Prelude.{nat_eq}
 use Rattle.qbf_core.specs.Blocks.{Block, IsVariable}
 use Rattle.qbf_core.proofs.PrefixLaws.{AllByRecursion-push}
 use Rattle.qrp.specs.declared.item.Outcome.TheVariants.{Sat}
-use Rattle.qrp.specs.Answers.{reads_bytes, Becomes, gathered_known}
 use Rattle.qrp.specs.Derivations.{Derivation}
-use Rattle.qrp.specs.Given.{items_left}
 use Rattle.qrp.specs.Inferences.{Inference, IsInference, numbers}
 use Rattle.qrp.proofs.Gathering.{header_in, set_in, step_in, result_in, refused, numbers_push}
 use Rattle.qrp.proofs.whole.read_parts.Goals as goal
@@ -41,7 +39,7 @@ pub items-preserved-in-Continue-branch-3 : goal.items-preserved-in-Continue-bran
 items-preserved-in-Continue-branch-3 g c =
     let i = c.items.invariant in
     let d : Derivation = record { header = c.items.header; sets = c.items.sets.items; steps = i.steps; result = Sat } in
-    let pushed = c.in_ok-keep_set-in-Set.ensures.pushed in
+    let pushed = c.in_ok-push-in-Set.ensures.pushed in
     let P : Block → Type 0 = λ s. AllByRecursion IsVariable s.vars in
     record {
       steps = i.steps;

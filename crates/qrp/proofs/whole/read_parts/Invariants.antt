@@ -1,4 +1,4 @@
-use Rattle.std.proofs.Common.{◌≡◌, ◌<◌, ◌^◌, ◌+◌, ℕ, List, length}
+use Rattle.std.proofs.Common.{◌≡◌, ◌<◌, ◌^◌, ◌+◌, List, length}
 use Rattle.std.specs.List.{AllByRecursion}
 use Rattle.qbf_core.specs.Blocks.{IsVariable}
 use Rattle.qrp.specs.declared.item.Outcome.TheVariants.{Sat}

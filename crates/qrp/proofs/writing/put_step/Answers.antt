@@ -1,17 +1,9 @@
-use Rattle.std.proofs.Common.{◌≡◌, refl, sym, ap, arith, ◌∙◌, ℕ, List, [], ◌∷◌, ◌++◌, ◌+◌, drop, length, get_or}
-use Rattle.std.specs.Prelude.{decimal, codes}
-use Rattle.std.specs.List.{flat_map}
+use Rattle.std.proofs.Common.{refl, sym, ap, ℕ, List, ◌++◌}
+use Rattle.std.specs.Prelude.{decimal}
 use Rattle.std.proofs.lemmas.Result.{err_from_is_err_and, on_err_weaker}
 use Rattle.qbf_core.specs.Literal.{Literal}
-use Rattle.qbf_core.specs.Blocks.{Block}
-use Rattle.qbf_text.specs.Canonical.{spelled, line_text}
-use Rattle.qbf_text.proofs.SentMore.{sent_step, sent_front}
-use Rattle.qrp.specs.declared.item.Header.{Header}
-use Rattle.qrp.specs.declared.item.Outcome.{Outcome}
-use Rattle.qrp.specs.Inferences.{Inference}
-use Rattle.qrp.specs.Grammar.{header, letter, literal, result, text}
-use Rattle.qrp.specs.Texts.{spaced, spaced_numbers, spaced_literal, spaced_literals, zero_text, closing, set_text, step_text, sets_text, steps_text}
-use Rattle.qrp.proofs.WritingMore.{first_fails, later_fails, parts_next, numbers_next, text_parts}
+use Rattle.qrp.specs.Texts.{spaced_numbers, spaced_literals, zero_text, closing, step_text}
+use Rattle.qrp.proofs.WritingMore.{first_fails, later_fails}
 use Rattle.qrp.proofs.writing.put_step.Goals as goal
 
 pub returns-in_err-put_number-clause-err : goal.returns-in_err-put_number-clause-err

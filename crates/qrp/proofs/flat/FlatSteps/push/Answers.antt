@@ -1,4 +1,4 @@
-use Rattle.std.proofs.Common.{◌≡◌, ℕ, List, [], ◌∷◌, ◌++◌, length, ap, ◌∙◌}
+use Rattle.std.proofs.Common.{ℕ, List, [], ◌∷◌, ◌++◌, ap, ◌∙◌}
 use Rattle.qrp.specs.declared.flat.Ends.{Ends}
 use Rattle.qrp.specs.Flat.{Body}
 use Rattle.qrp.proofs.Flats.{flat_pushed, flat_reaches}
