@@ -99,7 +99,7 @@ spelled_items ts d is =
     ap items k.2
     ∙ leads_closed d.header d.sets d.steps (token.Word word.R ∷ []) AtResult is.grammatical (leads_r (numbers d.steps)) k.0 k.3 k.1
     ∙ ap (λ (x : List Answer). map Ok (lists_items d.header d.sets d.steps) ++ x)
-      (ap (items_from AtResult) w.2 ∙ items-one AtResult (result_word d.result, w.0) w.1 ∙ ap (λ (x : Row). after x w.0 w.1) (result_row_ok d.result))
+    (ap (items_from AtResult) w.2 ∙ items-one AtResult (result_word d.result, w.0) w.1 ∙ ap (λ (x : Row). after x w.0 w.1) (result_row_ok d.result))
 
 pub spelled_is_read : (ts : List Lined) (d : Derivation) → IsTrace (unlined ts) d → read ts ≡ Ok d
 spelled_is_read ts d is =
@@ -151,7 +151,7 @@ spelled_reaches ts (InLits ns n ls) e = reached ts (number n ∷ map literal ls)
     (leads_goes (Between ns) (InLits ns n []) (InLits ns n ls) (number n) (map literal ls) [] (number_row ns n e.1 e.2) (leads_open_lits ns n [] ls e.3))
 spelled_reaches ts (InAnts ns n ls ants) e = reached ts (number n ∷ (map literal ls ++ number 0 ∷ map number ants)) ns (InAnts ns n ls ants) e.0
     (leads_goes (Between ns) (InLits ns n []) (InAnts ns n ls ants) (number n) (map literal ls ++ number 0 ∷ map number ants) [] (number_row ns n e.1 e.2)
-      (leads_lits ns n [] ls (map number ants) [] (InAnts ns n ls ants) e.3 (leads_open_ants ns n ls [] ants e.4 e.5)))
+    (leads_lits ns n [] ls (map number ants) [] (InAnts ns n ls ants) e.3 (leads_open_ants ns n ls [] ants e.4 e.5)))
 spelled_reaches ts AtResult e = reached ts (token.Word word.R ∷ []) e.0 AtResult e.1 (leads_r e.0)
 
 pub fault_is_found : (ts : List Lined) (f : TraceFault) (line : ℕ) → IsFault ts f line → read ts ≡ Err (f, line)

@@ -37,7 +37,6 @@ pub items-one : (p : Place) (t : Lined) (rest : List Lined) → items_from p (t 
 unfolding items_from
 items-one p t rest = elim (row p t.0) as (λ r. elim r [ Goes next ↦ items_from next rest | Closes i next ↦ Ok i ∷ items_from next rest | Ends o ↦ Ok (item.Result o) ∷ [] | Fails f ↦ Err (f, t.1) ∷ [] ] ≡ after r t.1 rest) [ Goes next ↦ refl | Closes i next ↦ refl | Ends o ↦ refl | Fails f ↦ refl ]
 
-
 -- the tokens ts close these items, on whatever lines they stand, and lead from p to q
 abbrev pub Leads : Place → List Token → List Item → Place → Type 0
 Leads p ts is q = (before : List Lined) → unlined before ≡ ts → (rest : List Lined) → items_from p (before ++ rest) ≡ map Ok is ++ items_from q rest
@@ -100,9 +99,9 @@ pub leads_sets : (sets : List Block) (us : List Token) (is : List Item) (r : Pla
 leads_sets [] us is r h l = l
 leads_sets (s ∷ sets) us is r h l =
     subst (λ (x : List Token). Leads (Between []) x (item.Set s ∷ (map item.Set sets ++ is)) r)
-      (ap (λ (x : List Token). letter s.quantifier ∷ x) (sym (append_assoc (map number s.vars) (number 0 ∷ []) (flat_map set sets ++ us))) ∙ sym (append_assoc (set s) (flat_map set sets) us))
+    (ap (λ (x : List Token). letter s.quantifier ∷ x) (sym (append_assoc (map number s.vars) (number 0 ∷ []) (flat_map set sets ++ us))) ∙ sym (append_assoc (set s) (flat_map set sets) us))
     (leads_goes (Between []) (InSet s.quantifier []) r (letter s.quantifier) (map number s.vars ++ number 0 ∷ (flat_map set sets ++ us)) (item.Set s ∷ (map item.Set sets ++ is)) (letter_row s.quantifier)
-      (leads_members s.quantifier [] s.vars (flat_map set sets ++ us) (map item.Set sets ++ is) r h.0 (leads_sets sets us is r h.1 l)))
+    (leads_members s.quantifier [] s.vars (flat_map set sets ++ us) (map item.Set sets ++ is) r h.0 (leads_sets sets us is r h.1 l)))
 
 -- ---- a step
 
@@ -147,14 +146,14 @@ leads_ants ns n ls ants [] us is r h few l =
 leads_ants ns n ls ants (b ∷ bs) us is r h few l =
     subst (λ (x : List ℕ). Leads (InAnts ns n ls ants) (number b ∷ (map number bs ++ number 0 ∷ us)) (item.Step (record { number = n; lits = ls; ants = x }) ∷ is) r) (append_assoc ants (b ∷ []) bs)
     (leads_goes (InAnts ns n ls ants) (InAnts ns n ls (ants ++ b ∷ [])) r (number b) (map number bs ++ number 0 ∷ us) (item.Step (record { number = n; lits = ls; ants = (ants ++ b ∷ []) ++ bs }) ∷ is) (ant_row ns n ls ants b h.0 (room_for ants bs b few))
-      (leads_ants ns n ls (ants ++ b ∷ []) bs us is r h.1 (subst (λ (x : List ℕ). length x ≤ 2) (sym (append_assoc ants (b ∷ []) bs)) few) l))
+    (leads_ants ns n ls (ants ++ b ∷ []) bs us is r h.1 (subst (λ (x : List ℕ). length x ≤ 2) (sym (append_assoc ants (b ∷ []) bs)) few) l))
 
 pub leads_open_ants : (ns : List ℕ) (n : ℕ) (ls : List Literal) (ants bs : List ℕ) → AllByRecursion IsNumber bs → length (ants ++ bs) ≤ 2 → Leads (InAnts ns n ls ants) (map number bs) [] (InAnts ns n ls (ants ++ bs))
 leads_open_ants ns n ls ants [] h few = subst (λ (x : List ℕ). Leads (InAnts ns n ls ants) [] [] (InAnts ns n ls x)) (sym (append-nil ants)) (leads_nothing (InAnts ns n ls ants))
 leads_open_ants ns n ls ants (b ∷ bs) h few =
     subst (λ (x : List ℕ). Leads (InAnts ns n ls ants) (number b ∷ map number bs) [] (InAnts ns n ls x)) (append_assoc ants (b ∷ []) bs)
     (leads_goes (InAnts ns n ls ants) (InAnts ns n ls (ants ++ b ∷ [])) _ (number b) (map number bs) [] (ant_row ns n ls ants b h.0 (room_for ants bs b few))
-      (leads_open_ants ns n ls (ants ++ b ∷ []) bs h.1 (subst (λ (x : List ℕ). length x ≤ 2) (sym (append_assoc ants (b ∷ []) bs)) few)))
+    (leads_open_ants ns n ls (ants ++ b ∷ []) bs h.1 (subst (λ (x : List ℕ). length x ≤ 2) (sym (append_assoc ants (b ∷ []) bs)) few)))
 
 pub number_row : (ns : List ℕ) (n : ℕ) → IsNumber n → is_used n ns ≡ false → row (Between ns) (number n) ≡ Goes (InLits ns n [])
 number_row ns zero h fresh = absurd (omega (arith, h))
@@ -178,12 +177,12 @@ leads_steps ns (s ∷ steps) us is r h distinct l =
     let more = flat_map step steps ++ us in
     let tail = map number s.ants ++ number 0 ∷ more in
     subst (λ (x : List Token). Leads (Between ns) x (item.Step s ∷ (map item.Step steps ++ is)) r)
-      (ap (λ (x : List Token). number s.number ∷ x) (ap (λ (x : List Token). map literal s.lits ++ number 0 ∷ x) (sym (append_assoc (map number s.ants) (number 0 ∷ []) more)) ∙ sym (append_assoc (map literal s.lits) (number 0 ∷ (map number s.ants ++ number 0 ∷ [])) more)) ∙ sym (append_assoc (step s) (flat_map step steps) us))
+    (ap (λ (x : List Token). number s.number ∷ x) (ap (λ (x : List Token). map literal s.lits ++ number 0 ∷ x) (sym (append_assoc (map number s.ants) (number 0 ∷ []) more)) ∙ sym (append_assoc (map literal s.lits) (number 0 ∷ (map number s.ants ++ number 0 ∷ [])) more)) ∙ sym (append_assoc (step s) (flat_map step steps) us))
     (leads_goes (Between ns) (InLits ns s.number []) r (number s.number) (map literal s.lits ++ number 0 ∷ tail) (item.Step s ∷ (map item.Step steps ++ is)) (number_row ns s.number h.0.number (new_number ns (numbers steps) s.number distinct))
-      (leads_lits ns s.number [] s.lits tail (item.Step s ∷ (map item.Step steps ++ is)) r h.0.lits
-        (leads_ants ns s.number s.lits [] s.ants more (map item.Step steps ++ is) r h.0.ants h.0.few
-          (leads_steps (ns ++ s.number ∷ []) steps us is r h.1 (subst (IsDistinct nat_eq) (sym (append_assoc ns (s.number ∷ []) (numbers steps))) distinct)
-            (subst (λ (x : List ℕ). Leads (Between x) us is r) (sym (append_assoc ns (s.number ∷ []) (numbers steps))) l)))))
+    (leads_lits ns s.number [] s.lits tail (item.Step s ∷ (map item.Step steps ++ is)) r h.0.lits
+    (leads_ants ns s.number s.lits [] s.ants more (map item.Step steps ++ is) r h.0.ants h.0.few
+    (leads_steps (ns ++ s.number ∷ []) steps us is r h.1 (subst (IsDistinct nat_eq) (sym (append_assoc ns (s.number ∷ []) (numbers steps))) distinct)
+    (subst (λ (x : List ℕ). Leads (Between x) us is r) (sym (append_assoc ns (s.number ∷ []) (numbers steps))) l)))))
 
 -- ---- header, sets and steps
 
@@ -191,6 +190,6 @@ pub leads_lists : (h : Header) (sets : List Block) (steps : List Inference) (us 
     → Leads AtP (lists h sets steps ++ us) (item.Header h ∷ (map item.Set sets ++ (map item.Step steps ++ is))) r
 leads_lists h sets steps us is r g l =
     subst (λ (x : List Token). Leads AtP x (item.Header h ∷ (map item.Set sets ++ (map item.Step steps ++ is))) r)
-      (sym (append_assoc (header h ++ flat_map set sets) (flat_map step steps) us ∙ append_assoc (header h) (flat_map set sets) (flat_map step steps ++ us)))
+    (sym (append_assoc (header h ++ flat_map set sets) (flat_map step steps) us ∙ append_assoc (header h) (flat_map set sets) (flat_map step steps ++ us)))
     (leads_header h (flat_map set sets ++ (flat_map step steps ++ us)) (map item.Set sets ++ (map item.Step steps ++ is)) r
-      (leads_sets sets (flat_map step steps ++ us) (map item.Step steps ++ is) r g.variables (leads_steps [] steps us is r g.inferences g.distinct l)))
+    (leads_sets sets (flat_map step steps ++ us) (map item.Step steps ++ is) r g.variables (leads_steps [] steps us is r g.inferences g.distinct l)))

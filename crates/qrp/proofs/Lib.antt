@@ -6,3 +6,6 @@ pub mod Complete
 pub mod TextMore
 pub mod Sound
 pub mod Goes
+pub mod Gathering
+pub mod WritingMore
+pub mod Flats

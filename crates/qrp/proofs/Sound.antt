@@ -121,8 +121,8 @@ step_closed ts ns d s is fresh g =
     let all_numbers : numbers (d.steps ++ s ∷ []) ≡ numbers d.steps ++ s.number ∷ [] = map-append (λ (k : Inference). k.number) d.steps (s ∷ []) in
     record {
       spelled = g.spelled ∙ append_assoc front (flat_map step d.steps) (step s)
-        ∙ ap (λ (x : List Token). front ++ x) (ap (λ (x : List Token). flat_map step d.steps ++ x) (sym (append-nil (step s))) ∙ sym (flat_map-append step d.steps (s ∷ [])))
-        ∙ sym (append-nil (lists d.header d.sets (d.steps ++ s ∷ [])));
+          ∙ ap (λ (x : List Token). front ++ x) (ap (λ (x : List Token). flat_map step d.steps ++ x) (sym (append-nil (step s))) ∙ sym (flat_map-append step d.steps (s ∷ [])))
+          ∙ sym (append-nil (lists d.header d.sets (d.steps ++ s ∷ [])));
       numbered = all_numbers ∙ ap (λ (x : List ℕ). x ++ s.number ∷ []) g.numbered;
       grammatical = record {
         variables = g.grammatical.variables;
@@ -217,8 +217,10 @@ follows ts (InSet q vs) d (token.Number false (suc n)) s = by (nat_lt 2147483647
   where
     by : (b : Bool) → nat_lt 2147483647 (suc n) ≡ b → Follows ts d (number (suc n)) (set_row q vs (cond b (Err P4) (Ok (Some (suc n)))))
     by true e = tt
-    by false e = (same_begun (ts ++ number (suc n) ∷ []) _ (letter q ∷ map number (vs ++ suc n ∷ [])) [] d (ap (λ (x : List Token). letter q ∷ x) (sym (map-append number vs (suc n ∷ [])))) (pushed ts (letter q ∷ map number vs) [] d (number (suc n)) s.0),
-        push_all IsVariable vs (suc n) s.1 (omega arith, ltb-false 2147483647 (suc n) e))
+    by false e = (
+      same_begun (ts ++ number (suc n) ∷ []) _ (letter q ∷ map number (vs ++ suc n ∷ [])) [] d (ap (λ (x : List Token). letter q ∷ x) (sym (map-append number vs (suc n ∷ [])))) (pushed ts (letter q ∷ map number vs) [] d (number (suc n)) s.0),
+      push_all IsVariable vs (suc n) s.1 (omega arith, ltb-false 2147483647 (suc n) e),
+    )
 follows ts (InSet q vs) d (token.Number true n) s = tt
 follows ts (InSet q vs) d (token.Word w) s = tt
 follows ts (InSet q vs) d token.Big s = tt
@@ -231,9 +233,12 @@ follows ts (InLits ns n ls) d (token.Number negative (suc m)) s = by negative (n
     by : (negative b : Bool) → nat_lt 2147483647 (suc m) ≡ b → Follows ts d (token.Number negative (suc m)) (lits_row ns n ls (cond b (Err P4) (Ok (Some (record { var = suc m; negative = negative })))))
     by negative true e = tt
     by negative false e =
-        let l : Literal = record { var = suc m; negative = negative } in
-        (same_begun (ts ++ literal l ∷ []) _ (number n ∷ map literal (ls ++ l ∷ [])) ns d (ap (λ (x : List Token). number n ∷ x) (sym (map-append literal ls (l ∷ [])))) (pushed ts (number n ∷ map literal ls) ns d (literal l) s.0),
-         s.1, s.2, push_all IsLiteral ls l s.3 (omega arith, ltb-false 2147483647 (suc m) e))
+        let l : Literal = record { var = suc m; negative = negative } in (
+          same_begun (ts ++ literal l ∷ []) _ (number n ∷ map literal (ls ++ l ∷ [])) ns d (ap (λ (x : List Token). number n ∷ x) (sym (map-append literal ls (l ∷ [])))) (pushed ts (number n ∷ map literal ls) ns d (literal l) s.0),
+          s.1,
+          s.2,
+          push_all IsLiteral ls l s.3 (omega arith, ltb-false 2147483647 (suc m) e),
+        )
 follows ts (InLits ns n ls) d (token.Word w) s = tt
 follows ts (InLits ns n ls) d token.Big s = tt
 follows ts (InLits ns n ls) d token.Bad s = tt
@@ -242,16 +247,25 @@ follows ts (InAnts ns n ls ants) d t s = by (has_room ants) refl t
   where
     closed : Follows ts d (number 0) (Closes (item.Step (record { number = n; lits = ls; ants = ants })) (Between (ns ++ n ∷ [])))
     closed =
-        let i : Inference = record { number = n; lits = ls; ants = ants } in
-        (record d { steps = d.steps ++ i ∷ [] }, gathered_step d i,
-         step_closed (ts ++ number 0 ∷ []) ns d i (record { number = s.1; lits = s.3; ants = s.4; few = s.5 }) s.2
-           (same_begun (ts ++ number 0 ∷ []) _ (step i) ns d (ap (λ (x : List Token). number n ∷ x) (append_assoc (map literal ls) (number 0 ∷ map number ants) (number 0 ∷ []))) (pushed ts (number n ∷ (map literal ls ++ number 0 ∷ map number ants)) ns d (number 0) s.0)))
+        let i : Inference = record { number = n; lits = ls; ants = ants } in (
+          record d { steps = d.steps ++ i ∷ [] },
+          gathered_step d i,
+          step_closed (ts ++ number 0 ∷ []) ns d i (record { number = s.1; lits = s.3; ants = s.4; few = s.5 }) s.2
+              (same_begun (ts ++ number 0 ∷ []) _ (step i) ns d (ap (λ (x : List Token). number n ∷ x) (append_assoc (map literal ls) (number 0 ∷ map number ants) (number 0 ∷ []))) (pushed ts (number n ∷ (map literal ls ++ number 0 ∷ map number ants)) ns d (number 0) s.0)),
+        )
+
     grown : (a : ℕ) → has_room ants ≡ true → Follows ts d (number (suc a)) (Goes (InAnts ns n ls (ants ++ suc a ∷ [])))
-    grown a room =
-        (same_begun (ts ++ number (suc a) ∷ []) _ (number n ∷ (map literal ls ++ number 0 ∷ map number (ants ++ suc a ∷ []))) ns d
+    grown a room = (
+      same_begun (ts ++ number (suc a) ∷ []) _ (number n ∷ (map literal ls ++ number 0 ∷ map number (ants ++ suc a ∷ []))) ns d
           (ap (λ (x : List Token). number n ∷ x) (append_assoc (map literal ls) (number 0 ∷ map number ants) (number (suc a) ∷ []) ∙ ap (λ (x : List Token). map literal ls ++ number 0 ∷ x) (sym (map-append number ants (suc a ∷ [])))))
           (pushed ts (number n ∷ (map literal ls ++ number 0 ∷ map number ants)) ns d (number (suc a)) s.0),
-         s.1, s.2, s.3, push_all IsNumber ants (suc a) s.4 (omega arith), omega (arith, length-append ants (suc a ∷ []), ltb-true (length ants) 2 room))
+      s.1,
+      s.2,
+      s.3,
+      push_all IsNumber ants (suc a) s.4 (omega arith),
+      omega (arith, length-append ants (suc a ∷ []), ltb-true (length ants) 2 room),
+    )
+
     by : (b : Bool) → has_room ants ≡ b → (u : Token) → Follows ts d u (ants_row ns n ls ants (antecedent b u))
     by true e (token.Number false zero) = closed
     by false e (token.Number false zero) = closed
@@ -308,15 +322,17 @@ explains : (before : List Lined) (p : Place) (d : Derivation) (ts : List Lined) 
 explains before p d [] s once = absurd once
 explains before p d (t ∷ ts) s once =
     subst (λ (x : List Answer). Reads (before ++ t ∷ ts) (gathered d x)) (sym (items-one p t ts))
-      (by (row p t.0) refl (follows (unlined before) p d t.0 s) (λ next e stands rest. explains (before ++ t ∷ []) next e ts stands rest))
+    (by (row p t.0) refl (follows (unlined before) p d t.0 s) (λ next e stands rest. explains (before ++ t ∷ []) next e ts stands rest))
   where
     go : (next : Place) (e : Derivation) → Stands (unlined before ++ t.0 ∷ []) next e → EndsOnce ts
         → ((next : Place) (e : Derivation) → Stands (unlined (before ++ t ∷ [])) next e → EndsOnce ts → Reads ((before ++ t ∷ []) ++ ts) (gathered e (items_from next ts)))
         → Reads (before ++ t ∷ ts) (gathered e (items_from next ts))
     go next e stands rest more = subst (λ (x : List Lined). Reads x (gathered e (items_from next ts))) (append_assoc before (t ∷ []) ts)
         (more next e (subst (λ (x : List Token). Stands x next e) (sym (unlined_pushed before t)) stands) rest)
+
     no_end : (r : Row) → row p t.0 ≡ r → (IsOver r → ⊥) → t.0 ≢ token.End
     no_end r is ended e = ended (subst IsOver (ap (row p) (sym e) ∙ is) (over p))
+
     by : (r : Row) → row p t.0 ≡ r → Follows (unlined before) d t.0 r
         → ((next : Place) (e : Derivation) → Stands (unlined (before ++ t ∷ [])) next e → EndsOnce ts → Reads ((before ++ t ∷ []) ++ ts) (gathered e (items_from next ts)))
         → Reads (before ++ t ∷ ts) (gathered d (after r t.1 ts))
@@ -325,10 +341,10 @@ explains before p d (t ∷ ts) s once =
         subst (Reads (before ++ t ∷ ts)) (sym (f.1 (items_from next ts))) (go next f.0 f.2 (once_rest t ts (no_end (Closes i next) is (λ x. x)) once) more)
     by (Ends o) is f more =
         subst (Reads (before ++ t ∷ ts)) (sym (gathered_result d o))
-          (subst (λ (x : List Token). IsTrace x (record d { result = o })) (append_assoc (unlined before) (t.0 ∷ []) (unlined ts) ∙ sym (map-append (λ u. u.0) before (t ∷ ts))) (f (unlined ts)))
+        (subst (λ (x : List Token). IsTrace x (record d { result = o })) (append_assoc (unlined before) (t.0 ∷ []) (unlined ts) ∙ sym (map-append (λ u. u.0) before (t ∷ ts))) (f (unlined ts)))
     by (Fails f) is u more =
         subst (Reads (before ++ t ∷ ts)) (sym (gathered_fault d (f, t.1)))
-          (record { before = before; wrong = t.0; after = ts; whole = refl; place = p; stands = spells (unlined before) p d s; refused = is })
+        (record { before = before; wrong = t.0; after = ts; whole = refl; place = p; stands = spells (unlined before) p d s; refused = is })
 
 -- What is read is spelled; a fault that is found stands.
 pub read_explained : (ts : List Lined) → EndsOnce ts → Reads ts (read ts)

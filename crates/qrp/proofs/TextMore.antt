@@ -58,10 +58,17 @@ sets_lines (s ∷ sets) h = (letter_line s.quantifier (map number s.vars ++ numb
 
 steps_lines : (steps : List Inference) → AllByRecursion IsInference steps → AllByRecursion (λ n. n < 2 ^ 64) (numbers steps) → AllByRecursion (λ s. AllByRecursion (λ n. n < 2 ^ 64) s.ants) steps → AllByRecursion IsLine (map step steps)
 steps_lines [] h small ants = tt
-steps_lines (s ∷ steps) h small ants =
-    ((tt, (small.0, appended (map literal s.lits) (number 0 ∷ (map number s.ants ++ number 0 ∷ [])) (literals_plain s.lits h.0.lits)
-      (zero_plain.0, appended (map number s.ants) (number 0 ∷ []) (numbers_plain s.ants ants.0) zero_plain))),
-     steps_lines steps h.1 small.1 ants.1)
+steps_lines (s ∷ steps) h small ants = (
+  (
+    tt,
+    (
+      small.0,
+      appended (map literal s.lits) (number 0 ∷ (map number s.ants ++ number 0 ∷ [])) (literals_plain s.lits h.0.lits)
+          (zero_plain.0, appended (map number s.ants) (number 0 ∷ []) (numbers_plain s.ants ants.0) zero_plain),
+    ),
+  ),
+  steps_lines steps h.1 small.1 ants.1,
+)
 
 result_line : (o : Outcome) → IsLine (result o)
 result_line Sat = (tt, (tt, (tt, tt)))
@@ -72,11 +79,12 @@ all_append [] ys h k = k
 all_append (x ∷ xs) ys h k = (h.0, all_append xs ys h.1 k)
 
 lines_written : (d : Derivation) → IsWellFormed d → AllByRecursion IsLine (lines d)
-lines_written d w =
-    ((tt, (tt, (tt, (w.fits.vars, (w.fits.steps, tt))))),
-     all_append (map set d.sets ++ map step d.steps) (result d.result ∷ [])
-       (all_append (map set d.sets) (map step d.steps) (sets_lines d.sets w.grammatical.variables) (steps_lines d.steps w.grammatical.inferences w.fits.numbers_fit w.fits.ants_fit))
-       (result_line d.result, tt))
+lines_written d w = (
+  (tt, (tt, (tt, (w.fits.vars, (w.fits.steps, tt))))),
+  all_append (map set d.sets ++ map step d.steps) (result d.result ∷ [])
+      (all_append (map set d.sets) (map step d.steps) (sets_lines d.sets w.grammatical.variables) (steps_lines d.steps w.grammatical.inferences w.fits.numbers_fit w.fits.ants_fit))
+      (result_line d.result, tt),
+)
 
 joined-map : {X : Type 0} (g : X → List Token) (xs : List X) → joined (map g xs) ≡ flat_map g xs
 joined-map g [] = refl
@@ -86,9 +94,9 @@ joined_lines : (d : Derivation) → joined (lines d) ++ token.End ∷ [] ≡ lis
 joined_lines d =
     let h = header d.header in
     let parts : joined (map set d.sets ++ map step d.steps ++ result d.result ∷ []) ≡ (flat_map set d.sets ++ flat_map step d.steps) ++ result d.result =
-      flat_map-append (λ line. line) (map set d.sets ++ map step d.steps) (result d.result ∷ [])
-      ∙ ap (λ (k : List Token). k ++ result d.result) (flat_map-append (λ line. line) (map set d.sets) (map step d.steps)
-          ∙ ap (λ (k : List Token). k ++ joined (map step d.steps)) (joined-map set d.sets) ∙ ap (λ (k : List Token). flat_map set d.sets ++ k) (joined-map step d.steps)) in
+    flat_map-append (λ line. line) (map set d.sets ++ map step d.steps) (result d.result ∷ [])
+    ∙ ap (λ (k : List Token). k ++ result d.result) (flat_map-append (λ line. line) (map set d.sets) (map step d.steps)
+    ∙ ap (λ (k : List Token). k ++ joined (map step d.steps)) (joined-map set d.sets) ∙ ap (λ (k : List Token). flat_map set d.sets ++ k) (joined-map step d.steps)) in
     ap (λ (k : List Token). (h ++ k) ++ token.End ∷ []) parts
     ∙ ap (λ (k : List Token). k ++ token.End ∷ []) (sym (append_assoc h (flat_map set d.sets ++ flat_map step d.steps) (result d.result)) ∙ ap (λ (k : List Token). k ++ result d.result) (sym (append_assoc h (flat_map set d.sets) (flat_map step d.steps))))
 

@@ -5,5 +5,8 @@ pub mod Grammar
 pub mod Reading
 pub mod Faults
 pub mod Laws
-pub mod Given
 pub mod Parts
+pub mod Given
+pub mod Answers
+pub mod Texts
+pub mod Flat

@@ -2,15 +2,24 @@
 #![tactic(auto)]
 
 mod fault;
+mod flat;
+mod index;
 mod item;
 mod laws;
+mod reader;
 mod reading;
 mod steps;
 mod tokens;
 mod trace;
+mod whole;
+mod writing;
 
 pub use fault::TraceFault;
+pub use flat::{FlatTrace, read_flat};
+pub use index::StepIndex;
 pub use item::{Header, Item, Outcome, QuantSet, Step};
 pub use laws::trace_laws;
+pub use reader::TraceReader;
 pub use steps::Steps;
-pub use trace::Trace;
+pub use trace::{Trace, read_trace};
+pub use writing::write_trace;

@@ -1,0 +1,37 @@
+# make          builds the program at bin/qrp_cmd
+# make demo     proves and builds it, and runs it on a real example
+# make test     the whole gate
+# make bench    measures time and memory
+# make install  copies the program to $(PREFIX)/bin
+
+PREFIX ?= /usr/local
+RT ?= rt
+PROGRAM = bin/qrp_cmd
+
+.PHONY: all demo test bench install clean
+
+all: $(PROGRAM)
+
+# `rt run` proves what is not proved yet, builds the program and runs it once.
+$(PROGRAM): $(shell find crates -path '*/out' -prune -o -type f -print) crates.txt
+	mkdir -p bin
+	cd crates/qrp_cmd && $(RT) run -- format data/two_clauses.qdimacs > /dev/null
+	cp crates/qrp_cmd/out/qrp_cmd $(PROGRAM)
+
+demo: all
+	$(PROGRAM) format examples/two_clauses.qdimacs
+
+test:
+	$(RT) ci
+	$(MAKE) all
+	scripts/test-program $(PROGRAM)
+
+bench: all
+	scripts/bench $(PROGRAM)
+
+install: all
+	mkdir -p $(DESTDIR)$(PREFIX)/bin
+	cp $(PROGRAM) $(DESTDIR)$(PREFIX)/bin/qrp_cmd
+
+clean:
+	rm -rf bin crates/*/out

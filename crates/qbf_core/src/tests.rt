@@ -1,0 +1,112 @@
+ghost use Rattle.std.specs.Prelude.{◌≡◌};
+
+use crate::{Formula, Lit, LitSet, Prefix, PrefixFault, Quantifier, SetFault, Var};
+use std::process::Abort;
+use std::test::Fail;
+
+/// The variable of a number in range.
+fn variable(rt: &impl Abort, number: u32) -> Var
+    ensures { result ≡ number }
+{
+    Var::new(number).expect(rt, "a variable")
+}
+
+#[test]
+fn variables_and_literals(rt: HostRuntime) {
+    assert!(rt; Var::new(0).is_none());
+    assert!(rt; Var::new(2147483648).is_none());
+    let last = variable(&rt, 2147483647);
+    assert_eq!(rt; last.number(), 2147483647);
+    let lit = Lit::new(last, true);
+    assert!(rt; lit.var() == last);
+    assert!(rt; lit.is_negative());
+    assert!(rt; lit.negated() == Lit::new(last, false));
+    assert!(rt; lit.negated() < lit);
+    assert!(rt; Lit::new(variable(&rt, 1), true) < lit.negated());
+}
+
+#[test]
+fn prefixes(rt: HostRuntime) -> Result<(), Fail> {
+    let one = variable(&rt, 1);
+    let two = variable(&rt, 2);
+    let seven = variable(&rt, 7);
+    let mut prefix = Prefix::new(rt.alloc());
+    assert_eq!(rt; prefix.blocks(), 0);
+    prefix.push(Quantifier::Exists, seven)?;
+    prefix.push(Quantifier::All, two)?;
+    prefix.push(Quantifier::All, one)?;
+    assert!(rt; prefix.push(Quantifier::Exists, two) == Err(PrefixFault::B1));
+    assert_eq!(rt; prefix.len(), 3);
+    assert_eq!(rt; prefix.blocks(), 2);
+    assert!(rt; prefix.pair(2) == (Quantifier::All, one));
+    assert!(rt; prefix.quantifier(seven) == Some(Quantifier::Exists));
+    assert!(rt; prefix.block(one) == Some(1));
+    assert!(rt; prefix.is_bound(two));
+    let unbound = variable(&rt, 3);
+    assert!(rt; prefix.quantifier(unbound).is_none());
+    assert!(rt; prefix.block(unbound).is_none());
+    assert!(rt; !prefix.is_bound(unbound));
+    Ok(())
+}
+
+#[test]
+fn formulas(rt: HostRuntime) -> Result<(), Fail> {
+    let one = variable(&rt, 1);
+    let mut prefix = Prefix::new(rt.alloc());
+    prefix.push(Quantifier::All, one)?;
+    let mut formula = Formula::new(rt.alloc(), 5, prefix);
+    let mut clause = Vec::new(rt.alloc());
+    clause.push(Lit::new(one, true))?;
+    clause.push(Lit::new(one, true))?;
+    assert!(rt; formula.push_clause(clause).is_ok());
+    assert_eq!(rt; formula.max_var(), 5);
+    assert_eq!(rt; formula.prefix().len(), 1);
+    assert_eq!(rt; formula.clauses(), 1);
+    assert!(rt; formula.clause(0) == [Lit::new(one, true), Lit::new(one, true)].as_slice());
+    Ok(())
+}
+
+#[test]
+fn sets(rt: HostRuntime) -> Result<(), Fail> {
+    let alloc = rt.alloc();
+    let one = variable(&rt, 1);
+    let two = variable(&rt, 2);
+    let three = variable(&rt, 3);
+    let mut prefix = Prefix::new(alloc);
+    prefix.push(Quantifier::Exists, one)?;
+    prefix.push(Quantifier::All, two)?;
+    let lits = [
+        Lit::new(two, true),
+        Lit::new(one, false),
+        Lit::new(two, true),
+    ];
+    let set = LitSet::from_slice(alloc, &lits, &prefix)?;
+    assert!(rt; set.as_slice() == [Lit::new(one, false), Lit::new(two, true)].as_slice());
+    assert!(rt; set.contains(Lit::new(two, true)));
+    assert!(rt; !set.contains(Lit::new(two, false)));
+    assert!(rt; !set.contains(Lit::new(three, false)));
+    assert!(rt;
+        LitSet::from_slice(alloc, &[], &prefix)?
+            .as_slice()
+            .is_empty()
+    );
+    let clash = [
+        Lit::new(three, false),
+        Lit::new(one, false),
+        Lit::new(one, true),
+    ];
+    assert!(rt;
+        matches!(
+            LitSet::from_slice(alloc, &clash, &prefix),
+            Err(SetFault::E1)
+        )
+    );
+    let unbound = [Lit::new(three, false), Lit::new(one, false)];
+    assert!(rt;
+        matches!(
+            LitSet::from_slice(alloc, &unbound, &prefix),
+            Err(SetFault::E2)
+        )
+    );
+    Ok(())
+}

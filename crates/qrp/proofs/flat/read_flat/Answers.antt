@@ -1,0 +1,29 @@
+use Rattle.std.proofs.Common.{◌≡◌, Ok, Err, ap, ◌∙◌}
+use Rattle.std.proofs.lemmas.Result.{err_from_is_err_and}
+use Rattle.qrp.proofs.Gathering.{answered_bytes}
+use Rattle.qrp.proofs.Flats.{read_back}
+use Rattle.qrp.specs.Flat.{numbered}
+use Rattle.qrp.proofs.flat.read_flat.Goals as goal
+
+pub returns-in_err-parts-clause-reads : goal.returns-in_err-parts-clause-reads
+returns-in_err-parts-clause-reads g c =
+    let p = err_from_is_err_and c.from_residual.result c.from_residual.ensures.1 in
+    rw (p.1, p.2) (answered_bytes (g.S.Source.remaining c.args.source.now) (Err c.in_err-parts.field-0.0) c.in_err-parts.ensures.refuses)
+
+pub invariant_of-result : goal.invariant_of-result
+invariant_of-result g c =
+    let read = c.in_ok-parts.ensures.read in
+    rw (read_back read.steps c.in_ok-parts.parts.index c.in_ok-parts.parts.steps read.same read.kept) (record { same = read.same; well_formed = read.well_formed })
+
+pub returns-clause-reads : goal.returns-clause-reads
+returns-clause-reads g c =
+    let parts = c.in_ok-parts.parts in
+    let read = c.in_ok-parts.ensures.read in
+    answered_bytes (g.S.Source.remaining c.args.source.now) (Ok (record { header = parts.header; sets = parts.sets.items; steps = numbered parts.index parts.steps; result = parts.result }))
+    (rw (read_back read.steps parts.index parts.steps read.same read.kept) read.gives)
+
+pub returns-clause-exact : goal.returns-clause-exact
+returns-clause-exact g c =
+    let parts = c.in_ok-parts.parts in
+    let read = c.in_ok-parts.ensures.read in
+    rw (read_back read.steps parts.index parts.steps read.same read.kept) read.gives

@@ -1,0 +1,237 @@
+ghost use Rattle.std.specs.Prelude.{◌≡◌, ◌≢◌, ℕ, ◌<◌, ◌≤◌, ◌-◌, ◌^◌, Some, Err, List, [], ◌∷◌, ◌++◌, length, map, slice_get, slice_range, IfSome, OnOk, OnErr, IfErr};
+ghost use Rattle.qbf_text.specs.Tokens.{tokens};
+ghost use Rattle.qbf_text.specs.declared.token.Comments.TheVariants.{Qrp};
+ghost use Rattle.qrp.specs.declared.fault.TraceFault.TheVariants.{P1, P9};
+ghost use Rattle.qrp.specs.Answers.{reads_bytes, Answers, Gives};
+ghost use Rattle.qrp.specs.Derivations.{IsWellFormed};
+ghost use Rattle.qrp.specs.Flat.{Body, body, front, start_of};
+ghost use Rattle.qrp.specs.Inferences.{Inference};
+
+use crate::fault::TraceFault;
+use crate::index::StepIndex;
+use crate::item::{Header, Outcome, QuantSet, Step};
+use crate::steps::Steps;
+use crate::whole::{Keeping, read_parts};
+use qbf_core::Lit;
+use qbf_text::Source;
+use std::alloc::{AllocError, Global};
+use std::marker::Model;
+
+/// Where the literals and the antecedents of a step end.
+#[derive(Clone, Copy)]
+struct Ends {
+    lits: usize,
+    ants: usize,
+}
+
+/// The literals and the antecedents of steps, each in one buffer.
+#[derive(Drop)]
+struct FlatSteps {
+    lits: Vec<Lit>,
+    ants: Vec<u64>,
+    /// A step begins where the one before ends.
+    ends: Vec<Ends>,
+}
+
+impl Model for FlatSteps {
+    ghost use Rattle.std.specs.Prelude.{List, length};
+    ghost use Rattle.qrp.specs.Flat.{Body, bodies_in, front, Reaches};
+
+    ghost Value = { List Body };
+
+    ghost view = { λ s. bodies_in s.lits.items s.ants.items front s.ends.items };
+
+    ghost invariant = { λ s. Reaches front s.ends.items (length s.lits.items) (length s.ants.items) };
+}
+
+/// Where the step at place `i` begins.
+fn start(ends: &[Ends], i: usize) -> Ends
+    requires { i < length ends.now }
+    ensures { result ≡ start_of front ends.now i }
+{
+    if i == 0 {
+        return Ends { lits: 0, ants: 0 };
+    }
+    ends[i - 1]
+}
+
+/// Where the step at place `i` ends.
+fn end(ends: &[Ends], i: usize) -> Ends
+    requires { i < length ends.now }
+    ensures { slice_get ends.now i ≡ Some result }
+{
+    ends[i]
+}
+
+/// A part of a buffer.
+fn part<T>(buffer: &[T], from: usize, to: usize) -> &[T]
+    requires order { from ≤ to }
+    requires within { to ≤ length buffer.now }
+    ensures { result.now ≡ slice_range buffer.now from to }
+{
+    &buffer[from..to]
+}
+
+impl FlatSteps {
+    fn new(alloc: Global) -> FlatSteps
+        ensures { result ≡ [] }
+    {
+        FlatSteps {
+            lits: Vec::new(alloc),
+            ants: Vec::new(alloc),
+            ends: Vec::new(alloc),
+        }
+    }
+
+    /// Adds a step at the end. An `Err` changes nothing.
+    fn push(&mut self, lits: &[Lit], ants: &[u64]) -> Result<(), AllocError>
+        ensures pushed { OnOk result (self.new ≡ self.old ++ record { lits = lits.now; ants = ants.now } ∷ []) }
+        ensures err { OnErr result (self.new ≡ self.old) }
+    {
+        self.ants.reserve(ants.len())?;
+        self.ends.reserve(1)?;
+        self.lits.extend_from_slice(lits)?;
+        match self.ants.extend_from_slice(ants) {
+            Ok(()) => {}
+            Err(_) => unreachable!(),
+        }
+        let ends = Ends {
+            lits: self.lits.len(),
+            ants: self.ants.len(),
+        };
+        match self.ends.push(ends) {
+            Ok(()) => Ok(()),
+            Err(_) => unreachable!(),
+        }
+    }
+
+    /// The literals of the step at place `i`.
+    fn lits(&self, i: usize) -> &[Lit]
+        requires { i < length self.now }
+        ensures { (b : Body) → slice_get self.now i ≡ Some b → result.now ≡ b.lits }
+    {
+        part(
+            &self.lits,
+            start(&self.ends, i).lits,
+            end(&self.ends, i).lits,
+        )
+    }
+
+    /// The antecedents of the step at place `i`.
+    fn ants(&self, i: usize) -> &[u64]
+        requires { i < length self.now }
+        ensures { (b : Body) → slice_get self.now i ≡ Some b → result.now ≡ b.ants }
+    {
+        part(
+            &self.ants,
+            start(&self.ends, i).ants,
+            end(&self.ends, i).ants,
+        )
+    }
+}
+
+impl Keeping for FlatSteps {
+    ghost keeps = { λ kept steps. kept ≡ map body steps };
+
+    fn new(alloc: Global) -> Self {
+        FlatSteps::new(alloc)
+    }
+
+    fn keep(&mut self, step: Step) -> Result<(), AllocError> {
+        self.push(&step.lits, &step.ants)
+    }
+}
+
+/// A trace that keeps the literals of all steps in one buffer, and their antecedents in another.
+#[derive(Drop)]
+pub struct FlatTrace {
+    header: Header,
+    sets: Vec<QuantSet>,
+    steps: FlatSteps,
+    result: Outcome,
+    index: StepIndex,
+}
+
+impl Model for FlatTrace {
+    ghost use Rattle.qrp.specs.Derivations.{Derivation};
+    ghost use Rattle.qrp.specs.Flat.{numbered};
+    ghost use Rattle.qrp.specs.Kept.{IsKept};
+
+    ghost Value = { Derivation };
+
+    ghost view = { λ t. record { header = t.header; sets = t.sets.items; steps = numbered t.index t.steps; result = t.result } };
+
+    ghost invariant = { λ t. IsKept (record { header = t.header; sets = t.sets.items; steps = numbered t.index t.steps; result = t.result }) t.index };
+}
+
+impl FlatTrace {
+    /// Its header, as written.
+    pub fn header(&self) -> Header
+        ensures value { result ≡ self.now.header }
+        ensures sound { IsWellFormed self.now }
+    {
+        self.header
+    }
+
+    /// Its quantifier sets, as written.
+    pub fn sets(&self) -> &[QuantSet]
+        ensures { result.now ≡ self.now.sets }
+    {
+        &self.sets
+    }
+
+    /// What it claims of its formula.
+    pub fn result(&self) -> Outcome
+        ensures { result ≡ self.now.result }
+    {
+        self.result
+    }
+}
+
+impl Steps for FlatTrace {
+    ghost steps = { λ t. t.steps };
+
+    fn len(&self) -> usize {
+        self.index.len()
+    }
+
+    fn number(&self, i: usize) -> u64 {
+        self.index.number(i)
+    }
+
+    fn lits(&self, i: usize) -> &[Lit] {
+        self.steps.lits(i)
+    }
+
+    fn ants(&self, i: usize) -> &[u64] {
+        self.steps.ants(i)
+    }
+
+    fn position(&self, number: u64) -> Option<usize> {
+        self.index.position(number)
+    }
+}
+
+/// Reads a trace (QRP) as `read_trace` does, and keeps it in flat buffers.
+pub fn read_flat<S: Source>(alloc: Global, source: &mut S) -> Result<FlatTrace, (TraceFault, u64)>
+    // The trace where the bytes spell one, else the fault that stands.
+    ensures reads { IfSome (S.remaining source.old) (λ bytes. Answers (tokens Qrp bytes) result) }
+    // The same by the function that reads.
+    ensures exact { Gives result (reads_bytes (S.remaining source.old)) }
+    ensures source { IfErr result (λ e. e.0 ≡ P1 → S.failures source.old < 2 ^ 64 - 1 → S.failures source.old < S.failures source.new) }
+    ensures kept { IfErr result (λ e. e.0 ≢ P1 → S.failures source.new ≡ S.failures source.old) }
+    ensures line_1 { IfErr result (λ e. e.0 ≡ P1 → e.1 ≡ 0) }
+    ensures line_9 { IfErr result (λ e. e.0 ≡ P9 → e.1 ≡ 0) }
+    ensures works { OnOk result (S.failures source.new ≡ S.failures source.old) }
+    // Where the source failed, the call says so.
+    ensures failed { S.failures source.old < S.failures source.new → result ≡ Err (P1, 0) }
+{
+    let parts = read_parts::<FlatSteps, S>(alloc, source)?;
+    Ok(FlatTrace {
+        header: parts.header,
+        sets: parts.sets,
+        steps: parts.steps,
+        result: parts.result,
+        index: parts.index,
+    })
+}

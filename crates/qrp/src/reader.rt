@@ -1,0 +1,145 @@
+ghost use Rattle.std.specs.Prelude.{◌≡◌, ◌≢◌, ℕ, ◌<◌, ◌+◌, ◌-◌, ◌^◌, true, false, Some, Ok, Err, List, [], length, IfOk, OnOk, IfErr};
+ghost use Rattle.qbf_text.specs.Tokens.{tokens};
+ghost use Rattle.qbf_text.specs.declared.token.Comments.TheVariants.{Qrp};
+ghost use Rattle.qrp.specs.declared.fault.TraceFault.TheVariants.{P1, P9};
+ghost use Rattle.qrp.specs.Given.{left_at, items_left, is_last, stage_after, numbers_with, GivesNextItem, IsDone, IsOver, IsProper, IsInStage};
+ghost use Rattle.qrp.specs.Reading.{items};
+
+use crate::fault::TraceFault;
+use crate::index::StepIndex;
+use crate::item::{Item, Outcome};
+use crate::reading::{Fault, header_item, list_item};
+use qbf_text::{Comments, Scanner, Source};
+use std::alloc::Global;
+use std::marker::Model;
+
+/// How far a reader is. The result and a fault are given for good.
+#[derive(Clone, Copy)]
+enum Stage {
+    AtHeader,
+    AtLists,
+    HasResult(Outcome),
+    HasFault(TraceFault, u64),
+}
+
+/// How far a reader is behind an answer.
+fn stage_after(answer: &Result<Item, Fault>) -> Stage
+    ensures { result ≡ stage_after answer.now }
+{
+    match answer {
+        Ok(Item::Result(outcome)) => Stage::HasResult(*outcome),
+        Ok(_) => Stage::AtLists,
+        Err((fault, line)) => Stage::HasFault(*fault, *line),
+    }
+}
+
+/// The answer of a reader that is so far.
+fn item_at<S: Source>(
+    stage: Stage,
+    alloc: Global,
+    scanner: &mut Scanner,
+    index: &mut StepIndex,
+    source: &mut S,
+) -> Result<Item, Fault>
+    requires kept { IsInStage stage (record { scanner = scanner.old; numbers = index.old; stage = stage }) }
+    ensures gives { GivesNextItem (left_at stage (record { scanner = scanner.old; numbers = index.old; stage = stage }) (S.remaining source.old))
+        (left_at (stage_after result) (record { scanner = scanner.new; numbers = index.new; stage = stage_after result }) (S.remaining source.new)) result }
+    ensures kept { IsInStage (stage_after result) (record { scanner = scanner.new; numbers = index.new; stage = stage_after result }) }
+    ensures done { IsOver stage → (scanner.new ≡ scanner.old) × (index.new ≡ index.old) × (source.new ≡ source.old) }
+    ensures stays { IsOver stage → stage_after result ≡ stage }
+    ensures less { is_last result ≡ false →
+        length scanner.new.pending + S.bound source.new < length scanner.old.pending + S.bound source.old }
+    ensures proper { IfOk result (λ i. IsProper index.old i) }
+    ensures numbers { index.new ≡ numbers_with index.old result }
+    ensures source { ¬ IsOver stage → IfErr result (λ e. e.0 ≡ P1 → S.failures source.old < 2 ^ 64 - 1 → S.failures source.old < S.failures source.new) }
+    ensures fault { IfErr result (λ e. e.0 ≢ P1 → S.failures source.new ≡ S.failures source.old) }
+    ensures line_1 { IfErr result (λ e. e.0 ≡ P1 → e.1 ≡ 0) }
+    ensures line_9 { IfErr result (λ e. e.0 ≡ P9 → e.1 ≡ 0) }
+    ensures works { OnOk result (S.failures source.new ≡ S.failures source.old) }
+{
+    match stage {
+        Stage::AtHeader => header_item(scanner, source),
+        Stage::AtLists => list_item(alloc, scanner, index, source),
+        Stage::HasResult(outcome) => Ok(Item::Result(outcome)),
+        Stage::HasFault(fault, line) => Err((fault, line)),
+    }
+}
+
+/// Reads a trace (QRP) item by item.
+#[derive(Drop)]
+pub struct TraceReader {
+    alloc: Global,
+    scanner: Scanner,
+    index: StepIndex,
+    stage: Stage,
+}
+
+impl Model for TraceReader {
+    ghost use Rattle.qrp.specs.Given.{Position, IsInStage};
+
+    ghost Value = { Position };
+
+    ghost view = { λ r. record { scanner = r.scanner; numbers = r.index; stage = r.stage } };
+
+    ghost invariant = { λ r. IsInStage r.stage (record { scanner = r.scanner; numbers = r.index; stage = r.stage }) };
+}
+
+impl TraceReader {
+    /// A reader at the beginning of a trace. It takes no memory.
+    #[tactic(auto, unfolding(crate::specs::Given::items_left))]
+    pub fn new(alloc: Global) -> TraceReader
+        ensures left { (bytes : List ℕ) → items_left result (Some bytes) ≡ Some (items (tokens Qrp bytes)) }
+        ensures numbers { result.numbers ≡ [] }
+        ensures fresh { ¬ IsDone result }
+    {
+        TraceReader {
+            alloc,
+            scanner: Scanner::new(Comments::Qrp),
+            index: StepIndex::new(alloc),
+            stage: Stage::AtHeader,
+        }
+    }
+
+    /// The next item: the header, each set, each step and the result, each when it is complete. Each call is lent the
+    /// same source. The fault comes with its line, and P1 (the source failed) and P9 (want of memory) with 0. After the
+    /// result each call gives it again, after a fault that fault, and then nothing is pulled.
+    pub fn next_item<S: Source>(&mut self, source: &mut S) -> Result<Item, (TraceFault, u64)>
+        // What was left to give is the answer, followed by what is left now.
+        ensures gives { GivesNextItem (items_left self.old (S.remaining source.old)) (items_left self.new (S.remaining source.new)) result }
+        // The result and a fault are given for good, and nothing is pulled then.
+        ensures last { is_last result ≡ true → IsDone self.new }
+        ensures more { is_last result ≡ false → ¬ IsDone self.new }
+        ensures done { IsDone self.old → (self.new ≡ self.old) × (source.new ≡ source.old) }
+        ensures stays { IsDone self.old → is_last result ≡ true }
+        // With each other item less can still come.
+        ensures less { is_last result ≡ false →
+            length self.new.scanner.pending + S.bound source.new < length self.old.scanner.pending + S.bound source.old }
+        ensures proper { IfOk result (λ i. IsProper self.old.numbers i) }
+        ensures numbers { self.new.numbers ≡ numbers_with self.old.numbers result }
+        // P1 is first given in a call in which the source failed.
+        ensures source { ¬ IsDone self.old → IfErr result (λ e. e.0 ≡ P1 → S.failures source.old < 2 ^ 64 - 1 → S.failures source.old < S.failures source.new) }
+        ensures kept { IfErr result (λ e. e.0 ≢ P1 → S.failures source.new ≡ S.failures source.old) }
+        ensures line_1 { IfErr result (λ e. e.0 ≡ P1 → e.1 ≡ 0) }
+        ensures line_9 { IfErr result (λ e. e.0 ≡ P9 → e.1 ≡ 0) }
+        ensures works { OnOk result (S.failures source.new ≡ S.failures source.old) }
+        // Where the source failed, the call says so.
+        ensures failed { S.failures source.old < S.failures source.new → result ≡ Err (P1, 0) }
+    {
+        let answer = item_at(
+            self.stage,
+            self.alloc,
+            &mut self.scanner,
+            &mut self.index,
+            source,
+        );
+        self.stage = stage_after(&answer);
+        answer
+    }
+
+    /// The numbers of the steps that were given, in their order.
+    pub fn into_index(self) -> StepIndex
+        ensures { result ≡ self.numbers }
+    {
+        self.index
+    }
+}

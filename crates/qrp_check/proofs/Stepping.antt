@@ -1,0 +1,238 @@
+-- One step of the core: the sets of its antecedents, and its conditions.
+use Rattle.std.proofs.Common.{◌≡◌, ℕ, zero, suc, ◌<◌, ◌≤◌, ◌+◌, List, [], ◌∷◌, ◌⊎◌, Option, Some, None, inl, inr, refl, sym, ap, subst, ◌∙◌, arith, length, get_or, take}
+use Rattle.std.specs.Prelude.{slice_get}
+use Rattle.std.specs.List.{AllByRecursion}
+use Rattle.std.proofs.lemmas.Option.{slice_get_read, slice_get_within}
+use Rattle.qbf_core.specs.Literal.{Literal, positive, negative}
+use Rattle.qbf_core.specs.Lists.{◌∈◌}
+use Rattle.qbf_core.specs.Blocks.{Block, AreBound, IsBound}
+use Rattle.qbf_core.specs.Qbf.{Qbf}
+use Rattle.qbf_core.specs.Rules.{Side, IsClean, IsTautology}
+use Rattle.qbf_core.specs.Sets.{HasMembersOf}
+use Rattle.qbf_core.proofs.Bound.{in_all, bound_each}
+use Rattle.qrp.specs.Inferences.{Inference, IsAt, HasFewAntecedents}
+use Rattle.qrp_check.specs.declared.fault.RuleFault.{RuleFault}
+use Rattle.qrp_check.specs.declared.fault.RuleFault.TheVariants.{S1, S2, S3}
+use Rattle.qrp_check.specs.Conditions.{Condition, AllHold, IsFirstFailure, IsAnswer, IsNumberOf, lits_of, reduct_conditions, resolvent_conditions, initial_condition, antecedent_conditions, step_conditions, StepFollows, IsStepFault}
+use Rattle.qrp_check.specs.Core.{IsInCore, Needs, next}
+use Rattle.qrp_check.specs.Kept.{IsSetOf, AreKept, later_conditions}
+use Rattle.qrp_check.proofs.Marking.{core_within}
+use Rattle.qrp_check.proofs.StepFaults.{in_take, named}
+use Rattle.qrp_check.proofs.Places.{at_place, one_at}
+use Rattle.qrp_check.proofs.Same.{SameConditions, same_answer, same_self, reduct_same, resolvent_same, initial_same}
+
+-- ---- earlier steps
+
+in_taken : (steps : List Inference) (place j : ℕ) (s : Inference) → j < place → IsAt steps j s → s ∈ take place steps
+in_taken [] place j s less here = cc here
+in_taken (t ∷ steps) zero j s less here = absurd (omega (arith, less))
+in_taken (t ∷ steps) (suc place) zero s less here = inl (let e : Some t ≡ Some s = here in cc e)
+in_taken (t ∷ steps) (suc place) (suc j) s less here = inr (in_taken steps place j s (omega (arith, less)) here)
+
+-- the answer of a look-up by number
+abbrev pub IsOnly : List Inference → ℕ → Option ℕ → Type 0
+IsOnly steps number answer = (i : ℕ) (step : Inference) → IsAt steps i step → step.number ≡ number → answer ≡ Some i
+
+pub not_found : (steps : List Inference) (place number : ℕ) (answer : Option ℕ) → IsOnly steps number answer → answer ≡ None
+    → IsNumberOf (take place steps) number → ⊥
+not_found steps place number answer only none (s, h, is) =
+    let w = in_take steps place s h in
+    let e : Some w.0 ≡ None = sym (only w.0 s w.2 is) ∙ none in
+    cc e
+
+pub found_late : (steps : List Inference) (place number index : ℕ) (answer : Option ℕ) → IsOnly steps number answer → answer ≡ Some index → place ≤ index
+    → IsNumberOf (take place steps) number → ⊥
+found_late steps place number index answer only found late (s, h, is) =
+    let w = in_take steps place s h in
+    let e : Some w.0 ≡ Some index = sym (only w.0 s w.2 is) ∙ found in
+    let same : w.0 ≡ index = cc e in
+    let less : w.0 < place = w.1 in
+    omega (arith, same, less, late)
+
+pub kept_at : (kept : List (Option (List Literal))) (i : ℕ) (x : Option (List Literal)) → i < length kept → x ≡ get_or kept i x → slice_get kept i ≡ Some x
+kept_at kept i x less is = slice_get_read _ (length kept) i x refl less is
+
+-- the same, of a value that was read and then looked at
+pub kept_is : (kept : List (Option (List Literal))) (i : ℕ) (read x : Option (List Literal)) → i < length kept → read ≡ get_or kept i read → read ≡ x
+    → slice_get kept i ≡ Some x
+kept_is kept i read x less is same = kept_at kept i read less is ∙ ap (λ (y : Option (List Literal)). Some y) same
+
+needed : (steps : List Inference) (place index number : ℕ) → IsInCore steps place
+    → ((step : Inference) → IsAt steps place step → number ∈ step.ants) → index < place
+    → (below : Inference) → IsAt steps index below → below.number ≡ number → IsInCore steps index
+needed steps place index number core ants less below here is =
+    let above = at_place steps place (core_within steps place core) in
+    next core (record {
+      before = less;
+      above = above.0;
+      at_above = above.1;
+      below = below;
+      at_below = here;
+      named = subst (λ (n : ℕ). n ∈ above.0.ants) (sym is) (ants above.0 above.1);
+    })
+
+pub never_missing : (blocks : List Block) (steps : List Inference) (kept : List (Option (List Literal))) (place index number : ℕ)
+    → AreKept blocks steps place kept → IsInCore steps place → ((step : Inference) → IsAt steps place step → number ∈ step.ants)
+    → index < place → (below : Inference) × IsAt steps index below × (below.number ≡ number) → slice_get kept index ≡ Some None → ⊥
+never_missing blocks steps kept place index number are core ants less (below, here, is) none =
+    let w = are.full index less (needed steps place index number core ants less below here is) in
+    let e : Some (Some w.0) ≡ Some None = sym w.1 ∙ none in
+    let f : Some w.0 ≡ None = cc e in
+    cc f
+
+pub set_found : (blocks : List Block) (steps : List Inference) (kept : List (Option (List Literal))) (place index number : ℕ) (answer : Option ℕ) (set : List Literal)
+    → AreKept blocks steps place kept → IsOnly steps number answer → answer ≡ Some index
+    → index < place → (below : Inference) × IsAt steps index below × (below.number ≡ number) → slice_get kept index ≡ Some (Some set)
+    → IsNumberOf (take place steps) number × IsSetOf blocks set (lits_of (take place steps) number)
+set_found blocks steps kept place index number answer set are only found less (below, here, is) has =
+    let own : IsNumberOf (take place steps) number = (below, in_taken steps place index below less here, is) in
+    let s = named (take place steps) number own in
+    let w = in_take steps place s.0 s.1 in
+    let e : Some w.0 ≡ Some index = sym (only w.0 s.0 w.2 s.2) ∙ found in
+    let same : w.0 ≡ index = cc e in
+    let at : IsAt steps index s.0 = subst (λ (k : ℕ). IsAt steps k s.0) same w.2 in
+    (own, subst (λ (lits : List Literal). IsSetOf blocks set lits) s.3 (are.sets index set s.0 has at))
+
+-- ---- the conditions of a step
+
+pub answer_after : (name : RuleFault) (holds : Type 0) (conditions : List (Condition RuleFault)) (answer : Option RuleFault) → holds
+    → IsAnswer conditions answer → IsAnswer ((name, holds) ∷ conditions) answer
+answer_after name holds conditions None h all = (h, all)
+answer_after name holds conditions (Some fault) h first = inr (h, first)
+
+pub one_follows : (side : Side) (blocks : List Block) (before : List Inference) (number : ℕ) (from set : List Literal) (answer : Option RuleFault)
+    → IsNumberOf before number × IsSetOf blocks from (lits_of before number) → IsAnswer (reduct_conditions side blocks from set) answer
+    → IsAnswer ((S3, IsNumberOf before number) ∷ reduct_conditions side blocks (lits_of before number) set) answer
+one_follows side blocks before number from set answer (is, s) a =
+    answer_after S3 (IsNumberOf before number) (reduct_conditions side blocks (lits_of before number) set) answer is
+        (same_answer (reduct_conditions side blocks from set) (reduct_conditions side blocks (lits_of before number) set) answer (reduct_same side blocks from (lits_of before number) set set s.members (same_self set)) a)
+
+pub two_follow : (side : Side) (blocks : List Block) (before : List Inference) (m n : ℕ) (a b set : List Literal) (answer : Option RuleFault)
+    → IsNumberOf before m × IsSetOf blocks a (lits_of before m) → IsNumberOf before n × IsSetOf blocks b (lits_of before n)
+    → IsAnswer (resolvent_conditions side blocks a b set) answer
+    → IsAnswer ((S3, IsNumberOf before m × IsNumberOf before n) ∷ resolvent_conditions side blocks (lits_of before m) (lits_of before n) set) answer
+two_follow side blocks before m n a b set answer (is_m, s) (is_n, t) w =
+    answer_after S3 (IsNumberOf before m × IsNumberOf before n) (resolvent_conditions side blocks (lits_of before m) (lits_of before n) set) answer (is_m, is_n)
+        (same_answer (resolvent_conditions side blocks a b set) (resolvent_conditions side blocks (lits_of before m) (lits_of before n) set) answer (resolvent_same side blocks a (lits_of before m) b (lits_of before n) set set s.members t.members (same_self set)) w)
+
+-- from a set to the literals of the step
+abbrev named_all : List Inference → List ℕ → Type 0
+named_all before ants = (n : ℕ) → n ∈ ants → IsNumberOf before n
+
+pub no_antecedent : (side : Side) (f : Qbf) (before : List Inference) (step : Inference) (set : List Literal) (answer : Option RuleFault)
+    → step.ants ≡ [] → IsSetOf f.blocks set step.lits → IsAnswer (initial_condition side f set ∷ []) answer → IsAnswer (later_conditions side f before step) answer
+no_antecedent side f before step set answer none s a =
+    rw none (answer_after S3 (named_all before []) (initial_condition side f step.lits ∷ []) answer (λ n h. absurd h)
+        (same_answer (initial_condition side f set ∷ []) (initial_condition side f step.lits ∷ []) answer (initial_same side f set step.lits s.members) a))
+
+pub one_antecedent : (side : Side) (f : Qbf) (before : List Inference) (step : Inference) (set : List Literal) (number : ℕ) (answer : Option RuleFault)
+    → step.ants ≡ number ∷ [] → IsSetOf f.blocks set step.lits
+    → IsAnswer ((S3, IsNumberOf before number) ∷ reduct_conditions side f.blocks (lits_of before number) set) answer
+    → IsAnswer (later_conditions side f before step) answer
+one_antecedent side f before step set number answer one s a =
+    rw one (same_answer ((S3, IsNumberOf before number) ∷ reduct_conditions side f.blocks (lits_of before number) set)
+        ((S3, named_all before (number ∷ [])) ∷ reduct_conditions side f.blocks (lits_of before number) step.lits) answer
+        (refl,
+         (λ is n h. elim h [ inl e ↦ subst (IsNumberOf before) (sym e) is | inr k ↦ absurd k ]),
+         (λ all. all number (inl refl)),
+         reduct_same side f.blocks (lits_of before number) (lits_of before number) set step.lits (same_self (lits_of before number)) s.members)
+        a)
+
+pub two_antecedents : (side : Side) (f : Qbf) (before : List Inference) (step : Inference) (set : List Literal) (m n : ℕ) (answer : Option RuleFault)
+    → step.ants ≡ m ∷ n ∷ [] → IsSetOf f.blocks set step.lits
+    → IsAnswer ((S3, IsNumberOf before m × IsNumberOf before n) ∷ resolvent_conditions side f.blocks (lits_of before m) (lits_of before n) set) answer
+    → IsAnswer (later_conditions side f before step) answer
+two_antecedents side f before step set m n answer two s a =
+    rw two (same_answer ((S3, IsNumberOf before m × IsNumberOf before n) ∷ resolvent_conditions side f.blocks (lits_of before m) (lits_of before n) set)
+        ((S3, named_all before (m ∷ n ∷ [])) ∷ resolvent_conditions side f.blocks (lits_of before m) (lits_of before n) step.lits) answer
+        (refl,
+         (λ is x h. elim h [
+           | inl e ↦ subst (IsNumberOf before) (sym e) is.0
+           | inr k ↦ elim k [ inl e ↦ subst (IsNumberOf before) (sym e) is.1 | inr g ↦ absurd g ]
+         ]),
+         (λ all. (all m (inl refl), all n (inr (inl refl)))),
+         resolvent_same side f.blocks (lits_of before m) (lits_of before m) (lits_of before n) (lits_of before n) set step.lits
+             (same_self (lits_of before m)) (same_self (lits_of before n)) s.members)
+        a)
+
+-- ---- lists of antecedents
+
+pub few_at : (steps : List Inference) (i : ℕ) (s : Inference) → AllByRecursion HasFewAntecedents steps → IsAt steps i s → length s.ants ≤ 2
+few_at [] i s all here = cc here
+few_at (t ∷ steps) zero s all here = let e : Some t ≡ Some s = here in let same : t ≡ s = cc e in subst HasFewAntecedents same all.0
+few_at (t ∷ steps) (suc i) s all here = few_at steps i s all.1 here
+
+pub none_listed : (xs : List ℕ) → length xs < 1 → xs ≡ []
+none_listed [] less = refl
+none_listed (x ∷ xs) less = absurd (omega (arith, less))
+
+pub one_listed : (xs : List ℕ) (d : ℕ) → 1 ≤ length xs → length xs < 2 → xs ≡ get_or xs 0 d ∷ []
+one_listed [] d some less = absurd (omega (arith, some))
+one_listed (x ∷ []) d some less = refl
+one_listed (x ∷ y ∷ xs) d some less = absurd (omega (arith, less))
+
+pub two_listed : (xs : List ℕ) (d e : ℕ) → 2 ≤ length xs → length xs < 3 → xs ≡ get_or xs 0 d ∷ get_or xs 1 e ∷ []
+two_listed [] d e some less = absurd (omega (arith, some))
+two_listed (x ∷ []) d e some less = absurd (omega (arith, some))
+two_listed (x ∷ y ∷ []) d e some less = refl
+two_listed (x ∷ y ∷ z ∷ xs) d e some less = absurd (omega (arith, less))
+
+-- ---- a step and its set
+
+pub set_bound : (blocks : List Block) (set lits : List Literal) → HasMembersOf set lits → AreBound blocks lits → AreBound blocks set
+set_bound blocks set lits same bound =
+    in_all (λ (l : Literal). IsBound blocks l.var) set (λ l h. bound_each blocks lits bound l (same.0 l h))
+
+pub not_clean : (side : Side) (f : Qbf) (steps : List Inference) (place : ℕ) (lits : List Literal) → IsInCore steps place
+    → ((step : Inference) → IsAt steps place step → lits ≡ step.lits) → IsTautology lits → IsStepFault side f steps place S1
+not_clean side f steps place lits core same (v, p, n) =
+    let s = at_place steps place (core_within steps place core) in
+    let e : lits ≡ s.0.lits = same s.0 s.1 in
+    record {
+      step = s.0;
+      here = s.1;
+      first = inl ((λ clean. clean (positive v) (subst (λ (ls : List Literal). positive v ∈ ls) e p) (subst (λ (ls : List Literal). negative v ∈ ls) e n)), refl);
+    }
+
+pub not_all_bound : (side : Side) (f : Qbf) (steps : List Inference) (place : ℕ) (lits : List Literal) → IsInCore steps place
+    → ((step : Inference) → IsAt steps place step → lits ≡ step.lits) → IsClean lits
+    → (l : Literal) × (l ∈ lits) × (IsBound f.blocks l.var → ⊥) → IsStepFault side f steps place S2
+not_all_bound side f steps place lits core same clean (l, h, free) =
+    let s = at_place steps place (core_within steps place core) in
+    let e : lits ≡ s.0.lits = same s.0 s.1 in
+    record {
+      step = s.0;
+      here = s.1;
+      first = inr (subst IsClean e clean, inl ((λ bound. free (bound_each f.blocks s.0.lits bound l (subst (λ (ls : List Literal). l ∈ ls) e h))), refl));
+    }
+
+pub follows : (side : Side) (f : Qbf) (steps : List Inference) (place : ℕ) (lits : List Literal) → IsInCore steps place
+    → ((step : Inference) → IsAt steps place step → lits ≡ step.lits) → IsClean lits → AreBound f.blocks lits
+    → ((step : Inference) → IsAt steps place step → AllHold (later_conditions side f (take place steps) step))
+    → StepFollows side f steps place
+follows side f steps place lits core same clean bound later =
+    let s = at_place steps place (core_within steps place core) in
+    let e : lits ≡ s.0.lits = same s.0 s.1 in
+    record { step = s.0; here = s.1; all = (subst IsClean e clean, (subst (AreBound f.blocks) e bound, later s.0 s.1)) }
+
+pub follows_not : (side : Side) (f : Qbf) (steps : List Inference) (place : ℕ) (lits : List Literal) (fault : RuleFault) → IsInCore steps place
+    → ((step : Inference) → IsAt steps place step → lits ≡ step.lits) → IsClean lits → AreBound f.blocks lits
+    → ((step : Inference) → IsAt steps place step → IsFirstFailure (later_conditions side f (take place steps) step) fault)
+    → IsStepFault side f steps place fault
+follows_not side f steps place lits fault core same clean bound later =
+    let s = at_place steps place (core_within steps place core) in
+    let e : lits ≡ s.0.lits = same s.0 s.1 in
+    record { step = s.0; here = s.1; first = inr (subst IsClean e clean, inr (subst (AreBound f.blocks) e bound, later s.0 s.1)) }
+
+pub set_of : (blocks : List Block) (steps : List Inference) (place : ℕ) (set lits : List Literal)
+    → ((step : Inference) → IsAt steps place step → lits ≡ step.lits) → HasMembersOf set lits → AreBound blocks lits
+    → (step : Inference) → IsAt steps place step → IsSetOf blocks set step.lits
+set_of blocks steps place set lits same members bound step here =
+    subst (IsSetOf blocks set) (same step here) (record { members = members; bound = set_bound blocks set lits members bound })
+
+pub answer_none : (conditions : List (Condition RuleFault)) (answer : Option RuleFault) → answer ≡ None → IsAnswer conditions answer → AllHold conditions
+answer_none conditions answer none a = subst (IsAnswer conditions) none a
+
+pub answer_some : (conditions : List (Condition RuleFault)) (answer : Option RuleFault) (fault : RuleFault) → answer ≡ Some fault → IsAnswer conditions answer
+    → IsFirstFailure conditions fault
+answer_some conditions answer fault some a = subst (IsAnswer conditions) some a

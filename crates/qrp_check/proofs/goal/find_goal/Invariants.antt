@@ -1,0 +1,9 @@
+use Rattle.std.proofs.Common.{◌≡◌, ℕ, ◌<◌, ◌≤◌, [], length}
+use Rattle.qrp.specs.Inferences.{Inference, IsAt}
+use Rattle.qrp_check.proofs.goal.find_goal.Given as goal
+
+abbrev pub invariant-loop-i : goal.invariant-loop-i
+invariant-loop-i g l = record {
+  within : l.i ≤ length (g.T.Steps.steps l.trace);
+  later : (j : ℕ) (step : Inference) → IsAt (g.T.Steps.steps l.trace) j step → step.lits ≡ [] → j < l.i;
+}

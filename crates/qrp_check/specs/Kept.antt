@@ -1,0 +1,48 @@
+-- The sets of the core steps that were looked at.
+use Rattle.std.specs.Prelude.{◌≡◌, ℕ, ◌<◌, List, ◌∷◌, Option, Some, slice_get, length}
+use Rattle.qbf_core.specs.Literal.{Literal}
+use Rattle.qbf_core.specs.Lists.{◌∈◌}
+use Rattle.qbf_core.specs.Blocks.{Block, AreBound}
+use Rattle.qbf_core.specs.Qbf.{Qbf}
+use Rattle.qbf_core.specs.Rules.{Side}
+use Rattle.qbf_core.specs.Sets.{HasMembersOf}
+use Rattle.qrp.specs.Inferences.{Inference, IsAt}
+use Rattle.qrp_check.specs.Conditions.{Condition, IsNumberOf, antecedent_conditions}
+use Rattle.qrp_check.specs.Core.{IsInCore}
+use Rattle.qrp_check.specs.Proof.{IsFirstFaultyStep}
+use Rattle.qrp_check.specs.declared.fault.RuleFault.{RuleFault}
+use Rattle.qrp_check.specs.declared.fault.RuleFault.TheVariants.{S3}
+use Rattle.qrp_check.specs.declared.fault.CheckFault.{CheckFault}
+use Rattle.qrp_check.specs.declared.fault.CheckFault.TheVariants.{C1, C2, C3, C4, C5, C6}
+use Rattle.qrp_check.specs.declared.step.StepFault.{StepFault}
+use Rattle.qrp_check.specs.declared.step.StepFault.TheVariants.{Rule, Memory}
+
+-- a set over the prefix that has the literals of a step
+pub record IsSetOf (blocks : List Block) (set lits : List Literal) : Type 0 where
+  pub members : HasMembersOf set lits
+  pub bound : AreBound blocks set
+
+-- each step before place i has an entry, those of the core with their sets
+pub record AreKept (blocks : List Block) (steps : List Inference) (i : ℕ) (kept : List (Option (List Literal))) : Type 0 where
+  pub count : length kept ≡ i
+  pub full : (j : ℕ) → j < i → IsInCore steps j → (set : List Literal) × (slice_get kept j ≡ Some (Some set))
+  pub sets : (j : ℕ) (set : List Literal) (step : Inference) → slice_get kept j ≡ Some (Some set) → IsAt steps j step → IsSetOf blocks set step.lits
+
+-- the fault is one of the rules, and this holds of it
+abbrev pub IfRule : StepFault → (RuleFault → Type 0) → Type 0
+IfRule (Rule fault) holds = holds fault
+IfRule Memory holds = Unit {0}
+
+-- the conditions of a step whose literals are a set over the prefix
+abbrev pub later_conditions : Side → Qbf → List Inference → Inference → List (Condition RuleFault)
+later_conditions side f before step =
+    (S3, ((n : ℕ) → n ∈ step.ants → IsNumberOf before n)) ∷ antecedent_conditions side f before step.ants step.lits
+
+-- what is refused of a core: its first step that does not follow, or nothing for want of memory
+abbrev pub IsCoreFault : Side → Qbf → List Inference → CheckFault → Type 0
+IsCoreFault side f steps (C1 v) = ⊥
+IsCoreFault side f steps (C2 v) = ⊥
+IsCoreFault side f steps (C3 v) = ⊥
+IsCoreFault side f steps C4 = ⊥
+IsCoreFault side f steps C5 = Unit {0}
+IsCoreFault side f steps (C6 number fault) = IsFirstFaultyStep side f steps number fault

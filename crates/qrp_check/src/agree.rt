@@ -1,0 +1,71 @@
+ghost use Rattle.std.specs.Prelude.{[], ◌∷◌, IfOk, IfErr, IfNone, IfSome};
+ghost use Rattle.qbf_core.specs.Blocks.{pairs_of_block};
+ghost use Rattle.qrp_check.specs.Passed.{FailsIn, Passes};
+ghost use Rattle.qrp_check.specs.Sets.{IsSetFault, SetsAgree};
+
+use crate::fault::CheckFault;
+use crate::reduct::is_bound_by;
+use qbf_core::{Prefix, Quantifier, Var};
+use qrp::QuantSet;
+
+/// The block of a set variable, where it agrees with the prefix and is no smaller than those named before.
+fn next_block(
+    prefix: &Prefix,
+    quantifier: Quantifier,
+    var: Var,
+    highest: usize,
+) -> Result<usize, CheckFault>
+    ensures ok { IfOk result (λ n. Passes prefix.now highest ((quantifier, var) ∷ []) n) }
+    ensures err { IfErr result (λ fault. FailsIn prefix.now highest ((quantifier, var) ∷ []) fault) }
+{
+    if !prefix.is_bound(var) {
+        return Err(CheckFault::C1(var));
+    }
+    if !is_bound_by(prefix, quantifier, var) {
+        return Err(CheckFault::C2(var));
+    }
+    match prefix.block(var) {
+        Some(block) => {
+            if block < highest {
+                return Err(CheckFault::C3(var));
+            }
+            Ok(block)
+        }
+        // The variable is bound, so this is not met.
+        None => Err(CheckFault::C1(var)),
+    }
+}
+
+/// The greatest block after one set.
+fn set_block(prefix: &Prefix, set: &QuantSet, highest: usize) -> Result<usize, CheckFault>
+    ensures ok { IfOk result (λ n. Passes prefix.now highest (pairs_of_block set.now) n) }
+    ensures err { IfErr result (λ fault. FailsIn prefix.now highest (pairs_of_block set.now) fault) }
+{
+    let mut reached = highest;
+    for var in &set.vars {
+        match next_block(prefix, set.quantifier, *var, reached) {
+            Ok(block) => reached = block,
+            Err(fault) => return Err(fault),
+        }
+    }
+    Ok(reached)
+}
+
+/// Why the sets of a trace do not agree with a prefix, or `None` where they do.
+///
+/// They agree if each variable that they name is bound by the prefix, with that quantifier, and its block is no
+/// smaller than that of any variable named before it. The answer speaks of the first variable in file order that
+/// fails, and is the first of `C1`, `C2` and `C3` that fits it.
+pub(crate) fn sets_fault(prefix: &Prefix, sets: &[QuantSet]) -> Option<CheckFault>
+    ensures none { IfNone result (SetsAgree prefix.now sets.now) }
+    ensures some { IfSome result (λ fault. IsSetFault prefix.now sets.now fault) }
+{
+    let mut highest = 0;
+    for set in sets {
+        match set_block(prefix, set, highest) {
+            Ok(block) => highest = block,
+            Err(fault) => return Some(fault),
+        }
+    }
+    None
+}

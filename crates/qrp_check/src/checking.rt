@@ -1,0 +1,134 @@
+ghost use Rattle.std.specs.Prelude.{◌≡◌, ◌≢◌, ◌↔◌, ℕ, ◌++◌, ◌∷◌, [], Some, None, IsTrue, OnOk, IfOk, IfErr};
+ghost use Rattle.qbf_core.specs.Truth.{IsTrueFormula};
+ghost use Rattle.qrp_check.specs.declared.fault.CheckFault.TheVariants.{C5};
+ghost use Rattle.qrp_check.specs.Core.{IsGoal, ListsCore};
+ghost use Rattle.qrp_check.specs.Kept.{IsCoreFault};
+ghost use Rattle.qrp_check.specs.Proof.{Derives, Proves, IsFirstFault};
+ghost use Rattle.qrp_check.specs.Verdict.{is_sat};
+
+use crate::agree::sets_fault;
+use crate::fault::CheckFault;
+use crate::goal::find_goal;
+use crate::marks::mark_core;
+use crate::side::{Clauses, Cubes, Side};
+use crate::step::{step_set, StepFault};
+use crate::verdict::{Rules, Verified};
+use qbf_core::{Formula, LitSet};
+use qrp::{Outcome, QuantSet, Steps};
+use std::alloc::Global;
+
+/// The steps of the core that followed, and the set of each.
+#[derive(Drop)]
+struct Followed {
+    /// Their places, in order.
+    core: Vec<usize>,
+    /// An entry for each step so far: the set of a step of the core.
+    kept: Vec<Option<LitSet>>,
+}
+
+impl Followed {
+    /// Goes past a step that the goal does not need.
+    fn skip(&mut self) -> Result<(), CheckFault>
+        ensures core { OnOk result (self.new.core.items ≡ self.old.core.items) }
+        ensures kept { OnOk result (self.new.kept.items ≡ self.old.kept.items ++ None ∷ []) }
+        ensures memory { IfErr result (λ e. e ≡ C5) }
+    {
+        match self.kept.push(None) {
+            Ok(()) => Ok(()),
+            Err(_) => Err(CheckFault::C5),
+        }
+    }
+
+    /// Keeps the set of the step at a place, which is the next of the core.
+    fn keep(&mut self, place: usize, set: LitSet) -> Result<(), CheckFault>
+        ensures core { OnOk result (self.new.core.items ≡ self.old.core.items ++ place ∷ []) }
+        ensures kept { OnOk result (self.new.kept.items ≡ self.old.kept.items ++ Some set ∷ []) }
+        ensures memory { IfErr result (λ e. e ≡ C5) }
+    {
+        if self.core.push(place).is_err() {
+            return Err(CheckFault::C5);
+        }
+        match self.kept.push(Some(set)) {
+            Ok(()) => Ok(()),
+            Err(_) => Err(CheckFault::C5),
+        }
+    }
+}
+
+/// The places of the core beside what they show, where each of its steps follows from those before it.
+fn check_core<S: Side, T: Steps>(
+    alloc: Global,
+    formula: &Formula,
+    trace: &T,
+    goal: usize,
+    truth: bool,
+    rules: Rules,
+) -> Result<Verified, CheckFault>
+    requires { IsGoal (T.steps trace.now) goal }
+    ensures derives { OnOk result (Derives S.side formula.now (T.steps trace.now)) }
+    ensures core { IfOk result (λ v. ListsCore (T.steps trace.now) v.core.items) }
+    ensures claim { IfOk result (λ v. v.truth ≡ truth) }
+    ensures refused { IfErr result (IsCoreFault S.side formula.now (T.steps trace.now)) }
+{
+    let Ok(marks) = mark_core(alloc, trace, goal) else {
+        return Err(CheckFault::C5);
+    };
+    let mut followed = Followed {
+        core: Vec::new(alloc),
+        kept: Vec::new(alloc),
+    };
+    for place in 0..trace.len() {
+        if !marks[place] {
+            followed.skip()?;
+            continue;
+        }
+        match step_set::<S, T>(alloc, formula, trace, place, &followed.kept, rules) {
+            Ok(set) => followed.keep(place, set)?,
+            Err(StepFault::Rule(fault)) => return Err(CheckFault::C6(trace.number(place), fault)),
+            Err(StepFault::Memory) => return Err(CheckFault::C5),
+        }
+    }
+    Ok(Verified {
+        truth,
+        core: followed.core,
+    })
+}
+
+/// Whether sets, steps and outcome of a trace prove the outcome of the formula.
+///
+/// They do if the sets agree with the prefix, there is a step without literals, and each step that the last such step
+/// needs follows from those before it: by Q-resolution for `Unsat` (Kleine Büning, Karpinski, Flögel 1995), by term
+/// resolution for `Sat` (Giunchiglia, Narizzano, Tacchella 2006). Then the formula has that truth.
+///
+/// # Errors
+/// The first of these, where the later ones are looked at only if the earlier ones do not hold: `C1`, `C2` or `C3` of
+/// the first set variable in file order that does not agree; `C4` if no step is without literals; `C6` with the first
+/// step of the core in file order that does not follow, and its first fault. `C5`, in place of any of these, if memory
+/// was refused.
+pub fn check<T: Steps>(
+    alloc: Global,
+    formula: &Formula,
+    trace: &T,
+    sets: &[QuantSet],
+    outcome: Outcome,
+    rules: Rules,
+) -> Result<Verified, CheckFault>
+    ensures proves { OnOk result (Proves formula.now sets.now (T.steps trace.now) outcome) }
+    ensures core { IfOk result (λ v. ListsCore (T.steps trace.now) v.core.items) }
+    ensures claim { IfOk result (λ v. v.truth ≡ is_sat outcome) }
+    ensures truth { IfOk result (λ v. IsTrue v.truth ↔ IsTrueFormula formula.now) }
+    ensures refused { IfErr result (λ e. e ≢ C5 → IsFirstFault formula.now sets.now (T.steps trace.now) outcome e) }
+{
+    // The bound comes with the fact that the formula is closed.
+    let _bound = formula.max_var();
+    if let Some(fault) = sets_fault(formula.prefix(), sets) {
+        return Err(fault);
+    }
+    let Some(goal) = find_goal(trace) else {
+        return Err(CheckFault::C4);
+    };
+    match outcome {
+        Outcome::Unsat => check_core::<Clauses, T>(alloc, formula, trace, goal, false, rules),
+        Outcome::Sat => check_core::<Cubes, T>(alloc, formula, trace, goal, true, rules),
+    }
+}

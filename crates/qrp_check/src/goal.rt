@@ -1,0 +1,17 @@
+ghost use Rattle.std.specs.Prelude.{◌≡◌, ℕ, IfSome, IfNone};
+ghost use Rattle.qrp_check.specs.Core.{IsGoal};
+
+use qrp::Steps;
+
+/// The place of the goal: the last step without literals.
+pub fn find_goal<T: Steps>(trace: &T) -> Option<usize>
+    ensures some { IfSome result (IsGoal (T.steps trace.now)) }
+    ensures none { IfNone result ((i : ℕ) → IsGoal (T.steps trace.now) i → ⊥) }
+{
+    for i in (0..trace.len()).rev() {
+        if trace.lits(i).is_empty() {
+            return Some(i);
+        }
+    }
+    None
+}

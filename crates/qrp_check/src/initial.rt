@@ -1,0 +1,107 @@
+ghost use Rattle.std.specs.Prelude.{◌↔◌, [], ◌∷◌, ◌⊎◌, IsTrue, IfOk};
+ghost use Rattle.qbf_core.specs.Literal.{Literal};
+ghost use Rattle.qbf_core.specs.Lists.{◌∈◌};
+ghost use Rattle.qbf_core.specs.Blocks.{AreBound};
+ghost use Rattle.qbf_core.specs.Rules.{Clauses, Cubes, IsClean, IsReduct, IsTautology};
+ghost use Rattle.qrp_check.specs.Conditions.{IsAnswer, initial_condition};
+
+use crate::fault::RuleFault;
+use crate::reduct::reduct_by;
+use crate::walks::seek;
+use qbf_core::{Formula, Lit, LitSet, Prefix, Quantifier, SetFault};
+use std::alloc::{AllocError, Global};
+
+/// Whether a clause as written is clean and has the set as a reduct.
+fn has_reduct(
+    alloc: Global,
+    prefix: &Prefix,
+    clause: &[Lit],
+    set: &LitSet,
+) -> Result<bool, AllocError>
+    requires { AreBound prefix.now clause.now }
+    ensures { IfOk result (λ t. IsTrue t ↔ (IsClean clause.now × IsReduct Clauses prefix.now clause.now set.now)) }
+{
+    match LitSet::from_slice(alloc, clause, prefix) {
+        Ok(from) => {
+            let fault = reduct_by(prefix, Quantifier::All, Quantifier::Exists, &from, set);
+            Ok(fault.is_none())
+        }
+        Err(SetFault::E1) => Ok(false),
+        // The clause is bound, so this is not met.
+        Err(SetFault::E2) => Ok(false),
+        Err(SetFault::E3) => Err(AllocError),
+    }
+}
+
+/// Why the set is no initial clause.
+pub(crate) fn initial_clause_fault(
+    alloc: Global,
+    formula: &Formula,
+    set: &LitSet,
+) -> Result<Option<RuleFault>, AllocError>
+    ensures { IfOk result (λ fault. IsAnswer (initial_condition Clauses formula.now set.now ∷ []) fault) }
+{
+    // Its contract says that the clauses are bound.
+    let _closed = formula.max_var();
+    for i in 0..formula.clauses() {
+        if has_reduct(alloc, formula.prefix(), formula.clause(i), set)? {
+            return Ok(None);
+        }
+    }
+    Ok(Some(RuleFault::S4))
+}
+
+/// Whether a clause as written has a literal of the set.
+fn shares(clause: &[Lit], set: &LitSet) -> bool
+    ensures { IsTrue result ↔ ((l : Literal) × (l ∈ clause.now) × (l ∈ set.now)) }
+{
+    for lit in clause {
+        if set.contains(*lit) {
+            return true;
+        }
+    }
+    false
+}
+
+/// Whether a clause as written has a literal.
+fn is_among(clause: &[Lit], lit: Lit) -> bool
+    ensures { IsTrue result ↔ lit ∈ clause.now }
+{
+    for other in clause {
+        if *other == lit {
+            return true;
+        }
+    }
+    false
+}
+
+/// Whether a clause as written holds a variable with both signs.
+fn is_tautology(clause: &[Lit]) -> bool
+    ensures { IsTrue result ↔ IsTautology clause.now }
+{
+    for lit in clause {
+        if is_among(clause, lit.negated()) {
+            return true;
+        }
+    }
+    false
+}
+
+/// Whether the set makes a clause true, or nothing can make it false.
+fn meets(set: &LitSet, clause: &[Lit]) -> bool
+    ensures { IsTrue result ↔ (IsTautology clause.now ⊎ ((l : Literal) × (l ∈ clause.now) × (l ∈ set.now))) }
+{
+    shares(clause, set) || is_tautology(clause)
+}
+
+/// Why the set is no initial cube.
+pub(crate) fn initial_cube_fault(formula: &Formula, set: &LitSet) -> Option<RuleFault>
+    ensures { IsAnswer (initial_condition Cubes formula.now set.now ∷ []) result }
+{
+    for i in 0..formula.clauses() {
+        if !meets(set, formula.clause(i)) {
+            return Some(RuleFault::S5);
+        }
+    }
+    None
+}

@@ -1,0 +1,140 @@
+ghost use Rattle.std.specs.Prelude.{◌≡◌, ◌↔◌, ◌⊎◌, IsTrue};
+ghost use Rattle.qbf_core.specs.Literal.{Literal};
+ghost use Rattle.qbf_core.specs.Lists.{◌∈◌, ◌⊆◌};
+ghost use Rattle.qbf_core.specs.Blocks.{AreBound, Binds};
+ghost use Rattle.qbf_core.specs.Rules.{deciding_quantifier, IsReducible, resolvent};
+ghost use Rattle.qbf_core.specs.Sets.{IsOrdered};
+ghost use Rattle.qrp_check.specs.Conditions.{IsAnswer, resolvent_conditions};
+ghost use Rattle.qrp_check.specs.Walks.{IsClashOf};
+
+use crate::fault::RuleFault;
+use crate::reduct::{inner, innermost, is_bound_by, leaves_reducible};
+use crate::side::Side;
+use crate::verdict::Rules;
+use crate::walks::seek;
+use qbf_core::{Lit, LitSet, Prefix, Var};
+
+/// The variables in which two sets clash.
+enum Clash {
+    Nothing,
+    One(Var),
+    More,
+}
+
+/// The variables in which two ordered lists clash.
+fn find_clash(a: &[Lit], b: &[Lit]) -> Clash
+    requires a { IsOrdered a.now }
+    requires b { IsOrdered b.now }
+    ensures { IsClashOf a.now b.now result }
+{
+    let mut rest = b;
+    let mut found: Option<Var> = None;
+    for lit in a {
+        let (others, opposite) = seek(rest, lit.negated());
+        rest = others;
+        if opposite {
+            match found {
+                Some(_) => return Clash::More,
+                None => found = Some(lit.var()),
+            }
+        }
+    }
+    match found {
+        Some(pivot) => Clash::One(pivot),
+        None => Clash::Nothing,
+    }
+}
+
+/// Whether a literal of the variable, in one of the antecedents or both, is in the resolvent.
+fn is_resolved(in_a: bool, in_b: bool, var: Var, pivot: Var) -> bool
+    ensures { IsTrue result ↔ ((IsTrue in_a ⊎ IsTrue in_b) × (var ≡ pivot → ⊥)) }
+{
+    (in_a || in_b) && var.number() != pivot.number()
+}
+
+/// Whether each literal of a step is in the resolvent.
+fn is_within(to: &[Lit], a: &[Lit], b: &[Lit], pivot: Var) -> bool
+    requires to { IsOrdered to.now }
+    requires a { IsOrdered a.now }
+    requires b { IsOrdered b.now }
+    ensures { IsTrue result ↔ to.now ⊆ resolvent a.now b.now pivot }
+{
+    let mut left = a;
+    let mut right = b;
+    for lit in to {
+        let (xs, in_a) = seek(left, *lit);
+        let (ys, in_b) = seek(right, *lit);
+        if !is_resolved(in_a, in_b, lit.var(), pivot) {
+            return false;
+        }
+        left = xs;
+        right = ys;
+    }
+    true
+}
+
+/// Whether each literal of the resolvent is in the step, or reducible in the resolvent.
+fn is_reduced<S: Side>(prefix: &Prefix, a: &[Lit], b: &[Lit], to: &[Lit], pivot: Var) -> bool
+    requires a { IsOrdered a.now }
+    requires b { IsOrdered b.now }
+    requires to { IsOrdered to.now }
+    ensures { IsTrue result ↔ ((l : Literal) → l ∈ resolvent a.now b.now pivot
+        → (l ∈ to.now) ⊎ IsReducible S.side prefix.now (resolvent a.now b.now pivot) l) }
+{
+    let reduced = S::REDUCED;
+    let deciding = S::DECIDING;
+    let spared = Some(pivot.number());
+    let block = inner(
+        innermost(prefix, deciding, spared, a),
+        innermost(prefix, deciding, spared, b),
+    );
+    leaves_reducible(prefix, reduced, block, spared, a, to)
+        && leaves_reducible(prefix, reduced, block, spared, b, to)
+}
+
+/// Whether a step may resolve on the variable.
+fn is_pivot<S: Side>(prefix: &Prefix, pivot: Var) -> bool
+    ensures { IsTrue result ↔ Binds prefix.now (deciding_quantifier S.side) pivot }
+{
+    is_bound_by(prefix, S::DECIDING, pivot)
+}
+
+/// Why a set does not follow from two others by resolution, or `None` where it does. The sets are over this prefix.
+///
+/// It follows if the two clash in exactly one variable, that variable has the deciding quantifier, and the set is a
+/// reduct of their resolvent: Q-resolution on clauses, and term resolution on cubes. The answers, of which the first
+/// that fits is given, are `S8`, no variable clashes; `S9`, more than one does; `S10`, the pivot has the other
+/// quantifier; `S11`, a literal of the set is not in the resolvent; `S12`, a literal of the resolvent is missing and
+/// not reducible in it. It takes no memory.
+pub fn resolvent_fault<S: Side>(
+    prefix: &Prefix,
+    a: &LitSet,
+    b: &LitSet,
+    to: &LitSet,
+    _rules: Rules,
+) -> Option<RuleFault>
+    requires a { AreBound prefix.now a.now }
+    requires b { AreBound prefix.now b.now }
+    requires to { AreBound prefix.now to.now }
+    ensures { IsAnswer (resolvent_conditions S.side prefix.now a.now b.now to.now) result }
+{
+    let left = a.as_slice();
+    let right = b.as_slice();
+    let step = to.as_slice();
+    match find_clash(left, right) {
+        Clash::Nothing => Some(RuleFault::S8),
+        Clash::More => Some(RuleFault::S9),
+        Clash::One(pivot) => {
+            if !is_pivot::<S>(prefix, pivot) {
+                return Some(RuleFault::S10);
+            }
+            if !is_within(step, left, right, pivot) {
+                return Some(RuleFault::S11);
+            }
+            if !is_reduced::<S>(prefix, left, right, step, pivot) {
+                return Some(RuleFault::S12);
+            }
+            None
+        }
+    }
+}

@@ -1,0 +1,167 @@
+ghost use Rattle.std.specs.Prelude.{◌≡◌, ℕ, ◌<◌, ◌∷◌, length, take, OnOk, IfOk, IfErr, IfSome, IfNone};
+ghost use Rattle.qbf_core.specs.Lists.{◌∈◌};
+ghost use Rattle.qbf_core.specs.Blocks.{AreBound};
+ghost use Rattle.qrp.specs.Inferences.{Inference, IsAt};
+ghost use Rattle.qrp_check.specs.declared.fault.RuleFault.TheVariants.{S3};
+ghost use Rattle.qrp_check.specs.Conditions.{IsAnswer, IsNumberOf, lits_of, reduct_conditions, resolvent_conditions, StepFollows, IsStepFault};
+ghost use Rattle.qrp_check.specs.Core.{IsInCore};
+ghost use Rattle.qrp_check.specs.Kept.{AreKept, IsSetOf, IfRule, later_conditions};
+
+use crate::fault::RuleFault;
+use crate::reduct::reduct_fault;
+use crate::resolvent::resolvent_fault;
+use crate::side::Side;
+use crate::verdict::Rules;
+use qbf_core::{Formula, LitSet, SetFault};
+use qrp::Steps;
+use std::alloc::{AllocError, Global};
+
+/// Why a step gives no set.
+pub enum StepFault {
+    /// It does not follow.
+    Rule(RuleFault),
+    /// Memory was refused.
+    Memory,
+}
+
+impl From<AllocError> for StepFault {
+    ghost use Rattle.std.specs.Prelude.{◌≡◌};
+    ghost use Rattle.qrp_check.specs.declared.step.StepFault.TheVariants.{Memory};
+
+    ghost from_gives = { λ _ e. e ≡ Memory };
+
+    fn from(_e: AllocError) -> StepFault {
+        StepFault::Memory
+    }
+}
+
+/// The set of the earlier step with this number, which the step of the core at a place names.
+fn earlier<'a, T: Steps>(
+    formula: &Formula,
+    trace: &T,
+    place: usize,
+    kept: &'a [Option<LitSet>],
+    number: u64,
+) -> Option<&'a LitSet>
+    requires core { IsInCore (T.steps trace.now) place }
+    requires named { (step : Inference) → IsAt (T.steps trace.now) place step → number ∈ step.ants }
+    requires kept { AreKept formula.now.blocks (T.steps trace.now) place kept.now }
+    ensures some { IfSome result (λ set. IsNumberOf (take place (T.steps trace.now)) number
+        × IsSetOf formula.now.blocks set.now (lits_of (take place (T.steps trace.now)) number)) }
+    ensures none { IfNone result (IsNumberOf (take place (T.steps trace.now)) number → ⊥) }
+{
+    let index = trace.position(number)?;
+    if index >= kept.len() {
+        return None;
+    }
+    match &kept[index] {
+        Some(set) => Some(set),
+        None => unreachable!(),
+    }
+}
+
+/// Why a step with one antecedent does not follow, for a set of its literals.
+fn one_fault<S: Side, T: Steps>(
+    formula: &Formula,
+    trace: &T,
+    place: usize,
+    kept: &[Option<LitSet>],
+    set: &LitSet,
+    number: u64,
+) -> Option<RuleFault>
+    requires core { IsInCore (T.steps trace.now) place }
+    requires named { (step : Inference) → IsAt (T.steps trace.now) place step → number ∈ step.ants }
+    requires kept { AreKept formula.now.blocks (T.steps trace.now) place kept.now }
+    requires bound { AreBound formula.now.blocks set.now }
+    ensures { IsAnswer ((S3, IsNumberOf (take place (T.steps trace.now)) number)
+        ∷ reduct_conditions S.side formula.now.blocks (lits_of (take place (T.steps trace.now)) number) set.now) result }
+{
+    match earlier(formula, trace, place, kept, number) {
+        Some(from) => reduct_fault::<S>(formula.prefix(), from, set),
+        None => Some(RuleFault::S3),
+    }
+}
+
+/// Why a step with two antecedents does not follow, for a set of its literals.
+fn two_fault<S: Side, T: Steps>(
+    formula: &Formula,
+    trace: &T,
+    place: usize,
+    kept: &[Option<LitSet>],
+    set: &LitSet,
+    first: u64,
+    second: u64,
+    rules: Rules,
+) -> Option<RuleFault>
+    requires core { IsInCore (T.steps trace.now) place }
+    requires first { (step : Inference) → IsAt (T.steps trace.now) place step → first ∈ step.ants }
+    requires second { (step : Inference) → IsAt (T.steps trace.now) place step → second ∈ step.ants }
+    requires kept { AreKept formula.now.blocks (T.steps trace.now) place kept.now }
+    requires bound { AreBound formula.now.blocks set.now }
+    ensures { IsAnswer ((S3, IsNumberOf (take place (T.steps trace.now)) first × IsNumberOf (take place (T.steps trace.now)) second)
+        ∷ resolvent_conditions S.side formula.now.blocks (lits_of (take place (T.steps trace.now)) first)
+            (lits_of (take place (T.steps trace.now)) second) set.now) result }
+{
+    let Some(a) = earlier(formula, trace, place, kept, first) else {
+        return Some(RuleFault::S3);
+    };
+    let Some(b) = earlier(formula, trace, place, kept, second) else {
+        return Some(RuleFault::S3);
+    };
+    resolvent_fault::<S>(formula.prefix(), a, b, set, rules)
+}
+
+/// Why a step of the core does not follow from its antecedents, for a set of its literals.
+fn antecedent_fault<S: Side, T: Steps>(
+    alloc: Global,
+    formula: &Formula,
+    trace: &T,
+    place: usize,
+    kept: &[Option<LitSet>],
+    set: &LitSet,
+    rules: Rules,
+) -> Result<Option<RuleFault>, AllocError>
+    requires core { IsInCore (T.steps trace.now) place }
+    requires kept { AreKept formula.now.blocks (T.steps trace.now) place kept.now }
+    requires set { (step : Inference) → IsAt (T.steps trace.now) place step → IsSetOf formula.now.blocks set.now step.lits }
+    ensures { IfOk result (λ fault. (step : Inference) → IsAt (T.steps trace.now) place step
+        → IsAnswer (later_conditions S.side formula.now (take place (T.steps trace.now)) step) fault) }
+{
+    // The length comes with the fact that no step has more than two antecedents.
+    let _steps = trace.len();
+    match trace.ants(place) {
+        [] => S::initial_fault(alloc, formula, set),
+        [number] => Ok(one_fault::<S, T>(formula, trace, place, kept, set, *number)),
+        [first, second] => Ok(two_fault::<S, T>(
+            formula, trace, place, kept, set, *first, *second, rules,
+        )),
+        _ => unreachable!(),
+    }
+}
+
+/// The set of a step of the core, where it follows from those before it.
+pub fn step_set<S: Side, T: Steps>(
+    alloc: Global,
+    formula: &Formula,
+    trace: &T,
+    place: usize,
+    kept: &[Option<LitSet>],
+    rules: Rules,
+) -> Result<LitSet, StepFault>
+    requires core { IsInCore (T.steps trace.now) place }
+    requires kept { AreKept formula.now.blocks (T.steps trace.now) place kept.now }
+    ensures follows { OnOk result (StepFollows S.side formula.now (T.steps trace.now) place) }
+    ensures set { IfOk result (λ set. (step : Inference) → IsAt (T.steps trace.now) place step → IsSetOf formula.now.blocks set step.lits) }
+    ensures fault { IfErr result (λ e. IfRule e (IsStepFault S.side formula.now (T.steps trace.now) place)) }
+{
+    let set = match LitSet::from_slice(alloc, trace.lits(place), formula.prefix()) {
+        Ok(set) => set,
+        Err(SetFault::E1) => return Err(StepFault::Rule(RuleFault::S1)),
+        Err(SetFault::E2) => return Err(StepFault::Rule(RuleFault::S2)),
+        Err(SetFault::E3) => return Err(StepFault::Memory),
+    };
+    match antecedent_fault::<S, T>(alloc, formula, trace, place, kept, &set, rules)? {
+        None => Ok(set),
+        Some(fault) => Err(StepFault::Rule(fault)),
+    }
+}

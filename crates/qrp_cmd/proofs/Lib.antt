@@ -1,0 +1,4 @@
+pub mod PartsMore
+pub mod WordsMore
+pub mod OutputMore
+pub mod LinesMore

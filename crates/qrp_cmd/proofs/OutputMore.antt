@@ -1,0 +1,46 @@
+-- Texts on their sinks, and what a formula's text reads as.
+use Rattle.std.proofs.Common.{◌≡◌, ◌≢◌, ◌∙◌, ℕ, ◌-◌, ◌^◌, ◌<◌, List, [], ◌++◌, Option, Some, None, Ok, Err, sym, refl, subst, append-nil, inl, inr}
+use Rattle.std.specs.Prelude.{◌⊎◌, Result, IfSome}
+use Rattle.std.specs.Io.KnownBytes.{Appends, Keeps}
+use Rattle.std.proofs.KnownBytes.{Appends-kept}
+use Rattle.qbf_core.specs.Qbf.{Qbf}
+use Rattle.qdimacs.specs.declared.fault.FormulaFault.{FormulaFault}
+use Rattle.qdimacs.specs.declared.fault.FormulaFault.TheVariants.{F1, F2, F3, F4, F5, F6, F7, F8, F9}
+use Rattle.qdimacs.specs.Reading.{Gives, Stops, reads_bytes, read_formula}
+use Rattle.qrp_cmd.specs.Output.{HasFailed, IsSent, IsFormulaRead, IsFormulaFault}
+
+-- a text that went out, and then the end of it
+pub sent_ended : (a b c : Option (List ℕ)) (x y z : ℕ) (text : List ℕ) (status answer : ℕ)
+    → Appends a b text → y ≡ x → Keeps b c
+    → ((z ≡ y) × (answer ≡ status)) ⊎ (HasFailed y z × (answer ≡ 3))
+    → IsSent a c x z text status answer
+sent_ended a b c x y z text status answer out same kept (inl p) =
+    inl (Appends-kept a b c text out kept, p.0 ∙ same, p.1)
+sent_ended a b c x y z text status answer out same kept (inr p) =
+    inr ((text, [], sym (append-nil text), Appends-kept a b c text out kept), subst (λ n. HasFailed n z) same p.0, p.1)
+
+read_as : (told : Option (List ℕ)) (f : Qbf) → Gives (Ok f) (reads_bytes told) → IfSome told (λ bytes. read_formula bytes ≡ Ok f)
+read_as None f g = tt
+read_as (Some bytes) f g = g
+
+pub formula_read : (told : Option (List ℕ)) (before after : ℕ) (f : Qbf) → Gives (Ok f) (reads_bytes told) → after ≡ before
+    → IsFormulaRead told before after (Ok f)
+formula_read told before after f gives works = (read_as told f gives, works)
+
+stopped : (told : Option (List ℕ)) (e : FormulaFault) (n : ℕ) → IfSome (reads_bytes told) (λ r. r ≡ Err (e, n))
+    → IfSome told (λ bytes. read_formula bytes ≡ Err (e, n))
+stopped None e n s = tt
+stopped (Some bytes) e n s = s
+
+pub formula_refused : (told : Option (List ℕ)) (before after : ℕ) (e : FormulaFault) (n : ℕ) → Stops e n (reads_bytes told)
+    → (e ≡ F1 → HasFailed before after) → (e ≢ F1 → after ≡ before) → (e ≡ F1 → n ≡ 0) → (e ≡ F9 → n ≡ 0)
+    → IsFormulaFault told before after e n
+formula_refused told before after F1 n s failed kept one nine = (one refl, failed refl)
+formula_refused told before after F9 n s failed kept one nine = (nine refl, kept (λ e. cc e))
+formula_refused told before after F2 n s failed kept one nine = (stopped told F2 n s, kept (λ e. cc e))
+formula_refused told before after F3 n s failed kept one nine = (stopped told F3 n s, kept (λ e. cc e))
+formula_refused told before after F4 n s failed kept one nine = (stopped told F4 n s, kept (λ e. cc e))
+formula_refused told before after F5 n s failed kept one nine = (stopped told F5 n s, kept (λ e. cc e))
+formula_refused told before after F6 n s failed kept one nine = (stopped told F6 n s, kept (λ e. cc e))
+formula_refused told before after F7 n s failed kept one nine = (stopped told F7 n s, kept (λ e. cc e))
+formula_refused told before after F8 n s failed kept one nine = (stopped told F8 n s, kept (λ e. cc e))

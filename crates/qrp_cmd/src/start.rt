@@ -1,0 +1,61 @@
+//! How the program ends before its job begins.
+
+ghost use Rattle.std.specs.Prelude.{◌≡◌};
+ghost use Rattle.qrp_cmd.specs.Lines.{start_line, start_status};
+
+/// How the program ends before its job begins.
+#[derive(Clone, Copy, Debug, PartialEq, Eq)]
+pub enum Start {
+    /// The words are no row of the usage.
+    Usage,
+    /// The formula's file cannot be opened.
+    NoFormula,
+    /// The trace's file cannot be opened.
+    NoTrace,
+    /// Memory was refused while the words were got.
+    NoMemory,
+}
+
+impl Start {
+    /// The line to write, with its line end.
+    pub fn line(&self) -> &'static str
+        ensures { result.now ≡ start_line self.now }
+    {
+        match *self {
+            Start::Usage => "USAGE\n",
+            Start::NoFormula => "DEVICE formula\n",
+            Start::NoTrace => "DEVICE trace\n",
+            Start::NoMemory => "NO MEMORY\n",
+        }
+    }
+
+    /// The status to end with.
+    pub fn status(&self) -> u8
+        ensures { result ≡ start_status self.now }
+    {
+        match *self {
+            Start::Usage => 5,
+            Start::NoFormula | Start::NoTrace => 3,
+            Start::NoMemory => 4,
+        }
+    }
+}
+
+#[cfg(test)]
+mod tests {
+    use super::*;
+
+    #[test]
+    fn lines_and_statuses(rt: HostRuntime) {
+        let rows = [
+            (Start::Usage, "USAGE\n", 5),
+            (Start::NoFormula, "DEVICE formula\n", 3),
+            (Start::NoTrace, "DEVICE trace\n", 3),
+            (Start::NoMemory, "NO MEMORY\n", 4),
+        ];
+        for (start, line, status) in rows {
+            assert_eq!(rt; start.line(), line);
+            assert_eq!(rt; start.status(), status);
+        }
+    }
+}
