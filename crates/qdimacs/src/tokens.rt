@@ -7,7 +7,7 @@ ghost use Rattle.std.specs.Io.KnownBytes.{IsAtEnd};
 ghost use Rattle.qbf_text.specs.Reading.{left, GivesNext, IsReady};
 ghost use Rattle.qbf_text.specs.Left.{is_end};
 ghost use Rattle.qbf_text.specs.Lined.{weight};
-ghost use Rattle.qdimacs.specs.Reading.{set_letter, clause_or_end, is_p, is_cnf, header_fault, header_number, member, literal_in};
+ghost use Rattle.qdimacs.specs.Reading.{set_letter, clause_or_end, IsFull, is_p, is_cnf, header_fault, header_number, member, literal_in};
 
 use crate::fault::{Fault, FormulaFault};
 use qbf_core::{Lit, Prefix, Quantifier, Var};
@@ -110,12 +110,16 @@ fn variable(max_var: u32, value: u64) -> Result<Var, FormulaFault>
 }
 
 /// The literal that a token says in a clause, or `None` where it closes the clause.
+///
+/// Where the prefix is `full`, no variable is looked up.
 pub(crate) fn literal(
     max_var: u32,
     prefix: &Prefix,
+    full: bool,
     token: Token,
 ) -> Result<Option<Lit>, FormulaFault>
-    requires { max_var ≤ 2147483647 }
+    requires number { max_var ≤ 2147483647 }
+    requires full { full ≡ true → IsFull max_var (pairs prefix.now) }
     ensures says { result ≡ literal_in max_var (pairs prefix.now) token }
     ensures bound { IfOk result (λ o. IfSome o (λ l. IsBound prefix.now l.var)) }
 {
@@ -130,7 +134,7 @@ pub(crate) fn literal(
         } => Err(FormulaFault::F3),
         Token::Number { negative, value } => {
             let var = variable(max_var, value)?;
-            if prefix.is_bound(var) {
+            if full || prefix.is_bound(var) {
                 Ok(Some(Lit::new(var, negative)))
             } else {
                 Err(FormulaFault::F6)
