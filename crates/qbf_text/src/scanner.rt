@@ -1,9 +1,9 @@
 //! Texts as tokens with their lines, read from a source.
 
-ghost use Rattle.std.specs.Prelude.{◌≡◌, ℕ, ◌+◌, ◌-◌, ◌^◌, ◌<◌, ◌≤◌, Option, Some, None, List, [], ◌∷◌, ◌++◌, length, take, drop, IfSome, IfNone, false, true, ◌≢◌, IsOk, IsErr, IfOk, OnOk, OnErr};
+ghost use Rattle.std.specs.Prelude.{◌≡◌, ℕ, ◌+◌, ◌-◌, ◌^◌, ◌<◌, ◌≤◌, Some, List, [], ◌∷◌, length, IfSome, IfNone, false, true, IsOk, IsErr, IfOk, OnOk, OnErr};
 ghost use Rattle.std.specs.Io.KnownBytes.{Consumes, IsAtEnd};
-ghost use Rattle.qbf_text.specs.Ahead.{ahead, first_of};
-ghost use Rattle.qbf_text.specs.Tokens.{kind, is_blank, is_line_end};
+ghost use Rattle.qbf_text.specs.Ahead.{ahead};
+ghost use Rattle.qbf_text.specs.Tokens.{kind, is_blank};
 ghost use Rattle.qbf_text.specs.Left.{is_separator, IsUnbroken, IsWithinLine, EndsRun, EndsLine, Gives, is_end};
 
 use crate::run::Run;

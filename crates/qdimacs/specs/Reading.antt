@@ -1,7 +1,7 @@
 -- Reading from the first token on, to the formula or to the first fault.
 -- QDIMACS 1.1, input format, token by token: for each place in the text a row says which tokens go on, which end,
 -- and what is a fault.
-use Rattle.std.specs.Prelude.{◌≡◌, ℕ, zero, suc, Bool, true, false, List, [], ◌∷◌, ◌++◌, length, Option, Some, None, IfSome, Result, Ok, Err, nat_lt, if◌then◌else◌}
+use Rattle.std.specs.Prelude.{◌≡◌, ◌≤◌, ℕ, zero, suc, Bool, true, false, List, [], ◌∷◌, ◌++◌, length, Option, Some, None, IfSome, Result, Ok, Err, nat_lt, if◌then◌else◌}
 use Rattle.qbf_core.specs.declared.quantifier.Quantifier.{Quantifier}
 use Rattle.qbf_core.specs.declared.quantifier.Quantifier.TheVariants.{All, Exists}
 use Rattle.qbf_core.specs.Literal.{Literal}
@@ -92,6 +92,10 @@ set_row h ps q (Ok None) = Goes (Between h ps [])
 set_row h ps q (Ok (Some v)) = if is_bound v ps then Fails F5 else Goes (InSet h (ps ++ (q, v) ∷ []) q)
 
 -- ---- a clause
+
+-- each variable that the header allows is bound
+abbrev pub IsFull : ℕ → List (Quantifier × ℕ) → Type 0
+IsFull max_var ps = (v : ℕ) → 1 ≤ v → v ≤ max_var → is_bound v ps ≡ true
 
 -- the literal that a token says in a clause, or None where it closes the clause
 abbrev pub literal_in : ℕ → List (Quantifier × ℕ) → Token → Result (Option Literal) FormulaFault

@@ -1,24 +1,28 @@
 //! The clauses of a formula, and its end.
 
-ghost use Rattle.std.specs.Prelude.{Ok, Err, None, ◌≢◌, ◌-◌, ◌^◌, length, ◌<◌, ◌+◌, ◌++◌, ◌⊎◌, nat_lt, if◌then◌else◌, ◌≡◌, ℕ, ◌≤◌, List, [], ◌∷◌, true, false, IfSome, IfOk, OnOk, IfErr};
-ghost use Rattle.std.specs.List.{AllByRecursion};
-ghost use Rattle.qbf_core.specs.Blocks.{pairs, variables, is_bound, IsBound, AreBound};
-ghost use Rattle.qdimacs.specs.declared.fault.FormulaFault.TheVariants.{F1, F4, F5, F9};
+ghost use Rattle.std.specs.Prelude.{None, ◌≢◌, ◌-◌, ◌^◌, length, ◌<◌, ◌+◌, ◌++◌, ◌≡◌, ℕ, ◌≤◌, List, [], ◌∷◌, true, IfOk, OnOk, IfErr, nat_eq};
+ghost use Rattle.qbf_core.specs.Blocks.{pairs, AreBound};
+ghost use Rattle.qdimacs.specs.declared.fault.FormulaFault.TheVariants.{F1, F9};
 ghost use Rattle.qbf_core.specs.Literal.{Literal};
 ghost use Rattle.std.specs.Io.KnownBytes.{IsAtEnd};
-ghost use Rattle.qbf_text.specs.Reading.{left, GivesNext, IsReady};
+ghost use Rattle.qbf_text.specs.Reading.{left, IsReady};
 ghost use Rattle.qbf_text.specs.Left.{is_end};
-ghost use Rattle.qbf_text.specs.Tokens.{tokens};
-ghost use Rattle.qbf_text.specs.declared.token.Comments.TheVariants.{Qdimacs};
-ghost use Rattle.qbf_text.specs.Lined.{put_on, weight};
-ghost use Rattle.qdimacs.specs.Faults.{Answers};
-ghost use Rattle.qdimacs.specs.Reading.{set_letter, clause_or_end, is_p, is_cnf, Heading, Between, InSet, AtP, header_fault, header_number, member, literal_in, InClause, reads_from, reads_bytes, Gives, Stops, Continues};
+ghost use Rattle.qbf_text.specs.Lined.{put_on};
+ghost use Rattle.qdimacs.specs.Reading.{set_letter, IsFull, Heading, Between, InClause, reads_from, Gives, Continues};
 
 use crate::fault::{Fault, FormulaFault};
 use crate::tokens::{clause_or_end, literal, next};
 use qbf_core::{Formula, Lit, Prefix};
 use qbf_text::{Scanner, Source, Token};
 use std::alloc::Global;
+
+/// Whether each variable that the header allows is bound.
+fn is_full(formula: &Formula) -> bool
+    ensures full { result ≡ true → IsFull formula.now.max_var (pairs formula.now.blocks) }
+    ensures count { result ≡ nat_eq (length (pairs formula.now.blocks)) formula.now.max_var }
+{
+    formula.prefix().len() == formula.max_var() as usize
+}
 
 /// Adds a literal to a clause.
 fn push(lits: &mut Vec<Lit>, lit: Lit) -> Result<(), Fault>
@@ -38,10 +42,12 @@ fn read_clause<S: Source>(
     source: &mut S,
     max_var: u32,
     prefix: &Prefix,
+    full: bool,
     first: (Token, u64),
 ) -> Result<Vec<Lit>, Fault>
     requires ready { IsReady scanner.old (S.remaining source.old) }
     requires number { max_var ≤ 2147483647 }
+    requires full { full ≡ true → IsFull max_var (pairs prefix.now) }
     ensures reads { (count : ℕ) (cs : List (List Literal)) →
         let h : Heading = record { max_var = max_var; count = count } in
         Continues (λ lits. reads_from (Between h (pairs prefix.now) (cs ++ lits.items ∷ []))
@@ -62,7 +68,7 @@ fn read_clause<S: Source>(
     let mut lits = Vec::new(alloc);
     let (mut token, mut line) = first;
     'lits: loop {
-        match literal(max_var, prefix, token) {
+        match literal(max_var, prefix, full, token) {
             Ok(None) => return Ok(lits),
             Ok(Some(lit)) => push(&mut lits, lit)?,
             Err(fault) => return Err((fault, line)),
@@ -110,6 +116,7 @@ pub(crate) fn read_clauses<S: Source>(
     ensures line_9 { IfErr result (λ e. e.0 ≡ F9 → e.1 ≡ 0) }
     ensures works { OnOk result (S.failures source.new ≡ S.failures source.old) }
 {
+    let full = is_full(&formula);
     let (mut token, mut line) = first;
     'clauses: loop {
         let max_var = formula.max_var();
@@ -122,6 +129,7 @@ pub(crate) fn read_clauses<S: Source>(
                     source,
                     max_var,
                     formula.prefix(),
+                    full,
                     (token, line),
                 )?;
                 push_clause(&mut formula, clause)?;

@@ -1,18 +1,14 @@
 //! The quantifier sets of a formula.
 
-ghost use Rattle.std.specs.Prelude.{Ok, Err, None, ◌≢◌, ◌-◌, ◌^◌, length, ◌<◌, ◌+◌, ◌++◌, ◌⊎◌, nat_lt, if◌then◌else◌, ◌≡◌, ℕ, ◌≤◌, List, [], ◌∷◌, true, false, IfSome, IfOk, OnOk, IfErr};
+ghost use Rattle.std.specs.Prelude.{None, ◌≢◌, ◌-◌, ◌^◌, length, ◌<◌, ◌+◌, ◌++◌, ◌⊎◌, ◌≡◌, ℕ, ◌≤◌, [], ◌∷◌, true, false, IfOk, OnOk, IfErr};
 ghost use Rattle.std.specs.List.{AllByRecursion};
-ghost use Rattle.qbf_core.specs.Blocks.{pairs, variables, is_bound, IsBound, AreBound};
-ghost use Rattle.qdimacs.specs.declared.fault.FormulaFault.TheVariants.{F1, F4, F5, F9};
-ghost use Rattle.qbf_core.specs.Literal.{Literal};
+ghost use Rattle.qbf_core.specs.Blocks.{pairs, variables, is_bound};
+ghost use Rattle.qdimacs.specs.declared.fault.FormulaFault.TheVariants.{F1, F5, F9};
 ghost use Rattle.std.specs.Io.KnownBytes.{IsAtEnd};
-ghost use Rattle.qbf_text.specs.Reading.{left, GivesNext, IsReady};
+ghost use Rattle.qbf_text.specs.Reading.{left, IsReady};
 ghost use Rattle.qbf_text.specs.Left.{is_end};
-ghost use Rattle.qbf_text.specs.Tokens.{tokens};
-ghost use Rattle.qbf_text.specs.declared.token.Comments.TheVariants.{Qdimacs};
-ghost use Rattle.qbf_text.specs.Lined.{put_on, weight};
-ghost use Rattle.qdimacs.specs.Faults.{Answers};
-ghost use Rattle.qdimacs.specs.Reading.{set_letter, clause_or_end, is_p, is_cnf, Heading, Between, InSet, AtP, header_fault, header_number, member, literal_in, InClause, reads_from, reads_bytes, Gives, Stops, Continues};
+ghost use Rattle.qbf_text.specs.Lined.{put_on};
+ghost use Rattle.qdimacs.specs.Reading.{set_letter, Heading, Between, InSet, reads_from, Continues};
 
 use crate::fault::{Fault, FormulaFault};
 use crate::tokens::{member, next, set_letter};

@@ -1,18 +1,13 @@
 //! What one token says at its place, and the next token of a source.
 
-ghost use Rattle.std.specs.Prelude.{Ok, Err, None, ◌≢◌, ◌-◌, ◌^◌, length, ◌<◌, ◌+◌, ◌++◌, ◌⊎◌, nat_lt, if◌then◌else◌, ◌≡◌, ℕ, ◌≤◌, List, [], ◌∷◌, true, false, IfSome, IfOk, OnOk, IfErr};
-ghost use Rattle.std.specs.List.{AllByRecursion};
-ghost use Rattle.qbf_core.specs.Blocks.{pairs, variables, is_bound, IsBound, AreBound};
-ghost use Rattle.qdimacs.specs.declared.fault.FormulaFault.TheVariants.{F1, F4, F5, F9};
-ghost use Rattle.qbf_core.specs.Literal.{Literal};
+ghost use Rattle.std.specs.Prelude.{Ok, Err, ◌≢◌, ◌-◌, ◌^◌, length, ◌<◌, ◌+◌, nat_lt, if◌then◌else◌, ◌≡◌, ◌≤◌, true, IfSome, IfOk, OnOk, IfErr};
+ghost use Rattle.qbf_core.specs.Blocks.{pairs, IsBound};
+ghost use Rattle.qdimacs.specs.declared.fault.FormulaFault.TheVariants.{F1, F4, F9};
 ghost use Rattle.std.specs.Io.KnownBytes.{IsAtEnd};
 ghost use Rattle.qbf_text.specs.Reading.{left, GivesNext, IsReady};
 ghost use Rattle.qbf_text.specs.Left.{is_end};
-ghost use Rattle.qbf_text.specs.Tokens.{tokens};
-ghost use Rattle.qbf_text.specs.declared.token.Comments.TheVariants.{Qdimacs};
-ghost use Rattle.qbf_text.specs.Lined.{put_on, weight};
-ghost use Rattle.qdimacs.specs.Faults.{Answers};
-ghost use Rattle.qdimacs.specs.Reading.{set_letter, clause_or_end, is_p, is_cnf, Heading, Between, InSet, AtP, header_fault, header_number, member, literal_in, InClause, reads_from, reads_bytes, Gives, Stops, Continues};
+ghost use Rattle.qbf_text.specs.Lined.{weight};
+ghost use Rattle.qdimacs.specs.Reading.{set_letter, clause_or_end, IsFull, is_p, is_cnf, header_fault, header_number, member, literal_in};
 
 use crate::fault::{Fault, FormulaFault};
 use qbf_core::{Lit, Prefix, Quantifier, Var};
@@ -115,12 +110,16 @@ fn variable(max_var: u32, value: u64) -> Result<Var, FormulaFault>
 }
 
 /// The literal that a token says in a clause, or `None` where it closes the clause.
+///
+/// Where the prefix is `full`, no variable is looked up.
 pub(crate) fn literal(
     max_var: u32,
     prefix: &Prefix,
+    full: bool,
     token: Token,
 ) -> Result<Option<Lit>, FormulaFault>
-    requires { max_var ≤ 2147483647 }
+    requires number { max_var ≤ 2147483647 }
+    requires full { full ≡ true → IsFull max_var (pairs prefix.now) }
     ensures says { result ≡ literal_in max_var (pairs prefix.now) token }
     ensures bound { IfOk result (λ o. IfSome o (λ l. IsBound prefix.now l.var)) }
 {
@@ -135,7 +134,7 @@ pub(crate) fn literal(
         } => Err(FormulaFault::F3),
         Token::Number { negative, value } => {
             let var = variable(max_var, value)?;
-            if prefix.is_bound(var) {
+            if full || prefix.is_bound(var) {
                 Ok(Some(Lit::new(var, negative)))
             } else {
                 Err(FormulaFault::F6)

@@ -1,13 +1,13 @@
 //! The canonical text of a formula.
 
-ghost use Rattle.std.specs.Prelude.{Ok, ◌≡◌, ◌<◌, ◌-◌, ◌^◌, [], ◌∷◌, ◌++◌, None, length, decimal, OnOk, OnErr};
+ghost use Rattle.std.specs.Prelude.{Ok, ◌≡◌, ◌<◌, ◌-◌, ◌^◌, [], ◌∷◌, ◌++◌, None, decimal, OnOk, OnErr};
 ghost use Rattle.std.specs.Io.KnownBytes.{Appends};
 ghost use Rattle.qbf_core.specs.Blocks.{pairs, is_quantifier};
 ghost use Rattle.qbf_text.specs.Written.{AppendsFront};
 ghost use Rattle.qbf_text.specs.Canonical.{spelled, line_text};
 ghost use Rattle.qdimacs.specs.Grammar.{header, literal, text};
 ghost use Rattle.qdimacs.specs.Reading.{read_formula};
-ghost use Rattle.qdimacs.specs.Texts.{zero_text, opening, spaced, prefix_rest, literal_text, clause_rest, sets_text, clauses_text};
+ghost use Rattle.qdimacs.specs.Texts.{zero_text, opening, spaced, prefix_rest, literal_text, clause_rest, clauses_text};
 
 use qbf_core::{Formula, Lit, Prefix, Quantifier};
 use qbf_text::{Sink, SinkFault, put_bytes, put_number};

@@ -1,11 +1,12 @@
-use Rattle.std.proofs.Common.{arith, ◌∙◌, sym, ap, [], ℕ, nat_lt}
+use Rattle.std.proofs.Common.{arith, ◌∙◌, sym, ap, subst, [], ℕ, nat_lt}
 use Rattle.std.proofs.lemmas.Result.{err_from_is_err_and}
 use Rattle.qbf_core.specs.Blocks.{pairs, blocks_of}
 use Rattle.qbf_core.specs.Qbf.{Qbf}
 use Rattle.qbf_core.proofs.BlockLaws.{blocks_of-pairs}
 use Rattle.qbf_text.specs.Reading.{left}
 use Rattle.qbf_text.specs.Lined.{put_on}
-use Rattle.qdimacs.specs.Reading.{Heading, Between, reads_from, begun_set}
+use Rattle.qdimacs.specs.Reading.{Heading, IsFull, Between, reads_from, begun_set}
+use Rattle.qdimacs.proofs.Full.{full_same}
 use Rattle.qdimacs.proofs.Steps.{ends_same, one_stops, one_ends, peeked, between_fails, between_ends, clause_begins, no_set_begins, clause_same, between_same, Stops-along, Leads-along, Leads-trans}
 use Rattle.qdimacs.proofs.clauses.read_clauses.Goals as goal
 
@@ -43,6 +44,7 @@ clauses-preserved g c =
       works = grind arith;
       ready = c.in_ok-token.ensures.ready;
       end = c.in_ok-token.ensures.end;
+      full = λ e. let Q : Qbf → Type 0 = λ x. IsFull x.max_var (pairs x.blocks) in subst Q (sym c.in_ok-push_clause-in-Ok-true.ensures.pushed) (c.clauses.invariant.full e);
       so_far =
           peeked whole _ _ (Leads-along whole _ _ (Leads-trans whole _ _ (Leads-along whole _ _ c.clauses.invariant.so_far (clause_begins h (pairs f.blocks) f.clauses c.clauses.token c.clauses.invariant.no_set _ (ap (λ (n : ℕ). nat_lt n c.args.count) c.clauses-in-clauses.ensures) c.clauses.line _ (rw c.in-Ok-true.field-0-test at c.in-Ok-true.ensures)
           ∙ clause_same _ _ c.args.count _ _ f.clauses _ (sym c.max_var-max_var.ensures.value) (sym c.prefix.ensures)))
@@ -52,3 +54,7 @@ clauses-preserved g c =
           c.in_ok-token.field-0-0 c.in_ok-token.field-0-1 _ c.in_ok-token.ensures.gives;
       no_set = ap (λ (x : Qbf). begun_set x.clauses c.in_ok-token.field-0-0) c.in_ok-push_clause-in-Ok-true.ensures.pushed ∙ no_set_begins f.clauses _ _;
     }
+
+pub read_clause-requires-clause-full : goal.read_clause-requires-clause-full
+read_clause-requires-clause-full g c = λ e.
+    full_same c.clauses.formula.max_var _ c.clauses.formula.blocks _ c.max_var-max_var.ensures.value c.prefix.ensures (c.clauses.invariant.full e)
