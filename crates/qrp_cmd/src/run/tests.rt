@@ -1,3 +1,5 @@
+ghost use Rattle.std.specs.Prelude.{◌<◌};
+
 use super::*;
 use qbf_text::{FromRead, PieceSink, PieceSource, SliceSource, VecSink};
 use std::process::Abort;
