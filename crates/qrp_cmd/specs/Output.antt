@@ -13,6 +13,13 @@ use Rattle.qrp_check.specs.declared.verdict.Rules.{Rules}
 use Rattle.qrp_check.specs.declared.verdict.Verified.{Verified}
 use Rattle.qrp_check.specs.declared.verdict.Fault.{Fault}
 use Rattle.qrp_check.specs.declared.verdict.Fault.TheVariants as fault
+use Rattle.qrp.specs.Derivations.{Derivation}
+use Rattle.qrp.specs.Grammar as trace
+use Rattle.qrp.specs.Reading.{read_trace}
+use Rattle.qrp_check.specs.Core.{ListsCore}
+use Rattle.qrp_check.specs.Proof.{IsProof}
+use Rattle.qrp_check.specs.Trim.{trimmed}
+use Rattle.qrp_check.specs.Laws.{IsTrimmedProof}
 use Rattle.qrp_check.specs.Verdict.{IsVerdictUnless, IsFormulaDevice, IsTraceDevice}
 use Rattle.qrp_cmd.specs.Lines.{fault_line, fault_status, verdict_line}
 
@@ -33,6 +40,7 @@ success t = record { sink = Out; text = t; status = 0 }
 -- a refusal: `check` writes it where its verdict would stand, the other jobs on the other sink
 abbrev pub refusal : Job → Fault → Report
 refusal (job.Check rules) e = record { sink = Out; text = fault_line e; status = fault_status e }
+refusal (job.Trim rules) e = record { sink = Errors; text = fault_line e; status = fault_status e }
 refusal job.Format e = record { sink = Errors; text = fault_line e; status = fault_status e }
 
 -- the canonical text, or the refusal of the formula's text
@@ -60,6 +68,11 @@ abbrev pub IsFormulaRead : Option (List ℕ) → ℕ → ℕ → Result Qbf (For
 IsFormulaRead told before after (Ok f) = IfSome told (λ bytes. read_formula bytes ≡ Ok f) × (after ≡ before)
 IsFormulaRead told before after (Err e) = IsFormulaFault told before after e.0 e.1
 
+-- the canonical text of the trimmed trace, or the refusal of a text or of the proof
+abbrev pub trim_report : Rules → Result Derivation Fault → Report
+trim_report rules (Ok t) = success (trace.text t)
+trim_report rules (Err e) = refusal (job.Trim rules) e
+
 -- what a source has to do with a run: its bytes, where they are told, and its count of failures before and after
 pub record Reading : Type 0 where
   pub told : Option (List ℕ)
@@ -73,12 +86,33 @@ pub record IsChecked (formula trace : Reading) (answer : Result Verified Fault) 
   pub formula_failed : formula.before < 2 ^ 64 - 1 → IsFormulaDevice answer ↔ (formula.before < formula.after)
   pub trace_failed : trace.before < 2 ^ 64 - 1 → IsTraceDevice answer ↔ (trace.before < trace.after)
 
+-- The trace t is what the trace's bytes read as, without the steps that its goal does not need: a proof by itself, whose
+-- text reads as it.
+pub record IsTrimmedFrom (formula trace : List ℕ) (t : Derivation) : Type 0 where
+  pub f : Qbf
+  pub d : Derivation
+  pub core : List ℕ
+  pub reads_formula : read_formula formula ≡ Ok f
+  pub reads_trace : read_trace trace ≡ Ok d
+  pub lists : ListsCore d.steps core
+  pub proves : IsProof f d
+  pub is : t ≡ trimmed d core
+  pub whole : IsTrimmedProof f t
+
+-- What the trimming of a trace answers: the trimmed trace, as far as the bytes are told, or a refusal as for a check.
+abbrev pub IsTrimmed : Reading → Reading → Result Derivation Fault → Type 0
+IsTrimmed formula trace (Ok t) =
+    IfSome formula.told (λ a. IfSome trace.told (λ b. IsTrimmedFrom a b t)) × (formula.after ≡ formula.before) × (trace.after ≡ trace.before)
+IsTrimmed formula trace (Err e) = IsChecked formula trace (Err e)
+
 -- the report of a job on its texts
 abbrev pub IsOutput : Job → Reading → Reading → Report → Type 0
 IsOutput job.Format formula trace r =
     (reading : Result Qbf (FormulaFault × ℕ)) × IsFormulaRead formula.told formula.before formula.after reading × (r ≡ format_report reading)
 IsOutput (job.Check rules) formula trace r =
     (answer : Result Verified Fault) × IsChecked formula trace answer × (r ≡ check_report rules answer)
+IsOutput (job.Trim rules) formula trace r =
+    (answer : Result Derivation Fault) × IsTrimmed formula trace answer × (r ≡ trim_report rules answer)
 
 -- A text is to go out with a status, and a sink went from `old` to `new` and its count of failures from `before` to
 -- `after`: all of the text went out and the answer is the status; or the sink failed, a beginning of the text went out,

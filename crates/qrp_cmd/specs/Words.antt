@@ -18,4 +18,5 @@ plain = record {}
 abbrev pub IsRow : List (List ℕ) → Request → Type 0
 IsRow words r =
     ((f t : List ℕ) × (words ≡ codes "check" ∷ f ∷ t ∷ []) × (r ≡ record { job = job.Check plain; formula = 1; trace = Some 2 }))
-    ⊎ ((f : List ℕ) × (words ≡ codes "format" ∷ f ∷ []) × (r ≡ record { job = job.Format; formula = 1; trace = None }))
+    ⊎ (((f t : List ℕ) × (words ≡ codes "trim" ∷ f ∷ t ∷ []) × (r ≡ record { job = job.Trim plain; formula = 1; trace = Some 2 }))
+    ⊎ ((f : List ℕ) × (words ≡ codes "format" ∷ f ∷ []) × (r ≡ record { job = job.Format; formula = 1; trace = None })))

@@ -4,7 +4,7 @@ use crate::job::Job;
 use crate::run::{Status, run};
 use crate::start::Start;
 use crate::words::request;
-use qbf_text::{FromRead, SliceSource, ToWrite};
+use qbf_text::{FromRead, SliceSource, Source, ToWrite};
 use std::fs;
 use std::io::{BufWriter, ErrorKind, Write};
 use std::rt::Files;
@@ -44,7 +44,41 @@ fn check<R: Files + AllocGlobal, O: Write + Drop, E: Write + Drop>(
     ))
 }
 
-/// Does a job over the formula that writes a text. An `Err` says why it did not begin.
+/// Does a job that writes a text, which is buffered. An `Err` says why it did not begin.
+fn write_text<R: Files + AllocGlobal, T: Source, O: Write + Drop, E: Write + Drop>(
+    rt: &R,
+    job: Job,
+    formula: &mut FromRead<R::File>,
+    trace: &mut T,
+    out: O,
+    err: E,
+) -> Result<Status, Start> {
+    let Ok(mut out) = BufWriter::new(rt.alloc(), out) else {
+        return Err(Start::NoMemory);
+    };
+    let mut sink = ToWrite::new(&mut out);
+    let mut err = ToWrite::new(err);
+    let status = run(rt.alloc(), job, formula, trace, &mut sink, &mut err);
+    // What a failed writer still holds is not sent again.
+    let (_out, _unsent) = out.into_parts();
+    Ok(status)
+}
+
+/// Trims a trace. An `Err` says why that did not begin.
+fn trim<R: Files + AllocGlobal, O: Write + Drop, E: Write + Drop>(
+    rt: &R,
+    job: Job,
+    formula: &str,
+    trace: &str,
+    out: O,
+    err: E,
+) -> Result<Status, Start> {
+    let mut formula = open(rt, formula, Start::NoFormula)?;
+    let mut trace = open(rt, trace, Start::NoTrace)?;
+    write_text(rt, job, &mut formula, &mut trace, out, err)
+}
+
+/// Formats a formula. An `Err` says why that did not begin.
 fn format<R: Files + AllocGlobal, O: Write + Drop, E: Write + Drop>(
     rt: &R,
     job: Job,
@@ -53,23 +87,7 @@ fn format<R: Files + AllocGlobal, O: Write + Drop, E: Write + Drop>(
     err: E,
 ) -> Result<Status, Start> {
     let mut formula = open(rt, formula, Start::NoFormula)?;
-    let Ok(mut out) = BufWriter::new(rt.alloc(), out) else {
-        return Err(Start::NoMemory);
-    };
-    let mut trace = SliceSource::new(&[]);
-    let mut sink = ToWrite::new(&mut out);
-    let mut err = ToWrite::new(err);
-    let status = run(
-        rt.alloc(),
-        job,
-        &mut formula,
-        &mut trace,
-        &mut sink,
-        &mut err,
-    );
-    // What a failed writer still holds is not sent again.
-    let (_out, _unsent) = out.into_parts();
-    Ok(status)
+    write_text(rt, job, &mut formula, &mut SliceSource::new(&[]), out, err)
 }
 
 /// Ends before a job begins. The status stays whether or not the line went out.
@@ -86,12 +104,20 @@ pub fn answer<R: Files + AllocGlobal, O: Write + Drop, E: Write + Drop>(
     mut err: E,
 ) -> Status {
     match request(words) {
+        Some((Job::Check(rules), formula, Some(trace))) => {
+            let formula = words[formula].as_str();
+            let trace = words[trace].as_str();
+            match check(rt, Job::Check(rules), formula, trace, &mut out, &mut err) {
+                Ok(status) => status,
+                Err(start) => stop(out, start),
+            }
+        }
         Some((job, formula, Some(trace))) => {
             let formula = words[formula].as_str();
             let trace = words[trace].as_str();
-            match check(rt, job, formula, trace, &mut out, &mut err) {
+            match trim(rt, job, formula, trace, &mut out, &mut err) {
                 Ok(status) => status,
-                Err(start) => stop(out, start),
+                Err(start) => stop(err, start),
             }
         }
         Some((job, formula, None)) => {

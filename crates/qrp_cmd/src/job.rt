@@ -7,6 +7,8 @@ use qrp_check::Rules;
 pub enum Job {
     /// Tells whether the trace proves its result of the formula.
     Check(Rules),
+    /// Prints the trace with only the steps that its proof needs.
+    Trim(Rules),
     /// Prints the canonical text of the formula.
     Format,
 }

@@ -1,22 +1,26 @@
 //! A job from its sources to its sinks.
 
-ghost use Rattle.std.specs.Prelude.{◌≡◌, ◌⊎◌, ℕ, Result};
+ghost use Rattle.std.specs.Prelude.{◌≡◌, ◌⊎◌, ◌↔◌, ◌<◌, ◌-◌, ◌^◌, ℕ, Result, Err, IfOk, IfErr, OnOk, IfSome};
 ghost use Rattle.std.specs.Io.KnownBytes.{Keeps};
 ghost use Rattle.qbf_core.specs.Qbf.{Qbf};
 ghost use Rattle.qdimacs.specs.declared.fault.FormulaFault.{FormulaFault};
 ghost use Rattle.qdimacs.specs.Grammar.{text};
+ghost use Rattle.qrp.specs.Derivations.{Derivation};
+ghost use Rattle.qrp.specs.Grammar.{text as trace_text};
+ghost use Rattle.qrp_check.specs.Verdict.{IsVerdictUnless, IsFormulaDevice, IsTraceDevice};
 ghost use Rattle.qrp_check.specs.declared.verdict.Verified.{Verified};
 ghost use Rattle.qrp_check.specs.declared.verdict.Fault.{Fault};
 ghost use Rattle.qrp_cmd.specs.Lines.{fault_line, fault_status, verdict_line};
 ghost use Rattle.qrp_cmd.specs.declared.job.Job.TheVariants.{Format};
-ghost use Rattle.qrp_cmd.specs.Output.{Report, IsOutput, IsFormulaRead, IsChecked, format_report, check_report, HasFailed, IsSent, IsOn};
+ghost use Rattle.qrp_cmd.specs.Output.{Report, IsOutput, IsFormulaRead, IsChecked, IsTrimmed, IsTrimmedFrom, trim_report, format_report, check_report, HasFailed, IsSent, IsOn};
 
 use crate::job::Job;
 use crate::lines::{fault_status, put_fault, put_verdict};
 use qbf_core::Formula;
 use qbf_text::{Sink, Source};
 use qdimacs::{read_formula, write_formula};
-use qrp_check::{Fault, Rules, verify};
+use qrp::{Trace, read_trace, write_trace};
+use qrp_check::{CheckFault, Fault, Rules, check, trim, verify};
 use std::alloc::Global;
 
 /// The status of the program: 0 done, 1 the proof is refused, 2 a text is refused, 3 a device failed,
@@ -69,7 +73,7 @@ fn send_verdict<S: Sink>(sink: &mut S, truth: bool) -> Status
 }
 
 /// Writes the canonical text of the formula to `out`, or its refusal to `err`.
-fn format<F: Source, O: Sink, E: Sink>(
+fn format_job<F: Source, O: Sink, E: Sink>(
     alloc: Global,
     formula: &mut F,
     out: &mut O,
@@ -89,7 +93,7 @@ fn format<F: Source, O: Sink, E: Sink>(
 }
 
 /// Writes the verdict on the trace, or its refusal, to `out`.
-fn check<F: Source, T: Source, O: Sink>(
+fn check_job<F: Source, T: Source, O: Sink>(
     alloc: Global,
     rules: Rules,
     formula: &mut F,
@@ -104,6 +108,74 @@ fn check<F: Source, T: Source, O: Sink>(
     match verify(alloc, formula, trace, rules) {
         Ok(verified) => send_verdict(out, verified.truth),
         Err(fault) => send_fault(out, &fault),
+    }
+}
+
+/// The trace that was read, without the steps that its goal does not need.
+fn trimmed<F: Source, T: Source>(
+    alloc: Global,
+    rules: Rules,
+    formula: &mut F,
+    trace: &mut T,
+) -> Result<Trace, Fault>
+    ensures refused { IfErr result (λ e. IsVerdictUnless (F.remaining formula.old) (T.remaining trace.old) (Err e)) }
+    ensures trimmed { IfOk result (λ t. IfSome (F.remaining formula.old) (λ a. IfSome (T.remaining trace.old) (λ b. IsTrimmedFrom a b t))) }
+    ensures formula_failed { IfErr result (λ e. F.failures formula.old < 2 ^ 64 - 1 →
+        (IsFormulaDevice (Err e) ↔ (F.failures formula.old < F.failures formula.new))) }
+    ensures trace_failed { IfErr result (λ e. T.failures trace.old < 2 ^ 64 - 1 →
+        (IsTraceDevice (Err e) ↔ (T.failures trace.old < T.failures trace.new))) }
+    ensures formula_works { OnOk result (F.failures formula.new ≡ F.failures formula.old) }
+    ensures trace_works { OnOk result (T.failures trace.new ≡ T.failures trace.old) }
+{
+    let read = match read_formula(alloc, formula) {
+        Ok(read) => read,
+        Err((fault, line)) => return Err(Fault::Formula(fault, line)),
+    };
+    let whole = match read_trace(alloc, trace) {
+        Ok(whole) => whole,
+        Err((fault, line)) => return Err(Fault::Trace(fault, line)),
+    };
+    // The header comes with the fact that the trace is well formed.
+    let _header = whole.header();
+    let verified = match check(alloc, &read, &whole, whole.sets(), whole.result(), rules) {
+        Ok(verified) => verified,
+        Err(fault) => return Err(Fault::Check(fault)),
+    };
+    match trim(alloc, &whole, &verified) {
+        Ok(shorter) => Ok(shorter),
+        Err(_) => Err(Fault::Check(CheckFault::C5)),
+    }
+}
+
+/// Sends the canonical text of a trace.
+fn send_trace<S: Sink>(trace: &Trace, sink: &mut S) -> Status
+    ensures { IsSent (S.written sink.old) (S.written sink.new) (S.failures sink.old) (S.failures sink.new) (trace_text trace.now) 0 result }
+{
+    match write_trace(trace, sink) {
+        Ok(()) => end_text(sink, 0),
+        Err(_) => DEVICE_FAILED,
+    }
+}
+
+/// Writes the trimmed trace to `out`, or its refusal to `err`.
+fn trim_job<F: Source, T: Source, O: Sink, E: Sink>(
+    alloc: Global,
+    rules: Rules,
+    formula: &mut F,
+    trace: &mut T,
+    out: &mut O,
+    err: &mut E,
+) -> Status
+    ensures { (answer : Result Derivation Fault)
+        × IsTrimmed (record { told = F.remaining formula.old; before = F.failures formula.old; after = F.failures formula.new })
+        (record { told = T.remaining trace.old; before = T.failures trace.old; after = T.failures trace.new }) answer
+        × IsOn (trim_report rules answer).sink
+        (IsSent (O.written out.old) (O.written out.new) (O.failures out.old) (O.failures out.new) (trim_report rules answer).text (trim_report rules answer).status result × (err.new ≡ err.old))
+        (IsSent (E.written err.old) (E.written err.new) (E.failures err.old) (E.failures err.new) (trim_report rules answer).text (trim_report rules answer).status result × (out.new ≡ out.old)) }
+{
+    match trimmed(alloc, rules, formula, trace) {
+        Ok(shorter) => send_trace(&shorter, out),
+        Err(fault) => send_fault(err, &fault),
     }
 }
 
@@ -131,8 +203,9 @@ pub fn run<F: Source, T: Source, O: Sink, E: Sink>(
     ensures not_pulled { job ≡ Format → trace.new ≡ trace.old }
 {
     match job {
-        Job::Check(rules) => check(alloc, rules, formula, trace, out),
-        Job::Format => format(alloc, formula, out, err),
+        Job::Check(rules) => check_job(alloc, rules, formula, trace, out),
+        Job::Trim(rules) => trim_job(alloc, rules, formula, trace, out, err),
+        Job::Format => format_job(alloc, formula, out, err),
     }
 }
 

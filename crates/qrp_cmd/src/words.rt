@@ -25,6 +25,9 @@ pub fn request(words: &[String]) -> Option<(Job, usize, Option<usize>)>
         [command, _, _] if is_word(command, "check") => {
             Some((Job::Check(Rules::plain()), 1, Some(2)))
         }
+        [command, _, _] if is_word(command, "trim") => {
+            Some((Job::Trim(Rules::plain()), 1, Some(2)))
+        }
         [command, _] if is_word(command, "format") => Some((Job::Format, 1, None)),
         _ => None,
     }

@@ -522,3 +522,50 @@ fn a_sink_that_fails_keeps_a_beginning(rt: HostRuntime) -> Result<(), Fail> {
     cut(&rt, Job::Format, (None, 4096, true), TWO_CLAUSES)?;
     cut(&rt, check, (None, 4096, true), line)
 }
+
+#[test]
+fn traces_are_trimmed(rt: HostRuntime) -> Result<(), Fail> {
+    let rows: [(&[u8], &[u8], &[u8], Status); 5] = [
+        (
+            b"p qrp 2 9\n1 1 2 0 0\n2 -1 2 0 0\n8 2 0 0\n7 0 1 2 0\nr UNSAT\n",
+            b"p qrp 2 3\n1 1 2 0 0\n2 -1 2 0 0\n7 0 1 2 0\nr unsat\n",
+            b"",
+            0,
+        ),
+        (
+            b"p qrp 2 3\n1 1 2 0 0\n2 -1 2 0 0\n7 0 1 2 0\nr unsat\n",
+            b"p qrp 2 3\n1 1 2 0 0\n2 -1 2 0 0\n7 0 1 2 0\nr unsat\n",
+            b"",
+            0,
+        ),
+        (
+            b"p qrp 2 6\ne 1 0\na 2 0\n1 1 2 0 0\n2 -1 2 0 0\n3 1 0 1 0\n4 -1 0 2 0\n5 0 3 4 0\n9 2 -2 0 77 0\nr unsat\n",
+            REFUTATION,
+            b"",
+            0,
+        ),
+        (
+            b"p qrp 2 5\ne 1 1 0\na 2 0\n1 1 2 0 0\n2 -1 2 0 0\n3 1 0 1 0\n4 -1 0 2 0\n5 0 3 4 0\nr unsat\n",
+            b"p qrp 2 5\ne 1 1 0\na 2 0\n1 1 2 0 0\n2 -1 2 0 0\n3 1 0 1 0\n4 -1 0 2 0\n5 0 3 4 0\nr unsat\n",
+            b"",
+            0,
+        ),
+        (
+            b"p qrp 2 5\ne 1 0\na 2 0\n1 1 2 0 0\n2 -1 2 0 0\n3 1 0 1 0\n4 -1 0 2 0\n5 0 3",
+            b"",
+            b"REFUSED trace P7 line 8\n",
+            2,
+        ),
+    ];
+    for (trace, out, err, status) in rows {
+        expect(
+            &rt,
+            Job::Trim(Rules::plain()),
+            (TWO_CLAUSES, trace),
+            out,
+            err,
+            status,
+        )?;
+    }
+    Ok(())
+}

@@ -20,6 +20,11 @@ fn rows_of_the_usage(rt: HostRuntime) -> Result<(), Fail> {
         request(&check),
         Some((Job::Check(Rules::plain()), 1, Some(2)))
     );
+    let trim = given(rt.alloc(), &["trim", "f", "t"])?;
+    assert_eq!(rt;
+        request(&trim),
+        Some((Job::Trim(Rules::plain()), 1, Some(2)))
+    );
     let rows: [&[&str]; 7] = [
         &[],
         &["format"],
@@ -27,7 +32,7 @@ fn rows_of_the_usage(rt: HostRuntime) -> Result<(), Fail> {
         &["Format", "f"],
         &["check", "f"],
         &["check", "--qu", "f", "t"],
-        &["trim", "f", "t"],
+        &["trim", "f"],
     ];
     for row in rows {
         let words = given(rt.alloc(), row)?;

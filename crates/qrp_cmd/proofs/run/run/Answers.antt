@@ -5,8 +5,8 @@ use Rattle.qrp_cmd.proofs.run.run.Goals as goal
 
 pub returns-in-Check-clause-report : goal.returns-in-Check-clause-report
 returns-in-Check-clause-report g c =
-    let answer = c.check.ensures.0 in (
+    let answer = c.check_job.ensures.0 in (
       check_report c.in-Check.rules answer,
-      check_output c.args.job c.in-Check.rules _ _ answer c.in-Check.is c.check.ensures.1,
-      check_goes_out c.in-Check.rules answer _ _ (c.check.ensures.2, refl),
+      check_output c.args.job c.in-Check.rules _ _ answer c.in-Check.is c.check_job.ensures.1,
+      check_goes_out c.in-Check.rules answer _ _ (c.check_job.ensures.2, refl),
     )

@@ -1,7 +1,7 @@
 use Rattle.std.proofs.Common.{refl, Ok, Err}
 use Rattle.qrp_cmd.proofs.OutputMore.{formula_read, formula_refused}
 use Rattle.qrp_cmd.specs.Output.{format_report}
-use Rattle.qrp_cmd.proofs.run.format.Goals as goal
+use Rattle.qrp_cmd.proofs.run.format_job.Goals as goal
 
 pub returns-in-Ok : goal.returns-in-Ok
 returns-in-Ok g c = (
