@@ -17,7 +17,7 @@ use qrp::Steps;
 use std::alloc::{AllocError, Global};
 
 /// Why a step gives no set.
-pub enum StepFault {
+pub(crate) enum StepFault {
     /// It does not follow.
     Rule(RuleFault),
     /// Memory was refused.
@@ -140,7 +140,7 @@ fn antecedent_fault<S: Side, T: Steps>(
 }
 
 /// The set of a step of the core, where it follows from those before it.
-pub fn step_set<S: Side, T: Steps>(
+pub(crate) fn step_set<S: Side, T: Steps>(
     alloc: Global,
     formula: &Formula,
     trace: &T,
