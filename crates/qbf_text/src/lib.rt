@@ -11,7 +11,7 @@ mod window;
 
 pub use pieces::{PieceSink, PieceSource};
 pub use scanner::{ScanFault, Scanner};
-pub use sink::{Sink, SinkFault, ToWrite, VecSink, put_bytes, put_number};
+pub use sink::{Sink, SinkFault, ToWrite, VecSink, put_byte, put_bytes, put_number};
 pub use source::{FromRead, SliceSource, Source, SourceFault};
 pub use token::{Comments, Token, Word};
 

@@ -6,7 +6,7 @@ ghost use Rattle.qbf_text.specs.Ahead.{ahead};
 ghost use Rattle.qbf_text.specs.Tokens.{kind, is_blank};
 ghost use Rattle.qbf_text.specs.Left.{is_separator, IsUnbroken, IsWithinLine, EndsRun, EndsLine, Gives, is_end};
 
-use crate::run::Run;
+use crate::run::{Numeral, Run, Spelling, begins_number};
 use crate::source::{Source, SourceFault};
 use crate::token::{Comments, Token};
 use crate::window::Window;
@@ -45,6 +45,31 @@ fn skip_line<S: Source>(window: &mut Window, source: &mut S) -> Result<(), Sourc
 }
 
 /// The kind of the run that begins with `first`, which was taken, and goes on with what is ahead.
+fn read_as<R: Run, S: Source>(
+    first: u8,
+    window: &mut Window,
+    source: &mut S,
+) -> Result<Token, SourceFault>
+    requires { R.begins first }
+    ensures run { IfOk result (λ token. (more : List ℕ) × (token ≡ kind (first ∷ more)) × IsUnbroken more
+        × Consumes (ahead window.old (S.remaining source.old)) (ahead window.new (S.remaining source.new)) more) }
+    ensures end { OnOk result (IfSome (ahead window.new (S.remaining source.new)) EndsRun) }
+    ensures bound { OnOk result (length window.new + S.bound source.new ≤ length window.old + S.bound source.old) }
+    ensures ok { OnOk result (S.failures source.new ≡ S.failures source.old) }
+    ensures err { OnErr result (S.failures source.old < 2 ^ 64 - 1 → S.failures source.old < S.failures source.new) }
+{
+    let mut run = R::begin(first);
+    'bytes: while let Some(byte) = window.peek(source)? {
+        if is_separator(byte) {
+            break;
+        }
+        run.push(byte);
+        window.advance();
+    }
+    Ok(run.kind())
+}
+
+/// The same, for any first byte.
 fn read_run<S: Source>(first: u8, window: &mut Window, source: &mut S) -> Result<Token, SourceFault>
     ensures run { IfOk result (λ token. (more : List ℕ) × (token ≡ kind (first ∷ more)) × IsUnbroken more
         × Consumes (ahead window.old (S.remaining source.old)) (ahead window.new (S.remaining source.new)) more) }
@@ -53,16 +78,11 @@ fn read_run<S: Source>(first: u8, window: &mut Window, source: &mut S) -> Result
     ensures ok { OnOk result (S.failures source.new ≡ S.failures source.old) }
     ensures err { OnErr result (S.failures source.old < 2 ^ 64 - 1 → S.failures source.old < S.failures source.new) }
 {
-    let mut run = Run::new();
-    run.push(first);
-    while let Some(byte) = window.peek(source)? {
-        if is_separator(byte) {
-            break;
-        }
-        run.push(byte);
-        window.advance();
+    if begins_number(first) {
+        read_as::<Numeral, S>(first, window, source)
+    } else {
+        read_as::<Spelling, S>(first, window, source)
     }
-    Ok(run.kind())
 }
 
 /// Where the next byte stands in the text.

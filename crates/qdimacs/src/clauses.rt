@@ -35,26 +35,26 @@ fn push(lits: &mut Vec<Lit>, lit: Lit) -> Result<(), Fault>
     }
 }
 
-/// The clause that begins with the token `first`.
+/// Reads the clause that begins with the token `first` into `lits`, in the place of what was there.
 fn read_clause<S: Source>(
-    alloc: Global,
     scanner: &mut Scanner,
     source: &mut S,
     max_var: u32,
     prefix: &Prefix,
     full: bool,
     first: (Token, u64),
-) -> Result<Vec<Lit>, Fault>
+    lits: &mut Vec<Lit>,
+) -> Result<(), Fault>
     requires ready { IsReady scanner.old (S.remaining source.old) }
     requires number { max_var ≤ 2147483647 }
     requires full { full ≡ true → IsFull max_var (pairs prefix.now) }
     ensures reads { (count : ℕ) (cs : List (List Literal)) →
         let h : Heading = record { max_var = max_var; count = count } in
-        Continues (λ lits. reads_from (Between h (pairs prefix.now) (cs ++ lits.items ∷ []))
+        Continues (λ _. reads_from (Between h (pairs prefix.now) (cs ++ lits.new.items ∷ []))
         (left scanner.new (S.remaining source.new))) result
         (reads_from (InClause h (pairs prefix.now) cs [])
         (put_on first.0 first.1 (left scanner.old (S.remaining source.old)))) }
-    ensures bound { IfOk result (λ lits. AreBound prefix.now lits.items) }
+    ensures bound { OnOk result (AreBound prefix.now lits.new.items) }
     ensures shorter { OnOk result (
         length scanner.new.pending + S.bound source.new ≤ length scanner.old.pending + S.bound source.old) }
     ensures source { IfErr result (λ e. e.0 ≡ F1
@@ -65,26 +65,29 @@ fn read_clause<S: Source>(
     ensures works { OnOk result (S.failures source.new ≡ S.failures source.old) }
     ensures ready { OnOk result (IsReady scanner.new (S.remaining source.new)) }
 {
-    let mut lits = Vec::new(alloc);
+    lits.clear();
     let (mut token, mut line) = first;
     'lits: loop {
         match literal(max_var, prefix, full, token) {
-            Ok(None) => return Ok(lits),
-            Ok(Some(lit)) => push(&mut lits, lit)?,
+            Ok(None) => return Ok(()),
+            Ok(Some(lit)) => push(lits, lit)?,
             Err(fault) => return Err((fault, line)),
         }
         (token, line) = next(scanner, source)?;
     }
 }
 
-/// Adds a clause to the formula.
-fn push_clause(formula: &mut Formula, clause: Vec<Lit>) -> Result<(), Fault>
-    requires bound { AreBound formula.old.blocks clause.items }
+/// Adds a clause of these literals to the formula, in no more room than they take.
+fn push_clause(alloc: Global, formula: &mut Formula, lits: &[Lit]) -> Result<(), Fault>
+    requires bound { AreBound formula.old.blocks lits.now }
     requires few { length formula.old.clauses < 2147483647 }
     ensures pushed { OnOk result (formula.new
-        ≡ record formula.old { clauses = formula.old.clauses ++ clause.items ∷ [] }) }
+        ≡ record formula.old { clauses = formula.old.clauses ++ lits.now ∷ [] }) }
     ensures memory { IfErr result (λ e. e ≡ (F9, 0)) }
 {
+    let Ok(clause) = Vec::from_slice(alloc, lits) else {
+        return Err((FormulaFault::F9, 0));
+    };
     match formula.push_clause(clause) {
         Ok(()) => Ok(()),
         Err(_) => Err((FormulaFault::F9, 0)),
@@ -117,22 +120,24 @@ pub(crate) fn read_clauses<S: Source>(
     ensures works { OnOk result (S.failures source.new ≡ S.failures source.old) }
 {
     let full = is_full(&formula);
+    // One buffer for all, so that each clause is kept in exactly its own room.
+    let mut lits = Vec::new(alloc);
     let (mut token, mut line) = first;
     'clauses: loop {
         let max_var = formula.max_var();
         let more = formula.clauses() < count as usize;
         match clause_or_end(more, token) {
             Ok(true) => {
-                let clause = read_clause(
-                    alloc,
+                read_clause(
                     scanner,
                     source,
                     max_var,
                     formula.prefix(),
                     full,
                     (token, line),
+                    &mut lits,
                 )?;
-                push_clause(&mut formula, clause)?;
+                push_clause(alloc, &mut formula, &lits)?;
             }
             Ok(false) => return Ok(formula),
             Err(fault) => return Err((fault, line)),

@@ -10,7 +10,7 @@ ghost use Rattle.qdimacs.specs.Reading.{read_formula};
 ghost use Rattle.qdimacs.specs.Texts.{zero_text, opening, spaced, prefix_rest, literal_text, clause_rest, clauses_text};
 
 use qbf_core::{Formula, Lit, Prefix, Quantifier};
-use qbf_text::{Sink, SinkFault, put_bytes, put_number};
+use qbf_text::{Sink, SinkFault, put_byte, put_bytes, put_number};
 
 /// A number behind a blank.
 fn put_spaced<K: Sink>(sink: &mut K, value: u32) -> Result<(), SinkFault>
@@ -19,7 +19,7 @@ fn put_spaced<K: Sink>(sink: &mut K, value: u32) -> Result<(), SinkFault>
     ensures failures_ok { OnOk result (K.failures sink.new ≡ K.failures sink.old) }
     ensures failures_err { OnErr result (K.failures sink.old < 2 ^ 64 - 1 → K.failures sink.old < K.failures sink.new) }
 {
-    put_bytes(sink, b" ")?;
+    put_byte(sink, b' ')?;
     put_number(sink, u64::from(value))
 }
 
@@ -30,7 +30,7 @@ fn put_minus<K: Sink>(sink: &mut K, value: u64) -> Result<(), SinkFault>
     ensures failures_ok { OnOk result (K.failures sink.new ≡ K.failures sink.old) }
     ensures failures_err { OnErr result (K.failures sink.old < 2 ^ 64 - 1 → K.failures sink.old < K.failures sink.new) }
 {
-    put_bytes(sink, b"-")?;
+    put_byte(sink, b'-')?;
     put_number(sink, value)
 }
 
@@ -56,7 +56,7 @@ fn put_literal<K: Sink>(sink: &mut K, lit: Lit) -> Result<(), SinkFault>
     ensures failures_err { OnErr result (K.failures sink.old < 2 ^ 64 - 1 → K.failures sink.old < K.failures sink.new) }
 {
     put_signed(sink, lit)?;
-    put_bytes(sink, b" ")
+    put_byte(sink, b' ')
 }
 
 /// A clause and its zero.
@@ -80,8 +80,8 @@ fn put_letter<K: Sink>(sink: &mut K, quantifier: Quantifier) -> Result<(), SinkF
     ensures failures_err { OnErr result (K.failures sink.old < 2 ^ 64 - 1 → K.failures sink.old < K.failures sink.new) }
 {
     match quantifier {
-        Quantifier::All => put_bytes(sink, b"a"),
-        Quantifier::Exists => put_bytes(sink, b"e"),
+        Quantifier::All => put_byte(sink, b'a'),
+        Quantifier::Exists => put_byte(sink, b'e'),
     }
 }
 
@@ -180,7 +180,7 @@ fn put_header<K: Sink>(sink: &mut K, max_var: u32, count: u32) -> Result<(), Sin
     put_bytes(sink, b"p cnf")?;
     put_spaced(sink, max_var)?;
     put_spaced(sink, count)?;
-    put_bytes(sink, b"\n")
+    put_byte(sink, b'\n')
 }
 
 /// Writes the canonical text of the formula in QDIMACS 1.1, and does not `finish` the sink.
