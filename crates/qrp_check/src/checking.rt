@@ -9,6 +9,7 @@ ghost use Rattle.qrp_check.specs.Proof.{Derives, Proves, IsFirstFault};
 ghost use Rattle.qrp_check.specs.Verdict.{is_sat};
 
 use crate::agree::sets_fault;
+use crate::clause_index::InitialClauses;
 use crate::fault::CheckFault;
 use crate::goal::find_goal;
 use crate::marks::mark_core;
@@ -79,12 +80,21 @@ fn check_core<S: Side, T: Steps>(
         core: Vec::new(alloc),
         kept: Vec::new(alloc),
     };
+    let mut clauses = InitialClauses::new();
     for place in 0..trace.len() {
         if !marks[place] {
             followed.skip()?;
             continue;
         }
-        match step_set::<S, T>(alloc, formula, trace, place, &followed.kept, rules) {
+        match step_set::<S, T>(
+            alloc,
+            formula,
+            trace,
+            place,
+            &followed.kept,
+            &mut clauses,
+            rules,
+        ) {
             Ok(set) => followed.keep(place, set)?,
             Err(StepFault::Rule(fault)) => return Err(CheckFault::C6(trace.number(place), fault)),
             Err(StepFault::Memory) => return Err(CheckFault::C5),

@@ -11,7 +11,7 @@ use qbf_core::{Formula, Lit, LitSet, Prefix, Quantifier, SetFault};
 use std::alloc::{AllocError, Global};
 
 /// Whether a clause as written is clean and has the set as a reduct.
-fn has_reduct(
+pub(crate) fn has_reduct(
     alloc: Global,
     prefix: &Prefix,
     clause: &[Lit],
@@ -20,6 +20,12 @@ fn has_reduct(
     requires { AreBound prefix.now clause.now }
     ensures { IfOk result (λ t. IsTrue t ↔ (IsClean clause.now × IsReduct Clauses prefix.now clause.now set.now)) }
 {
+    // Most clauses miss the first literal already, and are no set yet.
+    if let Some(lit) = set.as_slice().first() {
+        if !is_among(clause, *lit) {
+            return Ok(false);
+        }
+    }
     match LitSet::from_slice(alloc, clause, prefix) {
         Ok(from) => {
             let fault = reduct_by(prefix, Quantifier::All, Quantifier::Exists, &from, set);

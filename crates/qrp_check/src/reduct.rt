@@ -73,7 +73,12 @@ fn is_after(block: Option<usize>, place: usize) -> bool
 }
 
 /// Whether a variable has the quantifier, and stands in a block after this one.
-fn stands_after(prefix: &Prefix, quantifier: Quantifier, block: Option<usize>, var: Var) -> bool
+pub(crate) fn stands_after(
+    prefix: &Prefix,
+    quantifier: Quantifier,
+    block: Option<usize>,
+    var: Var,
+) -> bool
     ensures { IsTrue result ↔ StandsAfter prefix.now quantifier block var }
 {
     match prefix.block(var) {

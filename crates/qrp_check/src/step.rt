@@ -1,18 +1,20 @@
-ghost use Rattle.std.specs.Prelude.{◌≡◌, ℕ, ◌<◌, ◌∷◌, length, take, OnOk, IfOk, IfErr, IfSome, IfNone};
+ghost use Rattle.std.specs.Prelude.{◌≡◌, ℕ, ◌<◌, [], ◌∷◌, length, take, OnOk, IfOk, IfErr, IfSome, IfNone};
 ghost use Rattle.qbf_core.specs.Lists.{◌∈◌};
 ghost use Rattle.qbf_core.specs.Blocks.{AreBound};
 ghost use Rattle.qrp.specs.Inferences.{Inference, IsAt};
 ghost use Rattle.qrp_check.specs.declared.fault.RuleFault.TheVariants.{S3};
-ghost use Rattle.qrp_check.specs.Conditions.{IsAnswer, IsNumberOf, lits_of, reduct_conditions, resolvent_conditions, StepFollows, IsStepFault};
+ghost use Rattle.qrp_check.specs.Conditions.{IsAnswer, IsNumberOf, initial_condition, lits_of, reduct_conditions, resolvent_conditions, StepFollows, IsStepFault};
 ghost use Rattle.qrp_check.specs.Core.{IsInCore};
+ghost use Rattle.qrp_check.specs.Index.{IsIndexed};
 ghost use Rattle.qrp_check.specs.Kept.{AreKept, IsSetOf, IfRule, later_conditions};
 
+use crate::clause_index::InitialClauses;
 use crate::fault::RuleFault;
 use crate::reduct::reduct_fault;
 use crate::resolvent::resolvent_fault;
 use crate::side::Side;
 use crate::verdict::Rules;
-use qbf_core::{Formula, LitSet, SetFault};
+use qbf_core::{Formula, LitSet, Quantifier, SetFault};
 use qrp::Steps;
 use std::alloc::{AllocError, Global};
 
@@ -111,6 +113,24 @@ fn two_fault<S: Side, T: Steps>(
     resolvent_fault::<S>(formula.prefix(), a, b, set, rules)
 }
 
+/// Why a set is no initial step: clauses are found by what is known of them.
+fn initial_fault<S: Side>(
+    alloc: Global,
+    formula: &Formula,
+    clauses: &mut InitialClauses,
+    set: &LitSet,
+) -> Result<Option<RuleFault>, AllocError>
+    requires clauses { IsIndexed formula.now clauses.old }
+    requires bound { AreBound formula.now.blocks set.now }
+    ensures fault { IfOk result (λ fault. IsAnswer (initial_condition S.side formula.now set.now ∷ []) fault) }
+    ensures clauses { OnOk result (IsIndexed formula.now clauses.new) }
+{
+    match S::REDUCED {
+        Quantifier::All => clauses.fault(alloc, formula, set),
+        Quantifier::Exists => S::initial_fault(alloc, formula, set),
+    }
+}
+
 /// Why a step of the core does not follow from its antecedents, for a set of its literals.
 fn antecedent_fault<S: Side, T: Steps>(
     alloc: Global,
@@ -118,19 +138,22 @@ fn antecedent_fault<S: Side, T: Steps>(
     trace: &T,
     place: usize,
     kept: &[Option<LitSet>],
+    clauses: &mut InitialClauses,
     set: &LitSet,
     rules: Rules,
 ) -> Result<Option<RuleFault>, AllocError>
+    requires clauses { IsIndexed formula.now clauses.old }
     requires core { IsInCore (T.steps trace.now) place }
     requires kept { AreKept formula.now.blocks (T.steps trace.now) place kept.now }
     requires set { (step : Inference) → IsAt (T.steps trace.now) place step → IsSetOf formula.now.blocks set.now step.lits }
-    ensures { IfOk result (λ fault. (step : Inference) → IsAt (T.steps trace.now) place step
+    ensures fault { IfOk result (λ fault. (step : Inference) → IsAt (T.steps trace.now) place step
         → IsAnswer (later_conditions S.side formula.now (take place (T.steps trace.now)) step) fault) }
+    ensures clauses { OnOk result (IsIndexed formula.now clauses.new) }
 {
     // The length comes with the fact that no step has more than two antecedents.
     let _steps = trace.len();
     match trace.ants(place) {
-        [] => S::initial_fault(alloc, formula, set),
+        [] => initial_fault::<S>(alloc, formula, clauses, set),
         [number] => Ok(one_fault::<S, T>(formula, trace, place, kept, set, *number)),
         [first, second] => Ok(two_fault::<S, T>(
             formula, trace, place, kept, set, *first, *second, rules,
@@ -146,12 +169,15 @@ pub(crate) fn step_set<S: Side, T: Steps>(
     trace: &T,
     place: usize,
     kept: &[Option<LitSet>],
+    clauses: &mut InitialClauses,
     rules: Rules,
 ) -> Result<LitSet, StepFault>
+    requires clauses { IsIndexed formula.now clauses.old }
     requires core { IsInCore (T.steps trace.now) place }
     requires kept { AreKept formula.now.blocks (T.steps trace.now) place kept.now }
     ensures follows { OnOk result (StepFollows S.side formula.now (T.steps trace.now) place) }
     ensures set { IfOk result (λ set. (step : Inference) → IsAt (T.steps trace.now) place step → IsSetOf formula.now.blocks set step.lits) }
+    ensures clauses { OnOk result (IsIndexed formula.now clauses.new) }
     ensures fault { IfErr result (λ e. IfRule e (IsStepFault S.side formula.now (T.steps trace.now) place)) }
 {
     let set = match LitSet::from_slice(alloc, trace.lits(place), formula.prefix()) {
@@ -160,7 +186,7 @@ pub(crate) fn step_set<S: Side, T: Steps>(
         Err(SetFault::E2) => return Err(StepFault::Rule(RuleFault::S2)),
         Err(SetFault::E3) => return Err(StepFault::Memory),
     };
-    match antecedent_fault::<S, T>(alloc, formula, trace, place, kept, &set, rules)? {
+    match antecedent_fault::<S, T>(alloc, formula, trace, place, kept, clauses, &set, rules)? {
         None => Ok(set),
         Some(fault) => Err(StepFault::Rule(fault)),
     }

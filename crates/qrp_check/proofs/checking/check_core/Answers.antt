@@ -1,4 +1,4 @@
-use Rattle.std.proofs.Common.{◌≡◌, ℕ, ◌+◌, ◌<◌, ◌++◌, ◌∷◌, [], List, Bool, true, false, Option, Some, None, get_or, refl, sym, ap, subst, ◌∙◌, arith, length, below_more}
+use Rattle.std.proofs.Common.{◌≡◌, ℕ, ◌+◌, ◌<◌, List, Bool, true, false, Option, get_or, refl, sym, subst, ◌∙◌, arith, length, below_more}
 use Rattle.std.proofs.lemmas.Option.{slice_get_read, get_or_from_slice_get}
 use Rattle.qbf_core.specs.Literal.{Literal}
 use Rattle.qrp_check.specs.Conditions.{StepFollows, IsStepFault}
@@ -31,6 +31,7 @@ loop-place-preserved-then-not-index g c =
           i c.loop-place.invariant.follows (λ core. absurd (apart core));
       listing = subst (λ (ps : List ℕ). Listing c.in-Ok.marks.items (i + 1) ps) (sym c.in_ok-skip.ensures.core)
           (listing_skip c.in-Ok.marks.items i c.loop-place.followed.core.items out c.loop-place.invariant.listing);
+      indexed = c.loop-place.invariant.indexed;
       kept = subst (λ (ks : List (Option (List Literal))). AreKept c.args.formula.now.blocks (g.T.Steps.steps c.args.trace.now) (i + 1) ks) (sym c.in_ok-skip.ensures.kept)
           (kept_skip c.args.formula.now.blocks (g.T.Steps.steps c.args.trace.now) i c.loop-place.followed.kept.items apart c.loop-place.invariant.kept);
     }
@@ -67,6 +68,7 @@ loop-place-preserved g c =
           i c.loop-place.invariant.follows (λ core. c.in-Ok-step_set.ensures.follows);
       listing = subst (λ (ps : List ℕ). Listing c.in-Ok.marks.items (i + 1) ps) (sym c.in_ok-keep-in-Ok-step_set.ensures.core)
           (listing_push c.in-Ok.marks.items i c.loop-place.followed.core.items is c.loop-place.invariant.listing);
+      indexed = c.in-Ok-step_set.ensures.clauses;
       kept = subst (λ (ks : List (Option (List Literal))). AreKept c.args.formula.now.blocks (g.T.Steps.steps c.args.trace.now) (i + 1) ks) (sym c.in_ok-keep-in-Ok-step_set.ensures.kept)
           (kept_push c.args.formula.now.blocks (g.T.Steps.steps c.args.trace.now) i c.loop-place.followed.kept.items c.in-Ok-step_set.set c.in-Ok-step_set.ensures.set c.loop-place.invariant.kept);
     }

@@ -1,8 +1,10 @@
-use Rattle.std.proofs.Common.{◌↔◌, IsTrue, refl}
+use Rattle.std.proofs.Common.{◌↔◌, IsTrue, List, refl, sym, subst}
+use Rattle.qbf_core.specs.Literal.{Literal}
+use Rattle.qbf_core.specs.Lists.{◌∈◌}
 use Rattle.std.proofs.lemmas.Bool.{false≢true}
 use Rattle.qbf_core.specs.Rules.{Clauses, IsReduct}
 use Rattle.qbf_core.proofs.Bound.{bound_each}
-use Rattle.qrp_check.proofs.Starts.{not_clean, reduct_told, reduct_from}
+use Rattle.qrp_check.proofs.Starts.{got_in, not_clean, reduct_told, reduct_from}
 use Rattle.qrp_check.proofs.initial.has_reduct.Goals as goal
 
 pub returns-in-Ok : goal.returns-in-Ok
@@ -23,3 +25,10 @@ pub returns-in-Err-E2 : goal.returns-in-Err-E2
 returns-in-Err-E2 c =
     let w = c.in-Err-E2.ensures.unbound (cc c.in-Err-E2.field-0-is) in
     absurd (w.2 (bound_each c.args.prefix.now c.args.clause.now c.requires w.0 w.1))
+
+pub returns-then-not-is_among : goal.returns-then-not-is_among
+returns-then-not-is_among c = (
+  λ t. absurd (false≢true t),
+  λ h. absurd (false≢true (c.if-not-is_among.ensures.1 (h.1.within c.in-Some.lit.now
+  (subst (λ (lits : List Literal). c.in-Some.lit.now ∈ lits) c.as_slice.ensures.value (got_in c.as_slice.result.now 0 c.in-Some.lit.now (sym c.in-Some.ensures.value)))))),
+)

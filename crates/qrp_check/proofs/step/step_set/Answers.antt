@@ -23,7 +23,7 @@ returns-in-None-clause-follows g c =
     follows g.S.Side.side c.args.formula.now (g.T.Steps.steps c.args.trace.now) c.args.place c.lits.result.now c.requires.core c.lits.ensures
     c.in-Ok.ensures.fit.0 (rw c.prefix.ensures at c.in-Ok.ensures.fit.1)
     (λ step here. answer_none (later_conditions g.S.Side.side c.args.formula.now (take c.args.place (g.T.Steps.steps c.args.trace.now)) step)
-    c.in_ok-antecedent_fault.field-0 c.in-None.is (c.in_ok-antecedent_fault.ensures step here))
+    c.in_ok-antecedent_fault.field-0 c.in-None.is (c.in_ok-antecedent_fault.ensures.fault step here))
 
 pub returns-in-None-clause-set : goal.returns-in-None-clause-set
 returns-in-None-clause-set g c =
@@ -35,4 +35,4 @@ returns-in-Some-clause-fault g c =
     follows_not g.S.Side.side c.args.formula.now (g.T.Steps.steps c.args.trace.now) c.args.place c.lits.result.now c.in-Some.fault c.requires.core c.lits.ensures
     c.in-Ok.ensures.fit.0 (rw c.prefix.ensures at c.in-Ok.ensures.fit.1)
     (λ step here. answer_some (later_conditions g.S.Side.side c.args.formula.now (take c.args.place (g.T.Steps.steps c.args.trace.now)) step)
-    c.in_ok-antecedent_fault.field-0 c.in-Some.fault c.in-Some.is (c.in_ok-antecedent_fault.ensures step here))
+    c.in_ok-antecedent_fault.field-0 c.in-Some.fault c.in-Some.is (c.in_ok-antecedent_fault.ensures.fault step here))

@@ -1,0 +1,217 @@
+//! The clauses of a formula, found by the literals that universal reduction cannot take out of them.
+
+ghost use Rattle.std.specs.Prelude.{◌≡◌, ◌≢◌, ◌↔◌, ℕ, List, [], ◌∷◌, ◌++◌, Some, IsTrue, OnOk, IfOk, IfSome, IfNone};
+ghost use Rattle.qbf_core.specs.Literal.{Literal};
+ghost use Rattle.qbf_core.specs.Blocks.{AreBound};
+ghost use Rattle.qbf_core.specs.Rules.{Clauses, IsClean, IsInitial};
+ghost use Rattle.qbf_core.specs.Qbf.{Qbf};
+ghost use Rattle.qrp_check.specs.Conditions.{IsAnswer, initial_condition};
+ghost use Rattle.qrp_check.specs.Index.{HasReductAt, IsIndex, IsIndexed, IsReducedForm, mixed, number_from, places_under};
+
+use crate::fault::RuleFault;
+use crate::initial::has_reduct;
+use crate::reduct::{innermost, stands_after};
+use indexmap::IndexMap;
+use qbf_core::{Formula, Lit, LitSet, Prefix, Quantifier, SetFault};
+use std::alloc::{AllocError, Global};
+
+/// Odd, so that multiplying by it loses nothing of a number of 64 bits.
+const FACTOR: u64 = 1099511628211;
+
+/// A number with one literal more.
+fn mixed(number: u64, lit: Lit) -> u64
+    ensures { result ≡ mixed number lit }
+{
+    let sign = if lit.is_negative() { 1 } else { 0 };
+    let code = 2 * u64::from(lit.var().number()) + sign;
+    number.wrapping_mul(FACTOR).wrapping_add(code)
+}
+
+/// The number of the literals of a clause that are not reducible in it.
+fn reduced_number(prefix: &Prefix, set: &LitSet) -> u64
+    ensures { (form : List Literal) × IsReducedForm Clauses prefix.now set.now form × (result ≡ number_from 0 form) }
+{
+    let lits = set.as_slice();
+    let block = innermost(prefix, Quantifier::Exists, None, lits);
+    let mut number = 0u64;
+    for lit in lits {
+        if !stands_after(prefix, Quantifier::All, block, lit.var()) {
+            number = mixed(number, *lit);
+        }
+    }
+    number
+}
+
+/// The same of a clause as written, or `None` where it is not clean.
+fn clause_number(alloc: Global, prefix: &Prefix, clause: &[Lit]) -> Result<Option<u64>, AllocError>
+    requires { AreBound prefix.now clause.now }
+    ensures { IfOk result (λ number. IsClean clause.now →
+        (form : List Literal) × IsReducedForm Clauses prefix.now clause.now form × (number ≡ Some (number_from 0 form))) }
+{
+    match LitSet::from_slice(alloc, clause, prefix) {
+        Ok(set) => Ok(Some(reduced_number(prefix, &set))),
+        Err(SetFault::E1) => Ok(None),
+        // The clause is bound, so this is not met.
+        Err(SetFault::E2) => Ok(None),
+        Err(SetFault::E3) => Err(AllocError),
+    }
+}
+
+/// Files a place under a number.
+fn file(
+    alloc: Global,
+    index: &mut IndexMap<u64, Vec<usize>>,
+    number: u64,
+    place: usize,
+) -> Result<(), AllocError>
+    ensures here { OnOk result (places_under index.new number ≡ places_under index.old number ++ place ∷ []) }
+    ensures others { OnOk result ((n : ℕ) → n ≢ number → places_under index.new n ≡ places_under index.old n) }
+{
+    if let Some(places) = index.get_mut(&number) {
+        places.push(place)?;
+        return Ok(());
+    }
+    let mut places = Vec::new(alloc);
+    places.push(place)?;
+    index.insert(number, places)?;
+    Ok(())
+}
+
+/// Whether the clause at a place, if there is one, is clean and has the set as a reduct.
+fn has_reduct_at(
+    alloc: Global,
+    formula: &Formula,
+    place: usize,
+    set: &LitSet,
+) -> Result<bool, AllocError>
+    ensures { IfOk result (λ t. IsTrue t ↔ HasReductAt formula.now set.now place) }
+{
+    // Its contract says that the clauses are bound.
+    let _closed = formula.max_var();
+    if place >= formula.clauses() {
+        return Ok(false);
+    }
+    has_reduct(alloc, formula.prefix(), formula.clause(place), set)
+}
+
+/// The clean clauses of a formula, each filed under a number that it shares with its reducts.
+#[derive(Drop)]
+struct ClauseIndex {
+    places: IndexMap<u64, Vec<usize>>,
+}
+
+impl ClauseIndex {
+    /// The index of a formula.
+    fn new(alloc: Global, formula: &Formula) -> Result<ClauseIndex, AllocError>
+        ensures { IfOk result (λ index. IsIndex formula.now index.places) }
+    {
+        // Its contract says that the clauses are bound.
+        let _closed = formula.max_var();
+        let mut places = IndexMap::new(alloc);
+        for place in 0..formula.clauses() {
+            if let Some(number) = clause_number(alloc, formula.prefix(), formula.clause(place))? {
+                file(alloc, &mut places, number, place)?;
+            }
+        }
+        Ok(ClauseIndex { places })
+    }
+
+    /// The places under a number.
+    fn places_under(&self, number: u64) -> &[usize]
+        ensures { result.now ≡ places_under self.now.places number }
+    {
+        match self.places.get(&number) {
+            Some(places) => places.as_slice(),
+            None => &[],
+        }
+    }
+
+    /// The place of a clean clause that has the set as a reduct. Only clauses with its number are tried.
+    fn find(
+        &self,
+        alloc: Global,
+        formula: &Formula,
+        set: &LitSet,
+    ) -> Result<Option<usize>, AllocError>
+        requires { IsIndex formula.now self.now.places }
+        ensures some { IfOk result (λ found. IfSome found (HasReductAt formula.now set.now)) }
+        ensures none { IfOk result (λ found. IfNone found (IsInitial Clauses formula.now set.now → ⊥)) }
+    {
+        let places = self.places_under(reduced_number(formula.prefix(), set));
+        for place in places {
+            if has_reduct_at(alloc, formula, *place, set)? {
+                return Ok(Some(*place));
+            }
+        }
+        Ok(None)
+    }
+}
+
+/// How the initial clauses of a trace are found in the formula.
+#[derive(Drop)]
+pub(crate) struct InitialClauses {
+    /// The place behind the clause that was found last: solvers write initial steps in the order of the clauses.
+    next: usize,
+    /// Made when a clause is first not found there.
+    index: Option<ClauseIndex>,
+}
+
+impl InitialClauses {
+    /// Nothing is known of the formula, and no memory taken.
+    pub(crate) fn new() -> InitialClauses
+        ensures { (f : Qbf) → IsIndexed f result }
+    {
+        InitialClauses {
+            next: 0,
+            index: None,
+        }
+    }
+
+    /// The place of a clean clause that has the set as a reduct, by the index.
+    fn find(
+        &mut self,
+        alloc: Global,
+        formula: &Formula,
+        set: &LitSet,
+    ) -> Result<Option<usize>, AllocError>
+        requires { IsIndexed formula.now self.old }
+        ensures some { IfOk result (λ found. IfSome found (HasReductAt formula.now set.now)) }
+        ensures none { IfOk result (λ found. IfNone found (IsInitial Clauses formula.now set.now → ⊥)) }
+        ensures kept { OnOk result (IsIndexed formula.now self.new) }
+    {
+        if let Some(index) = &self.index {
+            return index.find(alloc, formula, set);
+        }
+        let index = ClauseIndex::new(alloc, formula)?;
+        let found = index.find(alloc, formula, set)?;
+        self.index = Some(index);
+        Ok(found)
+    }
+
+    /// Why the set is no initial clause, or `None` where it is one.
+    ///
+    /// # Errors
+    /// If memory was refused.
+    pub(crate) fn fault(
+        &mut self,
+        alloc: Global,
+        formula: &Formula,
+        set: &LitSet,
+    ) -> Result<Option<RuleFault>, AllocError>
+        requires { IsIndexed formula.now self.old }
+        ensures fault { IfOk result (λ fault. IsAnswer (initial_condition Clauses formula.now set.now ∷ []) fault) }
+        ensures kept { OnOk result (IsIndexed formula.now self.new) }
+    {
+        if has_reduct_at(alloc, formula, self.next, set)? {
+            self.next = self.next.saturating_add(1);
+            return Ok(None);
+        }
+        match self.find(alloc, formula, set)? {
+            Some(place) => {
+                self.next = place.saturating_add(1);
+                Ok(None)
+            }
+            None => Ok(Some(RuleFault::S4)),
+        }
+    }
+}
