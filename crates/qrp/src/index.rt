@@ -59,7 +59,27 @@ impl StepIndex {
         ensures found { IfSome result (λ i. slice_get self.now i ≡ Some number) }
         ensures only { (i : ℕ) → slice_get self.now i ≡ Some number → result ≡ Some i }
     {
-        self.numbers.get_index_of(&number)
+        match self.counted(number) {
+            Some(i) => Some(i),
+            None => self.numbers.get_index_of(&number),
+        }
+    }
+
+    /// The place that the number has where steps are counted one by one from the first, as most solvers do.
+    fn counted(&self, number: u64) -> Option<usize>
+        ensures { IfSome result (λ i. slice_get self.now i ≡ Some number) }
+    {
+        let numbers = self.numbers.as_slice();
+        let first = *numbers.first()?;
+        if number < first {
+            return None;
+        }
+        let i = (number - first) as usize;
+        if *numbers.get(i)? == number {
+            Some(i)
+        } else {
+            None
+        }
     }
 
     /// Whether a step has this number.
