@@ -1,5 +1,5 @@
 -- The sets that are kept while the core is walked.
-use Rattle.std.proofs.Common.{◌≡◌, ◌≢◌, ℕ, ◌+◌, ◌↔◌, true, false, List, [], ◌∷◌, ◌++◌, Option, Some, None, inl, inr, refl, sym, ap, subst, ◌∙◌, arith, length, length-append, IsTrue}
+use Rattle.std.proofs.Common.{◌≡◌, ◌≢◌, ℕ, ◌+◌, ◌↔◌, true, false, List, [], ◌∷◌, ◌++◌, Some, inl, inr, refl, sym, ap, subst, ◌∙◌, arith, length, length-append, IsTrue}
 use Rattle.std.specs.Prelude.{slice_get, Result, Ok, Err, OnOk, IfOk, IfErr}
 use Rattle.std.proofs.lemmas.Bool.{cases_eq}
 use Rattle.qbf_core.specs.Literal.{Literal}
@@ -7,6 +7,7 @@ use Rattle.qbf_core.specs.Blocks.{Block}
 use Rattle.qbf_core.specs.Qbf.{Qbf, IsClosed, IsWellFormed}
 use Rattle.qbf_core.specs.Truth.{IsTrueFormula}
 use Rattle.qbf_core.specs.Rules.{Side, Clauses, Cubes}
+use Rattle.qbf_core.specs.Sets.{IsOrdered}
 use Rattle.qrp.specs.Inferences.{Inference, IsAt}
 use Rattle.qrp.specs.declared.item.Outcome.{Outcome}
 use Rattle.qrp_check.specs.declared.fault.CheckFault.{CheckFault}
@@ -17,40 +18,34 @@ use Rattle.qrp_check.specs.Proof.{side_of, Derives, Proves, IsFirstFault, Result
 use Rattle.qrp_check.specs.Sets.{SetsAgree}
 use Rattle.qrp_check.specs.declared.verdict.Verified.{Verified}
 use Rattle.qrp_check.proofs.Soundness.{soundness}
-use Rattle.qrp_check.proofs.Places.{pushed_cases, pushed_old, pushed_new}
+use Rattle.qrp_check.proofs.Places.{pushed_old, pushed_new}
 
-more_entries : (kept : List (Option (List Literal))) (x : Option (List Literal)) (i : ℕ) → length kept ≡ i → length (kept ++ x ∷ []) ≡ i + 1
+more_entries : (kept : List (List Literal)) (x : List Literal) (i : ℕ) → length kept ≡ i → length (kept ++ x ∷ []) ≡ i + 1
 more_entries kept x i count = length-append kept (x ∷ []) ∙ ap (λ (n : ℕ). n + 1) count
 
-pub kept_skip : (blocks : List Block) (steps : List Inference) (i : ℕ) (kept : List (Option (List Literal)))
-    → (IsInCore steps i → ⊥) → AreKept blocks steps i kept → AreKept blocks steps (i + 1) (kept ++ None ∷ [])
-kept_skip blocks steps i kept out are = record {
-  count = more_entries kept None i are.count;
-  full = λ j less core. elim (cases_eq j i) [
+-- an entry of a step that the core does not need
+pub kept_skip : (blocks : List Block) (steps : List Inference) (i : ℕ) (kept : List (List Literal)) (entry : List Literal)
+    → (IsInCore steps i → ⊥) → AreKept blocks steps i kept → AreKept blocks steps (i + 1) (kept ++ entry ∷ [])
+kept_skip blocks steps i kept entry out are = record {
+  count = more_entries kept entry i are.count;
+  sets = λ j step less core here. elim (cases_eq j i) [
     | inl e ↦ absurd (out (subst (IsInCore steps) e core))
-    | inr ne ↦ (let w = are.full j (omega (arith, less, ne)) core in (w.0, pushed_old kept None j (Some w.0) w.1))
-  ];
-  sets = λ j set step has here. elim (pushed_cases kept None j (Some set) has) [
-    | inl old ↦ are.sets j set step old here
-    | inr (_, e) ↦ (let f : Some set ≡ None = e in cc f)
+    | inr ne ↦ (let w = are.sets j step (omega (arith, less, ne)) core here in (w.0, pushed_old kept entry j w.0 w.1, w.2, w.3))
   ];
 }
 
-pub kept_push : (blocks : List Block) (steps : List Inference) (i : ℕ) (kept : List (Option (List Literal))) (set : List Literal)
-    → ((step : Inference) → IsAt steps i step → IsSetOf blocks set step.lits) → AreKept blocks steps i kept → AreKept blocks steps (i + 1) (kept ++ Some set ∷ [])
-kept_push blocks steps i kept set is are = record {
-  count = more_entries kept (Some set) i are.count;
-  full = λ j less core. elim (cases_eq j i) [
-    | inl e ↦ (set, subst (λ (k : ℕ). slice_get (kept ++ Some set ∷ []) k ≡ Some (Some set)) (are.count ∙ sym e) (pushed_new kept (Some set)))
-    | inr ne ↦ (let w = are.full j (omega (arith, less, ne)) core in (w.0, pushed_old kept (Some set) j (Some w.0) w.1))
-  ];
-  sets = λ j other step has here. elim (pushed_cases kept (Some set) j (Some other) has) [
-    | inl old ↦ are.sets j other step old here
-    | inr (at, e) ↦ (
-        let f : Some other ≡ Some set = e in
-        let same : set ≡ other = cc f in
-        let place : j ≡ i = at ∙ are.count in
-        subst (λ (s : List Literal). IsSetOf blocks s step.lits) same (is step (subst (λ (k : ℕ). IsAt steps k step) place here)))
+pub kept_push : (blocks : List Block) (steps : List Inference) (i : ℕ) (kept : List (List Literal)) (set : List Literal) → IsOrdered set
+    → ((step : Inference) → IsAt steps i step → IsSetOf blocks set step.lits) → AreKept blocks steps i kept → AreKept blocks steps (i + 1) (kept ++ set ∷ [])
+kept_push blocks steps i kept set ordered is are = record {
+  count = more_entries kept set i are.count;
+  sets = λ j step less core here. elim (cases_eq j i) [
+    | inl e ↦ (
+      set,
+      subst (λ (k : ℕ). slice_get (kept ++ set ∷ []) k ≡ Some set) (are.count ∙ sym e) (pushed_new kept set),
+      ordered,
+      is step (subst (λ (k : ℕ). IsAt steps k step) e here),
+    )
+    | inr ne ↦ (let w = are.sets j step (omega (arith, less, ne)) core here in (w.0, pushed_old kept set j w.0 w.1, w.2, w.3))
   ];
 }
 

@@ -1,14 +1,13 @@
 -- One step of the core: the sets of its antecedents, and its conditions.
-use Rattle.std.proofs.Common.{◌≡◌, ℕ, zero, suc, ◌<◌, ◌≤◌, List, [], ◌∷◌, Option, Some, None, inl, inr, refl, sym, ap, subst, ◌∙◌, arith, length, get_or, take}
+use Rattle.std.proofs.Common.{◌≡◌, ℕ, zero, suc, ◌<◌, ◌≤◌, List, [], ◌∷◌, Option, Some, None, inl, inr, refl, sym, subst, ◌∙◌, arith, length, get_or, take}
 use Rattle.std.specs.Prelude.{slice_get}
 use Rattle.std.specs.List.{AllByRecursion}
-use Rattle.std.proofs.lemmas.Option.{slice_get_read}
 use Rattle.qbf_core.specs.Literal.{Literal, positive, negative}
 use Rattle.qbf_core.specs.Lists.{◌∈◌}
 use Rattle.qbf_core.specs.Blocks.{Block, AreBound, IsBound}
 use Rattle.qbf_core.specs.Qbf.{Qbf}
 use Rattle.qbf_core.specs.Rules.{Side, IsClean, IsTautology}
-use Rattle.qbf_core.specs.Sets.{HasMembersOf}
+use Rattle.qbf_core.specs.Sets.{HasMembersOf, IsOrdered}
 use Rattle.qbf_core.proofs.Bound.{in_all, bound_each}
 use Rattle.qrp.specs.Inferences.{Inference, IsAt, HasFewAntecedents}
 use Rattle.qrp_check.specs.declared.fault.RuleFault.{RuleFault}
@@ -49,14 +48,6 @@ found_late steps place number index answer only found late (s, h, is) =
     let less : w.0 < place = w.1 in
     omega (arith, same, less, late)
 
-pub kept_at : (kept : List (Option (List Literal))) (i : ℕ) (x : Option (List Literal)) → i < length kept → x ≡ get_or kept i x → slice_get kept i ≡ Some x
-kept_at kept i x less is = slice_get_read _ (length kept) i x refl less is
-
--- the same, of a value that was read and then looked at
-pub kept_is : (kept : List (Option (List Literal))) (i : ℕ) (read x : Option (List Literal)) → i < length kept → read ≡ get_or kept i read → read ≡ x
-    → slice_get kept i ≡ Some x
-kept_is kept i read x less is same = kept_at kept i read less is ∙ ap (λ (y : Option (List Literal)). Some y) same
-
 needed : (steps : List Inference) (place index number : ℕ) → IsInCore steps place
     → ((step : Inference) → IsAt steps place step → number ∈ step.ants) → index < place
     → (below : Inference) → IsAt steps index below → below.number ≡ number → IsInCore steps index
@@ -71,27 +62,25 @@ needed steps place index number core ants less below here is =
       named = subst (λ (n : ℕ). n ∈ above.0.ants) (sym is) (ants above.0 above.1);
     })
 
-pub never_missing : (blocks : List Block) (steps : List Inference) (kept : List (Option (List Literal))) (place index number : ℕ)
+pub set_found : (blocks : List Block) (steps : List Inference) (kept : List (List Literal)) (place index number : ℕ) (answer : Option ℕ) (set : List Literal)
     → AreKept blocks steps place kept → IsInCore steps place → ((step : Inference) → IsAt steps place step → number ∈ step.ants)
-    → index < place → (below : Inference) × IsAt steps index below × (below.number ≡ number) → slice_get kept index ≡ Some None → ⊥
-never_missing blocks steps kept place index number are core ants less (below, here, is) none =
-    let w = are.full index less (needed steps place index number core ants less below here is) in
-    let e : Some (Some w.0) ≡ Some None = sym w.1 ∙ none in
-    let f : Some w.0 ≡ None = cc e in
-    cc f
-
-pub set_found : (blocks : List Block) (steps : List Inference) (kept : List (Option (List Literal))) (place index number : ℕ) (answer : Option ℕ) (set : List Literal)
-    → AreKept blocks steps place kept → IsOnly steps number answer → answer ≡ Some index
-    → index < place → (below : Inference) × IsAt steps index below × (below.number ≡ number) → slice_get kept index ≡ Some (Some set)
-    → IsNumberOf (take place steps) number × IsSetOf blocks set (lits_of (take place steps) number)
-set_found blocks steps kept place index number answer set are only found less (below, here, is) has =
+    → IsOnly steps number answer → answer ≡ Some index
+    → index < place → (below : Inference) × IsAt steps index below × (below.number ≡ number) → slice_get kept index ≡ Some set
+    → IsOrdered set × IsNumberOf (take place steps) number × IsSetOf blocks set (lits_of (take place steps) number)
+set_found blocks steps kept place index number answer set are core ants only found less (below, here, is) has =
     let own : IsNumberOf (take place steps) number = (below, in_taken steps place index below less here, is) in
     let s = named (take place steps) number own in
     let w = in_take steps place s.0 s.1 in
     let e : Some w.0 ≡ Some index = sym (only w.0 s.0 w.2 s.2) ∙ found in
     let same : w.0 ≡ index = cc e in
     let at : IsAt steps index s.0 = subst (λ (k : ℕ). IsAt steps k s.0) same w.2 in
-    (own, subst (λ (lits : List Literal). IsSetOf blocks set lits) s.3 (are.sets index set s.0 has at))
+    let k = are.sets index s.0 less (needed steps place index number core ants less below here is) at in
+    let f : Some k.0 ≡ Some set = sym k.1 ∙ has in
+    let is_set : k.0 ≡ set = cc f in (
+      subst (λ (z : List Literal). IsOrdered z) is_set k.2,
+      own,
+      subst (λ (lits : List Literal). IsSetOf blocks set lits) s.3 (subst (λ (z : List Literal). IsSetOf blocks z s.0.lits) is_set k.3),
+    )
 
 -- ---- the conditions of a step
 

@@ -1,11 +1,11 @@
 -- The sets of the core steps that were looked at.
-use Rattle.std.specs.Prelude.{◌≡◌, ℕ, ◌<◌, List, ◌∷◌, Option, Some, slice_get, length}
+use Rattle.std.specs.Prelude.{◌≡◌, ℕ, ◌<◌, List, ◌∷◌, Some, slice_get, length}
 use Rattle.qbf_core.specs.Literal.{Literal}
 use Rattle.qbf_core.specs.Lists.{◌∈◌}
 use Rattle.qbf_core.specs.Blocks.{Block, AreBound}
 use Rattle.qbf_core.specs.Qbf.{Qbf}
 use Rattle.qbf_core.specs.Rules.{Side}
-use Rattle.qbf_core.specs.Sets.{HasMembersOf}
+use Rattle.qbf_core.specs.Sets.{HasMembersOf, IsOrdered}
 use Rattle.qrp.specs.Inferences.{Inference, IsAt}
 use Rattle.qrp_check.specs.Conditions.{Condition, IsNumberOf, antecedent_conditions}
 use Rattle.qrp_check.specs.Core.{IsInCore}
@@ -22,11 +22,11 @@ pub record IsSetOf (blocks : List Block) (set lits : List Literal) : Type 0 wher
   pub members : HasMembersOf set lits
   pub bound : AreBound blocks set
 
--- each step before place i has an entry, those of the core with their sets
-pub record AreKept (blocks : List Block) (steps : List Inference) (i : ℕ) (kept : List (Option (List Literal))) : Type 0 where
+-- each step before place i has an entry, those of the core their sets in order
+pub record AreKept (blocks : List Block) (steps : List Inference) (i : ℕ) (kept : List (List Literal)) : Type 0 where
   pub count : length kept ≡ i
-  pub full : (j : ℕ) → j < i → IsInCore steps j → (set : List Literal) × (slice_get kept j ≡ Some (Some set))
-  pub sets : (j : ℕ) (set : List Literal) (step : Inference) → slice_get kept j ≡ Some (Some set) → IsAt steps j step → IsSetOf blocks set step.lits
+  pub sets : (j : ℕ) (step : Inference) → j < i → IsInCore steps j → IsAt steps j step
+      → (set : List Literal) × (slice_get kept j ≡ Some set) × IsOrdered set × IsSetOf blocks set step.lits
 
 -- the fault is one of the rules, and this holds of it
 abbrev pub IfRule : StepFault → (RuleFault → Type 0) → Type 0

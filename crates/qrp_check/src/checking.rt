@@ -1,4 +1,4 @@
-ghost use Rattle.std.specs.Prelude.{◌≡◌, ◌≢◌, ◌↔◌, ℕ, ◌<◌, length, ◌++◌, ◌∷◌, [], Some, None, IsTrue, OnOk, IfOk, IfErr};
+ghost use Rattle.std.specs.Prelude.{◌≡◌, ◌≢◌, ◌↔◌, ℕ, ◌<◌, length, ◌++◌, ◌∷◌, [], IsTrue, OnOk, IfOk, IfErr};
 ghost use Rattle.std.specs.List.{AllByRecursion};
 ghost use Rattle.std.specs.List.Sorted.{IsStrictlyIncreasing};
 ghost use Rattle.qbf_core.specs.Truth.{IsTrueFormula};
@@ -16,7 +16,7 @@ use crate::marks::mark_core;
 use crate::side::{Clauses, Cubes, Side};
 use crate::step::{StepFault, step_set};
 use crate::verdict::{Rules, Verified};
-use qbf_core::{Formula, LitSet};
+use qbf_core::{Formula, Lit, LitLists};
 use qrp::{Outcome, QuantSet, Steps};
 use std::alloc::Global;
 
@@ -25,33 +25,33 @@ use std::alloc::Global;
 struct Followed {
     /// Their places, in order.
     core: Vec<usize>,
-    /// An entry for each step so far: the set of a step of the core.
-    kept: Vec<Option<LitSet>>,
+    /// A list for each step so far: the set of a step of the core, or nothing.
+    kept: LitLists,
 }
 
 impl Followed {
     /// Goes past a step that the goal does not need.
     fn skip(&mut self) -> Result<(), CheckFault>
         ensures core { OnOk result (self.new.core.items ≡ self.old.core.items) }
-        ensures kept { OnOk result (self.new.kept.items ≡ self.old.kept.items ++ None ∷ []) }
+        ensures kept { OnOk result (self.new.kept ≡ self.old.kept ++ [] ∷ []) }
         ensures memory { IfErr result (λ e. e ≡ C5) }
     {
-        match self.kept.push(None) {
+        match self.kept.push(&[]) {
             Ok(()) => Ok(()),
             Err(_) => Err(CheckFault::C5),
         }
     }
 
     /// Keeps the set of the step at a place, which is the next of the core.
-    fn keep(&mut self, place: usize, set: LitSet) -> Result<(), CheckFault>
+    fn keep(&mut self, place: usize, set: &[Lit]) -> Result<(), CheckFault>
         ensures core { OnOk result (self.new.core.items ≡ self.old.core.items ++ place ∷ []) }
-        ensures kept { OnOk result (self.new.kept.items ≡ self.old.kept.items ++ Some set ∷ []) }
+        ensures kept { OnOk result (self.new.kept ≡ self.old.kept ++ set.now ∷ []) }
         ensures memory { IfErr result (λ e. e ≡ C5) }
     {
         if self.core.push(place).is_err() {
             return Err(CheckFault::C5);
         }
-        match self.kept.push(Some(set)) {
+        match self.kept.push(set) {
             Ok(()) => Ok(()),
             Err(_) => Err(CheckFault::C5),
         }
@@ -78,7 +78,7 @@ fn check_core<S: Side, T: Steps>(
     };
     let mut followed = Followed {
         core: Vec::new(alloc),
-        kept: Vec::new(alloc),
+        kept: LitLists::new(alloc),
     };
     let mut clauses = InitialClauses::new();
     for place in 0..trace.len() {
@@ -95,7 +95,7 @@ fn check_core<S: Side, T: Steps>(
             &mut clauses,
             rules,
         ) {
-            Ok(set) => followed.keep(place, set)?,
+            Ok(set) => followed.keep(place, set.as_slice())?,
             Err(StepFault::Rule(fault)) => return Err(CheckFault::C6(trace.number(place), fault)),
             Err(StepFault::Memory) => return Err(CheckFault::C5),
         }

@@ -28,7 +28,13 @@ pub(crate) fn has_reduct(
     }
     match LitSet::from_slice(alloc, clause, prefix) {
         Ok(from) => {
-            let fault = reduct_by(prefix, Quantifier::All, Quantifier::Exists, &from, set);
+            let fault = reduct_by(
+                prefix,
+                Quantifier::All,
+                Quantifier::Exists,
+                from.as_slice(),
+                set.as_slice(),
+            );
             Ok(fault.is_none())
         }
         Err(SetFault::E1) => Ok(false),

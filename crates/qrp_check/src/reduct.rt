@@ -126,28 +126,37 @@ pub(crate) fn leaves_reducible(
     true
 }
 
-/// Why one set is no reduct of the other, for a side with these quantifiers.
+/// Why one ordered list is no reduct of the other, for a side with these quantifiers.
 pub(crate) fn reduct_by(
     prefix: &Prefix,
     reduced: Quantifier,
     deciding: Quantifier,
-    from: &LitSet,
-    to: &LitSet,
+    from: &[Lit],
+    to: &[Lit],
 ) -> Option<RuleFault>
+    requires from { IsOrdered from.now }
+    requires to { IsOrdered to.now }
     ensures { (side : Rattle.qbf_core.specs.Rules.Side)
         → reduced ≡ reduced_quantifier side → deciding ≡ deciding_quantifier side
         → IsAnswer (reduct_conditions side prefix.now from.now to.now) result }
 {
-    let lits = from.as_slice();
-    let kept = to.as_slice();
-    if !is_subset(kept, lits) {
+    if !is_subset(to, from) {
         return Some(RuleFault::S6);
     }
-    let block = innermost(prefix, deciding, None, lits);
-    if !leaves_reducible(prefix, reduced, block, None, lits, kept) {
+    let block = innermost(prefix, deciding, None, from);
+    if !leaves_reducible(prefix, reduced, block, None, from, to) {
         return Some(RuleFault::S7);
     }
     None
+}
+
+/// The same on the side of clauses or of cubes.
+pub(crate) fn reduct_of<S: Side>(prefix: &Prefix, from: &[Lit], to: &[Lit]) -> Option<RuleFault>
+    requires from { IsOrdered from.now }
+    requires to { IsOrdered to.now }
+    ensures { IsAnswer (reduct_conditions S.side prefix.now from.now to.now) result }
+{
+    reduct_by(prefix, S::REDUCED, S::DECIDING, from, to)
 }
 
 /// Why a set is no reduct of another, or `None` where it is one. Both are over this prefix.
@@ -161,7 +170,7 @@ pub fn reduct_fault<S: Side>(prefix: &Prefix, from: &LitSet, to: &LitSet) -> Opt
     requires to { AreBound prefix.now to.now }
     ensures { IsAnswer (reduct_conditions S.side prefix.now from.now to.now) result }
 {
-    reduct_by(prefix, S::REDUCED, S::DECIDING, from, to)
+    reduct_of::<S>(prefix, from.as_slice(), to.as_slice())
 }
 
 /// Whether a set is a reduct of another, as `reduct_fault` says. Both are over this prefix. It takes no memory.

@@ -99,6 +99,37 @@ fn is_pivot<S: Side>(prefix: &Prefix, pivot: Var) -> bool
     is_bound_by(prefix, S::DECIDING, pivot)
 }
 
+/// Why an ordered list does not follow from two others by resolution.
+pub(crate) fn resolvent_of<S: Side>(
+    prefix: &Prefix,
+    a: &[Lit],
+    b: &[Lit],
+    to: &[Lit],
+    _rules: Rules,
+) -> Option<RuleFault>
+    requires a { IsOrdered a.now }
+    requires b { IsOrdered b.now }
+    requires to { IsOrdered to.now }
+    ensures { IsAnswer (resolvent_conditions S.side prefix.now a.now b.now to.now) result }
+{
+    match find_clash(a, b) {
+        Clash::Nothing => Some(RuleFault::S8),
+        Clash::More => Some(RuleFault::S9),
+        Clash::One(pivot) => {
+            if !is_pivot::<S>(prefix, pivot) {
+                return Some(RuleFault::S10);
+            }
+            if !is_within(to, a, b, pivot) {
+                return Some(RuleFault::S11);
+            }
+            if !is_reduced::<S>(prefix, a, b, to, pivot) {
+                return Some(RuleFault::S12);
+            }
+            None
+        }
+    }
+}
+
 /// Why a set does not follow from two others by resolution, or `None` where it does. The sets are over this prefix.
 ///
 /// It follows if the two clash in exactly one variable, that variable has the deciding quantifier, and the set is a
@@ -111,30 +142,12 @@ pub fn resolvent_fault<S: Side>(
     a: &LitSet,
     b: &LitSet,
     to: &LitSet,
-    _rules: Rules,
+    rules: Rules,
 ) -> Option<RuleFault>
     requires a { AreBound prefix.now a.now }
     requires b { AreBound prefix.now b.now }
     requires to { AreBound prefix.now to.now }
     ensures { IsAnswer (resolvent_conditions S.side prefix.now a.now b.now to.now) result }
 {
-    let left = a.as_slice();
-    let right = b.as_slice();
-    let step = to.as_slice();
-    match find_clash(left, right) {
-        Clash::Nothing => Some(RuleFault::S8),
-        Clash::More => Some(RuleFault::S9),
-        Clash::One(pivot) => {
-            if !is_pivot::<S>(prefix, pivot) {
-                return Some(RuleFault::S10);
-            }
-            if !is_within(step, left, right, pivot) {
-                return Some(RuleFault::S11);
-            }
-            if !is_reduced::<S>(prefix, left, right, step, pivot) {
-                return Some(RuleFault::S12);
-            }
-            None
-        }
-    }
+    resolvent_of::<S>(prefix, a.as_slice(), b.as_slice(), to.as_slice(), rules)
 }

@@ -1,6 +1,7 @@
 ghost use Rattle.std.specs.Prelude.{◌≡◌, ℕ, ◌<◌, [], ◌∷◌, length, take, OnOk, IfOk, IfErr, IfSome, IfNone};
 ghost use Rattle.qbf_core.specs.Lists.{◌∈◌};
 ghost use Rattle.qbf_core.specs.Blocks.{AreBound};
+ghost use Rattle.qbf_core.specs.Sets.{IsOrdered};
 ghost use Rattle.qrp.specs.Inferences.{Inference, IsAt};
 ghost use Rattle.qrp_check.specs.declared.fault.RuleFault.TheVariants.{S3};
 ghost use Rattle.qrp_check.specs.Conditions.{IsAnswer, IsNumberOf, initial_condition, lits_of, reduct_conditions, resolvent_conditions, StepFollows, IsStepFault};
@@ -10,11 +11,11 @@ ghost use Rattle.qrp_check.specs.Kept.{AreKept, IsSetOf, IfRule, later_condition
 
 use crate::clause_index::InitialClauses;
 use crate::fault::RuleFault;
-use crate::reduct::reduct_fault;
-use crate::resolvent::resolvent_fault;
+use crate::reduct::reduct_of;
+use crate::resolvent::resolvent_of;
 use crate::side::Side;
 use crate::verdict::Rules;
-use qbf_core::{Formula, LitSet, Quantifier, SetFault};
+use qbf_core::{Formula, Lit, LitLists, LitSet, Quantifier, SetFault};
 use qrp::Steps;
 use std::alloc::{AllocError, Global};
 
@@ -42,24 +43,22 @@ fn earlier<'a, T: Steps>(
     formula: &Formula,
     trace: &T,
     place: usize,
-    kept: &'a [Option<LitSet>],
+    kept: &'a LitLists,
     number: u64,
-) -> Option<&'a LitSet>
+) -> Option<&'a [Lit]>
     requires core { IsInCore (T.steps trace.now) place }
     requires named { (step : Inference) → IsAt (T.steps trace.now) place step → number ∈ step.ants }
     requires kept { AreKept formula.now.blocks (T.steps trace.now) place kept.now }
     ensures some { IfSome result (λ set. IsNumberOf (take place (T.steps trace.now)) number
         × IsSetOf formula.now.blocks set.now (lits_of (take place (T.steps trace.now)) number)) }
+    ensures ordered { IfSome result (λ set. IsOrdered set.now) }
     ensures none { IfNone result (IsNumberOf (take place (T.steps trace.now)) number → ⊥) }
 {
     let index = trace.position(number)?;
     if index >= kept.len() {
         return None;
     }
-    match &kept[index] {
-        Some(set) => Some(set),
-        None => unreachable!(),
-    }
+    Some(kept.get(index))
 }
 
 /// Why a step with one antecedent does not follow, for a set of its literals.
@@ -67,7 +66,7 @@ fn one_fault<S: Side, T: Steps>(
     formula: &Formula,
     trace: &T,
     place: usize,
-    kept: &[Option<LitSet>],
+    kept: &LitLists,
     set: &LitSet,
     number: u64,
 ) -> Option<RuleFault>
@@ -79,7 +78,7 @@ fn one_fault<S: Side, T: Steps>(
         ∷ reduct_conditions S.side formula.now.blocks (lits_of (take place (T.steps trace.now)) number) set.now) result }
 {
     match earlier(formula, trace, place, kept, number) {
-        Some(from) => reduct_fault::<S>(formula.prefix(), from, set),
+        Some(from) => reduct_of::<S>(formula.prefix(), from, set.as_slice()),
         None => Some(RuleFault::S3),
     }
 }
@@ -89,7 +88,7 @@ fn two_fault<S: Side, T: Steps>(
     formula: &Formula,
     trace: &T,
     place: usize,
-    kept: &[Option<LitSet>],
+    kept: &LitLists,
     set: &LitSet,
     first: u64,
     second: u64,
@@ -110,7 +109,7 @@ fn two_fault<S: Side, T: Steps>(
     let Some(b) = earlier(formula, trace, place, kept, second) else {
         return Some(RuleFault::S3);
     };
-    resolvent_fault::<S>(formula.prefix(), a, b, set, rules)
+    resolvent_of::<S>(formula.prefix(), a, b, set.as_slice(), rules)
 }
 
 /// Why a set is no initial step: clauses are found by what is known of them.
@@ -137,7 +136,7 @@ fn antecedent_fault<S: Side, T: Steps>(
     formula: &Formula,
     trace: &T,
     place: usize,
-    kept: &[Option<LitSet>],
+    kept: &LitLists,
     clauses: &mut InitialClauses,
     set: &LitSet,
     rules: Rules,
@@ -168,7 +167,7 @@ pub(crate) fn step_set<S: Side, T: Steps>(
     formula: &Formula,
     trace: &T,
     place: usize,
-    kept: &[Option<LitSet>],
+    kept: &LitLists,
     clauses: &mut InitialClauses,
     rules: Rules,
 ) -> Result<LitSet, StepFault>

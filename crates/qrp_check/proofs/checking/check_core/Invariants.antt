@@ -11,5 +11,5 @@ invariant-loop-place g l = record {
   follows : (j : ℕ) → j < l.place → IsInCore (g.T.Steps.steps l.trace) j → StepFollows g.S.Side.side l.formula (g.T.Steps.steps l.trace) j;
   listing : Listing l.marks.items l.place l.followed.core.items;
   indexed : IsIndexed l.formula l.clauses;
-  kept : AreKept l.formula.blocks (g.T.Steps.steps l.trace) l.place l.followed.kept.items;
+  kept : AreKept l.formula.blocks (g.T.Steps.steps l.trace) l.place l.followed.kept;
 }

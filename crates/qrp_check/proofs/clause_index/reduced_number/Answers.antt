@@ -20,16 +20,16 @@ loop-lit-preserved c =
     let ordered : IsOrdered lits = rw c.as_slice-lits.ensures.value c.as_slice-lits.ensures.sound in
     elim c.if-not-stands_after.branch [
       | then-not-stands_after w ↦ rw w.number-is (
-        numbered_push c.args.prefix.now c.innermost-block.result (take i lits) (take (i + 1) lits) x c.loop-lit.number _
-        (λ m h. in_take_more lits i x m c.loop-lit-test.true c.lit-item.is h) (λ m h. take_more_in lits i x m c.loop-lit-test.true c.lit-item.is h)
-        (λ m h. taken_below lits i x m ordered c.loop-lit-test.true c.lit-item.is h) w.mixed-number.ensures
-        (λ stands. false≢true (sym w.if-not-stands_after.true ∙ c.stands_after.ensures.1 (subst (λ (v : ℕ). StandsAfter c.args.prefix.now All c.innermost-block.result v) (sym c.var.ensures) stands)))
-        c.loop-lit.invariant)
+          numbered_push c.args.prefix.now c.innermost-block.result (take i lits) (take (i + 1) lits) x c.loop-lit.number _
+          (λ m h. in_take_more lits i x m c.loop-lit-test.true c.lit-item.is h) (λ m h. take_more_in lits i x m c.loop-lit-test.true c.lit-item.is h)
+          (λ m h. taken_below lits i x m ordered c.loop-lit-test.true c.lit-item.is h) w.mixed-number.ensures
+          (λ stands. false≢true (sym w.if-not-stands_after.true ∙ c.stands_after.ensures.1 (subst (λ (v : ℕ). StandsAfter c.args.prefix.now All c.innermost-block.result v) (sym c.var.ensures) stands)))
+          c.loop-lit.invariant)
       | else-not-stands_after w ↦ rw w.number-is (
-        numbered_skip c.args.prefix.now c.innermost-block.result (take i lits) (take (i + 1) lits) x c.loop-lit.number
-        (λ m h. in_take_more lits i x m c.loop-lit-test.true c.lit-item.is h) (λ m h. take_more_in lits i x m c.loop-lit-test.true c.lit-item.is h)
-        (subst (λ (v : ℕ). StandsAfter c.args.prefix.now All c.innermost-block.result v) c.var.ensures (c.stands_after.ensures.0 w.if-not-stands_after.false))
-        c.loop-lit.invariant)
+          numbered_skip c.args.prefix.now c.innermost-block.result (take i lits) (take (i + 1) lits) x c.loop-lit.number
+          (λ m h. in_take_more lits i x m c.loop-lit-test.true c.lit-item.is h) (λ m h. take_more_in lits i x m c.loop-lit-test.true c.lit-item.is h)
+          (subst (λ (v : ℕ). StandsAfter c.args.prefix.now All c.innermost-block.result v) c.var.ensures (c.stands_after.ensures.0 w.if-not-stands_after.false))
+          c.loop-lit.invariant)
     ]
 
 pub returns : goal.returns

@@ -10,7 +10,7 @@ use Rattle.qrp_check.proofs.initial.has_reduct.Goals as goal
 pub returns-in-Ok : goal.returns-in-Ok
 returns-in-Ok c =
     let told : IsTrue c.is_none.result ↔ IsReduct Clauses c.args.prefix.now c.in-Ok.from c.args.set.now =
-    reduct_told Clauses c.args.prefix.now c.in-Ok.from c.args.set.now c.reduct_by-fault.result c.is_none.result (c.reduct_by-fault.ensures Clauses refl refl) c.is_none.ensures in (
+    reduct_told Clauses c.args.prefix.now c.in-Ok.from c.args.set.now c.reduct_by-fault.result c.is_none.result (rw (c.as_slice-in-Ok.ensures.value, c.as_slice-in-Ok-2.ensures.value) at (c.reduct_by-fault.ensures Clauses refl refl)) c.is_none.ensures in (
       (λ t. (c.in-Ok.ensures.fit.0, reduct_from Clauses c.args.prefix.now c.in-Ok.from c.args.clause.now c.args.set.now c.in-Ok.ensures.members (told.0 t))),
       (λ h. told.1 (reduct_from Clauses c.args.prefix.now c.args.clause.now c.in-Ok.from c.args.set.now (c.in-Ok.ensures.members.1, c.in-Ok.ensures.members.0) h.1)),
     )
@@ -30,5 +30,5 @@ pub returns-then-not-is_among : goal.returns-then-not-is_among
 returns-then-not-is_among c = (
   λ t. absurd (false≢true t),
   λ h. absurd (false≢true (c.if-not-is_among.ensures.1 (h.1.within c.in-Some.lit.now
-  (subst (λ (lits : List Literal). c.in-Some.lit.now ∈ lits) c.as_slice.ensures.value (got_in c.as_slice.result.now 0 c.in-Some.lit.now (sym c.in-Some.ensures.value)))))),
+      (subst (λ (lits : List Literal). c.in-Some.lit.now ∈ lits) c.as_slice.ensures.value (got_in c.as_slice.result.now 0 c.in-Some.lit.now (sym c.in-Some.ensures.value)))))),
 )

@@ -4,20 +4,12 @@ use Rattle.qrp_check.proofs.Reducing.{each_reducible, each_accounted}
 use Rattle.qrp_check.proofs.reduct.reduct_by.Goals as goal
 
 pub returns-then-not-is_subset : goal.returns-then-not-is_subset
-returns-then-not-is_subset c = λ side er ed.
-    let w = rw (c.as_slice-lits.ensures.value, c.as_slice-kept.ensures.value) at c.if-not-is_subset.ensures in
-    inl ((λ all. false≢true (w.1 all)), refl)
+returns-then-not-is_subset c = λ side er ed. inl ((λ all. false≢true (c.if-not-is_subset.ensures.1 all)), refl)
 
 pub returns-then-not-leaves_reducible : goal.returns-then-not-leaves_reducible
 returns-then-not-leaves_reducible c = λ side er ed.
-    let w = rw (c.as_slice-lits.ensures.value, c.as_slice-kept.ensures.value) at c.if-not-is_subset.ensures in
-    let v = rw (c.as_slice-lits.ensures.value, c.as_slice-kept.ensures.value) at c.if-not-leaves_reducible.ensures in
-    let b = rw c.as_slice-lits.ensures.value at c.innermost-block.ensures in
-    inr (w.0 refl, inl ((λ all. false≢true (v.1 (each_accounted side c.args.prefix.now c.args.reduced c.args.deciding c.innermost-block.result er ed c.args.from.now c.args.to.now b all))), refl))
+    inr (c.if-not-is_subset.ensures.0 refl, inl ((λ all. false≢true (c.if-not-leaves_reducible.ensures.1 (each_accounted side c.args.prefix.now c.args.reduced c.args.deciding c.innermost-block.result er ed c.args.from.now c.args.to.now c.innermost-block.ensures all))), refl))
 
 pub returns : goal.returns
 returns c = λ side er ed.
-    let w = rw (c.as_slice-lits.ensures.value, c.as_slice-kept.ensures.value) at c.if-not-is_subset.ensures in
-    let v = rw (c.as_slice-lits.ensures.value, c.as_slice-kept.ensures.value) at c.if-not-leaves_reducible.ensures in
-    let b = rw c.as_slice-lits.ensures.value at c.innermost-block.ensures in
-    (w.0 refl, (each_reducible side c.args.prefix.now c.args.reduced c.args.deciding c.innermost-block.result er ed c.args.from.now c.args.to.now b (v.0 refl), tt))
+    (c.if-not-is_subset.ensures.0 refl, (each_reducible side c.args.prefix.now c.args.reduced c.args.deciding c.innermost-block.result er ed c.args.from.now c.args.to.now c.innermost-block.ensures (c.if-not-leaves_reducible.ensures.0 refl), tt))

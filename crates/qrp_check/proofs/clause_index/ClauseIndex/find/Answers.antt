@@ -13,7 +13,7 @@ returns-clause-none c =
     none_initial c.args.formula.now c.args.self.now.places c.args.set.now w.0 c.reduced_number.result c.requires
     (subst (λ (bs : List Block). IsReducedForm Clauses bs c.args.set.now w.0) c.prefix.ensures w.1) w.2
     (λ (i : ℕ) (at : Contains (places_under c.args.self.now.places c.reduced_number.result) i) h.
-      let at' : Contains places i = subst (λ (ps : List ℕ). Contains ps i) (sym c.places_under-places.ensures) at in
-      let less : at'.0 < length places = at'.1 in
-      let same : slice_index places at'.0 ≡ i = get_or_default places at'.0 0 i at'.1 ∙ at'.2 in
-      c.loop-place.invariant at'.0 (omega (arith, less, c.loop-place-test.false)) (subst (HasReductAt c.args.formula.now c.args.set.now) (sym same) h))
+    let at' : Contains places i = subst (λ (ps : List ℕ). Contains ps i) (sym c.places_under-places.ensures) at in
+    let less : at'.0 < length places = at'.1 in
+    let same : slice_index places at'.0 ≡ i = get_or_default places at'.0 0 i at'.1 ∙ at'.2 in
+    c.loop-place.invariant at'.0 (omega (arith, less, c.loop-place-test.false)) (subst (HasReductAt c.args.formula.now c.args.set.now) (sym same) h))

@@ -9,6 +9,6 @@ returns-then-branch-clause-fault c = (found_initial c.args.formula.now c.args.se
 pub returns-in-Some-clause-fault : goal.returns-in-Some-clause-fault
 returns-in-Some-clause-fault c = (
   found_initial c.args.formula.now c.args.set.now c.in-Some.place
-  (subst (λ (o : Option ℕ). IfSome o (HasReductAt c.args.formula.now c.args.set.now)) c.in-Some.is c.in_ok-place.ensures.some),
+      (subst (λ (o : Option ℕ). IfSome o (HasReductAt c.args.formula.now c.args.set.now)) c.in-Some.is c.in_ok-place.ensures.some),
   tt,
 )
