@@ -161,3 +161,19 @@ fn sets(rt: HostRuntime) -> Result<(), Fail> {
     );
     Ok(())
 }
+
+#[test]
+fn sets_with_gaps(rt: HostRuntime) -> Result<(), Fail> {
+    let numbers = [3, 4, 9, 12];
+    let prefix = bound_in_turn(&rt, rt.alloc(), &numbers)?;
+    let four = Lit::new(variable(&rt, 4), true);
+    let nine = Lit::new(variable(&rt, 9), true);
+    let twelve = Lit::new(variable(&rt, 12), false);
+    let set = LitSet::from_slice(rt.alloc(), &[twelve, four, nine], &prefix)?;
+    assert!(rt; set.contains(four) && set.contains(nine) && set.contains(twelve));
+    assert!(rt; !set.contains(four.negated()) && !set.contains(nine.negated()));
+    assert!(rt; !set.contains(Lit::new(variable(&rt, 3), true)));
+    assert!(rt; !set.contains(Lit::new(variable(&rt, 6), true)));
+    assert!(rt; !set.contains(Lit::new(variable(&rt, 13), false)));
+    Ok(())
+}
