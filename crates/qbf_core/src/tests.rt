@@ -1,6 +1,7 @@
 ghost use Rattle.std.specs.Prelude.{◌≡◌};
 
 use crate::{Formula, Lit, LitSet, Prefix, PrefixFault, Quantifier, SetFault, Var};
+use std::alloc::Global;
 use std::process::Abort;
 use std::test::Fail;
 
@@ -46,6 +47,56 @@ fn prefixes(rt: HostRuntime) -> Result<(), Fail> {
     assert!(rt; prefix.quantifier(unbound).is_none());
     assert!(rt; prefix.block(unbound).is_none());
     assert!(rt; !prefix.is_bound(unbound));
+    Ok(())
+}
+
+/// Quantifiers that alternate, so that each place is a block of its own.
+fn quantifier_at(place: usize) -> Quantifier {
+    if place % 2 == 0 {
+        Quantifier::Exists
+    } else {
+        Quantifier::All
+    }
+}
+
+/// The prefix that binds these variables in turn.
+fn bound_in_turn(rt: &impl Abort, alloc: Global, numbers: &[u32]) -> Result<Prefix, Fail> {
+    let mut prefix = Prefix::new(alloc);
+    for (place, number) in numbers.iter().enumerate() {
+        prefix.push(quantifier_at(place), variable(rt, *number))?;
+    }
+    Ok(prefix)
+}
+
+/// Each variable is found at its place, and not bound again.
+fn find_each(rt: &impl Abort, prefix: &mut Prefix, numbers: &[u32]) {
+    for (place, number) in numbers.iter().enumerate() {
+        let var = variable(rt, *number);
+        assert!(rt; prefix.is_bound(var));
+        assert!(rt; prefix.quantifier(var) == Some(quantifier_at(place)));
+        assert!(rt; prefix.block(var) == Some(place));
+        assert!(rt; prefix.push(quantifier_at(place), var) == Err(PrefixFault::B1));
+    }
+}
+
+#[test]
+fn prefixes_in_falling_order(rt: HostRuntime) -> Result<(), Fail> {
+    let numbers = [9, 8, 7, 6, 5, 4, 3, 2, 1];
+    let mut prefix = bound_in_turn(&rt, rt.alloc(), &numbers)?;
+    find_each(&rt, &mut prefix, &numbers);
+    assert_eq!(rt; prefix.len(), 9);
+    assert!(rt; !prefix.is_bound(variable(&rt, 10)));
+    Ok(())
+}
+
+#[test]
+fn prefixes_of_sparse_variables(rt: HostRuntime) -> Result<(), Fail> {
+    let numbers = [1, 2147483647, 5];
+    let mut prefix = bound_in_turn(&rt, rt.alloc(), &numbers)?;
+    find_each(&rt, &mut prefix, &numbers);
+    assert_eq!(rt; prefix.len(), 3);
+    assert!(rt; !prefix.is_bound(variable(&rt, 4)));
+    assert!(rt; !prefix.is_bound(variable(&rt, 2147483646)));
     Ok(())
 }
 
@@ -108,5 +159,21 @@ fn sets(rt: HostRuntime) -> Result<(), Fail> {
             Err(SetFault::E2)
         )
     );
+    Ok(())
+}
+
+#[test]
+fn sets_with_gaps(rt: HostRuntime) -> Result<(), Fail> {
+    let numbers = [3, 4, 9, 12];
+    let prefix = bound_in_turn(&rt, rt.alloc(), &numbers)?;
+    let four = Lit::new(variable(&rt, 4), true);
+    let nine = Lit::new(variable(&rt, 9), true);
+    let twelve = Lit::new(variable(&rt, 12), false);
+    let set = LitSet::from_slice(rt.alloc(), &[twelve, four, nine], &prefix)?;
+    assert!(rt; set.contains(four) && set.contains(nine) && set.contains(twelve));
+    assert!(rt; !set.contains(four.negated()) && !set.contains(nine.negated()));
+    assert!(rt; !set.contains(Lit::new(variable(&rt, 3), true)));
+    assert!(rt; !set.contains(Lit::new(variable(&rt, 6), true)));
+    assert!(rt; !set.contains(Lit::new(variable(&rt, 13), false)));
     Ok(())
 }

@@ -1,0 +1,79 @@
+-- The table of a prefix, beside its entries.
+use Rattle.std.proofs.Common.{◌≡◌, ℕ, zero, suc, ◌≤◌, ◌<◌, Bool, true, false, cond, if◌then◌else◌, List, [], ◌∷◌, ◌++◌, length, Option, Some, None, ◌⊎◌, inl, inr, refl, ap, sym, subst, ◌∙◌, arith, slice_get, slice_set, get_or, take, drop, nat_eq}
+use Rattle.std.specs.Map.{lookup}
+use Rattle.std.specs.List.{AllByRecursion}
+use Rattle.std.proofs.Math.Seq.{take-append_seam}
+use Rattle.std.proofs.lemmas.Bool.{eq-eqb, ne_eqb}
+use Rattle.std.proofs.lemmas.Option.{slice_get_within, slice_get_read}
+use Rattle.qbf_core.specs.declared.prefix.Place.{Place}
+use Rattle.qbf_core.specs.Blocks.{IsVariable}
+use Rattle.qbf_core.specs.Places.{IsTable}
+
+-- a list after all of it was lent as a slice
+pub written_back : {X : Type 0} (n : ℕ) (new old : List X) → n ≡ length old → length new ≡ length old → take n (new ++ drop (length new) old) ≡ new
+written_back n new old e f = subst (λ m. take m (new ++ drop (length new) old) ≡ new) (f ∙ sym e) (take-append_seam new (drop (length new) old))
+
+-- what stands at a place after a write
+set_cases : {X : Type 0} (xs : List X) (i n : ℕ) (x o : X) → slice_get (slice_set xs i x) n ≡ Some o → ((n ≡ i) × (o ≡ x)) ⊎ ((n ≡ i → ⊥) × (slice_get xs n ≡ Some o))
+set_cases [] i n x o e = absurd cc
+set_cases (y ∷ xs) zero zero x o e = inl (refl, cc)
+set_cases (y ∷ xs) zero (suc n) x o e = inr (λ d. absurd (omega (arith, d)), e)
+set_cases (y ∷ xs) (suc i) zero x o e = inr (λ d. absurd (omega (arith, d)), e)
+set_cases (y ∷ xs) (suc i) (suc n) x o e = elim (set_cases xs i n x o e) [ inl h ↦ inl (ap suc h.0, h.1) | inr h ↦ inr (λ d. h.0 (omega (arith, d)), h.1) ]
+
+-- what stands at a place after a push
+push_cases : {X : Type 0} (xs : List X) (n : ℕ) (x o : X) → slice_get (xs ++ x ∷ []) n ≡ Some o → ((n ≡ length xs) × (o ≡ x)) ⊎ (slice_get xs n ≡ Some o)
+push_cases [] zero x o e = inl (refl, cc)
+push_cases [] (suc n) x o e = absurd cc
+push_cases (y ∷ xs) zero x o e = inr e
+push_cases (y ∷ xs) (suc n) x o e = elim (push_cases xs n x o e) [ inl h ↦ inl (ap suc h.0, h.1) | inr h ↦ inr h ]
+
+lookup_new : (v : ℕ) (p : Place) (es : List (ℕ × Place)) → lookup (nat_eq v) es ≡ None → lookup (nat_eq v) (es ++ (v, p) ∷ []) ≡ Some p
+lookup_new v p [] none = rw (eq-eqb v v refl) refl
+lookup_new v p (e ∷ es) none = by (nat_eq v e.0) (lookup_new v p es) none
+  where
+    by : (t : Bool) → (lookup (nat_eq v) es ≡ None → lookup (nat_eq v) (es ++ (v, p) ∷ []) ≡ Some p) → cond t (Some e.1) (lookup (nat_eq v) es) ≡ None
+        → cond t (Some e.1) (lookup (nat_eq v) (es ++ (v, p) ∷ [])) ≡ Some p
+    by true more none = absurd cc
+    by false more none = more none
+
+lookup_other : (n v : ℕ) (p : Place) (es : List (ℕ × Place)) → nat_eq n v ≡ false → lookup (nat_eq n) (es ++ (v, p) ∷ []) ≡ lookup (nat_eq n) es
+lookup_other n v p [] differs = rw differs refl
+lookup_other n v p (e ∷ es) differs = ap (λ (o : Option Place). cond (nat_eq n e.0) (Some e.1) o) (lookup_other n v p es differs)
+
+-- a number that no variable has is not among the entries
+pub lookup_outside : (n : ℕ) (es : List (ℕ × Place)) → AllByRecursion (λ e. IsVariable e.0) es → (IsVariable n → ⊥) → lookup (nat_eq n) es ≡ None
+lookup_outside n [] h out = refl
+lookup_outside n (e ∷ es) h out = rw (ne_eqb n e.0 (λ same. out (subst IsVariable (sym same) h.0))) (lookup_outside n es h.1 out)
+
+module _ (table : List (Option Place)) (es : List (ℕ × Place)) (is : IsTable table es) where
+  -- one more entry, of the next number
+  pub table_pushed : (slot : Option Place) → slot ≡ lookup (nat_eq (length table)) es → IsTable (table ++ slot ∷ []) es
+  table_pushed slot here = λ n o e. elim (push_cases table n slot o e) [
+    | inl h ↦ h.1 ∙ (here ∙ ap (λ m. lookup (nat_eq m) es) (sym h.0))
+    | inr h ↦ is n o h
+  ]
+
+  -- or as before, where it is refused
+  pub table_grown : (given : Bool) (slot : Option Place) → slot ≡ lookup (nat_eq (length table)) es → IsTable (if given then table ++ slot ∷ [] else table) es
+  table_grown true slot here = table_pushed slot here
+  table_grown false slot here = is
+
+  -- a new variable that the table reaches
+  pub table_noted : (v : ℕ) (p : Place) → lookup (nat_eq v) es ≡ None → IsTable (slice_set table v (Some p)) (es ++ (v, p) ∷ [])
+  table_noted v p none = λ n o e. elim (set_cases table v n (Some p) o e) [
+    | inl h ↦ subst (λ m. o ≡ lookup (nat_eq m) (es ++ (v, p) ∷ [])) (sym h.0) (h.1 ∙ sym (lookup_new v p es none))
+    | inr h ↦ is n o h.1 ∙ sym (lookup_other n v p es (ne_eqb n v h.0))
+  ]
+
+  -- and one that it does not reach
+  pub table_short : (v : ℕ) (p : Place) → length table ≤ v → IsTable table (es ++ (v, p) ∷ [])
+  table_short v p short = λ n o e.
+      let less : n < length table = slice_get_within table n o e in
+      is n o e ∙ sym (lookup_other n v p es (ne_eqb n v (λ same. absurd (omega (arith, less, same, short)))))
+
+  -- an entry that is read
+  pub slot_found : (read : List (Option Place)) (v n : ℕ) (slot : Option Place) → read ≡ table → n ≡ v → n < length read → slot ≡ get_or read n slot → slot ≡ lookup (nat_eq v) es
+  slot_found read v n slot same number less at =
+      let there : slice_get read n ≡ Some slot = slice_get_read read (length read) n slot refl less at in
+      is v slot (ap (slice_get table) (sym number) ∙ (ap (λ xs. slice_get xs n) (sym same) ∙ there))
