@@ -7,16 +7,24 @@
 PREFIX ?= /usr/local
 RT ?= rt
 PROGRAM = bin/qrp_cmd
+# for the tests alone
+ECHO = bin/qrp_echo
+SOURCES = $(shell find crates -path '*/out' -prune -o -type f -print) crates.txt
 
 .PHONY: all demo test bench install clean
 
 all: $(PROGRAM)
 
 # `rt run` proves what is not proved yet, builds the program and runs it once.
-$(PROGRAM): $(shell find crates -path '*/out' -prune -o -type f -print) crates.txt
+$(PROGRAM): $(SOURCES)
 	mkdir -p bin
 	cd crates/qrp_cmd && $(RT) run -- format data/two_clauses.qdimacs > /dev/null
 	cp crates/qrp_cmd/out/qrp_cmd $(PROGRAM)
+
+$(ECHO): $(SOURCES)
+	mkdir -p bin
+	cd crates/qrp_echo && $(RT) run < stdin > /dev/null
+	cp crates/qrp_echo/out/qrp_echo $(ECHO)
 
 demo: all
 	$(PROGRAM) check examples/blind-box/blind-box.qdimacs examples/blind-box/blind-box.qrp
@@ -25,8 +33,8 @@ demo: all
 
 test:
 	$(RT) ci
-	$(MAKE) all
-	scripts/test-program $(PROGRAM)
+	$(MAKE) all $(ECHO)
+	scripts/test-program $(PROGRAM) $(ECHO)
 	examples/check-all $(PROGRAM)
 
 bench: all

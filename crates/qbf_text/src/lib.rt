@@ -6,6 +6,7 @@ mod run;
 mod scanner;
 mod sink;
 mod source;
+mod spelling;
 mod token;
 mod window;
 
@@ -13,6 +14,7 @@ pub use pieces::{PieceSink, PieceSource};
 pub use scanner::{ScanFault, Scanner};
 pub use sink::{Sink, SinkFault, ToWrite, VecSink, put_byte, put_bytes, put_number};
 pub use source::{FromRead, SliceSource, Source, SourceFault};
+pub use spelling::{put_signed, put_spaced};
 pub use token::{Comments, Token, Word};
 
 #[cfg(test)]

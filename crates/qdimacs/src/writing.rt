@@ -1,70 +1,27 @@
 //! The canonical text of a formula.
 
-ghost use Rattle.std.specs.Prelude.{Ok, ◌≡◌, ◌<◌, ◌-◌, ◌^◌, [], ◌∷◌, ◌++◌, None, decimal, OnOk, OnErr};
-ghost use Rattle.std.specs.Io.KnownBytes.{Appends};
+ghost use Rattle.std.specs.Prelude.{Ok, ◌≡◌, [], ◌++◌, None};
 ghost use Rattle.qbf_core.specs.Blocks.{pairs, is_quantifier};
-ghost use Rattle.qbf_text.specs.Written.{AppendsFront};
-ghost use Rattle.qbf_text.specs.Canonical.{spelled, line_text};
-ghost use Rattle.qdimacs.specs.Grammar.{header, literal, text};
+ghost use Rattle.qbf_text.specs.Written.{IsPut};
+ghost use Rattle.qbf_text.specs.Canonical.{line_text};
+ghost use Rattle.qdimacs.specs.Grammar.{header, text};
 ghost use Rattle.qdimacs.specs.Reading.{read_formula};
-ghost use Rattle.qdimacs.specs.Texts.{zero_text, opening, spaced, prefix_rest, literal_text, clause_rest, clauses_text};
+ghost use Rattle.qdimacs.specs.Texts.{zero_text, opening, prefix_rest, literal_text, clause_rest, clauses_text};
 
 use qbf_core::{Formula, Lit, Prefix, Quantifier};
-use qbf_text::{Sink, SinkFault, put_byte, put_bytes, put_number};
-
-/// A number behind a blank.
-fn put_spaced<K: Sink>(sink: &mut K, value: u32) -> Result<(), SinkFault>
-    ensures ok { OnOk result (Appends (K.written sink.old) (K.written sink.new) (spaced value)) }
-    ensures err { OnErr result (AppendsFront (K.written sink.old) (K.written sink.new) (spaced value)) }
-    ensures failures_ok { OnOk result (K.failures sink.new ≡ K.failures sink.old) }
-    ensures failures_err { OnErr result (K.failures sink.old < 2 ^ 64 - 1 → K.failures sink.old < K.failures sink.new) }
-{
-    put_byte(sink, b' ')?;
-    put_number(sink, u64::from(value))
-}
-
-/// A number behind a minus.
-fn put_minus<K: Sink>(sink: &mut K, value: u64) -> Result<(), SinkFault>
-    ensures ok { OnOk result (Appends (K.written sink.old) (K.written sink.new) (45 ∷ decimal value)) }
-    ensures err { OnErr result (AppendsFront (K.written sink.old) (K.written sink.new) (45 ∷ decimal value)) }
-    ensures failures_ok { OnOk result (K.failures sink.new ≡ K.failures sink.old) }
-    ensures failures_err { OnErr result (K.failures sink.old < 2 ^ 64 - 1 → K.failures sink.old < K.failures sink.new) }
-{
-    put_byte(sink, b'-')?;
-    put_number(sink, value)
-}
-
-/// A literal.
-fn put_signed<K: Sink>(sink: &mut K, lit: Lit) -> Result<(), SinkFault>
-    ensures ok { OnOk result (Appends (K.written sink.old) (K.written sink.new) (spelled (literal lit))) }
-    ensures err { OnErr result (AppendsFront (K.written sink.old) (K.written sink.new) (spelled (literal lit))) }
-    ensures failures_ok { OnOk result (K.failures sink.new ≡ K.failures sink.old) }
-    ensures failures_err { OnErr result (K.failures sink.old < 2 ^ 64 - 1 → K.failures sink.old < K.failures sink.new) }
-{
-    let value = u64::from(lit.var().number());
-    if lit.is_negative() {
-        return put_minus(sink, value);
-    }
-    put_number(sink, value)
-}
+use qbf_text::{Sink, SinkFault, put_byte, put_bytes, put_signed, put_spaced};
 
 /// A literal and a blank.
 fn put_literal<K: Sink>(sink: &mut K, lit: Lit) -> Result<(), SinkFault>
-    ensures ok { OnOk result (Appends (K.written sink.old) (K.written sink.new) (literal_text lit)) }
-    ensures err { OnErr result (AppendsFront (K.written sink.old) (K.written sink.new) (literal_text lit)) }
-    ensures failures_ok { OnOk result (K.failures sink.new ≡ K.failures sink.old) }
-    ensures failures_err { OnErr result (K.failures sink.old < 2 ^ 64 - 1 → K.failures sink.old < K.failures sink.new) }
+    ensures { IsPut K.written K.failures sink.old sink.new (literal_text lit) result }
 {
-    put_signed(sink, lit)?;
+    put_signed(sink, lit.is_negative(), u64::from(lit.var().number()))?;
     put_byte(sink, b' ')
 }
 
 /// A clause and its zero.
 fn put_clause<K: Sink>(sink: &mut K, lits: &[Lit]) -> Result<(), SinkFault>
-    ensures ok { OnOk result (Appends (K.written sink.old) (K.written sink.new) (clause_rest lits.now)) }
-    ensures err { OnErr result (AppendsFront (K.written sink.old) (K.written sink.new) (clause_rest lits.now)) }
-    ensures failures_ok { OnOk result (K.failures sink.new ≡ K.failures sink.old) }
-    ensures failures_err { OnErr result (K.failures sink.old < 2 ^ 64 - 1 → K.failures sink.old < K.failures sink.new) }
+    ensures { IsPut K.written K.failures sink.old sink.new (clause_rest lits.now) result }
 {
     for lit in lits {
         put_literal(sink, *lit)?;
@@ -74,10 +31,7 @@ fn put_clause<K: Sink>(sink: &mut K, lits: &[Lit]) -> Result<(), SinkFault>
 
 /// The letter of a quantifier.
 fn put_letter<K: Sink>(sink: &mut K, quantifier: Quantifier) -> Result<(), SinkFault>
-    ensures ok { OnOk result (Appends (K.written sink.old) (K.written sink.new) (opening None quantifier)) }
-    ensures err { OnErr result (AppendsFront (K.written sink.old) (K.written sink.new) (opening None quantifier)) }
-    ensures failures_ok { OnOk result (K.failures sink.new ≡ K.failures sink.old) }
-    ensures failures_err { OnErr result (K.failures sink.old < 2 ^ 64 - 1 → K.failures sink.old < K.failures sink.new) }
+    ensures { IsPut K.written K.failures sink.old sink.new (opening None quantifier) result }
 {
     match quantifier {
         Quantifier::All => put_byte(sink, b'a'),
@@ -101,10 +55,7 @@ fn put_opening<K: Sink>(
     last: Option<Quantifier>,
     quantifier: Quantifier,
 ) -> Result<(), SinkFault>
-    ensures ok { OnOk result (Appends (K.written sink.old) (K.written sink.new) (opening last quantifier)) }
-    ensures err { OnErr result (AppendsFront (K.written sink.old) (K.written sink.new) (opening last quantifier)) }
-    ensures failures_ok { OnOk result (K.failures sink.new ≡ K.failures sink.old) }
-    ensures failures_err { OnErr result (K.failures sink.old < 2 ^ 64 - 1 → K.failures sink.old < K.failures sink.new) }
+    ensures { IsPut K.written K.failures sink.old sink.new (opening last quantifier) result }
 {
     match last {
         None => put_letter(sink, quantifier),
@@ -115,10 +66,7 @@ fn put_opening<K: Sink>(
 
 /// The zero of a block, and the letter of the next.
 fn put_next<K: Sink>(sink: &mut K, quantifier: Quantifier) -> Result<(), SinkFault>
-    ensures ok { OnOk result (Appends (K.written sink.old) (K.written sink.new) (zero_text ++ opening None quantifier)) }
-    ensures err { OnErr result (AppendsFront (K.written sink.old) (K.written sink.new) (zero_text ++ opening None quantifier)) }
-    ensures failures_ok { OnOk result (K.failures sink.new ≡ K.failures sink.old) }
-    ensures failures_err { OnErr result (K.failures sink.old < 2 ^ 64 - 1 → K.failures sink.old < K.failures sink.new) }
+    ensures { IsPut K.written K.failures sink.old sink.new (zero_text ++ opening None quantifier) result }
 {
     put_bytes(sink, b" 0\n")?;
     put_letter(sink, quantifier)
@@ -126,10 +74,7 @@ fn put_next<K: Sink>(sink: &mut K, quantifier: Quantifier) -> Result<(), SinkFau
 
 /// What stands after the last variable.
 fn put_closing<K: Sink>(sink: &mut K, last: Option<Quantifier>) -> Result<(), SinkFault>
-    ensures ok { OnOk result (Appends (K.written sink.old) (K.written sink.new) (prefix_rest last [])) }
-    ensures err { OnErr result (AppendsFront (K.written sink.old) (K.written sink.new) (prefix_rest last [])) }
-    ensures failures_ok { OnOk result (K.failures sink.new ≡ K.failures sink.old) }
-    ensures failures_err { OnErr result (K.failures sink.old < 2 ^ 64 - 1 → K.failures sink.old < K.failures sink.new) }
+    ensures { IsPut K.written K.failures sink.old sink.new (prefix_rest last []) result }
 {
     match last {
         None => Ok(()),
@@ -139,17 +84,13 @@ fn put_closing<K: Sink>(sink: &mut K, last: Option<Quantifier>) -> Result<(), Si
 
 /// The blocks, each with its letter and its zero.
 fn put_prefix<K: Sink>(sink: &mut K, prefix: &Prefix) -> Result<(), SinkFault>
-    ensures ok { OnOk result (Appends (K.written sink.old) (K.written sink.new) (prefix_rest None (pairs prefix.now))) }
-    ensures err { OnErr result (
-        AppendsFront (K.written sink.old) (K.written sink.new) (prefix_rest None (pairs prefix.now))) }
-    ensures failures_ok { OnOk result (K.failures sink.new ≡ K.failures sink.old) }
-    ensures failures_err { OnErr result (K.failures sink.old < 2 ^ 64 - 1 → K.failures sink.old < K.failures sink.new) }
+    ensures { IsPut K.written K.failures sink.old sink.new (prefix_rest None (pairs prefix.now)) result }
 {
     let mut last = None;
     for i in 0..prefix.len() {
         let (quantifier, var) = prefix.pair(i);
         put_opening(sink, last, quantifier)?;
-        put_spaced(sink, var.number())?;
+        put_spaced(sink, u64::from(var.number()))?;
         last = Some(quantifier);
     }
     put_closing(sink, last)
@@ -157,11 +98,7 @@ fn put_prefix<K: Sink>(sink: &mut K, prefix: &Prefix) -> Result<(), SinkFault>
 
 /// The clauses, each on its line.
 fn put_clauses<K: Sink>(sink: &mut K, formula: &Formula) -> Result<(), SinkFault>
-    ensures ok { OnOk result (Appends (K.written sink.old) (K.written sink.new) (clauses_text formula.now.clauses)) }
-    ensures err { OnErr result (
-        AppendsFront (K.written sink.old) (K.written sink.new) (clauses_text formula.now.clauses)) }
-    ensures failures_ok { OnOk result (K.failures sink.new ≡ K.failures sink.old) }
-    ensures failures_err { OnErr result (K.failures sink.old < 2 ^ 64 - 1 → K.failures sink.old < K.failures sink.new) }
+    ensures { IsPut K.written K.failures sink.old sink.new (clauses_text formula.now.clauses) result }
 {
     for i in 0..formula.clauses() {
         put_clause(sink, formula.clause(i))?;
@@ -171,15 +108,11 @@ fn put_clauses<K: Sink>(sink: &mut K, formula: &Formula) -> Result<(), SinkFault
 
 /// The line of the header.
 fn put_header<K: Sink>(sink: &mut K, max_var: u32, count: u32) -> Result<(), SinkFault>
-    ensures ok { OnOk result (Appends (K.written sink.old) (K.written sink.new) (line_text (header max_var count))) }
-    ensures err { OnErr result (
-        AppendsFront (K.written sink.old) (K.written sink.new) (line_text (header max_var count))) }
-    ensures failures_ok { OnOk result (K.failures sink.new ≡ K.failures sink.old) }
-    ensures failures_err { OnErr result (K.failures sink.old < 2 ^ 64 - 1 → K.failures sink.old < K.failures sink.new) }
+    ensures { IsPut K.written K.failures sink.old sink.new (line_text (header max_var count)) result }
 {
     put_bytes(sink, b"p cnf")?;
-    put_spaced(sink, max_var)?;
-    put_spaced(sink, count)?;
+    put_spaced(sink, u64::from(max_var))?;
+    put_spaced(sink, u64::from(count))?;
     put_byte(sink, b'\n')
 }
 
@@ -191,10 +124,7 @@ fn put_header<K: Sink>(sink: &mut K, max_var: u32, count: u32) -> Result<(), Sin
 ///
 /// A `SinkFault` where the sink failed. What went out is a beginning of the text then.
 pub fn write_formula<K: Sink>(formula: &Formula, sink: &mut K) -> Result<(), SinkFault>
-    ensures ok { OnOk result (Appends (K.written sink.old) (K.written sink.new) (text formula.now)) }
-    ensures err { OnErr result (AppendsFront (K.written sink.old) (K.written sink.new) (text formula.now)) }
-    ensures failures_ok { OnOk result (K.failures sink.new ≡ K.failures sink.old) }
-    ensures failures_err { OnErr result (K.failures sink.old < 2 ^ 64 - 1 → K.failures sink.old < K.failures sink.new) }
+    ensures put { IsPut K.written K.failures sink.old sink.new (text formula.now) result }
     // The text is read as the formula.
     ensures reads_back { read_formula (text formula.now) ≡ Ok formula.now }
 {

@@ -1,33 +1,18 @@
 -- The parts of a canonical text, one after the other.
-use Rattle.std.proofs.Common.{◌≡◌, ℕ, List, [], ◌∷◌, ◌++◌, map, Option, refl, ap, sym, subst, ◌∙◌, append_assoc, append-nil, drop, drop-cons, get_or, length, suc, ◌<◌, ◌+◌, add-one}
+use Rattle.std.proofs.Common.{◌≡◌, ℕ, Bool, List, [], ◌∷◌, ◌++◌, map, refl, ap, sym, ◌∙◌, append_assoc, append-nil, drop, drop-cons, get_or, length, suc, ◌<◌, ◌+◌, add-one}
 use Rattle.std.specs.Prelude.{decimal}
 use Rattle.std.specs.Fmt.{digits}
 use Rattle.std.specs.List.{flat_map}
-use Rattle.std.specs.Io.KnownBytes.{Appends}
-use Rattle.std.proofs.KnownBytes.{Appends-trans}
 use Rattle.std.proofs.lemmas.Grind.{flat_map-append}
 use Rattle.qbf_core.specs.Literal.{Literal}
 use Rattle.qbf_core.specs.Blocks.{Block}
 use Rattle.qbf_text.specs.declared.token.Token.{Token}
-use Rattle.qbf_text.specs.Canonical.{spelled, line_rest, line_text, lines_text}
-use Rattle.qbf_text.specs.Written.{AppendsFront}
+use Rattle.qbf_text.specs.declared.token.Token.TheVariants as token
+use Rattle.qbf_text.specs.Canonical.{spaced, spelled, line_rest, line_text, lines_text}
 use Rattle.qrp.specs.Inferences.{Inference}
 use Rattle.qrp.specs.Derivations.{Derivation}
 use Rattle.qrp.specs.Grammar.{number, literal, letter, set, step, header, result, text}
-use Rattle.qrp.specs.Texts.{spaced, spaced_numbers, spaced_literal, spaced_literals, zero_text, closing, set_text, step_text, sets_text, steps_text}
-
--- ---- of a text in two parts a beginning went out
-
-pub first_fails : (old new : Option (List ℕ)) (whole part more : List ℕ) → whole ≡ part ++ more → AppendsFront old new part → AppendsFront old new whole
-first_fails old new whole part more e p = (p.0, p.1 ++ more, e ∙ ap (λ (r : List ℕ). r ++ more) p.2 ∙ append_assoc p.0 p.1 more, p.3)
-
-pub later_fails : (old between new : Option (List ℕ)) (whole part more : List ℕ) → whole ≡ part ++ more → Appends old between part → AppendsFront between new more → AppendsFront old new whole
-later_fails old between new whole part more e a p =
-    (part ++ p.0, p.1, e ∙ ap (λ (r : List ℕ). part ++ r) p.2 ∙ sym (append_assoc part p.0 p.1), Appends-trans old between new part p.0 a p.3)
-
--- and the whole of it
-pub both_go : (old between new : Option (List ℕ)) (whole part more : List ℕ) → whole ≡ part ++ more → Appends old between part → Appends between new more → Appends old new whole
-both_go old between new whole part more e a b = subst (Appends old new) (sym e) (Appends-trans old between new part more a b)
+use Rattle.qrp.specs.Texts.{spaced_numbers, spaced_literal, spaced_literals, zero_text, closing, set_text, step_text, sets_text, steps_text}
 
 -- ---- lists
 
@@ -42,6 +27,10 @@ pub numbers_next : (ns : List ℕ) (i : ℕ) → i < length ns → spaced_number
 numbers_next ns i lt =
     let one : drop i ns ≡ get_or ns i 0 ∷ drop (i + 1) ns = rw (add-one) (drop-cons ns i 0 lt) in
     ap spaced_numbers one
+
+-- a literal goes out by its sign and its variable
+pub literal_parts : (l : Literal) (negative : Bool) (v : ℕ) → negative ≡ l.negative → v ≡ l.var → spelled (literal l) ≡ spelled (token.Number negative v)
+literal_parts l negative v sign is = (λ i. spelled (token.Number (sym sign i) (sym is i)))
 
 zero_decimal : decimal 0 ≡ 48 ∷ []
 unfolding digits

@@ -3,13 +3,9 @@ use Rattle.std.specs.Prelude.{ℕ, List, [], ◌∷◌, ◌++◌, decimal}
 use Rattle.std.specs.List.{flat_map}
 use Rattle.qbf_core.specs.Literal.{Literal}
 use Rattle.qbf_core.specs.Blocks.{Block}
-use Rattle.qbf_text.specs.Canonical.{spelled}
+use Rattle.qbf_text.specs.Canonical.{spaced, spelled}
 use Rattle.qrp.specs.Inferences.{Inference}
 use Rattle.qrp.specs.Grammar.{letter, literal}
-
--- a number behind a blank
-abbrev pub spaced : ℕ → List ℕ
-spaced n = 32 ∷ decimal n
 
 abbrev pub spaced_numbers : List ℕ → List ℕ
 spaced_numbers ns = flat_map spaced ns

@@ -1,59 +1,29 @@
 //! Writing the canonical text of a trace.
 
-ghost use Rattle.std.specs.Prelude.{◌≡◌, ◌<◌, ◌-◌, ◌^◌, Ok, ◌∷◌, decimal, OnOk, OnErr};
-ghost use Rattle.std.specs.Io.KnownBytes.{Appends};
+ghost use Rattle.std.specs.Prelude.{◌≡◌, Ok};
 ghost use Rattle.qbf_text.specs.Canonical.{spelled, line_text};
-ghost use Rattle.qbf_text.specs.Written.{AppendsFront};
-ghost use Rattle.qrp.specs.Grammar.{header, letter, literal, result as result_line, text};
+ghost use Rattle.qbf_text.specs.Written.{IsPut};
+ghost use Rattle.qrp.specs.Grammar.{header, letter, result as result_line, text};
 ghost use Rattle.qrp.specs.Reading.{read_trace};
-ghost use Rattle.qrp.specs.Texts.{spaced, spaced_numbers, spaced_literal, spaced_literals};
+ghost use Rattle.qrp.specs.Texts.{spaced_numbers, spaced_literal, spaced_literals};
 ghost use Rattle.qrp.specs.Texts.{set_text, step_text, sets_text, steps_text};
 
 use crate::item::{Header, Outcome, QuantSet, Step};
 use crate::trace::Trace;
 use qbf_core::{Lit, Quantifier, Var};
-use qbf_text::{Sink, SinkFault, put_bytes, put_number};
-
-fn put_spaced<K: Sink>(sink: &mut K, value: u64) -> Result<(), SinkFault>
-    ensures ok { OnOk result (Appends (K.written sink.old) (K.written sink.new) (spaced value)) }
-    ensures err { OnErr result (AppendsFront (K.written sink.old) (K.written sink.new) (spaced value)) }
-    ensures failures_ok { OnOk result (K.failures sink.new ≡ K.failures sink.old) }
-    ensures failures_err { OnErr result (K.failures sink.old < 2 ^ 64 - 1 → K.failures sink.old < K.failures sink.new) }
-{
-    put_bytes(sink, b" ")?;
-    put_number(sink, value)
-}
+use qbf_text::{Sink, SinkFault, put_byte, put_bytes, put_number, put_signed, put_spaced};
 
 // ---- a literal
 
-fn put_negative<K: Sink>(sink: &mut K, value: u64) -> Result<(), SinkFault>
-    ensures ok { OnOk result (Appends (K.written sink.old) (K.written sink.new) (32 ∷ 45 ∷ decimal value)) }
-    ensures err { OnErr result (AppendsFront (K.written sink.old) (K.written sink.new) (32 ∷ 45 ∷ decimal value)) }
-    ensures failures_ok { OnOk result (K.failures sink.new ≡ K.failures sink.old) }
-    ensures failures_err { OnErr result (K.failures sink.old < 2 ^ 64 - 1 → K.failures sink.old < K.failures sink.new) }
-{
-    put_bytes(sink, b" -")?;
-    put_number(sink, value)
-}
-
 fn put_literal<K: Sink>(sink: &mut K, lit: Lit) -> Result<(), SinkFault>
-    ensures ok { OnOk result (Appends (K.written sink.old) (K.written sink.new) (spaced_literal lit)) }
-    ensures err { OnErr result (AppendsFront (K.written sink.old) (K.written sink.new) (spaced_literal lit)) }
-    ensures failures_ok { OnOk result (K.failures sink.new ≡ K.failures sink.old) }
-    ensures failures_err { OnErr result (K.failures sink.old < 2 ^ 64 - 1 → K.failures sink.old < K.failures sink.new) }
+    ensures { IsPut K.written K.failures sink.old sink.new (spaced_literal lit) result }
 {
-    let value = u64::from(lit.var().number());
-    if lit.is_negative() {
-        return put_negative(sink, value);
-    }
-    put_spaced(sink, value)
+    put_byte(sink, b' ')?;
+    put_signed(sink, lit.is_negative(), u64::from(lit.var().number()))
 }
 
 fn put_literals<K: Sink>(sink: &mut K, lits: &[Lit]) -> Result<(), SinkFault>
-    ensures ok { OnOk result (Appends (K.written sink.old) (K.written sink.new) (spaced_literals lits.now)) }
-    ensures err { OnErr result (AppendsFront (K.written sink.old) (K.written sink.new) (spaced_literals lits.now)) }
-    ensures failures_ok { OnOk result (K.failures sink.new ≡ K.failures sink.old) }
-    ensures failures_err { OnErr result (K.failures sink.old < 2 ^ 64 - 1 → K.failures sink.old < K.failures sink.new) }
+    ensures { IsPut K.written K.failures sink.old sink.new (spaced_literals lits.now) result }
 {
     for lit in lits {
         put_literal(sink, *lit)?;
@@ -64,10 +34,7 @@ fn put_literals<K: Sink>(sink: &mut K, lits: &[Lit]) -> Result<(), SinkFault>
 // ---- numbers
 
 fn put_numbers<K: Sink>(sink: &mut K, numbers: &[u64]) -> Result<(), SinkFault>
-    ensures ok { OnOk result (Appends (K.written sink.old) (K.written sink.new) (spaced_numbers numbers.now)) }
-    ensures err { OnErr result (AppendsFront (K.written sink.old) (K.written sink.new) (spaced_numbers numbers.now)) }
-    ensures failures_ok { OnOk result (K.failures sink.new ≡ K.failures sink.old) }
-    ensures failures_err { OnErr result (K.failures sink.old < 2 ^ 64 - 1 → K.failures sink.old < K.failures sink.new) }
+    ensures { IsPut K.written K.failures sink.old sink.new (spaced_numbers numbers.now) result }
 {
     for number in numbers {
         put_spaced(sink, *number)?;
@@ -76,10 +43,7 @@ fn put_numbers<K: Sink>(sink: &mut K, numbers: &[u64]) -> Result<(), SinkFault>
 }
 
 fn put_variables<K: Sink>(sink: &mut K, vars: &[Var]) -> Result<(), SinkFault>
-    ensures ok { OnOk result (Appends (K.written sink.old) (K.written sink.new) (spaced_numbers vars.now)) }
-    ensures err { OnErr result (AppendsFront (K.written sink.old) (K.written sink.new) (spaced_numbers vars.now)) }
-    ensures failures_ok { OnOk result (K.failures sink.new ≡ K.failures sink.old) }
-    ensures failures_err { OnErr result (K.failures sink.old < 2 ^ 64 - 1 → K.failures sink.old < K.failures sink.new) }
+    ensures { IsPut K.written K.failures sink.old sink.new (spaced_numbers vars.now) result }
 {
     for var in vars {
         put_spaced(sink, u64::from(var.number()))?;
@@ -90,10 +54,7 @@ fn put_variables<K: Sink>(sink: &mut K, vars: &[Var]) -> Result<(), SinkFault>
 // ---- a set
 
 fn put_letter<K: Sink>(sink: &mut K, quantifier: Quantifier) -> Result<(), SinkFault>
-    ensures ok { OnOk result (Appends (K.written sink.old) (K.written sink.new) (spelled (letter quantifier))) }
-    ensures err { OnErr result (AppendsFront (K.written sink.old) (K.written sink.new) (spelled (letter quantifier))) }
-    ensures failures_ok { OnOk result (K.failures sink.new ≡ K.failures sink.old) }
-    ensures failures_err { OnErr result (K.failures sink.old < 2 ^ 64 - 1 → K.failures sink.old < K.failures sink.new) }
+    ensures { IsPut K.written K.failures sink.old sink.new (spelled (letter quantifier)) result }
 {
     match quantifier {
         Quantifier::All => put_bytes(sink, b"a"),
@@ -102,10 +63,7 @@ fn put_letter<K: Sink>(sink: &mut K, quantifier: Quantifier) -> Result<(), SinkF
 }
 
 fn put_set<K: Sink>(sink: &mut K, set: &QuantSet) -> Result<(), SinkFault>
-    ensures ok { OnOk result (Appends (K.written sink.old) (K.written sink.new) (set_text set.now)) }
-    ensures err { OnErr result (AppendsFront (K.written sink.old) (K.written sink.new) (set_text set.now)) }
-    ensures failures_ok { OnOk result (K.failures sink.new ≡ K.failures sink.old) }
-    ensures failures_err { OnErr result (K.failures sink.old < 2 ^ 64 - 1 → K.failures sink.old < K.failures sink.new) }
+    ensures { IsPut K.written K.failures sink.old sink.new (set_text set.now) result }
 {
     put_letter(sink, set.quantifier)?;
     put_variables(sink, &set.vars)?;
@@ -113,10 +71,7 @@ fn put_set<K: Sink>(sink: &mut K, set: &QuantSet) -> Result<(), SinkFault>
 }
 
 fn put_sets<K: Sink>(sink: &mut K, sets: &[QuantSet]) -> Result<(), SinkFault>
-    ensures ok { OnOk result (Appends (K.written sink.old) (K.written sink.new) (sets_text sets.now)) }
-    ensures err { OnErr result (AppendsFront (K.written sink.old) (K.written sink.new) (sets_text sets.now)) }
-    ensures failures_ok { OnOk result (K.failures sink.new ≡ K.failures sink.old) }
-    ensures failures_err { OnErr result (K.failures sink.old < 2 ^ 64 - 1 → K.failures sink.old < K.failures sink.new) }
+    ensures { IsPut K.written K.failures sink.old sink.new (sets_text sets.now) result }
 {
     for set in sets {
         put_set(sink, set)?;
@@ -127,10 +82,7 @@ fn put_sets<K: Sink>(sink: &mut K, sets: &[QuantSet]) -> Result<(), SinkFault>
 // ---- a step
 
 fn put_step<K: Sink>(sink: &mut K, step: &Step) -> Result<(), SinkFault>
-    ensures ok { OnOk result (Appends (K.written sink.old) (K.written sink.new) (step_text step.now)) }
-    ensures err { OnErr result (AppendsFront (K.written sink.old) (K.written sink.new) (step_text step.now)) }
-    ensures failures_ok { OnOk result (K.failures sink.new ≡ K.failures sink.old) }
-    ensures failures_err { OnErr result (K.failures sink.old < 2 ^ 64 - 1 → K.failures sink.old < K.failures sink.new) }
+    ensures { IsPut K.written K.failures sink.old sink.new (step_text step.now) result }
 {
     put_number(sink, step.number)?;
     put_literals(sink, &step.lits)?;
@@ -140,10 +92,7 @@ fn put_step<K: Sink>(sink: &mut K, step: &Step) -> Result<(), SinkFault>
 }
 
 fn put_steps<K: Sink>(sink: &mut K, steps: &[Step]) -> Result<(), SinkFault>
-    ensures ok { OnOk result (Appends (K.written sink.old) (K.written sink.new) (steps_text steps.now)) }
-    ensures err { OnErr result (AppendsFront (K.written sink.old) (K.written sink.new) (steps_text steps.now)) }
-    ensures failures_ok { OnOk result (K.failures sink.new ≡ K.failures sink.old) }
-    ensures failures_err { OnErr result (K.failures sink.old < 2 ^ 64 - 1 → K.failures sink.old < K.failures sink.new) }
+    ensures { IsPut K.written K.failures sink.old sink.new (steps_text steps.now) result }
 {
     for step in steps {
         put_step(sink, step)?;
@@ -154,10 +103,7 @@ fn put_steps<K: Sink>(sink: &mut K, steps: &[Step]) -> Result<(), SinkFault>
 // ---- the whole
 
 fn put_header<K: Sink>(sink: &mut K, numbers: Header) -> Result<(), SinkFault>
-    ensures ok { OnOk result (Appends (K.written sink.old) (K.written sink.new) (line_text (header numbers))) }
-    ensures err { OnErr result (AppendsFront (K.written sink.old) (K.written sink.new) (line_text (header numbers))) }
-    ensures failures_ok { OnOk result (K.failures sink.new ≡ K.failures sink.old) }
-    ensures failures_err { OnErr result (K.failures sink.old < 2 ^ 64 - 1 → K.failures sink.old < K.failures sink.new) }
+    ensures { IsPut K.written K.failures sink.old sink.new (line_text (header numbers)) result }
 {
     put_bytes(sink, b"p qrp")?;
     put_spaced(sink, numbers.vars)?;
@@ -166,10 +112,7 @@ fn put_header<K: Sink>(sink: &mut K, numbers: Header) -> Result<(), SinkFault>
 }
 
 fn put_result<K: Sink>(sink: &mut K, outcome: Outcome) -> Result<(), SinkFault>
-    ensures ok { OnOk result (Appends (K.written sink.old) (K.written sink.new) (line_text (result_line outcome))) }
-    ensures err { OnErr result (AppendsFront (K.written sink.old) (K.written sink.new) (line_text (result_line outcome))) }
-    ensures failures_ok { OnOk result (K.failures sink.new ≡ K.failures sink.old) }
-    ensures failures_err { OnErr result (K.failures sink.old < 2 ^ 64 - 1 → K.failures sink.old < K.failures sink.new) }
+    ensures { IsPut K.written K.failures sink.old sink.new (line_text (result_line outcome)) result }
 {
     match outcome {
         Outcome::Sat => put_bytes(sink, b"r sat\n"),
@@ -185,10 +128,7 @@ fn put_result<K: Sink>(sink: &mut K, outcome: Outcome) -> Result<(), SinkFault>
 ///
 /// A `SinkFault` where the sink failed. What went out is a beginning of the text then.
 pub fn write_trace<K: Sink>(trace: &Trace, sink: &mut K) -> Result<(), SinkFault>
-    ensures ok { OnOk result (Appends (K.written sink.old) (K.written sink.new) (text trace.now)) }
-    ensures err { OnErr result (AppendsFront (K.written sink.old) (K.written sink.new) (text trace.now)) }
-    ensures failures_ok { OnOk result (K.failures sink.new ≡ K.failures sink.old) }
-    ensures failures_err { OnErr result (K.failures sink.old < 2 ^ 64 - 1 → K.failures sink.old < K.failures sink.new) }
+    ensures put { IsPut K.written K.failures sink.old sink.new (text trace.now) result }
     // Reading the text gives the trace.
     ensures reads_back { read_trace (text trace.now) ≡ Ok trace.now }
 {

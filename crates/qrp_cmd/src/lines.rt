@@ -1,8 +1,7 @@
 //! The lines of the program, written part by part.
 
-ghost use Rattle.std.specs.Prelude.{◌≡◌, ◌<◌, ◌-◌, ◌^◌, ◌++◌, decimal, OnOk, OnErr};
-ghost use Rattle.std.specs.Io.KnownBytes.{Appends};
-ghost use Rattle.qbf_text.specs.Written.{AppendsFront};
+ghost use Rattle.std.specs.Prelude.{◌≡◌, ◌++◌, decimal};
+ghost use Rattle.qbf_text.specs.Written.{IsPut};
 ghost use Rattle.qrp_cmd.specs.Lines.{formula_line, trace_line, check_line, fault_line, fault_status, line, verdict_line, part_text, parts_text};
 
 use crate::names::{formula_fault_name, rule_fault_name, trace_fault_name};
@@ -20,10 +19,7 @@ pub enum Part {
 }
 
 fn put_part<S: Sink>(sink: &mut S, part: Part) -> Result<(), SinkFault>
-    ensures ok { OnOk result (Appends (S.written sink.old) (S.written sink.new) (part_text part)) }
-    ensures err { OnErr result (AppendsFront (S.written sink.old) (S.written sink.new) (part_text part)) }
-    ensures failures_ok { OnOk result (S.failures sink.new ≡ S.failures sink.old) }
-    ensures failures_err { OnErr result (S.failures sink.old < 2 ^ 64 - 1 → S.failures sink.old < S.failures sink.new) }
+    ensures { IsPut S.written S.failures sink.old sink.new (part_text part) result }
 {
     match part {
         Part::Text(text) => put_bytes(sink, text.as_bytes()),
@@ -32,10 +28,7 @@ fn put_part<S: Sink>(sink: &mut S, part: Part) -> Result<(), SinkFault>
 }
 
 fn put_parts<S: Sink>(sink: &mut S, parts: &[Part]) -> Result<(), SinkFault>
-    ensures ok { OnOk result (Appends (S.written sink.old) (S.written sink.new) (parts_text parts.now)) }
-    ensures err { OnErr result (AppendsFront (S.written sink.old) (S.written sink.new) (parts_text parts.now)) }
-    ensures failures_ok { OnOk result (S.failures sink.new ≡ S.failures sink.old) }
-    ensures failures_err { OnErr result (S.failures sink.old < 2 ^ 64 - 1 → S.failures sink.old < S.failures sink.new) }
+    ensures { IsPut S.written S.failures sink.old sink.new (parts_text parts.now) result }
 {
     for part in parts {
         put_part(sink, *part)?;
@@ -44,10 +37,7 @@ fn put_parts<S: Sink>(sink: &mut S, parts: &[Part]) -> Result<(), SinkFault>
 }
 
 fn put_formula_fault<S: Sink>(sink: &mut S, fault: FormulaFault, line: u64) -> Result<(), SinkFault>
-    ensures ok { OnOk result (Appends (S.written sink.old) (S.written sink.new) (formula_line fault line)) }
-    ensures err { OnErr result (AppendsFront (S.written sink.old) (S.written sink.new) (formula_line fault line)) }
-    ensures failures_ok { OnOk result (S.failures sink.new ≡ S.failures sink.old) }
-    ensures failures_err { OnErr result (S.failures sink.old < 2 ^ 64 - 1 → S.failures sink.old < S.failures sink.new) }
+    ensures { IsPut S.written S.failures sink.old sink.new (formula_line fault line) result }
 {
     match fault {
         FormulaFault::F1 => put_parts(sink, &[Part::Text("DEVICE formula\n")]),
@@ -66,10 +56,7 @@ fn put_formula_fault<S: Sink>(sink: &mut S, fault: FormulaFault, line: u64) -> R
 }
 
 fn put_trace_fault<S: Sink>(sink: &mut S, fault: TraceFault, line: u64) -> Result<(), SinkFault>
-    ensures ok { OnOk result (Appends (S.written sink.old) (S.written sink.new) (trace_line fault line)) }
-    ensures err { OnErr result (AppendsFront (S.written sink.old) (S.written sink.new) (trace_line fault line)) }
-    ensures failures_ok { OnOk result (S.failures sink.new ≡ S.failures sink.old) }
-    ensures failures_err { OnErr result (S.failures sink.old < 2 ^ 64 - 1 → S.failures sink.old < S.failures sink.new) }
+    ensures { IsPut S.written S.failures sink.old sink.new (trace_line fault line) result }
 {
     match fault {
         TraceFault::P1 => put_parts(sink, &[Part::Text("DEVICE trace\n")]),
@@ -89,10 +76,7 @@ fn put_trace_fault<S: Sink>(sink: &mut S, fault: TraceFault, line: u64) -> Resul
 
 /// Sends the line that ends in the variable of a faulty quantifier set.
 fn put_set_fault<S: Sink>(sink: &mut S, beginning: &'static str, var: Var) -> Result<(), SinkFault>
-    ensures ok { OnOk result (Appends (S.written sink.old) (S.written sink.new) (beginning.now ++ line (decimal var))) }
-    ensures err { OnErr result (AppendsFront (S.written sink.old) (S.written sink.new) (beginning.now ++ line (decimal var))) }
-    ensures failures_ok { OnOk result (S.failures sink.new ≡ S.failures sink.old) }
-    ensures failures_err { OnErr result (S.failures sink.old < 2 ^ 64 - 1 → S.failures sink.old < S.failures sink.new) }
+    ensures { IsPut S.written S.failures sink.old sink.new (beginning.now ++ line (decimal var)) result }
 {
     put_parts(
         sink,
@@ -105,10 +89,7 @@ fn put_set_fault<S: Sink>(sink: &mut S, beginning: &'static str, var: Var) -> Re
 }
 
 fn put_check_fault<S: Sink>(sink: &mut S, fault: CheckFault) -> Result<(), SinkFault>
-    ensures ok { OnOk result (Appends (S.written sink.old) (S.written sink.new) (check_line fault)) }
-    ensures err { OnErr result (AppendsFront (S.written sink.old) (S.written sink.new) (check_line fault)) }
-    ensures failures_ok { OnOk result (S.failures sink.new ≡ S.failures sink.old) }
-    ensures failures_err { OnErr result (S.failures sink.old < 2 ^ 64 - 1 → S.failures sink.old < S.failures sink.new) }
+    ensures { IsPut S.written S.failures sink.old sink.new (check_line fault) result }
 {
     match fault {
         CheckFault::C1(var) => put_set_fault(sink, "REFUSED set C1 variable ", var),
@@ -131,10 +112,7 @@ fn put_check_fault<S: Sink>(sink: &mut S, fault: CheckFault) -> Result<(), SinkF
 
 /// Sends the line for a fault.
 pub fn put_fault<S: Sink>(sink: &mut S, fault: &Fault) -> Result<(), SinkFault>
-    ensures ok { OnOk result (Appends (S.written sink.old) (S.written sink.new) (fault_line fault.now)) }
-    ensures err { OnErr result (AppendsFront (S.written sink.old) (S.written sink.new) (fault_line fault.now)) }
-    ensures failures_ok { OnOk result (S.failures sink.new ≡ S.failures sink.old) }
-    ensures failures_err { OnErr result (S.failures sink.old < 2 ^ 64 - 1 → S.failures sink.old < S.failures sink.new) }
+    ensures { IsPut S.written S.failures sink.old sink.new (fault_line fault.now) result }
 {
     match *fault {
         Fault::Formula(fault, line) => put_formula_fault(sink, fault, line),
@@ -159,10 +137,7 @@ pub fn fault_status(fault: &Fault) -> u8
 
 /// Sends the line of a verdict.
 pub fn put_verdict<S: Sink>(sink: &mut S, truth: bool) -> Result<(), SinkFault>
-    ensures ok { OnOk result (Appends (S.written sink.old) (S.written sink.new) (verdict_line truth)) }
-    ensures err { OnErr result (AppendsFront (S.written sink.old) (S.written sink.new) (verdict_line truth)) }
-    ensures failures_ok { OnOk result (S.failures sink.new ≡ S.failures sink.old) }
-    ensures failures_err { OnErr result (S.failures sink.old < 2 ^ 64 - 1 → S.failures sink.old < S.failures sink.new) }
+    ensures { IsPut S.written S.failures sink.old sink.new (verdict_line truth) result }
 {
     if truth {
         return put_bytes(sink, b"VERIFIED true\n");

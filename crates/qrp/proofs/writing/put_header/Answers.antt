@@ -1,26 +1,23 @@
 use Rattle.std.proofs.Common.{refl, [], ◌∷◌, ◌++◌}
-use Rattle.std.specs.Prelude.{codes}
-use Rattle.std.proofs.lemmas.Result.{err_from_is_err_and, on_err_weaker}
-use Rattle.qbf_text.specs.Canonical.{line_text}
-use Rattle.qrp.specs.Grammar.{header}
-use Rattle.qrp.specs.Texts.{spaced}
-use Rattle.qrp.proofs.WritingMore.{first_fails, later_fails}
+use Rattle.std.proofs.lemmas.Result.{err_from_is_err_and}
+use Rattle.qbf_text.specs.Canonical.{spaced}
+use Rattle.qbf_text.proofs.SentMore.{put_fails, put_then}
 use Rattle.qrp.proofs.writing.put_header.Goals as goal
 
-pub returns-in_err-put_bytes-clause-err : goal.returns-in_err-put_bytes-clause-err
-returns-in_err-put_bytes-clause-err g c =
+pub returns-in_err-put_bytes : goal.returns-in_err-put_bytes
+returns-in_err-put_bytes g c =
     let p = err_from_is_err_and c.from_residual.result c.from_residual.ensures.1 in
-    rw p.1 (first_fails (g.K.Sink.written c.args.sink.now) _ (line_text (header c.args.numbers)) (codes "p qrp") ((spaced c.args.numbers.vars) ++ ((spaced c.args.numbers.steps) ++ (10 ∷ []))) refl c.in_err-put_bytes.ensures.err)
+    put_fails (spaced c.args.numbers.vars ++ (spaced c.args.numbers.steps ++ 10 ∷ [])) refl p.1 c.in_err-put_bytes.ensures.put
 
-pub returns-in_err-put_spaced-clause-err : goal.returns-in_err-put_spaced-clause-err
-returns-in_err-put_spaced-clause-err g c =
+pub returns-in_err-put_spaced : goal.returns-in_err-put_spaced
+returns-in_err-put_spaced g c =
     let p = err_from_is_err_and c.from_residual-in_err-put_spaced.result c.from_residual-in_err-put_spaced.ensures.1 in
-    rw p.1 (later_fails (g.K.Sink.written c.args.sink.now) _ _ (line_text (header c.args.numbers)) (codes "p qrp") ((spaced c.args.numbers.vars) ++ ((spaced c.args.numbers.steps) ++ (10 ∷ []))) refl c.in_ok-put_bytes.ensures.ok (first_fails _ _ ((spaced c.args.numbers.vars) ++ ((spaced c.args.numbers.steps) ++ (10 ∷ []))) (spaced c.args.numbers.vars) ((spaced c.args.numbers.steps) ++ (10 ∷ [])) refl c.in_err-put_spaced.ensures.err))
+    put_then (spaced c.args.numbers.vars ++ (spaced c.args.numbers.steps ++ 10 ∷ [])) refl c.in_ok-put_bytes.ensures.put (put_fails (spaced c.args.numbers.steps ++ 10 ∷ []) refl p.1 c.in_err-put_spaced.ensures)
 
-pub returns-in_err-put_spaced-2-clause-err : goal.returns-in_err-put_spaced-2-clause-err
-returns-in_err-put_spaced-2-clause-err g c =
+pub returns-in_err-put_spaced-2 : goal.returns-in_err-put_spaced-2
+returns-in_err-put_spaced-2 g c =
     let p = err_from_is_err_and c.from_residual-in_err-put_spaced-2.result c.from_residual-in_err-put_spaced-2.ensures.1 in
-    rw p.1 (later_fails (g.K.Sink.written c.args.sink.now) _ _ (line_text (header c.args.numbers)) (codes "p qrp") ((spaced c.args.numbers.vars) ++ ((spaced c.args.numbers.steps) ++ (10 ∷ []))) refl c.in_ok-put_bytes.ensures.ok (later_fails _ _ _ ((spaced c.args.numbers.vars) ++ ((spaced c.args.numbers.steps) ++ (10 ∷ []))) (spaced c.args.numbers.vars) ((spaced c.args.numbers.steps) ++ (10 ∷ [])) refl c.in_ok-put_spaced.ensures.ok (first_fails _ _ ((spaced c.args.numbers.steps) ++ (10 ∷ [])) (spaced c.args.numbers.steps) (10 ∷ []) refl c.in_err-put_spaced-2.ensures.err)))
+    put_then (spaced c.args.numbers.vars ++ (spaced c.args.numbers.steps ++ 10 ∷ [])) refl c.in_ok-put_bytes.ensures.put (put_then (spaced c.args.numbers.steps ++ 10 ∷ []) refl c.in_ok-put_spaced.ensures (put_fails (10 ∷ []) refl p.1 c.in_err-put_spaced-2.ensures))
 
-pub returns-clause-err : goal.returns-clause-err
-returns-clause-err g c = on_err_weaker c.put_bytes-2.result (λ front. (later_fails (g.K.Sink.written c.args.sink.now) _ _ (line_text (header c.args.numbers)) (codes "p qrp") ((spaced c.args.numbers.vars) ++ ((spaced c.args.numbers.steps) ++ (10 ∷ []))) refl c.in_ok-put_bytes.ensures.ok (later_fails _ _ _ ((spaced c.args.numbers.vars) ++ ((spaced c.args.numbers.steps) ++ (10 ∷ []))) (spaced c.args.numbers.vars) ((spaced c.args.numbers.steps) ++ (10 ∷ [])) refl c.in_ok-put_spaced.ensures.ok (later_fails _ _ _ ((spaced c.args.numbers.steps) ++ (10 ∷ [])) (spaced c.args.numbers.steps) (10 ∷ []) refl c.in_ok-put_spaced-2.ensures.ok front)))) c.put_bytes-2.ensures.err
+pub returns : goal.returns
+returns g c = put_then (spaced c.args.numbers.vars ++ (spaced c.args.numbers.steps ++ 10 ∷ [])) refl c.in_ok-put_bytes.ensures.put (put_then (spaced c.args.numbers.steps ++ 10 ∷ []) refl c.in_ok-put_spaced.ensures (put_then (10 ∷ []) refl c.in_ok-put_spaced-2.ensures c.put_bytes-2.ensures.put))

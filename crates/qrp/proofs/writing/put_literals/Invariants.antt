@@ -1,11 +1,10 @@
-use Rattle.std.proofs.Common.{◌≡◌, drop}
+use Rattle.std.proofs.Common.{drop}
 use Rattle.std.specs.List.{flat_map}
-use Rattle.qbf_text.specs.Written.{IsSent}
 use Rattle.qrp.specs.Texts.{spaced_literal}
+use Rattle.qbf_text.specs.Written.{IsSent}
 use Rattle.qrp.proofs.writing.put_literals.Given as goal
 
 abbrev pub invariant-loop-lit : goal.invariant-loop-lit
 invariant-loop-lit g l = record {
-  sent : IsSent (g.K.Sink.written l.fn.sink) (g.K.Sink.written l.sink) (flat_map spaced_literal l.lits) (flat_map spaced_literal (drop l.lit-index l.lits));
-  works : g.K.Sink.failures l.sink ≡ g.K.Sink.failures l.fn.sink;
+  sent : IsSent g.K.Sink.written g.K.Sink.failures l.fn.sink l.sink (flat_map spaced_literal l.lits) (flat_map spaced_literal (drop l.lit-index l.lits));
 }

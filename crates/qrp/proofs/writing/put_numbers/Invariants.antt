@@ -1,11 +1,10 @@
-use Rattle.std.proofs.Common.{◌≡◌, drop}
+use Rattle.std.proofs.Common.{drop}
 use Rattle.std.specs.List.{flat_map}
+use Rattle.qbf_text.specs.Canonical.{spaced}
 use Rattle.qbf_text.specs.Written.{IsSent}
-use Rattle.qrp.specs.Texts.{spaced}
 use Rattle.qrp.proofs.writing.put_numbers.Given as goal
 
 abbrev pub invariant-loop-number : goal.invariant-loop-number
 invariant-loop-number g l = record {
-  sent : IsSent (g.K.Sink.written l.fn.sink) (g.K.Sink.written l.sink) (flat_map spaced l.numbers) (flat_map spaced (drop l.number-index l.numbers));
-  works : g.K.Sink.failures l.sink ≡ g.K.Sink.failures l.fn.sink;
+  sent : IsSent g.K.Sink.written g.K.Sink.failures l.fn.sink l.sink (flat_map spaced l.numbers) (flat_map spaced (drop l.number-index l.numbers));
 }

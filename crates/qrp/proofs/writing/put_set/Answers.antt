@@ -1,20 +1,18 @@
 use Rattle.std.proofs.Common.{sym, ap, ℕ, List, ◌++◌}
-use Rattle.std.proofs.lemmas.Result.{err_from_is_err_and, on_err_weaker}
-use Rattle.qbf_text.specs.Canonical.{spelled}
-use Rattle.qrp.specs.Grammar.{letter}
+use Rattle.std.proofs.lemmas.Result.{err_from_is_err_and}
 use Rattle.qrp.specs.Texts.{spaced_numbers, closing, set_text}
-use Rattle.qrp.proofs.WritingMore.{first_fails, later_fails}
+use Rattle.qbf_text.proofs.SentMore.{put_fails, put_then}
 use Rattle.qrp.proofs.writing.put_set.Goals as goal
 
-pub returns-in_err-put_letter-clause-err : goal.returns-in_err-put_letter-clause-err
-returns-in_err-put_letter-clause-err g c =
+pub returns-in_err-put_letter : goal.returns-in_err-put_letter
+returns-in_err-put_letter g c =
     let p = err_from_is_err_and c.from_residual.result c.from_residual.ensures.1 in
-    rw p.1 (first_fails (g.K.Sink.written c.args.sink.now) _ (set_text c.args.set.now) (spelled (letter c.set.inside.quantifier)) ((spaced_numbers c.set.inside.vars.items) ++ closing) (ap set_text (sym c.set.view_is)) c.in_err-put_letter.ensures.err)
+    put_fails (spaced_numbers c.set.inside.vars.items ++ closing) (ap set_text (sym c.set.view_is)) p.1 c.in_err-put_letter.ensures
 
-pub returns-in_err-put_variables-clause-err : goal.returns-in_err-put_variables-clause-err
-returns-in_err-put_variables-clause-err g c =
+pub returns-in_err-put_variables : goal.returns-in_err-put_variables
+returns-in_err-put_variables g c =
     let p = err_from_is_err_and c.from_residual-in_err-put_variables.result c.from_residual-in_err-put_variables.ensures.1 in
-    rw p.1 (later_fails (g.K.Sink.written c.args.sink.now) _ _ (set_text c.args.set.now) (spelled (letter c.set.inside.quantifier)) ((spaced_numbers c.set.inside.vars.items) ++ closing) (ap set_text (sym c.set.view_is)) c.in_ok-put_letter.ensures.ok (first_fails _ _ ((spaced_numbers c.set.inside.vars.items) ++ closing) (spaced_numbers c.deref.result.now) closing (ap (λ (ns : List ℕ). spaced_numbers ns ++ closing) (sym c.deref.ensures.value)) c.in_err-put_variables.ensures.err))
+    put_then (spaced_numbers c.set.inside.vars.items ++ closing) (ap set_text (sym c.set.view_is)) c.in_ok-put_letter.ensures (put_fails closing (ap (λ (ns : List ℕ). spaced_numbers ns ++ closing) (sym c.deref.ensures.value)) p.1 c.in_err-put_variables.ensures)
 
-pub returns-clause-err : goal.returns-clause-err
-returns-clause-err g c = on_err_weaker c.put_bytes.result (λ front. (later_fails (g.K.Sink.written c.args.sink.now) _ _ (set_text c.args.set.now) (spelled (letter c.set.inside.quantifier)) ((spaced_numbers c.set.inside.vars.items) ++ closing) (ap set_text (sym c.set.view_is)) c.in_ok-put_letter.ensures.ok (later_fails _ _ _ ((spaced_numbers c.set.inside.vars.items) ++ closing) (spaced_numbers c.deref.result.now) closing (ap (λ (ns : List ℕ). spaced_numbers ns ++ closing) (sym c.deref.ensures.value)) c.in_ok-put_variables.ensures.ok front))) c.put_bytes.ensures.err
+pub returns : goal.returns
+returns g c = put_then (spaced_numbers c.set.inside.vars.items ++ closing) (ap set_text (sym c.set.view_is)) c.in_ok-put_letter.ensures (put_then closing (ap (λ (ns : List ℕ). spaced_numbers ns ++ closing) (sym c.deref.ensures.value)) c.in_ok-put_variables.ensures c.put_bytes.ensures.put)

@@ -1,18 +1,17 @@
-use Rattle.std.proofs.Common.{arith, ◌∙◌, ◌+◌, drop}
+use Rattle.std.proofs.Common.{arith, ◌+◌, drop}
 use Rattle.std.specs.List.{flat_map}
 use Rattle.std.proofs.lemmas.Result.{err_from_is_err_and}
-use Rattle.qbf_text.proofs.SentMore.{sent_step, sent_front}
+use Rattle.qbf_text.proofs.SentMore.{put_fails, sent_put, sent_part}
 use Rattle.qrp.specs.Texts.{set_text}
 use Rattle.qrp.proofs.WritingMore.{parts_next}
 use Rattle.qrp.proofs.writing.put_sets.Goals as goal
 
-pub returns-in_err-put_set-clause-err : goal.returns-in_err-put_set-clause-err
-returns-in_err-put_set-clause-err g c =
+pub returns-in_err-put_set : goal.returns-in_err-put_set
+returns-in_err-put_set g c =
     let p = err_from_is_err_and c.from_residual.result c.from_residual.ensures.1 in
-    rw p.1 (sent_front (g.K.Sink.written c.args.sink.now) _ _ (flat_map set_text c.args.sets.now) (flat_map set_text (drop c.loop-set.set-index c.args.sets.now)) (set_text c.set-item.result) (flat_map set_text (drop (c.loop-set.set-index + 1) c.args.sets.now)) c.loop-set.invariant.sent (parts_next set_text c.args.sets.now c.loop-set.set-index c.set-item.result (omega (arith, c.loop-set-test.true)) c.set-item.is) c.in_err-put_set.ensures.err)
+    sent_put c.loop-set.invariant.sent (put_fails (flat_map set_text (drop (c.loop-set.set-index + 1) c.args.sets.now)) (parts_next set_text c.args.sets.now c.loop-set.set-index c.set-item.result (omega (arith, c.loop-set-test.true)) c.set-item.is) p.1 c.in_err-put_set.ensures)
 
 pub loop-set-preserved : goal.loop-set-preserved
 loop-set-preserved g c = record {
-  sent = sent_step (g.K.Sink.written c.args.sink.now) _ _ (flat_map set_text c.args.sets.now) (flat_map set_text (drop c.loop-set.set-index c.args.sets.now)) (set_text c.set-item.result) (flat_map set_text (drop (c.loop-set.set-index + 1) c.args.sets.now)) c.loop-set.invariant.sent (parts_next set_text c.args.sets.now c.loop-set.set-index c.set-item.result (omega (arith, c.loop-set-test.true)) c.set-item.is) c.in_ok-put_set.ensures.ok;
-  works = c.in_ok-put_set.ensures.failures_ok ∙ c.loop-set.invariant.works;
+  sent = sent_part (flat_map set_text (drop (c.loop-set.set-index + 1) c.args.sets.now)) c.loop-set.invariant.sent (parts_next set_text c.args.sets.now c.loop-set.set-index c.set-item.result (omega (arith, c.loop-set-test.true)) c.set-item.is) c.in_ok-put_set.ensures;
 }

@@ -1,11 +1,10 @@
-use Rattle.std.proofs.Common.{◌≡◌, drop}
+use Rattle.std.proofs.Common.{drop}
 use Rattle.std.specs.List.{flat_map}
-use Rattle.qbf_text.specs.Written.{IsSent}
 use Rattle.qrp.specs.Texts.{set_text}
+use Rattle.qbf_text.specs.Written.{IsSent}
 use Rattle.qrp.proofs.writing.put_sets.Given as goal
 
 abbrev pub invariant-loop-set : goal.invariant-loop-set
 invariant-loop-set g l = record {
-  sent : IsSent (g.K.Sink.written l.fn.sink) (g.K.Sink.written l.sink) (flat_map set_text l.sets) (flat_map set_text (drop l.set-index l.sets));
-  works : g.K.Sink.failures l.sink ≡ g.K.Sink.failures l.fn.sink;
+  sent : IsSent g.K.Sink.written g.K.Sink.failures l.fn.sink l.sink (flat_map set_text l.sets) (flat_map set_text (drop l.set-index l.sets));
 }

@@ -1,30 +1,39 @@
 use Rattle.std.proofs.Common.{refl, sym, ap, ℕ, List, ◌++◌}
-use Rattle.std.specs.Prelude.{decimal}
-use Rattle.std.proofs.lemmas.Result.{err_from_is_err_and, on_err_weaker}
+use Rattle.std.proofs.lemmas.Result.{err_from_is_err_and}
 use Rattle.qbf_core.specs.Literal.{Literal}
+use Rattle.qbf_text.proofs.SentMore.{put_fails, put_then}
 use Rattle.qrp.specs.Texts.{spaced_numbers, spaced_literals, zero_text, closing, step_text}
-use Rattle.qrp.proofs.WritingMore.{first_fails, later_fails}
 use Rattle.qrp.proofs.writing.put_step.Goals as goal
 
-pub returns-in_err-put_number-clause-err : goal.returns-in_err-put_number-clause-err
-returns-in_err-put_number-clause-err g c =
+pub returns-in_err-put_number : goal.returns-in_err-put_number
+returns-in_err-put_number g c =
     let p = err_from_is_err_and c.from_residual.result c.from_residual.ensures.1 in
-    rw p.1 (first_fails (g.K.Sink.written c.args.sink.now) _ (step_text c.args.step.now) (decimal c.step.inside.number) ((spaced_literals c.step.inside.lits.items) ++ (zero_text ++ ((spaced_numbers c.step.inside.ants.items) ++ closing))) (ap step_text (sym c.step.view_is)) c.in_err-put_number.ensures.err)
+    put_fails (spaced_literals c.step.inside.lits.items ++ (zero_text ++ (spaced_numbers c.step.inside.ants.items ++ closing))) (ap step_text (sym c.step.view_is)) p.1 c.in_err-put_number.ensures
 
-pub returns-in_err-put_literals-clause-err : goal.returns-in_err-put_literals-clause-err
-returns-in_err-put_literals-clause-err g c =
+pub returns-in_err-put_literals : goal.returns-in_err-put_literals
+returns-in_err-put_literals g c =
     let p = err_from_is_err_and c.from_residual-in_err-put_literals.result c.from_residual-in_err-put_literals.ensures.1 in
-    rw p.1 (later_fails (g.K.Sink.written c.args.sink.now) _ _ (step_text c.args.step.now) (decimal c.step.inside.number) ((spaced_literals c.step.inside.lits.items) ++ (zero_text ++ ((spaced_numbers c.step.inside.ants.items) ++ closing))) (ap step_text (sym c.step.view_is)) c.in_ok-put_number.ensures.ok (first_fails _ _ ((spaced_literals c.step.inside.lits.items) ++ (zero_text ++ ((spaced_numbers c.step.inside.ants.items) ++ closing))) (spaced_literals c.deref.result.now) (zero_text ++ ((spaced_numbers c.step.inside.ants.items) ++ closing)) (ap (λ (ls : List Literal). spaced_literals ls ++ (zero_text ++ ((spaced_numbers c.step.inside.ants.items) ++ closing))) (sym c.deref.ensures.value)) c.in_err-put_literals.ensures.err))
+    put_then (spaced_literals c.step.inside.lits.items ++ (zero_text ++ (spaced_numbers c.step.inside.ants.items ++ closing))) (ap step_text (sym c.step.view_is)) c.in_ok-put_number.ensures
+    (put_fails (zero_text ++ (spaced_numbers c.step.inside.ants.items ++ closing)) (ap (λ (ls : List Literal). spaced_literals ls ++ (zero_text ++ (spaced_numbers c.step.inside.ants.items ++ closing))) (sym c.deref.ensures.value)) p.1 c.in_err-put_literals.ensures)
 
-pub returns-in_err-put_bytes-clause-err : goal.returns-in_err-put_bytes-clause-err
-returns-in_err-put_bytes-clause-err g c =
+pub returns-in_err-put_bytes : goal.returns-in_err-put_bytes
+returns-in_err-put_bytes g c =
     let p = err_from_is_err_and c.from_residual-in_err-put_bytes.result c.from_residual-in_err-put_bytes.ensures.1 in
-    rw p.1 (later_fails (g.K.Sink.written c.args.sink.now) _ _ (step_text c.args.step.now) (decimal c.step.inside.number) ((spaced_literals c.step.inside.lits.items) ++ (zero_text ++ ((spaced_numbers c.step.inside.ants.items) ++ closing))) (ap step_text (sym c.step.view_is)) c.in_ok-put_number.ensures.ok (later_fails _ _ _ ((spaced_literals c.step.inside.lits.items) ++ (zero_text ++ ((spaced_numbers c.step.inside.ants.items) ++ closing))) (spaced_literals c.deref.result.now) (zero_text ++ ((spaced_numbers c.step.inside.ants.items) ++ closing)) (ap (λ (ls : List Literal). spaced_literals ls ++ (zero_text ++ ((spaced_numbers c.step.inside.ants.items) ++ closing))) (sym c.deref.ensures.value)) c.in_ok-put_literals.ensures.ok (first_fails _ _ (zero_text ++ ((spaced_numbers c.step.inside.ants.items) ++ closing)) zero_text ((spaced_numbers c.step.inside.ants.items) ++ closing) refl c.in_err-put_bytes.ensures.err)))
+    put_then (spaced_literals c.step.inside.lits.items ++ (zero_text ++ (spaced_numbers c.step.inside.ants.items ++ closing))) (ap step_text (sym c.step.view_is)) c.in_ok-put_number.ensures
+    (put_then (zero_text ++ (spaced_numbers c.step.inside.ants.items ++ closing)) (ap (λ (ls : List Literal). spaced_literals ls ++ (zero_text ++ (spaced_numbers c.step.inside.ants.items ++ closing))) (sym c.deref.ensures.value)) c.in_ok-put_literals.ensures
+    (put_fails (spaced_numbers c.step.inside.ants.items ++ closing) refl p.1 c.in_err-put_bytes.ensures.put))
 
-pub returns-in_err-put_numbers-clause-err : goal.returns-in_err-put_numbers-clause-err
-returns-in_err-put_numbers-clause-err g c =
+pub returns-in_err-put_numbers : goal.returns-in_err-put_numbers
+returns-in_err-put_numbers g c =
     let p = err_from_is_err_and c.from_residual-in_err-put_numbers.result c.from_residual-in_err-put_numbers.ensures.1 in
-    rw p.1 (later_fails (g.K.Sink.written c.args.sink.now) _ _ (step_text c.args.step.now) (decimal c.step.inside.number) ((spaced_literals c.step.inside.lits.items) ++ (zero_text ++ ((spaced_numbers c.step.inside.ants.items) ++ closing))) (ap step_text (sym c.step.view_is)) c.in_ok-put_number.ensures.ok (later_fails _ _ _ ((spaced_literals c.step.inside.lits.items) ++ (zero_text ++ ((spaced_numbers c.step.inside.ants.items) ++ closing))) (spaced_literals c.deref.result.now) (zero_text ++ ((spaced_numbers c.step.inside.ants.items) ++ closing)) (ap (λ (ls : List Literal). spaced_literals ls ++ (zero_text ++ ((spaced_numbers c.step.inside.ants.items) ++ closing))) (sym c.deref.ensures.value)) c.in_ok-put_literals.ensures.ok (later_fails _ _ _ (zero_text ++ ((spaced_numbers c.step.inside.ants.items) ++ closing)) zero_text ((spaced_numbers c.step.inside.ants.items) ++ closing) refl c.in_ok-put_bytes.ensures.ok (first_fails _ _ ((spaced_numbers c.step.inside.ants.items) ++ closing) (spaced_numbers c.deref-2.result.now) closing (ap (λ (ns : List ℕ). spaced_numbers ns ++ closing) (sym c.deref-2.ensures.value)) c.in_err-put_numbers.ensures.err))))
+    put_then (spaced_literals c.step.inside.lits.items ++ (zero_text ++ (spaced_numbers c.step.inside.ants.items ++ closing))) (ap step_text (sym c.step.view_is)) c.in_ok-put_number.ensures
+    (put_then (zero_text ++ (spaced_numbers c.step.inside.ants.items ++ closing)) (ap (λ (ls : List Literal). spaced_literals ls ++ (zero_text ++ (spaced_numbers c.step.inside.ants.items ++ closing))) (sym c.deref.ensures.value)) c.in_ok-put_literals.ensures
+    (put_then (spaced_numbers c.step.inside.ants.items ++ closing) refl c.in_ok-put_bytes.ensures.put
+    (put_fails closing (ap (λ (ns : List ℕ). spaced_numbers ns ++ closing) (sym c.deref-2.ensures.value)) p.1 c.in_err-put_numbers.ensures)))
 
-pub returns-clause-err : goal.returns-clause-err
-returns-clause-err g c = on_err_weaker c.put_bytes-2.result (λ front. (later_fails (g.K.Sink.written c.args.sink.now) _ _ (step_text c.args.step.now) (decimal c.step.inside.number) ((spaced_literals c.step.inside.lits.items) ++ (zero_text ++ ((spaced_numbers c.step.inside.ants.items) ++ closing))) (ap step_text (sym c.step.view_is)) c.in_ok-put_number.ensures.ok (later_fails _ _ _ ((spaced_literals c.step.inside.lits.items) ++ (zero_text ++ ((spaced_numbers c.step.inside.ants.items) ++ closing))) (spaced_literals c.deref.result.now) (zero_text ++ ((spaced_numbers c.step.inside.ants.items) ++ closing)) (ap (λ (ls : List Literal). spaced_literals ls ++ (zero_text ++ ((spaced_numbers c.step.inside.ants.items) ++ closing))) (sym c.deref.ensures.value)) c.in_ok-put_literals.ensures.ok (later_fails _ _ _ (zero_text ++ ((spaced_numbers c.step.inside.ants.items) ++ closing)) zero_text ((spaced_numbers c.step.inside.ants.items) ++ closing) refl c.in_ok-put_bytes.ensures.ok (later_fails _ _ _ ((spaced_numbers c.step.inside.ants.items) ++ closing) (spaced_numbers c.deref-2.result.now) closing (ap (λ (ns : List ℕ). spaced_numbers ns ++ closing) (sym c.deref-2.ensures.value)) c.in_ok-put_numbers.ensures.ok front))))) c.put_bytes-2.ensures.err
+pub returns : goal.returns
+returns g c =
+    put_then (spaced_literals c.step.inside.lits.items ++ (zero_text ++ (spaced_numbers c.step.inside.ants.items ++ closing))) (ap step_text (sym c.step.view_is)) c.in_ok-put_number.ensures
+    (put_then (zero_text ++ (spaced_numbers c.step.inside.ants.items ++ closing)) (ap (λ (ls : List Literal). spaced_literals ls ++ (zero_text ++ (spaced_numbers c.step.inside.ants.items ++ closing))) (sym c.deref.ensures.value)) c.in_ok-put_literals.ensures
+    (put_then (spaced_numbers c.step.inside.ants.items ++ closing) refl c.in_ok-put_bytes.ensures.put
+    (put_then closing (ap (λ (ns : List ℕ). spaced_numbers ns ++ closing) (sym c.deref-2.ensures.value)) c.in_ok-put_numbers.ensures c.put_bytes-2.ensures.put)))

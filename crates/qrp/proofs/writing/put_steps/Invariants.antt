@@ -1,11 +1,10 @@
-use Rattle.std.proofs.Common.{◌≡◌, drop}
+use Rattle.std.proofs.Common.{drop}
 use Rattle.std.specs.List.{flat_map}
-use Rattle.qbf_text.specs.Written.{IsSent}
 use Rattle.qrp.specs.Texts.{step_text}
+use Rattle.qbf_text.specs.Written.{IsSent}
 use Rattle.qrp.proofs.writing.put_steps.Given as goal
 
 abbrev pub invariant-loop-step : goal.invariant-loop-step
 invariant-loop-step g l = record {
-  sent : IsSent (g.K.Sink.written l.fn.sink) (g.K.Sink.written l.sink) (flat_map step_text l.steps) (flat_map step_text (drop l.step-index l.steps));
-  works : g.K.Sink.failures l.sink ≡ g.K.Sink.failures l.fn.sink;
+  sent : IsSent g.K.Sink.written g.K.Sink.failures l.fn.sink l.sink (flat_map step_text l.steps) (flat_map step_text (drop l.step-index l.steps));
 }

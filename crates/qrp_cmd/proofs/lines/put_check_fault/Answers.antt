@@ -1,6 +1,6 @@
 use Rattle.qrp_cmd.proofs.LinesMore.{step_refusal}
 use Rattle.qrp_cmd.proofs.lines.put_check_fault.Goals as goal
 
-pub returns-in-C6-clause-ok : goal.returns-in-C6-clause-ok
-returns-in-C6-clause-ok g c =
-    rw (step_refusal c.args.fault c.in-C6.number c.in-C6.fault c.rule_fault_name.result.now c.in-C6.is c.rule_fault_name.ensures) c.put_parts-in-C6.ensures.ok
+pub returns-in-C6 : goal.returns-in-C6
+returns-in-C6 g c =
+    rw (step_refusal c.args.fault c.in-C6.number c.in-C6.fault c.rule_fault_name.result.now c.in-C6.is c.rule_fault_name.ensures) c.put_parts-in-C6.ensures

@@ -1,0 +1,38 @@
+//! Numbers as texts have them, on their way to a sink.
+
+ghost use Rattle.std.specs.Prelude.{◌∷◌, decimal};
+ghost use Rattle.qbf_text.specs.Canonical.{spaced, spelled};
+ghost use Rattle.qbf_text.specs.Written.{IsPut};
+ghost use Rattle.qbf_text.specs.declared.token.Token.TheVariants.{Number};
+
+use crate::sink::{Sink, SinkFault, put_byte, put_number};
+
+/// Sends a number behind a blank.
+///
+/// A `SinkFault` where the sink failed. What went out is a beginning of these bytes then.
+pub fn put_spaced<S: Sink>(sink: &mut S, n: u64) -> Result<(), SinkFault>
+    ensures { IsPut S.written S.failures sink.old sink.new (spaced n) result }
+{
+    put_byte(sink, b' ')?;
+    put_number(sink, n)
+}
+
+/// Sends a number behind a minus.
+fn put_minus<S: Sink>(sink: &mut S, n: u64) -> Result<(), SinkFault>
+    ensures { IsPut S.written S.failures sink.old sink.new (45 ∷ decimal n) result }
+{
+    put_byte(sink, b'-')?;
+    put_number(sink, n)
+}
+
+/// Sends a number, directly behind a minus where it is negative.
+///
+/// A `SinkFault` where the sink failed. What went out is a beginning of these bytes then.
+pub fn put_signed<S: Sink>(sink: &mut S, negative: bool, n: u64) -> Result<(), SinkFault>
+    ensures { IsPut S.written S.failures sink.old sink.new (spelled (Number negative n)) result }
+{
+    if negative {
+        return put_minus(sink, n);
+    }
+    put_number(sink, n)
+}

@@ -1,0 +1,33 @@
+-- What the program reads, writes and answers.
+use Rattle.std.specs.Prelude.{◌≡◌, ◌≢◌, ◌⊎◌, ℕ, ◌-◌, ◌^◌, ◌<◌, List, Option, Result, Ok, Err}
+use Rattle.std.specs.Io.KnownBytes.{Appends}
+use Rattle.qbf_text.specs.Written.{AppendsFront}
+use Rattle.qrp.specs.declared.fault.TraceFault.{TraceFault}
+use Rattle.qrp.specs.declared.fault.TraceFault.TheVariants.{P1, P9}
+use Rattle.qrp.specs.Answers.{Gives, reads_bytes}
+use Rattle.qrp.specs.Derivations.{Derivation}
+use Rattle.qrp.specs.Reading.{Fault}
+
+-- 1: the bytes are no trace; 3: the source failed; 4: memory was refused
+abbrev pub fault_status : TraceFault → ℕ
+fault_status P1 = 3
+fault_status P9 = 4
+fault_status f = 1
+
+-- a device failed in a call that began with its count of failures below the limit
+abbrev pub HasFailed : ℕ → ℕ → Type 0
+HasFailed before after = before < 2 ^ 64 - 1 → before < after
+
+-- What a source reads as whose count of failures goes from `before` to `after`: the trace or the fault that its bytes
+-- spell, where they are told; or P1 where it failed, or P9 for want of memory.
+abbrev pub IsRead : Option (List ℕ) → ℕ → ℕ → Result Derivation Fault → Type 0
+IsRead told before after (Ok d) = Gives (Ok d) (reads_bytes told) × (after ≡ before)
+IsRead told before after (Err e) =
+    Gives (Err e) (reads_bytes told) × (e.0 ≡ P1 → HasFailed before after) × (e.0 ≢ P1 → after ≡ before)
+
+-- A sink went from `old` to `new` and its count of failures from `before` to `after`: all of the text went out and the
+-- answer is 0; or the sink failed, a beginning of the text went out, and the answer is 3.
+abbrev pub IsSent : Option (List ℕ) → Option (List ℕ) → ℕ → ℕ → List ℕ → ℕ → Type 0
+IsSent old new before after text answer =
+    (Appends old new text × (after ≡ before) × (answer ≡ 0))
+    ⊎ (AppendsFront old new text × HasFailed before after × (answer ≡ 3))

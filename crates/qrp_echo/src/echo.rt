@@ -1,0 +1,56 @@
+//! A trace from its source to a sink.
+
+ghost use Rattle.std.specs.Prelude.{◌≡◌, Result, IfOk, IfErr};
+ghost use Rattle.qrp.specs.Derivations.{Derivation};
+ghost use Rattle.qrp.specs.Grammar.{text};
+ghost use Rattle.qrp.specs.Reading.{Fault};
+ghost use Rattle.qrp_echo.specs.Echoed.{IsRead, IsSent, fault_status};
+
+use qbf_text::{Sink, Source};
+use qrp::{Trace, TraceFault, read_trace, write_trace};
+use std::alloc::Global;
+
+/// The status of the program: 0 done, 1 the bytes are no trace, 3 a device failed, 4 memory was refused.
+pub type Status = u8;
+
+/// The status where a device failed.
+const DEVICE_FAILED: Status = 3;
+
+/// The status for a fault.
+fn fault_status(fault: TraceFault) -> Status
+    ensures { result ≡ fault_status fault }
+{
+    match fault {
+        TraceFault::P1 => DEVICE_FAILED,
+        TraceFault::P9 => 4,
+        _ => 1,
+    }
+}
+
+/// Sends the canonical text of a trace.
+fn send<K: Sink>(trace: &Trace, sink: &mut K) -> Status
+    ensures { IsSent (K.written sink.old) (K.written sink.new) (K.failures sink.old) (K.failures sink.new) (text trace.now) result }
+{
+    if write_trace(trace, sink).is_err() {
+        return DEVICE_FAILED;
+    }
+    match sink.finish() {
+        Ok(()) => 0,
+        Err(_) => DEVICE_FAILED,
+    }
+}
+
+/// Writes the canonical text of the trace that the source holds.
+///
+/// Of a fault nothing is written. Where the sink fails, in a write or in `finish`, a beginning of the text went out.
+pub fn echo<S: Source, K: Sink>(alloc: Global, source: &mut S, sink: &mut K) -> Status
+    ensures { (read : Result Derivation Fault)
+        × IsRead (S.remaining source.old) (S.failures source.old) (S.failures source.new) read
+        × IfOk read (λ d. IsSent (K.written sink.old) (K.written sink.new) (K.failures sink.old) (K.failures sink.new) (text d) result)
+        × IfErr read (λ e. (sink.new ≡ sink.old) × (result ≡ fault_status e.0)) }
+{
+    match read_trace(alloc, source) {
+        Ok(trace) => send(&trace, sink),
+        Err((fault, _)) => fault_status(fault),
+    }
+}

@@ -1,0 +1,30 @@
+//! The program `qrp_echo` reads a trace from its input and writes its canonical text.
+//! It is for tests alone: a trace that is written and read again is to be the same.
+//!
+//! Status 0: done; 1: the bytes are no trace, and nothing was written; 3: a device failed; 4: memory was refused.
+#![tactic(auto)]
+
+mod echo;
+
+pub use echo::{Status, echo};
+use qbf_text::{FromRead, ToWrite};
+use std::io::BufWriter;
+use std::process::ExitCode;
+
+/// The most bytes that are read of the input.
+const LIMIT: u64 = 4611686018427387904;
+
+/// The status where memory was refused.
+const NO_MEMORY: Status = 4;
+
+fn main(rt: HostRuntime) -> ExitCode {
+    let Ok(mut out) = BufWriter::new(rt.alloc(), rt.stdout()) else {
+        return ExitCode::from(NO_MEMORY);
+    };
+    let mut source = FromRead::new(rt.stdin(), LIMIT);
+    let mut sink = ToWrite::new(&mut out);
+    let status = echo(rt.alloc(), &mut source, &mut sink);
+    // What a failed writer still holds is not sent again.
+    let (_out, _unsent) = out.into_parts();
+    ExitCode::from(status)
+}
