@@ -1,5 +1,5 @@
 -- The sets that are kept while the core is walked.
-use Rattle.std.proofs.Common.{◌≡◌, ◌≢◌, ℕ, ◌+◌, ◌<◌, ◌≤◌, ◌↔◌, Bool, true, false, List, [], ◌∷◌, ◌++◌, Option, Some, None, inl, inr, refl, sym, ap, subst, ◌∙◌, arith, length, length-append, IsTrue}
+use Rattle.std.proofs.Common.{◌≡◌, ◌≢◌, ℕ, ◌+◌, ◌↔◌, true, false, List, [], ◌∷◌, ◌++◌, Option, Some, None, inl, inr, refl, sym, ap, subst, ◌∙◌, arith, length, length-append, IsTrue}
 use Rattle.std.specs.Prelude.{slice_get, Result, Ok, Err, OnOk, IfOk, IfErr}
 use Rattle.std.proofs.lemmas.Bool.{cases_eq}
 use Rattle.qbf_core.specs.Literal.{Literal}
@@ -9,7 +9,6 @@ use Rattle.qbf_core.specs.Truth.{IsTrueFormula}
 use Rattle.qbf_core.specs.Rules.{Side, Clauses, Cubes}
 use Rattle.qrp.specs.Inferences.{Inference, IsAt}
 use Rattle.qrp.specs.declared.item.Outcome.{Outcome}
-use Rattle.qrp.specs.declared.item.Outcome.TheVariants.{Sat, Unsat}
 use Rattle.qrp_check.specs.declared.fault.CheckFault.{CheckFault}
 use Rattle.qrp_check.specs.declared.fault.CheckFault.TheVariants.{C1, C2, C3, C4, C5, C6}
 use Rattle.qrp_check.specs.Core.{IsInCore}

@@ -1,8 +1,8 @@
 -- One step of the core: the sets of its antecedents, and its conditions.
-use Rattle.std.proofs.Common.{◌≡◌, ℕ, zero, suc, ◌<◌, ◌≤◌, ◌+◌, List, [], ◌∷◌, ◌⊎◌, Option, Some, None, inl, inr, refl, sym, ap, subst, ◌∙◌, arith, length, get_or, take}
+use Rattle.std.proofs.Common.{◌≡◌, ℕ, zero, suc, ◌<◌, ◌≤◌, List, [], ◌∷◌, Option, Some, None, inl, inr, refl, sym, ap, subst, ◌∙◌, arith, length, get_or, take}
 use Rattle.std.specs.Prelude.{slice_get}
 use Rattle.std.specs.List.{AllByRecursion}
-use Rattle.std.proofs.lemmas.Option.{slice_get_read, slice_get_within}
+use Rattle.std.proofs.lemmas.Option.{slice_get_read}
 use Rattle.qbf_core.specs.Literal.{Literal, positive, negative}
 use Rattle.qbf_core.specs.Lists.{◌∈◌}
 use Rattle.qbf_core.specs.Blocks.{Block, AreBound, IsBound}
@@ -13,13 +13,13 @@ use Rattle.qbf_core.proofs.Bound.{in_all, bound_each}
 use Rattle.qrp.specs.Inferences.{Inference, IsAt, HasFewAntecedents}
 use Rattle.qrp_check.specs.declared.fault.RuleFault.{RuleFault}
 use Rattle.qrp_check.specs.declared.fault.RuleFault.TheVariants.{S1, S2, S3}
-use Rattle.qrp_check.specs.Conditions.{Condition, AllHold, IsFirstFailure, IsAnswer, IsNumberOf, lits_of, reduct_conditions, resolvent_conditions, initial_condition, antecedent_conditions, step_conditions, StepFollows, IsStepFault}
-use Rattle.qrp_check.specs.Core.{IsInCore, Needs, next}
+use Rattle.qrp_check.specs.Conditions.{Condition, AllHold, IsFirstFailure, IsAnswer, IsNumberOf, lits_of, reduct_conditions, resolvent_conditions, initial_condition, StepFollows, IsStepFault}
+use Rattle.qrp_check.specs.Core.{IsInCore, next}
 use Rattle.qrp_check.specs.Kept.{IsSetOf, AreKept, later_conditions}
 use Rattle.qrp_check.proofs.Marking.{core_within}
 use Rattle.qrp_check.proofs.StepFaults.{in_take, named}
-use Rattle.qrp_check.proofs.Places.{at_place, one_at}
-use Rattle.qrp_check.proofs.Same.{SameConditions, same_answer, same_self, reduct_same, resolvent_same, initial_same}
+use Rattle.qrp_check.proofs.Places.{at_place}
+use Rattle.qrp_check.proofs.Same.{same_answer, same_self, reduct_same, resolvent_same, initial_same}
 
 -- ---- earlier steps
 

@@ -1,14 +1,11 @@
 -- From the check of what was read to the verdict on its bytes.
-use Rattle.std.proofs.Common.{◌≡◌, ◌≢◌, ℕ, List, Option, Some, None, inl, inr, refl, subst, sym}
-use Rattle.std.specs.Prelude.{Result, Ok, Err, IfSome}
-use Rattle.qbf_core.specs.Blocks.{Block}
+use Rattle.std.proofs.Common.{◌≡◌, ◌≢◌, ℕ, List, Option, Some, None, inl, inr, refl}
+use Rattle.std.specs.Prelude.{Ok, Err, IfSome}
 use Rattle.qbf_core.specs.Qbf.{Qbf}
 use Rattle.qdimacs.specs.Reading.{read_formula}
 use Rattle.qdimacs.specs.Reading as formulas
 use Rattle.qrp.specs.Answers as traces
-use Rattle.qrp.specs.Reading.{read_trace}
 use Rattle.qrp.specs.Derivations.{Derivation}
-use Rattle.qrp.specs.declared.item.Outcome.{Outcome}
 use Rattle.qrp_check.specs.declared.verdict.Fault.TheVariants as fault
 use Rattle.qrp_check.specs.declared.fault.CheckFault.{CheckFault}
 use Rattle.qrp_check.specs.declared.fault.CheckFault.TheVariants.{C1, C2, C3, C4, C5, C6}

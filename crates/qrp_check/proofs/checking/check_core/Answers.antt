@@ -1,4 +1,4 @@
-use Rattle.std.proofs.Common.{◌≡◌, ℕ, ◌+◌, ◌<◌, ◌++◌, ◌∷◌, [], List, Bool, true, false, Option, Some, None, get_or, refl, sym, ap, subst, ◌∙◌, arith, length, below_more}
+use Rattle.std.proofs.Common.{◌≡◌, ℕ, ◌+◌, ◌<◌, List, Bool, true, false, Option, get_or, refl, sym, subst, ◌∙◌, arith, length, below_more}
 use Rattle.std.proofs.lemmas.Option.{slice_get_read, get_or_from_slice_get}
 use Rattle.qbf_core.specs.Literal.{Literal}
 use Rattle.qrp_check.specs.Conditions.{StepFollows, IsStepFault}

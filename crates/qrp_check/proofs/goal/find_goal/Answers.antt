@@ -1,4 +1,4 @@
-use Rattle.std.proofs.Common.{◌≡◌, ℕ, ◌-◌, ◌<◌, ◌≤◌, suc, [], arith, sym, ◌∙◌, length}
+use Rattle.std.proofs.Common.{◌≡◌, ◌-◌, ◌<◌, [], arith, sym, ◌∙◌}
 use Rattle.std.proofs.lemmas.Option.{slice_get_within}
 use Rattle.qrp_check.proofs.Places.{empty_of, full_of, goal_here, later_step}
 use Rattle.qrp_check.proofs.goal.find_goal.Goals as goal

@@ -1,4 +1,4 @@
-use Rattle.std.proofs.Common.{◌≡◌, ◌≤◌, ℕ, sym, ap, ◌∙◌, arith, length, Option, ◌∷◌, [], take}
+use Rattle.std.proofs.Common.{sym, ap, ◌∙◌, arith, length, Option, ◌∷◌, [], take}
 use Rattle.std.proofs.lemmas.Result.{IfOk-weaker}
 use Rattle.qrp.specs.Inferences.{Inference, IsAt}
 use Rattle.qrp_check.specs.declared.fault.RuleFault.{RuleFault}

@@ -1,4 +1,4 @@
-use Rattle.std.proofs.Common.{◌≡◌, ◌<◌, ◌≤◌, ℕ, Some, None, arith, length}
+use Rattle.std.proofs.Common.{◌≡◌, ◌<◌, ◌≤◌, Some, None, arith, length}
 use Rattle.std.specs.Prelude.{slice_get}
 use Rattle.qrp_check.proofs.Stepping.{not_found, found_late, kept_is, never_missing, set_found}
 use Rattle.qrp_check.proofs.step.earlier.Goals as goal
