@@ -1,3 +1,5 @@
+//! Whether the quantifier sets of a trace agree with the prefix of the formula.
+
 ghost use Rattle.std.specs.Prelude.{[], ◌∷◌, IfOk, IfErr, IfNone, IfSome};
 ghost use Rattle.qbf_core.specs.Blocks.{pairs_of_block};
 ghost use Rattle.qrp_check.specs.Passed.{FailsIn, Passes};

@@ -1,3 +1,5 @@
+//! Whether a set is an initial clause or an initial cube of a formula.
+
 ghost use Rattle.std.specs.Prelude.{◌↔◌, [], ◌∷◌, ◌⊎◌, IsTrue, IfOk};
 ghost use Rattle.qbf_core.specs.Literal.{Literal};
 ghost use Rattle.qbf_core.specs.Lists.{◌∈◌};

@@ -1,3 +1,5 @@
+//! Whether a set is a reduct of another, and which literals a reduction may take out.
+
 ghost use Rattle.std.specs.Prelude.{◌≡◌, ◌↔◌, ℕ, ◌⊎◌, IsTrue};
 ghost use Rattle.qbf_core.specs.Literal.{Literal};
 ghost use Rattle.qbf_core.specs.Lists.{◌∈◌};

@@ -1,3 +1,5 @@
+//! Whether a set is a reduct of the resolvent of two others.
+
 ghost use Rattle.std.specs.Prelude.{◌≡◌, ◌↔◌, ◌⊎◌, IsTrue};
 ghost use Rattle.qbf_core.specs.Literal.{Literal};
 ghost use Rattle.qbf_core.specs.Lists.{◌∈◌, ◌⊆◌};

@@ -1,3 +1,5 @@
+//! Worked formulas and sets: each rule alone, where it holds and with each of its faults.
+
 ghost use Rattle.std.specs.Prelude.{IfOk};
 ghost use Rattle.qbf_core.specs.Blocks.{AreBound};
 
@@ -75,13 +77,11 @@ fn resolvent<S: Side>(
     Ok(resolvent_fault::<S>(formula.prefix(), &a, &b, &to, Rules::plain()))
 }
 
-fn agreement(
+fn quant_sets(
     rt: &impl Abort,
     alloc: Global,
-    text: &str,
     sets: &[(Quantifier, &[u32])],
-) -> Result<Option<CheckFault>, Fail> {
-    let formula = read(alloc, text)?;
+) -> Result<Vec<QuantSet>, Fail> {
     let mut named = Vec::new(alloc);
     for (quantifier, numbers) in sets {
         let mut vars = Vec::new(alloc);
@@ -93,107 +93,182 @@ fn agreement(
             vars,
         })?;
     }
+    Ok(named)
+}
+
+fn agreement(
+    rt: &impl Abort,
+    alloc: Global,
+    text: &str,
+    sets: &[(Quantifier, &[u32])],
+) -> Result<Option<CheckFault>, Fail> {
+    let formula = read(alloc, text)?;
+    let named = quant_sets(rt, alloc, sets)?;
     Ok(sets_fault(formula.prefix(), &named))
+}
+
+/// A formula, the sets of a trace, and the first fault.
+type Agreement = (
+    &'static str,
+    &'static [(Quantifier, &'static [u32])],
+    Option<CheckFault>,
+);
+
+const TURNED: &str = "p cnf 2 0\na 2 0\ne 1 0\n";
+
+fn agreements(one: Var, two: Var, three: Var) -> [Agreement; 7] {
+    [
+        (EXISTS_ALL, &[], None),
+        (
+            EXISTS_ALL,
+            &[(Quantifier::Exists, &[1, 1]), (Quantifier::All, &[2])],
+            None,
+        ),
+        (
+            EXISTS_ALL,
+            &[(Quantifier::Exists, &[1, 3]), (Quantifier::All, &[2])],
+            Some(CheckFault::C1(three)),
+        ),
+        (
+            EXISTS_ALL,
+            &[(Quantifier::Exists, &[1, 2])],
+            Some(CheckFault::C2(two)),
+        ),
+        (
+            TURNED,
+            &[(Quantifier::Exists, &[1]), (Quantifier::All, &[2])],
+            Some(CheckFault::C3(two)),
+        ),
+        (
+            TURNED,
+            &[(Quantifier::Exists, &[2]), (Quantifier::Exists, &[3])],
+            Some(CheckFault::C2(two)),
+        ),
+        (
+            TURNED,
+            &[(Quantifier::All, &[1])],
+            Some(CheckFault::C2(one)),
+        ),
+    ]
 }
 
 #[test]
 fn sets_agree(rt: HostRuntime) -> Result<(), Fail> {
-    let alloc = rt.alloc();
-    let exists = Quantifier::Exists;
-    let all = Quantifier::All;
     let one = Var::new(1).expect(&rt, "a variable");
     let two = Var::new(2).expect(&rt, "a variable");
     let three = Var::new(3).expect(&rt, "a variable");
-    let text = "p cnf 2 0\na 2 0\ne 1 0\n";
-    assert!(rt; agreement(&rt, alloc, EXISTS_ALL, &[])?.is_none());
-    assert!(rt; agreement(&rt, alloc, EXISTS_ALL, &[(exists, &[1, 1]), (all, &[2])])?.is_none());
-    assert!(rt;
-        agreement(&rt, alloc, EXISTS_ALL, &[(exists, &[1, 3]), (all, &[2])])?
-            == Some(CheckFault::C1(three))
-    );
-    assert!(rt;
-        agreement(&rt, alloc, EXISTS_ALL, &[(exists, &[1, 2])])? == Some(CheckFault::C2(two))
-    );
-    assert!(rt;
-        agreement(&rt, alloc, text, &[(exists, &[1]), (all, &[2])])? == Some(CheckFault::C3(two))
-    );
-    assert!(rt;
-        agreement(&rt, alloc, text, &[(exists, &[2]), (exists, &[3])])? == Some(CheckFault::C2(two))
-    );
-    assert!(rt; agreement(&rt, alloc, text, &[(all, &[1])])? == Some(CheckFault::C2(one)));
+    for (text, sets, fault) in agreements(one, two, three) {
+        assert_eq!(rt; agreement(&rt, rt.alloc(), text, sets)?, fault);
+    }
     Ok(())
 }
+
+/// A formula, a set, and its fault as an initial clause.
+const INITIAL_CLAUSES: [(&str, &[i32], Option<RuleFault>); 5] = [
+    (EXISTS_ALL, &[1, 2], None),
+    // Written already reduced.
+    (EXISTS_ALL, &[-1], None),
+    ("p cnf 0 1\n0\n", &[], None),
+    (ALL_EXISTS, &[1, 2], Some(RuleFault::S4)),
+    // The only clause is not clean.
+    ("p cnf 1 1\na 1 0\n1 -1 0\n", &[], Some(RuleFault::S4)),
+];
 
 #[test]
 fn initial_clauses(rt: HostRuntime) -> Result<(), Fail> {
-    let alloc = rt.alloc();
-    assert!(rt; initial::<Clauses>(&rt, alloc, EXISTS_ALL, &[1, 2])?.is_none());
-    // Written already reduced.
-    assert!(rt; initial::<Clauses>(&rt, alloc, EXISTS_ALL, &[-1])?.is_none());
-    assert!(rt; initial::<Clauses>(&rt, alloc, "p cnf 0 1\n0\n", &[])?.is_none());
-    assert!(rt; initial::<Clauses>(&rt, alloc, ALL_EXISTS, &[1, 2])? == Some(RuleFault::S4));
-    // The only clause is not clean.
-    assert!(rt;
-        initial::<Clauses>(&rt, alloc, "p cnf 1 1\na 1 0\n1 -1 0\n", &[])? == Some(RuleFault::S4)
-    );
+    for (text, to, fault) in INITIAL_CLAUSES {
+        assert_eq!(rt; initial::<Clauses>(&rt, rt.alloc(), text, to)?, fault);
+    }
     Ok(())
 }
+
+/// A formula, a set, and its fault as an initial cube.
+const INITIAL_CUBES: [(&str, &[i32], Option<RuleFault>); 4] = [
+    (ALL_EXISTS, &[1, 2], None),
+    ("p cnf 0 0\n", &[], None),
+    ("p cnf 1 1\na 1 0\n1 -1 0\n", &[], None),
+    // The second clause is not met.
+    (ALL_EXISTS, &[1], Some(RuleFault::S5)),
+];
 
 #[test]
 fn initial_cubes(rt: HostRuntime) -> Result<(), Fail> {
-    let alloc = rt.alloc();
-    assert!(rt; initial::<Cubes>(&rt, alloc, ALL_EXISTS, &[1, 2])?.is_none());
-    assert!(rt; initial::<Cubes>(&rt, alloc, "p cnf 0 0\n", &[])?.is_none());
-    assert!(rt; initial::<Cubes>(&rt, alloc, "p cnf 1 1\na 1 0\n1 -1 0\n", &[])?.is_none());
-    // The second clause is not met.
-    assert!(rt; initial::<Cubes>(&rt, alloc, ALL_EXISTS, &[1])? == Some(RuleFault::S5));
+    for (text, to, fault) in INITIAL_CUBES {
+        assert_eq!(rt; initial::<Cubes>(&rt, rt.alloc(), text, to)?, fault);
+    }
     Ok(())
 }
 
-#[test]
-fn reducts(rt: HostRuntime) -> Result<(), Fail> {
-    let alloc = rt.alloc();
-    assert!(rt; reduct::<Clauses>(&rt, alloc, EXISTS_ALL, &[1, 2], &[1])?.is_none());
-    assert!(rt;
-        reduct::<Clauses>(&rt, alloc, EXISTS_ALL, &[1, 2], &[1, -2])? == Some(RuleFault::S6)
-    );
+/// A formula, a clause, another, and its fault as a reduct of the first.
+const CLAUSE_REDUCTS: [(&str, &[i32], &[i32], Option<RuleFault>); 3] = [
+    (EXISTS_ALL, &[1, 2], &[1], None),
+    (EXISTS_ALL, &[1, 2], &[1, -2], Some(RuleFault::S6)),
     // Existential 1 stands after universal 2.
-    assert!(rt;
-        reduct::<Clauses>(&rt, alloc, "p cnf 2 0\na 2 0\ne 1 0\n", &[1, 2], &[1])?
-            == Some(RuleFault::S7)
-    );
-    assert!(rt; reduct::<Cubes>(&rt, alloc, ALL_EXISTS, &[1, 2], &[1])?.is_none());
+    (TURNED, &[1, 2], &[1], Some(RuleFault::S7)),
+];
+
+/// The same for cubes.
+const CUBE_REDUCTS: [(&str, &[i32], &[i32], Option<RuleFault>); 2] = [
+    (ALL_EXISTS, &[1, 2], &[1], None),
     // Universal 1 is not reducible in a cube.
-    assert!(rt; reduct::<Cubes>(&rt, alloc, ALL_EXISTS, &[1, 2], &[2])? == Some(RuleFault::S7));
+    (ALL_EXISTS, &[1, 2], &[2], Some(RuleFault::S7)),
+];
+
+#[test]
+fn reducts_of_clauses(rt: HostRuntime) -> Result<(), Fail> {
+    for (text, from, to, fault) in CLAUSE_REDUCTS {
+        assert_eq!(rt; reduct::<Clauses>(&rt, rt.alloc(), text, from, to)?, fault);
+    }
     Ok(())
 }
 
 #[test]
-fn resolvents(rt: HostRuntime) -> Result<(), Fail> {
-    let alloc = rt.alloc();
-    let exists = "p cnf 2 0\ne 1 2 0\n";
-    assert!(rt; resolvent::<Clauses>(&rt, alloc, EXISTS_ALL, &[1, 2], &[-1, 2], &[])?.is_none());
-    assert!(rt;
-        resolvent::<Clauses>(&rt, alloc, EXISTS_ALL, &[1], &[1], &[])? == Some(RuleFault::S8)
-    );
-    assert!(rt;
-        resolvent::<Clauses>(&rt, alloc, exists, &[1, 2], &[-1, -2], &[])? == Some(RuleFault::S9)
-    );
-    assert!(rt;
-        resolvent::<Clauses>(&rt, alloc, ALL_EXISTS, &[1, 2], &[-1, 2], &[2])?
-            == Some(RuleFault::S10)
-    );
-    assert!(rt;
-        resolvent::<Clauses>(&rt, alloc, exists, &[1], &[-1], &[2])? == Some(RuleFault::S11)
-    );
-    let three = "p cnf 3 0\ne 1 0\na 2 0\ne 3 0\n";
-    assert!(rt;
-        resolvent::<Clauses>(&rt, alloc, three, &[1, 2], &[-1, 3], &[3])? == Some(RuleFault::S12)
-    );
-    assert!(rt; resolvent::<Cubes>(&rt, alloc, ALL_EXISTS, &[1], &[-1], &[])?.is_none());
-    assert!(rt;
-        resolvent::<Cubes>(&rt, alloc, "p cnf 1 0\ne 1 0\n", &[1], &[-1], &[])?
-            == Some(RuleFault::S10)
-    );
+fn reducts_of_cubes(rt: HostRuntime) -> Result<(), Fail> {
+    for (text, from, to, fault) in CUBE_REDUCTS {
+        assert_eq!(rt; reduct::<Cubes>(&rt, rt.alloc(), text, from, to)?, fault);
+    }
+    Ok(())
+}
+
+const BOTH_EXIST: &str = "p cnf 2 0\ne 1 2 0\n";
+
+/// A formula, two clauses, a third, and its fault as a reduct of their resolvent.
+const CLAUSE_RESOLVENTS: [(&str, &[i32], &[i32], &[i32], Option<RuleFault>); 6] = [
+    (EXISTS_ALL, &[1, 2], &[-1, 2], &[], None),
+    (EXISTS_ALL, &[1], &[1], &[], Some(RuleFault::S8)),
+    (BOTH_EXIST, &[1, 2], &[-1, -2], &[], Some(RuleFault::S9)),
+    (ALL_EXISTS, &[1, 2], &[-1, 2], &[2], Some(RuleFault::S10)),
+    (BOTH_EXIST, &[1], &[-1], &[2], Some(RuleFault::S11)),
+    (
+        "p cnf 3 0\ne 1 0\na 2 0\ne 3 0\n",
+        &[1, 2],
+        &[-1, 3],
+        &[3],
+        Some(RuleFault::S12),
+    ),
+];
+
+/// The same for cubes.
+const CUBE_RESOLVENTS: [(&str, &[i32], &[i32], &[i32], Option<RuleFault>); 2] = [
+    (ALL_EXISTS, &[1], &[-1], &[], None),
+    ("p cnf 1 0\ne 1 0\n", &[1], &[-1], &[], Some(RuleFault::S10)),
+];
+
+#[test]
+fn resolvents_of_clauses(rt: HostRuntime) -> Result<(), Fail> {
+    for (text, a, b, to, fault) in CLAUSE_RESOLVENTS {
+        assert_eq!(rt;
+            resolvent::<Clauses>(&rt, rt.alloc(), text, a, b, to)?,
+            fault
+        );
+    }
+    Ok(())
+}
+
+#[test]
+fn resolvents_of_cubes(rt: HostRuntime) -> Result<(), Fail> {
+    for (text, a, b, to, fault) in CUBE_RESOLVENTS {
+        assert_eq!(rt; resolvent::<Cubes>(&rt, rt.alloc(), text, a, b, to)?, fault);
+    }
     Ok(())
 }

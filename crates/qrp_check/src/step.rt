@@ -1,10 +1,13 @@
+//! Whether a step of the core follows from those before it.
+
 ghost use Rattle.std.specs.Prelude.{◌≡◌, ℕ, ◌<◌, [], ◌∷◌, length, take, OnOk, IfOk, IfErr, IfSome, IfNone};
 ghost use Rattle.qbf_core.specs.Lists.{◌∈◌};
 ghost use Rattle.qbf_core.specs.Blocks.{AreBound};
 ghost use Rattle.qbf_core.specs.Sets.{IsOrdered};
 ghost use Rattle.qrp.specs.Inferences.{Inference, IsAt};
 ghost use Rattle.qrp_check.specs.declared.fault.RuleFault.TheVariants.{S3};
-ghost use Rattle.qrp_check.specs.Conditions.{IsAnswer, IsNumberOf, initial_condition, lits_of, reduct_conditions, resolvent_conditions, StepFollows, IsStepFault};
+ghost use Rattle.qrp_check.specs.Conditions.{IsAnswer, IsNumberOf, initial_condition, lits_of};
+ghost use Rattle.qrp_check.specs.Conditions.{reduct_conditions, resolvent_conditions, StepFollows, IsStepFault};
 ghost use Rattle.qrp_check.specs.Core.{IsInCore};
 ghost use Rattle.qrp_check.specs.Index.{IsIndexed};
 ghost use Rattle.qrp_check.specs.Kept.{AreKept, IsSetOf, IfRule, later_conditions};
@@ -99,7 +102,11 @@ fn two_fault<S: Side, T: Steps>(
     requires second { (step : Inference) → IsAt (T.steps trace.now) place step → second ∈ step.ants }
     requires kept { AreKept formula.now.blocks (T.steps trace.now) place kept.now }
     requires bound { AreBound formula.now.blocks set.now }
-    ensures { IsAnswer ((S3, IsNumberOf (take place (T.steps trace.now)) first × IsNumberOf (take place (T.steps trace.now)) second)
+    ensures { IsAnswer ((
+      S3,
+      IsNumberOf (take place (T.steps trace.now)) first
+          × IsNumberOf (take place (T.steps trace.now)) second,
+    )
         ∷ resolvent_conditions S.side formula.now.blocks (lits_of (take place (T.steps trace.now)) first)
         (lits_of (take place (T.steps trace.now)) second) set.now) result }
 {
@@ -175,7 +182,8 @@ pub(crate) fn step_set<S: Side, T: Steps>(
     requires core { IsInCore (T.steps trace.now) place }
     requires kept { AreKept formula.now.blocks (T.steps trace.now) place kept.now }
     ensures follows { OnOk result (StepFollows S.side formula.now (T.steps trace.now) place) }
-    ensures set { IfOk result (λ set. (step : Inference) → IsAt (T.steps trace.now) place step → IsSetOf formula.now.blocks set step.lits) }
+    ensures set { IfOk result (λ set. (step : Inference) → IsAt (T.steps trace.now) place step
+        → IsSetOf formula.now.blocks set step.lits) }
     ensures clauses { OnOk result (IsIndexed formula.now clauses.new) }
     ensures fault { IfErr result (λ e. IfRule e (IsStepFault S.side formula.now (T.steps trace.now) place)) }
 {

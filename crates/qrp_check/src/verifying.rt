@@ -1,3 +1,5 @@
+//! The check of a trace against a formula, both from their bytes.
+
 ghost use Rattle.std.specs.Prelude.{◌≡◌, ◌-◌, ◌^◌, ◌<◌, ◌↔◌};
 ghost use Rattle.qrp_check.specs.Verdict.{IsVerdictUnless, IsFormulaDevice, IsTraceDevice, IsFormulaFault};
 

@@ -1,3 +1,5 @@
+//! One walk over two ordered sets of literals.
+
 ghost use Rattle.std.specs.Prelude.{◌≤◌, ◌↔◌, IsTrue};
 ghost use Rattle.qbf_core.specs.Literal.{Literal};
 ghost use Rattle.qbf_core.specs.Lists.{◌∈◌, ◌⊆◌};

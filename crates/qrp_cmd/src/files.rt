@@ -1,5 +1,9 @@
 //! From the words of the command line to a run over files.
 
+ghost use Rattle.std.specs.Prelude.{◌≡◌, ◌⊎◌, IfErr};
+ghost use Rattle.qrp_cmd.specs.Lines.{start_status};
+ghost use Rattle.qrp_cmd.specs.declared.start.Start.TheVariants.{NoMemory};
+
 use crate::job::Job;
 use crate::run::{Status, run};
 use crate::start::Start;
@@ -13,7 +17,9 @@ use std::rt::Files;
 const LIMIT: u64 = 4611686018427387904;
 
 /// Opens a file to be read. `fault` says that it cannot be opened.
-fn open<R: Files>(rt: &R, path: &str, fault: Start) -> Result<FromRead<R::File>, Start> {
+fn open<R: Files>(rt: &R, path: &str, fault: Start) -> Result<FromRead<R::File>, Start>
+    ensures { IfErr result (λ e. (e ≡ NoMemory) ⊎ (e ≡ fault)) }
+{
     match fs::open(rt, path) {
         Ok(file) => Ok(FromRead::new(file, LIMIT)),
         Err(error) if error.kind() == ErrorKind::OutOfMemory => Err(Start::NoMemory),
@@ -91,7 +97,9 @@ fn format<R: Files + AllocGlobal, O: Write + Drop, E: Write + Drop>(
 }
 
 /// Ends before a job begins. The status stays whether or not the line went out.
-pub fn stop<W: Write + Drop>(mut writer: W, start: Start) -> Status {
+pub fn stop<W: Write + Drop>(mut writer: W, start: Start) -> Status
+    ensures { result ≡ start_status start }
+{
     let _ = writer.write_all(start.line().as_bytes());
     start.status()
 }

@@ -1,6 +1,9 @@
 //! The program `qrp_cmd`: formulas of quantified Boolean logic in canonical form, and the check of their proofs.
 #![tactic(auto)]
 
+ghost use Rattle.std.specs.Prelude.{◌≡◌, ◌⊎◌, IfErr};
+ghost use Rattle.qrp_cmd.specs.declared.start.Start.TheVariants.{NoMemory, Usage};
+
 mod files;
 mod job;
 mod lines;
@@ -18,7 +21,9 @@ use std::process::ExitCode;
 pub use words::request;
 
 /// The words after the program's name.
-fn given_words(rt: &HostRuntime) -> Result<Vec<String>, Start> {
+fn given_words(rt: &HostRuntime) -> Result<Vec<String>, Start>
+    ensures { IfErr result (λ e. (e ≡ NoMemory) ⊎ (e ≡ Usage)) }
+{
     let args = match env::args(rt) {
         Ok(args) => args,
         Err(error) if error.kind() == ErrorKind::OutOfMemory => return Err(Start::NoMemory),
