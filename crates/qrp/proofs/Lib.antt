@@ -9,3 +9,4 @@ pub mod Goes
 pub mod Gathering
 pub mod WritingMore
 pub mod Flats
+pub mod Counted

@@ -66,7 +66,7 @@ Follows ts d t (Closes i next) = (e : Derivation) × ((more : List Answer) → g
 Follows ts d t (Ends o) = (rest : List Token) → IsTrace ((ts ++ t ∷ []) ++ rest) (record d { result = o })
 Follows ts d t (Fails f) = Unit {0}
 
-push_all : {X : Type 0} (P : X → Type 0) (xs : List X) (x : X) → AllByRecursion P xs → P x → AllByRecursion P (xs ++ x ∷ [])
+pub push_all : {X : Type 0} (P : X → Type 0) (xs : List X) (x : X) → AllByRecursion P xs → P x → AllByRecursion P (xs ++ x ∷ [])
 push_all P [] x h p = (p, tt)
 push_all P (y ∷ xs) x h p = (h.0, push_all P xs x h.1 p)
 
@@ -74,7 +74,7 @@ or_false : (a b : Bool) → (a || b) ≡ false → (a ≡ false) × (b ≡ false
 or_false true b e = absurd cc
 or_false false b e = (refl, e)
 
-push_distinct : (ns : List ℕ) (n : ℕ) → IsDistinct nat_eq ns → is_used n ns ≡ false → IsDistinct nat_eq (ns ++ n ∷ [])
+pub push_distinct : (ns : List ℕ) (n : ℕ) → IsDistinct nat_eq ns → is_used n ns ≡ false → IsDistinct nat_eq (ns ++ n ∷ [])
 unfolding IsDistinct
 push_distinct [] n h e = (tt, tt)
 push_distinct (m ∷ ns) n h e =

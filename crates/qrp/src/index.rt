@@ -1,6 +1,6 @@
 //! The places of step numbers.
 
-ghost use Rattle.std.specs.Prelude.{◌≡◌, ℕ, ◌<◌, false, [], ◌∷◌, ◌++◌, length, nat_eq, slice_get, Some, IfSome, OnOk, OnErr};
+ghost use Rattle.std.specs.Prelude.{◌≡◌, ℕ, ◌+◌, ◌^◌, ◌<◌, ◌⊎◌, false, [], ◌∷◌, ◌++◌, length, nat_eq, slice_get, Some, IfSome, IfNone, IsTrue, OnOk, OnErr};
 ghost use Rattle.std.specs.List.{IsDistinct};
 ghost use Rattle.qrp.specs.Kept.{AreStepNumbers};
 ghost use Rattle.qrp.specs.Reading.{is_used};
@@ -9,23 +9,51 @@ use indexmap::IndexSet;
 use std::alloc::{AllocError, Global};
 use std::marker::Model;
 
+/// So many steps are counted at most, so that the number of all steps has 64 bits.
+const LIMIT: usize = 1 << 63;
+
+/// The place of a number among those that are counted from the first.
+fn place_of(first: u64, counted: usize, number: u64) -> Option<usize>
+    ensures some { IfSome result (λ i. (i < counted) × (first + i ≡ number)) }
+    ensures none { IfNone result ((i : ℕ) → i < counted → first + i ≡ number → ⊥) }
+{
+    if number < first {
+        return None;
+    }
+    let i = (number - first) as usize;
+    if i < counted { Some(i) } else { None }
+}
+
+/// Whether a number goes on with the count.
+fn continues(first: u64, counted: usize, number: u64) -> bool
+    ensures fits { IsTrue result → counted < 2 ^ 63 }
+    ensures next { IsTrue result → (counted ≡ 0) ⊎ (first + counted ≡ number) }
+{
+    counted < LIMIT && (counted == 0 || number >= first && number - first == counted as u64)
+}
+
 /// The numbers of steps in the order of a file, no two of them the same, with the place of each.
 ///
 /// Contracts see the list of the numbers.
 #[derive(Drop)]
 pub struct StepIndex {
-    numbers: IndexSet<u64>,
+    /// The number of the first step.
+    first: u64,
+    /// How many steps are counted one by one from the first, as most solvers count all: nothing else is kept of them.
+    counted: usize,
+    /// The numbers of the steps behind those.
+    listed: IndexSet<u64>,
 }
 
 impl Model for StepIndex {
-    ghost use Rattle.std.specs.Prelude.{ℕ, List};
-    ghost use Rattle.qrp.specs.Kept.{AreStepNumbers};
+    ghost use Rattle.std.specs.Prelude.{ℕ, List, ◌++◌};
+    ghost use Rattle.qrp.specs.Kept.{count_from, AreIndexed};
 
     ghost Value = { List ℕ };
 
-    ghost view = { λ s. s.numbers.keys };
+    ghost view = { λ s. count_from s.first s.counted ++ s.listed.keys };
 
-    ghost invariant = { λ s. AreStepNumbers s.numbers.keys };
+    ghost invariant = { λ s. AreIndexed s.first s.counted s.listed.keys };
 }
 
 impl StepIndex {
@@ -34,7 +62,9 @@ impl StepIndex {
         ensures { result ≡ [] }
     {
         StepIndex {
-            numbers: IndexSet::new(alloc),
+            first: 0,
+            counted: 0,
+            listed: IndexSet::new(alloc),
         }
     }
 
@@ -43,7 +73,7 @@ impl StepIndex {
         ensures len { result ≡ length self.now }
         ensures distinct { IsDistinct nat_eq self.now }
     {
-        self.numbers.len()
+        self.counted + self.listed.len()
     }
 
     /// The number of the step at place `i`, counted from 0; `i` is below `len()`.
@@ -51,7 +81,13 @@ impl StepIndex {
         requires { i < length self.now }
         ensures { slice_get self.now i ≡ Some result }
     {
-        self.numbers.as_slice()[i]
+        if i < self.counted {
+            return self.first + i as u64;
+        }
+        match self.listed.get_index(i - self.counted) {
+            Some(number) => *number,
+            None => unreachable!(),
+        }
     }
 
     /// The place of the step with this number: `Some(i)` exactly where `number(i)` is it.
@@ -59,34 +95,20 @@ impl StepIndex {
         ensures found { IfSome result (λ i. slice_get self.now i ≡ Some number) }
         ensures only { (i : ℕ) → slice_get self.now i ≡ Some number → result ≡ Some i }
     {
-        match self.counted(number) {
-            Some(i) => Some(i),
-            None => self.numbers.get_index_of(&number),
+        if let Some(i) = place_of(self.first, self.counted, number) {
+            return Some(i);
         }
-    }
-
-    /// The place that the number has where steps are counted one by one from the first, as most solvers do.
-    fn counted(&self, number: u64) -> Option<usize>
-        ensures { IfSome result (λ i. slice_get self.now i ≡ Some number) }
-    {
-        let numbers = self.numbers.as_slice();
-        let first = *numbers.first()?;
-        if number < first {
-            return None;
-        }
-        let i = (number - first) as usize;
-        if *numbers.get(i)? == number {
-            Some(i)
-        } else {
-            None
-        }
+        // The length comes with the fact that it has less than 64 bits.
+        let _listed = self.listed.len();
+        let i = self.listed.get_index_of(&number)?;
+        Some(self.counted + i)
     }
 
     /// Whether a step has this number.
     pub(crate) fn contains(&self, number: u64) -> bool
         ensures { result ≡ is_used number self.now }
     {
-        self.numbers.contains(&number)
+        place_of(self.first, self.counted, number).is_some() || self.listed.contains(&number)
     }
 
     /// Adds the number of one more step. An `Err` is want of memory, and changes nothing.
@@ -96,7 +118,14 @@ impl StepIndex {
         ensures sound { AreStepNumbers self.new }
         ensures err { OnErr result (self.new ≡ self.old) }
     {
-        self.numbers.insert(number)?;
+        if self.listed.is_empty() && continues(self.first, self.counted, number) {
+            if self.counted == 0 {
+                self.first = number;
+            }
+            self.counted += 1;
+            return Ok(());
+        }
+        self.listed.insert(number)?;
         Ok(())
     }
 }
