@@ -24,4 +24,4 @@ unreachable-requires c =
 
 pub returns : goal.returns
 returns c = rw (← c.self.view_is) (
-  late_at c.self.inside.first c.self.inside.counted c.self.inside.listed.keys c.args.i c.if-i-self.false ∙ sym c.in-Some.ensures.key)
+    late_at c.self.inside.first c.self.inside.counted c.self.inside.listed.keys c.args.i c.if-i-self.false ∙ sym c.in-Some.ensures.key)

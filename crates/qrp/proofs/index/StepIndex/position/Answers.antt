@@ -7,7 +7,7 @@ use Rattle.qrp.proofs.index.StepIndex.position.Goals as goal
 
 pub returns-in-Some-clause-found : goal.returns-in-Some-clause-found
 returns-in-Some-clause-found c = rw (← c.self.view_is) (
-  front_at c.self.inside.first c.self.inside.counted c.self.inside.listed.keys c.in-Some.i c.in-Some.ensures.some.0 ∙ ap (λ (k : ℕ). Some k) c.in-Some.ensures.some.1)
+    front_at c.self.inside.first c.self.inside.counted c.self.inside.listed.keys c.in-Some.i c.in-Some.ensures.some.0 ∙ ap (λ (k : ℕ). Some k) c.in-Some.ensures.some.1)
 
 pub returns-in-Some-clause-only : goal.returns-in-Some-clause-only
 returns-in-Some-clause-only c = λ i here.
@@ -21,7 +21,7 @@ returns-in_err-i-clause-only c = λ i here.
 
 pub returns-clause-found : goal.returns-clause-found
 returns-clause-found c = rw (← c.self.view_is) (
-  listed_at c.self.inside.first c.self.inside.counted c.self.inside.listed.keys c.args.number c.in_ok-i.i (sym c.get_index_of.ensures.index ∙ c.in_ok-i.was))
+    listed_at c.self.inside.first c.self.inside.counted c.self.inside.listed.keys c.args.number c.in_ok-i.i (sym c.get_index_of.ensures.index ∙ c.in_ok-i.was))
 
 pub returns-clause-only : goal.returns-clause-only
 returns-clause-only c = λ i here.
