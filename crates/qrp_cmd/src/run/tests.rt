@@ -6,9 +6,9 @@ use std::process::Abort;
 use std::test::Fail;
 
 /// A false formula of two clauses in canonical form, 35 bytes, and its refutation, 82 bytes.
-const TWO_CLAUSES: &[u8] = b"p cnf 2 2\ne 1 0\na 2 0\n1 2 0\n-1 2 0\n";
+pub const TWO_CLAUSES: &[u8] = b"p cnf 2 2\ne 1 0\na 2 0\n1 2 0\n-1 2 0\n";
 
-const REFUTATION: &[u8] =
+pub const REFUTATION: &[u8] =
     b"p qrp 2 5\ne 1 0\na 2 0\n1 1 2 0 0\n2 -1 2 0 0\n3 1 0 1 0\n4 -1 0 2 0\n5 0 3 4 0\nr unsat\n";
 
 /// What a run wrote to its sinks, its status, and how often it pulled the trace.
@@ -44,7 +44,7 @@ fn run_on(
 }
 
 /// Checks what a job writes to its two sinks, and its status, for texts that are pulled whole and byte by byte.
-fn expect<R: Abort + AllocGlobal>(
+pub fn expect<R: Abort + AllocGlobal>(
     rt: &R,
     job: Job,
     texts: (&[u8], &[u8]),
