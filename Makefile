@@ -2,7 +2,7 @@
 # make demo     proves and builds it, and runs it on a real example
 # make test     the whole gate
 # make bench    measures time and memory
-# make install  copies the program to $(PREFIX)/bin
+# make install  copies the program to $(PREFIX)/bin, and its manual page
 
 PREFIX ?= /usr/local
 RT ?= rt
@@ -32,6 +32,7 @@ demo: all
 	$(PROGRAM) format examples/two_clauses.qdimacs
 
 test:
+	scripts/check-promises
 	$(RT) ci
 	$(MAKE) all $(ECHO)
 	scripts/test-program $(PROGRAM) $(ECHO)
@@ -43,6 +44,8 @@ bench: all
 install: all
 	mkdir -p $(DESTDIR)$(PREFIX)/bin
 	cp $(PROGRAM) $(DESTDIR)$(PREFIX)/bin/qrp_cmd
+	mkdir -p $(DESTDIR)$(PREFIX)/share/man/man1
+	cp man/qrp_cmd.1 $(DESTDIR)$(PREFIX)/share/man/man1/qrp_cmd.1
 
 clean:
 	rm -rf bin crates/*/out
