@@ -1,9 +1,9 @@
 -- Lists in one buffer.
-use Rattle.std.proofs.Common.{◌≡◌, ◌≤◌, ◌<◌, ◌-◌, ℕ, zero, suc, List, [], ◌∷◌, ◌++◌, length, take, drop, get_or, slice_get, slice_range, Some, refl, sym, ap, arith, length-append, length-drop}
-use Rattle.std.proofs.lemmas.List.{drop-append-le, take-append-le}
+use Rattle.std.proofs.Common.{◌≡◌, ◌≤◌, ◌<◌, ◌-◌, ℕ, zero, suc, List, [], ◌∷◌, ◌++◌, length, take, drop, get_or, slice_get, slice_range, Some, refl, sym, ap, ◌∙◌, arith, length-append, length-drop}
+use Rattle.std.proofs.lemmas.List.{drop-append-le, take-append-le, take-append-drop, length-take-le}
 use Rattle.std.proofs.Math.Seq.{drop-append_seam}
-use Rattle.qbf_core.specs.Literal.{Literal}
-use Rattle.qbf_core.specs.Flat.{parts, Reaches, start_of}
+use Rattle.std.specs.Option.{unwrap_or}
+use Rattle.qbf_core.specs.Flat.{parts, Reaches, start_of, end_of}
 
 -- ---- ranges of a buffer that grows
 
@@ -22,6 +22,12 @@ range_end xs more =
     let n : length (xs ++ more) - length xs ≡ length more = omega (arith, length-append xs more) in
     rw (drop-append_seam xs more, n) (take_whole more)
 
+range_less : {X : Type 0} (xs : List X) (m a b : ℕ) → a ≤ b → b ≤ m → m ≤ length xs → slice_range (take m xs) a b ≡ slice_range xs a b
+range_less xs m a b h k le =
+    let whole : take m xs ++ drop m xs ≡ xs = take-append-drop m xs in
+    let n : b ≤ length (take m xs) = rw (length-take-le m xs le) k in
+    sym (range_before (take m xs) (drop m xs) a b h n) ∙ ap (λ (ys : List _). slice_range ys a b) whole
+
 -- ---- one more part
 
 reach_le : (from : ℕ) (es : List ℕ) (n : ℕ) → Reaches from es n → from ≤ n
@@ -32,27 +38,27 @@ reach_more : (from : ℕ) (es : List ℕ) (n m : ℕ) → n ≤ m → Reaches fr
 reach_more from [] n m h r = (omega (arith, h, r), refl)
 reach_more from (e ∷ es) n m h r = (r.0, reach_more e es n m h r.1)
 
-more_parts : (lits more : List Literal) (from : ℕ) (es : List ℕ) → Reaches from es (length lits)
+more_parts : {X : Type 0} (lits more : List X) (from : ℕ) (es : List ℕ) → Reaches from es (length lits)
     → parts (lits ++ more) from (es ++ length (lits ++ more) ∷ []) ≡ parts lits from es ++ more ∷ []
 more_parts lits more from [] r =
     let x : slice_range (lits ++ more) from (length (lits ++ more)) ≡ more = rw r (range_end lits more) in
-    ap (λ (c : List Literal). c ∷ []) x
+    ap (λ (c : List _). c ∷ []) x
 more_parts lits more from (e ∷ es) r =
     let x = range_before lits more from e r.0 (reach_le e es (length lits) r.1) in
     let rest = more_parts lits more e es r.1 in
     (λ i. x i ∷ rest i)
 
-pub parts_pushed : (lits lits' more : List Literal) (es es' : List ℕ) (n : ℕ) → lits' ≡ lits ++ more → n ≡ length lits' → es' ≡ es ++ n ∷ []
+pub parts_pushed : {X : Type 0} (lits lits' more : List X) (es es' : List ℕ) (n : ℕ) → lits' ≡ lits ++ more → n ≡ length lits' → es' ≡ es ++ n ∷ []
     → Reaches 0 es (length lits) → parts lits' 0 es' ≡ parts lits 0 es ++ more ∷ []
 parts_pushed lits lits' more es es' n a p e r = rw (e, p, a) (more_parts lits more 0 es r)
 
-pub parts_reach : (lits lits' more : List Literal) (es es' : List ℕ) (n : ℕ) → lits' ≡ lits ++ more → n ≡ length lits' → es' ≡ es ++ n ∷ []
+pub parts_reach : {X : Type 0} (lits lits' more : List X) (es es' : List ℕ) (n : ℕ) → lits' ≡ lits ++ more → n ≡ length lits' → es' ≡ es ++ n ∷ []
     → Reaches 0 es (length lits) → Reaches 0 es' (length lits')
 parts_reach lits lits' more es es' n a p e r = rw (e, p, a) (reach_more 0 es (length lits) (length (lits ++ more)) (omega (arith, length-append lits more)) r)
 
 -- ---- the part at a place
 
-pub same_count : (lits : List Literal) (from : ℕ) (es : List ℕ) → length (parts lits from es) ≡ length es
+pub same_count : {X : Type 0} (lits : List X) (from : ℕ) (es : List ℕ) → length (parts lits from es) ≡ length es
 same_count lits from [] = refl
 same_count lits from (e ∷ es) = ap suc (same_count lits e es)
 
@@ -67,7 +73,7 @@ start_found es (suc i) d some less =
     let k : suc i - 1 ≡ i = omega arith in
     rw k (sym (start_behind 0 es i d (omega arith)))
 
-pub part_at : (lits : List Literal) (from : ℕ) (es : List ℕ) (i e : ℕ) → slice_get es i ≡ Some e → slice_get (parts lits from es) i ≡ Some (slice_range lits (start_of from es i) e)
+pub part_at : {X : Type 0} (lits : List X) (from : ℕ) (es : List ℕ) (i e : ℕ) → slice_get es i ≡ Some e → slice_get (parts lits from es) i ≡ Some (slice_range lits (start_of from es i) e)
 part_at lits from [] i e h = absurd (cc h)
 part_at lits from (x ∷ es) zero e h = let same : x ≡ e = cc h in ap (λ (y : ℕ). Some (slice_range lits from y)) same
 part_at lits from (x ∷ es) (suc i) e h = part_at lits x es i e h
@@ -81,5 +87,52 @@ within_at from (x ∷ es) zero n e h r =
 within_at from (x ∷ es) (suc i) n e h r = within_at x es i n e h r.1
 
 -- a place among the parts is one among their ends
-pub part_place : (lits : List Literal) (es ds : List ℕ) (whole : List (List Literal)) (i : ℕ) → parts lits 0 es ≡ whole → ds ≡ es → i < length whole → i < length ds
+pub part_place : {X : Type 0} (lits : List X) (es ds : List ℕ) (whole : List (List X)) (i : ℕ) → parts lits 0 es ≡ whole → ds ≡ es → i < length whole → i < length ds
 part_place lits es ds whole i is same less = omega (arith, ap length same, ap length is, same_count lits 0 es)
+
+-- ---- without the last parts
+
+end_within : (from : ℕ) (es : List ℕ) (n k : ℕ) → Reaches from es n → (from ≤ end_of from (take k es)) × (end_of from (take k es) ≤ n)
+end_within from [] n zero r = (omega arith, omega (arith, r))
+end_within from [] n (suc k) r = (omega arith, omega (arith, r))
+end_within from (e ∷ es) n zero r = (omega arith, reach_le from (e ∷ es) n r)
+end_within from (e ∷ es) n (suc k) r =
+    let m = end_within e es n k r.1 in
+    let x = r.0 in
+    let y = m.0 in
+    (omega arith, m.1)
+
+reach_less : (from : ℕ) (es : List ℕ) (n k : ℕ) → Reaches from es n → Reaches from (take k es) (end_of from (take k es))
+reach_less from [] n zero r = refl
+reach_less from [] n (suc k) r = refl
+reach_less from (e ∷ es) n zero r = refl
+reach_less from (e ∷ es) n (suc k) r = (r.0, reach_less e es n k r.1)
+
+less_parts : {X : Type 0} (xs : List X) (m from : ℕ) (es : List ℕ) (k : ℕ) → Reaches from es (length xs) → end_of from (take k es) ≤ m → m ≤ length xs
+    → parts (take m xs) from (take k es) ≡ take k (parts xs from es)
+less_parts xs m from [] zero r h le = refl
+less_parts xs m from [] (suc k) r h le = refl
+less_parts xs m from (e ∷ es) zero r h le = refl
+less_parts xs m from (e ∷ es) (suc k) r h le =
+    let w = end_within e es (length xs) k r.1 in
+    let x : slice_range (take m xs) from e ≡ slice_range xs from e = range_less xs m from e r.0 (let y = w.0 in omega arith) le in
+    let rest = less_parts xs m e es k r.1 h le in
+    (λ i. x i ∷ rest i)
+
+pub parts_popped : {X : Type 0} (xs xs' : List X) (es es' : List ℕ) (n : ℕ) → xs' ≡ take (end_of 0 es') xs → es' ≡ take n es
+    → Reaches 0 es (length xs) → parts xs' 0 es' ≡ take n (parts xs 0 es)
+parts_popped xs xs' es es' n a e r = rw (a, e) (less_parts xs (end_of 0 (take n es)) 0 es n r (omega arith) (end_within 0 es (length xs) n r).1)
+
+pub popped_reach : {X : Type 0} (xs xs' : List X) (es es' : List ℕ) (n : ℕ) → xs' ≡ take (end_of 0 es') xs → es' ≡ take n es
+    → Reaches 0 es (length xs) → Reaches 0 es' (length xs')
+popped_reach xs xs' es es' n a e r =
+    let m : length (take (end_of 0 (take n es)) xs) ≡ end_of 0 (take n es) = length-take-le (end_of 0 (take n es)) xs (end_within 0 es (length xs) n r).1 in
+    rw (a, e, m) (reach_less 0 es (length xs) n r)
+
+last_of : (e : ℕ) (es : List ℕ) (d : ℕ) → unwrap_or (slice_get (e ∷ es) (length es)) d ≡ end_of e es
+last_of e [] d = refl
+last_of e (x ∷ es) d = last_of x es d
+
+pub last_is : (es : List ℕ) → unwrap_or (slice_get es (length es - 1)) 0 ≡ end_of 0 es
+last_is [] = refl
+last_is (e ∷ es) = let k : suc (length es) - 1 ≡ length es = omega arith in rw k (last_of e es 0)

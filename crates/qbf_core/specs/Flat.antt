@@ -1,11 +1,10 @@
--- Lists of literals that lie one behind the other in one buffer.
+-- Lists that lie one behind the other in one buffer.
 use Rattle.std.specs.Prelude.{◌≡◌, ℕ, zero, suc, ◌≤◌, List, [], ◌∷◌, slice_range}
-use Rattle.qbf_core.specs.Literal.{Literal}
 
 -- the parts of a list that end so: each begins where the one before ends
-abbrev pub parts : List Literal → ℕ → List ℕ → List (List Literal)
-parts lits from [] = []
-parts lits from (e ∷ es) = slice_range lits from e ∷ parts lits e es
+abbrev pub parts : {X : Type 0} → List X → ℕ → List ℕ → List (List X)
+parts xs from [] = []
+parts xs from (e ∷ es) = slice_range xs from e ∷ parts xs e es
 
 -- no part ends before it begins, and the last ends at n
 abbrev pub Reaches : ℕ → List ℕ → ℕ → Type 0
@@ -17,3 +16,8 @@ abbrev pub start_of : ℕ → List ℕ → ℕ → ℕ
 start_of from es zero = from
 start_of from [] (suc i) = from
 start_of from (e ∷ es) (suc i) = start_of e es i
+
+-- where the last part ends
+abbrev pub end_of : ℕ → List ℕ → ℕ
+end_of from [] = from
+end_of from (e ∷ es) = end_of e es

@@ -1,30 +1,28 @@
-//! Lists of literals that lie one behind the other in one buffer.
+//! Lists that lie one behind the other in one buffer.
 
-ghost use Rattle.std.specs.Prelude.{◌≡◌, ◌≤◌, ◌<◌, ℕ, List, [], ◌∷◌, ◌++◌, length, slice_get, slice_range, Some, OnOk, OnErr};
-ghost use Rattle.qbf_core.specs.Flat.{start_of};
+ghost use Rattle.std.specs.Prelude.{◌≡◌, ◌≤◌, ◌<◌, ℕ, List, [], ◌∷◌, ◌++◌, length, take, slice_get, slice_range, ◌-◌, Some, OnOk, OnErr};
+ghost use Rattle.qbf_core.specs.Flat.{start_of, end_of};
 
-use crate::literal::Lit;
 use std::alloc::{AllocError, Global};
 use std::marker::Model;
 
-/// Lists of literals, kept in two buffers whatever their number is. Contracts see the list of them.
+/// Lists, kept in two buffers whatever their number is. Contracts see the list of them.
 #[derive(Drop)]
-pub struct LitLists {
-    lits: Vec<Lit>,
+pub struct Lists<T> {
+    items: Vec<T>,
     /// Where each list ends. It begins where the one before ends.
     ends: Vec<usize>,
 }
 
-impl Model for LitLists {
+impl<T> Model for Lists<T> {
     ghost use Rattle.std.specs.Prelude.{List, length};
-    ghost use Rattle.qbf_core.specs.Literal.{Literal};
     ghost use Rattle.qbf_core.specs.Flat.{parts, Reaches};
 
-    ghost Value = { List (List Literal) };
+    ghost Value = { List (List T) };
 
-    ghost view = { λ s. parts s.lits.items 0 s.ends.items };
+    ghost view = { λ s. parts s.items.items 0 s.ends.items };
 
-    ghost invariant = { λ s. Reaches 0 s.ends.items (length s.lits.items) };
+    ghost invariant = { λ s. Reaches 0 s.ends.items (length s.items.items) };
 }
 
 /// Where the list at place `i` begins.
@@ -46,8 +44,15 @@ fn end(ends: &[usize], i: usize) -> usize
     ends[i]
 }
 
+/// Where the last list ends.
+fn last_end(ends: &[usize]) -> usize
+    ensures { result ≡ end_of 0 ends.now }
+{
+    ends.last().copied().unwrap_or(0)
+}
+
 /// A part of a buffer.
-fn part(buffer: &[Lit], from: usize, to: usize) -> &[Lit]
+fn part<T>(buffer: &[T], from: usize, to: usize) -> &[T]
     requires order { from ≤ to }
     requires within { to ≤ length buffer.now }
     ensures { result.now ≡ slice_range buffer.now from to }
@@ -55,13 +60,13 @@ fn part(buffer: &[Lit], from: usize, to: usize) -> &[Lit]
     &buffer[from..to]
 }
 
-impl LitLists {
+impl<T: Copy + Drop> Lists<T> {
     /// No lists. It takes no memory yet.
-    pub fn new(alloc: Global) -> LitLists
+    pub fn new(alloc: Global) -> Lists<T>
         ensures { result ≡ [] }
     {
-        LitLists {
-            lits: Vec::new(alloc),
+        Lists {
+            items: Vec::new(alloc),
             ends: Vec::new(alloc),
         }
     }
@@ -74,26 +79,35 @@ impl LitLists {
     }
 
     /// The list at place `i`, counted from 0; `i` is below `len()`.
-    pub fn get(&self, i: usize) -> &[Lit]
+    pub fn get(&self, i: usize) -> &[T]
         requires { i < length self.now }
         ensures { slice_get self.now i ≡ Some result.now }
     {
-        part(&self.lits, start(&self.ends, i), end(&self.ends, i))
+        part(&self.items, start(&self.ends, i), end(&self.ends, i))
     }
 
     /// Adds a list at the end.
     ///
     /// # Errors
     /// Want of memory. Nothing is changed then.
-    pub fn push(&mut self, lits: &[Lit]) -> Result<(), AllocError>
-        ensures pushed { OnOk result (self.new ≡ self.old ++ lits.now ∷ []) }
+    pub fn push(&mut self, list: &[T]) -> Result<(), AllocError>
+        ensures pushed { OnOk result (self.new ≡ self.old ++ list.now ∷ []) }
         ensures err { OnErr result (self.new ≡ self.old) }
     {
         self.ends.reserve(1)?;
-        self.lits.extend_from_slice(lits)?;
-        match self.ends.push(self.lits.len()) {
+        self.items.extend_from_slice(list)?;
+        match self.ends.push(self.items.len()) {
             Ok(()) => Ok(()),
             Err(_) => unreachable!(),
+        }
+    }
+
+    /// Takes the last list away, if there is one.
+    pub fn pop(&mut self)
+        ensures { self.new ≡ take (length self.old - 1) self.old }
+    {
+        if self.ends.pop().is_some() {
+            self.items.truncate(last_end(&self.ends));
         }
     }
 }

@@ -1,6 +1,6 @@
 ghost use Rattle.std.specs.Prelude.{◌≡◌};
 
-use crate::{Formula, Lit, LitSet, Prefix, PrefixFault, Quantifier, SetFault, Var};
+use crate::{Formula, Lists, Lit, LitSet, Prefix, PrefixFault, Quantifier, SetFault, Var};
 use std::alloc::Global;
 use std::process::Abort;
 use std::test::Fail;
@@ -176,4 +176,31 @@ fn sets_with_gaps(rt: HostRuntime) -> Result<(), Fail> {
     assert!(rt; !set.contains(Lit::new(variable(&rt, 6), true)));
     assert!(rt; !set.contains(Lit::new(variable(&rt, 13), false)));
     Ok(())
+}
+
+#[test]
+fn lists(rt: HostRuntime) -> Result<(), Fail> {
+    let mut lists = Lists::new(rt.alloc());
+    lists.pop();
+    assert_eq!(rt; lists.len(), 0);
+    lists.push(&[7u64, 9])?;
+    lists.push(&[])?;
+    lists.push(&[4])?;
+    assert_eq!(rt; lists.len(), 3);
+    assert!(rt; lists.get(0) == [7, 9].as_slice());
+    assert!(rt; lists.get(1).is_empty());
+    assert!(rt; lists.get(2) == [4].as_slice());
+    lists.pop();
+    lists.pop();
+    assert_eq!(rt; lists.len(), 1);
+    lists.push(&[5])?;
+    assert!(rt; lists.get(0) == [7, 9].as_slice());
+    assert!(rt; lists.get(1) == [5].as_slice());
+    Ok(())
+}
+
+#[test]
+fn letters(rt: HostRuntime) {
+    assert_eq!(rt; Quantifier::All.letter(), b'a');
+    assert_eq!(rt; Quantifier::Exists.letter(), b'e');
 }

@@ -29,16 +29,6 @@ fn put_clause<K: Sink>(sink: &mut K, lits: &[Lit]) -> Result<(), SinkFault>
     put_bytes(sink, b"0\n")
 }
 
-/// The letter of a quantifier.
-fn put_letter<K: Sink>(sink: &mut K, quantifier: Quantifier) -> Result<(), SinkFault>
-    ensures { IsPut K.written K.failures sink.old sink.new (opening None quantifier) result }
-{
-    match quantifier {
-        Quantifier::All => put_byte(sink, b'a'),
-        Quantifier::Exists => put_byte(sink, b'e'),
-    }
-}
-
 /// Whether two quantifiers are one.
 fn is_same(a: Quantifier, b: Quantifier) -> bool
     ensures { result ≡ is_quantifier a b }
@@ -58,7 +48,7 @@ fn put_opening<K: Sink>(
     ensures { IsPut K.written K.failures sink.old sink.new (opening last quantifier) result }
 {
     match last {
-        None => put_letter(sink, quantifier),
+        None => put_byte(sink, quantifier.letter()),
         Some(open) if is_same(open, quantifier) => Ok(()),
         Some(_) => put_next(sink, quantifier),
     }
@@ -69,7 +59,7 @@ fn put_next<K: Sink>(sink: &mut K, quantifier: Quantifier) -> Result<(), SinkFau
     ensures { IsPut K.written K.failures sink.old sink.new (zero_text ++ opening None quantifier) result }
 {
     put_bytes(sink, b" 0\n")?;
-    put_letter(sink, quantifier)
+    put_byte(sink, quantifier.letter())
 }
 
 /// What stands after the last variable.

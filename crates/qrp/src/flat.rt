@@ -1,12 +1,12 @@
 //! Traces whose steps lie in flat buffers.
 
-ghost use Rattle.std.specs.Prelude.{◌≡◌, ◌≢◌, ℕ, ◌<◌, ◌≤◌, ◌-◌, ◌^◌, Some, Err, List, [], ◌∷◌, ◌++◌, length, map, slice_get, slice_range, IfSome, OnOk, OnErr, IfErr};
+ghost use Rattle.std.specs.Prelude.{◌≡◌, ◌≢◌, ◌<◌, ◌-◌, ◌^◌, Some, Err, List, [], ◌∷◌, ◌++◌, length, map, slice_get, IfSome, OnOk, OnErr, IfErr};
 ghost use Rattle.qbf_text.specs.Tokens.{tokens};
 ghost use Rattle.qbf_text.specs.declared.token.Comments.TheVariants.{Qrp};
 ghost use Rattle.qrp.specs.declared.fault.TraceFault.TheVariants.{P1, P9};
 ghost use Rattle.qrp.specs.Answers.{reads_bytes, Answers, Gives};
 ghost use Rattle.qrp.specs.Derivations.{IsWellFormed};
-ghost use Rattle.qrp.specs.Flat.{Body, body, front, start_of};
+ghost use Rattle.qrp.specs.Flat.{Body, body};
 ghost use Rattle.qrp.specs.Inferences.{Inference};
 
 use crate::fault::Fault;
@@ -14,64 +14,27 @@ use crate::index::StepIndex;
 use crate::item::{Header, Outcome, QuantSet, Step};
 use crate::steps::Steps;
 use crate::whole::{Keeping, read_parts};
-use qbf_core::Lit;
+use qbf_core::{Lists, Lit};
 use qbf_text::Source;
 use std::alloc::{AllocError, Global};
 use std::marker::Model;
 
-/// Where the literals and the antecedents of a step end.
-#[derive(Clone, Copy)]
-struct Ends {
-    lits: usize,
-    ants: usize,
-}
-
 /// The literals and the antecedents of steps, each in one buffer.
 #[derive(Drop)]
 struct FlatSteps {
-    lits: Vec<Lit>,
-    ants: Vec<u64>,
-    /// A step begins where the one before ends.
-    ends: Vec<Ends>,
+    lits: Lists<Lit>,
+    ants: Lists<u64>,
 }
 
 impl Model for FlatSteps {
-    ghost use Rattle.std.specs.Prelude.{List, length};
-    ghost use Rattle.qrp.specs.Flat.{Body, bodies_in, front, Reaches};
+    ghost use Rattle.std.specs.Prelude.{◌≡◌, List, length};
+    ghost use Rattle.qrp.specs.Flat.{Body, bodies};
 
     ghost Value = { List Body };
 
-    ghost view = { λ s. bodies_in s.lits.items s.ants.items front s.ends.items };
+    ghost view = { λ s. bodies s.lits s.ants };
 
-    ghost invariant = { λ s. Reaches front s.ends.items (length s.lits.items) (length s.ants.items) };
-}
-
-/// Where the step at place `i` begins.
-fn start(ends: &[Ends], i: usize) -> Ends
-    requires { i < length ends.now }
-    ensures { result ≡ start_of front ends.now i }
-{
-    if i == 0 {
-        return Ends { lits: 0, ants: 0 };
-    }
-    ends[i - 1]
-}
-
-/// Where the step at place `i` ends.
-fn end(ends: &[Ends], i: usize) -> Ends
-    requires { i < length ends.now }
-    ensures { slice_get ends.now i ≡ Some result }
-{
-    ends[i]
-}
-
-/// A part of a buffer.
-fn part<T>(buffer: &[T], from: usize, to: usize) -> &[T]
-    requires order { from ≤ to }
-    requires within { to ≤ length buffer.now }
-    ensures { result.now ≡ slice_range buffer.now from to }
-{
-    &buffer[from..to]
+    ghost invariant = { λ s. length s.lits ≡ length s.ants };
 }
 
 impl FlatSteps {
@@ -79,9 +42,8 @@ impl FlatSteps {
         ensures { result ≡ [] }
     {
         FlatSteps {
-            lits: Vec::new(alloc),
-            ants: Vec::new(alloc),
-            ends: Vec::new(alloc),
+            lits: Lists::new(alloc),
+            ants: Lists::new(alloc),
         }
     }
 
@@ -90,20 +52,13 @@ impl FlatSteps {
         ensures pushed { OnOk result (self.new ≡ self.old ++ record { lits = lits.now; ants = ants.now } ∷ []) }
         ensures err { OnErr result (self.new ≡ self.old) }
     {
-        self.ants.reserve(ants.len())?;
-        self.ends.reserve(1)?;
-        self.lits.extend_from_slice(lits)?;
-        match self.ants.extend_from_slice(ants) {
-            Ok(()) => {}
-            Err(_) => unreachable!(),
-        }
-        let ends = Ends {
-            lits: self.lits.len(),
-            ants: self.ants.len(),
-        };
-        match self.ends.push(ends) {
+        self.lits.push(lits)?;
+        match self.ants.push(ants) {
             Ok(()) => Ok(()),
-            Err(_) => unreachable!(),
+            Err(refused) => {
+                self.lits.pop();
+                Err(refused)
+            }
         }
     }
 
@@ -112,11 +67,7 @@ impl FlatSteps {
         requires { i < length self.now }
         ensures { (b : Body) → slice_get self.now i ≡ Some b → result.now ≡ b.lits }
     {
-        part(
-            &self.lits,
-            start(&self.ends, i).lits,
-            end(&self.ends, i).lits,
-        )
+        self.lits.get(i)
     }
 
     /// The antecedents of the step at place `i`.
@@ -124,11 +75,7 @@ impl FlatSteps {
         requires { i < length self.now }
         ensures { (b : Body) → slice_get self.now i ≡ Some b → result.now ≡ b.ants }
     {
-        part(
-            &self.ants,
-            start(&self.ends, i).ants,
-            end(&self.ends, i).ants,
-        )
+        self.ants.get(i)
     }
 }
 

@@ -1,16 +1,16 @@
 //! Writing the canonical text of a trace.
 
 ghost use Rattle.std.specs.Prelude.{◌≡◌, Ok};
-ghost use Rattle.qbf_text.specs.Canonical.{spelled, line_text};
+ghost use Rattle.qbf_text.specs.Canonical.{line_text};
 ghost use Rattle.qbf_text.specs.Written.{IsPut};
-ghost use Rattle.qrp.specs.Grammar.{header, letter, result as result_line, text};
+ghost use Rattle.qrp.specs.Grammar.{header, result as result_line, text};
 ghost use Rattle.qrp.specs.Reading.{read_trace};
 ghost use Rattle.qrp.specs.Texts.{spaced_numbers, spaced_literal, spaced_literals};
 ghost use Rattle.qrp.specs.Texts.{set_text, step_text, sets_text, steps_text};
 
 use crate::item::{Header, Outcome, QuantSet, Step};
 use crate::trace::Trace;
-use qbf_core::{Lit, Quantifier, Var};
+use qbf_core::{Lit, Var};
 use qbf_text::{Sink, SinkFault, put_byte, put_bytes, put_number, put_signed, put_spaced};
 
 // ---- a literal
@@ -53,19 +53,10 @@ fn put_variables<K: Sink>(sink: &mut K, vars: &[Var]) -> Result<(), SinkFault>
 
 // ---- a set
 
-fn put_letter<K: Sink>(sink: &mut K, quantifier: Quantifier) -> Result<(), SinkFault>
-    ensures { IsPut K.written K.failures sink.old sink.new (spelled (letter quantifier)) result }
-{
-    match quantifier {
-        Quantifier::All => put_bytes(sink, b"a"),
-        Quantifier::Exists => put_bytes(sink, b"e"),
-    }
-}
-
 fn put_set<K: Sink>(sink: &mut K, set: &QuantSet) -> Result<(), SinkFault>
     ensures { IsPut K.written K.failures sink.old sink.new (set_text set.now) result }
 {
-    put_letter(sink, set.quantifier)?;
+    put_byte(sink, set.quantifier.letter())?;
     put_variables(sink, &set.vars)?;
     put_bytes(sink, b" 0\n")
 }

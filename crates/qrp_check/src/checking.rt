@@ -18,7 +18,7 @@ use crate::marks::mark_core;
 use crate::side::{Clauses, Cubes, Side};
 use crate::step::{StepFault, step_set};
 use crate::verdict::{Rules, Verified};
-use qbf_core::{Formula, Lit, LitLists};
+use qbf_core::{Formula, Lists, Lit};
 use qrp::{Outcome, QuantSet, Steps};
 use std::alloc::Global;
 
@@ -28,7 +28,7 @@ struct Followed {
     /// Their places, in order.
     core: Vec<usize>,
     /// A list for each step so far: the set of a step of the core, or nothing.
-    kept: LitLists,
+    kept: Lists<Lit>,
 }
 
 impl Followed {
@@ -80,7 +80,7 @@ fn check_core<S: Side, T: Steps>(
     };
     let mut followed = Followed {
         core: Vec::new(alloc),
-        kept: LitLists::new(alloc),
+        kept: Lists::new(alloc),
     };
     let mut clauses = InitialClauses::new();
     for place in 0..trace.len() {

@@ -18,7 +18,7 @@ use crate::reduct::reduct_of;
 use crate::resolvent::resolvent_of;
 use crate::side::Side;
 use crate::verdict::Rules;
-use qbf_core::{Formula, Lit, LitLists, LitSet, Quantifier, SetFault};
+use qbf_core::{Formula, Lists, Lit, LitSet, Quantifier, SetFault};
 use qrp::Steps;
 use std::alloc::{AllocError, Global};
 
@@ -46,7 +46,7 @@ fn earlier<'a, T: Steps>(
     formula: &Formula,
     trace: &T,
     place: usize,
-    kept: &'a LitLists,
+    kept: &'a Lists<Lit>,
     number: u64,
 ) -> Option<&'a [Lit]>
     requires core { IsInCore (T.steps trace.now) place }
@@ -69,7 +69,7 @@ fn one_fault<S: Side, T: Steps>(
     formula: &Formula,
     trace: &T,
     place: usize,
-    kept: &LitLists,
+    kept: &Lists<Lit>,
     set: &LitSet,
     number: u64,
 ) -> Option<RuleFault>
@@ -91,7 +91,7 @@ fn two_fault<S: Side, T: Steps>(
     formula: &Formula,
     trace: &T,
     place: usize,
-    kept: &LitLists,
+    kept: &Lists<Lit>,
     set: &LitSet,
     first: u64,
     second: u64,
@@ -143,7 +143,7 @@ fn antecedent_fault<S: Side, T: Steps>(
     formula: &Formula,
     trace: &T,
     place: usize,
-    kept: &LitLists,
+    kept: &Lists<Lit>,
     clauses: &mut InitialClauses,
     set: &LitSet,
     rules: Rules,
@@ -174,7 +174,7 @@ pub(crate) fn step_set<S: Side, T: Steps>(
     formula: &Formula,
     trace: &T,
     place: usize,
-    kept: &LitLists,
+    kept: &Lists<Lit>,
     clauses: &mut InitialClauses,
     rules: Rules,
 ) -> Result<LitSet, StepFault>

@@ -1,6 +1,0 @@
-use Rattle.std.proofs.Common.{sym, ap, length, ◌∙◌}
-use Rattle.qbf_core.proofs.Flats.{same_count}
-use Rattle.qbf_core.proofs.lists.LitLists.len.Goals as goal
-
-pub returns : goal.returns
-returns c = c.len.ensures ∙ c.self.inside.ends.ok.0 ∙ sym (same_count c.self.inside.lits.items 0 c.self.inside.ends.items) ∙ ap length c.self.view_is
