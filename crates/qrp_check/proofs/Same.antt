@@ -8,6 +8,7 @@ use Rattle.qbf_core.specs.Rules.{Side, Clauses, Cubes, IsReducible, IsReduct, Cl
 use Rattle.qbf_core.specs.Sets.{HasMembersOf}
 use Rattle.qbf_core.proofs.Inferences.{in_append, append_left, append_right, in_without, from_without}
 use Rattle.qrp_check.specs.declared.fault.RuleFault.{RuleFault}
+use Rattle.qrp_check.specs.declared.verdict.Rules.{Rules}
 use Rattle.qrp_check.specs.Conditions.{Condition, AllHold, IsFirstFailure, IsAnswer, reduct_conditions, resolvent_conditions, initial_condition}
 
 -- the same names, and conditions that hold together
@@ -87,9 +88,9 @@ accounts_same side blocks a a' b b' to to' s t u w x c l h =
       | inr red ↦ inr (same_reducible side blocks (resolvent a b x) (resolvent a' b' x) l (same_resolvent a a' b b' x s t) red)
     ]
 
-pub resolvent_same : (side : Side) (blocks : List Block) (a a' b b' to to' : List Literal) → HasMembersOf a a' → HasMembersOf b b' → HasMembersOf to to'
-    → SameConditions (resolvent_conditions side blocks a b to) (resolvent_conditions side blocks a' b' to')
-resolvent_same side blocks a a' b b' to to' s t u =
+pub resolvent_same : (rules : Rules) (side : Side) (blocks : List Block) (a a' b b' to to' : List Literal) → HasMembersOf a a' → HasMembersOf b b' → HasMembersOf to to'
+    → SameConditions (resolvent_conditions rules side blocks a b to) (resolvent_conditions rules side blocks a' b' to')
+resolvent_same rules side blocks a a' b b' to to' s t u =
     let s' = same_back a a' s in
     let t' = same_back b b' t in
     let u' = same_back to to' u in (
@@ -136,11 +137,11 @@ pub reduct_answer : (side : Side) (blocks : List Block) (a a' to to' : List Lite
 reduct_answer side blocks a a' to to' answer s t =
     same_answer (reduct_conditions side blocks a to) (reduct_conditions side blocks a' to') answer (reduct_same side blocks a a' to to' s t)
 
-pub resolvent_answer : (side : Side) (blocks : List Block) (a a' b b' to to' : List Literal) (answer : Option RuleFault)
+pub resolvent_answer : (rules : Rules) (side : Side) (blocks : List Block) (a a' b b' to to' : List Literal) (answer : Option RuleFault)
     → HasMembersOf a a' → HasMembersOf b b' → HasMembersOf to to'
-    → IsAnswer (resolvent_conditions side blocks a b to) answer → IsAnswer (resolvent_conditions side blocks a' b' to') answer
-resolvent_answer side blocks a a' b b' to to' answer s t u =
-    same_answer (resolvent_conditions side blocks a b to) (resolvent_conditions side blocks a' b' to') answer (resolvent_same side blocks a a' b b' to to' s t u)
+    → IsAnswer (resolvent_conditions rules side blocks a b to) answer → IsAnswer (resolvent_conditions rules side blocks a' b' to') answer
+resolvent_answer rules side blocks a a' b b' to to' answer s t u =
+    same_answer (resolvent_conditions rules side blocks a b to) (resolvent_conditions rules side blocks a' b' to') answer (resolvent_same rules side blocks a a' b b' to to' s t u)
 
 pub initial_answer : (side : Side) (f : Qbf) (to to' : List Literal) (answer : Option RuleFault) → HasMembersOf to to'
     → IsAnswer (initial_condition side f to ∷ []) answer → IsAnswer (initial_condition side f to' ∷ []) answer

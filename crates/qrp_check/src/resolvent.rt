@@ -3,10 +3,10 @@
 ghost use Rattle.std.specs.Prelude.{◌≡◌, ◌↔◌, ◌⊎◌, IsTrue};
 ghost use Rattle.qbf_core.specs.Literal.{Literal};
 ghost use Rattle.qbf_core.specs.Lists.{◌∈◌, ◌⊆◌};
-ghost use Rattle.qbf_core.specs.Blocks.{AreBound, Binds};
-ghost use Rattle.qbf_core.specs.Rules.{deciding_quantifier, IsReducible, resolvent};
+ghost use Rattle.qbf_core.specs.Blocks.{AreBound};
+ghost use Rattle.qbf_core.specs.Rules.{IsReducible, resolvent};
 ghost use Rattle.qbf_core.specs.Sets.{IsOrdered};
-ghost use Rattle.qrp_check.specs.Conditions.{IsAnswer, resolvent_conditions};
+ghost use Rattle.qrp_check.specs.Conditions.{AllowsPivot, IsAnswer, resolvent_conditions};
 ghost use Rattle.qrp_check.specs.Walks.{IsClashOf};
 
 use crate::fault::RuleFault;
@@ -95,10 +95,10 @@ fn is_reduced<S: Side>(prefix: &Prefix, a: &[Lit], b: &[Lit], to: &[Lit], pivot:
 }
 
 /// Whether a step may resolve on the variable.
-fn is_pivot<S: Side>(prefix: &Prefix, pivot: Var) -> bool
-    ensures { IsTrue result ↔ Binds prefix.now (deciding_quantifier S.side) pivot }
+fn is_pivot<S: Side>(prefix: &Prefix, pivot: Var, rules: Rules) -> bool
+    ensures { IsTrue result ↔ AllowsPivot rules S.side prefix.now pivot }
 {
-    is_bound_by(prefix, S::DECIDING, pivot)
+    rules.any_pivot || is_bound_by(prefix, S::DECIDING, pivot)
 }
 
 /// Why an ordered list does not follow from two others by resolution.
@@ -107,18 +107,18 @@ pub(crate) fn resolvent_of<S: Side>(
     a: &[Lit],
     b: &[Lit],
     to: &[Lit],
-    _rules: Rules,
+    rules: Rules,
 ) -> Option<RuleFault>
     requires a { IsOrdered a.now }
     requires b { IsOrdered b.now }
     requires to { IsOrdered to.now }
-    ensures { IsAnswer (resolvent_conditions S.side prefix.now a.now b.now to.now) result }
+    ensures { IsAnswer (resolvent_conditions rules S.side prefix.now a.now b.now to.now) result }
 {
     match find_clash(a, b) {
         Clash::Nothing => Some(RuleFault::S8),
         Clash::More => Some(RuleFault::S9),
         Clash::One(pivot) => {
-            if !is_pivot::<S>(prefix, pivot) {
+            if !is_pivot::<S>(prefix, pivot, rules) {
                 return Some(RuleFault::S10);
             }
             if !is_within(to, a, b, pivot) {
@@ -135,10 +135,11 @@ pub(crate) fn resolvent_of<S: Side>(
 /// Why a set does not follow from two others by resolution, or `None` where it does. The sets are over this prefix.
 ///
 /// It follows if the two clash in exactly one variable, that variable has the deciding quantifier, and the set is a
-/// reduct of their resolvent: Q-resolution on clauses, and term resolution on cubes. The answers, of which the first
-/// that fits is given, are `S8`, no variable clashes; `S9`, more than one does; `S10`, the pivot has the other
-/// quantifier; `S11`, a literal of the set is not in the resolvent; `S12`, a literal of the resolvent is missing and
-/// not reducible in it. It takes no memory.
+/// reduct of their resolvent: Q-resolution on clauses, and term resolution on cubes. By `Rules::any_pivot` the variable
+/// may have either quantifier: QU-resolution (Van Gelder 2012), and its dual. The answers, of which the first that fits
+/// is given, are `S8`, no variable clashes; `S9`, more than one does; `S10`, the pivot has the other quantifier, which
+/// is never answered where the rules allow any; `S11`, a literal of the set is not in the resolvent; `S12`, a literal of
+/// the resolvent is missing and not reducible in it. It takes no memory.
 pub fn resolvent_fault<S: Side>(
     prefix: &Prefix,
     a: &LitSet,
@@ -149,7 +150,7 @@ pub fn resolvent_fault<S: Side>(
     requires a { AreBound prefix.now a.now }
     requires b { AreBound prefix.now b.now }
     requires to { AreBound prefix.now to.now }
-    ensures { IsAnswer (resolvent_conditions S.side prefix.now a.now b.now to.now) result }
+    ensures { IsAnswer (resolvent_conditions rules S.side prefix.now a.now b.now to.now) result }
 {
     resolvent_of::<S>(prefix, a.as_slice(), b.as_slice(), to.as_slice(), rules)
 }

@@ -569,3 +569,40 @@ fn traces_are_trimmed(rt: HostRuntime) -> Result<(), Fail> {
     }
     Ok(())
 }
+
+/// A false formula, whose refutation resolves on a universal variable.
+const UNIVERSAL_PIVOT: (&[u8], &[u8]) = (
+    b"p cnf 2 3\na 1 0\ne 2 0\n1 2 0\n-1 2 0\n-2 0\n",
+    b"p qrp 2 5\n1 1 2 0 0\n2 -1 2 0 0\n3 -2 0 0\n4 2 0 1 2 0\n5 0 4 3 0\nr unsat\n",
+);
+
+/// A true formula, whose proof resolves on an existential variable.
+const EXISTENTIAL_PIVOT: (&[u8], &[u8]) = (
+    b"p cnf 1 0\ne 1 0\n",
+    b"p qrp 1 3\n1 1 0 0\n2 -1 0 0\n3 0 1 2 0\nr sat\n",
+);
+
+#[test]
+fn pivots_have_any_quantifier(rt: HostRuntime) -> Result<(), Fail> {
+    let plain = Rules::plain();
+    let any_pivot = Rules::any_pivot();
+    let rows: [((&[u8], &[u8]), &[u8], &[u8]); 2] = [
+        (
+            UNIVERSAL_PIVOT,
+            b"REFUSED step 4 S10\n",
+            b"VERIFIED false\n",
+        ),
+        (
+            EXISTENTIAL_PIVOT,
+            b"REFUSED step 3 S10\n",
+            b"VERIFIED true\n",
+        ),
+    ];
+    for (texts, refused, verified) in rows {
+        expect(&rt, Job::Check(plain), texts, refused, b"", 1)?;
+        expect(&rt, Job::Check(any_pivot), texts, verified, b"", 0)?;
+        expect(&rt, Job::Trim(plain), texts, b"", refused, 1)?;
+        expect(&rt, Job::Trim(any_pivot), texts, texts.1, b"", 0)?;
+    }
+    Ok(())
+}
