@@ -48,7 +48,7 @@ pub fn request(words: &[String]) -> Option<(Job, usize, Option<usize>)>
     }
     match words {
         [command, _] if is_word(command, "format") => Some((Job::Format, 1, None)),
-        _ => None,
+        [..] => None,
     }
 }
 
