@@ -6,16 +6,16 @@ use Rattle.qbf_core.specs.Blocks.{Block}
 use Rattle.qbf_core.specs.Rules.{Side, Clashes, IsOnlyClash, IsReducible, resolvent}
 use Rattle.qrp_check.specs.declared.verdict.Rules.{Rules}
 use Rattle.qrp_check.specs.declared.fault.RuleFault.TheVariants.{S8, S9, S10, S11, S12}
-use Rattle.qrp_check.specs.Conditions.{AllHold, AllowsPivot, IsFirstFailure, resolvent_conditions}
+use Rattle.qrp_check.specs.Conditions.{AllHold, AllowsPivot, IsFirstFailure, IsReducibleInParents, resolvent_conditions}
 
 module _ (rules : Rules) (side : Side) (blocks : List Block) (a b to : List Literal) where
   -- the pivot may be resolved on
   abbrev pub Decides : ℕ → Type 0
   Decides x = AllowsPivot rules side blocks x
 
-  -- what is left out is reducible
+  -- what is left out is reducible in the resolvent or in the parents
   abbrev pub Accounts : ℕ → Type 0
-  Accounts x = (l : Literal) → l ∈ resolvent a b x → (l ∈ to) ⊎ IsReducible side blocks (resolvent a b x) l
+  Accounts x = (l : Literal) → l ∈ resolvent a b x → (l ∈ to) ⊎ (IsReducible side blocks (resolvent a b x) l ⊎ IsReducibleInParents side blocks a b l)
 
   abbrev pub Fails : Rattle.qrp_check.specs.declared.fault.RuleFault.RuleFault → Type 0
   Fails fault = IsFirstFailure (resolvent_conditions rules side blocks a b to) fault

@@ -233,6 +233,10 @@ fn reducts_of_cubes(rt: HostRuntime) -> Result<(), Fail> {
 
 const BOTH_EXIST: &str = "p cnf 2 0\ne 1 2 0\n";
 
+const EXISTS_ALL_EXISTS: &str = "p cnf 3 0\ne 1 0\na 2 0\ne 3 0\n";
+
+const ALL_EXISTS_ALL: &str = "p cnf 3 0\na 1 0\ne 2 0\na 3 0\n";
+
 /// A formula, two sets, a third, and its faults as a reduct of their resolvent: by the plain rules, and with any pivot.
 type Resolution = (
     &'static str,
@@ -243,7 +247,7 @@ type Resolution = (
     Option<RuleFault>,
 );
 
-const CLAUSE_RESOLVENTS: [Resolution; 8] = [
+const CLAUSE_RESOLVENTS: [Resolution; 15] = [
     (EXISTS_ALL, &[1, 2], &[-1, 2], &[], None, None),
     (
         EXISTS_ALL,
@@ -295,17 +299,57 @@ const CLAUSE_RESOLVENTS: [Resolution; 8] = [
         Some(RuleFault::S11),
         Some(RuleFault::S11),
     ),
+    // Universal 2 is reducible in the first clause, and not in the resolvent.
+    (EXISTS_ALL_EXISTS, &[1, 2], &[-1, 3], &[3], None, None),
+    (EXISTS_ALL_EXISTS, &[-1, 3], &[1, 2], &[3], None, None),
+    (EXISTS_ALL_EXISTS, &[1, 2], &[-1, 3], &[2, 3], None, None),
+    // It is reducible in one of the two clauses that hold it.
     (
-        "p cnf 3 0\ne 1 0\na 2 0\ne 3 0\n",
+        EXISTS_ALL_EXISTS,
+        &[1, 2],
+        &[-1, 2, 3],
+        &[3],
+        Some(RuleFault::S12),
+        Some(RuleFault::S12),
+    ),
+    (
+        EXISTS_ALL_EXISTS,
+        &[-1, 2, 3],
+        &[1, 2],
+        &[3],
+        Some(RuleFault::S12),
+        Some(RuleFault::S12),
+    ),
+    // An existential literal is never left out.
+    (
+        EXISTS_ALL_EXISTS,
+        &[1, 3],
+        &[-1],
+        &[],
+        Some(RuleFault::S12),
+        Some(RuleFault::S12),
+    ),
+    // The pivot keeps 2 from being taken out of the first clause.
+    (
+        "p cnf 3 0\na 2 0\ne 1 3 0\n",
         &[1, 2],
         &[-1, 3],
         &[3],
         Some(RuleFault::S12),
         Some(RuleFault::S12),
     ),
+    // A universal pivot keeps nothing.
+    (
+        "p cnf 4 0\ne 4 0\na 2 1 0\ne 3 0\n",
+        &[1, 2, 4],
+        &[-1, 3],
+        &[3, 4],
+        Some(RuleFault::S10),
+        None,
+    ),
 ];
 
-const CUBE_RESOLVENTS: [Resolution; 2] = [
+const CUBE_RESOLVENTS: [Resolution; 4] = [
     (ALL_EXISTS, &[1], &[-1], &[], None, None),
     // An existential pivot.
     (
@@ -315,6 +359,16 @@ const CUBE_RESOLVENTS: [Resolution; 2] = [
         &[],
         Some(RuleFault::S10),
         None,
+    ),
+    // Existential 2 is reducible in the first cube, and not in the resolvent.
+    (ALL_EXISTS_ALL, &[1, 2], &[-1, 3], &[3], None, None),
+    (
+        ALL_EXISTS_ALL,
+        &[1, 2],
+        &[-1, 2, 3],
+        &[3],
+        Some(RuleFault::S12),
+        Some(RuleFault::S12),
     ),
 ];
 

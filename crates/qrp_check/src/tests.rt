@@ -117,7 +117,7 @@ const FIRST_THREE: &[usize] = &[0, 1, 2];
 const ALL_FIVE: &[usize] = &[0, 1, 2, 3, 4];
 
 /// A formula and a trace that proves its result, the truth, and the core.
-const PROOFS: [(&str, &str, bool, &[usize]); 9] = [
+const PROOFS: [(&str, &str, bool, &[usize]); 11] = [
     (FALSE_FORMULA, REFUTATION, false, ALL_FIVE),
     (TRUE_FORMULA, PROOF_OF_TRUTH, true, ALL_FIVE),
     ("p cnf 0 0\n", "p qrp 0 0\n1 0 0\nr sat\n", true, FIRST),
@@ -159,6 +159,19 @@ const PROOFS: [(&str, &str, bool, &[usize]); 9] = [
         "p qrp 1 3\n1 1 0 0\n2 -1 0 0\n3 0 1 2 0\nr sat\n",
         true,
         FIRST_THREE,
+    ),
+    // A parent that is reduced before it is resolved, on both sides.
+    (
+        "p cnf 3 3\ne 1 0\na 2 0\ne 3 0\n1 2 0\n-1 3 0\n-3 0\n",
+        "p qrp 3 5\n1 1 2 0 0\n2 -1 3 0 0\n3 3 0 1 2 0\n4 -3 0 0\n5 0 3 4 0\nr unsat\n",
+        false,
+        ALL_FIVE,
+    ),
+    (
+        "p cnf 3 1\na 1 0\ne 2 0\na 3 0\n-1 2 -3 0\n",
+        "p qrp 3 5\n1 1 2 0 0\n2 -1 3 0 0\n3 3 0 1 2 0\n4 -3 0 0\n5 0 3 4 0\nr sat\n",
+        true,
+        ALL_FIVE,
     ),
 ];
 
@@ -301,9 +314,10 @@ const FAULTY: [(&str, &str, CheckFault); 18] = [
         "p qrp 2 4\n1 1 0 0\n2 -1 0 0\n3 2 0 1 2 0\n4 0 3 0\nr unsat\n",
         CheckFault::C6(3, RuleFault::S11),
     ),
+    // The formula is true: universal 2 is reducible in the first step, and not in the second.
     (
-        "p cnf 3 3\ne 1 0\na 2 0\ne 3 0\n1 2 0\n-1 3 0\n-3 0\n",
-        "p qrp 3 5\n1 1 2 0 0\n2 -1 3 0 0\n3 3 0 1 2 0\n4 -3 0 0\n5 0 3 4 0\nr unsat\n",
+        "p cnf 3 3\ne 1 0\na 2 0\ne 3 0\n1 2 0\n-1 2 3 0\n-2 -3 0\n",
+        "p qrp 3 5\n1 1 2 0 0\n2 -1 2 3 0 0\n3 3 0 1 2 0\n4 -2 -3 0 0\n5 0 3 4 0\nr unsat\n",
         CheckFault::C6(3, RuleFault::S12),
     ),
 ];
