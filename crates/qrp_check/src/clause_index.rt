@@ -5,12 +5,14 @@ ghost use Rattle.qbf_core.specs.Literal.{Literal};
 ghost use Rattle.qbf_core.specs.Blocks.{AreBound};
 ghost use Rattle.qbf_core.specs.Rules.{Clauses, IsClean, IsInitial};
 ghost use Rattle.qbf_core.specs.Qbf.{Qbf};
+ghost use Rattle.qbf_core.specs.Sets.{IsOrdered};
 ghost use Rattle.qrp_check.specs.Conditions.{IsAnswer, initial_condition};
 ghost use Rattle.qrp_check.specs.Index.{HasReductAt, IsIndex, IsIndexed, IsReducedForm, mixed, number_from, places_under};
 
 use crate::fault::RuleFault;
 use crate::initial::has_reduct;
 use crate::reduct::{innermost, stands_after};
+use crate::written::is_ordered;
 use indexmap::IndexMap;
 use qbf_core::{Formula, Lit, LitSet, Prefix, Quantifier, SetFault};
 use std::alloc::{AllocError, Global};
@@ -28,10 +30,10 @@ fn mixed(number: u64, lit: Lit) -> u64
 }
 
 /// The number of the literals of a clause that are not reducible in it.
-fn reduced_number(prefix: &Prefix, set: &LitSet) -> u64
-    ensures { (form : List Literal) × IsReducedForm Clauses prefix.now set.now form × (result ≡ number_from 0 form) }
+fn reduced_number(prefix: &Prefix, lits: &[Lit]) -> u64
+    requires { IsOrdered lits.now }
+    ensures { (form : List Literal) × IsReducedForm Clauses prefix.now lits.now form × (result ≡ number_from 0 form) }
 {
-    let lits = set.as_slice();
     let block = innermost(prefix, Quantifier::Exists, None, lits);
     let mut number = 0u64;
     for lit in lits {
@@ -48,8 +50,11 @@ fn clause_number(alloc: Global, prefix: &Prefix, clause: &[Lit]) -> Result<Optio
     ensures { IfOk result (λ number. IsClean clause.now →
         (form : List Literal) × IsReducedForm Clauses prefix.now clause.now form × (number ≡ Some (number_from 0 form))) }
 {
+    if is_ordered(clause) {
+        return Ok(Some(reduced_number(prefix, clause)));
+    }
     match LitSet::from_slice(alloc, clause, prefix) {
-        Ok(set) => Ok(Some(reduced_number(prefix, &set))),
+        Ok(set) => Ok(Some(reduced_number(prefix, set.as_slice()))),
         Err(SetFault::E1) => Ok(None),
         // The clause is bound, so this is not met.
         Err(SetFault::E2) => Ok(None),
@@ -82,8 +87,9 @@ fn has_reduct_at(
     alloc: Global,
     formula: &Formula,
     place: usize,
-    set: &LitSet,
+    set: &[Lit],
 ) -> Result<bool, AllocError>
+    requires { IsOrdered set.now }
     ensures { IfOk result (λ t. IsTrue t ↔ HasReductAt formula.now set.now place) }
 {
     // Its contract says that the clauses are bound.
@@ -131,9 +137,10 @@ impl ClauseIndex {
         &self,
         alloc: Global,
         formula: &Formula,
-        set: &LitSet,
+        set: &[Lit],
     ) -> Result<Option<usize>, AllocError>
-        requires { IsIndex formula.now self.now.places }
+        requires index { IsIndex formula.now self.now.places }
+        requires ordered { IsOrdered set.now }
         ensures some { IfOk result (λ found. IfSome found (HasReductAt formula.now set.now)) }
         ensures none { IfOk result (λ found. IfNone found (IsInitial Clauses formula.now set.now → ⊥)) }
     {
@@ -172,9 +179,10 @@ impl InitialClauses {
         &mut self,
         alloc: Global,
         formula: &Formula,
-        set: &LitSet,
+        set: &[Lit],
     ) -> Result<Option<usize>, AllocError>
-        requires { IsIndexed formula.now self.old }
+        requires indexed { IsIndexed formula.now self.old }
+        requires ordered { IsOrdered set.now }
         ensures some { IfOk result (λ found. IfSome found (HasReductAt formula.now set.now)) }
         ensures none { IfOk result (λ found. IfNone found (IsInitial Clauses formula.now set.now → ⊥)) }
         ensures kept { OnOk result (IsIndexed formula.now self.new) }
@@ -196,9 +204,10 @@ impl InitialClauses {
         &mut self,
         alloc: Global,
         formula: &Formula,
-        set: &LitSet,
+        set: &[Lit],
     ) -> Result<Option<RuleFault>, AllocError>
-        requires { IsIndexed formula.now self.old }
+        requires indexed { IsIndexed formula.now self.old }
+        requires ordered { IsOrdered set.now }
         ensures fault { IfOk result (λ fault. IsAnswer (initial_condition Clauses formula.now set.now ∷ []) fault) }
         ensures kept { OnOk result (IsIndexed formula.now self.new) }
     {

@@ -35,10 +35,10 @@ pub(crate) fn is_bound_by(prefix: &Prefix, quantifier: Quantifier, var: Var) -> 
 fn block_if(prefix: &Prefix, quantifier: Quantifier, spared: Option<u32>, var: Var) -> Option<usize>
     ensures { (k : ℕ) → IsAfter result k ↔ IsHeldBefore prefix.now quantifier spared var k }
 {
-    if is_spared(spared, var) || !is_bound_by(prefix, quantifier, var) {
+    if is_spared(spared, var) {
         return None;
     }
-    prefix.block(var)
+    prefix.block_bound_by(quantifier, var)
 }
 
 /// The inner one of two blocks.
@@ -83,8 +83,8 @@ pub(crate) fn stands_after(
 ) -> bool
     ensures { IsTrue result ↔ StandsAfter prefix.now quantifier block var }
 {
-    match prefix.block(var) {
-        Some(place) => is_bound_by(prefix, quantifier, var) && is_after(block, place),
+    match prefix.block_bound_by(quantifier, var) {
+        Some(place) => is_after(block, place),
         None => false,
     }
 }

@@ -10,7 +10,7 @@ pub returns-clause-none : goal.returns-clause-none
 returns-clause-none c =
     let w = c.reduced_number.ensures in
     let places : List ℕ = c.places_under-places.result.now in
-    none_initial c.args.formula.now c.args.self.now.places c.args.set.now w.0 c.reduced_number.result c.requires
+    none_initial c.args.formula.now c.args.self.now.places c.args.set.now w.0 c.reduced_number.result c.requires.index
     (subst (λ (bs : List Block). IsReducedForm Clauses bs c.args.set.now w.0) c.prefix.ensures w.1) w.2
     (λ (i : ℕ) (at : Contains (places_under c.args.self.now.places c.reduced_number.result) i) h.
     let at' : Contains places i = subst (λ (ps : List ℕ). Contains ps i) (sym c.places_under-places.ensures) at in
