@@ -1,5 +1,5 @@
 -- Reducible literals by one innermost block.
-use Rattle.std.proofs.Common.{◌≡◌, ℕ, List, ◌++◌, ◌⊎◌, ◌↔◌, Option, Some, None, refl, sym, subst, inl, inr}
+use Rattle.std.proofs.Common.{◌≡◌, ℕ, List, ◌++◌, ◌⊎◌, ◌↔◌, Option, Some, None, refl, sym, subst, ◌∙◌, inl, inr}
 use Rattle.std.proofs.lemmas.Bool.{cases_eq}
 use Rattle.qbf_core.specs.declared.quantifier.Quantifier.{Quantifier}
 use Rattle.qbf_core.specs.Literal.{Literal}
@@ -127,3 +127,15 @@ module _ (side : Side) (blocks : List Block) (reduced deciding : Quantifier) (bl
         (λ all. ((λ l h. resolvent_accounted a b to n whole_n all l (append_left a b l h)), (λ l h. resolvent_accounted a b to n whole_n all l (append_right a b l h)))),
         (λ each. resolvent_reducible a b to n whole_n each.0 each.1),
       )
+
+-- where nothing but the pivot is left out of either antecedent, nothing is left out of their resolvent
+pub resolvent_kept : (side : Side) (blocks : List Block) (a b to : List Literal) (x n : ℕ) → n ≡ x
+    → ((l : Literal) → l ∈ a → (l ∈ to) ⊎ IsSpared (Some n) l.var) → ((l : Literal) → l ∈ b → (l ∈ to) ⊎ IsSpared (Some n) l.var)
+    → (l : Literal) → l ∈ resolvent a b x → (l ∈ to) ⊎ IsReducible side blocks (resolvent a b x) l
+resolvent_kept side blocks a b to x n same in_a in_b l h =
+    let w = from_without x (a ++ b) l h in
+    let kept : (l ∈ to) ⊎ IsSpared (Some n) l.var = elim (in_append a b l w.0) [ inl i ↦ in_a l i | inr i ↦ in_b l i ] in
+    elim kept [
+      | inl k ↦ inl k
+      | inr pivot ↦ absurd (w.1 (pivot ∙ same))
+    ]

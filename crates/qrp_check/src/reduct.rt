@@ -103,6 +103,30 @@ fn is_left(
     kept || is_spared(spared, var) || stands_after(prefix, reduced, block, var)
 }
 
+/// Whether a literal of the variable is kept, or left aside.
+fn is_kept(spared: Option<u32>, var: Var, kept: bool) -> bool
+    ensures { IsTrue result ↔ (IsTrue kept ⊎ IsSpared spared var) }
+{
+    kept || is_spared(spared, var)
+}
+
+/// Whether each literal is kept, or left aside.
+pub(crate) fn keeps_all(spared: Option<u32>, from: &[Lit], to: &[Lit]) -> bool
+    requires from { IsOrdered from.now }
+    requires to { IsOrdered to.now }
+    ensures { IsTrue result ↔ ((l : Literal) → l ∈ from.now → (l ∈ to.now) ⊎ IsSpared spared l.var) }
+{
+    let mut rest = to;
+    for lit in from {
+        let (others, kept) = seek(rest, *lit);
+        if !is_kept(spared, lit.var(), kept) {
+            return false;
+        }
+        rest = others;
+    }
+    true
+}
+
 /// Whether each literal that is not kept stands after the block under the reduced quantifier, or is left aside.
 pub(crate) fn leaves_reducible(
     prefix: &Prefix,
@@ -144,6 +168,10 @@ pub(crate) fn reduct_by(
 {
     if !is_subset(to, from) {
         return Some(RuleFault::S6);
+    }
+    // Nothing is left out, so no block matters.
+    if from.len() <= to.len() {
+        return None;
     }
     let block = innermost(prefix, deciding, None, from);
     if !leaves_reducible(prefix, reduced, block, None, from, to) {

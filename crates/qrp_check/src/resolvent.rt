@@ -10,7 +10,7 @@ ghost use Rattle.qrp_check.specs.Conditions.{IsAnswer, resolvent_conditions};
 ghost use Rattle.qrp_check.specs.Walks.{IsClashOf};
 
 use crate::fault::RuleFault;
-use crate::reduct::{inner, innermost, is_bound_by, leaves_reducible};
+use crate::reduct::{inner, innermost, is_bound_by, keeps_all, leaves_reducible};
 use crate::side::Side;
 use crate::verdict::Rules;
 use crate::walks::seek;
@@ -86,6 +86,10 @@ fn is_reduced<S: Side>(prefix: &Prefix, a: &[Lit], b: &[Lit], to: &[Lit], pivot:
     let reduced = S::REDUCED;
     let deciding = S::DECIDING;
     let spared = Some(pivot.number());
+    // Most steps leave nothing out, and then no block matters.
+    if keeps_all(spared, a, to) && keeps_all(spared, b, to) {
+        return true;
+    }
     let block = inner(
         innermost(prefix, deciding, spared, a),
         innermost(prefix, deciding, spared, b),
