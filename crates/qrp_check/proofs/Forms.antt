@@ -1,9 +1,13 @@
 -- Fully reduced forms: a reduct has that of the list it is made from.
-use Rattle.std.proofs.Common.{◌≡◌, ◌≢◌, ◌<◌, ◌≤◌, ◌+◌, ◌↔◌, ℕ, zero, suc, List, [], ◌∷◌, ◌++◌, ◌⊎◌, length, get_or, take, slice_get, Option, Some, None, Contains, Bool, IsTrue, refl, sym, ap, subst, ◌∙◌, inl, inr, arith}
-use Rattle.std.proofs.lemmas.Bool.{cases_lt, cases_eq}
+use Rattle.std.proofs.Common.{◌≡◌, ◌<◌, ◌≤◌, ◌+◌, ◌↔◌, ℕ, zero, suc, List, [], ◌∷◌, ◌++◌, ◌⊎◌, length, get_or, take, slice_get, Option, Some, None, Contains, Bool, IsTrue, refl, sym, ap, subst, ◌∙◌, inl, inr, arith}
+use Rattle.std.proofs.lemmas.Bool.{cases_lt}
 use Rattle.std.proofs.lemmas.List.Elements.{Contains-append_left, Contains-push}
-use Rattle.std.specs.declared.vec.Vec.{Vec}
-use Rattle.indexmap.specs.IndexMap.{IndexMap}
+use Rattle.std.proofs.Common.{ltb, drop, ◌-◌, true}
+use Rattle.std.proofs.lemmas.Bool.Decides.{nat_tests}
+use Rattle.std.proofs.lemmas.List.{get_or_default, get_or-take, get_or-drop, length-drop, length-take-le}
+use Rattle.std.proofs.lemmas.List.Sorted.{Contains-permutation}
+use Rattle.std.specs.List.{AllWithin}
+use Rattle.std.specs.List.Sorted.{IsPermutation, IsNonDecreasingBy}
 use Rattle.qbf_core.specs.declared.quantifier.Quantifier.TheVariants.{All, Exists}
 use Rattle.qbf_core.specs.Literal.{Literal}
 use Rattle.qbf_core.specs.Lists.{◌∈◌, ◌⊆◌}
@@ -14,7 +18,8 @@ use Rattle.qbf_core.specs.Sets.{IsOrdered, HasMembersOf}
 use Rattle.qbf_core.proofs.Members.{in_at, in_push}
 use Rattle.qbf_core.proofs.Order.{ordered_push}
 use Rattle.qrp_check.specs.Walks.{IsInnermost, StandsAfter}
-use Rattle.qrp_check.specs.Index.{IsReducedForm, HasReductAt, IsIndex, IsIndexBelow, mixed, number_from, places_under}
+use Rattle.qrp_check.specs.Index.{IsReducedForm, HasReductAt, IsIndex, IsIndexBelow, mixed, number_from, number_of}
+use Rattle.qrp_check.specs.declared.clause_index.Filed.{Filed}
 use Rattle.qrp_check.proofs.Starts.{got_in}
 use Rattle.qrp_check.proofs.Reducing.{reducible_after, after_reducible}
 
@@ -181,46 +186,35 @@ pub found_initial : (f : Qbf) (set : List Literal) (i : ℕ) → HasReductAt f s
 found_initial f set i h = (h.clause, got_in f.clauses i h.clause h.here, h.clean, h.reduct)
 
 -- so where no place under the number of a set has it as a reduct, no clause has
-pub none_initial : {Z S : Type 0} (f : Qbf) (index : IndexMap ℕ (Vec ℕ Z) S) (set form : List Literal) (number : ℕ) → IsIndex f index
+pub none_initial : (f : Qbf) (index : List Filed) (set form : List Literal) (number : ℕ) → IsIndex f index
     → IsReducedForm Clauses f.blocks set form → number ≡ number_from 0 form
-    → ((i : ℕ) → Contains (places_under index number) i → HasReductAt f set i → ⊥) → IsInitial Clauses f set → ⊥
+    → ((i : ℕ) → Contains index (record { number = number; place = i }) → HasReductAt f set i → ⊥) → IsInitial Clauses f set → ⊥
 none_initial f index set form number is reduced numbered none h =
     let at = in_got f.clauses h.0 h.1 in
     let filed = is (suc at.0) at.0 h.0 (omega arith) at.1 h.2 in
     let same : form ≡ filed.0 = form_once Clauses f.blocks set form filed.0 reduced (form_of_reduct Clauses f.blocks h.0 set filed.0 h.3 filed.1) in
     let e : number ≡ number_from 0 filed.0 = numbered ∙ ap (number_from 0) same in
-    none at.0 (subst (λ (n : ℕ). Contains (places_under index n) at.0) (sym e) filed.2) (record { clause = h.0; here = at.1; clean = h.2; reduct = h.3 })
+    none at.0 (subst (λ (n : ℕ). Contains index (record { number = n; place = at.0 })) (sym e) filed.2) (record { clause = h.0; here = at.1; clean = h.2; reduct = h.3 })
 
 -- one more clause is filed, or is not clean
-pub filed_more : {Z S : Type 0} (f : Qbf) (old new : IndexMap ℕ (Vec ℕ Z) S) (n number : ℕ) (clause : List Literal)
+pub filed_more : (f : Qbf) (index : List Filed) (n number : ℕ) (clause : List Literal)
     → slice_get f.clauses n ≡ Some clause → (IsClean clause → (form : List Literal) × IsReducedForm Clauses f.blocks clause form × (number ≡ number_from 0 form))
-    → places_under new number ≡ places_under old number ++ n ∷ [] → ((k : ℕ) → k ≢ number → places_under new k ≡ places_under old k)
-    → IsIndexBelow f old n → IsIndexBelow f new (n + 1)
-filed_more f old new n number clause at told here others before i c less got clean = elim (cases_lt i n) [
-  | inl earlier ↦
-      let w = before i c earlier got clean in
-      elim (cases_eq (number_from 0 w.0) number) [
-        | inl e ↦ (
-          w.0,
-          w.1,
-          subst (λ (k : ℕ). Contains (places_under new k) i) (sym e)
-              (subst (λ (ps : List ℕ). Contains ps i) (sym here)
-              (Contains-append_left (places_under old number) (n ∷ []) i (subst (λ (k : ℕ). Contains (places_under old k) i) e w.2))),
-        )
-        | inr ne ↦ (w.0, w.1, subst (λ (ps : List ℕ). Contains ps i) (sym (others (number_from 0 w.0) ne)) w.2)
-      ]
+    → IsIndexBelow f index n → IsIndexBelow f (index ++ record { number = number; place = n } ∷ []) (n + 1)
+filed_more f index n number clause at told before i c less got clean = elim (cases_lt i n) [
+  | inl earlier ↦ (let w = before i c earlier got clean in (w.0, w.1, Contains-append_left index (record { number = number; place = n } ∷ []) _ w.2))
   | inr late ↦
       let last : i ≡ n = omega arith in
       let same : c ≡ clause = (let q : Some c ≡ Some clause = sym got ∙ ap (slice_get f.clauses) last ∙ at in cc q) in
-      let w = told (subst (λ (z : List Literal). IsClean z) same clean) in (
+      let w = told (subst (λ (z : List Literal). IsClean z) same clean) in
+      let whole : List Filed = index ++ record { number = number; place = n } ∷ [] in (
         w.0,
         subst (λ (z : List Literal). IsReducedForm Clauses f.blocks z w.0) (sym same) w.1,
-        subst (λ (k : ℕ). Contains (places_under new k) i) w.2
-            (subst (λ (ps : List ℕ). Contains ps i) (sym here) (subst (λ (k : ℕ). Contains (places_under old number ++ n ∷ []) k) (sym last) (Contains-push (places_under old number) n))),
+        subst (λ (k : ℕ). Contains whole (record { number = k; place = i })) w.2
+            (subst (λ (k : ℕ). Contains whole (record { number = number; place = k })) (sym last) (Contains-push index (record { number = number; place = n }))),
       )
 ]
 
-pub unfiled : {Z S : Type 0} (f : Qbf) (index : IndexMap ℕ (Vec ℕ Z) S) (n : ℕ) (clause : List Literal)
+pub unfiled : (f : Qbf) (index : List Filed) (n : ℕ) (clause : List Literal)
     → slice_get f.clauses n ≡ Some clause → (IsClean clause → ⊥) → IsIndexBelow f index n → IsIndexBelow f index (n + 1)
 unfiled f index n clause at out before i c less got clean = elim (cases_lt i n) [
   | inl earlier ↦ before i c earlier got clean
@@ -230,8 +224,63 @@ unfiled f index n clause at out before i c less got clean = elim (cases_lt i n) 
       absurd (out (subst (λ (z : List Literal). IsClean z) same clean))
 ]
 
+-- the same in another order
+pub filed_sorted : (f : Qbf) (index sorted : List Filed) → IsPermutation index sorted → IsIndex f index → IsIndex f sorted
+filed_sorted f index sorted moved is n i c less got clean =
+    let w = is n i c less got clean in
+    (w.0, w.1, Contains-permutation index sorted _ moved w.2)
+
+-- the entries of a number come from the first one on that is not below it
+pub in_rest : (index : List Filed) (first number : ℕ) (x : Filed) → first ≤ length index → AllWithin (λ (y : Filed). ltb y.number number ≡ true) index 0 first
+    → x.number ≡ number → Contains index x → Contains (take (length index - first) (drop first index)) x
+in_rest index first number x within below is at =
+    let late : first ≤ at.0 = elim (cases_lt at.0 first) [
+      | inl less ↦
+          let t : ltb (get_or index at.0 x).number number ≡ true = below at.0 x (omega arith) less in
+          let lt : (get_or index at.0 x).number < number = lt_of t in
+          let same : (get_or index at.0 x).number ≡ x.number = ap (λ (z : Filed). z.number) at.2 in
+          absurd (omega (arith, lt, same, is))
+      | inr late ↦ late
+    ] in
+    let inside : at.0 < length index = at.1 in
+    let len : length (take (length index - first) (drop first index)) ≡ length index - first = kept_length in
+    let there : at.0 - first < length index - first = omega (arith, inside, late) in
+    let sum : first + (at.0 - first) ≡ at.0 = omega (arith, late) in (
+      at.0 - first,
+      subst (λ (n : ℕ). at.0 - first < n) (sym len) there,
+      get_or-take (length index - first) (drop first index) (at.0 - first) x there ∙ get_or-drop first index (at.0 - first) x ∙ ap (λ (k : ℕ). get_or index k x) sum ∙ at.2,
+    )
+  where
+    lt_of : ltb (get_or index at.0 x).number number ≡ true → (get_or index at.0 x).number < number
+    lt_of t = grind (arith, nat_tests)
+
+    kept_length : length (take (length index - first) (drop first index)) ≡ length index - first
+    kept_length = length-take-le (length index - first) (drop first index) (omega (arith, length-drop first index))
+
+-- where each entry so far was tried and those to come are above the number, none of the number is left
+pub none_left : (f : Qbf) (set : List Literal) (rest : List Filed) (number j : ℕ)
+    → ((k : ℕ) (d : Filed) → k < j → HasReductAt f set (get_or rest k d).place → ⊥)
+    → ((k : ℕ) (d : Filed) → j ≤ k → k < length rest → number < (get_or rest k d).number)
+    → (i : ℕ) → Contains rest (record { number = number; place = i }) → HasReductAt f set i → ⊥
+none_left f set rest number j tried above i at h =
+    let e : Filed = record { number = number; place = i } in
+    elim (cases_lt at.0 j) [
+      | inl less ↦ tried at.0 e less (subst (λ (z : Filed). HasReductAt f set z.place) (sym at.2) h)
+      | inr late ↦
+          let lt : number < (get_or rest at.0 e).number = above at.0 e late at.1 in
+          let same : (get_or rest at.0 e).number ≡ number = ap (λ (z : Filed). z.number) at.2 in
+          omega (arith, lt, same)
+    ]
+
+pub above_from : (rest : List Filed) (number j : ℕ) (x : Filed) → IsNonDecreasingBy number_of rest → j < length rest → number < (get_or rest j x).number
+    → (k : ℕ) (d : Filed) → j ≤ k → k < length rest → number < (get_or rest k d).number
+above_from rest number j x sorted inside less k d le within =
+    let up : (get_or rest j d).number ≤ (get_or rest k d).number = sorted j k d le within in
+    let same : (get_or rest j x).number ≡ (get_or rest j d).number = ap (λ (z : Filed). z.number) (get_or_default rest j x d inside) in
+    omega (arith, up, same, less)
+
 -- no clause is left out
-pub filed_all : {Z S : Type 0} (f : Qbf) (index : IndexMap ℕ (Vec ℕ Z) S) (n : ℕ) → length f.clauses ≤ n → IsIndexBelow f index n → IsIndex f index
+pub filed_all : (f : Qbf) (index : List Filed) (n : ℕ) → length f.clauses ≤ n → IsIndexBelow f index n → IsIndex f index
 filed_all f index n all before k i c less got clean = before i c (let inside : i < length f.clauses = got_inside f.clauses i c got in omega arith) got clean
   where
     got_inside : {A : Type 0} (xs : List A) (i : ℕ) (x : A) → slice_get xs i ≡ Some x → i < length xs

@@ -7,14 +7,13 @@ use Rattle.qbf_core.specs.Blocks.{Block}
 use Rattle.qbf_core.specs.Qbf.{Qbf, IsClosed, IsWellFormed}
 use Rattle.qbf_core.specs.Truth.{IsTrueFormula}
 use Rattle.qbf_core.specs.Rules.{Side, Clauses, Cubes}
-use Rattle.qbf_core.specs.Sets.{IsOrdered}
 use Rattle.qrp.specs.Inferences.{Inference, IsAt}
 use Rattle.qrp.specs.declared.item.Outcome.{Outcome}
 use Rattle.qrp_check.specs.declared.fault.CheckFault.{CheckFault}
 use Rattle.qrp_check.specs.declared.fault.CheckFault.TheVariants.{C1, C2, C3, C4, C5, C6}
 use Rattle.qrp_check.specs.declared.verdict.Rules.{Rules}
 use Rattle.qrp_check.specs.Core.{IsInCore}
-use Rattle.qrp_check.specs.Kept.{IsSetOf, AreKept, IsCoreFault}
+use Rattle.qrp_check.specs.Kept.{IsEntry, AreKept, IsCoreFault}
 use Rattle.qrp_check.specs.Proof.{side_of, Derives, Proves, IsFirstFault, ResultHolds}
 use Rattle.qrp_check.specs.Sets.{SetsAgree}
 use Rattle.qrp_check.specs.declared.verdict.Verified.{Verified}
@@ -31,22 +30,21 @@ kept_skip blocks steps i kept entry out are = record {
   count = more_entries kept entry i are.count;
   sets = λ j step less core here. elim (cases_eq j i) [
     | inl e ↦ absurd (out (subst (IsInCore steps) e core))
-    | inr ne ↦ (let w = are.sets j step (omega (arith, less, ne)) core here in (w.0, pushed_old kept entry j w.0 w.1, w.2, w.3))
+    | inr ne ↦ (let w = are.sets j step (omega (arith, less, ne)) core here in (w.0, pushed_old kept entry j w.0 w.1, w.2))
   ];
 }
 
-pub kept_push : (blocks : List Block) (steps : List Inference) (i : ℕ) (kept : List (List Literal)) (set : List Literal) → IsOrdered set
-    → ((step : Inference) → IsAt steps i step → IsSetOf blocks set step.lits) → AreKept blocks steps i kept → AreKept blocks steps (i + 1) (kept ++ set ∷ [])
-kept_push blocks steps i kept set ordered is are = record {
-  count = more_entries kept set i are.count;
+pub kept_push : (blocks : List Block) (steps : List Inference) (i : ℕ) (kept : List (List Literal)) (entry : List Literal)
+    → ((step : Inference) → IsAt steps i step → IsEntry blocks entry step.lits) → AreKept blocks steps i kept → AreKept blocks steps (i + 1) (kept ++ entry ∷ [])
+kept_push blocks steps i kept entry is are = record {
+  count = more_entries kept entry i are.count;
   sets = λ j step less core here. elim (cases_eq j i) [
     | inl e ↦ (
-      set,
-      subst (λ (k : ℕ). slice_get (kept ++ set ∷ []) k ≡ Some set) (are.count ∙ sym e) (pushed_new kept set),
-      ordered,
+      entry,
+      subst (λ (k : ℕ). slice_get (kept ++ entry ∷ []) k ≡ Some entry) (are.count ∙ sym e) (pushed_new kept entry),
       is step (subst (λ (k : ℕ). IsAt steps k step) e here),
     )
-    | inr ne ↦ (let w = are.sets j step (omega (arith, less, ne)) core here in (w.0, pushed_old kept set j w.0 w.1, w.2, w.3))
+    | inr ne ↦ (let w = are.sets j step (omega (arith, less, ne)) core here in (w.0, pushed_old kept entry j w.0 w.1, w.2))
   ];
 }
 

@@ -244,3 +244,15 @@ resolvent_told side blocks reduced deciding er ed a b to x n beside_a beside_b o
     (innermost_whole blocks deciding a n beside_a of_pivot own_a (clash_var a b n clash) found.is_beside_a of_n found.is_own_a)
     (innermost_whole blocks deciding b n beside_b of_pivot own_b (clash_var_right a b n clash) found.is_beside_b of_n found.is_own_b)
     found.is_in_a found.is_in_b)
+
+-- where nothing but the pivot is left out of either antecedent, nothing is left out of their resolvent
+pub resolvent_kept : (side : Side) (blocks : List Block) (a b to : List Literal) (x n : ℕ) → n ≡ x
+    → ((l : Literal) → l ∈ a → (l ∈ to) ⊎ IsSpared (Some n) l.var) → ((l : Literal) → l ∈ b → (l ∈ to) ⊎ IsSpared (Some n) l.var)
+    → Accounts side blocks a b to x
+resolvent_kept side blocks a b to x n same in_a in_b l h =
+    let w = from_without x (a ++ b) l h in
+    let kept : (l ∈ to) ⊎ IsSpared (Some n) l.var = elim (in_append a b l w.0) [ inl i ↦ in_a l i | inr i ↦ in_b l i ] in
+    elim kept [
+      | inl k ↦ inl k
+      | inr pivot ↦ absurd (w.1 (pivot ∙ same))
+    ]

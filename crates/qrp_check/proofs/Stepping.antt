@@ -1,5 +1,5 @@
 -- One step of the core: the sets of its antecedents, and its conditions.
-use Rattle.std.proofs.Common.{◌≡◌, ℕ, zero, suc, ◌<◌, ◌≤◌, List, [], ◌∷◌, Option, Some, None, inl, inr, refl, sym, subst, ◌∙◌, arith, length, get_or, take}
+use Rattle.std.proofs.Common.{◌≡◌, ℕ, zero, suc, ◌<◌, ◌≤◌, List, [], ◌∷◌, Option, Some, None, inl, inr, refl, sym, ap, subst, ◌∙◌, arith, length, get_or, take}
 use Rattle.std.specs.Prelude.{slice_get}
 use Rattle.std.specs.List.{AllByRecursion}
 use Rattle.qbf_core.specs.Literal.{Literal, positive, negative}
@@ -15,7 +15,7 @@ use Rattle.qrp_check.specs.declared.fault.RuleFault.TheVariants.{S1, S2, S3}
 use Rattle.qrp_check.specs.Conditions.{Condition, AllHold, IsFirstFailure, IsAnswer, IsNumberOf, lits_of, reduct_conditions, resolvent_conditions, initial_condition, StepFollows, IsStepFault}
 use Rattle.qrp_check.specs.declared.verdict.Rules.{Rules}
 use Rattle.qrp_check.specs.Core.{IsInCore, next}
-use Rattle.qrp_check.specs.Kept.{IsSetOf, AreKept, later_conditions}
+use Rattle.qrp_check.specs.Kept.{IsSetOf, IsEntry, AreKept, later_conditions, shown}
 use Rattle.qrp_check.proofs.Marking.{core_within}
 use Rattle.qrp_check.proofs.StepFaults.{in_take, named}
 use Rattle.qrp_check.proofs.Places.{at_place}
@@ -63,12 +63,14 @@ needed steps place index number core ants less below here is =
       named = subst (λ (n : ℕ). n ∈ above.0.ants) (sym is) (ants above.0 above.1);
     })
 
-pub set_found : (blocks : List Block) (steps : List Inference) (kept : List (List Literal)) (place index number : ℕ) (answer : Option ℕ) (set : List Literal)
+-- what is kept under a number is that of the literals of its step
+pub entry_found : (blocks : List Block) (steps : List Inference) (kept : List (List Literal)) (place index number : ℕ) (answer : Option ℕ) (entry : List Literal)
     → AreKept blocks steps place kept → IsInCore steps place → ((step : Inference) → IsAt steps place step → number ∈ step.ants)
     → IsOnly steps number answer → answer ≡ Some index
-    → index < place → (below : Inference) × IsAt steps index below × (below.number ≡ number) → slice_get kept index ≡ Some set
-    → IsOrdered set × IsNumberOf (take place steps) number × IsSetOf blocks set (lits_of (take place steps) number)
-set_found blocks steps kept place index number answer set are core ants only found less (below, here, is) has =
+    → index < place → (below : Inference) × IsAt steps index below × (below.number ≡ number) → slice_get kept index ≡ Some entry
+    → IsNumberOf (take place steps) number × IsEntry blocks entry (lits_of (take place steps) number)
+    × ((step : Inference) → IsAt steps index step → step.lits ≡ lits_of (take place steps) number)
+entry_found blocks steps kept place index number answer entry are core ants only found less (below, here, is) has =
     let own : IsNumberOf (take place steps) number = (below, in_taken steps place index below less here, is) in
     let s = named (take place steps) number own in
     let w = in_take steps place s.0 s.1 in
@@ -76,12 +78,39 @@ set_found blocks steps kept place index number answer set are core ants only fou
     let same : w.0 ≡ index = cc e in
     let at : IsAt steps index s.0 = subst (λ (k : ℕ). IsAt steps k s.0) same w.2 in
     let k = are.sets index s.0 less (needed steps place index number core ants less below here is) at in
-    let f : Some k.0 ≡ Some set = sym k.1 ∙ has in
-    let is_set : k.0 ≡ set = cc f in (
-      subst (λ (z : List Literal). IsOrdered z) is_set k.2,
+    let f : Some k.0 ≡ Some entry = sym k.1 ∙ has in
+    let is_entry : k.0 ≡ entry = cc f in (
       own,
-      subst (λ (lits : List Literal). IsSetOf blocks set lits) s.3 (subst (λ (z : List Literal). IsSetOf blocks z s.0.lits) is_set k.3),
+      subst (λ (lits : List Literal). IsEntry blocks entry lits) s.3 (subst (λ (z : List Literal). IsEntry blocks z s.0.lits) is_entry k.2),
+      λ step there. ap (λ (t : Inference). t.lits) (same_step steps index step s.0 there at) ∙ s.3,
     )
+  where
+    same_step : (steps : List Inference) (i : ℕ) (s t : Inference) → IsAt steps i s → IsAt steps i t → s ≡ t
+    same_step steps i s t a b = let e : Some s ≡ Some t = sym a ∙ b in cc e
+
+-- the set that is lent of an entry: the entry, or where nothing was kept the literals themselves
+pub lent_entry : (blocks : List Block) (entry lits : List Literal) → (entry ≡ [] → ⊥) → IsEntry blocks entry lits → IsOrdered entry × IsSetOf blocks entry lits
+lent_entry blocks entry lits some (inl h) = h
+lent_entry blocks entry lits some (inr (none, _, _)) = absurd (some none)
+
+pub lent_written : (blocks : List Block) (entry lits : List Literal) → entry ≡ [] → IsEntry blocks entry lits → IsOrdered lits × IsSetOf blocks lits lits
+lent_written blocks entry [] none (inl h) = (tt, record { members = same_self []; bound = tt })
+lent_written blocks entry (l ∷ lits) none (inl h) = absurd (subst (λ (z : List Literal). l ∈ z) none (h.1.members.1 l (inl refl)))
+lent_written blocks entry lits none (inr (_, ordered, bound)) = (ordered, record { members = same_self lits; bound = bound })
+
+pub set_bound : (blocks : List Block) (set lits : List Literal) → HasMembersOf set lits → AreBound blocks lits → AreBound blocks set
+set_bound blocks set lits same bound =
+    in_all (λ (l : Literal). IsBound blocks l.var) set (λ l h. bound_each blocks lits bound l (same.0 l h))
+
+-- what is shown of a step is a set of its literals, and what is kept is its entry
+pub shown_set : (blocks : List Block) (set : Option (List Literal)) (lits : List Literal) → HasMembersOf (shown set lits) lits → AreBound blocks lits
+    → IsSetOf blocks (shown set lits) lits
+shown_set blocks set lits members bound = record { members = members; bound = set_bound blocks (shown set lits) lits members bound }
+
+pub shown_entry : (blocks : List Block) (set : Option (List Literal)) (lits : List Literal) → IsOrdered (shown set lits) → HasMembersOf (shown set lits) lits
+    → AreBound blocks lits → IsEntry blocks (shown set []) lits
+shown_entry blocks None lits ordered members bound = inr (refl, ordered, bound)
+shown_entry blocks (Some set) lits ordered members bound = inl (ordered, shown_set blocks (Some set) lits members bound)
 
 -- ---- the conditions of a step
 
@@ -171,10 +200,6 @@ two_listed (x ∷ y ∷ z ∷ xs) d e some less = absurd (omega (arith, less))
 
 -- ---- a step and its set
 
-pub set_bound : (blocks : List Block) (set lits : List Literal) → HasMembersOf set lits → AreBound blocks lits → AreBound blocks set
-set_bound blocks set lits same bound =
-    in_all (λ (l : Literal). IsBound blocks l.var) set (λ l h. bound_each blocks lits bound l (same.0 l h))
-
 pub not_clean : (rules : Rules) (side : Side) (f : Qbf) (steps : List Inference) (place : ℕ) (lits : List Literal) → IsInCore steps place
     → ((step : Inference) → IsAt steps place step → lits ≡ step.lits) → IsTautology lits → IsStepFault rules side f steps place S1
 not_clean rules side f steps place lits core same (v, p, n) =
@@ -215,12 +240,6 @@ follows_not rules side f steps place lits fault core same clean bound later =
     let s = at_place steps place (core_within steps place core) in
     let e : lits ≡ s.0.lits = same s.0 s.1 in
     record { step = s.0; here = s.1; first = inr (subst IsClean e clean, inr (subst (AreBound f.blocks) e bound, later s.0 s.1)) }
-
-pub set_of : (blocks : List Block) (steps : List Inference) (place : ℕ) (set lits : List Literal)
-    → ((step : Inference) → IsAt steps place step → lits ≡ step.lits) → HasMembersOf set lits → AreBound blocks lits
-    → (step : Inference) → IsAt steps place step → IsSetOf blocks set step.lits
-set_of blocks steps place set lits same members bound step here =
-    subst (IsSetOf blocks set) (same step here) (record { members = members; bound = set_bound blocks set lits members bound })
 
 pub answer_none : (conditions : List (Condition RuleFault)) (answer : Option RuleFault) → answer ≡ None → IsAnswer conditions answer → AllHold conditions
 answer_none conditions answer none a = subst (IsAnswer conditions) none a

@@ -1,13 +1,13 @@
 -- The clauses of a formula, found by the literals that universal reduction cannot take out of them.
-use Rattle.std.specs.Prelude.{◌≡◌, ℕ, ◌+◌, ◌*◌, ◌%◌, ◌^◌, ◌<◌, nat_eq, List, [], ◌∷◌, Contains, Option, Some, None, slice_get, IfSome, if◌then◌else◌}
-use Rattle.std.specs.declared.vec.Vec.{Vec}
-use Rattle.indexmap.specs.IndexMap.{IndexMap, get}
+use Rattle.std.specs.Prelude.{◌≡◌, ℕ, ◌+◌, ◌*◌, ◌%◌, ◌^◌, ◌<◌, List, [], ◌∷◌, Contains, Some, slice_get, IfSome, if◌then◌else◌}
+use Rattle.std.specs.List.Sorted.{IsNonDecreasingBy}
 use Rattle.qbf_core.specs.Literal.{Literal}
 use Rattle.qbf_core.specs.Lists.{◌∈◌}
 use Rattle.qbf_core.specs.Blocks.{Block}
 use Rattle.qbf_core.specs.Qbf.{Qbf}
 use Rattle.qbf_core.specs.Rules.{Side, Clauses, IsClean, IsReducible, IsReduct}
 use Rattle.qbf_core.specs.Sets.{IsOrdered}
+use Rattle.qrp_check.specs.declared.clause_index.Filed.{Filed}
 use Rattle.qrp_check.specs.declared.clause_index.InitialClauses.{InitialClauses}
 
 -- the fully reduced form of a list: its literals that are not reducible in it, each once, in the order of their variables
@@ -25,13 +25,9 @@ abbrev pub number_from : ℕ → List Literal → ℕ
 number_from n [] = n
 number_from n (l ∷ lits) = number_from (mixed n l) lits
 
--- the places under a number
-abbrev pub listed : {Z : Type 0} → Option (Vec ℕ Z) → List ℕ
-listed None = []
-listed (Some places) = places.items
-
-abbrev pub places_under : {Z S : Type 0} → IndexMap ℕ (Vec ℕ Z) S → ℕ → List ℕ
-places_under index number = listed (get nat_eq index number)
+-- the number that a clause is filed under
+abbrev pub number_of : Filed → ℕ
+number_of filed = filed.number
 
 -- the clause at a place is clean and has the set as a reduct
 pub record HasReductAt (f : Qbf) (set : List Literal) (i : ℕ) : Type 0 where
@@ -41,15 +37,15 @@ pub record HasReductAt (f : Qbf) (set : List Literal) (i : ℕ) : Type 0 where
   pub reduct : IsReduct Clauses f.blocks clause set
 
 -- each clean clause before place n is filed under the number of its fully reduced form
-abbrev pub IsIndexBelow : {Z S : Type 0} → Qbf → IndexMap ℕ (Vec ℕ Z) S → ℕ → Type 0
+abbrev pub IsIndexBelow : Qbf → List Filed → ℕ → Type 0
 IsIndexBelow f index n =
     (i : ℕ) (clause : List Literal) → i < n → slice_get f.clauses i ≡ Some clause → IsClean clause
-    → (form : List Literal) × IsReducedForm Clauses f.blocks clause form × Contains (places_under index (number_from 0 form)) i
+    → (form : List Literal) × IsReducedForm Clauses f.blocks clause form × Contains index (record { number = number_from 0 form; place = i })
 
 -- each clean clause is filed under the number of its fully reduced form
-abbrev pub IsIndex : {Z S : Type 0} → Qbf → IndexMap ℕ (Vec ℕ Z) S → Type 0
+abbrev pub IsIndex : Qbf → List Filed → Type 0
 IsIndex f index = (n : ℕ) → IsIndexBelow f index n
 
--- the index, where one was made, is one of this formula
+-- the index, where one was made, is one of this formula, in the order of the numbers
 abbrev pub IsIndexed : Qbf → InitialClauses → Type 0
-IsIndexed f clauses = IfSome clauses.index (λ index. IsIndex f index.places)
+IsIndexed f clauses = IfSome clauses.index (λ index. IsIndex f index.filed.items × IsNonDecreasingBy number_of index.filed.items)

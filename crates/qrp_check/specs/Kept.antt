@@ -1,5 +1,5 @@
 -- The sets of the core steps that were looked at.
-use Rattle.std.specs.Prelude.{◌≡◌, ℕ, ◌<◌, List, ◌∷◌, Some, slice_get, length}
+use Rattle.std.specs.Prelude.{◌≡◌, ℕ, ◌<◌, List, [], ◌∷◌, ◌⊎◌, Option, Some, None, slice_get, length}
 use Rattle.qbf_core.specs.Literal.{Literal}
 use Rattle.qbf_core.specs.Lists.{◌∈◌}
 use Rattle.qbf_core.specs.Blocks.{Block, AreBound}
@@ -23,11 +23,20 @@ pub record IsSetOf (blocks : List Block) (set lits : List Literal) : Type 0 wher
   pub members : HasMembersOf set lits
   pub bound : AreBound blocks set
 
--- each step before place i has an entry, those of the core their sets in order
+-- the members of a set, or the literals themselves where no set was made of them
+abbrev pub shown : Option (List Literal) → List Literal → List Literal
+shown None lits = lits
+shown (Some set) lits = set
+
+-- what is kept of literals: their set in order, or nothing where they are such a set as written
+abbrev pub IsEntry : List Block → List Literal → List Literal → Type 0
+IsEntry blocks entry lits = (IsOrdered entry × IsSetOf blocks entry lits) ⊎ ((entry ≡ []) × IsOrdered lits × AreBound blocks lits)
+
+-- each step before place i has an entry, each of the core that of its literals
 pub record AreKept (blocks : List Block) (steps : List Inference) (i : ℕ) (kept : List (List Literal)) : Type 0 where
   pub count : length kept ≡ i
   pub sets : (j : ℕ) (step : Inference) → j < i → IsInCore steps j → IsAt steps j step
-      → (set : List Literal) × (slice_get kept j ≡ Some set) × IsOrdered set × IsSetOf blocks set step.lits
+      → (entry : List Literal) × (slice_get kept j ≡ Some entry) × IsEntry blocks entry step.lits
 
 -- the fault is one of the rules, and this holds of it
 abbrev pub IfRule : StepFault → (RuleFault → Type 0) → Type 0

@@ -18,16 +18,17 @@ use crate::marks::mark_core;
 use crate::side::{Clauses, Cubes, Side};
 use crate::step::{StepFault, step_set};
 use crate::verdict::{Rules, Verified};
+use crate::written::shown;
 use qbf_core::{Formula, Lists, Lit};
 use qrp::{Outcome, QuantSet, Steps};
 use std::alloc::Global;
 
-/// The steps of the core that followed, and the set of each.
+/// The steps of the core that followed, and the sets of those that are not in order as written.
 #[derive(Drop)]
 struct Followed {
     /// Their places, in order.
     core: Vec<usize>,
-    /// A list for each step so far: the set of a step of the core, or nothing.
+    /// A list for each step so far: the set of a step of the core that is not in order as written, or nothing.
     kept: Lists<Lit>,
 }
 
@@ -44,7 +45,7 @@ impl Followed {
         }
     }
 
-    /// Keeps the set of the step at a place, which is the next of the core.
+    /// Keeps the set of the step at a place, which is the next of the core, or nothing of it.
     fn keep(&mut self, place: usize, set: &[Lit]) -> Result<(), CheckFault>
         ensures core { OnOk result (self.new.core.items ≡ self.old.core.items ++ place ∷ []) }
         ensures kept { OnOk result (self.new.kept ≡ self.old.kept ++ set.now ∷ []) }
@@ -97,7 +98,7 @@ fn check_core<S: Side, T: Steps>(
             &mut clauses,
             rules,
         ) {
-            Ok(set) => followed.keep(place, set.as_slice())?,
+            Ok(set) => followed.keep(place, shown(&set, &[]))?,
             Err(StepFault::Rule(fault)) => return Err(CheckFault::C6(trace.number(place), fault)),
             Err(StepFault::Memory) => return Err(CheckFault::C5),
         }

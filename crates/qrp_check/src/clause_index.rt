@@ -1,17 +1,18 @@
 //! The clauses of a formula, found by the literals that universal reduction cannot take out of them.
 
-ghost use Rattle.std.specs.Prelude.{◌≡◌, ◌≢◌, ◌↔◌, ℕ, List, [], ◌∷◌, ◌++◌, Some, IsTrue, OnOk, IfOk, IfSome, IfNone};
+ghost use Rattle.std.specs.Prelude.{◌≡◌, ◌↔◌, ℕ, List, [], ◌∷◌, Some, Contains, IsTrue, OnOk, IfOk, IfSome, IfNone};
 ghost use Rattle.qbf_core.specs.Literal.{Literal};
 ghost use Rattle.qbf_core.specs.Blocks.{AreBound};
 ghost use Rattle.qbf_core.specs.Rules.{Clauses, IsClean, IsInitial};
 ghost use Rattle.qbf_core.specs.Qbf.{Qbf};
+ghost use Rattle.qbf_core.specs.Sets.{IsOrdered};
 ghost use Rattle.qrp_check.specs.Conditions.{IsAnswer, initial_condition};
-ghost use Rattle.qrp_check.specs.Index.{HasReductAt, IsIndex, IsIndexed, IsReducedForm, mixed, number_from, places_under};
+ghost use Rattle.qrp_check.specs.Index.{HasReductAt, IsIndex, IsIndexed, IsReducedForm, mixed, number_from};
 
 use crate::fault::RuleFault;
 use crate::initial::has_reduct;
 use crate::reduct::{innermost, stands_after};
-use indexmap::IndexMap;
+use crate::written::is_ordered;
 use qbf_core::{Formula, Lit, LitSet, Prefix, Quantifier, SetFault};
 use std::alloc::{AllocError, Global};
 
@@ -28,10 +29,10 @@ fn mixed(number: u64, lit: Lit) -> u64
 }
 
 /// The number of the literals of a clause that are not reducible in it.
-fn reduced_number(prefix: &Prefix, set: &LitSet) -> u64
-    ensures { (form : List Literal) × IsReducedForm Clauses prefix.now set.now form × (result ≡ number_from 0 form) }
+fn reduced_number(prefix: &Prefix, lits: &[Lit]) -> u64
+    requires { IsOrdered lits.now }
+    ensures { (form : List Literal) × IsReducedForm Clauses prefix.now lits.now form × (result ≡ number_from 0 form) }
 {
-    let lits = set.as_slice();
     let block = innermost(prefix, Quantifier::Exists, None, lits);
     let mut number = 0u64;
     for lit in lits {
@@ -48,8 +49,11 @@ fn clause_number(alloc: Global, prefix: &Prefix, clause: &[Lit]) -> Result<Optio
     ensures { IfOk result (λ number. IsClean clause.now →
         (form : List Literal) × IsReducedForm Clauses prefix.now clause.now form × (number ≡ Some (number_from 0 form))) }
 {
+    if is_ordered(clause) {
+        return Ok(Some(reduced_number(prefix, clause)));
+    }
     match LitSet::from_slice(alloc, clause, prefix) {
-        Ok(set) => Ok(Some(reduced_number(prefix, &set))),
+        Ok(set) => Ok(Some(reduced_number(prefix, set.as_slice()))),
         Err(SetFault::E1) => Ok(None),
         // The clause is bound, so this is not met.
         Err(SetFault::E2) => Ok(None),
@@ -57,33 +61,14 @@ fn clause_number(alloc: Global, prefix: &Prefix, clause: &[Lit]) -> Result<Optio
     }
 }
 
-/// Files a place under a number.
-fn file(
-    alloc: Global,
-    index: &mut IndexMap<u64, Vec<usize>>,
-    number: u64,
-    place: usize,
-) -> Result<(), AllocError>
-    ensures here { OnOk result (places_under index.new number ≡ places_under index.old number ++ place ∷ []) }
-    ensures others { OnOk result ((n : ℕ) → n ≢ number → places_under index.new n ≡ places_under index.old n) }
-{
-    if let Some(places) = index.get_mut(&number) {
-        places.push(place)?;
-        return Ok(());
-    }
-    let mut places = Vec::new(alloc);
-    places.push(place)?;
-    index.insert(number, places)?;
-    Ok(())
-}
-
 /// Whether the clause at a place, if there is one, is clean and has the set as a reduct.
 fn has_reduct_at(
     alloc: Global,
     formula: &Formula,
     place: usize,
-    set: &LitSet,
+    set: &[Lit],
 ) -> Result<bool, AllocError>
+    requires { IsOrdered set.now }
     ensures { IfOk result (λ t. IsTrue t ↔ HasReductAt formula.now set.now place) }
 {
     // Its contract says that the clauses are bound.
@@ -94,36 +79,58 @@ fn has_reduct_at(
     has_reduct(alloc, formula.prefix(), formula.clause(place), set)
 }
 
-/// The clean clauses of a formula, each filed under a number that it shares with its reducts.
+/// A clause of the formula, and the number that it shares with its reducts.
+#[derive(Clone, Copy)]
+struct Filed {
+    number: u64,
+    place: usize,
+}
+
+/// The clean clauses of a formula in their order, each with its number.
+fn numbered_clauses(alloc: Global, formula: &Formula) -> Result<Vec<Filed>, AllocError>
+    ensures { IfOk result (λ filed. IsIndex formula.now filed.items) }
+{
+    // Its contract says that the clauses are bound.
+    let _closed = formula.max_var();
+    let mut filed = Vec::with_capacity(alloc, formula.clauses())?;
+    for place in 0..formula.clauses() {
+        if let Some(number) = clause_number(alloc, formula.prefix(), formula.clause(place))? {
+            filed.push(Filed { number, place })?;
+        }
+    }
+    Ok(filed)
+}
+
+/// The clean clauses of a formula, found by their numbers.
 #[derive(Drop)]
 struct ClauseIndex {
-    places: IndexMap<u64, Vec<usize>>,
+    /// In the order of the numbers.
+    filed: Vec<Filed>,
 }
 
 impl ClauseIndex {
+    ghost use Rattle.std.specs.List.Sorted.{IsNonDecreasingBy};
+    ghost use Rattle.qrp_check.specs.Index.{number_of};
+
     /// The index of a formula.
     fn new(alloc: Global, formula: &Formula) -> Result<ClauseIndex, AllocError>
-        ensures { IfOk result (λ index. IsIndex formula.now index.places) }
+        ensures index { IfOk result (λ index. IsIndex formula.now index.filed.items) }
+        ensures sorted { IfOk result (λ index. IsNonDecreasingBy number_of index.filed.items) }
     {
-        // Its contract says that the clauses are bound.
-        let _closed = formula.max_var();
-        let mut places = IndexMap::new(alloc);
-        for place in 0..formula.clauses() {
-            if let Some(number) = clause_number(alloc, formula.prefix(), formula.clause(place))? {
-                file(alloc, &mut places, number, place)?;
-            }
-        }
-        Ok(ClauseIndex { places })
+        let mut filed = numbered_clauses(alloc, formula)?;
+        filed.sort_unstable_by_key(|filed| filed.number);
+        Ok(ClauseIndex { filed })
     }
 
-    /// The places under a number.
-    fn places_under(&self, number: u64) -> &[usize]
-        ensures { result.now ≡ places_under self.now.places number }
+    /// The clauses from the first with a number on.
+    fn from_number(&self, number: u64) -> &[Filed]
+        requires { IsNonDecreasingBy number_of self.now.filed.items }
+        ensures sorted { IsNonDecreasingBy number_of result.now }
+        ensures all { (place : ℕ) → Contains self.now.filed.items (record { number = number; place = place })
+            → Contains result.now (record { number = number; place = place }) }
     {
-        match self.places.get(&number) {
-            Some(places) => places.as_slice(),
-            None => &[],
-        }
+        let first = self.filed.partition_point(|filed| filed.number < number);
+        &self.filed[first..]
     }
 
     /// The place of a clean clause that has the set as a reduct. Only clauses with its number are tried.
@@ -131,16 +138,22 @@ impl ClauseIndex {
         &self,
         alloc: Global,
         formula: &Formula,
-        set: &LitSet,
+        set: &[Lit],
     ) -> Result<Option<usize>, AllocError>
-        requires { IsIndex formula.now self.now.places }
+        requires index { IsIndex formula.now self.now.filed.items }
+        requires sorted { IsNonDecreasingBy number_of self.now.filed.items }
+        requires ordered { IsOrdered set.now }
         ensures some { IfOk result (λ found. IfSome found (HasReductAt formula.now set.now)) }
         ensures none { IfOk result (λ found. IfNone found (IsInitial Clauses formula.now set.now → ⊥)) }
     {
-        let places = self.places_under(reduced_number(formula.prefix(), set));
-        for place in places {
-            if has_reduct_at(alloc, formula, *place, set)? {
-                return Ok(Some(*place));
+        let number = reduced_number(formula.prefix(), set);
+        let rest = self.from_number(number);
+        for filed in rest {
+            if filed.number > number {
+                return Ok(None);
+            }
+            if has_reduct_at(alloc, formula, filed.place, set)? {
+                return Ok(Some(filed.place));
             }
         }
         Ok(None)
@@ -172,9 +185,10 @@ impl InitialClauses {
         &mut self,
         alloc: Global,
         formula: &Formula,
-        set: &LitSet,
+        set: &[Lit],
     ) -> Result<Option<usize>, AllocError>
-        requires { IsIndexed formula.now self.old }
+        requires indexed { IsIndexed formula.now self.old }
+        requires ordered { IsOrdered set.now }
         ensures some { IfOk result (λ found. IfSome found (HasReductAt formula.now set.now)) }
         ensures none { IfOk result (λ found. IfNone found (IsInitial Clauses formula.now set.now → ⊥)) }
         ensures kept { OnOk result (IsIndexed formula.now self.new) }
@@ -196,9 +210,10 @@ impl InitialClauses {
         &mut self,
         alloc: Global,
         formula: &Formula,
-        set: &LitSet,
+        set: &[Lit],
     ) -> Result<Option<RuleFault>, AllocError>
-        requires { IsIndexed formula.now self.old }
+        requires indexed { IsIndexed formula.now self.old }
+        requires ordered { IsOrdered set.now }
         ensures fault { IfOk result (λ fault. IsAnswer (initial_condition Clauses formula.now set.now ∷ []) fault) }
         ensures kept { OnOk result (IsIndexed formula.now self.new) }
     {

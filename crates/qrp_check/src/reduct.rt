@@ -40,10 +40,10 @@ pub(crate) fn block_if(
 ) -> Option<usize>
     ensures { (k : ℕ) → IsAfter result k ↔ IsHeldBefore prefix.now quantifier spared var k }
 {
-    if is_spared(spared, var) || !is_bound_by(prefix, quantifier, var) {
+    if is_spared(spared, var) {
         return None;
     }
-    prefix.block(var)
+    prefix.block_bound_by(quantifier, var)
 }
 
 /// The inner one of two blocks.
@@ -95,8 +95,8 @@ pub(crate) fn stands_after(
 ) -> bool
     ensures { IsTrue result ↔ StandsAfter prefix.now quantifier block var }
 {
-    match prefix.block(var) {
-        Some(place) => is_bound_by(prefix, quantifier, var) && is_after(block, place),
+    match prefix.block_bound_by(quantifier, var) {
+        Some(place) => is_after(block, place),
         None => false,
     }
 }
@@ -113,6 +113,30 @@ fn is_left(
     ensures { IsTrue result ↔ (IsTrue kept ⊎ (IsSpared spared var ⊎ StandsAfter prefix.now reduced block var)) }
 {
     kept || is_spared(spared, var) || stands_after(prefix, reduced, block, var)
+}
+
+/// Whether a literal of the variable is kept, or left aside.
+fn is_kept(spared: Option<u32>, var: Var, kept: bool) -> bool
+    ensures { IsTrue result ↔ (IsTrue kept ⊎ IsSpared spared var) }
+{
+    kept || is_spared(spared, var)
+}
+
+/// Whether each literal is kept, or left aside.
+pub(crate) fn keeps_all(spared: Option<u32>, from: &[Lit], to: &[Lit]) -> bool
+    requires from { IsOrdered from.now }
+    requires to { IsOrdered to.now }
+    ensures { IsTrue result ↔ ((l : Literal) → l ∈ from.now → (l ∈ to.now) ⊎ IsSpared spared l.var) }
+{
+    let mut rest = to;
+    for lit in from {
+        let (others, kept) = seek(rest, *lit);
+        if !is_kept(spared, lit.var(), kept) {
+            return false;
+        }
+        rest = others;
+    }
+    true
 }
 
 /// Whether each literal that is not kept stands after the block under the reduced quantifier, or is left aside.
@@ -156,6 +180,10 @@ pub(crate) fn reduct_by(
 {
     if !is_subset(to, from) {
         return Some(RuleFault::S6);
+    }
+    // Nothing is left out, so no block matters.
+    if from.len() <= to.len() {
+        return None;
     }
     let block = innermost(prefix, deciding, None, from);
     if !leaves_reducible(prefix, reduced, block, None, from, to) {

@@ -11,7 +11,7 @@ ghost use Rattle.qrp_check.specs.Unreduced.{unreduced_conditions};
 ghost use Rattle.qrp_check.specs.Walks.{IsClashOf};
 
 use crate::fault::RuleFault;
-use crate::reduct::{block_if, inner, innermost, is_bound_by, leaves_reducible, outer};
+use crate::reduct::{block_if, inner, innermost, is_bound_by, keeps_all, leaves_reducible, outer};
 use crate::side::Side;
 use crate::verdict::Rules;
 use crate::walks::seek;
@@ -93,6 +93,10 @@ fn is_reduced<S: Side>(prefix: &Prefix, a: &[Lit], b: &[Lit], to: &[Lit], pivot:
     let reduced = S::REDUCED;
     let deciding = S::DECIDING;
     let spared = Some(pivot.number());
+    // Most steps leave nothing out, and then no block matters.
+    if keeps_all(spared, a, to) && keeps_all(spared, b, to) {
+        return true;
+    }
     let beside_a = innermost(prefix, deciding, spared, a);
     let beside_b = innermost(prefix, deciding, spared, b);
     let of_pivot = block_if(prefix, deciding, None, pivot);

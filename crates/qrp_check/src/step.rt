@@ -10,14 +10,16 @@ ghost use Rattle.qrp_check.specs.Conditions.{IsAnswer, IsNumberOf, initial_condi
 ghost use Rattle.qrp_check.specs.Conditions.{reduct_conditions, resolvent_conditions, StepFollows, IsStepFault};
 ghost use Rattle.qrp_check.specs.Core.{IsInCore};
 ghost use Rattle.qrp_check.specs.Index.{IsIndexed};
-ghost use Rattle.qrp_check.specs.Kept.{AreKept, IsSetOf, IfRule, later_conditions};
+ghost use Rattle.qrp_check.specs.Kept.{AreKept, IsEntry, IsSetOf, IfRule, later_conditions, shown};
 
 use crate::clause_index::InitialClauses;
 use crate::fault::RuleFault;
+use crate::initial::initial_cube_fault;
 use crate::reduct::reduct_of;
 use crate::resolvent::resolvent_of;
 use crate::side::Side;
 use crate::verdict::Rules;
+use crate::written::{shown, sorted};
 use qbf_core::{Formula, Lists, Lit, LitSet, Quantifier, SetFault};
 use qrp::Steps;
 use std::alloc::{AllocError, Global};
@@ -44,7 +46,7 @@ impl From<AllocError> for StepFault {
 /// The set of the earlier step with this number, which the step of the core at a place names.
 fn earlier<'a, T: Steps>(
     formula: &Formula,
-    trace: &T,
+    trace: &'a T,
     place: usize,
     kept: &'a Lists<Lit>,
     number: u64,
@@ -61,7 +63,11 @@ fn earlier<'a, T: Steps>(
     if index >= kept.len() {
         return None;
     }
-    Some(kept.get(index))
+    let entry = kept.get(index);
+    if entry.is_empty() {
+        return Some(trace.lits(index));
+    }
+    Some(entry)
 }
 
 /// Why a step with one antecedent does not follow, for a set of its literals.
@@ -70,18 +76,19 @@ fn one_fault<S: Side, T: Steps>(
     trace: &T,
     place: usize,
     kept: &Lists<Lit>,
-    set: &LitSet,
+    set: &[Lit],
     number: u64,
 ) -> Option<RuleFault>
     requires core { IsInCore (T.steps trace.now) place }
     requires named { (step : Inference) → IsAt (T.steps trace.now) place step → number ∈ step.ants }
     requires kept { AreKept formula.now.blocks (T.steps trace.now) place kept.now }
+    requires ordered { IsOrdered set.now }
     requires bound { AreBound formula.now.blocks set.now }
     ensures { IsAnswer ((S3, IsNumberOf (take place (T.steps trace.now)) number)
         ∷ reduct_conditions S.side formula.now.blocks (lits_of (take place (T.steps trace.now)) number) set.now) result }
 {
     match earlier(formula, trace, place, kept, number) {
-        Some(from) => reduct_of::<S>(formula.prefix(), from, set.as_slice()),
+        Some(from) => reduct_of::<S>(formula.prefix(), from, set),
         None => Some(RuleFault::S3),
     }
 }
@@ -92,7 +99,7 @@ fn two_fault<S: Side, T: Steps>(
     trace: &T,
     place: usize,
     kept: &Lists<Lit>,
-    set: &LitSet,
+    set: &[Lit],
     first: u64,
     second: u64,
     rules: Rules,
@@ -101,6 +108,7 @@ fn two_fault<S: Side, T: Steps>(
     requires first { (step : Inference) → IsAt (T.steps trace.now) place step → first ∈ step.ants }
     requires second { (step : Inference) → IsAt (T.steps trace.now) place step → second ∈ step.ants }
     requires kept { AreKept formula.now.blocks (T.steps trace.now) place kept.now }
+    requires ordered { IsOrdered set.now }
     requires bound { AreBound formula.now.blocks set.now }
     ensures { IsAnswer ((
       S3,
@@ -116,7 +124,7 @@ fn two_fault<S: Side, T: Steps>(
     let Some(b) = earlier(formula, trace, place, kept, second) else {
         return Some(RuleFault::S3);
     };
-    resolvent_of::<S>(formula.prefix(), a, b, set.as_slice(), rules)
+    resolvent_of::<S>(formula.prefix(), a, b, set, rules)
 }
 
 /// Why a set is no initial step: clauses are found by what is known of them.
@@ -124,16 +132,17 @@ fn initial_fault<S: Side>(
     alloc: Global,
     formula: &Formula,
     clauses: &mut InitialClauses,
-    set: &LitSet,
+    set: &[Lit],
 ) -> Result<Option<RuleFault>, AllocError>
     requires clauses { IsIndexed formula.now clauses.old }
+    requires ordered { IsOrdered set.now }
     requires bound { AreBound formula.now.blocks set.now }
     ensures fault { IfOk result (λ fault. IsAnswer (initial_condition S.side formula.now set.now ∷ []) fault) }
     ensures clauses { OnOk result (IsIndexed formula.now clauses.new) }
 {
     match S::REDUCED {
         Quantifier::All => clauses.fault(alloc, formula, set),
-        Quantifier::Exists => S::initial_fault(alloc, formula, set),
+        Quantifier::Exists => Ok(initial_cube_fault(formula, set)),
     }
 }
 
@@ -145,12 +154,13 @@ fn antecedent_fault<S: Side, T: Steps>(
     place: usize,
     kept: &Lists<Lit>,
     clauses: &mut InitialClauses,
-    set: &LitSet,
+    set: &[Lit],
     rules: Rules,
 ) -> Result<Option<RuleFault>, AllocError>
     requires clauses { IsIndexed formula.now clauses.old }
     requires core { IsInCore (T.steps trace.now) place }
     requires kept { AreKept formula.now.blocks (T.steps trace.now) place kept.now }
+    requires ordered { IsOrdered set.now }
     requires set { (step : Inference) → IsAt (T.steps trace.now) place step → IsSetOf formula.now.blocks set.now step.lits }
     ensures fault { IfOk result (λ fault. (step : Inference) → IsAt (T.steps trace.now) place step
         → IsAnswer (later_conditions rules S.side formula.now (take place (T.steps trace.now)) step) fault) }
@@ -168,7 +178,7 @@ fn antecedent_fault<S: Side, T: Steps>(
     }
 }
 
-/// The set of a step of the core, where it follows from those before it.
+/// The set of a step of the core, where it follows from those before it, or `None` where its literals are one as written.
 pub(crate) fn step_set<S: Side, T: Steps>(
     alloc: Global,
     formula: &Formula,
@@ -177,24 +187,26 @@ pub(crate) fn step_set<S: Side, T: Steps>(
     kept: &Lists<Lit>,
     clauses: &mut InitialClauses,
     rules: Rules,
-) -> Result<LitSet, StepFault>
+) -> Result<Option<LitSet>, StepFault>
     requires clauses { IsIndexed formula.now clauses.old }
     requires core { IsInCore (T.steps trace.now) place }
     requires kept { AreKept formula.now.blocks (T.steps trace.now) place kept.now }
     ensures follows { OnOk result (StepFollows rules S.side formula.now (T.steps trace.now) place) }
     ensures set { IfOk result (λ set. (step : Inference) → IsAt (T.steps trace.now) place step
-        → IsSetOf formula.now.blocks set step.lits) }
+        → IsEntry formula.now.blocks (shown set []) step.lits) }
     ensures clauses { OnOk result (IsIndexed formula.now clauses.new) }
     ensures fault { IfErr result (λ e. IfRule e (IsStepFault rules S.side formula.now (T.steps trace.now) place)) }
 {
-    let set = match LitSet::from_slice(alloc, trace.lits(place), formula.prefix()) {
-        Ok(set) => set,
+    let lits = trace.lits(place);
+    let sorted = match sorted(alloc, formula.prefix(), lits) {
+        Ok(sorted) => sorted,
         Err(SetFault::E1) => return Err(StepFault::Rule(RuleFault::S1)),
         Err(SetFault::E2) => return Err(StepFault::Rule(RuleFault::S2)),
         Err(SetFault::E3) => return Err(StepFault::Memory),
     };
-    match antecedent_fault::<S, T>(alloc, formula, trace, place, kept, clauses, &set, rules)? {
-        None => Ok(set),
+    let set = shown(&sorted, lits);
+    match antecedent_fault::<S, T>(alloc, formula, trace, place, kept, clauses, set, rules)? {
+        None => Ok(sorted),
         Some(fault) => Err(StepFault::Rule(fault)),
     }
 }

@@ -1,10 +1,9 @@
 use Rattle.std.proofs.Common.{◌≡◌, ℕ, ◌+◌, ◌<◌, List, [], Bool, true, false, get_or, refl, sym, subst, ◌∙◌, arith, length, below_more}
 use Rattle.std.proofs.lemmas.Option.{slice_get_read, get_or_from_slice_get}
 use Rattle.qbf_core.specs.Literal.{Literal}
-use Rattle.qbf_core.specs.Sets.{IsOrdered}
 use Rattle.qrp_check.specs.Conditions.{StepFollows, IsStepFault}
 use Rattle.qrp_check.specs.Core.{IsInCore}
-use Rattle.qrp_check.specs.Kept.{AreKept, IsSetOf, IfRule}
+use Rattle.qrp_check.specs.Kept.{AreKept, IsEntry, IfRule}
 use Rattle.qrp_check.specs.Marks.{IsMarked}
 use Rattle.qrp_check.specs.Proof.{IsFirstFaultyStep}
 use Rattle.qrp_check.specs.declared.step.StepFault.{StepFault}
@@ -71,9 +70,8 @@ loop-place-preserved g c =
           (listing_push c.in-Ok.marks.items i c.loop-place.followed.core.items is c.loop-place.invariant.listing);
       indexed = c.in-Ok-step_set.ensures.clauses;
       kept = subst (λ (ks : List (List Literal)). AreKept c.args.formula.now.blocks (g.T.Steps.steps c.args.trace.now) (i + 1) ks) (sym c.in_ok-keep-in-Ok-step_set.ensures.kept)
-          (kept_push c.args.formula.now.blocks (g.T.Steps.steps c.args.trace.now) i c.loop-place.followed.kept c.as_slice.result.now
-          (subst (λ (z : List Literal). IsOrdered z) (sym c.as_slice.ensures.value) c.as_slice.ensures.sound)
-          (λ step here. subst (λ (z : List Literal). IsSetOf c.args.formula.now.blocks z step.lits) (sym c.as_slice.ensures.value) (c.in-Ok-step_set.ensures.set step here)) c.loop-place.invariant.kept);
+          (kept_push c.args.formula.now.blocks (g.T.Steps.steps c.args.trace.now) i c.loop-place.followed.kept c.shown.result.now
+          (λ step here. subst (λ (z : List Literal). IsEntry c.args.formula.now.blocks z step.lits) (sym c.shown.ensures) (c.in-Ok-step_set.ensures.set step here)) c.loop-place.invariant.kept);
     }
 
 pub returns-clause-derives : goal.returns-clause-derives

@@ -5,9 +5,12 @@ use Rattle.qrp_check.proofs.Starts.{not_clean}
 use Rattle.qrp_check.proofs.Forms.{form_same}
 use Rattle.qrp_check.proofs.clause_index.clause_number.Goals as goal
 
+pub returns-then-is_ordered : goal.returns-then-is_ordered
+returns-then-is_ordered c = λ _. let w = c.reduced_number.ensures in (w.0, w.1, ap Some w.2)
+
 pub returns-in-Ok : goal.returns-in-Ok
 returns-in-Ok c = λ _.
-    let w = c.reduced_number.ensures in
+    let w = rw c.as_slice.ensures.value at c.reduced_number-in-Ok.ensures in
     (w.0, form_same Clauses c.args.prefix.now c.in-Ok.set c.args.clause.now w.0 c.in-Ok.ensures.members w.1, ap Some w.2)
 
 pub returns-in-Err-E1 : goal.returns-in-Err-E1

@@ -2,12 +2,9 @@ use Rattle.std.proofs.Common.{ℕ, ◌+◌, ◌∙◌, take, sym, subst, List}
 use Rattle.std.proofs.lemmas.Bool.{false≢true}
 use Rattle.qbf_core.specs.declared.quantifier.Quantifier.TheVariants.{All}
 use Rattle.qbf_core.specs.Literal.{Literal}
-use Rattle.qbf_core.specs.Rules.{Clauses}
-use Rattle.qbf_core.specs.Sets.{IsOrdered}
 use Rattle.qbf_core.proofs.Members.{in_take_more}
 use Rattle.qbf_core.proofs.Order.{take_more_in, all_taken}
 use Rattle.qrp_check.specs.Walks.{StandsAfter}
-use Rattle.qrp_check.specs.Index.{IsReducedForm}
 use Rattle.qrp_check.proofs.Forms.{numbered_skip, numbered_push, numbered_done, taken_below}
 use Rattle.qrp_check.proofs.clause_index.reduced_number.Goals as goal
 use Rattle.qrp_check.proofs.clause_index.reduced_number.Goals.{then-not-stands_after, else-not-stands_after}
@@ -16,13 +13,12 @@ pub loop-lit-preserved : goal.loop-lit-preserved
 loop-lit-preserved c =
     let i : ℕ = c.loop-lit.lit-index in
     let x : Literal = c.lit-item.result in
-    let lits : List Literal = c.as_slice-lits.result.now in
-    let ordered : IsOrdered lits = rw c.as_slice-lits.ensures.value c.as_slice-lits.ensures.sound in
+    let lits : List Literal = c.args.lits.now in
     elim c.if-not-stands_after.branch [
       | then-not-stands_after w ↦ rw w.number-is (
           numbered_push c.args.prefix.now c.innermost-block.result (take i lits) (take (i + 1) lits) x c.loop-lit.number _
           (λ m h. in_take_more lits i x m c.loop-lit-test.true c.lit-item.is h) (λ m h. take_more_in lits i x m c.loop-lit-test.true c.lit-item.is h)
-          (λ m h. taken_below lits i x m ordered c.loop-lit-test.true c.lit-item.is h) w.mixed-number.ensures
+          (λ m h. taken_below lits i x m c.requires c.loop-lit-test.true c.lit-item.is h) w.mixed-number.ensures
           (λ stands. false≢true (sym w.if-not-stands_after.true ∙ c.stands_after.ensures.1 (subst (λ (v : ℕ). StandsAfter c.args.prefix.now All c.innermost-block.result v) (sym c.var.ensures) stands)))
           c.loop-lit.invariant)
       | else-not-stands_after w ↦ rw w.number-is (
@@ -34,7 +30,5 @@ loop-lit-preserved c =
 
 pub returns : goal.returns
 returns c =
-    let lits : List Literal = c.as_slice-lits.result.now in
-    let w = numbered_done c.args.prefix.now c.innermost-block.result lits (take c.loop-lit.lit-index lits) c.loop-lit.number
-    (all_taken lits c.loop-lit.lit-index c.loop-lit-test.false) c.innermost-block.ensures c.loop-lit.invariant in
-    (w.0, subst (λ (ls : List Literal). IsReducedForm Clauses c.args.prefix.now ls w.0) c.as_slice-lits.ensures.value w.1, w.2)
+    numbered_done c.args.prefix.now c.innermost-block.result c.args.lits.now (take c.loop-lit.lit-index c.args.lits.now) c.loop-lit.number
+    (all_taken c.args.lits.now c.loop-lit.lit-index c.loop-lit-test.false) c.innermost-block.ensures c.loop-lit.invariant

@@ -7,8 +7,8 @@ use Rattle.qbf_core.proofs.Bound.{all_in}
 use Rattle.qrp_check.proofs.Starts.{got_in, got_more}
 use Rattle.qrp_check.proofs.initial.initial_clause_fault.Goals as goal
 
-pub has_reduct-requires : goal.has_reduct-requires
-has_reduct-requires c =
+pub has_reduct-requires-clause-bound : goal.has_reduct-requires-clause-bound
+has_reduct-requires-clause-bound c =
     subst (λ (bs : List Block). AreBound bs c.clause.result.now) (sym c.prefix.ensures)
     (all_in (AreBound c.args.formula.now.blocks) c.args.formula.now.clauses c.max_var-closed.ensures.sound.closed c.clause.result.now (got_in _ c.loop-i.i _ c.clause.ensures))
 

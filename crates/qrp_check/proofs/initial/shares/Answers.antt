@@ -8,12 +8,12 @@ use Rattle.qrp_check.proofs.initial.shares.Goals as goal
 pub loop-lit-init : goal.loop-lit-init
 loop-lit-init c = λ m h k. h
 
-pub returns-then-contains : goal.returns-then-contains
-returns-then-contains c = (
+pub returns-then-is_member : goal.returns-then-is_member
+returns-then-is_member c = (
   λ _. (
     c.lit-item.result,
     in_at c.args.clause.now c.loop-lit.lit-index c.lit-item.result c.loop-lit-test.true c.lit-item.is,
-    c.if-contains.ensures.0 refl,
+    c.if-is_member.ensures.0 refl,
   ),
   λ _. refl,
 )
@@ -21,7 +21,7 @@ returns-then-contains c = (
 pub loop-lit-preserved : goal.loop-lit-preserved
 loop-lit-preserved c = λ m h k. elim (in_take_more c.args.clause.now c.loop-lit.lit-index c.lit-item.result m c.loop-lit-test.true c.lit-item.is h) [
   | inl before ↦ c.loop-lit.invariant m before k
-  | inr e ↦ false≢true (c.if-contains.ensures.1 (subst (λ (z : Literal). z ∈ c.args.set.now) e k))
+  | inr e ↦ false≢true (c.if-is_member.ensures.1 (subst (λ (z : Literal). z ∈ c.args.set.now) e k))
 ]
 
 pub returns : goal.returns

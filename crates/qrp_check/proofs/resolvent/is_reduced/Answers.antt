@@ -1,7 +1,14 @@
 use Rattle.std.proofs.Common.{◌∙◌, sym, refl}
 use Rattle.std.proofs.lemmas.Bool.{true≢false}
-use Rattle.qrp_check.proofs.Reducing.{resolvent_told}
+use Rattle.qrp_check.proofs.Reducing.{resolvent_told, resolvent_kept}
 use Rattle.qrp_check.proofs.resolvent.is_reduced.Goals as goal
+
+pub returns-then-keeps_all-2 : goal.returns-then-keeps_all-2
+returns-then-keeps_all-2 g c = (
+  λ _. resolvent_kept g.S.Side.side c.args.prefix.now c.args.a.now c.args.b.now c.args.to.now c.args.pivot c.number.result c.number.ensures.value
+      (c.if-keeps_all.ensures.0 refl) (c.if-keeps_all-2.ensures.0 refl),
+  λ _. refl,
+)
 
 pub returns-then-leaves_reducible : goal.returns-then-leaves_reducible
 returns-then-leaves_reducible g c =

@@ -4,4 +4,4 @@ use Rattle.qrp_check.proofs.step.one_fault.Goals as goal
 pub returns-in-Some : goal.returns-in-Some
 returns-in-Some g c =
     one_follows g.S.Side.side c.args.formula.now.blocks _ c.args.number c.in-Some.from.now c.args.set.now c.reduct_of.result c.in-Some.ensures.some
-    (rw (c.prefix.ensures, c.as_slice.ensures.value) at c.reduct_of.ensures)
+    (rw c.prefix.ensures at c.reduct_of.ensures)

@@ -1,6 +1,7 @@
-use Rattle.std.proofs.Common.{ℕ, ◌<◌, slice_index}
+use Rattle.std.proofs.Common.{ℕ, ◌<◌, get_or}
 use Rattle.qrp_check.specs.Index.{HasReductAt}
+use Rattle.qrp_check.specs.declared.clause_index.Filed.{Filed}
 use Rattle.qrp_check.proofs.clause_index.ClauseIndex.find.Given as goal
 
-abbrev pub invariant-loop-place : goal.invariant-loop-place
-invariant-loop-place l = (k : ℕ) → k < l.place-index → HasReductAt l.formula l.set (slice_index l.places k) → ⊥
+abbrev pub invariant-loop-filed : goal.invariant-loop-filed
+invariant-loop-filed l = (k : ℕ) (d : Filed) → k < l.filed-index → HasReductAt l.formula l.set (get_or l.rest k d).place → ⊥
