@@ -30,6 +30,7 @@ abbrev pub listed : {Z : Type 0} → Option (Vec ℕ Z) → List ℕ
 listed None = []
 listed (Some places) = places.items
 
+-- the places that an index has under a number
 abbrev pub places_under : {Z S : Type 0} → IndexMap ℕ (Vec ℕ Z) S → ℕ → List ℕ
 places_under index number = listed (get nat_eq index number)
 
