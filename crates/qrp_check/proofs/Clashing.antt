@@ -49,6 +49,10 @@ pub clash_var : (a b : List Literal) (v : ℕ) → Clashes a b v → (l : Litera
 clash_var a b v (inl (p, q)) = (positive v, p, refl)
 clash_var a b v (inr (p, q)) = (negative v, p, refl)
 
+pub clash_var_right : (a b : List Literal) (v : ℕ) → Clashes a b v → (l : Literal) × (l ∈ b) × (l.var ≡ v)
+clash_var_right a b v (inl (p, q)) = (negative v, q, refl)
+clash_var_right a b v (inr (p, q)) = (positive v, q, refl)
+
 -- one more literal that does not clash
 pub clash_same : (a b : List Literal) (i : ℕ) (x : Literal) (found : Option ℕ) → i < length a → x ≡ get_or a i x → (negated x ∈ b → ⊥) → IsClashSoFar (take i a) b found → IsClashSoFar (take (i + 1) a) b found
 clash_same a b i x None less e out none = λ v h. elim (clash_cases a b i v x less e h) [ inl k ↦ none v k | inr k ↦ out k.1 ]

@@ -2,22 +2,23 @@
 use Rattle.std.proofs.Common.{◌≡◌, ℕ, List, ◌⊎◌, inl, inr, refl, sym, subst, ◌∙◌}
 use Rattle.qbf_core.specs.Literal.{Literal}
 use Rattle.qbf_core.specs.Lists.{◌∈◌, ◌⊆◌}
-use Rattle.qbf_core.specs.Blocks.{Block, Binds}
-use Rattle.qbf_core.specs.Rules.{Side, deciding_quantifier, Clashes, IsOnlyClash, IsReducible, resolvent}
+use Rattle.qbf_core.specs.Blocks.{Block}
+use Rattle.qbf_core.specs.Rules.{Side, Clashes, IsOnlyClash, IsReducible, resolvent}
+use Rattle.qrp_check.specs.declared.verdict.Rules.{Rules}
 use Rattle.qrp_check.specs.declared.fault.RuleFault.TheVariants.{S8, S9, S10, S11, S12}
-use Rattle.qrp_check.specs.Conditions.{AllHold, IsFirstFailure, resolvent_conditions}
+use Rattle.qrp_check.specs.Conditions.{AllHold, AllowsPivot, IsFirstFailure, IsReducibleInParents, resolvent_conditions}
 
-module _ (side : Side) (blocks : List Block) (a b to : List Literal) where
+module _ (rules : Rules) (side : Side) (blocks : List Block) (a b to : List Literal) where
   -- the pivot may be resolved on
   abbrev pub Decides : ℕ → Type 0
-  Decides x = Binds blocks (deciding_quantifier side) x
+  Decides x = AllowsPivot rules side blocks x
 
-  -- what is left out is reducible
+  -- what is left out is reducible in the resolvent or in the parents
   abbrev pub Accounts : ℕ → Type 0
-  Accounts x = (l : Literal) → l ∈ resolvent a b x → (l ∈ to) ⊎ IsReducible side blocks (resolvent a b x) l
+  Accounts x = (l : Literal) → l ∈ resolvent a b x → (l ∈ to) ⊎ (IsReducible side blocks (resolvent a b x) l ⊎ IsReducibleInParents side blocks a b l)
 
   abbrev pub Fails : Rattle.qrp_check.specs.declared.fault.RuleFault.RuleFault → Type 0
-  Fails fault = IsFirstFailure (resolvent_conditions side blocks a b to) fault
+  Fails fault = IsFirstFailure (resolvent_conditions rules side blocks a b to) fault
 
   one_at_most : (x : ℕ) → IsOnlyClash a b x → (u v : ℕ) → Clashes a b u → Clashes a b v → u ≡ v
   one_at_most x one u v p q = one.only u p ∙ sym (one.only v q)
@@ -54,6 +55,6 @@ module _ (side : Side) (blocks : List Block) (a b to : List Literal) where
         ),
       )
 
-  pub all_hold : (x : ℕ) → IsOnlyClash a b x → Decides x → to ⊆ resolvent a b x → Accounts x → AllHold (resolvent_conditions side blocks a b to)
+  pub all_hold : (x : ℕ) → IsOnlyClash a b x → Decides x → to ⊆ resolvent a b x → Accounts x → AllHold (resolvent_conditions rules side blocks a b to)
   all_hold x one d w acc =
       ((x, one.clashes), (one_at_most x one, (at_each x Decides one d, (at_each x (λ v. to ⊆ resolvent a b v) one w, (at_each x Accounts one acc, tt)))))

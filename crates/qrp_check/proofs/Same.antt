@@ -8,7 +8,8 @@ use Rattle.qbf_core.specs.Rules.{Side, Clauses, Cubes, IsReducible, IsReduct, Cl
 use Rattle.qbf_core.specs.Sets.{HasMembersOf}
 use Rattle.qbf_core.proofs.Inferences.{in_append, append_left, append_right, in_without, from_without}
 use Rattle.qrp_check.specs.declared.fault.RuleFault.{RuleFault}
-use Rattle.qrp_check.specs.Conditions.{Condition, AllHold, IsFirstFailure, IsAnswer, reduct_conditions, resolvent_conditions, initial_condition}
+use Rattle.qrp_check.specs.declared.verdict.Rules.{Rules}
+use Rattle.qrp_check.specs.Conditions.{Condition, AllHold, IsFirstFailure, IsAnswer, IsReducibleInParents, reduct_conditions, resolvent_conditions, initial_condition}
 
 -- the same names, and conditions that hold together
 abbrev pub SameConditions : List (Condition RuleFault) → List (Condition RuleFault) → Type 0
@@ -77,19 +78,20 @@ within_same a a' b b' to to' s t u w x c l h =
     resolvent_to a a' b b' x s t l (w x (same_clashes a' a b' b x (same_back a a' s) (same_back b b' t) c) l (u.1 l h))
 
 accounts_same : (side : Side) (blocks : List Block) (a a' b b' to to' : List Literal) → HasMembersOf a a' → HasMembersOf b b' → HasMembersOf to to'
-    → ((x : ℕ) → Clashes a b x → (l : Literal) → l ∈ resolvent a b x → (l ∈ to) ⊎ IsReducible side blocks (resolvent a b x) l)
-    → (x : ℕ) → Clashes a' b' x → (l : Literal) → l ∈ resolvent a' b' x → (l ∈ to') ⊎ IsReducible side blocks (resolvent a' b' x) l
+    → ((x : ℕ) → Clashes a b x → (l : Literal) → l ∈ resolvent a b x → (l ∈ to) ⊎ (IsReducible side blocks (resolvent a b x) l ⊎ IsReducibleInParents side blocks a b l))
+    → (x : ℕ) → Clashes a' b' x → (l : Literal) → l ∈ resolvent a' b' x → (l ∈ to') ⊎ (IsReducible side blocks (resolvent a' b' x) l ⊎ IsReducibleInParents side blocks a' b' l)
 accounts_same side blocks a a' b b' to to' s t u w x c l h =
     let s' = same_back a a' s in
     let t' = same_back b b' t in
     elim (w x (same_clashes a' a b' b x s' t' c) l (resolvent_to a' a b' b x s' t' l h)) [
       | inl k ↦ inl (u.0 l k)
-      | inr red ↦ inr (same_reducible side blocks (resolvent a b x) (resolvent a' b' x) l (same_resolvent a a' b b' x s t) red)
+      | inr (inl red) ↦ inr (inl (same_reducible side blocks (resolvent a b x) (resolvent a' b' x) l (same_resolvent a a' b b' x s t) red))
+      | inr (inr both) ↦ inr (inr ((λ i. same_reducible side blocks a a' l s (both.0 (s.1 l i))), (λ i. same_reducible side blocks b b' l t (both.1 (t.1 l i)))))
     ]
 
-pub resolvent_same : (side : Side) (blocks : List Block) (a a' b b' to to' : List Literal) → HasMembersOf a a' → HasMembersOf b b' → HasMembersOf to to'
-    → SameConditions (resolvent_conditions side blocks a b to) (resolvent_conditions side blocks a' b' to')
-resolvent_same side blocks a a' b b' to to' s t u =
+pub resolvent_same : (rules : Rules) (side : Side) (blocks : List Block) (a a' b b' to to' : List Literal) → HasMembersOf a a' → HasMembersOf b b' → HasMembersOf to to'
+    → SameConditions (resolvent_conditions rules side blocks a b to) (resolvent_conditions rules side blocks a' b' to')
+resolvent_same rules side blocks a a' b b' to to' s t u =
     let s' = same_back a a' s in
     let t' = same_back b b' t in
     let u' = same_back to to' u in (
@@ -136,11 +138,11 @@ pub reduct_answer : (side : Side) (blocks : List Block) (a a' to to' : List Lite
 reduct_answer side blocks a a' to to' answer s t =
     same_answer (reduct_conditions side blocks a to) (reduct_conditions side blocks a' to') answer (reduct_same side blocks a a' to to' s t)
 
-pub resolvent_answer : (side : Side) (blocks : List Block) (a a' b b' to to' : List Literal) (answer : Option RuleFault)
+pub resolvent_answer : (rules : Rules) (side : Side) (blocks : List Block) (a a' b b' to to' : List Literal) (answer : Option RuleFault)
     → HasMembersOf a a' → HasMembersOf b b' → HasMembersOf to to'
-    → IsAnswer (resolvent_conditions side blocks a b to) answer → IsAnswer (resolvent_conditions side blocks a' b' to') answer
-resolvent_answer side blocks a a' b b' to to' answer s t u =
-    same_answer (resolvent_conditions side blocks a b to) (resolvent_conditions side blocks a' b' to') answer (resolvent_same side blocks a a' b b' to to' s t u)
+    → IsAnswer (resolvent_conditions rules side blocks a b to) answer → IsAnswer (resolvent_conditions rules side blocks a' b' to') answer
+resolvent_answer rules side blocks a a' b b' to to' answer s t u =
+    same_answer (resolvent_conditions rules side blocks a b to) (resolvent_conditions rules side blocks a' b' to') answer (resolvent_same rules side blocks a a' b b' to to' s t u)
 
 pub initial_answer : (side : Side) (f : Qbf) (to to' : List Literal) (answer : Option RuleFault) → HasMembersOf to to'
     → IsAnswer (initial_condition side f to ∷ []) answer → IsAnswer (initial_condition side f to' ∷ []) answer

@@ -13,6 +13,7 @@ use Rattle.qrp.specs.Inferences.{Inference, IsAt, HasFewAntecedents}
 use Rattle.qrp_check.specs.declared.fault.RuleFault.{RuleFault}
 use Rattle.qrp_check.specs.declared.fault.RuleFault.TheVariants.{S1, S2, S3}
 use Rattle.qrp_check.specs.Conditions.{Condition, AllHold, IsFirstFailure, IsAnswer, IsNumberOf, lits_of, reduct_conditions, resolvent_conditions, initial_condition, StepFollows, IsStepFault}
+use Rattle.qrp_check.specs.declared.verdict.Rules.{Rules}
 use Rattle.qrp_check.specs.Core.{IsInCore, next}
 use Rattle.qrp_check.specs.Kept.{IsSetOf, AreKept, later_conditions}
 use Rattle.qrp_check.proofs.Marking.{core_within}
@@ -96,29 +97,29 @@ one_follows side blocks before number from set answer (is, s) a =
     answer_after S3 (IsNumberOf before number) (reduct_conditions side blocks (lits_of before number) set) answer is
     (same_answer (reduct_conditions side blocks from set) (reduct_conditions side blocks (lits_of before number) set) answer (reduct_same side blocks from (lits_of before number) set set s.members (same_self set)) a)
 
-pub two_follow : (side : Side) (blocks : List Block) (before : List Inference) (m n : ℕ) (a b set : List Literal) (answer : Option RuleFault)
+pub two_follow : (rules : Rules) (side : Side) (blocks : List Block) (before : List Inference) (m n : ℕ) (a b set : List Literal) (answer : Option RuleFault)
     → IsNumberOf before m × IsSetOf blocks a (lits_of before m) → IsNumberOf before n × IsSetOf blocks b (lits_of before n)
-    → IsAnswer (resolvent_conditions side blocks a b set) answer
-    → IsAnswer ((S3, IsNumberOf before m × IsNumberOf before n) ∷ resolvent_conditions side blocks (lits_of before m) (lits_of before n) set) answer
-two_follow side blocks before m n a b set answer (is_m, s) (is_n, t) w =
-    answer_after S3 (IsNumberOf before m × IsNumberOf before n) (resolvent_conditions side blocks (lits_of before m) (lits_of before n) set) answer (is_m, is_n)
-    (same_answer (resolvent_conditions side blocks a b set) (resolvent_conditions side blocks (lits_of before m) (lits_of before n) set) answer (resolvent_same side blocks a (lits_of before m) b (lits_of before n) set set s.members t.members (same_self set)) w)
+    → IsAnswer (resolvent_conditions rules side blocks a b set) answer
+    → IsAnswer ((S3, IsNumberOf before m × IsNumberOf before n) ∷ resolvent_conditions rules side blocks (lits_of before m) (lits_of before n) set) answer
+two_follow rules side blocks before m n a b set answer (is_m, s) (is_n, t) w =
+    answer_after S3 (IsNumberOf before m × IsNumberOf before n) (resolvent_conditions rules side blocks (lits_of before m) (lits_of before n) set) answer (is_m, is_n)
+    (same_answer (resolvent_conditions rules side blocks a b set) (resolvent_conditions rules side blocks (lits_of before m) (lits_of before n) set) answer (resolvent_same rules side blocks a (lits_of before m) b (lits_of before n) set set s.members t.members (same_self set)) w)
 
 -- from a set to the literals of the step
 abbrev named_all : List Inference → List ℕ → Type 0
 named_all before ants = (n : ℕ) → n ∈ ants → IsNumberOf before n
 
-pub no_antecedent : (side : Side) (f : Qbf) (before : List Inference) (step : Inference) (set : List Literal) (answer : Option RuleFault)
-    → step.ants ≡ [] → IsSetOf f.blocks set step.lits → IsAnswer (initial_condition side f set ∷ []) answer → IsAnswer (later_conditions side f before step) answer
-no_antecedent side f before step set answer none s a =
+pub no_antecedent : (rules : Rules) (side : Side) (f : Qbf) (before : List Inference) (step : Inference) (set : List Literal) (answer : Option RuleFault)
+    → step.ants ≡ [] → IsSetOf f.blocks set step.lits → IsAnswer (initial_condition side f set ∷ []) answer → IsAnswer (later_conditions rules side f before step) answer
+no_antecedent rules side f before step set answer none s a =
     rw none (answer_after S3 (named_all before []) (initial_condition side f step.lits ∷ []) answer (λ n h. absurd h)
     (same_answer (initial_condition side f set ∷ []) (initial_condition side f step.lits ∷ []) answer (initial_same side f set step.lits s.members) a))
 
-pub one_antecedent : (side : Side) (f : Qbf) (before : List Inference) (step : Inference) (set : List Literal) (number : ℕ) (answer : Option RuleFault)
+pub one_antecedent : (rules : Rules) (side : Side) (f : Qbf) (before : List Inference) (step : Inference) (set : List Literal) (number : ℕ) (answer : Option RuleFault)
     → step.ants ≡ number ∷ [] → IsSetOf f.blocks set step.lits
     → IsAnswer ((S3, IsNumberOf before number) ∷ reduct_conditions side f.blocks (lits_of before number) set) answer
-    → IsAnswer (later_conditions side f before step) answer
-one_antecedent side f before step set number answer one s a =
+    → IsAnswer (later_conditions rules side f before step) answer
+one_antecedent rules side f before step set number answer one s a =
     rw one (same_answer ((S3, IsNumberOf before number) ∷ reduct_conditions side f.blocks (lits_of before number) set)
     ((S3, named_all before (number ∷ [])) ∷ reduct_conditions side f.blocks (lits_of before number) step.lits) answer (
       refl,
@@ -128,20 +129,20 @@ one_antecedent side f before step set number answer one s a =
     )
     a)
 
-pub two_antecedents : (side : Side) (f : Qbf) (before : List Inference) (step : Inference) (set : List Literal) (m n : ℕ) (answer : Option RuleFault)
+pub two_antecedents : (rules : Rules) (side : Side) (f : Qbf) (before : List Inference) (step : Inference) (set : List Literal) (m n : ℕ) (answer : Option RuleFault)
     → step.ants ≡ m ∷ n ∷ [] → IsSetOf f.blocks set step.lits
-    → IsAnswer ((S3, IsNumberOf before m × IsNumberOf before n) ∷ resolvent_conditions side f.blocks (lits_of before m) (lits_of before n) set) answer
-    → IsAnswer (later_conditions side f before step) answer
-two_antecedents side f before step set m n answer two s a =
-    rw two (same_answer ((S3, IsNumberOf before m × IsNumberOf before n) ∷ resolvent_conditions side f.blocks (lits_of before m) (lits_of before n) set)
-    ((S3, named_all before (m ∷ n ∷ [])) ∷ resolvent_conditions side f.blocks (lits_of before m) (lits_of before n) step.lits) answer (
+    → IsAnswer ((S3, IsNumberOf before m × IsNumberOf before n) ∷ resolvent_conditions rules side f.blocks (lits_of before m) (lits_of before n) set) answer
+    → IsAnswer (later_conditions rules side f before step) answer
+two_antecedents rules side f before step set m n answer two s a =
+    rw two (same_answer ((S3, IsNumberOf before m × IsNumberOf before n) ∷ resolvent_conditions rules side f.blocks (lits_of before m) (lits_of before n) set)
+    ((S3, named_all before (m ∷ n ∷ [])) ∷ resolvent_conditions rules side f.blocks (lits_of before m) (lits_of before n) step.lits) answer (
       refl,
       (λ is x h. elim h [
         | inl e ↦ subst (IsNumberOf before) (sym e) is.0
         | inr k ↦ elim k [ inl e ↦ subst (IsNumberOf before) (sym e) is.1 | inr g ↦ absurd g ]
       ]),
       (λ all. (all m (inl refl), all n (inr (inl refl)))),
-      resolvent_same side f.blocks (lits_of before m) (lits_of before m) (lits_of before n) (lits_of before n) set step.lits
+      resolvent_same rules side f.blocks (lits_of before m) (lits_of before m) (lits_of before n) (lits_of before n) set step.lits
           (same_self (lits_of before m)) (same_self (lits_of before n)) s.members,
     )
     a)
@@ -174,9 +175,9 @@ pub set_bound : (blocks : List Block) (set lits : List Literal) → HasMembersOf
 set_bound blocks set lits same bound =
     in_all (λ (l : Literal). IsBound blocks l.var) set (λ l h. bound_each blocks lits bound l (same.0 l h))
 
-pub not_clean : (side : Side) (f : Qbf) (steps : List Inference) (place : ℕ) (lits : List Literal) → IsInCore steps place
-    → ((step : Inference) → IsAt steps place step → lits ≡ step.lits) → IsTautology lits → IsStepFault side f steps place S1
-not_clean side f steps place lits core same (v, p, n) =
+pub not_clean : (rules : Rules) (side : Side) (f : Qbf) (steps : List Inference) (place : ℕ) (lits : List Literal) → IsInCore steps place
+    → ((step : Inference) → IsAt steps place step → lits ≡ step.lits) → IsTautology lits → IsStepFault rules side f steps place S1
+not_clean rules side f steps place lits core same (v, p, n) =
     let s = at_place steps place (core_within steps place core) in
     let e : lits ≡ s.0.lits = same s.0 s.1 in
     record {
@@ -185,10 +186,10 @@ not_clean side f steps place lits core same (v, p, n) =
       first = inl ((λ clean. clean (positive v) (subst (λ (ls : List Literal). positive v ∈ ls) e p) (subst (λ (ls : List Literal). negative v ∈ ls) e n)), refl);
     }
 
-pub not_all_bound : (side : Side) (f : Qbf) (steps : List Inference) (place : ℕ) (lits : List Literal) → IsInCore steps place
+pub not_all_bound : (rules : Rules) (side : Side) (f : Qbf) (steps : List Inference) (place : ℕ) (lits : List Literal) → IsInCore steps place
     → ((step : Inference) → IsAt steps place step → lits ≡ step.lits) → IsClean lits
-    → (l : Literal) × (l ∈ lits) × (IsBound f.blocks l.var → ⊥) → IsStepFault side f steps place S2
-not_all_bound side f steps place lits core same clean (l, h, free) =
+    → (l : Literal) × (l ∈ lits) × (IsBound f.blocks l.var → ⊥) → IsStepFault rules side f steps place S2
+not_all_bound rules side f steps place lits core same clean (l, h, free) =
     let s = at_place steps place (core_within steps place core) in
     let e : lits ≡ s.0.lits = same s.0 s.1 in
     record {
@@ -197,20 +198,20 @@ not_all_bound side f steps place lits core same clean (l, h, free) =
       first = inr (subst IsClean e clean, inl ((λ bound. free (bound_each f.blocks s.0.lits bound l (subst (λ (ls : List Literal). l ∈ ls) e h))), refl));
     }
 
-pub follows : (side : Side) (f : Qbf) (steps : List Inference) (place : ℕ) (lits : List Literal) → IsInCore steps place
+pub follows : (rules : Rules) (side : Side) (f : Qbf) (steps : List Inference) (place : ℕ) (lits : List Literal) → IsInCore steps place
     → ((step : Inference) → IsAt steps place step → lits ≡ step.lits) → IsClean lits → AreBound f.blocks lits
-    → ((step : Inference) → IsAt steps place step → AllHold (later_conditions side f (take place steps) step))
-    → StepFollows side f steps place
-follows side f steps place lits core same clean bound later =
+    → ((step : Inference) → IsAt steps place step → AllHold (later_conditions rules side f (take place steps) step))
+    → StepFollows rules side f steps place
+follows rules side f steps place lits core same clean bound later =
     let s = at_place steps place (core_within steps place core) in
     let e : lits ≡ s.0.lits = same s.0 s.1 in
     record { step = s.0; here = s.1; all = (subst IsClean e clean, (subst (AreBound f.blocks) e bound, later s.0 s.1)) }
 
-pub follows_not : (side : Side) (f : Qbf) (steps : List Inference) (place : ℕ) (lits : List Literal) (fault : RuleFault) → IsInCore steps place
+pub follows_not : (rules : Rules) (side : Side) (f : Qbf) (steps : List Inference) (place : ℕ) (lits : List Literal) (fault : RuleFault) → IsInCore steps place
     → ((step : Inference) → IsAt steps place step → lits ≡ step.lits) → IsClean lits → AreBound f.blocks lits
-    → ((step : Inference) → IsAt steps place step → IsFirstFailure (later_conditions side f (take place steps) step) fault)
-    → IsStepFault side f steps place fault
-follows_not side f steps place lits fault core same clean bound later =
+    → ((step : Inference) → IsAt steps place step → IsFirstFailure (later_conditions rules side f (take place steps) step) fault)
+    → IsStepFault rules side f steps place fault
+follows_not rules side f steps place lits fault core same clean bound later =
     let s = at_place steps place (core_within steps place core) in
     let e : lits ≡ s.0.lits = same s.0 s.1 in
     record { step = s.0; here = s.1; first = inr (subst IsClean e clean, inr (subst (AreBound f.blocks) e bound, later s.0 s.1)) }

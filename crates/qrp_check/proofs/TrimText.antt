@@ -89,13 +89,13 @@ well_formed d core formed lists =
     }
 
 pub trimmed_text_proves : TrimmedTextProves
-trimmed_text_proves f d core formed lists proof =
-    let kept = trimming_keeps f d core formed.grammatical.distinct lists proof in
+trimmed_text_proves rules f d core formed lists proof =
+    let kept = trimming_keeps rules f d core formed.grammatical.distinct lists proof in
     let again = well_formed d core formed lists in
     record {
       proves = kept.0;
       all = kept.1;
-      fixed = λ other other_lists. trimmed_is_fixed f d core other formed.grammatical.distinct lists proof other_lists;
+      fixed = λ other other_lists. trimmed_is_fixed rules f d core other formed.grammatical.distinct lists proof other_lists;
       formed = again;
       read = text_is_read (trimmed d core) again;
     }

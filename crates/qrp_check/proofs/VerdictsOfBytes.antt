@@ -6,26 +6,27 @@ use Rattle.qdimacs.specs.Reading.{read_formula}
 use Rattle.qdimacs.specs.Reading as formulas
 use Rattle.qrp.specs.Answers as traces
 use Rattle.qrp.specs.Derivations.{Derivation}
+use Rattle.qrp_check.specs.declared.verdict.Rules.{Rules}
 use Rattle.qrp_check.specs.declared.verdict.Fault.TheVariants as fault
 use Rattle.qrp_check.specs.declared.fault.CheckFault.{CheckFault}
 use Rattle.qrp_check.specs.declared.fault.CheckFault.TheVariants.{C1, C2, C3, C4, C5, C6}
 use Rattle.qrp_check.specs.Proof.{IsFirstFault}
 use Rattle.qrp_check.specs.Verdict.{IsVerdict, IsVerdictUnless}
 
-first_fault_is : (formula trace : Option (List ℕ)) (f : Qbf) (d : Derivation) (e : CheckFault)
+first_fault_is : (rules : Rules) (formula trace : Option (List ℕ)) (f : Qbf) (d : Derivation) (e : CheckFault)
     → IfSome (formulas.reads_bytes formula) (λ r. r ≡ Ok f) → IfSome (traces.reads_bytes trace) (λ r. r ≡ Ok d)
-    → IsFirstFault f d.sets d.steps d.result e
-    → IfSome formula (λ bytes. IsVerdict (read_formula bytes) (traces.reads_bytes trace) (Err (fault.Check e)))
-first_fault_is None trace f d e reads_f reads_d first = tt
-first_fault_is (Some a) None f d e reads_f reads_d first = rw reads_f tt
-first_fault_is (Some a) (Some b) f d e reads_f reads_d first = rw (reads_f, reads_d) first
+    → IsFirstFault rules f d.sets d.steps d.result e
+    → IfSome formula (λ bytes. IsVerdict rules (read_formula bytes) (traces.reads_bytes trace) (Err (fault.Check e)))
+first_fault_is rules None trace f d e reads_f reads_d first = tt
+first_fault_is rules (Some a) None f d e reads_f reads_d first = rw reads_f tt
+first_fault_is rules (Some a) (Some b) f d e reads_f reads_d first = rw (reads_f, reads_d) first
 
-pub check_refused : (formula trace : Option (List ℕ)) (f : Qbf) (d : Derivation) (e : CheckFault)
+pub check_refused : (rules : Rules) (formula trace : Option (List ℕ)) (f : Qbf) (d : Derivation) (e : CheckFault)
     → IfSome (formulas.reads_bytes formula) (λ r. r ≡ Ok f) → IfSome (traces.reads_bytes trace) (λ r. r ≡ Ok d)
-    → (e ≢ C5 → IsFirstFault f d.sets d.steps d.result e) → IsVerdictUnless formula trace (Err (fault.Check e))
-check_refused formula trace f d C5 reads_f reads_d first = inr (inl refl)
-check_refused formula trace f d (C1 v) reads_f reads_d first = inl (first_fault_is formula trace f d (C1 v) reads_f reads_d (first (λ e. cc e)))
-check_refused formula trace f d (C2 v) reads_f reads_d first = inl (first_fault_is formula trace f d (C2 v) reads_f reads_d (first (λ e. cc e)))
-check_refused formula trace f d (C3 v) reads_f reads_d first = inl (first_fault_is formula trace f d (C3 v) reads_f reads_d (first (λ e. cc e)))
-check_refused formula trace f d C4 reads_f reads_d first = inl (first_fault_is formula trace f d C4 reads_f reads_d (first (λ e. cc e)))
-check_refused formula trace f d (C6 n s) reads_f reads_d first = inl (first_fault_is formula trace f d (C6 n s) reads_f reads_d (first (λ e. cc e)))
+    → (e ≢ C5 → IsFirstFault rules f d.sets d.steps d.result e) → IsVerdictUnless rules formula trace (Err (fault.Check e))
+check_refused rules formula trace f d C5 reads_f reads_d first = inr (inl refl)
+check_refused rules formula trace f d (C1 v) reads_f reads_d first = inl (first_fault_is rules formula trace f d (C1 v) reads_f reads_d (first (λ e. cc e)))
+check_refused rules formula trace f d (C2 v) reads_f reads_d first = inl (first_fault_is rules formula trace f d (C2 v) reads_f reads_d (first (λ e. cc e)))
+check_refused rules formula trace f d (C3 v) reads_f reads_d first = inl (first_fault_is rules formula trace f d (C3 v) reads_f reads_d (first (λ e. cc e)))
+check_refused rules formula trace f d C4 reads_f reads_d first = inl (first_fault_is rules formula trace f d C4 reads_f reads_d (first (λ e. cc e)))
+check_refused rules formula trace f d (C6 n s) reads_f reads_d first = inl (first_fault_is rules formula trace f d (C6 n s) reads_f reads_d (first (λ e. cc e)))

@@ -10,6 +10,7 @@ use Rattle.qrp.specs.Inferences.{Inference, IsAt}
 use Rattle.qrp_check.specs.Conditions.{Condition, IsNumberOf, antecedent_conditions}
 use Rattle.qrp_check.specs.Core.{IsInCore}
 use Rattle.qrp_check.specs.Proof.{IsFirstFaultyStep}
+use Rattle.qrp_check.specs.declared.verdict.Rules.{Rules}
 use Rattle.qrp_check.specs.declared.fault.RuleFault.{RuleFault}
 use Rattle.qrp_check.specs.declared.fault.RuleFault.TheVariants.{S3}
 use Rattle.qrp_check.specs.declared.fault.CheckFault.{CheckFault}
@@ -34,15 +35,15 @@ IfRule (Rule fault) holds = holds fault
 IfRule Memory holds = Unit {0}
 
 -- the conditions of a step whose literals are a set over the prefix
-abbrev pub later_conditions : Side → Qbf → List Inference → Inference → List (Condition RuleFault)
-later_conditions side f before step =
-    (S3, ((n : ℕ) → n ∈ step.ants → IsNumberOf before n)) ∷ antecedent_conditions side f before step.ants step.lits
+abbrev pub later_conditions : Rules → Side → Qbf → List Inference → Inference → List (Condition RuleFault)
+later_conditions rules side f before step =
+    (S3, ((n : ℕ) → n ∈ step.ants → IsNumberOf before n)) ∷ antecedent_conditions rules side f before step.ants step.lits
 
 -- what is refused of a core: its first step that does not follow, or nothing for want of memory
-abbrev pub IsCoreFault : Side → Qbf → List Inference → CheckFault → Type 0
-IsCoreFault side f steps (C1 v) = ⊥
-IsCoreFault side f steps (C2 v) = ⊥
-IsCoreFault side f steps (C3 v) = ⊥
-IsCoreFault side f steps C4 = ⊥
-IsCoreFault side f steps C5 = Unit {0}
-IsCoreFault side f steps (C6 number fault) = IsFirstFaultyStep side f steps number fault
+abbrev pub IsCoreFault : Rules → Side → Qbf → List Inference → CheckFault → Type 0
+IsCoreFault rules side f steps (C1 v) = ⊥
+IsCoreFault rules side f steps (C2 v) = ⊥
+IsCoreFault rules side f steps (C3 v) = ⊥
+IsCoreFault rules side f steps C4 = ⊥
+IsCoreFault rules side f steps C5 = Unit {0}
+IsCoreFault rules side f steps (C6 number fault) = IsFirstFaultyStep rules side f steps number fault

@@ -70,10 +70,10 @@ fn check_core<S: Side, T: Steps>(
     rules: Rules,
 ) -> Result<Verified, CheckFault>
     requires { IsGoal (T.steps trace.now) goal }
-    ensures derives { OnOk result (Derives S.side formula.now (T.steps trace.now)) }
+    ensures derives { OnOk result (Derives rules S.side formula.now (T.steps trace.now)) }
     ensures core { IfOk result (λ v. ListsCore (T.steps trace.now) v.core.items) }
     ensures claim { IfOk result (λ v. v.truth ≡ truth) }
-    ensures refused { IfErr result (IsCoreFault S.side formula.now (T.steps trace.now)) }
+    ensures refused { IfErr result (IsCoreFault rules S.side formula.now (T.steps trace.now)) }
 {
     let Ok(marks) = mark_core(alloc, trace, goal) else {
         return Err(CheckFault::C5);
@@ -111,8 +111,9 @@ fn check_core<S: Side, T: Steps>(
 /// Whether sets, steps and outcome of a trace prove the outcome of the formula.
 ///
 /// They do if the sets agree with the prefix, there is a step without literals, and each step that the last such step
-/// needs follows from those before it: by Q-resolution for `Unsat` (Kleine Büning, Karpinski, Flögel 1995), by term
-/// resolution for `Sat` (Giunchiglia, Narizzano, Tacchella 2006). Then the formula has that truth.
+/// needs follows from those before it by the rules: by Q-resolution for `Unsat` (Kleine Büning, Karpinski, Flögel 1995),
+/// by term resolution for `Sat` (Giunchiglia, Narizzano, Tacchella 2006), or with pivots of either quantifier (Van
+/// Gelder 2012). Then the formula has that truth.
 ///
 /// # Errors
 /// The first of these, where the later ones are looked at only if the earlier ones do not hold: `C1`, `C2` or `C3` of
@@ -127,13 +128,13 @@ pub fn check<T: Steps>(
     outcome: Outcome,
     rules: Rules,
 ) -> Result<Verified, CheckFault>
-    ensures proves { OnOk result (Proves formula.now sets.now (T.steps trace.now) outcome) }
+    ensures proves { OnOk result (Proves rules formula.now sets.now (T.steps trace.now) outcome) }
     ensures core { IfOk result (λ v. ListsCore (T.steps trace.now) v.core.items) }
     ensures rises { IfOk result (λ v. IsStrictlyIncreasing v.core.items) }
     ensures within { IfOk result (λ v. AllByRecursion (λ i. i < length (T.steps trace.now)) v.core.items) }
     ensures claim { IfOk result (λ v. v.truth ≡ is_sat outcome) }
     ensures truth { IfOk result (λ v. IsTrue v.truth ↔ IsTrueFormula formula.now) }
-    ensures refused { IfErr result (λ e. e ≢ C5 → IsFirstFault formula.now sets.now (T.steps trace.now) outcome e) }
+    ensures refused { IfErr result (λ e. e ≢ C5 → IsFirstFault rules formula.now sets.now (T.steps trace.now) outcome e) }
 {
     // The bound comes with the fact that the formula is closed.
     let _bound = formula.max_var();

@@ -32,7 +32,12 @@ pub(crate) fn is_bound_by(prefix: &Prefix, quantifier: Quantifier, var: Var) -> 
 }
 
 /// The block of a variable that has the quantifier and is not left aside.
-fn block_if(prefix: &Prefix, quantifier: Quantifier, spared: Option<u32>, var: Var) -> Option<usize>
+pub(crate) fn block_if(
+    prefix: &Prefix,
+    quantifier: Quantifier,
+    spared: Option<u32>,
+    var: Var,
+) -> Option<usize>
     ensures { (k : ℕ) → IsAfter result k ↔ IsHeldBefore prefix.now quantifier spared var k }
 {
     if is_spared(spared, var) || !is_bound_by(prefix, quantifier, var) {
@@ -46,6 +51,13 @@ pub(crate) fn inner(a: Option<usize>, b: Option<usize>) -> Option<usize>
     ensures { (k : ℕ) → IsAfter result k ↔ (IsAfter a k × IsAfter b k) }
 {
     a.max(b)
+}
+
+/// The outer one of two blocks.
+pub(crate) fn outer(a: Option<usize>, b: Option<usize>) -> Option<usize>
+    ensures { (k : ℕ) → IsAfter result k ↔ (IsAfter a k ⊎ IsAfter b k) }
+{
+    a.min(b)
 }
 
 /// The innermost block of the literals that have the quantifier, where one variable may be left aside.

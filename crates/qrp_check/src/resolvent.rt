@@ -1,16 +1,17 @@
 //! Whether a set is a reduct of the resolvent of two others.
 
-ghost use Rattle.std.specs.Prelude.{◌≡◌, ◌↔◌, ◌⊎◌, IsTrue};
+ghost use Rattle.std.specs.Prelude.{◌≡◌, ◌↔◌, ◌⊎◌, IsTrue, None};
 ghost use Rattle.qbf_core.specs.Literal.{Literal};
 ghost use Rattle.qbf_core.specs.Lists.{◌∈◌, ◌⊆◌};
-ghost use Rattle.qbf_core.specs.Blocks.{AreBound, Binds};
-ghost use Rattle.qbf_core.specs.Rules.{deciding_quantifier, IsReducible, resolvent};
+ghost use Rattle.qbf_core.specs.Blocks.{AreBound};
+ghost use Rattle.qbf_core.specs.Rules.{Clashes, IsReducible, resolvent};
 ghost use Rattle.qbf_core.specs.Sets.{IsOrdered};
-ghost use Rattle.qrp_check.specs.Conditions.{IsAnswer, resolvent_conditions};
+ghost use Rattle.qrp_check.specs.Conditions.{AllHold, AllowsPivot, IsAnswer, IsReducibleInParents, resolvent_conditions};
+ghost use Rattle.qrp_check.specs.Unreduced.{unreduced_conditions};
 ghost use Rattle.qrp_check.specs.Walks.{IsClashOf};
 
 use crate::fault::RuleFault;
-use crate::reduct::{inner, innermost, is_bound_by, leaves_reducible};
+use crate::reduct::{block_if, inner, innermost, is_bound_by, leaves_reducible, outer};
 use crate::side::Side;
 use crate::verdict::Rules;
 use crate::walks::seek;
@@ -75,30 +76,38 @@ fn is_within(to: &[Lit], a: &[Lit], b: &[Lit], pivot: Var) -> bool
     true
 }
 
-/// Whether each literal of the resolvent is in the step, or reducible in the resolvent.
+/// Whether each literal of the resolvent is in the step, or reducible in the resolvent or in each antecedent with it.
+///
+/// A literal is reducible in the resolvent or in an antecedent if it stands after the outer one of the innermost blocks
+/// of the two. So each antecedent is walked over once, with an outer block of its own, and a literal that both hold is
+/// looked at in both walks.
 fn is_reduced<S: Side>(prefix: &Prefix, a: &[Lit], b: &[Lit], to: &[Lit], pivot: Var) -> bool
     requires a { IsOrdered a.now }
     requires b { IsOrdered b.now }
     requires to { IsOrdered to.now }
+    requires clash { Clashes a.now b.now pivot }
     ensures { IsTrue result ↔ ((l : Literal) → l ∈ resolvent a.now b.now pivot
-        → (l ∈ to.now) ⊎ IsReducible S.side prefix.now (resolvent a.now b.now pivot) l) }
+        → (l ∈ to.now) ⊎ (IsReducible S.side prefix.now (resolvent a.now b.now pivot) l
+        ⊎ IsReducibleInParents S.side prefix.now a.now b.now l)) }
 {
     let reduced = S::REDUCED;
     let deciding = S::DECIDING;
     let spared = Some(pivot.number());
-    let block = inner(
-        innermost(prefix, deciding, spared, a),
-        innermost(prefix, deciding, spared, b),
-    );
-    leaves_reducible(prefix, reduced, block, spared, a, to)
-        && leaves_reducible(prefix, reduced, block, spared, b, to)
+    let beside_a = innermost(prefix, deciding, spared, a);
+    let beside_b = innermost(prefix, deciding, spared, b);
+    let of_pivot = block_if(prefix, deciding, None, pivot);
+    let whole = inner(beside_a, beside_b);
+    let in_a = outer(whole, inner(beside_a, of_pivot));
+    let in_b = outer(whole, inner(beside_b, of_pivot));
+    leaves_reducible(prefix, reduced, in_a, spared, a, to)
+        && leaves_reducible(prefix, reduced, in_b, spared, b, to)
 }
 
 /// Whether a step may resolve on the variable.
-fn is_pivot<S: Side>(prefix: &Prefix, pivot: Var) -> bool
-    ensures { IsTrue result ↔ Binds prefix.now (deciding_quantifier S.side) pivot }
+fn is_pivot<S: Side>(prefix: &Prefix, pivot: Var, rules: Rules) -> bool
+    ensures { IsTrue result ↔ AllowsPivot rules S.side prefix.now pivot }
 {
-    is_bound_by(prefix, S::DECIDING, pivot)
+    rules.any_pivot || is_bound_by(prefix, S::DECIDING, pivot)
 }
 
 /// Why an ordered list does not follow from two others by resolution.
@@ -107,18 +116,18 @@ pub(crate) fn resolvent_of<S: Side>(
     a: &[Lit],
     b: &[Lit],
     to: &[Lit],
-    _rules: Rules,
+    rules: Rules,
 ) -> Option<RuleFault>
     requires a { IsOrdered a.now }
     requires b { IsOrdered b.now }
     requires to { IsOrdered to.now }
-    ensures { IsAnswer (resolvent_conditions S.side prefix.now a.now b.now to.now) result }
+    ensures { IsAnswer (resolvent_conditions rules S.side prefix.now a.now b.now to.now) result }
 {
     match find_clash(a, b) {
         Clash::Nothing => Some(RuleFault::S8),
         Clash::More => Some(RuleFault::S9),
         Clash::One(pivot) => {
-            if !is_pivot::<S>(prefix, pivot) {
+            if !is_pivot::<S>(prefix, pivot, rules) {
                 return Some(RuleFault::S10);
             }
             if !is_within(to, a, b, pivot) {
@@ -134,11 +143,14 @@ pub(crate) fn resolvent_of<S: Side>(
 
 /// Why a set does not follow from two others by resolution, or `None` where it does. The sets are over this prefix.
 ///
-/// It follows if the two clash in exactly one variable, that variable has the deciding quantifier, and the set is a
-/// reduct of their resolvent: Q-resolution on clauses, and term resolution on cubes. The answers, of which the first
+/// It follows if the two clash in exactly one variable, that variable has the deciding quantifier, and the set is their
+/// resolvent without literals that are reducible in it, or in each of the two that holds them: Q-resolution on clauses,
+/// and term resolution on cubes, where the two may be reduced before they are resolved. By `Rules::any_pivot` the
+/// variable may have either quantifier: QU-resolution (Van Gelder 2012), and its dual. The answers, of which the first
 /// that fits is given, are `S8`, no variable clashes; `S9`, more than one does; `S10`, the pivot has the other
-/// quantifier; `S11`, a literal of the set is not in the resolvent; `S12`, a literal of the resolvent is missing and
-/// not reducible in it. It takes no memory.
+/// quantifier, which is never answered where the rules allow any; `S11`, a literal of the set is not in the resolvent;
+/// `S12`, a literal of the resolvent is missing, and reducible neither in it nor in each of the two that holds it. It
+/// takes no memory.
 pub fn resolvent_fault<S: Side>(
     prefix: &Prefix,
     a: &LitSet,
@@ -149,7 +161,8 @@ pub fn resolvent_fault<S: Side>(
     requires a { AreBound prefix.now a.now }
     requires b { AreBound prefix.now b.now }
     requires to { AreBound prefix.now to.now }
-    ensures { IsAnswer (resolvent_conditions S.side prefix.now a.now b.now to.now) result }
+    ensures fault { IsAnswer (resolvent_conditions rules S.side prefix.now a.now b.now to.now) result }
+    ensures as_before { AllHold (unreduced_conditions rules S.side prefix.now a.now b.now to.now) → result ≡ None }
 {
     resolvent_of::<S>(prefix, a.as_slice(), b.as_slice(), to.as_slice(), rules)
 }

@@ -69,12 +69,13 @@ fn resolvent<S: Side>(
     a: &[i32],
     b: &[i32],
     to: &[i32],
+    rules: Rules,
 ) -> Result<Option<RuleFault>, Fail> {
     let formula = read(alloc, text)?;
     let a = set(rt, alloc, formula.prefix(), a)?;
     let b = set(rt, alloc, formula.prefix(), b)?;
     let to = set(rt, alloc, formula.prefix(), to)?;
-    Ok(resolvent_fault::<S>(formula.prefix(), &a, &b, &to, Rules::plain()))
+    Ok(resolvent_fault::<S>(formula.prefix(), &a, &b, &to, rules))
 }
 
 fn quant_sets(
@@ -232,43 +233,167 @@ fn reducts_of_cubes(rt: HostRuntime) -> Result<(), Fail> {
 
 const BOTH_EXIST: &str = "p cnf 2 0\ne 1 2 0\n";
 
-/// A formula, two clauses, a third, and its fault as a reduct of their resolvent.
-const CLAUSE_RESOLVENTS: [(&str, &[i32], &[i32], &[i32], Option<RuleFault>); 6] = [
-    (EXISTS_ALL, &[1, 2], &[-1, 2], &[], None),
-    (EXISTS_ALL, &[1], &[1], &[], Some(RuleFault::S8)),
-    (BOTH_EXIST, &[1, 2], &[-1, -2], &[], Some(RuleFault::S9)),
-    (ALL_EXISTS, &[1, 2], &[-1, 2], &[2], Some(RuleFault::S10)),
-    (BOTH_EXIST, &[1], &[-1], &[2], Some(RuleFault::S11)),
+const EXISTS_ALL_EXISTS: &str = "p cnf 3 0\ne 1 0\na 2 0\ne 3 0\n";
+
+const ALL_EXISTS_ALL: &str = "p cnf 3 0\na 1 0\ne 2 0\na 3 0\n";
+
+/// A formula, two sets, a third, and its faults as a reduct of their resolvent: by the plain rules, and with any pivot.
+type Resolution = (
+    &'static str,
+    &'static [i32],
+    &'static [i32],
+    &'static [i32],
+    Option<RuleFault>,
+    Option<RuleFault>,
+);
+
+const CLAUSE_RESOLVENTS: [Resolution; 15] = [
+    (EXISTS_ALL, &[1, 2], &[-1, 2], &[], None, None),
     (
-        "p cnf 3 0\ne 1 0\na 2 0\ne 3 0\n",
+        EXISTS_ALL,
+        &[1],
+        &[1],
+        &[],
+        Some(RuleFault::S8),
+        Some(RuleFault::S8),
+    ),
+    (
+        BOTH_EXIST,
+        &[1, 2],
+        &[-1, -2],
+        &[],
+        Some(RuleFault::S9),
+        Some(RuleFault::S9),
+    ),
+    // A universal pivot.
+    (
+        ALL_EXISTS,
+        &[1, 2],
+        &[-1, 2],
+        &[2],
+        Some(RuleFault::S10),
+        None,
+    ),
+    // The same, where the step leaves out what is not reducible, or holds what is in neither.
+    (
+        ALL_EXISTS,
+        &[1, 2],
+        &[-1, 2],
+        &[],
+        Some(RuleFault::S10),
+        Some(RuleFault::S12),
+    ),
+    (
+        ALL_EXISTS,
+        &[1],
+        &[-1],
+        &[2],
+        Some(RuleFault::S10),
+        Some(RuleFault::S11),
+    ),
+    (
+        BOTH_EXIST,
+        &[1],
+        &[-1],
+        &[2],
+        Some(RuleFault::S11),
+        Some(RuleFault::S11),
+    ),
+    // Universal 2 is reducible in the first clause, and not in the resolvent.
+    (EXISTS_ALL_EXISTS, &[1, 2], &[-1, 3], &[3], None, None),
+    (EXISTS_ALL_EXISTS, &[-1, 3], &[1, 2], &[3], None, None),
+    (EXISTS_ALL_EXISTS, &[1, 2], &[-1, 3], &[2, 3], None, None),
+    // It is reducible in one of the two clauses that hold it.
+    (
+        EXISTS_ALL_EXISTS,
+        &[1, 2],
+        &[-1, 2, 3],
+        &[3],
+        Some(RuleFault::S12),
+        Some(RuleFault::S12),
+    ),
+    (
+        EXISTS_ALL_EXISTS,
+        &[-1, 2, 3],
+        &[1, 2],
+        &[3],
+        Some(RuleFault::S12),
+        Some(RuleFault::S12),
+    ),
+    // An existential literal is never left out.
+    (
+        EXISTS_ALL_EXISTS,
+        &[1, 3],
+        &[-1],
+        &[],
+        Some(RuleFault::S12),
+        Some(RuleFault::S12),
+    ),
+    // The pivot keeps 2 from being taken out of the first clause.
+    (
+        "p cnf 3 0\na 2 0\ne 1 3 0\n",
         &[1, 2],
         &[-1, 3],
         &[3],
         Some(RuleFault::S12),
+        Some(RuleFault::S12),
+    ),
+    // A universal pivot keeps nothing.
+    (
+        "p cnf 4 0\ne 4 0\na 2 1 0\ne 3 0\n",
+        &[1, 2, 4],
+        &[-1, 3],
+        &[3, 4],
+        Some(RuleFault::S10),
+        None,
     ),
 ];
 
-/// The same for cubes.
-const CUBE_RESOLVENTS: [(&str, &[i32], &[i32], &[i32], Option<RuleFault>); 2] = [
-    (ALL_EXISTS, &[1], &[-1], &[], None),
-    ("p cnf 1 0\ne 1 0\n", &[1], &[-1], &[], Some(RuleFault::S10)),
+const CUBE_RESOLVENTS: [Resolution; 4] = [
+    (ALL_EXISTS, &[1], &[-1], &[], None, None),
+    // An existential pivot.
+    (
+        "p cnf 1 0\ne 1 0\n",
+        &[1],
+        &[-1],
+        &[],
+        Some(RuleFault::S10),
+        None,
+    ),
+    // Existential 2 is reducible in the first cube, and not in the resolvent.
+    (ALL_EXISTS_ALL, &[1, 2], &[-1, 3], &[3], None, None),
+    (
+        ALL_EXISTS_ALL,
+        &[1, 2],
+        &[-1, 2, 3],
+        &[3],
+        Some(RuleFault::S12),
+        Some(RuleFault::S12),
+    ),
 ];
+
+/// Compares the answers for a resolution on one side.
+fn resolves<S: Side>(rt: &impl Abort, alloc: Global, resolution: Resolution) -> Result<(), Fail> {
+    let (text, a, b, to, plain, any_pivot) = resolution;
+    let found = resolvent::<S>(rt, alloc, text, a, b, to, Rules::plain())?;
+    assert_eq!(rt; found, plain);
+    let found = resolvent::<S>(rt, alloc, text, a, b, to, Rules::any_pivot())?;
+    assert_eq!(rt; found, any_pivot);
+    Ok(())
+}
 
 #[test]
 fn resolvents_of_clauses(rt: HostRuntime) -> Result<(), Fail> {
-    for (text, a, b, to, fault) in CLAUSE_RESOLVENTS {
-        assert_eq!(rt;
-            resolvent::<Clauses>(&rt, rt.alloc(), text, a, b, to)?,
-            fault
-        );
+    for resolution in CLAUSE_RESOLVENTS {
+        resolves::<Clauses>(&rt, rt.alloc(), resolution)?;
     }
     Ok(())
 }
 
 #[test]
 fn resolvents_of_cubes(rt: HostRuntime) -> Result<(), Fail> {
-    for (text, a, b, to, fault) in CUBE_RESOLVENTS {
-        assert_eq!(rt; resolvent::<Cubes>(&rt, rt.alloc(), text, a, b, to)?, fault);
+    for resolution in CUBE_RESOLVENTS {
+        resolves::<Cubes>(&rt, rt.alloc(), resolution)?;
     }
     Ok(())
 }

@@ -107,7 +107,7 @@ fn two_fault<S: Side, T: Steps>(
       IsNumberOf (take place (T.steps trace.now)) first
           × IsNumberOf (take place (T.steps trace.now)) second,
     )
-        ∷ resolvent_conditions S.side formula.now.blocks (lits_of (take place (T.steps trace.now)) first)
+        ∷ resolvent_conditions rules S.side formula.now.blocks (lits_of (take place (T.steps trace.now)) first)
         (lits_of (take place (T.steps trace.now)) second) set.now) result }
 {
     let Some(a) = earlier(formula, trace, place, kept, first) else {
@@ -153,7 +153,7 @@ fn antecedent_fault<S: Side, T: Steps>(
     requires kept { AreKept formula.now.blocks (T.steps trace.now) place kept.now }
     requires set { (step : Inference) → IsAt (T.steps trace.now) place step → IsSetOf formula.now.blocks set.now step.lits }
     ensures fault { IfOk result (λ fault. (step : Inference) → IsAt (T.steps trace.now) place step
-        → IsAnswer (later_conditions S.side formula.now (take place (T.steps trace.now)) step) fault) }
+        → IsAnswer (later_conditions rules S.side formula.now (take place (T.steps trace.now)) step) fault) }
     ensures clauses { OnOk result (IsIndexed formula.now clauses.new) }
 {
     // The length comes with the fact that no step has more than two antecedents.
@@ -181,11 +181,11 @@ pub(crate) fn step_set<S: Side, T: Steps>(
     requires clauses { IsIndexed formula.now clauses.old }
     requires core { IsInCore (T.steps trace.now) place }
     requires kept { AreKept formula.now.blocks (T.steps trace.now) place kept.now }
-    ensures follows { OnOk result (StepFollows S.side formula.now (T.steps trace.now) place) }
+    ensures follows { OnOk result (StepFollows rules S.side formula.now (T.steps trace.now) place) }
     ensures set { IfOk result (λ set. (step : Inference) → IsAt (T.steps trace.now) place step
         → IsSetOf formula.now.blocks set step.lits) }
     ensures clauses { OnOk result (IsIndexed formula.now clauses.new) }
-    ensures fault { IfErr result (λ e. IfRule e (IsStepFault S.side formula.now (T.steps trace.now) place)) }
+    ensures fault { IfErr result (λ e. IfRule e (IsStepFault rules S.side formula.now (T.steps trace.now) place)) }
 {
     let set = match LitSet::from_slice(alloc, trace.lits(place), formula.prefix()) {
         Ok(set) => set,

@@ -27,24 +27,19 @@ const PROOF_OF_TRUTH: &str =
 /// The answer for a trace that is kept step by step.
 fn checked(
     alloc: Global,
+    rules: Rules,
     formula: &[u8],
     trace: &[u8],
 ) -> Result<Result<Verified, CheckFault>, Fail> {
     let read = read_formula(alloc, &mut SliceSource::new(formula))?;
     let steps = read_trace(alloc, &mut SliceSource::new(trace))?;
-    let rules = Rules::plain();
     Ok(check(alloc, &read, &steps, steps.sets(), steps.result(), rules))
 }
 
 /// The answer for the same bytes.
-fn verified(alloc: Global, formula: &[u8], trace: &[u8]) -> Result<Verified, Fault> {
+fn verified(alloc: Global, rules: Rules, formula: &[u8], trace: &[u8]) -> Result<Verified, Fault> {
     let mut source = SliceSource::new(formula);
-    verify(
-        alloc,
-        &mut source,
-        &mut SliceSource::new(trace),
-        Rules::plain(),
-    )
+    verify(alloc, &mut source, &mut SliceSource::new(trace), rules)
 }
 
 /// Compares what was found with a truth and the places of a core.
@@ -57,14 +52,15 @@ fn expect(rt: &impl Abort, found: &Verified, truth: bool, core: &[usize]) {
 fn verifies(
     rt: &impl Abort,
     alloc: Global,
+    rules: Rules,
     formula: &[u8],
     trace: &[u8],
     truth: bool,
     core: &[usize],
 ) -> Result<(), Fail> {
-    let found = checked(alloc, formula, trace)??;
+    let found = checked(alloc, rules, formula, trace)??;
     expect(rt, &found, truth, core);
-    let found = verified(alloc, formula, trace)?;
+    let found = verified(alloc, rules, formula, trace)?;
     expect(rt, &found, truth, core);
     Ok(())
 }
@@ -78,22 +74,22 @@ fn expect_fault(rt: &impl Abort, answer: Result<Verified, CheckFault>, fault: &C
 fn refuses(
     rt: &impl Abort,
     alloc: Global,
+    rules: Rules,
     formula: &[u8],
     trace: &[u8],
     fault: CheckFault,
 ) -> Result<(), Fail> {
-    let answer = checked(alloc, formula, trace)?;
+    let answer = checked(alloc, rules, formula, trace)?;
     expect_fault(rt, answer, &fault);
-    let answer = verified(alloc, formula, trace);
+    let answer = verified(alloc, rules, formula, trace);
     assert_eq!(rt; answer.err(), Some(Fault::Check(fault)));
     Ok(())
 }
 
 /// What is left of a trace that proves its result.
-fn trimmed(alloc: Global, formula: &str, trace: &str) -> Result<Trace, Fail> {
+fn trimmed(alloc: Global, rules: Rules, formula: &str, trace: &str) -> Result<Trace, Fail> {
     let read = read_formula(alloc, &mut SliceSource::new(formula.as_bytes()))?;
     let whole = read_trace(alloc, &mut SliceSource::new(trace.as_bytes()))?;
-    let rules = Rules::plain();
     let verified = check(alloc, &read, &whole, whole.sets(), whole.result(), rules)?;
     Ok(trim(alloc, &whole, &verified)?)
 }
@@ -102,11 +98,12 @@ fn trimmed(alloc: Global, formula: &str, trace: &str) -> Result<Trace, Fail> {
 fn trims(
     rt: &impl Abort,
     alloc: Global,
+    rules: Rules,
     formula: &str,
     trace: &str,
     wanted: &str,
 ) -> Result<(), Fail> {
-    let left = trimmed(alloc, formula, trace)?;
+    let left = trimmed(alloc, rules, formula, trace)?;
     let mut sink = VecSink::new(alloc, 0)?;
     assert!(rt; write_trace(&left, &mut sink).is_ok());
     assert_eq!(rt; sink.bytes(), wanted.as_bytes());
@@ -120,7 +117,7 @@ const FIRST_THREE: &[usize] = &[0, 1, 2];
 const ALL_FIVE: &[usize] = &[0, 1, 2, 3, 4];
 
 /// A formula and a trace that proves its result, the truth, and the core.
-const PROOFS: [(&str, &str, bool, &[usize]); 9] = [
+const PROOFS: [(&str, &str, bool, &[usize]); 11] = [
     (FALSE_FORMULA, REFUTATION, false, ALL_FIVE),
     (TRUE_FORMULA, PROOF_OF_TRUTH, true, ALL_FIVE),
     ("p cnf 0 0\n", "p qrp 0 0\n1 0 0\nr sat\n", true, FIRST),
@@ -163,6 +160,19 @@ const PROOFS: [(&str, &str, bool, &[usize]); 9] = [
         true,
         FIRST_THREE,
     ),
+    // A parent that is reduced before it is resolved, on both sides.
+    (
+        "p cnf 3 3\ne 1 0\na 2 0\ne 3 0\n1 2 0\n-1 3 0\n-3 0\n",
+        "p qrp 3 5\n1 1 2 0 0\n2 -1 3 0 0\n3 3 0 1 2 0\n4 -3 0 0\n5 0 3 4 0\nr unsat\n",
+        false,
+        ALL_FIVE,
+    ),
+    (
+        "p cnf 3 1\na 1 0\ne 2 0\na 3 0\n-1 2 -3 0\n",
+        "p qrp 3 5\n1 1 2 0 0\n2 -1 3 0 0\n3 3 0 1 2 0\n4 -3 0 0\n5 0 3 4 0\nr sat\n",
+        true,
+        ALL_FIVE,
+    ),
 ];
 
 #[test]
@@ -170,13 +180,53 @@ fn verifies_proofs(rt: HostRuntime) -> Result<(), Fail> {
     let alloc = rt.alloc();
     for (formula, trace, truth, core) in PROOFS {
         let formula = formula.as_bytes();
-        verifies(&rt, alloc, formula, trace.as_bytes(), truth, core)?;
+        for rules in [Rules::plain(), Rules::any_pivot()] {
+            verifies(&rt, alloc, rules, formula, trace.as_bytes(), truth, core)?;
+        }
     }
     Ok(())
 }
 
-/// A formula and a trace that does not prove its result, and the first fault.
-const FAULTY: [(&str, &str, CheckFault); 20] = [
+/// A formula and a trace with a pivot of the reduced quantifier, its fault by the plain rules, and the truth.
+const OTHER_PIVOTS: [(&str, &str, CheckFault, bool, &[usize]); 2] = [
+    (
+        "p cnf 2 3\na 1 0\ne 2 0\n1 2 0\n-1 2 0\n-2 0\n",
+        "p qrp 2 5\n1 1 2 0 0\n2 -1 2 0 0\n3 -2 0 0\n4 2 0 1 2 0\n5 0 4 3 0\nr unsat\n",
+        CheckFault::C6(4, RuleFault::S10),
+        false,
+        ALL_FIVE,
+    ),
+    (
+        "p cnf 1 0\ne 1 0\n",
+        "p qrp 1 3\n1 1 0 0\n2 -1 0 0\n3 0 1 2 0\nr sat\n",
+        CheckFault::C6(3, RuleFault::S10),
+        true,
+        FIRST_THREE,
+    ),
+];
+
+#[test]
+fn resolves_on_any_pivot(rt: HostRuntime) -> Result<(), Fail> {
+    let alloc = rt.alloc();
+    for (formula, trace, fault, truth, core) in OTHER_PIVOTS {
+        let bytes = (formula.as_bytes(), trace.as_bytes());
+        refuses(&rt, alloc, Rules::plain(), bytes.0, bytes.1, fault)?;
+        verifies(
+            &rt,
+            alloc,
+            Rules::any_pivot(),
+            bytes.0,
+            bytes.1,
+            truth,
+            core,
+        )?;
+        trims(&rt, alloc, Rules::any_pivot(), formula, trace, trace)?;
+    }
+    Ok(())
+}
+
+/// A formula and a trace that does not prove its result by any rules, and the first fault.
+const FAULTY: [(&str, &str, CheckFault); 18] = [
     // Clauses do not show the truth of a formula that is true.
     (
         TRUE_FORMULA,
@@ -264,19 +314,10 @@ const FAULTY: [(&str, &str, CheckFault); 20] = [
         "p qrp 2 4\n1 1 0 0\n2 -1 0 0\n3 2 0 1 2 0\n4 0 3 0\nr unsat\n",
         CheckFault::C6(3, RuleFault::S11),
     ),
+    // The formula is true: universal 2 is reducible in the first step, and not in the second.
     (
-        "p cnf 2 3\na 1 0\ne 2 0\n1 2 0\n-1 2 0\n-2 0\n",
-        "p qrp 2 5\n1 1 2 0 0\n2 -1 2 0 0\n3 -2 0 0\n4 2 0 1 2 0\n5 0 4 3 0\nr unsat\n",
-        CheckFault::C6(4, RuleFault::S10),
-    ),
-    (
-        "p cnf 1 0\ne 1 0\n",
-        "p qrp 1 3\n1 1 0 0\n2 -1 0 0\n3 0 1 2 0\nr sat\n",
-        CheckFault::C6(3, RuleFault::S10),
-    ),
-    (
-        "p cnf 3 3\ne 1 0\na 2 0\ne 3 0\n1 2 0\n-1 3 0\n-3 0\n",
-        "p qrp 3 5\n1 1 2 0 0\n2 -1 3 0 0\n3 3 0 1 2 0\n4 -3 0 0\n5 0 3 4 0\nr unsat\n",
+        "p cnf 3 3\ne 1 0\na 2 0\ne 3 0\n1 2 0\n-1 2 3 0\n-2 -3 0\n",
+        "p qrp 3 5\n1 1 2 0 0\n2 -1 2 3 0 0\n3 3 0 1 2 0\n4 -2 -3 0 0\n5 0 3 4 0\nr unsat\n",
         CheckFault::C6(3, RuleFault::S12),
     ),
 ];
@@ -302,7 +343,16 @@ fn disagreeing(two: Var, three: Var) -> [(&'static str, &'static str, CheckFault
 fn names_the_first_fault(rt: HostRuntime) -> Result<(), Fail> {
     let alloc = rt.alloc();
     for (formula, trace, fault) in FAULTY {
-        refuses(&rt, alloc, formula.as_bytes(), trace.as_bytes(), fault)?;
+        for rules in [Rules::plain(), Rules::any_pivot()] {
+            refuses(
+                &rt,
+                alloc,
+                rules,
+                formula.as_bytes(),
+                trace.as_bytes(),
+                fault,
+            )?;
+        }
     }
     Ok(())
 }
@@ -313,7 +363,16 @@ fn names_the_first_variable(rt: HostRuntime) -> Result<(), Fail> {
     let two = Var::new(2).expect(&rt, "a variable");
     let three = Var::new(3).expect(&rt, "a variable");
     for (formula, trace, fault) in disagreeing(two, three) {
-        refuses(&rt, alloc, formula.as_bytes(), trace.as_bytes(), fault)?;
+        for rules in [Rules::plain(), Rules::any_pivot()] {
+            refuses(
+                &rt,
+                alloc,
+                rules,
+                formula.as_bytes(),
+                trace.as_bytes(),
+                fault,
+            )?;
+        }
     }
     Ok(())
 }
@@ -339,7 +398,12 @@ fn pulls_no_trace_of_a_faulty_formula(rt: HostRuntime) {
 
 #[test]
 fn compares_no_sets_of_a_faulty_trace(rt: HostRuntime) {
-    let answer = verified(rt.alloc(), FALSE_FORMULA.as_bytes(), OPEN.as_bytes());
+    let answer = verified(
+        rt.alloc(),
+        Rules::plain(),
+        FALSE_FORMULA.as_bytes(),
+        OPEN.as_bytes(),
+    );
     assert_eq!(rt; answer.err(), Some(Fault::Trace(TraceFault::P7, 9)));
 }
 
@@ -368,7 +432,9 @@ const TRIMMED: [(&str, &str); 4] = [
 fn keeps_the_core(rt: HostRuntime) -> Result<(), Fail> {
     let alloc = rt.alloc();
     for (trace, wanted) in TRIMMED {
-        trims(&rt, alloc, FALSE_FORMULA, trace, wanted)?;
+        for rules in [Rules::plain(), Rules::any_pivot()] {
+            trims(&rt, alloc, rules, FALSE_FORMULA, trace, wanted)?;
+        }
     }
     Ok(())
 }
@@ -402,5 +468,13 @@ fn follows_a_long_chain(rt: HostRuntime) -> Result<(), Fail> {
         core.push(place)?;
     }
     let text = chain(alloc)?;
-    verifies(&rt, alloc, b"p cnf 0 1\n0\n", text.bytes(), false, &core)
+    verifies(
+        &rt,
+        alloc,
+        Rules::plain(),
+        b"p cnf 0 1\n0\n",
+        text.bytes(),
+        false,
+        &core,
+    )
 }

@@ -26,7 +26,7 @@ pub fn verify<A: Source, B: Source>(
     trace: &mut B,
     rules: Rules,
 ) -> Result<Verified, Fault>
-    ensures verdict { IsVerdictUnless (A.remaining formula.old) (B.remaining trace.old) result }
+    ensures verdict { IsVerdictUnless rules (A.remaining formula.old) (B.remaining trace.old) result }
     ensures formula_failed { A.failures formula.old < 2 ^ 64 - 1 →
         (IsFormulaDevice result ↔ (A.failures formula.old < A.failures formula.new)) }
     ensures trace_failed { B.failures trace.old < 2 ^ 64 - 1 →

@@ -1,5 +1,5 @@
 -- Texts on their sinks, and what a formula's text reads as.
-use Rattle.std.proofs.Common.{◌≡◌, ◌≢◌, ◌∙◌, ℕ, ◌-◌, ◌^◌, ◌<◌, List, [], ◌++◌, Option, Some, None, Ok, Err, sym, refl, subst, append-nil, inl, inr}
+use Rattle.std.proofs.Common.{◌≡◌, ◌≢◌, ◌∙◌, ℕ, List, [], Option, Some, None, Ok, Err, sym, refl, subst, append-nil, inl, inr}
 use Rattle.std.specs.Prelude.{◌⊎◌, Result, IfSome}
 use Rattle.std.specs.Io.KnownBytes.{Appends, Keeps}
 use Rattle.std.proofs.KnownBytes.{Appends-kept}
@@ -55,7 +55,7 @@ pub check_goes_out : (rules : Rules) (answer : Result Verified Fault) (A B : Typ
 check_goes_out rules (Ok v) A B out = out
 check_goes_out rules (Err e) A B out = out
 
-pub check_output : (j : Job) (rules : Rules) (formula trace : Reading) (answer : Result Verified Fault) → j ≡ job.Check rules → IsChecked formula trace answer
+pub check_output : (j : Job) (rules : Rules) (formula trace : Reading) (answer : Result Verified Fault) → j ≡ job.Check rules → IsChecked rules formula trace answer
     → IsOutput j formula trace (check_report rules answer)
 check_output j rules formula trace answer is checked =
     subst (λ (k : Job). IsOutput k formula trace (check_report rules answer)) (sym is) (answer, checked, refl)

@@ -80,40 +80,40 @@ pub record Reading : Type 0 where
   pub before : ℕ
   pub after : ℕ
 
--- What the check of two texts answers: the verdict on their bytes, or that a source failed, exactly where it did, or
+-- What the check of two texts by these rules answers: the verdict on their bytes, or that a source failed, exactly where it did, or
 -- want of memory.
-pub record IsChecked (formula trace : Reading) (answer : Result Verified Fault) : Type 0 where
-  pub verdict : IsVerdictUnless formula.told trace.told answer
+pub record IsChecked (rules : Rules) (formula trace : Reading) (answer : Result Verified Fault) : Type 0 where
+  pub verdict : IsVerdictUnless rules formula.told trace.told answer
   pub formula_failed : formula.before < 2 ^ 64 - 1 → IsFormulaDevice answer ↔ (formula.before < formula.after)
   pub trace_failed : trace.before < 2 ^ 64 - 1 → IsTraceDevice answer ↔ (trace.before < trace.after)
 
 -- The trace t is what the trace's bytes read as, without the steps that its goal does not need: a proof by itself, whose
 -- text reads as it.
-pub record IsTrimmedFrom (formula trace : List ℕ) (t : Derivation) : Type 0 where
+pub record IsTrimmedFrom (rules : Rules) (formula trace : List ℕ) (t : Derivation) : Type 0 where
   pub f : Qbf
   pub d : Derivation
   pub core : List ℕ
   pub reads_formula : read_formula formula ≡ Ok f
   pub reads_trace : read_trace trace ≡ Ok d
   pub lists : ListsCore d.steps core
-  pub proves : IsProof f d
+  pub proves : IsProof rules f d
   pub is : t ≡ trimmed d core
-  pub whole : IsTrimmedProof f t
+  pub whole : IsTrimmedProof rules f t
 
 -- What the trimming of a trace answers: the trimmed trace, as far as the bytes are told, or a refusal as for a check.
-abbrev pub IsTrimmed : Reading → Reading → Result Derivation Fault → Type 0
-IsTrimmed formula trace (Ok t) =
-    IfSome formula.told (λ a. IfSome trace.told (λ b. IsTrimmedFrom a b t)) × (formula.after ≡ formula.before) × (trace.after ≡ trace.before)
-IsTrimmed formula trace (Err e) = IsChecked formula trace (Err e)
+abbrev pub IsTrimmed : Rules → Reading → Reading → Result Derivation Fault → Type 0
+IsTrimmed rules formula trace (Ok t) =
+    IfSome formula.told (λ a. IfSome trace.told (λ b. IsTrimmedFrom rules a b t)) × (formula.after ≡ formula.before) × (trace.after ≡ trace.before)
+IsTrimmed rules formula trace (Err e) = IsChecked rules formula trace (Err e)
 
 -- the report of a job on its texts
 abbrev pub IsOutput : Job → Reading → Reading → Report → Type 0
 IsOutput job.Format formula trace r =
     (reading : Result Qbf (FormulaFault × ℕ)) × IsFormulaRead formula.told formula.before formula.after reading × (r ≡ format_report reading)
 IsOutput (job.Check rules) formula trace r =
-    (answer : Result Verified Fault) × IsChecked formula trace answer × (r ≡ check_report rules answer)
+    (answer : Result Verified Fault) × IsChecked rules formula trace answer × (r ≡ check_report rules answer)
 IsOutput (job.Trim rules) formula trace r =
-    (answer : Result Derivation Fault) × IsTrimmed formula trace answer × (r ≡ trim_report rules answer)
+    (answer : Result Derivation Fault) × IsTrimmed rules formula trace answer × (r ≡ trim_report rules answer)
 
 -- A text is to go out with a status, and a sink went from `old` to `new` and its count of failures from `before` to
 -- `after`: all of the text went out and the answer is the status; or the sink failed, a beginning of the text went out,

@@ -101,7 +101,7 @@ fn check_job<F: Source, T: Source, O: Sink>(
     out: &mut O,
 ) -> Status
     ensures { (answer : Result Verified Fault)
-        × IsChecked (record { told = F.remaining formula.old; before = F.failures formula.old; after = F.failures formula.new })
+        × IsChecked rules (record { told = F.remaining formula.old; before = F.failures formula.old; after = F.failures formula.new })
         (record { told = T.remaining trace.old; before = T.failures trace.old; after = T.failures trace.new }) answer
         × IsSent (O.written out.old) (O.written out.new) (O.failures out.old) (O.failures out.new) (check_report rules answer).text (check_report rules answer).status result }
 {
@@ -118,8 +118,8 @@ fn trimmed<F: Source, T: Source>(
     formula: &mut F,
     trace: &mut T,
 ) -> Result<Trace, Fault>
-    ensures refused { IfErr result (λ e. IsVerdictUnless (F.remaining formula.old) (T.remaining trace.old) (Err e)) }
-    ensures trimmed { IfOk result (λ t. IfSome (F.remaining formula.old) (λ a. IfSome (T.remaining trace.old) (λ b. IsTrimmedFrom a b t))) }
+    ensures refused { IfErr result (λ e. IsVerdictUnless rules (F.remaining formula.old) (T.remaining trace.old) (Err e)) }
+    ensures trimmed { IfOk result (λ t. IfSome (F.remaining formula.old) (λ a. IfSome (T.remaining trace.old) (λ b. IsTrimmedFrom rules a b t))) }
     ensures formula_failed { IfErr result (λ e. F.failures formula.old < 2 ^ 64 - 1 →
         (IsFormulaDevice (Err e) ↔ (F.failures formula.old < F.failures formula.new))) }
     ensures trace_failed { IfErr result (λ e. T.failures trace.old < 2 ^ 64 - 1 →
@@ -167,7 +167,7 @@ fn trim_job<F: Source, T: Source, O: Sink, E: Sink>(
     err: &mut E,
 ) -> Status
     ensures { (answer : Result Derivation Fault)
-        × IsTrimmed (record { told = F.remaining formula.old; before = F.failures formula.old; after = F.failures formula.new })
+        × IsTrimmed rules (record { told = F.remaining formula.old; before = F.failures formula.old; after = F.failures formula.new })
         (record { told = T.remaining trace.old; before = T.failures trace.old; after = T.failures trace.new }) answer
         × IsOn (trim_report rules answer).sink
         (IsSent (O.written out.old) (O.written out.new) (O.failures out.old) (O.failures out.new) (trim_report rules answer).text (trim_report rules answer).status result × (err.new ≡ err.old))

@@ -277,8 +277,8 @@ fn verdicts_and_refusals(rt: HostRuntime) -> Result<(), Fail> {
         (
             b"p cnf 3 3\ne 1 0\na 2 0\ne 3 0\n1 2 0\n-1 3 0\n-3 0\n",
             b"p qrp 3 5\n1 1 2 0 0\n2 -1 3 0 0\n3 3 0 1 2 0\n4 -3 0 0\n5 0 3 4 0\nr unsat\n",
-            b"REFUSED step 3 S12\n",
-            1,
+            b"VERIFIED false\n",
+            0,
         ),
         // a third antecedent
         (
@@ -566,6 +566,77 @@ fn traces_are_trimmed(rt: HostRuntime) -> Result<(), Fail> {
             err,
             status,
         )?;
+    }
+    Ok(())
+}
+
+/// A false formula, whose refutation resolves on a universal variable.
+const UNIVERSAL_PIVOT: (&[u8], &[u8]) = (
+    b"p cnf 2 3\na 1 0\ne 2 0\n1 2 0\n-1 2 0\n-2 0\n",
+    b"p qrp 2 5\n1 1 2 0 0\n2 -1 2 0 0\n3 -2 0 0\n4 2 0 1 2 0\n5 0 4 3 0\nr unsat\n",
+);
+
+/// A true formula, whose proof resolves on an existential variable.
+const EXISTENTIAL_PIVOT: (&[u8], &[u8]) = (
+    b"p cnf 1 0\ne 1 0\n",
+    b"p qrp 1 3\n1 1 0 0\n2 -1 0 0\n3 0 1 2 0\nr sat\n",
+);
+
+#[test]
+fn pivots_have_any_quantifier(rt: HostRuntime) -> Result<(), Fail> {
+    let plain = Rules::plain();
+    let any_pivot = Rules::any_pivot();
+    let rows: [((&[u8], &[u8]), &[u8], &[u8]); 2] = [
+        (
+            UNIVERSAL_PIVOT,
+            b"REFUSED step 4 S10\n",
+            b"VERIFIED false\n",
+        ),
+        (
+            EXISTENTIAL_PIVOT,
+            b"REFUSED step 3 S10\n",
+            b"VERIFIED true\n",
+        ),
+    ];
+    for (texts, refused, verified) in rows {
+        expect(&rt, Job::Check(plain), texts, refused, b"", 1)?;
+        expect(&rt, Job::Check(any_pivot), texts, verified, b"", 0)?;
+        expect(&rt, Job::Trim(plain), texts, b"", refused, 1)?;
+        expect(&rt, Job::Trim(any_pivot), texts, texts.1, b"", 0)?;
+    }
+    Ok(())
+}
+
+/// A false formula and a true one, where a literal of a parent is reduced before the resolution.
+const REDUCED_CLAUSE: (&[u8], &[u8]) = (
+    b"p cnf 3 3\ne 1 0\na 2 0\ne 3 0\n1 2 0\n-1 3 0\n-3 0\n",
+    b"p qrp 3 5\n1 1 2 0 0\n2 -1 3 0 0\n3 3 0 1 2 0\n4 -3 0 0\n5 0 3 4 0\nr unsat\n",
+);
+
+const REDUCED_CUBE: (&[u8], &[u8]) = (
+    b"p cnf 3 1\na 1 0\ne 2 0\na 3 0\n-1 2 -3 0\n",
+    b"p qrp 3 5\n1 1 2 0 0\n2 -1 3 0 0\n3 3 0 1 2 0\n4 -3 0 0\n5 0 3 4 0\nr sat\n",
+);
+
+/// A true formula, where a literal is reducible in one of the two parents that hold it.
+const REDUCED_IN_ONE: (&[u8], &[u8]) = (
+    b"p cnf 3 3\ne 1 0\na 2 0\ne 3 0\n1 2 0\n-1 2 3 0\n-2 -3 0\n",
+    b"p qrp 3 5\n1 1 2 0 0\n2 -1 2 3 0 0\n3 3 0 1 2 0\n4 -2 -3 0 0\n5 0 3 4 0\nr unsat\n",
+);
+
+#[test]
+fn parents_are_reduced_first(rt: HostRuntime) -> Result<(), Fail> {
+    for rules in [Rules::plain(), Rules::any_pivot()] {
+        for (texts, line) in [
+            (REDUCED_CLAUSE, b"VERIFIED false\n".as_slice()),
+            (REDUCED_CUBE, b"VERIFIED true\n"),
+        ] {
+            expect(&rt, Job::Check(rules), texts, line, b"", 0)?;
+            expect(&rt, Job::Trim(rules), texts, texts.1, b"", 0)?;
+        }
+        let refused = b"REFUSED step 3 S12\n";
+        expect(&rt, Job::Check(rules), REDUCED_IN_ONE, refused, b"", 1)?;
+        expect(&rt, Job::Trim(rules), REDUCED_IN_ONE, b"", refused, 1)?;
     }
     Ok(())
 }

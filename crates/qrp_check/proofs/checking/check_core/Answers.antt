@@ -28,7 +28,7 @@ loop-place-preserved-then-not-index g c =
     let apart : IsInCore (g.T.Steps.steps c.args.trace.now) i → ⊥ = λ core. out ((c.in-Ok.ensures.core i).1 core) in
     record {
       follows = below_more
-          (λ (j : ℕ). IsInCore (g.T.Steps.steps c.args.trace.now) j → StepFollows g.S.Side.side c.args.formula.now (g.T.Steps.steps c.args.trace.now) j)
+          (λ (j : ℕ). IsInCore (g.T.Steps.steps c.args.trace.now) j → StepFollows c.args.rules g.S.Side.side c.args.formula.now (g.T.Steps.steps c.args.trace.now) j)
           i c.loop-place.invariant.follows (λ core. absurd (apart core));
       listing = subst (λ (ps : List ℕ). Listing c.in-Ok.marks.items (i + 1) ps) (sym c.in_ok-skip.ensures.core)
           (listing_skip c.in-Ok.marks.items i c.loop-place.followed.core.items out c.loop-place.invariant.listing);
@@ -48,9 +48,9 @@ returns-in-Err-Rule-clause-refused g c =
     let steps : List Inference = g.T.Steps.steps c.args.trace.now in
     let is = marked c.in-Ok.marks.items c.loop-place.place c.index.result.now
     (omega (arith, c.loop-place-test.true, c.len-place-end.ensures.len, c.in-Ok.ensures.len)) c.index.ensures c.if-not-index.false in
-    let fails : IsStepFault g.S.Side.side c.args.formula.now steps c.loop-place.place c.in-Err-Rule.fault =
-    subst (λ (e : StepFault). IfRule e (IsStepFault g.S.Side.side c.args.formula.now steps c.loop-place.place)) c.in-Err-Rule.field-0-is c.in-Err-Rule.ensures.fault in
-    subst (IsFirstFaultyStep g.S.Side.side c.args.formula.now steps c.number.result) (sym c.in-Err-Rule.fault-is) (record {
+    let fails : IsStepFault c.args.rules g.S.Side.side c.args.formula.now steps c.loop-place.place c.in-Err-Rule.fault =
+    subst (λ (e : StepFault). IfRule e (IsStepFault c.args.rules g.S.Side.side c.args.formula.now steps c.loop-place.place)) c.in-Err-Rule.field-0-is c.in-Err-Rule.ensures.fault in
+    subst (IsFirstFaultyStep c.args.rules g.S.Side.side c.args.formula.now steps c.number.result) (sym c.in-Err-Rule.fault-is) (record {
       place = c.loop-place.place;
       needed = (c.in-Ok.ensures.core c.loop-place.place).0 is;
       fails = fails;
@@ -65,7 +65,7 @@ loop-place-preserved g c =
     (omega (arith, c.loop-place-test.true, c.len-place-end.ensures.len, c.in-Ok.ensures.len)) c.index.ensures c.if-not-index.false in
     record {
       follows = below_more
-          (λ (j : ℕ). IsInCore (g.T.Steps.steps c.args.trace.now) j → StepFollows g.S.Side.side c.args.formula.now (g.T.Steps.steps c.args.trace.now) j)
+          (λ (j : ℕ). IsInCore (g.T.Steps.steps c.args.trace.now) j → StepFollows c.args.rules g.S.Side.side c.args.formula.now (g.T.Steps.steps c.args.trace.now) j)
           i c.loop-place.invariant.follows (λ core. c.in-Ok-step_set.ensures.follows);
       listing = subst (λ (ps : List ℕ). Listing c.in-Ok.marks.items (i + 1) ps) (sym c.in_ok-keep-in-Ok-step_set.ensures.core)
           (listing_push c.in-Ok.marks.items i c.loop-place.followed.core.items is c.loop-place.invariant.listing);

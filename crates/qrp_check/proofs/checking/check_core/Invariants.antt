@@ -8,7 +8,7 @@ use Rattle.qrp_check.proofs.checking.check_core.Given as goal
 
 abbrev pub invariant-loop-place : goal.invariant-loop-place
 invariant-loop-place g l = record {
-  follows : (j : ℕ) → j < l.place → IsInCore (g.T.Steps.steps l.trace) j → StepFollows g.S.Side.side l.formula (g.T.Steps.steps l.trace) j;
+  follows : (j : ℕ) → j < l.place → IsInCore (g.T.Steps.steps l.trace) j → StepFollows l.rules g.S.Side.side l.formula (g.T.Steps.steps l.trace) j;
   listing : Listing l.marks.items l.place l.followed.core.items;
   indexed : IsIndexed l.formula l.clauses;
   kept : AreKept l.formula.blocks (g.T.Steps.steps l.trace) l.place l.followed.kept;

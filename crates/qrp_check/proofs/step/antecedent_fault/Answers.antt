@@ -20,17 +20,17 @@ pub returns-in-empty-clause-fault : goal.returns-in-empty-clause-fault
 returns-in-empty-clause-fault g c = IfOk-weaker c.initial_fault.result
     (λ (fault : Option RuleFault). IsAnswer (initial_condition g.S.Side.side c.args.formula.now c.args.set.now ∷ []) fault)
     (λ (fault : Option RuleFault). (step : Inference) → IsAt (g.T.Steps.steps c.args.trace.now) c.args.place step
-    → IsAnswer (later_conditions g.S.Side.side c.args.formula.now (take c.args.place (g.T.Steps.steps c.args.trace.now)) step) fault)
-    (λ fault a step here. no_antecedent g.S.Side.side c.args.formula.now _ step c.args.set.now fault
+    → IsAnswer (later_conditions c.args.rules g.S.Side.side c.args.formula.now (take c.args.place (g.T.Steps.steps c.args.trace.now)) step) fault)
+    (λ fault a step here. no_antecedent c.args.rules g.S.Side.side c.args.formula.now _ step c.args.set.now fault
     (sym (c.ants.ensures step here) ∙ none_listed c.ants.result.now c.in-empty.len_below) (c.requires.set step here) a)
     c.initial_fault.ensures.fault
 
 pub returns-in-len1-clause-fault : goal.returns-in-len1-clause-fault
 returns-in-len1-clause-fault g c = λ step here.
-    one_antecedent g.S.Side.side c.args.formula.now _ step c.args.set.now _ c.one_fault.result
+    one_antecedent c.args.rules g.S.Side.side c.args.formula.now _ step c.args.set.now _ c.one_fault.result
     (sym (c.ants.ensures step here) ∙ one_listed c.ants.result.now _ c.in-len1.len_at_least c.in-len1.len_below) (c.requires.set step here) c.one_fault.ensures
 
 pub returns-in-len2-clause-fault : goal.returns-in-len2-clause-fault
 returns-in-len2-clause-fault g c = λ step here.
-    two_antecedents g.S.Side.side c.args.formula.now _ step c.args.set.now _ _ c.two_fault.result
+    two_antecedents c.args.rules g.S.Side.side c.args.formula.now _ step c.args.set.now _ _ c.two_fault.result
     (sym (c.ants.ensures step here) ∙ two_listed c.ants.result.now _ _ c.in-len2.len_at_least c.in-len2.len_below) (c.requires.set step here) c.two_fault.ensures

@@ -1,0 +1,158 @@
+-- Parents that are reduced before they are resolved: reductions of the parents, a resolution, and a reduction of the resolvent.
+use Rattle.std.proofs.Common.{◌≡◌, ℕ, List, [], ◌∷◌, ◌++◌, ◌⊎◌, inl, inr, refl, sym, subst}
+use Rattle.std.proofs.lemmas.Bool.{cases_eq}
+use Rattle.qbf_core.specs.Literal.{Literal, positive, negative}
+use Rattle.qbf_core.specs.Lists.{◌∈◌, ◌⊆◌}
+use Rattle.qbf_core.specs.Rules.{IsClean, Side, IsReducible, IsReduct, Clashes, IsOnlyClash, resolvent}
+use Rattle.qbf_core.specs.Blocks.{Block, pairs, IsBound, variables}
+use Rattle.qbf_core.proofs.Bound.{Distinct}
+use Rattle.qbf_core.specs.Qbf.{Qbf}
+use Rattle.qrp_check.specs.Conditions.{IsReducibleInParents}
+use Rattle.qbf_core.proofs.Members.{in_or_not}
+use Rattle.qbf_core.proofs.Sides.{Keeps, keeps_reduct}
+use Rattle.qbf_core.proofs.Inferences.{in_append, append_left, append_right, in_without, from_without, resolvent_clean, keeps_resolvent}
+
+-- what is taken out of a resolvent is reducible in it, or in each parent that has it
+pub record Resolved (side : Side) (f : Qbf) (a b lits : List Literal) : Type 0 where
+  pub pivot : ℕ
+  pub clash : IsOnlyClash a b pivot
+  pub within : lits ⊆ resolvent a b pivot
+  pub each : (l : Literal) → l ∈ resolvent a b pivot
+      → (l ∈ lits) ⊎ (IsReducible side f.blocks (resolvent a b pivot) l ⊎ IsReducibleInParents side f.blocks a b l)
+
+-- the members that are to stay
+pub record Picked (P Q : Literal → Type 0) (all : List Literal) : Type 0 where
+  pub some : List Literal
+  pub within : some ⊆ all
+  pub stays : (l : Literal) → l ∈ some → P l
+  pub each : (l : Literal) → l ∈ all → (l ∈ some) ⊎ Q l
+
+pick : (P Q : Literal → Type 0) (all : List Literal) → ((l : Literal) → l ∈ all → P l ⊎ Q l) → Picked P Q all
+pick P Q [] choose = record { some = []; within = λ l h. h; stays = λ l h. absurd h; each = λ l h. absurd h }
+pick P Q (x ∷ all) choose = by_choice (choose x (inl refl)) (pick P Q all (λ l h. choose l (inr h)))
+  where
+    by_choice : P x ⊎ Q x → Picked P Q all → Picked P Q (x ∷ all)
+    by_choice (inl p) rest = record {
+      some = x ∷ rest.some;
+      within = λ l. elim [ inl e ↦ inl e | inr h ↦ inr (rest.within l h) ];
+      stays = λ l. elim [ inl e ↦ subst P (sym e) p | inr h ↦ rest.stays l h ];
+      each = λ l. elim [ inl e ↦ inl (inl e) | inr h ↦ elim (rest.each l h) [ inl k ↦ inl (inr k) | inr q ↦ inr q ] ];
+    }
+    by_choice (inr q) rest = record {
+      some = rest.some;
+      within = λ l h. inr (rest.within l h);
+      stays = rest.stays;
+      each = λ l. elim [ inl e ↦ inr (subst Q (sym e) q) | inr h ↦ rest.each l h ];
+    }
+
+reducible_fewer : (side : Side) (blocks : List Block) (all some : List Literal) (l : Literal) → some ⊆ all → IsReducible side blocks all l → IsReducible side blocks some l
+reducible_fewer side blocks all some l within red = (red.0, λ m h. red.1 m (within m h))
+
+clean_fewer : (all some : List Literal) → some ⊆ all → IsClean all → IsClean some
+clean_fewer all some within clean l h k = clean l (within l h) (within _ k)
+
+module _ (side : Side) (f : Qbf) (a b lits : List Literal) (resolved : Resolved side f a b lits) where
+  -- what is kept of a parent before the resolution, and what is taken out of it
+  abbrev pub Stays : Literal → Type 0
+  Stays l = (l.var ≡ resolved.pivot) ⊎ ((l ∈ lits) ⊎ IsReducible side f.blocks (resolvent a b resolved.pivot) l)
+
+  abbrev pub Goes : Literal → Type 0
+  Goes l = (l.var ≡ resolved.pivot → ⊥) × (l ∈ lits → ⊥) × IsReducibleInParents side f.blocks a b l
+
+  choose : (l : Literal) → l ∈ (a ++ b) → Stays l ⊎ Goes l
+  choose l h = elim (cases_eq l.var resolved.pivot) [
+    | inl e ↦ inl (inl e)
+    | inr ne ↦ elim (in_or_not l lits) [
+      | inl is ↦ inl (inr (inl is))
+      | inr out ↦ elim (resolved.each l (in_without resolved.pivot (a ++ b) l h ne)) [
+        | inl is ↦ inl (inr (inl is))
+        | inr why ↦ elim why [ inl red ↦ inl (inr (inr red)) | inr both ↦ inr (ne, out, both) ]
+      ]
+    ]
+  ]
+
+  picked_a : Picked Stays Goes a
+  picked_a = pick Stays Goes a (λ l h. choose l (append_left a b l h))
+
+  picked_b : Picked Stays Goes b
+  picked_b = pick Stays Goes b (λ l h. choose l (append_right a b l h))
+
+  reduct_a : IsReduct side f.blocks a picked_a.some
+  reduct_a = record {
+    within = picked_a.within;
+    each = λ l h. elim (picked_a.each l h) [ inl k ↦ inl k | inr goes ↦ inr (goes.2.0 h) ];
+  }
+
+  reduct_b : IsReduct side f.blocks b picked_b.some
+  reduct_b = record {
+    within = picked_b.within;
+    each = λ l h. elim (picked_b.each l h) [ inl k ↦ inl k | inr goes ↦ inr (goes.2.1 h) ];
+  }
+
+  stays_a : (l : Literal) → l ∈ a → (Goes l → ⊥) → l ∈ picked_a.some
+  stays_a l h stay = elim (picked_a.each l h) [ inl k ↦ k | inr goes ↦ absurd (stay goes) ]
+
+  stays_b : (l : Literal) → l ∈ b → (Goes l → ⊥) → l ∈ picked_b.some
+  stays_b l h stay = elim (picked_b.each l h) [ inl k ↦ k | inr goes ↦ absurd (stay goes) ]
+
+  clash_stays : Clashes a b resolved.pivot → Clashes picked_a.some picked_b.some resolved.pivot
+  clash_stays (inl (p, n)) = inl (stays_a _ p (λ goes. goes.0 refl), stays_b _ n (λ goes. goes.0 refl))
+  clash_stays (inr (n, p)) = inr (stays_a _ n (λ goes. goes.0 refl), stays_b _ p (λ goes. goes.0 refl))
+
+  clash_only : (v : ℕ) → Clashes picked_a.some picked_b.some v → Clashes a b v
+  clash_only v (inl (p, n)) = inl (picked_a.within _ p, picked_b.within _ n)
+  clash_only v (inr (n, p)) = inr (picked_a.within _ n, picked_b.within _ p)
+
+  clash : IsOnlyClash picked_a.some picked_b.some resolved.pivot
+  clash = record { clashes = clash_stays resolved.clash.clashes; only = λ v c. resolved.clash.only v (clash_only v c) }
+
+  abbrev rest : List Literal
+  rest = resolvent picked_a.some picked_b.some resolved.pivot
+
+  rest_within : rest ⊆ resolvent a b resolved.pivot
+  rest_within l h = let w = from_without resolved.pivot (picked_a.some ++ picked_b.some) l h in
+      in_without resolved.pivot (a ++ b) l
+      (elim (in_append picked_a.some picked_b.some l w.0) [
+        | inl k ↦ append_left a b l (picked_a.within l k)
+        | inr k ↦ append_right a b l (picked_b.within l k)
+      ])
+      w.1
+
+  -- what is left is a reduct of the resolvent of the reduced parents
+  reduct : IsReduct side f.blocks rest lits
+  reduct = record {
+    within = λ l h. let w = from_without resolved.pivot (a ++ b) l (resolved.within l h) in
+        in_without resolved.pivot (picked_a.some ++ picked_b.some) l
+        (elim (in_append a b l w.0) [
+          | inl k ↦ append_left picked_a.some picked_b.some l (stays_a l k (λ goes. goes.1 h))
+          | inr k ↦ append_right picked_a.some picked_b.some l (stays_b l k (λ goes. goes.1 h))
+        ])
+        w.1;
+    each = λ l h. let w = from_without resolved.pivot (picked_a.some ++ picked_b.some) l h in
+        why l w.1 (elim (in_append picked_a.some picked_b.some l w.0) [ inl k ↦ picked_a.stays l k | inr k ↦ picked_b.stays l k ]);
+  }
+    where
+      why : (l : Literal) → (l.var ≡ resolved.pivot → ⊥) → Stays l → (l ∈ lits) ⊎ IsReducible side f.blocks rest l
+      why l ne (inl e) = absurd (ne e)
+      why l ne (inr (inl is)) = inl is
+      why l ne (inr (inr red)) = inr (reducible_fewer side f.blocks (resolvent a b resolved.pivot) rest l rest_within red)
+
+  pivot_bound : ((l : Literal) → l ∈ a → IsBound f.blocks l.var) → Clashes a b resolved.pivot → IsBound f.blocks resolved.pivot
+  pivot_bound bound (inl (p, n)) = bound (positive resolved.pivot) p
+  pivot_bound bound (inr (n, p)) = bound (negative resolved.pivot) n
+
+  pub keeps_resolved : Distinct (variables (pairs f.blocks)) → IsClean a → IsClean b
+      → ((l : Literal) → l ∈ a → IsBound f.blocks l.var) → ((l : Literal) → l ∈ b → IsBound f.blocks l.var)
+      → Keeps side f a → Keeps side f b → Keeps side f lits
+  keeps_resolved apart clean_a clean_b bound_a bound_b of_a of_b =
+      let clean_pa = clean_fewer a picked_a.some picked_a.within clean_a in
+      let clean_pb = clean_fewer b picked_b.some picked_b.within clean_b in
+      keeps_reduct side f apart rest lits
+      (resolvent_clean picked_a.some picked_b.some resolved.pivot clean_pa clean_pb clash)
+      (λ l h. let w = from_without resolved.pivot (a ++ b) l (rest_within l h) in
+      elim (in_append a b l w.0) [ inl k ↦ bound_a l k | inr k ↦ bound_b l k ])
+      reduct
+      (keeps_resolvent side f apart picked_a.some picked_b.some resolved.pivot clean_pa clean_pb clash.clashes
+      (pivot_bound bound_a resolved.clash.clashes)
+      (keeps_reduct side f apart a picked_a.some clean_a bound_a reduct_a of_a)
+      (keeps_reduct side f apart b picked_b.some clean_b bound_b reduct_b of_b))

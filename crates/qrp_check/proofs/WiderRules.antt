@@ -1,0 +1,85 @@
+-- What follows by some rules follows by wider ones.
+use Rattle.std.proofs.Common.{◌≡◌, ℕ, List, [], ◌∷◌, Option, Some, None, IsTrue, inl, inr, refl, take}
+use Rattle.qbf_core.specs.Literal.{Literal}
+use Rattle.qbf_core.specs.Blocks.{Block}
+use Rattle.qbf_core.specs.Qbf.{Qbf}
+use Rattle.qbf_core.specs.Rules.{Side}
+use Rattle.qrp.specs.Inferences.{Inference}
+use Rattle.qrp_check.specs.declared.verdict.Rules.{Rules}
+use Rattle.qrp_check.specs.declared.fault.RuleFault.{RuleFault}
+use Rattle.qrp_check.specs.Conditions.{Condition, AllHold, AllowsPivot, IsAnswer, StepFollows, antecedent_conditions, resolvent_conditions}
+use Rattle.qrp_check.specs.Laws.{MorePivotsKeep, ReducedParentsKeep}
+use Rattle.qrp_check.specs.Proof.{side_of}
+use Rattle.qrp_check.specs.Unreduced.{FollowsUnreduced, unreduced_antecedents, unreduced_conditions}
+use Rattle.qrp_check.proofs.StepFaults.{no_fault}
+
+-- parents as they stand may be left unreduced
+pub reduced_too : (rules : Rules) (side : Side) (blocks : List Block) (a b to : List Literal)
+    → AllHold (unreduced_conditions rules side blocks a b to) → AllHold (resolvent_conditions rules side blocks a b to)
+reduced_too rules side blocks a b to (some, (one, (pivot, (within, (each, last))))) =
+    (some, (one, (pivot, (within, ((λ x c l h. elim (each x c l h) [ inl k ↦ inl k | inr red ↦ inr (inl red) ]), last)))))
+
+by_antecedents : (rules : Rules) (side : Side) (f : Qbf) (before : List Inference) (ants : List ℕ) (lits : List Literal)
+    → AllHold (unreduced_antecedents rules side f before ants lits) → AllHold (antecedent_conditions rules side f before ants lits)
+by_antecedents rules side f before [] lits all = all
+by_antecedents rules side f before (m ∷ []) lits all = all
+by_antecedents rules side f before (m ∷ n ∷ more) lits all = reduced_too rules side f.blocks _ _ lits all
+
+follows_too : (rules : Rules) (side : Side) (f : Qbf) (steps : List Inference) (i : ℕ) → FollowsUnreduced rules side f steps i → StepFollows rules side f steps i
+follows_too rules side f steps i is = record {
+  step = is.step;
+  here = is.here;
+  all = (is.clean, (is.bound, (is.numbers, by_antecedents rules side f (take i steps) is.step.ants is.step.lits is.all)));
+}
+
+pub reduced_parents_keep : ReducedParentsKeep
+reduced_parents_keep rules f sets steps result proof = record {
+  agree = proof.agree;
+  derives = record {
+    place = proof.place;
+    is_goal = proof.is_goal;
+    each = λ i core. follows_too rules (side_of result) f steps i (proof.each i core);
+  };
+}
+
+-- more pivots
+pivot_too : (rules wider : Rules) (side : Side) (blocks : List Block) (x : ℕ) → (IsTrue rules.any_pivot → IsTrue wider.any_pivot)
+    → AllowsPivot rules side blocks x → AllowsPivot wider side blocks x
+pivot_too rules wider side blocks x more (inl any) = inl (more any)
+pivot_too rules wider side blocks x more (inr binds) = inr binds
+
+by_pivots : (rules wider : Rules) (side : Side) (f : Qbf) (before : List Inference) (ants : List ℕ) (lits : List Literal)
+    → (IsTrue rules.any_pivot → IsTrue wider.any_pivot)
+    → AllHold (antecedent_conditions rules side f before ants lits) → AllHold (antecedent_conditions wider side f before ants lits)
+by_pivots rules wider side f before [] lits more all = all
+by_pivots rules wider side f before (m ∷ []) lits more all = all
+by_pivots rules wider side f before (m ∷ n ∷ others) lits more (some, (one, (pivot, rest))) =
+    (some, (one, ((λ x c. pivot_too rules wider side f.blocks x more (pivot x c)), rest)))
+
+pivots_follow : (rules wider : Rules) (side : Side) (f : Qbf) (steps : List Inference) (i : ℕ) → (IsTrue rules.any_pivot → IsTrue wider.any_pivot)
+    → StepFollows rules side f steps i → StepFollows wider side f steps i
+pivots_follow rules wider side f steps i more is = record {
+  step = is.step;
+  here = is.here;
+  all = (is.all.0, (is.all.1.0, (is.all.1.1.0, by_pivots rules wider side f (take i steps) is.step.ants is.step.lits more is.all.1.1.1)));
+}
+
+pub more_pivots_keep : MorePivotsKeep
+more_pivots_keep rules wider f sets steps result more proof = record {
+  agree = proof.agree;
+  derives = record {
+    place = proof.derives.place;
+    is_goal = proof.derives.is_goal;
+    each = λ i core. pivots_follow rules wider (side_of result) f steps i more (proof.derives.each i core);
+  };
+}
+
+-- where all conditions hold, nothing is answered
+answers_nothing : (conditions : List (Condition RuleFault)) (answer : Option RuleFault) → AllHold conditions → IsAnswer conditions answer → answer ≡ None
+answers_nothing conditions None all is = refl
+answers_nothing conditions (Some fault) all fails = absurd (no_fault conditions fault all fails)
+
+pub answers_as_before : (rules : Rules) (side : Side) (blocks : List Block) (a b to : List Literal) (answer : Option RuleFault)
+    → IsAnswer (resolvent_conditions rules side blocks a b to) answer → AllHold (unreduced_conditions rules side blocks a b to) → answer ≡ None
+answers_as_before rules side blocks a b to answer is all =
+    answers_nothing (resolvent_conditions rules side blocks a b to) answer (reduced_too rules side blocks a b to all) is
