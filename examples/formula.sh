@@ -1,18 +1,26 @@
 # shellcheck shell=bash
 # Sourced by the scripts that make the examples' formulas: variables, clauses, gates, and the text in QDIMACS. It needs
-# bash 4.1 or later and no other program.
+# bash 4.1 or later and no other program. README.md beside it says what the prefix and the gates mean.
 #
-# A variable is a number. It is made where it is bound, so that the order of the calls is the order of the prefix.
-# A literal is a variable or its negation, -v.
+# A variable is a number, given out from 1 on. A literal is a variable, or its negation: the number with a minus sign. A
+# script keeps the number of a variable under a name, so that `clause -$a $b` says "not a, or b".
+#
+# A variable gets its number where it is bound, and each new one is bound innermost, to the right of all before it. So the
+# order of the calls in a script is the order of the prefix.
 
-variables=0
-prefix=
-last=
-clauses=()
+variables=0 # how many there are
+prefix=     # the quantifier sets so far, as QDIMACS writes them; the last set is still without its closing 0
+last=       # the quantifier of the last set: e, a, or nothing at the beginning
+clauses=()  # the clauses so far, each a line of QDIMACS
 
-# exists NAME.., forall NAME..: binds a new variable for each name, innermost; its number is kept under that name
+# exists NAME..: a new existential variable for each name. The player who wants the formula to be true chooses its value.
 exists() { bind e "$@"; }
+
+# forall NAME..: a new universal variable for each name. It stands for any value, as if an opponent chose it.
 forall() { bind a "$@"; }
+
+# bind QUANTIFIER NAME..: what both have in common. The number is kept under the name, which may be a place of an array
+# too: `exists "high[t]"`.
 bind() {
     local quantifier=$1 name
     shift
@@ -28,10 +36,11 @@ bind() {
     done
 }
 
-# clause LITERAL..: at least one of these is true
+# clause LITERAL..: at least one of these is true. All clauses together must hold.
 clause() { clauses+=("$* 0"); }
 
-# when LITERAL.. : LITERAL..: if all before the colon are true, so is at least one behind it
+# when LITERAL.. : LITERAL..: if all before the colon are true, so is at least one behind it. With nothing behind the colon:
+# they are not all true. "A and B imply C or D" is the clause "not A, or not B, or C, or D".
 when() {
     local body=()
     while [ "$1" != : ]; do
@@ -42,9 +51,12 @@ when() {
     clause "${body[@]}" "$@"
 }
 
-# A gate is a new variable, bound innermost as existential, and clauses that hold exactly where it has the value of the
-# gate's function. This is Tseitin's encoding: the clauses leave the variable one value for each value of the inputs,
-# so that whoever sets it has no choice.
+# Gates. A formula in clauses has no place for "the and of A and B" inside a clause. So the output of a gate gets a
+# variable C of its own, and clauses say that C has the value of the gate's function (Tseitin's encoding). For each value of
+# the inputs they leave C one value alone. C is bound innermost and existential: it is set when the inputs are known, by the
+# player who wants the clauses to hold, and that player has no choice.
+#
+# NAME is the name that C is kept under; in the lines below ${!1} is its number, and $2 and $3 are the literals A and B.
 
 # and_gate NAME A B: C = A and B.   C -> A,  C -> B,  A and B -> C
 and_gate() {
@@ -62,7 +74,8 @@ or_gate() {
     clause "-${!1}" "$2" "$3"
 }
 
-# xor_gate NAME A B: C = A xor B.   One clause forbids each of the four rows where C has the wrong value.
+# xor_gate NAME A B: C = A xor B, true if one of them is true and the other is not. Of the eight rows of A, B and C four
+# have the wrong C, and one clause forbids each: C A B = 1 0 0, 1 1 1, 0 1 0, 0 0 1.
 xor_gate() {
     exists "$1"
     clause "-${!1}" "$2" "$3"
@@ -71,7 +84,7 @@ xor_gate() {
     clause "${!1}" "$2" $((- $3))
 }
 
-# equal A B: A and B have the same value
+# equal A B: A and B have the same value.   A -> B,  B -> A
 equal() {
     clause $((- $1)) "$2"
     clause "$1" $((- $2))

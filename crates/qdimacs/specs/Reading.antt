@@ -118,6 +118,7 @@ clause_row h ps cs ls (Ok (Some l)) = Goes (InClause h ps cs (ls ++ l ∷ []))
 
 -- ---- between lists
 
+-- the quantifier that a letter names
 abbrev pub set_letter : Token → Option Quantifier
 set_letter (token.Word word.A) = Some All
 set_letter (token.Word word.E) = Some Exists

@@ -8,6 +8,7 @@ pub record Body : Type 0 where
   pub lits : List Literal
   pub ants : List ℕ
 
+-- the body of a step
 abbrev pub body : Inference → Body
 body s = record { lits = s.lits; ants = s.ants }
 

@@ -16,6 +16,7 @@ use Rattle.qrp.specs.declared.tokens.Opening.TheVariants as opens
 use Rattle.qrp.specs.Inferences.{IsNumber}
 use Rattle.qrp.specs.Reading.{Fault, Place, Between, InSet, InLits, AtResult, is_used, items_from}
 
+-- the items that are left to give, where the tokens are known
 abbrev pub KnownItems : Type 0
 KnownItems = Option (List (Result Item Fault))
 
@@ -40,6 +41,7 @@ Stops P1 line whole = Unit {0}
 Stops P9 line whole = Unit {0}
 Stops f line whole = IfSome whole (λ r. r ≡ Err (f, line) ∷ [])
 
+-- a call that read a part answers it, and what was left to give is what comes behind it; or it returned a fault as reading does
 abbrev pub Continues : {X : Type 0} → (X → KnownItems) → Result X Fault → KnownItems → Type 0
 Continues rest (Ok x) whole = Leads whole (rest x)
 Continues rest (Err e) whole = Stops e.0 e.1 whole

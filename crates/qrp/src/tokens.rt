@@ -13,6 +13,7 @@ use crate::item::Outcome;
 use qbf_core::{Lit, Quantifier, Var};
 use qbf_text::{Token, Word};
 
+/// What a token is that a header does not accept.
 pub fn header_fault(token: Token) -> TraceFault
     ensures { result ≡ header_fault token }
 {
@@ -22,12 +23,14 @@ pub fn header_fault(token: Token) -> TraceFault
     }
 }
 
+/// Whether a token is the word `p`.
 pub fn is_p(token: Token) -> bool
     ensures { result ≡ is_p token }
 {
     matches!(token, Token::Word(Word::P))
 }
 
+/// Whether a token is the word `qrp`.
 pub fn is_qrp(token: Token) -> bool
     ensures { result ≡ is_qrp token }
 {

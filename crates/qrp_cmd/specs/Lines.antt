@@ -20,6 +20,7 @@ use Rattle.qrp_cmd.specs.declared.lines.Part.TheVariants as part
 abbrev pub line : List ℕ → List ℕ
 line text = text ++ 10 ∷ []
 
+-- the names of the faults of a formula's text
 abbrev pub formula_fault_name : FormulaFault → List ℕ
 formula_fault_name F1 = codes "F1"
 formula_fault_name F2 = codes "F2"
@@ -37,6 +38,7 @@ formula_line F1 n = line (codes "DEVICE formula")
 formula_line F9 n = line (codes "NO MEMORY")
 formula_line e n = codes "REFUSED formula " ++ (formula_fault_name e ++ (codes " line " ++ line (decimal n)))
 
+-- the names of the faults of a trace's text
 abbrev pub trace_fault_name : TraceFault → List ℕ
 trace_fault_name P1 = codes "P1"
 trace_fault_name P2 = codes "P2"
@@ -54,6 +56,7 @@ trace_line P1 n = line (codes "DEVICE trace")
 trace_line P9 n = line (codes "NO MEMORY")
 trace_line e n = codes "REFUSED trace " ++ (trace_fault_name e ++ (codes " line " ++ line (decimal n)))
 
+-- the names of the faults of a step
 abbrev pub rule_fault_name : RuleFault → List ℕ
 rule_fault_name S1 = codes "S1"
 rule_fault_name S2 = codes "S2"
@@ -83,21 +86,24 @@ fault_line (fault.Formula e n) = formula_line e n
 fault_line (fault.Trace e n) = trace_line e n
 fault_line (fault.Check c) = check_line c
 
--- 1: the proof is refused; 2: a text is; 3: a source failed; 4: memory was refused
+-- the status for a fault of a formula's text; 1: the proof is refused; 2: a text is; 3: a source failed; 4: memory was refused
 abbrev pub formula_status : FormulaFault → ℕ
 formula_status F1 = 3
 formula_status F9 = 4
 formula_status e = 2
 
+-- the same of a trace's text
 abbrev pub trace_status : TraceFault → ℕ
 trace_status P1 = 3
 trace_status P9 = 4
 trace_status e = 2
 
+-- the same of a check
 abbrev pub check_status : CheckFault → ℕ
 check_status C5 = 4
 check_status c = 1
 
+-- the same of any fault
 abbrev pub fault_status : Fault → ℕ
 fault_status (fault.Formula e n) = formula_status e
 fault_status (fault.Trace e n) = trace_status e
@@ -108,13 +114,14 @@ abbrev pub verdict_line : Bool → List ℕ
 verdict_line true = line (codes "VERIFIED true")
 verdict_line false = line (codes "VERIFIED false")
 
--- the line with which the program ends before its job begins, and its status
+-- the line with which the program ends before its job begins
 abbrev pub start_line : Start → List ℕ
 start_line Usage = line (codes "USAGE")
 start_line NoFormula = line (codes "DEVICE formula")
 start_line NoTrace = line (codes "DEVICE trace")
 start_line NoMemory = line (codes "NO MEMORY")
 
+-- the status with which it ends then
 abbrev pub start_status : Start → ℕ
 start_status Usage = 5
 start_status NoFormula = 3

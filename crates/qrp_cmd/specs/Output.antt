@@ -64,6 +64,7 @@ IsFormulaFault told before after F1 n = (n ≡ 0) × HasFailed before after
 IsFormulaFault told before after F9 n = (n ≡ 0) × (after ≡ before)
 IsFormulaFault told before after e n = IfSome told (λ bytes. read_formula bytes ≡ Err (e, n)) × (after ≡ before)
 
+-- the same where it is a formula: the one that the bytes spell, with no failure of the source
 abbrev pub IsFormulaRead : Option (List ℕ) → ℕ → ℕ → Result Qbf (FormulaFault × ℕ) → Type 0
 IsFormulaRead told before after (Ok f) = IfSome told (λ bytes. read_formula bytes ≡ Ok f) × (after ≡ before)
 IsFormulaRead told before after (Err e) = IsFormulaFault told before after e.0 e.1

@@ -7,6 +7,7 @@ use qdimacs::FormulaFault;
 use qrp::TraceFault;
 use qrp_check::RuleFault;
 
+/// The name of a fault of a formula's text.
 pub fn formula_fault_name(fault: FormulaFault) -> &'static str
     ensures { result.now ≡ formula_fault_name fault }
 {
@@ -23,6 +24,7 @@ pub fn formula_fault_name(fault: FormulaFault) -> &'static str
     }
 }
 
+/// The name of a fault of a trace's text.
 pub fn trace_fault_name(fault: TraceFault) -> &'static str
     ensures { result.now ≡ trace_fault_name fault }
 {
@@ -39,6 +41,7 @@ pub fn trace_fault_name(fault: TraceFault) -> &'static str
     }
 }
 
+/// The name of a fault of a step.
 pub fn rule_fault_name(fault: RuleFault) -> &'static str
     ensures { result.now ≡ rule_fault_name fault }
 {

@@ -12,7 +12,7 @@ pub enum Start {
     NoFormula,
     /// The trace's file cannot be opened.
     NoTrace,
-    /// Memory was refused while the words were got.
+    /// Memory was refused: while the words were got, while a file was opened, or for the buffer of the output.
     NoMemory,
 }
 
