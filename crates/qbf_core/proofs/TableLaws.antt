@@ -1,13 +1,15 @@
 -- The table of a prefix, beside its entries.
 use Rattle.std.proofs.Common.{◌≡◌, ℕ, zero, suc, ◌≤◌, ◌<◌, Bool, true, false, cond, if◌then◌else◌, List, [], ◌∷◌, ◌++◌, length, Option, Some, None, ◌⊎◌, inl, inr, refl, ap, sym, subst, ◌∙◌, arith, slice_get, slice_set, get_or, take, drop, nat_eq}
-use Rattle.std.specs.Map.{lookup}
-use Rattle.std.specs.List.{AllByRecursion}
+use Rattle.std.specs.Map.{lookup, keys_of}
+use Rattle.std.specs.List.{AllByRecursion, IsDistinct}
 use Rattle.std.proofs.Math.Seq.{take-append_seam}
 use Rattle.std.proofs.lemmas.Bool.{eq-eqb, ne_eqb}
 use Rattle.std.proofs.lemmas.Option.{slice_get_within, slice_get_read}
 use Rattle.qbf_core.specs.declared.prefix.Place.{Place}
 use Rattle.qbf_core.specs.Blocks.{IsVariable}
-use Rattle.qbf_core.specs.Places.{IsTable}
+use Rattle.qbf_core.specs.Places.{IsTable, IsBeyond, IsTold}
+use Rattle.std.proofs.Common.{length-append}
+use Rattle.std.proofs.lemmas.Bool.{cases_eq}
 
 -- a list after all of it was lent as a slice
 pub written_back : {X : Type 0} (n : ℕ) (new old : List X) → n ≡ length old → length new ≡ length old → take n (new ++ drop (length new) old) ≡ new
@@ -77,3 +79,45 @@ module _ (table : List (Option Place)) (es : List (ℕ × Place)) (is : IsTable 
   slot_found read v n slot same number less at =
       let there : slice_get read n ≡ Some slot = slice_get_read read (length read) n slot refl less at in
       is v slot (ap (slice_get table) (sym number) ∙ (ap (λ xs. slice_get xs n) (sym same) ∙ there))
+
+-- one more entry of the table, which the map told so far, or none where it is refused
+pub told_grown : (table : List (Option Place)) (far : List (ℕ × Place)) (given : Bool) (slot : Option Place) → slot ≡ lookup (nat_eq (length table)) far
+    → (es : List (ℕ × Place)) → IsTold table far es → IsTold (if given then table ++ slot ∷ [] else table) far es
+told_grown table far true slot here es told = (
+  table_pushed table es told.0 slot (here ∙ told.1 (length table) (omega arith)),
+  λ n long. told.1 n (omega (arith, long, length-append table (slot ∷ []))),
+)
+told_grown table far false slot here es told = told
+
+-- a new variable that the table reaches, and one that it does not reach
+pub beyond_noted : (table : List (Option Place)) (far es : List (ℕ × Place)) (v : ℕ) (p : Place) → v < length table
+    → IsBeyond table far es → IsBeyond table far (es ++ (v, p) ∷ [])
+beyond_noted table far es v p less told n long = told n long ∙ sym (lookup_other n v p es (ne_eqb n v (λ same. omega (arith, same, less, long))))
+
+pub beyond_added : (table : List (Option Place)) (far es : List (ℕ × Place)) (v : ℕ) (p : Place) → lookup (nat_eq v) far ≡ None → lookup (nat_eq v) es ≡ None
+    → IsBeyond table far es → IsBeyond table (far ++ (v, p) ∷ []) (es ++ (v, p) ∷ [])
+beyond_added table far es v p out none told n long = elim (cases_eq n v) [
+  | inl e ↦ subst (λ (m : ℕ). lookup (nat_eq m) (far ++ (v, p) ∷ []) ≡ lookup (nat_eq m) (es ++ (v, p) ∷ [])) (sym e) (lookup_new v p far out ∙ sym (lookup_new v p es none))
+  | inr ne ↦ lookup_other n v p far (ne_eqb n v ne) ∙ (told n long ∙ sym (lookup_other n v p es (ne_eqb n v ne)))
+]
+
+-- a new variable keeps them distinct
+pub distinct_push : (es : List (ℕ × Place)) (v : ℕ) (p : Place) → lookup (nat_eq v) es ≡ None → IsDistinct nat_eq (keys_of es) → IsDistinct nat_eq (keys_of (es ++ (v, p) ∷ []))
+unfolding IsDistinct
+distinct_push [] v p none d = (tt, tt)
+distinct_push (e ∷ es) v p none d = by (nat_eq v e.0) refl (λ rest. distinct_push es v p rest d.1)
+  where
+    apart : nat_eq e.0 v ≡ false → (xs : List (ℕ × Place)) → AllByRecursion (λ y. nat_eq e.0 y ≡ false) (keys_of xs) → AllByRecursion (λ y. nat_eq e.0 y ≡ false) (keys_of (xs ++ (v, p) ∷ []))
+    apart ne [] all = (ne, tt)
+    apart ne (x ∷ xs) all = (all.0, apart ne xs all.1)
+
+    flipped : nat_eq v e.0 ≡ false → nat_eq e.0 v ≡ false
+    flipped is = ne_eqb e.0 v (λ same. let t : nat_eq v e.0 ≡ true = eq-eqb v e.0 (sym same) in cc (is, t))
+
+    by : (t : Bool) → nat_eq v e.0 ≡ t → (lookup (nat_eq v) es ≡ None → IsDistinct nat_eq (keys_of (es ++ (v, p) ∷ []))) → IsDistinct nat_eq (keys_of ((e ∷ es) ++ (v, p) ∷ []))
+    by true is more = absurd (let h : Some e.1 ≡ None = rw is at none in cc h)
+    by false is more = (apart (flipped is) es d.0, more (rw is at none))
+
+-- a number that the table was read at in vain
+pub outside : {X : Type 0} (read table : List X) (v n : ℕ) → read ≡ table → n ≡ v → length read ≤ n → length table ≤ v
+outside read table v n same number long = omega (arith, ap length same, number, long)
