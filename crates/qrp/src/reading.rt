@@ -130,6 +130,20 @@ fn read_set<S: Source>(
 
 // ---- a step
 
+/// So many literals have room before a step's list grows: few steps have more.
+const ROOM: usize = 16;
+
+/// No items, and room for some.
+fn with_room<T: Drop>(alloc: Global, room: usize) -> Result<Vec<T>, Fault>
+    ensures none { IfOk result (λ items. items.items ≡ []) }
+    ensures memory { IfErr result (λ e. e ≡ (P9, 0)) }
+{
+    match Vec::with_capacity(alloc, room) {
+        Ok(items) => Ok(items),
+        Err(_) => Err((TraceFault::P9, 0)),
+    }
+}
+
 /// The literals of a step.
 fn read_literals<S: Source>(
     alloc: Global,
@@ -151,7 +165,7 @@ fn read_literals<S: Source>(
     ensures works { OnOk result (S.failures source.new ≡ S.failures source.old) }
     ensures ready { OnOk result (¬ HasFailed scanner.new) }
 {
-    let mut lits = Vec::new(alloc);
+    let mut lits = with_room(alloc, ROOM)?;
     'lits: loop {
         let (token, line) = next(scanner, source)?;
         match literal(token) {

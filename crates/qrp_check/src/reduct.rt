@@ -101,6 +101,13 @@ pub(crate) fn stands_after(
     }
 }
 
+/// Whether a literal of the variable is kept, or left aside.
+fn is_kept(spared: Option<u32>, var: Var, kept: bool) -> bool
+    ensures { IsTrue result ↔ (IsTrue kept ⊎ IsSpared spared var) }
+{
+    kept || is_spared(spared, var)
+}
+
 /// Whether a literal of the variable is kept, or need not be.
 fn is_left(
     prefix: &Prefix,
@@ -112,14 +119,7 @@ fn is_left(
 ) -> bool
     ensures { IsTrue result ↔ (IsTrue kept ⊎ (IsSpared spared var ⊎ StandsAfter prefix.now reduced block var)) }
 {
-    kept || is_spared(spared, var) || stands_after(prefix, reduced, block, var)
-}
-
-/// Whether a literal of the variable is kept, or left aside.
-fn is_kept(spared: Option<u32>, var: Var, kept: bool) -> bool
-    ensures { IsTrue result ↔ (IsTrue kept ⊎ IsSpared spared var) }
-{
-    kept || is_spared(spared, var)
+    is_kept(spared, var, kept) || stands_after(prefix, reduced, block, var)
 }
 
 /// Whether each literal is kept, or left aside.
