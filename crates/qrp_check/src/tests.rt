@@ -342,8 +342,8 @@ fn disagreeing(two: Var, three: Var) -> [(&'static str, &'static str, CheckFault
 #[test]
 fn names_the_first_fault(rt: HostRuntime) -> Result<(), Fail> {
     let alloc = rt.alloc();
-    for (formula, trace, fault) in FAULTY {
-        for rules in [Rules::plain(), Rules::any_pivot()] {
+    for rules in [Rules::plain(), Rules::any_pivot()] {
+        for (formula, trace, fault) in FAULTY {
             refuses(
                 &rt,
                 alloc,
@@ -362,8 +362,8 @@ fn names_the_first_variable(rt: HostRuntime) -> Result<(), Fail> {
     let alloc = rt.alloc();
     let two = Var::new(2).expect(&rt, "a variable");
     let three = Var::new(3).expect(&rt, "a variable");
-    for (formula, trace, fault) in disagreeing(two, three) {
-        for rules in [Rules::plain(), Rules::any_pivot()] {
+    for rules in [Rules::plain(), Rules::any_pivot()] {
+        for (formula, trace, fault) in disagreeing(two, three) {
             refuses(
                 &rt,
                 alloc,
