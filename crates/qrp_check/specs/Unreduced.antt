@@ -29,6 +29,7 @@ unreduced_conditions rules side blocks a b to =
     )
     ∷ []
 
+-- by the number of antecedents, as `antecedent_conditions`
 abbrev pub unreduced_antecedents : Rules → Side → Qbf → List Inference → List ℕ → List Literal → List (Condition RuleFault)
 unreduced_antecedents rules side f before [] lits = initial_condition side f lits ∷ []
 unreduced_antecedents rules side f before (m ∷ []) lits = reduct_conditions side f.blocks (lits_of before m) lits
