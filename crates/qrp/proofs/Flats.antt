@@ -1,6 +1,5 @@
 -- Steps in flat buffers.
-use Rattle.std.proofs.Common.{◌≡◌, ◌<◌, ◌+◌, ◌-◌, ℕ, zero, suc, List, [], ◌∷◌, ◌++◌, length, map, take, slice_get, Some, refl, ap, ◌∙◌, arith, length-append}
-use Rattle.std.proofs.Math.Seq.{take-append_seam}
+use Rattle.std.proofs.Common.{◌≡◌, ◌<◌, ℕ, zero, suc, List, [], ◌∷◌, ◌++◌, length, map, slice_get, Some, refl, ap, ◌∙◌, arith}
 use Rattle.qbf_core.specs.Literal.{Literal}
 use Rattle.qrp.specs.Inferences.{Inference, IsAt, numbers}
 use Rattle.qrp.specs.Flat.{Body, body, bodies, numbered}

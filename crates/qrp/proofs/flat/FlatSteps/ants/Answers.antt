@@ -1,4 +1,4 @@
-use Rattle.std.proofs.Common.{ap, sym, ◌∙◌, length, Some}
+use Rattle.std.proofs.Common.{sym, ◌∙◌}
 use Rattle.qrp.proofs.Flats.{bodies_at, bodies_within, same_some}
 use Rattle.qrp.proofs.flat.FlatSteps.ants.Goals as goal
 

@@ -1,5 +1,5 @@
 use Rattle.std.proofs.Common.{List, [], ◌∷◌, ◌++◌, ap, ◌∙◌}
-use Rattle.qrp.specs.Flat.{Body, bodies}
+use Rattle.qrp.specs.Flat.{Body}
 use Rattle.qrp.proofs.Flats.{bodies_more}
 use Rattle.qrp.proofs.flat.FlatSteps.push.Goals as goal
 
