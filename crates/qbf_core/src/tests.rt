@@ -117,15 +117,21 @@ fn formulas(rt: HostRuntime) -> Result<(), Fail> {
     Ok(())
 }
 
+/// The prefix of an existential and, in it, a universal variable.
+fn two_blocks(alloc: Global, outer: Var, inner: Var) -> Result<Prefix, Fail> {
+    let mut prefix = Prefix::new(alloc);
+    prefix.push(Quantifier::Exists, outer)?;
+    prefix.push(Quantifier::All, inner)?;
+    Ok(prefix)
+}
+
 #[test]
 fn sets(rt: HostRuntime) -> Result<(), Fail> {
     let alloc = rt.alloc();
     let one = variable(&rt, 1);
     let two = variable(&rt, 2);
     let three = variable(&rt, 3);
-    let mut prefix = Prefix::new(alloc);
-    prefix.push(Quantifier::Exists, one)?;
-    prefix.push(Quantifier::All, two)?;
+    let prefix = two_blocks(alloc, one, two)?;
     let lits = [
         Lit::new(two, true),
         Lit::new(one, false),
@@ -136,29 +142,27 @@ fn sets(rt: HostRuntime) -> Result<(), Fail> {
     assert!(rt; set.contains(Lit::new(two, true)));
     assert!(rt; !set.contains(Lit::new(two, false)));
     assert!(rt; !set.contains(Lit::new(three, false)));
-    assert!(rt;
-        LitSet::from_slice(alloc, &[], &prefix)?
-            .as_slice()
-            .is_empty()
-    );
+    let empty = LitSet::from_slice(alloc, &[], &prefix)?;
+    assert!(rt; empty.as_slice().is_empty());
+    Ok(())
+}
+
+#[test]
+fn literals_that_are_no_set(rt: HostRuntime) -> Result<(), Fail> {
+    let alloc = rt.alloc();
+    let one = variable(&rt, 1);
+    let three = variable(&rt, 3);
+    let prefix = two_blocks(alloc, one, variable(&rt, 2))?;
     let clash = [
         Lit::new(three, false),
         Lit::new(one, false),
         Lit::new(one, true),
     ];
-    assert!(rt;
-        matches!(
-            LitSet::from_slice(alloc, &clash, &prefix),
-            Err(SetFault::E1)
-        )
-    );
+    let refused = LitSet::from_slice(alloc, &clash, &prefix);
+    assert!(rt; matches!(refused, Err(SetFault::E1)));
     let unbound = [Lit::new(three, false), Lit::new(one, false)];
-    assert!(rt;
-        matches!(
-            LitSet::from_slice(alloc, &unbound, &prefix),
-            Err(SetFault::E2)
-        )
-    );
+    let refused = LitSet::from_slice(alloc, &unbound, &prefix);
+    assert!(rt; matches!(refused, Err(SetFault::E2)));
     Ok(())
 }
 

@@ -56,18 +56,6 @@ fn scans_worked_texts(rt: HostRuntime) {
         negative: true,
         value: 2,
     };
-    let crlf = [(number(1), 1), (number(3), 3), (Token::End, 3)];
-    let hash = [
-        (Token::Bad, 1),
-        (Token::Bad, 1),
-        (number(4), 2),
-        (Token::End, 2),
-    ];
-    let words = [
-        (Token::Word(Word::R), 1),
-        (Token::Word(Word::Unsat), 1),
-        (Token::End, 1),
-    ];
     scans(&rt, Comments::Qdimacs, b"", &[(Token::End, 1)]);
     scans(&rt, Comments::Qdimacs, b"\n", &[(Token::End, 2)]);
     scans(
@@ -81,9 +69,6 @@ fn scans_worked_texts(rt: HostRuntime) {
             (Token::End, 1),
         ],
     );
-    scans(&rt, Comments::Qdimacs, b"1\r\nc 2\n3", &crlf);
-    scans(&rt, Comments::Qdimacs, b"# x\n4", &hash);
-    scans(&rt, Comments::Qrp, b"# x\n4", &hash[2..]);
     scans(
         &rt,
         Comments::Qdimacs,
@@ -94,31 +79,42 @@ fn scans_worked_texts(rt: HostRuntime) {
             (Token::End, 1),
         ],
     );
-    scans(
-        &rt,
-        Comments::Qdimacs,
-        b"-0 0 +3 007",
-        &[
-            (Token::Bad, 1),
-            (number(0), 1),
-            (Token::Bad, 1),
-            (number(7), 1),
-            (Token::End, 1),
-        ],
-    );
+    let signs = [
+        (Token::Bad, 1),
+        (number(0), 1),
+        (Token::Bad, 1),
+        (number(7), 1),
+        (Token::End, 1),
+    ];
+    scans(&rt, Comments::Qdimacs, b"-0 0 +3 007", &signs);
+}
+
+#[test]
+fn scans_comments_and_words(rt: HostRuntime) {
+    let crlf = [(number(1), 1), (number(3), 3), (Token::End, 3)];
+    let hash = [
+        (Token::Bad, 1),
+        (Token::Bad, 1),
+        (number(4), 2),
+        (Token::End, 2),
+    ];
+    let words = [
+        (Token::Word(Word::R), 1),
+        (Token::Word(Word::Unsat), 1),
+        (Token::End, 1),
+    ];
+    let runs = [
+        (number(1), 1),
+        (Token::Bad, 1),
+        (Token::Word(Word::Cnf), 1),
+        (Token::End, 1),
+    ];
+    scans(&rt, Comments::Qdimacs, b"1\r\nc 2\n3", &crlf);
+    scans(&rt, Comments::Qdimacs, b"# x\n4", &hash);
+    scans(&rt, Comments::Qrp, b"# x\n4", &hash[2..]);
     scans(&rt, Comments::Qrp, b"r UnSat", &words);
     scans(&rt, Comments::Qdimacs, b"cnfcnf cnf", &[(Token::End, 1)]);
-    scans(
-        &rt,
-        Comments::Qdimacs,
-        b" 1 cnfcnf cnf",
-        &[
-            (number(1), 1),
-            (Token::Bad, 1),
-            (Token::Word(Word::Cnf), 1),
-            (Token::End, 1),
-        ],
-    );
+    scans(&rt, Comments::Qdimacs, b" 1 cnfcnf cnf", &runs);
 }
 
 #[test]

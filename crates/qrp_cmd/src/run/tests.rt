@@ -85,301 +85,305 @@ fn formats_become_canonical(rt: HostRuntime) -> Result<(), Fail> {
     Ok(())
 }
 
+/// A formula that is refused, and the line.
+const REFUSED_FORMULAS: [(&[u8], &[u8]); 12] = [
+    (
+        b"p cnf 2 2\ne 1 0\na 2 0\n1 2 0\n",
+        b"REFUSED formula F8 line 5\n",
+    ),
+    (
+        b"p cnf 1 1\ne 1 0\n1 0\n-1 0\n",
+        b"REFUSED formula F8 line 4\n",
+    ),
+    (
+        b"p cnf 3 2\ne 1 0\na 2 0\n1 3 0\n-1 2 0\n",
+        b"REFUSED formula F6 line 4\n",
+    ),
+    (
+        b"p cnf 2147483647 1\ne 2147483648 0\n-2147483647 0\n",
+        b"REFUSED formula F4 line 2\n",
+    ),
+    (b"", b"REFUSED formula F7 line 1\n"),
+    (b"p\ncnf 0 0\n", b"REFUSED formula F7 line 3\n"),
+    (b"p cnf 1 1\ne 1 0\n1 x 0\n", b"REFUSED formula F3 line 3\n"),
+    (
+        b"p cnf 1 1\ne 1 0\n1 -0 0\n",
+        b"REFUSED formula F3 line 3\n",
+    ),
+    (
+        b"p cnf 2 0\ne 1 0\na 2 1 0\n",
+        b"REFUSED formula F5 line 3\n",
+    ),
+    (b"p cnf 2\ne 1 0\n", b"REFUSED formula F2 line 2\n"),
+    (b"p cnf 1 1\ne 1 0\n2 0\n", b"REFUSED formula F4 line 3\n"),
+    (
+        b"p cnf 1 0\ne 1 0\n18446744073709551616\n",
+        b"REFUSED formula F8 line 3\n",
+    ),
+];
+
 #[test]
 fn formats_are_refused(rt: HostRuntime) -> Result<(), Fail> {
-    let rows: [(&[u8], &[u8]); 12] = [
-        (
-            b"p cnf 2 2\ne 1 0\na 2 0\n1 2 0\n",
-            b"REFUSED formula F8 line 5\n",
-        ),
-        (
-            b"p cnf 1 1\ne 1 0\n1 0\n-1 0\n",
-            b"REFUSED formula F8 line 4\n",
-        ),
-        (
-            b"p cnf 3 2\ne 1 0\na 2 0\n1 3 0\n-1 2 0\n",
-            b"REFUSED formula F6 line 4\n",
-        ),
-        (
-            b"p cnf 2147483647 1\ne 2147483648 0\n-2147483647 0\n",
-            b"REFUSED formula F4 line 2\n",
-        ),
-        (b"", b"REFUSED formula F7 line 1\n"),
-        (b"p\ncnf 0 0\n", b"REFUSED formula F7 line 3\n"),
-        (b"p cnf 1 1\ne 1 0\n1 x 0\n", b"REFUSED formula F3 line 3\n"),
-        (
-            b"p cnf 1 1\ne 1 0\n1 -0 0\n",
-            b"REFUSED formula F3 line 3\n",
-        ),
-        (
-            b"p cnf 2 0\ne 1 0\na 2 1 0\n",
-            b"REFUSED formula F5 line 3\n",
-        ),
-        (b"p cnf 2\ne 1 0\n", b"REFUSED formula F2 line 2\n"),
-        (b"p cnf 1 1\ne 1 0\n2 0\n", b"REFUSED formula F4 line 3\n"),
-        (
-            b"p cnf 1 0\ne 1 0\n18446744073709551616\n",
-            b"REFUSED formula F8 line 3\n",
-        ),
-    ];
-    for (formula, refusal) in rows {
+    for (formula, refusal) in REFUSED_FORMULAS {
         expect(&rt, Job::Format, (formula, b""), b"", refusal, 2)?;
     }
     Ok(())
 }
 
+/// A formula, a trace, and the line and the status of their check.
+const CHECKED: [(&[u8], &[u8], &[u8], Status); 36] = [
+    // a false formula and its refutation
+    (TWO_CLAUSES, REFUTATION, b"VERIFIED false\n", 0),
+    // a true formula and its proof
+    (
+        b"p cnf 2 2\na 1 0\ne 2 0\n1 -2 0\n-1 2 0\n",
+        b"p qrp 2 5\n1 1 2 0 0\n2 -1 -2 0 0\n3 1 0 1 0\n4 -1 0 2 0\n5 0 3 4 0\nr sat\n",
+        b"VERIFIED true\n",
+        0,
+    ),
+    // a proof of truth called a refutation
+    (
+        b"p cnf 2 2\na 1 0\ne 2 0\n1 -2 0\n-1 2 0\n",
+        b"p qrp 2 5\n1 1 2 0 0\n2 -1 -2 0 0\n3 1 0 1 0\n4 -1 0 2 0\n5 0 3 4 0\nr unsat\n",
+        b"REFUSED step 1 S4\n",
+        1,
+    ),
+    // no clause at all
+    (
+        b"p cnf 0 0\n",
+        b"p qrp 0 0\n1 0 0\nr sat\n",
+        b"VERIFIED true\n",
+        0,
+    ),
+    // an empty clause, the result in capitals
+    (
+        b"p cnf 0 1\n0\n",
+        b"p qrp 0 1\n1 0 0\nr UNSAT\n",
+        b"VERIFIED false\n",
+        0,
+    ),
+    // a reduct of an unclean clause
+    (
+        b"p cnf 1 1\na 1 0\n1 -1 0\n",
+        b"p qrp 1 1\n1 0 0\nr unsat\n",
+        b"REFUSED step 1 S4\n",
+        1,
+    ),
+    // a universal literal reduced before a later existential one
+    (
+        b"p cnf 2 2\na 2 0\ne 1 0\n1 2 0\n-1 2 0\n",
+        b"p qrp 2 5\n1 1 2 0 0\n2 -1 2 0 0\n3 1 0 1 0\n4 -1 0 2 0\n5 0 3 4 0\nr unsat\n",
+        b"REFUSED step 3 S7\n",
+        1,
+    ),
+    // a set variable in a smaller block than one before
+    (
+        b"p cnf 2 2\na 2 0\ne 1 0\n1 2 0\n-1 2 0\n",
+        REFUTATION,
+        b"REFUSED set C3 variable 2\n",
+        1,
+    ),
+    // parents that do not clash
+    (
+        TWO_CLAUSES,
+        b"p qrp 2 5\ne 1 0\na 2 0\n1 1 2 0 0\n2 -1 2 0 0\n3 1 0 1 0\n4 -1 0 2 0\n5 0 3 3 0\nr unsat\n",
+        b"REFUSED step 5 S8\n",
+        1,
+    ),
+    // a step that names itself
+    (
+        TWO_CLAUSES,
+        b"p qrp 2 5\ne 1 0\na 2 0\n1 1 2 0 0\n2 -1 2 0 0\n3 1 0 1 0\n4 -1 0 2 0\n5 0 5 4 0\nr unsat\n",
+        b"REFUSED step 5 S3\n",
+        1,
+    ),
+    // a stray cube outside the core
+    (
+        TWO_CLAUSES,
+        b"p qrp 2 6\ne 1 0\na 2 0\n1 1 2 0 0\n2 -1 2 0 0\n3 1 0 1 0\n4 -1 0 2 0\n5 0 3 4 0\n9 2 -2 0 77 0\nr unsat\n",
+        b"VERIFIED false\n",
+        0,
+    ),
+    // a trace cut inside a step
+    (
+        TWO_CLAUSES,
+        b"p qrp 2 5\ne 1 0\na 2 0\n1 1 2 0 0\n2 -1 2 0 0\n3 1 0 1 0\n4 -1 0 2 0\n5 0 3",
+        b"REFUSED trace P7 line 8\n",
+        2,
+    ),
+    // fewer clauses than the header says
+    (
+        b"p cnf 2 2\ne 1 0\na 2 0\n1 2 0\n",
+        REFUTATION,
+        b"REFUSED formula F8 line 5\n",
+        2,
+    ),
+    // a free variable
+    (
+        b"p cnf 3 2\ne 1 0\na 2 0\n1 3 0\n-1 2 0\n",
+        REFUTATION,
+        b"REFUSED formula F6 line 4\n",
+        2,
+    ),
+    // a faulty formula comes before a faulty trace
+    (
+        b"p cnf 3 2\ne 1 0\na 2 0\n1 3 0\n-1 2 0\n",
+        b"p qrp 2 5\ne 1 0\na 2 0\n1 1 2 0 0\n2 -1 2 0 0\n3 1 0 1 0\n4 -1 0 2 0\n5 0 3",
+        b"REFUSED formula F6 line 4\n",
+        2,
+    ),
+    // a trace without a result
+    (
+        TWO_CLAUSES,
+        b"p qrp 2 5\ne 1 3 0\na 2 0\n1 1 2 0 0\n2 -1 2 0 0\n3 1 0 1 0\n4 -1 0 2 0\n5 0 3 4 0\n",
+        b"REFUSED trace P7 line 9\n",
+        2,
+    ),
+    // the greatest step number
+    (
+        TWO_CLAUSES,
+        b"p qrp 2 5\ne 1 0\na 2 0\n1 1 2 0 0\n2 -1 2 0 0\n3 1 0 1 0\n4 -1 0 2 0\n18446744073709551615 0 3 4 0\nr unsat\n",
+        b"VERIFIED false\n",
+        0,
+    ),
+    // a step number out of range
+    (
+        TWO_CLAUSES,
+        b"p qrp 2 5\ne 1 0\na 2 0\n1 1 2 0 0\n2 -1 2 0 0\n3 1 0 1 0\n4 -1 0 2 0\n18446744073709551616 0 3 4 0\nr unsat\n",
+        b"REFUSED trace P4 line 8\n",
+        2,
+    ),
+    // a step number used twice
+    (
+        TWO_CLAUSES,
+        b"p qrp 2 5\ne 1 0\na 2 0\n1 1 2 0 0\n2 -1 2 0 0\n3 1 0 1 0\n3 -1 0 2 0\n5 0 3 4 0\nr unsat\n",
+        b"REFUSED trace P5 line 7\n",
+        2,
+    ),
+    // an initial cube that misses a clause
+    (
+        b"p cnf 2 2\na 1 0\ne 2 0\n1 -2 0\n-1 2 0\n",
+        b"p qrp 2 5\n1 1 0 0\n2 -1 -2 0 0\n3 1 0 1 0\n4 -1 0 2 0\n5 0 3 4 0\nr sat\n",
+        b"REFUSED step 1 S5\n",
+        1,
+    ),
+    // a universal pivot
+    (
+        b"p cnf 2 3\na 1 0\ne 2 0\n1 2 0\n-1 2 0\n-2 0\n",
+        b"p qrp 2 5\n1 1 2 0 0\n2 -1 2 0 0\n3 -2 0 0\n4 2 0 1 2 0\n5 0 4 3 0\nr unsat\n",
+        b"REFUSED step 4 S10\n",
+        1,
+    ),
+    // a parent reduced before it is resolved
+    (
+        b"p cnf 3 3\ne 1 0\na 2 0\ne 3 0\n1 2 0\n-1 3 0\n-3 0\n",
+        b"p qrp 3 5\n1 1 2 0 0\n2 -1 3 0 0\n3 3 0 1 2 0\n4 -3 0 0\n5 0 3 4 0\nr unsat\n",
+        b"VERIFIED false\n",
+        0,
+    ),
+    // a third antecedent
+    (
+        TWO_CLAUSES,
+        b"p qrp 2 5\ne 1 0\na 2 0\n1 1 2 0 0\n2 -1 2 0 0\n3 1 0 1 0\n4 -1 0 2 0\n5 0 3 4 1 0\nr unsat\n",
+        b"REFUSED trace P6 line 8\n",
+        2,
+    ),
+    // a wrong result word
+    (
+        TWO_CLAUSES,
+        b"p qrp 2 5\ne 1 0\na 2 0\n1 1 2 0 0\n2 -1 2 0 0\n3 1 0 1 0\n4 -1 0 2 0\n5 0 3 4 0\nr maybe\n",
+        b"REFUSED trace P8 line 9\n",
+        2,
+    ),
+    // bytes behind the result
+    (
+        TWO_CLAUSES,
+        b"p qrp 2 5\ne 1 0\na 2 0\n1 1 2 0 0\n2 -1 2 0 0\n3 1 0 1 0\n4 -1 0 2 0\n5 0 3 4 0\nr unsat %$",
+        b"VERIFIED false\n",
+        0,
+    ),
+    // no step without literals
+    (
+        TWO_CLAUSES,
+        b"p qrp 2 0\nr unsat\n",
+        b"REFUSED trace C4\n",
+        1,
+    ),
+    // a set variable that is unbound
+    (
+        TWO_CLAUSES,
+        b"p qrp 2 5\ne 1 3 0\na 2 0\n1 1 2 0 0\n2 -1 2 0 0\n3 1 0 1 0\n4 -1 0 2 0\n5 0 3 4 0\nr unsat\n",
+        b"REFUSED set C1 variable 3\n",
+        1,
+    ),
+    // a set variable with the other quantifier
+    (
+        TWO_CLAUSES,
+        b"p qrp 2 5\ne 1 2 0\na 2 0\n1 1 2 0 0\n2 -1 2 0 0\n3 1 0 1 0\n4 -1 0 2 0\n5 0 3 4 0\nr unsat\n",
+        b"REFUSED set C2 variable 2\n",
+        1,
+    ),
+    // a step with a clashing pair
+    (
+        TWO_CLAUSES,
+        b"p qrp 2 5\ne 1 0\na 2 0\n1 1 2 0 0\n2 -1 2 0 0\n3 1 -1 0 1 0\n4 -1 0 2 0\n5 0 3 4 0\nr unsat\n",
+        b"REFUSED step 3 S1\n",
+        1,
+    ),
+    // a step with an unbound variable
+    (
+        TWO_CLAUSES,
+        b"p qrp 2 5\ne 1 0\na 2 0\n1 1 2 0 0\n2 -1 2 0 0\n3 1 7 0 1 0\n4 -1 0 2 0\n5 0 3 4 0\nr unsat\n",
+        b"REFUSED step 3 S2\n",
+        1,
+    ),
+    // a literal that is not in the antecedent
+    (
+        TWO_CLAUSES,
+        b"p qrp 2 5\ne 1 0\na 2 0\n1 1 2 0 0\n2 -1 2 0 0\n3 1 -2 0 1 0\n4 -1 0 2 0\n5 0 3 4 0\nr unsat\n",
+        b"REFUSED step 3 S6\n",
+        1,
+    ),
+    // two clashing variables
+    (
+        b"p cnf 2 2\ne 1 2 0\n1 2 0\n-1 -2 0\n",
+        b"p qrp 2 3\n1 1 2 0 0\n2 -1 -2 0 0\n3 0 1 2 0\nr unsat\n",
+        b"REFUSED step 3 S9\n",
+        1,
+    ),
+    // a literal that is not in the resolvent
+    (
+        b"p cnf 2 2\ne 1 2 0\n1 0\n-1 0\n",
+        b"p qrp 2 4\n1 1 0 0\n2 -1 0 0\n3 2 0 1 2 0\n4 0 3 0\nr unsat\n",
+        b"REFUSED step 3 S11\n",
+        1,
+    ),
+    // input clauses already reduced
+    (
+        TWO_CLAUSES,
+        b"p qrp 2 3\n1 1 0 0\n2 -1 0 0\n3 0 1 2 0\nr unsat\n",
+        b"VERIFIED false\n",
+        0,
+    ),
+    // a resolvent reduced in the same step
+    (
+        TWO_CLAUSES,
+        b"p qrp 2 3\n1 1 2 0 0\n2 -1 2 0 0\n3 0 1 2 0\nr unsat\n",
+        b"VERIFIED false\n",
+        0,
+    ),
+    // the last empty step is the goal
+    (
+        TWO_CLAUSES,
+        b"p qrp 2 5\ne 1 0\na 2 0\n1 1 2 0 0\n2 -1 2 0 0\n3 1 0 1 0\n4 -1 0 2 0\n5 0 3 4 0\n6 0 0\nr unsat\n",
+        b"REFUSED step 6 S4\n",
+        1,
+    ),
+];
+
 #[test]
 fn verdicts_and_refusals(rt: HostRuntime) -> Result<(), Fail> {
-    let rows: [(&[u8], &[u8], &[u8], Status); 36] = [
-        // a false formula and its refutation
-        (TWO_CLAUSES, REFUTATION, b"VERIFIED false\n", 0),
-        // a true formula and its proof
-        (
-            b"p cnf 2 2\na 1 0\ne 2 0\n1 -2 0\n-1 2 0\n",
-            b"p qrp 2 5\n1 1 2 0 0\n2 -1 -2 0 0\n3 1 0 1 0\n4 -1 0 2 0\n5 0 3 4 0\nr sat\n",
-            b"VERIFIED true\n",
-            0,
-        ),
-        // a proof of truth called a refutation
-        (
-            b"p cnf 2 2\na 1 0\ne 2 0\n1 -2 0\n-1 2 0\n",
-            b"p qrp 2 5\n1 1 2 0 0\n2 -1 -2 0 0\n3 1 0 1 0\n4 -1 0 2 0\n5 0 3 4 0\nr unsat\n",
-            b"REFUSED step 1 S4\n",
-            1,
-        ),
-        // no clause at all
-        (
-            b"p cnf 0 0\n",
-            b"p qrp 0 0\n1 0 0\nr sat\n",
-            b"VERIFIED true\n",
-            0,
-        ),
-        // an empty clause, the result in capitals
-        (
-            b"p cnf 0 1\n0\n",
-            b"p qrp 0 1\n1 0 0\nr UNSAT\n",
-            b"VERIFIED false\n",
-            0,
-        ),
-        // a reduct of an unclean clause
-        (
-            b"p cnf 1 1\na 1 0\n1 -1 0\n",
-            b"p qrp 1 1\n1 0 0\nr unsat\n",
-            b"REFUSED step 1 S4\n",
-            1,
-        ),
-        // a universal literal reduced before a later existential one
-        (
-            b"p cnf 2 2\na 2 0\ne 1 0\n1 2 0\n-1 2 0\n",
-            b"p qrp 2 5\n1 1 2 0 0\n2 -1 2 0 0\n3 1 0 1 0\n4 -1 0 2 0\n5 0 3 4 0\nr unsat\n",
-            b"REFUSED step 3 S7\n",
-            1,
-        ),
-        // a set variable in a smaller block than one before
-        (
-            b"p cnf 2 2\na 2 0\ne 1 0\n1 2 0\n-1 2 0\n",
-            REFUTATION,
-            b"REFUSED set C3 variable 2\n",
-            1,
-        ),
-        // parents that do not clash
-        (
-            TWO_CLAUSES,
-            b"p qrp 2 5\ne 1 0\na 2 0\n1 1 2 0 0\n2 -1 2 0 0\n3 1 0 1 0\n4 -1 0 2 0\n5 0 3 3 0\nr unsat\n",
-            b"REFUSED step 5 S8\n",
-            1,
-        ),
-        // a step that names itself
-        (
-            TWO_CLAUSES,
-            b"p qrp 2 5\ne 1 0\na 2 0\n1 1 2 0 0\n2 -1 2 0 0\n3 1 0 1 0\n4 -1 0 2 0\n5 0 5 4 0\nr unsat\n",
-            b"REFUSED step 5 S3\n",
-            1,
-        ),
-        // a stray cube outside the core
-        (
-            TWO_CLAUSES,
-            b"p qrp 2 6\ne 1 0\na 2 0\n1 1 2 0 0\n2 -1 2 0 0\n3 1 0 1 0\n4 -1 0 2 0\n5 0 3 4 0\n9 2 -2 0 77 0\nr unsat\n",
-            b"VERIFIED false\n",
-            0,
-        ),
-        // a trace cut inside a step
-        (
-            TWO_CLAUSES,
-            b"p qrp 2 5\ne 1 0\na 2 0\n1 1 2 0 0\n2 -1 2 0 0\n3 1 0 1 0\n4 -1 0 2 0\n5 0 3",
-            b"REFUSED trace P7 line 8\n",
-            2,
-        ),
-        // fewer clauses than the header says
-        (
-            b"p cnf 2 2\ne 1 0\na 2 0\n1 2 0\n",
-            REFUTATION,
-            b"REFUSED formula F8 line 5\n",
-            2,
-        ),
-        // a free variable
-        (
-            b"p cnf 3 2\ne 1 0\na 2 0\n1 3 0\n-1 2 0\n",
-            REFUTATION,
-            b"REFUSED formula F6 line 4\n",
-            2,
-        ),
-        // a faulty formula comes before a faulty trace
-        (
-            b"p cnf 3 2\ne 1 0\na 2 0\n1 3 0\n-1 2 0\n",
-            b"p qrp 2 5\ne 1 0\na 2 0\n1 1 2 0 0\n2 -1 2 0 0\n3 1 0 1 0\n4 -1 0 2 0\n5 0 3",
-            b"REFUSED formula F6 line 4\n",
-            2,
-        ),
-        // a trace without a result
-        (
-            TWO_CLAUSES,
-            b"p qrp 2 5\ne 1 3 0\na 2 0\n1 1 2 0 0\n2 -1 2 0 0\n3 1 0 1 0\n4 -1 0 2 0\n5 0 3 4 0\n",
-            b"REFUSED trace P7 line 9\n",
-            2,
-        ),
-        // the greatest step number
-        (
-            TWO_CLAUSES,
-            b"p qrp 2 5\ne 1 0\na 2 0\n1 1 2 0 0\n2 -1 2 0 0\n3 1 0 1 0\n4 -1 0 2 0\n18446744073709551615 0 3 4 0\nr unsat\n",
-            b"VERIFIED false\n",
-            0,
-        ),
-        // a step number out of range
-        (
-            TWO_CLAUSES,
-            b"p qrp 2 5\ne 1 0\na 2 0\n1 1 2 0 0\n2 -1 2 0 0\n3 1 0 1 0\n4 -1 0 2 0\n18446744073709551616 0 3 4 0\nr unsat\n",
-            b"REFUSED trace P4 line 8\n",
-            2,
-        ),
-        // a step number used twice
-        (
-            TWO_CLAUSES,
-            b"p qrp 2 5\ne 1 0\na 2 0\n1 1 2 0 0\n2 -1 2 0 0\n3 1 0 1 0\n3 -1 0 2 0\n5 0 3 4 0\nr unsat\n",
-            b"REFUSED trace P5 line 7\n",
-            2,
-        ),
-        // an initial cube that misses a clause
-        (
-            b"p cnf 2 2\na 1 0\ne 2 0\n1 -2 0\n-1 2 0\n",
-            b"p qrp 2 5\n1 1 0 0\n2 -1 -2 0 0\n3 1 0 1 0\n4 -1 0 2 0\n5 0 3 4 0\nr sat\n",
-            b"REFUSED step 1 S5\n",
-            1,
-        ),
-        // a universal pivot
-        (
-            b"p cnf 2 3\na 1 0\ne 2 0\n1 2 0\n-1 2 0\n-2 0\n",
-            b"p qrp 2 5\n1 1 2 0 0\n2 -1 2 0 0\n3 -2 0 0\n4 2 0 1 2 0\n5 0 4 3 0\nr unsat\n",
-            b"REFUSED step 4 S10\n",
-            1,
-        ),
-        // a parent reduced before it is resolved
-        (
-            b"p cnf 3 3\ne 1 0\na 2 0\ne 3 0\n1 2 0\n-1 3 0\n-3 0\n",
-            b"p qrp 3 5\n1 1 2 0 0\n2 -1 3 0 0\n3 3 0 1 2 0\n4 -3 0 0\n5 0 3 4 0\nr unsat\n",
-            b"VERIFIED false\n",
-            0,
-        ),
-        // a third antecedent
-        (
-            TWO_CLAUSES,
-            b"p qrp 2 5\ne 1 0\na 2 0\n1 1 2 0 0\n2 -1 2 0 0\n3 1 0 1 0\n4 -1 0 2 0\n5 0 3 4 1 0\nr unsat\n",
-            b"REFUSED trace P6 line 8\n",
-            2,
-        ),
-        // a wrong result word
-        (
-            TWO_CLAUSES,
-            b"p qrp 2 5\ne 1 0\na 2 0\n1 1 2 0 0\n2 -1 2 0 0\n3 1 0 1 0\n4 -1 0 2 0\n5 0 3 4 0\nr maybe\n",
-            b"REFUSED trace P8 line 9\n",
-            2,
-        ),
-        // bytes behind the result
-        (
-            TWO_CLAUSES,
-            b"p qrp 2 5\ne 1 0\na 2 0\n1 1 2 0 0\n2 -1 2 0 0\n3 1 0 1 0\n4 -1 0 2 0\n5 0 3 4 0\nr unsat %$",
-            b"VERIFIED false\n",
-            0,
-        ),
-        // no step without literals
-        (
-            TWO_CLAUSES,
-            b"p qrp 2 0\nr unsat\n",
-            b"REFUSED trace C4\n",
-            1,
-        ),
-        // a set variable that is unbound
-        (
-            TWO_CLAUSES,
-            b"p qrp 2 5\ne 1 3 0\na 2 0\n1 1 2 0 0\n2 -1 2 0 0\n3 1 0 1 0\n4 -1 0 2 0\n5 0 3 4 0\nr unsat\n",
-            b"REFUSED set C1 variable 3\n",
-            1,
-        ),
-        // a set variable with the other quantifier
-        (
-            TWO_CLAUSES,
-            b"p qrp 2 5\ne 1 2 0\na 2 0\n1 1 2 0 0\n2 -1 2 0 0\n3 1 0 1 0\n4 -1 0 2 0\n5 0 3 4 0\nr unsat\n",
-            b"REFUSED set C2 variable 2\n",
-            1,
-        ),
-        // a step with a clashing pair
-        (
-            TWO_CLAUSES,
-            b"p qrp 2 5\ne 1 0\na 2 0\n1 1 2 0 0\n2 -1 2 0 0\n3 1 -1 0 1 0\n4 -1 0 2 0\n5 0 3 4 0\nr unsat\n",
-            b"REFUSED step 3 S1\n",
-            1,
-        ),
-        // a step with an unbound variable
-        (
-            TWO_CLAUSES,
-            b"p qrp 2 5\ne 1 0\na 2 0\n1 1 2 0 0\n2 -1 2 0 0\n3 1 7 0 1 0\n4 -1 0 2 0\n5 0 3 4 0\nr unsat\n",
-            b"REFUSED step 3 S2\n",
-            1,
-        ),
-        // a literal that is not in the antecedent
-        (
-            TWO_CLAUSES,
-            b"p qrp 2 5\ne 1 0\na 2 0\n1 1 2 0 0\n2 -1 2 0 0\n3 1 -2 0 1 0\n4 -1 0 2 0\n5 0 3 4 0\nr unsat\n",
-            b"REFUSED step 3 S6\n",
-            1,
-        ),
-        // two clashing variables
-        (
-            b"p cnf 2 2\ne 1 2 0\n1 2 0\n-1 -2 0\n",
-            b"p qrp 2 3\n1 1 2 0 0\n2 -1 -2 0 0\n3 0 1 2 0\nr unsat\n",
-            b"REFUSED step 3 S9\n",
-            1,
-        ),
-        // a literal that is not in the resolvent
-        (
-            b"p cnf 2 2\ne 1 2 0\n1 0\n-1 0\n",
-            b"p qrp 2 4\n1 1 0 0\n2 -1 0 0\n3 2 0 1 2 0\n4 0 3 0\nr unsat\n",
-            b"REFUSED step 3 S11\n",
-            1,
-        ),
-        // input clauses already reduced
-        (
-            TWO_CLAUSES,
-            b"p qrp 2 3\n1 1 0 0\n2 -1 0 0\n3 0 1 2 0\nr unsat\n",
-            b"VERIFIED false\n",
-            0,
-        ),
-        // a resolvent reduced in the same step
-        (
-            TWO_CLAUSES,
-            b"p qrp 2 3\n1 1 2 0 0\n2 -1 2 0 0\n3 0 1 2 0\nr unsat\n",
-            b"VERIFIED false\n",
-            0,
-        ),
-        // the last empty step is the goal
-        (
-            TWO_CLAUSES,
-            b"p qrp 2 5\ne 1 0\na 2 0\n1 1 2 0 0\n2 -1 2 0 0\n3 1 0 1 0\n4 -1 0 2 0\n5 0 3 4 0\n6 0 0\nr unsat\n",
-            b"REFUSED step 6 S4\n",
-            1,
-        ),
-    ];
-    for (formula, trace, line, status) in rows {
+    for (formula, trace, line, status) in CHECKED {
         expect(
             &rt,
             Job::Check(Rules::plain()),
@@ -523,41 +527,43 @@ fn a_sink_that_fails_keeps_a_beginning(rt: HostRuntime) -> Result<(), Fail> {
     cut(&rt, check, (None, 4096, true), line)
 }
 
+/// A trace of the two clauses, what its trimming writes to both sinks, and the status.
+const TRIMMED: [(&[u8], &[u8], &[u8], Status); 5] = [
+    (
+        b"p qrp 2 9\n1 1 2 0 0\n2 -1 2 0 0\n8 2 0 0\n7 0 1 2 0\nr UNSAT\n",
+        b"p qrp 2 3\n1 1 2 0 0\n2 -1 2 0 0\n7 0 1 2 0\nr unsat\n",
+        b"",
+        0,
+    ),
+    (
+        b"p qrp 2 3\n1 1 2 0 0\n2 -1 2 0 0\n7 0 1 2 0\nr unsat\n",
+        b"p qrp 2 3\n1 1 2 0 0\n2 -1 2 0 0\n7 0 1 2 0\nr unsat\n",
+        b"",
+        0,
+    ),
+    (
+        b"p qrp 2 6\ne 1 0\na 2 0\n1 1 2 0 0\n2 -1 2 0 0\n3 1 0 1 0\n4 -1 0 2 0\n5 0 3 4 0\n9 2 -2 0 77 0\nr unsat\n",
+        REFUTATION,
+        b"",
+        0,
+    ),
+    (
+        b"p qrp 2 5\ne 1 1 0\na 2 0\n1 1 2 0 0\n2 -1 2 0 0\n3 1 0 1 0\n4 -1 0 2 0\n5 0 3 4 0\nr unsat\n",
+        b"p qrp 2 5\ne 1 1 0\na 2 0\n1 1 2 0 0\n2 -1 2 0 0\n3 1 0 1 0\n4 -1 0 2 0\n5 0 3 4 0\nr unsat\n",
+        b"",
+        0,
+    ),
+    (
+        b"p qrp 2 5\ne 1 0\na 2 0\n1 1 2 0 0\n2 -1 2 0 0\n3 1 0 1 0\n4 -1 0 2 0\n5 0 3",
+        b"",
+        b"REFUSED trace P7 line 8\n",
+        2,
+    ),
+];
+
 #[test]
 fn traces_are_trimmed(rt: HostRuntime) -> Result<(), Fail> {
-    let rows: [(&[u8], &[u8], &[u8], Status); 5] = [
-        (
-            b"p qrp 2 9\n1 1 2 0 0\n2 -1 2 0 0\n8 2 0 0\n7 0 1 2 0\nr UNSAT\n",
-            b"p qrp 2 3\n1 1 2 0 0\n2 -1 2 0 0\n7 0 1 2 0\nr unsat\n",
-            b"",
-            0,
-        ),
-        (
-            b"p qrp 2 3\n1 1 2 0 0\n2 -1 2 0 0\n7 0 1 2 0\nr unsat\n",
-            b"p qrp 2 3\n1 1 2 0 0\n2 -1 2 0 0\n7 0 1 2 0\nr unsat\n",
-            b"",
-            0,
-        ),
-        (
-            b"p qrp 2 6\ne 1 0\na 2 0\n1 1 2 0 0\n2 -1 2 0 0\n3 1 0 1 0\n4 -1 0 2 0\n5 0 3 4 0\n9 2 -2 0 77 0\nr unsat\n",
-            REFUTATION,
-            b"",
-            0,
-        ),
-        (
-            b"p qrp 2 5\ne 1 1 0\na 2 0\n1 1 2 0 0\n2 -1 2 0 0\n3 1 0 1 0\n4 -1 0 2 0\n5 0 3 4 0\nr unsat\n",
-            b"p qrp 2 5\ne 1 1 0\na 2 0\n1 1 2 0 0\n2 -1 2 0 0\n3 1 0 1 0\n4 -1 0 2 0\n5 0 3 4 0\nr unsat\n",
-            b"",
-            0,
-        ),
-        (
-            b"p qrp 2 5\ne 1 0\na 2 0\n1 1 2 0 0\n2 -1 2 0 0\n3 1 0 1 0\n4 -1 0 2 0\n5 0 3",
-            b"",
-            b"REFUSED trace P7 line 8\n",
-            2,
-        ),
-    ];
-    for (trace, out, err, status) in rows {
+    for (trace, out, err, status) in TRIMMED {
         expect(
             &rt,
             Job::Trim(Rules::plain()),
