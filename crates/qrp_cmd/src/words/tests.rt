@@ -13,62 +13,44 @@ fn given(alloc: Global, words: &[&str]) -> Result<Vec<String>, AllocError> {
 
 #[test]
 fn rows_of_the_usage(rt: HostRuntime) -> Result<(), Fail> {
-    let plain = Rules::plain();
-    let any_pivot = Rules::any_pivot();
-    let rows: [(&[&str], Job, usize, Option<usize>); 13] = [
+    let check = Job::Check(Rules::plain());
+    let trim = Job::Trim(Rules::plain());
+    let rows: [(&[&str], Job, usize, Option<usize>); 6] = [
         (&["format", "-x"], Job::Format, 1, None),
         (&["format", "--qu"], Job::Format, 1, None),
-        (&["check", "check", "t"], Job::Check(plain), 1, Some(2)),
-        (&["trim", "f", "t"], Job::Trim(plain), 1, Some(2)),
+        (&["check", "check", "t"], check, 1, Some(2)),
+        (&["trim", "f", "t"], trim, 1, Some(2)),
         // Of three words none is the flag.
-        (&["check", "f", "--qu"], Job::Check(plain), 1, Some(2)),
-        (&["check", "--qu", "t"], Job::Check(plain), 1, Some(2)),
-        (
-            &["check", "--qu", "f", "t"],
-            Job::Check(any_pivot),
-            2,
-            Some(3),
-        ),
-        (
-            &["check", "f", "t", "--qu"],
-            Job::Check(any_pivot),
-            1,
-            Some(2),
-        ),
-        (
-            &["check", "--qu", "--qu", "--qu"],
-            Job::Check(any_pivot),
-            2,
-            Some(3),
-        ),
-        (
-            &["check", "--qu", "f", "--qu"],
-            Job::Check(any_pivot),
-            2,
-            Some(3),
-        ),
-        (
-            &["check", "f", "--qu", "--qu"],
-            Job::Check(any_pivot),
-            1,
-            Some(2),
-        ),
-        (
-            &["trim", "--qu", "f", "t"],
-            Job::Trim(any_pivot),
-            2,
-            Some(3),
-        ),
-        (
-            &["trim", "f", "t", "--qu"],
-            Job::Trim(any_pivot),
-            1,
-            Some(2),
-        ),
+        (&["check", "f", "--qu"], check, 1, Some(2)),
+        (&["check", "--qu", "t"], check, 1, Some(2)),
     ];
     for (row, job, formula, trace) in rows {
         let words = given(rt.alloc(), row)?;
         assert_eq!(rt; request(&words), Some((job, formula, trace)), "at {row:?}");
+    }
+    Ok(())
+}
+
+#[test]
+fn rows_with_the_flag(rt: HostRuntime) -> Result<(), Fail> {
+    let check = Job::Check(Rules::any_pivot());
+    let trim = Job::Trim(Rules::any_pivot());
+    let rows: [(&[&str], Job, usize, usize); 7] = [
+        (&["check", "--qu", "f", "t"], check, 2, 3),
+        (&["check", "f", "t", "--qu"], check, 1, 2),
+        (&["check", "--qu", "--qu", "--qu"], check, 2, 3),
+        (&["check", "--qu", "f", "--qu"], check, 2, 3),
+        (&["check", "f", "--qu", "--qu"], check, 1, 2),
+        (&["trim", "--qu", "f", "t"], trim, 2, 3),
+        (&["trim", "f", "t", "--qu"], trim, 1, 2),
+    ];
+    for (row, job, formula, trace) in rows {
+        let words = given(rt.alloc(), row)?;
+        assert_eq!(rt;
+            request(&words),
+            Some((job, formula, Some(trace))),
+            "at {row:?}"
+        );
     }
     Ok(())
 }
