@@ -1,6 +1,8 @@
 ghost use Rattle.std.specs.Prelude.{◌≡◌};
 
-use crate::{Formula, Lists, Lit, LitSet, Prefix, PrefixFault, Quantifier, SetFault, Var};
+use crate::{
+    Formula, Lists, Lit, LitSet, Prefix, PrefixFault, Quantifier, SetFault, Var, is_member,
+};
 use std::alloc::Global;
 use std::process::Abort;
 use std::test::Fail;
@@ -43,9 +45,12 @@ fn prefixes(rt: HostRuntime) -> Result<(), Fail> {
     assert!(rt; prefix.quantifier(seven) == Some(Quantifier::Exists));
     assert!(rt; prefix.block(one) == Some(1));
     assert!(rt; prefix.is_bound(two));
+    assert!(rt; prefix.block_bound_by(Quantifier::All, two) == Some(1));
+    assert!(rt; prefix.block_bound_by(Quantifier::Exists, two).is_none());
     let unbound = variable(&rt, 3);
     assert!(rt; prefix.quantifier(unbound).is_none());
     assert!(rt; prefix.block(unbound).is_none());
+    assert!(rt; prefix.block_bound_by(Quantifier::All, unbound).is_none());
     assert!(rt; !prefix.is_bound(unbound));
     Ok(())
 }
@@ -140,7 +145,9 @@ fn sets(rt: HostRuntime) -> Result<(), Fail> {
     let set = LitSet::from_slice(alloc, &lits, &prefix)?;
     assert!(rt; set.as_slice() == [Lit::new(one, false), Lit::new(two, true)].as_slice());
     assert!(rt; set.contains(Lit::new(two, true)));
+    assert!(rt; is_member(set.as_slice(), Lit::new(two, true)));
     assert!(rt; !set.contains(Lit::new(two, false)));
+    assert!(rt; !is_member(set.as_slice(), Lit::new(two, false)));
     assert!(rt; !set.contains(Lit::new(three, false)));
     let empty = LitSet::from_slice(alloc, &[], &prefix)?;
     assert!(rt; empty.as_slice().is_empty());
