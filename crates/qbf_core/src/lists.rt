@@ -1,6 +1,6 @@
 //! Lists that lie one behind the other in one buffer.
 
-ghost use Rattle.std.specs.Prelude.{◌≡◌, ◌≤◌, ◌<◌, ℕ, List, [], ◌∷◌, ◌++◌, length, take, slice_get, slice_range, ◌-◌, Some, OnOk, OnErr};
+ghost use Rattle.std.specs.Prelude.{◌≡◌, ◌≤◌, ◌<◌, List, [], ◌∷◌, ◌++◌, length, take, slice_get, slice_range, ◌-◌, Some, OnOk, OnErr};
 ghost use Rattle.qbf_core.specs.Flat.{start_of, end_of};
 
 use std::alloc::{AllocError, Global};

@@ -1,5 +1,5 @@
 -- As many bound variables as the header allows: each that it allows is bound.
-use Rattle.std.proofs.Common.{◌≡◌, ℕ, ◌≤◌, ◌+◌, ◌||◌, Bool, true, false, List, [], ◌∷◌, inl, inr, length, eqb, refl, sym, ap, subst, ◌∙◌, arith}
+use Rattle.std.proofs.Common.{◌≡◌, ℕ, ◌≤◌, ◌+◌, ◌||◌, Bool, true, false, List, [], ◌∷◌, inl, inr, length, eqb, refl, sym, ap, ◌∙◌, arith}
 use Rattle.std.specs.List.{list_any, IsDistinct, AllByRecursion}
 use Rattle.std.proofs.lemmas.Bool.Decides.{eqb_tells}
 use Rattle.std.proofs.lemmas.List.{length-map}
@@ -68,7 +68,3 @@ pub full : (max_var : ℕ) (bs ds : List Block) (n m : ℕ) → IsPrefix bs → 
 full max_var bs ds n m prefix top same counted is compared = λ v low high.
     let count : length (variables (pairs bs)) ≡ max_var = length-map (pairs bs) (λ p. p.1) ∙ ap (λ (x : List Block). length (pairs x)) (sym same) ∙ sym counted ∙ equal n m compared ∙ is in
     is_bound_variables v (pairs bs) ∙ each_stands max_var (variables (pairs bs)) prefix.distinct prefix.within top count v low high
-
-pub full_same : (max_var n : ℕ) (bs ds : List Block) → n ≡ max_var → ds ≡ bs → IsFull max_var (pairs bs) → IsFull n (pairs ds)
-full_same max_var n bs ds is same all =
-    subst (λ (x : List Block). IsFull n (pairs x)) (sym same) (subst (λ (k : ℕ). IsFull k (pairs bs)) (sym is) all)

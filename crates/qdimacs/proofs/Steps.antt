@@ -3,7 +3,7 @@ use Rattle.std.proofs.Common.{◌≡◌, ℕ, Bool, true, false, cond, List, [],
 use Rattle.qbf_core.specs.Qbf.{Qbf}
 use Rattle.qbf_core.specs.declared.quantifier.Quantifier.{Quantifier}
 use Rattle.qbf_core.specs.Literal.{Literal}
-use Rattle.qbf_core.specs.Blocks.{Block, pairs, is_bound, blocks_of, variables}
+use Rattle.qbf_core.specs.Blocks.{Block, is_bound, blocks_of, variables}
 use Rattle.std.specs.List.{AllByRecursion}
 use Rattle.qdimacs.specs.declared.fault.FormulaFault.{FormulaFault}
 use Rattle.qdimacs.specs.declared.fault.FormulaFault.TheVariants.{F2, F3, F4, F5, F6, F7, F8, F9, F1}
@@ -250,13 +250,5 @@ pub Stops-along : (e : FormulaFault × ℕ) (whole rest : Answer) → Leads whol
 Stops-along e whole rest p h = Stops-led e.0 e.1 whole rest p h
 
 -- a clause is read by the number of variables and the prefix that the formula answers
-pub clause_same : (m n count : ℕ) (bs ds : List Block) (cs : List (List Literal)) (ts : Known) → m ≡ n → bs ≡ ds
-    → reads_from (InClause (record { max_var = m; count = count }) (pairs bs) cs []) ts ≡ reads_from (InClause (record { max_var = n; count = count }) (pairs ds) cs []) ts
-clause_same m n count bs ds cs ts p q = λ i. reads_from (InClause (record { max_var = p i; count = count }) (pairs (q i)) cs []) ts
-
-pub between_same : (m n count : ℕ) (bs ds : List Block) (cs : List (List Literal)) (ts : Known) → m ≡ n → bs ≡ ds
-    → reads_from (Between (record { max_var = m; count = count }) (pairs bs) cs) ts ≡ reads_from (Between (record { max_var = n; count = count }) (pairs ds) cs) ts
-between_same m n count bs ds cs ts p q = λ i. reads_from (Between (record { max_var = p i; count = count }) (pairs (q i)) cs) ts
-
 pub ends_same : (whole : Option (Result Qbf (FormulaFault × ℕ))) (max_var : ℕ) (bs ds : List Block) (cs : List (List Literal)) → bs ≡ ds → IfSome whole (λ r. r ≡ Ok (record { max_var = max_var; blocks = bs; clauses = cs })) → IfSome whole (λ r. r ≡ Ok (record { max_var = max_var; blocks = ds; clauses = cs }))
 ends_same whole max_var bs ds cs e h = subst (λ (x : List Block). IfSome whole (λ r. r ≡ Ok (record { max_var = max_var; blocks = x; clauses = cs }))) e h

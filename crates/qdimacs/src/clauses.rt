@@ -1,9 +1,10 @@
 //! The clauses of a formula, and its end.
 
-ghost use Rattle.std.specs.Prelude.{None, ◌≢◌, ◌-◌, ◌^◌, length, ◌<◌, ◌+◌, ◌++◌, ◌≡◌, ℕ, ◌≤◌, List, [], ◌∷◌, true, IfOk, OnOk, IfErr, nat_eq};
+ghost use Rattle.std.specs.Prelude.{None, ◌≢◌, ◌-◌, ◌^◌, length, ◌<◌, ◌+◌, ◌++◌, ◌≡◌, ℕ, ◌≤◌, List, [], ◌∷◌, true, OnOk, IfErr, nat_eq, nat_lt};
 ghost use Rattle.qbf_core.specs.Blocks.{pairs, AreBound};
 ghost use Rattle.qdimacs.specs.declared.fault.FormulaFault.TheVariants.{F1, F9};
 ghost use Rattle.qbf_core.specs.Literal.{Literal};
+ghost use Rattle.qbf_core.specs.Qbf.{IsWellFormed};
 ghost use Rattle.std.specs.Io.KnownBytes.{IsAtEnd};
 ghost use Rattle.qbf_text.specs.Reading.{left, IsReady};
 ghost use Rattle.qbf_text.specs.Left.{is_end};
@@ -12,7 +13,7 @@ ghost use Rattle.qdimacs.specs.Reading.{set_letter, IsFull, Heading, Between, In
 
 use crate::fault::{Fault, FormulaFault};
 use crate::tokens::{clause_or_end, literal, next};
-use qbf_core::{Formula, Lit, Prefix};
+use qbf_core::{Formula, Lit};
 use qbf_text::{Scanner, Source, Token};
 use std::alloc::Global;
 
@@ -22,6 +23,16 @@ fn is_full(formula: &Formula) -> bool
     ensures count { result ≡ nat_eq (length (pairs formula.now.blocks)) formula.now.max_var }
 {
     formula.prefix().len() == formula.max_var() as usize
+}
+
+/// Whether the header tells of more clauses.
+fn has_more(formula: &Formula, count: u32) -> bool
+    ensures more { result ≡ nat_lt (length formula.now.clauses) count }
+    ensures sound { IsWellFormed formula.now }
+{
+    // With the bound comes that the formula is well formed.
+    let _bound = formula.max_var();
+    formula.clauses() < count as usize
 }
 
 /// Adds a literal to a clause.
@@ -39,22 +50,18 @@ fn push(lits: &mut Vec<Lit>, lit: Lit) -> Result<(), Fault>
 fn read_clause<S: Source>(
     scanner: &mut Scanner,
     source: &mut S,
-    max_var: u32,
-    prefix: &Prefix,
-    full: bool,
+    formula: &Formula,
     first: (Token, u64),
     lits: &mut Vec<Lit>,
 ) -> Result<(), Fault>
     requires ready { IsReady scanner.old (S.remaining source.old) }
-    requires number { max_var ≤ 2147483647 }
-    requires full { full ≡ true → IsFull max_var (pairs prefix.now) }
     ensures reads { (count : ℕ) (cs : List (List Literal)) →
-        let h : Heading = record { max_var = max_var; count = count } in
-        Continues (λ _. reads_from (Between h (pairs prefix.now) (cs ++ lits.new.items ∷ []))
+        let h : Heading = record { max_var = formula.now.max_var; count = count } in
+        Continues (λ _. reads_from (Between h (pairs formula.now.blocks) (cs ++ lits.new.items ∷ []))
         (left scanner.new (S.remaining source.new))) result
-        (reads_from (InClause h (pairs prefix.now) cs [])
+        (reads_from (InClause h (pairs formula.now.blocks) cs [])
         (put_on first.0 first.1 (left scanner.old (S.remaining source.old)))) }
-    ensures bound { OnOk result (AreBound prefix.now lits.new.items) }
+    ensures bound { OnOk result (AreBound formula.now.blocks lits.new.items) }
     ensures shorter { OnOk result (
         length scanner.new.pending + S.bound source.new ≤ length scanner.old.pending + S.bound source.old) }
     ensures source { IfErr result (λ e. e.0 ≡ F1
@@ -65,10 +72,11 @@ fn read_clause<S: Source>(
     ensures works { OnOk result (S.failures source.new ≡ S.failures source.old) }
     ensures ready { OnOk result (IsReady scanner.new (S.remaining source.new)) }
 {
+    let full = is_full(formula);
     lits.clear();
     let (mut token, mut line) = first;
     'lits: loop {
-        match literal(max_var, prefix, full, token) {
+        match literal(formula, full, token) {
             Ok(None) => return Ok(()),
             Ok(Some(lit)) => push(lits, lit)?,
             Err(fault) => return Err((fault, line)),
@@ -119,24 +127,13 @@ pub(crate) fn read_clauses<S: Source>(
     ensures line_9 { IfErr result (λ e. e.0 ≡ F9 → e.1 ≡ 0) }
     ensures works { OnOk result (S.failures source.new ≡ S.failures source.old) }
 {
-    let full = is_full(&formula);
     // One buffer for all, so that each clause is kept in exactly its own room.
     let mut lits = Vec::new(alloc);
     let (mut token, mut line) = first;
     'clauses: loop {
-        let max_var = formula.max_var();
-        let more = formula.clauses() < count as usize;
-        match clause_or_end(more, token) {
+        match clause_or_end(has_more(&formula, count), token) {
             Ok(true) => {
-                read_clause(
-                    scanner,
-                    source,
-                    max_var,
-                    formula.prefix(),
-                    full,
-                    (token, line),
-                    &mut lits,
-                )?;
+                read_clause(scanner, source, &formula, (token, line), &mut lits)?;
                 push_clause(alloc, &mut formula, &lits)?;
             }
             Ok(false) => return Ok(formula),

@@ -1,8 +1,8 @@
 //! What one token says at its place, and the next token of a source.
 
-ghost use Rattle.std.specs.Prelude.{Ok, Err, ◌≢◌, ◌-◌, ◌^◌, length, ◌<◌, ◌+◌, nat_lt, if◌then◌else◌, ◌≡◌, ◌≤◌, true, IfSome, IfOk, OnOk, IfErr};
+ghost use Rattle.std.specs.Prelude.{◌≢◌, ◌-◌, ◌^◌, length, ◌<◌, ◌+◌, ◌≡◌, ◌≤◌, true, IfSome, IfOk, OnOk, IfErr};
 ghost use Rattle.qbf_core.specs.Blocks.{pairs, IsBound};
-ghost use Rattle.qdimacs.specs.declared.fault.FormulaFault.TheVariants.{F1, F4, F9};
+ghost use Rattle.qdimacs.specs.declared.fault.FormulaFault.TheVariants.{F1, F9};
 ghost use Rattle.std.specs.Io.KnownBytes.{IsAtEnd};
 ghost use Rattle.qbf_text.specs.Reading.{left, GivesNext, IsReady};
 ghost use Rattle.qbf_text.specs.Left.{is_end};
@@ -10,7 +10,7 @@ ghost use Rattle.qbf_text.specs.Lined.{weight};
 ghost use Rattle.qdimacs.specs.Reading.{set_letter, clause_or_end, IsFull, is_p, is_cnf, header_fault, header_number, member, literal_in};
 
 use crate::fault::{Fault, FormulaFault};
-use qbf_core::{Lit, Prefix, Quantifier, Var};
+use qbf_core::{Formula, Lit, Quantifier, Var};
 use qbf_text::{Scanner, Source, Token, Word};
 
 /// The next token and its line, or F1 where the source failed.
@@ -87,41 +87,27 @@ pub(crate) fn member(max_var: u32, token: Token) -> Result<Option<Var>, FormulaF
         Token::Number {
             negative: false,
             value,
-        } => Ok(Some(variable(max_var, value)?)),
+        } => match Var::up_to(max_var, value) {
+            Some(var) => Ok(Some(var)),
+            None => Err(FormulaFault::F4),
+        },
         Token::Number { negative: true, .. } | Token::Big => Err(FormulaFault::F4),
         Token::End => Err(FormulaFault::F7),
         Token::Word(_) | Token::Bad => Err(FormulaFault::F3),
     }
 }
 
-/// The variable with this number, which is at least 1.
-fn variable(max_var: u32, value: u64) -> Result<Var, FormulaFault>
-    requires top { max_var ≤ 2147483647 }
-    requires low { 1 ≤ value }
-    ensures { result ≡ (if nat_lt max_var value then Err F4 else Ok value) }
-{
-    if u64::from(max_var) < value {
-        return Err(FormulaFault::F4);
-    }
-    match Var::new(value as u32) {
-        Some(var) => Ok(var),
-        None => unreachable!(),
-    }
-}
-
 /// The literal that a token says in a clause, or `None` where it closes the clause.
 ///
-/// Where the prefix is `full`, no variable is looked up.
+/// Where the prefix of the formula is `full`, no variable is looked up.
 pub(crate) fn literal(
-    max_var: u32,
-    prefix: &Prefix,
+    formula: &Formula,
     full: bool,
     token: Token,
 ) -> Result<Option<Lit>, FormulaFault>
-    requires number { max_var ≤ 2147483647 }
-    requires full { full ≡ true → IsFull max_var (pairs prefix.now) }
-    ensures says { result ≡ literal_in max_var (pairs prefix.now) token }
-    ensures bound { IfOk result (λ o. IfSome o (λ l. IsBound prefix.now l.var)) }
+    requires { full ≡ true → IsFull formula.now.max_var (pairs formula.now.blocks) }
+    ensures says { result ≡ literal_in formula.now.max_var (pairs formula.now.blocks) token }
+    ensures bound { IfOk result (λ o. IfSome o (λ l. IsBound formula.now.blocks l.var)) }
 {
     match token {
         Token::Number {
@@ -133,8 +119,8 @@ pub(crate) fn literal(
             value: 0,
         } => Err(FormulaFault::F3),
         Token::Number { negative, value } => {
-            let var = variable(max_var, value)?;
-            if full || prefix.is_bound(var) {
+            let var = Var::up_to(formula.max_var(), value).ok_or(FormulaFault::F4)?;
+            if full || formula.prefix().is_bound(var) {
                 Ok(Some(Lit::new(var, negative)))
             } else {
                 Err(FormulaFault::F6)

@@ -7,7 +7,6 @@ ghost use Rattle.qrp.specs.declared.fault.TraceFault.TheVariants.{P1, P9};
 ghost use Rattle.qrp.specs.Answers.{reads_bytes, Answers, Gives};
 ghost use Rattle.qrp.specs.Derivations.{IsWellFormed};
 ghost use Rattle.qrp.specs.Flat.{Body, body};
-ghost use Rattle.qrp.specs.Inferences.{Inference};
 
 use crate::fault::Fault;
 use crate::index::StepIndex;

@@ -1,7 +1,6 @@
 //! What one token says at its place in a trace.
 
-ghost use Rattle.std.specs.Prelude.{◌≡◌, ◌≤◌, ◌<◌, ◌^◌, true, nat_lt, if◌then◌else◌, Ok, Err, IfOk, OnOk, IfSome};
-ghost use Rattle.qrp.specs.declared.fault.TraceFault.TheVariants.{P4};
+ghost use Rattle.std.specs.Prelude.{◌≡◌, ◌<◌, ◌^◌, true, IfOk, OnOk, IfSome};
 ghost use Rattle.qbf_core.specs.Blocks.{IsVariable};
 ghost use Rattle.qbf_text.specs.Lined.{weight};
 ghost use Rattle.qrp.specs.Inferences.{IsLiteral, IsNumber};
@@ -12,6 +11,9 @@ use crate::fault::TraceFault;
 use crate::item::Outcome;
 use qbf_core::{Lit, Quantifier, Var};
 use qbf_text::{Token, Word};
+
+/// The greatest variable of a trace.
+const LAST_VARIABLE: u32 = 2147483647;
 
 /// What a token is that a header does not accept.
 pub fn header_fault(token: Token) -> TraceFault
@@ -96,23 +98,13 @@ pub fn member(token: Token) -> Result<Option<Var>, TraceFault>
 {
     match token {
         Token::Number { negative: true, .. } | Token::Big => Err(TraceFault::P4),
-        Token::Number { value, .. } if 1 <= value => Ok(Some(variable(value)?)),
-        Token::Number { .. } => Ok(None),
+        Token::Number { value: 0, .. } => Ok(None),
+        Token::Number { value, .. } => match Var::up_to(LAST_VARIABLE, value) {
+            Some(var) => Ok(Some(var)),
+            None => Err(TraceFault::P4),
+        },
         Token::End => Err(TraceFault::P7),
         Token::Word(_) | Token::Bad => Err(TraceFault::P3),
-    }
-}
-
-fn variable(value: u64) -> Result<Var, TraceFault>
-    requires { 1 ≤ value }
-    ensures { result ≡ (if nat_lt 2147483647 value then Err P4 else Ok value) }
-{
-    if 2147483647 < value {
-        return Err(TraceFault::P4);
-    }
-    match Var::new(value as u32) {
-        Some(var) => Ok(var),
-        None => unreachable!(),
     }
 }
 
@@ -130,7 +122,10 @@ pub fn literal(token: Token) -> Result<Option<Lit>, TraceFault>
             negative: true,
             value: 0,
         } => Err(TraceFault::P4),
-        Token::Number { negative, value } => Ok(Some(Lit::new(variable(value)?, negative))),
+        Token::Number { negative, value } => {
+            let var = Var::up_to(LAST_VARIABLE, value).ok_or(TraceFault::P4)?;
+            Ok(Some(Lit::new(var, negative)))
+        }
         Token::Big => Err(TraceFault::P4),
         Token::End => Err(TraceFault::P7),
         Token::Word(_) | Token::Bad => Err(TraceFault::P3),

@@ -1,6 +1,6 @@
 //! The step that a trace ends in: the last one without literals.
 
-ghost use Rattle.std.specs.Prelude.{◌≡◌, ℕ, IfSome, IfNone};
+ghost use Rattle.std.specs.Prelude.{ℕ, IfSome, IfNone};
 ghost use Rattle.qrp_check.specs.Core.{IsGoal};
 
 use qrp::Steps;

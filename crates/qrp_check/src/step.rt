@@ -1,6 +1,6 @@
 //! Whether a step of the core follows from those before it.
 
-ghost use Rattle.std.specs.Prelude.{◌≡◌, ℕ, ◌<◌, [], ◌∷◌, length, take, OnOk, IfOk, IfErr, IfSome, IfNone};
+ghost use Rattle.std.specs.Prelude.{◌≡◌, ◌<◌, [], ◌∷◌, take, OnOk, IfOk, IfErr, IfSome, IfNone};
 ghost use Rattle.qbf_core.specs.Lists.{◌∈◌};
 ghost use Rattle.qbf_core.specs.Blocks.{AreBound};
 ghost use Rattle.qbf_core.specs.Sets.{IsOrdered};

@@ -1,6 +1,6 @@
 //! The words of the command line.
 
-ghost use Rattle.std.specs.Prelude.{◌≡◌, ◌∷◌, [], map, IsTrue, IfSome, IfNone, ◌↔◌, ◌<◌, length};
+ghost use Rattle.std.specs.Prelude.{◌≡◌, map, IsTrue, IfSome, IfNone, ◌↔◌, ◌<◌, length};
 ghost use Rattle.std.specs.String.{string_bytes};
 ghost use Rattle.qrp_cmd.specs.Words.{Request, IsRow, Texts, HasTexts};
 

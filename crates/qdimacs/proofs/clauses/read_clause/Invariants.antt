@@ -12,10 +12,10 @@ abbrev pub invariant-lits : goal.invariant-lits
 invariant-lits g l = record {
   ready : IsReady l.scanner (g.S.Source.remaining l.source);
   works : g.S.Source.failures l.source ≡ g.S.Source.failures l.fn.source;
-  so_far : (count : ℕ) (cs : List (List Literal)) → let h : Heading = record { max_var = l.max_var; count = count } in
-      Leads (reads_from (InClause h (pairs l.prefix) cs []) (put_on l.fn.first.0 l.fn.first.1 (left l.fn.scanner (g.S.Source.remaining l.fn.source))))
-      (reads_from (InClause h (pairs l.prefix) cs l.lits.items) (put_on l.token l.line (left l.scanner (g.S.Source.remaining l.source))));
-  bound : AreBound l.prefix l.lits.items;
+  so_far : (count : ℕ) (cs : List (List Literal)) → let h : Heading = record { max_var = l.formula.max_var; count = count } in
+      Leads (reads_from (InClause h (pairs l.formula.blocks) cs []) (put_on l.fn.first.0 l.fn.first.1 (left l.fn.scanner (g.S.Source.remaining l.fn.source))))
+      (reads_from (InClause h (pairs l.formula.blocks) cs l.lits.items) (put_on l.token l.line (left l.scanner (g.S.Source.remaining l.source))));
+  bound : AreBound l.formula.blocks l.lits.items;
   shorter : (length l.scanner.pending + g.S.Source.bound l.source) ≤ (length l.fn.scanner.pending + g.S.Source.bound l.fn.source);
 }
 
