@@ -1,12 +1,14 @@
 //! The check of a trace: its sets, its goal, and each step that the goal needs.
 
-ghost use Rattle.std.specs.Prelude.{◌≡◌, ◌≢◌, ◌↔◌, ◌<◌, length, ◌++◌, ◌∷◌, [], IsTrue, OnOk, IfOk, IfErr};
+ghost use Rattle.std.specs.Prelude.{◌≡◌, ◌≢◌, ◌↔◌, ℕ, ◌<◌, length, ◌++◌, ◌∷◌, [], IsTrue, OnOk, IfOk, IfErr};
 ghost use Rattle.std.specs.List.{AllByRecursion};
 ghost use Rattle.std.specs.List.Sorted.{IsStrictlyIncreasing};
 ghost use Rattle.qbf_core.specs.Truth.{IsTrueFormula};
 ghost use Rattle.qrp_check.specs.declared.fault.CheckFault.TheVariants.{C5};
-ghost use Rattle.qrp_check.specs.Core.{IsGoal, ListsCore};
+ghost use Rattle.qrp_check.specs.Conditions.{StepFollows};
+ghost use Rattle.qrp_check.specs.Core.{IsGoal, IsInCore, ListsCore};
 ghost use Rattle.qrp_check.specs.Kept.{IsCoreFault};
+ghost use Rattle.qrp_check.specs.Marks.{IsMarked};
 ghost use Rattle.qrp_check.specs.Proof.{Derives, Proves, IsFirstFault};
 ghost use Rattle.qrp_check.specs.Verdict.{is_sat};
 
@@ -14,7 +16,7 @@ use crate::agree::sets_fault;
 use crate::clause_index::InitialClauses;
 use crate::fault::CheckFault;
 use crate::goal::find_goal;
-use crate::marks::mark_core;
+use crate::marks::{mark_core, marked_places};
 use crate::side::{Clauses, Cubes, Side};
 use crate::step::{StepFault, step_set};
 use crate::verdict::{Rules, Verified};
@@ -23,42 +25,46 @@ use qbf_core::{Formula, Lists, Lit};
 use qrp::{Outcome, QuantSet, Steps};
 use std::alloc::Global;
 
-/// The steps of the core that followed, and the sets of those that are not in order as written.
-#[derive(Drop)]
-struct Followed {
-    /// Their places, in order.
-    core: Vec<usize>,
-    /// A list for each step so far: the set of a step of the core that is not in order as written, or nothing.
-    kept: Lists<Lit>,
+/// Keeps the set of the step at the next place, or nothing of it.
+fn keep(kept: &mut Lists<Lit>, set: &[Lit]) -> Result<(), CheckFault>
+    ensures kept { OnOk result (kept.new ≡ kept.old ++ set.now ∷ []) }
+    ensures memory { IfErr result (λ e. e ≡ C5) }
+{
+    match kept.push(set) {
+        Ok(()) => Ok(()),
+        Err(_) => Err(CheckFault::C5),
+    }
 }
 
-impl Followed {
-    /// Goes past a step that the goal does not need.
-    fn skip(&mut self) -> Result<(), CheckFault>
-        ensures core { OnOk result (self.new.core.items ≡ self.old.core.items) }
-        ensures kept { OnOk result (self.new.kept ≡ self.old.kept ++ [] ∷ []) }
-        ensures memory { IfErr result (λ e. e ≡ C5) }
-    {
-        match self.kept.push(&[]) {
-            Ok(()) => Ok(()),
-            Err(_) => Err(CheckFault::C5),
+/// Goes over the marked steps, which are the core, while each follows from those before it.
+fn follow_core<S: Side, T: Steps>(
+    alloc: Global,
+    formula: &Formula,
+    trace: &T,
+    marks: &[bool],
+    rules: Rules,
+) -> Result<(), CheckFault>
+    requires len { length marks.now ≡ length (T.steps trace.now) }
+    requires core { (i : ℕ) → IsMarked marks.now i ↔ IsInCore (T.steps trace.now) i }
+    ensures follows { OnOk result ((i : ℕ) → IsInCore (T.steps trace.now) i
+        → StepFollows rules S.side formula.now (T.steps trace.now) i) }
+    ensures refused { IfErr result (IsCoreFault rules S.side formula.now (T.steps trace.now)) }
+{
+    // A list for each step so far: the set of a marked one that is not in order as written, or nothing.
+    let mut kept = Lists::new(alloc);
+    let mut clauses = InitialClauses::new();
+    for place in 0..trace.len() {
+        if !marks[place] {
+            keep(&mut kept, &[])?;
+            continue;
+        }
+        match step_set::<S, T>(alloc, formula, trace, place, &kept, &mut clauses, rules) {
+            Ok(set) => keep(&mut kept, shown(&set, &[]))?,
+            Err(StepFault::Rule(fault)) => return Err(CheckFault::C6(trace.number(place), fault)),
+            Err(StepFault::Memory) => return Err(CheckFault::C5),
         }
     }
-
-    /// Keeps the set of the step at a place, which is the next of the core, or nothing of it.
-    fn keep(&mut self, place: usize, set: &[Lit]) -> Result<(), CheckFault>
-        ensures core { OnOk result (self.new.core.items ≡ self.old.core.items ++ place ∷ []) }
-        ensures kept { OnOk result (self.new.kept ≡ self.old.kept ++ set.now ∷ []) }
-        ensures memory { IfErr result (λ e. e ≡ C5) }
-    {
-        if self.core.push(place).is_err() {
-            return Err(CheckFault::C5);
-        }
-        match self.kept.push(set) {
-            Ok(()) => Ok(()),
-            Err(_) => Err(CheckFault::C5),
-        }
-    }
+    Ok(())
 }
 
 /// The places of the core beside what they show, where each of its steps follows from those before it.
@@ -79,34 +85,11 @@ fn check_core<S: Side, T: Steps>(
     let Ok(marks) = mark_core(alloc, trace, goal) else {
         return Err(CheckFault::C5);
     };
-    let mut followed = Followed {
-        core: Vec::new(alloc),
-        kept: Lists::new(alloc),
-    };
-    let mut clauses = InitialClauses::new();
-    for place in 0..trace.len() {
-        if !marks[place] {
-            followed.skip()?;
-            continue;
-        }
-        match step_set::<S, T>(
-            alloc,
-            formula,
-            trace,
-            place,
-            &followed.kept,
-            &mut clauses,
-            rules,
-        ) {
-            Ok(set) => followed.keep(place, shown(&set, &[]))?,
-            Err(StepFault::Rule(fault)) => return Err(CheckFault::C6(trace.number(place), fault)),
-            Err(StepFault::Memory) => return Err(CheckFault::C5),
-        }
+    follow_core::<S, T>(alloc, formula, trace, &marks, rules)?;
+    match marked_places(alloc, &marks) {
+        Ok(core) => Ok(Verified { truth, core }),
+        Err(_) => Err(CheckFault::C5),
     }
-    Ok(Verified {
-        truth,
-        core: followed.core,
-    })
 }
 
 /// Whether sets, steps and outcome of a trace prove the outcome of the formula.

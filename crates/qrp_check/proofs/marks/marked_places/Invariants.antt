@@ -1,0 +1,5 @@
+use Rattle.qrp_check.specs.Marks.{ListsMarked}
+use Rattle.qrp_check.proofs.marks.marked_places.Given as goal
+
+abbrev pub invariant-loop-place : goal.invariant-loop-place
+invariant-loop-place l = ListsMarked l.marks l.place l.places.items
