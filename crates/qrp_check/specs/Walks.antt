@@ -1,10 +1,11 @@
 -- What walks over ordered sets find: clashes, and innermost blocks.
-use Rattle.std.specs.Prelude.{◌≡◌, ℕ, ◌<◌, ◌↔◌, List, Option, Some, None}
+use Rattle.std.specs.Prelude.{◌≡◌, ℕ, ◌<◌, ◌↔◌, ◌⊎◌, List, Option, Some, None}
 use Rattle.qbf_core.specs.declared.quantifier.Quantifier.{Quantifier}
 use Rattle.qbf_core.specs.Literal.{Literal}
 use Rattle.qbf_core.specs.Lists.{◌∈◌}
 use Rattle.qbf_core.specs.Blocks.{Block, Binds, block_in}
 use Rattle.qbf_core.specs.Rules.{Clashes, IsOnlyClash}
+use Rattle.qrp_check.specs.declared.reduct.Reducible.{Reducible}
 use Rattle.qrp_check.specs.declared.resolvent.Clash.{Clash}
 use Rattle.qrp_check.specs.declared.resolvent.Clash.TheVariants.{Nothing, One, More}
 
@@ -37,3 +38,8 @@ IsInnermost blocks q spared lits block =
 -- v has the quantifier q, and its block is after this one
 abbrev pub StandsAfter : List Block → Quantifier → Option ℕ → ℕ → Type 0
 StandsAfter blocks q block v = Binds blocks q v × ((k : ℕ) → block_in v blocks ≡ Some k → IsAfter block k)
+
+-- a literal of v may be missing: v is left aside, or a reduction may take the literal out
+abbrev pub MayLack : List Block → Option Reducible → Option ℕ → ℕ → Type 0
+MayLack blocks None spared v = IsSpared spared v
+MayLack blocks (Some after) spared v = IsSpared spared v ⊎ StandsAfter blocks after.quantifier after.block v

@@ -7,11 +7,11 @@ ghost use Rattle.qbf_core.specs.Blocks.{AreBound, Binds};
 ghost use Rattle.qbf_core.specs.Rules.{reduced_quantifier, deciding_quantifier, IsReduct};
 ghost use Rattle.qbf_core.specs.Sets.{IsOrdered};
 ghost use Rattle.qrp_check.specs.Conditions.{IsAnswer, reduct_conditions};
-ghost use Rattle.qrp_check.specs.Walks.{IsAfter, IsHeldBefore, IsInnermost, IsSpared, StandsAfter};
+ghost use Rattle.qrp_check.specs.Walks.{IsAfter, IsHeldBefore, IsInnermost, IsSpared, MayLack, StandsAfter};
 
 use crate::fault::RuleFault;
 use crate::side::Side;
-use crate::walks::{is_subset, seek};
+use crate::walks::seek;
 use qbf_core::{Lit, LitSet, Prefix, Quantifier, Var};
 
 /// Whether a variable is the one whose number is left aside.
@@ -101,49 +101,28 @@ pub(crate) fn stands_after(
     }
 }
 
-/// Whether a literal of the variable is kept, or left aside.
-fn is_kept(spared: Option<u32>, var: Var, kept: bool) -> bool
-    ensures { IsTrue result ↔ (IsTrue kept ⊎ IsSpared spared var) }
-{
-    kept || is_spared(spared, var)
+/// What a reduction may take out: the literals of a quantifier after a block, or all of them where there is none.
+#[derive(Clone, Copy)]
+pub(crate) struct Reducible {
+    pub quantifier: Quantifier,
+    pub block: Option<usize>,
 }
 
-/// Whether a literal of the variable is kept, or need not be.
-fn is_left(
-    prefix: &Prefix,
-    reduced: Quantifier,
-    block: Option<usize>,
-    spared: Option<u32>,
-    var: Var,
-    kept: bool,
-) -> bool
-    ensures { IsTrue result ↔ (IsTrue kept ⊎ (IsSpared spared var ⊎ StandsAfter prefix.now reduced block var)) }
+/// Whether a literal of the variable may be missing: it is left aside, or a reduction may take it out.
+fn may_lack(prefix: &Prefix, reducible: Option<Reducible>, spared: Option<u32>, var: Var) -> bool
+    ensures { IsTrue result ↔ MayLack prefix.now reducible spared var }
 {
-    is_kept(spared, var, kept) || stands_after(prefix, reduced, block, var)
-}
-
-/// Whether each literal is kept, or left aside.
-pub(crate) fn keeps_all(spared: Option<u32>, from: &[Lit], to: &[Lit]) -> bool
-    requires from { IsOrdered from.now }
-    requires to { IsOrdered to.now }
-    ensures { IsTrue result ↔ ((l : Literal) → l ∈ from.now → (l ∈ to.now) ⊎ IsSpared spared l.var) }
-{
-    let mut rest = to;
-    for lit in from {
-        let (others, kept) = seek(rest, *lit);
-        if !is_kept(spared, lit.var(), kept) {
-            return false;
-        }
-        rest = others;
+    match reducible {
+        _ if is_spared(spared, var) => true,
+        Some(after) => stands_after(prefix, after.quantifier, after.block, var),
+        None => false,
     }
-    true
 }
 
-/// Whether each literal that is not kept stands after the block under the reduced quantifier, or is left aside.
-pub(crate) fn leaves_reducible(
+/// Whether each literal of one ordered list is in the other, or may be missing there.
+pub(crate) fn lacks_only(
     prefix: &Prefix,
-    reduced: Quantifier,
-    block: Option<usize>,
+    reducible: Option<Reducible>,
     spared: Option<u32>,
     from: &[Lit],
     to: &[Lit],
@@ -151,12 +130,12 @@ pub(crate) fn leaves_reducible(
     requires from { IsOrdered from.now }
     requires to { IsOrdered to.now }
     ensures { IsTrue result ↔ ((l : Literal) → l ∈ from.now
-        → (l ∈ to.now) ⊎ (IsSpared spared l.var ⊎ StandsAfter prefix.now reduced block l.var)) }
+        → (l ∈ to.now) ⊎ MayLack prefix.now reducible spared l.var) }
 {
     let mut rest = to;
     for lit in from {
         let (others, kept) = seek(rest, *lit);
-        if !is_left(prefix, reduced, block, spared, lit.var(), kept) {
+        if !kept && !may_lack(prefix, reducible, spared, lit.var()) {
             return false;
         }
         rest = others;
@@ -178,15 +157,18 @@ pub(crate) fn reduct_by(
         → reduced ≡ reduced_quantifier side → deciding ≡ deciding_quantifier side
         → IsAnswer (reduct_conditions side prefix.now from.now to.now) result }
 {
-    if !is_subset(to, from) {
+    if !lacks_only(prefix, None, None, to, from) {
         return Some(RuleFault::S6);
     }
     // Nothing is left out, so no block matters.
     if from.len() <= to.len() {
         return None;
     }
-    let block = innermost(prefix, deciding, None, from);
-    if !leaves_reducible(prefix, reduced, block, None, from, to) {
+    let reducible = Some(Reducible {
+        quantifier: reduced,
+        block: innermost(prefix, deciding, None, from),
+    });
+    if !lacks_only(prefix, reducible, None, from, to) {
         return Some(RuleFault::S7);
     }
     None

@@ -11,7 +11,7 @@ ghost use Rattle.qrp_check.specs.Unreduced.{unreduced_conditions};
 ghost use Rattle.qrp_check.specs.Walks.{IsClashOf};
 
 use crate::fault::RuleFault;
-use crate::reduct::{block_if, inner, innermost, is_bound_by, keeps_all, leaves_reducible, outer};
+use crate::reduct::{Reducible, block_if, inner, innermost, is_bound_by, lacks_only, outer};
 use crate::side::Side;
 use crate::verdict::Rules;
 use crate::walks::seek;
@@ -94,17 +94,22 @@ fn is_reduced<S: Side>(prefix: &Prefix, a: &[Lit], b: &[Lit], to: &[Lit], pivot:
     let deciding = S::DECIDING;
     let spared = Some(pivot.number());
     // Most steps leave nothing out, and then no block matters.
-    if keeps_all(spared, a, to) && keeps_all(spared, b, to) {
+    if lacks_only(prefix, None, spared, a, to) && lacks_only(prefix, None, spared, b, to) {
         return true;
     }
     let beside_a = innermost(prefix, deciding, spared, a);
     let beside_b = innermost(prefix, deciding, spared, b);
     let of_pivot = block_if(prefix, deciding, None, pivot);
     let whole = inner(beside_a, beside_b);
-    let in_a = outer(whole, inner(beside_a, of_pivot));
-    let in_b = outer(whole, inner(beside_b, of_pivot));
-    leaves_reducible(prefix, reduced, in_a, spared, a, to)
-        && leaves_reducible(prefix, reduced, in_b, spared, b, to)
+    let in_a = Reducible {
+        quantifier: reduced,
+        block: outer(whole, inner(beside_a, of_pivot)),
+    };
+    let in_b = Reducible {
+        quantifier: reduced,
+        block: outer(whole, inner(beside_b, of_pivot)),
+    };
+    lacks_only(prefix, Some(in_a), spared, a, to) && lacks_only(prefix, Some(in_b), spared, b, to)
 }
 
 /// Whether a step may resolve on the variable.

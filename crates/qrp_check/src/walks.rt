@@ -48,20 +48,3 @@ pub(crate) fn seek(lits: &[Lit], lit: Lit) -> (&[Lit], bool)
     let rest = skip_to(lits, lit.var());
     (rest, begins(rest, lit))
 }
-
-/// Whether each literal of one ordered list is in the other.
-pub(crate) fn is_subset(part: &[Lit], whole: &[Lit]) -> bool
-    requires part { IsOrdered part.now }
-    requires whole { IsOrdered whole.now }
-    ensures { IsTrue result ↔ part.now ⊆ whole.now }
-{
-    let mut rest = whole;
-    for lit in part {
-        let (others, found) = seek(rest, *lit);
-        if !found {
-            return false;
-        }
-        rest = others;
-    }
-    true
-}

@@ -1,5 +1,3 @@
-use Rattle.std.proofs.Common.{ℕ}
-use Rattle.qrp_check.proofs.Listing.{listing_done}
 use Rattle.qrp_check.proofs.checking.check_core.Goals as goal
 
 pub returns-in-Ok-marked_places-clause-derives : goal.returns-in-Ok-marked_places-clause-derives

@@ -1,10 +1,8 @@
-use Rattle.std.proofs.Common.{◌≡◌, ℕ, ◌+◌, ◌<◌, List, [], Bool, true, false, get_or, refl, sym, subst, ◌∙◌, arith, length, below_more}
-use Rattle.std.proofs.lemmas.Option.{slice_get_read, get_or_from_slice_get}
+use Rattle.std.proofs.Common.{ℕ, ◌+◌, List, [], sym, subst, arith, below_more}
 use Rattle.qbf_core.specs.Literal.{Literal}
 use Rattle.qrp_check.specs.Conditions.{StepFollows, IsStepFault}
 use Rattle.qrp_check.specs.Core.{IsInCore}
 use Rattle.qrp_check.specs.Kept.{AreKept, IsEntry, IfRule}
-use Rattle.qrp_check.specs.Marks.{IsMarked}
 use Rattle.qrp_check.specs.Proof.{IsFirstFaultyStep}
 use Rattle.qrp_check.specs.declared.step.StepFault.{StepFault}
 use Rattle.qrp.specs.Inferences.{Inference}

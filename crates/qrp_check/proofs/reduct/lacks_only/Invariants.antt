@@ -1,12 +1,12 @@
 use Rattle.std.proofs.Common.{take, drop, ◌⊎◌}
 use Rattle.qbf_core.specs.Literal.{Literal}
 use Rattle.qbf_core.specs.Lists.{◌∈◌}
-use Rattle.qrp_check.specs.Walks.{IsSpared}
 use Rattle.qrp_check.proofs.Cursors.{Reaches, HasVar}
-use Rattle.qrp_check.proofs.reduct.keeps_all.Given as goal
+use Rattle.qrp_check.specs.Walks.{MayLack}
+use Rattle.qrp_check.proofs.reduct.lacks_only.Given as goal
 
 abbrev pub invariant-loop-lit : goal.invariant-loop-lit
 invariant-loop-lit l = record {
   reach : Reaches l.to l.rest (HasVar (drop l.lit-index l.from));
-  done : (m : Literal) → m ∈ take l.lit-index l.from → (m ∈ l.to) ⊎ IsSpared l.spared m.var;
+  done : (m : Literal) → m ∈ take l.lit-index l.from → (m ∈ l.to) ⊎ MayLack l.prefix l.reducible l.spared m.var;
 }
