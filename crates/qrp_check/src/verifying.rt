@@ -33,16 +33,8 @@ pub fn verify<A: Source, B: Source>(
         (IsTraceDevice result ↔ (B.failures trace.old < B.failures trace.new)) }
     ensures not_pulled { IsFormulaFault result → trace.new ≡ trace.old }
 {
-    let read = match read_formula(alloc, formula) {
-        Ok(read) => read,
-        Err((fault, line)) => return Err(Fault::Formula(fault, line)),
-    };
-    let flat = match read_flat(alloc, trace) {
-        Ok(flat) => flat,
-        Err((fault, line)) => return Err(Fault::Trace(fault, line)),
-    };
-    match check(alloc, &read, &flat, flat.sets(), flat.result(), rules) {
-        Ok(verified) => Ok(verified),
-        Err(fault) => Err(Fault::Check(fault)),
-    }
+    let read = read_formula(alloc, formula)?;
+    let flat = read_flat(alloc, trace)?;
+    let verified = check(alloc, &read, &flat, flat.sets(), flat.result(), rules)?;
+    Ok(verified)
 }

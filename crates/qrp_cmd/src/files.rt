@@ -27,6 +27,17 @@ fn open<R: Files>(rt: &R, path: &str, fault: Start) -> Result<FromRead<R::File>,
     }
 }
 
+/// Opens the files of a formula and of a trace.
+fn open_both<R: Files>(
+    rt: &R,
+    formula: &str,
+    trace: &str,
+) -> Result<(FromRead<R::File>, FromRead<R::File>), Start> {
+    let formula = open(rt, formula, Start::NoFormula)?;
+    let trace = open(rt, trace, Start::NoTrace)?;
+    Ok((formula, trace))
+}
+
 /// Does a job over two files that writes a line. An `Err` says why it did not begin.
 fn check<R: Files + AllocGlobal, O: Write + Drop, E: Write + Drop>(
     rt: &R,
@@ -36,8 +47,7 @@ fn check<R: Files + AllocGlobal, O: Write + Drop, E: Write + Drop>(
     out: O,
     err: E,
 ) -> Result<Status, Start> {
-    let mut formula = open(rt, formula, Start::NoFormula)?;
-    let mut trace = open(rt, trace, Start::NoTrace)?;
+    let (mut formula, mut trace) = open_both(rt, formula, trace)?;
     let mut out = ToWrite::new(out);
     let mut err = ToWrite::new(err);
     Ok(run(
@@ -79,8 +89,7 @@ fn trim<R: Files + AllocGlobal, O: Write + Drop, E: Write + Drop>(
     out: O,
     err: E,
 ) -> Result<Status, Start> {
-    let mut formula = open(rt, formula, Start::NoFormula)?;
-    let mut trace = open(rt, trace, Start::NoTrace)?;
+    let (mut formula, mut trace) = open_both(rt, formula, trace)?;
     write_text(rt, job, &mut formula, &mut trace, out, err)
 }
 

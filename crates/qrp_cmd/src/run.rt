@@ -127,20 +127,11 @@ fn trimmed<F: Source, T: Source>(
     ensures formula_works { OnOk result (F.failures formula.new ≡ F.failures formula.old) }
     ensures trace_works { OnOk result (T.failures trace.new ≡ T.failures trace.old) }
 {
-    let read = match read_formula(alloc, formula) {
-        Ok(read) => read,
-        Err((fault, line)) => return Err(Fault::Formula(fault, line)),
-    };
-    let whole = match read_trace(alloc, trace) {
-        Ok(whole) => whole,
-        Err((fault, line)) => return Err(Fault::Trace(fault, line)),
-    };
+    let read = read_formula(alloc, formula)?;
+    let whole = read_trace(alloc, trace)?;
     // The header comes with the fact that the trace is well formed.
     let _header = whole.header();
-    let verified = match check(alloc, &read, &whole, whole.sets(), whole.result(), rules) {
-        Ok(verified) => verified,
-        Err(fault) => return Err(Fault::Check(fault)),
-    };
+    let verified = check(alloc, &read, &whole, whole.sets(), whole.result(), rules)?;
     match trim(alloc, &whole, &verified) {
         Ok(shorter) => Ok(shorter),
         Err(_) => Err(Fault::Check(CheckFault::C5)),
