@@ -1,16 +1,15 @@
 -- The rules where two parents are resolved as they stand: a step is a reduct of their resolvent, and nothing is reduced before.
-use Rattle.std.specs.Prelude.{◌≡◌, ℕ, List, [], ◌∷◌, ◌⊎◌, take}
+use Rattle.std.specs.Prelude.{ℕ, List, [], ◌∷◌, take}
 use Rattle.qbf_core.specs.Literal.{Literal}
-use Rattle.qbf_core.specs.Lists.{◌∈◌, ◌⊆◌}
+use Rattle.qbf_core.specs.Lists.{◌∈◌}
 use Rattle.qbf_core.specs.Blocks.{Block, AreBound}
 use Rattle.qbf_core.specs.Qbf.{Qbf}
-use Rattle.qbf_core.specs.Rules.{Side, IsClean, IsReducible, Clashes, resolvent}
+use Rattle.qbf_core.specs.Rules.{Side, IsClean, IsReducible}
 use Rattle.qrp.specs.declared.item.Outcome.{Outcome}
 use Rattle.qrp.specs.Inferences.{Inference, IsAt}
 use Rattle.qrp_check.specs.declared.verdict.Rules.{Rules}
 use Rattle.qrp_check.specs.declared.fault.RuleFault.{RuleFault}
-use Rattle.qrp_check.specs.declared.fault.RuleFault.TheVariants.{S8, S9, S10, S11, S12}
-use Rattle.qrp_check.specs.Conditions.{Condition, AllHold, AllowsPivot, IsNumberOf, lits_of, initial_condition, reduct_conditions}
+use Rattle.qrp_check.specs.Conditions.{Condition, AllHold, IsNumberOf, lits_of, initial_condition, reduct_conditions, resolution_conditions}
 use Rattle.qrp_check.specs.Core.{IsGoal, IsInCore}
 use Rattle.qrp_check.specs.Proof.{side_of}
 use Rattle.qrp_check.specs.Sets.{SetsAgree}
@@ -18,16 +17,7 @@ use Rattle.qrp_check.specs.Sets.{SetsAgree}
 -- a and b clash in one variable, which may be resolved on, and `to` is a reduct of their resolvent
 abbrev pub unreduced_conditions : Rules → Side → List Block → List Literal → List Literal → List Literal → List (Condition RuleFault)
 unreduced_conditions rules side blocks a b to =
-    (S8, ((x : ℕ) × Clashes a b x))
-    ∷ (S9, ((x y : ℕ) → Clashes a b x → Clashes a b y → x ≡ y))
-    ∷ (S10, ((x : ℕ) → Clashes a b x → AllowsPivot rules side blocks x))
-    ∷ (S11, ((x : ℕ) → Clashes a b x → to ⊆ resolvent a b x))
-    ∷ (
-      S12,
-      ((x : ℕ) → Clashes a b x → (l : Literal) → l ∈ resolvent a b x
-          → (l ∈ to) ⊎ IsReducible side blocks (resolvent a b x) l),
-    )
-    ∷ []
+    resolution_conditions rules side blocks a b to (λ whole l. IsReducible side blocks whole l)
 
 -- by the number of antecedents, as `antecedent_conditions`
 abbrev pub unreduced_antecedents : Rules → Side → Qbf → List Inference → List ℕ → List Literal → List (Condition RuleFault)
