@@ -90,13 +90,13 @@ told_grown table far true slot here es told = (
 told_grown table far false slot here es told = told
 
 -- a new variable that the table reaches, and one that it does not reach
-pub beyond_noted : (table : List (Option Place)) (far es : List (ℕ × Place)) (v : ℕ) (p : Place) → v < length table
-    → IsBeyond table far es → IsBeyond table far (es ++ (v, p) ∷ [])
-beyond_noted table far es v p less told n long = told n long ∙ sym (lookup_other n v p es (ne_eqb n v (λ same. omega (arith, same, less, long))))
+pub beyond_noted : (reached : ℕ) (far es : List (ℕ × Place)) (v : ℕ) (p : Place) → v < reached
+    → IsBeyond reached far es → IsBeyond reached far (es ++ (v, p) ∷ [])
+beyond_noted reached far es v p less told n long = told n long ∙ sym (lookup_other n v p es (ne_eqb n v (λ same. omega (arith, same, less, long))))
 
-pub beyond_added : (table : List (Option Place)) (far es : List (ℕ × Place)) (v : ℕ) (p : Place) → lookup (nat_eq v) far ≡ None → lookup (nat_eq v) es ≡ None
-    → IsBeyond table far es → IsBeyond table (far ++ (v, p) ∷ []) (es ++ (v, p) ∷ [])
-beyond_added table far es v p out none told n long = elim (cases_eq n v) [
+pub beyond_added : (reached : ℕ) (far es : List (ℕ × Place)) (v : ℕ) (p : Place) → lookup (nat_eq v) far ≡ None → lookup (nat_eq v) es ≡ None
+    → IsBeyond reached far es → IsBeyond reached (far ++ (v, p) ∷ []) (es ++ (v, p) ∷ [])
+beyond_added reached far es v p out none told n long = elim (cases_eq n v) [
   | inl e ↦ subst (λ (m : ℕ). lookup (nat_eq m) (far ++ (v, p) ∷ []) ≡ lookup (nat_eq m) (es ++ (v, p) ∷ [])) (sym e) (lookup_new v p far out ∙ sym (lookup_new v p es none))
   | inr ne ↦ lookup_other n v p far (ne_eqb n v ne) ∙ (told n long ∙ sym (lookup_other n v p es (ne_eqb n v ne)))
 ]
