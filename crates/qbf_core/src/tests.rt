@@ -26,6 +26,17 @@ fn variables_and_literals(rt: HostRuntime) {
     assert!(rt; lit.negated() == Lit::new(last, false));
     assert!(rt; lit.negated() < lit);
     assert!(rt; Lit::new(variable(&rt, 1), true) < lit.negated());
+    assert!(rt; lit.negated().negated() == lit);
+    assert!(rt; Lit::new(variable(&rt, 1), true) != Lit::new(variable(&rt, 1), false));
+}
+
+#[test]
+fn variables_up_to_a_last_one(rt: HostRuntime) {
+    assert!(rt; Var::up_to(5, 0).is_none());
+    assert!(rt; Var::up_to(5, 5) == Some(variable(&rt, 5)));
+    assert!(rt; Var::up_to(5, 6).is_none());
+    assert!(rt; Var::up_to(5, 4294967297).is_none());
+    assert!(rt; Var::up_to(0, 1).is_none());
 }
 
 #[test]
