@@ -181,6 +181,7 @@ impl Model for Scanner {
 impl Scanner {
     ghost use Rattle.qbf_text.specs.Tokens.{tokens};
     ghost use Rattle.qbf_text.specs.Reading.{left, GivesNext, HasEnded, HasFailed, IsReady};
+    ghost use Rattle.qbf_text.specs.declared.token.Token.TheVariants.{End};
 
     /// A scanner at the beginning of a text of this format.
     #[tactic(auto, unfolding(crate::specs::Reading::left))]
@@ -216,6 +217,7 @@ impl Scanner {
             length self.new.pending + S.bound source.new ≤ length self.old.pending + S.bound source.old) }
         // End and a fault are given for good, and nothing is pulled then.
         ensures end { IfOk result (λ token. is_end token.0 ≡ true → HasEnded self.new) }
+        ensures line { IfOk result (λ token. is_end token.0 ≡ true → token ≡ (End, self.new.line)) }
         // No byte remains behind End.
         ensures ready { OnOk result (
             IsReady self.old (S.remaining source.old) → IsReady self.new (S.remaining source.new)) }
