@@ -13,9 +13,9 @@ use Rattle.qrp.specs.declared.item.Outcome.TheVariants.{Sat, Unsat}
 use Rattle.qrp.specs.declared.item.Item.{Item}
 use Rattle.qrp.specs.declared.item.Item.TheVariants as item
 use Rattle.qrp.specs.Inferences.{Inference, numbers}
-use Rattle.qrp.specs.Derivations.{Derivation, AreGrammatical}
+use Rattle.qrp.specs.Derivations.{Derivation, AreGrammatical, items_of_lists}
 use Rattle.qrp.specs.Grammar.{number, literal, letter, result, result_word, lists, IsTrace}
-use Rattle.qrp.specs.Faults.{AreLists, Spells, IsFault}
+use Rattle.qrp.specs.Faults.{AreLists, Spells, IsFault, whole_before}
 use Rattle.qrp.specs.Reading.{Fault, Place, AtP, AtQrp, AtVars, AtSteps, Between, InSet, InLits, InAnts, AtResult, Row, Ends, row, items_from, items, gathered, nothing, read}
 use Rattle.qrp.proofs.Leads.{Answer, after, items-one, Leads, leads_nothing, leads_goes, leads_lists, leads_open_set, leads_open_lits, leads_open_ants, leads_lits, number_row, letter_row}
 
@@ -65,11 +65,7 @@ result_row_ok : (o : Outcome) → row AtResult (result_word o) ≡ Ends o
 result_row_ok Sat = refl
 result_row_ok Unsat = refl
 
--- the items of header, sets and steps, and no more
-abbrev lists_items : Header → List Block → List Inference → List Item
-lists_items h sets steps = item.Header h ∷ (map item.Set sets ++ map item.Step steps)
-
-leads_closed : (h : Header) (sets : List Block) (steps : List Inference) (us : List Token) (r : Place) → AreGrammatical sets steps → Leads (Between (numbers steps)) us [] r → Leads AtP (lists h sets steps ++ us) (lists_items h sets steps) r
+leads_closed : (h : Header) (sets : List Block) (steps : List Inference) (us : List Token) (r : Place) → AreGrammatical sets steps → Leads (Between (numbers steps)) us [] r → Leads AtP (lists h sets steps ++ us) (items_of_lists h sets steps) r
 leads_closed h sets steps us r g l =
     subst (λ (x : List Item). Leads AtP (lists h sets steps ++ us) (item.Header h ∷ (map item.Set sets ++ x)) r) (append-nil (map item.Step steps)) (leads_lists h sets steps us [] r g l)
 
@@ -81,14 +77,14 @@ one_more [] t us e = absurd cc
 one_more (u ∷ ts) t us e = let same : u.0 ≡ t = cc in (u.1, ts, (λ i. (same i, u.1) ∷ ts))
 
 -- the items of a trace that is spelled
-pub spelled_items : (ts : List Lined) (d : Derivation) → IsTrace (unlined ts) d → items ts ≡ map Ok (lists_items d.header d.sets d.steps) ++ Ok (item.Result d.result) ∷ []
+pub spelled_items : (ts : List Lined) (d : Derivation) → IsTrace (unlined ts) d → items ts ≡ map Ok (items_of_lists d.header d.sets d.steps) ++ Ok (item.Result d.result) ∷ []
 spelled_items ts d is =
     let front = lists d.header d.sets d.steps ++ token.Word word.R ∷ [] in
     let k = split_at ts front (result_word d.result ∷ is.rest) (is.spelled ∙ append_assoc (lists d.header d.sets d.steps) (result d.result) is.rest ∙ sym (append_assoc (lists d.header d.sets d.steps) (token.Word word.R ∷ []) (result_word d.result ∷ is.rest))) in
     let w = one_more k.1 (result_word d.result) is.rest k.4 in
     ap items k.2
     ∙ leads_closed d.header d.sets d.steps (token.Word word.R ∷ []) AtResult is.grammatical (leads_r (numbers d.steps)) k.0 k.3 k.1
-    ∙ ap (λ (x : List Answer). map Ok (lists_items d.header d.sets d.steps) ++ x)
+    ∙ ap (λ (x : List Answer). map Ok (items_of_lists d.header d.sets d.steps) ++ x)
     (ap (items_from AtResult) w.2 ∙ items-one AtResult (result_word d.result, w.0) w.1 ∙ ap (λ (x : Row). after x w.0 w.1) (result_row_ok d.result))
 
 pub spelled_is_read : (ts : List Lined) (d : Derivation) → IsTrace (unlined ts) d → read ts ≡ Ok d
@@ -106,7 +102,7 @@ data IsClosed : Type 0 where
 
 abbrev closed_items : IsClosed → List Item
 closed_items InHeader = []
-closed_items (InLists h sets steps) = lists_items h sets steps
+closed_items (InLists h sets steps) = items_of_lists h sets steps
 
 closed_fault : (c : IsClosed) (e : Fault) → gathered nothing (map Ok (closed_items c) ++ Err e ∷ []) ≡ Err e
 closed_fault InHeader e = gathered_fault nothing e
@@ -114,20 +110,21 @@ closed_fault (InLists h sets steps) e = gathered_lists h sets steps (Err e ∷ [
 
 leads_from : (ts begun : List Token) (ns : List ℕ) (r : Place) → (a : AreLists ts begun ns) → Leads (Between ns) begun [] r → Leads AtP ts (closed_items (InLists a.header a.sets a.steps)) r
 leads_from ts begun ns r a l =
-    subst (λ (x : List Token). Leads AtP x (lists_items a.header a.sets a.steps) r) (sym a.spelled)
+    subst (λ (x : List Token). Leads AtP x (items_of_lists a.header a.sets a.steps) r) (sym a.spelled)
     (leads_closed a.header a.sets a.steps begun r a.grammatical (subst (λ (x : List ℕ). Leads (Between x) begun [] r) (sym a.numbered) l))
 
-record IsReached (ts : List Token) (place : Place) : Type 0 where
+record IsReached (ts : List Token) (place : Place) (whole : List Item) : Type 0 where
   closed : IsClosed
+  same : closed_items closed ≡ whole
   leads : Leads AtP ts (closed_items closed) place
 
-reached : (ts begun : List Token) (ns : List ℕ) (r : Place) → AreLists ts begun ns → Leads (Between ns) begun [] r → IsReached ts r
-reached ts begun ns r a l = record { closed = InLists a.header a.sets a.steps; leads = leads_from ts begun ns r a l }
+reached : (ts begun : List Token) (ns : List ℕ) (r : Place) → (a : AreLists ts begun ns) → Leads (Between ns) begun [] r → IsReached ts r (items_of_lists a.header a.sets a.steps)
+reached ts begun ns r a l = record { closed = InLists a.header a.sets a.steps; same = refl; leads = leads_from ts begun ns r a l }
 
-reached_header : (ts us : List Token) (r : Place) → ts ≡ us → Leads AtP us [] r → IsReached ts r
-reached_header ts us r e l = record { closed = InHeader; leads = subst (λ (x : List Token). Leads AtP x [] r) (sym e) l }
+reached_header : (ts us : List Token) (r : Place) → ts ≡ us → Leads AtP us [] r → IsReached ts r []
+reached_header ts us r e l = record { closed = InHeader; same = refl; leads = subst (λ (x : List Token). Leads AtP x [] r) (sym e) l }
 
-spelled_reaches : (ts : List Token) (place : Place) → Spells ts place → IsReached ts place
+spelled_reaches : (ts : List Token) (place : Place) (s : Spells ts place) → IsReached ts place (whole_before ts place s)
 spelled_reaches ts AtP e = reached_header ts [] AtP e (leads_nothing AtP)
 spelled_reaches ts AtQrp e = reached_header ts _ AtQrp e (leads_goes AtP AtQrp AtQrp (token.Word word.P) [] [] refl (leads_nothing AtQrp))
 spelled_reaches ts AtVars e = reached_header ts _ AtVars e
@@ -144,9 +141,17 @@ spelled_reaches ts (InAnts ns n ls ants) e = reached ts (number n ∷ (map liter
     (leads_lits ns n [] ls (map number ants) [] (InAnts ns n ls ants) e.3 (leads_open_ants ns n ls [] ants e.4 e.5)))
 spelled_reaches ts AtResult e = reached ts (token.Word word.R ∷ []) e.0 AtResult e.1 (leads_r e.0)
 
+-- the items before a fault that stands
+pub fault_items : (ts : List Lined) (f : TraceFault) (line : ℕ) (is : IsFault ts f line) → items ts ≡ map Ok (whole_before (unlined is.before) is.place is.stands) ++ Err (f, line) ∷ []
+fault_items ts f line is =
+    let r = spelled_reaches (unlined is.before) is.place is.stands in
+    ap items is.whole
+    ∙ r.leads is.before refl ((is.wrong, line) ∷ is.after)
+    ∙ ap (λ (x : List Answer). map Ok (closed_items r.closed) ++ x) (items-one is.place (is.wrong, line) is.after ∙ ap (λ (x : Row). after x line is.after) is.refused)
+    ∙ ap (λ (x : List Item). map Ok x ++ Err (f, line) ∷ []) r.same
+
 pub fault_is_found : (ts : List Lined) (f : TraceFault) (line : ℕ) → IsFault ts f line → read ts ≡ Err (f, line)
 fault_is_found ts f line is =
     let r = spelled_reaches (unlined is.before) is.place is.stands in
-    ap (λ (x : List Lined). gathered nothing (items x)) is.whole
-    ∙ ap (gathered nothing) (r.leads is.before refl ((is.wrong, line) ∷ is.after) ∙ ap (λ (x : List Answer). map Ok (closed_items r.closed) ++ x) (items-one is.place (is.wrong, line) is.after ∙ ap (λ (x : Row). after x line is.after) is.refused))
+    ap (gathered nothing) (fault_items ts f line is ∙ ap (λ (x : List Item). map Ok x ++ Err (f, line) ∷ []) (sym r.same))
     ∙ closed_fault r.closed (f, line)

@@ -34,6 +34,10 @@ pub record IsWellFormed (d : Derivation) : Type 0 where
   pub grammatical : AreGrammatical d.sets d.steps
   pub fits : FitsIn64 d
 
+-- the items of a header, sets and steps, in order
+abbrev pub items_of_lists : Header → List Block → List Inference → List Item
+items_of_lists h sets steps = item.Header h ∷ (map item.Set sets ++ map item.Step steps)
+
 -- the parts of a trace in order: its header, its sets, its steps and its result
 abbrev pub items_of : Derivation → List Item
 items_of d = item.Header d.header ∷ map item.Set d.sets ++ map item.Step d.steps ++ item.Result d.result ∷ []

@@ -8,8 +8,9 @@ use Rattle.qbf_text.specs.declared.token.Word.TheVariants as word
 use Rattle.qbf_text.specs.Lined.{Lined, unlined}
 use Rattle.qrp.specs.declared.fault.TraceFault.{TraceFault}
 use Rattle.qrp.specs.declared.item.Header.{Header}
+use Rattle.qrp.specs.declared.item.Item.{Item}
 use Rattle.qrp.specs.Inferences.{Inference, IsLiteral, IsNumber, numbers}
-use Rattle.qrp.specs.Derivations.{Derivation, AreGrammatical}
+use Rattle.qrp.specs.Derivations.{Derivation, AreGrammatical, items_of_lists}
 use Rattle.qrp.specs.Grammar.{number, literal, letter, lists, IsTrace}
 use Rattle.qrp.specs.Reading.{Fault, Place, AtP, AtQrp, AtVars, AtSteps, Between, InSet, InLits, InAnts, AtResult, is_used, row, Fails}
 
@@ -35,6 +36,18 @@ Spells ts (InLits ns n ls) = AreLists ts (number n ∷ map literal ls) ns
 Spells ts (InAnts ns n ls ants) = AreLists ts (number n ∷ (map literal ls ++ number 0 ∷ map number ants)) ns
     × IsNumber n × (is_used n ns ≡ false) × AllByRecursion IsLiteral ls × AllByRecursion IsNumber ants × (length ants ≤ 2)
 Spells ts AtResult = (ns : List ℕ) × AreLists ts (token.Word word.R ∷ []) ns
+
+-- the items of the lists that are whole before a place: none while the header is unfinished
+abbrev pub whole_before : (ts : List Token) (place : Place) → Spells ts place → List Item
+whole_before ts AtP s = []
+whole_before ts AtQrp s = []
+whole_before ts AtVars s = []
+whole_before ts (AtSteps v) s = []
+whole_before ts (Between ns) s = items_of_lists s.header s.sets s.steps
+whole_before ts (InSet q vs) s = items_of_lists s.0.header s.0.sets s.0.steps
+whole_before ts (InLits ns n ls) s = items_of_lists s.0.header s.0.sets s.0.steps
+whole_before ts (InAnts ns n ls ants) s = items_of_lists s.0.header s.0.sets s.0.steps
+whole_before ts AtResult s = items_of_lists s.1.header s.1.sets s.1.steps
 
 -- The fault stands on this line.
 pub record IsFault (ts : List Lined) (fault : TraceFault) (line : ℕ) : Type 0 where

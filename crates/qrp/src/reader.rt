@@ -123,6 +123,8 @@ impl TraceReader {
         ensures more { is_last result ≡ false → ¬ IsDone self.new }
         ensures done { IsDone self.old → (self.new ≡ self.old) × (source.new ≡ source.old) }
         ensures stays { IsDone self.old → is_last result ≡ true }
+        // What was answered says how far the reader is, also of a source that does not tell its bytes.
+        ensures stage { self.new.stage ≡ stage_after result }
         // With each other item less can still come.
         ensures less { is_last result ≡ false →
             length self.new.scanner.pending + S.bound source.new < length self.old.scanner.pending + S.bound source.old }
