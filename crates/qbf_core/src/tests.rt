@@ -1,4 +1,6 @@
-ghost use Rattle.std.specs.Prelude.{◌≡◌};
+ghost use Rattle.std.specs.Prelude.{◌≡◌, ◌<◌, ◌∷◌, [], ◌++◌, length, IfOk};
+ghost use Rattle.qbf_core.specs.Blocks.{AreBound, pairs};
+ghost use Rattle.qbf_core.specs.declared.quantifier.Quantifier.TheVariants.{All};
 
 use crate::{
     Formula, Lists, Lit, LitSet, Prefix, PrefixFault, Quantifier, SetFault, Var, is_member,
@@ -225,4 +227,89 @@ fn lists(rt: HostRuntime) -> Result<(), Fail> {
 fn letters(rt: HostRuntime) {
     assert_eq!(rt; Quantifier::All.letter(), b'a');
     assert_eq!(rt; Quantifier::Exists.letter(), b'e');
+}
+
+// ---- what is refused memory, and then tried again
+//
+// With memory these tests try nothing twice. scripts/test-refusals refuses each growth of them in turn.
+
+/// Binds a variable. Where memory is refused the prefix is as it was, and the second try binds it.
+fn bind_again(rt: &impl Abort, prefix: &mut Prefix, quantifier: Quantifier, var: Var) {
+    let places = prefix.len();
+    if prefix.push(quantifier, var).is_err() {
+        assert_eq!(rt; prefix.len(), places);
+        assert!(rt; !prefix.is_bound(var));
+        assert!(rt; prefix.push(quantifier, var).is_ok());
+    }
+}
+
+#[test]
+fn binds_again_after_a_refusal(rt: HostRuntime) {
+    let numbers = [1, 2147483647, 5, 4, 3, 2, 9, 1000000, 8, 7, 6];
+    let mut prefix = Prefix::new(rt.alloc());
+    for (place, number) in numbers.iter().enumerate() {
+        bind_again(
+            &rt,
+            &mut prefix,
+            quantifier_at(place),
+            variable(&rt, *number),
+        );
+    }
+    find_each(&rt, &mut prefix, &numbers);
+    assert_eq!(rt; prefix.len(), 11);
+}
+
+/// The literals as a clause, at the second try where memory is refused.
+fn clause_of(alloc: Global, lits: &[Lit]) -> Result<Vec<Lit>, Fail>
+    ensures { IfOk result (λ clause. clause.items ≡ lits.now) }
+{
+    match Vec::from_slice(alloc, lits) {
+        Ok(clause) => Ok(clause),
+        Err(_) => Ok(Vec::from_slice(alloc, lits)?),
+    }
+}
+
+/// Adds a clause. Where memory is refused the formula is as it was, and the second try adds it.
+fn push_again(rt: &impl Abort, formula: &mut Formula, clause: Vec<Lit>)
+    requires bound { AreBound formula.old.blocks clause.items }
+    requires few { length formula.old.clauses < 2147483647 }
+    ensures { formula.new ≡ record formula.old { clauses = formula.old.clauses ++ clause.items ∷ [] } }
+{
+    let clauses = formula.clauses();
+    if let Err(back) = formula.push_clause(clause) {
+        assert_eq!(rt; formula.clauses(), clauses);
+        assert!(rt; formula.push_clause(back).is_ok());
+    }
+}
+
+/// The prefix of one variable, at the second try where memory is refused.
+fn one_block(alloc: Global, var: Var) -> Result<Prefix, Fail>
+    ensures { IfOk result (λ prefix. pairs prefix ≡ (All, var) ∷ []) }
+{
+    let mut prefix = Prefix::new(alloc);
+    match prefix.push(Quantifier::All, var) {
+        Ok(()) => Ok(prefix),
+        Err(_) => {
+            prefix.push(Quantifier::All, var)?;
+            Ok(prefix)
+        }
+    }
+}
+
+#[test]
+fn adds_clauses_again_after_a_refusal(rt: HostRuntime) -> Result<(), Fail> {
+    let one = variable(&rt, 1);
+    let prefix = one_block(rt.alloc(), one)?;
+    let mut formula = Formula::new(rt.alloc(), 1, prefix);
+    let (positive, negative) = (Lit::new(one, false), Lit::new(one, true));
+    let three = [positive, negative, positive];
+    let five = [negative, negative, negative, negative, negative];
+    push_again(&rt, &mut formula, clause_of(rt.alloc(), &three)?);
+    push_again(&rt, &mut formula, clause_of(rt.alloc(), &[])?);
+    push_again(&rt, &mut formula, clause_of(rt.alloc(), &five)?);
+    assert_eq!(rt; formula.clauses(), 3);
+    assert!(rt; formula.clause(0) == three.as_slice());
+    assert!(rt; formula.clause(1).is_empty());
+    assert!(rt; formula.clause(2) == five.as_slice());
+    Ok(())
 }

@@ -102,6 +102,27 @@ fn says_that_a_source_failed(rt: HostRuntime) {
 }
 
 #[test]
+fn pulls_nothing_behind_a_fault(rt: HostRuntime) {
+    // The byte behind the wrong token is the last one that is looked at: the next pull would fail.
+    for (text, looked_at, fault) in [
+        (
+            b"p cnf 1 1\ne 1 0\n1 x 0\n".as_slice(),
+            20,
+            FormulaFault::F3,
+        ),
+        (b"p cnf 1 1\ne 1 0\n2 0\n", 18, FormulaFault::F4),
+        (b"p cnf 1 0\ne 1 0\n1 0\n", 18, FormulaFault::F8),
+    ] {
+        let mut source = PieceSource::new(text, 1, looked_at + 1);
+        match read_formula(rt.alloc(), &mut source) {
+            Ok(_) => panic!(&rt; "no fault {fault:?}"),
+            Err(answer) => assert_eq!(&rt; answer.0, fault),
+        }
+        assert_eq!(&rt; source.pulls(), looked_at);
+    }
+}
+
+#[test]
 fn writes_a_beginning(rt: HostRuntime) -> Result<(), Fail> {
     let formula = read_formula(rt.alloc(), &mut PieceSource::new(FORMULA, 4096, 0))?;
     for piece in [1, 4096] {

@@ -1,6 +1,12 @@
 //! Worked traces and faults, whole and byte by byte, and what a reader answers for good.
 
+ghost use Rattle.std.specs.Prelude.{◌≡◌, ◌≤◌, ◌∷◌, [], ◌++◌, length, false, IfOk};
+ghost use Rattle.std.specs.List.{AllByRecursion};
+ghost use Rattle.qrp.specs.Inferences.{IsNumber, numbers};
+ghost use Rattle.qrp.specs.Reading.{is_used};
+
 use super::*;
+use crate::fault::Fault;
 use qbf_core::{Lit, Quantifier, Var};
 use qbf_text::{PieceSink, PieceSource, SliceSource, VecSink};
 use std::alloc::Global;
@@ -134,29 +140,70 @@ fn says_that_a_source_failed(rt: HostRuntime) {
     }
 }
 
-#[test]
-fn gives_a_fault_for_good(rt: HostRuntime) {
-    for (text, fail_at, items, wanted) in [
-        (
-            b"p qrp 0 0\ne 0 0\nr sat\n".as_slice(),
-            0,
-            2,
-            (TraceFault::P4, 2),
-        ),
-        (b"p qrp 0 0\nr sat\n".as_slice(), 12, 1, (TraceFault::P1, 0)),
-    ] {
-        let mut source = PieceSource::new(text, 1, fail_at);
-        let mut reader = TraceReader::new(rt.alloc());
-        for _ in 0..items {
-            assert!(rt; reader.next_item(&mut source).is_ok());
+/// Reads up to the first fault, which three more calls give again, and they pull nothing.
+fn gives_for_good(rt: &impl Abort, alloc: Global, source: &mut PieceSource<'_>, wanted: Fault) {
+    let mut reader = TraceReader::new(alloc);
+    let mut answer = reader.next_item(source);
+    for _ in 0..10 {
+        if answer.is_ok() {
+            answer = reader.next_item(source);
         }
-        assert!(rt; matches!(reader.next_item(&mut source), Err(answer) if answer == wanted));
-        let pulls = source.pulls();
-        for _ in 0..3 {
-            assert!(rt; matches!(reader.next_item(&mut source), Err(answer) if answer == wanted));
-        }
-        assert_eq!(rt; source.pulls(), pulls);
     }
+    let pulls = source.pulls();
+    assert!(rt;
+        matches!(answer, Err(fault) if fault == wanted),
+        "{wanted:?}"
+    );
+    for _ in 0..3 {
+        assert!(rt; matches!(reader.next_item(source), Err(fault) if fault == wanted));
+    }
+    assert_eq!(rt; source.pulls(), pulls);
+}
+
+#[test]
+fn gives_a_fault_of_the_source_for_good(rt: HostRuntime) {
+    for fail_at in 1..=82 {
+        let mut source = PieceSource::new(TRACE, 1, fail_at);
+        gives_for_good(&rt, rt.alloc(), &mut source, (TraceFault::P1, 0));
+        assert_eq!(rt; source.pulls(), fail_at);
+    }
+}
+
+#[test]
+fn gives_each_fault_of_a_text_for_good(rt: HostRuntime) {
+    let faulty = [
+        (b"p qrp x 0\n".as_slice(), (TraceFault::P2, 1)),
+        (b"p qrp 0 0\nsat\n".as_slice(), (TraceFault::P3, 2)),
+        (b"p qrp 0 0\ne 0 0\nr sat\n".as_slice(), (TraceFault::P4, 2)),
+        (b"p qrp 0 0\n7 0 0\n7 0 0\n".as_slice(), (TraceFault::P5, 3)),
+        (b"p qrp 0 0\n7 0 1 2 3 0\n".as_slice(), (TraceFault::P6, 2)),
+        (b"p qrp 0 0\n7 0 0\n".as_slice(), (TraceFault::P7, 3)),
+        (b"p qrp 0 0\nr cnf\n".as_slice(), (TraceFault::P8, 2)),
+    ];
+    for (text, wanted) in faulty {
+        for piece in [1, 4096] {
+            let mut source = PieceSource::new(text, piece, 0);
+            gives_for_good(&rt, rt.alloc(), &mut source, wanted);
+        }
+    }
+}
+
+#[test]
+fn pulls_nothing_behind_the_result(rt: HostRuntime) -> Result<(), Fail> {
+    let alloc = rt.alloc();
+    // The byte behind the result word is the last one that is looked at: the next pull would fail.
+    let mut source = PieceSource::new(TRACE, 1, 83);
+    assert_eq!(rt; read_trace(alloc, &mut source)?.len(), 5);
+    assert_eq!(rt; source.pulls(), 82);
+    let mut source = PieceSource::new(TRACE, 1, 83);
+    assert_eq!(rt; read_flat(alloc, &mut source)?.len(), 5);
+    assert_eq!(rt; source.pulls(), 82);
+    // The same of a fault: the byte behind the wrong token is the last.
+    let text = b"p qrp 0 0\nr cnf behind it";
+    let mut source = PieceSource::new(text, 1, 17);
+    gives_for_good(&rt, alloc, &mut source, (TraceFault::P8, 2));
+    assert_eq!(rt; source.pulls(), 16);
+    Ok(())
 }
 
 #[test]
@@ -251,6 +298,85 @@ fn grows_by_sets_and_steps(rt: HostRuntime) -> Result<(), Fail> {
     assert_eq!(rt; trace.sets().len(), 1);
     assert_eq!(rt; trace.result(), Outcome::Sat);
     assert_eq!(rt; trace.position(7), Some(0));
+    Ok(())
+}
+
+// ---- what is refused memory, and then tried again
+//
+// With memory this test tries nothing twice. scripts/test-refusals refuses each growth of it in turn.
+
+/// The items in a list, at the second try where memory is refused.
+fn list_of<T: Copy>(alloc: Global, items: &[T]) -> Result<Vec<T>, Fail>
+    ensures { IfOk result (λ list. list.items ≡ items.now) }
+{
+    match Vec::from_slice(alloc, items) {
+        Ok(list) => Ok(list),
+        Err(_) => Ok(Vec::from_slice(alloc, items)?),
+    }
+}
+
+/// Adds a set. Where memory is refused the trace is as it was, and the second try adds it.
+fn push_set_again(rt: &impl Abort, trace: &mut Trace, set: QuantSet)
+    ensures { trace.new ≡ record trace.old { sets = trace.old.sets ++ set ∷ [] } }
+{
+    let sets = trace.sets().len();
+    if let Err(back) = trace.push_set(set) {
+        assert_eq!(rt; trace.sets().len(), sets);
+        assert!(rt; trace.push_set(back).is_ok());
+    }
+}
+
+/// Adds a step. Where memory is refused the trace is as it was, and the second try adds it.
+fn push_step_again(rt: &impl Abort, trace: &mut Trace, step: Step)
+    requires number { IsNumber step.number }
+    requires fresh { is_used step.number (numbers trace.old.steps) ≡ false }
+    requires ants { AllByRecursion IsNumber step.ants }
+    requires few { length step.ants ≤ 2 }
+    ensures { trace.new ≡ record trace.old { steps = trace.old.steps ++ step ∷ [] } }
+{
+    let (steps, number) = (trace.len(), step.number);
+    if let Err(back) = trace.push_step(step) {
+        assert_eq!(rt; trace.len(), steps);
+        assert_eq!(rt; trace.position(number), None);
+        assert!(rt; trace.push_step(back).is_ok());
+    }
+}
+
+/// A step with one literal.
+fn step_of(alloc: Global, number: u64, lit: Lit, ants: &[u64]) -> Result<Step, Fail>
+    ensures { IfOk result (λ step. (step.number ≡ number) × (step.ants ≡ ants.now)) }
+{
+    Ok(Step {
+        number,
+        lits: list_of(alloc, &[lit])?,
+        ants: list_of(alloc, ants)?,
+    })
+}
+
+#[test]
+fn grows_again_after_a_refusal(rt: HostRuntime) -> Result<(), Fail> {
+    let alloc = rt.alloc();
+    let header = Header { vars: 1, steps: 3 };
+    let mut trace = Trace::new(alloc, header, Outcome::Unsat);
+    let one = Var::new(1).expect(&rt, "a variable");
+    let set = QuantSet {
+        quantifier: Quantifier::Exists,
+        vars: list_of(alloc, &[one])?,
+    };
+    push_set_again(&rt, &mut trace, set);
+    let lit = Lit::new(one, true);
+    push_step_again(&rt, &mut trace, step_of(alloc, 7, lit, &[])?);
+    push_step_again(&rt, &mut trace, step_of(alloc, 3, lit, &[7])?);
+    push_step_again(&rt, &mut trace, step_of(alloc, 9, lit, &[3, 7])?);
+    let mut sink = match VecSink::new(alloc, 100) {
+        Ok(sink) => sink,
+        Err(_) => VecSink::new(alloc, 100)?,
+    };
+    assert!(rt; write_trace(&trace, &mut sink).is_ok());
+    assert_eq!(rt;
+        sink.bytes(),
+        b"p qrp 1 3\ne 1 0\n7 -1 0 0\n3 -1 0 7 0\n9 -1 0 3 7 0\nr unsat\n".as_slice()
+    );
     Ok(())
 }
 
