@@ -1,9 +1,11 @@
 //! Bytes in and out, and the tokens of QDIMACS and QRP texts.
 #![tactic(auto)]
 
+mod hand;
 mod pieces;
 mod run;
 mod scanner;
+mod separators;
 mod sink;
 mod source;
 mod spelling;

@@ -1,30 +1,17 @@
 //! Texts as tokens with their lines, read from a source.
 
-ghost use Rattle.std.specs.Prelude.{◌≡◌, ℕ, ◌+◌, ◌-◌, ◌^◌, ◌<◌, ◌≤◌, Some, List, [], ◌∷◌, length, IfSome, IfNone, false, true, IsOk, IsErr, IfOk, OnOk, OnErr};
+ghost use Rattle.std.specs.Prelude.{Option, ◌≡◌, ℕ, ◌+◌, ◌-◌, ◌^◌, ◌<◌, ◌≤◌, Some, List, [], ◌∷◌, length, IfSome, IfNone, false, true, IsOk, IsErr, IfOk, OnOk, OnErr};
 ghost use Rattle.std.specs.Io.KnownBytes.{Consumes, IsAtEnd};
-ghost use Rattle.qbf_text.specs.Ahead.{ahead};
-ghost use Rattle.qbf_text.specs.Tokens.{kind, is_blank};
+ghost use Rattle.qbf_text.specs.Ahead.{ahead, first_of};
+ghost use Rattle.qbf_text.specs.Tokens.{kind};
 ghost use Rattle.qbf_text.specs.Left.{is_separator, IsUnbroken, IsWithinLine, EndsRun, EndsLine, Gives, is_end};
 
 use crate::run::{Numeral, Run, Spelling, begins_number};
+use crate::separators::is_separator;
 use crate::source::{Source, SourceFault};
 use crate::token::{Comments, Token};
 use crate::window::Window;
 use std::marker::Model;
-
-/// Whether the byte parts tokens within a line: a space, a tab or a carriage return.
-fn is_blank(byte: u8) -> bool
-    ensures { result ≡ is_blank byte }
-{
-    byte == b' ' || byte == b'\t' || byte == b'\r'
-}
-
-/// Whether the byte ends a token: a blank or a line end.
-fn is_separator(byte: u8) -> bool
-    ensures { result ≡ is_separator byte }
-{
-    is_blank(byte) || byte == b'\n'
-}
 
 /// Goes to the end of the line.
 fn skip_line<S: Source>(window: &mut Window, source: &mut S) -> Result<(), SourceFault>
@@ -99,7 +86,100 @@ impl Place {
     ghost use Rattle.qbf_text.specs.Places.{left_at};
     ghost use Rattle.qbf_text.specs.declared.token.Token.TheVariants.{End};
 
+    /// The next token and its line, if it is a number that was pulled whole with the separator behind it: both are taken
+    /// then, and else nothing is.
+    #[inline(always)]
+    fn number(&mut self) -> Option<(Token, u64)>
+        ensures some { IfSome result (λ token. (remaining : Option (List ℕ)) →
+            Gives (left_at self.old remaining) (left_at self.new remaining) (token ∷ [])) }
+        ensures no_end { IfSome result (λ token. is_end token.0 ≡ false) }
+        ensures less { IfSome result (λ _. length self.new.window < length self.old.window) }
+        ensures none { IfNone result (self.new ≡ self.old) }
+    {
+        let Some(found) = self.window.number() else {
+            return None;
+        };
+        let line = self.line;
+        self.window.skip(found.len);
+        self.begun = !found.ends_line;
+        if found.ends_line {
+            self.line = line.saturating_add(1);
+        }
+        let token = Token::Number {
+            negative: found.negative,
+            value: found.value,
+        };
+        Some((token, line))
+    }
+
+    /// Goes past a separator, the next byte of those that were pulled.
+    fn pass_separator(&mut self, byte: u8)
+        requires next { Some byte ≡ first_of self.old.window }
+        requires separates { is_separator byte ≡ true }
+        ensures same { (remaining : Option (List ℕ)) →
+            Gives (left_at self.old remaining) (left_at self.new remaining) [] }
+        ensures less { length self.new.window < length self.old.window }
+        ensures line { self.new.line < 2 ^ 64 }
+    {
+        // The proof reads here that the number has 64 bits.
+        let _line = self.line;
+        self.window.advance();
+        if byte == b'\n' {
+            self.line = self.line.saturating_add(1);
+            self.begun = false;
+        }
+    }
+
+    /// Goes past the separators that were pulled.
+    fn skip_separators(&mut self)
+        ensures same { (remaining : Option (List ℕ)) →
+            Gives (left_at self.old remaining) (left_at self.new remaining) [] }
+        ensures no_more { length self.new.window ≤ length self.old.window }
+    {
+        while let Some(byte) = self.window.first() {
+            if !is_separator(byte) {
+                break;
+            }
+            self.pass_separator(byte);
+        }
+    }
+
+    /// The same as `number`, behind the separators that were pulled: these are taken if there is no number too.
+    #[cold]
+    #[inline(never)]
+    fn number_behind(&mut self) -> Option<(Token, u64)>
+        ensures some { IfSome result (λ token. (remaining : Option (List ℕ)) →
+            Gives (left_at self.old remaining) (left_at self.new remaining) (token ∷ [])) }
+        ensures no_end { IfSome result (λ token. is_end token.0 ≡ false) }
+        ensures less { IfSome result (λ _. length self.new.window < length self.old.window) }
+        ensures none { IfNone result ((remaining : Option (List ℕ)) →
+            Gives (left_at self.old remaining) (left_at self.new remaining) []) }
+        ensures no_more { length self.new.window ≤ length self.old.window }
+    {
+        self.skip_separators();
+        self.number()
+    }
+
+    /// The next token and its line, if it is a number that was pulled whole.
+    #[inline(always)]
+    fn at_hand(&mut self) -> Option<(Token, u64)>
+        ensures some { IfSome result (λ token. (remaining : Option (List ℕ)) →
+            Gives (left_at self.old remaining) (left_at self.new remaining) (token ∷ [])) }
+        ensures no_end { IfSome result (λ token. is_end token.0 ≡ false) }
+        ensures less { IfSome result (λ _. length self.new.window < length self.old.window) }
+        ensures none { IfNone result ((remaining : Option (List ℕ)) →
+            Gives (left_at self.old remaining) (left_at self.new remaining) []) }
+        ensures no_more { length self.new.window ≤ length self.old.window }
+    {
+        match self.number() {
+            Some(token) => Some(token),
+            None => self.number_behind(),
+        }
+    }
+
     /// The next token, or None at the end.
+    #[cold]
+    #[inline(never)]
     fn scan<S: Source>(&mut self, source: &mut S) -> Result<Option<Token>, SourceFault>
         ensures some { IfOk result (λ found. IfSome found (λ token.
             Gives (left_at self.old (S.remaining source.old)) (left_at self.new (S.remaining source.new))
@@ -119,12 +199,8 @@ impl Place {
         // The proof reads here that the number has 64 bits.
         let _line = self.line;
         while let Some(byte) = self.window.peek(source)? {
-            if byte == b'\n' {
-                self.window.advance();
-                self.line = self.line.saturating_add(1);
-                self.begun = false;
-            } else if is_blank(byte) {
-                self.window.advance();
+            if is_separator(byte) {
+                self.pass_separator(byte);
             } else if !self.begun && self.comments.begins_with(byte) {
                 self.window.advance();
                 skip_line(&mut self.window, source)?;
@@ -233,6 +309,9 @@ impl Scanner {
             State::Failed => return Err(ScanFault),
             State::Ended => return Ok((Token::End, self.place.line)),
             State::Open => {}
+        }
+        if let Some(token) = self.place.at_hand() {
+            return Ok(token);
         }
         match self.place.scan(source) {
             Ok(Some(token)) => Ok((token, self.place.line)),

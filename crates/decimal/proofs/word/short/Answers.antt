@@ -1,0 +1,18 @@
+use Rattle.std.proofs.Common.{ℕ, ◌≡◌, ◌<◌, ◌≤◌, arith, ◌∙◌}
+use Rattle.decimal.proofs.Moved.{at_most, moved_below, moved_value}
+use Rattle.decimal.proofs.word.short.Goals as goal
+
+between : (n : ℕ) → n ≤ 8 → (n ≡ 0 → ⊥) → (n ≡ 8 → ⊥) → (0 < n) × (n < 8)
+between n few some other = (omega arith, omega arith)
+
+pub eight_digits-requires : goal.eight_digits-requires
+eight_digits-requires c =
+    let len = c.digit_run-len in
+    moved_below c.args.word len.result c.ranges.word.fits len.ensures (at_most c.args.word len.result len.ensures)
+
+pub returns : goal.returns
+returns c =
+    let len = c.digit_run-len in
+    let few = at_most c.args.word len.result len.ensures in
+    let inside = between len.result few c.if-len-eq0.false c.if-len-eq8.false in
+    (len.ensures, inside.0, inside.1, c.eight_digits.ensures ∙ moved_value c.args.word len.result c.ranges.word.fits len.ensures few)

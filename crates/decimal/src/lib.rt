@@ -1,0 +1,7 @@
+//! Decimal numbers among bytes.
+#![tactic(auto)]
+
+mod number;
+mod word;
+
+pub use number::digits;

@@ -1,0 +1,55 @@
+//! The decimal digits that stand at a place of some bytes.
+
+ghost use Rattle.std.specs.Prelude.{◌≡◌, ◌+◌, ◌-◌, ◌≤◌, ◌<◌, length, take, drop, slice_index, false};
+ghost use Rattle.std.specs.Char.{is_ascii_digit};
+ghost use Rattle.std.specs.Str.Parse.{digits_value, AllDigits};
+
+use crate::word::short;
+
+/// At most this many digits are read, so that their value fits.
+const MOST: usize = 18;
+
+/// The same as `digits`, by a loop.
+#[cold]
+#[inline(never)]
+fn by_digit(bytes: &[u8], from: usize) -> (u64, usize)
+    requires { from ≤ length bytes.now }
+    ensures within { (from ≤ result.1) × (result.1 ≤ length bytes.now) × (result.1 ≤ from + 18) }
+    ensures digits { AllDigits 10 (take (result.1 - from) (drop from bytes.now)) }
+    ensures value { result.0 ≡ digits_value 10 (take (result.1 - from) (drop from bytes.now)) }
+    ensures longest { result.1 < from + 18 → result.1 < length bytes.now
+        → is_ascii_digit (slice_index bytes.now result.1) ≡ false }
+{
+    let rest = &bytes[from..];
+    let mut value: u64 = 0;
+    let mut i = 0;
+    while i < MOST && i < rest.len() && rest[i].is_ascii_digit() {
+        value = value * 10 + u64::from(rest[i] - b'0');
+        i += 1;
+    }
+    (value, from + i)
+}
+
+/// The value of the decimal digits from the place `from` on, at most 18 of them, and the place after them: `(0, from)`
+/// where there is none. The place is at most the length.
+///
+/// Where eight bytes are left and one to seven of them are digits, it takes them as one word.
+#[inline(always)]
+pub fn digits(bytes: &[u8], from: usize) -> (u64, usize)
+    requires { from ≤ length bytes.now }
+    ensures within { (from ≤ result.1) × (result.1 ≤ length bytes.now) × (result.1 ≤ from + 18) }
+    ensures digits { AllDigits 10 (take (result.1 - from) (drop from bytes.now)) }
+    ensures value { result.0 ≡ digits_value 10 (take (result.1 - from) (drop from bytes.now)) }
+    ensures longest { result.1 < from + 18 → result.1 < length bytes.now
+        → is_ascii_digit (slice_index bytes.now result.1) ≡ false }
+{
+    if let Some(eight) = bytes[from..].first_chunk::<8>() {
+        if let Some((len, value)) = short(u64::from_le_bytes(*eight)) {
+            return (value, from + len as usize);
+        }
+    }
+    by_digit(bytes, from)
+}
+
+#[cfg(test)]
+mod tests;

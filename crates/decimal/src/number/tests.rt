@@ -1,0 +1,31 @@
+//! Numbers of each length, at the end of the bytes and before it.
+
+use super::*;
+use std::process::Abort;
+
+/// The digits at a place, with enough bytes behind them for a word and without.
+fn reads(rt: &impl Abort, bytes: &[u8], from: usize, wanted: (u64, usize)) {
+    if from <= bytes.len() {
+        assert_eq!(rt; digits(bytes, from), wanted);
+    }
+}
+
+#[test]
+fn reads_numbers_of_each_length(rt: HostRuntime) {
+    let all = b"1234567890123456789 0 7 99 18446744073709551615";
+    reads(&rt, all, 0, (123456789012345678, 18));
+    reads(&rt, all, 12, (3456789, 19));
+    reads(&rt, all, 11, (23456789, 19));
+    reads(&rt, all, 18, (9, 19));
+    reads(&rt, all, 19, (0, 19));
+    reads(&rt, all, 20, (0, 21));
+    reads(&rt, all, 22, (7, 23));
+    reads(&rt, all, 24, (99, 26));
+    reads(&rt, all, 40, (9551615, 47));
+    reads(&rt, all, 46, (5, 47));
+    reads(&rt, all, 47, (0, 47));
+    reads(&rt, b"", 0, (0, 0));
+    reads(&rt, b"/:12345", 0, (0, 0));
+    reads(&rt, b"/:12345", 1, (0, 1));
+    reads(&rt, b"/:12345", 2, (12345, 7));
+}

@@ -1,0 +1,55 @@
+//! Decimal digits in a machine word of eight bytes, the first of them the lowest.
+
+ghost use Rattle.std.specs.Prelude.{◌⊎◌, MatchOption, ◌≡◌, ◌<◌, take};
+ghost use Rattle.std.specs.Char.{is_ascii_digit};
+ghost use Rattle.std.specs.List.{prefix_len};
+ghost use Rattle.std.specs.Int.{w64, to_le_bytes};
+ghost use Rattle.std.specs.Int.Digits.{number_from_digits, AllBelowBase};
+ghost use Rattle.std.specs.Str.Parse.{digits_value};
+
+/// A zero digit in each byte.
+const ZEROS: u64 = 0x3030303030303030;
+
+/// Bytes 0 and 4 of a word.
+const FIRST_OF_FOUR: u64 = 0x000000FF000000FF;
+
+/// How many of the word's eight bytes, from the lowest on, are decimal digits.
+///
+/// A byte that is no digit gets its highest bit marked: its digit, or what `^` makes of it, is 10 or more, so that adding
+/// 118 reaches 128, or has that bit already. A carry goes only beyond such a byte.
+#[inline(always)]
+fn digit_run(word: u64) -> u32
+    ensures { result ≡ prefix_len is_ascii_digit (to_le_bytes w64 word) }
+{
+    let turned = word ^ ZEROS;
+    let marks = (turned.wrapping_add(0x7676767676767676) | turned) & 0x8080808080808080;
+    marks.trailing_zeros() / 8
+}
+
+/// The number that the word's eight bytes are the digits of, the lowest byte first: digits to pairs, pairs to fours, and
+/// fours to the number, by three multiplications.
+#[inline(always)]
+fn eight_digits(digits: u64) -> u64
+    requires { AllBelowBase 10 (to_le_bytes w64 digits) }
+    ensures { result ≡ number_from_digits 10 (to_le_bytes w64 digits) }
+{
+    let pairs = digits.wrapping_mul(10).wrapping_add(digits >> 8);
+    let odd = (pairs & FIRST_OF_FOUR).wrapping_mul(0x000F424000000064);
+    let even = ((pairs >> 16) & FIRST_OF_FOUR).wrapping_mul(0x0000271000000001);
+    odd.wrapping_add(even) >> 32
+}
+
+/// The decimal number that the word's bytes begin with, from the lowest on, and how many digits it has: one to seven.
+#[inline(always)]
+pub fn short(word: u64) -> Option<(u32, u64)>
+    ensures { MatchOption result
+        ((prefix_len is_ascii_digit (to_le_bytes w64 word) ≡ 0) ⊎ (prefix_len is_ascii_digit (to_le_bytes w64 word) ≡ 8))
+        (λ r. (r.0 ≡ prefix_len is_ascii_digit (to_le_bytes w64 word)) × (0 < r.0) × (r.0 < 8)
+        × (r.1 ≡ digits_value 10 (take r.0 (to_le_bytes w64 word)))) }
+{
+    let len = digit_run(word);
+    if len == 0 || len == 8 {
+        return None;
+    }
+    Some((len, eight_digits((word ^ ZEROS) << (64 - 8 * len))))
+}

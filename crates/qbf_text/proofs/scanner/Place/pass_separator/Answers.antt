@@ -1,0 +1,10 @@
+use Rattle.std.proofs.KnownBytes.{Consumes-nil}
+use Rattle.qbf_text.specs.Ahead.{ahead}
+use Rattle.qbf_text.proofs.GivesMore.{took_at, gives_line_end}
+use Rattle.qbf_text.proofs.scanner.Place.pass_separator.Goals as goal
+
+pub returns-then-byte-eq10-clause-same : goal.returns-then-byte-eq10-clause-same
+returns-then-byte-eq10-clause-same c remaining =
+    let s = c.args.self.now in
+    let took = took_at (ahead s.window remaining) s.window _ remaining c.args.byte c.advance.ensures.rest (Consumes-nil _) c.requires.next in
+    rw c.saturating_add-self.ensures (gives_line_end s.comments s.begun s.line c.args.byte _ _ took c.if-byte-eq10.true)
