@@ -162,7 +162,8 @@ END {
         if (answers(n, callee)) look(n)
     }
     if (looked < least) { failed++; print "only " looked " places were looked at, where there were " least }
-    print looked - wrong " places answer a refused allocation, " failed + 0 " failed"
+    print looked + 0 " places answer want of memory"
+    print looked - wrong " passed, " failed + 0 " failed"
     exit failed > 0
 }
 
