@@ -90,7 +90,7 @@ function count(text, pattern) {
 
 # ---- what each line belongs to: within[n] is the type of its impl or trait, and kind[n] its item
 
-function items(n, at, what, name) {
+function items(n, what, name) {
     for (n = 1; n <= NR; n++) {
         if (file[n] != file[n - 1]) what = name = ""
         if (code[n] ~ /^(pub |pub\(crate\) )?(impl|trait|struct|enum|fn|const|type|mod)[ <]/) {
