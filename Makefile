@@ -33,6 +33,7 @@ demo: all
 
 test:
 	scripts/check-promises
+	scripts/check-memory-faults
 	$(RT) ci
 	$(MAKE) all $(ECHO)
 	scripts/test-program $(PROGRAM) $(ECHO)

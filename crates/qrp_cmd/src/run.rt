@@ -201,6 +201,4 @@ pub fn run<F: Source, T: Source, O: Sink, E: Sink>(
 }
 
 #[cfg(test)]
-mod damaged;
-#[cfg(test)]
 mod tests;

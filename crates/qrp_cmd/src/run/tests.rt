@@ -1,7 +1,9 @@
+//! What the rows of `tests/*.rows` do not show: single pulls and pushes, and those that fail.
+
 ghost use Rattle.std.specs.Prelude.{◌<◌};
 
 use super::*;
-use qbf_text::{FromRead, PieceSink, PieceSource, SliceSource, VecSink};
+use qbf_text::{FromRead, PieceSink, PieceSource, SliceSource, VecSink, put_bytes};
 use std::process::Abort;
 use std::test::Fail;
 
@@ -63,337 +65,42 @@ pub fn expect<R: Abort + AllocGlobal>(
 }
 
 #[test]
-fn formats_become_canonical(rt: HostRuntime) -> Result<(), Fail> {
-    let rows: [(&[u8], &[u8]); 4] = [
-        (TWO_CLAUSES, TWO_CLAUSES),
-        (
-            b"p cnf 2147483647 1\ne 2147483647 0\n-2147483647 0\n",
-            b"p cnf 2147483647 1\ne 2147483647 0\n-2147483647 0\n",
-        ),
-        (
-            b"c head\r\np cnf 2 2\r\ne\t1 0\r\na 2 0\r\n1\r\nc inside\r\n2 0\r\n-1 2 0",
-            TWO_CLAUSES,
-        ),
-        (
-            b"p cnf 4 1\ne 3 0\ne 0\na 0\ne 1 0\na 2 0\n03 -2 2 3 0\n",
-            b"p cnf 4 1\ne 3 1 0\na 2 0\n3 -2 2 3 0\n",
-        ),
-    ];
-    for (formula, text) in rows {
-        expect(&rt, Job::Format, (formula, b""), text, b"", 0)?;
+fn jobs_of_the_worked_texts(rt: HostRuntime) -> Result<(), Fail> {
+    let texts = (TWO_CLAUSES, REFUTATION);
+    for rules in [Rules::plain(), Rules::any_pivot()] {
+        expect(&rt, Job::Check(rules), texts, b"VERIFIED false\n", b"", 0)?;
+        expect(&rt, Job::Trim(rules), texts, REFUTATION, b"", 0)?;
     }
-    Ok(())
+    expect(&rt, Job::Format, (TWO_CLAUSES, b""), TWO_CLAUSES, b"", 0)
 }
 
-/// A formula that is refused, and the line.
-const REFUSED_FORMULAS: [(&[u8], &[u8]); 12] = [
-    (
-        b"p cnf 2 2\ne 1 0\na 2 0\n1 2 0\n",
-        b"REFUSED formula F8 line 5\n",
-    ),
-    (
-        b"p cnf 1 1\ne 1 0\n1 0\n-1 0\n",
-        b"REFUSED formula F8 line 4\n",
-    ),
-    (
-        b"p cnf 3 2\ne 1 0\na 2 0\n1 3 0\n-1 2 0\n",
-        b"REFUSED formula F6 line 4\n",
-    ),
-    (
-        b"p cnf 2147483647 1\ne 2147483648 0\n-2147483647 0\n",
-        b"REFUSED formula F4 line 2\n",
-    ),
-    (b"", b"REFUSED formula F7 line 1\n"),
-    (b"p\ncnf 0 0\n", b"REFUSED formula F7 line 3\n"),
-    (b"p cnf 1 1\ne 1 0\n1 x 0\n", b"REFUSED formula F3 line 3\n"),
-    (
-        b"p cnf 1 1\ne 1 0\n1 -0 0\n",
-        b"REFUSED formula F3 line 3\n",
-    ),
-    (
-        b"p cnf 2 0\ne 1 0\na 2 1 0\n",
-        b"REFUSED formula F5 line 3\n",
-    ),
-    (b"p cnf 2\ne 1 0\n", b"REFUSED formula F2 line 2\n"),
-    (b"p cnf 1 1\ne 1 0\n2 0\n", b"REFUSED formula F4 line 3\n"),
-    (
-        b"p cnf 1 0\ne 1 0\n18446744073709551616\n",
-        b"REFUSED formula F8 line 3\n",
-    ),
-];
-
 #[test]
-fn formats_are_refused(rt: HostRuntime) -> Result<(), Fail> {
-    for (formula, refusal) in REFUSED_FORMULAS {
-        expect(&rt, Job::Format, (formula, b""), b"", refusal, 2)?;
-    }
-    Ok(())
+fn texts_that_are_exchanged(rt: HostRuntime) -> Result<(), Fail> {
+    let texts = (REFUTATION, TWO_CLAUSES);
+    let refused = b"REFUSED formula F2 line 1\n";
+    expect(&rt, Job::Check(Rules::plain()), texts, refused, b"", 2)?;
+    expect(&rt, Job::Trim(Rules::plain()), texts, b"", refused, 2)?;
+    expect(&rt, Job::Format, (REFUTATION, b""), b"", refused, 2)
 }
 
-/// A formula, a trace, and the line and the status of their check.
-const CHECKED: [(&[u8], &[u8], &[u8], Status); 36] = [
-    // a false formula and its refutation
-    (TWO_CLAUSES, REFUTATION, b"VERIFIED false\n", 0),
-    // a true formula and its proof
-    (
-        b"p cnf 2 2\na 1 0\ne 2 0\n1 -2 0\n-1 2 0\n",
-        b"p qrp 2 5\n1 1 2 0 0\n2 -1 -2 0 0\n3 1 0 1 0\n4 -1 0 2 0\n5 0 3 4 0\nr sat\n",
-        b"VERIFIED true\n",
-        0,
-    ),
-    // a proof of truth called a refutation
-    (
-        b"p cnf 2 2\na 1 0\ne 2 0\n1 -2 0\n-1 2 0\n",
-        b"p qrp 2 5\n1 1 2 0 0\n2 -1 -2 0 0\n3 1 0 1 0\n4 -1 0 2 0\n5 0 3 4 0\nr unsat\n",
-        b"REFUSED step 1 S4\n",
-        1,
-    ),
-    // no clause at all
-    (
-        b"p cnf 0 0\n",
-        b"p qrp 0 0\n1 0 0\nr sat\n",
-        b"VERIFIED true\n",
-        0,
-    ),
-    // an empty clause, the result in capitals
-    (
-        b"p cnf 0 1\n0\n",
-        b"p qrp 0 1\n1 0 0\nr UNSAT\n",
-        b"VERIFIED false\n",
-        0,
-    ),
-    // a reduct of an unclean clause
-    (
-        b"p cnf 1 1\na 1 0\n1 -1 0\n",
-        b"p qrp 1 1\n1 0 0\nr unsat\n",
-        b"REFUSED step 1 S4\n",
-        1,
-    ),
-    // a universal literal reduced before a later existential one
-    (
-        b"p cnf 2 2\na 2 0\ne 1 0\n1 2 0\n-1 2 0\n",
-        b"p qrp 2 5\n1 1 2 0 0\n2 -1 2 0 0\n3 1 0 1 0\n4 -1 0 2 0\n5 0 3 4 0\nr unsat\n",
-        b"REFUSED step 3 S7\n",
-        1,
-    ),
-    // a set variable in a smaller block than one before
-    (
-        b"p cnf 2 2\na 2 0\ne 1 0\n1 2 0\n-1 2 0\n",
-        REFUTATION,
-        b"REFUSED set C3 variable 2\n",
-        1,
-    ),
-    // parents that do not clash
-    (
-        TWO_CLAUSES,
-        b"p qrp 2 5\ne 1 0\na 2 0\n1 1 2 0 0\n2 -1 2 0 0\n3 1 0 1 0\n4 -1 0 2 0\n5 0 3 3 0\nr unsat\n",
-        b"REFUSED step 5 S8\n",
-        1,
-    ),
-    // a step that names itself
-    (
-        TWO_CLAUSES,
-        b"p qrp 2 5\ne 1 0\na 2 0\n1 1 2 0 0\n2 -1 2 0 0\n3 1 0 1 0\n4 -1 0 2 0\n5 0 5 4 0\nr unsat\n",
-        b"REFUSED step 5 S3\n",
-        1,
-    ),
-    // a stray cube outside the core
-    (
-        TWO_CLAUSES,
-        b"p qrp 2 6\ne 1 0\na 2 0\n1 1 2 0 0\n2 -1 2 0 0\n3 1 0 1 0\n4 -1 0 2 0\n5 0 3 4 0\n9 2 -2 0 77 0\nr unsat\n",
-        b"VERIFIED false\n",
-        0,
-    ),
-    // a trace cut inside a step
-    (
-        TWO_CLAUSES,
-        b"p qrp 2 5\ne 1 0\na 2 0\n1 1 2 0 0\n2 -1 2 0 0\n3 1 0 1 0\n4 -1 0 2 0\n5 0 3",
-        b"REFUSED trace P7 line 8\n",
-        2,
-    ),
-    // fewer clauses than the header says
-    (
-        b"p cnf 2 2\ne 1 0\na 2 0\n1 2 0\n",
-        REFUTATION,
-        b"REFUSED formula F8 line 5\n",
-        2,
-    ),
-    // a free variable
-    (
-        b"p cnf 3 2\ne 1 0\na 2 0\n1 3 0\n-1 2 0\n",
-        REFUTATION,
-        b"REFUSED formula F6 line 4\n",
-        2,
-    ),
-    // a faulty formula comes before a faulty trace
-    (
-        b"p cnf 3 2\ne 1 0\na 2 0\n1 3 0\n-1 2 0\n",
-        b"p qrp 2 5\ne 1 0\na 2 0\n1 1 2 0 0\n2 -1 2 0 0\n3 1 0 1 0\n4 -1 0 2 0\n5 0 3",
-        b"REFUSED formula F6 line 4\n",
-        2,
-    ),
-    // a trace without a result
-    (
-        TWO_CLAUSES,
-        b"p qrp 2 5\ne 1 3 0\na 2 0\n1 1 2 0 0\n2 -1 2 0 0\n3 1 0 1 0\n4 -1 0 2 0\n5 0 3 4 0\n",
-        b"REFUSED trace P7 line 9\n",
-        2,
-    ),
-    // the greatest step number
-    (
-        TWO_CLAUSES,
-        b"p qrp 2 5\ne 1 0\na 2 0\n1 1 2 0 0\n2 -1 2 0 0\n3 1 0 1 0\n4 -1 0 2 0\n18446744073709551615 0 3 4 0\nr unsat\n",
-        b"VERIFIED false\n",
-        0,
-    ),
-    // a step number out of range
-    (
-        TWO_CLAUSES,
-        b"p qrp 2 5\ne 1 0\na 2 0\n1 1 2 0 0\n2 -1 2 0 0\n3 1 0 1 0\n4 -1 0 2 0\n18446744073709551616 0 3 4 0\nr unsat\n",
-        b"REFUSED trace P4 line 8\n",
-        2,
-    ),
-    // a step number used twice
-    (
-        TWO_CLAUSES,
-        b"p qrp 2 5\ne 1 0\na 2 0\n1 1 2 0 0\n2 -1 2 0 0\n3 1 0 1 0\n3 -1 0 2 0\n5 0 3 4 0\nr unsat\n",
-        b"REFUSED trace P5 line 7\n",
-        2,
-    ),
-    // an initial cube that misses a clause
-    (
-        b"p cnf 2 2\na 1 0\ne 2 0\n1 -2 0\n-1 2 0\n",
-        b"p qrp 2 5\n1 1 0 0\n2 -1 -2 0 0\n3 1 0 1 0\n4 -1 0 2 0\n5 0 3 4 0\nr sat\n",
-        b"REFUSED step 1 S5\n",
-        1,
-    ),
-    // a universal pivot
-    (
-        b"p cnf 2 3\na 1 0\ne 2 0\n1 2 0\n-1 2 0\n-2 0\n",
-        b"p qrp 2 5\n1 1 2 0 0\n2 -1 2 0 0\n3 -2 0 0\n4 2 0 1 2 0\n5 0 4 3 0\nr unsat\n",
-        b"REFUSED step 4 S10\n",
-        1,
-    ),
-    // a parent reduced before it is resolved
-    (
-        b"p cnf 3 3\ne 1 0\na 2 0\ne 3 0\n1 2 0\n-1 3 0\n-3 0\n",
-        b"p qrp 3 5\n1 1 2 0 0\n2 -1 3 0 0\n3 3 0 1 2 0\n4 -3 0 0\n5 0 3 4 0\nr unsat\n",
-        b"VERIFIED false\n",
-        0,
-    ),
-    // a third antecedent
-    (
-        TWO_CLAUSES,
-        b"p qrp 2 5\ne 1 0\na 2 0\n1 1 2 0 0\n2 -1 2 0 0\n3 1 0 1 0\n4 -1 0 2 0\n5 0 3 4 1 0\nr unsat\n",
-        b"REFUSED trace P6 line 8\n",
-        2,
-    ),
-    // a wrong result word
-    (
-        TWO_CLAUSES,
-        b"p qrp 2 5\ne 1 0\na 2 0\n1 1 2 0 0\n2 -1 2 0 0\n3 1 0 1 0\n4 -1 0 2 0\n5 0 3 4 0\nr maybe\n",
-        b"REFUSED trace P8 line 9\n",
-        2,
-    ),
-    // bytes behind the result
-    (
-        TWO_CLAUSES,
-        b"p qrp 2 5\ne 1 0\na 2 0\n1 1 2 0 0\n2 -1 2 0 0\n3 1 0 1 0\n4 -1 0 2 0\n5 0 3 4 0\nr unsat %$",
-        b"VERIFIED false\n",
-        0,
-    ),
-    // no step without literals
-    (
-        TWO_CLAUSES,
-        b"p qrp 2 0\nr unsat\n",
-        b"REFUSED trace C4\n",
-        1,
-    ),
-    // a set variable that is unbound
-    (
-        TWO_CLAUSES,
-        b"p qrp 2 5\ne 1 3 0\na 2 0\n1 1 2 0 0\n2 -1 2 0 0\n3 1 0 1 0\n4 -1 0 2 0\n5 0 3 4 0\nr unsat\n",
-        b"REFUSED set C1 variable 3\n",
-        1,
-    ),
-    // a set variable with the other quantifier
-    (
-        TWO_CLAUSES,
-        b"p qrp 2 5\ne 1 2 0\na 2 0\n1 1 2 0 0\n2 -1 2 0 0\n3 1 0 1 0\n4 -1 0 2 0\n5 0 3 4 0\nr unsat\n",
-        b"REFUSED set C2 variable 2\n",
-        1,
-    ),
-    // a step with a clashing pair
-    (
-        TWO_CLAUSES,
-        b"p qrp 2 5\ne 1 0\na 2 0\n1 1 2 0 0\n2 -1 2 0 0\n3 1 -1 0 1 0\n4 -1 0 2 0\n5 0 3 4 0\nr unsat\n",
-        b"REFUSED step 3 S1\n",
-        1,
-    ),
-    // a step with an unbound variable
-    (
-        TWO_CLAUSES,
-        b"p qrp 2 5\ne 1 0\na 2 0\n1 1 2 0 0\n2 -1 2 0 0\n3 1 7 0 1 0\n4 -1 0 2 0\n5 0 3 4 0\nr unsat\n",
-        b"REFUSED step 3 S2\n",
-        1,
-    ),
-    // a literal that is not in the antecedent
-    (
-        TWO_CLAUSES,
-        b"p qrp 2 5\ne 1 0\na 2 0\n1 1 2 0 0\n2 -1 2 0 0\n3 1 -2 0 1 0\n4 -1 0 2 0\n5 0 3 4 0\nr unsat\n",
-        b"REFUSED step 3 S6\n",
-        1,
-    ),
-    // two clashing variables
-    (
-        b"p cnf 2 2\ne 1 2 0\n1 2 0\n-1 -2 0\n",
-        b"p qrp 2 3\n1 1 2 0 0\n2 -1 -2 0 0\n3 0 1 2 0\nr unsat\n",
-        b"REFUSED step 3 S9\n",
-        1,
-    ),
-    // a literal that is not in the resolvent
-    (
-        b"p cnf 2 2\ne 1 2 0\n1 0\n-1 0\n",
-        b"p qrp 2 4\n1 1 0 0\n2 -1 0 0\n3 2 0 1 2 0\n4 0 3 0\nr unsat\n",
-        b"REFUSED step 3 S11\n",
-        1,
-    ),
-    // input clauses already reduced
-    (
-        TWO_CLAUSES,
-        b"p qrp 2 3\n1 1 0 0\n2 -1 0 0\n3 0 1 2 0\nr unsat\n",
-        b"VERIFIED false\n",
-        0,
-    ),
-    // a resolvent reduced in the same step
-    (
-        TWO_CLAUSES,
-        b"p qrp 2 3\n1 1 2 0 0\n2 -1 2 0 0\n3 0 1 2 0\nr unsat\n",
-        b"VERIFIED false\n",
-        0,
-    ),
-    // the last empty step is the goal
-    (
-        TWO_CLAUSES,
-        b"p qrp 2 5\ne 1 0\na 2 0\n1 1 2 0 0\n2 -1 2 0 0\n3 1 0 1 0\n4 -1 0 2 0\n5 0 3 4 0\n6 0 0\nr unsat\n",
-        b"REFUSED step 6 S4\n",
-        1,
-    ),
-];
+/// The refutation, where the literal of the third step is written 20,000 times.
+fn repeated(alloc: Global) -> Result<VecSink, Fail> {
+    let mut text = VecSink::new(alloc, 0)?;
+    put_bytes(&mut text, &REFUTATION[..45])?;
+    for _ in 0..20_000 {
+        put_bytes(&mut text, b"1 ")?;
+    }
+    put_bytes(&mut text, &REFUTATION[47..])?;
+    Ok(text)
+}
 
 #[test]
-fn verdicts_and_refusals(rt: HostRuntime) -> Result<(), Fail> {
-    for (formula, trace, line, status) in CHECKED {
-        expect(
-            &rt,
-            Job::Check(Rules::plain()),
-            (formula, trace),
-            line,
-            b"",
-            status,
-        )?;
-    }
-    Ok(())
+fn a_literal_that_is_repeated(rt: HostRuntime) -> Result<(), Fail> {
+    let trace = repeated(rt.alloc())?;
+    let texts = (TWO_CLAUSES, trace.bytes());
+    let plain = Rules::plain();
+    expect(&rt, Job::Check(plain), texts, b"VERIFIED false\n", b"", 0)?;
+    expect(&rt, Job::Trim(plain), texts, trace.bytes(), b"", 0)
 }
 
 #[test]
@@ -525,124 +232,4 @@ fn a_sink_that_fails_keeps_a_beginning(rt: HostRuntime) -> Result<(), Fail> {
     }
     cut(&rt, Job::Format, (None, 4096, true), TWO_CLAUSES)?;
     cut(&rt, check, (None, 4096, true), line)
-}
-
-/// A trace of the two clauses, what its trimming writes to both sinks, and the status.
-const TRIMMED: [(&[u8], &[u8], &[u8], Status); 5] = [
-    (
-        b"p qrp 2 9\n1 1 2 0 0\n2 -1 2 0 0\n8 2 0 0\n7 0 1 2 0\nr UNSAT\n",
-        b"p qrp 2 3\n1 1 2 0 0\n2 -1 2 0 0\n7 0 1 2 0\nr unsat\n",
-        b"",
-        0,
-    ),
-    (
-        b"p qrp 2 3\n1 1 2 0 0\n2 -1 2 0 0\n7 0 1 2 0\nr unsat\n",
-        b"p qrp 2 3\n1 1 2 0 0\n2 -1 2 0 0\n7 0 1 2 0\nr unsat\n",
-        b"",
-        0,
-    ),
-    (
-        b"p qrp 2 6\ne 1 0\na 2 0\n1 1 2 0 0\n2 -1 2 0 0\n3 1 0 1 0\n4 -1 0 2 0\n5 0 3 4 0\n9 2 -2 0 77 0\nr unsat\n",
-        REFUTATION,
-        b"",
-        0,
-    ),
-    (
-        b"p qrp 2 5\ne 1 1 0\na 2 0\n1 1 2 0 0\n2 -1 2 0 0\n3 1 0 1 0\n4 -1 0 2 0\n5 0 3 4 0\nr unsat\n",
-        b"p qrp 2 5\ne 1 1 0\na 2 0\n1 1 2 0 0\n2 -1 2 0 0\n3 1 0 1 0\n4 -1 0 2 0\n5 0 3 4 0\nr unsat\n",
-        b"",
-        0,
-    ),
-    (
-        b"p qrp 2 5\ne 1 0\na 2 0\n1 1 2 0 0\n2 -1 2 0 0\n3 1 0 1 0\n4 -1 0 2 0\n5 0 3",
-        b"",
-        b"REFUSED trace P7 line 8\n",
-        2,
-    ),
-];
-
-#[test]
-fn traces_are_trimmed(rt: HostRuntime) -> Result<(), Fail> {
-    for (trace, out, err, status) in TRIMMED {
-        expect(
-            &rt,
-            Job::Trim(Rules::plain()),
-            (TWO_CLAUSES, trace),
-            out,
-            err,
-            status,
-        )?;
-    }
-    Ok(())
-}
-
-/// A false formula, whose refutation resolves on a universal variable.
-const UNIVERSAL_PIVOT: (&[u8], &[u8]) = (
-    b"p cnf 2 3\na 1 0\ne 2 0\n1 2 0\n-1 2 0\n-2 0\n",
-    b"p qrp 2 5\n1 1 2 0 0\n2 -1 2 0 0\n3 -2 0 0\n4 2 0 1 2 0\n5 0 4 3 0\nr unsat\n",
-);
-
-/// A true formula, whose proof resolves on an existential variable.
-const EXISTENTIAL_PIVOT: (&[u8], &[u8]) = (
-    b"p cnf 1 0\ne 1 0\n",
-    b"p qrp 1 3\n1 1 0 0\n2 -1 0 0\n3 0 1 2 0\nr sat\n",
-);
-
-#[test]
-fn pivots_have_any_quantifier(rt: HostRuntime) -> Result<(), Fail> {
-    let plain = Rules::plain();
-    let any_pivot = Rules::any_pivot();
-    let rows: [((&[u8], &[u8]), &[u8], &[u8]); 2] = [
-        (
-            UNIVERSAL_PIVOT,
-            b"REFUSED step 4 S10\n",
-            b"VERIFIED false\n",
-        ),
-        (
-            EXISTENTIAL_PIVOT,
-            b"REFUSED step 3 S10\n",
-            b"VERIFIED true\n",
-        ),
-    ];
-    for (texts, refused, verified) in rows {
-        expect(&rt, Job::Check(plain), texts, refused, b"", 1)?;
-        expect(&rt, Job::Check(any_pivot), texts, verified, b"", 0)?;
-        expect(&rt, Job::Trim(plain), texts, b"", refused, 1)?;
-        expect(&rt, Job::Trim(any_pivot), texts, texts.1, b"", 0)?;
-    }
-    Ok(())
-}
-
-/// A false formula and a true one, where a literal of a parent is reduced before the resolution.
-const REDUCED_CLAUSE: (&[u8], &[u8]) = (
-    b"p cnf 3 3\ne 1 0\na 2 0\ne 3 0\n1 2 0\n-1 3 0\n-3 0\n",
-    b"p qrp 3 5\n1 1 2 0 0\n2 -1 3 0 0\n3 3 0 1 2 0\n4 -3 0 0\n5 0 3 4 0\nr unsat\n",
-);
-
-const REDUCED_CUBE: (&[u8], &[u8]) = (
-    b"p cnf 3 1\na 1 0\ne 2 0\na 3 0\n-1 2 -3 0\n",
-    b"p qrp 3 5\n1 1 2 0 0\n2 -1 3 0 0\n3 3 0 1 2 0\n4 -3 0 0\n5 0 3 4 0\nr sat\n",
-);
-
-/// A true formula, where a literal is reducible in one of the two parents that hold it.
-const REDUCED_IN_ONE: (&[u8], &[u8]) = (
-    b"p cnf 3 3\ne 1 0\na 2 0\ne 3 0\n1 2 0\n-1 2 3 0\n-2 -3 0\n",
-    b"p qrp 3 5\n1 1 2 0 0\n2 -1 2 3 0 0\n3 3 0 1 2 0\n4 -2 -3 0 0\n5 0 3 4 0\nr unsat\n",
-);
-
-#[test]
-fn parents_are_reduced_first(rt: HostRuntime) -> Result<(), Fail> {
-    for rules in [Rules::plain(), Rules::any_pivot()] {
-        for (texts, line) in [
-            (REDUCED_CLAUSE, b"VERIFIED false\n".as_slice()),
-            (REDUCED_CUBE, b"VERIFIED true\n"),
-        ] {
-            expect(&rt, Job::Check(rules), texts, line, b"", 0)?;
-            expect(&rt, Job::Trim(rules), texts, texts.1, b"", 0)?;
-        }
-        let refused = b"REFUSED step 3 S12\n";
-        expect(&rt, Job::Check(rules), REDUCED_IN_ONE, refused, b"", 1)?;
-        expect(&rt, Job::Trim(rules), REDUCED_IN_ONE, b"", refused, 1)?;
-    }
-    Ok(())
 }
