@@ -1,6 +1,7 @@
 //! The check of a trace against a formula, both from their bytes.
 
-ghost use Rattle.std.specs.Prelude.{◌≡◌, ◌-◌, ◌^◌, ◌<◌, ◌↔◌, IfErr};
+ghost use Rattle.std.specs.Prelude.{◌≡◌, ◌-◌, ◌^◌, ◌<◌, ◌↔◌, IfErr, IfSome};
+ghost use Rattle.qrp_check.specs.Headline.{Headline};
 ghost use Rattle.qrp_check.specs.Verdict.{IsVerdictUnless, IsFormulaDevice, IsTraceDevice, IsFormulaFault, StandsOnLine};
 
 use crate::checking::check;
@@ -26,6 +27,8 @@ pub fn verify<A: Source, B: Source>(
     trace: &mut B,
     rules: Rules,
 ) -> Result<Verified, Fault>
+    // The sentence above, where both sources tell their bytes.
+    ensures headline { IfSome (A.remaining formula.old) (λ a. IfSome (B.remaining trace.old) (λ b. Headline rules a b result)) }
     ensures verdict { IsVerdictUnless rules (A.remaining formula.old) (B.remaining trace.old) result }
     ensures formula_failed { A.failures formula.old < 2 ^ 64 - 1 →
         (IsFormulaDevice result ↔ (A.failures formula.old < A.failures formula.new)) }
