@@ -35,6 +35,9 @@ test:
 	scripts/check-promises
 	scripts/check-memory-faults
 	$(RT) ci
+	cd crates/qbf_core && $(RT) test > /dev/null
+	cd crates/qrp && $(RT) test > /dev/null
+	scripts/test-refusals
 	$(MAKE) all $(ECHO)
 	scripts/test-program $(PROGRAM) $(ECHO)
 	examples/check-all $(PROGRAM)
