@@ -199,3 +199,5 @@ pub fn run<F: Source, T: Source, O: Sink, E: Sink>(
 mod damaged;
 #[cfg(test)]
 mod tests;
+#[cfg(test)]
+mod unpulled;
