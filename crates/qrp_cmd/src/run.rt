@@ -173,7 +173,8 @@ fn trim_job<F: Source, T: Source, O: Sink, E: Sink>(
 /// Where the bytes of the sources are told, the report is the one for what they spell. A source that fails is told in
 /// a line with status 3, want of memory in a line with status 4, on the sink that takes the refusals of the job: `out`
 /// for `Check`, `err` for the others. The other sink gets nothing. Where the sink of the report fails, in a write or in
-/// `finish`, the status is 3 and a beginning of the text went out. For `Format` the trace is not pulled.
+/// `finish`, the status is 3 and a beginning of the text went out. For `Format`, and with a fault of the formula, the
+/// trace is not pulled.
 pub fn run<F: Source, T: Source, O: Sink, E: Sink>(
     alloc: Global,
     job: Job,
