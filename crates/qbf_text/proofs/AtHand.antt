@@ -1,9 +1,10 @@
 -- A number that stands whole among the bytes at hand.
-use Rattle.std.proofs.Common.{◌≡◌, ℕ, zero, suc, ◌+◌, ◌-◌, ◌^◌, ◌<◌, ◌≤◌, Bool, true, false, ◌&&◌, ◌||◌, ◌==◌, nat_eq, List, [], ◌∷◌, ◌++◌, take, drop, length, get_or, refl, sym, subst, ap, ◌∙◌, arith}
+use Rattle.std.proofs.Common.{◌≡◌, ℕ, zero, suc, ◌+◌, ◌-◌, ◌^◌, ◌<◌, ◌≤◌, Bool, true, false, ◌&&◌, ◌||◌, ◌==◌, nat_eq, inl, inr, List, [], ◌∷◌, ◌++◌, take, drop, length, get_or, refl, sym, subst, ap, ◌∙◌, arith}
+use mir.Val.{bool_byte}
 use Rattle.std.specs.Str.Parse.{digits_value, AllDigits}
 use Rattle.std.specs.Char.{is_ascii_digit}
 use Rattle.std.specs.Str.{all_ascii_digits}
-use Rattle.std.proofs.lemmas.Bool.{eqb-true}
+use Rattle.std.proofs.lemmas.Bool.{eqb-true, cases_Bool}
 use Rattle.std.proofs.lemmas.List.{length-take}
 use Rattle.std.proofs.lemmas.Str.Parse.{digits_value_short}
 use Rattle.std.proofs.Math.Seq.{take-suc}
@@ -111,3 +112,7 @@ module _ (bytes : List ℕ) (negative : Bool) (start value end : ℕ) (sign : ne
           let other : (true && nat_eq (digits_value 10 (take n bs)) 0) ≡ false = ap (λ k. true && nat_eq k 0) (sym value_is) ∙ ap (λ k. k && nat_eq value 0) (sym here) ∙ nonzero in
           rw (here, value_is, f, whole) (minus bs n (subst (λ l. suc n < length l) whole (subst (λ k. k < length bytes) f within)) (subst (AllDigits 10) same all) (subst (λ l. digits_value 10 l < 2 ^ 64) same small) other
           (subst (λ l. is_separator (get_or l (suc n) 0) ≡ true) whole (subst (λ k. is_separator (get_or bytes k 0) ≡ true) f sep)))
+
+  -- either
+  pub found : start ≡ bool_byte negative → BeginsWithNumber bytes negative value (end + 1) (nat_eq (get_or bytes end 0) 10)
+  found is = elim (cases_Bool negative) [ inl here ↦ found_minus here (is ∙ ap bool_byte here) | inr none ↦ found_plain none (is ∙ ap bool_byte none) ]

@@ -34,7 +34,7 @@ fn begins_with_minus(bytes: &[u8]) -> bool
 fn is_minus_zero(negative: bool, value: u64) -> bool
     ensures { result ≡ (negative && nat_eq value 0) }
 {
-    negative && value == 0
+    negative & (value == 0)
 }
 
 /// The number that the bytes begin with, if they go on behind it with a separator.
@@ -45,7 +45,7 @@ pub fn number_in_front(bytes: &[u8]) -> Option<Found>
     ensures { IfSome result (λ f. BeginsWithNumber bytes.now f.negative f.value f.len f.ends_line) }
 {
     let negative = begins_with_minus(bytes);
-    let start = if negative { 1 } else { 0 };
+    let start = usize::from(negative);
     let (value, end) = digits(bytes, start);
     if end == start || end >= bytes.len() || is_minus_zero(negative, value) {
         return None;

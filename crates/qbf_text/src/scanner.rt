@@ -283,6 +283,7 @@ impl Scanner {
     ///
     /// X1 where the source failed. Every later call answers X1 and pulls nothing.
     #[tactic(auto, unfolding(crate::specs::Reading::left))]
+    #[inline(always)]
     pub fn next_token<S: Source>(&mut self, source: &mut S) -> Result<(Token, u64), ScanFault>
         ensures token { IfOk result (λ token.
             GivesNext (left self.old (S.remaining source.old)) (left self.new (S.remaining source.new)) token) }

@@ -14,6 +14,7 @@ use qbf_core::{Formula, Lit, Quantifier, Var};
 use qbf_text::{Scanner, Source, Token, Word};
 
 /// The next token and its line, or F1 where the source failed.
+#[inline(always)]
 pub(crate) fn next<S: Source>(scanner: &mut Scanner, source: &mut S) -> Result<(Token, u64), Fault>
     requires ready { IsReady scanner.old (S.remaining source.old) }
     ensures gives { IfOk result (λ t.

@@ -25,6 +25,7 @@ use qbf_text::{Scanner, Source, Token};
 use std::alloc::Global;
 
 /// The next token and its line.
+#[inline(always)]
 fn next<S: Source>(scanner: &mut Scanner, source: &mut S) -> Result<(Token, u64), Fault>
     requires ready { ¬ HasFailed scanner.old }
     ensures gives { IfOk result (λ t.

@@ -1,14 +1,10 @@
 use Rattle.std.proofs.Common.{sym, ◌∙◌}
-use Rattle.qbf_text.proofs.AtHand.{found_plain, found_minus}
+use Rattle.qbf_text.proofs.AtHand.{found}
 use Rattle.qbf_text.proofs.hand.number_in_front.Goals as goal
-use Rattle.qbf_text.proofs.hand.number_in_front.Goals.{then-negative, else-negative}
 
 pub returns : goal.returns
 returns c =
     let d = c.digits-value.ensures in
     let nonzero = sym c.is_minus_zero.ensures ∙ c.if-is_minus_zero.false in
     let sep = sym c.is_separator.ensures ∙ c.if-not-is_separator.false in
-    elim c.if-negative.branch [
-      | then-negative w ↦ found_minus _ _ _ _ _ c.begins_with_minus-negative.ensures d.within.0 d.within.2 d.digits d.value c.if-end-start.false c.if-end-bytes.false nonzero sep w.if-negative.true w.start-is
-      | else-negative w ↦ found_plain _ _ _ _ _ c.begins_with_minus-negative.ensures d.within.0 d.within.2 d.digits d.value c.if-end-start.false c.if-end-bytes.false nonzero sep w.if-negative.false w.start-is
-    ]
+    found _ _ _ _ _ c.begins_with_minus-negative.ensures d.within.0 d.within.2 d.digits d.value c.if-end-start.false c.if-end-bytes.false nonzero sep c.from-start.ensures
