@@ -4,13 +4,13 @@ use Rattle.std.proofs.lemmas.Bool.{cases_eq}
 use Rattle.qbf_core.specs.Literal.{Literal, positive, negative}
 use Rattle.qbf_core.specs.Lists.{◌∈◌, ◌⊆◌}
 use Rattle.qbf_core.specs.Rules.{IsClean, Side, IsReducible, IsReduct, Clashes, IsOnlyClash, resolvent}
-use Rattle.qbf_core.specs.Blocks.{Block, pairs, IsBound, variables}
-use Rattle.qbf_core.proofs.Bound.{Distinct}
-use Rattle.qbf_core.specs.Qbf.{Qbf}
+use Rattle.qbf_core.specs.Blocks.{Block, IsBound, AreBound}
+use Rattle.qbf_core.proofs.Bound.{bound_each, in_all}
+use Rattle.qbf_core.specs.Qbf.{Qbf, IsClosed}
 use Rattle.qrp_check.specs.Conditions.{IsReducibleInParents}
 use Rattle.qbf_core.proofs.Members.{in_or_not}
-use Rattle.qbf_core.proofs.Sides.{Keeps, keeps_reduct}
-use Rattle.qbf_core.proofs.Inferences.{in_append, append_left, append_right, in_without, from_without, resolvent_clean, keeps_resolvent}
+use Rattle.qbf_core.proofs.Inferences.{in_append, append_left, append_right, in_without, from_without, resolvent_clean}
+use Rattle.qrp_check.proofs.Adding.{AreGood, Grown, one_grown, grown_on, reduct_grows, resolvent_grows}
 
 -- what is taken out of a resolvent is reducible in it, or in each parent that has it
 pub record Resolved (side : Side) (f : Qbf) (a b lits : List Literal) : Type 0 where
@@ -50,6 +50,9 @@ reducible_fewer side blocks all some l within red = (red.0, λ m h. red.1 m (wit
 
 clean_fewer : (all some : List Literal) → some ⊆ all → IsClean all → IsClean some
 clean_fewer all some within clean l h k = clean l (within l h) (within _ k)
+
+bound_fewer : (blocks : List Block) (all some : List Literal) → some ⊆ all → AreBound blocks all → AreBound blocks some
+bound_fewer blocks all some within bound = in_all (λ l. IsBound blocks l.var) some (λ l h. bound_each blocks all bound l (within l h))
 
 module _ (side : Side) (f : Qbf) (a b lits : List Literal) (resolved : Resolved side f a b lits) where
   -- what is kept of a parent before the resolution, and what is taken out of it
@@ -137,22 +140,32 @@ module _ (side : Side) (f : Qbf) (a b lits : List Literal) (resolved : Resolved 
       why l ne (inr (inl is)) = inl is
       why l ne (inr (inr red)) = inr (reducible_fewer side f.blocks (resolvent a b resolved.pivot) rest l rest_within red)
 
-  pivot_bound : ((l : Literal) → l ∈ a → IsBound f.blocks l.var) → Clashes a b resolved.pivot → IsBound f.blocks resolved.pivot
-  pivot_bound bound (inl (p, n)) = bound (positive resolved.pivot) p
-  pivot_bound bound (inr (n, p)) = bound (negative resolved.pivot) n
+  pivot_bound : AreBound f.blocks a → IsBound f.blocks resolved.pivot
+  pivot_bound bound = elim resolved.clash.clashes [
+    | inl (p, n) ↦ bound_each f.blocks a bound (positive resolved.pivot) p
+    | inr (n, p) ↦ bound_each f.blocks a bound (negative resolved.pivot) n
+  ]
 
-  pub keeps_resolved : Distinct (variables (pairs f.blocks)) → IsClean a → IsClean b
-      → ((l : Literal) → l ∈ a → IsBound f.blocks l.var) → ((l : Literal) → l ∈ b → IsBound f.blocks l.var)
-      → Keeps side f a → Keeps side f b → Keeps side f lits
-  keeps_resolved apart clean_a clean_b bound_a bound_b of_a of_b =
-      let clean_pa = clean_fewer a picked_a.some picked_a.within clean_a in
-      let clean_pb = clean_fewer b picked_b.some picked_b.within clean_b in
-      keeps_reduct side f apart rest lits
-      (resolvent_clean picked_a.some picked_b.some resolved.pivot clean_pa clean_pb clash)
-      (λ l h. let w = from_without resolved.pivot (a ++ b) l (rest_within l h) in
-      elim (in_append a b l w.0) [ inl k ↦ bound_a l k | inr k ↦ bound_b l k ])
-      reduct
-      (keeps_resolvent side f apart picked_a.some picked_b.some resolved.pivot clean_pa clean_pb clash.clashes
-      (pivot_bound bound_a resolved.clash.clashes)
-      (keeps_reduct side f apart a picked_a.some clean_a bound_a reduct_a of_a)
-      (keeps_reduct side f apart b picked_b.some clean_b bound_b reduct_b of_b))
+  -- the reduced parents, their resolvent and what is left of it are added one after the other
+  pub resolved_grown : (sets : List (List Literal)) → IsClosed f → AreGood f sets → a ∈ sets → b ∈ sets
+      → IsClean lits → AreBound f.blocks lits → Grown side f sets lits
+  resolved_grown sets closed good in_a in_b clean bound =
+      let of_a = good a in_a in
+      let of_b = good b in_b in
+      let clean_a = clean_fewer a picked_a.some picked_a.within of_a.0 in
+      let clean_b = clean_fewer b picked_b.some picked_b.within of_b.0 in
+      let bound_a = bound_fewer f.blocks a picked_a.some picked_a.within of_a.1 in
+      let bound_b = bound_fewer f.blocks b picked_b.some picked_b.within of_b.1 in
+      grown_on side f sets picked_a.some lits (one_grown side f sets picked_a.some (reduct_grows side f sets a picked_a.some closed good in_a reduct_a) good clean_a bound_a)
+      (λ one good_1 more_1 here_a.
+      grown_on side f one picked_b.some lits (one_grown side f one picked_b.some (reduct_grows side f one b picked_b.some closed good_1 (more_1 b in_b) reduct_b) good_1 clean_b bound_b)
+      (λ two good_2 more_2 here_b.
+      grown_on side f two rest lits
+      (one_grown side f two rest (resolvent_grows side f two picked_a.some picked_b.some resolved.pivot closed good_2 (more_2 picked_a.some here_a) here_b clash.clashes (pivot_bound of_a.1)) good_2
+      (resolvent_clean picked_a.some picked_b.some resolved.pivot clean_a clean_b clash) (rest_bound of_a.1 of_b.1))
+      (λ three good_3 more_3 here. one_grown side f three lits (reduct_grows side f three rest lits closed good_3 here reduct) good_3 clean bound)))
+    where
+      rest_bound : AreBound f.blocks a → AreBound f.blocks b → AreBound f.blocks rest
+      rest_bound bound_a bound_b = in_all (λ l. IsBound f.blocks l.var) rest (λ l h.
+          let w = from_without resolved.pivot (a ++ b) l (rest_within l h) in
+          elim (in_append a b l w.0) [ inl k ↦ bound_each f.blocks a bound_a l k | inr k ↦ bound_each f.blocks b bound_b l k ])

@@ -21,7 +21,7 @@ first_fault_is : (rules : Rules) (formula trace : Option (List ℕ)) (f : Qbf) (
     → IsFirstFault rules f d.sets d.steps d.result e
     → IfSome formula (λ bytes. IsVerdict rules (read_formula bytes) (traces.reads_bytes trace) (Err (fault.Check e)))
 first_fault_is rules None trace f d e reads_f reads_d first = tt
-first_fault_is rules (Some a) None f d e reads_f reads_d first = rw reads_f tt
+first_fault_is rules (Some a) None f d e reads_f reads_d first = rw reads_f (λ is. is, tt)
 first_fault_is rules (Some a) (Some b) f d e reads_f reads_d first = rw (reads_f, reads_d) first
 
 pub check_refused : (rules : Rules) (formula trace : Option (List ℕ)) (f : Qbf) (d : Derivation) (e : CheckFault)
@@ -39,5 +39,5 @@ pub check_verified : (rules : Rules) (formula trace : Option (List ℕ)) (f : Qb
     → IsProof rules f d → ListsCore d.steps v.core.items → v.truth ≡ is_sat d.result → (IsTrue v.truth ↔ IsTrueFormula f)
     → IsVerdictUnless rules formula trace (Ok v)
 check_verified rules None trace f d v reads_f reads_d proves lists claim truth = inl tt
-check_verified rules (Some a) None f d v reads_f reads_d proves lists claim truth = inl (rw reads_f tt)
+check_verified rules (Some a) None f d v reads_f reads_d proves lists claim truth = inl (rw reads_f (λ is. is, truth))
 check_verified rules (Some a) (Some b) f d v reads_f reads_d proves lists claim truth = inl (rw (reads_f, reads_d) (proves, lists, claim, truth))

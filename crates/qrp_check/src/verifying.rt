@@ -1,7 +1,8 @@
 //! The check of a trace against a formula, both from their bytes.
 
-ghost use Rattle.std.specs.Prelude.{◌≡◌, ◌-◌, ◌^◌, ◌<◌, ◌↔◌};
-ghost use Rattle.qrp_check.specs.Verdict.{IsVerdictUnless, IsFormulaDevice, IsTraceDevice, IsFormulaFault};
+ghost use Rattle.std.specs.Prelude.{◌≡◌, ◌-◌, ◌^◌, ◌<◌, ◌↔◌, IfErr, IfSome};
+ghost use Rattle.qrp_check.specs.Headline.{Headline};
+ghost use Rattle.qrp_check.specs.Verdict.{IsVerdictUnless, IsFormulaDevice, IsTraceDevice, IsFormulaFault, StandsOnLine};
 
 use crate::checking::check;
 use crate::verdict::{Fault, Rules, Verified};
@@ -19,18 +20,21 @@ use std::alloc::Global;
 /// # Errors
 /// The formula's fault with its line, and then the trace is not pulled; else the trace's fault with its line; else the
 /// first fault of the check. In place of any of these `F9`, `P9` or `C5` if memory was refused, and `F1` or `P1` exactly
-/// where the source failed.
+/// where the source failed; `F1`, `F9`, `P1` and `P9` stand on line 0.
 pub fn verify<A: Source, B: Source>(
     alloc: Global,
     formula: &mut A,
     trace: &mut B,
     rules: Rules,
 ) -> Result<Verified, Fault>
+    // The sentence above, where both sources tell their bytes.
+    ensures headline { IfSome (A.remaining formula.old) (λ a. IfSome (B.remaining trace.old) (λ b. Headline rules a b result)) }
     ensures verdict { IsVerdictUnless rules (A.remaining formula.old) (B.remaining trace.old) result }
     ensures formula_failed { A.failures formula.old < 2 ^ 64 - 1 →
         (IsFormulaDevice result ↔ (A.failures formula.old < A.failures formula.new)) }
     ensures trace_failed { B.failures trace.old < 2 ^ 64 - 1 →
         (IsTraceDevice result ↔ (B.failures trace.old < B.failures trace.new)) }
+    ensures lines { IfErr result StandsOnLine }
     ensures not_pulled { IsFormulaFault result → trace.new ≡ trace.old }
 {
     let read = read_formula(alloc, formula)?;

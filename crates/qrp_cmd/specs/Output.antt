@@ -1,5 +1,5 @@
 -- What a run reports, and to which sink.
-use Rattle.std.specs.Prelude.{◌≡◌, ℕ, ◌-◌, ◌^◌, ◌<◌, ◌↔◌, List, ◌⊎◌, Option, IfSome, Result, Ok, Err}
+use Rattle.std.specs.Prelude.{◌≡◌, ℕ, ◌-◌, ◌^◌, ◌<◌, ◌↔◌, List, ◌⊎◌, Option, IfSome, IfErr, Result, Ok, Err}
 use Rattle.std.specs.Io.KnownBytes.{Appends}
 use Rattle.qbf_core.specs.Qbf.{Qbf}
 use Rattle.qbf_text.specs.Written.{AppendsFront}
@@ -20,7 +20,7 @@ use Rattle.qrp_check.specs.Core.{ListsCore}
 use Rattle.qrp_check.specs.Proof.{IsProof}
 use Rattle.qrp_check.specs.Trim.{trimmed}
 use Rattle.qrp_check.specs.Laws.{IsTrimmedProof}
-use Rattle.qrp_check.specs.Verdict.{IsVerdictUnless, IsFormulaDevice, IsTraceDevice}
+use Rattle.qrp_check.specs.Verdict.{IsVerdictUnless, IsFormulaDevice, IsTraceDevice, StandsOnLine}
 use Rattle.qrp_cmd.specs.Lines.{fault_line, fault_status, verdict_line}
 
 -- the two sinks of a run
@@ -81,11 +81,12 @@ pub record Reading : Type 0 where
   pub after : ℕ
 
 -- What the check of two texts by these rules answers: the verdict on their bytes, or that a source failed, exactly where it did, or
--- want of memory.
+-- want of memory; the latter two on line 0.
 pub record IsChecked (rules : Rules) (formula trace : Reading) (answer : Result Verified Fault) : Type 0 where
   pub verdict : IsVerdictUnless rules formula.told trace.told answer
   pub formula_failed : formula.before < 2 ^ 64 - 1 → IsFormulaDevice answer ↔ (formula.before < formula.after)
   pub trace_failed : trace.before < 2 ^ 64 - 1 → IsTraceDevice answer ↔ (trace.before < trace.after)
+  pub lines : IfErr answer StandsOnLine
 
 -- The trace t is what the trace's bytes read as, without the steps that its goal does not need: a proof by itself, whose
 -- text reads as it.

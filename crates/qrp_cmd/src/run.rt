@@ -7,7 +7,7 @@ ghost use Rattle.qdimacs.specs.declared.fault.FormulaFault.{FormulaFault};
 ghost use Rattle.qdimacs.specs.Grammar.{text};
 ghost use Rattle.qrp.specs.Derivations.{Derivation};
 ghost use Rattle.qrp.specs.Grammar.{text as trace_text};
-ghost use Rattle.qrp_check.specs.Verdict.{IsVerdictUnless, IsFormulaDevice, IsTraceDevice};
+ghost use Rattle.qrp_check.specs.Verdict.{IsVerdictUnless, IsFormulaDevice, IsTraceDevice, StandsOnLine};
 ghost use Rattle.qrp_check.specs.declared.verdict.Verified.{Verified};
 ghost use Rattle.qrp_check.specs.declared.verdict.Fault.{Fault};
 ghost use Rattle.qrp_cmd.specs.Lines.{fault_line, fault_status, verdict_line};
@@ -124,6 +124,7 @@ fn trimmed<F: Source, T: Source>(
         (IsFormulaDevice (Err e) ↔ (F.failures formula.old < F.failures formula.new))) }
     ensures trace_failed { IfErr result (λ e. T.failures trace.old < 2 ^ 64 - 1 →
         (IsTraceDevice (Err e) ↔ (T.failures trace.old < T.failures trace.new))) }
+    ensures lines { IfErr result StandsOnLine }
     ensures formula_works { OnOk result (F.failures formula.new ≡ F.failures formula.old) }
     ensures trace_works { OnOk result (T.failures trace.new ≡ T.failures trace.old) }
 {

@@ -1,0 +1,39 @@
+-- The headline, over the bytes and the grammar of their tokens: for all formula and trace bytes, `verify` answers Verified exactly where
+-- the bytes spell a closed prenex formula and a trace whose sets agree with it and whose last empty step, with all steps below that
+-- one, follows by the rules; and whenever it answers Verified, that formula is false if the trace says `r unsat` and true if it
+-- says `r sat`. Want of memory and failed devices are aside.
+use Rattle.std.specs.Prelude.{◌≡◌, ◌↔◌, ◌⊎◌, ℕ, IsTrue, List, IsOk, IfOk, Result}
+use Rattle.qbf_core.specs.Qbf.{Qbf}
+use Rattle.qbf_core.specs.Truth.{IsTrueFormula}
+use Rattle.qbf_text.specs.declared.token.Comments.TheVariants.{Qdimacs, Qrp}
+use Rattle.qbf_text.specs.Lined.{unlined}
+use Rattle.qbf_text.specs.Tokens.{tokens}
+use Rattle.qdimacs.specs.Grammar.{IsFormula}
+use Rattle.qrp.specs.Derivations.{Derivation}
+use Rattle.qrp.specs.Grammar.{IsTrace}
+use Rattle.qrp_check.specs.declared.verdict.Rules.{Rules}
+use Rattle.qrp_check.specs.declared.verdict.Verified.{Verified}
+use Rattle.qrp_check.specs.declared.verdict.Fault.{Fault}
+use Rattle.qrp_check.specs.Proof.{side_of, IsProof, ResultHolds}
+use Rattle.qrp_check.specs.Verdict.{is_sat, IsWantOfMemory, IsFormulaDevice, IsTraceDevice}
+
+-- the bytes spell f, a closed prenex formula, and the trace d
+pub record Spell (formula trace : List ℕ) (f : Qbf) (d : Derivation) : Type 0 where
+  pub formula_spelled : IsFormula (unlined (tokens Qdimacs formula)) f
+  pub trace_spelled : IsTrace (unlined (tokens Qrp trace)) d
+
+-- The bytes spell a formula and a trace that proves its result of it: the sets agree, and the last empty step and all below it follow.
+pub record IsShown (rules : Rules) (formula trace : List ℕ) : Type 0 where
+  pub f : Qbf
+  pub d : Derivation
+  pub spelled : Spell formula trace f d
+  pub proves : IsProof rules f d
+
+-- The answer is Verified only where the bytes show it, and wherever they do, but for want of memory and failed devices. And then
+-- the formula is false if the trace says `r unsat` and true if it says `r sat`, and `truth` says which.
+pub record Headline (rules : Rules) (formula trace : List ℕ) (answer : Result Verified Fault) : Type 0 where
+  pub only : IsOk answer → IsShown rules formula trace
+  pub wherever : IsShown rules formula trace
+      → IsOk answer ⊎ (IsWantOfMemory answer ⊎ (IsFormulaDevice answer ⊎ IsTraceDevice answer))
+  pub truth : IfOk answer (λ v. (f : Qbf) (d : Derivation) → Spell formula trace f d
+      → ResultHolds (side_of d.result) f × (v.truth ≡ is_sat d.result) × (IsTrue v.truth ↔ IsTrueFormula f))
