@@ -4,6 +4,7 @@ use Rattle.std.specs.Prelude.{◌⊎◌, Result, IfSome}
 use Rattle.std.specs.Io.KnownBytes.{Appends, Keeps}
 use Rattle.std.proofs.KnownBytes.{Appends-kept}
 use Rattle.qbf_core.specs.Qbf.{Qbf}
+use Rattle.qbf_text.specs.declared.sink.Sink.{Ghosts}
 use Rattle.qdimacs.specs.declared.fault.FormulaFault.{FormulaFault}
 use Rattle.qdimacs.specs.declared.fault.FormulaFault.TheVariants.{F1, F2, F3, F4, F5, F6, F7, F8, F9}
 use Rattle.qdimacs.specs.Reading.{Gives, Stops, reads_bytes, read_formula}
@@ -12,17 +13,21 @@ use Rattle.qrp_cmd.specs.declared.job.Job.{Job}
 use Rattle.qrp_cmd.specs.declared.job.Job.TheVariants as job
 use Rattle.qrp_check.specs.declared.verdict.Verified.{Verified}
 use Rattle.qrp_check.specs.declared.verdict.Fault.{Fault}
-use Rattle.qrp_cmd.specs.Output.{HasFailed, IsSent, IsOn, IsOutput, IsChecked, Reading, IsFormulaRead, IsFormulaFault, check_report}
+use Rattle.qrp_cmd.specs.Output.{HasFailed, IsSent, IsOn, IsOutput, IsChecked, Reading, IsFormulaRead, IsFormulaRefused, check_report}
 
 -- a text that went out, and then the end of it
-pub sent_ended : (a b c : Option (List ℕ)) (x y z : ℕ) (text : List ℕ) (status answer : ℕ)
-    → Appends a b text → y ≡ x → Keeps b c
-    → ((z ≡ y) × (answer ≡ status)) ⊎ (HasFailed y z × (answer ≡ 3))
-    → IsSent a c x z text status answer
-sent_ended a b c x y z text status answer out same kept (inl p) =
-    inl (Appends-kept a b c text out kept, p.0 ∙ same, p.1)
-sent_ended a b c x y z text status answer out same kept (inr p) =
-    inr ((text, [], sym (append-nil text), Appends-kept a b c text out kept), subst (λ n. HasFailed n z) same p.0, p.1)
+pub sent_ended : {S : Type 0} (sink : Ghosts S) (a b c : S) (text : List ℕ) (status answer : ℕ)
+    → Appends (sink.written a) (sink.written b) text → sink.failures b ≡ sink.failures a → Keeps (sink.written b) (sink.written c)
+    → ((sink.failures c ≡ sink.failures b) × sink.finished c × (answer ≡ status)) ⊎ (HasFailed (sink.failures b) (sink.failures c) × (answer ≡ 3))
+    → IsSent sink a c text status 3 answer
+sent_ended sink a b c text status answer out same kept (inl p) =
+    inl (Appends-kept (sink.written a) (sink.written b) (sink.written c) text out kept, p.0 ∙ same, p.1, p.2)
+sent_ended sink a b c text status answer out same kept (inr p) =
+    inr (
+      (text, [], sym (append-nil text), Appends-kept (sink.written a) (sink.written b) (sink.written c) text out kept),
+      subst (λ n. HasFailed n (sink.failures c)) same p.0,
+      p.1,
+    )
 
 read_as : (told : Option (List ℕ)) (f : Qbf) → Gives (Ok f) (reads_bytes told) → IfSome told (λ bytes. read_formula bytes ≡ Ok f)
 read_as None f g = tt
@@ -39,7 +44,7 @@ stopped (Some bytes) e n s = s
 
 pub formula_refused : (told : Option (List ℕ)) (before after : ℕ) (e : FormulaFault) (n : ℕ) → Stops e n (reads_bytes told)
     → (e ≡ F1 → HasFailed before after) → (e ≢ F1 → after ≡ before) → (e ≡ F1 → n ≡ 0) → (e ≡ F9 → n ≡ 0)
-    → IsFormulaFault told before after e n
+    → IsFormulaRefused told before after e n
 formula_refused told before after F1 n s failed kept one nine = (one refl, failed refl)
 formula_refused told before after F9 n s failed kept one nine = (nine refl, kept (λ e. cc e))
 formula_refused told before after F2 n s failed kept one nine = (stopped told F2 n s, kept (λ e. cc e))

@@ -1,36 +1,43 @@
 //! The program `qrp_cmd`: formulas of quantified Boolean logic in canonical form, and the check of their proofs.
 #![tactic(auto)]
 
-ghost use Rattle.std.specs.Prelude.{◌≡◌, ◌⊎◌, IfErr};
+ghost use Rattle.std.specs.Prelude.{◌≡◌, ◌⊎◌, IfOk, IfErr, drop};
+ghost use Rattle.std.specs.Vec.Iter.{into_iter_items};
 ghost use Rattle.qrp_cmd.specs.declared.start.Start.TheVariants.{NoMemory, Usage};
 
-mod files;
+mod buffered;
 mod job;
 mod lines;
 mod names;
+mod open;
+mod program;
 mod run;
 mod start;
+mod unopened;
 mod words;
 
+use buffered::Buffered;
 pub use job::Job;
+use open::SystemFiles;
+use program::program;
+use qbf_text::ToWrite;
 pub use run::{Status, run};
 pub use start::Start;
+use std::alloc::Global;
 use std::env;
+use std::env::Args;
 use std::io::ErrorKind;
 use std::process::ExitCode;
 pub use words::request;
 
-/// The words after the program's name.
-fn given_words(rt: &HostRuntime) -> Result<Vec<String>, Start>
-    ensures { IfErr result (λ e. (e ≡ NoMemory) ⊎ (e ≡ Usage)) }
+/// The words without the first, which is the program's name.
+fn after_name(alloc: Global, mut args: Args) -> Result<Vec<String>, Start>
+    ensures words { IfOk result (λ words. words.items ≡ drop 1 (into_iter_items args)) }
+    ensures refused { IfErr result (λ e. e ≡ NoMemory) }
 {
-    let args = match env::args(rt) {
-        Ok(args) => args,
-        Err(error) if error.kind() == ErrorKind::OutOfMemory => return Err(Start::NoMemory),
-        Err(_) => return Err(Start::Usage),
-    };
-    let mut words = Vec::new(rt.alloc());
-    for word in args.skip(1) {
+    let mut words = Vec::new(alloc);
+    let _name = args.next();
+    while let Some(word) = args.next() {
         if words.push(word).is_err() {
             return Err(Start::NoMemory);
         }
@@ -38,10 +45,21 @@ fn given_words(rt: &HostRuntime) -> Result<Vec<String>, Start>
     Ok(words)
 }
 
+/// The words after the program's name.
+fn given_words(rt: &HostRuntime) -> Result<Vec<String>, Start>
+    ensures { IfErr result (λ e. (e ≡ NoMemory) ⊎ (e ≡ Usage)) }
+{
+    match env::args(rt) {
+        Ok(args) => after_name(rt.alloc(), args),
+        Err(error) if error.kind() == ErrorKind::OutOfMemory => Err(Start::NoMemory),
+        Err(_) => Err(Start::Usage),
+    }
+}
+
 fn main(rt: HostRuntime) -> ExitCode {
-    let status = match given_words(&rt) {
-        Ok(words) => files::answer(&rt, &words, rt.stdout(), rt.stderr()),
-        Err(start) => files::stop(rt.stderr(), start),
-    };
-    ExitCode::from(status)
+    let mut out = Buffered::new(ToWrite::new(rt.stdout()));
+    let mut err = ToWrite::new(rt.stderr());
+    let files = SystemFiles::new(&rt);
+    let words = given_words(&rt);
+    ExitCode::from(program(rt.alloc(), &files, words, &mut out, &mut err))
 }

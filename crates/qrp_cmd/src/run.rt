@@ -7,12 +7,12 @@ ghost use Rattle.qdimacs.specs.declared.fault.FormulaFault.{FormulaFault};
 ghost use Rattle.qdimacs.specs.Grammar.{text};
 ghost use Rattle.qrp.specs.Derivations.{Derivation};
 ghost use Rattle.qrp.specs.Grammar.{text as trace_text};
-ghost use Rattle.qrp_check.specs.Verdict.{IsVerdictUnless, IsFormulaDevice, IsTraceDevice, StandsOnLine};
+ghost use Rattle.qrp_check.specs.Verdict.{IsVerdictUnless, IsFormulaDevice, IsTraceDevice, IsFormulaFault, StandsOnLine};
 ghost use Rattle.qrp_check.specs.declared.verdict.Verified.{Verified};
 ghost use Rattle.qrp_check.specs.declared.verdict.Fault.{Fault};
 ghost use Rattle.qrp_cmd.specs.Lines.{fault_line, fault_status, verdict_line};
 ghost use Rattle.qrp_cmd.specs.declared.job.Job.TheVariants.{Format};
-ghost use Rattle.qrp_cmd.specs.Output.{Report, IsOutput, IsFormulaRead, IsChecked, IsTrimmed, IsTrimmedFrom, trim_report, format_report, check_report, HasFailed, IsSent, IsOn};
+ghost use Rattle.qrp_cmd.specs.Output.{Report, IsOutput, IsFormulaRead, IsChecked, IsTrimmed, IsTrimmedFrom, trim_report, format_report, check_report, reading_of, HasFailed, IsSent, IsReported};
 
 use crate::job::Job;
 use crate::lines::{fault_status, put_fault, put_verdict};
@@ -33,7 +33,7 @@ const DEVICE_FAILED: Status = 3;
 /// Ends what was sent to a sink.
 fn end_text<S: Sink>(sink: &mut S, status: Status) -> Status
     ensures bytes { Keeps (S.written sink.old) (S.written sink.new) }
-    ensures status { ((S.failures sink.new ≡ S.failures sink.old) × (result ≡ status))
+    ensures status { ((S.failures sink.new ≡ S.failures sink.old) × S.finished sink.new × (result ≡ status))
         ⊎ (HasFailed (S.failures sink.old) (S.failures sink.new) × (result ≡ 3)) }
 {
     match sink.finish() {
@@ -44,7 +44,7 @@ fn end_text<S: Sink>(sink: &mut S, status: Status) -> Status
 
 /// Sends the canonical text of a formula.
 fn send_formula<S: Sink>(formula: &Formula, sink: &mut S) -> Status
-    ensures { IsSent (S.written sink.old) (S.written sink.new) (S.failures sink.old) (S.failures sink.new) (text formula.now) 0 result }
+    ensures { IsSent S.Sink sink.old sink.new (text formula.now) 0 3 result }
 {
     match write_formula(formula, sink) {
         Ok(()) => end_text(sink, 0),
@@ -54,7 +54,7 @@ fn send_formula<S: Sink>(formula: &Formula, sink: &mut S) -> Status
 
 /// Sends the line for a fault.
 fn send_fault<S: Sink>(sink: &mut S, fault: &Fault) -> Status
-    ensures { IsSent (S.written sink.old) (S.written sink.new) (S.failures sink.old) (S.failures sink.new) (fault_line fault.now) (fault_status fault.now) result }
+    ensures { IsSent S.Sink sink.old sink.new (fault_line fault.now) (fault_status fault.now) 3 result }
 {
     match put_fault(sink, fault) {
         Ok(()) => end_text(sink, fault_status(fault)),
@@ -64,7 +64,7 @@ fn send_fault<S: Sink>(sink: &mut S, fault: &Fault) -> Status
 
 /// Sends the line of a verdict.
 fn send_verdict<S: Sink>(sink: &mut S, truth: bool) -> Status
-    ensures { IsSent (S.written sink.old) (S.written sink.new) (S.failures sink.old) (S.failures sink.new) (verdict_line truth) 0 result }
+    ensures { IsSent S.Sink sink.old sink.new (verdict_line truth) 0 3 result }
 {
     match put_verdict(sink, truth) {
         Ok(()) => end_text(sink, 0),
@@ -82,9 +82,7 @@ fn format_job<F: Source, O: Sink, E: Sink>(
     ensures { (r : Report)
         × ((reading : Result Qbf (FormulaFault × ℕ))
         × IsFormulaRead (F.remaining formula.old) (F.failures formula.old) (F.failures formula.new) reading × (r ≡ format_report reading))
-        × IsOn r.sink
-        (IsSent (O.written out.old) (O.written out.new) (O.failures out.old) (O.failures out.new) r.text r.status result × (err.new ≡ err.old))
-        (IsSent (E.written err.old) (E.written err.new) (E.failures err.old) (E.failures err.new) r.text r.status result × (out.new ≡ out.old)) }
+        × IsReported O.Sink out.old out.new E.Sink err.old err.new r result }
 {
     match read_formula(alloc, formula) {
         Ok(read) => send_formula(&read, out),
@@ -101,9 +99,9 @@ fn check_job<F: Source, T: Source, O: Sink>(
     out: &mut O,
 ) -> Status
     ensures { (answer : Result Verified Fault)
-        × IsChecked rules (record { told = F.remaining formula.old; before = F.failures formula.old; after = F.failures formula.new })
-        (record { told = T.remaining trace.old; before = T.failures trace.old; after = T.failures trace.new }) answer
-        × IsSent (O.written out.old) (O.written out.new) (O.failures out.old) (O.failures out.new) (check_report rules answer).text (check_report rules answer).status result }
+        × IsChecked rules (reading_of F.Source formula.old formula.new)
+        (reading_of T.Source trace.old trace.new) answer
+        × IsSent O.Sink out.old out.new (check_report rules answer).text (check_report rules answer).status (check_report rules answer).failed result }
 {
     match verify(alloc, formula, trace, rules) {
         Ok(verified) => send_verdict(out, verified.truth),
@@ -127,6 +125,7 @@ fn trimmed<F: Source, T: Source>(
     ensures lines { IfErr result StandsOnLine }
     ensures formula_works { OnOk result (F.failures formula.new ≡ F.failures formula.old) }
     ensures trace_works { OnOk result (T.failures trace.new ≡ T.failures trace.old) }
+    ensures not_pulled { IfErr result (λ e. IsFormulaFault (Err e) → trace.new ≡ trace.old) }
 {
     let read = read_formula(alloc, formula)?;
     let whole = read_trace(alloc, trace)?;
@@ -141,7 +140,7 @@ fn trimmed<F: Source, T: Source>(
 
 /// Sends the canonical text of a trace.
 fn send_trace<S: Sink>(trace: &Trace, sink: &mut S) -> Status
-    ensures { IsSent (S.written sink.old) (S.written sink.new) (S.failures sink.old) (S.failures sink.new) (trace_text trace.now) 0 result }
+    ensures { IsSent S.Sink sink.old sink.new (trace_text trace.now) 0 3 result }
 {
     match write_trace(trace, sink) {
         Ok(()) => end_text(sink, 0),
@@ -159,11 +158,9 @@ fn trim_job<F: Source, T: Source, O: Sink, E: Sink>(
     err: &mut E,
 ) -> Status
     ensures { (answer : Result Derivation Fault)
-        × IsTrimmed rules (record { told = F.remaining formula.old; before = F.failures formula.old; after = F.failures formula.new })
-        (record { told = T.remaining trace.old; before = T.failures trace.old; after = T.failures trace.new }) answer
-        × IsOn (trim_report rules answer).sink
-        (IsSent (O.written out.old) (O.written out.new) (O.failures out.old) (O.failures out.new) (trim_report rules answer).text (trim_report rules answer).status result × (err.new ≡ err.old))
-        (IsSent (E.written err.old) (E.written err.new) (E.failures err.old) (E.failures err.new) (trim_report rules answer).text (trim_report rules answer).status result × (out.new ≡ out.old)) }
+        × IsTrimmed rules (reading_of F.Source formula.old formula.new)
+        (reading_of T.Source trace.old trace.new) answer
+        × IsReported O.Sink out.old out.new E.Sink err.old err.new (trim_report rules answer) result }
 {
     match trimmed(alloc, rules, formula, trace) {
         Ok(shorter) => send_trace(&shorter, out),
@@ -187,11 +184,9 @@ pub fn run<F: Source, T: Source, O: Sink, E: Sink>(
 ) -> Status
     ensures report { (r : Report)
         × IsOutput job
-        (record { told = F.remaining formula.old; before = F.failures formula.old; after = F.failures formula.new })
-        (record { told = T.remaining trace.old; before = T.failures trace.old; after = T.failures trace.new }) r
-        × IsOn r.sink
-        (IsSent (O.written out.old) (O.written out.new) (O.failures out.old) (O.failures out.new) r.text r.status result × (err.new ≡ err.old))
-        (IsSent (E.written err.old) (E.written err.new) (E.failures err.old) (E.failures err.new) r.text r.status result × (out.new ≡ out.old)) }
+        (reading_of F.Source formula.old formula.new)
+        (reading_of T.Source trace.old trace.new) r
+        × IsReported O.Sink out.old out.new E.Sink err.old err.new r result }
     ensures not_pulled { job ≡ Format → trace.new ≡ trace.old }
 {
     match job {
@@ -203,3 +198,5 @@ pub fn run<F: Source, T: Source, O: Sink, E: Sink>(
 
 #[cfg(test)]
 mod tests;
+#[cfg(test)]
+mod unpulled;

@@ -12,7 +12,7 @@ pub enum Start {
     NoFormula,
     /// The trace's file cannot be opened.
     NoTrace,
-    /// Memory was refused: while the words were got, while a file was opened, or for the buffer of the output.
+    /// Memory was refused: while the words were got, or while a file was opened.
     NoMemory,
 }
 
@@ -37,25 +37,6 @@ impl Start {
             Start::Usage => 5,
             Start::NoFormula | Start::NoTrace => 3,
             Start::NoMemory => 4,
-        }
-    }
-}
-
-#[cfg(test)]
-mod tests {
-    use super::*;
-
-    #[test]
-    fn lines_and_statuses(rt: HostRuntime) {
-        let rows = [
-            (Start::Usage, "USAGE\n", 5),
-            (Start::NoFormula, "DEVICE formula\n", 3),
-            (Start::NoTrace, "DEVICE trace\n", 3),
-            (Start::NoMemory, "NO MEMORY\n", 4),
-        ];
-        for (start, line, status) in rows {
-            assert_eq!(rt; start.line(), line);
-            assert_eq!(rt; start.status(), status);
         }
     }
 }

@@ -1,6 +1,7 @@
 -- What the program reads, writes and answers.
 use Rattle.std.specs.Prelude.{◌≡◌, ◌≢◌, ◌⊎◌, ℕ, ◌-◌, ◌^◌, ◌<◌, List, Option, Result, Ok, Err}
 use Rattle.std.specs.Io.KnownBytes.{Appends}
+use Rattle.qbf_text.specs.declared.sink.Sink.{Ghosts}
 use Rattle.qbf_text.specs.Written.{AppendsFront}
 use Rattle.qrp.specs.declared.fault.TraceFault.{TraceFault}
 use Rattle.qrp.specs.declared.fault.TraceFault.TheVariants.{P1, P9}
@@ -25,9 +26,9 @@ IsRead told before after (Ok d) = Gives (Ok d) (reads_bytes told) × (after ≡ 
 IsRead told before after (Err e) =
     Gives (Err e) (reads_bytes told) × (e.0 ≡ P1 → HasFailed before after) × (e.0 ≢ P1 → after ≡ before)
 
--- A sink went from `old` to `new` and its count of failures from `before` to `after`: all of the text went out and the
--- answer is 0; or the sink failed, a beginning of the text went out, and the answer is 3.
-abbrev pub IsSent : Option (List ℕ) → Option (List ℕ) → ℕ → ℕ → List ℕ → ℕ → Type 0
-IsSent old new before after text answer =
-    (Appends old new text × (after ≡ before) × (answer ≡ 0))
-    ⊎ (AppendsFront old new text × HasFailed before after × (answer ≡ 3))
+-- A sink went from `old` to `new`: all of the text went out, nothing of it is held back, and the answer is 0; or the sink
+-- failed, a beginning of the text went out, and the answer is 3.
+abbrev pub IsSent : {S : Type 0} → Ghosts S → S → S → List ℕ → ℕ → Type 0
+IsSent sink old new text answer =
+    (Appends (sink.written old) (sink.written new) text × (sink.failures new ≡ sink.failures old) × sink.finished new × (answer ≡ 0))
+    ⊎ (AppendsFront (sink.written old) (sink.written new) text × HasFailed (sink.failures old) (sink.failures new) × (answer ≡ 3))

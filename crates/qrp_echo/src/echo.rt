@@ -29,7 +29,7 @@ fn fault_status(fault: TraceFault) -> Status
 
 /// Sends the canonical text of a trace.
 fn send<K: Sink>(trace: &Trace, sink: &mut K) -> Status
-    ensures { IsSent (K.written sink.old) (K.written sink.new) (K.failures sink.old) (K.failures sink.new) (text trace.now) result }
+    ensures { IsSent K.Sink sink.old sink.new (text trace.now) result }
 {
     if write_trace(trace, sink).is_err() {
         return DEVICE_FAILED;
@@ -46,7 +46,7 @@ fn send<K: Sink>(trace: &Trace, sink: &mut K) -> Status
 pub fn echo<S: Source, K: Sink>(alloc: Global, source: &mut S, sink: &mut K) -> Status
     ensures { (read : Result Derivation Fault)
         × IsRead (S.remaining source.old) (S.failures source.old) (S.failures source.new) read
-        × IfOk read (λ d. IsSent (K.written sink.old) (K.written sink.new) (K.failures sink.old) (K.failures sink.new) (text d) result)
+        × IfOk read (λ d. IsSent K.Sink sink.old sink.new (text d) result)
         × IfErr read (λ e. (sink.new ≡ sink.old) × (result ≡ fault_status e.0)) }
 {
     match read_trace(alloc, source) {

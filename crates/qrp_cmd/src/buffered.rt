@@ -1,0 +1,158 @@
+//! A buffer before a sink.
+
+ghost use Rattle.std.specs.Prelude.{◌≡◌, ℕ, ◌+◌, ◌-◌, ◌<◌, ◌≤◌, List, [], ◌++◌, length, take, drop, ◌^◌, true, false, IfOk, OnOk, OnErr};
+ghost use Rattle.std.specs.Io.KnownBytes.{append_known, Keeps, WriteAppends};
+
+use qbf_text::{Sink, SinkFault};
+use std::marker::Model;
+
+/// How many bytes are held back at most.
+const ROOM: usize = 8192;
+
+/// The bytes that are held back.
+#[derive(Drop)]
+struct Held {
+    bytes: [u8; ROOM],
+    start: usize,
+    end: usize,
+}
+
+impl Model for Held {
+    ghost Value = { List ℕ };
+
+    ghost view = { λ h. take (h.end - h.start) (drop h.start h.bytes) };
+
+    ghost invariant = { λ h. (h.start ≤ h.end) × (h.end ≤ 8192) };
+}
+
+impl Held {
+    /// No bytes.
+    fn new() -> Held
+        ensures { result ≡ [] }
+    {
+        Held {
+            bytes: [0; ROOM],
+            start: 0,
+            end: 0,
+        }
+    }
+
+    fn as_slice(&self) -> &[u8]
+        ensures { result.now ≡ self.now }
+    {
+        &self.bytes[self.start..self.end]
+    }
+
+    /// Lets go of the first bytes.
+    fn advance(&mut self, n: usize)
+        requires { n ≤ length self.old }
+        ensures { self.new ≡ drop n self.old }
+    {
+        self.start += n;
+    }
+
+    /// Adds the bytes where there is room for all of them, and answers whether there was.
+    #[inline(always)]
+    fn append(&mut self, bytes: &[u8]) -> bool
+        ensures all { result ≡ true → self.new ≡ self.old ++ bytes.now }
+        ensures none { result ≡ false → self.new ≡ self.old }
+    {
+        if bytes.len() > ROOM - self.end {
+            return false;
+        }
+        let end = self.end + bytes.len();
+        self.bytes[self.end..end].copy_from_slice(bytes);
+        self.end = end;
+        true
+    }
+
+    /// Adds bytes from the front, as far as there is room, and answers how many.
+    fn append_some(&mut self, bytes: &[u8]) -> usize
+        ensures fits { result ≤ length bytes.now }
+        ensures some { self.old ≡ [] → 0 < length bytes.now → 0 < result }
+        ensures bytes { self.new ≡ self.old ++ take result bytes.now }
+    {
+        if self.start == self.end {
+            self.start = 0;
+            self.end = 0;
+        }
+        let n = bytes.len().min(ROOM - self.end);
+        self.bytes[self.end..self.end + n].copy_from_slice(&bytes[..n]);
+        self.end += n;
+        n
+    }
+}
+
+/// Holds bytes back and sends them on to another sink, many at a time.
+///
+/// What it still holds when it is let go is not sent.
+#[derive(Drop)]
+pub struct Buffered<S> {
+    sink: S,
+    held: Held,
+}
+
+impl<S: Sink> Buffered<S> {
+    /// Nothing is held back.
+    pub fn new(sink: S) -> Buffered<S>
+        ensures written { Keeps (S.written sink) (⟦<Buffered<S> as Sink>⟧.written result) }
+        ensures failures { ⟦<Buffered<S> as Sink>⟧.failures result ≡ S.failures sink }
+    {
+        Buffered {
+            sink,
+            held: Held::new(),
+        }
+    }
+
+    /// Sends on what is held back.
+    fn send_on(&mut self) -> Result<(), SinkFault>
+        ensures bytes { Keeps (⟦<Buffered<S> as Sink>⟧.written self.old) (⟦<Buffered<S> as Sink>⟧.written self.new) }
+        ensures ok { OnOk result (S.failures self.new.sink ≡ S.failures self.old.sink) }
+        ensures err { OnErr result (S.failures self.old.sink < 2 ^ 64 - 1 → S.failures self.old.sink < S.failures self.new.sink) }
+        ensures stays { S.failures self.old.sink ≤ S.failures self.new.sink }
+        ensures empty { OnOk result (self.new.held ≡ []) }
+    {
+        while !self.held.as_slice().is_empty() {
+            let n = self.sink.push(self.held.as_slice())?;
+            self.held.advance(n);
+        }
+        Ok(())
+    }
+
+    /// Sends on what is held back, and then holds some of the bytes back, at least one. There must be some.
+    #[cold]
+    #[inline(never)]
+    fn push_behind(&mut self, bytes: &[u8]) -> Result<usize, SinkFault>
+        requires { 0 < length bytes.now }
+        ensures some { IfOk result (λ n. 0 < n) }
+        ensures fits { IfOk result (λ n. n ≤ length bytes.now) }
+        ensures bytes { WriteAppends (⟦<Buffered<S> as Sink>⟧.written self.old) (⟦<Buffered<S> as Sink>⟧.written self.new) result bytes.now }
+        ensures ok { OnOk result (S.failures self.new.sink ≡ S.failures self.old.sink) }
+        ensures err { OnErr result (S.failures self.old.sink < 2 ^ 64 - 1 → S.failures self.old.sink < S.failures self.new.sink) }
+        ensures stays { S.failures self.old.sink ≤ S.failures self.new.sink }
+    {
+        self.send_on()?;
+        Ok(self.held.append_some(bytes))
+    }
+}
+
+impl<S: Sink> Sink for Buffered<S> {
+    ghost written = { λ b. append_known (S.written b.sink) b.held };
+
+    ghost failures = { λ b. S.failures b.sink };
+
+    ghost finished = { λ b. (b.held ≡ []) × S.finished b.sink };
+
+    #[inline(always)]
+    fn push(&mut self, bytes: &[u8]) -> Result<usize, SinkFault> {
+        if self.held.append(bytes) {
+            return Ok(bytes.len());
+        }
+        self.push_behind(bytes)
+    }
+
+    fn finish(&mut self) -> Result<(), SinkFault> {
+        self.send_on()?;
+        self.sink.finish()
+    }
+}

@@ -1,0 +1,172 @@
+ghost use Rattle.std.specs.Prelude.{◌≡◌, ◌≢◌, ◌⊎◌, Some, Ok, Err, codes};
+ghost use Rattle.qrp_cmd.specs.declared.unopened.Unopened.{Unopened};
+
+use super::*;
+use crate::open::LIMIT;
+use crate::unopened::Unopened;
+use qbf_text::{FromRead, PieceSink, VecSink};
+use std::alloc::AllocError;
+use std::process::Abort;
+use std::test::Fail;
+
+/// Two files in memory: `f` is a formula and `t` a trace. Memory is refused for `m`, and no other file is there.
+#[derive(Clone, Copy)]
+struct Shelf<'a> {
+    formula: &'a [u8],
+    trace: &'a [u8],
+}
+
+impl<'a> Open for Shelf<'a> {
+    type File = FromRead<&'a [u8]>;
+
+    ghost opens = { λ s path r.
+        ((path ≡ codes "f") × (r ≡ Ok (Some s.formula.now)))
+        ⊎ (((path ≡ codes "t") × (r ≡ Ok (Some s.trace.now)))
+        ⊎ ((e : Unopened) × (path ≢ codes "f") × (path ≢ codes "t") × (r ≡ Err e))) };
+
+    fn open(&self, path: &str) -> Result<FromRead<&'a [u8]>, Unopened> {
+        if path == "f" {
+            return Ok(FromRead::new(self.formula, LIMIT));
+        }
+        if path == "t" {
+            return Ok(FromRead::new(self.trace, LIMIT));
+        }
+        if path == "m" {
+            return Err(Unopened::NoMemory);
+        }
+        Err(Unopened::NoFile)
+    }
+}
+
+/// A false formula, canonical, and its refutation, whose step 4 has a universal pivot.
+const FORMULA: &[u8] = b"p cnf 2 3\na 1 0\ne 2 0\n1 2 0\n-1 2 0\n-2 0\n";
+
+const TRACE: &[u8] =
+    b"p qrp 2 5\n1 1 2 0 0\n2 -1 2 0 0\n3 -2 0 0\n4 2 0 1 2 0\n5 0 4 3 0\nr unsat\n";
+
+/// The words as a list of texts.
+fn given(alloc: Global, words: &[&str]) -> Result<Vec<String>, AllocError> {
+    let mut list = Vec::new(alloc);
+    for word in words {
+        list.push(String::from_str(alloc, word)?)?;
+    }
+    Ok(list)
+}
+
+/// Checks what the program writes on these words over this formula and the trace.
+fn expect<R: Abort + AllocGlobal>(
+    rt: &R,
+    formula: &[u8],
+    words: &[&str],
+    wanted: (&[u8], &[u8], Status),
+) -> Result<(), Fail> {
+    let files = Shelf {
+        formula,
+        trace: TRACE,
+    };
+    let mut out = VecSink::new(rt.alloc(), 0)?;
+    let mut err = VecSink::new(rt.alloc(), 0)?;
+    let given = given(rt.alloc(), words)?;
+    let status = program(rt.alloc(), &files, Ok(given), &mut out, &mut err);
+    assert_eq!(rt; out.bytes(), wanted.0, "out, at {words:?}");
+    assert_eq!(rt; err.bytes(), wanted.1, "err, at {words:?}");
+    assert_eq!(rt; status, wanted.2, "at {words:?}");
+    Ok(())
+}
+
+#[test]
+fn commands_and_flags(rt: HostRuntime) -> Result<(), Fail> {
+    let refused: &[u8] = b"REFUSED step 4 S10\n";
+    let verified: &[u8] = b"VERIFIED false\n";
+    expect(&rt, FORMULA, &["format", "f"], (FORMULA, b"", 0))?;
+    expect(&rt, FORMULA, &["check", "f", "t"], (refused, b"", 1))?;
+    expect(
+        &rt,
+        FORMULA,
+        &["check", "--qu", "f", "t"],
+        (verified, b"", 0),
+    )?;
+    expect(
+        &rt,
+        FORMULA,
+        &["check", "f", "t", "--qu"],
+        (verified, b"", 0),
+    )?;
+    expect(&rt, FORMULA, &["trim", "f", "t"], (b"", refused, 1))?;
+    expect(&rt, FORMULA, &["trim", "--qu", "f", "t"], (TRACE, b"", 0))?;
+    expect(&rt, FORMULA, &["trim", "f", "t", "--qu"], (TRACE, b"", 0))?;
+    // The trace is no formula.
+    let no_formula: &[u8] = b"REFUSED formula F2 line 1\n";
+    expect(&rt, FORMULA, &["check", "t", "f"], (no_formula, b"", 2))?;
+    expect(&rt, FORMULA, &["trim", "t", "f"], (b"", no_formula, 2))?;
+    expect(&rt, FORMULA, &["format", "t"], (b"", no_formula, 2))
+}
+
+#[test]
+fn missing_files(rt: HostRuntime) -> Result<(), Fail> {
+    let formula: &[u8] = b"DEVICE formula\n";
+    let trace: &[u8] = b"DEVICE trace\n";
+    // No formula at all: a fault of its text is told only where the trace is there.
+    expect(
+        &rt,
+        b"",
+        &["check", "f", "t"],
+        (b"REFUSED formula F7 line 1\n", b"", 2),
+    )?;
+    expect(&rt, b"", &["check", "f", "x"], (trace, b"", 3))?;
+    expect(&rt, b"", &["trim", "f", "x"], (b"", trace, 3))?;
+    expect(&rt, FORMULA, &["check", "x", "t"], (formula, b"", 3))?;
+    expect(&rt, FORMULA, &["check", "x", "y"], (formula, b"", 3))?;
+    expect(&rt, FORMULA, &["trim", "x", "t"], (b"", formula, 3))?;
+    expect(&rt, FORMULA, &["trim", "x", "--qu"], (b"", formula, 3))?;
+    expect(&rt, FORMULA, &["format", "x"], (b"", formula, 3))
+}
+
+#[test]
+fn files_that_memory_is_refused_for(rt: HostRuntime) -> Result<(), Fail> {
+    let line: &[u8] = b"NO MEMORY\n";
+    expect(&rt, FORMULA, &["check", "m", "x"], (line, b"", 4))?;
+    expect(&rt, FORMULA, &["check", "f", "m"], (line, b"", 4))?;
+    expect(&rt, FORMULA, &["trim", "m", "x"], (b"", line, 4))?;
+    expect(&rt, FORMULA, &["trim", "f", "m"], (b"", line, 4))?;
+    expect(&rt, FORMULA, &["format", "m"], (b"", line, 4))
+}
+
+#[test]
+fn other_words(rt: HostRuntime) -> Result<(), Fail> {
+    let rows: [&[&str]; 5] = [
+        &[],
+        &["check", "f"],
+        &["format", "f", "--qu"],
+        &["trim", "f", "t", "qu"],
+        &["x", "f", "t"],
+    ];
+    for words in rows {
+        expect(&rt, FORMULA, words, (b"", b"USAGE\n", 5))?;
+    }
+    Ok(())
+}
+
+/// Runs the program with an error sink of this room, where the words were not got.
+fn no_words(alloc: Global, start: Start, room: Option<u64>) -> Result<(PieceSink, Status), Fail> {
+    let files = Shelf {
+        formula: FORMULA,
+        trace: TRACE,
+    };
+    let mut out = VecSink::new(alloc, 0)?;
+    let mut err = PieceSink::new(alloc, 4, room, false, 0)?;
+    let status = program(alloc, &files, Err(start), &mut out, &mut err);
+    Ok((err, status))
+}
+
+#[test]
+fn words_that_are_not_got(rt: HostRuntime) -> Result<(), Fail> {
+    let (err, status) = no_words(rt.alloc(), Start::NoMemory, None)?;
+    assert_eq!(rt; err.bytes(), b"NO MEMORY\n".as_slice());
+    assert_eq!(rt; status, 4);
+    // The status stays where the line does not go out.
+    let (err, status) = no_words(rt.alloc(), Start::Usage, Some(3))?;
+    assert_eq!(rt; err.bytes(), b"USA".as_slice());
+    assert_eq!(rt; status, 5);
+    Ok(())
+}

@@ -1,0 +1,32 @@
+//! A trace is not pulled where the formula is refused.
+
+use super::*;
+use qbf_text::{PieceSource, VecSink};
+use std::test::Fail;
+
+#[test]
+fn the_trace_is_not_pulled(rt: HostRuntime) -> Result<(), Fail> {
+    let plain = Rules::plain();
+    // A free variable; a pull that fails.
+    let rows: [(&[u8], u64, &[u8]); 2] = [
+        (b"p cnf 1 1\n1 0\n", 0, b"REFUSED formula F6 line 2\n"),
+        (b"p cnf 0 0\n", 1, b"DEVICE formula\n"),
+    ];
+    for job in [Job::Check(plain), Job::Trim(plain)] {
+        for (formula, fail_at, line) in rows {
+            let mut source = PieceSource::new(formula, 4096, fail_at);
+            let mut trace = PieceSource::new(b"p qrp 0 0\n1 0 0\nr sat\n", 4096, 0);
+            let mut out = VecSink::new(rt.alloc(), 0)?;
+            let mut err = VecSink::new(rt.alloc(), 0)?;
+            run(rt.alloc(), job, &mut source, &mut trace, &mut out, &mut err);
+            let said = if out.bytes().is_empty() {
+                err.bytes()
+            } else {
+                out.bytes()
+            };
+            assert_eq!(rt; said, line, "at {job:?}");
+            assert_eq!(rt; trace.pulls(), 0, "at {job:?}");
+        }
+    }
+    Ok(())
+}
