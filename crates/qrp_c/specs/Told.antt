@@ -1,5 +1,5 @@
 -- What a caller in C is told of an answer.
-use Rattle.std.specs.Prelude.{ℕ, if◌then◌else◌, Result, Ok, Err}
+use Rattle.std.specs.Prelude.{◌≡◌, ℕ, ◌≤◌, if◌then◌else◌, List, IfErr, Result, Ok, Err}
 use Rattle.qdimacs.specs.declared.fault.FormulaFault.{FormulaFault}
 use Rattle.qdimacs.specs.declared.fault.FormulaFault.TheVariants.{F1, F2, F3, F4, F5, F6, F7, F8, F9}
 use Rattle.qrp.specs.declared.fault.TraceFault.{TraceFault}
@@ -11,7 +11,7 @@ use Rattle.qrp_check.specs.declared.fault.RuleFault.{RuleFault}
 use Rattle.qrp_check.specs.declared.fault.RuleFault.TheVariants.{S1, S2, S3, S4, S5, S6, S7, S8, S9, S10, S11, S12}
 use Rattle.qrp_check.specs.declared.fault.CheckFault.{CheckFault}
 use Rattle.qrp_check.specs.declared.fault.CheckFault.TheVariants.{C1, C2, C3, C4, C5, C6}
-use Rattle.qrp_report.specs.Lines.{fault_status}
+use Rattle.qrp_report.specs.Lines.{fault_line, fault_status, verdict_line}
 use Rattle.qrp_c.specs.declared.verdict.QrpVerdict.{QrpVerdict}
 
 -- the number in the name of a fault of the formula's text
@@ -76,3 +76,27 @@ told_fault (fault.Check c) = told_check (fault_status (fault.Check c)) c
 abbrev pub told : Result Verified Fault → QrpVerdict
 told (Ok v) = record { place = 0; status = 0; truth = if v.truth then 1 else 0; letter = 0; number = 0; rule = 0 }
 told (Err e) = told_fault e
+
+-- a fault of a check that names a variable names one: a number from 1 to 2147483647
+abbrev pub IsNamed : CheckFault → Type 0
+IsNamed (C1 v) = (1 ≤ v) × (v ≤ 2147483647)
+IsNamed (C2 v) = (1 ≤ v) × (v ≤ 2147483647)
+IsNamed (C3 v) = (1 ≤ v) × (v ≤ 2147483647)
+IsNamed C4 = Unit {0}
+IsNamed C5 = Unit {0}
+IsNamed (C6 n s) = Unit {0}
+
+-- the same of any fault
+abbrev pub NamesVariable : Fault → Type 0
+NamesVariable (fault.Formula e line) = Unit {0}
+NamesVariable (fault.Trace e line) = Unit {0}
+NamesVariable (fault.Check c) = IsNamed c
+
+-- this was told of the answer
+abbrev pub IsTold : Result Verified Fault → QrpVerdict → Type 0
+IsTold answer out = (out ≡ told answer) × IfErr answer NamesVariable
+
+-- the line of an answer, as the program prints it
+abbrev pub answer_line : Result Verified Fault → List ℕ
+answer_line (Ok v) = verdict_line v.truth
+answer_line (Err e) = fault_line e

@@ -13,7 +13,7 @@ use Rattle.qrp_check.specs.Proof.{side_of, ResultHolds}
 use Rattle.qrp_check.specs.Verdict.{is_sat, IsVerdict, IsWantOfMemory, StandsOnLine}
 use Rattle.qrp_check.specs.Headline.{Spell, IsShown}
 use Rattle.qrp_c.specs.declared.verdict.QrpVerdict.{QrpVerdict}
-use Rattle.qrp_c.specs.Told.{told}
+use Rattle.qrp_c.specs.Told.{IsTold}
 
 -- The headline: status 0 only where the bytes show it, and wherever they do, but for want of memory, 4. And then the formula is false
 -- if the trace says `r unsat` and true if it says `r sat`, and `truth` is 1 exactly where it is true.
@@ -28,4 +28,4 @@ pub record IsAnswered (rules : Rules) (formula trace : List ℕ) (out : QrpVerdi
   pub answer : Result Verified Fault
   pub verdict : IsVerdict rules (read_formula formula) (Some (read_trace trace)) answer ⊎ IsWantOfMemory answer
   pub lines : IfErr answer StandsOnLine
-  pub is : out ≡ told answer
+  pub is : IsTold answer out

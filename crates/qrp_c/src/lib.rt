@@ -1,12 +1,19 @@
 //! The check of a trace against a formula for callers in C: the library `libqrp`, with the header `include/qrp_check.h`.
 #![tactic(auto)]
 
-ghost use Rattle.std.specs.Prelude.{◌≡◌, pos};
+ghost use Rattle.std.specs.Prelude.{◌≡◌, ◌≤◌, ◌<◌, ◌++◌, pos, length, drop, Result};
+ghost use Rattle.qrp_check.specs.declared.verdict.Verified.{Verified};
+ghost use Rattle.qrp_check.specs.declared.verdict.Fault.{Fault};
+ghost use Rattle.qrp_c.specs.Told.{IsTold, answer_line};
 ghost use Rattle.qrp_c.specs.Verdicts.{Headline, IsAnswered};
 
+mod line;
+mod lines;
+mod reading;
 mod telling;
 mod verdict;
 
+use lines::line;
 use qbf_text::SliceSource;
 use qrp_check::{Rules, verify};
 use std::alloc::Global;
@@ -38,4 +45,26 @@ pub extern "C" fn qrp_verify(
     let verdict = tell(&answer);
     *out = verdict;
     i32::from(verdict.status)
+}
+
+/// The line of a verdict that `qrp_verify` told, as the program prints it, with its line end.
+///
+/// In C: `size_t qrp_verdict_line(const struct qrp_verdict *verdict, char *buffer, size_t room)`.
+///
+/// Answers its length, 45 at most. Where the buffer has room for it, the line stands at its front, and the rest of the
+/// buffer stays as it was; else all of it stays.
+#[unsafe(no_mangle)]
+pub extern "C" fn qrp_verdict_line(verdict: &QrpVerdict, buffer: &mut [u8]) -> usize
+    ensures length { (answer : Result Verified Fault) → IsTold answer verdict.now → result ≡ length (answer_line answer) }
+    ensures written { (answer : Result Verified Fault) → IsTold answer verdict.now → result ≤ length buffer.old
+        → buffer.new ≡ answer_line answer ++ drop result buffer.old }
+    ensures unwritten { length buffer.old < result → buffer.new ≡ buffer.old }
+    ensures short { result ≤ 48 }
+{
+    let line = line(verdict);
+    let bytes = line.as_slice();
+    if bytes.len() <= buffer.len() {
+        buffer[..bytes.len()].copy_from_slice(bytes);
+    }
+    bytes.len()
 }

@@ -1,7 +1,7 @@
 //! What a caller in C is told of an answer.
 
 ghost use Rattle.std.specs.Prelude.{◌≡◌};
-ghost use Rattle.qrp_c.specs.Told.{told, told_fault, told_check, refusal, formula_number, trace_number, rule_number};
+ghost use Rattle.qrp_c.specs.Told.{IsTold, IsNamed, NamesVariable, told_fault, told_check, refusal, formula_number, trace_number, rule_number};
 
 use crate::verdict::QrpVerdict;
 use qdimacs::FormulaFault;
@@ -74,7 +74,8 @@ fn refused(status: u8, letter: u8, number: u8, rule: u8, place: u64) -> QrpVerdi
 }
 
 fn tell_check(status: u8, fault: CheckFault) -> QrpVerdict
-    ensures { result ≡ told_check status fault }
+    ensures told { result ≡ told_check status fault }
+    ensures named { IsNamed fault }
 {
     match fault {
         CheckFault::C1(var) => refused(status, b'C', 1, 0, u64::from(var.number())),
@@ -87,7 +88,8 @@ fn tell_check(status: u8, fault: CheckFault) -> QrpVerdict
 }
 
 fn tell_fault(fault: &Fault) -> QrpVerdict
-    ensures { result ≡ told_fault fault.now }
+    ensures told { result ≡ told_fault fault.now }
+    ensures named { NamesVariable fault.now }
 {
     let status = fault_status(fault);
     match *fault {
@@ -99,7 +101,7 @@ fn tell_fault(fault: &Fault) -> QrpVerdict
 
 /// What a caller in C is told of an answer.
 pub fn tell(answer: &Result<Verified, Fault>) -> QrpVerdict
-    ensures { result ≡ told answer.now }
+    ensures { IsTold answer.now result }
 {
     match answer {
         Ok(verified) => QrpVerdict {

@@ -11,4 +11,4 @@ returns-clause-headline c =
     rw (← c.new-formula_source.ensures.made, ← c.new-trace_source.ensures.made) c.verify-answer.ensures.headline in
     let no_formula : IsFormulaDevice answer → ⊥ = λ d. omega (arith, (c.verify-answer.ensures.formula_failed (omega arith)).0 d) in
     let no_trace : IsTraceDevice answer → ⊥ = λ d. omega (arith, (c.verify-answer.ensures.trace_failed (omega arith)).0 d) in
-    rw c.tell-verdict.ensures (headline_told (record { any_pivot = c.args.any_pivot }) c.args.formula.now c.args.trace.now answer told no_formula no_trace)
+    rw c.tell-verdict.ensures.0 (headline_told (record { any_pivot = c.args.any_pivot }) c.args.formula.now c.args.trace.now answer told no_formula no_trace)
