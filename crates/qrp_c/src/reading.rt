@@ -11,6 +11,11 @@ use qdimacs::FormulaFault;
 use qrp::TraceFault;
 use qrp_check::{CheckFault, Fault, RuleFault};
 
+/// The numbers of the faults that are want of memory.
+const F9: u8 = 9;
+const P9: u8 = 9;
+const C5: u8 = 5;
+
 fn formula_fault(number: u8) -> Option<FormulaFault>
     ensures named { IfSome result (λ e. formula_number e ≡ number) }
     ensures all { 1 ≤ number → number ≤ 9 → IsSome result }
@@ -24,7 +29,7 @@ fn formula_fault(number: u8) -> Option<FormulaFault>
         6 => Some(FormulaFault::F6),
         7 => Some(FormulaFault::F7),
         8 => Some(FormulaFault::F8),
-        9 => Some(FormulaFault::F9),
+        F9 => Some(FormulaFault::F9),
         _ => None,
     }
 }
@@ -42,7 +47,7 @@ fn trace_fault(number: u8) -> Option<TraceFault>
         6 => Some(TraceFault::P6),
         7 => Some(TraceFault::P7),
         8 => Some(TraceFault::P8),
-        9 => Some(TraceFault::P9),
+        P9 => Some(TraceFault::P9),
         _ => None,
     }
 }
@@ -83,7 +88,7 @@ fn check_fault(verdict: &QrpVerdict) -> Option<CheckFault>
         2 => Some(CheckFault::C2(variable(verdict.place)?)),
         3 => Some(CheckFault::C3(variable(verdict.place)?)),
         4 => Some(CheckFault::C4),
-        5 => Some(CheckFault::C5),
+        C5 => Some(CheckFault::C5),
         6 => Some(CheckFault::C6(verdict.place, rule_fault(verdict.rule)?)),
         _ => None,
     }
