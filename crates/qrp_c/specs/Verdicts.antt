@@ -10,7 +10,7 @@ use Rattle.qrp_check.specs.declared.verdict.Rules.{Rules}
 use Rattle.qrp_check.specs.declared.verdict.Verified.{Verified}
 use Rattle.qrp_check.specs.declared.verdict.Fault.{Fault}
 use Rattle.qrp_check.specs.Proof.{side_of, ResultHolds}
-use Rattle.qrp_check.specs.Verdict.{is_sat, IsVerdict, IsWantOfMemory, StandsOnLine}
+use Rattle.qrp_check.specs.Verdict.{is_sat, IsVerdict, IsWantOfMemory, IsFormulaDevice, IsTraceDevice, StandsOnLine}
 use Rattle.qrp_check.specs.Headline.{Spell, IsShown}
 use Rattle.qrp_c.specs.declared.verdict.QrpVerdict.{QrpVerdict}
 use Rattle.qrp_c.specs.Told.{IsTold}
@@ -23,9 +23,10 @@ pub record Headline (rules : Rules) (formula trace : List ℕ) (out : QrpVerdict
   pub truth : out.status ≡ 0 → (f : Qbf) (d : Derivation) → Spell formula trace f d
       → ResultHolds (side_of d.result) f × (out.truth ≡ (if is_sat d.result then 1 else 0)) × (out.truth ≡ 1 ↔ IsTrueFormula f)
 
--- Each field is what is told of an answer: of the verdict on these bytes, or of want of memory, on line 0.
+-- Each field is what is told of an answer: of the verdict on these bytes, or of want of memory, on line 0, and never of a failed device.
 pub record IsAnswered (rules : Rules) (formula trace : List ℕ) (out : QrpVerdict) : Type 0 where
   pub answer : Result Verified Fault
   pub verdict : IsVerdict rules (read_formula formula) (Some (read_trace trace)) answer ⊎ IsWantOfMemory answer
   pub lines : IfErr answer StandsOnLine
+  pub works : (IsFormulaDevice answer → ⊥) × (IsTraceDevice answer → ⊥)
   pub is : IsTold answer out

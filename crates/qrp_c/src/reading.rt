@@ -13,7 +13,9 @@ use qrp_check::{CheckFault, Fault, RuleFault};
 
 /// The numbers of the faults that are want of memory.
 const F9: u8 = 9;
+
 const P9: u8 = 9;
+
 const C5: u8 = 5;
 
 fn formula_fault(number: u8) -> Option<FormulaFault>
