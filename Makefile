@@ -2,7 +2,8 @@
 # make demo     proves and builds it, and runs it on a real example
 # make test     the whole gate
 # make bench    measures time and memory
-# make install  copies the program to $(PREFIX)/bin, and its manual page
+# make lib      leaves the library for C at lib/libqrp.a and lib/libqrp.so
+# make install  copies the program, the library, its header and the manual pages below $(PREFIX)
 
 PREFIX ?= /usr/local
 RT ?= rt
@@ -11,7 +12,10 @@ PROGRAM = bin/qrp_cmd
 ECHO = bin/qrp_echo
 SOURCES = $(shell find crates -path '*/out' -prune -o -type f -print) crates.txt
 
-.PHONY: all demo test bench install clean
+# for programs in C, C++ and Python
+LIBRARY = lib/libqrp.a
+
+.PHONY: all lib demo test bench install clean
 
 all: $(PROGRAM)
 
@@ -25,6 +29,11 @@ $(ECHO): $(SOURCES)
 	mkdir -p bin
 	cd crates/qrp_echo && $(RT) run < stdin > /dev/null
 	cp crates/qrp_echo/out/qrp_echo $(ECHO)
+
+lib: $(LIBRARY)
+
+$(LIBRARY): $(SOURCES) scripts/build-library
+	RT=$(RT) scripts/build-library lib
 
 demo: all
 	$(PROGRAM) check examples/blind-box/blind-box.qdimacs examples/blind-box/blind-box.qrp
@@ -40,16 +49,24 @@ test:
 	scripts/test-refusals
 	$(MAKE) all $(ECHO)
 	scripts/test-program $(PROGRAM) $(ECHO)
+	$(MAKE) lib
+	scripts/test-library $(PROGRAM) lib
 	examples/check-all $(PROGRAM)
 
 bench: all
 	scripts/bench $(PROGRAM)
 
-install: all
+install: all lib
 	mkdir -p $(DESTDIR)$(PREFIX)/bin
 	cp $(PROGRAM) $(DESTDIR)$(PREFIX)/bin/qrp_cmd
-	mkdir -p $(DESTDIR)$(PREFIX)/share/man/man1
+	mkdir -p $(DESTDIR)$(PREFIX)/share/man/man1 $(DESTDIR)$(PREFIX)/share/man/man3
 	cp man/qrp_cmd.1 $(DESTDIR)$(PREFIX)/share/man/man1/qrp_cmd.1
+	cp man/qrp_check.3 $(DESTDIR)$(PREFIX)/share/man/man3/qrp_check.3
+	mkdir -p $(DESTDIR)$(PREFIX)/include $(DESTDIR)$(PREFIX)/lib/pkgconfig
+	cp include/qrp_check.h $(DESTDIR)$(PREFIX)/include/qrp_check.h
+	cp lib/libqrp.a lib/libqrp.so.1 $(DESTDIR)$(PREFIX)/lib
+	ln -sf libqrp.so.1 $(DESTDIR)$(PREFIX)/lib/libqrp.so
+	sed 's|@PREFIX@|$(PREFIX)|' include/libqrp.pc.in > $(DESTDIR)$(PREFIX)/lib/pkgconfig/libqrp.pc
 
 clean:
-	rm -rf bin crates/*/out
+	rm -rf bin lib crates/*/out

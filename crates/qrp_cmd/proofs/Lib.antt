@@ -1,7 +1,5 @@
 pub mod BufferedMore
-pub mod PartsMore
 pub mod ProgramMore
 pub mod WordsMore
 pub mod OutputMore
-pub mod LinesMore
 pub mod TrimMore

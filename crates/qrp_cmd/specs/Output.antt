@@ -23,7 +23,7 @@ use Rattle.qrp_check.specs.Proof.{IsProof}
 use Rattle.qrp_check.specs.Trim.{trimmed}
 use Rattle.qrp_check.specs.Laws.{IsTrimmedProof}
 use Rattle.qrp_check.specs.Verdict.{IsVerdictUnless, IsFormulaDevice, IsTraceDevice, IsFormulaFault, StandsOnLine}
-use Rattle.qrp_cmd.specs.Lines.{fault_line, fault_status, verdict_line}
+use Rattle.qrp_report.specs.Lines.{fault_line, fault_status, verdict_line}
 
 -- the two sinks of a run
 pub data Sink : Type 0 where

@@ -7,8 +7,6 @@ ghost use Rattle.qrp_cmd.specs.declared.start.Start.TheVariants.{NoMemory, Usage
 
 mod buffered;
 mod job;
-mod lines;
-mod names;
 mod open;
 mod program;
 mod run;

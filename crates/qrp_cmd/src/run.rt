@@ -10,17 +10,17 @@ ghost use Rattle.qrp.specs.Grammar.{text as trace_text};
 ghost use Rattle.qrp_check.specs.Verdict.{IsVerdictUnless, IsFormulaDevice, IsTraceDevice, IsFormulaFault, StandsOnLine};
 ghost use Rattle.qrp_check.specs.declared.verdict.Verified.{Verified};
 ghost use Rattle.qrp_check.specs.declared.verdict.Fault.{Fault};
-ghost use Rattle.qrp_cmd.specs.Lines.{fault_line, fault_status, verdict_line};
+ghost use Rattle.qrp_report.specs.Lines.{fault_line, fault_status, verdict_line};
 ghost use Rattle.qrp_cmd.specs.declared.job.Job.TheVariants.{Format};
 ghost use Rattle.qrp_cmd.specs.Output.{Report, IsOutput, IsFormulaRead, IsChecked, IsTrimmed, IsTrimmedFrom, trim_report, format_report, check_report, reading_of, HasFailed, IsSent, IsReported};
 
 use crate::job::Job;
-use crate::lines::{fault_status, put_fault, put_verdict};
 use qbf_core::Formula;
 use qbf_text::{Sink, Source};
 use qdimacs::{read_formula, write_formula};
 use qrp::{Trace, read_trace, write_trace};
 use qrp_check::{CheckFault, Fault, Rules, check, trim, verify};
+use qrp_report::{fault_status, put_fault, put_verdict};
 use std::alloc::Global;
 
 /// The status of the program: 0 done, 1 the proof is refused, 2 a text is refused, 3 a device failed,

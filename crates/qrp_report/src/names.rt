@@ -1,7 +1,7 @@
 //! The names of faults, as the program prints them.
 
 ghost use Rattle.std.specs.Prelude.{◌≡◌};
-ghost use Rattle.qrp_cmd.specs.Lines.{formula_fault_name, trace_fault_name, rule_fault_name};
+ghost use Rattle.qrp_report.specs.Lines.{formula_fault_name, trace_fault_name, rule_fault_name};
 
 use qdimacs::FormulaFault;
 use qrp::TraceFault;

@@ -1,9 +1,9 @@
 use Rattle.std.proofs.Common.{arith, drop, ◌+◌}
 use Rattle.std.proofs.lemmas.Result.{err_from_is_err_and}
 use Rattle.qbf_text.proofs.SentMore.{put_fails, sent_put, sent_part}
-use Rattle.qrp_cmd.specs.Lines.{parts_text}
-use Rattle.qrp_cmd.proofs.PartsMore.{parts_next}
-use Rattle.qrp_cmd.proofs.lines.put_parts.Goals as goal
+use Rattle.qrp_report.specs.Lines.{parts_text}
+use Rattle.qrp_report.proofs.PartsMore.{parts_next}
+use Rattle.qrp_report.proofs.lines.put_parts.Goals as goal
 
 pub returns-in_err-put_part : goal.returns-in_err-put_part
 returns-in_err-put_part g c =

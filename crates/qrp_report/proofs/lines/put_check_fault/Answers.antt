@@ -1,5 +1,5 @@
-use Rattle.qrp_cmd.proofs.LinesMore.{step_refusal}
-use Rattle.qrp_cmd.proofs.lines.put_check_fault.Goals as goal
+use Rattle.qrp_report.proofs.LinesMore.{step_refusal}
+use Rattle.qrp_report.proofs.lines.put_check_fault.Goals as goal
 
 pub returns-in-C6 : goal.returns-in-C6
 returns-in-C6 g c =

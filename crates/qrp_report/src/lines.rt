@@ -2,7 +2,7 @@
 
 ghost use Rattle.std.specs.Prelude.{◌≡◌, ◌++◌, decimal};
 ghost use Rattle.qbf_text.specs.Written.{IsPut};
-ghost use Rattle.qrp_cmd.specs.Lines.{formula_line, trace_line, check_line, fault_line, fault_status, line, verdict_line, part_text, parts_text};
+ghost use Rattle.qrp_report.specs.Lines.{formula_line, trace_line, check_line, fault_line, fault_status, line, verdict_line, part_text, parts_text};
 
 use crate::names::{formula_fault_name, rule_fault_name, trace_fault_name};
 use qbf_core::Var;

@@ -8,7 +8,7 @@ use Rattle.qrp.specs.declared.fault.TraceFault.TheVariants.{P1, P2, P3, P4, P5, 
 use Rattle.qrp_check.specs.declared.fault.RuleFault.{RuleFault}
 use Rattle.qrp_check.specs.declared.fault.CheckFault.{CheckFault}
 use Rattle.qrp_check.specs.declared.fault.CheckFault.TheVariants.{C6}
-use Rattle.qrp_cmd.specs.Lines.{rule_fault_name, check_line, formula_fault_name, formula_line, trace_fault_name, trace_line}
+use Rattle.qrp_report.specs.Lines.{rule_fault_name, check_line, formula_fault_name, formula_line, trace_fault_name, trace_line}
 
 pub formula_refusal : (e : FormulaFault) (n : ℕ) (name : List ℕ) → e ≢ F1 → e ≢ F9 → name ≡ formula_fault_name e
     → formula_line e n ≡ codes "REFUSED formula " ++ (name ++ (codes " line " ++ (decimal n ++ 10 ∷ [])))

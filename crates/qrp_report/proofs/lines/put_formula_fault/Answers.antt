@@ -1,5 +1,5 @@
-use Rattle.qrp_cmd.proofs.LinesMore.{formula_refusal}
-use Rattle.qrp_cmd.proofs.lines.put_formula_fault.Goals as goal
+use Rattle.qrp_report.proofs.LinesMore.{formula_refusal}
+use Rattle.qrp_report.proofs.lines.put_formula_fault.Goals as goal
 
 pub returns-in_default : goal.returns-in_default
 returns-in_default g c =

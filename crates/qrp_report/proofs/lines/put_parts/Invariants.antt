@@ -1,7 +1,7 @@
 use Rattle.std.proofs.Common.{drop}
 use Rattle.qbf_text.specs.Written.{IsSent}
-use Rattle.qrp_cmd.specs.Lines.{parts_text}
-use Rattle.qrp_cmd.proofs.lines.put_parts.Given as goal
+use Rattle.qrp_report.specs.Lines.{parts_text}
+use Rattle.qrp_report.proofs.lines.put_parts.Given as goal
 
 abbrev pub invariant-loop-part : goal.invariant-loop-part
 invariant-loop-part g l = record {

@@ -1,0 +1,2 @@
+pub mod VerdictsMore
+pub mod LinesMore

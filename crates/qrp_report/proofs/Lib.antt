@@ -1,0 +1,2 @@
+pub mod PartsMore
+pub mod LinesMore
