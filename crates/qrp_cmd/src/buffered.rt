@@ -156,3 +156,6 @@ impl<S: Sink> Sink for Buffered<S> {
         self.sink.finish()
     }
 }
+
+#[cfg(test)]
+mod tests;
