@@ -174,6 +174,7 @@ static void read_list(const char *name) {
         of->trace = bytes_of(strtok(NULL, "\t"));
         snprintf(of->line, sizeof of->line, "%s", strtok(NULL, ""));
     }
+    if (!feof(list)) { fprintf(stderr, "%s: too many cases\n", name); exit(3); }
     fclose(list);
 }
 

@@ -51,7 +51,7 @@ pub extern "C" fn qrp_verify(
 ///
 /// In C: `size_t qrp_verdict_line(const struct qrp_verdict *verdict, char *buffer, size_t room)`.
 ///
-/// Answers its length, 45 at most. Where the buffer has room for it, the line stands at its front, and the rest of the
+/// Answers its length, 48 at most. Where the buffer has room for it, the line stands at its front, and the rest of the
 /// buffer stays as it was; else all of it stays.
 #[unsafe(no_mangle)]
 pub extern "C" fn qrp_verdict_line(verdict: &QrpVerdict, buffer: &mut [u8]) -> usize
