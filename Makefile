@@ -3,19 +3,23 @@
 # make test     the whole gate
 # make bench    measures time and memory
 # make lib      leaves the library for C at lib/libqrp.a and lib/libqrp.so
+# make dist     packs the program, the library and the documents below dist/
 # make install  copies the program, the library, its header and the manual pages below $(PREFIX)
 
 PREFIX ?= /usr/local
 RT ?= rt
 PROGRAM = bin/qrp_cmd
-# for the tests alone
+# only for the tests
 ECHO = bin/qrp_echo
 SOURCES = $(shell find crates -path '*/out' -prune -o -type f -print) crates.txt
 
 # for programs in C, C++ and Python
 LIBRARY = lib/libqrp.a
 
-.PHONY: all lib demo test bench install clean
+# what stands between @ and @ in the manual pages and the pkg-config file
+FILL = sed 's|@PREFIX@|$(PREFIX)|; s|@VERSION@|$(shell cat VERSION)|'
+
+.PHONY: all lib demo test bench dist install clean
 
 all: $(PROGRAM)
 
@@ -49,24 +53,29 @@ test:
 	scripts/test-refusals
 	$(MAKE) all $(ECHO)
 	scripts/test-program $(PROGRAM) $(ECHO)
+	scripts/test-scripts $(PROGRAM)
 	$(MAKE) lib
 	scripts/test-library $(PROGRAM) lib
+	scripts/make-dist --check
 	examples/check-all $(PROGRAM)
 
 bench: all
 	scripts/bench $(PROGRAM)
 
+dist: all lib
+	scripts/make-dist
+
 install: all lib
 	mkdir -p $(DESTDIR)$(PREFIX)/bin
 	cp $(PROGRAM) $(DESTDIR)$(PREFIX)/bin/qrp_cmd
 	mkdir -p $(DESTDIR)$(PREFIX)/share/man/man1 $(DESTDIR)$(PREFIX)/share/man/man3
-	cp man/qrp_cmd.1 $(DESTDIR)$(PREFIX)/share/man/man1/qrp_cmd.1
-	cp man/qrp_check.3 $(DESTDIR)$(PREFIX)/share/man/man3/qrp_check.3
+	$(FILL) man/qrp_cmd.1 > $(DESTDIR)$(PREFIX)/share/man/man1/qrp_cmd.1
+	$(FILL) man/qrp_check.3 > $(DESTDIR)$(PREFIX)/share/man/man3/qrp_check.3
 	mkdir -p $(DESTDIR)$(PREFIX)/include $(DESTDIR)$(PREFIX)/lib/pkgconfig
 	cp include/qrp_check.h $(DESTDIR)$(PREFIX)/include/qrp_check.h
 	cp lib/libqrp.a lib/libqrp.so.1 $(DESTDIR)$(PREFIX)/lib
 	ln -sf libqrp.so.1 $(DESTDIR)$(PREFIX)/lib/libqrp.so
-	sed 's|@PREFIX@|$(PREFIX)|' include/libqrp.pc.in > $(DESTDIR)$(PREFIX)/lib/pkgconfig/libqrp.pc
+	$(FILL) include/libqrp.pc.in > $(DESTDIR)$(PREFIX)/lib/pkgconfig/libqrp.pc
 
 clean:
-	rm -rf bin lib crates/*/out
+	rm -rf bin lib dist crates/*/out

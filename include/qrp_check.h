@@ -1,21 +1,21 @@
-/* qrp_check.h: the proved check of QBF proofs, in process.
+/* qrp_check.h: the proved checker of QBF proofs, in process.
  *
  * A formula in QDIMACS 1.1 and a trace in the text form of QRP are given as bytes in memory. The verdict is that of the program
  * `qrp_cmd check` on files with these bytes, and that it is the truth is proved of the library by machine:
  *
- *     qrp_verify answers QRP_VERIFIED exactly where the bytes spell a closed prenex formula and a trace whose sets agree with
+ *     qrp_verify returns QRP_VERIFIED exactly if the bytes spell a closed prenex formula and a trace whose sets agree with
  *     it and whose last empty step, with all steps below that one, follows by the rules (QRP_NO_MEMORY aside); and then that
  *     formula is false if the trace says `r unsat`, and true if it says `r sat`, and `truth` says which.
  *
- * The proof takes for granted what this page asks of the caller, the toolchain that proved and built the library, and the C
+ * The proof relies on what this page asks of the caller, on the toolchain that proved and built the library, and on the C
  * library's malloc, realloc and free. Link with -lqrp, or with libqrp.a; nothing else is needed. The manual page is
  * qrp_check(3).
  *
- * Memory: the library takes what it needs by malloc and realloc, and has given all of it back by free when a call returns. It
- * keeps no pointer of the caller's and no state.
+ * Memory: the library takes what it needs by malloc and realloc, and has freed all of it when a call returns. It keeps no
+ * pointer of the caller's and no state.
  *
- * Threads: calls in several threads at once are fine, on the same texts too, since these are only read; each call has its own
- * struct qrp_verdict and its own buffer. In a signal handler qrp_verify is not to be called, since malloc is not.
+ * Threads: several threads may call at once, also on the same texts, since these are only read; each call needs its own
+ * struct qrp_verdict and its own buffer. Do not call qrp_verify in a signal handler, since it calls malloc.
  */
 #ifndef QRP_CHECK_H
 #define QRP_CHECK_H
@@ -28,45 +28,45 @@
 extern "C" {
 #endif
 
-/* The statuses; the program ends with the same. */
+/* The statuses; they are the program's exit statuses. */
 enum qrp_status {
     QRP_VERIFIED = 0,      /* the trace proves its result, and `truth` is that of the formula */
     QRP_PROOF_REFUSED = 1, /* both texts are read, and the trace does not prove its result */
-    QRP_TEXT_REFUSED = 2,  /* one of the texts is none */
-    QRP_NO_MEMORY = 4      /* malloc or realloc refused memory: nothing is known */
+    QRP_TEXT_REFUSED = 2,  /* the text of the formula or of the trace is refused */
+    QRP_NO_MEMORY = 4      /* out of memory: nothing is known */
 };
 
 /* What was found. It needs no value before qrp_verify, which writes each field. */
 struct qrp_verdict {
-    uint64_t place; /* of C6 the number of the step, of C1, C2 and C3 the variable, of F and P the line; else 0 */
+    uint64_t place; /* for C6 the number of the step, for C1, C2 and C3 the variable, for F and P the line; else 0 */
     uint8_t status; /* one of enum qrp_status */
-    uint8_t truth;  /* 1 where the formula was verified to be true, else 0 */
-    uint8_t letter; /* of the fault: 'F' of the formula's text, 'P' of the trace's, 'C' of the check; 0 where it was verified */
-    uint8_t number; /* of the fault, as 4 of C4; 0 where it was verified */
-    uint8_t rule;   /* of C6 the number of the step's fault, as 7 of S7; else 0 */
+    uint8_t truth;  /* 1 if the formula was verified to be true, else 0 */
+    uint8_t letter; /* of the fault: 'F' of the formula's text, 'P' of the trace's, 'C' of the check; 0 if it was verified */
+    uint8_t number; /* of the fault, for example 4 for C4; 0 if it was verified */
+    uint8_t rule;   /* for C6 the number of the step's fault, for example 7 for S7; else 0 */
 };
 
-/* A buffer of so many bytes has room for every line. */
+/* A buffer of this size has room for every line. */
 #define QRP_LINE_ROOM 48
 
 /* Checks the trace against the formula, writes what was found to *out, and returns out->status.
  *
- * formula, trace: aligned as any bytes, and never null, also where the length is 0 (then any address will do, as that of "").
+ * formula, trace: of any alignment, and never null, even if the length is 0 (then any address will do, such as that of "").
  *   They need no zero at their end. They stay the caller's; nothing may write to them during the call. They may overlap.
  * any_pivot: whether a resolution may be on a variable of either quantifier (QU-resolution and its dual); the flag --qu of the
  *   program.
- * out: never null, aligned as the struct, and apart from both texts.
+ * out: never null, aligned as the struct; it does not overlap the texts.
  */
 int32_t qrp_verify(const uint8_t *formula, size_t formula_length, const uint8_t *trace, size_t trace_length, bool any_pivot,
                    struct qrp_verdict *out);
 
-/* Writes the line of a verdict, as the program prints it, with its line end and no zero behind it, and returns its length.
+/* Writes the line of a verdict, as the program prints it, with its line end and no zero after it, and returns its length.
  *
- * verdict: one that qrp_verify wrote; never null. Of another struct some line may come, or 0.
- * buffer: never null, also where room is 0, and apart from the verdict. Where the line is longer than room nothing is written,
- *   and else nothing behind the line. A room of QRP_LINE_ROOM is enough.
+ * verdict: one that qrp_verify wrote; never null. For any other struct it writes some line, or returns 0.
+ * buffer: never null, even if room is 0; it does not overlap the verdict. If the line is longer than room nothing is written,
+ *   and otherwise nothing after the line. A room of QRP_LINE_ROOM is enough.
  *
- * It takes no memory, and so it tells want of memory too.
+ * It takes no memory, so it also works after QRP_NO_MEMORY.
  */
 size_t qrp_verdict_line(const struct qrp_verdict *verdict, char *buffer, size_t room);
 

@@ -1,7 +1,7 @@
 """Has DepQBF decide formulas, and checks what it says. usage: python3 python/check_depqbf.py FORMULA..
 
 The solver (on Debian: apt-get install depqbf) writes its trace to its standard output; it is checked in memory. For each
-formula the line of the verdict is printed. The status is 1 where an answer of the solver was not verified, else 0.
+formula the line of the verdict is printed. The exit status is 1 if an answer of the solver was not verified, else 0.
 """
 
 import subprocess

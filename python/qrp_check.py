@@ -1,4 +1,4 @@
-"""The proved check of QBF proofs, in process: a formula (QDIMACS 1.1) and a trace (QRP) as bytes.
+"""The proved checker of QBF proofs, in process: a formula (QDIMACS 1.1) and a trace (QRP) as bytes.
 
     >>> import qrp_check
     >>> verdict = qrp_check.verify(b"p cnf 0 1\n0\n", b"p qrp 0 1\n1 0 0\nr unsat\n")
@@ -39,11 +39,11 @@ class Verdict:
     """What was found. `str()` is the line that the program prints."""
 
     status: int
-    """0: verified. 1: the proof is refused. 2: a text is refused. The program ends with the same."""
+    """0: verified. 1: the proof is refused. 2: a text is refused. These are the program's exit statuses."""
     truth: "bool | None"
-    """The truth of the formula where it was verified, else None."""
+    """The truth of the formula if it was verified, else None."""
     fault: "str | None"
-    """The name of the fault, as 'F6', 'P7', 'C4' or 'S10', else None."""
+    """The name of the fault, for example 'F6', 'P7', 'C4' or 'S10', else None."""
     place: "int | None"
     """The line of a fault in a text, the variable of C1 to C3, or the number of the step of S1 to S12, else None."""
     line: str = dataclasses.field(repr=False)
@@ -78,14 +78,14 @@ def _fault(found):
 def verify(formula: bytes, trace: bytes, any_pivot: bool = False) -> Verdict:
     """Checks the trace against the formula; with `any_pivot` resolution may be on variables of either quantifier.
 
-    Raises MemoryError where memory was refused, and TypeError where a text is no bytes. Other threads run meanwhile.
+    Raises MemoryError if it is out of memory, and TypeError if a text is not bytes. Other threads run meanwhile.
     """
     if not isinstance(formula, bytes) or not isinstance(trace, bytes):
         raise TypeError("the formula and the trace are bytes")
     found = _Verdict()
     status = _library.qrp_verify(formula, len(formula), trace, len(trace), any_pivot, ctypes.byref(found))
     if status == _NO_MEMORY:
-        raise MemoryError("the check was refused memory")
+        raise MemoryError("out of memory")
     buffer = ctypes.create_string_buffer(_ROOM)
     length = _library.qrp_verdict_line(ctypes.byref(found), buffer, _ROOM)
     line = buffer.raw[:length].decode("ascii").rstrip("\n")

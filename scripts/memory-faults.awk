@@ -14,6 +14,8 @@ BEGIN {
     keep(alone, "Vec.push Vec.reserve IndexSet.insert IndexMap.insert Vec::from_slice Vec::with_capacity BufWriter::new")
     # These hand back what they were given.
     keep(alone, "Formula.push_clause Trace.push_set Trace.push_step")
+    # Its signature takes several lines.
+    keep(alone, "FlatTrace.push_step")
 }
 
 function keep(set, names, list, i) {
@@ -261,9 +263,11 @@ function resolved(n, callee, receiver, name) {
     return type_of(n, receiver) "." name
 }
 
-# The type of a field of self, of a parameter or of a local value.
-function type_of(n, receiver, text, found) {
+# The type of a field of self, of a parameter or of a local value, or of a field of these.
+function type_of(n, receiver, text, found, dot) {
     if (sub(/^self\./, "", receiver)) return type[within[n], receiver]
+    dot = index(receiver, ".")
+    if (dot) return type[type_of(n, substr(receiver, 1, dot - 1)), substr(receiver, dot + 1)]
     for (; !(n in head) && n > 1; n--) {
         text = trimmed(code[n])
         if (sub("^let (mut " receiver "|Ok\\(mut " receiver "\\)) = ", "", text)) return head_type(text)

@@ -136,3 +136,40 @@ last_of e (x ∷ es) d = last_of x es d
 pub last_is : (es : List ℕ) → unwrap_or (slice_get es (length es - 1)) 0 ≡ end_of 0 es
 last_is [] = refl
 last_is (e ∷ es) = let k : suc (length es) - 1 ≡ length es = omega arith in rw k (last_of e es 0)
+
+-- ---- lists that grow
+
+pub grown_parts : {X : Type 0} (xs more : List X) (from : ℕ) (es : List ℕ) (n : ℕ) → Reaches from es n → n ≤ length xs → parts (xs ++ more) from es ≡ parts xs from es
+grown_parts xs more from [] n r le = refl
+grown_parts xs more from (e ∷ es) n r le =
+    let m = reach_le e es n r.1 in
+    let x : slice_range (xs ++ more) from e ≡ slice_range xs from e = range_before xs more from e r.0 (omega (arith, m, le)) in
+    let rest = grown_parts xs more e es n r.1 le in
+    (λ i. x i ∷ rest i)
+
+pub kept_parts : {X : Type 0} (xs : List X) (m from : ℕ) (es : List ℕ) (n : ℕ) → Reaches from es n → n ≤ m → m ≤ length xs → parts (take m xs) from es ≡ parts xs from es
+kept_parts xs m from [] n r h le = refl
+kept_parts xs m from (e ∷ es) n r h le =
+    let k = reach_le e es n r.1 in
+    let x : slice_range (take m xs) from e ≡ slice_range xs from e = range_less xs m from e r.0 (omega (arith, k, h)) le in
+    let rest = kept_parts xs m e es n r.1 h le in
+    (λ i. x i ∷ rest i)
+
+-- the rest from a place on is the range up to the end
+range_rest : {X : Type 0} (xs : List X) (n : ℕ) → slice_range xs n (length xs) ≡ drop n xs
+range_rest xs n = rw (← length-drop n xs) (take_whole (drop n xs))
+
+pub closed_parts : {X : Type 0} (xs : List X) (from : ℕ) (es : List ℕ) (n : ℕ) → Reaches from es n → parts xs from (es ++ length xs ∷ []) ≡ parts xs from es ++ drop n xs ∷ []
+closed_parts xs from [] n r = ap (λ (c : List _). c ∷ []) (rw r (range_rest xs n))
+closed_parts xs from (e ∷ es) n r = ap (λ (cs : List (List _)). slice_range xs from e ∷ cs) (closed_parts xs e es n r.1)
+
+pub closed_reach : (es : List ℕ) (n m : ℕ) → n ≤ m → Reaches 0 es n → Reaches 0 (es ++ m ∷ []) m
+closed_reach es n m h r = reach_more 0 es n m h r
+
+pub drop_kept : {X : Type 0} (xs : List X) (n : ℕ) → drop n (take n xs) ≡ []
+drop_kept xs zero = refl
+drop_kept [] (suc n) = refl
+drop_kept (x ∷ xs) (suc n) = drop_kept xs n
+
+pub drop_grown : {X : Type 0} (xs more : List X) (n : ℕ) → n ≤ length xs → drop n (xs ++ more) ≡ drop n xs ++ more
+drop_grown xs more n h = drop-append-le n xs more h

@@ -21,3 +21,8 @@ start_of from (e ∷ es) (suc i) = start_of e es i
 abbrev pub end_of : ℕ → List ℕ → ℕ
 end_of from [] = from
 end_of from (e ∷ es) = end_of e es
+
+-- lists that are whole, and behind them one that is begun
+pub record Growing (X : Type 0) : Type 0 where
+  pub whole : List (List X)
+  pub begun : List X

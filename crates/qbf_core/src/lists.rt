@@ -111,3 +111,111 @@ impl<T: Copy + Drop> Lists<T> {
         }
     }
 }
+
+/// Lists in one buffer, and behind them one more that is begun. Contracts see both.
+///
+/// The list that is begun grows where it lies, and is made one of the lists without a copy.
+#[derive(Drop)]
+pub struct GrowingLists<T> {
+    items: Vec<T>,
+    /// Where each whole list ends.
+    ends: Vec<usize>,
+    /// Where the last whole list ends, and the list that is begun begins.
+    start: usize,
+}
+
+impl<T> Model for GrowingLists<T> {
+    ghost use Rattle.std.specs.Prelude.{◌≤◌, length, drop};
+    ghost use Rattle.qbf_core.specs.Flat.{Growing, parts, Reaches};
+
+    ghost Value = { Growing T };
+
+    ghost view = { λ s. record { whole = parts s.items.items 0 s.ends.items; begun = drop s.start s.items.items } };
+
+    ghost invariant = { λ s. Reaches 0 s.ends.items s.start × (s.start ≤ length s.items.items) };
+}
+
+impl<T: Copy + Drop> GrowingLists<T> {
+    /// No lists, and an empty one that is begun. It takes no memory yet.
+    pub fn new(alloc: Global) -> GrowingLists<T>
+        ensures { result ≡ record { whole = []; begun = [] } }
+    {
+        GrowingLists {
+            items: Vec::new(alloc),
+            ends: Vec::new(alloc),
+            start: 0,
+        }
+    }
+
+    /// How many whole lists there are.
+    #[inline(always)]
+    pub fn whole_len(&self) -> usize
+        ensures { result ≡ length self.now.whole }
+    {
+        let ends = &self.ends;
+        ends.len()
+    }
+
+    /// How many items the list has that is begun.
+    #[inline(always)]
+    pub fn begun_len(&self) -> usize
+        ensures { result ≡ length self.now.begun }
+    {
+        self.items.len() - self.start
+    }
+
+    /// The list that is begun.
+    pub fn begun(&self) -> &[T]
+        ensures { result.now ≡ self.now.begun }
+    {
+        part(&self.items, self.start, self.items.len())
+    }
+
+    /// Begins an empty list in place of the one that is begun.
+    #[inline(always)]
+    pub fn begin(&mut self)
+        ensures { self.new ≡ record self.old { begun = [] } }
+    {
+        self.items.truncate(self.start);
+    }
+
+    /// Adds an item at the end of the list that is begun.
+    ///
+    /// # Errors
+    /// Want of memory. Nothing is changed then.
+    #[inline(always)]
+    pub fn push(&mut self, item: T) -> Result<(), AllocError>
+        ensures pushed { OnOk result (self.new ≡ record self.old { begun = self.old.begun ++ item ∷ [] }) }
+        ensures err { OnErr result (self.new ≡ self.old) }
+    {
+        self.items.push(item)?;
+        Ok(())
+    }
+
+    /// The list that is begun is whole, and an empty one is begun behind it.
+    ///
+    /// # Errors
+    /// Want of memory. Nothing is changed then.
+    #[inline(always)]
+    pub fn close(&mut self) -> Result<(), AllocError>
+        ensures closed { OnOk result (self.new ≡ record { whole = self.old.whole ++ self.old.begun ∷ []; begun = [] }) }
+        ensures err { OnErr result (self.new ≡ self.old) }
+    {
+        let end = self.items.len();
+        self.ends.push(end)?;
+        self.start = end;
+        Ok(())
+    }
+
+    /// The whole lists, where they lie. It takes no memory.
+    pub fn into_lists(self) -> Lists<T>
+        ensures { result ≡ self.whole }
+    {
+        let mut items = self.items;
+        items.truncate(self.start);
+        Lists {
+            items,
+            ends: self.ends,
+        }
+    }
+}

@@ -3,7 +3,8 @@ ghost use Rattle.qbf_core.specs.Blocks.{AreBound, pairs};
 ghost use Rattle.qbf_core.specs.declared.quantifier.Quantifier.TheVariants.{All};
 
 use crate::{
-    Formula, Lists, Lit, LitSet, Prefix, PrefixFault, Quantifier, SetFault, Var, is_member,
+    Formula, GrowingLists, Lists, Lit, LitSet, Prefix, PrefixFault, Quantifier, SetFault, Var,
+    is_member,
 };
 use std::alloc::Global;
 use std::process::Abort;
@@ -135,6 +136,22 @@ fn formulas(rt: HostRuntime) -> Result<(), Fail> {
     Ok(())
 }
 
+#[test]
+fn formulas_made_whole(rt: HostRuntime) -> Result<(), Fail> {
+    let one = variable(&rt, 1);
+    let mut prefix = Prefix::new(rt.alloc());
+    prefix.push(Quantifier::Exists, one)?;
+    assert_eq!(rt; prefix.len(), 1);
+    let mut clauses = GrowingLists::new(rt.alloc());
+    clauses.push(Lit::new(one, false))?;
+    clauses.close()?;
+    clauses.push(Lit::new(one, true))?;
+    let formula = Formula::whole(5, prefix, clauses.into_lists());
+    assert_eq!(rt; formula.clauses(), 1);
+    assert!(rt; formula.clause(0) == [Lit::new(one, false)].as_slice());
+    Ok(())
+}
+
 /// The prefix of an existential and, in it, a universal variable.
 fn two_blocks(alloc: Global, outer: Var, inner: Var) -> Result<Prefix, Fail> {
     let mut prefix = Prefix::new(alloc);
@@ -220,6 +237,29 @@ fn lists(rt: HostRuntime) -> Result<(), Fail> {
     lists.push(&[5])?;
     assert!(rt; lists.get(0) == [7, 9].as_slice());
     assert!(rt; lists.get(1) == [5].as_slice());
+    Ok(())
+}
+
+#[test]
+fn growing_lists(rt: HostRuntime) -> Result<(), Fail> {
+    let mut growing = GrowingLists::new(rt.alloc());
+    growing.push(7u64)?;
+    growing.push(9)?;
+    assert_eq!(rt; growing.begun_len(), 2);
+    growing.close()?;
+    assert_eq!(rt; growing.begun_len(), 0);
+    growing.close()?;
+    growing.push(3)?;
+    growing.begin();
+    growing.push(4)?;
+    growing.close()?;
+    growing.push(5)?;
+    assert_eq!(rt; growing.whole_len(), 3);
+    let lists = growing.into_lists();
+    assert_eq!(rt; lists.len(), 3);
+    assert!(rt; lists.get(0) == [7, 9].as_slice());
+    assert!(rt; lists.get(1).is_empty());
+    assert!(rt; lists.get(2) == [4].as_slice());
     Ok(())
 }
 

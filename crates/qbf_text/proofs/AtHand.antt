@@ -10,10 +10,9 @@ use Rattle.std.proofs.lemmas.Str.Parse.{digits_value_short}
 use Rattle.std.proofs.Math.Seq.{take-suc}
 use Rattle.std.proofs.lemmas.Bool.Decides.{nat_tests}
 use Rattle.qbf_text.specs.declared.run.Digits.TheVariants.{Value}
-use Rattle.qbf_text.specs.declared.token.Token.TheVariants.{Number}
-use Rattle.qbf_text.specs.Tokens.{magnitude, kind, is_line_end}
+use Rattle.qbf_text.specs.Tokens.{magnitude, is_line_end}
 use Rattle.qbf_text.specs.Runs.{digits_of, begins_number, begins_with_minus, after_minus}
-use Rattle.qbf_text.specs.Left.{is_separator, IsUnbroken}
+use Rattle.qbf_text.specs.Left.{is_separator}
 use Rattle.qbf_text.specs.Hand.{BeginsWithNumber}
 use Rattle.qbf_text.proofs.DigitsMore.{pack_small}
 use Rattle.qbf_text.proofs.KindKept.{kind_number}

@@ -1,23 +1,21 @@
 -- What is left after a number that stands whole among the bytes at hand.
-use Rattle.std.proofs.Common.{◌≡◌, ℕ, ◌+◌, ◌^◌, ◌<◌, Bool, true, false, not, ◌||◌, ◌==◌, List, [], ◌∷◌, ◌++◌, Option, Some, None, take, drop, length, refl, sym, subst, ap, ◌∙◌, arith, append_assoc, inl, inr}
+use Rattle.std.proofs.Common.{◌≡◌, ℕ, ◌+◌, ◌^◌, ◌<◌, Bool, true, false, ◌||◌, ◌==◌, List, [], ◌∷◌, ◌++◌, Option, Some, None, take, drop, refl, sym, subst, ap, ◌∙◌, arith, append_assoc}
 use Rattle.std.specs.Prelude.{⊤}
 use Rattle.std.specs.Char.{is_ascii_digit}
 use Rattle.std.specs.Io.KnownBytes.{Consumes}
-use Rattle.std.proofs.lemmas.Bool.{eqb-true, cases_Bool}
+use Rattle.std.proofs.lemmas.Bool.{eqb-true}
 use Rattle.std.proofs.lemmas.Bool.Decides.{nat_tests}
 use Rattle.std.proofs.lemmas.List.{take-append-drop}
 use Rattle.qbf_text.specs.declared.token.Comments.{Comments}
 use Rattle.qbf_text.specs.declared.token.Comments.TheVariants.{Qdimacs, Qrp}
-use Rattle.qbf_text.specs.declared.token.Token.{Token}
 use Rattle.qbf_text.specs.declared.token.Token.TheVariants.{Number}
 use Rattle.qbf_text.specs.Ahead.{ahead}
 use Rattle.qbf_text.specs.Tokens.{kind, is_comment_byte, is_line_end, is_blank, counted}
 use Rattle.qbf_text.specs.Runs.{begins_number}
-use Rattle.qbf_text.specs.Left.{is_separator, IsUnbroken, EndsRun, tokens_left, known_left, Gives}
+use Rattle.qbf_text.specs.Left.{is_separator, IsUnbroken, tokens_left, known_left, Gives}
 use Rattle.qbf_text.specs.Hand.{BeginsWithNumber}
 use Rattle.qbf_text.proofs.GivesMore.{always, gives_by}
 use Rattle.qbf_text.proofs.LeftMore.{left_run, left_line_end, left_blank, IsToken, tokens_left-counted}
-use Rattle.qbf_text.proofs.Spelled.{digit_no_comment}
 
 -- what begins as a number does is no comment
 no_comment : (f : Comments) (b : ℕ) → (b == 45 || is_ascii_digit b) ≡ true → is_comment_byte f b ≡ false

@@ -1,6 +1,7 @@
 //! Bytes in and out, and the tokens of QDIMACS and QRP texts.
 #![tactic(auto)]
 
+mod grammar;
 mod hand;
 mod pieces;
 mod run;
@@ -12,6 +13,7 @@ mod spelling;
 mod token;
 mod window;
 
+pub use grammar::{Grammar, ReadError, Stop, Taken, read_by};
 pub use pieces::{PieceSink, PieceSource};
 pub use scanner::{ScanFault, Scanner};
 pub use sink::{Sink, SinkFault, ToWrite, VecSink, put_byte, put_bytes, put_number};

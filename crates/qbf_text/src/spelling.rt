@@ -10,6 +10,7 @@ use crate::sink::{Sink, SinkFault, put_byte, put_number};
 /// Sends a number behind a blank.
 ///
 /// A `SinkFault` where the sink failed. What went out is a beginning of these bytes then.
+#[inline(always)]
 pub fn put_spaced<S: Sink>(sink: &mut S, n: u64) -> Result<(), SinkFault>
     ensures { IsPut S.written S.failures sink.old sink.new (spaced n) result }
 {
@@ -18,6 +19,7 @@ pub fn put_spaced<S: Sink>(sink: &mut S, n: u64) -> Result<(), SinkFault>
 }
 
 /// Sends a number behind a minus.
+#[inline(always)]
 fn put_minus<S: Sink>(sink: &mut S, n: u64) -> Result<(), SinkFault>
     ensures { IsPut S.written S.failures sink.old sink.new (45 ∷ decimal n) result }
 {
@@ -28,6 +30,7 @@ fn put_minus<S: Sink>(sink: &mut S, n: u64) -> Result<(), SinkFault>
 /// Sends a number, directly behind a minus where it is negative.
 ///
 /// A `SinkFault` where the sink failed. What went out is a beginning of these bytes then.
+#[inline(always)]
 pub fn put_signed<S: Sink>(sink: &mut S, negative: bool, n: u64) -> Result<(), SinkFault>
     ensures { IsPut S.written S.failures sink.old sink.new (spelled (Number negative n)) result }
 {

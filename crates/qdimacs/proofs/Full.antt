@@ -1,7 +1,6 @@
 -- As many bound variables as the header allows: each that it allows is bound.
-use Rattle.std.proofs.Common.{◌≡◌, ℕ, ◌≤◌, ◌+◌, ◌||◌, Bool, true, false, List, [], ◌∷◌, inl, inr, length, eqb, refl, sym, ap, ◌∙◌, arith}
+use Rattle.std.proofs.Common.{rules, ◌≡◌, ℕ, ◌≤◌, ◌+◌, ◌||◌, Bool, true, false, List, [], ◌∷◌, length, eqb, refl, sym, ap, ◌∙◌, arith}
 use Rattle.std.specs.List.{list_any, IsDistinct, AllByRecursion}
-use Rattle.std.proofs.lemmas.Bool.Decides.{eqb_tells}
 use Rattle.std.proofs.lemmas.List.{length-map}
 use Rattle.std.proofs.lemmas.Map.Keys.{IsDistinct-cons}
 use Rattle.std.proofs.lemmas.Map.Steps.{length-le_from_distinct_below}
@@ -13,27 +12,18 @@ use Rattle.qdimacs.specs.Reading.{IsFull}
 
 apart : (v : ℕ) (vs : List ℕ) → list_any (eqb v) vs ≡ false → AllByRecursion (λ w. eqb v w ≡ false) vs
 apart v [] none = tt
-apart v (w ∷ vs) none = elim (eqb_tells v w) [
-  | inl (t, _) ↦ absurd (let f : true ≡ false = rw t at none in cc f)
-  | inr (f, _) ↦ (f, apart v vs (rw f at none))
-]
+apart v (w ∷ vs) none = let rest = apart v vs in search rules
 
 not_zero : (v : ℕ) → 1 ≤ v → eqb 0 v ≡ false
-not_zero v low = elim (eqb_tells 0 v) [
-  | inl (_, is) ↦ absurd (omega (arith, low, is))
-  | inr (f, _) ↦ f
-]
+not_zero v low = search rules
 
 zero_apart : (vs : List ℕ) → AllByRecursion IsVariable vs → AllByRecursion (λ w. eqb 0 w ≡ false) vs
 zero_apart [] h = tt
 zero_apart (v ∷ vs) h = (not_zero v h.0.0, zero_apart vs h.1)
 
 below : (n : ℕ) (vs : List ℕ) → AllByRecursion (λ v. v ≤ n) vs → (q : ℕ) → list_any (eqb q) vs ≡ true → q ≤ n
-below n [] h q e = absurd (cc e)
-below n (v ∷ vs) h q e = elim (eqb_tells q v) [
-  | inl (_, is) ↦ omega (arith, h.0, is)
-  | inr (f, _) ↦ below n vs h.1 q (rw f at e)
-]
+below n [] h q e = search rules
+below n (v ∷ vs) h q e = let rest = below n vs in search rules
 
 -- ---- as many distinct numbers from 1 to n as n
 
@@ -58,13 +48,10 @@ is_bound_variables v [] = refl
 is_bound_variables v (p ∷ ps) = ap (λ (b : Bool). eqb v p.1 || b) (is_bound_variables v ps)
 
 equal : (a b : ℕ) → eqb a b ≡ true → a ≡ b
-equal a b e = elim (eqb_tells a b) [
-  | inl (_, is) ↦ is
-  | inr (f, _) ↦ absurd (let t : false ≡ true = rw f at e in cc t)
-]
+equal a b e = search rules
 
--- as many bound variables as the header allows, counted and compared
-pub full : (max_var : ℕ) (bs ds : List Block) (n m : ℕ) → IsPrefix bs → AllByRecursion (λ v. v ≤ max_var) (variables (pairs bs)) → ds ≡ bs → n ≡ length (pairs ds) → m ≡ max_var → eqb n m ≡ true → IsFull max_var (pairs bs)
-full max_var bs ds n m prefix top same counted is compared = λ v low high.
-    let count : length (variables (pairs bs)) ≡ max_var = length-map (pairs bs) (λ p. p.1) ∙ ap (λ (x : List Block). length (pairs x)) (sym same) ∙ sym counted ∙ equal n m compared ∙ is in
+-- as many bound variables as the header allows
+pub full : (max_var : ℕ) (bs : List Block) (n : ℕ) → IsPrefix bs → AllByRecursion (λ v. v ≤ max_var) (variables (pairs bs)) → n ≡ length (pairs bs) → eqb n max_var ≡ true → IsFull max_var (pairs bs)
+full max_var bs n prefix top counted compared = λ v low high.
+    let count : length (variables (pairs bs)) ≡ max_var = length-map (pairs bs) (λ p. p.1) ∙ sym counted ∙ equal n max_var compared in
     is_bound_variables v (pairs bs) ∙ each_stands max_var (variables (pairs bs)) prefix.distinct prefix.within top count v low high

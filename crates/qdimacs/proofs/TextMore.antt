@@ -1,9 +1,8 @@
 -- The canonical text is read again.
-use Rattle.std.proofs.Common.{◌≡◌, ℕ, Bool, true, false, List, [], ◌∷◌, ◌++◌, length, map, refl, ap, sym, subst, ◌∙◌, arith, append_assoc}
+use Rattle.std.proofs.Common.{rules, ◌≡◌, ℕ, Bool, List, [], ◌∷◌, ◌++◌, length, map, refl, ap, sym, subst, ◌∙◌, arith, append_assoc}
 use Rattle.std.proofs.lemmas.Grind.{flat_map-append}
 use Rattle.std.specs.List.{flat_map, AllByRecursion}
 use Rattle.qbf_core.specs.declared.quantifier.Quantifier.{Quantifier}
-use Rattle.qbf_core.specs.declared.quantifier.Quantifier.TheVariants.{All, Exists}
 use Rattle.qbf_core.specs.Literal.{Literal}
 use Rattle.qbf_core.specs.Blocks.{Block, pairs, variables, IsVariable, AreBound}
 use Rattle.qbf_core.specs.Qbf.{Qbf, IsWellFormed}
@@ -14,34 +13,29 @@ use Rattle.qbf_text.specs.Tokens.{tokens}
 use Rattle.qbf_text.specs.Canonical.{IsPlain, IsLine}
 use Rattle.qbf_text.proofs.CanonicalMore.{joined, tokens-lines_text}
 use Rattle.qdimacs.specs.Grammar.{number, literal, letter, header, set, clause, spelling, lines, text}
+use Rattle.qbf_core.proofs.PrefixLaws.{AllByRecursion-push}
 use Rattle.qdimacs.specs.Laws.{ReadsText}
 use Rattle.qdimacs.proofs.Run.{bound_one}
 use Rattle.qdimacs.proofs.Complete.{spelled_is_read}
 
 -- ---- the lines can be written
 
-pushed : (ts : List Token) (t : Token) → AllByRecursion IsPlain ts → IsPlain t → AllByRecursion IsPlain (ts ++ t ∷ [])
-pushed [] t h p = (p, tt)
-pushed (u ∷ ts) t h p = (h.0, pushed ts t h.1 p)
-
 zero_plain : IsPlain (number 0)
-zero_plain = omega arith
+zero_plain = search rules
 
 pub variables_plain : (vs : List ℕ) → AllByRecursion IsVariable vs → AllByRecursion IsPlain (map number vs)
 variables_plain [] h = tt
 variables_plain (v ∷ vs) h = (omega (arith, h.0.1), variables_plain vs h.1)
 
 literal_plain : (v : ℕ) (negative : Bool) → IsVariable v → IsPlain (token.Number negative v)
-literal_plain v true h = (h.0, omega (arith, h.1))
-literal_plain v false h = omega (arith, h.1)
+literal_plain v negative h = search rules
 
 pub literals_plain : (ls : List Literal) → AllByRecursion (λ l. IsVariable l.var) ls → AllByRecursion IsPlain (map literal ls)
 literals_plain [] h = tt
 literals_plain (l ∷ ls) h = (literal_plain l.var l.negative h.0, literals_plain ls h.1)
 
 letter_line : (q : Quantifier) (ts : List Token) → AllByRecursion IsPlain ts → IsLine (letter q ∷ ts)
-letter_line All ts h = (tt, (tt, h))
-letter_line Exists ts h = (tt, (tt, h))
+letter_line q ts h = search rules
 
 front : (P : ℕ → Type 0) (q : Quantifier) (vs : List ℕ) (ps : List (Quantifier × ℕ)) → AllByRecursion P (variables (map (λ v. (q, v)) vs ++ ps)) → AllByRecursion P vs × AllByRecursion P (variables ps)
 front P q [] ps h = (tt, h)
@@ -51,7 +45,7 @@ sets_lines : (bs : List Block) → AllByRecursion IsVariable (variables (pairs b
 sets_lines [] h = tt
 sets_lines (b ∷ bs) h =
     let k = front IsVariable b.quantifier b.vars (pairs bs) h in
-    (letter_line b.quantifier (map number b.vars ++ number 0 ∷ []) (pushed (map number b.vars) (number 0) (variables_plain b.vars k.0) zero_plain), sets_lines bs k.1)
+    (letter_line b.quantifier (map number b.vars ++ number 0 ∷ []) (AllByRecursion-push IsPlain (map number b.vars) (number 0) (variables_plain b.vars k.0) zero_plain), sets_lines bs k.1)
 
 bound_variables : (bs : List Block) (ls : List Literal) → AllByRecursion IsVariable (variables (pairs bs)) → AreBound bs ls → AllByRecursion (λ l. IsVariable l.var) ls
 bound_variables bs [] within h = tt
@@ -64,7 +58,7 @@ numbers_line ts h (l ∷ ls) e = (tt, subst (AllByRecursion IsPlain) e h)
 clauses_lines : (bs : List Block) (cs : List (List Literal)) → AllByRecursion IsVariable (variables (pairs bs)) → AllByRecursion (AreBound bs) cs → AllByRecursion IsLine (map clause cs)
 clauses_lines bs [] within h = tt
 clauses_lines bs (c ∷ cs) within h =
-    (numbers_line (clause c) (pushed (map literal c) (number 0) (literals_plain c (bound_variables bs c within h.0)) zero_plain) c refl, clauses_lines bs cs within h.1)
+    (numbers_line (clause c) (AllByRecursion-push IsPlain (map literal c) (number 0) (literals_plain c (bound_variables bs c within h.0)) zero_plain) c refl, clauses_lines bs cs within h.1)
 
 all_append : (xs ys : List (List Token)) → AllByRecursion IsLine xs → AllByRecursion IsLine ys → AllByRecursion IsLine (xs ++ ys)
 all_append [] ys h k = k

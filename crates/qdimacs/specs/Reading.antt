@@ -12,7 +12,11 @@ use Rattle.qdimacs.specs.declared.fault.FormulaFault.TheVariants.{F2, F3, F4, F5
 use Rattle.qbf_text.specs.declared.token.Token.{Token}
 use Rattle.qbf_text.specs.declared.token.Token.TheVariants as token
 use Rattle.qbf_text.specs.declared.token.Word.TheVariants as word
-use Rattle.qbf_text.specs.Lined.{Lined, Known}
+use Rattle.qbf_text.specs.declared.grammar.ReadError.{ReadError}
+use Rattle.qbf_text.specs.declared.grammar.ReadError.TheVariants as error
+use Rattle.qbf_text.specs.Lined.{Lined}
+use Rattle.qbf_text.specs.Rows.{Goes, Ends, Fails, Read}
+use Rattle.qbf_text.specs.Rows as rows
 use Rattle.qbf_text.specs.declared.token.Comments.TheVariants.{Qdimacs}
 use Rattle.qbf_text.specs.Tokens as text
 
@@ -34,12 +38,14 @@ pub data Place : Type 0 where
   InSet : Heading → List (Quantifier × ℕ) → Quantifier → Place
   -- in a clause that has begun with these literals
   InClause : Heading → List (Quantifier × ℕ) → List (List Literal) → List Literal → Place
+  -- behind the end
+  Whole : Qbf → Place
+  -- behind a fault
+  Over : Place
 
 -- What the row of a place makes of a token.
-pub data Row : Type 0 where
-  Goes : Place → Row
-  Ends : Qbf → Row
-  Fails : FormulaFault → Row
+abbrev pub Row : Type 0
+Row = rows.Row Place (Unit {0}) FormulaFault
 
 -- ---- the header
 
@@ -85,11 +91,16 @@ member max_var token.End = Err F7
 member max_var (token.Word w) = Err F3
 member max_var token.Bad = Err F3
 
+-- at a variable of a set, bound before or not
+abbrev pub bind_row : Heading → List (Quantifier × ℕ) → Quantifier → ℕ → Bool → Row
+bind_row h ps q v true = Fails F5
+bind_row h ps q v false = Goes (InSet h (ps ++ (q, v) ∷ []) q)
+
 -- in a set
 abbrev pub set_row : Heading → List (Quantifier × ℕ) → Quantifier → Result (Option ℕ) FormulaFault → Row
 set_row h ps q (Err f) = Fails f
 set_row h ps q (Ok None) = Goes (Between h ps [])
-set_row h ps q (Ok (Some v)) = if is_bound v ps then Fails F5 else Goes (InSet h (ps ++ (q, v) ∷ []) q)
+set_row h ps q (Ok (Some v)) = bind_row h ps q v (is_bound v ps)
 
 -- ---- a clause
 
@@ -150,7 +161,7 @@ abbrev pub between_row : Heading → List (Quantifier × ℕ) → List (List Lit
 between_row h ps cs (Some q) mark first = Goes (InSet h ps q)
 between_row h ps cs None (Err f) first = Fails f
 between_row h ps cs None (Ok true) first = clause_row h ps cs [] first
-between_row h ps cs None (Ok false) first = Ends (record { max_var = h.max_var; blocks = blocks_of ps; clauses = cs })
+between_row h ps cs None (Ok false) first = Ends tt (Whole (record { max_var = h.max_var; blocks = blocks_of ps; clauses = cs }))
 
 -- ---- the whole
 
@@ -164,38 +175,38 @@ row (Between h ps cs) t =
     between_row h ps cs (begun_set cs t) (clause_or_end (has_more h cs) t) (literal_in h.max_var ps t)
 row (InSet h ps q) t = set_row h ps q (member h.max_var t)
 row (InClause h ps cs ls) t = clause_row h ps cs ls (literal_in h.max_var ps t)
+row (Whole f) t = Fails F3
+row Over t = Fails F3
+
+-- the end was read
+abbrev pub IsWhole : Place → Type 0
+IsWhole (Whole f) = Unit {0}
+IsWhole place = ⊥
+
+-- what is read behind the last token
+abbrev pub answer_at : Place → Result Qbf (FormulaFault × ℕ)
+answer_at (Whole f) = Ok f
+answer_at place = Err (F7, 0)
+
+-- what is read by the rows
+abbrev pub answer_of : Read Place (Unit {0}) FormulaFault → Result Qbf (FormulaFault × ℕ)
+answer_of (rows.Whole u place rest) = answer_at place
+answer_of (rows.Fault f line) = Err (f, line)
+answer_of rows.Cut = Err (F7, 0)
 
 -- What is read from a place on.
-unfoldable pub read_from : Place → List Lined → Result Qbf (FormulaFault × ℕ)
-read_from place [] = Err (F7, 0)
-read_from place (t ∷ ts) =
-    elim (row place t.0) [ Goes next ↦ read_from next ts | Ends f ↦ Ok f | Fails f ↦ Err (f, t.1) ]
+abbrev pub read_from : Place → List Lined → Result Qbf (FormulaFault × ℕ)
+read_from place ts = answer_of (rows.read_from row place ts)
 
 -- What tokens are read as.
 abbrev pub read : List Lined → Result Qbf (FormulaFault × ℕ)
 read ts = read_from AtP ts
-
--- The same, where the tokens are told.
-abbrev pub reads_from : Place → Known → Option (Result Qbf (FormulaFault × ℕ))
-reads_from place None = None
-reads_from place (Some ts) = Some (read_from place ts)
 
 -- Who returned this fault did so as reading does, unless the source failed, untold or out of memory.
 abbrev pub Stops : FormulaFault → ℕ → Option (Result Qbf (FormulaFault × ℕ)) → Type 0
 Stops F1 line whole = Unit {0}
 Stops F9 line whole = Unit {0}
 Stops f line whole = IfSome whole (λ r. r ≡ Err (f, line))
-
--- What was to be read, where that is known, is what is still to be read.
-abbrev pub Leads : Option (Result Qbf (FormulaFault × ℕ)) → Option (Result Qbf (FormulaFault × ℕ)) → Type 0
-Leads None rest = Unit {0}
-Leads (Some r) rest = rest ≡ Some r
-
--- What was to be read is what is still to be read, or the fault that is returned.
-abbrev pub Continues : {X : Type 0} → (X → Option (Result Qbf (FormulaFault × ℕ))) → Result X (FormulaFault × ℕ)
-    → Option (Result Qbf (FormulaFault × ℕ)) → Type 0
-Continues rest (Ok x) whole = Leads whole (rest x)
-Continues rest (Err e) whole = Stops e.0 e.1 whole
 
 -- The answer is what was to be read, unless the source failed or memory ran out.
 abbrev pub Gives : Result Qbf (FormulaFault × ℕ) → Option (Result Qbf (FormulaFault × ℕ)) → Type 0
@@ -210,3 +221,9 @@ read_formula bytes = read (text.tokens Qdimacs bytes)
 abbrev pub reads_bytes : Option (List ℕ) → Option (Result Qbf (FormulaFault × ℕ))
 reads_bytes None = None
 reads_bytes (Some bytes) = Some (read_formula bytes)
+
+-- the fault and the line that an error stands for
+abbrev pub fault_of : ReadError FormulaFault → FormulaFault × ℕ
+fault_of error.Device = (F1, 0)
+fault_of error.Memory = (F9, 0)
+fault_of (error.Text f line) = (f, line)

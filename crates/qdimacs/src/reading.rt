@@ -3,18 +3,15 @@
 ghost use Rattle.std.specs.Prelude.{Err, ◌≢◌, ◌-◌, ◌^◌, ◌<◌, ◌≡◌, IfSome, OnOk, IfErr};
 ghost use Rattle.qdimacs.specs.declared.fault.FormulaFault.TheVariants.{F1, F9};
 ghost use Rattle.std.specs.Io.KnownBytes.{IsAtEnd};
-ghost use Rattle.qbf_text.specs.Reading.{left, IsReady};
 ghost use Rattle.qbf_text.specs.Tokens.{tokens};
 ghost use Rattle.qbf_text.specs.declared.token.Comments.TheVariants.{Qdimacs};
 ghost use Rattle.qdimacs.specs.Faults.{Answers};
-ghost use Rattle.qdimacs.specs.Reading.{AtP, reads_from, reads_bytes, Gives};
+ghost use Rattle.qdimacs.specs.Reading.{reads_bytes, Gives};
 
-use crate::clauses::read_clauses;
-use crate::fault::{Fault, FormulaFault};
-use crate::header::read_header;
-use crate::sets::read_sets;
+use crate::fault::{Fault, fault_of};
+use crate::grammar::FormulaGrammar;
 use qbf_core::Formula;
-use qbf_text::{Comments, Scanner, Source};
+use qbf_text::{Comments, Scanner, Source, read_by};
 use std::alloc::Global;
 
 /// Reads a formula in QDIMACS 1.1 to the end of its source: the formula that the bytes spell, or the first fault
@@ -42,27 +39,9 @@ pub fn read_formula<S: Source>(alloc: Global, source: &mut S) -> Result<Formula,
     ensures failed { S.failures source.old < S.failures source.new → result ≡ Err (F1, 0) }
 {
     let mut scanner = Scanner::new(Comments::Qdimacs);
-    read_parts(alloc, &mut scanner, source)
-}
-
-/// The header, the sets and the clauses, in this order.
-fn read_parts<S: Source>(
-    alloc: Global,
-    scanner: &mut Scanner,
-    source: &mut S,
-) -> Result<Formula, Fault>
-    requires ready { IsReady scanner.old (S.remaining source.old) }
-    ensures gives { Gives result (reads_from AtP (left scanner.old (S.remaining source.old))) }
-    ensures rest { OnOk result (IsAtEnd (S.remaining source.new)) }
-    ensures source { IfErr result (λ e. e.0 ≡ F1
-        → S.failures source.old < 2 ^ 64 - 1 → S.failures source.old < S.failures source.new) }
-    ensures kept { IfErr result (λ e. e.0 ≢ F1 → S.failures source.new ≡ S.failures source.old) }
-    ensures line_1 { IfErr result (λ e. e.0 ≡ F1 → e.1 ≡ 0) }
-    ensures line_9 { IfErr result (λ e. e.0 ≡ F9 → e.1 ≡ 0) }
-    ensures works { OnOk result (S.failures source.new ≡ S.failures source.old) }
-{
-    let (max_var, count) = read_header(scanner, source)?;
-    let (prefix, first) = read_sets(alloc, scanner, source, max_var)?;
-    let formula = Formula::new(alloc, max_var, prefix);
-    read_clauses(alloc, scanner, source, count, formula, first)
+    let mut grammar = FormulaGrammar::new(alloc);
+    match read_by(&mut grammar, &mut scanner, source) {
+        Ok(()) => Ok(grammar.into_formula()),
+        Err(error) => Err(fault_of(error)),
+    }
 }

@@ -1,41 +1,12 @@
-//! What one token says at its place, and the next token of a source.
+//! What one token says at its place.
 
-ghost use Rattle.std.specs.Prelude.{◌≢◌, ◌-◌, ◌^◌, length, ◌<◌, ◌+◌, ◌≡◌, ◌≤◌, true, IfSome, IfOk, OnOk, IfErr};
+ghost use Rattle.std.specs.Prelude.{◌≡◌, ◌≤◌, true, IfSome, IfOk};
 ghost use Rattle.qbf_core.specs.Blocks.{pairs, IsBound};
-ghost use Rattle.qdimacs.specs.declared.fault.FormulaFault.TheVariants.{F1, F9};
-ghost use Rattle.std.specs.Io.KnownBytes.{IsAtEnd};
-ghost use Rattle.qbf_text.specs.Reading.{left, GivesNext, IsReady};
-ghost use Rattle.qbf_text.specs.Left.{is_end};
-ghost use Rattle.qbf_text.specs.Lined.{weight};
 ghost use Rattle.qdimacs.specs.Reading.{set_letter, clause_or_end, IsFull, is_p, is_cnf, header_fault, header_number, member, literal_in};
 
-use crate::fault::{Fault, FormulaFault};
-use qbf_core::{Formula, Lit, Quantifier, Var};
-use qbf_text::{Scanner, Source, Token, Word};
-
-/// The next token and its line, or F1 where the source failed.
-#[inline(always)]
-pub(crate) fn next<S: Source>(scanner: &mut Scanner, source: &mut S) -> Result<(Token, u64), Fault>
-    requires ready { IsReady scanner.old (S.remaining source.old) }
-    ensures gives { IfOk result (λ t.
-        GivesNext (left scanner.old (S.remaining source.old)) (left scanner.new (S.remaining source.new)) t) }
-    ensures fewer { IfOk result (λ t.
-        length scanner.new.pending + S.bound source.new + weight t.0 ≤ length scanner.old.pending + S.bound source.old) }
-    ensures end { IfOk result (λ t. is_end t.0 ≡ true → IsAtEnd (S.remaining source.new)) }
-    ensures failed { IfErr result (λ e. e ≡ (F1, 0)) }
-    ensures source { IfErr result (λ e. e.0 ≡ F1
-        → S.failures source.old < 2 ^ 64 - 1 → S.failures source.old < S.failures source.new) }
-    ensures kept { IfErr result (λ e. e.0 ≢ F1 → S.failures source.new ≡ S.failures source.old) }
-    ensures line_1 { IfErr result (λ e. e.0 ≡ F1 → e.1 ≡ 0) }
-    ensures line_9 { IfErr result (λ e. e.0 ≡ F9 → e.1 ≡ 0) }
-    ensures works { OnOk result (S.failures source.new ≡ S.failures source.old) }
-    ensures ready { OnOk result (IsReady scanner.new (S.remaining source.new)) }
-{
-    match scanner.next_token(source) {
-        Ok(token) => Ok(token),
-        Err(_) => Err((FormulaFault::F1, 0)),
-    }
-}
+use crate::fault::FormulaFault;
+use qbf_core::{Lit, Prefix, Quantifier, Var};
+use qbf_text::{Token, Word};
 
 /// What a token is that a header does not accept.
 pub(crate) fn header_fault(token: Token) -> FormulaFault
@@ -63,7 +34,8 @@ pub(crate) fn is_cnf(token: Token) -> bool
 
 /// A number of variables or of clauses.
 pub(crate) fn header_number(token: Token) -> Option<u32>
-    ensures { result ≡ header_number token }
+    ensures says { result ≡ header_number token }
+    ensures small { IfSome result (λ n. n ≤ 2147483647) }
 {
     match token {
         Token::Number {
@@ -100,15 +72,18 @@ pub(crate) fn member(max_var: u32, token: Token) -> Result<Option<Var>, FormulaF
 
 /// The literal that a token says in a clause, or `None` where it closes the clause.
 ///
-/// Where the prefix of the formula is `full`, no variable is looked up.
+/// Where the prefix is `full`, no variable is looked up.
+#[inline(always)]
 pub(crate) fn literal(
-    formula: &Formula,
+    prefix: &Prefix,
+    max_var: u32,
     full: bool,
     token: Token,
 ) -> Result<Option<Lit>, FormulaFault>
-    requires { full ≡ true → IsFull formula.now.max_var (pairs formula.now.blocks) }
-    ensures says { result ≡ literal_in formula.now.max_var (pairs formula.now.blocks) token }
-    ensures bound { IfOk result (λ o. IfSome o (λ l. IsBound formula.now.blocks l.var)) }
+    requires number { max_var ≤ 2147483647 }
+    requires full { full ≡ true → IsFull max_var (pairs prefix.now) }
+    ensures says { result ≡ literal_in max_var (pairs prefix.now) token }
+    ensures bound { IfOk result (λ o. IfSome o (λ l. IsBound prefix.now l.var)) }
 {
     match token {
         Token::Number {
@@ -120,8 +95,8 @@ pub(crate) fn literal(
             value: 0,
         } => Err(FormulaFault::F3),
         Token::Number { negative, value } => {
-            let var = Var::up_to(formula.max_var(), value).ok_or(FormulaFault::F4)?;
-            if full || formula.prefix().is_bound(var) {
+            let var = Var::up_to(max_var, value).ok_or(FormulaFault::F4)?;
+            if full || prefix.is_bound(var) {
                 Ok(Some(Lit::new(var, negative)))
             } else {
                 Err(FormulaFault::F6)
@@ -145,6 +120,7 @@ pub(crate) fn set_letter(token: Token) -> Option<Quantifier>
 }
 
 /// What a token says that begins no set: that a clause begins, or that all is read.
+#[inline(always)]
 pub(crate) fn clause_or_end(more: bool, token: Token) -> Result<bool, FormulaFault>
     ensures { result ≡ clause_or_end more token }
 {

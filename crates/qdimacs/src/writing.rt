@@ -12,6 +12,7 @@ use qbf_core::{Formula, Lit, Prefix, Quantifier};
 use qbf_text::{Sink, SinkFault, put_byte, put_bytes, put_signed, put_spaced};
 
 /// A literal and a blank.
+#[inline(always)]
 fn put_literal<K: Sink>(sink: &mut K, lit: Lit) -> Result<(), SinkFault>
     ensures { IsPut K.written K.failures sink.old sink.new (literal_text lit) result }
 {
@@ -20,6 +21,7 @@ fn put_literal<K: Sink>(sink: &mut K, lit: Lit) -> Result<(), SinkFault>
 }
 
 /// A clause and its zero.
+#[inline(always)]
 fn put_clause<K: Sink>(sink: &mut K, lits: &[Lit]) -> Result<(), SinkFault>
     ensures { IsPut K.written K.failures sink.old sink.new (clause_rest lits.now) result }
 {

@@ -1,7 +1,7 @@
 -- Steps in flat buffers.
-use Rattle.std.proofs.Common.{◌≡◌, ◌<◌, ℕ, zero, suc, List, [], ◌∷◌, ◌++◌, length, map, slice_get, Some, refl, ap, ◌∙◌, arith}
+use Rattle.std.proofs.Common.{◌≡◌, ◌<◌, ℕ, zero, suc, List, [], ◌∷◌, ◌++◌, length, slice_get, Some, refl, ap, arith}
 use Rattle.qbf_core.specs.Literal.{Literal}
-use Rattle.qrp.specs.Inferences.{Inference, IsAt, numbers}
+use Rattle.qrp.specs.Inferences.{Inference, IsAt}
 use Rattle.qrp.specs.Flat.{Body, body, bodies, numbered}
 
 -- ---- one more body
@@ -39,13 +39,6 @@ bodies_at (x ∷ lits) (y ∷ ants) zero b h =
 bodies_at (x ∷ lits) (y ∷ ants) (suc i) b h = bodies_at lits ants i b h
 
 -- ---- bodies with their numbers
-
-pub numbered_back : (steps : List Inference) → numbered (numbers steps) (map body steps) ≡ steps
-numbered_back [] = refl
-numbered_back (s ∷ steps) = ap (λ (rest : List Inference). s ∷ rest) (numbered_back steps)
-
-pub read_back : (steps : List Inference) (ns : List ℕ) (bodies : List Body) → ns ≡ numbers steps → bodies ≡ map body steps → numbered ns bodies ≡ steps
-read_back steps ns bodies same kept = (λ i. numbered (same i) (kept i)) ∙ numbered_back steps
 
 pub numbered_within : (ns : List ℕ) (bodies : List Body) (i : ℕ) → i < length (numbered ns bodies) → i < length bodies
 numbered_within [] bodies i less = absurd (omega arith)

@@ -5,8 +5,11 @@ pub mod Leads
 pub mod Complete
 pub mod TextMore
 pub mod Sound
-pub mod Goes
-pub mod Gathering
+pub mod Answered
 pub mod WritingMore
 pub mod Flats
 pub mod Counted
+pub mod Making
+pub mod Readings
+pub mod ItemRows
+pub mod Growing

@@ -1,5 +1,5 @@
 -- The parts of a canonical text, one after the other.
-use Rattle.std.proofs.Common.{◌≡◌, ℕ, Bool, List, [], ◌∷◌, ◌++◌, map, refl, ap, sym, ◌∙◌, append_assoc, append-nil, drop, drop-cons, get_or, length, suc, ◌<◌, ◌+◌, add-one}
+use Rattle.std.proofs.Common.{◌≡◌, ℕ, Bool, List, [], ◌∷◌, ◌++◌, map, refl, ap, sym, ◌∙◌, append_assoc, append-nil, drop, drop-cons, get_or, length, zero, suc, arith, ◌<◌, ◌+◌, add-one}
 use Rattle.std.specs.Prelude.{decimal}
 use Rattle.std.specs.Fmt.{digits}
 use Rattle.std.specs.List.{flat_map}
@@ -9,7 +9,7 @@ use Rattle.qbf_core.specs.Blocks.{Block}
 use Rattle.qbf_text.specs.declared.token.Token.{Token}
 use Rattle.qbf_text.specs.declared.token.Token.TheVariants as token
 use Rattle.qbf_text.specs.Canonical.{spaced, spelled, line_rest, line_text, lines_text}
-use Rattle.qrp.specs.Inferences.{Inference}
+use Rattle.qrp.specs.Inferences.{Inference, IsAt}
 use Rattle.qrp.specs.Derivations.{Derivation}
 use Rattle.qrp.specs.Grammar.{number, literal, letter, set, step, header, result, text}
 use Rattle.qrp.specs.Texts.{spaced_numbers, spaced_literal, spaced_literals, zero_text, closing, set_text, step_text, sets_text, steps_text}
@@ -21,6 +21,17 @@ pub parts_next : {X : Type 0} (f : X → List ℕ) (xs : List X) (i : ℕ) (x : 
 parts_next f xs i x lt is =
     let one : drop i xs ≡ x ∷ drop (i + 1) xs = rw (add-one) (drop-cons xs i x lt ∙ ap (λ (y : _). y ∷ drop (suc i) xs) (sym is)) in
     ap (flat_map f) one
+
+-- the rest of the steps, from place i on
+pub steps_next : (steps : List Inference) (i : ℕ) → i < length steps
+    → (step : Inference) × IsAt steps i step × (flat_map step_text (drop i steps) ≡ step_text step ++ flat_map step_text (drop (i + 1) steps))
+steps_next steps i less = rw (add-one) (from steps i less)
+  where
+    from : (steps : List Inference) (i : ℕ) → i < length steps
+        → (step : Inference) × IsAt steps i step × (flat_map step_text (drop i steps) ≡ step_text step ++ flat_map step_text (drop (suc i) steps))
+    from [] i less = absurd (omega arith)
+    from (s ∷ steps) zero less = (s, refl, refl)
+    from (s ∷ steps) (suc i) less = from steps i (omega arith)
 
 -- the same for numbers
 pub numbers_next : (ns : List ℕ) (i : ℕ) → i < length ns → spaced_numbers (drop i ns) ≡ spaced (get_or ns i 0) ++ spaced_numbers (drop (i + 1) ns)

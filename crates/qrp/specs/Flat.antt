@@ -1,7 +1,11 @@
 -- Steps that lie in flat buffers.
-use Rattle.std.specs.Prelude.{ℕ, List, [], ◌∷◌}
+use Rattle.std.specs.Prelude.{◌≡◌, ℕ, List, [], ◌∷◌, length}
+use Rattle.qbf_core.specs.Blocks.{Block}
 use Rattle.qbf_core.specs.Literal.{Literal}
+use Rattle.qrp.specs.declared.item.Header.{Header}
+use Rattle.qrp.specs.declared.item.Outcome.{Outcome}
 use Rattle.qrp.specs.Inferences.{Inference}
+use Rattle.qrp.specs.Kept.{IsKept}
 
 -- what a step has beside its number
 pub record Body : Type 0 where
@@ -23,3 +27,8 @@ abbrev pub bodies : List (List Literal) → List (List ℕ) → List Body
 bodies [] ants = []
 bodies (l ∷ lits) [] = []
 bodies (l ∷ lits) (a ∷ ants) = record { lits = l; ants = a } ∷ bodies lits ants
+
+-- the index has the number of each body, and the whole is well formed
+pub record IsFlat (header : Header) (sets : List Block) (index : List ℕ) (flat : List Body) (result : Outcome) : Type 0 where
+  pub kept : IsKept (record { header = header; sets = sets; steps = numbered index flat; result = result }) index
+  pub counted : length flat ≡ length index

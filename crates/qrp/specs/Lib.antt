@@ -10,3 +10,6 @@ pub mod Given
 pub mod Answers
 pub mod Texts
 pub mod Flat
+pub mod Making
+pub mod Places
+pub mod Items

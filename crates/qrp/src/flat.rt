@@ -1,20 +1,25 @@
 //! Traces whose steps lie in flat buffers.
 
-ghost use Rattle.std.specs.Prelude.{◌≡◌, ◌≢◌, ◌<◌, ◌-◌, ◌^◌, Some, Err, List, [], ◌∷◌, ◌++◌, length, map, slice_get, IfSome, OnOk, OnErr, IfErr};
+ghost use Rattle.std.specs.Prelude.{◌≡◌, ◌≢◌, ◌<◌, ◌≤◌, ◌-◌, ◌^◌, false, Some, Err, List, [], ◌∷◌, ◌++◌, length, map, slice_get, take, IfSome, OnOk, OnErr, IfErr};
+ghost use Rattle.std.specs.List.{AllByRecursion};
+ghost use Rattle.qbf_core.specs.Blocks.{IsVariable};
 ghost use Rattle.qbf_text.specs.Tokens.{tokens};
 ghost use Rattle.qbf_text.specs.declared.token.Comments.TheVariants.{Qrp};
 ghost use Rattle.qrp.specs.declared.fault.TraceFault.TheVariants.{P1, P9};
 ghost use Rattle.qrp.specs.Answers.{reads_bytes, Answers, Gives};
 ghost use Rattle.qrp.specs.Derivations.{IsWellFormed};
-ghost use Rattle.qrp.specs.Flat.{Body, body};
+ghost use Rattle.qrp.specs.Flat.{Body};
+ghost use Rattle.qrp.specs.Inferences.{IsLiteral, IsNumber, numbers};
+ghost use Rattle.qrp.specs.Making.{made, IsMade};
+ghost use Rattle.qrp.specs.Reading.{is_used};
 
-use crate::fault::Fault;
+use crate::fault::{Fault, fault_of};
+use crate::grammar::{Parts, TraceGrammar};
 use crate::index::StepIndex;
-use crate::item::{Header, Outcome, QuantSet, Step};
+use crate::item::{Header, Outcome, QuantSet};
 use crate::steps::Steps;
-use crate::whole::{Keeping, read_parts};
-use qbf_core::{Lists, Lit};
-use qbf_text::Source;
+use qbf_core::{Lists, Lit, Var};
+use qbf_text::{Comments, Scanner, Source, read_by};
 use std::alloc::{AllocError, Global};
 use std::marker::Model;
 
@@ -37,6 +42,7 @@ impl Model for FlatSteps {
 }
 
 impl FlatSteps {
+    /// No steps. It takes no memory.
     fn new(alloc: Global) -> FlatSteps
         ensures { result ≡ [] }
     {
@@ -46,7 +52,8 @@ impl FlatSteps {
         }
     }
 
-    /// Adds a step at the end. An `Err` changes nothing.
+    /// Adds a step at the end. An `Err` is want of memory, and changes nothing.
+    #[inline(always)]
     fn push(&mut self, lits: &[Lit], ants: &[u64]) -> Result<(), AllocError>
         ensures pushed { OnOk result (self.new ≡ self.old ++ record { lits = lits.now; ants = ants.now } ∷ []) }
         ensures err { OnErr result (self.new ≡ self.old) }
@@ -59,6 +66,14 @@ impl FlatSteps {
                 Err(refused)
             }
         }
+    }
+
+    /// Takes the last step away, if there is one.
+    fn pop(&mut self)
+        ensures { self.new ≡ take (length self.old - 1) self.old }
+    {
+        self.lits.pop();
+        self.ants.pop();
     }
 
     /// The literals of the step at place `i`.
@@ -78,18 +93,6 @@ impl FlatSteps {
     }
 }
 
-impl Keeping for FlatSteps {
-    ghost keeps = { λ kept steps. kept ≡ map body steps };
-
-    fn new(alloc: Global) -> Self {
-        FlatSteps::new(alloc)
-    }
-
-    fn keep(&mut self, step: Step) -> Result<(), AllocError> {
-        self.push(&step.lits, &step.ants)
-    }
-}
-
 /// A trace that keeps the literals of all its steps in one buffer and their antecedents in another.
 ///
 /// Contracts see the same value as of a `Trace`.
@@ -104,8 +107,7 @@ pub struct FlatTrace {
 
 impl Model for FlatTrace {
     ghost use Rattle.qrp.specs.Derivations.{Derivation};
-    ghost use Rattle.qrp.specs.Flat.{numbered};
-    ghost use Rattle.qrp.specs.Kept.{IsKept};
+    ghost use Rattle.qrp.specs.Flat.{numbered, IsFlat};
 
     ghost Value = { Derivation };
 
@@ -116,16 +118,69 @@ impl Model for FlatTrace {
       result = t.result;
     } };
 
-    ghost invariant = { λ t. IsKept
-        (record {
-          header = t.header;
-          sets = t.sets.items;
-          steps = numbered t.index t.steps;
-          result = t.result;
-        }) t.index };
+    ghost invariant = { λ t. IsFlat t.header t.sets.items t.index t.steps t.result };
+}
+
+/// Nothing is done here: the proof reads each variable, and so knows its range.
+fn know_variables(vars: &[Var])
+    ensures { AllByRecursion IsVariable vars.now }
+{
+    for var in vars {
+        let _number = var.number();
+    }
+}
+
+/// Nothing is done here: the proof reads each literal, and so knows its variable's range.
+fn know_literals(lits: &[Lit])
+    ensures { AllByRecursion IsLiteral lits.now }
+{
+    for lit in lits {
+        let _number = lit.var().number();
+    }
+}
+
+/// Nothing is done here: the proof reads each number, and so knows that it has 64 bits.
+fn know_numbers(numbers: &[u64])
+    ensures { AllByRecursion (λ n. n < 2 ^ 64) numbers.now }
+{
+    for number in numbers {
+        let _number = *number;
+    }
 }
 
 impl FlatTrace {
+    /// A trace with no sets and no steps. It takes no memory.
+    pub(crate) fn new(alloc: Global, header: Header, claim: Outcome) -> FlatTrace
+        ensures { result ≡ record { header = header; sets = []; steps = []; result = claim } }
+    {
+        FlatTrace {
+            header,
+            sets: Vec::new(alloc),
+            steps: FlatSteps::new(alloc),
+            result: claim,
+            index: StepIndex::new(alloc),
+        }
+    }
+
+    /// The trace that these parts make, with this result. It takes no memory.
+    pub(crate) fn whole(parts: Parts, outcome: Outcome) -> FlatTrace
+        requires { IsMade parts }
+        ensures { result ≡ record (made parts) { result = outcome } }
+    {
+        // The proof reads here that the numbers are distinct, and that they and their count have 64 bits.
+        let _count = parts.begun.index.len();
+        FlatTrace {
+            header: parts.header,
+            sets: parts.sets,
+            steps: FlatSteps {
+                lits: parts.begun.lits.into_lists(),
+                ants: parts.begun.ants.into_lists(),
+            },
+            result: outcome,
+            index: parts.begun.index,
+        }
+    }
+
     /// Its header, as written.
     pub fn header(&self) -> Header
         ensures value { result ≡ self.now.header }
@@ -146,6 +201,51 @@ impl FlatTrace {
         ensures { result ≡ self.now.result }
     {
         self.result
+    }
+
+    /// Adds a quantifier set at the end. An `Err` is want of memory, hands the set back and changes nothing.
+    pub(crate) fn push_set(&mut self, set: QuantSet) -> Result<(), QuantSet>
+        ensures pushed { OnOk result (self.new ≡ record self.old { sets = self.old.sets ++ set ∷ [] }) }
+        ensures given_back { IfErr result (λ back. back ≡ set) }
+        ensures err { OnErr result (self.new ≡ self.old) }
+    {
+        know_variables(&set.vars);
+        match self.sets.push(set) {
+            Ok(()) => Ok(()),
+            Err(refused) => Err(refused.value),
+        }
+    }
+
+    /// Adds a step at the end. An `Err` is want of memory, and changes nothing.
+    pub(crate) fn push_step(
+        &mut self,
+        number: u64,
+        lits: &[Lit],
+        ants: &[u64],
+    ) -> Result<(), AllocError>
+        requires number { IsNumber number }
+        requires fresh { is_used number (numbers self.old.steps) ≡ false }
+        requires ants { AllByRecursion IsNumber ants.now }
+        requires few { length ants.now ≤ 2 }
+        ensures pushed { OnOk result (self.new ≡ record self.old {
+          steps = self.old.steps ++ record { number = number; lits = lits.now; ants = ants.now } ∷ [];
+        }) }
+        ensures err { OnErr result (self.new ≡ self.old) }
+    {
+        know_literals(lits);
+        know_numbers(ants);
+        self.steps.push(lits, ants)?;
+        match self.index.push(number) {
+            Ok(()) => {
+                // The proof reads here that the count has 64 bits.
+                let _count = self.index.len();
+                Ok(())
+            }
+            Err(refused) => {
+                self.steps.pop();
+                Err(refused)
+            }
+        }
     }
 }
 
@@ -188,12 +288,10 @@ pub fn read_flat<S: Source>(alloc: Global, source: &mut S) -> Result<FlatTrace, 
     // Where the source failed, the call says so.
     ensures failed { S.failures source.old < S.failures source.new → result ≡ Err (P1, 0) }
 {
-    let parts = read_parts::<FlatSteps, S>(alloc, source)?;
-    Ok(FlatTrace {
-        header: parts.header,
-        sets: parts.sets,
-        steps: parts.steps,
-        result: parts.result,
-        index: parts.index,
-    })
+    let mut scanner = Scanner::new(Comments::Qrp);
+    let mut grammar = TraceGrammar::new(alloc);
+    match read_by(&mut grammar, &mut scanner, source) {
+        Ok(()) => Ok(grammar.into_trace()),
+        Err(error) => Err(fault_of(error)),
+    }
 }

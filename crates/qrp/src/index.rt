@@ -1,7 +1,7 @@
 //! The places of step numbers.
 
 ghost use Rattle.std.specs.Prelude.{◌≡◌, ℕ, ◌+◌, ◌^◌, ◌<◌, ◌⊎◌, false, [], ◌∷◌, ◌++◌, length, nat_eq, slice_get, Some, IfSome, IfNone, IsTrue, OnOk, OnErr};
-ghost use Rattle.std.specs.List.{IsDistinct};
+ghost use Rattle.std.specs.List.{AllByRecursion, IsDistinct};
 ghost use Rattle.qrp.specs.Kept.{AreStepNumbers};
 ghost use Rattle.qrp.specs.Reading.{is_used};
 
@@ -72,6 +72,7 @@ impl StepIndex {
     pub fn len(&self) -> usize
         ensures len { result ≡ length self.now }
         ensures distinct { IsDistinct nat_eq self.now }
+        ensures fit { AllByRecursion (λ n. n < 2 ^ 64) self.now }
     {
         self.counted + self.listed.len()
     }

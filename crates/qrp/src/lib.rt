@@ -3,15 +3,16 @@
 
 mod fault;
 mod flat;
+mod grammar;
 mod index;
 mod item;
+mod items;
 mod laws;
+mod places;
 mod reader;
-mod reading;
 mod steps;
 mod tokens;
 mod trace;
-mod whole;
 mod writing;
 
 pub use fault::TraceFault;

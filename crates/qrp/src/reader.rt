@@ -4,15 +4,18 @@ ghost use Rattle.std.specs.Prelude.{◌≡◌, ◌≢◌, ℕ, ◌<◌, ◌+◌,
 ghost use Rattle.qbf_text.specs.Tokens.{tokens};
 ghost use Rattle.qbf_text.specs.declared.token.Comments.TheVariants.{Qrp};
 ghost use Rattle.qrp.specs.declared.fault.TraceFault.TheVariants.{P1, P9};
-ghost use Rattle.qrp.specs.Given.{left_at, items_left, is_last, stage_after, numbers_with};
-ghost use Rattle.qrp.specs.Given.{GivesNextItem, IsDone, IsOver, IsProper, IsInStage};
-ghost use Rattle.qrp.specs.Reading.{items};
+ghost use Rattle.qbf_text.specs.Reading.{left, HasFailed};
+ghost use Rattle.qrp.specs.Given.{items_left, is_last, stage_after, numbers_with};
+ghost use Rattle.qrp.specs.Given.{GivesNextItem, IsDone, IsProper};
+ghost use Rattle.qrp.specs.Items.{Takes, Stands, GivesItem, IsItem, IsScanned, IsCounted};
+ghost use Rattle.qrp.specs.Parts.{known_items};
+ghost use Rattle.qrp.specs.Reading.{Place, items};
 
-use crate::fault::{Fault, TraceFault};
+use crate::fault::{Fault, TraceFault, fault_of};
 use crate::index::StepIndex;
 use crate::item::{Item, Outcome};
-use crate::reading::{header_item, list_item};
-use qbf_text::{Comments, Scanner, Source};
+use crate::items::ItemGrammar;
+use qbf_text::{Comments, Scanner, Source, read_by};
 use std::alloc::Global;
 use std::marker::Model;
 
@@ -36,39 +39,29 @@ fn stage_after(answer: &Result<Item, Fault>) -> Stage
     }
 }
 
-/// The answer of a reader that is so far.
-fn item_at<S: Source>(
-    stage: Stage,
+/// The next item, of a reader that is not done.
+#[inline(always)]
+fn read_item<S: Source>(
+    grammar: &mut ItemGrammar,
     alloc: Global,
     scanner: &mut Scanner,
-    index: &mut StepIndex,
     source: &mut S,
 ) -> Result<Item, Fault>
-    requires kept { IsInStage stage (record { scanner = scanner.old; numbers = index.old; stage = stage }) }
-    ensures gives { GivesNextItem
-        (left_at stage (record { scanner = scanner.old; numbers = index.old; stage = stage }) (S.remaining source.old))
-        (left_at (stage_after result) (record { scanner = scanner.new; numbers = index.new; stage = stage_after result })
-        (S.remaining source.new)) result }
-    ensures kept { IsInStage (stage_after result)
-        (record { scanner = scanner.new; numbers = index.new; stage = stage_after result }) }
-    ensures done { IsOver stage → (scanner.new ≡ scanner.old) × (index.new ≡ index.old) × (source.new ≡ source.old) }
-    ensures stays { IsOver stage → stage_after result ≡ stage }
-    ensures less { is_last result ≡ false →
-        length scanner.new.pending + S.bound source.new < length scanner.old.pending + S.bound source.old }
-    ensures proper { IfOk result (λ i. IsProper index.old i) }
-    ensures numbers { index.new ≡ numbers_with index.old result }
-    ensures source { ¬ IsOver stage → IfErr result (λ e. e.0 ≡ P1
-        → S.failures source.old < 2 ^ 64 - 1 → S.failures source.old < S.failures source.new) }
-    ensures fault { IfErr result (λ e. e.0 ≢ P1 → S.failures source.new ≡ S.failures source.old) }
-    ensures line_1 { IfErr result (λ e. e.0 ≡ P1 → e.1 ≡ 0) }
-    ensures line_9 { IfErr result (λ e. e.0 ≡ P9 → e.1 ≡ 0) }
-    ensures works { OnOk result (S.failures source.new ≡ S.failures source.old) }
+    requires ready { ¬ HasFailed scanner.old }
+    ensures gives { (p : Place) → grammar.old.giving ≡ Takes p →
+        GivesItem (known_items p (left scanner.old (S.remaining source.old)))
+        grammar.new.numbers (left scanner.new (S.remaining source.new)) result }
+    ensures stands { Stands (stage_after result) grammar.new }
+    ensures item { IsItem grammar.old.numbers grammar.new.numbers result }
+    ensures scanner { IsScanned scanner.new (length scanner.old.pending + S.bound source.old) (S.bound source.new) result }
+    ensures counts { IsCounted (S.failures source.old) (S.failures source.new) result }
 {
-    match stage {
-        Stage::AtHeader => header_item(scanner, source),
-        Stage::AtLists => list_item(alloc, scanner, index, source),
-        Stage::HasResult(outcome) => Ok(Item::Result(outcome)),
-        Stage::HasFault(fault, line) => Err((fault, line)),
+    match read_by(grammar, scanner, source) {
+        Ok(()) => match grammar.give(alloc) {
+            Ok(item) => Ok(item),
+            Err(_) => Err((TraceFault::P9, 0)),
+        },
+        Err(error) => Err(fault_of(error)),
     }
 }
 
@@ -79,18 +72,20 @@ fn item_at<S: Source>(
 pub struct TraceReader {
     alloc: Global,
     scanner: Scanner,
-    index: StepIndex,
+    grammar: ItemGrammar,
     stage: Stage,
 }
 
 impl Model for TraceReader {
     ghost use Rattle.qrp.specs.Given.{Position, IsInStage};
+    ghost use Rattle.qrp.specs.Items.{Stands};
 
     ghost Value = { Position };
 
-    ghost view = { λ r. record { scanner = r.scanner; numbers = r.index; stage = r.stage } };
+    ghost view = { λ r. record { scanner = r.scanner; numbers = r.grammar.numbers; stage = r.stage } };
 
-    ghost invariant = { λ r. IsInStage r.stage (record { scanner = r.scanner; numbers = r.index; stage = r.stage }) };
+    ghost invariant = { λ r. Stands r.stage r.grammar
+        × IsInStage r.stage (record { scanner = r.scanner; numbers = r.grammar.numbers; stage = r.stage }) };
 }
 
 impl TraceReader {
@@ -104,7 +99,7 @@ impl TraceReader {
         TraceReader {
             alloc,
             scanner: Scanner::new(Comments::Qrp),
-            index: StepIndex::new(alloc),
+            grammar: ItemGrammar::new(alloc),
             stage: Stage::AtHeader,
         }
     }
@@ -140,21 +135,21 @@ impl TraceReader {
         // Where the source failed, the call says so.
         ensures failed { S.failures source.old < S.failures source.new → result ≡ Err (P1, 0) }
     {
-        let answer = item_at(
-            self.stage,
-            self.alloc,
-            &mut self.scanner,
-            &mut self.index,
-            source,
-        );
-        self.stage = stage_after(&answer);
-        answer
+        match self.stage {
+            Stage::HasResult(outcome) => Ok(Item::Result(outcome)),
+            Stage::HasFault(fault, line) => Err((fault, line)),
+            Stage::AtHeader | Stage::AtLists => {
+                let answer = read_item(&mut self.grammar, self.alloc, &mut self.scanner, source);
+                self.stage = stage_after(&answer);
+                answer
+            }
+        }
     }
 
     /// The numbers of the steps that were given, in the order of the file. It takes no memory.
     pub fn into_index(self) -> StepIndex
         ensures { result ≡ self.numbers }
     {
-        self.index
+        self.grammar.into_index()
     }
 }

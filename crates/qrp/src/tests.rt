@@ -140,22 +140,28 @@ fn says_that_a_source_failed(rt: HostRuntime) {
     }
 }
 
+/// Reads up to the first fault, with ten items before it at most.
+fn first_fault(reader: &mut TraceReader, source: &mut PieceSource<'_>) -> Option<Fault> {
+    for _ in 0..11 {
+        if let Err(fault) = reader.next_item(source) {
+            return Some(fault);
+        }
+    }
+    None
+}
+
+/// Whether the next item is this fault.
+fn gives(reader: &mut TraceReader, source: &mut PieceSource<'_>, wanted: Fault) -> bool {
+    matches!(reader.next_item(source), Err(fault) if fault == wanted)
+}
+
 /// Reads up to the first fault, which three more calls give again, and they pull nothing.
 fn gives_for_good(rt: &impl Abort, alloc: Global, source: &mut PieceSource<'_>, wanted: Fault) {
     let mut reader = TraceReader::new(alloc);
-    let mut answer = reader.next_item(source);
-    for _ in 0..10 {
-        if answer.is_ok() {
-            answer = reader.next_item(source);
-        }
-    }
+    assert_eq!(rt; first_fault(&mut reader, source), Some(wanted));
     let pulls = source.pulls();
-    assert!(rt;
-        matches!(answer, Err(fault) if fault == wanted),
-        "{wanted:?}"
-    );
     for _ in 0..3 {
-        assert!(rt; matches!(reader.next_item(source), Err(fault) if fault == wanted));
+        assert!(rt; gives(&mut reader, source, wanted), "{wanted:?}");
     }
     assert_eq!(rt; source.pulls(), pulls);
 }

@@ -1,20 +1,23 @@
 //! Writing the canonical text of a trace.
 
-ghost use Rattle.std.specs.Prelude.{◌≡◌, Ok};
+ghost use Rattle.std.specs.Prelude.{◌≡◌, ◌<◌, Ok, length};
 ghost use Rattle.qbf_text.specs.Canonical.{line_text};
 ghost use Rattle.qbf_text.specs.Written.{IsPut};
 ghost use Rattle.qrp.specs.Grammar.{header, result as result_line, text};
+ghost use Rattle.qrp.specs.Inferences.{Inference, IsAt};
 ghost use Rattle.qrp.specs.Reading.{read_trace};
 ghost use Rattle.qrp.specs.Texts.{spaced_numbers, spaced_literal, spaced_literals};
 ghost use Rattle.qrp.specs.Texts.{set_text, step_text, sets_text, steps_text};
 
-use crate::item::{Header, Outcome, QuantSet, Step};
+use crate::item::{Header, Outcome, QuantSet};
+use crate::steps::Steps;
 use crate::trace::Trace;
 use qbf_core::{Lit, Var};
 use qbf_text::{Sink, SinkFault, put_byte, put_bytes, put_number, put_signed, put_spaced};
 
 // ---- a literal
 
+#[inline(always)]
 fn put_literal<K: Sink>(sink: &mut K, lit: Lit) -> Result<(), SinkFault>
     ensures { IsPut K.written K.failures sink.old sink.new (spaced_literal lit) result }
 {
@@ -22,6 +25,7 @@ fn put_literal<K: Sink>(sink: &mut K, lit: Lit) -> Result<(), SinkFault>
     put_signed(sink, lit.is_negative(), u64::from(lit.var().number()))
 }
 
+#[inline(always)]
 fn put_literals<K: Sink>(sink: &mut K, lits: &[Lit]) -> Result<(), SinkFault>
     ensures { IsPut K.written K.failures sink.old sink.new (spaced_literals lits.now) result }
 {
@@ -33,6 +37,7 @@ fn put_literals<K: Sink>(sink: &mut K, lits: &[Lit]) -> Result<(), SinkFault>
 
 // ---- numbers
 
+#[inline(always)]
 fn put_numbers<K: Sink>(sink: &mut K, numbers: &[u64]) -> Result<(), SinkFault>
     ensures { IsPut K.written K.failures sink.old sink.new (spaced_numbers numbers.now) result }
 {
@@ -72,21 +77,23 @@ fn put_sets<K: Sink>(sink: &mut K, sets: &[QuantSet]) -> Result<(), SinkFault>
 
 // ---- a step
 
-fn put_step<K: Sink>(sink: &mut K, step: &Step) -> Result<(), SinkFault>
-    ensures { IsPut K.written K.failures sink.old sink.new (step_text step.now) result }
+#[inline(always)]
+fn put_step<K: Sink>(sink: &mut K, trace: &Trace, place: usize) -> Result<(), SinkFault>
+    requires { place < length trace.now.steps }
+    ensures { (step : Inference) → IsAt trace.now.steps place step → IsPut K.written K.failures sink.old sink.new (step_text step) result }
 {
-    put_number(sink, step.number)?;
-    put_literals(sink, &step.lits)?;
+    put_number(sink, trace.number(place))?;
+    put_literals(sink, trace.lits(place))?;
     put_bytes(sink, b" 0")?;
-    put_numbers(sink, &step.ants)?;
+    put_numbers(sink, trace.ants(place))?;
     put_bytes(sink, b" 0\n")
 }
 
-fn put_steps<K: Sink>(sink: &mut K, steps: &[Step]) -> Result<(), SinkFault>
-    ensures { IsPut K.written K.failures sink.old sink.new (steps_text steps.now) result }
+fn put_steps<K: Sink>(sink: &mut K, trace: &Trace) -> Result<(), SinkFault>
+    ensures { IsPut K.written K.failures sink.old sink.new (steps_text trace.now.steps) result }
 {
-    for step in steps {
-        put_step(sink, step)?;
+    for place in 0..trace.len() {
+        put_step(sink, trace, place)?;
     }
     Ok(())
 }
@@ -125,6 +132,6 @@ pub fn write_trace<K: Sink>(trace: &Trace, sink: &mut K) -> Result<(), SinkFault
 {
     put_header(sink, trace.header())?;
     put_sets(sink, trace.sets())?;
-    put_steps(sink, trace.steps())?;
+    put_steps(sink, trace)?;
     put_result(sink, trace.result())
 }

@@ -13,9 +13,9 @@ ghost use Rattle.qrp_check.specs.Proof.{Derives, Proves, IsFirstFault};
 ghost use Rattle.qrp_check.specs.Verdict.{is_sat};
 
 use crate::agree::sets_fault;
-use crate::clause_index::InitialClauses;
 use crate::fault::CheckFault;
 use crate::goal::find_goal;
+use crate::initial_steps::InitialSteps;
 use crate::marks::{mark_core, marked_places};
 use crate::side::{Clauses, Cubes, Side};
 use crate::step::{StepFault, step_set};
@@ -52,13 +52,13 @@ fn follow_core<S: Side, T: Steps>(
 {
     // A list for each step so far: the set of a marked one that is not in order as written, or nothing.
     let mut kept = Lists::new(alloc);
-    let mut clauses = InitialClauses::new();
+    let mut starts = InitialSteps::new();
     for place in 0..trace.len() {
         if !marks[place] {
             keep(&mut kept, &[])?;
             continue;
         }
-        match step_set::<S, T>(alloc, formula, trace, place, &kept, &mut clauses, rules) {
+        match step_set::<S, T>(alloc, formula, trace, place, &kept, &mut starts, rules) {
             Ok(set) => keep(&mut kept, shown(&set, &[]))?,
             Err(StepFault::Rule(fault)) => return Err(CheckFault::C6(trace.number(place), fault)),
             Err(StepFault::Memory) => return Err(CheckFault::C5),

@@ -52,25 +52,6 @@ pub(crate) fn has_reduct(
     }
 }
 
-/// Why the set is no initial clause.
-pub(crate) fn initial_clause_fault(
-    alloc: Global,
-    formula: &Formula,
-    set: &[Lit],
-) -> Result<Option<RuleFault>, AllocError>
-    requires { IsOrdered set.now }
-    ensures { IfOk result (λ fault. IsAnswer (initial_condition Clauses formula.now set.now ∷ []) fault) }
-{
-    // Its contract says that the clauses are bound.
-    let _closed = formula.max_var();
-    for i in 0..formula.clauses() {
-        if has_reduct(alloc, formula.prefix(), formula.clause(i), set)? {
-            return Ok(None);
-        }
-    }
-    Ok(Some(RuleFault::S4))
-}
-
 /// Whether a clause as written has a literal of the set.
 fn shares(clause: &[Lit], set: &[Lit]) -> bool
     requires { IsOrdered set.now }
@@ -97,7 +78,7 @@ fn is_among(clause: &[Lit], lit: Lit) -> bool
 }
 
 /// Whether a clause as written holds a variable with both signs.
-fn is_tautology(clause: &[Lit]) -> bool
+pub(crate) fn is_tautology(clause: &[Lit]) -> bool
     ensures { IsTrue result ↔ IsTautology clause.now }
 {
     for lit in clause {

@@ -7,8 +7,10 @@ ghost use Rattle.qrp.specs.Inferences.{IsAt};
 ghost use Rattle.qrp_check.specs.Trim.{trimmed};
 
 use crate::verdict::Verified;
-use qrp::{Header, QuantSet, Step, Steps, Trace};
+use qbf_core::Lit;
+use qrp::{Header, QuantSet, Steps, Trace};
 use std::alloc::{AllocError, Global};
+use std::marker::Model;
 
 /// Another set with the same variables.
 fn copy_set(alloc: Global, set: &QuantSet) -> Result<QuantSet, AllocError>
@@ -20,16 +22,32 @@ fn copy_set(alloc: Global, set: &QuantSet) -> Result<QuantSet, AllocError>
     })
 }
 
-/// Another step as the one at a place.
-fn copy_step(alloc: Global, trace: &Trace, place: usize) -> Result<Step, AllocError>
+/// A step, lent from the trace that keeps it. Contracts see an `Inference`.
+#[derive(Drop)]
+struct LentStep<'a> {
+    number: u64,
+    lits: &'a [Lit],
+    ants: &'a [u64],
+}
+
+impl<'a> Model for LentStep<'a> {
+    ghost use Rattle.qrp.specs.Inferences.{Inference};
+
+    ghost Value = { Inference };
+
+    ghost view = { λ s. record { number = s.number; lits = s.lits.now; ants = s.ants.now } };
+}
+
+/// The step at a place.
+fn step_at(trace: &Trace, place: usize) -> LentStep<'_>
     requires { place < length trace.now.steps }
-    ensures { IfOk result (λ copy. IsAt trace.now.steps place copy) }
+    ensures { IsAt trace.now.steps place result }
 {
-    Ok(Step {
+    LentStep {
         number: trace.number(place),
-        lits: Vec::from_slice(alloc, trace.lits(place))?,
-        ants: Vec::from_slice(alloc, trace.ants(place))?,
-    })
+        lits: trace.lits(place),
+        ants: trace.ants(place),
+    }
 }
 
 /// Adds copies of sets at the end of a trace.
@@ -66,11 +84,8 @@ pub fn trim(alloc: Global, trace: &Trace, verified: &Verified) -> Result<Trace, 
     let mut shorter = Trace::new(alloc, header, trace.result());
     push_sets(alloc, &mut shorter, trace.sets())?;
     for place in &verified.core {
-        let copy = copy_step(alloc, trace, *place)?;
-        match shorter.push_step(copy) {
-            Ok(()) => {}
-            Err(_) => return Err(AllocError),
-        }
+        let step = step_at(trace, *place);
+        shorter.push_lists(step.number, step.lits, step.ants)?;
     }
     Ok(shorter)
 }

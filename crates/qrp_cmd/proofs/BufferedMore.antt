@@ -4,6 +4,7 @@ use Rattle.std.proofs.lemmas.Grind.{common_steps}
 use Rattle.std.proofs.lemmas.List.{drop-take, drop-drop, drop-append-le}
 use Rattle.std.proofs.lemmas.Slice.{take-put_mid}
 use Rattle.std.specs.Io.KnownBytes.{append_known, Appends, Keeps}
+use Rattle.std.proofs.Math.ListN.{take-append-drop}
 use borrow.Rule.Slice.PartMut.{put_mid}
 
 abbrev pub part : List ℕ → ℕ → ℕ → List ℕ
@@ -30,6 +31,18 @@ part_append bytes more start end room k order inside long =
     ∙ ap (drop start) (take-put_mid end room bytes more (end + k) (omega (arith, long)) inside)
     ∙ drop-append-le start (take end bytes) more short
     ∙ ap (λ xs. xs ++ more) (part_from bytes start (end - start) end (omega arith))
+
+-- digits put from the end on, whatever stands behind them
+pub part_put : (old new ds rest : List ℕ) (start at : ℕ) → start ≤ at → at ≤ length old → take at new ≡ take at old → drop at new ≡ ds ++ rest
+    → part new start (at + length ds) ≡ part old start at ++ ds
+part_put old new ds rest start at order inside before written =
+    let split : new ≡ take at old ++ (ds ++ rest) = sym (take-append-drop at new) ∙ (λ i. before i ++ written i) in
+    let front : take (at + length ds) new ≡ take at old ++ ds = rw split (grind (arith, common_steps, inside)) in
+    let short : start ≤ length (take at old) = grind (arith, common_steps) in
+    sym (part_from new start (at + length ds - start) (at + length ds) (omega arith))
+    ∙ ap (drop start) front
+    ∙ drop-append-le start (take at old) ds short
+    ∙ ap (λ xs. xs ++ ds) (part_from old start (at - start) at (omega arith))
 
 -- a sink took the front of what was held back
 pub known_sent : (a b : Option (List ℕ)) (held : List ℕ) (n : ℕ) → Appends a b (take n held)

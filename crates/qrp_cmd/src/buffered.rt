@@ -1,13 +1,18 @@
 //! A buffer before a sink.
 
-ghost use Rattle.std.specs.Prelude.{◌≡◌, ℕ, ◌+◌, ◌-◌, ◌<◌, ◌≤◌, List, [], ◌++◌, length, take, drop, ◌^◌, true, false, IfOk, OnOk, OnErr};
+ghost use Rattle.std.specs.Prelude.{◌≡◌, ℕ, ◌+◌, ◌-◌, ◌<◌, ◌≤◌, List, [], ◌++◌, length, take, drop, ◌^◌, true, false, decimal, IfOk, OnOk, OnErr};
 ghost use Rattle.std.specs.Io.KnownBytes.{append_known, Keeps, WriteAppends};
+ghost use Rattle.qbf_text.specs.Written.{IsPut};
 
+use crate::digits::put_digits;
 use qbf_text::{Sink, SinkFault};
 use std::marker::Model;
 
 /// How many bytes are held back at most.
 const ROOM: usize = 8192;
+
+/// How many digits a number has at most.
+const LONGEST: usize = 20;
 
 /// The bytes that are held back.
 #[derive(Drop)]
@@ -64,6 +69,30 @@ impl Held {
         self.bytes[self.end..end].copy_from_slice(bytes);
         self.end = end;
         true
+    }
+
+    /// Adds the digits of a number where there is room for any number, and answers whether there was.
+    #[inline(always)]
+    fn append_number(&mut self, n: u64) -> bool
+        ensures all { result ≡ true → self.new ≡ self.old ++ decimal n }
+        ensures none { result ≡ false → self.new ≡ self.old }
+    {
+        if ROOM - self.end < LONGEST {
+            return false;
+        }
+        let end = put_digits(&mut self.bytes, self.end, n);
+        self.end = end;
+        true
+    }
+
+    /// Holds the digits of a number back where nothing is held.
+    fn begin_with(&mut self, n: u64)
+        requires { self.old ≡ [] }
+        ensures { self.new ≡ decimal n }
+    {
+        let end = put_digits(&mut self.bytes, 0, n);
+        self.start = 0;
+        self.end = end;
     }
 
     /// Adds bytes from the front, as far as there is room, and answers how many.
@@ -134,6 +163,17 @@ impl<S: Sink> Buffered<S> {
         self.send_on()?;
         Ok(self.held.append_some(bytes))
     }
+
+    /// Sends on what is held back, and then holds the digits of a number back.
+    #[cold]
+    #[inline(never)]
+    fn push_number_behind(&mut self, n: u64) -> Result<(), SinkFault>
+        ensures { IsPut (⟦<Buffered<S> as Sink>⟧.written) (⟦<Buffered<S> as Sink>⟧.failures) self.old self.new (decimal n) result }
+    {
+        self.send_on()?;
+        self.held.begin_with(n);
+        Ok(())
+    }
 }
 
 impl<S: Sink> Sink for Buffered<S> {
@@ -149,6 +189,14 @@ impl<S: Sink> Sink for Buffered<S> {
             return Ok(bytes.len());
         }
         self.push_behind(bytes)
+    }
+
+    #[inline(always)]
+    fn push_number(&mut self, n: u64) -> Result<(), SinkFault> {
+        if self.held.append_number(n) {
+            return Ok(());
+        }
+        self.push_number_behind(n)
     }
 
     fn finish(&mut self) -> Result<(), SinkFault> {

@@ -6,6 +6,7 @@ ghost use Rattle.std.specs.Vec.Iter.{into_iter_items};
 ghost use Rattle.qrp_cmd.specs.declared.start.Start.TheVariants.{NoMemory, Usage};
 
 mod buffered;
+mod digits;
 mod job;
 mod open;
 mod program;

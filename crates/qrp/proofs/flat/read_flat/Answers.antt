@@ -1,29 +1,27 @@
 use Rattle.std.proofs.Common.{Ok, Err}
-use Rattle.std.proofs.lemmas.Result.{err_from_is_err_and}
-use Rattle.qrp.proofs.Gathering.{answered_bytes}
-use Rattle.qrp.proofs.Flats.{read_back}
-use Rattle.qrp.specs.Flat.{numbered}
+use Rattle.qbf_text.specs.Reading.{left}
+use Rattle.qbf_text.specs.Tokens.{tokens}
+use Rattle.qbf_text.specs.declared.token.Comments.TheVariants.{Qrp}
+use Rattle.qbf_text.proofs.Going.{answers}
+use Rattle.qrp.specs.Making.{trace_row}
+use Rattle.qrp.proofs.Answered.{answered_bytes}
+use Rattle.qrp.proofs.Readings.{whole_read, fault_read}
 use Rattle.qrp.proofs.flat.read_flat.Goals as goal
 
-pub returns-in_err-parts-clause-reads : goal.returns-in_err-parts-clause-reads
-returns-in_err-parts-clause-reads g c =
-    let p = err_from_is_err_and c.from_residual.result c.from_residual.ensures.1 in
-    rw (p.1, p.2) (answered_bytes (g.S.Source.remaining c.args.source.now) (Err c.in_err-parts.field-0.0) c.in_err-parts.ensures.refuses)
+pub returns-in-Ok-clause-exact : goal.returns-in-Ok-clause-exact
+returns-in-Ok-clause-exact g c =
+    whole_read c.new-grammar.result c.read_by.new.grammar c.into_trace.result c.new-grammar.ensures c.into_trace.ensures (g.S.Source.remaining c.args.source.now)
+    (answers trace_row c.new-grammar.result c.read_by.new.grammar c.new-scanner.result (tokens Qrp) c.new-scanner.ensures.left (g.S.Source.remaining c.args.source.now)
+    (left c.read_by.new.scanner (g.S.Source.remaining c.read_by.new.source)) (Ok tt) c.in-Ok.ensures.reads)
 
-pub invariant_of-result : goal.invariant_of-result
-invariant_of-result g c =
-    let read = c.in_ok-parts.ensures.read in
-    rw (read_back read.steps c.in_ok-parts.parts.index c.in_ok-parts.parts.steps read.same read.kept) (record { same = read.same; well_formed = read.well_formed })
+pub returns-in-Ok-clause-reads : goal.returns-in-Ok-clause-reads
+returns-in-Ok-clause-reads g c = answered_bytes (g.S.Source.remaining c.args.source.now) (Ok c.into_trace.result) (returns-in-Ok-clause-exact g c)
 
-pub returns-clause-reads : goal.returns-clause-reads
-returns-clause-reads g c =
-    let parts = c.in_ok-parts.parts in
-    let read = c.in_ok-parts.ensures.read in
-    answered_bytes (g.S.Source.remaining c.args.source.now) (Ok (record { header = parts.header; sets = parts.sets.items; steps = numbered parts.index parts.steps; result = parts.result }))
-    (rw (read_back read.steps parts.index parts.steps read.same read.kept) read.gives)
+pub returns-in-Err-clause-exact : goal.returns-in-Err-clause-exact
+returns-in-Err-clause-exact g c = rw c.fault_of.ensures (
+    fault_read c.new-grammar.result c.read_by.new.grammar c.in-Err.error c.new-grammar.ensures (g.S.Source.remaining c.args.source.now)
+    (answers trace_row c.new-grammar.result c.read_by.new.grammar c.new-scanner.result (tokens Qrp) c.new-scanner.ensures.left (g.S.Source.remaining c.args.source.now)
+    (left c.read_by.new.scanner (g.S.Source.remaining c.read_by.new.source)) (Err c.in-Err.error) c.in-Err.ensures.reads))
 
-pub returns-clause-exact : goal.returns-clause-exact
-returns-clause-exact g c =
-    let parts = c.in_ok-parts.parts in
-    let read = c.in_ok-parts.ensures.read in
-    rw (read_back read.steps parts.index parts.steps read.same read.kept) read.gives
+pub returns-in-Err-clause-reads : goal.returns-in-Err-clause-reads
+returns-in-Err-clause-reads g c = answered_bytes (g.S.Source.remaining c.args.source.now) (Err c.fault_of.result) (returns-in-Err-clause-exact g c)

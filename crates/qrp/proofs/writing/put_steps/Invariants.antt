@@ -4,7 +4,7 @@ use Rattle.qrp.specs.Texts.{step_text}
 use Rattle.qbf_text.specs.Written.{IsSent}
 use Rattle.qrp.proofs.writing.put_steps.Given as goal
 
-abbrev pub invariant-loop-step : goal.invariant-loop-step
-invariant-loop-step g l = record {
-  sent : IsSent g.K.Sink.written g.K.Sink.failures l.fn.sink l.sink (flat_map step_text l.steps) (flat_map step_text (drop l.step-index l.steps));
+abbrev pub invariant-loop-place : goal.invariant-loop-place
+invariant-loop-place g l = record {
+  sent : IsSent g.K.Sink.written g.K.Sink.failures l.fn.sink l.sink (flat_map step_text l.trace.steps) (flat_map step_text (drop l.place l.trace.steps));
 }

@@ -20,7 +20,7 @@ loop-place-preserved-then-not-marks-place g c =
       follows = below_more
           (λ (j : ℕ). IsInCore (g.T.Steps.steps c.args.trace.now) j → StepFollows c.args.rules g.S.Side.side c.args.formula.now (g.T.Steps.steps c.args.trace.now) j)
           i c.loop-place.invariant.follows (λ core. absurd (apart core));
-      indexed = c.loop-place.invariant.indexed;
+      known = c.loop-place.invariant.known;
       kept = subst (λ (ks : List (List Literal)). AreKept c.args.formula.now.blocks (g.T.Steps.steps c.args.trace.now) (i + 1) ks) (sym c.in_ok-keep.ensures.kept)
           (kept_skip c.args.formula.now.blocks (g.T.Steps.steps c.args.trace.now) i c.loop-place.kept [] apart c.loop-place.invariant.kept);
     }
@@ -55,7 +55,7 @@ loop-place-preserved g c =
       follows = below_more
           (λ (j : ℕ). IsInCore (g.T.Steps.steps c.args.trace.now) j → StepFollows c.args.rules g.S.Side.side c.args.formula.now (g.T.Steps.steps c.args.trace.now) j)
           i c.loop-place.invariant.follows (λ core. c.in-Ok.ensures.follows);
-      indexed = c.in-Ok.ensures.clauses;
+      known = c.in-Ok.ensures.known;
       kept = subst (λ (ks : List (List Literal)). AreKept c.args.formula.now.blocks (g.T.Steps.steps c.args.trace.now) (i + 1) ks) (sym c.in_ok-keep-in-Ok.ensures.kept)
           (kept_push c.args.formula.now.blocks (g.T.Steps.steps c.args.trace.now) i c.loop-place.kept c.shown.result.now
           (λ step here. subst (λ (z : List Literal). IsEntry c.args.formula.now.blocks z step.lits) (sym c.shown.ensures) (c.in-Ok.ensures.set step here)) c.loop-place.invariant.kept);

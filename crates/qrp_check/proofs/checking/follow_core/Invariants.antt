@@ -1,13 +1,13 @@
 use Rattle.std.proofs.Common.{ℕ, ◌<◌}
 use Rattle.qrp_check.specs.Core.{IsInCore}
 use Rattle.qrp_check.specs.Conditions.{StepFollows}
-use Rattle.qrp_check.specs.Index.{IsIndexed}
+use Rattle.qrp_check.specs.Initial.{AreKnown}
 use Rattle.qrp_check.specs.Kept.{AreKept}
 use Rattle.qrp_check.proofs.checking.follow_core.Given as goal
 
 abbrev pub invariant-loop-place : goal.invariant-loop-place
 invariant-loop-place g l = record {
   follows : (j : ℕ) → j < l.place → IsInCore (g.T.Steps.steps l.trace) j → StepFollows l.rules g.S.Side.side l.formula (g.T.Steps.steps l.trace) j;
-  indexed : IsIndexed l.formula l.clauses;
+  known : AreKnown l.formula l.starts;
   kept : AreKept l.formula.blocks (g.T.Steps.steps l.trace) l.place l.kept;
 }

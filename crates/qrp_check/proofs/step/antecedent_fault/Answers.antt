@@ -17,13 +17,13 @@ unreachable-requires g c =
     omega (arith, few, same, c.in_default.len_at_least)
 
 pub returns-in-empty-clause-fault : goal.returns-in-empty-clause-fault
-returns-in-empty-clause-fault g c = IfOk-weaker c.initial_fault.result
+returns-in-empty-clause-fault g c = IfOk-weaker c.fault.result
     (λ (fault : Option RuleFault). IsAnswer (initial_condition g.S.Side.side c.args.formula.now c.args.set.now ∷ []) fault)
     (λ (fault : Option RuleFault). (step : Inference) → IsAt (g.T.Steps.steps c.args.trace.now) c.args.place step
     → IsAnswer (later_conditions c.args.rules g.S.Side.side c.args.formula.now (take c.args.place (g.T.Steps.steps c.args.trace.now)) step) fault)
     (λ fault a step here. no_antecedent c.args.rules g.S.Side.side c.args.formula.now _ step c.args.set.now fault
     (sym (c.ants.ensures step here) ∙ none_listed c.ants.result.now c.in-empty.len_below) (c.requires.set step here) a)
-    c.initial_fault.ensures.fault
+    c.fault.ensures.fault
 
 pub returns-in-len1-clause-fault : goal.returns-in-len1-clause-fault
 returns-in-len1-clause-fault g c = λ step here.

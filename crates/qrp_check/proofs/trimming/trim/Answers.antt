@@ -15,37 +15,47 @@ kept_steps d core steps = record d {
   steps = steps;
 }
 
-pub push_step-requires-clause-number : goal.push_step-requires-clause-number
-push_step-requires-clause-number c =
-    (at_holds IsInference c.args.trace.now.steps _ c.in_ok-copy.copy c.header.ensures.sound.grammatical.inferences c.in_ok-copy.ensures).number
+pub push_lists-requires-clause-number : goal.push_lists-requires-clause-number
+push_lists-requires-clause-number c =
+    let step : Inference = record { number = c.step.inside.number; lits = c.step.inside.lits.now; ants = c.step.inside.ants.now } in
+    let at : IsAt c.args.trace.now.steps _ step = rw (← c.step.view_is) at c.step_at-step.ensures in
+    (at_holds IsInference c.args.trace.now.steps _ step c.header.ensures.sound.grammatical.inferences at).number
 
-pub push_step-requires-clause-ants : goal.push_step-requires-clause-ants
-push_step-requires-clause-ants c =
-    (at_holds IsInference c.args.trace.now.steps _ c.in_ok-copy.copy c.header.ensures.sound.grammatical.inferences c.in_ok-copy.ensures).ants
+pub push_lists-requires-clause-ants : goal.push_lists-requires-clause-ants
+push_lists-requires-clause-ants c =
+    let step : Inference = record { number = c.step.inside.number; lits = c.step.inside.lits.now; ants = c.step.inside.ants.now } in
+    let at : IsAt c.args.trace.now.steps _ step = rw (← c.step.view_is) at c.step_at-step.ensures in
+    (at_holds IsInference c.args.trace.now.steps _ step c.header.ensures.sound.grammatical.inferences at).ants
 
-pub push_step-requires-clause-few : goal.push_step-requires-clause-few
-push_step-requires-clause-few c =
-    (at_holds IsInference c.args.trace.now.steps _ c.in_ok-copy.copy c.header.ensures.sound.grammatical.inferences c.in_ok-copy.ensures).few
+pub push_lists-requires-clause-few : goal.push_lists-requires-clause-few
+push_lists-requires-clause-few c =
+    let step : Inference = record { number = c.step.inside.number; lits = c.step.inside.lits.now; ants = c.step.inside.ants.now } in
+    let at : IsAt c.args.trace.now.steps _ step = rw (← c.step.view_is) at c.step_at-step.ensures in
+    (at_holds IsInference c.args.trace.now.steps _ step c.header.ensures.sound.grammatical.inferences at).few
 
-pub push_step-requires-clause-fresh : goal.push_step-requires-clause-fresh
-push_step-requires-clause-fresh c =
+pub push_lists-requires-clause-fresh : goal.push_lists-requires-clause-fresh
+push_lists-requires-clause-fresh c =
+    let step : Inference = record { number = c.step.inside.number; lits = c.step.inside.lits.now; ants = c.step.inside.ants.now } in
+    let at : IsAt c.args.trace.now.steps _ step = rw (← c.step.view_is) at c.step_at-step.ensures in
     let core : List ℕ = c.args.verified.now.core.items in
     let steps : List Inference = c.args.trace.now.steps in
-    let here = subst (λ (ps : List ℕ). IsAt steps (get_or ps c.loop-place.place-index 0) c.in_ok-copy.copy) c.deref-place-items.ensures.value c.in_ok-copy.ensures in
+    let here = subst (λ (ps : List ℕ). IsAt steps (get_or ps c.loop-place.place-index 0) step) c.deref-place-items.ensures.value at in
     let steps_of : Derivation → List Inference = λ d. d.steps in
-    subst (λ (ss : List Inference). is_used c.in_ok-copy.copy.number (numbers ss) ≡ false) (sym (ap steps_of c.loop-place.invariant))
-    (fresh_at steps core c.loop-place.place-index c.in_ok-copy.copy (own_numbers steps c.header.ensures.sound.grammatical.distinct) c.requires.rises
+    subst (λ (ss : List Inference). is_used step.number (numbers ss) ≡ false) (sym (ap steps_of c.loop-place.invariant))
+    (fresh_at steps core c.loop-place.place-index step (own_numbers steps c.header.ensures.sound.grammatical.distinct) c.requires.rises
     (omega (arith, c.loop-place-test.true, ap (λ (ps : List ℕ). length ps) c.deref-place-items.ensures.value)) here)
 
 pub loop-place-preserved : goal.loop-place-preserved
 loop-place-preserved c =
+    let step : Inference = record { number = c.step.inside.number; lits = c.step.inside.lits.now; ants = c.step.inside.ants.now } in
+    let at : IsAt c.args.trace.now.steps _ step = rw (← c.step.view_is) at c.step_at-step.ensures in
     let core : List ℕ = c.args.verified.now.core.items in
     let steps : List Inference = c.args.trace.now.steps in
-    let here = subst (λ (ps : List ℕ). IsAt steps (get_or ps c.loop-place.place-index 0) c.in_ok-copy.copy) c.deref-place-items.ensures.value c.in_ok-copy.ensures in
-    let one_more : Derivation → Derivation = λ d. record d { steps = d.steps ++ c.in_ok-copy.copy ∷ [] } in
-    c.in-Ok.ensures.pushed ∙ ap one_more c.loop-place.invariant
+    let here = subst (λ (ps : List ℕ). IsAt steps (get_or ps c.loop-place.place-index 0) step) c.deref-place-items.ensures.value at in
+    let one_more : Derivation → Derivation = λ d. record d { steps = d.steps ++ step ∷ [] } in
+    c.in_ok-push_lists.ensures.pushed ∙ ap one_more c.loop-place.invariant
     ∙ ap (kept_steps c.args.trace.now core)
-    (sym (next_at steps core c.loop-place.place-index c.in_ok-copy.copy
+    (sym (next_at steps core c.loop-place.place-index step
     (omega (arith, c.loop-place-test.true, ap (λ (ps : List ℕ). length ps) c.deref-place-items.ensures.value)) here))
 
 pub returns : goal.returns

@@ -1,0 +1,19 @@
+use Rattle.std.proofs.Common.{◌≡◌, ◌+◌, ◌≤◌, length}
+use Rattle.qbf_text.specs.Reading.{left, HasFailed, IsReady}
+use Rattle.qbf_text.specs.Rows.{reads_from}
+use Rattle.qbf_text.proofs.Going.{Leads}
+use Rattle.qbf_text.proofs.grammar.read_by.Given as goal
+
+abbrev pub invariant-tokens : goal.invariant-tokens
+invariant-tokens g l = record {
+  so_far : Leads (reads_from g.G.Grammar.row_of (g.G.Grammar.place l.fn.grammar) (left l.fn.scanner (g.S.Source.remaining l.fn.source)))
+      (reads_from g.G.Grammar.row_of (g.G.Grammar.place l.grammar) (left l.scanner (g.S.Source.remaining l.source)));
+  ready : ¬ HasFailed l.scanner;
+  remains : IsReady l.fn.scanner (g.S.Source.remaining l.fn.source) → IsReady l.scanner (g.S.Source.remaining l.source);
+  kept : g.G.Grammar.kept l.grammar ≡ g.G.Grammar.kept l.fn.grammar;
+  counts : g.S.Source.failures l.source ≡ g.S.Source.failures l.fn.source;
+  bound : length l.scanner.pending + g.S.Source.bound l.source ≤ length l.fn.scanner.pending + g.S.Source.bound l.fn.source;
+}
+
+abbrev pub decreases-tokens : goal.decreases-tokens
+decreases-tokens g l = length l.scanner.pending + g.S.Source.bound l.source

@@ -1,0 +1,14 @@
+use Rattle.std.proofs.Common.{◌≡◌, ◌≤◌, length}
+use Rattle.qbf_text.specs.Written.{IsSent}
+use Rattle.qbf_text.proofs.sink.Sink.push_all.Given as goal
+
+-- what stands before the rest went out, no push failed, and of no bytes there was no push
+abbrev pub invariant-loop-rest : goal.invariant-loop-rest
+invariant-loop-rest g l = record {
+  sent : IsSent g.Self.Sink.written g.Self.Sink.failures l.fn.self l.self l.bytes l.rest;
+  fewer : length l.rest ≤ length l.bytes;
+  none : length l.bytes ≡ 0 → l.self ≡ l.fn.self;
+}
+
+abbrev pub decreases-loop-rest : goal.decreases-loop-rest
+decreases-loop-rest g l = length l.rest

@@ -1,0 +1,60 @@
+-- What the calls that read by rows answer.
+use Rattle.std.specs.Prelude.{◌≡◌, ◌-◌, ◌^◌, ◌<◌, ℕ, List, true, false, Option, Some, None, IfSome, Result, Ok, Err, ⊤}
+use Rattle.qbf_text.specs.declared.token.Token.{Token}
+use Rattle.qbf_text.specs.Lined.{Lined, Known}
+use Rattle.qbf_text.specs.Left.{is_end}
+use Rattle.qbf_text.specs.Rows.{Row, Goes, Ends, Fails, Read, Whole, Fault}
+use Rattle.qbf_text.specs.declared.grammar.Taken.{Taken}
+use Rattle.qbf_text.specs.declared.grammar.Taken.TheVariants as taken
+use Rattle.qbf_text.specs.declared.grammar.Stop.{Stop}
+use Rattle.qbf_text.specs.declared.grammar.Stop.TheVariants as stop
+use Rattle.qbf_text.specs.declared.grammar.ReadError.{ReadError}
+use Rattle.qbf_text.specs.declared.grammar.ReadError.TheVariants as error
+
+-- a token was taken as its row says, unless memory was refused
+abbrev pub Takes : {P A F : Type 0} → Row P A F → P → Result (Taken A) (Stop F) → Type 0
+Takes r next (Ok taken.More) = r ≡ Goes next
+Takes r next (Ok (taken.Done a)) = r ≡ Ends a next
+Takes r next (Err stop.Memory) = ⊤
+Takes r next (Err (stop.Text f)) = r ≡ Fails f
+
+-- who goes on was not at the end
+abbrev pub StaysOpen : {A F : Type 0} → Token → Result (Taken A) (Stop F) → Type 0
+StaysOpen t (Ok taken.More) = is_end t ≡ false
+StaysOpen t (Ok (taken.Done a)) = ⊤
+StaysOpen t (Err e) = ⊤
+
+-- all was read, and these tokens are left
+abbrev pub Leaves : {P A F : Type 0} → Option (Read P A F) → A → P → Known → Type 0
+Leaves None a next rest = ⊤
+Leaves (Some r) a next None = ⊥
+Leaves (Some r) a next (Some ts) = r ≡ Whole a next ts
+
+-- the answer is what was to be read, unless the source failed or memory was refused
+abbrev pub Reads : {P A F : Type 0} → Option (Read P A F) → P → Known → Result A (ReadError F) → Type 0
+Reads whole next rest (Ok a) = Leaves whole a next rest
+Reads whole next rest (Err error.Device) = ⊤
+Reads whole next rest (Err error.Memory) = ⊤
+Reads whole next rest (Err (error.Text f line)) = IfSome whole (λ r. r ≡ Fault f line)
+
+-- the count of failures rose, unless it was at its top, exactly where the source failed
+abbrev pub Counts : {A F : Type 0} → ℕ → ℕ → Result A (ReadError F) → Type 0
+Counts old new (Ok a) = new ≡ old
+Counts old new (Err error.Device) = old < 2 ^ 64 - 1 → old < new
+Counts old new (Err error.Memory) = new ≡ old
+Counts old new (Err (error.Text f line)) = new ≡ old
+
+-- the same of told tokens
+abbrev pub Answers : {P A F : Type 0} → Read P A F → P → Result A (ReadError F) → Type 0
+Answers whole next (Ok a) = (rest : List Lined) × (whole ≡ Whole a next rest)
+Answers whole next (Err error.Device) = ⊤
+Answers whole next (Err error.Memory) = ⊤
+Answers whole next (Err (error.Text f line)) = whole ≡ Fault f line
+
+-- what is answered is what a row says of the last token, unless the source failed or memory was refused; what holds if that
+-- token is not End, and what holds if it is
+abbrev pub Follows : {P A F : Type 0} → (P → Token → Row P A F) → P → Type 0 → Type 0 → Result A (ReadError F) → Type 0
+Follows {P = P} row next open_ ended (Ok a) = (place : P) × (token : Token) × (row place token ≡ Ends a next) × (is_end token ≡ false → open_) × (is_end token ≡ true → ended)
+Follows row next open_ ended (Err error.Device) = ⊤
+Follows row next open_ ended (Err error.Memory) = ⊤
+Follows {P = P} row next open_ ended (Err (error.Text f line)) = (place : P) × (token : Token) × (row place token ≡ Fails f)

@@ -1,0 +1,123 @@
+//! One loop that reads by the rows of a grammar.
+
+ghost use Rattle.std.specs.Prelude.{◌≡◌, ℕ, ◌+◌, ◌<◌, ◌≤◌, length, false, IfOk, OnOk};
+ghost use Rattle.qbf_text.specs.declared.token.Token.{Token};
+ghost use Rattle.std.specs.Io.KnownBytes.{IsAtEnd};
+ghost use Rattle.qbf_text.specs.Reading.{left, HasFailed, IsReady};
+ghost use Rattle.qbf_text.specs.Rows.{Row, reads_from};
+ghost use Rattle.qbf_text.specs.Taking.{Takes, StaysOpen, Reads, Counts, Follows};
+
+use crate::scanner::{ScanFault, Scanner};
+use crate::source::Source;
+use crate::token::Token;
+
+/// What a grammar did with a token that it took.
+#[derive(Drop)]
+pub enum Taken<T> {
+    /// It went on, and wants another token.
+    More,
+    /// It is complete, and this is what was read.
+    Done(T),
+}
+
+/// Why a grammar did not take a token. Whoever reads gives up then.
+#[derive(Drop)]
+pub enum Stop<F> {
+    /// A growth was refused.
+    Memory,
+    /// The token is not accepted at its place: a fault of the text.
+    Text(F),
+}
+
+/// Why nothing was read.
+#[derive(Drop)]
+pub enum ReadError<F> {
+    /// The source failed.
+    Device,
+    /// Memory was refused.
+    Memory,
+    /// The first token that is not accepted at its place.
+    Text {
+        /// What is wrong with it.
+        fault: F,
+        /// Its line, counted from 1.
+        line: u64,
+    },
+}
+
+impl<F> From<ScanFault> for ReadError<F> {
+    ghost use Rattle.std.specs.Prelude.{◌≡◌};
+    ghost use Rattle.qbf_text.specs.declared.grammar.ReadError.TheVariants.{Device};
+
+    ghost from_gives = { λ _ e. e ≡ Device };
+
+    fn from(_e: ScanFault) -> ReadError<F> {
+        ReadError::Device
+    }
+}
+
+/// A text by its rows: what each place makes of each token.
+///
+/// It is handed one token after the other, and keeps what it makes of them.
+pub trait Grammar {
+    /// What is read.
+    type Output: Drop;
+
+    /// What can be wrong with a text.
+    type Fault: Drop;
+
+    /// Where a token stands, after what the tokens before it spell.
+    ghost Place: { Type 0 };
+
+    /// Where this stands.
+    ghost place: { Self → Place };
+
+    /// What each place makes of a token.
+    ghost row_of: { Place → Token → Row Place Self.Output Self.Fault };
+
+    /// What no token changes.
+    ghost Kept: { Type 0 };
+
+    /// What this keeps so.
+    ghost kept: { Self → Kept };
+
+    /// Takes the next token. After the end of the text it does not go on.
+    fn take(&mut self, token: Token) -> Result<Taken<Self::Output>, Stop<Self::Fault>>
+        ensures row { Takes (row_of (place self.old) token) (place self.new) result }
+        ensures more { StaysOpen token result }
+        ensures kept { kept self.new ≡ kept self.old };
+}
+
+/// Hands on token after token until the grammar is complete.
+///
+/// # Errors
+/// `Device` exactly where the source failed during the call, `Memory` where the grammar wants some, and else the first fault with
+/// the line of its token.
+pub fn read_by<G: Grammar, S: Source>(
+    grammar: &mut G,
+    scanner: &mut Scanner,
+    source: &mut S,
+) -> Result<G::Output, ReadError<G::Fault>>
+    requires ready { ¬ HasFailed scanner.old }
+    ensures reads { Reads (reads_from G.row_of (G.place grammar.old) (left scanner.old (S.remaining source.old)))
+        (G.place grammar.new) (left scanner.new (S.remaining source.new)) result }
+    // The last token was taken by some row: with each token but End less can still come, and behind End no byte remains.
+    ensures follows { Follows G.row_of (G.place grammar.new)
+        (length scanner.new.pending + S.bound source.new < length scanner.old.pending + S.bound source.old)
+        (IsReady scanner.old (S.remaining source.old) → IsAtEnd (S.remaining source.new)) result }
+    ensures kept { G.kept grammar.new ≡ G.kept grammar.old }
+    ensures counts { Counts (S.failures source.old) (S.failures source.new) result }
+    ensures ready { OnOk result (¬ HasFailed scanner.new) }
+    ensures bound { OnOk result (
+        length scanner.new.pending + S.bound source.new ≤ length scanner.old.pending + S.bound source.old) }
+{
+    'tokens: loop {
+        let (token, line) = scanner.next_token(source)?;
+        match grammar.take(token) {
+            Ok(Taken::More) => {}
+            Ok(Taken::Done(output)) => return Ok(output),
+            Err(Stop::Memory) => return Err(ReadError::Memory),
+            Err(Stop::Text(fault)) => return Err(ReadError::Text { fault, line }),
+        }
+    }
+}

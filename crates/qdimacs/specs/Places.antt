@@ -1,0 +1,84 @@
+-- What the parts of a formula say while it is read: what is made, and where the next token stands.
+use Rattle.std.specs.Prelude.{◌≡◌, ◌<◌, ◌≤◌, true, [], length, Result, Ok, Err, ⊤}
+use Rattle.std.specs.List.{AllByRecursion}
+use Rattle.qbf_core.specs.Blocks.{pairs, variables, AreBound, IsPrefix}
+use Rattle.qbf_core.specs.Qbf.{Qbf, IsWellFormed}
+use Rattle.qbf_text.specs.Rows.{Goes, Ends, Fails}
+use Rattle.qbf_text.specs.declared.grammar.Taken.{Taken}
+use Rattle.qbf_text.specs.declared.grammar.Taken.TheVariants as taken
+use Rattle.qbf_text.specs.declared.grammar.Stop.{Stop}
+use Rattle.qbf_text.specs.declared.grammar.Stop.TheVariants as stop
+use Rattle.qdimacs.specs.declared.fault.FormulaFault.{FormulaFault}
+use Rattle.qdimacs.specs.declared.grammar.At.{At}
+use Rattle.qdimacs.specs.declared.grammar.At.TheVariants as at
+use Rattle.qdimacs.specs.declared.grammar.Parts.{Parts}
+use Rattle.qdimacs.specs.Reading.{Heading, Place, AtP, AtCnf, AtVars, AtCount, Between, InSet, InClause, Whole, Over, Row, IsFull}
+
+-- the numbers of the header
+abbrev pub heading : Parts → Heading
+heading p = record { max_var = p.max_var; count = p.count }
+
+-- the formula that is made of what is whole
+abbrev pub made : Parts → Qbf
+made p = record { max_var = p.max_var; blocks = p.prefix; clauses = p.clauses.whole }
+
+-- where reading stands with these parts
+abbrev pub stands : Parts → At → Place
+stands p at.P = AtP
+stands p at.Cnf = AtCnf
+stands p at.Vars = AtVars
+stands p (at.Count v) = AtCount v
+stands p at.Between = Between (heading p) (pairs p.prefix) p.clauses.whole
+stands p (at.Set q) = InSet (heading p) (pairs p.prefix) q
+stands p at.Clause = InClause (heading p) (pairs p.prefix) p.clauses.whole p.clauses.begun
+stands p at.Whole = Whole (made p)
+stands p at.Over = Over
+
+-- the row that leads there
+abbrev pub row_to : Parts → At → Row
+row_to p at.Whole = Ends tt (stands p at.Whole)
+row_to p next = Goes (stands p next)
+
+-- the next place is that of the row, unless memory was refused
+abbrev pub Moves : Row → Parts → Result At (Stop FormulaFault) → Type 0
+Moves r p (Ok next) = r ≡ row_to p next
+Moves r p (Err stop.Memory) = ⊤
+Moves r p (Err (stop.Text f)) = r ≡ Fails f
+
+-- ---- what holds of the parts
+
+-- nothing is made yet
+abbrev pub IsNothing : Parts → Type 0
+IsNothing p = (p.prefix ≡ []) × (p.clauses.whole ≡ []) × (p.clauses.begun ≡ [])
+
+-- the numbers of the header, and the variables below them
+pub record AreCounted (p : Parts) : Type 0 where
+  pub max_var : p.max_var ≤ 2147483647
+  pub count : p.count ≤ 2147483647
+  pub top : AllByRecursion (λ v. v ≤ p.max_var) (variables (pairs p.prefix))
+
+-- what is whole, once the sets are
+pub record IsMade (p : Parts) : Type 0 where
+  pub counted : AreCounted p
+  pub prefix : IsPrefix p.prefix
+  pub full : p.full ≡ true → IsFull p.max_var (pairs p.prefix)
+  pub closed : AllByRecursion (AreBound p.prefix) p.clauses.whole
+  pub few : length p.clauses.whole ≤ p.count
+
+-- what holds at each place
+abbrev pub IsSound : At → Parts → Type 0
+IsSound at.P p = IsNothing p
+IsSound at.Cnf p = IsNothing p
+IsSound at.Vars p = IsNothing p
+IsSound (at.Count v) p = IsNothing p × (v ≤ 2147483647)
+IsSound at.Between p = IsMade p × (p.clauses.begun ≡ [])
+IsSound (at.Set q) p = AreCounted p × (p.clauses.whole ≡ []) × (p.clauses.begun ≡ [])
+IsSound at.Clause p = IsMade p × AreBound p.prefix p.clauses.begun × (length p.clauses.whole < p.count)
+IsSound at.Whole p = IsWellFormed (made p)
+IsSound at.Over p = ⊤
+
+-- who takes a token goes to the next place, and nothing is taken behind the end or a fault
+abbrev pub Went : Result At (Stop FormulaFault) → At → Result (Taken (Unit {0})) (Stop FormulaFault) → Type 0
+Went (Ok at.Whole) now result = (now ≡ at.Whole) × (result ≡ Ok (taken.Done tt))
+Went (Ok next) now result = (now ≡ next) × (result ≡ Ok taken.More)
+Went (Err e) now result = (now ≡ at.Over) × (result ≡ Err e)

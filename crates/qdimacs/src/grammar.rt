@@ -1,0 +1,345 @@
+//! A formula that is made while its tokens are taken.
+
+ghost use Rattle.std.specs.Prelude.{◌≡◌, ◌≤◌, true, IfOk};
+ghost use Rattle.std.specs.List.{AllByRecursion};
+ghost use Rattle.qbf_core.specs.Blocks.{pairs, variables, is_bound, IsPrefix};
+ghost use Rattle.qbf_core.specs.Qbf.{IsWellFormed};
+ghost use Rattle.qdimacs.specs.declared.grammar.At.TheVariants as at;
+ghost use Rattle.qdimacs.specs.declared.grammar.Parts.{Parts};
+ghost use Rattle.qdimacs.specs.Places.{made, heading, stands, Moves, Went, IsSound};
+ghost use Rattle.qdimacs.specs.Reading.{AtP, Whole, IsFull, IsWhole, begun_set, has_more, row, bind_row};
+
+use crate::fault::FormulaFault;
+use crate::tokens::{
+    clause_or_end, header_fault, header_number, is_cnf, is_p, literal, member, set_letter,
+};
+use qbf_core::{Formula, GrowingLists, Lit, Prefix, PrefixFault, Quantifier, Var};
+use qbf_text::{Grammar, Stop, Taken, Token};
+use std::alloc::Global;
+use std::marker::Model;
+
+/// Where the next token stands.
+#[derive(Clone, Copy)]
+enum At {
+    /// At the word `p`.
+    P,
+    /// At the word `cnf`.
+    Cnf,
+    /// At the number of variables.
+    Vars,
+    /// At the number of clauses, after that of variables.
+    Count(u32),
+    /// Between lists.
+    Between,
+    /// In a set.
+    Set(Quantifier),
+    /// In a clause.
+    Clause,
+    /// Behind the end.
+    Whole,
+    /// Behind a fault.
+    Over,
+}
+
+/// What was read of a formula.
+#[derive(Drop)]
+struct Parts {
+    /// The number of variables that the header says.
+    max_var: u32,
+    /// The number of clauses that the header says.
+    count: u32,
+    prefix: Prefix,
+    /// Whether each variable that the header allows is bound, as it stands behind the last whole set.
+    full: bool,
+    /// The literals of the clauses, and of the one that is begun.
+    clauses: GrowingLists<Lit>,
+}
+
+// ---- the header
+
+/// Takes the word `p`.
+fn take_p(token: Token) -> Result<At, Stop<FormulaFault>>
+    ensures row { (p : Parts) → Moves (row (stands p at.P) token) p result }
+    ensures sound { (p : Parts) → IsSound at.P p → IfOk result (λ next. IsSound next p) }
+{
+    if is_p(token) {
+        return Ok(At::Cnf);
+    }
+    Err(Stop::Text(header_fault(token)))
+}
+
+/// Takes the word `cnf`.
+fn take_cnf(token: Token) -> Result<At, Stop<FormulaFault>>
+    ensures row { (p : Parts) → Moves (row (stands p at.Cnf) token) p result }
+    ensures sound { (p : Parts) → IsSound at.Cnf p → IfOk result (λ next. IsSound next p) }
+{
+    if is_cnf(token) {
+        return Ok(At::Vars);
+    }
+    Err(Stop::Text(header_fault(token)))
+}
+
+/// Takes the number of variables.
+fn take_vars(token: Token) -> Result<At, Stop<FormulaFault>>
+    ensures row { (p : Parts) → Moves (row (stands p at.Vars) token) p result }
+    ensures sound { (p : Parts) → IsSound at.Vars p → IfOk result (λ next. IsSound next p) }
+{
+    match header_number(token) {
+        Some(max_var) => Ok(At::Count(max_var)),
+        None => Err(Stop::Text(header_fault(token))),
+    }
+}
+
+/// Whether a prefix binds each variable up to this one.
+fn is_full(prefix: &Prefix, max_var: u32) -> bool
+    requires top { AllByRecursion (λ v. v ≤ max_var) (variables (pairs prefix.now)) }
+    ensures full { result ≡ true → IsFull max_var (pairs prefix.now) }
+    ensures sound { IsPrefix prefix.now }
+{
+    prefix.len() == max_var as usize
+}
+
+/// Takes the number of clauses.
+fn take_count(parts: &mut Parts, max_var: u32, token: Token) -> Result<At, Stop<FormulaFault>>
+    requires sound { IsSound (at.Count max_var) parts.old }
+    ensures row { Moves (row (stands parts.old (at.Count max_var)) token) parts.new result }
+    ensures sound { IfOk result (λ next. IsSound next parts.new) }
+{
+    match header_number(token) {
+        Some(count) => {
+            parts.max_var = max_var;
+            parts.count = count;
+            parts.full = is_full(&parts.prefix, max_var);
+            Ok(At::Between)
+        }
+        None => Err(Stop::Text(header_fault(token))),
+    }
+}
+
+// ---- a set
+
+/// Binds a variable innermost.
+fn bind(parts: &mut Parts, quantifier: Quantifier, var: Var) -> Result<At, Stop<FormulaFault>>
+    requires sound { IsSound (at.Set quantifier) parts.old }
+    requires top { var ≤ parts.old.max_var }
+    ensures row { Moves (bind_row (heading parts.old) (pairs parts.old.prefix) quantifier var (is_bound var (pairs parts.old.prefix))) parts.new result }
+    ensures sound { IfOk result (λ next. IsSound next parts.new) }
+{
+    match parts.prefix.push(quantifier, var) {
+        Ok(()) => Ok(At::Set(quantifier)),
+        Err(PrefixFault::B1) => Err(Stop::Text(FormulaFault::F5)),
+        Err(PrefixFault::B2) => Err(Stop::Memory),
+    }
+}
+
+/// Takes a token in a set.
+fn take_member(
+    parts: &mut Parts,
+    quantifier: Quantifier,
+    token: Token,
+) -> Result<At, Stop<FormulaFault>>
+    requires sound { IsSound (at.Set quantifier) parts.old }
+    ensures row { Moves (row (stands parts.old (at.Set quantifier)) token) parts.new result }
+    ensures sound { IfOk result (λ next. IsSound next parts.new) }
+{
+    match member(parts.max_var, token) {
+        Ok(Some(var)) => bind(parts, quantifier, var),
+        Ok(None) => {
+            parts.full = is_full(&parts.prefix, parts.max_var);
+            Ok(At::Between)
+        }
+        Err(fault) => Err(Stop::Text(fault)),
+    }
+}
+
+// ---- a clause
+
+/// Takes a token in a clause.
+#[inline(always)]
+fn take_literal(parts: &mut Parts, token: Token) -> Result<At, Stop<FormulaFault>>
+    requires sound { IsSound at.Clause parts.old }
+    ensures row { Moves (row (stands parts.old at.Clause) token) parts.new result }
+    ensures sound { IfOk result (λ next. IsSound next parts.new) }
+{
+    match literal(&parts.prefix, parts.max_var, parts.full, token) {
+        Ok(Some(lit)) => match parts.clauses.push(lit) {
+            Ok(()) => Ok(At::Clause),
+            Err(_) => Err(Stop::Memory),
+        },
+        Ok(None) => match parts.clauses.close() {
+            Ok(()) => Ok(At::Between),
+            Err(_) => Err(Stop::Memory),
+        },
+        Err(fault) => Err(Stop::Text(fault)),
+    }
+}
+
+// ---- between lists
+
+/// The quantifier of the set that a token begins: no set, once a clause was begun.
+fn opened(parts: &Parts, token: Token) -> Option<Quantifier>
+    ensures { result ≡ begun_set parts.now.clauses.whole token }
+{
+    if parts.clauses.whole_len() != 0 {
+        return None;
+    }
+    set_letter(token)
+}
+
+/// Whether the header tells of more clauses.
+#[inline(always)]
+fn has_more(parts: &Parts) -> bool
+    ensures { result ≡ has_more (heading parts.now) parts.now.clauses.whole }
+{
+    parts.clauses.whole_len() < parts.count as usize
+}
+
+/// Takes a token between lists.
+#[inline(always)]
+fn take_opening(parts: &mut Parts, token: Token) -> Result<At, Stop<FormulaFault>>
+    requires sound { IsSound at.Between parts.old }
+    ensures row { Moves (row (stands parts.old at.Between) token) parts.new result }
+    ensures sound { IfOk result (λ next. IsSound next parts.new) }
+{
+    if let Some(quantifier) = opened(parts, token) {
+        return Ok(At::Set(quantifier));
+    }
+    match clause_or_end(has_more(parts), token) {
+        Ok(true) => take_literal(parts, token),
+        Ok(false) => Ok(At::Whole),
+        Err(fault) => Err(Stop::Text(fault)),
+    }
+}
+
+// ---- the whole
+
+/// The place that a token leads to.
+#[inline(always)]
+fn take_at(here: At, parts: &mut Parts, token: Token) -> Result<At, Stop<FormulaFault>>
+    requires sound { IsSound here parts.old }
+    ensures row { Moves (row (stands parts.old here) token) parts.new result }
+    ensures sound { IfOk result (λ next. IsSound next parts.new) }
+{
+    match here {
+        At::Clause => take_literal(parts, token),
+        At::Between => take_opening(parts, token),
+        At::Set(quantifier) => take_member(parts, quantifier, token),
+        At::P => take_p(token),
+        At::Cnf => take_cnf(token),
+        At::Vars => take_vars(token),
+        At::Count(max_var) => take_count(parts, max_var, token),
+        At::Whole | At::Over => Err(Stop::Text(FormulaFault::F3)),
+    }
+}
+
+/// Goes to the next place, if there is one.
+#[inline(always)]
+fn go(here: &mut At, next: Result<At, Stop<FormulaFault>>) -> Result<Taken<()>, Stop<FormulaFault>>
+    ensures { Went next here.new result }
+{
+    match next {
+        Ok(At::Whole) => {
+            *here = At::Whole;
+            Ok(Taken::Done(()))
+        }
+        Ok(place) => {
+            *here = place;
+            Ok(Taken::More)
+        }
+        Err(stop) => {
+            *here = At::Over;
+            Err(stop)
+        }
+    }
+}
+
+impl Parts {
+    /// Nothing yet. It takes no memory.
+    fn new(alloc: Global) -> Parts
+        ensures { IsSound at.P result }
+    {
+        Parts {
+            max_var: 0,
+            count: 0,
+            prefix: Prefix::new(alloc),
+            full: false,
+            clauses: GrowingLists::new(alloc),
+        }
+    }
+
+    /// The formula that these make. It takes no memory.
+    fn into_formula(self) -> Formula
+        requires { IsWellFormed (made self) }
+        ensures { result ≡ made self }
+    {
+        let clauses = self.clauses.into_lists();
+        Formula::whole(self.max_var, self.prefix, clauses)
+    }
+}
+
+/// A formula that is read into flat buffers.
+///
+/// Contracts see where the next token stands.
+#[derive(Drop)]
+pub(crate) struct FormulaGrammar {
+    at: At,
+    parts: Parts,
+}
+
+impl Model for FormulaGrammar {
+    ghost use Rattle.qdimacs.specs.Places.{stands, IsSound};
+    ghost use Rattle.qdimacs.specs.Reading.{Place};
+
+    ghost Value = { Place };
+
+    ghost view = { λ g. stands g.parts g.at };
+
+    ghost invariant = { λ g. IsSound g.at g.parts };
+}
+
+impl FormulaGrammar {
+    /// At the beginning of a formula. It takes no memory.
+    pub(crate) fn new(alloc: Global) -> FormulaGrammar
+        ensures { result ≡ AtP }
+    {
+        FormulaGrammar {
+            at: At::P,
+            parts: Parts::new(alloc),
+        }
+    }
+
+    /// The formula that was read. It takes no memory.
+    pub(crate) fn into_formula(self) -> Formula
+        requires { IsWhole self }
+        ensures { self ≡ Whole result }
+    {
+        match self.at {
+            At::Whole => self.parts.into_formula(),
+            _ => unreachable!(),
+        }
+    }
+}
+
+impl Grammar for FormulaGrammar {
+    ghost use Rattle.qdimacs.specs.Reading.{Place, row};
+
+    type Output = ();
+
+    type Fault = FormulaFault;
+
+    ghost Place = { Place };
+
+    ghost place = { λ g. g };
+
+    ghost row_of = { row };
+
+    ghost Kept = { Unit {0} };
+
+    ghost kept = { λ _. tt };
+
+    #[inline(always)]
+    fn take(&mut self, token: Token) -> Result<Taken<()>, Stop<FormulaFault>> {
+        let next = take_at(self.at, &mut self.parts, token);
+        go(&mut self.at, next)
+    }
+}

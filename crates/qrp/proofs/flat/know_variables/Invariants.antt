@@ -1,0 +1,7 @@
+use Rattle.std.proofs.Common.{take}
+use Rattle.std.specs.List.{AllByRecursion}
+use Rattle.qbf_core.specs.Blocks.{IsVariable}
+use Rattle.qrp.proofs.flat.know_variables.Given as goal
+
+abbrev pub invariant-loop-var : goal.invariant-loop-var
+invariant-loop-var l = AllByRecursion IsVariable (take l.var-index l.vars)

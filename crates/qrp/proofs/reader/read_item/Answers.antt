@@ -1,0 +1,16 @@
+use Rattle.std.proofs.Common.{Err, subst}
+use Rattle.qbf_text.specs.Reading.{left}
+use Rattle.qbf_text.specs.Rows.{reads_from}
+use Rattle.qbf_text.specs.Taking.{Reads}
+use Rattle.qrp.specs.Items.{Giving, item_row}
+use Rattle.qrp.proofs.ItemRows.{item_given, fault_given}
+use Rattle.qrp.proofs.reader.read_item.Goals as goal
+
+pub returns-in-Ok-give-clause-gives : goal.returns-in-Ok-give-clause-gives
+returns-in-Ok-give-clause-gives g c = λ p at_.
+    item_given p _ _ _ c.in-Ok-give.item _ (rw at_ at c.in-Ok.ensures.reads) (rw (← c.in-Ok-give.ensures.next.numbers) at c.in-Ok-give.ensures.item)
+
+pub returns-in-Err-clause-gives : goal.returns-in-Err-clause-gives
+returns-in-Err-clause-gives g c = λ p at_. rw c.fault_of.ensures
+    (fault_given p (left c.args.scanner.now (g.S.Source.remaining c.args.source.now)) c.read_by.new.grammar.giving (left c.read_by.new.scanner (g.S.Source.remaining c.read_by.new.source)) c.in-Err.error
+    (subst (λ (q : Giving). Reads (reads_from item_row q (left c.args.scanner.now (g.S.Source.remaining c.args.source.now))) c.read_by.new.grammar.giving (left c.read_by.new.scanner (g.S.Source.remaining c.read_by.new.source)) (Err c.in-Err.error)) at_ c.in-Err.ensures.reads))

@@ -1,7 +1,0 @@
-use Rattle.std.proofs.Common.{take}
-use Rattle.std.specs.List.{AllByRecursion}
-use Rattle.qbf_core.specs.Blocks.{IsVariable}
-use Rattle.qrp.proofs.trace.know_variables.Given as goal
-
-abbrev pub invariant-loop-var : goal.invariant-loop-var
-invariant-loop-var l = AllByRecursion IsVariable (take l.var-index l.vars)

@@ -1,0 +1,114 @@
+-- The parts of a trace, given one after the other: the rows of the places with what is given.
+use Rattle.std.specs.Prelude.{◌≡◌, ◌≢◌, ◌<◌, ◌+◌, ◌-◌, ◌^◌, ℕ, false, List, length, Result, Ok, IfOk, OnOk, IfErr, ⊤}
+use Rattle.qbf_text.specs.Lined.{Known}
+use Rattle.qbf_text.specs.Reading.{Reading, HasFailed}
+use Rattle.qbf_text.specs.declared.token.Token.{Token}
+use Rattle.qbf_text.specs.Rows as rows
+use Rattle.qrp.specs.declared.fault.TraceFault.{TraceFault}
+use Rattle.qrp.specs.declared.fault.TraceFault.TheVariants.{P1, P7}
+use Rattle.qrp.specs.declared.item.Item.{Item}
+use Rattle.qrp.specs.declared.item.Item.TheVariants as item
+use Rattle.qrp.specs.declared.item.Outcome.{Outcome}
+use Rattle.qrp.specs.declared.places.At.{At}
+use Rattle.qrp.specs.declared.places.At.TheVariants as at
+use Rattle.qrp.specs.declared.places.Begun.{Begun}
+use Rattle.qrp.specs.declared.reader.Stage.{Stage}
+use Rattle.qrp.specs.declared.reader.Stage.TheVariants.{AtHeader, AtLists, HasResult, HasFault}
+use Rattle.qrp.specs.Given.{left_behind, is_last, numbers_with, stage_after, GivesNextItem, IsProper, StandsOnLine}
+use Rattle.qrp.specs.Parts.{KnownItems}
+use Rattle.qrp.specs.Places.{place, item_of, numbers_behind, IsBegun, IsComplete}
+use Rattle.qrp.specs.Reading.{Fault, Place, AtP, Between, Row, Goes, Closes, Ends, Fails, row}
+
+-- What stands next.
+pub data Giving : Type 0 where
+  -- a token is taken here
+  Takes : Place → Giving
+  -- this part is complete, and the next token stands there
+  Gives : Item → Place → Giving
+  -- behind the result
+  Whole : Outcome → Giving
+  -- behind a fault
+  Over : Giving
+
+-- the numbers of the steps that were given, and what stands next
+pub record Giver : Type 0 where
+  pub numbers : List ℕ
+  pub giving : Giving
+
+abbrev pub GivingRow : Type 0
+GivingRow = rows.Row Giving (Unit {0}) TraceFault
+
+-- a part that is complete ends what is read
+abbrev pub as_given : Row → GivingRow
+as_given (Goes next) = rows.Goes (Takes next)
+as_given (Closes i next) = rows.Ends tt (Gives i next)
+as_given (Ends o) = rows.Ends tt (Whole o)
+as_given (Fails f) = rows.Fails f
+
+-- the row of each place
+abbrev pub item_row : Giving → Token → GivingRow
+item_row (Takes p) t = as_given (row p t)
+item_row (Gives i p) t = rows.Fails P7
+item_row (Whole o) t = rows.Fails P7
+item_row Over t = rows.Fails P7
+
+-- what stands next with these lists
+abbrev pub giving_at : Begun → At → Giving
+giving_at b (at.Behind p) = Gives (item_of b p) (Between (numbers_behind b p))
+giving_at b (at.Whole o) = Whole o
+giving_at b at.Over = Over
+giving_at b here = Takes (place b here)
+
+-- what holds at each place
+abbrev pub IsGiving : At → Begun → Type 0
+IsGiving (at.Behind p) b = IsComplete p b
+IsGiving (at.Whole o) b = ⊤
+IsGiving at.Over b = ⊤
+IsGiving here b = IsBegun here b
+
+-- an item is complete
+abbrev pub IsGiven : Giving → Type 0
+IsGiven (Takes p) = ⊥
+IsGiven (Gives i p) = ⊤
+IsGiven (Whole o) = ⊤
+IsGiven Over = ⊥
+
+-- what stands next where this item is complete, with the numbers behind it
+abbrev pub giving : Item → List ℕ → Giving
+giving (item.Result o) ns = Whole o
+giving i ns = Gives i (Between ns)
+
+-- behind this item stand its number, if it is a step, and the next token, if it is not the last
+pub record IsNextAfter (i : Item) (old new : Giver) : Type 0 where
+  pub numbers : new.numbers ≡ numbers_with old.numbers (Ok i)
+  pub giving : is_last (Ok i) ≡ false → new.giving ≡ Takes (Between new.numbers)
+
+-- a reader that is so far takes a token here
+abbrev pub Stands : Stage → Giver → Type 0
+Stands AtHeader g = g.giving ≡ Takes AtP
+Stands AtLists g = g.giving ≡ Takes (Between g.numbers)
+Stands (HasResult o) g = ⊤
+Stands (HasFault f line) g = ⊤
+
+-- ---- what reading an item answers
+
+-- what was left from a place on is the answer and what is left now, behind steps with these numbers; the last answer stays
+abbrev pub GivesItem : KnownItems → List ℕ → Known → Result Item Fault → Type 0
+GivesItem before ns after answer = GivesNextItem before (left_behind (stage_after answer) ns after) answer
+
+-- the item is as the grammar asks, and its number is behind the others
+pub record IsItem (old new : List ℕ) (answer : Result Item Fault) : Type 0 where
+  pub proper : IfOk answer (λ i. IsProper old i)
+  pub numbers : new ≡ numbers_with old answer
+
+-- the scanner did not fail with an item, and behind each but the last less can still come
+pub record IsScanned (scanner : Reading) (before bound : ℕ) (answer : Result Item Fault) : Type 0 where
+  pub ready : OnOk answer (¬ HasFailed scanner)
+  pub less : is_last answer ≡ false → length scanner.pending + bound < before
+
+-- the count of failures rose exactly where the source failed; a fault of source or memory stands on line 0
+pub record IsCounted (old new : ℕ) (answer : Result Item Fault) : Type 0 where
+  pub source : IfErr answer (λ e. e.0 ≡ P1 → old < 2 ^ 64 - 1 → old < new)
+  pub kept : IfErr answer (λ e. e.0 ≢ P1 → new ≡ old)
+  pub lines : IfErr answer (λ e. StandsOnLine e.0 e.1)
+  pub works : OnOk answer (new ≡ old)

@@ -1,0 +1,105 @@
+-- A trace that is made while its tokens are taken: the rows of its places, with what is made of them.
+use Rattle.std.specs.Prelude.{◌≡◌, ◌<◌, ◌^◌, [], ◌∷◌, ◌++◌, length, ⊤}
+use Rattle.std.specs.List.{AllByRecursion}
+use Rattle.qbf_core.specs.Blocks.{IsVariable}
+use Rattle.qbf_core.specs.Flat.{Growing}
+use Rattle.qbf_text.specs.declared.token.Token.{Token}
+use Rattle.qbf_text.specs.Rows as rows
+use Rattle.qbf_text.specs.declared.grammar.ReadError.{ReadError}
+use Rattle.qbf_text.specs.declared.grammar.ReadError.TheVariants as error
+use Rattle.qrp.specs.declared.fault.TraceFault.{TraceFault}
+use Rattle.qrp.specs.declared.fault.TraceFault.TheVariants.{P1, P7, P9}
+use Rattle.qrp.specs.declared.grammar.Parts.{Parts}
+use Rattle.qrp.specs.declared.item.Item.{Item}
+use Rattle.qrp.specs.declared.item.Item.TheVariants as item
+use Rattle.qrp.specs.declared.item.Outcome.TheVariants.{Sat}
+use Rattle.qrp.specs.declared.places.At.{At}
+use Rattle.qrp.specs.declared.places.At.TheVariants as at
+use Rattle.qrp.specs.Derivations.{Derivation}
+use Rattle.qrp.specs.Flat.{bodies, numbered}
+use Rattle.qrp.specs.Inferences.{IsInference}
+use Rattle.qrp.specs.Places.{IsBegun, place}
+use Rattle.qrp.specs.Reading.{Fault, Place, Row, Goes, Closes, Ends, Fails, row}
+
+-- How far a trace is made: what of it, and where the next token stands.
+pub data Progress : Type 0 where
+  Making : Derivation → Place → Progress
+  -- behind the result
+  Whole : Derivation → Progress
+  -- behind a fault
+  Over : Progress
+
+-- what a place makes of a token while a trace is made
+abbrev pub MadeRow : Type 0
+MadeRow = rows.Row Progress (Unit {0}) TraceFault
+
+-- with one more item, of which the result is the last
+abbrev pub made_with : Derivation → Item → Place → MadeRow
+made_with d (item.Header h) next = rows.Goes (Making (record d { header = h }) next)
+made_with d (item.Set s) next = rows.Goes (Making (record d { sets = d.sets ++ s ∷ [] }) next)
+made_with d (item.Step s) next = rows.Goes (Making (record d { steps = d.steps ++ s ∷ [] }) next)
+made_with d (item.Result o) next = rows.Ends tt (Whole (record d { result = o }))
+
+-- what a row makes of a trace
+abbrev pub row_with : Derivation → Row → MadeRow
+row_with d (Goes next) = rows.Goes (Making d next)
+row_with d (Closes i next) = made_with d i next
+row_with d (Ends o) = rows.Ends tt (Whole (record d { result = o }))
+row_with d (Fails f) = rows.Fails f
+
+-- the row of each place
+abbrev pub trace_row : Progress → Token → MadeRow
+trace_row (Making d place) t = row_with d (row place t)
+trace_row (Whole d) t = rows.Fails P7
+trace_row Over t = rows.Fails P7
+
+-- the result was read
+abbrev pub IsWhole : Progress → Type 0
+IsWhole (Making d place) = ⊥
+IsWhole (Whole d) = Unit {0}
+IsWhole Over = ⊥
+
+-- the fault and the line that an error stands for
+abbrev pub fault_of : ReadError TraceFault → Fault
+fault_of error.Device = (P1, 0)
+fault_of error.Memory = (P9, 0)
+fault_of (error.Text f line) = (f, line)
+
+-- ---- the flat buffers
+
+-- a list that grew is whole, and an empty one is begun
+abbrev pub closed : {X : Type 0} → Growing X → Growing X
+closed g = record { whole = g.whole ++ g.begun ∷ []; begun = [] }
+
+-- the trace that is made of what is whole
+abbrev pub made : Parts → Derivation
+made p = record {
+  header = p.header;
+  sets = p.sets.items;
+  steps = numbered p.begun.index (bodies p.begun.lits.whole p.begun.ants.whole);
+  result = Sat;
+}
+
+-- how far the trace is with these parts
+abbrev pub stands : Parts → At → Progress
+stands p (at.Whole o) = Whole (record (made p) { result = o })
+stands p (at.Behind q) = Over
+stands p at.Over = Over
+stands p here = Making (made p) (place p.begun here)
+
+-- what holds of what is whole
+pub record IsMade (p : Parts) : Type 0 where
+  pub vars_fit : p.header.vars < 2 ^ 64
+  pub steps_fit : p.header.steps < 2 ^ 64
+  pub variables : AllByRecursion (λ s. AllByRecursion IsVariable s.vars) p.sets.items
+  pub inferences : AllByRecursion IsInference (made p).steps
+  pub ants_fit : AllByRecursion (λ s. AllByRecursion (λ n. n < 2 ^ 64) s.ants) (made p).steps
+  pub lits_counted : length p.begun.lits.whole ≡ length p.begun.index
+  pub ants_counted : length p.begun.ants.whole ≡ length p.begun.index
+
+-- what holds at each place
+abbrev pub IsSound : At → Parts → Type 0
+IsSound (at.Whole o) p = IsMade p
+IsSound (at.Behind q) p = ⊤
+IsSound at.Over p = ⊤
+IsSound here p = IsMade p × IsBegun here p.begun

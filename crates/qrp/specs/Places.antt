@@ -1,0 +1,122 @@
+-- Where a token stands while a trace is read: what the lists that are begun say of its place.
+use Rattle.std.specs.Prelude.{◌≡◌, ◌<◌, ◌≤◌, ◌^◌, ℕ, false, List, [], ◌∷◌, ◌++◌, length, Result, Ok, Err, ⊤, if◌then◌else◌}
+use Rattle.std.specs.List.{AllByRecursion}
+use Rattle.qbf_core.specs.Blocks.{IsVariable}
+use Rattle.qbf_text.specs.declared.token.Token.{Token}
+use Rattle.qbf_text.specs.declared.grammar.Stop.{Stop}
+use Rattle.qbf_text.specs.declared.grammar.Stop.TheVariants as stop
+use Rattle.qrp.specs.declared.fault.TraceFault.{TraceFault}
+use Rattle.qrp.specs.declared.fault.TraceFault.TheVariants.{P5, P7}
+use Rattle.qrp.specs.declared.item.Item.{Item}
+use Rattle.qrp.specs.declared.item.Item.TheVariants as item
+use Rattle.qrp.specs.declared.places.At.{At}
+use Rattle.qrp.specs.declared.places.At.TheVariants as at
+use Rattle.qrp.specs.declared.places.Begun.{Begun}
+use Rattle.qrp.specs.declared.places.Move.{Move}
+use Rattle.qrp.specs.declared.places.Move.TheVariants as move
+use Rattle.qrp.specs.declared.places.Part.{Part}
+use Rattle.qrp.specs.declared.places.Part.TheVariants as part
+use Rattle.qrp.specs.Inferences.{IsLiteral, IsNumber}
+use Rattle.qrp.specs.Reading.{Place, Row, Goes, Closes, Ends, Fails, AtP, AtQrp, AtVars, AtSteps, Between, InSet, InLits, InAnts, AtResult, is_used, row}
+
+-- the place of a token, where one is taken
+abbrev pub place : Begun → At → Place
+place b at.P = AtP
+place b at.Qrp = AtQrp
+place b at.Vars = AtVars
+place b (at.Steps vars) = AtSteps vars
+place b at.Between = Between b.index
+place b (at.Set q) = InSet q b.vars.items
+place b (at.Lits n) = InLits b.index n b.lits.begun
+place b (at.Ants n) = InAnts b.index n b.lits.begun b.ants.begun
+place b at.Result = AtResult
+place b (at.Behind p) = AtResult
+place b (at.Whole o) = AtResult
+place b at.Over = AtResult
+
+-- what is made of a token there
+abbrev pub row_at : Begun → At → Token → Row
+row_at b (at.Behind p) t = Fails P7
+row_at b (at.Whole o) t = Fails P7
+row_at b at.Over t = Fails P7
+row_at b here t = row (place b here) t
+
+-- the row between lists of a number
+abbrev pub step_row : List ℕ → ℕ → Row
+step_row ns n = if is_used n ns then Fails P5 else Goes (InLits ns n [])
+
+-- the item that a part is
+abbrev pub item_of : Begun → Part → Item
+item_of b (part.Header h) = item.Header h
+item_of b (part.Set q) = item.Set (record { quantifier = q; vars = b.vars.items })
+item_of b (part.Step n) = item.Step (record { number = n; lits = b.lits.begun; ants = b.ants.begun })
+
+-- the numbers of the steps behind it
+abbrev pub numbers_behind : Begun → Part → List ℕ
+numbers_behind b (part.Step n) = b.index ++ n ∷ []
+numbers_behind b (part.Header h) = []
+numbers_behind b (part.Set q) = []
+
+-- the row of a token that completes it
+abbrev pub row_of : Begun → Part → Row
+row_of b p = Closes (item_of b p) (Between (numbers_behind b p))
+
+-- a token does what its row says, unless memory was refused
+abbrev pub Moves : Row → Begun → Result Move (Stop TraceFault) → Type 0
+Moves r b (Ok (move.Goes next)) = r ≡ Goes (place b next)
+Moves r b (Ok (move.Closes p)) = r ≡ row_of b p
+Moves r b (Ok (move.Ends o)) = r ≡ Ends o
+Moves r b (Err stop.Memory) = ⊤
+Moves r b (Err (stop.Text f)) = r ≡ Fails f
+
+-- whole lists and the numbers of whole steps are as they were
+pub record Stays (old new : Begun) : Type 0 where
+  pub index : new.index ≡ old.index
+  pub lits : new.lits.whole ≡ old.lits.whole
+  pub ants : new.ants.whole ≡ old.ants.whole
+
+-- ---- what holds of what is begun
+
+-- a number of a step that may come behind steps with these numbers
+abbrev pub IsNew : ℕ → List ℕ → Type 0
+IsNew n ns = IsNumber n × (is_used n ns ≡ false)
+
+-- the antecedents of a step
+pub record AreAntecedents (ants : List ℕ) : Type 0 where
+  pub numbers : AllByRecursion IsNumber ants
+  pub fit : AllByRecursion (λ n. n < 2 ^ 64) ants
+  pub few : length ants ≤ 2
+
+-- at the place of a token
+abbrev pub IsBegun : At → Begun → Type 0
+IsBegun at.P b = b.index ≡ []
+IsBegun at.Qrp b = b.index ≡ []
+IsBegun at.Vars b = b.index ≡ []
+IsBegun (at.Steps vars) b = (b.index ≡ []) × (vars < 2 ^ 64)
+IsBegun at.Between b = ⊤
+IsBegun (at.Set q) b = (b.index ≡ []) × AllByRecursion IsVariable b.vars.items
+IsBegun (at.Lits n) b = IsNew n b.index × AllByRecursion IsLiteral b.lits.begun
+IsBegun (at.Ants n) b = IsNew n b.index × AllByRecursion IsLiteral b.lits.begun × AreAntecedents b.ants.begun
+IsBegun at.Result b = ⊤
+IsBegun (at.Behind p) b = ⊥
+IsBegun (at.Whole o) b = ⊥
+IsBegun at.Over b = ⊥
+
+-- the same, and nothing where no token is taken
+abbrev pub IsAt : At → Begun → Type 0
+IsAt (at.Behind p) b = ⊤
+IsAt (at.Whole o) b = ⊤
+IsAt at.Over b = ⊤
+IsAt here b = IsBegun here b
+
+-- behind a part
+abbrev pub IsComplete : Part → Begun → Type 0
+IsComplete (part.Header h) b = (b.index ≡ []) × (h.vars < 2 ^ 64) × (h.steps < 2 ^ 64)
+IsComplete (part.Set q) b = (b.index ≡ []) × AllByRecursion IsVariable b.vars.items
+IsComplete (part.Step n) b = IsNew n b.index × AllByRecursion IsLiteral b.lits.begun × AreAntecedents b.ants.begun
+
+-- behind a token
+abbrev pub IsMoved : Move → Begun → Type 0
+IsMoved (move.Goes next) b = IsBegun next b
+IsMoved (move.Closes p) b = IsComplete p b
+IsMoved (move.Ends o) b = ⊤

@@ -1,0 +1,201 @@
+//! A trace that is made while its tokens are taken.
+
+ghost use Rattle.std.specs.Prelude.{◌≡◌, false, [], ◌∷◌, ◌++◌, OnOk};
+ghost use Rattle.qbf_text.specs.Taking.{Takes};
+ghost use Rattle.qrp.specs.Making.{Making, Whole, trace_row, row_with, IsWhole, closed, made, stands, IsMade, IsSound};
+ghost use Rattle.qrp.specs.Places.{row_of, IsComplete};
+ghost use Rattle.qrp.specs.Reading.{AtP, Between, is_used, nothing};
+ghost use Rattle.qbf_text.specs.Rows.{Goes};
+
+use crate::fault::TraceFault;
+use crate::flat::FlatTrace;
+use crate::item::{Header, QuantSet};
+use crate::places::{At, Begun, Move, Part, take_at};
+use qbf_core::{Quantifier, Var};
+use qbf_text::{Grammar, Stop, Taken, Token};
+use std::alloc::{AllocError, Global};
+use std::marker::Model;
+use std::mem;
+
+/// What was read of a trace.
+#[derive(Drop)]
+pub struct Parts {
+    pub alloc: Global,
+    pub header: Header,
+    /// The sets that are whole.
+    pub sets: Vec<QuantSet>,
+    /// The lists that are begun, and behind which whole ones lie.
+    pub begun: Begun,
+}
+
+impl Parts {
+    /// Nothing yet. It takes no memory.
+    fn new(alloc: Global) -> Parts
+        ensures sound { IsMade result }
+        ensures made { made result ≡ nothing }
+        ensures index { result.begun.index ≡ [] }
+    {
+        Parts {
+            alloc,
+            header: Header { vars: 0, steps: 0 },
+            sets: Vec::new(alloc),
+            begun: Begun::new(alloc),
+        }
+    }
+}
+
+/// Puts the set that is begun behind the others.
+fn close_set(
+    sets: &mut Vec<QuantSet>,
+    vars: &mut Vec<Var>,
+    alloc: Global,
+    quantifier: Quantifier,
+) -> Result<(), AllocError>
+    ensures { OnOk result (sets.new.items ≡ sets.old.items ++ record { quantifier = quantifier; vars = vars.old.items } ∷ []) }
+{
+    let vars = mem::replace(vars, Vec::new(alloc));
+    sets.push(QuantSet { quantifier, vars })?;
+    Ok(())
+}
+
+/// Puts the step that is begun behind the others.
+#[inline(always)]
+fn close_step(begun: &mut Begun, number: u64) -> Result<(), AllocError>
+    requires { is_used number begun.old.index ≡ false }
+    ensures { OnOk result (begun.new ≡ record begun.old {
+      lits = closed begun.old.lits;
+      ants = closed begun.old.ants;
+      index = begun.old.index ++ number ∷ [];
+    }) }
+{
+    begun.lits.close()?;
+    begun.ants.close()?;
+    begun.index.push(number)?;
+    Ok(())
+}
+
+/// Puts a part that is complete behind the others.
+#[inline(always)]
+fn close(parts: &mut Parts, part: Part) -> Result<(), AllocError>
+    requires made { IsMade parts.old }
+    requires complete { IsComplete part parts.old.begun }
+    ensures row { OnOk result (
+        row_with (made parts.old) (row_of parts.old.begun part) ≡ Goes (Making (made parts.new) (Between parts.new.begun.index))) }
+    ensures sound { OnOk result (IsMade parts.new) }
+{
+    match part {
+        Part::Header(header) => {
+            parts.header = header;
+            Ok(())
+        }
+        Part::Set(quantifier) => close_set(
+            &mut parts.sets,
+            &mut parts.begun.vars,
+            parts.alloc,
+            quantifier,
+        ),
+        Part::Step(number) => {
+            close_step(&mut parts.begun, number)?;
+            Ok(())
+        }
+    }
+}
+
+/// Takes a token at its place.
+#[inline(always)]
+fn take(here: &mut At, parts: &mut Parts, token: Token) -> Result<Taken<()>, Stop<TraceFault>>
+    requires sound { IsSound here.old parts.old }
+    ensures row { Takes (trace_row (stands parts.old here.old) token) (stands parts.new here.new) result }
+    ensures sound { IsSound here.new parts.new }
+{
+    match take_at(*here, &mut parts.begun, token) {
+        Ok(Move::Goes(next)) => {
+            *here = next;
+            Ok(Taken::More)
+        }
+        Ok(Move::Closes(part)) => match close(parts, part) {
+            Ok(()) => {
+                *here = At::Between;
+                Ok(Taken::More)
+            }
+            Err(_) => {
+                *here = At::Over;
+                Err(Stop::Memory)
+            }
+        },
+        Ok(Move::Ends(outcome)) => {
+            *here = At::Whole(outcome);
+            Ok(Taken::Done(()))
+        }
+        Err(stop) => {
+            *here = At::Over;
+            Err(stop)
+        }
+    }
+}
+
+/// A trace that is read into flat buffers.
+///
+/// Contracts see what is made so far, and where the next token stands.
+#[derive(Drop)]
+pub struct TraceGrammar {
+    at: At,
+    parts: Parts,
+}
+
+impl Model for TraceGrammar {
+    ghost use Rattle.qrp.specs.Making.{Progress, stands, IsSound};
+
+    ghost Value = { Progress };
+
+    ghost view = { λ g. stands g.parts g.at };
+
+    ghost invariant = { λ g. IsSound g.at g.parts };
+}
+
+impl TraceGrammar {
+    /// At the beginning of a trace. It takes no memory.
+    pub fn new(alloc: Global) -> TraceGrammar
+        ensures { result ≡ Making nothing AtP }
+    {
+        TraceGrammar {
+            at: At::P,
+            parts: Parts::new(alloc),
+        }
+    }
+
+    /// The trace that was read. It takes no memory.
+    pub fn into_trace(self) -> FlatTrace
+        requires { IsWhole self }
+        ensures { self ≡ Whole result }
+    {
+        match self.at {
+            At::Whole(outcome) => FlatTrace::whole(self.parts, outcome),
+            _ => unreachable!(),
+        }
+    }
+}
+
+impl Grammar for TraceGrammar {
+    ghost use Rattle.std.specs.Prelude.{⊤};
+    ghost use Rattle.qrp.specs.Making.{Progress, trace_row};
+
+    type Output = ();
+
+    type Fault = TraceFault;
+
+    ghost Place = { Progress };
+
+    ghost place = { λ g. g };
+
+    ghost row_of = { trace_row };
+
+    ghost Kept = { Unit {0} };
+
+    ghost kept = { λ _. tt };
+
+    #[inline(always)]
+    fn take(&mut self, token: Token) -> Result<Taken<()>, Stop<TraceFault>> {
+        take(&mut self.at, &mut self.parts, token)
+    }
+}

@@ -1,0 +1,297 @@
+//! Where a token stands in a trace, and what each place makes of it.
+
+ghost use Rattle.std.specs.Prelude.{◌≡◌, [], IfOk};
+ghost use Rattle.qrp.specs.declared.places.At.TheVariants as at;
+ghost use Rattle.qrp.specs.declared.places.Begun.{Begun};
+ghost use Rattle.qrp.specs.Inferences.{IsNumber};
+ghost use Rattle.qrp.specs.Parts.{has_steps};
+ghost use Rattle.qrp.specs.Places.{row_at, step_row, Moves, Stays, IsAt, IsBegun, IsMoved};
+ghost use Rattle.qrp.specs.Reading.{has_room};
+
+use crate::fault::TraceFault;
+use crate::index::StepIndex;
+use crate::item::{Header, Outcome};
+use crate::tokens::{
+    Opening, antecedent, header_fault, header_number, is_p, is_qrp, literal, member, opened,
+    outcome_of,
+};
+use qbf_core::{GrowingLists, Lit, Quantifier, Var};
+use qbf_text::{Stop, Token};
+use std::alloc::Global;
+
+/// Where the next token stands.
+#[derive(Clone, Copy)]
+pub enum At {
+    /// At the word `p`.
+    P,
+    /// At the word `qrp`.
+    Qrp,
+    /// At the number of variables.
+    Vars,
+    /// At the number of steps, after that of variables.
+    Steps(u64),
+    /// Between lists.
+    Between,
+    /// In a set.
+    Set(Quantifier),
+    /// In the literals of the step with this number.
+    Lits(u64),
+    /// In its antecedents.
+    Ants(u64),
+    /// After `r`.
+    Result,
+    /// Behind a part that is complete, where no token is taken until it was given.
+    Behind(Part),
+    /// Behind this result, where no token is taken.
+    Whole(Outcome),
+    /// Behind a fault, where no token is taken.
+    Over,
+}
+
+/// A part of a trace that is complete. What it lists is in `Begun`.
+#[derive(Clone, Copy)]
+pub enum Part {
+    /// The header.
+    Header(Header),
+    /// A set with this quantifier.
+    Set(Quantifier),
+    /// The step with this number.
+    Step(u64),
+}
+
+/// What a token does.
+#[derive(Clone, Copy)]
+pub enum Move {
+    /// It leads to this place.
+    Goes(At),
+    /// It completes a part.
+    Closes(Part),
+    /// It completes the trace, which has this result.
+    Ends(Outcome),
+}
+
+/// The lists that are begun, and the numbers of the steps that are whole.
+#[derive(Drop)]
+pub struct Begun {
+    /// The variables of a set.
+    pub vars: Vec<Var>,
+    /// The literals of a step, behind those of whole steps if such are kept.
+    pub lits: GrowingLists<Lit>,
+    /// Its antecedents, behind those of whole steps.
+    pub ants: GrowingLists<u64>,
+    /// The numbers of the steps that are whole.
+    pub index: StepIndex,
+}
+
+impl Begun {
+    /// Nothing yet. It takes no memory.
+    pub fn new(alloc: Global) -> Begun
+        ensures index { result.index ≡ [] }
+        ensures lits { result.lits ≡ record { whole = []; begun = [] } }
+        ensures ants { result.ants ≡ record { whole = []; begun = [] } }
+    {
+        Begun {
+            vars: Vec::new(alloc),
+            lits: GrowingLists::new(alloc),
+            ants: GrowingLists::new(alloc),
+            index: StepIndex::new(alloc),
+        }
+    }
+}
+
+// ---- the header
+
+/// Takes the word `p`.
+fn take_p(token: Token) -> Result<Move, Stop<TraceFault>>
+    ensures row { (b : Begun) → Moves (row_at b at.P token) b result }
+    ensures sound { (b : Begun) → IsBegun at.P b → IfOk result (λ m. IsMoved m b) }
+{
+    if is_p(token) {
+        return Ok(Move::Goes(At::Qrp));
+    }
+    Err(Stop::Text(header_fault(token)))
+}
+
+/// Takes the word `qrp`.
+fn take_qrp(token: Token) -> Result<Move, Stop<TraceFault>>
+    ensures row { (b : Begun) → Moves (row_at b at.Qrp token) b result }
+    ensures sound { (b : Begun) → IsBegun at.Qrp b → IfOk result (λ m. IsMoved m b) }
+{
+    if is_qrp(token) {
+        return Ok(Move::Goes(At::Vars));
+    }
+    Err(Stop::Text(header_fault(token)))
+}
+
+/// Takes the number of variables.
+fn take_vars(token: Token) -> Result<Move, Stop<TraceFault>>
+    ensures row { (b : Begun) → Moves (row_at b at.Vars token) b result }
+    ensures sound { (b : Begun) → IsBegun at.Vars b → IfOk result (λ m. IsMoved m b) }
+{
+    match header_number(token) {
+        Some(vars) => Ok(Move::Goes(At::Steps(vars))),
+        None => Err(Stop::Text(header_fault(token))),
+    }
+}
+
+/// Takes the number of steps, which completes the header.
+fn take_steps(vars: u64, token: Token) -> Result<Move, Stop<TraceFault>>
+    ensures row { (b : Begun) → Moves (row_at b (at.Steps vars) token) b result }
+    ensures sound { (b : Begun) → IsBegun (at.Steps vars) b → IfOk result (λ m. IsMoved m b) }
+{
+    match header_number(token) {
+        Some(steps) => Ok(Move::Closes(Part::Header(Header { vars, steps }))),
+        None => Err(Stop::Text(header_fault(token))),
+    }
+}
+
+// ---- between lists
+
+/// Whether a step was read.
+fn has_steps(index: &StepIndex) -> bool
+    ensures { result ≡ has_steps index.now }
+{
+    index.len() != 0
+}
+
+/// Begins a step, if its number is new.
+#[inline(always)]
+fn open_step(begun: &mut Begun, number: u64) -> Result<Move, Stop<TraceFault>>
+    requires number { IsNumber number }
+    ensures row { Moves (step_row begun.old.index number) begun.new result }
+    ensures stays { Stays begun.old begun.new }
+    ensures sound { IfOk result (λ m. IsMoved m begun.new) }
+{
+    if begun.index.contains(number) {
+        return Err(Stop::Text(TraceFault::P5));
+    }
+    begun.lits.begin();
+    Ok(Move::Goes(At::Lits(number)))
+}
+
+/// Takes a token between lists.
+#[inline(always)]
+fn take_opening(begun: &mut Begun, token: Token) -> Result<Move, Stop<TraceFault>>
+    ensures row { Moves (row_at begun.old at.Between token) begun.new result }
+    ensures stays { Stays begun.old begun.new }
+    ensures sound { IfOk result (λ m. IsMoved m begun.new) }
+{
+    let has_steps = has_steps(&begun.index);
+    match opened(has_steps, token) {
+        Ok(Opening::Set(quantifier)) => {
+            begun.vars.clear();
+            Ok(Move::Goes(At::Set(quantifier)))
+        }
+        Ok(Opening::Step(number)) => open_step(begun, number),
+        Ok(Opening::Result) => Ok(Move::Goes(At::Result)),
+        Err(fault) => Err(Stop::Text(fault)),
+    }
+}
+
+// ---- a set
+
+/// Takes a token in a set.
+fn take_member(
+    begun: &mut Begun,
+    quantifier: Quantifier,
+    token: Token,
+) -> Result<Move, Stop<TraceFault>>
+    requires sound { IsBegun (at.Set quantifier) begun.old }
+    ensures row { Moves (row_at begun.old (at.Set quantifier) token) begun.new result }
+    ensures stays { Stays begun.old begun.new }
+    ensures sound { IfOk result (λ m. IsMoved m begun.new) }
+{
+    match member(token) {
+        Ok(Some(var)) => match begun.vars.push(var) {
+            Ok(()) => Ok(Move::Goes(At::Set(quantifier))),
+            Err(_) => Err(Stop::Memory),
+        },
+        Ok(None) => Ok(Move::Closes(Part::Set(quantifier))),
+        Err(fault) => Err(Stop::Text(fault)),
+    }
+}
+
+// ---- a step
+
+/// Takes a token in the literals of a step.
+#[inline(always)]
+fn take_literal(begun: &mut Begun, number: u64, token: Token) -> Result<Move, Stop<TraceFault>>
+    requires sound { IsBegun (at.Lits number) begun.old }
+    ensures row { Moves (row_at begun.old (at.Lits number) token) begun.new result }
+    ensures stays { Stays begun.old begun.new }
+    ensures sound { IfOk result (λ m. IsMoved m begun.new) }
+{
+    match literal(token) {
+        Ok(Some(lit)) => match begun.lits.push(lit) {
+            Ok(()) => Ok(Move::Goes(At::Lits(number))),
+            Err(_) => Err(Stop::Memory),
+        },
+        Ok(None) => {
+            begun.ants.begin();
+            Ok(Move::Goes(At::Ants(number)))
+        }
+        Err(fault) => Err(Stop::Text(fault)),
+    }
+}
+
+/// Whether another antecedent may come.
+#[inline(always)]
+fn has_room(ants: &GrowingLists<u64>) -> bool
+    ensures says { result ≡ has_room ants.now.begun }
+{
+    ants.begun_len() < 2
+}
+
+/// Takes a token in the antecedents of a step.
+#[inline(always)]
+fn take_antecedent(begun: &mut Begun, number: u64, token: Token) -> Result<Move, Stop<TraceFault>>
+    requires sound { IsBegun (at.Ants number) begun.old }
+    ensures row { Moves (row_at begun.old (at.Ants number) token) begun.new result }
+    ensures stays { Stays begun.old begun.new }
+    ensures sound { IfOk result (λ m. IsMoved m begun.new) }
+{
+    let room = has_room(&begun.ants);
+    match antecedent(room, token) {
+        Ok(Some(ant)) => match begun.ants.push(ant) {
+            Ok(()) => Ok(Move::Goes(At::Ants(number))),
+            Err(_) => Err(Stop::Memory),
+        },
+        Ok(None) => Ok(Move::Closes(Part::Step(number))),
+        Err(fault) => Err(Stop::Text(fault)),
+    }
+}
+
+// ---- the whole
+
+/// Takes the word of the result, which completes the trace.
+fn take_result(token: Token) -> Result<Move, Stop<TraceFault>>
+    ensures row { (b : Begun) → Moves (row_at b at.Result token) b result }
+    ensures sound { (b : Begun) → IfOk result (λ m. IsMoved m b) }
+{
+    match outcome_of(token) {
+        Ok(outcome) => Ok(Move::Ends(outcome)),
+        Err(fault) => Err(Stop::Text(fault)),
+    }
+}
+
+/// Takes a token at this place. Whole lists and the numbers of whole steps stay as they are.
+#[inline(always)]
+pub fn take_at(here: At, begun: &mut Begun, token: Token) -> Result<Move, Stop<TraceFault>>
+    requires sound { IsAt here begun.old }
+    ensures row { Moves (row_at begun.old here token) begun.new result }
+    ensures stays { Stays begun.old begun.new }
+    ensures sound { IfOk result (λ m. IsMoved m begun.new) }
+{
+    match here {
+        At::Lits(number) => take_literal(begun, number, token),
+        At::Ants(number) => take_antecedent(begun, number, token),
+        At::Between => take_opening(begun, token),
+        At::Set(quantifier) => take_member(begun, quantifier, token),
+        At::Result => take_result(token),
+        At::P => take_p(token),
+        At::Qrp => take_qrp(token),
+        At::Vars => take_vars(token),
+        At::Steps(vars) => take_steps(vars, token),
+        At::Behind(_) | At::Whole(_) | At::Over => Err(Stop::Text(TraceFault::P7)),
+    }
+}

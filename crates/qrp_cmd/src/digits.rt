@@ -1,0 +1,49 @@
+//! The digits of a number, put where they belong.
+
+ghost use Rattle.std.specs.Prelude.{◌≡◌, ◌+◌, ◌≤◌, ◌<◌, ◌++◌, length, take, drop, decimal};
+
+use itoa::write_digits;
+
+/// How many digits a number below 10,000 has.
+#[inline(always)]
+fn short_count(n: u64) -> usize
+    requires { n < 10000 }
+    ensures { result ≡ length (decimal n) }
+{
+    if n < 10 {
+        1
+    } else if n < 100 {
+        2
+    } else if n < 1000 {
+        3
+    } else {
+        4
+    }
+}
+
+/// How many digits a number has.
+#[inline(always)]
+fn digit_count(n: u64) -> usize
+    ensures { result ≡ length (decimal n) }
+{
+    let mut count = 0;
+    let mut left = n;
+    while left >= 10_000 {
+        left /= 10_000;
+        count += 4;
+    }
+    count + short_count(left)
+}
+
+/// Puts the digits of a number from a place on, and answers where they end. There is room for the longest number.
+#[inline(always)]
+pub fn put_digits(bytes: &mut [u8], at: usize, n: u64) -> usize
+    requires { at + 20 ≤ length bytes.old }
+    ensures end { result ≡ at + length (decimal n) }
+    ensures written { drop at bytes.new ≡ decimal n ++ drop result bytes.old }
+    ensures before { take at bytes.new ≡ take at bytes.old }
+{
+    let end = at + digit_count(n);
+    let _start = write_digits(n, bytes, end);
+    end
+}

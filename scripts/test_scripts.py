@@ -1,0 +1,268 @@
+"""Tests scripts/show-step and scripts/draw-proof. usage: scripts/test_scripts.py PROGRAM LIST UNREADABLE
+
+scripts/test-scripts calls it. LIST has the rows that refuse a step or verify: flag, formula, trace and line. UNREADABLE has the
+rows that cannot be read, and should be empty.
+"""
+
+import os
+import re
+import subprocess
+import sys
+import tempfile
+from pathlib import Path
+
+from qrp_steps import Formula, Trace, first_fault
+
+ROOT = Path(__file__).resolve().parent.parent
+SHOW = ROOT / "scripts" / "show-step"
+DRAW = ROOT / "scripts" / "draw-proof"
+EXAMPLES = sorted(folder for folder in (ROOT / "examples").iterdir() if folder.is_dir())
+FAULTS = {f"S{n}" for n in range(1, 13)}
+# Of the damages of a proof the first twenty are tried, and every so many of the others.
+EVERY = 16
+
+passed = failed = 0
+
+
+def expect(name, holds, found=""):
+    """Counts a case, and says which one failed."""
+    global passed, failed
+    if holds:
+        passed += 1
+    else:
+        failed += 1
+        print(f"FAILED: {name} {str(found)[:600]}")
+
+
+def run(script, *words, program):
+    environment = dict(os.environ, QRP_CMD=str(program))
+    return subprocess.run([sys.executable, script, *map(str, words)], capture_output=True, text=True, env=environment, check=False)
+
+
+def check(program, formula, trace, *flags):
+    return subprocess.run([program, "check", *flags, formula, trace], capture_output=True, text=True, check=False).stdout.strip()
+
+
+def try_rows(program, rows):
+    """What the script finds of each row is what the program says, of a refused step with its number and without."""
+    seen = set()
+    for row in rows:
+        flag, formula, trace, line = row.split("\t")
+        flags = [flag] if flag else []
+        expect(f"{flag} {line}, the first fault", agrees(program, formula, trace, flags, Formula(formula)) == (True, line), row)
+        if line.startswith("VERIFIED "):
+            continue
+        number, fault = re.fullmatch(r"REFUSED step (\d+) (S\d+)", line).groups()
+        seen.add(fault)
+        shown = run(SHOW, *flags, formula, trace, program=program)
+        holds = shown.stdout.startswith(f"qrp_cmd says: {line}\n") and f"\nIt does not follow: {fault}. " in shown.stdout
+        expect(f"{flag} {line}", shown.returncode == 0 and holds and not shown.stderr, shown)
+        numbered = run(SHOW, *flags, formula, trace, number, program="/nonexistent")
+        expect(f"{flag} {line}, by its number", numbered.returncode == 0 and numbered.stdout in shown.stdout, numbered)
+        if fault == "S3":
+            drawn = run(DRAW, formula, trace, program=program)
+            nodes, edges = read_graph(f"{flag} {line}, drawn", drawn.stdout)
+            expect(f"{flag} {line}: every step drawn but the last is needed", {n for n, _ in edges} == {n for n, _ in nodes[:-1]}, drawn)
+    expect("the rows have all faults of steps", seen == FAULTS, sorted(FAULTS - seen))
+
+
+def step_damages(steps, place, unbound):
+    """Other forms of a step: literals and antecedents left out, changed and added."""
+    number, literals, antecedents = steps[place]
+    for i in range(0, len(literals), max(1, len(literals) // 3)):
+        rest = literals[:i] + literals[i + 1 :]
+        yield number, rest, antecedents
+        yield number, [*rest, -literals[i]], antecedents
+        yield number, [*literals, -literals[i]], antecedents
+        yield number, [*rest, *rest], antecedents
+    yield number, [*literals, unbound], antecedents
+    yield number, [*literals, -(place % (unbound - 1) + 1)], antecedents
+    yield number, [], antecedents
+    others = [steps[p][0] for p in (place, (place + 1) % len(steps), place // 2, place // 3, place - 1)]
+    for i in range(len(antecedents)):
+        yield number, literals, antecedents[:i] + antecedents[i + 1 :]
+        for other in others:
+            yield number, literals, [*antecedents[:i], other, *antecedents[i + 1 :]]
+    yield number, literals, antecedents[::-1]
+    if len(antecedents) < 2:
+        for other in others:
+            yield number, literals, [*antecedents, other]
+
+
+def damages(formula, trace):
+    """The two texts with one thing changed, without the trace's quantifier sets: the result, each quantifier, a clause, each step."""
+    kept = Trace(trace)
+    steps = [(step.number, step.literals, step.antecedents) for step in kept.steps()]
+    text = formula.read_text()
+    header = re.search(r"^p cnf (\d+) (\d+)$", text, re.MULTILINE)
+
+    def written(steps, result):
+        words = ([number, *literals, 0, *antecedents, 0] for number, literals, antecedents in steps)
+        return "p qrp 0 0\n" + "".join(" ".join(map(str, line)) + "\n" for line in words) + f"r {result}\n"
+
+    yield text, written(steps, "sat" if kept.result == "unsat" else "unsat")
+    for letter in re.finditer(r"^[ae] ", text, re.MULTILINE):
+        other = "a" if letter[0] == "e " else "e"
+        yield text[: letter.start()] + other + text[letter.start() + 1 :], written(steps, kept.result)
+    more_clauses = text.replace(header[0], f"p cnf {header[1]} {int(header[2]) + 1}")
+    yield f"{more_clauses}\n1 -1 0\n", written(steps, kept.result)
+    for place in range(len(steps)):
+        for step in step_damages(steps, place, int(header[1]) + 1):
+            yield text, written([*steps[:place], step, *steps[place + 1 :]], kept.result)
+
+
+def agrees(program, formula, trace, flags, read):
+    """Whether the program says of the files what the script finds; and the program's line. `read` is the formula."""
+    line = check(program, formula, trace, *flags)
+    found = first_fault(read, Trace(trace), bool(flags))
+    if found:
+        return line == f"REFUSED step {found[0]} {found[1]}", line
+    return line.startswith("VERIFIED ") or (line == "REFUSED trace C4" and not Trace(trace).core()), line
+
+
+def try_damages(program, pairs):
+    """On damaged proofs the script's first fault is the program's, by both sets of rules."""
+    seen = set()
+    with tempfile.TemporaryDirectory() as folder:
+        changed_formula, changed_trace = Path(folder) / "formula", Path(folder) / "trace"
+        for formula, trace in pairs:
+            last = None
+            for case, (formula_text, trace_text) in enumerate(damages(formula, trace)):
+                if case >= 20 and case % EVERY != 0:
+                    continue
+                if formula_text != last:
+                    changed_formula.write_text(formula_text)
+                    last, read = formula_text, Formula(changed_formula)
+                changed_trace.write_text(trace_text)
+                for flags in [], ["--qu"]:
+                    holds, line = agrees(program, changed_formula, changed_trace, flags, read)
+                    seen.add(line.split()[-1])
+                    expect(f"damage {case} of {trace.name} {flags}: the program says {line}", holds, trace_text)
+    expect("the damaged proofs have all faults of steps", FAULTS <= seen, sorted(FAULTS - seen))
+
+
+def try_proofs(program, pairs):
+    """In real proofs the script finds no fault."""
+    for formula, trace in pairs:
+        holds, line = agrees(program, formula, trace, [], Formula(formula))
+        expect(f"{trace.name}: the program says {line}", holds and line.startswith("VERIFIED "))
+
+
+NODE = re.compile(r"    (\d+) \[shape=(box|ellipse), label=<<B>\1</B><BR/>(?:[- 0-9]|<U>|</U>|<BR/>|empty (?:clause|cube))+>\];")
+EDGE = re.compile(r'    (\d+) -> (\d+) \[label="(?:-?\d+)?(?:, )?(?:reduced)?"\];')
+
+
+def read_graph(name, text):
+    """The nodes and edges of the graph's text, which has to have the form that draw-proof gives it."""
+    lines = text.splitlines()
+    nodes = [(line[1], line[2]) for line in map(NODE.fullmatch, lines) if line]
+    edges = [(line[1], line[2]) for line in map(EDGE.fullmatch, lines) if line]
+    expect(f"{name}: the frame", lines[0] == "digraph proof {" and lines[-1] == "}")
+    expect(f"{name}: no other lines", len(lines) == 4 + len(nodes) + len(edges), lines)
+    expect(f"{name}: tags are closed", text.count("<U>") == text.count("</U>"))
+    return nodes, edges
+
+
+def try_drawings(program):
+    """The graph of a proof has the steps that `trim` keeps as its nodes, and their antecedents as its edges."""
+    pairs = [(f / f"{f.name}.qdimacs", f / f"{f.name}.qrp") for f in EXAMPLES]
+    for formula, trace in [*pairs, (ROOT / "examples" / "two_clauses.qdimacs", ROOT / "examples" / "two_clauses.qrp")]:
+        drawn = run(DRAW, formula, trace, program=program)
+        expect(f"{trace.name}: status", drawn.returncode == 0 and not drawn.stderr, drawn.stderr)
+        nodes, edges = read_graph(trace.name, drawn.stdout)
+        trimmed = subprocess.run([program, "trim", formula, trace], capture_output=True, text=True, check=False).stdout
+        steps = [line.split() for line in trimmed.splitlines() if line[0].isdigit()]
+        shapes = [(step[0], "box" if step[-2:] == ["0", "0"] else "ellipse") for step in steps]
+        expect(f"{trace.name}: the steps that trim keeps", nodes == shapes)
+        wanted = [(n, step[0]) for step in steps for n in step[step.index("0") + 1 : -1]]
+        expect(f"{trace.name}: an edge from each antecedent", edges == wanted)
+        picture = trace.parent / "proof.svg"
+        if picture.exists():
+            titles = re.findall(r"<title>(\d+)(?:&#45;&gt;(\d+))?</title>", picture.read_text())
+            expect(f"{picture}: the nodes", sorted(a for a, b in titles if not b) == sorted(n for n, _ in nodes))
+            expect(f"{picture}: the edges", sorted(pair for pair in titles if pair[1]) == sorted(edges))
+
+
+def try_words(program):
+    """Command lines that are wrong end with status 2, and where there is nothing to show the status is 1."""
+    formula, trace = ROOT / "examples" / "two_clauses.qdimacs", ROOT / "examples" / "two_clauses.qrp"
+    for script in SHOW, DRAW:
+        for words in [], [formula], [formula, trace, "1", "2"], ["--other", formula, trace], [formula, "/nonexistent"], ["/nonexistent", trace]:
+            words = [*words, "1"] if script == SHOW and len(words) == 2 else words
+            ended = run(script, *words, program=program)
+            expect(f"usage: {script.name} {words}", ended.returncode == 2 and not ended.stdout and ended.stderr, ended)
+    for words in [formula, trace, "one"], [formula, trace, "-1"]:
+        ended = run(SHOW, *words, program=program)
+        expect(f"usage: show-step {words}", ended.returncode == 2 and not ended.stdout, ended)
+    ended = run(SHOW, formula, trace, program="/nonexistent")
+    expect("no program", ended.returncode == 2 and not ended.stdout, ended)
+    ended = run(SHOW, formula, trace, program=program)
+    expect("no step is refused", ended.returncode == 1 and ended.stdout.startswith("qrp_cmd says: VERIFIED false\n"), ended)
+    ended = run(SHOW, formula, trace, "6", program=program)
+    expect("no such step", ended.returncode == 1 and ended.stdout == "The trace has no step 6.\n", ended)
+    ended = run(SHOW, trace, formula, "1", program=program)
+    expect("no formula", ended.returncode == 1 and not ended.stdout and ended.stderr, ended)
+    ended = run(DRAW, formula, formula, program=program)
+    expect("no trace", ended.returncode == 1 and ended.stderr, ended)
+
+
+def try_texts(program):
+    """Texts in other layouts are read as the program reads them, and tokens that it refuses are not read."""
+    formula = b"c first\r\np cnf 2 2\r\n e 1\t0\na 2 0\n c inside\n1\nc between\n02 00 -1 2 0"
+    trace = b"# first\nc second\np qrp 0 0\n1 1 2 0\n0 2 -1 2 0 0 3\n1 0 1 0 4 -01 0 2 0\n5 0 3 4 0 r UnSat x"
+    tokens = [b"-", b"+1", b"-0", b"-00", b"1-2", b"1_0", b"--1", b"\v1", b"1\f", b"1x", b"\xff", b"a", b"sat"]
+    with tempfile.TemporaryDirectory() as folder:
+        odd_formula, odd_trace, bad = (Path(folder) / name for name in ("formula", "trace", "bad"))
+        odd_formula.write_bytes(formula)
+        odd_trace.write_bytes(trace)
+        expect("an odd layout", agrees(program, odd_formula, odd_trace, [], Formula(odd_formula)) == (True, "VERIFIED false"))
+        for token in tokens:
+            bad.write_bytes(formula.replace(b"-1", token))
+            line = check(program, bad, odd_trace)
+            ended = run(SHOW, bad, odd_trace, "5", program=program)
+            expect(f"{token} in a formula: {line}", line.startswith("REFUSED formula F3 ") and ended.returncode == 1 and not ended.stdout, ended)
+            bad.write_bytes(trace.replace(b"-01", token))
+            line = check(program, odd_formula, bad)
+            ended = run(SHOW, odd_formula, bad, "5", program=program)
+            expect(f"{token} in a trace: {line}", line.startswith("REFUSED trace P3 ") and ended.returncode == 1 and not ended.stdout, ended)
+
+
+def try_page(program):
+    """The commands of docs/REFUSED.md print what the page says."""
+    text = (ROOT / "docs" / "REFUSED.md").read_text()
+    block = re.search(r"^    \$ .*\n(?:    .*\n|\n)*", text, re.MULTILINE)[0]
+    lines = [line[4:] for line in block.rstrip().splitlines()]
+    commands = [line[2:] for line in lines if line.startswith("$ ")]
+    page = "\n".join(line for line in lines if not line.startswith("$ "))
+    environment = dict(os.environ, QRP_CMD=str(program), ROOT=str(ROOT))
+    with tempfile.TemporaryDirectory() as folder:
+        for name in "scripts", "examples":
+            (Path(folder) / name).symlink_to(ROOT / name)
+        printed = subprocess.run(["bash", "-c", "\n".join(commands)], cwd=folder, capture_output=True, text=True, env=environment, check=False)
+    expect("docs/REFUSED.md", page == printed.stdout.rstrip(), printed)
+
+
+def main():
+    program, rows, unreadable = sys.argv[1:]
+    for row in Path(unreadable).read_text().splitlines():
+        expect(row, False)
+    folder = ROOT / "tests" / "traces"
+    listed = [row.split("\t") for row in (folder / "expected.tsv").read_text().splitlines()[1:]]
+    real = [(folder / row[0], folder / row[1]) for row in listed]
+    trimmed = [(f / f"{f.name}.qdimacs", f / f"{f.name}.trimmed.qrp") for f in EXAMPLES]
+    small = [pair for pair in trimmed if pair[1].stat().st_size < 10000]
+    few = [pair for pair in real if pair[1].name in ("kbkf2.trad.qrp", "adder2.lazy.qrp")]
+    try_rows(program, Path(rows).read_text().splitlines())
+    try_proofs(program, real + trimmed)
+    expect("six proofs to damage", len(small + few) == 6, small + few)
+    try_damages(program, small + few)
+    try_drawings(program)
+    try_words(program)
+    try_texts(program)
+    try_page(program)
+    print(f"{passed} passed, {failed} failed")
+    return 1 if failed or not passed else 0
+
+
+if __name__ == "__main__":
+    sys.exit(main())
