@@ -11,7 +11,6 @@
 #include <stdio.h>
 #include <stdlib.h>
 #include <string.h>
-#include <strings.h>
 #include <time.h>
 
 struct text { uint8_t *bytes; size_t length; };
@@ -19,7 +18,7 @@ struct example { struct text formula, trace; bool any_pivot; int status; char li
 
 static struct example examples[4096];
 static size_t count;
-static unsigned long passed, failed, refused, survived;
+static unsigned long passed, failed, refused;
 
 static void settle(bool is, const char *what, const struct example *of) {
     if (is) { passed++; return; }
@@ -114,18 +113,9 @@ static void each_alignment(const struct example *of) {
     settle(is, "at each alignment", of);
 }
 
-/* whether the steps of a trace are cubes */
-static bool has_cubes(const struct example *of) {
-    for (size_t i = 0; i + 5 <= of->trace.length; i++)
-        if (!strncasecmp((const char *)of->trace.bytes + i, "r sat", 5)) return true;
-    return false;
-}
-
-/* Each request for memory is refused once: the answer is NO MEMORY, and what was asked for a block to shrink to changes nothing. Where
-   initial cubes are looked at, some memory only saves time: the answer stands without it. These are counted, and so many are known. */
 static void each_refusal(const struct example *of) {
     struct qrp_verdict v;
-    bool is = true, cubes = has_cubes(of);
+    bool is = true;
     requests = refuse_at = 0;
     verify(of, of->formula.bytes, of->trace.bytes, &v);
     long all = requests;
@@ -134,9 +124,7 @@ static void each_refusal(const struct example *of) {
         int status = verify(of, of->formula.bytes, of->trace.bytes, &v);
         refuse_at = 0;
         is &= was_refused && blocks == 0;
-        bool stands = is_answer(status, &v, of->status, of->line);
-        survived += was_growth && cubes && stands;
-        is &= was_growth && !(cubes && stands) ? is_answer(status, &v, QRP_NO_MEMORY, "NO MEMORY\n") : stands;
+        is &= was_growth ? is_answer(status, &v, QRP_NO_MEMORY, "NO MEMORY\n") : is_answer(status, &v, of->status, of->line);
         refused += was_refused;
     }
     settle(is && blocks == 0, "each allocation refused", of);
@@ -224,6 +212,6 @@ int main(int arguments, char **words) {
     }
     eight_threads();
     printf("in C: %lu cases, %lu allocations refused\n", (unsigned long)count, refused);
-    printf("%lu %lu %lu %lu\n", passed, failed, refused, survived);
+    printf("%lu %lu %lu\n", passed, failed, refused);
     return failed != 0;
 }

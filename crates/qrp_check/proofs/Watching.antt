@@ -1,5 +1,5 @@
 -- Clauses that are watched, while lists are written to and handed over.
-use Rattle.std.proofs.Common.{◌≡◌, ◌≢◌, ◌<◌, ◌≤◌, ◌+◌, ℕ, zero, suc, List, [], ◌∷◌, ◌⊎◌, ◌++◌, length, get_or, slice_get, Some, Contains, take, drop, refl, sym, ap, subst, ◌∙◌, inl, inr, arith}
+use Rattle.std.proofs.Common.{◌≡◌, ◌≢◌, ◌<◌, ◌≤◌, ◌+◌, ℕ, zero, suc, List, [], ◌∷◌, ◌⊎◌, ◌++◌, length, get_or, slice_get, Some, Contains, Bool, IsTrue, Result, Ok, Err, IfOk, take, drop, refl, sym, ap, subst, ◌∙◌, inl, inr, arith}
 use Rattle.std.proofs.Math.ListN.{set}
 use Rattle.std.proofs.lemmas.List.{append-nil, drop_all, length-set, take_all}
 use Rattle.std.proofs.lemmas.Bool.{cases_eq}
@@ -63,6 +63,11 @@ met_by f cube watches i clause l at held in_cube by = λ other there.
     let both : Some clause ≡ Some other = sym at ∙ there in
     let same : clause ≡ other = cc both in
     inr (l, subst (λ (z : List Literal). l ∈ z) same held, in_cube, by)
+
+-- what follows where a call says so follows from what it says
+pub met_if : {P Q E : Type 0} (r : Result Bool E) → IfOk r (λ is. IsTrue is → P) → (P → Q) → IfOk r (λ is. IsTrue is → Q)
+met_if (Ok is) holds then = λ t. then (holds t)
+met_if (Err e) holds then = tt
 
 -- a clause that nothing can make false
 pub met_always : (f : Qbf) (cube : List Literal) (watches : List Watch) (i : ℕ) (clause : List Literal) → slice_get f.clauses i ≡ Some clause

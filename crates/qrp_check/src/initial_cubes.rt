@@ -1,7 +1,7 @@
 //! Initial cubes: each clause of the formula is watched by one of its literals, and looked at again only where a cube
 //! lacks that literal.
 
-ghost use Rattle.std.specs.Prelude.{◌≡◌, ◌<◌, ℕ, [], ◌∷◌, List, Some, Contains, IsTrue, IfOk, IfSome, length, slice_get, slice_set};
+ghost use Rattle.std.specs.Prelude.{◌≡◌, ◌<◌, ℕ, [], ◌∷◌, List, Some, Contains, IsTrue, IfOk, IfSome, OnOk, length, slice_get, slice_set};
 ghost use Rattle.qbf_core.specs.Literal.{Literal};
 ghost use Rattle.qbf_core.specs.Lists.{◌∈◌};
 ghost use Rattle.qbf_core.specs.Qbf.{Qbf};
@@ -67,30 +67,34 @@ fn watches_of(alloc: Global, lits: &[Lit]) -> Result<Vec<Watch>, AllocError>
     Ok(watches)
 }
 
-/// Adds a clause to those of a literal. `false` says that memory was refused.
-fn add(watch: &mut Watch, clause: usize) -> bool
+/// Adds a clause to those of a literal.
+fn add(watch: &mut Watch, clause: usize) -> Result<(), AllocError>
     ensures lit { watch.new.lit ≡ watch.old.lit }
     ensures kept { (i : ℕ) → Contains watch.old.clauses.items i → Contains watch.new.clauses.items i }
-    ensures added { IsTrue result → Contains watch.new.clauses.items clause }
+    ensures added { OnOk result (Contains watch.new.clauses.items clause) }
 {
-    match watch.clauses.push(clause) {
-        Ok(()) => true,
-        Err(_) => false,
-    }
+    watch.clauses.push(clause)?;
+    Ok(())
 }
 
-/// Watches a clause by a literal, whose place this is.
-fn watch_by(watches: &mut [Watch], place: usize, lit: Lit, clause: usize) -> bool
+/// Watches a clause by a literal, whose place this is. `false` says that its list is not there.
+fn watch_by(
+    watches: &mut [Watch],
+    place: usize,
+    lit: Lit,
+    clause: usize,
+) -> Result<bool, AllocError>
     ensures kept { KeepsWatches watches.old watches.new }
-    ensures added { IsTrue result → IsWatchedBy watches.new lit clause }
+    ensures added { IfOk result (λ is. IsTrue is → IsWatchedBy watches.new lit clause) }
 {
     if place >= watches.len() {
-        return false;
+        return Ok(false);
     }
     if watches[place].lit == lit {
-        return add(&mut watches[place], clause);
+        add(&mut watches[place], clause)?;
+        return Ok(true);
     }
-    false
+    Ok(false)
 }
 
 /// Whether this is the list of a literal, with no clause.
@@ -116,13 +120,18 @@ fn hand_over(watches: &mut [Watch], place: usize, from: Watch) -> bool
     false
 }
 
-/// Watches a clause by one of its literals that a cube holds, and says whether it needs one and has none.
-fn watch_clause(formula: &Formula, cube: &[Lit], watches: &mut [Watch], clause: usize) -> bool
+/// Watches a clause by one of its literals that a cube holds. `false` says that it has none, and is no tautology.
+fn watch_clause(
+    formula: &Formula,
+    cube: &[Lit],
+    watches: &mut [Watch],
+    clause: usize,
+) -> Result<bool, AllocError>
     ensures kept { KeepsWatches watches.old watches.new }
-    ensures met { IsTrue result → IsMet formula.now cube.now watches.new clause }
+    ensures met { IfOk result (λ is. IsTrue is → IsMet formula.now cube.now watches.new clause) }
 {
     if clause >= formula.clauses() {
-        return false;
+        return Ok(false);
     }
     let lits = formula.clause(clause);
     for lit in lits {
@@ -130,58 +139,76 @@ fn watch_clause(formula: &Formula, cube: &[Lit], watches: &mut [Watch], clause: 
             return watch_by(watches, place, *lit, clause);
         }
     }
-    is_tautology(lits)
+    Ok(is_tautology(lits))
 }
 
 /// Watches each of these clauses.
-fn watch_each(formula: &Formula, cube: &[Lit], watches: &mut [Watch], clauses: &[usize]) -> bool
+fn watch_each(
+    formula: &Formula,
+    cube: &[Lit],
+    watches: &mut [Watch],
+    clauses: &[usize],
+) -> Result<bool, AllocError>
     ensures kept { KeepsWatches watches.old watches.new }
-    ensures met { IsTrue result → (i : ℕ) → Contains clauses.now i → IsMet formula.now cube.now watches.new i }
+    ensures met { IfOk result (λ is. IsTrue is → (i : ℕ) → Contains clauses.now i → IsMet formula.now cube.now watches.new i) }
 {
     for clause in clauses {
-        if !watch_clause(formula, cube, watches, *clause) {
-            return false;
+        let is_met = watch_clause(formula, cube, watches, *clause)?;
+        if !is_met {
+            return Ok(false);
         }
     }
-    true
+    Ok(true)
 }
 
 /// Watches each clause of the formula.
-fn watch_all(formula: &Formula, cube: &[Lit], watches: &mut [Watch]) -> bool
-    ensures { IsTrue result → (i : ℕ) → IsMet formula.now cube.now watches.new i }
+fn watch_all(formula: &Formula, cube: &[Lit], watches: &mut [Watch]) -> Result<bool, AllocError>
+    ensures { IfOk result (λ is. IsTrue is → (i : ℕ) → IsMet formula.now cube.now watches.new i) }
 {
     for clause in 0..formula.clauses() {
-        if !watch_clause(formula, cube, watches, clause) {
-            return false;
+        let is_met = watch_clause(formula, cube, watches, clause)?;
+        if !is_met {
+            return Ok(false);
         }
     }
-    true
+    Ok(true)
 }
 
 /// Watches the clauses of a literal by the same, if the cube holds it, and else by others.
-fn take_over(formula: &Formula, cube: &[Lit], watches: &mut [Watch], from: Watch) -> bool
-    ensures kept { IsTrue result → KeepsWatches watches.old watches.new }
-    ensures met { IsTrue result → (clause : List Literal) (i : ℕ) → slice_get formula.now.clauses i ≡ Some clause
-        → from.lit ∈ clause → Contains from.clauses.items i → IsMet formula.now cube.now watches.new i }
+fn take_over(
+    formula: &Formula,
+    cube: &[Lit],
+    watches: &mut [Watch],
+    from: Watch,
+) -> Result<bool, AllocError>
+    ensures kept { IfOk result (λ is. IsTrue is → KeepsWatches watches.old watches.new) }
+    ensures met { IfOk result (λ is. IsTrue is → (clause : List Literal) (i : ℕ) → slice_get formula.now.clauses i ≡ Some clause
+        → from.lit ∈ clause → Contains from.clauses.items i → IsMet formula.now cube.now watches.new i) }
 {
     match place_of(cube, from.lit) {
-        Some(place) => hand_over(watches, place, from),
+        Some(place) => Ok(hand_over(watches, place, from)),
         None => watch_each(formula, cube, watches, &from.clauses),
     }
 }
 
 /// Watches all clauses that were watched by the literals of another cube.
-fn take_over_all(formula: &Formula, cube: &[Lit], watches: &mut [Watch], from: Vec<Watch>) -> bool
+fn take_over_all(
+    formula: &Formula,
+    cube: &[Lit],
+    watches: &mut [Watch],
+    from: Vec<Watch>,
+) -> Result<bool, AllocError>
     requires { (i : ℕ) → IsHeld formula.now cube.now from.items watches.old i }
-    ensures { IsTrue result → (i : ℕ) → IsMet formula.now cube.now watches.new i }
+    ensures { IfOk result (λ is. IsTrue is → (i : ℕ) → IsMet formula.now cube.now watches.new i) }
 {
     let mut left = from;
     while let Some(watch) = left.pop() {
-        if !take_over(formula, cube, watches, watch) {
-            return false;
+        let is_met = take_over(formula, cube, watches, watch)?;
+        if !is_met {
+            return Ok(false);
         }
     }
-    true
+    Ok(true)
 }
 
 /// Puts a list in the place of another, which it hands out.
@@ -201,11 +228,9 @@ struct Aligned {
 }
 
 /// Keeps the lists of the literals that stand at the same place in a cube of the same length, and puts the others aside.
-///
-/// `None` if memory was refused.
-fn align(alloc: Global, cube: &[Lit], from: Vec<Watch>) -> Option<Aligned>
+fn align(alloc: Global, cube: &[Lit], from: Vec<Watch>) -> Result<Aligned, AllocError>
     requires { length from.items ≡ length cube.now }
-    ensures { IfSome result (IsAligned cube.now from.items) }
+    ensures { IfOk result (IsAligned cube.now from.items) }
 {
     let mut watches = from;
     let mut aside = Vec::new(alloc);
@@ -216,56 +241,47 @@ fn align(alloc: Global, cube: &[Lit], from: Vec<Watch>) -> Option<Aligned>
         }
         let clauses = Vec::new(alloc);
         let other = exchange(&mut watches, place, Watch { lit, clauses });
-        match aside.push(other) {
-            Ok(()) => {}
-            Err(_) => return None,
-        }
+        aside.push(other)?;
     }
-    Some(Aligned { watches, aside })
+    Ok(Aligned { watches, aside })
 }
 
 /// Lists for the literals of a cube: those that were there before are kept where they can stay.
-fn begin(alloc: Global, cube: &[Lit], from: Vec<Watch>) -> Option<Aligned>
-    ensures { IfSome result (IsAligned cube.now from.items) }
+fn begin(alloc: Global, cube: &[Lit], from: Vec<Watch>) -> Result<Aligned, AllocError>
+    ensures { IfOk result (IsAligned cube.now from.items) }
 {
     if from.len() == cube.len() {
         return align(alloc, cube, from);
     }
-    match watches_of(alloc, cube) {
-        Ok(watches) => Some(Aligned {
-            watches,
-            aside: from,
-        }),
-        Err(_) => None,
-    }
+    let watches = watches_of(alloc, cube)?;
+    Ok(Aligned {
+        watches,
+        aside: from,
+    })
 }
 
-/// Watches each clause by a literal of a cube, as they are watched by those of another. `None` where one has none, or
-/// memory was refused.
-fn renew(alloc: Global, formula: &Formula, cube: &[Lit], from: Vec<Watch>) -> Option<Vec<Watch>>
+/// Watches each clause by a literal of a cube, as they are watched by those of another. `None` if one has none.
+fn renew(
+    alloc: Global,
+    formula: &Formula,
+    cube: &[Lit],
+    from: Vec<Watch>,
+) -> Result<Option<Vec<Watch>>, AllocError>
     requires { (i : ℕ) → IsWatched formula.now from.items i }
-    ensures { IfSome result (λ watches. (i : ℕ) → IsMet formula.now cube.now watches.items i) }
+    ensures { IfOk result (λ found. IfSome found (λ watches. (i : ℕ) → IsMet formula.now cube.now watches.items i)) }
 {
     let Aligned { mut watches, aside } = begin(alloc, cube, from)?;
-    if take_over_all(formula, cube, &mut watches, aside) {
-        Some(watches)
-    } else {
-        None
-    }
+    let is_met = take_over_all(formula, cube, &mut watches, aside)?;
+    if is_met { Ok(Some(watches)) } else { Ok(None) }
 }
 
 /// The same where none is watched yet.
-fn first(alloc: Global, formula: &Formula, cube: &[Lit]) -> Option<Vec<Watch>>
-    ensures { IfSome result (λ watches. (i : ℕ) → IsMet formula.now cube.now watches.items i) }
+fn first(alloc: Global, formula: &Formula, cube: &[Lit]) -> Result<Option<Vec<Watch>>, AllocError>
+    ensures { IfOk result (λ found. IfSome found (λ watches. (i : ℕ) → IsMet formula.now cube.now watches.items i)) }
 {
-    let Ok(mut watches) = watches_of(alloc, cube) else {
-        return None;
-    };
-    if watch_all(formula, cube, &mut watches) {
-        Some(watches)
-    } else {
-        None
-    }
+    let mut watches = watches_of(alloc, cube)?;
+    let is_met = watch_all(formula, cube, &mut watches)?;
+    if is_met { Ok(Some(watches)) } else { Ok(None) }
 }
 
 /// Watches each clause by a literal of a cube, as they are watched by those of another, if there was one.
@@ -274,9 +290,9 @@ fn watches_for(
     formula: &Formula,
     cube: &[Lit],
     from: Option<Vec<Watch>>,
-) -> Option<Vec<Watch>>
+) -> Result<Option<Vec<Watch>>, AllocError>
     requires { IfSome from (λ from. (i : ℕ) → IsWatched formula.now from.items i) }
-    ensures { IfSome result (λ watches. (i : ℕ) → IsMet formula.now cube.now watches.items i) }
+    ensures { IfOk result (λ found. IfSome found (λ watches. (i : ℕ) → IsMet formula.now cube.now watches.items i)) }
 {
     match from {
         Some(from) => renew(alloc, formula, cube, from),
@@ -299,36 +315,46 @@ impl InitialCubes {
         InitialCubes { watches: None }
     }
 
-    /// Whether each clause is met by the cube. `false` says nothing where memory was refused.
-    fn is_initial(&mut self, alloc: Global, formula: &Formula, cube: &[Lit]) -> bool
+    /// Whether the cube was seen to meet each clause. `false` says nothing.
+    fn is_initial(
+        &mut self,
+        alloc: Global,
+        formula: &Formula,
+        cube: &[Lit],
+    ) -> Result<bool, AllocError>
         requires { IsWatching formula.now self.old }
-        ensures initial { IsTrue result → IsInitial Cubes formula.now cube.now }
+        ensures initial { IfOk result (λ is. IsTrue is → IsInitial Cubes formula.now cube.now) }
         ensures kept { IsWatching formula.now self.new }
     {
-        let Some(watches) = watches_for(alloc, formula, cube, self.watches.take()) else {
-            return false;
-        };
-        self.watches = Some(watches);
-        true
+        let found = watches_for(alloc, formula, cube, self.watches.take())?;
+        match found {
+            Some(watches) => {
+                self.watches = Some(watches);
+                Ok(true)
+            }
+            None => Ok(false),
+        }
     }
 
     /// Why the set is no initial cube, or `None` where it is one.
     ///
-    /// Where memory is refused, each clause is compared with it, which takes none.
+    /// # Errors
+    /// If an allocation fails.
     pub(crate) fn fault(
         &mut self,
         alloc: Global,
         formula: &Formula,
         set: &[Lit],
-    ) -> Option<RuleFault>
+    ) -> Result<Option<RuleFault>, AllocError>
         requires watching { IsWatching formula.now self.old }
         requires ordered { IsOrdered set.now }
-        ensures fault { IsAnswer (initial_condition Cubes formula.now set.now ∷ []) result }
+        ensures fault { IfOk result (λ fault. IsAnswer (initial_condition Cubes formula.now set.now ∷ []) fault) }
         ensures kept { IsWatching formula.now self.new }
     {
-        if self.is_initial(alloc, formula, set) {
-            return None;
+        let is_initial = self.is_initial(alloc, formula, set)?;
+        if is_initial {
+            return Ok(None);
         }
-        initial_cube_fault(formula, set)
+        Ok(initial_cube_fault(formula, set))
     }
 }

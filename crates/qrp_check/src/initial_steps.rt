@@ -51,7 +51,7 @@ impl InitialSteps {
     /// Why a set is no initial step, or `None` where it is one.
     ///
     /// # Errors
-    /// If memory was refused.
+    /// If an allocation fails.
     pub(crate) fn fault<S: Side>(
         &mut self,
         alloc: Global,
@@ -65,7 +65,7 @@ impl InitialSteps {
     {
         match S::REDUCED {
             Quantifier::All => self.clauses.fault(alloc, formula, set),
-            Quantifier::Exists => Ok(self.cubes.fault(alloc, formula, set)),
+            Quantifier::Exists => self.cubes.fault(alloc, formula, set),
         }
     }
 }

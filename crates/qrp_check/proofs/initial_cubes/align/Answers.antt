@@ -27,7 +27,7 @@ loop-place-preserved c =
     let at : slice_get was i ≡ Some other = rw c.deref_mut.ensures.value at c.exchange-other.ensures.taken in
     let written : c.exchange-other.new.watches ≡ set was i fresh = rw c.deref_mut.ensures.value at c.exchange-other.ensures.written in
     let whole = written_back c.loop-place.watches.len c.exchange-other.new.watches was (omega (arith, c.exchange-other.auto.watches, c.deref_mut.ensures.len, c.loop-place.watches.ok.0)) (omega (arith, c.loop-place.watches.ok.0)) in
-    let added : c.push.new.self.items ≡ aside ++ other ∷ [] = c.in-Ok.ensures.items in
+    let added : c.push.new.self.items ≡ aside ++ other ∷ [] = c.in_ok-push.ensures.items in
     subst (λ (ws : List Watch). IsAlignedTo c.args.cube.now c.args.from.items ws c.push.new.self.items (i + 1)) (sym (whole ∙ written))
     (subst (λ (xs : List Watch). IsAlignedTo c.args.cube.now c.args.from.items (set was i fresh) xs (i + 1)) (sym added)
     (aligned_other c.args.cube.now c.args.from.items was aside i fresh other at

@@ -4,8 +4,8 @@ use Rattle.qrp_check.specs.declared.initial_cubes.Watch.{Watch}
 use Rattle.qrp_check.proofs.Watching.{written_back}
 use Rattle.qrp_check.proofs.initial_cubes.first.Goals as goal
 
-pub returns-then-watch_all : goal.returns-then-watch_all
-returns-then-watch_all c =
+pub returns-then-is_met : goal.returns-then-is_met
+returns-then-is_met c =
     subst (λ (ws : List Watch). (i : ℕ) → IsMet c.args.formula.now c.args.cube.now ws i)
-    (sym (written_back c.in-Ok.watches.len c.watch_all.new.watches c.in-Ok.watches.items (omega (arith, c.watch_all.auto.watches, c.deref_mut.ensures.len, c.in-Ok.watches.ok.0)) (omega (arith, c.in-Ok.watches.ok.0))))
-    (c.watch_all.ensures c.if-watch_all.true)
+    (sym (written_back c.in_ok-watches.watches.len c.watch_all.new.watches c.in_ok-watches.watches.items (omega (arith, c.watch_all.auto.watches, c.deref_mut.ensures.len, c.in_ok-watches.watches.ok.0)) (omega (arith, c.in_ok-watches.watches.ok.0))))
+    (c.in_ok-is_met.ensures c.if-is_met.true)

@@ -9,8 +9,8 @@ take_over_all-requires c =
     subst (λ (ws : List Watch). (i : ℕ) → IsHeld c.args.formula.now c.args.cube.now c.in_ok-watches.field-0.aside.items ws i) (sym c.deref_mut.ensures.value)
     (held_aligned c.args.formula.now c.args.cube.now c.args.from.items c.in_ok-watches.field-0 c.in_ok-watches.ensures c.requires)
 
-pub returns-then-take_over_all : goal.returns-then-take_over_all
-returns-then-take_over_all c =
+pub returns-then-is_met : goal.returns-then-is_met
+returns-then-is_met c =
     subst (λ (ws : List Watch). (i : ℕ) → IsMet c.args.formula.now c.args.cube.now ws i)
     (sym (written_back c.in_ok-watches.field-0.watches.len c.take_over_all.new.watches c.in_ok-watches.field-0.watches.items (omega (arith, c.take_over_all.auto.watches, c.deref_mut.ensures.len, c.in_ok-watches.field-0.watches.ok.0)) (omega (arith, c.in_ok-watches.field-0.watches.ok.0))))
-    (c.take_over_all.ensures c.if-take_over_all.true)
+    (c.in_ok-is_met.ensures c.if-is_met.true)

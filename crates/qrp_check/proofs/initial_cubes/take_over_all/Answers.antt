@@ -5,7 +5,7 @@ use Rattle.qrp_check.proofs.initial_cubes.take_over_all.Goals as goal
 pub loop-watch-preserved : goal.loop-watch-preserved
 loop-watch-preserved c =
     held_pop c.args.formula.now c.args.cube.now c.loop-watch.left.items c.pop.new.self.items c.in-Some.watch c.loop-watch.watches c.take_over.new.watches
-    c.in-Some.ensures.items (c.take_over.ensures.kept c.if-not-take_over.false) (c.take_over.ensures.met c.if-not-take_over.false) c.loop-watch.invariant
+    c.in-Some.ensures.items (c.in_ok-is_met.ensures.kept c.if-not-is_met.false) (c.in_ok-is_met.ensures.met c.if-not-is_met.false) c.loop-watch.invariant
 
 pub returns : goal.returns
 returns c = λ t.

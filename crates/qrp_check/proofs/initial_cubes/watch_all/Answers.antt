@@ -6,7 +6,7 @@ use Rattle.qrp_check.proofs.initial_cubes.watch_all.Goals as goal
 pub loop-clause-preserved : goal.loop-clause-preserved
 loop-clause-preserved c =
     met_next c.args.formula.now c.args.cube.now c.loop-clause.watches c.watch_clause.new.watches c.loop-clause.clause
-    c.watch_clause.ensures.kept (c.watch_clause.ensures.met c.if-not-watch_clause.false) c.loop-clause.invariant
+    c.watch_clause.ensures.kept (c.in_ok-is_met.ensures.met c.if-not-is_met.false) c.loop-clause.invariant
 
 pub returns : goal.returns
 returns c = λ t i clause at.
