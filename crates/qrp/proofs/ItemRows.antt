@@ -38,7 +38,7 @@ given_of Cut = Err (P7, 0) ∷ []
 abbrev More : List Lined → Type 0
 More ts = (p : Place) → items_from p ts ≡ given_of (read_from item_row (Takes p) ts)
 
-end_row : (p : Place) → row p token.End ≡ Fails P7
+pub end_row : (p : Place) → row p token.End ≡ Fails P7
 end_row AtP = refl
 end_row AtQrp = refl
 end_row AtVars = refl

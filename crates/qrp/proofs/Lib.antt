@@ -13,3 +13,4 @@ pub mod Making
 pub mod Readings
 pub mod ItemRows
 pub mod Growing
+pub mod StopsBehind
