@@ -14,3 +14,4 @@ pub mod Readings
 pub mod ItemRows
 pub mod Growing
 pub mod StopsBehind
+pub mod ItemStops
