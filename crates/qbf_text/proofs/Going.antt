@@ -17,6 +17,10 @@ abbrev pub Leads : {P A F : Type 0} → Option (Read P A F) → Option (Read P A
 Leads None rest = Unit {0}
 Leads (Some r) rest = rest ≡ Some r
 
+pub leads_same : {P A F : Type 0} (whole : Option (Read P A F)) → Leads whole whole
+leads_same None = tt
+leads_same (Some r) = refl
+
 module _ {P A F : Type 0} (row : P → Token → Row P A F) where
   -- what comes of a row
   abbrev pub after : Row P A F → Lined → List Lined → Read P A F

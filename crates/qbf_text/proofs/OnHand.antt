@@ -32,7 +32,7 @@ taken_front : (n : ℕ) (pending : List ℕ) (rem : Option (List ℕ)) → Consu
 taken_front n pending None = tt
 taken_front n pending (Some r) = ap (λ x. x ++ r) (sym (take-append-drop n pending)) ∙ append_assoc (take n pending) (drop n pending) r
 
-or_blank : (x y : Bool) → y ≡ false → (x || y) ≡ true → x ≡ true
+pub or_blank : (x y : Bool) → y ≡ false → (x || y) ≡ true → x ≡ true
 or_blank true y e h = refl
 or_blank false y e h = absurd cc
 
@@ -43,28 +43,36 @@ left_number f begun n run behind rest begins unbroken sep =
     ap (tokens_left f begun n) (append_assoc run (behind ∷ []) rest) ∙ left_run f begun n run (behind ∷ rest) unbroken sep (number_token f begun run begins)
 
 module _ (f : Comments) (begun : Bool) (n : ℕ) (pending : List ℕ) (negative : Bool) (value len : ℕ) (ends : Bool) (h : BeginsWithNumber pending negative value len ends) (small : n < 2 ^ 64) (rem : Option (List ℕ)) where
-  taken : Consumes (ahead pending rem) (ahead (drop len pending) rem) (h.run ++ h.behind ∷ [])
-  taken = subst (Consumes (ahead pending rem) (ahead (drop len pending) rem)) h.front (taken_front len pending rem)
+  pub number_taken : Consumes (ahead pending rem) (ahead (drop len pending) rem) (h.run ++ h.behind ∷ [])
+  number_taken = subst (Consumes (ahead pending rem) (ahead (drop len pending) rem)) h.front (taken_front len pending rem)
 
   same : counted n ≡ n
   same = omega arith
 
   -- the separator ends the line
+  pub spelled_ending : ends ≡ true → (rest : List ℕ) → tokens_left f begun n ((h.run ++ h.behind ∷ []) ++ rest) ≡ (Number negative value, n) ∷ tokens_left f false (counted (n + 1)) rest
+  spelled_ending e rest =
+      let line_end : h.behind ≡ 10 = eqb-true h.behind 10 (sym h.ends ∙ e) in
+      left_number f begun n h.run h.behind rest h.begins h.unbroken h.separates
+      ∙ ap (λ k. (k, counted n) ∷ tokens_left f true n (h.behind ∷ rest)) (sym h.is)
+      ∙ ap (λ m. (Number negative value, m) ∷ tokens_left f true n (h.behind ∷ rest)) same
+      ∙ ap (λ ts. (Number negative value, n) ∷ ts) (ap (λ b. tokens_left f true n (b ∷ rest)) line_end ∙ left_line_end f true n rest ∙ tokens_left-counted f false (n + 1) (counted (n + 1)) rest (omega arith))
+
   pub gives_ending : ends ≡ true → Gives (known_left f begun n (ahead pending rem)) (known_left f false (counted (n + 1)) (ahead (drop len pending) rem)) ((Number negative value, n) ∷ [])
   gives_ending e =
-      let line_end : h.behind ≡ 10 = eqb-true h.behind 10 (sym h.ends ∙ e) in
-      gives_by f begun false n (counted (n + 1)) (ahead pending rem) (ahead (drop len pending) rem) (h.run ++ h.behind ∷ []) ((Number negative value, n) ∷ []) (λ _. ⊤) taken (always (ahead (drop len pending) rem))
-      (λ rest _. left_number f begun n h.run h.behind rest h.begins h.unbroken h.separates
-      ∙ ap (λ k. (k, counted n) ∷ tokens_left f true n (h.behind ∷ rest)) (sym h.is)
-      ∙ ap (λ m. (Number negative value, m) ∷ tokens_left f true n (h.behind ∷ rest)) same
-      ∙ ap (λ ts. (Number negative value, n) ∷ ts) (ap (λ b. tokens_left f true n (b ∷ rest)) line_end ∙ left_line_end f true n rest ∙ tokens_left-counted f false (n + 1) (counted (n + 1)) rest (omega arith)))
+      gives_by f begun false n (counted (n + 1)) (ahead pending rem) (ahead (drop len pending) rem) (h.run ++ h.behind ∷ []) ((Number negative value, n) ∷ []) (λ _. ⊤) number_taken (always (ahead (drop len pending) rem))
+      (λ rest _. spelled_ending e rest)
 
   -- it is a blank
-  pub gives_blanked : ends ≡ false → Gives (known_left f begun n (ahead pending rem)) (known_left f true n (ahead (drop len pending) rem)) ((Number negative value, n) ∷ [])
-  gives_blanked e =
+  pub spelled_blanked : ends ≡ false → (rest : List ℕ) → tokens_left f begun n ((h.run ++ h.behind ∷ []) ++ rest) ≡ (Number negative value, n) ∷ tokens_left f true n rest
+  spelled_blanked e rest =
       let blank : is_blank h.behind ≡ true = or_blank (is_blank h.behind) (is_line_end h.behind) (sym h.ends ∙ e) h.separates in
-      gives_by f begun true n n (ahead pending rem) (ahead (drop len pending) rem) (h.run ++ h.behind ∷ []) ((Number negative value, n) ∷ []) (λ _. ⊤) taken (always (ahead (drop len pending) rem))
-      (λ rest _. left_number f begun n h.run h.behind rest h.begins h.unbroken h.separates
+      left_number f begun n h.run h.behind rest h.begins h.unbroken h.separates
       ∙ ap (λ k. (k, counted n) ∷ tokens_left f true n (h.behind ∷ rest)) (sym h.is)
       ∙ ap (λ m. (Number negative value, m) ∷ tokens_left f true n (h.behind ∷ rest)) same
-      ∙ ap (λ ts. (Number negative value, n) ∷ ts) (left_blank f true n h.behind rest blank))
+      ∙ ap (λ ts. (Number negative value, n) ∷ ts) (left_blank f true n h.behind rest blank)
+
+  pub gives_blanked : ends ≡ false → Gives (known_left f begun n (ahead pending rem)) (known_left f true n (ahead (drop len pending) rem)) ((Number negative value, n) ∷ [])
+  gives_blanked e =
+      gives_by f begun true n n (ahead pending rem) (ahead (drop len pending) rem) (h.run ++ h.behind ∷ []) ((Number negative value, n) ∷ []) (λ _. ⊤) number_taken (always (ahead (drop len pending) rem))
+      (λ rest _. spelled_blanked e rest)

@@ -6,6 +6,8 @@ ghost use Rattle.std.specs.Io.KnownBytes.{IsAtEnd};
 ghost use Rattle.qbf_text.specs.Reading.{left, HasFailed, IsReady};
 ghost use Rattle.qbf_text.specs.Rows.{Row, reads_from};
 ghost use Rattle.qbf_text.specs.Taking.{Takes, StaysOpen, Reads, Counts, Follows};
+ghost use Rattle.qbf_text.specs.Ahead.{ahead};
+ghost use Rattle.qbf_text.specs.Stopping.{tokens_next, Stops};
 
 use crate::scanner::{ScanFault, Scanner};
 use crate::source::Source;
@@ -105,6 +107,10 @@ pub fn read_by<G: Grammar, S: Source>(
     ensures follows { Follows G.row_of (G.place grammar.new)
         (length scanner.new.pending + S.bound source.new < length scanner.old.pending + S.bound source.old)
         (IsReady scanner.old (S.remaining source.old) → IsAtEnd (S.remaining source.new)) result }
+    // Behind the last token, unless that is End, no byte is taken but a separator, and at most 4,096 bytes are held.
+    ensures stops { Stops G.row_of (G.place grammar.old) (G.place grammar.new) (tokens_next scanner.old)
+        (ahead scanner.old.pending (S.remaining source.old)) (ahead scanner.new.pending (S.remaining source.new))
+        (length scanner.new.pending ≤ 4096) result }
     ensures kept { G.kept grammar.new ≡ G.kept grammar.old }
     ensures counts { Counts (S.failures source.old) (S.failures source.new) result }
     ensures ready { OnOk result (¬ HasFailed scanner.new) }

@@ -41,6 +41,7 @@ fn read_as<R: Run, S: Source>(
     ensures run { IfOk result (λ token. (more : List ℕ) × (token ≡ kind (first ∷ more)) × IsUnbroken more
         × Consumes (ahead window.old (S.remaining source.old)) (ahead window.new (S.remaining source.new)) more) }
     ensures end { OnOk result (IfSome (ahead window.new (S.remaining source.new)) EndsRun) }
+    ensures few { OnOk result (length window.new ≤ 4096) }
     ensures bound { OnOk result (length window.new + S.bound source.new ≤ length window.old + S.bound source.old) }
     ensures ok { OnOk result (S.failures source.new ≡ S.failures source.old) }
     ensures err { OnErr result (S.failures source.old < 2 ^ 64 - 1 → S.failures source.old < S.failures source.new) }
@@ -61,6 +62,7 @@ fn read_run<S: Source>(first: u8, window: &mut Window, source: &mut S) -> Result
     ensures run { IfOk result (λ token. (more : List ℕ) × (token ≡ kind (first ∷ more)) × IsUnbroken more
         × Consumes (ahead window.old (S.remaining source.old)) (ahead window.new (S.remaining source.new)) more) }
     ensures end { OnOk result (IfSome (ahead window.new (S.remaining source.new)) EndsRun) }
+    ensures few { OnOk result (length window.new ≤ 4096) }
     ensures bound { OnOk result (length window.new + S.bound source.new ≤ length window.old + S.bound source.old) }
     ensures ok { OnOk result (S.failures source.new ≡ S.failures source.old) }
     ensures err { OnErr result (S.failures source.old < 2 ^ 64 - 1 → S.failures source.old < S.failures source.new) }
@@ -84,6 +86,7 @@ struct Place {
 
 impl Place {
     ghost use Rattle.qbf_text.specs.Places.{left_at};
+    ghost use Rattle.qbf_text.specs.Stopping.{PlaceSkips, PlaceTakes};
     ghost use Rattle.qbf_text.specs.declared.token.Token.TheVariants.{End};
 
     /// The next token and its line, if it is a number that was pulled whole with the separator behind it: both are taken
@@ -92,8 +95,11 @@ impl Place {
     fn number(&mut self) -> Option<(Token, u64)>
         ensures some { IfSome result (λ token. (remaining : Option (List ℕ)) →
             Gives (left_at self.old remaining) (left_at self.new remaining) (token ∷ [])) }
+        ensures takes { IfSome result (λ token. (remaining : Option (List ℕ)) →
+            PlaceTakes self.old remaining self.new remaining token) }
         ensures no_end { IfSome result (λ token. is_end token.0 ≡ false) }
         ensures less { IfSome result (λ _. length self.new.window < length self.old.window) }
+        ensures few { IfSome result (λ _. length self.new.window ≤ 4096) }
         ensures none { IfNone result (self.new ≡ self.old) }
     {
         let Some(found) = self.window.number() else {
@@ -118,6 +124,7 @@ impl Place {
         requires separates { is_separator byte ≡ true }
         ensures same { (remaining : Option (List ℕ)) →
             Gives (left_at self.old remaining) (left_at self.new remaining) [] }
+        ensures skips { (remaining : Option (List ℕ)) → PlaceSkips self.old remaining self.new remaining }
         ensures less { length self.new.window < length self.old.window }
         ensures line { self.new.line < 2 ^ 64 }
     {
@@ -134,6 +141,7 @@ impl Place {
     fn skip_separators(&mut self)
         ensures same { (remaining : Option (List ℕ)) →
             Gives (left_at self.old remaining) (left_at self.new remaining) [] }
+        ensures skips { (remaining : Option (List ℕ)) → PlaceSkips self.old remaining self.new remaining }
         ensures no_more { length self.new.window ≤ length self.old.window }
     {
         while let Some(byte) = self.window.first() {
@@ -150,10 +158,14 @@ impl Place {
     fn number_behind(&mut self) -> Option<(Token, u64)>
         ensures some { IfSome result (λ token. (remaining : Option (List ℕ)) →
             Gives (left_at self.old remaining) (left_at self.new remaining) (token ∷ [])) }
+        ensures takes { IfSome result (λ token. (remaining : Option (List ℕ)) →
+            PlaceTakes self.old remaining self.new remaining token) }
         ensures no_end { IfSome result (λ token. is_end token.0 ≡ false) }
         ensures less { IfSome result (λ _. length self.new.window < length self.old.window) }
+        ensures few { IfSome result (λ _. length self.new.window ≤ 4096) }
         ensures none { IfNone result ((remaining : Option (List ℕ)) →
             Gives (left_at self.old remaining) (left_at self.new remaining) []) }
+        ensures skips { IfNone result ((remaining : Option (List ℕ)) → PlaceSkips self.old remaining self.new remaining) }
         ensures no_more { length self.new.window ≤ length self.old.window }
     {
         self.skip_separators();
@@ -165,10 +177,14 @@ impl Place {
     fn at_hand(&mut self) -> Option<(Token, u64)>
         ensures some { IfSome result (λ token. (remaining : Option (List ℕ)) →
             Gives (left_at self.old remaining) (left_at self.new remaining) (token ∷ [])) }
+        ensures takes { IfSome result (λ token. (remaining : Option (List ℕ)) →
+            PlaceTakes self.old remaining self.new remaining token) }
         ensures no_end { IfSome result (λ token. is_end token.0 ≡ false) }
         ensures less { IfSome result (λ _. length self.new.window < length self.old.window) }
+        ensures few { IfSome result (λ _. length self.new.window ≤ 4096) }
         ensures none { IfNone result ((remaining : Option (List ℕ)) →
             Gives (left_at self.old remaining) (left_at self.new remaining) []) }
+        ensures skips { IfNone result ((remaining : Option (List ℕ)) → PlaceSkips self.old remaining self.new remaining) }
         ensures no_more { length self.new.window ≤ length self.old.window }
     {
         match self.number() {
@@ -184,6 +200,10 @@ impl Place {
         ensures some { IfOk result (λ found. IfSome found (λ token.
             Gives (left_at self.old (S.remaining source.old)) (left_at self.new (S.remaining source.new))
             ((token, self.new.line) ∷ []))) }
+        // The source is read no further than behind the token.
+        ensures takes { IfOk result (λ found. IfSome found (λ token.
+            PlaceTakes self.old (S.remaining source.old) self.new (S.remaining source.new) (token, self.new.line))) }
+        ensures few { IfOk result (λ found. IfSome found (λ _. length self.new.window ≤ 4096)) }
         ensures no_end { IfOk result (λ found. IfSome found (λ token. is_end token ≡ false)) }
         ensures none { IfOk result (λ found. IfNone found
             (Gives (left_at self.old (S.remaining source.old)) (left_at self.new (S.remaining source.new)) []
@@ -257,12 +277,15 @@ impl Model for Scanner {
 impl Scanner {
     ghost use Rattle.qbf_text.specs.Tokens.{tokens};
     ghost use Rattle.qbf_text.specs.Reading.{left, GivesNext, HasEnded, HasFailed, IsReady};
+    ghost use Rattle.qbf_text.specs.Stopping.{tokens_next, ScannerTakes};
     ghost use Rattle.qbf_text.specs.declared.token.Token.TheVariants.{End};
 
     /// A scanner at the beginning of a text of this format.
     #[tactic(auto, unfolding(crate::specs::Reading::left))]
     pub fn new(comments: Comments) -> Scanner
         ensures left { (bytes : List ℕ) → left result (Some bytes) ≡ Some (tokens comments bytes) }
+        ensures next { (bytes : List ℕ) → tokens_next result bytes ≡ tokens comments bytes }
+        ensures pending { result.pending ≡ [] }
         ensures open { ¬ HasEnded result × ¬ HasFailed result }
     {
         Scanner {
@@ -287,6 +310,10 @@ impl Scanner {
     pub fn next_token<S: Source>(&mut self, source: &mut S) -> Result<(Token, u64), ScanFault>
         ensures token { IfOk result (λ token.
             GivesNext (left self.old (S.remaining source.old)) (left self.new (S.remaining source.new)) token) }
+        // Nothing is taken behind a token but a separator.
+        ensures takes { IfOk result (λ token. is_end token.0 ≡ false →
+            ScannerTakes self.old (S.remaining source.old) self.new (S.remaining source.new) token) }
+        ensures few { IfOk result (λ token. is_end token.0 ≡ false → length self.new.pending ≤ 4096) }
         // With each token but End less can still come.
         ensures bound { IfOk result (λ token. is_end token.0 ≡ false →
             length self.new.pending + S.bound source.new < length self.old.pending + S.bound source.old) }

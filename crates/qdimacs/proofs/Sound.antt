@@ -20,7 +20,7 @@ use Rattle.qdimacs.specs.Grammar.{number, literal, letter, header, set, clause, 
 use Rattle.qbf_text.specs.Lined.{unlined}
 use Rattle.qdimacs.specs.Faults.{Reads, Answers, IsSoFar, Spells}
 use Rattle.qbf_text.specs.Rows.{Goes, Ends, Fails}
-use Rattle.qdimacs.specs.Reading.{Heading, Place, AtP, AtCnf, AtVars, AtCount, Between, InSet, InClause, Whole, Over, Row, row, header_number, number_row, member, set_row, literal_in, clause_row, read_from, answer_at, read, Gives, reads_bytes}
+use Rattle.qdimacs.specs.Reading.{Heading, Place, AtP, AtCnf, AtVars, AtCount, Between, InSet, InClause, Whole, Over, Row, row, header_number, number_row, member, set_row, literal_in, clause_row, read_from, answer_at, read, Gives, reads_bytes, IsWhole}
 use Rattle.qbf_text.specs.declared.token.Comments.TheVariants.{Qdimacs}
 use Rattle.qbf_text.specs.Tokens as text
 use Rattle.qbf_text.proofs.Ended.{tokens-EndsOnce}
@@ -225,6 +225,10 @@ last p next t e = search rules
 -- reading ends at the end of the text
 pub last_is_end : (p next : Place) (t : Token) → row p t ≡ Ends tt next → is_end t ≡ true
 last_is_end p next t e = ap is_end (last p next t e).at_end
+
+-- what was read there is a whole formula
+pub last_is_whole : (p next : Place) (t : Token) → row p t ≡ Ends tt next → IsWhole next
+last_is_whole p next t e = subst IsWhole (sym (last p next t e).whole) tt
 
 -- ---- the whole
 

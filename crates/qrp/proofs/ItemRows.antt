@@ -25,7 +25,7 @@ use Rattle.qrp.specs.Reading.{Place, AtP, AtQrp, AtVars, AtSteps, Between, InSet
 use Rattle.qrp.proofs.Leads.{Answer, after, items-one}
 
 -- the items that are left to give where reading by rows answers this
-abbrev given_of : Read Giving (Unit {0}) TraceFault → List Answer
+abbrev pub given_of : Read Giving (Unit {0}) TraceFault → List Answer
 given_of (rows.Whole u (Takes p) rest) = []
 given_of (rows.Whole u (Gives i next) rest) = Ok i ∷ items_from next rest
 given_of (rows.Whole u (Whole o) rest) = Ok (item.Result o) ∷ []
@@ -35,10 +35,10 @@ given_of Cut = Err (P7, 0) ∷ []
 
 -- ---- the items that are left, and what is read of them by rows
 
-abbrev More : List Lined → Type 0
+abbrev pub More : List Lined → Type 0
 More ts = (p : Place) → items_from p ts ≡ given_of (read_from item_row (Takes p) ts)
 
-end_row : (p : Place) → row p token.End ≡ Fails P7
+pub end_row : (p : Place) → row p token.End ≡ Fails P7
 end_row AtP = refl
 end_row AtQrp = refl
 end_row AtVars = refl
@@ -66,7 +66,7 @@ gives_none : More []
 unfolding items_from read_from
 gives_none p = refl
 
-gives : (ts : List Lined) → More ts
+pub gives : (ts : List Lined) → More ts
 gives [] = gives_none
 gives (t ∷ ts) = λ p. items-one p t ts ∙ by_token t.0 t.1 ts (gives ts) p ∙ ap given_of (sym (read-one item_row (Takes p) t ts))
 

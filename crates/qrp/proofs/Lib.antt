@@ -13,3 +13,5 @@ pub mod Making
 pub mod Readings
 pub mod ItemRows
 pub mod Growing
+pub mod StopsBehind
+pub mod ItemStops

@@ -67,10 +67,10 @@ refuses_from P7 line whole h = h
 refuses_from P8 line whole h = h
 refuses_from P9 line whole h = tt
 
-gives_whole : (ts : List Lined) (d : Derivation) → taking.Answers (read_from trace_row (Making nothing AtP) ts) (Whole d) (Ok tt) → read ts ≡ Ok d
+pub gives_whole : (ts : List Lined) (d : Derivation) → taking.Answers (read_from trace_row (Making nothing AtP) ts) (Whole d) (Ok tt) → read ts ≡ Ok d
 gives_whole ts d h = sym (makes ts nothing AtP) ∙ ap answer_of h.1
 
-gives_fault : (ts : List Lined) (next : Progress) (e : ReadError TraceFault) → taking.Answers (read_from trace_row (Making nothing AtP) ts) next (Err e) → Refuses (fault_of e).0 (fault_of e).1 (Some (read ts))
+pub gives_fault : (ts : List Lined) (next : Progress) (e : ReadError TraceFault) → taking.Answers (read_from trace_row (Making nothing AtP) ts) next (Err e) → Refuses (fault_of e).0 (fault_of e).1 (Some (read ts))
 gives_fault ts next error.Device h = tt
 gives_fault ts next error.Memory h = tt
 gives_fault ts next (error.Text f line) h = refuses_from f line (Some (read ts)) (sym (makes ts nothing AtP) ∙ ap answer_of h)

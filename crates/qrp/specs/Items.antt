@@ -1,6 +1,7 @@
 -- The parts of a trace, given one after the other: the rows of the places with what is given.
-use Rattle.std.specs.Prelude.{◌≡◌, ◌≢◌, ◌<◌, ◌+◌, ◌-◌, ◌^◌, ℕ, false, List, length, Result, Ok, IfOk, OnOk, IfErr, ⊤}
-use Rattle.qbf_text.specs.Lined.{Known}
+use Rattle.std.specs.Prelude.{◌≡◌, ◌≢◌, ◌<◌, Option, ◌+◌, ◌-◌, ◌^◌, ℕ, false, List, length, Result, Ok, IfOk, OnOk, IfErr, ⊤}
+use Rattle.qbf_text.specs.Lined.{Lined, Known}
+use Rattle.qbf_text.specs.Stopping.{IfKnown}
 use Rattle.qbf_text.specs.Reading.{Reading, HasFailed}
 use Rattle.qbf_text.specs.declared.token.Token.{Token}
 use Rattle.qbf_text.specs.Rows as rows
@@ -14,7 +15,7 @@ use Rattle.qrp.specs.declared.places.At.TheVariants as at
 use Rattle.qrp.specs.declared.places.Begun.{Begun}
 use Rattle.qrp.specs.declared.reader.Stage.{Stage}
 use Rattle.qrp.specs.declared.reader.Stage.TheVariants.{AtHeader, AtLists, HasResult, HasFault}
-use Rattle.qrp.specs.Given.{left_behind, is_last, numbers_with, stage_after, GivesNextItem, IsProper, StandsOnLine}
+use Rattle.qrp.specs.Given.{left_behind, is_last, numbers_with, stage_after, GivesNextItem, IsProper, StandsOnLine, StopsBehindPart}
 use Rattle.qrp.specs.Parts.{KnownItems}
 use Rattle.qrp.specs.Places.{place, item_of, numbers_behind, IsBegun, IsComplete}
 use Rattle.qrp.specs.Reading.{Fault, Place, AtP, Between, Row, Goes, Closes, Ends, Fails, row}
@@ -112,3 +113,7 @@ pub record IsCounted (old new : ℕ) (answer : Result Item Fault) : Type 0 where
   pub kept : IfErr answer (λ e. e.0 ≢ P1 → new ≡ old)
   pub lines : IfErr answer (λ e. StandsOnLine e.0 e.1)
   pub works : OnOk answer (new ≡ old)
+
+-- what was consumed for an item ends with its last word, and few bytes are held
+abbrev pub StopsBehind : Place → (List ℕ → List Lined) → Option (List ℕ) → Option (List ℕ) → Type 0 → Result Item Fault → Type 0
+StopsBehind p here before after few answer = IfOk answer (λ i. IfKnown (StopsBehindPart p here i) before after × few)

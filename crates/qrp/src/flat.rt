@@ -1,12 +1,13 @@
 //! Traces whose steps lie in flat buffers.
 
-ghost use Rattle.std.specs.Prelude.{◌≡◌, ◌≢◌, ◌<◌, ◌≤◌, ◌-◌, ◌^◌, false, Some, Err, List, [], ◌∷◌, ◌++◌, length, map, slice_get, take, IfSome, OnOk, OnErr, IfErr};
+ghost use Rattle.std.specs.Prelude.{◌≡◌, ◌≢◌, ◌<◌, ◌≤◌, ◌-◌, ◌^◌, false, Some, Err, List, [], ◌∷◌, ◌++◌, length, map, slice_get, take, IfSome, IfOk, OnOk, OnErr, IfErr};
 ghost use Rattle.std.specs.List.{AllByRecursion};
 ghost use Rattle.qbf_core.specs.Blocks.{IsVariable};
+ghost use Rattle.qbf_text.specs.Stopping.{IfKnown};
 ghost use Rattle.qbf_text.specs.Tokens.{tokens};
 ghost use Rattle.qbf_text.specs.declared.token.Comments.TheVariants.{Qrp};
 ghost use Rattle.qrp.specs.declared.fault.TraceFault.TheVariants.{P1, P9};
-ghost use Rattle.qrp.specs.Answers.{reads_bytes, Answers, Gives};
+ghost use Rattle.qrp.specs.Answers.{reads_bytes, Answers, Gives, StopsBehindResult};
 ghost use Rattle.qrp.specs.Derivations.{IsWellFormed};
 ghost use Rattle.qrp.specs.Flat.{Body};
 ghost use Rattle.qrp.specs.Inferences.{IsLiteral, IsNumber, numbers};
@@ -279,6 +280,8 @@ pub fn read_flat<S: Source>(alloc: Global, source: &mut S) -> Result<FlatTrace, 
     ensures reads { IfSome (S.remaining source.old) (λ bytes. Answers (tokens Qrp bytes) result) }
     // The same by the function that reads.
     ensures exact { Gives result (reads_bytes (S.remaining source.old)) }
+    // Nothing is read past the result word but what is held, and that is at most 4,096 bytes.
+    ensures stops { IfOk result (λ d. IfKnown (StopsBehindResult d) (S.remaining source.old) (S.remaining source.new)) }
     ensures source { IfErr result (λ e. e.0 ≡ P1
         → S.failures source.old < 2 ^ 64 - 1 → S.failures source.old < S.failures source.new) }
     ensures kept { IfErr result (λ e. e.0 ≢ P1 → S.failures source.new ≡ S.failures source.old) }

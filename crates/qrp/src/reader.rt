@@ -1,13 +1,15 @@
 //! Reading a trace item by item.
 
-ghost use Rattle.std.specs.Prelude.{◌≡◌, ◌≢◌, ℕ, ◌<◌, ◌+◌, ◌-◌, ◌^◌, true, false, Some, Ok, Err, List, [], length, IfOk, OnOk, IfErr};
+ghost use Rattle.std.specs.Prelude.{◌≡◌, ◌≢◌, ℕ, ◌<◌, ◌≤◌, ◌+◌, ◌-◌, ◌^◌, true, false, Some, Ok, Err, List, [], length, IfOk, OnOk, IfErr};
 ghost use Rattle.qbf_text.specs.Tokens.{tokens};
 ghost use Rattle.qbf_text.specs.declared.token.Comments.TheVariants.{Qrp};
 ghost use Rattle.qrp.specs.declared.fault.TraceFault.TheVariants.{P1, P9};
+ghost use Rattle.qbf_text.specs.Ahead.{ahead};
 ghost use Rattle.qbf_text.specs.Reading.{left, HasFailed};
+ghost use Rattle.qbf_text.specs.Stopping.{tokens_next};
 ghost use Rattle.qrp.specs.Given.{items_left, is_last, stage_after, numbers_with};
-ghost use Rattle.qrp.specs.Given.{GivesNextItem, IsDone, IsProper};
-ghost use Rattle.qrp.specs.Items.{Takes, Stands, GivesItem, IsItem, IsScanned, IsCounted};
+ghost use Rattle.qrp.specs.Given.{GivesNextItem, IsDone, IsProper, StopsBehindItem};
+ghost use Rattle.qrp.specs.Items.{Takes, Stands, StopsBehind, GivesItem, IsItem, IsScanned, IsCounted};
 ghost use Rattle.qrp.specs.Parts.{known_items};
 ghost use Rattle.qrp.specs.Reading.{Place, items};
 
@@ -51,6 +53,9 @@ fn read_item<S: Source>(
     ensures gives { (p : Place) → grammar.old.giving ≡ Takes p →
         GivesItem (known_items p (left scanner.old (S.remaining source.old)))
         grammar.new.numbers (left scanner.new (S.remaining source.new)) result }
+    ensures stops { (p : Place) → grammar.old.giving ≡ Takes p →
+        StopsBehind p (tokens_next scanner.old) (ahead scanner.old.pending (S.remaining source.old))
+        (ahead scanner.new.pending (S.remaining source.new)) (length scanner.new.pending ≤ 4096) result }
     ensures stands { Stands (stage_after result) grammar.new }
     ensures item { IsItem grammar.old.numbers grammar.new.numbers result }
     ensures scanner { IsScanned scanner.new (length scanner.old.pending + S.bound source.old) (S.bound source.new) result }
@@ -113,6 +118,9 @@ impl TraceReader {
         // What was left to give is the answer, followed by what is left now.
         ensures gives { GivesNextItem (items_left self.old (S.remaining source.old))
             (items_left self.new (S.remaining source.new)) result }
+        // Nothing is read past an item but a separator and what is held, and that is at most 4,096 bytes.
+        ensures stops { ¬ IsDone self.old → IfOk result (λ i.
+            StopsBehindItem self.old (S.remaining source.old) self.new (S.remaining source.new) i) }
         // The result and a fault are given for good, and nothing is pulled then.
         ensures last { is_last result ≡ true → IsDone self.new }
         ensures more { is_last result ≡ false → ¬ IsDone self.new }

@@ -2,7 +2,8 @@
 
 ghost use Rattle.std.specs.Prelude.{◌≡◌, ◌-◌, ◌^◌, ◌<◌, ◌↔◌, IfErr, IfSome};
 ghost use Rattle.qrp_check.specs.Headline.{Headline};
-ghost use Rattle.qrp_check.specs.Verdict.{IsVerdictUnless, IsFormulaDevice, IsTraceDevice, IsFormulaFault, StandsOnLine};
+ghost use Rattle.qrp_check.specs.Verdict.{IsVerdictUnless, IsFormulaDevice, IsTraceDevice, IsFormulaFault, StandsOnLine, WasRead, StopsBehindTrace};
+ghost use Rattle.qbf_text.specs.Stopping.{IfKnown};
 
 use crate::checking::check;
 use crate::verdict::{Fault, Rules, Verified};
@@ -35,6 +36,8 @@ pub fn verify<A: Source, B: Source>(
     ensures trace_failed { B.failures trace.old < 2 ^ 64 - 1 →
         (IsTraceDevice result ↔ (B.failures trace.old < B.failures trace.new)) }
     ensures lines { IfErr result StandsOnLine }
+    // Where the trace was read, nothing is read past its result word but at most 4,096 bytes.
+    ensures stops { WasRead result → IfKnown StopsBehindTrace (B.remaining trace.old) (B.remaining trace.new) }
     ensures not_pulled { IsFormulaFault result → trace.new ≡ trace.old }
 {
     let read = read_formula(alloc, formula)?;

@@ -6,6 +6,8 @@ use Rattle.qbf_text.proofs.Going.{answers}
 use Rattle.qrp.specs.Making.{trace_row}
 use Rattle.qrp.proofs.Answered.{answered_bytes}
 use Rattle.qrp.proofs.Readings.{whole_read, fault_read}
+use Rattle.qrp.proofs.StopsBehind.{stops_behind_result}
+use Rattle.qbf_text.specs.Stopping.{tokens_next}
 use Rattle.qrp.proofs.flat.read_flat.Goals as goal
 
 pub returns-in-Ok-clause-exact : goal.returns-in-Ok-clause-exact
@@ -25,3 +27,8 @@ returns-in-Err-clause-exact g c = rw c.fault_of.ensures (
 
 pub returns-in-Err-clause-reads : goal.returns-in-Err-clause-reads
 returns-in-Err-clause-reads g c = answered_bytes (g.S.Source.remaining c.args.source.now) (Err c.fault_of.result) (returns-in-Err-clause-exact g c)
+
+pub returns-in-Ok-clause-stops : goal.returns-in-Ok-clause-stops
+returns-in-Ok-clause-stops g c =
+    stops_behind_result c.new-grammar.result c.read_by.new.grammar c.into_trace.result (tokens_next c.new-scanner.result) c.new-scanner.result.pending c.read_by.new.scanner.pending
+    (g.S.Source.remaining c.args.source.now) (g.S.Source.remaining c.read_by.new.source) c.new-grammar.ensures c.into_trace.ensures c.new-scanner.ensures.next c.new-scanner.ensures.pending c.in-Ok.ensures.stops

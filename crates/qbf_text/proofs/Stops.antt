@@ -1,0 +1,264 @@
+-- What is taken ends with a token and at most one separator.
+use Rattle.std.proofs.Common.{◌≡◌, ℕ, ◌+◌, ◌^◌, ◌<◌, Bool, true, false, List, [], ◌∷◌, ◌++◌, Option, Some, None, IfSome, drop, refl, sym, subst, ap, ◌∙◌, arith, append_assoc, append-nil}
+use Rattle.std.specs.Prelude.{⊤}
+use Rattle.std.specs.Io.KnownBytes.{Consumes}
+use Rattle.std.proofs.KnownBytes.{Consumes-trans}
+use Rattle.qbf_text.specs.declared.scanner.Place.{Place}
+use Rattle.qbf_text.specs.declared.token.Comments.{Comments}
+use Rattle.qbf_text.specs.declared.token.Token.{Token}
+use Rattle.qbf_text.specs.declared.token.Token.TheVariants.{End, Number}
+use Rattle.qbf_text.specs.Ahead.{ahead}
+use Rattle.qbf_text.specs.Hand.{BeginsWithNumber}
+use Rattle.qbf_text.specs.Left.{is_separator, is_end, tokens_left, IsUnbroken, IsWithinLine, EndsRun, EndsLine}
+use Rattle.qbf_text.specs.Lined.{Lined}
+use Rattle.qbf_text.specs.Rows.{Row, Goes, Ends, Whole, Read, read_from}
+use Rattle.qbf_text.specs.Rows as rows
+use Rattle.qbf_text.specs.Stopping.{IfKnown, BeginsAs, Skips, TakesToken, tokens_at, PlaceSkips, PlaceTakes, StopsBehind}
+use Rattle.qbf_text.specs.Tokens.{kind, is_blank, is_line_end, is_comment_byte, counted}
+use Rattle.qbf_text.proofs.Going.{after, read-one}
+use Rattle.qbf_text.proofs.GivesMore.{always}
+use Rattle.qbf_text.proofs.LeftMore.{left_nothing, left_line_end, left_blank, left_comment, left_run, IsToken, tokens_left-counted}
+use Rattle.qbf_text.proofs.OnHand.{number_taken, spelled_ending, spelled_blanked}
+
+-- ---- known bytes
+
+pub known_trans : (P Q R : List ℕ → List ℕ → Type 0) → ((x y z : List ℕ) → P x y → Q y z → R x z) → (a b c : Option (List ℕ)) → IfKnown P a b → IfKnown Q b c → IfKnown R a c
+known_trans P Q R f None b c p q = tt
+known_trans P Q R f (Some x) None c p q = absurd p
+known_trans P Q R f (Some x) (Some y) None p q = absurd q
+known_trans P Q R f (Some x) (Some y) (Some z) p q = f x y z p q
+
+-- what holds of the bytes that were consumed and any rest holds where they are known
+pub known_by : (P : List ℕ → List ℕ → Type 0) (R : List ℕ → Type 0) (a b : Option (List ℕ)) (bs : List ℕ) → Consumes a b bs → IfSome b R → ((rest : List ℕ) → R rest → P (bs ++ rest) rest) → IfKnown P a b
+known_by P R None b bs p r f = tt
+known_by P R (Some x) None bs p r f = absurd p
+known_by P R (Some x) (Some y) bs p r f = subst (λ z. P z y) (sym p) (f y r)
+
+-- ---- what may follow
+
+begins_more : (taken new rest : List ℕ) → BeginsAs new rest → BeginsAs (taken ++ new) (taken ++ rest)
+begins_more [] new rest h = h
+begins_more (b ∷ bs) new rest h = refl
+
+begins_skipped : (a b c new : List ℕ) → BeginsAs (a ++ b ++ c ++ new) a
+begins_skipped [] b c new = tt
+begins_skipped (x ∷ xs) b c new = refl
+
+ends_run : (new rest : List ℕ) → EndsRun new → BeginsAs new rest → EndsRun rest
+ends_run new [] h e = tt
+ends_run [] (b ∷ bs) h e = absurd e
+ends_run (c ∷ cs) (b ∷ bs) h e = rw e h
+
+ends_line : (new rest : List ℕ) → EndsLine new → BeginsAs new rest → EndsLine rest
+ends_line new [] h e = tt
+ends_line [] (b ∷ bs) h e = absurd e
+ends_line (c ∷ cs) (b ∷ bs) h e = rw e h
+
+-- ---- bytes with no token
+
+pub skips_nothing : (here : List ℕ → List Lined) (x : List ℕ) → Skips here here x x
+skips_nothing here x = record { skipped = []; taken = refl; spelled = λ rest _. refl }
+
+pub skips_none : (here : List ℕ → List Lined) (a : Option (List ℕ)) → IfKnown (Skips here here) a a
+skips_none here None = tt
+skips_none here (Some x) = skips_nothing here x
+
+pub skips_more : (here mid there : List ℕ → List Lined) (x y z : List ℕ) → Skips here mid x y → Skips mid there y z → Skips here there x z
+skips_more here mid there x y z s t = record {
+  skipped = s.skipped ++ t.skipped;
+  taken = s.taken ∙ ap (λ l. s.skipped ++ l) t.taken ∙ sym (append_assoc s.skipped t.skipped z);
+  spelled = λ rest h.
+      ap here (append_assoc s.skipped t.skipped rest)
+      ∙ s.spelled (t.skipped ++ rest) (rw t.taken (begins_more t.skipped z rest h))
+      ∙ t.spelled rest h;
+}
+
+regroup : (a b c d : List ℕ) → a ++ b ++ c ++ d ≡ a ++ (b ++ c ++ d)
+regroup a b c d = ap (λ l. l ++ d) (append_assoc a b c) ∙ append_assoc a (b ++ c) d
+
+-- no token, and then one
+pub takes_behind : (here mid there : List ℕ → List Lined) (token : Lined) (x y z : List ℕ) → Skips here mid x y → TakesToken mid there token y z → TakesToken here there token x z
+takes_behind here mid there token x y z s t =
+    let front = t.skipped ++ t.word ++ t.behind in
+    let same = regroup s.skipped t.skipped t.word t.behind in
+    record {
+      skipped = s.skipped ++ t.skipped;
+      word = t.word;
+      behind = t.behind;
+      line = t.line;
+      taken = s.taken ∙ ap (λ l. s.skipped ++ l) t.taken ∙ sym (append_assoc s.skipped front z) ∙ ap (λ l. l ++ z) (sym same);
+      nothing = s.spelled t.skipped (rw t.taken (begins_skipped t.skipped t.word t.behind z)) ∙ t.nothing;
+      unbroken = t.unbroken;
+      separates = t.separates;
+      spelled = λ rest h.
+          ap here (ap (λ l. l ++ rest) same ∙ append_assoc s.skipped front rest)
+          ∙ s.spelled (front ++ rest) (rw t.taken (begins_more front z rest h))
+          ∙ t.spelled rest h;
+    }
+
+-- ---- single steps
+
+module _ (f : Comments) (begun : Bool) (n : ℕ) where
+  pub skips_same : (a b : Option (List ℕ)) → Consumes a b [] → IfKnown (Skips (tokens_left f begun n) (tokens_left f begun n)) a b
+  skips_same a b p = known_by _ (λ _. ⊤) a b [] p (always b) (λ rest _. skips_nothing (tokens_left f begun n) rest)
+
+  pub skips_line_end : (b : ℕ) (t t' : Option (List ℕ)) → Consumes t t' (b ∷ []) → b ≡ 10 → IfKnown (Skips (tokens_left f begun n) (tokens_left f false (counted (n + 1)))) t t'
+  skips_line_end b t t' p e =
+      known_by _ (λ _. ⊤) t t' (b ∷ []) p (always t') (λ new _. record {
+        skipped = b ∷ [];
+        taken = refl;
+        spelled = λ rest _. rw e (left_line_end f begun n rest ∙ tokens_left-counted f false (n + 1) (counted (n + 1)) rest (omega arith));
+      })
+
+  pub skips_blank : (b : ℕ) (t t' : Option (List ℕ)) → Consumes t t' (b ∷ []) → is_blank b ≡ true → IfKnown (Skips (tokens_left f begun n) (tokens_left f begun n)) t t'
+  skips_blank b t t' p e =
+      known_by _ (λ _. ⊤) t t' (b ∷ []) p (always t') (λ new _. record {
+        skipped = b ∷ [];
+        taken = refl;
+        spelled = λ rest _. left_blank f begun n b rest e;
+      })
+
+  pub skips_comment : (b : ℕ) (t t' t'' : Option (List ℕ)) → begun ≡ false → Consumes t t' (b ∷ []) → is_line_end b ≡ false → is_blank b ≡ false → is_comment_byte f b ≡ true
+      → (s : (skipped : List ℕ) × IsWithinLine skipped × Consumes t' t'' skipped) → IfSome t'' EndsLine
+      → IfKnown (Skips (tokens_left f begun n) (tokens_left f begun n)) t t''
+  skips_comment b t t' t'' e p line blank comment s end =
+      known_by _ EndsLine t t'' (b ∷ s.0) (Consumes-trans t t' t'' (b ∷ []) s.0 p s.2) end (λ new ends. record {
+        skipped = b ∷ s.0;
+        taken = refl;
+        spelled = λ rest h. rw e (left_comment f n b s.0 rest blank comment (line, s.1) (ends_line new rest ends h));
+      })
+
+  -- a run that is a token
+  pub takes_run : (b : ℕ) (more : List ℕ) (t t' t'' : Option (List ℕ)) → Consumes t t' (b ∷ []) → is_separator b ≡ false → IsToken f begun (b ∷ more) → n < 2 ^ 64
+      → Consumes t' t'' more → IsUnbroken more → IfSome t'' EndsRun
+      → IfKnown (TakesToken (tokens_left f begun n) (tokens_left f true n) (kind (b ∷ more), n)) t t''
+  takes_run b more t t' t'' p sep token small q unbroken end =
+      let same : counted n ≡ n = omega arith in
+      known_by _ EndsRun t t'' (b ∷ more) (Consumes-trans t t' t'' (b ∷ []) more p q) end (λ new ends. record {
+        skipped = [];
+        word = b ∷ more;
+        behind = [];
+        line = counted n;
+        taken = ap (λ l. l ++ new) (sym (append-nil (b ∷ more)));
+        nothing = left_nothing f begun n;
+        unbroken = (sep, unbroken);
+        separates = tt;
+        spelled = λ rest h. ap (λ l. tokens_left f begun n (l ++ rest)) (append-nil (b ∷ more)) ∙ left_run f begun n (b ∷ more) rest (sep, unbroken) (ends_run new rest ends h) token ∙ ap (λ m. (kind (b ∷ more), m) ∷ tokens_left f true n rest) same;
+      })
+
+-- a number that stands whole among the bytes at hand, and the separator behind it
+module _ (f : Comments) (begun : Bool) (n : ℕ) (pending : List ℕ) (negative : Bool) (value len : ℕ) (ends : Bool) (h : BeginsWithNumber pending negative value len ends) (small : n < 2 ^ 64) (rem : Option (List ℕ)) where
+  takes_number : (there : List ℕ → List Lined) → ((rest : List ℕ) → tokens_left f begun n ((h.run ++ h.behind ∷ []) ++ rest) ≡ (Number negative value, n) ∷ there rest)
+      → IfKnown (TakesToken (tokens_left f begun n) there (Number negative value, n)) (ahead pending rem) (ahead (drop len pending) rem)
+  takes_number there e =
+      known_by _ (λ _. ⊤) (ahead pending rem) (ahead (drop len pending) rem) (h.run ++ h.behind ∷ []) (number_taken f begun n pending negative value len ends h small rem) (always (ahead (drop len pending) rem)) (λ new _. record {
+        skipped = [];
+        word = h.run;
+        behind = h.behind ∷ [];
+        line = counted n;
+        taken = refl;
+        nothing = left_nothing f begun n;
+        unbroken = h.unbroken;
+        separates = h.separates;
+        spelled = λ rest _. e rest;
+      })
+
+  pub takes_ending : ends ≡ true → IfKnown (TakesToken (tokens_left f begun n) (tokens_left f false (counted (n + 1))) (Number negative value, n)) (ahead pending rem) (ahead (drop len pending) rem)
+  takes_ending e = takes_number (tokens_left f false (counted (n + 1))) (spelled_ending f begun n pending negative value len ends h small rem e)
+
+  pub takes_blanked : ends ≡ false → IfKnown (TakesToken (tokens_left f begun n) (tokens_left f true n) (Number negative value, n)) (ahead pending rem) (ahead (drop len pending) rem)
+  takes_blanked e = takes_number (tokens_left f true n) (spelled_blanked f begun n pending negative value len ends h small rem e)
+
+-- ---- from place to place
+
+pub known_skips : (here mid there : List ℕ → List Lined) (a b c : Option (List ℕ)) → IfKnown (Skips here mid) a b → IfKnown (Skips mid there) b c → IfKnown (Skips here there) a c
+known_skips here mid there a b c s t = known_trans _ _ _ (skips_more here mid there) a b c s t
+
+pub known_takes : (here mid there : List ℕ → List Lined) (token : Lined) (a b c : Option (List ℕ)) → IfKnown (Skips here mid) a b → IfKnown (TakesToken mid there token) b c → IfKnown (TakesToken here there token) a c
+known_takes here mid there token a b c s t = known_trans _ _ _ (takes_behind here mid there token) a b c s t
+
+pub place_skips_more : (p q r : Place) (a b c : Option (List ℕ)) → PlaceSkips p a q b → PlaceSkips q b r c → PlaceSkips p a r c
+place_skips_more p q r a b c s t = known_trans _ _ _ (skips_more (tokens_at p) (tokens_at q) (tokens_at r)) (ahead p.window a) (ahead q.window b) (ahead r.window c) s t
+
+pub place_takes_behind : (p q r : Place) (a b c : Option (List ℕ)) (token : Lined) → PlaceSkips p a q b → PlaceTakes q b r c token → PlaceTakes p a r c token
+place_takes_behind p q r a b c token s t =
+    known_trans _ _ _ (takes_behind (tokens_at p) (tokens_at q) (tokens_at r) token) (ahead p.window a) (ahead q.window b) (ahead r.window c) s t
+
+-- of any bytes that remain
+pub place_takes_some : (p q r : Place) (found : Option Lined) → ((rem : Option (List ℕ)) → PlaceSkips p rem q rem) → IfSome found (λ token. (rem : Option (List ℕ)) → PlaceTakes q rem r rem token)
+    → IfSome found (λ token. (rem : Option (List ℕ)) → PlaceTakes p rem r rem token)
+place_takes_some p q r None s t = tt
+place_takes_some p q r (Some token) s t = λ rem. place_takes_behind p q r rem rem rem token (s rem) (t rem)
+
+-- ---- token after token
+
+-- what was read so far: the tokens of the bytes that were taken lead from the first place to this one
+pub record SoFar {P A F : Type 0} (row : P → Token → Row P A F) (first place : P) (here there : List ℕ → List Lined) (old new : List ℕ) : Type 0 where
+  pub front : List ℕ
+  pub given : List Lined
+  pub taken : old ≡ front ++ new
+  pub spelled : (rest : List ℕ) → BeginsAs new rest → here (front ++ rest) ≡ given ++ there rest
+  pub leads : (ts : List Lined) → read_from row first (given ++ ts) ≡ read_from row place ts
+
+module _ {P A F : Type 0} (row : P → Token → Row P A F) (first : P) where
+  pub so_far_none : (here : List ℕ → List Lined) (a : Option (List ℕ)) → IfKnown (SoFar row first first here here) a a
+  so_far_none here None = tt
+  so_far_none here (Some x) = record { front = []; given = []; taken = refl; spelled = λ rest _. refl; leads = λ ts. refl }
+
+  so_far_more : (place next : P) (here mid there : List ℕ → List Lined) (token : Lined) (x y z : List ℕ) → row place token.0 ≡ Goes next → SoFar row first place here mid x y → TakesToken mid there token y z → SoFar row first next here there x z
+  so_far_more place next here mid there token x y z e s t =
+      let more = t.skipped ++ t.word ++ t.behind in
+      record {
+        front = s.front ++ more;
+        given = s.given ++ token ∷ [];
+        taken = s.taken ∙ ap (λ l. s.front ++ l) t.taken ∙ sym (append_assoc s.front more z);
+        spelled = λ rest h.
+            ap here (append_assoc s.front more rest)
+            ∙ s.spelled (more ++ rest) (rw t.taken (begins_more more z rest h))
+            ∙ ap (λ l. s.given ++ l) (t.spelled rest h)
+            ∙ sym (append_assoc s.given (token ∷ []) (there rest));
+        leads = λ ts.
+            ap (read_from row first) (append_assoc s.given (token ∷ []) ts)
+            ∙ s.leads (token ∷ ts)
+            ∙ read-one row place token ts
+            ∙ ap (λ (r : Row P A F). after row r token ts) e;
+      }
+
+  pub so_far_goes : (place next : P) (here mid there : List ℕ → List Lined) (token : Lined) (a b c : Option (List ℕ)) → row place token.0 ≡ Goes next
+      → IfKnown (SoFar row first place here mid) a b → IfKnown (TakesToken mid there token) b c → IfKnown (SoFar row first next here there) a c
+  so_far_goes place next here mid there token a b c e = known_trans _ _ _ (λ x y z. so_far_more place next here mid there token x y z e) a b c
+
+  stops_one : (last next : P) (answer : A) (here mid there : List ℕ → List Lined) (token : Lined) (line : ℕ) (x y z : List ℕ) → row last token.0 ≡ Ends answer next → is_end token.0 ≡ false → there [] ≡ (End, line) ∷ []
+      → SoFar row first last here mid x y → TakesToken mid there token y z → StopsBehind row first next answer here x z
+  stops_one last next answer here mid there token line x y z e no_end none s t =
+      let more = t.skipped ++ t.word ++ t.behind in
+      let same = regroup s.front t.skipped t.word t.behind in
+      record {
+        before = s.front ++ t.skipped;
+        word = t.word;
+        behind = t.behind;
+        last = last;
+        token = token.0;
+        line = t.line;
+        end_line = line;
+        taken = s.taken ∙ ap (λ l. s.front ++ l) t.taken ∙ sym (append_assoc s.front more z) ∙ ap (λ l. l ++ z) (sym same);
+        unbroken = t.unbroken;
+        separates = t.separates;
+        ends = e;
+        no_end = no_end;
+        unread =
+            ap (read_from row first) (s.spelled t.skipped (rw t.taken (begins_skipped t.skipped t.word t.behind z)) ∙ ap (λ l. s.given ++ l) t.nothing)
+            ∙ s.leads ((End, t.line) ∷ []);
+        whole =
+            ap (λ l. read_from row first (here l)) (same ∙ ap (λ l. s.front ++ l) (sym (append-nil more)))
+            ∙ ap (read_from row first) (s.spelled (more ++ []) (rw t.taken (begins_more more z [] tt)) ∙ ap (λ l. s.given ++ l) (t.spelled [] tt ∙ ap (λ l. token ∷ l) none))
+            ∙ s.leads (token ∷ (End, line) ∷ [])
+            ∙ read-one row last token ((End, line) ∷ [])
+            ∙ ap (λ (r : Row P A F). after row r token ((End, line) ∷ [])) e
+            ∙ ap (λ (b : Bool). Whole answer next (rows.behind b token ((End, line) ∷ []))) no_end;
+      }
+
+  pub stops_behind : (last next : P) (answer : A) (here mid there : List ℕ → List Lined) (token : Lined) (line : ℕ) (a b c : Option (List ℕ)) → row last token.0 ≡ Ends answer next → is_end token.0 ≡ false → there [] ≡ (End, line) ∷ []
+      → IfKnown (SoFar row first last here mid) a b → IfKnown (TakesToken mid there token) b c → IfKnown (StopsBehind row first next answer here) a c
+  stops_behind last next answer here mid there token line a b c e no_end none =
+      known_trans _ _ _ (λ x y z. stops_one last next answer here mid there token line x y z e no_end none) a b c

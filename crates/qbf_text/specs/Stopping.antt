@@ -1,0 +1,96 @@
+-- Where reading stops: behind a token, and at most one separator.
+use Rattle.std.specs.Prelude.{◌≡◌, ℕ, false, true, List, [], ◌∷◌, ◌++◌, Option, Some, None, Result, Ok, Err, ⊤}
+use Rattle.qbf_text.specs.declared.grammar.ReadError.{ReadError}
+use Rattle.qbf_text.specs.declared.scanner.Place.{Place}
+use Rattle.qbf_text.specs.declared.token.Token.{Token}
+use Rattle.qbf_text.specs.declared.token.Token.TheVariants.{End}
+use Rattle.qbf_text.specs.Ahead.{ahead}
+use Rattle.qbf_text.specs.Left.{is_separator, is_end, tokens_left, IsUnbroken}
+use Rattle.qbf_text.specs.Lined.{Lined}
+use Rattle.qbf_text.specs.Reading.{Reading}
+use Rattle.qbf_text.specs.Rows.{Row, Ends, Whole, read_from}
+
+-- this holds of the bytes before and after, where they are known; known bytes stay known
+abbrev pub IfKnown : (List ℕ → List ℕ → Type 0) → Option (List ℕ) → Option (List ℕ) → Type 0
+IfKnown P None new = ⊤
+IfKnown P (Some before) None = ⊥
+IfKnown P (Some before) (Some after) = P before after
+
+-- there is nothing here, or it begins with the byte that the text begins with
+abbrev pub BeginsAs : List ℕ → List ℕ → Type 0
+BeginsAs text [] = ⊤
+BeginsAs [] (b ∷ bs) = ⊥
+BeginsAs (c ∷ cs) (b ∷ bs) = b ≡ c
+
+-- nothing, or one separator
+abbrev pub IsAtMostASeparator : List ℕ → Type 0
+IsAtMostASeparator [] = ⊤
+IsAtMostASeparator (b ∷ []) = is_separator b ≡ true
+IsAtMostASeparator (b ∷ c ∷ cs) = ⊥
+
+-- The bytes that were taken have no token: whether the text goes on as it does or ends there, it has the tokens of the rest.
+-- `here` says what tokens bytes have before, and `there` what they have behind.
+pub record Skips (here there : List ℕ → List Lined) (old new : List ℕ) : Type 0 where
+  pub skipped : List ℕ
+  pub taken : old ≡ skipped ++ new
+  pub spelled : (rest : List ℕ) → BeginsAs new rest → here (skipped ++ rest) ≡ there rest
+
+-- One token was taken: bytes that have none, the run of the token, and at most one separator.
+pub record TakesToken (here there : List ℕ → List Lined) (token : Lined) (old new : List ℕ) : Type 0 where
+  pub skipped : List ℕ
+  pub word : List ℕ
+  pub behind : List ℕ
+  pub line : ℕ
+  pub taken : old ≡ skipped ++ word ++ behind ++ new
+  pub nothing : here skipped ≡ (End, line) ∷ []
+  pub unbroken : IsUnbroken word
+  pub separates : IsAtMostASeparator behind
+  pub spelled : (rest : List ℕ) → BeginsAs new rest → here (skipped ++ word ++ behind ++ rest) ≡ token ∷ there rest
+
+-- the tokens of bytes that stand next at a place in the text
+abbrev pub tokens_at : Place → List ℕ → List Lined
+tokens_at p = tokens_left p.comments p.begun p.line
+
+-- the tokens of bytes that a scanner meets next
+abbrev pub tokens_next : Reading → List ℕ → List Lined
+tokens_next r = tokens_left r.comments r.begun r.line
+
+-- from one place to another no token was taken
+abbrev pub PlaceSkips : Place → Option (List ℕ) → Place → Option (List ℕ) → Type 0
+PlaceSkips p before q after = IfKnown (Skips (tokens_at p) (tokens_at q)) (ahead p.window before) (ahead q.window after)
+
+-- from one place to another one token was taken
+abbrev pub PlaceTakes : Place → Option (List ℕ) → Place → Option (List ℕ) → Lined → Type 0
+PlaceTakes p before q after token =
+    IfKnown (TakesToken (tokens_at p) (tokens_at q) token) (ahead p.window before) (ahead q.window after)
+
+-- the same of a scanner
+abbrev pub ScannerTakes : Reading → Option (List ℕ) → Reading → Option (List ℕ) → Lined → Type 0
+ScannerTakes r before s after token =
+    IfKnown (TakesToken (tokens_next r) (tokens_next s) token) (ahead r.pending before) (ahead s.pending after)
+
+-- Of the bytes before, no more was taken than what spells the answer: the run of the last token is needed, since without it the
+-- last place is not left, and behind it at most one separator was taken.
+pub record StopsBehind {P A F : Type 0} (row : P → Token → Row P A F) (first next : P) (answer : A) (here : List ℕ → List Lined) (old new : List ℕ) : Type 0 where
+  pub before : List ℕ
+  pub word : List ℕ
+  pub behind : List ℕ
+  pub last : P
+  pub token : Token
+  pub line : ℕ
+  pub end_line : ℕ
+  pub taken : old ≡ before ++ word ++ behind ++ new
+  pub unbroken : IsUnbroken word
+  pub separates : IsAtMostASeparator behind
+  pub ends : row last token ≡ Ends answer next
+  pub no_end : is_end token ≡ false
+  -- the bytes before that run lead to the last place
+  pub unread : read_from row first (here before) ≡ read_from row last ((End, line) ∷ [])
+  -- with it they give the answer
+  pub whole : read_from row first (here (before ++ word ++ behind)) ≡ Whole answer next ((End, end_line) ∷ [])
+
+-- where some row takes a token that is not End, nothing is taken behind it but a separator, and this holds too
+abbrev pub Stops : {P A F : Type 0} → (P → Token → Row P A F) → P → P → (List ℕ → List Lined) → Option (List ℕ) → Option (List ℕ) → Type 0 → Result A (ReadError F) → Type 0
+Stops {P = P} row first next here before after few (Ok a) = (place : P) × (token : Token) × (row place token ≡ Ends a next)
+    × (is_end token ≡ false → IfKnown (StopsBehind row first next a here) before after × few)
+Stops row first next here before after few (Err e) = ⊤
