@@ -1,5 +1,6 @@
 -- From a word that was read from eight bytes back to the bytes.
-use Rattle.std.proofs.Common.{ℕ, zero, suc, ◌≡◌, ◌+◌, ◌-◌, ◌<◌, ◌≤◌, true, false, List, [], ◌∷◌, take, drop, length, get_or, arith, refl, sym, ap, ◌∙◌, inl, inr, subst}
+use Rattle.std.proofs.Common.{ℕ, zero, suc, ◌≡◌, ◌+◌, ◌-◌, ◌<◌, ◌≤◌, true, false, List, [], ◌∷◌, take, drop, length, get_or, arith, refl}
+use Rattle.std.proofs.Common.{sym, ap, ◌∙◌, inl, inr, subst}
 use Rattle.std.specs.List.{prefix_len}
 use Rattle.std.specs.Char.{is_ascii_digit, digit_value}
 use Rattle.std.specs.Int.{w64, to_le_bytes, from_le_bytes}
@@ -28,7 +29,8 @@ all_front (suc n) (b ∷ bs) h e =
           absurd (omega (arith, e, p))
     ]
 
-module _ (xs : List ℕ) (w n : ℕ) (room : 8 ≤ length xs) (fits : (i : ℕ) → get_or (take 8 xs) i 0 < 256) (read : w ≡ from_le_bytes w64 (take 8 xs))
+module _ (xs : List ℕ) (w n : ℕ) (room : 8 ≤ length xs) (fits : (i : ℕ) → get_or (take 8 xs) i 0 < 256)
+    (read : w ≡ from_le_bytes w64 (take 8 xs))
     (run : n ≡ prefix_len is_ascii_digit (to_le_bytes w64 w)) (few : n < 8) where
   pub same : to_le_bytes w64 w ≡ take 8 xs
   same = le_bytes_8 (take 8 xs) w (length-take-le 8 xs room) fits read
@@ -45,7 +47,8 @@ module _ (xs : List ℕ) (w n : ℕ) (room : 8 ≤ length xs) (fits : (i : ℕ) 
   pub front_stops : is_ascii_digit (get_or xs n 0) ≡ false
   front_stops =
       let bs = to_le_bytes w64 w in
-      let stop : is_ascii_digit (get_or bs n 0) ≡ false = subst (λ k. is_ascii_digit (get_or bs k 0) ≡ false) (sym run) (prefix_len_stops is_ascii_digit bs 0 (subst (λ k. k < 8) run few)) in
+      let stop : is_ascii_digit (get_or bs n 0) ≡ false = subst (λ k. is_ascii_digit (get_or bs k 0) ≡ false) (sym run)
+      (prefix_len_stops is_ascii_digit bs 0 (subst (λ k. k < 8) run few)) in
       subst (λ b. is_ascii_digit b ≡ false) (ap (λ l. get_or l n 0) same ∙ get_or-take 8 xs n 0 few) stop
 
 front_fits : (xs : List ℕ) → ((i : ℕ) → get_or xs i 0 < 256) → 8 ≤ length xs → (i : ℕ) → get_or (take 8 xs) i 0 < 256
@@ -77,10 +80,13 @@ module _ (bytes e : List ℕ) (from w n v : ℕ) (fits : (i : ℕ) → get_or by
   back = omega arith
 
   pub digits_read : AllDigits 10 (take (from + n - from) (drop from bytes))
-  digits_read = subst (λ k. AllDigits 10 (take k (drop from bytes))) (sym back) (front_digits (drop from bytes) w n room each word_read run few)
+  digits_read =
+      subst (λ k. AllDigits 10 (take k (drop from bytes))) (sym back) (front_digits (drop from bytes) w n room each word_read run few)
 
   pub value_read : v ≡ digits_value 10 (take (from + n - from) (drop from bytes))
-  value_read = value ∙ front_value (drop from bytes) w n room each word_read run few ∙ ap (λ k. digits_value 10 (take k (drop from bytes))) (sym back)
+  value_read = value ∙ front_value (drop from bytes) w n room each word_read run few
+      ∙ ap (λ k. digits_value 10 (take k (drop from bytes))) (sym back)
 
   pub stop_read : is_ascii_digit (get_or bytes (from + n) 0) ≡ false
-  stop_read = subst (λ b. is_ascii_digit b ≡ false) (get_or-drop from bytes n 0) (front_stops (drop from bytes) w n room each word_read run few)
+  stop_read =
+      subst (λ b. is_ascii_digit b ≡ false) (get_or-drop from bytes n 0) (front_stops (drop from bytes) w n room each word_read run few)

@@ -1,5 +1,6 @@
 -- A word by its list of bytes: `^`, `<<`, and the digits at its front.
-use Rattle.std.proofs.Common.{ℕ, zero, suc, ◌≡◌, ◌+◌, ◌*◌, ◌%◌, ◌^◌, ◌<◌, true, cond, eqb, List, [], ◌∷◌, ◌++◌, map, take, replicate, length, arith, bit_xor, refl, sym, ap, ap₂, ◌∙◌, inl, inr}
+use Rattle.std.proofs.Common.{ℕ, zero, suc, ◌≡◌, ◌+◌, ◌*◌, ◌%◌, ◌^◌, ◌<◌, true, cond, eqb, List, [], ◌∷◌, ◌++◌, map, take, replicate}
+use Rattle.std.proofs.Common.{length, arith, bit_xor, refl, sym, ap, ap₂, ◌∙◌, inl, inr}
 use Rattle.std.specs.List.{prefix_len}
 use Rattle.std.specs.Char.{is_ascii_digit, digit_value}
 use Rattle.std.specs.Int.{w64, to_le_bytes, from_le_bytes}
@@ -23,7 +24,8 @@ pub word_append : (xs ys : List ℕ) → word (xs ++ ys) ≡ word ys * 2 ^ wide 
 unfolding word
 word_append [] ys = omega arith
 word_append (x ∷ xs) ys =
-    let turn : word ys * 2 ^ (wide (length xs) + 8) ≡ word ys * 2 ^ wide (length xs) * 256 = ap (λ k. word ys * k) (pow-add 2 (wide (length xs)) 8) ∙ omega arith in
+    let turn : word ys * 2 ^ (wide (length xs) + 8) ≡ word ys * 2 ^ wide (length xs) * 256 =
+    ap (λ k. word ys * k) (pow-add 2 (wide (length xs)) 8) ∙ omega arith in
     omega (arith, word_append xs ys, turn)
 
 pub word_zeros : (z : ℕ) → word (replicate z 0) ≡ 0
@@ -51,7 +53,8 @@ turned_small b fits = agree_below_at (λ x. is_small (turned x)) is_ascii_digit 
 
 turned_value : (b : ℕ) → b < 256 → is_ascii_digit b ≡ true → turned b ≡ digit_value b
 turned_value b fits digit =
-    let all : cond (is_ascii_digit b) (eqb (turned b) (digit_value b)) true ≡ true = agree_below_at (λ x. cond (is_ascii_digit x) (eqb (turned x) (digit_value x)) true) (λ _. true) 256 b refl fits in
+    let all : cond (is_ascii_digit b) (eqb (turned b) (digit_value b)) true ≡ true =
+    agree_below_at (λ x. cond (is_ascii_digit x) (eqb (turned x) (digit_value x)) true) (λ _. true) 256 b refl fits in
     eqb-true _ _ (sym (cond-true _ _ _ digit) ∙ all)
 
 pub turned_run : (bs : List ℕ) → Bytes bs → prefix_len is_small (map turned bs) ≡ prefix_len is_ascii_digit bs
@@ -59,7 +62,8 @@ turned_run [] h = refl
 turned_run (b ∷ bs) h = ap₂ (λ t k. cond t (1 + k) 0) (turned_small b h.0) (turned_run bs h.1)
 
 -- ---- the front of n digits
-pub front : (n : ℕ) (bs : List ℕ) → Bytes bs → n ≡ prefix_len is_ascii_digit bs → (take n (map turned bs) ≡ map digit_value (take n bs)) × AllBelowBase 10 (take n (map turned bs))
+pub front : (n : ℕ) (bs : List ℕ) → Bytes bs → n ≡ prefix_len is_ascii_digit bs
+    → (take n (map turned bs) ≡ map digit_value (take n bs)) × AllBelowBase 10 (take n (map turned bs))
 front zero bs h e = (refl, tt)
 front (suc n) [] h e = absurd (omega arith)
 front (suc n) (b ∷ bs) h e =
@@ -96,7 +100,8 @@ shifted h l i k low e =
     ap (λ j. j % 2 ^ 64) apart ∙ mod_low h 64 (l * 2 ^ k) fits
 
 -- ---- the eight bytes of a word
-horner : (b0 b1 b2 b3 b4 b5 b6 b7 : ℕ) → word (b0 ∷ b1 ∷ b2 ∷ b3 ∷ b4 ∷ b5 ∷ b6 ∷ b7 ∷ []) ≡ from_le_bytes w64 (b0 ∷ b1 ∷ b2 ∷ b3 ∷ b4 ∷ b5 ∷ b6 ∷ b7 ∷ [])
+horner : (b0 b1 b2 b3 b4 b5 b6 b7 : ℕ)
+    → word (b0 ∷ b1 ∷ b2 ∷ b3 ∷ b4 ∷ b5 ∷ b6 ∷ b7 ∷ []) ≡ from_le_bytes w64 (b0 ∷ b1 ∷ b2 ∷ b3 ∷ b4 ∷ b5 ∷ b6 ∷ b7 ∷ [])
 unfolding word
 horner b0 b1 b2 b3 b4 b5 b6 b7 = omega arith
 
@@ -104,8 +109,24 @@ pub word_bytes : (w : ℕ) → w < 2 ^ 64 → word (to_le_bytes w64 w) ≡ w
 word_bytes w fits = horner _ _ _ _ _ _ _ _ ∙ from_le_bytes-to_le_bytes_8 w fits
 
 pub bytes_fit : (w : ℕ) → Bytes (to_le_bytes w64 w)
-bytes_fit w = (mod_below _ 256 (omega arith), (mod_below _ 256 (omega arith), (mod_below _ 256 (omega arith), (mod_below _ 256 (omega arith), (mod_below _ 256 (omega arith), (mod_below _ 256 (omega arith), (mod_below _ 256 (omega arith), (mod_below _ 256 (omega arith), tt))))))))
+bytes_fit w = (
+  mod_below _ 256 (omega arith),
+  (
+    mod_below _ 256 (omega arith),
+    (
+      mod_below _ 256 (omega arith),
+      (
+        mod_below _ 256 (omega arith),
+        (
+          mod_below _ 256 (omega arith),
+          (mod_below _ 256 (omega arith), (mod_below _ 256 (omega arith), (mod_below _ 256 (omega arith), tt))),
+        ),
+      ),
+    ),
+  ),
+)
 
-pub spread : (b0 b1 b2 b3 b4 b5 b6 b7 : ℕ) → word (b0 ∷ b1 ∷ b2 ∷ b3 ∷ b4 ∷ b5 ∷ b6 ∷ b7 ∷ []) ≡ ((((((b7 * 256 + b6) * 256 + b5) * 256 + b4) * 256 + b3) * 256 + b2) * 256 + b1) * 256 + b0
+pub spread : (b0 b1 b2 b3 b4 b5 b6 b7 : ℕ) → word (b0 ∷ b1 ∷ b2 ∷ b3 ∷ b4 ∷ b5 ∷ b6 ∷ b7 ∷ [])
+    ≡ ((((((b7 * 256 + b6) * 256 + b5) * 256 + b4) * 256 + b3) * 256 + b2) * 256 + b1) * 256 + b0
 unfolding word
 spread b0 b1 b2 b3 b4 b5 b6 b7 = omega arith

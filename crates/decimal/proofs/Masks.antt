@@ -1,5 +1,6 @@
 -- One mask marks the first byte of a word that is no digit.
-use Rattle.std.proofs.Common.{ℕ, zero, suc, ◌≡◌, ◌+◌, ◌*◌, ◌/◌, ◌%◌, ◌^◌, ◌<◌, ◌≤◌, min, Bool, true, cond, ltb, eqb, List, [], ◌∷◌, length, arith, bit_and, bit_or, refl, sym, ap, ◌∙◌, inl, inr}
+use Rattle.std.proofs.Common.{ℕ, zero, suc, ◌≡◌, ◌+◌, ◌*◌, ◌/◌, ◌%◌, ◌^◌, ◌<◌, ◌≤◌, min, Bool, true, cond, ltb, eqb, List, [], ◌∷◌, length}
+use Rattle.std.proofs.Common.{arith, bit_and, bit_or, refl, sym, ap, ◌∙◌, inl, inr}
 use lib.Count.{count_trailing_zeros, under}
 use Rattle.std.specs.List.{prefix_len}
 use Rattle.std.proofs.lemmas.Bool.{agree_below_at, eqb-true, cond-true, cond-false, cases_lt, lt-ltb, le-ltb}
@@ -75,7 +76,8 @@ low_mark : (b : ℕ) → b < 256 → byte_mark b ≡ cond (is_small b) 0 128
 low_mark b fits = eqb-true _ _ (agree_below_at (λ x. eqb (byte_mark x) (cond (is_small x) 0 128)) (λ _. true) 256 b refl fits)
 
 -- the mask of one byte more
-more : (n t b : ℕ) → b < 256 → marks (suc n) (t * 256 + b) ≡ bit_and (bit_or (((t * 256 + b + (splat 118 n * 256 + 118)) / 256) % 2 ^ wide n) t) (splat 128 n) * 256 + byte_mark b
+more : (n t b : ℕ) → b < 256 → marks (suc n) (t * 256 + b)
+    ≡ bit_and (bit_or (((t * 256 + b + (splat 118 n * 256 + 118)) / 256) % 2 ^ wide n) t) (splat 128 n) * 256 + byte_mark b
 more n t b fits =
     let s = t * 256 + b + (splat 118 n * 256 + 118) in
     let cut : s % 2 ^ (wide n + 8) ≡ (s / 256 % 2 ^ wide n) * 256 + s % 256 = mod-pow-add s (wide n) 8 in
@@ -84,23 +86,27 @@ more n t b fits =
     let l = (b + 118) % 256 in
     let sum : s % 2 ^ (wide n + 8) ≡ h * 256 + l = cut ∙ ap (λ y. h * 256 + y) low in
     let ors : bit_or (h * 256 + l) (t * 256 + b) ≡ bit_or h t * 256 + bit_or l b = or_block 8 h t l b (omega arith) fits in
-    let ands : bit_and (bit_or h t * 256 + bit_or l b) (splat 128 n * 256 + 128) ≡ bit_and (bit_or h t) (splat 128 n) * 256 + bit_and (bit_or l b) 128 = and_block 8 (bit_or h t) (splat 128 n) (bit_or l b) 128 (or_of_8 l b (omega arith) fits) (omega arith) in
+    let ands : bit_and (bit_or h t * 256 + bit_or l b) (splat 128 n * 256 + 128) ≡ bit_and (bit_or h t) (splat 128 n) * 256 + bit_and
+    (bit_or l b) 128 = and_block 8 (bit_or h t) (splat 128 n) (bit_or l b) 128 (or_of_8 l b (omega arith) fits) (omega arith) in
     ap (λ y. bit_and (bit_or y (t * 256 + b)) (splat 128 n * 256 + 128)) sum ∙ ap (λ y. bit_and y (splat 128 n * 256 + 128)) ors ∙ ands
 
 more_small : (n t b : ℕ) → b < 10 → marks (suc n) (t * 256 + b) ≡ marks n t * 256
 more_small n t b small =
     let mark : byte_mark b ≡ 0 = low_mark b (omega arith) ∙ cond-true _ _ _ (lt-ltb b 10 small) in
     let carry : (t * 256 + b + (splat 118 n * 256 + 118)) / 256 ≡ t + splat 118 n = omega arith in
-    let same : bit_and (bit_or (((t * 256 + b + (splat 118 n * 256 + 118)) / 256) % 2 ^ wide n) t) (splat 128 n) ≡ marks n t = ap (λ y. bit_and (bit_or (y % 2 ^ wide n) t) (splat 128 n)) carry in
+    let same : bit_and (bit_or (((t * 256 + b + (splat 118 n * 256 + 118)) / 256) % 2 ^ wide n) t) (splat 128 n) ≡ marks n t =
+    ap (λ y. bit_and (bit_or (y % 2 ^ wide n) t) (splat 128 n)) carry in
     omega (arith, more n t b (omega arith), same, mark)
 
-more_large : (n t b : ℕ) → b < 256 → 10 ≤ b → marks (suc n) (t * 256 + b) ≡ bit_and (bit_or (((t * 256 + b + (splat 118 n * 256 + 118)) / 256) % 2 ^ wide n) t) (splat 128 n) * 256 + 128
+more_large : (n t b : ℕ) → b < 256 → 10 ≤ b → marks (suc n) (t * 256 + b)
+    ≡ bit_and (bit_or (((t * 256 + b + (splat 118 n * 256 + 118)) / 256) % 2 ^ wide n) t) (splat 128 n) * 256 + 128
 more_large n t b fits large =
     let mark : byte_mark b ≡ 128 = low_mark b fits ∙ cond-false _ _ _ (le-ltb b 10 large) in
     omega (arith, more n t b fits, mark)
 
 -- the place of the first mark
-pub first_mark : (bs : List ℕ) → Bytes bs → count_trailing_zeros (wide (length bs)) (marks (length bs) (word bs)) ≡ min (prefix_len is_small bs * 8 + 7) (wide (length bs))
+pub first_mark : (bs : List ℕ) → Bytes bs
+    → count_trailing_zeros (wide (length bs)) (marks (length bs) (word bs)) ≡ min (prefix_len is_small bs * 8 + 7) (wide (length bs))
 unfolding word count_trailing_zeros
 first_mark [] h = refl
 first_mark (b ∷ bs) h =
@@ -109,10 +115,12 @@ first_mark (b ∷ bs) h =
     elim (cases_lt b 10) [
       | inl small ↦
           let p : prefix_len is_small (b ∷ bs) ≡ 1 + prefix_len is_small bs = cond-true _ _ _ (lt-ltb b 10 small) in
-          let c : count_trailing_zeros (wide n + 8) (marks (suc n) (t * 256 + b)) ≡ count_trailing_zeros (wide n) (marks n t) + 8 = ap (count_trailing_zeros (wide n + 8)) (more_small n t b small) ∙ eight (wide n) (marks n t) in
+          let c : count_trailing_zeros (wide n + 8) (marks (suc n) (t * 256 + b)) ≡ count_trailing_zeros (wide n) (marks n t) + 8 =
+          ap (count_trailing_zeros (wide n + 8)) (more_small n t b small) ∙ eight (wide n) (marks n t) in
           omega (arith, p, c, first_mark bs h.1)
       | inr large ↦
           let p : prefix_len is_small (b ∷ bs) ≡ 0 = cond-false _ _ _ (le-ltb b 10 large) in
-          let c : count_trailing_zeros (wide n + 8) (marks (suc n) (t * 256 + b)) ≡ 7 = ap (count_trailing_zeros (wide n + 8)) (more_large n t b h.0 large) ∙ seven (wide n) _ in
+          let c : count_trailing_zeros (wide n + 8) (marks (suc n) (t * 256 + b)) ≡ 7 =
+          ap (count_trailing_zeros (wide n + 8)) (more_large n t b h.0 large) ∙ seven (wide n) _ in
           omega (arith, p, c)
     ]

@@ -1,5 +1,6 @@
 -- The first digits of a word, moved to its top.
-use Rattle.std.proofs.Common.{ℕ, zero, suc, ◌≡◌, ◌+◌, ◌-◌, ◌*◌, ◌/◌, ◌%◌, ◌^◌, ◌<◌, ◌≤◌, min, List, [], ◌∷◌, ◌++◌, map, take, drop, replicate, length, length-append, arith, bit_xor, refl, sym, ap, ap₂, ◌∙◌, subst}
+use Rattle.std.proofs.Common.{ℕ, zero, suc, ◌≡◌, ◌+◌, ◌-◌, ◌*◌, ◌/◌, ◌%◌, ◌^◌, ◌<◌, ◌≤◌, min, List, [], ◌∷◌, ◌++◌, map, take, drop}
+use Rattle.std.proofs.Common.{replicate, length, length-append, arith, bit_xor, refl, sym, ap, ap₂, ◌∙◌, subst}
 use lib.Count.{count_trailing_zeros}
 use Rattle.std.specs.List.{prefix_len}
 use Rattle.std.specs.Char.{is_ascii_digit}
@@ -11,7 +12,8 @@ use Rattle.std.proofs.lemmas.List.Sums.{prefix_len-le-length}
 use Rattle.std.proofs.lemmas.Int.Digits.{digits_value_is}
 use Rattle.decimal.specs.Word.{word}
 use Rattle.decimal.proofs.Masks.{splat, wide, Bytes, marks, first_mark}
-use Rattle.decimal.proofs.Lists.{wide_is, word_lt, word_append, word_zeros, turned, xored, turned_bytes, turned_run, front, zeros_before, zeros_below, shifted, word_bytes, bytes_fit}
+use Rattle.decimal.proofs.Lists.{wide_is, word_lt, word_append, word_zeros, turned, xored, turned_bytes, turned_run, front, zeros_before}
+use Rattle.decimal.proofs.Lists.{zeros_below, shifted, word_bytes, bytes_fit}
 
 pub turned_word : (w : ℕ) → w < 2 ^ 64 → bit_xor w (splat 48 8) ≡ word (map turned (to_le_bytes w64 w))
 turned_word w fits = ap (λ k. bit_xor k (splat 48 8)) (sym (word_bytes w fits)) ∙ xored (to_le_bytes w64 w) (bytes_fit w)
@@ -19,11 +21,13 @@ turned_word w fits = ap (λ k. bit_xor k (splat 48 8)) (sym (word_bytes w fits))
 eighth : (x p k : ℕ) → x ≡ min (p * 8 + 7) 64 → p ≡ k → k ≤ 8 → x / 8 ≡ k
 eighth x p k is same few = omega arith
 
-pub run_is : (w : ℕ) → w < 2 ^ 64 → count_trailing_zeros 64 (marks 8 (bit_xor w (splat 48 8))) / 8 ≡ prefix_len is_ascii_digit (to_le_bytes w64 w)
+pub run_is : (w : ℕ) → w < 2 ^ 64
+    → count_trailing_zeros 64 (marks 8 (bit_xor w (splat 48 8))) / 8 ≡ prefix_len is_ascii_digit (to_le_bytes w64 w)
 run_is w fits =
     let bs = to_le_bytes w64 w in
     let ts = map turned bs in
-    eighth _ _ _ (ap (λ x. count_trailing_zeros 64 (marks 8 x)) (turned_word w fits) ∙ first_mark ts (turned_bytes bs (bytes_fit w))) (turned_run bs (bytes_fit w)) (prefix_len-le-length is_ascii_digit bs)
+    eighth _ _ _ (ap (λ x. count_trailing_zeros 64 (marks 8 x)) (turned_word w fits) ∙ first_mark ts (turned_bytes bs (bytes_fit w)))
+    (turned_run bs (bytes_fit w)) (prefix_len-le-length is_ascii_digit bs)
 
 pub at_most : (w n : ℕ) → n ≡ prefix_len is_ascii_digit (to_le_bytes w64 w) → n ≤ 8
 at_most w n run = subst (λ k. k ≤ 8) (sym run) (prefix_len-le-length is_ascii_digit (to_le_bytes w64 w))
@@ -49,7 +53,8 @@ zeros_bytes zero bs h = h
 zeros_bytes (suc z) bs h = (omega arith, zeros_bytes z bs h)
 
 -- the first n bytes of eight, moved to the top
-pub moved : (n : ℕ) (ts : List ℕ) → n ≤ 8 → length ts ≡ 8 → Bytes ts → word ts * 2 ^ (64 - 8 * n) % 2 ^ 64 ≡ word (replicate (8 - n) 0 ++ take n ts)
+pub moved : (n : ℕ) (ts : List ℕ) → n ≤ 8 → length ts ≡ 8 → Bytes ts
+    → word ts * 2 ^ (64 - 8 * n) % 2 ^ 64 ≡ word (replicate (8 - n) 0 ++ take n ts)
 moved n ts few long h =
     let xs = take n ts in
     let ys = drop n ts in
@@ -66,21 +71,27 @@ moved n ts few long h =
     ap (λ k. k * 2 ^ (64 - 8 * n) % 2 ^ 64) split ∙ out ∙ sym back
 
 module _ (w n : ℕ) (fits : w < 2 ^ 64) (run : n ≡ prefix_len is_ascii_digit (to_le_bytes w64 w)) (few : n ≤ 8) where
-  pub bytes_moved : to_le_bytes w64 (bit_xor w (splat 48 8) * 2 ^ (64 - 8 * n) % 2 ^ 64) ≡ replicate (8 - n) 0 ++ take n (map turned (to_le_bytes w64 w))
+  pub bytes_moved : to_le_bytes w64 (bit_xor w (splat 48 8) * 2 ^ (64 - 8 * n) % 2 ^ 64)
+      ≡ replicate (8 - n) 0 ++ take n (map turned (to_le_bytes w64 w))
   bytes_moved =
       let bs = to_le_bytes w64 w in
       let ts = map turned bs in
       let s = bit_xor w (splat 48 8) * 2 ^ (64 - 8 * n) % 2 ^ 64 in
       let small : s < 2 ^ 64 = omega arith in
       let tb = turned_bytes bs (bytes_fit w) in
-      let is : s ≡ word (replicate (8 - n) 0 ++ take n ts) = ap (λ k. k * 2 ^ (64 - 8 * n) % 2 ^ 64) (turned_word w fits) ∙ moved n ts few refl tb in
-      let long : length (replicate (8 - n) 0 ++ take n ts) ≡ 8 = length-append (replicate (8 - n) 0) (take n ts) ∙ omega (arith, length-replicate {A = ℕ} (8 - n) 0, length-take n ts) in
-      same_bytes (to_le_bytes w64 s) (replicate (8 - n) 0 ++ take n ts) (bytes_fit s) (zeros_bytes (8 - n) _ (take_bytes n ts tb)) (sym long) (word_bytes s small ∙ is)
+      let is : s ≡ word (replicate (8 - n) 0 ++ take n ts) =
+      ap (λ k. k * 2 ^ (64 - 8 * n) % 2 ^ 64) (turned_word w fits) ∙ moved n ts few refl tb in
+      let long : length (replicate (8 - n) 0 ++ take n ts) ≡ 8 =
+      length-append (replicate (8 - n) 0) (take n ts) ∙ omega (arith, length-replicate {A = ℕ} (8 - n) 0, length-take n ts) in
+      same_bytes (to_le_bytes w64 s) (replicate (8 - n) 0 ++ take n ts) (bytes_fit s) (zeros_bytes (8 - n) _ (take_bytes n ts tb))
+      (sym long) (word_bytes s small ∙ is)
 
   pub moved_below : AllBelowBase 10 (to_le_bytes w64 (bit_xor w (splat 48 8) * 2 ^ (64 - 8 * n) % 2 ^ 64))
   moved_below = subst (AllBelowBase 10) (sym bytes_moved) (zeros_below (8 - n) _ (front n (to_le_bytes w64 w) (bytes_fit w) run).1)
 
-  pub moved_value : number_from_digits 10 (to_le_bytes w64 (bit_xor w (splat 48 8) * 2 ^ (64 - 8 * n) % 2 ^ 64)) ≡ digits_value 10 (take n (to_le_bytes w64 w))
+  pub moved_value : number_from_digits 10 (to_le_bytes w64 (bit_xor w (splat 48 8) * 2 ^ (64 - 8 * n) % 2 ^ 64))
+      ≡ digits_value 10 (take n (to_le_bytes w64 w))
   moved_value =
       let bs = to_le_bytes w64 w in
-      ap (number_from_digits 10) bytes_moved ∙ zeros_before (8 - n) (take n (map turned bs)) ∙ ap (number_from_digits 10) (front n bs (bytes_fit w) run).0 ∙ sym (digits_value_is 10 (take n bs))
+      ap (number_from_digits 10) bytes_moved ∙ zeros_before (8 - n) (take n (map turned bs))
+      ∙ ap (number_from_digits 10) (front n bs (bytes_fit w) run).0 ∙ sym (digits_value_is 10 (take n bs))

@@ -1,6 +1,7 @@
 //! The decimal digits that stand at a place of some bytes.
 
-ghost use Rattle.std.specs.Prelude.{◌≡◌, ◌+◌, ◌-◌, ◌≤◌, ◌<◌, length, take, drop, slice_index, false};
+ghost use Rattle.std.specs.Prelude.{◌≡◌, ◌+◌, ◌-◌, ◌≤◌, ◌<◌, length, take, drop, slice_index};
+ghost use Rattle.std.specs.Prelude.{false};
 ghost use Rattle.std.specs.Char.{is_ascii_digit};
 ghost use Rattle.std.specs.Str.Parse.{digits_value, AllDigits};
 
@@ -30,8 +31,8 @@ fn by_digit(bytes: &[u8], from: usize) -> (u64, usize)
     (value, from + i)
 }
 
-/// The value of the decimal digits from the place `from` on, at most 18 of them, and the place after them: `(0, from)`
-/// where there is none. The place is at most the length.
+/// The value of the decimal digits from the place `from` on, at most 18 of them, and the place
+/// after them: `(0, from)` where there is none. The place is at most the length.
 ///
 /// Where eight bytes are left and one to seven of them are digits, it takes them as one word.
 #[inline(always)]

@@ -15,8 +15,9 @@ const FIRST_OF_FOUR: u64 = 0x000000FF000000FF;
 
 /// How many of the word's eight bytes, from the lowest on, are decimal digits.
 ///
-/// A byte that is no digit gets its highest bit marked: its digit, or what `^` makes of it, is 10 or more, so that adding
-/// 118 reaches 128, or has that bit already. A carry goes only beyond such a byte.
+/// A byte that is no digit gets its highest bit marked: its digit, or what `^` makes of it, is 10
+/// or more, so that adding 118 reaches 128, or has that bit already. A carry goes only beyond such
+/// a byte.
 #[inline(always)]
 fn digit_run(word: u64) -> u32
     ensures { result ≡ prefix_len is_ascii_digit (to_le_bytes w64 word) }
@@ -26,8 +27,8 @@ fn digit_run(word: u64) -> u32
     marks.trailing_zeros() / 8
 }
 
-/// The number that the word's eight bytes are the digits of, the lowest byte first: digits to pairs, pairs to fours, and
-/// fours to the number, by three multiplications.
+/// The number that the word's eight bytes are the digits of, the lowest byte first: digits to
+/// pairs, pairs to fours, and fours to the number, by three multiplications.
 #[inline(always)]
 fn eight_digits(digits: u64) -> u64
     requires { AllBelowBase 10 (to_le_bytes w64 digits) }
@@ -39,11 +40,13 @@ fn eight_digits(digits: u64) -> u64
     odd.wrapping_add(even) >> 32
 }
 
-/// The decimal number that the word's bytes begin with, from the lowest on, and how many digits it has: one to seven.
+/// The decimal number that the word's bytes begin with, from the lowest on, and how many digits it
+/// has: one to seven.
 #[inline(always)]
 pub fn short(word: u64) -> Option<(u32, u64)>
     ensures { MatchOption result
-        ((prefix_len is_ascii_digit (to_le_bytes w64 word) ≡ 0) ⊎ (prefix_len is_ascii_digit (to_le_bytes w64 word) ≡ 8))
+        ((prefix_len is_ascii_digit (to_le_bytes w64 word) ≡ 0)
+        ⊎ (prefix_len is_ascii_digit (to_le_bytes w64 word) ≡ 8))
         (λ r. (r.0 ≡ prefix_len is_ascii_digit (to_le_bytes w64 word)) × (0 < r.0) × (r.0 < 8)
         × (r.1 ≡ digits_value 10 (take r.0 (to_le_bytes w64 word)))) }
 {

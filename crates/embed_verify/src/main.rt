@@ -1,4 +1,4 @@
-//! How a program of its own takes a verdict: a formula and a trace from memory, here two constants.
+//! How a program takes a verdict: a formula and a trace from memory, here two constants.
 #![tactic(auto)]
 
 ghost use Rattle.std.specs.Prelude.{◌≡◌, codes, if◌then◌else◌, IfOk, OnErr};
@@ -16,7 +16,8 @@ const TRACE: &[u8] =
 /// What the program says of a verdict.
 fn said(verdict: &Result<Verified, Fault>) -> &'static [u8]
     ensures truth { IfOk verdict.now (λ v.
-        result.now ≡ (if v.truth then codes "the formula is true\n" else codes "the formula is false\n")) }
+        result.now
+        ≡ (if v.truth then codes "the formula is true\n" else codes "the formula is false\n")) }
     ensures none { OnErr verdict.now (result.now ≡ codes "no verdict\n") }
 {
     match verdict {

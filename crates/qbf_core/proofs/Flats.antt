@@ -1,9 +1,10 @@
 -- Lists in one buffer.
-use Rattle.std.proofs.Common.{◌≡◌, ◌≤◌, ◌<◌, ◌-◌, ℕ, zero, suc, List, [], ◌∷◌, ◌++◌, length, take, drop, get_or, slice_get, slice_range, Some, refl, sym, ap, ◌∙◌, arith, length-append, length-drop}
+use Rattle.std.proofs.Common.{◌≡◌, ◌≤◌, ◌<◌, ◌-◌, ℕ, zero, suc, List, [], ◌∷◌, ◌++◌, length, take, drop, get_or, slice_get, slice_range}
+use Rattle.std.proofs.Common.{Some, refl, sym, ap, ◌∙◌, arith, length-append, length-drop}
 use Rattle.std.proofs.lemmas.List.{drop-append-le, take-append-le, take-append-drop, length-take-le}
 use Rattle.std.proofs.Math.Seq.{drop-append_seam}
 use Rattle.std.specs.Option.{unwrap_or}
-use Rattle.qbf_core.specs.Flat.{parts, Reaches, start_of, end_of}
+use Rattle.qbf_core.specs.Lists.{parts, Reaches, start_of, end_of}
 
 -- ---- ranges of a buffer that grows
 
@@ -48,13 +49,16 @@ more_parts lits more from (e ∷ es) r =
     let rest = more_parts lits more e es r.1 in
     (λ i. x i ∷ rest i)
 
-pub parts_pushed : {X : Type 0} (lits lits' more : List X) (es es' : List ℕ) (n : ℕ) → lits' ≡ lits ++ more → n ≡ length lits' → es' ≡ es ++ n ∷ []
+pub parts_pushed : {X : Type 0} (lits lits' more : List X) (es es' : List ℕ) (n : ℕ) → lits' ≡ lits ++ more → n ≡ length lits'
+    → es' ≡ es ++ n ∷ []
     → Reaches 0 es (length lits) → parts lits' 0 es' ≡ parts lits 0 es ++ more ∷ []
 parts_pushed lits lits' more es es' n a p e r = rw (e, p, a) (more_parts lits more 0 es r)
 
-pub parts_reach : {X : Type 0} (lits lits' more : List X) (es es' : List ℕ) (n : ℕ) → lits' ≡ lits ++ more → n ≡ length lits' → es' ≡ es ++ n ∷ []
+pub parts_reach : {X : Type 0} (lits lits' more : List X) (es es' : List ℕ) (n : ℕ) → lits' ≡ lits ++ more → n ≡ length lits'
+    → es' ≡ es ++ n ∷ []
     → Reaches 0 es (length lits) → Reaches 0 es' (length lits')
-parts_reach lits lits' more es es' n a p e r = rw (e, p, a) (reach_more 0 es (length lits) (length (lits ++ more)) (omega (arith, length-append lits more)) r)
+parts_reach lits lits' more es es' n a p e r =
+    rw (e, p, a) (reach_more 0 es (length lits) (length (lits ++ more)) (omega (arith, length-append lits more)) r)
 
 -- ---- the part at a place
 
@@ -73,7 +77,8 @@ start_found es (suc i) d some less =
     let k : suc i - 1 ≡ i = omega arith in
     rw k (sym (start_behind 0 es i d (omega arith)))
 
-pub part_at : {X : Type 0} (lits : List X) (from : ℕ) (es : List ℕ) (i e : ℕ) → slice_get es i ≡ Some e → slice_get (parts lits from es) i ≡ Some (slice_range lits (start_of from es i) e)
+pub part_at : {X : Type 0} (lits : List X) (from : ℕ) (es : List ℕ) (i e : ℕ) → slice_get es i ≡ Some e
+    → slice_get (parts lits from es) i ≡ Some (slice_range lits (start_of from es i) e)
 part_at lits from [] i e h = absurd (cc h)
 part_at lits from (x ∷ es) zero e h = let same : x ≡ e = cc h in ap (λ (y : ℕ). Some (slice_range lits from y)) same
 part_at lits from (x ∷ es) (suc i) e h = part_at lits x es i e h
@@ -87,7 +92,8 @@ within_at from (x ∷ es) zero n e h r =
 within_at from (x ∷ es) (suc i) n e h r = within_at x es i n e h r.1
 
 -- a place among the parts is one among their ends
-pub part_place : {X : Type 0} (lits : List X) (es ds : List ℕ) (whole : List (List X)) (i : ℕ) → parts lits 0 es ≡ whole → ds ≡ es → i < length whole → i < length ds
+pub part_place : {X : Type 0} (lits : List X) (es ds : List ℕ) (whole : List (List X)) (i : ℕ) → parts lits 0 es ≡ whole → ds ≡ es
+    → i < length whole → i < length ds
 part_place lits es ds whole i is same less = omega (arith, ap length same, ap length is, same_count lits 0 es)
 
 -- ---- without the last parts
@@ -108,7 +114,8 @@ reach_less from [] n (suc k) r = refl
 reach_less from (e ∷ es) n zero r = refl
 reach_less from (e ∷ es) n (suc k) r = (r.0, reach_less e es n k r.1)
 
-less_parts : {X : Type 0} (xs : List X) (m from : ℕ) (es : List ℕ) (k : ℕ) → Reaches from es (length xs) → end_of from (take k es) ≤ m → m ≤ length xs
+less_parts : {X : Type 0} (xs : List X) (m from : ℕ) (es : List ℕ) (k : ℕ) → Reaches from es (length xs) → end_of from (take k es) ≤ m
+    → m ≤ length xs
     → parts (take m xs) from (take k es) ≡ take k (parts xs from es)
 less_parts xs m from [] zero r h le = refl
 less_parts xs m from [] (suc k) r h le = refl
@@ -121,12 +128,14 @@ less_parts xs m from (e ∷ es) (suc k) r h le =
 
 pub parts_popped : {X : Type 0} (xs xs' : List X) (es es' : List ℕ) (n : ℕ) → xs' ≡ take (end_of 0 es') xs → es' ≡ take n es
     → Reaches 0 es (length xs) → parts xs' 0 es' ≡ take n (parts xs 0 es)
-parts_popped xs xs' es es' n a e r = rw (a, e) (less_parts xs (end_of 0 (take n es)) 0 es n r (omega arith) (end_within 0 es (length xs) n r).1)
+parts_popped xs xs' es es' n a e r =
+    rw (a, e) (less_parts xs (end_of 0 (take n es)) 0 es n r (omega arith) (end_within 0 es (length xs) n r).1)
 
 pub popped_reach : {X : Type 0} (xs xs' : List X) (es es' : List ℕ) (n : ℕ) → xs' ≡ take (end_of 0 es') xs → es' ≡ take n es
     → Reaches 0 es (length xs) → Reaches 0 es' (length xs')
 popped_reach xs xs' es es' n a e r =
-    let m : length (take (end_of 0 (take n es)) xs) ≡ end_of 0 (take n es) = length-take-le (end_of 0 (take n es)) xs (end_within 0 es (length xs) n r).1 in
+    let m : length (take (end_of 0 (take n es)) xs) ≡ end_of 0 (take n es) =
+    length-take-le (end_of 0 (take n es)) xs (end_within 0 es (length xs) n r).1 in
     rw (a, e, m) (reach_less 0 es (length xs) n r)
 
 last_of : (e : ℕ) (es : List ℕ) (d : ℕ) → unwrap_or (slice_get (e ∷ es) (length es)) d ≡ end_of e es
@@ -139,7 +148,8 @@ last_is (e ∷ es) = let k : suc (length es) - 1 ≡ length es = omega arith in 
 
 -- ---- lists that grow
 
-pub grown_parts : {X : Type 0} (xs more : List X) (from : ℕ) (es : List ℕ) (n : ℕ) → Reaches from es n → n ≤ length xs → parts (xs ++ more) from es ≡ parts xs from es
+pub grown_parts : {X : Type 0} (xs more : List X) (from : ℕ) (es : List ℕ) (n : ℕ) → Reaches from es n → n ≤ length xs
+    → parts (xs ++ more) from es ≡ parts xs from es
 grown_parts xs more from [] n r le = refl
 grown_parts xs more from (e ∷ es) n r le =
     let m = reach_le e es n r.1 in
@@ -147,7 +157,8 @@ grown_parts xs more from (e ∷ es) n r le =
     let rest = grown_parts xs more e es n r.1 le in
     (λ i. x i ∷ rest i)
 
-pub kept_parts : {X : Type 0} (xs : List X) (m from : ℕ) (es : List ℕ) (n : ℕ) → Reaches from es n → n ≤ m → m ≤ length xs → parts (take m xs) from es ≡ parts xs from es
+pub kept_parts : {X : Type 0} (xs : List X) (m from : ℕ) (es : List ℕ) (n : ℕ) → Reaches from es n → n ≤ m → m ≤ length xs
+    → parts (take m xs) from es ≡ parts xs from es
 kept_parts xs m from [] n r h le = refl
 kept_parts xs m from (e ∷ es) n r h le =
     let k = reach_le e es n r.1 in
@@ -159,7 +170,8 @@ kept_parts xs m from (e ∷ es) n r h le =
 range_rest : {X : Type 0} (xs : List X) (n : ℕ) → slice_range xs n (length xs) ≡ drop n xs
 range_rest xs n = rw (← length-drop n xs) (take_whole (drop n xs))
 
-pub closed_parts : {X : Type 0} (xs : List X) (from : ℕ) (es : List ℕ) (n : ℕ) → Reaches from es n → parts xs from (es ++ length xs ∷ []) ≡ parts xs from es ++ drop n xs ∷ []
+pub closed_parts : {X : Type 0} (xs : List X) (from : ℕ) (es : List ℕ) (n : ℕ) → Reaches from es n
+    → parts xs from (es ++ length xs ∷ []) ≡ parts xs from es ++ drop n xs ∷ []
 closed_parts xs from [] n r = ap (λ (c : List _). c ∷ []) (rw r (range_rest xs n))
 closed_parts xs from (e ∷ es) n r = ap (λ (cs : List (List _)). slice_range xs from e ∷ cs) (closed_parts xs e es n r.1)
 

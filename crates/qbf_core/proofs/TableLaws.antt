@@ -1,5 +1,6 @@
 -- The table of a prefix, beside its entries.
-use Rattle.std.proofs.Common.{◌≡◌, ℕ, zero, suc, ◌≤◌, ◌<◌, Bool, true, false, cond, if◌then◌else◌, List, [], ◌∷◌, ◌++◌, length, Option, Some, None, ◌⊎◌, inl, inr, refl, ap, sym, subst, ◌∙◌, arith, slice_get, slice_set, get_or, take, drop, nat_eq}
+use Rattle.std.proofs.Common.{◌≡◌, ℕ, zero, suc, ◌≤◌, ◌<◌, Bool, true, false, cond, if◌then◌else◌, List, [], ◌∷◌, ◌++◌, length, Option}
+use Rattle.std.proofs.Common.{Some, None, ◌⊎◌, inl, inr, refl, ap, sym, subst, ◌∙◌, arith, slice_get, slice_set, get_or, take, drop, nat_eq}
 use Rattle.std.specs.Map.{lookup, keys_of}
 use Rattle.std.specs.List.{AllByRecursion, IsDistinct}
 use Rattle.std.proofs.Math.Seq.{take-append_seam}
@@ -12,19 +13,24 @@ use Rattle.std.proofs.Common.{length-append}
 use Rattle.std.proofs.lemmas.Bool.{cases_eq}
 
 -- a list after all of it was lent as a slice
-pub written_back : {X : Type 0} (n : ℕ) (new old : List X) → n ≡ length old → length new ≡ length old → take n (new ++ drop (length new) old) ≡ new
-written_back n new old e f = subst (λ m. take m (new ++ drop (length new) old) ≡ new) (f ∙ sym e) (take-append_seam new (drop (length new) old))
+pub written_back : {X : Type 0} (n : ℕ) (new old : List X) → n ≡ length old → length new ≡ length old
+    → take n (new ++ drop (length new) old) ≡ new
+written_back n new old e f =
+    subst (λ m. take m (new ++ drop (length new) old) ≡ new) (f ∙ sym e) (take-append_seam new (drop (length new) old))
 
 -- what stands at a place after a write
-set_cases : {X : Type 0} (xs : List X) (i n : ℕ) (x o : X) → slice_get (slice_set xs i x) n ≡ Some o → ((n ≡ i) × (o ≡ x)) ⊎ ((n ≡ i → ⊥) × (slice_get xs n ≡ Some o))
+set_cases : {X : Type 0} (xs : List X) (i n : ℕ) (x o : X) → slice_get (slice_set xs i x) n ≡ Some o
+    → ((n ≡ i) × (o ≡ x)) ⊎ ((n ≡ i → ⊥) × (slice_get xs n ≡ Some o))
 set_cases [] i n x o e = absurd cc
 set_cases (y ∷ xs) zero zero x o e = inl (refl, cc)
 set_cases (y ∷ xs) zero (suc n) x o e = inr (λ d. absurd (omega (arith, d)), e)
 set_cases (y ∷ xs) (suc i) zero x o e = inr (λ d. absurd (omega (arith, d)), e)
-set_cases (y ∷ xs) (suc i) (suc n) x o e = elim (set_cases xs i n x o e) [ inl h ↦ inl (ap suc h.0, h.1) | inr h ↦ inr (λ d. h.0 (omega (arith, d)), h.1) ]
+set_cases (y ∷ xs) (suc i) (suc n) x o e =
+    elim (set_cases xs i n x o e) [ inl h ↦ inl (ap suc h.0, h.1) | inr h ↦ inr (λ d. h.0 (omega (arith, d)), h.1) ]
 
 -- what stands at a place after a push
-push_cases : {X : Type 0} (xs : List X) (n : ℕ) (x o : X) → slice_get (xs ++ x ∷ []) n ≡ Some o → ((n ≡ length xs) × (o ≡ x)) ⊎ (slice_get xs n ≡ Some o)
+push_cases : {X : Type 0} (xs : List X) (n : ℕ) (x o : X) → slice_get (xs ++ x ∷ []) n ≡ Some o
+    → ((n ≡ length xs) × (o ≡ x)) ⊎ (slice_get xs n ≡ Some o)
 push_cases [] zero x o e = inl (refl, cc)
 push_cases [] (suc n) x o e = absurd cc
 push_cases (y ∷ xs) zero x o e = inr e
@@ -34,17 +40,20 @@ lookup_new : (v : ℕ) (p : Place) (es : List (ℕ × Place)) → lookup (nat_eq
 lookup_new v p [] none = rw (eq-eqb v v refl) refl
 lookup_new v p (e ∷ es) none = by (nat_eq v e.0) (lookup_new v p es) none
   where
-    by : (t : Bool) → (lookup (nat_eq v) es ≡ None → lookup (nat_eq v) (es ++ (v, p) ∷ []) ≡ Some p) → cond t (Some e.1) (lookup (nat_eq v) es) ≡ None
+    by : (t : Bool) → (lookup (nat_eq v) es ≡ None → lookup (nat_eq v) (es ++ (v, p) ∷ []) ≡ Some p)
+        → cond t (Some e.1) (lookup (nat_eq v) es) ≡ None
         → cond t (Some e.1) (lookup (nat_eq v) (es ++ (v, p) ∷ [])) ≡ Some p
     by true more none = absurd cc
     by false more none = more none
 
-lookup_other : (n v : ℕ) (p : Place) (es : List (ℕ × Place)) → nat_eq n v ≡ false → lookup (nat_eq n) (es ++ (v, p) ∷ []) ≡ lookup (nat_eq n) es
+lookup_other : (n v : ℕ) (p : Place) (es : List (ℕ × Place)) → nat_eq n v ≡ false
+    → lookup (nat_eq n) (es ++ (v, p) ∷ []) ≡ lookup (nat_eq n) es
 lookup_other n v p [] differs = rw differs refl
 lookup_other n v p (e ∷ es) differs = ap (λ (o : Option Place). cond (nat_eq n e.0) (Some e.1) o) (lookup_other n v p es differs)
 
 -- a number that no variable has is not among the entries
-pub lookup_outside : (n : ℕ) (es : List (ℕ × Place)) → AllByRecursion (λ e. IsVariable e.0) es → (IsVariable n → ⊥) → lookup (nat_eq n) es ≡ None
+pub lookup_outside : (n : ℕ) (es : List (ℕ × Place)) → AllByRecursion (λ e. IsVariable e.0) es → (IsVariable n → ⊥)
+    → lookup (nat_eq n) es ≡ None
 lookup_outside n [] h out = refl
 lookup_outside n (e ∷ es) h out = rw (ne_eqb n e.0 (λ same. out (subst IsVariable (sym same) h.0))) (lookup_outside n es h.1 out)
 
@@ -57,7 +66,8 @@ module _ (table : List (Option Place)) (es : List (ℕ × Place)) (is : IsTable 
   ]
 
   -- or as before, where it is refused
-  pub table_grown : (given : Bool) (slot : Option Place) → slot ≡ lookup (nat_eq (length table)) es → IsTable (if given then table ++ slot ∷ [] else table) es
+  pub table_grown : (given : Bool) (slot : Option Place) → slot ≡ lookup (nat_eq (length table)) es
+      → IsTable (if given then table ++ slot ∷ [] else table) es
   table_grown true slot here = table_pushed slot here
   table_grown false slot here = is
 
@@ -75,13 +85,15 @@ module _ (table : List (Option Place)) (es : List (ℕ × Place)) (is : IsTable 
       is n o e ∙ sym (lookup_other n v p es (ne_eqb n v (λ same. absurd (omega (arith, less, same, short)))))
 
   -- an entry that is read
-  pub slot_found : (read : List (Option Place)) (v n : ℕ) (slot : Option Place) → read ≡ table → n ≡ v → n < length read → slot ≡ get_or read n slot → slot ≡ lookup (nat_eq v) es
+  pub slot_found : (read : List (Option Place)) (v n : ℕ) (slot : Option Place) → read ≡ table → n ≡ v → n < length read
+      → slot ≡ get_or read n slot → slot ≡ lookup (nat_eq v) es
   slot_found read v n slot same number less at =
       let there : slice_get read n ≡ Some slot = slice_get_read read (length read) n slot refl less at in
       is v slot (ap (slice_get table) (sym number) ∙ (ap (λ xs. slice_get xs n) (sym same) ∙ there))
 
 -- one more entry of the table, which the map told so far, or none where it is refused
-pub told_grown : (table : List (Option Place)) (far : List (ℕ × Place)) (given : Bool) (slot : Option Place) → slot ≡ lookup (nat_eq (length table)) far
+pub told_grown : (table : List (Option Place)) (far : List (ℕ × Place)) (given : Bool) (slot : Option Place)
+    → slot ≡ lookup (nat_eq (length table)) far
     → (es : List (ℕ × Place)) → IsTold table far es → IsTold (if given then table ++ slot ∷ [] else table) far es
 told_grown table far true slot here es told = (
   table_pushed table es told.0 slot (here ∙ told.1 (length table) (omega arith)),
@@ -92,29 +104,35 @@ told_grown table far false slot here es told = told
 -- a new variable that the table reaches, and one that it does not reach
 pub beyond_noted : (reached : ℕ) (far es : List (ℕ × Place)) (v : ℕ) (p : Place) → v < reached
     → IsBeyond reached far es → IsBeyond reached far (es ++ (v, p) ∷ [])
-beyond_noted reached far es v p less told n long = told n long ∙ sym (lookup_other n v p es (ne_eqb n v (λ same. omega (arith, same, less, long))))
+beyond_noted reached far es v p less told n long =
+    told n long ∙ sym (lookup_other n v p es (ne_eqb n v (λ same. omega (arith, same, less, long))))
 
-pub beyond_added : (reached : ℕ) (far es : List (ℕ × Place)) (v : ℕ) (p : Place) → lookup (nat_eq v) far ≡ None → lookup (nat_eq v) es ≡ None
+pub beyond_added : (reached : ℕ) (far es : List (ℕ × Place)) (v : ℕ) (p : Place) → lookup (nat_eq v) far ≡ None
+    → lookup (nat_eq v) es ≡ None
     → IsBeyond reached far es → IsBeyond reached (far ++ (v, p) ∷ []) (es ++ (v, p) ∷ [])
 beyond_added reached far es v p out none told n long = elim (cases_eq n v) [
-  | inl e ↦ subst (λ (m : ℕ). lookup (nat_eq m) (far ++ (v, p) ∷ []) ≡ lookup (nat_eq m) (es ++ (v, p) ∷ [])) (sym e) (lookup_new v p far out ∙ sym (lookup_new v p es none))
+  | inl e ↦ subst (λ (m : ℕ). lookup (nat_eq m) (far ++ (v, p) ∷ []) ≡ lookup (nat_eq m) (es ++ (v, p) ∷ [])) (sym e)
+      (lookup_new v p far out ∙ sym (lookup_new v p es none))
   | inr ne ↦ lookup_other n v p far (ne_eqb n v ne) ∙ (told n long ∙ sym (lookup_other n v p es (ne_eqb n v ne)))
 ]
 
 -- a new variable keeps them distinct
-pub distinct_push : (es : List (ℕ × Place)) (v : ℕ) (p : Place) → lookup (nat_eq v) es ≡ None → IsDistinct nat_eq (keys_of es) → IsDistinct nat_eq (keys_of (es ++ (v, p) ∷ []))
+pub distinct_push : (es : List (ℕ × Place)) (v : ℕ) (p : Place) → lookup (nat_eq v) es ≡ None → IsDistinct nat_eq (keys_of es)
+    → IsDistinct nat_eq (keys_of (es ++ (v, p) ∷ []))
 unfolding IsDistinct
 distinct_push [] v p none d = (tt, tt)
 distinct_push (e ∷ es) v p none d = by (nat_eq v e.0) refl (λ rest. distinct_push es v p rest d.1)
   where
-    apart : nat_eq e.0 v ≡ false → (xs : List (ℕ × Place)) → AllByRecursion (λ y. nat_eq e.0 y ≡ false) (keys_of xs) → AllByRecursion (λ y. nat_eq e.0 y ≡ false) (keys_of (xs ++ (v, p) ∷ []))
+    apart : nat_eq e.0 v ≡ false → (xs : List (ℕ × Place)) → AllByRecursion (λ y. nat_eq e.0 y ≡ false) (keys_of xs)
+        → AllByRecursion (λ y. nat_eq e.0 y ≡ false) (keys_of (xs ++ (v, p) ∷ []))
     apart ne [] all = (ne, tt)
     apart ne (x ∷ xs) all = (all.0, apart ne xs all.1)
 
     flipped : nat_eq v e.0 ≡ false → nat_eq e.0 v ≡ false
     flipped is = ne_eqb e.0 v (λ same. let t : nat_eq v e.0 ≡ true = eq-eqb v e.0 (sym same) in cc (is, t))
 
-    by : (t : Bool) → nat_eq v e.0 ≡ t → (lookup (nat_eq v) es ≡ None → IsDistinct nat_eq (keys_of (es ++ (v, p) ∷ []))) → IsDistinct nat_eq (keys_of ((e ∷ es) ++ (v, p) ∷ []))
+    by : (t : Bool) → nat_eq v e.0 ≡ t → (lookup (nat_eq v) es ≡ None → IsDistinct nat_eq (keys_of (es ++ (v, p) ∷ [])))
+        → IsDistinct nat_eq (keys_of ((e ∷ es) ++ (v, p) ∷ []))
     by true is more = absurd (let h : Some e.1 ≡ None = rw is at none in cc h)
     by false is more = (apart (flipped is) es d.0, more (rw is at none))
 

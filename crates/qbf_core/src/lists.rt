@@ -1,7 +1,8 @@
-//! Lists that lie one behind the other in one buffer.
+//! Lists that lie one after the other in one buffer.
 
-ghost use Rattle.std.specs.Prelude.{◌≡◌, ◌≤◌, ◌<◌, List, [], ◌∷◌, ◌++◌, length, take, slice_get, slice_range, ◌-◌, Some, OnOk, OnErr};
-ghost use Rattle.qbf_core.specs.Flat.{start_of, end_of};
+ghost use Rattle.std.specs.Prelude.{◌≡◌, ◌≤◌, ◌<◌, List, [], ◌∷◌, ◌++◌, length, take, slice_get};
+ghost use Rattle.std.specs.Prelude.{slice_range, ◌-◌, Some, OnOk, OnErr};
+ghost use Rattle.qbf_core.specs.Lists.{start_of, end_of};
 
 use std::alloc::{AllocError, Global};
 use std::marker::Model;
@@ -16,7 +17,7 @@ pub struct Lists<T> {
 
 impl<T> Model for Lists<T> {
     ghost use Rattle.std.specs.Prelude.{List, length};
-    ghost use Rattle.qbf_core.specs.Flat.{parts, Reaches};
+    ghost use Rattle.qbf_core.specs.Lists.{parts, Reaches};
 
     ghost Value = { List (List T) };
 
@@ -89,7 +90,7 @@ impl<T: Copy + Drop> Lists<T> {
     /// Adds a list at the end.
     ///
     /// # Errors
-    /// Want of memory. Nothing is changed then.
+    /// Out of memory. Nothing is changed then.
     pub fn push(&mut self, list: &[T]) -> Result<(), AllocError>
         ensures pushed { OnOk result (self.new ≡ self.old ++ list.now ∷ []) }
         ensures err { OnErr result (self.new ≡ self.old) }
@@ -112,7 +113,7 @@ impl<T: Copy + Drop> Lists<T> {
     }
 }
 
-/// Lists in one buffer, and behind them one more that is begun. Contracts see both.
+/// Lists in one buffer, and after them one more that is begun. Contracts see both.
 ///
 /// The list that is begun grows where it lies, and is made one of the lists without a copy.
 #[derive(Drop)]
@@ -126,11 +127,12 @@ pub struct GrowingLists<T> {
 
 impl<T> Model for GrowingLists<T> {
     ghost use Rattle.std.specs.Prelude.{◌≤◌, length, drop};
-    ghost use Rattle.qbf_core.specs.Flat.{Growing, parts, Reaches};
+    ghost use Rattle.qbf_core.specs.Lists.{Growing, parts, Reaches};
 
     ghost Value = { Growing T };
 
-    ghost view = { λ s. record { whole = parts s.items.items 0 s.ends.items; begun = drop s.start s.items.items } };
+    ghost view = { λ s.
+        record { whole = parts s.items.items 0 s.ends.items; begun = drop s.start s.items.items } };
 
     ghost invariant = { λ s. Reaches 0 s.ends.items s.start × (s.start ≤ length s.items.items) };
 }
@@ -182,23 +184,25 @@ impl<T: Copy + Drop> GrowingLists<T> {
     /// Adds an item at the end of the list that is begun.
     ///
     /// # Errors
-    /// Want of memory. Nothing is changed then.
+    /// Out of memory. Nothing is changed then.
     #[inline(always)]
     pub fn push(&mut self, item: T) -> Result<(), AllocError>
-        ensures pushed { OnOk result (self.new ≡ record self.old { begun = self.old.begun ++ item ∷ [] }) }
+        ensures pushed { OnOk result
+            (self.new ≡ record self.old { begun = self.old.begun ++ item ∷ [] }) }
         ensures err { OnErr result (self.new ≡ self.old) }
     {
         self.items.push(item)?;
         Ok(())
     }
 
-    /// The list that is begun is whole, and an empty one is begun behind it.
+    /// The list that is begun is whole, and an empty one is begun after it.
     ///
     /// # Errors
-    /// Want of memory. Nothing is changed then.
+    /// Out of memory. Nothing is changed then.
     #[inline(always)]
     pub fn close(&mut self) -> Result<(), AllocError>
-        ensures closed { OnOk result (self.new ≡ record { whole = self.old.whole ++ self.old.begun ∷ []; begun = [] }) }
+        ensures closed { OnOk result
+            (self.new ≡ record { whole = self.old.whole ++ self.old.begun ∷ []; begun = [] }) }
         ensures err { OnErr result (self.new ≡ self.old) }
     {
         let end = self.items.len();

@@ -69,7 +69,7 @@ fn prefixes(rt: HostRuntime) -> Result<(), Fail> {
     Ok(())
 }
 
-/// Quantifiers that alternate, so that each place is a block of its own.
+/// Quantifiers that alternate, so that each place is its own block.
 fn quantifier_at(place: usize) -> Quantifier {
     if place % 2 == 0 {
         Quantifier::Exists
@@ -269,11 +269,12 @@ fn letters(rt: HostRuntime) {
     assert_eq!(rt; Quantifier::Exists.letter(), b'e');
 }
 
-// ---- what is refused memory, and then tried again
+// ---- what has an allocation fail, and then tried again
 //
-// With memory these tests try nothing twice. scripts/test-refusals refuses each growth of them in turn.
+// With memory these tests try nothing twice. scripts/test-refusals makes each of their allocations
+// fail in turn.
 
-/// Binds a variable. Where memory is refused the prefix is as it was, and the second try binds it.
+/// Binds a variable. If an allocation fails, the prefix is as it was, and the second try binds it.
 fn bind_again(rt: &impl Abort, prefix: &mut Prefix, quantifier: Quantifier, var: Var) {
     let places = prefix.len();
     if prefix.push(quantifier, var).is_err() {
@@ -299,7 +300,7 @@ fn binds_again_after_a_refusal(rt: HostRuntime) {
     assert_eq!(rt; prefix.len(), 11);
 }
 
-/// The literals as a clause, at the second try where memory is refused.
+/// The literals as a clause, at the second try if an allocation fails.
 fn clause_of(alloc: Global, lits: &[Lit]) -> Result<Vec<Lit>, Fail>
     ensures { IfOk result (λ clause. clause.items ≡ lits.now) }
 {
@@ -309,11 +310,12 @@ fn clause_of(alloc: Global, lits: &[Lit]) -> Result<Vec<Lit>, Fail>
     }
 }
 
-/// Adds a clause. Where memory is refused the formula is as it was, and the second try adds it.
+/// Adds a clause. If an allocation fails, the formula is as it was, and the second try adds it.
 fn push_again(rt: &impl Abort, formula: &mut Formula, clause: Vec<Lit>)
     requires bound { AreBound formula.old.blocks clause.items }
     requires few { length formula.old.clauses < 2147483647 }
-    ensures { formula.new ≡ record formula.old { clauses = formula.old.clauses ++ clause.items ∷ [] } }
+    ensures { formula.new
+        ≡ record formula.old { clauses = formula.old.clauses ++ clause.items ∷ [] } }
 {
     let clauses = formula.clauses();
     if let Err(back) = formula.push_clause(clause) {
@@ -322,7 +324,7 @@ fn push_again(rt: &impl Abort, formula: &mut Formula, clause: Vec<Lit>)
     }
 }
 
-/// The prefix of one variable, at the second try where memory is refused.
+/// The prefix of one variable, at the second try if an allocation fails.
 fn one_block(alloc: Global, var: Var) -> Result<Prefix, Fail>
     ensures { IfOk result (λ prefix. pairs prefix ≡ (All, var) ∷ []) }
 {

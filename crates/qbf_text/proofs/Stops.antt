@@ -1,5 +1,6 @@
 -- What is taken ends with a token and at most one separator.
-use Rattle.std.proofs.Common.{◌≡◌, ℕ, ◌+◌, ◌^◌, ◌<◌, Bool, true, false, List, [], ◌∷◌, ◌++◌, Option, Some, None, IfSome, drop, refl, sym, subst, ap, ◌∙◌, arith, append_assoc, append-nil}
+use Rattle.std.proofs.Common.{◌≡◌, ℕ, ◌+◌, ◌^◌, ◌<◌, Bool, true, false, List, [], ◌∷◌, ◌++◌, Option, Some, None, IfSome, drop, refl, sym}
+use Rattle.std.proofs.Common.{subst, ap, ◌∙◌, arith, append_assoc, append-nil}
 use Rattle.std.specs.Prelude.{⊤}
 use Rattle.std.specs.Io.KnownBytes.{Consumes}
 use Rattle.std.proofs.KnownBytes.{Consumes-trans}
@@ -15,21 +16,23 @@ use Rattle.qbf_text.specs.Rows.{Row, Goes, Ends, Whole, Read, read_from}
 use Rattle.qbf_text.specs.Rows as rows
 use Rattle.qbf_text.specs.Stopping.{IfKnown, BeginsAs, Skips, TakesToken, tokens_at, PlaceSkips, PlaceTakes, StopsBehind}
 use Rattle.qbf_text.specs.Tokens.{kind, is_blank, is_line_end, is_comment_byte, counted}
-use Rattle.qbf_text.proofs.Going.{after, read-one}
-use Rattle.qbf_text.proofs.GivesMore.{always}
-use Rattle.qbf_text.proofs.LeftMore.{left_nothing, left_line_end, left_blank, left_comment, left_run, IsToken, tokens_left-counted}
-use Rattle.qbf_text.proofs.OnHand.{number_taken, spelled_ending, spelled_blanked}
+use Rattle.qbf_text.proofs.OneToken.{after, read-one}
+use Rattle.qbf_text.proofs.KnownLeft.{always}
+use Rattle.qbf_text.proofs.ByteByByte.{left_nothing, left_line_end, left_blank, left_comment, left_run, IsToken, tokens_left-counted}
+use Rattle.qbf_text.proofs.LeftAfterNumber.{number_taken, spelled_ending, spelled_blanked}
 
 -- ---- known bytes
 
-pub known_trans : (P Q R : List ℕ → List ℕ → Type 0) → ((x y z : List ℕ) → P x y → Q y z → R x z) → (a b c : Option (List ℕ)) → IfKnown P a b → IfKnown Q b c → IfKnown R a c
+pub known_trans : (P Q R : List ℕ → List ℕ → Type 0) → ((x y z : List ℕ) → P x y → Q y z → R x z) → (a b c : Option (List ℕ))
+    → IfKnown P a b → IfKnown Q b c → IfKnown R a c
 known_trans P Q R f None b c p q = tt
 known_trans P Q R f (Some x) None c p q = absurd p
 known_trans P Q R f (Some x) (Some y) None p q = absurd q
 known_trans P Q R f (Some x) (Some y) (Some z) p q = f x y z p q
 
 -- what holds of the bytes that were consumed and any rest holds where they are known
-pub known_by : (P : List ℕ → List ℕ → Type 0) (R : List ℕ → Type 0) (a b : Option (List ℕ)) (bs : List ℕ) → Consumes a b bs → IfSome b R → ((rest : List ℕ) → R rest → P (bs ++ rest) rest) → IfKnown P a b
+pub known_by : (P : List ℕ → List ℕ → Type 0) (R : List ℕ → Type 0) (a b : Option (List ℕ)) (bs : List ℕ) → Consumes a b bs → IfSome b R
+    → ((rest : List ℕ) → R rest → P (bs ++ rest) rest) → IfKnown P a b
 known_by P R None b bs p r f = tt
 known_by P R (Some x) None bs p r f = absurd p
 known_by P R (Some x) (Some y) bs p r f = subst (λ z. P z y) (sym p) (f y r)
@@ -77,7 +80,8 @@ regroup : (a b c d : List ℕ) → a ++ b ++ c ++ d ≡ a ++ (b ++ c ++ d)
 regroup a b c d = ap (λ l. l ++ d) (append_assoc a b c) ∙ append_assoc a (b ++ c) d
 
 -- no token, and then one
-pub takes_behind : (here mid there : List ℕ → List Lined) (token : Lined) (x y z : List ℕ) → Skips here mid x y → TakesToken mid there token y z → TakesToken here there token x z
+pub takes_behind : (here mid there : List ℕ → List Lined) (token : Lined) (x y z : List ℕ) → Skips here mid x y
+    → TakesToken mid there token y z → TakesToken here there token x z
 takes_behind here mid there token x y z s t =
     let front = t.skipped ++ t.word ++ t.behind in
     let same = regroup s.skipped t.skipped t.word t.behind in
@@ -102,7 +106,8 @@ module _ (f : Comments) (begun : Bool) (n : ℕ) where
   pub skips_same : (a b : Option (List ℕ)) → Consumes a b [] → IfKnown (Skips (tokens_left f begun n) (tokens_left f begun n)) a b
   skips_same a b p = known_by _ (λ _. ⊤) a b [] p (always b) (λ rest _. skips_nothing (tokens_left f begun n) rest)
 
-  pub skips_line_end : (b : ℕ) (t t' : Option (List ℕ)) → Consumes t t' (b ∷ []) → b ≡ 10 → IfKnown (Skips (tokens_left f begun n) (tokens_left f false (counted (n + 1)))) t t'
+  pub skips_line_end : (b : ℕ) (t t' : Option (List ℕ)) → Consumes t t' (b ∷ []) → b ≡ 10
+      → IfKnown (Skips (tokens_left f begun n) (tokens_left f false (counted (n + 1)))) t t'
   skips_line_end b t t' p e =
       known_by _ (λ _. ⊤) t t' (b ∷ []) p (always t') (λ new _. record {
         skipped = b ∷ [];
@@ -110,7 +115,8 @@ module _ (f : Comments) (begun : Bool) (n : ℕ) where
         spelled = λ rest _. rw e (left_line_end f begun n rest ∙ tokens_left-counted f false (n + 1) (counted (n + 1)) rest (omega arith));
       })
 
-  pub skips_blank : (b : ℕ) (t t' : Option (List ℕ)) → Consumes t t' (b ∷ []) → is_blank b ≡ true → IfKnown (Skips (tokens_left f begun n) (tokens_left f begun n)) t t'
+  pub skips_blank : (b : ℕ) (t t' : Option (List ℕ)) → Consumes t t' (b ∷ []) → is_blank b ≡ true
+      → IfKnown (Skips (tokens_left f begun n) (tokens_left f begun n)) t t'
   skips_blank b t t' p e =
       known_by _ (λ _. ⊤) t t' (b ∷ []) p (always t') (λ new _. record {
         skipped = b ∷ [];
@@ -118,7 +124,8 @@ module _ (f : Comments) (begun : Bool) (n : ℕ) where
         spelled = λ rest _. left_blank f begun n b rest e;
       })
 
-  pub skips_comment : (b : ℕ) (t t' t'' : Option (List ℕ)) → begun ≡ false → Consumes t t' (b ∷ []) → is_line_end b ≡ false → is_blank b ≡ false → is_comment_byte f b ≡ true
+  pub skips_comment : (b : ℕ) (t t' t'' : Option (List ℕ)) → begun ≡ false → Consumes t t' (b ∷ []) → is_line_end b ≡ false
+      → is_blank b ≡ false → is_comment_byte f b ≡ true
       → (s : (skipped : List ℕ) × IsWithinLine skipped × Consumes t' t'' skipped) → IfSome t'' EndsLine
       → IfKnown (Skips (tokens_left f begun n) (tokens_left f begun n)) t t''
   skips_comment b t t' t'' e p line blank comment s end =
@@ -129,7 +136,8 @@ module _ (f : Comments) (begun : Bool) (n : ℕ) where
       })
 
   -- a run that is a token
-  pub takes_run : (b : ℕ) (more : List ℕ) (t t' t'' : Option (List ℕ)) → Consumes t t' (b ∷ []) → is_separator b ≡ false → IsToken f begun (b ∷ more) → n < 2 ^ 64
+  pub takes_run : (b : ℕ) (more : List ℕ) (t t' t'' : Option (List ℕ)) → Consumes t t' (b ∷ []) → is_separator b ≡ false
+      → IsToken f begun (b ∷ more) → n < 2 ^ 64
       → Consumes t' t'' more → IsUnbroken more → IfSome t'' EndsRun
       → IfKnown (TakesToken (tokens_left f begun n) (tokens_left f true n) (kind (b ∷ more), n)) t t''
   takes_run b more t t' t'' p sep token small q unbroken end =
@@ -143,15 +151,19 @@ module _ (f : Comments) (begun : Bool) (n : ℕ) where
         nothing = left_nothing f begun n;
         unbroken = (sep, unbroken);
         separates = tt;
-        spelled = λ rest h. ap (λ l. tokens_left f begun n (l ++ rest)) (append-nil (b ∷ more)) ∙ left_run f begun n (b ∷ more) rest (sep, unbroken) (ends_run new rest ends h) token ∙ ap (λ m. (kind (b ∷ more), m) ∷ tokens_left f true n rest) same;
+        spelled = λ rest h. ap (λ l. tokens_left f begun n (l ++ rest)) (append-nil (b ∷ more)) ∙ left_run f begun n (b ∷ more) rest
+            (sep, unbroken) (ends_run new rest ends h) token ∙ ap (λ m. (kind (b ∷ more), m) ∷ tokens_left f true n rest) same;
       })
 
 -- a number that stands whole among the bytes at hand, and the separator behind it
-module _ (f : Comments) (begun : Bool) (n : ℕ) (pending : List ℕ) (negative : Bool) (value len : ℕ) (ends : Bool) (h : BeginsWithNumber pending negative value len ends) (small : n < 2 ^ 64) (rem : Option (List ℕ)) where
-  takes_number : (there : List ℕ → List Lined) → ((rest : List ℕ) → tokens_left f begun n ((h.run ++ h.behind ∷ []) ++ rest) ≡ (Number negative value, n) ∷ there rest)
+module _ (f : Comments) (begun : Bool) (n : ℕ) (pending : List ℕ) (negative : Bool) (value len : ℕ) (ends : Bool)
+    (h : BeginsWithNumber pending negative value len ends) (small : n < 2 ^ 64) (rem : Option (List ℕ)) where
+  takes_number : (there : List ℕ → List Lined)
+      → ((rest : List ℕ) → tokens_left f begun n ((h.run ++ h.behind ∷ []) ++ rest) ≡ (Number negative value, n) ∷ there rest)
       → IfKnown (TakesToken (tokens_left f begun n) there (Number negative value, n)) (ahead pending rem) (ahead (drop len pending) rem)
   takes_number there e =
-      known_by _ (λ _. ⊤) (ahead pending rem) (ahead (drop len pending) rem) (h.run ++ h.behind ∷ []) (number_taken f begun n pending negative value len ends h small rem) (always (ahead (drop len pending) rem)) (λ new _. record {
+      known_by _ (λ _. ⊤) (ahead pending rem) (ahead (drop len pending) rem) (h.run ++ h.behind ∷ [])
+      (number_taken f begun n pending negative value len ends h small rem) (always (ahead (drop len pending) rem)) (λ new _. record {
         skipped = [];
         word = h.run;
         behind = h.behind ∷ [];
@@ -163,29 +175,38 @@ module _ (f : Comments) (begun : Bool) (n : ℕ) (pending : List ℕ) (negative 
         spelled = λ rest _. e rest;
       })
 
-  pub takes_ending : ends ≡ true → IfKnown (TakesToken (tokens_left f begun n) (tokens_left f false (counted (n + 1))) (Number negative value, n)) (ahead pending rem) (ahead (drop len pending) rem)
-  takes_ending e = takes_number (tokens_left f false (counted (n + 1))) (spelled_ending f begun n pending negative value len ends h small rem e)
+  pub takes_ending : ends ≡ true → IfKnown (TakesToken (tokens_left f begun n) (tokens_left f false (counted (n + 1)))
+      (Number negative value, n)) (ahead pending rem) (ahead (drop len pending) rem)
+  takes_ending e =
+      takes_number (tokens_left f false (counted (n + 1))) (spelled_ending f begun n pending negative value len ends h small rem e)
 
-  pub takes_blanked : ends ≡ false → IfKnown (TakesToken (tokens_left f begun n) (tokens_left f true n) (Number negative value, n)) (ahead pending rem) (ahead (drop len pending) rem)
+  pub takes_blanked : ends ≡ false → IfKnown (TakesToken (tokens_left f begun n) (tokens_left f true n) (Number negative value, n))
+      (ahead pending rem) (ahead (drop len pending) rem)
   takes_blanked e = takes_number (tokens_left f true n) (spelled_blanked f begun n pending negative value len ends h small rem e)
 
 -- ---- from place to place
 
-pub known_skips : (here mid there : List ℕ → List Lined) (a b c : Option (List ℕ)) → IfKnown (Skips here mid) a b → IfKnown (Skips mid there) b c → IfKnown (Skips here there) a c
+pub known_skips : (here mid there : List ℕ → List Lined) (a b c : Option (List ℕ)) → IfKnown (Skips here mid) a b
+    → IfKnown (Skips mid there) b c → IfKnown (Skips here there) a c
 known_skips here mid there a b c s t = known_trans _ _ _ (skips_more here mid there) a b c s t
 
-pub known_takes : (here mid there : List ℕ → List Lined) (token : Lined) (a b c : Option (List ℕ)) → IfKnown (Skips here mid) a b → IfKnown (TakesToken mid there token) b c → IfKnown (TakesToken here there token) a c
+pub known_takes : (here mid there : List ℕ → List Lined) (token : Lined) (a b c : Option (List ℕ)) → IfKnown (Skips here mid) a b
+    → IfKnown (TakesToken mid there token) b c → IfKnown (TakesToken here there token) a c
 known_takes here mid there token a b c s t = known_trans _ _ _ (takes_behind here mid there token) a b c s t
 
 pub place_skips_more : (p q r : Place) (a b c : Option (List ℕ)) → PlaceSkips p a q b → PlaceSkips q b r c → PlaceSkips p a r c
-place_skips_more p q r a b c s t = known_trans _ _ _ (skips_more (tokens_at p) (tokens_at q) (tokens_at r)) (ahead p.window a) (ahead q.window b) (ahead r.window c) s t
+place_skips_more p q r a b c s t =
+    known_trans _ _ _ (skips_more (tokens_at p) (tokens_at q) (tokens_at r)) (ahead p.window a) (ahead q.window b) (ahead r.window c) s t
 
-pub place_takes_behind : (p q r : Place) (a b c : Option (List ℕ)) (token : Lined) → PlaceSkips p a q b → PlaceTakes q b r c token → PlaceTakes p a r c token
+pub place_takes_behind : (p q r : Place) (a b c : Option (List ℕ)) (token : Lined) → PlaceSkips p a q b → PlaceTakes q b r c token
+    → PlaceTakes p a r c token
 place_takes_behind p q r a b c token s t =
-    known_trans _ _ _ (takes_behind (tokens_at p) (tokens_at q) (tokens_at r) token) (ahead p.window a) (ahead q.window b) (ahead r.window c) s t
+    known_trans _ _ _ (takes_behind (tokens_at p) (tokens_at q) (tokens_at r) token) (ahead p.window a) (ahead q.window b)
+    (ahead r.window c) s t
 
 -- of any bytes that remain
-pub place_takes_some : (p q r : Place) (found : Option Lined) → ((rem : Option (List ℕ)) → PlaceSkips p rem q rem) → IfSome found (λ token. (rem : Option (List ℕ)) → PlaceTakes q rem r rem token)
+pub place_takes_some : (p q r : Place) (found : Option Lined) → ((rem : Option (List ℕ)) → PlaceSkips p rem q rem)
+    → IfSome found (λ token. (rem : Option (List ℕ)) → PlaceTakes q rem r rem token)
     → IfSome found (λ token. (rem : Option (List ℕ)) → PlaceTakes p rem r rem token)
 place_takes_some p q r None s t = tt
 place_takes_some p q r (Some token) s t = λ rem. place_takes_behind p q r rem rem rem token (s rem) (t rem)
@@ -193,7 +214,8 @@ place_takes_some p q r (Some token) s t = λ rem. place_takes_behind p q r rem r
 -- ---- token after token
 
 -- what was read so far: the tokens of the bytes that were taken lead from the first place to this one
-pub record SoFar {P A F : Type 0} (row : P → Token → Row P A F) (first place : P) (here there : List ℕ → List Lined) (old new : List ℕ) : Type 0 where
+pub record SoFar {P A F : Type 0} (row : P → Token → Row P A F) (first place : P) (here there : List ℕ → List Lined)
+    (old new : List ℕ) : Type 0 where
   pub front : List ℕ
   pub given : List Lined
   pub taken : old ≡ front ++ new
@@ -205,7 +227,8 @@ module _ {P A F : Type 0} (row : P → Token → Row P A F) (first : P) where
   so_far_none here None = tt
   so_far_none here (Some x) = record { front = []; given = []; taken = refl; spelled = λ rest _. refl; leads = λ ts. refl }
 
-  so_far_more : (place next : P) (here mid there : List ℕ → List Lined) (token : Lined) (x y z : List ℕ) → row place token.0 ≡ Goes next → SoFar row first place here mid x y → TakesToken mid there token y z → SoFar row first next here there x z
+  so_far_more : (place next : P) (here mid there : List ℕ → List Lined) (token : Lined) (x y z : List ℕ) → row place token.0 ≡ Goes next
+      → SoFar row first place here mid x y → TakesToken mid there token y z → SoFar row first next here there x z
   so_far_more place next here mid there token x y z e s t =
       let more = t.skipped ++ t.word ++ t.behind in
       record {
@@ -224,11 +247,15 @@ module _ {P A F : Type 0} (row : P → Token → Row P A F) (first : P) where
             ∙ ap (λ (r : Row P A F). after row r token ts) e;
       }
 
-  pub so_far_goes : (place next : P) (here mid there : List ℕ → List Lined) (token : Lined) (a b c : Option (List ℕ)) → row place token.0 ≡ Goes next
-      → IfKnown (SoFar row first place here mid) a b → IfKnown (TakesToken mid there token) b c → IfKnown (SoFar row first next here there) a c
-  so_far_goes place next here mid there token a b c e = known_trans _ _ _ (λ x y z. so_far_more place next here mid there token x y z e) a b c
+  pub so_far_goes : (place next : P) (here mid there : List ℕ → List Lined) (token : Lined) (a b c : Option (List ℕ))
+      → row place token.0 ≡ Goes next
+      → IfKnown (SoFar row first place here mid) a b → IfKnown (TakesToken mid there token) b c
+      → IfKnown (SoFar row first next here there) a c
+  so_far_goes place next here mid there token a b c e =
+      known_trans _ _ _ (λ x y z. so_far_more place next here mid there token x y z e) a b c
 
-  stops_one : (last next : P) (answer : A) (here mid there : List ℕ → List Lined) (token : Lined) (line : ℕ) (x y z : List ℕ) → row last token.0 ≡ Ends answer next → is_end token.0 ≡ false → there [] ≡ (End, line) ∷ []
+  stops_one : (last next : P) (answer : A) (here mid there : List ℕ → List Lined) (token : Lined) (line : ℕ) (x y z : List ℕ)
+      → row last token.0 ≡ Ends answer next → is_end token.0 ≡ false → there [] ≡ (End, line) ∷ []
       → SoFar row first last here mid x y → TakesToken mid there token y z → StopsBehind row first next answer here x z
   stops_one last next answer here mid there token line x y z e no_end none s t =
       let more = t.skipped ++ t.word ++ t.behind in
@@ -247,18 +274,22 @@ module _ {P A F : Type 0} (row : P → Token → Row P A F) (first : P) where
         ends = e;
         no_end = no_end;
         unread =
-            ap (read_from row first) (s.spelled t.skipped (rw t.taken (begins_skipped t.skipped t.word t.behind z)) ∙ ap (λ l. s.given ++ l) t.nothing)
+            ap (read_from row first)
+            (s.spelled t.skipped (rw t.taken (begins_skipped t.skipped t.word t.behind z)) ∙ ap (λ l. s.given ++ l) t.nothing)
             ∙ s.leads ((End, t.line) ∷ []);
         whole =
             ap (λ l. read_from row first (here l)) (same ∙ ap (λ l. s.front ++ l) (sym (append-nil more)))
-            ∙ ap (read_from row first) (s.spelled (more ++ []) (rw t.taken (begins_more more z [] tt)) ∙ ap (λ l. s.given ++ l) (t.spelled [] tt ∙ ap (λ l. token ∷ l) none))
+            ∙ ap (read_from row first) (s.spelled (more ++ []) (rw t.taken (begins_more more z [] tt))
+            ∙ ap (λ l. s.given ++ l) (t.spelled [] tt ∙ ap (λ l. token ∷ l) none))
             ∙ s.leads (token ∷ (End, line) ∷ [])
             ∙ read-one row last token ((End, line) ∷ [])
             ∙ ap (λ (r : Row P A F). after row r token ((End, line) ∷ [])) e
             ∙ ap (λ (b : Bool). Whole answer next (rows.behind b token ((End, line) ∷ []))) no_end;
       }
 
-  pub stops_behind : (last next : P) (answer : A) (here mid there : List ℕ → List Lined) (token : Lined) (line : ℕ) (a b c : Option (List ℕ)) → row last token.0 ≡ Ends answer next → is_end token.0 ≡ false → there [] ≡ (End, line) ∷ []
-      → IfKnown (SoFar row first last here mid) a b → IfKnown (TakesToken mid there token) b c → IfKnown (StopsBehind row first next answer here) a c
+  pub stops_behind : (last next : P) (answer : A) (here mid there : List ℕ → List Lined) (token : Lined) (line : ℕ)
+      (a b c : Option (List ℕ)) → row last token.0 ≡ Ends answer next → is_end token.0 ≡ false → there [] ≡ (End, line) ∷ []
+      → IfKnown (SoFar row first last here mid) a b → IfKnown (TakesToken mid there token) b c
+      → IfKnown (StopsBehind row first next answer here) a c
   stops_behind last next answer here mid there token line a b c e no_end none =
       known_trans _ _ _ (λ x y z. stops_one last next answer here mid there token line x y z e no_end none) a b c

@@ -71,7 +71,8 @@ ScannerTakes r before s after token =
 
 -- Of the bytes before, no more was taken than what spells the answer: the run of the last token is needed, since without it the
 -- last place is not left, and behind it at most one separator was taken.
-pub record StopsBehind {P A F : Type 0} (row : P → Token → Row P A F) (first next : P) (answer : A) (here : List ℕ → List Lined) (old new : List ℕ) : Type 0 where
+pub record StopsBehind {P A F : Type 0} (row : P → Token → Row P A F) (first next : P) (answer : A) (here : List ℕ → List Lined)
+    (old new : List ℕ) : Type 0 where
   pub before : List ℕ
   pub word : List ℕ
   pub behind : List ℕ
@@ -90,7 +91,8 @@ pub record StopsBehind {P A F : Type 0} (row : P → Token → Row P A F) (first
   pub whole : read_from row first (here (before ++ word ++ behind)) ≡ Whole answer next ((End, end_line) ∷ [])
 
 -- where some row takes a token that is not End, nothing is taken behind it but a separator, and this holds too
-abbrev pub Stops : {P A F : Type 0} → (P → Token → Row P A F) → P → P → (List ℕ → List Lined) → Option (List ℕ) → Option (List ℕ) → Type 0 → Result A (ReadError F) → Type 0
+abbrev pub Stops : {P A F : Type 0} → (P → Token → Row P A F) → P → P → (List ℕ → List Lined) → Option (List ℕ) → Option (List ℕ) → Type 0
+    → Result A (ReadError F) → Type 0
 Stops {P = P} row first next here before after few (Ok a) = (place : P) × (token : Token) × (row place token ≡ Ends a next)
     × (is_end token ≡ false → IfKnown (StopsBehind row first next a here) before after × few)
 Stops row first next here before after few (Err e) = ⊤

@@ -22,10 +22,10 @@ pub enum Taken<T> {
     Done(T),
 }
 
-/// Why a grammar did not take a token. Whoever reads gives up then.
+/// Why a grammar did not take a token. Reading stops then.
 #[derive(Drop)]
 pub enum Stop<F> {
-    /// A growth was refused.
+    /// An allocation failed.
     Memory,
     /// The token is not accepted at its place: a fault of the text.
     Text(F),
@@ -36,7 +36,7 @@ pub enum Stop<F> {
 pub enum ReadError<F> {
     /// The source failed.
     Device,
-    /// Memory was refused.
+    /// An allocation failed.
     Memory,
     /// The first token that is not accepted at its place.
     Text {
@@ -93,29 +93,36 @@ pub trait Grammar {
 /// Hands on token after token until the grammar is complete.
 ///
 /// # Errors
-/// `Device` exactly where the source failed during the call, `Memory` where the grammar wants some, and else the first fault with
-/// the line of its token.
+/// `Device` exactly where the source failed during the call, `Memory` where the grammar wants some,
+/// and else the first fault with the line of its token.
 pub fn read_by<G: Grammar, S: Source>(
     grammar: &mut G,
     scanner: &mut Scanner,
     source: &mut S,
 ) -> Result<G::Output, ReadError<G::Fault>>
     requires ready { ¬ HasFailed scanner.old }
-    ensures reads { Reads (reads_from G.row_of (G.place grammar.old) (left scanner.old (S.remaining source.old)))
+    ensures reads { Reads
+        (reads_from G.row_of (G.place grammar.old) (left scanner.old (S.remaining source.old)))
         (G.place grammar.new) (left scanner.new (S.remaining source.new)) result }
-    // The last token was taken by some row: with each token but End less can still come, and behind End no byte remains.
+    // The last token was taken by some row: with each token but End less can still come, and after
+    // End no byte remains.
     ensures follows { Follows G.row_of (G.place grammar.new)
-        (length scanner.new.pending + S.bound source.new < length scanner.old.pending + S.bound source.old)
+        (length scanner.new.pending + S.bound source.new
+        < length scanner.old.pending + S.bound source.old)
         (IsReady scanner.old (S.remaining source.old) → IsAtEnd (S.remaining source.new)) result }
-    // Behind the last token, unless that is End, no byte is taken but a separator, and at most 4,096 bytes are held.
-    ensures stops { Stops G.row_of (G.place grammar.old) (G.place grammar.new) (tokens_next scanner.old)
-        (ahead scanner.old.pending (S.remaining source.old)) (ahead scanner.new.pending (S.remaining source.new))
+    // Behind the last token, unless that is End, no byte is taken but a separator, and at most
+    // 4,096 bytes are held.
+    ensures stops { Stops G.row_of (G.place grammar.old) (G.place grammar.new)
+        (tokens_next scanner.old)
+        (ahead scanner.old.pending (S.remaining source.old))
+        (ahead scanner.new.pending (S.remaining source.new))
         (length scanner.new.pending ≤ 4096) result }
     ensures kept { G.kept grammar.new ≡ G.kept grammar.old }
     ensures counts { Counts (S.failures source.old) (S.failures source.new) result }
     ensures ready { OnOk result (¬ HasFailed scanner.new) }
     ensures bound { OnOk result (
-        length scanner.new.pending + S.bound source.new ≤ length scanner.old.pending + S.bound source.old) }
+        length scanner.new.pending + S.bound source.new
+        ≤ length scanner.old.pending + S.bound source.old) }
 {
     'tokens: loop {
         let (token, line) = scanner.next_token(source)?;

@@ -29,7 +29,7 @@ fn begins_with_minus(bytes: &[u8]) -> bool
     }
 }
 
-/// Whether a number is written as 0 behind a minus, which is none.
+/// Whether a number is written as 0 after a minus, which is none.
 #[inline(always)]
 fn is_minus_zero(negative: bool, value: u64) -> bool
     ensures { result ≡ (negative && nat_eq value 0) }
@@ -37,7 +37,7 @@ fn is_minus_zero(negative: bool, value: u64) -> bool
     negative & (value == 0)
 }
 
-/// The number that the bytes begin with, if they go on behind it with a separator.
+/// The number that the bytes begin with, if a separator follows it.
 ///
 /// It is None for what is not as usual too: a number of more than 18 digits.
 #[inline(always)]

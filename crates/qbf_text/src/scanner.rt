@@ -1,10 +1,13 @@
 //! Texts as tokens with their lines, read from a source.
 
-ghost use Rattle.std.specs.Prelude.{Option, ◌≡◌, ℕ, ◌+◌, ◌-◌, ◌^◌, ◌<◌, ◌≤◌, Some, List, [], ◌∷◌, length, IfSome, IfNone, false, true, IsOk, IsErr, IfOk, OnOk, OnErr};
+ghost use Rattle.std.specs.Prelude.{Option, ◌≡◌, ℕ, ◌+◌, ◌-◌, ◌^◌, ◌<◌, ◌≤◌, Some, List, [], ◌∷◌};
+ghost use Rattle.std.specs.Prelude.{length, IfSome, IfNone, false, true, IsOk, IsErr, IfOk, OnOk};
+ghost use Rattle.std.specs.Prelude.{OnErr};
 ghost use Rattle.std.specs.Io.KnownBytes.{Consumes, IsAtEnd};
 ghost use Rattle.qbf_text.specs.Ahead.{ahead, first_of};
 ghost use Rattle.qbf_text.specs.Tokens.{kind};
-ghost use Rattle.qbf_text.specs.Left.{is_separator, IsUnbroken, IsWithinLine, EndsRun, EndsLine, Gives, is_end};
+ghost use Rattle.qbf_text.specs.Left.{is_separator, IsUnbroken, IsWithinLine, EndsRun, EndsLine};
+ghost use Rattle.qbf_text.specs.Left.{Gives, is_end};
 
 use crate::run::{Numeral, Run, Spelling, begins_number};
 use crate::separators::is_separator;
@@ -16,11 +19,14 @@ use std::marker::Model;
 /// Goes to the end of the line.
 fn skip_line<S: Source>(window: &mut Window, source: &mut S) -> Result<(), SourceFault>
     ensures skipped { OnOk result ((skipped : List ℕ) × IsWithinLine skipped
-        × Consumes (ahead window.old (S.remaining source.old)) (ahead window.new (S.remaining source.new)) skipped) }
+        × Consumes (ahead window.old (S.remaining source.old))
+        (ahead window.new (S.remaining source.new)) skipped) }
     ensures end { OnOk result (IfSome (ahead window.new (S.remaining source.new)) EndsLine) }
-    ensures bound { OnOk result (length window.new + S.bound source.new ≤ length window.old + S.bound source.old) }
+    ensures bound { OnOk result
+        (length window.new + S.bound source.new ≤ length window.old + S.bound source.old) }
     ensures ok { OnOk result (S.failures source.new ≡ S.failures source.old) }
-    ensures err { OnErr result (S.failures source.old < 2 ^ 64 - 1 → S.failures source.old < S.failures source.new) }
+    ensures err { OnErr result
+        (S.failures source.old < 2 ^ 64 - 1 → S.failures source.old < S.failures source.new) }
 {
     while let Some(byte) = window.peek(source)? {
         if byte == b'\n' {
@@ -38,13 +44,17 @@ fn read_as<R: Run, S: Source>(
     source: &mut S,
 ) -> Result<Token, SourceFault>
     requires { R.begins first }
-    ensures run { IfOk result (λ token. (more : List ℕ) × (token ≡ kind (first ∷ more)) × IsUnbroken more
-        × Consumes (ahead window.old (S.remaining source.old)) (ahead window.new (S.remaining source.new)) more) }
+    ensures run { IfOk result
+        (λ token. (more : List ℕ) × (token ≡ kind (first ∷ more)) × IsUnbroken more
+        × Consumes (ahead window.old (S.remaining source.old))
+        (ahead window.new (S.remaining source.new)) more) }
     ensures end { OnOk result (IfSome (ahead window.new (S.remaining source.new)) EndsRun) }
     ensures few { OnOk result (length window.new ≤ 4096) }
-    ensures bound { OnOk result (length window.new + S.bound source.new ≤ length window.old + S.bound source.old) }
+    ensures bound { OnOk result
+        (length window.new + S.bound source.new ≤ length window.old + S.bound source.old) }
     ensures ok { OnOk result (S.failures source.new ≡ S.failures source.old) }
-    ensures err { OnErr result (S.failures source.old < 2 ^ 64 - 1 → S.failures source.old < S.failures source.new) }
+    ensures err { OnErr result
+        (S.failures source.old < 2 ^ 64 - 1 → S.failures source.old < S.failures source.new) }
 {
     let mut run = R::begin(first);
     'bytes: while let Some(byte) = window.peek(source)? {
@@ -59,13 +69,17 @@ fn read_as<R: Run, S: Source>(
 
 /// The same, for any first byte.
 fn read_run<S: Source>(first: u8, window: &mut Window, source: &mut S) -> Result<Token, SourceFault>
-    ensures run { IfOk result (λ token. (more : List ℕ) × (token ≡ kind (first ∷ more)) × IsUnbroken more
-        × Consumes (ahead window.old (S.remaining source.old)) (ahead window.new (S.remaining source.new)) more) }
+    ensures run { IfOk result
+        (λ token. (more : List ℕ) × (token ≡ kind (first ∷ more)) × IsUnbroken more
+        × Consumes (ahead window.old (S.remaining source.old))
+        (ahead window.new (S.remaining source.new)) more) }
     ensures end { OnOk result (IfSome (ahead window.new (S.remaining source.new)) EndsRun) }
     ensures few { OnOk result (length window.new ≤ 4096) }
-    ensures bound { OnOk result (length window.new + S.bound source.new ≤ length window.old + S.bound source.old) }
+    ensures bound { OnOk result
+        (length window.new + S.bound source.new ≤ length window.old + S.bound source.old) }
     ensures ok { OnOk result (S.failures source.new ≡ S.failures source.old) }
-    ensures err { OnErr result (S.failures source.old < 2 ^ 64 - 1 → S.failures source.old < S.failures source.new) }
+    ensures err { OnErr result
+        (S.failures source.old < 2 ^ 64 - 1 → S.failures source.old < S.failures source.new) }
 {
     if begins_number(first) {
         read_as::<Numeral, S>(first, window, source)
@@ -89,8 +103,8 @@ impl Place {
     ghost use Rattle.qbf_text.specs.Stopping.{PlaceSkips, PlaceTakes};
     ghost use Rattle.qbf_text.specs.declared.token.Token.TheVariants.{End};
 
-    /// The next token and its line, if it is a number that was pulled whole with the separator behind it: both are taken
-    /// then, and else nothing is.
+    /// The next token and its line, if it is a number that was pulled whole with the separator
+    /// after it: both are taken then, and else nothing is.
     #[inline(always)]
     fn number(&mut self) -> Option<(Token, u64)>
         ensures some { IfSome result (λ token. (remaining : Option (List ℕ)) →
@@ -124,7 +138,8 @@ impl Place {
         requires separates { is_separator byte ≡ true }
         ensures same { (remaining : Option (List ℕ)) →
             Gives (left_at self.old remaining) (left_at self.new remaining) [] }
-        ensures skips { (remaining : Option (List ℕ)) → PlaceSkips self.old remaining self.new remaining }
+        ensures skips { (remaining : Option (List ℕ))
+            → PlaceSkips self.old remaining self.new remaining }
         ensures less { length self.new.window < length self.old.window }
         ensures line { self.new.line < 2 ^ 64 }
     {
@@ -141,7 +156,8 @@ impl Place {
     fn skip_separators(&mut self)
         ensures same { (remaining : Option (List ℕ)) →
             Gives (left_at self.old remaining) (left_at self.new remaining) [] }
-        ensures skips { (remaining : Option (List ℕ)) → PlaceSkips self.old remaining self.new remaining }
+        ensures skips { (remaining : Option (List ℕ))
+            → PlaceSkips self.old remaining self.new remaining }
         ensures no_more { length self.new.window ≤ length self.old.window }
     {
         while let Some(byte) = self.window.first() {
@@ -152,7 +168,8 @@ impl Place {
         }
     }
 
-    /// The same as `number`, behind the separators that were pulled: these are taken if there is no number too.
+    /// The same as `number`, after the separators that were pulled: these are taken if there is no
+    /// number too.
     #[cold]
     #[inline(never)]
     fn number_behind(&mut self) -> Option<(Token, u64)>
@@ -165,7 +182,8 @@ impl Place {
         ensures few { IfSome result (λ _. length self.new.window ≤ 4096) }
         ensures none { IfNone result ((remaining : Option (List ℕ)) →
             Gives (left_at self.old remaining) (left_at self.new remaining) []) }
-        ensures skips { IfNone result ((remaining : Option (List ℕ)) → PlaceSkips self.old remaining self.new remaining) }
+        ensures skips { IfNone result
+            ((remaining : Option (List ℕ)) → PlaceSkips self.old remaining self.new remaining) }
         ensures no_more { length self.new.window ≤ length self.old.window }
     {
         self.skip_separators();
@@ -184,7 +202,8 @@ impl Place {
         ensures few { IfSome result (λ _. length self.new.window ≤ 4096) }
         ensures none { IfNone result ((remaining : Option (List ℕ)) →
             Gives (left_at self.old remaining) (left_at self.new remaining) []) }
-        ensures skips { IfNone result ((remaining : Option (List ℕ)) → PlaceSkips self.old remaining self.new remaining) }
+        ensures skips { IfNone result
+            ((remaining : Option (List ℕ)) → PlaceSkips self.old remaining self.new remaining) }
         ensures no_more { length self.new.window ≤ length self.old.window }
     {
         match self.number() {
@@ -198,23 +217,30 @@ impl Place {
     #[inline(never)]
     fn scan<S: Source>(&mut self, source: &mut S) -> Result<Option<Token>, SourceFault>
         ensures some { IfOk result (λ found. IfSome found (λ token.
-            Gives (left_at self.old (S.remaining source.old)) (left_at self.new (S.remaining source.new))
+            Gives (left_at self.old (S.remaining source.old))
+            (left_at self.new (S.remaining source.new))
             ((token, self.new.line) ∷ []))) }
         // The source is read no further than behind the token.
         ensures takes { IfOk result (λ found. IfSome found (λ token.
-            PlaceTakes self.old (S.remaining source.old) self.new (S.remaining source.new) (token, self.new.line))) }
+            PlaceTakes self.old (S.remaining source.old) self.new (S.remaining source.new)
+            (token, self.new.line))) }
         ensures few { IfOk result (λ found. IfSome found (λ _. length self.new.window ≤ 4096)) }
         ensures no_end { IfOk result (λ found. IfSome found (λ token. is_end token ≡ false)) }
         ensures none { IfOk result (λ found. IfNone found
-            (Gives (left_at self.old (S.remaining source.old)) (left_at self.new (S.remaining source.new)) []
-            × IfSome (left_at self.new (S.remaining source.new)) (λ left. left ≡ (End, self.new.line) ∷ []))) }
+            (Gives (left_at self.old (S.remaining source.old))
+            (left_at self.new (S.remaining source.new)) []
+            × IfSome (left_at self.new (S.remaining source.new))
+            (λ left. left ≡ (End, self.new.line) ∷ []))) }
         ensures at_end { IfOk result (λ found. IfNone found (IsAtEnd (S.remaining source.new))) }
         ensures bound { IfOk result (λ found. IfSome found (λ _.
-            length self.new.window + S.bound source.new < length self.old.window + S.bound source.old)) }
+            length self.new.window + S.bound source.new
+            < length self.old.window + S.bound source.old)) }
         ensures no_more { OnOk result (
-            length self.new.window + S.bound source.new ≤ length self.old.window + S.bound source.old) }
+            length self.new.window + S.bound source.new
+            ≤ length self.old.window + S.bound source.old) }
         ensures ok { OnOk result (S.failures source.new ≡ S.failures source.old) }
-        ensures err { OnErr result (S.failures source.old < 2 ^ 64 - 1 → S.failures source.old < S.failures source.new) }
+        ensures err { OnErr result
+            (S.failures source.old < 2 ^ 64 - 1 → S.failures source.old < S.failures source.new) }
     {
         // The proof reads here that the number has 64 bits.
         let _line = self.line;
@@ -250,7 +276,8 @@ enum State {
     Failed,
 }
 
-/// Reads a text of QDIMACS 1.1 or of QRP token by token, and takes no memory: a token of any length fits.
+/// Reads a text of QDIMACS 1.1 or of QRP token by token, and takes no memory: a token of any length
+/// fits.
 ///
 /// It pulls up to 4,096 bytes at a time, so it is lent the same source at each call.
 /// Contracts see a `Reading`.
@@ -301,33 +328,41 @@ impl Scanner {
 
     /// The next token and its line.
     ///
-    /// Lines end at byte 10 and are counted from 1; the count stays at 18446744073709551615.
-    /// End stands on the line after the last byte 10. After End every call answers the same End and pulls nothing.
+    /// Lines end at byte 10 and are counted from 1; the count stays at 18446744073709551615. End
+    /// stands on the line after the last byte 10. After End every call returns the same End and
+    /// pulls nothing.
     ///
-    /// X1 where the source failed. Every later call answers X1 and pulls nothing.
+    /// X1 where the source failed. Every later call returns X1 and pulls nothing.
     #[tactic(auto, unfolding(crate::specs::Reading::left))]
     #[inline(always)]
     pub fn next_token<S: Source>(&mut self, source: &mut S) -> Result<(Token, u64), ScanFault>
         ensures token { IfOk result (λ token.
-            GivesNext (left self.old (S.remaining source.old)) (left self.new (S.remaining source.new)) token) }
+            GivesNext (left self.old (S.remaining source.old))
+            (left self.new (S.remaining source.new)) token) }
         // Nothing is taken behind a token but a separator.
         ensures takes { IfOk result (λ token. is_end token.0 ≡ false →
-            ScannerTakes self.old (S.remaining source.old) self.new (S.remaining source.new) token) }
-        ensures few { IfOk result (λ token. is_end token.0 ≡ false → length self.new.pending ≤ 4096) }
+            ScannerTakes self.old (S.remaining source.old) self.new
+            (S.remaining source.new) token) }
+        ensures few { IfOk result
+            (λ token. is_end token.0 ≡ false → length self.new.pending ≤ 4096) }
         // With each token but End less can still come.
         ensures bound { IfOk result (λ token. is_end token.0 ≡ false →
-            length self.new.pending + S.bound source.new < length self.old.pending + S.bound source.old) }
+            length self.new.pending + S.bound source.new
+            < length self.old.pending + S.bound source.old) }
         ensures no_more { OnOk result (
-            length self.new.pending + S.bound source.new ≤ length self.old.pending + S.bound source.old) }
+            length self.new.pending + S.bound source.new
+            ≤ length self.old.pending + S.bound source.old) }
         // End and a fault are given for good, and nothing is pulled then.
         ensures end { IfOk result (λ token. is_end token.0 ≡ true → HasEnded self.new) }
         ensures line { IfOk result (λ token. is_end token.0 ≡ true → token ≡ (End, self.new.line)) }
-        // No byte remains behind End.
+        // No byte remains after End.
         ensures ready { OnOk result (
             IsReady self.old (S.remaining source.old) → IsReady self.new (S.remaining source.new)) }
-        ensures ended { HasEnded self.old → IsOk result × (self.new ≡ self.old) × (source.new ≡ source.old) }
+        ensures ended { HasEnded self.old
+            → IsOk result × (self.new ≡ self.old) × (source.new ≡ source.old) }
         ensures fault { OnErr result (HasFailed self.new) }
-        ensures failed { HasFailed self.old → IsErr result × (self.new ≡ self.old) × (source.new ≡ source.old) }
+        ensures failed { HasFailed self.old
+            → IsErr result × (self.new ≡ self.old) × (source.new ≡ source.old) }
         // A fault is first given where the source failed in the call.
         ensures ok { OnOk result (S.failures source.new ≡ S.failures source.old) }
         ensures err { OnErr result (¬ HasFailed self.old →

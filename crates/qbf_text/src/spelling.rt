@@ -7,7 +7,7 @@ ghost use Rattle.qbf_text.specs.declared.token.Token.TheVariants.{Number};
 
 use crate::sink::{Sink, SinkFault, put_byte, put_number};
 
-/// Sends a number behind a blank.
+/// Sends a number after a blank.
 ///
 /// A `SinkFault` where the sink failed. What went out is a beginning of these bytes then.
 #[inline(always)]
@@ -18,7 +18,7 @@ pub fn put_spaced<S: Sink>(sink: &mut S, n: u64) -> Result<(), SinkFault>
     put_number(sink, n)
 }
 
-/// Sends a number behind a minus.
+/// Sends a number after a minus.
 #[inline(always)]
 fn put_minus<S: Sink>(sink: &mut S, n: u64) -> Result<(), SinkFault>
     ensures { IsPut S.written S.failures sink.old sink.new (45 ∷ decimal n) result }
@@ -27,7 +27,7 @@ fn put_minus<S: Sink>(sink: &mut S, n: u64) -> Result<(), SinkFault>
     put_number(sink, n)
 }
 
-/// Sends a number, directly behind a minus where it is negative.
+/// Sends a number, directly after a minus if it is negative.
 ///
 /// A `SinkFault` where the sink failed. What went out is a beginning of these bytes then.
 #[inline(always)]

@@ -28,7 +28,7 @@ fn scans(rt: &impl Abort, comments: Comments, text: &[u8], wanted: &[(Token, u64
     }
 }
 
-/// What was answered last is answered for good, and nothing is pulled.
+/// What was returned last is returned for good, and nothing is pulled.
 fn stays(
     rt: &impl Abort,
     scanner: &mut Scanner,

@@ -7,7 +7,8 @@ ghost use Rattle.qbf_core.specs.Qbf.{IsWellFormed};
 ghost use Rattle.qdimacs.specs.declared.grammar.At.TheVariants as at;
 ghost use Rattle.qdimacs.specs.declared.grammar.Parts.{Parts};
 ghost use Rattle.qdimacs.specs.Places.{made, heading, stands, Moves, Went, IsSound};
-ghost use Rattle.qdimacs.specs.Reading.{AtP, Whole, IsFull, IsWhole, begun_set, has_more, row, bind_row};
+ghost use Rattle.qdimacs.specs.Reading.{AtP, Whole, IsFull, IsWhole, begun_set, has_more, row};
+ghost use Rattle.qdimacs.specs.Reading.{bind_row};
 
 use crate::fault::FormulaFault;
 use crate::tokens::{
@@ -49,7 +50,7 @@ struct Parts {
     /// The number of clauses that the header says.
     count: u32,
     prefix: Prefix,
-    /// Whether each variable that the header allows is bound, as it stands behind the last whole set.
+    /// Whether each variable that the header allows is bound, after the last whole set.
     full: bool,
     /// The literals of the clauses, and of the one that is begun.
     clauses: GrowingLists<Lit>,
@@ -122,7 +123,8 @@ fn take_count(parts: &mut Parts, max_var: u32, token: Token) -> Result<At, Stop<
 fn bind(parts: &mut Parts, quantifier: Quantifier, var: Var) -> Result<At, Stop<FormulaFault>>
     requires sound { IsSound (at.Set quantifier) parts.old }
     requires top { var ≤ parts.old.max_var }
-    ensures row { Moves (bind_row (heading parts.old) (pairs parts.old.prefix) quantifier var (is_bound var (pairs parts.old.prefix))) parts.new result }
+    ensures row { Moves (bind_row (heading parts.old) (pairs parts.old.prefix) quantifier var
+        (is_bound var (pairs parts.old.prefix))) parts.new result }
     ensures sound { IfOk result (λ next. IsSound next parts.new) }
 {
     match parts.prefix.push(quantifier, var) {

@@ -14,17 +14,20 @@ use qbf_core::Formula;
 use qbf_text::{Comments, Scanner, Source, read_by};
 use std::alloc::Global;
 
-/// Reads a formula in QDIMACS 1.1 to the end of its source: the formula that the bytes spell, or the first fault
-/// and its line.
+/// Reads a formula in QDIMACS 1.1 to the end of its source: the formula that the bytes spell, or
+/// the first fault and its line.
 ///
-/// Numbers are at most 2147483647. Clauses are kept as written. Beside the standard, neighbouring sets of one quantifier
-/// are joined, empty sets are dropped, the innermost block may be universal, clauses may be empty, repeat literals or hold
-/// both literals of a variable, and comment lines may stand anywhere. Against it, free variables are refused.
+/// Numbers are at most 2147483647. Clauses are kept as written. Beside the standard, neighbouring
+/// sets of one quantifier are joined, empty sets are dropped, the innermost block may be universal,
+/// clauses may be empty, repeat literals or hold both literals of a variable, and comment lines may
+/// stand anywhere. Against it, free variables are refused.
 ///
-/// F1 exactly where the source failed, F9 only where memory was refused, else F2 to F8 as they are listed.
+/// F1 exactly where the source failed, F9 only if an allocation failed, else F2 to F8 as they are
+/// listed.
 pub fn read_formula<S: Source>(alloc: Global, source: &mut S) -> Result<Formula, Fault>
     // The formula where the bytes spell one, else the fault that stands.
-    ensures reads { IfSome (S.remaining source.old) (λ bytes. Answers (tokens Qdimacs bytes) result) }
+    ensures reads { IfSome (S.remaining source.old)
+        (λ bytes. Answers (tokens Qdimacs bytes) result) }
     // The same by the function that reads.
     ensures exact { Gives result (reads_bytes (S.remaining source.old)) }
     // No byte remains after a formula.

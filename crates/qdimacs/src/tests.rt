@@ -103,7 +103,7 @@ fn says_that_a_source_failed(rt: HostRuntime) {
 
 #[test]
 fn pulls_nothing_behind_a_fault(rt: HostRuntime) {
-    // The byte behind the wrong token is the last one that is looked at: the next pull would fail.
+    // The byte after the wrong token is the last one that is looked at: the next pull would fail.
     for (text, looked_at, fault) in [
         (
             b"p cnf 1 1\ne 1 0\n1 x 0\n".as_slice(),

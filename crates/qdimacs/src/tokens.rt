@@ -2,7 +2,8 @@
 
 ghost use Rattle.std.specs.Prelude.{◌≡◌, ◌≤◌, true, IfSome, IfOk};
 ghost use Rattle.qbf_core.specs.Blocks.{pairs, IsBound};
-ghost use Rattle.qdimacs.specs.Reading.{set_letter, clause_or_end, IsFull, is_p, is_cnf, header_fault, header_number, member, literal_in};
+ghost use Rattle.qdimacs.specs.Reading.{set_letter, clause_or_end, IsFull, is_p, is_cnf};
+ghost use Rattle.qdimacs.specs.Reading.{header_fault, header_number, member, literal_in};
 
 use crate::fault::FormulaFault;
 use qbf_core::{Lit, Prefix, Quantifier, Var};

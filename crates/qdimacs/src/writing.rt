@@ -6,7 +6,8 @@ ghost use Rattle.qbf_text.specs.Written.{IsPut};
 ghost use Rattle.qbf_text.specs.Canonical.{line_text};
 ghost use Rattle.qdimacs.specs.Grammar.{header, text};
 ghost use Rattle.qdimacs.specs.Reading.{read_formula};
-ghost use Rattle.qdimacs.specs.Texts.{zero_text, opening, prefix_rest, literal_text, clause_rest, clauses_text};
+ghost use Rattle.qdimacs.specs.Texts.{zero_text, opening, prefix_rest, literal_text, clause_rest};
+ghost use Rattle.qdimacs.specs.Texts.{clauses_text};
 
 use qbf_core::{Formula, Lit, Prefix, Quantifier};
 use qbf_text::{Sink, SinkFault, put_byte, put_bytes, put_signed, put_spaced};
@@ -58,7 +59,8 @@ fn put_opening<K: Sink>(
 
 /// The zero of a block, and the letter of the next.
 fn put_next<K: Sink>(sink: &mut K, quantifier: Quantifier) -> Result<(), SinkFault>
-    ensures { IsPut K.written K.failures sink.old sink.new (zero_text ++ opening None quantifier) result }
+    ensures { IsPut K.written K.failures sink.old sink.new
+        (zero_text ++ opening None quantifier) result }
 {
     put_bytes(sink, b" 0\n")?;
     put_byte(sink, quantifier.letter())
@@ -76,7 +78,8 @@ fn put_closing<K: Sink>(sink: &mut K, last: Option<Quantifier>) -> Result<(), Si
 
 /// The blocks, each with its letter and its zero.
 fn put_prefix<K: Sink>(sink: &mut K, prefix: &Prefix) -> Result<(), SinkFault>
-    ensures { IsPut K.written K.failures sink.old sink.new (prefix_rest None (pairs prefix.now)) result }
+    ensures { IsPut K.written K.failures sink.old sink.new
+        (prefix_rest None (pairs prefix.now)) result }
 {
     let mut last = None;
     for i in 0..prefix.len() {
@@ -90,7 +93,8 @@ fn put_prefix<K: Sink>(sink: &mut K, prefix: &Prefix) -> Result<(), SinkFault>
 
 /// The clauses, each on its line.
 fn put_clauses<K: Sink>(sink: &mut K, formula: &Formula) -> Result<(), SinkFault>
-    ensures { IsPut K.written K.failures sink.old sink.new (clauses_text formula.now.clauses) result }
+    ensures { IsPut K.written K.failures sink.old sink.new
+        (clauses_text formula.now.clauses) result }
 {
     for i in 0..formula.clauses() {
         put_clause(sink, formula.clause(i))?;
@@ -100,7 +104,8 @@ fn put_clauses<K: Sink>(sink: &mut K, formula: &Formula) -> Result<(), SinkFault
 
 /// The line of the header.
 fn put_header<K: Sink>(sink: &mut K, max_var: u32, count: u32) -> Result<(), SinkFault>
-    ensures { IsPut K.written K.failures sink.old sink.new (line_text (header max_var count)) result }
+    ensures { IsPut K.written K.failures sink.old sink.new
+        (line_text (header max_var count)) result }
 {
     put_bytes(sink, b"p cnf")?;
     put_spaced(sink, u64::from(max_var))?;
@@ -110,9 +115,9 @@ fn put_header<K: Sink>(sink: &mut K, max_var: u32, count: u32) -> Result<(), Sin
 
 /// Writes the canonical text of the formula in QDIMACS 1.1, and does not `finish` the sink.
 ///
-/// The lines are the header, each block as a set, outermost first, and each clause with its literals as kept.
-/// Parts of a line are separated by one blank, numbers are decimal without leading zeros, and each line ends with byte 10.
-/// Reading the text gives the formula.
+/// The lines are the header, each block as a set, outermost first, and each clause with its
+/// literals as kept. Parts of a line are separated by one blank, numbers are decimal without
+/// leading zeros, and each line ends with byte 10. Reading the text gives the formula.
 ///
 /// A `SinkFault` where the sink failed. What went out is a beginning of the text then.
 pub fn write_formula<K: Sink>(formula: &Formula, sink: &mut K) -> Result<(), SinkFault>

@@ -46,8 +46,10 @@ numbered_within (n ∷ ns) [] i less = absurd (omega arith)
 numbered_within (n ∷ ns) (b ∷ bodies) zero less = omega arith
 numbered_within (n ∷ ns) (b ∷ bodies) (suc i) less = let m = numbered_within ns bodies i (omega arith) in omega arith
 
-pub numbered_at : (ns : List ℕ) (bodies : List Body) (i : ℕ) (s : Inference) → IsAt (numbered ns bodies) i s → slice_get bodies i ≡ Some (body s)
+pub numbered_at : (ns : List ℕ) (bodies : List Body) (i : ℕ) (s : Inference) → IsAt (numbered ns bodies) i s
+    → slice_get bodies i ≡ Some (body s)
 numbered_at [] bodies i s h = absurd (cc h)
 numbered_at (n ∷ ns) [] i s h = absurd (cc h)
-numbered_at (n ∷ ns) (b ∷ bodies) zero s h = let e : record { number = n; lits = b.lits; ants = b.ants } ≡ s = cc h in ap (λ (x : Inference). Some (body x)) e
+numbered_at (n ∷ ns) (b ∷ bodies) zero s h = let e : record { number = n; lits = b.lits; ants = b.ants } ≡ s = cc h in
+    ap (λ (x : Inference). Some (body x)) e
 numbered_at (n ∷ ns) (b ∷ bodies) (suc i) s h = numbered_at ns bodies i s h

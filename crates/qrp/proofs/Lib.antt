@@ -1,17 +1,17 @@
-mod Rows
+mod WorkedRows
 pub mod Numbers
 pub mod Positions
-pub mod Leads
-pub mod Complete
-pub mod TextMore
-pub mod Sound
+pub mod AcceptedTokens
+pub mod SpelledIsRead
+pub mod CanonicalTextIsRead
+pub mod ReadIsSpelled
 pub mod Answered
-pub mod WritingMore
+pub mod WrittenParts
 pub mod Flats
-pub mod Counted
-pub mod Making
-pub mod Readings
-pub mod ItemRows
-pub mod Growing
+pub mod CountedNumbers
+pub mod TraceParts
+pub mod RowsReadTheTrace
+pub mod RowsReadTheItem
+pub mod GrowingSteps
 pub mod StopsBehind
 pub mod ItemStops

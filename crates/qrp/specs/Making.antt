@@ -2,7 +2,7 @@
 use Rattle.std.specs.Prelude.{◌≡◌, ◌<◌, ◌^◌, [], ◌∷◌, ◌++◌, length, ⊤}
 use Rattle.std.specs.List.{AllByRecursion}
 use Rattle.qbf_core.specs.Blocks.{IsVariable}
-use Rattle.qbf_core.specs.Flat.{Growing}
+use Rattle.qbf_core.specs.Lists.{Growing}
 use Rattle.qbf_text.specs.declared.token.Token.{Token}
 use Rattle.qbf_text.specs.Rows as rows
 use Rattle.qbf_text.specs.declared.grammar.ReadError.{ReadError}

@@ -1,6 +1,8 @@
 //! Traces whose steps lie in flat buffers.
 
-ghost use Rattle.std.specs.Prelude.{◌≡◌, ◌≢◌, ◌<◌, ◌≤◌, ◌-◌, ◌^◌, false, Some, Err, List, [], ◌∷◌, ◌++◌, length, map, slice_get, take, IfSome, IfOk, OnOk, OnErr, IfErr};
+ghost use Rattle.std.specs.Prelude.{◌≡◌, ◌≢◌, ◌<◌, ◌≤◌, ◌-◌, ◌^◌, false, Some, Err, List, [], ◌∷◌};
+ghost use Rattle.std.specs.Prelude.{◌++◌, length, map, slice_get, take, IfSome, IfOk, OnOk, OnErr};
+ghost use Rattle.std.specs.Prelude.{IfErr};
 ghost use Rattle.std.specs.List.{AllByRecursion};
 ghost use Rattle.qbf_core.specs.Blocks.{IsVariable};
 ghost use Rattle.qbf_text.specs.Stopping.{IfKnown};
@@ -53,10 +55,11 @@ impl FlatSteps {
         }
     }
 
-    /// Adds a step at the end. An `Err` is want of memory, and changes nothing.
+    /// Adds a step at the end. An `Err` means that an allocation failed, and changes nothing.
     #[inline(always)]
     fn push(&mut self, lits: &[Lit], ants: &[u64]) -> Result<(), AllocError>
-        ensures pushed { OnOk result (self.new ≡ self.old ++ record { lits = lits.now; ants = ants.now } ∷ []) }
+        ensures pushed { OnOk result
+            (self.new ≡ self.old ++ record { lits = lits.now; ants = ants.now } ∷ []) }
         ensures err { OnErr result (self.new ≡ self.old) }
     {
         self.lits.push(lits)?;
@@ -168,7 +171,8 @@ impl FlatTrace {
         requires { IsMade parts }
         ensures { result ≡ record (made parts) { result = outcome } }
     {
-        // The proof reads here that the numbers are distinct, and that they and their count have 64 bits.
+        // The proof reads here that the numbers are distinct, and that they and their count have 64
+        // bits.
         let _count = parts.begun.index.len();
         FlatTrace {
             header: parts.header,
@@ -204,9 +208,11 @@ impl FlatTrace {
         self.result
     }
 
-    /// Adds a quantifier set at the end. An `Err` is want of memory, hands the set back and changes nothing.
+    /// Adds a quantifier set at the end. An `Err` means that an allocation failed; it hands the set
+    /// back and changes nothing.
     pub(crate) fn push_set(&mut self, set: QuantSet) -> Result<(), QuantSet>
-        ensures pushed { OnOk result (self.new ≡ record self.old { sets = self.old.sets ++ set ∷ [] }) }
+        ensures pushed { OnOk result
+            (self.new ≡ record self.old { sets = self.old.sets ++ set ∷ [] }) }
         ensures given_back { IfErr result (λ back. back ≡ set) }
         ensures err { OnErr result (self.new ≡ self.old) }
     {
@@ -217,7 +223,7 @@ impl FlatTrace {
         }
     }
 
-    /// Adds a step at the end. An `Err` is want of memory, and changes nothing.
+    /// Adds a step at the end. An `Err` means that an allocation failed, and changes nothing.
     pub(crate) fn push_step(
         &mut self,
         number: u64,
@@ -229,7 +235,8 @@ impl FlatTrace {
         requires ants { AllByRecursion IsNumber ants.now }
         requires few { length ants.now ≤ 2 }
         ensures pushed { OnOk result (self.new ≡ record self.old {
-          steps = self.old.steps ++ record { number = number; lits = lits.now; ants = ants.now } ∷ [];
+          steps = self.old.steps ++ record { number = number; lits = lits.now; ants = ants.now }
+              ∷ [];
         }) }
         ensures err { OnErr result (self.new ≡ self.old) }
     {
@@ -281,7 +288,8 @@ pub fn read_flat<S: Source>(alloc: Global, source: &mut S) -> Result<FlatTrace, 
     // The same by the function that reads.
     ensures exact { Gives result (reads_bytes (S.remaining source.old)) }
     // Nothing is read past the result word but what is held, and that is at most 4,096 bytes.
-    ensures stops { IfOk result (λ d. IfKnown (StopsBehindResult d) (S.remaining source.old) (S.remaining source.new)) }
+    ensures stops { IfOk result
+        (λ d. IfKnown (StopsBehindResult d) (S.remaining source.old) (S.remaining source.new)) }
     ensures source { IfErr result (λ e. e.0 ≡ P1
         → S.failures source.old < 2 ^ 64 - 1 → S.failures source.old < S.failures source.new) }
     ensures kept { IfErr result (λ e. e.0 ≢ P1 → S.failures source.new ≡ S.failures source.old) }

@@ -2,7 +2,8 @@
 
 ghost use Rattle.std.specs.Prelude.{◌≡◌, false, [], ◌∷◌, ◌++◌, OnOk};
 ghost use Rattle.qbf_text.specs.Taking.{Takes};
-ghost use Rattle.qrp.specs.Making.{Making, Whole, trace_row, row_with, IsWhole, closed, made, stands, IsMade, IsSound};
+ghost use Rattle.qrp.specs.Making.{Making, Whole, trace_row, row_with, IsWhole, closed, made};
+ghost use Rattle.qrp.specs.Making.{stands, IsMade, IsSound};
 ghost use Rattle.qrp.specs.Places.{row_of, IsComplete};
 ghost use Rattle.qrp.specs.Reading.{AtP, Between, is_used, nothing};
 ghost use Rattle.qbf_text.specs.Rows.{Goes};
@@ -24,7 +25,7 @@ pub struct Parts {
     pub header: Header,
     /// The sets that are whole.
     pub sets: Vec<QuantSet>,
-    /// The lists that are begun, and behind which whole ones lie.
+    /// The lists that are begun, which whole ones come before.
     pub begun: Begun,
 }
 
@@ -44,21 +45,22 @@ impl Parts {
     }
 }
 
-/// Puts the set that is begun behind the others.
+/// Puts the set that is begun after the others.
 fn close_set(
     sets: &mut Vec<QuantSet>,
     vars: &mut Vec<Var>,
     alloc: Global,
     quantifier: Quantifier,
 ) -> Result<(), AllocError>
-    ensures { OnOk result (sets.new.items ≡ sets.old.items ++ record { quantifier = quantifier; vars = vars.old.items } ∷ []) }
+    ensures { OnOk result (sets.new.items
+        ≡ sets.old.items ++ record { quantifier = quantifier; vars = vars.old.items } ∷ []) }
 {
     let vars = mem::replace(vars, Vec::new(alloc));
     sets.push(QuantSet { quantifier, vars })?;
     Ok(())
 }
 
-/// Puts the step that is begun behind the others.
+/// Puts the step that is begun after the others.
 #[inline(always)]
 fn close_step(begun: &mut Begun, number: u64) -> Result<(), AllocError>
     requires { is_used number begun.old.index ≡ false }
@@ -74,13 +76,14 @@ fn close_step(begun: &mut Begun, number: u64) -> Result<(), AllocError>
     Ok(())
 }
 
-/// Puts a part that is complete behind the others.
+/// Puts a part that is complete after the others.
 #[inline(always)]
 fn close(parts: &mut Parts, part: Part) -> Result<(), AllocError>
     requires made { IsMade parts.old }
     requires complete { IsComplete part parts.old.begun }
     ensures row { OnOk result (
-        row_with (made parts.old) (row_of parts.old.begun part) ≡ Goes (Making (made parts.new) (Between parts.new.begun.index))) }
+        row_with (made parts.old) (row_of parts.old.begun part)
+        ≡ Goes (Making (made parts.new) (Between parts.new.begun.index))) }
     ensures sound { OnOk result (IsMade parts.new) }
 {
     match part {
@@ -105,7 +108,8 @@ fn close(parts: &mut Parts, part: Part) -> Result<(), AllocError>
 #[inline(always)]
 fn take(here: &mut At, parts: &mut Parts, token: Token) -> Result<Taken<()>, Stop<TraceFault>>
     requires sound { IsSound here.old parts.old }
-    ensures row { Takes (trace_row (stands parts.old here.old) token) (stands parts.new here.new) result }
+    ensures row { Takes (trace_row (stands parts.old here.old) token)
+        (stands parts.new here.new) result }
     ensures sound { IsSound here.new parts.new }
 {
     match take_at(*here, &mut parts.begun, token) {

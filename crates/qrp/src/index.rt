@@ -1,6 +1,7 @@
 //! The places of step numbers.
 
-ghost use Rattle.std.specs.Prelude.{◌≡◌, ℕ, ◌+◌, ◌^◌, ◌<◌, ◌⊎◌, false, [], ◌∷◌, ◌++◌, length, nat_eq, slice_get, Some, IfSome, IfNone, IsTrue, OnOk, OnErr};
+ghost use Rattle.std.specs.Prelude.{◌≡◌, ℕ, ◌+◌, ◌^◌, ◌<◌, ◌⊎◌, false, [], ◌∷◌, ◌++◌, length};
+ghost use Rattle.std.specs.Prelude.{nat_eq, slice_get, Some, IfSome, IfNone, IsTrue, OnOk, OnErr};
 ghost use Rattle.std.specs.List.{AllByRecursion, IsDistinct};
 ghost use Rattle.qrp.specs.Kept.{AreStepNumbers};
 ghost use Rattle.qrp.specs.Reading.{is_used};
@@ -39,9 +40,10 @@ fn continues(first: u64, counted: usize, number: u64) -> bool
 pub struct StepIndex {
     /// The number of the first step.
     first: u64,
-    /// How many steps are counted one by one from the first, as most solvers count all: nothing else is kept of them.
+    /// How many steps are counted one by one from the first, as most solvers count all: nothing
+    /// else is kept of them.
     counted: usize,
-    /// The numbers of the steps behind those.
+    /// The numbers of the steps after those.
     listed: IndexSet<u64>,
 }
 
@@ -112,7 +114,8 @@ impl StepIndex {
         place_of(self.first, self.counted, number).is_some() || self.listed.contains(&number)
     }
 
-    /// Adds the number of one more step. An `Err` is want of memory, and changes nothing.
+    /// Adds the number of one more step. An `Err` means that an allocation failed, and changes
+    /// nothing.
     pub(crate) fn push(&mut self, number: u64) -> Result<(), AllocError>
         requires { is_used number self.old ≡ false }
         ensures pushed { OnOk result (self.new ≡ self.old ++ number ∷ []) }

@@ -21,7 +21,8 @@ use std::mem;
 /// Takes a step out of the lists that are begun. Its own have just their room.
 fn take_step(begun: &mut Begun, alloc: Global, number: u64) -> Result<Step, AllocError>
     requires { IsComplete (part.Step number) begun.old }
-    ensures step { IfOk result (λ s. s ≡ record { number = number; lits = begun.old.lits.begun; ants = begun.old.ants.begun }) }
+    ensures step { IfOk result (λ s. s
+        ≡ record { number = number; lits = begun.old.lits.begun; ants = begun.old.ants.begun }) }
     ensures number { OnOk result (begun.new.index ≡ numbers_behind begun.old (part.Step number)) }
     ensures err { OnErr result (begun.new ≡ begun.old) }
 {
@@ -52,7 +53,8 @@ fn take_part(begun: &mut Begun, alloc: Global, part: Part) -> Result<Item, Alloc
 #[inline(always)]
 fn take(here: &mut At, begun: &mut Begun, token: Token) -> Result<Taken<()>, Stop<TraceFault>>
     requires sound { IsGiving here.old begun.old }
-    ensures row { Takes (item_row (giving_at begun.old here.old) token) (giving_at begun.new here.new) result }
+    ensures row { Takes (item_row (giving_at begun.old here.old) token)
+        (giving_at begun.new here.new) result }
     ensures sound { IsGiving here.new begun.new }
     ensures kept { begun.new.index ≡ begun.old.index }
 {
@@ -109,10 +111,11 @@ impl ItemGrammar {
     /// The item that is complete.
     ///
     /// # Errors
-    /// Want of memory. Nothing is changed then.
+    /// Out of memory. Nothing is changed then.
     pub fn give(&mut self, alloc: Global) -> Result<Item, AllocError>
         requires { IsGiven self.old.giving }
-        ensures item { IfOk result (λ i. self.old.giving ≡ giving i (numbers_with self.old.numbers (Ok i))) }
+        ensures item { IfOk result
+            (λ i. self.old.giving ≡ giving i (numbers_with self.old.numbers (Ok i))) }
         ensures proper { IfOk result (λ i. IsProper self.old.numbers i) }
         ensures next { IfOk result (λ i. IsNextAfter i self.old self.new) }
         ensures err { OnErr result (self.new ≡ self.old) }

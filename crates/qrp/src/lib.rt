@@ -1,4 +1,5 @@
-//! Traces of Q-resolution proofs: reading them from bytes, keeping them, and writing their canonical text.
+//! Traces of Q-resolution proofs: reading them from bytes, keeping them, and writing their
+//! canonical text.
 #![tactic(auto)]
 
 mod fault;

@@ -75,9 +75,9 @@ pub enum Move {
 pub struct Begun {
     /// The variables of a set.
     pub vars: Vec<Var>,
-    /// The literals of a step, behind those of whole steps if such are kept.
+    /// The literals of a step, after those of whole steps if such are kept.
     pub lits: GrowingLists<Lit>,
-    /// Its antecedents, behind those of whole steps.
+    /// Its antecedents, after those of whole steps.
     pub ants: GrowingLists<u64>,
     /// The numbers of the steps that are whole.
     pub index: StepIndex,

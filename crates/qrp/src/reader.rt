@@ -1,6 +1,7 @@
 //! Reading a trace item by item.
 
-ghost use Rattle.std.specs.Prelude.{◌≡◌, ◌≢◌, ℕ, ◌<◌, ◌≤◌, ◌+◌, ◌-◌, ◌^◌, true, false, Some, Ok, Err, List, [], length, IfOk, OnOk, IfErr};
+ghost use Rattle.std.specs.Prelude.{◌≡◌, ◌≢◌, ℕ, ◌<◌, ◌≤◌, ◌+◌, ◌-◌, ◌^◌, true, false, Some, Ok};
+ghost use Rattle.std.specs.Prelude.{Err, List, [], length, IfOk, OnOk, IfErr};
 ghost use Rattle.qbf_text.specs.Tokens.{tokens};
 ghost use Rattle.qbf_text.specs.declared.token.Comments.TheVariants.{Qrp};
 ghost use Rattle.qrp.specs.declared.fault.TraceFault.TheVariants.{P1, P9};
@@ -9,7 +10,8 @@ ghost use Rattle.qbf_text.specs.Reading.{left, HasFailed};
 ghost use Rattle.qbf_text.specs.Stopping.{tokens_next};
 ghost use Rattle.qrp.specs.Given.{items_left, is_last, stage_after, numbers_with};
 ghost use Rattle.qrp.specs.Given.{GivesNextItem, IsDone, IsProper, StopsBehindItem};
-ghost use Rattle.qrp.specs.Items.{Takes, Stands, StopsBehind, GivesItem, IsItem, IsScanned, IsCounted};
+ghost use Rattle.qrp.specs.Items.{Takes, Stands, StopsBehind, GivesItem, IsItem, IsScanned};
+ghost use Rattle.qrp.specs.Items.{IsCounted};
 ghost use Rattle.qrp.specs.Parts.{known_items};
 ghost use Rattle.qrp.specs.Reading.{Place, items};
 
@@ -30,7 +32,7 @@ enum Stage {
     HasFault(TraceFault, u64),
 }
 
-/// How far a reader is behind an answer.
+/// How far a reader is after a result.
 fn stage_after(answer: &Result<Item, Fault>) -> Stage
     ensures { result ≡ stage_after answer.now }
 {
@@ -55,10 +57,12 @@ fn read_item<S: Source>(
         grammar.new.numbers (left scanner.new (S.remaining source.new)) result }
     ensures stops { (p : Place) → grammar.old.giving ≡ Takes p →
         StopsBehind p (tokens_next scanner.old) (ahead scanner.old.pending (S.remaining source.old))
-        (ahead scanner.new.pending (S.remaining source.new)) (length scanner.new.pending ≤ 4096) result }
+        (ahead scanner.new.pending (S.remaining source.new))
+        (length scanner.new.pending ≤ 4096) result }
     ensures stands { Stands (stage_after result) grammar.new }
     ensures item { IsItem grammar.old.numbers grammar.new.numbers result }
-    ensures scanner { IsScanned scanner.new (length scanner.old.pending + S.bound source.old) (S.bound source.new) result }
+    ensures scanner { IsScanned scanner.new (length scanner.old.pending + S.bound source.old)
+        (S.bound source.new) result }
     ensures counts { IsCounted (S.failures source.old) (S.failures source.new) result }
 {
     match read_by(grammar, scanner, source) {
@@ -70,7 +74,8 @@ fn read_item<S: Source>(
     }
 }
 
-/// Reads a trace (the text form of QRP) item by item, and keeps of it the numbers of its steps alone.
+/// Reads a trace (the text form of QRP) item by item, and keeps of it the numbers of its steps
+/// alone.
 ///
 /// Contracts see a `Position`: how far the reader is, and the numbers of the steps that it gave.
 #[derive(Drop)]
@@ -87,17 +92,20 @@ impl Model for TraceReader {
 
     ghost Value = { Position };
 
-    ghost view = { λ r. record { scanner = r.scanner; numbers = r.grammar.numbers; stage = r.stage } };
+    ghost view = { λ r.
+        record { scanner = r.scanner; numbers = r.grammar.numbers; stage = r.stage } };
 
     ghost invariant = { λ r. Stands r.stage r.grammar
-        × IsInStage r.stage (record { scanner = r.scanner; numbers = r.grammar.numbers; stage = r.stage }) };
+        × IsInStage r.stage
+        (record { scanner = r.scanner; numbers = r.grammar.numbers; stage = r.stage }) };
 }
 
 impl TraceReader {
     /// A reader at the beginning of a trace. It takes no memory.
     #[tactic(auto, unfolding(crate::specs::Given::items_left))]
     pub fn new(alloc: Global) -> TraceReader
-        ensures left { (bytes : List ℕ) → items_left result (Some bytes) ≡ Some (items (tokens Qrp bytes)) }
+        ensures left { (bytes : List ℕ)
+            → items_left result (Some bytes) ≡ Some (items (tokens Qrp bytes)) }
         ensures numbers { result.numbers ≡ [] }
         ensures fresh { ¬ IsDone result }
     {
@@ -109,16 +117,18 @@ impl TraceReader {
         }
     }
 
-    /// The next item: the header, then each set, each step and the result, each when it is complete. Each call is lent
-    /// the same source.
+    /// The next item: the header, then each set, each step and the result, each when it is
+    /// complete. Each call is lent the same source.
     ///
-    /// An error is the first fault and its line, counted from 1; P1 (the source failed) and P9 (want of memory) stand on
-    /// line 0. After the result every call gives the result, after a fault that fault, and then nothing is pulled.
+    /// An error is the first fault and its line, counted from 1; P1 (the source failed) and P9 (out
+    /// of memory) stand on line 0. After the result every call gives the result, after a fault that
+    /// fault, and then nothing is pulled.
     pub fn next_item<S: Source>(&mut self, source: &mut S) -> Result<Item, Fault>
-        // What was left to give is the answer, followed by what is left now.
+        // What was left to give is the result, followed by what is left now.
         ensures gives { GivesNextItem (items_left self.old (S.remaining source.old))
             (items_left self.new (S.remaining source.new)) result }
-        // Nothing is read past an item but a separator and what is held, and that is at most 4,096 bytes.
+        // Nothing is read past an item but a separator and what is held, and that is at most 4,096
+        // bytes.
         ensures stops { ¬ IsDone self.old → IfOk result (λ i.
             StopsBehindItem self.old (S.remaining source.old) self.new (S.remaining source.new) i) }
         // The result and a fault are given for good, and nothing is pulled then.
@@ -126,17 +136,19 @@ impl TraceReader {
         ensures more { is_last result ≡ false → ¬ IsDone self.new }
         ensures done { IsDone self.old → (self.new ≡ self.old) × (source.new ≡ source.old) }
         ensures stays { IsDone self.old → is_last result ≡ true }
-        // What was answered says how far the reader is, also of a source that does not tell its bytes.
+        // The result says how far the reader is, even if the bytes of the source are not known.
         ensures stage { self.new.stage ≡ stage_after result }
         // With each other item less can still come.
         ensures less { is_last result ≡ false →
-            length self.new.scanner.pending + S.bound source.new < length self.old.scanner.pending + S.bound source.old }
+            length self.new.scanner.pending + S.bound source.new
+            < length self.old.scanner.pending + S.bound source.old }
         ensures proper { IfOk result (λ i. IsProper self.old.numbers i) }
         ensures numbers { self.new.numbers ≡ numbers_with self.old.numbers result }
         // P1 is first given in a call in which the source failed.
         ensures source { ¬ IsDone self.old → IfErr result (λ e. e.0 ≡ P1
             → S.failures source.old < 2 ^ 64 - 1 → S.failures source.old < S.failures source.new) }
-        ensures kept { IfErr result (λ e. e.0 ≢ P1 → S.failures source.new ≡ S.failures source.old) }
+        ensures kept { IfErr result
+            (λ e. e.0 ≢ P1 → S.failures source.new ≡ S.failures source.old) }
         ensures line_1 { IfErr result (λ e. e.0 ≡ P1 → e.1 ≡ 0) }
         ensures line_9 { IfErr result (λ e. e.0 ≡ P9 → e.1 ≡ 0) }
         ensures works { OnOk result (S.failures source.new ≡ S.failures source.old) }

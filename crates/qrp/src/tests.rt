@@ -1,4 +1,4 @@
-//! Worked traces and faults, whole and byte by byte, and what a reader answers for good.
+//! Worked traces and faults, whole and byte by byte, and what a reader returns for good.
 
 ghost use Rattle.std.specs.Prelude.{◌≡◌, ◌≤◌, ◌∷◌, [], ◌++◌, length, false, IfOk};
 ghost use Rattle.std.specs.List.{AllByRecursion};
@@ -65,7 +65,7 @@ fn refuses(rt: &impl Abort, alloc: Global, text: &[u8], fault: TraceFault, line:
     }
 }
 
-/// The front of `TRACE` with other lines behind it.
+/// The front of `TRACE` with other lines after it.
 fn with_end(alloc: Global, end: &[u8]) -> Result<Vec<u8>, Fail> {
     let mut text = Vec::from_slice(alloc, FRONT)?;
     text.extend_from_slice(end)?;
@@ -197,14 +197,14 @@ fn gives_each_fault_of_a_text_for_good(rt: HostRuntime) {
 #[test]
 fn pulls_nothing_behind_the_result(rt: HostRuntime) -> Result<(), Fail> {
     let alloc = rt.alloc();
-    // The byte behind the result word is the last one that is looked at: the next pull would fail.
+    // The byte after the result word is the last one that is looked at: the next pull would fail.
     let mut source = PieceSource::new(TRACE, 1, 83);
     assert_eq!(rt; read_trace(alloc, &mut source)?.len(), 5);
     assert_eq!(rt; source.pulls(), 82);
     let mut source = PieceSource::new(TRACE, 1, 83);
     assert_eq!(rt; read_flat(alloc, &mut source)?.len(), 5);
     assert_eq!(rt; source.pulls(), 82);
-    // The same of a fault: the byte behind the wrong token is the last.
+    // The same of a fault: the byte after the wrong token is the last.
     let text = b"p qrp 0 0\nr cnf behind it";
     let mut source = PieceSource::new(text, 1, 17);
     gives_for_good(&rt, alloc, &mut source, (TraceFault::P8, 2));
@@ -307,11 +307,12 @@ fn grows_by_sets_and_steps(rt: HostRuntime) -> Result<(), Fail> {
     Ok(())
 }
 
-// ---- what is refused memory, and then tried again
+// ---- what has an allocation fail, and then tried again
 //
-// With memory this test tries nothing twice. scripts/test-refusals refuses each growth of it in turn.
+// With memory this test tries nothing twice. scripts/test-refusals makes each of its allocations
+// fail in turn.
 
-/// The items in a list, at the second try where memory is refused.
+/// The items in a list, at the second try if an allocation fails.
 fn list_of<T: Copy>(alloc: Global, items: &[T]) -> Result<Vec<T>, Fail>
     ensures { IfOk result (λ list. list.items ≡ items.now) }
 {
@@ -321,7 +322,7 @@ fn list_of<T: Copy>(alloc: Global, items: &[T]) -> Result<Vec<T>, Fail>
     }
 }
 
-/// Adds a set. Where memory is refused the trace is as it was, and the second try adds it.
+/// Adds a set. If an allocation fails, the trace is as it was, and the second try adds it.
 fn push_set_again(rt: &impl Abort, trace: &mut Trace, set: QuantSet)
     ensures { trace.new ≡ record trace.old { sets = trace.old.sets ++ set ∷ [] } }
 {
@@ -332,7 +333,7 @@ fn push_set_again(rt: &impl Abort, trace: &mut Trace, set: QuantSet)
     }
 }
 
-/// Adds a step. Where memory is refused the trace is as it was, and the second try adds it.
+/// Adds a step. If an allocation fails, the trace is as it was, and the second try adds it.
 fn push_step_again(rt: &impl Abort, trace: &mut Trace, step: Step)
     requires number { IsNumber step.number }
     requires fresh { is_used step.number (numbers trace.old.steps) ≡ false }

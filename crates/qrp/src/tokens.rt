@@ -5,7 +5,8 @@ ghost use Rattle.qbf_core.specs.Blocks.{IsVariable};
 ghost use Rattle.qbf_text.specs.Lined.{weight};
 ghost use Rattle.qrp.specs.Inferences.{IsLiteral, IsNumber};
 ghost use Rattle.qrp.specs.Parts.{opened, outcome_of};
-ghost use Rattle.qrp.specs.Reading.{header_fault, is_p, is_qrp, header_number, member, literal_in, antecedent};
+ghost use Rattle.qrp.specs.Reading.{header_fault, is_p, is_qrp, header_number, member, literal_in};
+ghost use Rattle.qrp.specs.Reading.{antecedent};
 
 use crate::fault::TraceFault;
 use crate::item::Outcome;
@@ -79,7 +80,7 @@ pub fn opened(begun: bool, token: Token) -> Result<Opening, TraceFault>
     }
 }
 
-/// The result that a token says behind `r`.
+/// The result that a token says after `r`.
 pub fn outcome_of(token: Token) -> Result<Outcome, TraceFault>
     ensures { result ≡ outcome_of token }
 {

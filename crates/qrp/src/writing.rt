@@ -80,7 +80,8 @@ fn put_sets<K: Sink>(sink: &mut K, sets: &[QuantSet]) -> Result<(), SinkFault>
 #[inline(always)]
 fn put_step<K: Sink>(sink: &mut K, trace: &Trace, place: usize) -> Result<(), SinkFault>
     requires { place < length trace.now.steps }
-    ensures { (step : Inference) → IsAt trace.now.steps place step → IsPut K.written K.failures sink.old sink.new (step_text step) result }
+    ensures { (step : Inference) → IsAt trace.now.steps place step
+        → IsPut K.written K.failures sink.old sink.new (step_text step) result }
 {
     put_number(sink, trace.number(place))?;
     put_literals(sink, trace.lits(place))?;
@@ -110,7 +111,8 @@ fn put_header<K: Sink>(sink: &mut K, numbers: Header) -> Result<(), SinkFault>
 }
 
 fn put_result<K: Sink>(sink: &mut K, outcome: Outcome) -> Result<(), SinkFault>
-    ensures { IsPut K.written K.failures sink.old sink.new (line_text (result_line outcome)) result }
+    ensures { IsPut K.written K.failures sink.old sink.new
+        (line_text (result_line outcome)) result }
 {
     match outcome {
         Outcome::Sat => put_bytes(sink, b"r sat\n"),
@@ -118,11 +120,12 @@ fn put_result<K: Sink>(sink: &mut K, outcome: Outcome) -> Result<(), SinkFault>
     }
 }
 
-/// Writes the canonical text of the trace in the text form of QRP, and does not `finish` the sink. It takes no memory.
+/// Writes the canonical text of the trace in the text form of QRP, and does not `finish` the sink.
+/// It takes no memory.
 ///
-/// The lines are the header, each set, each step with its literals and antecedents as kept, and the result.
-/// Parts of a line are separated by one blank, numbers are decimal without leading zeros, and each line ends with byte 10.
-/// Reading the text gives the trace.
+/// The lines are the header, each set, each step with its literals and antecedents as kept, and the
+/// result. Parts of a line are separated by one blank, numbers are decimal without leading zeros,
+/// and each line ends with byte 10. Reading the text gives the trace.
 ///
 /// A `SinkFault` where the sink failed. What went out is a beginning of the text then.
 pub fn write_trace<K: Sink>(trace: &Trace, sink: &mut K) -> Result<(), SinkFault>

@@ -1,2 +1,2 @@
-pub mod VerdictsMore
-pub mod LinesMore
+pub mod HeadlineOfStruct
+pub mod LineRoom

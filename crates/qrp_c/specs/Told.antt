@@ -55,7 +55,8 @@ rule_number S12 = 12
 
 -- a refusal: its status, the letter and the number of its fault, the number of the step's fault, and the place
 abbrev pub refusal : ℕ → ℕ → ℕ → ℕ → ℕ → QrpVerdict
-refusal status letter number rule place = record { place = place; status = status; truth = 0; letter = letter; number = number; rule = rule }
+refusal status letter number rule place =
+    record { place = place; status = status; truth = 0; letter = letter; number = number; rule = rule }
 
 -- what is told of a check's fault, by this status and the letter C, 67
 abbrev pub told_check : ℕ → CheckFault → QrpVerdict

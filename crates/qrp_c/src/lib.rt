@@ -1,4 +1,5 @@
-//! The check of a trace against a formula for callers in C: the library `libqrp`, with the header `include/qrp_check.h`.
+//! The check of a trace against a formula for callers in C: the library `libqrp`, with the header
+//! `include/qrp_check.h`.
 #![tactic(auto)]
 
 ghost use Rattle.std.specs.Prelude.{◌≡◌, ◌≤◌, ◌<◌, ◌++◌, pos, length, drop, Result};
@@ -20,12 +21,13 @@ use std::alloc::Global;
 use telling::tell;
 pub use verdict::QrpVerdict;
 
-/// Whether the trace in these bytes proves its result of the formula in those, as `verify` answers it.
+/// Whether the trace in these bytes proves its result of the formula in those, as `verify` returns
+/// it.
 ///
 /// In C: `int32_t qrp_verify(const uint8_t *formula, size_t formula_length, const uint8_t *trace,
 /// size_t trace_length, bool any_pivot, struct qrp_verdict *out)`.
 ///
-/// Writes the whole of `out`, and answers its status.
+/// Writes the whole of `out`, and returns its status.
 #[unsafe(no_mangle)]
 pub extern "C" fn qrp_verify(
     alloc: Global,
@@ -47,16 +49,18 @@ pub extern "C" fn qrp_verify(
     i32::from(verdict.status)
 }
 
-/// The line of a verdict that `qrp_verify` told, as the program prints it, with its line end.
+/// The line of a verdict of `qrp_verify`, as the program prints it, with its line end.
 ///
 /// In C: `size_t qrp_verdict_line(const struct qrp_verdict *verdict, char *buffer, size_t room)`.
 ///
-/// Answers its length, 48 at most. Where the buffer has room for it, the line stands at its front, and the rest of the
-/// buffer stays as it was; else all of it stays.
+/// Answers its length, 48 at most. Where the buffer has room for it, the line stands at its front,
+/// and the rest of the buffer stays as it was; else all of it stays.
 #[unsafe(no_mangle)]
 pub extern "C" fn qrp_verdict_line(verdict: &QrpVerdict, buffer: &mut [u8]) -> usize
-    ensures length { (answer : Result Verified Fault) → IsTold answer verdict.now → result ≡ length (answer_line answer) }
-    ensures written { (answer : Result Verified Fault) → IsTold answer verdict.now → result ≤ length buffer.old
+    ensures length { (answer : Result Verified Fault) → IsTold answer verdict.now
+        → result ≡ length (answer_line answer) }
+    ensures written { (answer : Result Verified Fault) → IsTold answer verdict.now
+        → result ≤ length buffer.old
         → buffer.new ≡ answer_line answer ++ drop result buffer.old }
     ensures unwritten { length buffer.old < result → buffer.new ≡ buffer.old }
     ensures short { result ≤ 48 }

@@ -1,10 +1,11 @@
-//! A short line that is kept in place, without memory of its own.
+//! A short line that is kept in place, without an allocation.
 
 ghost use Rattle.std.specs.Prelude.{◌≡◌, ◌≤◌, ◌<◌, Some, [], length, take, ⊤};
 
 use qbf_text::{Sink, SinkFault};
 
-/// How many bytes a line can have: the longest, `REFUSED formula F4 line 18446744073709551615` with its end, has 45.
+/// How many bytes a line can have: the longest, `REFUSED formula F4 line 18446744073709551615` with
+/// its end, has 45.
 pub const ROOM: usize = 48;
 
 /// Keeps what was sent, up to 48 bytes. It fails only where it is full.

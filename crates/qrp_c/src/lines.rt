@@ -12,7 +12,7 @@ use crate::verdict::QrpVerdict;
 use qbf_text::{Sink, SinkFault};
 use qrp_report::{put_fault, put_verdict};
 
-/// Sends the line of a verdict, and nothing where none was told.
+/// Sends the line of a verdict, and nothing if there is none.
 fn put_line<S: Sink>(sink: &mut S, verdict: &QrpVerdict) -> Result<(), SinkFault>
     ensures { (answer : Result Verified Fault) → IsTold answer verdict.now
         → IsPut S.written S.failures sink.old sink.new (answer_line answer) result }

@@ -1,9 +1,10 @@
-//! The fault that a caller in C was told of, from its numbers.
+//! The fault in a caller's struct, from its numbers.
 
 ghost use Rattle.std.specs.Prelude.{◌≡◌, ◌≤◌, ℕ, Some, IsSome, IfSome};
 ghost use Rattle.qrp_check.specs.declared.fault.CheckFault.{CheckFault};
 ghost use Rattle.qrp_check.specs.declared.verdict.Fault.{Fault};
-ghost use Rattle.qrp_c.specs.Told.{told_fault, told_check, formula_number, trace_number, rule_number, NamesVariable, IsNamed};
+ghost use Rattle.qrp_c.specs.Told.{told_fault, told_check, formula_number, trace_number};
+ghost use Rattle.qrp_c.specs.Told.{rule_number, NamesVariable, IsNamed};
 
 use crate::verdict::QrpVerdict;
 use qbf_core::Var;
@@ -11,7 +12,7 @@ use qdimacs::FormulaFault;
 use qrp::TraceFault;
 use qrp_check::{CheckFault, Fault, RuleFault};
 
-/// The numbers of the faults that are want of memory.
+/// The numbers of the faults that mean out of memory.
 const F9: u8 = 9;
 
 const P9: u8 = 9;
@@ -83,7 +84,8 @@ fn variable(number: u64) -> Option<Var>
 }
 
 fn check_fault(verdict: &QrpVerdict) -> Option<CheckFault>
-    ensures { (c : CheckFault) (status : ℕ) → IsNamed c → verdict.now ≡ told_check status c → result ≡ Some c }
+    ensures { (c : CheckFault) (status : ℕ) → IsNamed c → verdict.now ≡ told_check status c
+        → result ≡ Some c }
 {
     match verdict.number {
         1 => Some(CheckFault::C1(variable(verdict.place)?)),
@@ -96,7 +98,7 @@ fn check_fault(verdict: &QrpVerdict) -> Option<CheckFault>
     }
 }
 
-/// The fault that this was told of, or `None` where it was told of no fault.
+/// The fault in this struct, or `None` if it has none.
 pub fn fault(verdict: &QrpVerdict) -> Option<Fault>
     ensures { (e : Fault) → NamesVariable e → verdict.now ≡ told_fault e → result ≡ Some e }
 {

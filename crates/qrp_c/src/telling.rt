@@ -1,7 +1,8 @@
-//! What a caller in C is told of an answer.
+//! What a caller in C gets of a result.
 
 ghost use Rattle.std.specs.Prelude.{◌≡◌};
-ghost use Rattle.qrp_c.specs.Told.{IsTold, IsNamed, NamesVariable, told_fault, told_check, refusal, formula_number, trace_number, rule_number};
+ghost use Rattle.qrp_c.specs.Told.{IsTold, IsNamed, NamesVariable, told_fault, told_check, refusal};
+ghost use Rattle.qrp_c.specs.Told.{formula_number, trace_number, rule_number};
 
 use crate::verdict::QrpVerdict;
 use qdimacs::FormulaFault;
@@ -99,7 +100,7 @@ fn tell_fault(fault: &Fault) -> QrpVerdict
     }
 }
 
-/// What a caller in C is told of an answer.
+/// What a caller in C gets of a result.
 pub fn tell(answer: &Result<Verified, Fault>) -> QrpVerdict
     ensures { IsTold answer.now result }
 {

@@ -1,12 +1,12 @@
-//! What a caller in C is told.
+//! What a caller in C gets.
 
-/// What a caller in C is told of an answer: `struct qrp_verdict`, 16 bytes.
+/// What a caller in C gets of a result: `struct qrp_verdict`, 16 bytes.
 #[repr(C)]
 #[derive(Clone, Copy, Debug, PartialEq, Eq)]
 pub struct QrpVerdict {
     /// The step (C6), the variable (C1, C2, C3) or the line (F, P), and else 0.
     pub place: u64,
-    /// 0: verified. 1: the proof is refused. 2: a text is refused. 4: memory was refused.
+    /// 0: verified. 1: the proof is refused. 2: a text is refused. 4: an allocation failed.
     pub status: u8,
     /// 1 where the formula was verified to be true, and else 0.
     pub truth: u8,

@@ -1,7 +1,7 @@
 -- The core's steps are added one by one, and the truth stays.
 use Rattle.std.proofs.Common.{◌≡◌, ◌↔◌, ℕ, zero, suc, ◌<◌, List, [], ◌∷◌, ◌++◌, inl, inr, refl, sym, subst, take, arith}
 use Rattle.qbf_core.specs.Literal.{Literal}
-use Rattle.qbf_core.specs.Lists.{◌∈◌, ◌⊆◌}
+use Rattle.qbf_core.specs.Members.{◌∈◌, ◌⊆◌}
 use Rattle.qbf_core.specs.Rules.{Side, Clauses, Cubes, IsClean, IsInitial}
 use Rattle.qbf_core.specs.Blocks.{AreBound}
 use Rattle.qbf_core.specs.Qbf.{Qbf, IsClosed}
@@ -14,7 +14,7 @@ use Rattle.qrp_check.specs.Core.{IsInCore, Needs, next}
 use Rattle.qrp_check.specs.Proof.{Derives}
 use Rattle.qrp_check.specs.Conditions.{AllHold, antecedent_conditions, initial_condition, lits_of, step_conditions}
 use Rattle.qrp_check.specs.Laws.{IsTrueWithSets, AreOfCore, CoreKeepsTheTruth}
-use Rattle.qrp_check.proofs.Adding.{AreGood, Grown, one_grown, grown_on, initial_grows, reduct_grows}
+use Rattle.qrp_check.proofs.AddedSets.{AreGood, Grown, one_grown, grown_on, initial_grows, reduct_grows}
 use Rattle.qrp_check.proofs.ParentsReduced.{resolved_grown}
 use Rattle.qrp_check.proofs.StepFaults.{in_take, named}
 
@@ -36,7 +36,8 @@ module _ (rules : Rules) (side : Side) (f : Qbf) (steps : List Inference) (close
   by_rule before (m ∷ []) lits clean bound earlier (within, (each, _)) sets good =
       grown_on side f sets (lits_of before m) lits (earlier m (inl refl) sets good)
       (λ all good_all more here.
-      one_grown side f all lits (reduct_grows side f all (lits_of before m) lits closed good_all here (record { within = within; each = each })) good_all clean bound)
+      one_grown side f all lits (reduct_grows side f all (lits_of before m) lits closed good_all here
+      (record { within = within; each = each })) good_all clean bound)
   by_rule before (m ∷ n ∷ rest) lits clean bound earlier (some, (one, (_, (within, (each, _))))) sets good =
       grown_on side f sets (lits_of before m) lits (earlier m (inl refl) sets good)
       (λ one_more good_one more_one here_m.
@@ -54,7 +55,8 @@ module _ (rules : Rules) (side : Side) (f : Qbf) (steps : List Inference) (close
   -- each step of the core, by those before it
   core_grows : (n i : ℕ) → i < n → IsInCore steps i → (step : Inference) → IsAt steps i step → CanGrow step.lits
   core_grows zero i less core step here = absurd (omega arith)
-  core_grows (suc n) i less core step here = (let w = derives.each i core in of_rows w.step w.here w.all) (λ j before. core_grows n j (omega arith))
+  core_grows (suc n) i less core step here =
+      (let w = derives.each i core in of_rows w.step w.here w.all) (λ j before. core_grows n j (omega arith))
     where
       of_rows : (above : Inference) → IsAt steps i above → AllHold (step_conditions rules side f (take i steps) above)
           → ((j : ℕ) → j < i → IsInCore steps j → (below : Inference) → IsAt steps j below → CanGrow below.lits) → CanGrow step.lits
@@ -88,7 +90,8 @@ module _ (rules : Rules) (side : Side) (f : Qbf) (steps : List Inference) (close
   among (lits ∷ sets) of_core =
       let rest = among sets (λ s h. of_core s (inr h)) in
       let w = of_core lits (inl refl) in
-      let grown = subst (λ l. Grown side f rest.all l) w.4 (core_grows (suc w.0) w.0 (omega arith) w.2 w.1 w.3 rest.all rest.good) in record {
+      let grown = subst (λ l. Grown side f rest.all l) w.4 (core_grows (suc w.0) w.0 (omega arith) w.2 w.1 w.3 rest.all rest.good) in
+      record {
         all = grown.all;
         within = λ s. elim [ inl e ↦ subst (λ k. k ∈ grown.all) (sym e) grown.here | inr h ↦ grown.more s (rest.within s h) ];
         good = grown.good;
@@ -98,7 +101,8 @@ module _ (rules : Rules) (side : Side) (f : Qbf) (steps : List Inference) (close
 -- with more clauses and with fewer cubes less is true
 clauses_between : (f : Qbf) (some all : List (List Literal)) → some ⊆ all → IsTrueWithSets Clauses f all → IsTrueWithSets Clauses f some
 clauses_between f some all within = fewer_clauses f.blocks (all ++ f.clauses) (some ++ f.clauses)
-    (λ c h. elim (in_append some f.clauses c h) [ inl k ↦ append_left all f.clauses c (within c k) | inr k ↦ append_right all f.clauses c k ])
+    (λ c h.
+    elim (in_append some f.clauses c h) [ inl k ↦ append_left all f.clauses c (within c k) | inr k ↦ append_right all f.clauses c k ])
 
 between : (side : Side) (f : Qbf) (sets all : List (List Literal)) → sets ⊆ all → IsTrueWithSets side f [] ↔ IsTrueWithSets side f all
     → IsTrueFormula f ↔ IsTrueWithSets side f sets

@@ -1,9 +1,10 @@
 -- Walks over ordered lists side by side.
-use Rattle.std.proofs.Common.{◌≡◌, ◌<◌, ◌≤◌, ◌+◌, ℕ, suc, zero, List, [], ◌∷◌, length, get_or, drop, Bool, eqb, ◌&&◌, ◌↔◌, IsTrue, slice_get, Some, true, refl, sym, ap, subst, ◌∙◌, inl, inr, arith}
+use Rattle.std.proofs.Common.{◌≡◌, ◌<◌, ◌≤◌, ◌+◌, ℕ, suc, zero, List, [], ◌∷◌, length, get_or, drop, Bool, eqb, ◌&&◌, ◌↔◌, IsTrue}
+use Rattle.std.proofs.Common.{slice_get, Some, true, refl, sym, ap, subst, ◌∙◌, inl, inr, arith}
 use mathlib.Core.Bool.{beq}
 use Rattle.std.specs.List.{IsFirstAndRest}
 use Rattle.qbf_core.specs.Literal.{Literal}
-use Rattle.qbf_core.specs.Lists.{◌∈◌, ◌⊆◌}
+use Rattle.qbf_core.specs.Members.{◌∈◌, ◌⊆◌}
 use Rattle.qbf_core.specs.Sets.{IsOrdered}
 use Rattle.qbf_core.proofs.Members.{lit_test, lit_test_same}
 
@@ -37,9 +38,11 @@ drop_back (y ∷ xs) (suc i) x h =
     let shift : suc i + 1 ≡ suc (i + 1) = omega arith in
     drop_back xs i x (subst (λ n. x ∈ drop n (y ∷ xs)) shift h)
 
-pub drop_later : (xs : List Literal) (i : ℕ) (x l : Literal) → IsOrdered xs → i < length xs → x ≡ get_or xs i x → l ∈ drop (i + 1) xs → x.var < l.var
+pub drop_later : (xs : List Literal) (i : ℕ) (x l : Literal) → IsOrdered xs → i < length xs → x ≡ get_or xs i x → l ∈ drop (i + 1) xs
+    → x.var < l.var
 drop_later [] i x l o less e h = absurd (omega arith)
-drop_later (y ∷ xs) zero x l o less e h = let var_of : Literal → ℕ = λ z. z.var in let s : x.var ≡ y.var = ap var_of e in let lt : y.var < l.var = o.0 l h in omega arith
+drop_later (y ∷ xs) zero x l o less e h = let var_of : Literal → ℕ = λ z. z.var in let s : x.var ≡ y.var = ap var_of e in
+    let lt : y.var < l.var = o.0 l h in omega arith
 drop_later (y ∷ xs) (suc i) x l o less e h =
     let shift : suc i + 1 ≡ suc (i + 1) = omega arith in
     drop_later xs i x l o.1 (omega arith) e (subst (λ n. l ∈ drop n (y ∷ xs)) shift h)
@@ -49,7 +52,8 @@ pub reach_start : (whole part : List Literal) → IsOrdered whole → Reaches wh
 reach_start whole part o = record { ordered = o; within = λ m h. h; kept = λ v m l le h. h }
 
 pub reach_more : (whole rest rest' part : List Literal) (i v : ℕ) (x : Literal) → IsOrdered part → i < length part → x ≡ get_or part i x
-    → Reaches whole rest (HasVar (drop i part)) → IsOrdered rest' → ((m : Literal) → m ∈ rest' → m ∈ rest) → v ≡ x.var → ((m : Literal) → m ∈ rest → v ≤ m.var → m ∈ rest')
+    → Reaches whole rest (HasVar (drop i part)) → IsOrdered rest' → ((m : Literal) → m ∈ rest' → m ∈ rest) → v ≡ x.var
+    → ((m : Literal) → m ∈ rest → v ≤ m.var → m ∈ rest')
     → Reaches whole rest' (HasVar (drop (i + 1) part))
 reach_more whole rest rest' part i v x o less e r o' within is kept = record {
   ordered = o';
@@ -62,29 +66,35 @@ reach_more whole rest rest' part i v x o less e r o' within is kept = record {
 }
 
 -- a literal of the variable at the place is in the rest exactly where it is in the whole
-pub reach_in : (whole rest part : List Literal) (i : ℕ) (x y : Literal) → i < length part → x ≡ get_or part i x → Reaches whole rest (HasVar (drop i part)) → y.var ≡ x.var → y ∈ whole → y ∈ rest
+pub reach_in : (whole rest part : List Literal) (i : ℕ) (x y : Literal) → i < length part → x ≡ get_or part i x
+    → Reaches whole rest (HasVar (drop i part)) → y.var ≡ x.var → y ∈ whole → y ∈ rest
 reach_in whole rest part i x y less e r is h = r.kept x.var y (x, in_drop part i x less e, refl) (omega arith) h
 
 -- the first of an ordered list
 pub first_rest : (xs : List Literal) (first : Literal) (others : List Literal) → IsFirstAndRest xs first others → xs ≡ first ∷ others
 first_rest xs first others h = h.0
 
-pub first_least : (first : Literal) (others : List Literal) (v : ℕ) (m : Literal) → v ≤ first.var → IsOrdered (first ∷ others) → m ∈ (first ∷ others) → v ≤ m.var
+pub first_least : (first : Literal) (others : List Literal) (v : ℕ) (m : Literal) → v ≤ first.var → IsOrdered (first ∷ others)
+    → m ∈ (first ∷ others) → v ≤ m.var
 first_least first others v m le o (inl e) = let var_of : Literal → ℕ = λ z. z.var in let s : m.var ≡ first.var = ap var_of e in omega arith
 first_least first others v m le o (inr h) = let lt : first.var < m.var = o.0 m h in omega arith
 
-pub rest_keeps : (first : Literal) (others : List Literal) (v : ℕ) (m : Literal) → first.var < v → v ≤ m.var → m ∈ (first ∷ others) → m ∈ others
-rest_keeps first others v m lt le (inl e) = let var_of : Literal → ℕ = λ z. z.var in let s : m.var ≡ first.var = ap var_of e in absurd (omega arith)
+pub rest_keeps : (first : Literal) (others : List Literal) (v : ℕ) (m : Literal) → first.var < v → v ≤ m.var → m ∈ (first ∷ others)
+    → m ∈ others
+rest_keeps first others v m lt le (inl e) = let var_of : Literal → ℕ = λ z. z.var in let s : m.var ≡ first.var = ap var_of e in
+    absurd (omega arith)
 rest_keeps first others v m lt le (inr h) = h
 
 -- the test of the first literal of an ordered list whose variables are no earlier
-pub first_is : (xs : List Literal) (l first : Literal) → slice_get xs 0 ≡ Some first → IsOrdered xs → ((m : Literal) → m ∈ xs → l.var ≤ m.var) → (t : Bool) → t ≡ (eqb first.var l.var && beq first.negative l.negative) → IsTrue t ↔ (l ∈ xs)
+pub first_is : (xs : List Literal) (l first : Literal) → slice_get xs 0 ≡ Some first → IsOrdered xs → ((m : Literal) → m ∈ xs
+    → l.var ≤ m.var) → (t : Bool) → t ≡ (eqb first.var l.var && beq first.negative l.negative) → IsTrue t ↔ (l ∈ xs)
 first_is [] l first e o later t is = cc e
 first_is (x ∷ xs) l first e o later t is =
     let same : x ≡ first = cc e in (
       (λ yes. inl (sym (same ∙ lit_test first l (sym is ∙ yes)))),
       (λ h. elim h [
-        | inl k ↦ (let f : first ≡ l = sym same ∙ sym k in is ∙ subst (λ (z : Literal). (eqb z.var l.var && beq z.negative l.negative) ≡ true) (sym f) (lit_test_same l))
+        | inl k ↦ (let f : first ≡ l = sym same ∙ sym k in
+            is ∙ subst (λ (z : Literal). (eqb z.var l.var && beq z.negative l.negative) ≡ true) (sym f) (lit_test_same l))
         | inr k ↦ (let lt : x.var < l.var = o.0 l k in let le : l.var ≤ x.var = later x (inl refl) in absurd (omega arith))
       ]),
     )

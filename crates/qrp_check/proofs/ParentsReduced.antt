@@ -2,7 +2,7 @@
 use Rattle.std.proofs.Common.{◌≡◌, ℕ, List, [], ◌∷◌, ◌++◌, ◌⊎◌, inl, inr, refl, sym, subst}
 use Rattle.std.proofs.lemmas.Bool.{cases_eq}
 use Rattle.qbf_core.specs.Literal.{Literal, positive, negative}
-use Rattle.qbf_core.specs.Lists.{◌∈◌, ◌⊆◌}
+use Rattle.qbf_core.specs.Members.{◌∈◌, ◌⊆◌}
 use Rattle.qbf_core.specs.Rules.{IsClean, Side, IsReducible, IsReduct, Clashes, IsOnlyClash, resolvent}
 use Rattle.qbf_core.specs.Blocks.{Block, IsBound, AreBound}
 use Rattle.qbf_core.proofs.Bound.{bound_each, in_all}
@@ -10,7 +10,7 @@ use Rattle.qbf_core.specs.Qbf.{Qbf, IsClosed}
 use Rattle.qrp_check.specs.Conditions.{IsReducibleInParents}
 use Rattle.qbf_core.proofs.Members.{in_or_not}
 use Rattle.qbf_core.proofs.Inferences.{in_append, append_left, append_right, in_without, from_without, resolvent_clean}
-use Rattle.qrp_check.proofs.Adding.{AreGood, Grown, one_grown, grown_on, reduct_grows, resolvent_grows}
+use Rattle.qrp_check.proofs.AddedSets.{AreGood, Grown, one_grown, grown_on, reduct_grows, resolvent_grows}
 
 -- what is taken out of a resolvent is reducible in it, or in each parent that has it
 pub record Resolved (side : Side) (f : Qbf) (a b lits : List Literal) : Type 0 where
@@ -45,7 +45,8 @@ pick P Q (x ∷ all) choose = by_choice (choose x (inl refl)) (pick P Q all (λ 
       each = λ l. elim [ inl e ↦ inr (subst Q (sym e) q) | inr h ↦ rest.each l h ];
     }
 
-reducible_fewer : (side : Side) (blocks : List Block) (all some : List Literal) (l : Literal) → some ⊆ all → IsReducible side blocks all l → IsReducible side blocks some l
+reducible_fewer : (side : Side) (blocks : List Block) (all some : List Literal) (l : Literal) → some ⊆ all → IsReducible side blocks all l
+    → IsReducible side blocks some l
 reducible_fewer side blocks all some l within red = (red.0, λ m h. red.1 m (within m h))
 
 clean_fewer : (all some : List Literal) → some ⊆ all → IsClean all → IsClean some
@@ -156,14 +157,18 @@ module _ (side : Side) (f : Qbf) (a b lits : List Literal) (resolved : Resolved 
       let clean_b = clean_fewer b picked_b.some picked_b.within of_b.0 in
       let bound_a = bound_fewer f.blocks a picked_a.some picked_a.within of_a.1 in
       let bound_b = bound_fewer f.blocks b picked_b.some picked_b.within of_b.1 in
-      grown_on side f sets picked_a.some lits (one_grown side f sets picked_a.some (reduct_grows side f sets a picked_a.some closed good in_a reduct_a) good clean_a bound_a)
+      grown_on side f sets picked_a.some lits
+      (one_grown side f sets picked_a.some (reduct_grows side f sets a picked_a.some closed good in_a reduct_a) good clean_a bound_a)
       (λ one good_1 more_1 here_a.
-      grown_on side f one picked_b.some lits (one_grown side f one picked_b.some (reduct_grows side f one b picked_b.some closed good_1 (more_1 b in_b) reduct_b) good_1 clean_b bound_b)
+      grown_on side f one picked_b.some lits (one_grown side f one picked_b.some
+      (reduct_grows side f one b picked_b.some closed good_1 (more_1 b in_b) reduct_b) good_1 clean_b bound_b)
       (λ two good_2 more_2 here_b.
       grown_on side f two rest lits
-      (one_grown side f two rest (resolvent_grows side f two picked_a.some picked_b.some resolved.pivot closed good_2 (more_2 picked_a.some here_a) here_b clash.clashes (pivot_bound of_a.1)) good_2
+      (one_grown side f two rest (resolvent_grows side f two picked_a.some picked_b.some resolved.pivot closed good_2
+      (more_2 picked_a.some here_a) here_b clash.clashes (pivot_bound of_a.1)) good_2
       (resolvent_clean picked_a.some picked_b.some resolved.pivot clean_a clean_b clash) (rest_bound of_a.1 of_b.1))
-      (λ three good_3 more_3 here. one_grown side f three lits (reduct_grows side f three rest lits closed good_3 here reduct) good_3 clean bound)))
+      (λ three good_3 more_3 here. one_grown side f three lits
+      (reduct_grows side f three rest lits closed good_3 here reduct) good_3 clean bound)))
     where
       rest_bound : AreBound f.blocks a → AreBound f.blocks b → AreBound f.blocks rest
       rest_bound bound_a bound_b = in_all (λ l. IsBound f.blocks l.var) rest (λ l h.

@@ -1,7 +1,7 @@
 -- The conditions of a step with two antecedents.
 use Rattle.std.proofs.Common.{◌≡◌, ℕ, List, ◌⊎◌, inl, inr, refl, sym, subst, ◌∙◌}
 use Rattle.qbf_core.specs.Literal.{Literal}
-use Rattle.qbf_core.specs.Lists.{◌∈◌, ◌⊆◌}
+use Rattle.qbf_core.specs.Members.{◌∈◌, ◌⊆◌}
 use Rattle.qbf_core.specs.Blocks.{Block}
 use Rattle.qbf_core.specs.Rules.{Side, Clashes, IsOnlyClash, IsReducible, resolvent}
 use Rattle.qrp_check.specs.declared.verdict.Rules.{Rules}
@@ -15,7 +15,8 @@ module _ (rules : Rules) (side : Side) (blocks : List Block) (a b to : List Lite
 
   -- what is left out is reducible in the resolvent or in the parents
   abbrev pub Accounts : ℕ → Type 0
-  Accounts x = (l : Literal) → l ∈ resolvent a b x → (l ∈ to) ⊎ (IsReducible side blocks (resolvent a b x) l ⊎ IsReducibleInParents side blocks a b l)
+  Accounts x = (l : Literal) → l ∈ resolvent a b x
+      → (l ∈ to) ⊎ (IsReducible side blocks (resolvent a b x) l ⊎ IsReducibleInParents side blocks a b l)
 
   abbrev pub Fails : Rattle.qrp_check.specs.declared.fault.RuleFault.RuleFault → Type 0
   Fails fault = IsFirstFailure (resolvent_conditions rules side blocks a b to) fault
@@ -55,6 +56,9 @@ module _ (rules : Rules) (side : Side) (blocks : List Block) (a b to : List Lite
         ),
       )
 
-  pub all_hold : (x : ℕ) → IsOnlyClash a b x → Decides x → to ⊆ resolvent a b x → Accounts x → AllHold (resolvent_conditions rules side blocks a b to)
-  all_hold x one d w acc =
-      ((x, one.clashes), (one_at_most x one, (at_each x Decides one d, (at_each x (λ v. to ⊆ resolvent a b v) one w, (at_each x Accounts one acc, tt)))))
+  pub all_hold : (x : ℕ) → IsOnlyClash a b x → Decides x → to ⊆ resolvent a b x → Accounts x
+      → AllHold (resolvent_conditions rules side blocks a b to)
+  all_hold x one d w acc = (
+    (x, one.clashes),
+    (one_at_most x one, (at_each x Decides one d, (at_each x (λ v. to ⊆ resolvent a b v) one w, (at_each x Accounts one acc, tt)))),
+  )

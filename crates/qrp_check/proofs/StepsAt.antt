@@ -1,5 +1,6 @@
 -- The steps at some places: what holds of them, and that rising places give steps of different numbers.
-use Rattle.std.proofs.Common.{◌≡◌, ℕ, zero, suc, ◌+◌, ◌<◌, false, ◌||◌, List, [], ◌∷◌, ◌++◌, inl, inr, refl, sym, ap, ◌∙◌, subst, length, take, get_or, Some, arith, nat_eq}
+use Rattle.std.proofs.Common.{◌≡◌, ℕ, zero, suc, ◌+◌, ◌<◌, false, ◌||◌, List, [], ◌∷◌, ◌++◌, inl, inr, refl, sym, ap, ◌∙◌, subst, length}
+use Rattle.std.proofs.Common.{take, get_or, Some, arith, nat_eq}
 use Rattle.std.specs.Prelude.{slice_get, Result, Ok, Err, IfOk}
 use Rattle.std.specs.List.{AllByRecursion, cons_option}
 use Rattle.std.specs.List.Sorted.{IsStrictlyIncreasing}
@@ -8,7 +9,7 @@ use Rattle.std.proofs.lemmas.List.{take_more}
 use Rattle.std.proofs.lemmas.List.Elements.{filter_map-append}
 use Rattle.std.proofs.lemmas.List.Kept.{AllPairs-from_increasing}
 use Rattle.std.proofs.lemmas.Option.{slice_get_cases, slice_get-get_or}
-use Rattle.qbf_core.specs.Lists.{◌∈◌}
+use Rattle.qbf_core.specs.Members.{◌∈◌}
 use Rattle.qrp.specs.Inferences.{Inference, IsAt, numbers}
 use Rattle.qrp.specs.Reading.{is_used}
 use Rattle.qrp.proofs.Numbers.{HasOwnNumbers}
@@ -55,7 +56,8 @@ core_inside steps core lists = all_at (λ i. i < length steps) core (λ k i here
 
 -- ---- the steps
 
-pub length_at : (steps : List Inference) (places : List ℕ) → AllByRecursion (λ i. i < length steps) places → length (steps_at steps places) ≡ length places
+pub length_at : (steps : List Inference) (places : List ℕ) → AllByRecursion (λ i. i < length steps) places
+    → length (steps_at steps places) ≡ length places
 length_at steps [] inside = refl
 length_at steps (p ∷ places) inside = elim (slice_get_cases steps p).1 [
   | inl (s, _, is, _) ↦ rw is (ap suc (length_at steps places inside.1))
@@ -69,7 +71,8 @@ next_at steps places k s less here =
     ∙ filter_map-append (slice_get steps) (take k places) (get_or places k 0 ∷ [])
     ∙ ap (λ o. steps_at steps (take k places) ++ cons_option o []) here
 
-pub each_at : (P : Inference → Type 0) (steps : List Inference) (places : List ℕ) → AllByRecursion P steps → AllByRecursion P (steps_at steps places)
+pub each_at : (P : Inference → Type 0) (steps : List Inference) (places : List ℕ) → AllByRecursion P steps
+    → AllByRecursion P (steps_at steps places)
 each_at P steps [] all = tt
 each_at P steps (p ∷ places) all = elim (slice_get_cases steps p).1 [
   | inl (s, _, is, _) ↦ rw is (at_holds P steps p s all is, each_at P steps places all)
@@ -86,7 +89,8 @@ holds_number : (P : ℕ → Type 0) (steps : List Inference) → AllByRecursion 
 holds_number P [] all = tt
 holds_number P (s ∷ steps) all = (all.0, holds_number P steps all.1)
 
-pub numbers_at : (P : ℕ → Type 0) (steps : List Inference) (places : List ℕ) → AllByRecursion P (numbers steps) → AllByRecursion P (numbers (steps_at steps places))
+pub numbers_at : (P : ℕ → Type 0) (steps : List Inference) (places : List ℕ) → AllByRecursion P (numbers steps)
+    → AllByRecursion P (numbers (steps_at steps places))
 numbers_at P steps places all = holds_number P (steps_at steps places) (each_at (λ s. P s.number) steps places (number_holds P steps all))
 
 -- the steps at other places have other numbers
@@ -105,7 +109,8 @@ unused : (n : ℕ) (ns : List ℕ) → AllByRecursion (λ m. nat_eq n m ≡ fals
 unused n [] all = refl
 unused n (m ∷ ns) all = ap (λ b. b || is_used n ns) all.0 ∙ unused n ns all.1
 
-pub fresh_at : (steps : List Inference) (core : List ℕ) (k : ℕ) (s : Inference) → HasOwnNumbers steps → IsStrictlyIncreasing core → k < length core
+pub fresh_at : (steps : List Inference) (core : List ℕ) (k : ℕ) (s : Inference) → HasOwnNumbers steps → IsStrictlyIncreasing core
+    → k < length core
     → IsAt steps (get_or core k 0) s → is_used s.number (numbers (steps_at steps (take k core))) ≡ false
 fresh_at steps core k s own rises less here =
     unused s.number (numbers (steps_at steps (take k core)))
@@ -113,7 +118,8 @@ fresh_at steps core k s own rises less here =
 
 -- ---- what a check answers
 
-pub answer_rises : (steps : List Inference) (r : Result Verified CheckFault) → IfOk r (λ v. ListsCore steps v.core.items) → IfOk r (λ v. IsStrictlyIncreasing v.core.items)
+pub answer_rises : (steps : List Inference) (r : Result Verified CheckFault) → IfOk r (λ v. ListsCore steps v.core.items)
+    → IfOk r (λ v. IsStrictlyIncreasing v.core.items)
 answer_rises steps (Ok v) h = core_rises steps v.core.items h
 answer_rises steps (Err e) h = tt
 

@@ -3,11 +3,11 @@ use Rattle.std.proofs.Common.{◌≡◌, ℕ, zero, suc, ◌^◌, ◌<◌, ◌�
 use Rattle.std.specs.Prelude.{slice_get}
 use Rattle.std.specs.List.{AllByRecursion, IsDistinct}
 use Rattle.std.proofs.lemmas.Option.{slice_get_cases, slice_get_within}
-use Rattle.qbf_core.specs.Lists.{◌∈◌}
+use Rattle.qbf_core.specs.Members.{◌∈◌}
 use Rattle.qrp.specs.Inferences.{Inference, IsInference, numbers}
 use Rattle.qrp.specs.Derivations.{Derivation, IsWellFormed}
 use Rattle.qrp.proofs.Numbers.{HasOwnNumbers, own_numbers}
-use Rattle.qrp.proofs.TextMore.{text_is_read}
+use Rattle.qrp.proofs.CanonicalTextIsRead.{text_is_read}
 use Rattle.qrp_check.specs.Core.{ListsCore}
 use Rattle.qrp_check.specs.Laws.{TrimmedTextProves}
 use Rattle.qrp_check.specs.Trim.{steps_at, trimmed}
@@ -34,7 +34,8 @@ head_out p places rises h =
 tail_rises : (p : ℕ) (places : List ℕ) → Rises (p ∷ places) → Rises places
 tail_rises p places rises = λ k l i j at_k at_l less. rises (suc k) (suc l) i j at_k at_l (omega (arith, less))
 
-distinct_at : (steps : List Inference) (places : List ℕ) → HasOwnNumbers steps → Rises places → IsDistinct nat_eq (numbers (steps_at steps places))
+distinct_at : (steps : List Inference) (places : List ℕ) → HasOwnNumbers steps → Rises places
+    → IsDistinct nat_eq (numbers (steps_at steps places))
 unfolding IsDistinct
 distinct_at steps [] own rises = tt
 distinct_at steps (p ∷ places) own rises = elim (slice_get_cases steps p).1 [

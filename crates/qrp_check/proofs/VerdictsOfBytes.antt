@@ -28,11 +28,16 @@ pub check_refused : (rules : Rules) (formula trace : Option (List ℕ)) (f : Qbf
     → IfSome (formulas.reads_bytes formula) (λ r. r ≡ Ok f) → IfSome (traces.reads_bytes trace) (λ r. r ≡ Ok d)
     → (e ≢ C5 → IsFirstFault rules f d.sets d.steps d.result e) → IsVerdictUnless rules formula trace (Err (fault.Check e))
 check_refused rules formula trace f d C5 reads_f reads_d first = inr (inl refl)
-check_refused rules formula trace f d (C1 v) reads_f reads_d first = inl (first_fault_is rules formula trace f d (C1 v) reads_f reads_d (first (λ e. cc e)))
-check_refused rules formula trace f d (C2 v) reads_f reads_d first = inl (first_fault_is rules formula trace f d (C2 v) reads_f reads_d (first (λ e. cc e)))
-check_refused rules formula trace f d (C3 v) reads_f reads_d first = inl (first_fault_is rules formula trace f d (C3 v) reads_f reads_d (first (λ e. cc e)))
-check_refused rules formula trace f d C4 reads_f reads_d first = inl (first_fault_is rules formula trace f d C4 reads_f reads_d (first (λ e. cc e)))
-check_refused rules formula trace f d (C6 n s) reads_f reads_d first = inl (first_fault_is rules formula trace f d (C6 n s) reads_f reads_d (first (λ e. cc e)))
+check_refused rules formula trace f d (C1 v) reads_f reads_d first =
+    inl (first_fault_is rules formula trace f d (C1 v) reads_f reads_d (first (λ e. cc e)))
+check_refused rules formula trace f d (C2 v) reads_f reads_d first =
+    inl (first_fault_is rules formula trace f d (C2 v) reads_f reads_d (first (λ e. cc e)))
+check_refused rules formula trace f d (C3 v) reads_f reads_d first =
+    inl (first_fault_is rules formula trace f d (C3 v) reads_f reads_d (first (λ e. cc e)))
+check_refused rules formula trace f d C4 reads_f reads_d first =
+    inl (first_fault_is rules formula trace f d C4 reads_f reads_d (first (λ e. cc e)))
+check_refused rules formula trace f d (C6 n s) reads_f reads_d first =
+    inl (first_fault_is rules formula trace f d (C6 n s) reads_f reads_d (first (λ e. cc e)))
 
 pub check_verified : (rules : Rules) (formula trace : Option (List ℕ)) (f : Qbf) (d : Derivation) (v : Verified)
     → IfSome (formulas.reads_bytes formula) (λ r. r ≡ Ok f) → IfSome (traces.reads_bytes trace) (λ r. r ≡ Ok d)
@@ -40,4 +45,5 @@ pub check_verified : (rules : Rules) (formula trace : Option (List ℕ)) (f : Qb
     → IsVerdictUnless rules formula trace (Ok v)
 check_verified rules None trace f d v reads_f reads_d proves lists claim truth = inl tt
 check_verified rules (Some a) None f d v reads_f reads_d proves lists claim truth = inl (rw reads_f (λ is. is, truth))
-check_verified rules (Some a) (Some b) f d v reads_f reads_d proves lists claim truth = inl (rw (reads_f, reads_d) (proves, lists, claim, truth))
+check_verified rules (Some a) (Some b) f d v reads_f reads_d proves lists claim truth =
+    inl (rw (reads_f, reads_d) (proves, lists, claim, truth))

@@ -25,7 +25,8 @@ by_antecedents rules side f before [] lits all = all
 by_antecedents rules side f before (m ∷ []) lits all = all
 by_antecedents rules side f before (m ∷ n ∷ more) lits all = reduced_too rules side f.blocks _ _ lits all
 
-follows_too : (rules : Rules) (side : Side) (f : Qbf) (steps : List Inference) (i : ℕ) → FollowsUnreduced rules side f steps i → StepFollows rules side f steps i
+follows_too : (rules : Rules) (side : Side) (f : Qbf) (steps : List Inference) (i : ℕ) → FollowsUnreduced rules side f steps i
+    → StepFollows rules side f steps i
 follows_too rules side f steps i is = record {
   step = is.step;
   here = is.here;
@@ -56,7 +57,8 @@ by_pivots rules wider side f before (m ∷ []) lits more all = all
 by_pivots rules wider side f before (m ∷ n ∷ others) lits more (some, (one, (pivot, rest))) =
     (some, (one, ((λ x c. pivot_too rules wider side f.blocks x more (pivot x c)), rest)))
 
-pivots_follow : (rules wider : Rules) (side : Side) (f : Qbf) (steps : List Inference) (i : ℕ) → (IsTrue rules.any_pivot → IsTrue wider.any_pivot)
+pivots_follow : (rules wider : Rules) (side : Side) (f : Qbf) (steps : List Inference) (i : ℕ)
+    → (IsTrue rules.any_pivot → IsTrue wider.any_pivot)
     → StepFollows rules side f steps i → StepFollows wider side f steps i
 pivots_follow rules wider side f steps i more is = record {
   step = is.step;
@@ -75,11 +77,13 @@ more_pivots_keep rules wider f sets steps result more proof = record {
 }
 
 -- where all conditions hold, nothing is answered
-answers_nothing : (conditions : List (Condition RuleFault)) (answer : Option RuleFault) → AllHold conditions → IsAnswer conditions answer → answer ≡ None
+answers_nothing : (conditions : List (Condition RuleFault)) (answer : Option RuleFault) → AllHold conditions → IsAnswer conditions answer
+    → answer ≡ None
 answers_nothing conditions None all is = refl
 answers_nothing conditions (Some fault) all fails = absurd (no_fault conditions fault all fails)
 
 pub answers_as_before : (rules : Rules) (side : Side) (blocks : List Block) (a b to : List Literal) (answer : Option RuleFault)
-    → IsAnswer (resolvent_conditions rules side blocks a b to) answer → AllHold (unreduced_conditions rules side blocks a b to) → answer ≡ None
+    → IsAnswer (resolvent_conditions rules side blocks a b to) answer → AllHold (unreduced_conditions rules side blocks a b to)
+    → answer ≡ None
 answers_as_before rules side blocks a b to answer is all =
     answers_nothing (resolvent_conditions rules side blocks a b to) answer (reduced_too rules side blocks a b to all) is

@@ -1,7 +1,7 @@
 -- The sets of the core steps that were looked at.
 use Rattle.std.specs.Prelude.{◌≡◌, ℕ, ◌<◌, List, [], ◌∷◌, ◌⊎◌, Option, Some, None, slice_get, length}
 use Rattle.qbf_core.specs.Literal.{Literal}
-use Rattle.qbf_core.specs.Lists.{◌∈◌}
+use Rattle.qbf_core.specs.Members.{◌∈◌}
 use Rattle.qbf_core.specs.Blocks.{Block, AreBound}
 use Rattle.qbf_core.specs.Qbf.{Qbf}
 use Rattle.qbf_core.specs.Rules.{Side}
@@ -24,9 +24,9 @@ pub record IsSetOf (blocks : List Block) (set lits : List Literal) : Type 0 wher
   pub bound : AreBound blocks set
 
 -- the members of a set, or the literals themselves where no set was made of them
-abbrev pub shown : Option (List Literal) → List Literal → List Literal
-shown None lits = lits
-shown (Some set) lits = set
+abbrev pub set_or_written : Option (List Literal) → List Literal → List Literal
+set_or_written None lits = lits
+set_or_written (Some set) lits = set
 
 -- what is kept of literals: their set in order, or nothing where they are such a set as written
 abbrev pub IsEntry : List Block → List Literal → List Literal → Type 0

@@ -1,7 +1,7 @@
 -- The rules where two parents are resolved as they stand: a step is a reduct of their resolvent, and nothing is reduced before.
 use Rattle.std.specs.Prelude.{ℕ, List, [], ◌∷◌, take}
 use Rattle.qbf_core.specs.Literal.{Literal}
-use Rattle.qbf_core.specs.Lists.{◌∈◌}
+use Rattle.qbf_core.specs.Members.{◌∈◌}
 use Rattle.qbf_core.specs.Blocks.{Block, AreBound}
 use Rattle.qbf_core.specs.Qbf.{Qbf}
 use Rattle.qbf_core.specs.Rules.{Side, IsClean, IsReducible}

@@ -1,7 +1,7 @@
 -- How the clauses of a formula are watched while initial cubes are looked at.
 use Rattle.std.specs.Prelude.{◌≡◌, ℕ, List, ◌⊎◌, Contains, Some, slice_get, IfSome}
 use Rattle.qbf_core.specs.Literal.{Literal}
-use Rattle.qbf_core.specs.Lists.{◌∈◌}
+use Rattle.qbf_core.specs.Members.{◌∈◌}
 use Rattle.qbf_core.specs.Qbf.{Qbf}
 use Rattle.qbf_core.specs.Rules.{IsTautology}
 use Rattle.qrp_check.specs.declared.initial_cubes.Aligned.{Aligned}
@@ -36,7 +36,8 @@ IsMet f cube watches i =
 abbrev pub IsHeld : Qbf → List Literal → List Watch → List Watch → ℕ → Type 0
 IsHeld f cube left watches i =
     (clause : List Literal) → slice_get f.clauses i ≡ Some clause
-    → IsTautology clause ⊎ (((l : Literal) × (l ∈ clause) × IsWatchedBy left l i) ⊎ ((l : Literal) × (l ∈ clause) × (l ∈ cube) × IsWatchedBy watches l i))
+    → IsTautology clause
+    ⊎ (((l : Literal) × (l ∈ clause) × IsWatchedBy left l i) ⊎ ((l : Literal) × (l ∈ clause) × (l ∈ cube) × IsWatchedBy watches l i))
 
 -- lists for a cube: what was watched is, by these lists or those put aside, and no list of another literal has a clause
 pub record IsAligned (cube : List Literal) (from : List Watch) (aligned : Aligned) : Type 0 where

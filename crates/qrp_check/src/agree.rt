@@ -10,7 +10,8 @@ use crate::reduct::is_bound_by;
 use qbf_core::{Prefix, Quantifier, Var};
 use qrp::QuantSet;
 
-/// The block of a set variable, where it agrees with the prefix and is no smaller than those named before.
+/// The block of a set variable, where it agrees with the prefix and is no smaller than those named
+/// before.
 fn next_block(
     prefix: &Prefix,
     quantifier: Quantifier,
@@ -18,7 +19,8 @@ fn next_block(
     highest: usize,
 ) -> Result<usize, CheckFault>
     ensures ok { IfOk result (λ n. Passes prefix.now highest ((quantifier, var) ∷ []) n) }
-    ensures err { IfErr result (λ fault. FailsIn prefix.now highest ((quantifier, var) ∷ []) fault) }
+    ensures err { IfErr result
+        (λ fault. FailsIn prefix.now highest ((quantifier, var) ∷ []) fault) }
 {
     if !prefix.is_bound(var) {
         return Err(CheckFault::C1(var));
@@ -41,7 +43,8 @@ fn next_block(
 /// The greatest block after one set.
 fn set_block(prefix: &Prefix, set: &QuantSet, highest: usize) -> Result<usize, CheckFault>
     ensures ok { IfOk result (λ n. Passes prefix.now highest (pairs_of_block set.now) n) }
-    ensures err { IfErr result (λ fault. FailsIn prefix.now highest (pairs_of_block set.now) fault) }
+    ensures err { IfErr result
+        (λ fault. FailsIn prefix.now highest (pairs_of_block set.now) fault) }
 {
     let mut reached = highest;
     for var in &set.vars {
@@ -55,9 +58,9 @@ fn set_block(prefix: &Prefix, set: &QuantSet, highest: usize) -> Result<usize, C
 
 /// Why the sets of a trace do not agree with a prefix, or `None` where they do.
 ///
-/// They agree if each variable that they name is bound by the prefix, with that quantifier, and its block is no
-/// smaller than that of any variable named before it. The answer speaks of the first variable in file order that
-/// fails, and is the first of `C1`, `C2` and `C3` that fits it.
+/// They agree if each variable that they name is bound by the prefix, with that quantifier, and its
+/// block is no smaller than that of any variable named before it. The result is about the first
+/// variable in file order that fails, and is the first of `C1`, `C2` and `C3` that fits it.
 pub(crate) fn sets_fault(prefix: &Prefix, sets: &[QuantSet]) -> Option<CheckFault>
     ensures none { IfNone result (SetsAgree prefix.now sets.now) }
     ensures some { IfSome result (λ fault. IsSetFault prefix.now sets.now fault) }

@@ -1,6 +1,7 @@
 //! The check of a trace: its sets, its goal, and each step that the goal needs.
 
-ghost use Rattle.std.specs.Prelude.{◌≡◌, ◌≢◌, ◌↔◌, ℕ, ◌<◌, length, ◌++◌, ◌∷◌, [], IsTrue, OnOk, IfOk, IfErr};
+ghost use Rattle.std.specs.Prelude.{◌≡◌, ◌≢◌, ◌↔◌, ℕ, ◌<◌, length, ◌++◌, ◌∷◌, [], IsTrue, OnOk};
+ghost use Rattle.std.specs.Prelude.{IfOk, IfErr};
 ghost use Rattle.std.specs.List.{AllByRecursion};
 ghost use Rattle.std.specs.List.Sorted.{IsStrictlyIncreasing};
 ghost use Rattle.qbf_core.specs.Truth.{IsTrueFormula};
@@ -20,7 +21,7 @@ use crate::marks::{mark_core, marked_places};
 use crate::side::{Clauses, Cubes, Side};
 use crate::step::{StepFault, step_set};
 use crate::verdict::{Rules, Verified};
-use crate::written::shown;
+use crate::written::set_or_written;
 use qbf_core::{Formula, Lists, Lit};
 use qrp::{Outcome, QuantSet, Steps};
 use std::alloc::Global;
@@ -50,7 +51,8 @@ fn follow_core<S: Side, T: Steps>(
         → StepFollows rules S.side formula.now (T.steps trace.now) i) }
     ensures refused { IfErr result (IsCoreFault rules S.side formula.now (T.steps trace.now)) }
 {
-    // A list for each step so far: the set of a marked one that is not in order as written, or nothing.
+    // A list for each step so far: the set of a marked one that is not in order as written, or
+    // nothing.
     let mut kept = Lists::new(alloc);
     let mut starts = InitialSteps::new();
     for place in 0..trace.len() {
@@ -59,7 +61,7 @@ fn follow_core<S: Side, T: Steps>(
             continue;
         }
         match step_set::<S, T>(alloc, formula, trace, place, &kept, &mut starts, rules) {
-            Ok(set) => keep(&mut kept, shown(&set, &[]))?,
+            Ok(set) => keep(&mut kept, set_or_written(&set, &[]))?,
             Err(StepFault::Rule(fault)) => return Err(CheckFault::C6(trace.number(place), fault)),
             Err(StepFault::Memory) => return Err(CheckFault::C5),
         }
@@ -67,7 +69,8 @@ fn follow_core<S: Side, T: Steps>(
     Ok(())
 }
 
-/// The places of the core beside what they show, where each of its steps follows from those before it.
+/// The places of the core beside what they show, where each of its steps follows from those before
+/// it.
 fn check_core<S: Side, T: Steps>(
     alloc: Global,
     formula: &Formula,
@@ -94,16 +97,17 @@ fn check_core<S: Side, T: Steps>(
 
 /// Whether sets, steps and outcome of a trace prove the outcome of the formula.
 ///
-/// They do if the sets agree with the prefix, there is a step without literals, and each step that the last such step
-/// needs follows from those before it by the rules: by Q-resolution for `Unsat` (Kleine Büning, Karpinski, Flögel 1995),
-/// by term resolution for `Sat` (Giunchiglia, Narizzano, Tacchella 2006), or with pivots of either quantifier (Van
-/// Gelder 2012). Then the formula has that truth.
+/// They do if the sets agree with the prefix, there is a step without literals, and each step that
+/// the last such step needs follows from those before it by the rules: by Q-resolution for `Unsat`
+/// (Kleine Büning, Karpinski, Flögel 1995), by term resolution for `Sat` (Giunchiglia, Narizzano,
+/// Tacchella 2006), or with pivots of either quantifier (Van Gelder 2012). Then the formula has
+/// that truth.
 ///
 /// # Errors
-/// The first of these, where the later ones are looked at only if the earlier ones do not hold: `C1`, `C2` or `C3` of
-/// the first set variable in file order that does not agree; `C4` if no step is without literals; `C6` with the first
-/// step of the core in file order that does not follow, and its first fault. `C5`, in place of any of these, if memory
-/// was refused.
+/// The first of these, where the later ones are looked at only if the earlier ones do not hold:
+/// `C1`, `C2` or `C3` of the first set variable in file order that does not agree; `C4` if no step
+/// is without literals; `C6` with the first step of the core in file order that does not follow,
+/// and its first fault. `C5`, in place of any of these, if an allocation failed.
 pub fn check<T: Steps>(
     alloc: Global,
     formula: &Formula,
@@ -115,10 +119,12 @@ pub fn check<T: Steps>(
     ensures proves { OnOk result (Proves rules formula.now sets.now (T.steps trace.now) outcome) }
     ensures core { IfOk result (λ v. ListsCore (T.steps trace.now) v.core.items) }
     ensures rises { IfOk result (λ v. IsStrictlyIncreasing v.core.items) }
-    ensures within { IfOk result (λ v. AllByRecursion (λ i. i < length (T.steps trace.now)) v.core.items) }
+    ensures within { IfOk result
+        (λ v. AllByRecursion (λ i. i < length (T.steps trace.now)) v.core.items) }
     ensures claim { IfOk result (λ v. v.truth ≡ is_sat outcome) }
     ensures truth { IfOk result (λ v. IsTrue v.truth ↔ IsTrueFormula formula.now) }
-    ensures refused { IfErr result (λ e. e ≢ C5 → IsFirstFault rules formula.now sets.now (T.steps trace.now) outcome e) }
+    ensures refused { IfErr result
+        (λ e. e ≢ C5 → IsFirstFault rules formula.now sets.now (T.steps trace.now) outcome e) }
 {
     // The bound comes with the fact that the formula is closed.
     let _bound = formula.max_var();

@@ -2,14 +2,14 @@
 
 ghost use Rattle.std.specs.Prelude.{◌↔◌, [], ◌∷◌, ◌⊎◌, IsTrue, IfOk};
 ghost use Rattle.qbf_core.specs.Literal.{Literal};
-ghost use Rattle.qbf_core.specs.Lists.{◌∈◌};
+ghost use Rattle.qbf_core.specs.Members.{◌∈◌};
 ghost use Rattle.qbf_core.specs.Blocks.{AreBound};
 ghost use Rattle.qbf_core.specs.Rules.{Clauses, Cubes, IsClean, IsReduct, IsTautology};
 ghost use Rattle.qbf_core.specs.Sets.{IsOrdered};
 ghost use Rattle.qrp_check.specs.Conditions.{IsAnswer, initial_condition};
 
 use crate::fault::RuleFault;
-use crate::reduct::reduct_by;
+use crate::reduct::ordered_reduct_fault_by;
 use crate::written::is_ordered;
 use qbf_core::{Formula, Lit, LitSet, Prefix, Quantifier, SetFault, is_member};
 use std::alloc::{AllocError, Global};
@@ -20,7 +20,7 @@ fn has_ordered_reduct(prefix: &Prefix, clause: &[Lit], set: &[Lit]) -> bool
     requires set { IsOrdered set.now }
     ensures { IsTrue result ↔ IsReduct Clauses prefix.now clause.now set.now }
 {
-    reduct_by(prefix, Quantifier::All, Quantifier::Exists, clause, set).is_none()
+    ordered_reduct_fault_by(prefix, Quantifier::All, Quantifier::Exists, clause, set).is_none()
 }
 
 /// Whether a clause as written is clean and has the set as a reduct.
@@ -32,7 +32,8 @@ pub(crate) fn has_reduct(
 ) -> Result<bool, AllocError>
     requires bound { AreBound prefix.now clause.now }
     requires ordered { IsOrdered set.now }
-    ensures { IfOk result (λ t. IsTrue t ↔ (IsClean clause.now × IsReduct Clauses prefix.now clause.now set.now)) }
+    ensures { IfOk result
+        (λ t. IsTrue t ↔ (IsClean clause.now × IsReduct Clauses prefix.now clause.now set.now)) }
 {
     // Most clauses miss the first literal already, and are no set yet.
     if let Some(lit) = set.first() {
@@ -92,7 +93,8 @@ pub(crate) fn is_tautology(clause: &[Lit]) -> bool
 /// Whether the set makes a clause true, or nothing can make it false.
 fn meets(set: &[Lit], clause: &[Lit]) -> bool
     requires { IsOrdered set.now }
-    ensures { IsTrue result ↔ (IsTautology clause.now ⊎ ((l : Literal) × (l ∈ clause.now) × (l ∈ set.now))) }
+    ensures { IsTrue result
+        ↔ (IsTautology clause.now ⊎ ((l : Literal) × (l ∈ clause.now) × (l ∈ set.now))) }
 {
     shares(clause, set) || is_tautology(clause)
 }

@@ -1,14 +1,16 @@
-//! Initial cubes: each clause of the formula is watched by one of its literals, and looked at again only where a cube
-//! lacks that literal.
+//! Initial cubes: each clause of the formula is watched by one of its literals, and looked at again
+//! only where a cube lacks that literal.
 
-ghost use Rattle.std.specs.Prelude.{◌≡◌, ◌<◌, ℕ, [], ◌∷◌, List, Some, Contains, IsTrue, IfOk, IfSome, OnOk, length, slice_get, slice_set};
+ghost use Rattle.std.specs.Prelude.{◌≡◌, ◌<◌, ℕ, [], ◌∷◌, List, Some, Contains, IsTrue, IfOk};
+ghost use Rattle.std.specs.Prelude.{IfSome, OnOk, length, slice_get, slice_set};
 ghost use Rattle.qbf_core.specs.Literal.{Literal};
-ghost use Rattle.qbf_core.specs.Lists.{◌∈◌};
+ghost use Rattle.qbf_core.specs.Members.{◌∈◌};
 ghost use Rattle.qbf_core.specs.Qbf.{Qbf};
 ghost use Rattle.qbf_core.specs.Rules.{Cubes, IsInitial};
 ghost use Rattle.qbf_core.specs.Sets.{IsOrdered};
 ghost use Rattle.qrp_check.specs.Conditions.{IsAnswer, initial_condition};
-ghost use Rattle.qrp_check.specs.Watches.{IsAligned, IsHeld, IsMet, IsWatched, IsWatchedBy, IsWatching, KeepsWatches};
+ghost use Rattle.qrp_check.specs.Watches.{IsAligned, IsHeld, IsMet, IsWatched, IsWatchedBy};
+ghost use Rattle.qrp_check.specs.Watches.{IsWatching, KeepsWatches};
 
 use crate::fault::RuleFault;
 use crate::initial::{initial_cube_fault, is_tautology};
@@ -70,7 +72,8 @@ fn watches_of(alloc: Global, lits: &[Lit]) -> Result<Vec<Watch>, AllocError>
 /// Adds a clause to those of a literal.
 fn add(watch: &mut Watch, clause: usize) -> Result<(), AllocError>
     ensures lit { watch.new.lit ≡ watch.old.lit }
-    ensures kept { (i : ℕ) → Contains watch.old.clauses.items i → Contains watch.new.clauses.items i }
+    ensures kept { (i : ℕ) → Contains watch.old.clauses.items i
+        → Contains watch.new.clauses.items i }
     ensures added { OnOk result (Contains watch.new.clauses.items clause) }
 {
     watch.clauses.push(clause)?;
@@ -108,7 +111,8 @@ fn is_free(watch: &Watch, lit: Lit) -> bool
 /// Hands the clauses of a literal over, whose place this is. It has none there yet.
 fn hand_over(watches: &mut [Watch], place: usize, from: Watch) -> bool
     ensures kept { IsTrue result → KeepsWatches watches.old watches.new }
-    ensures added { IsTrue result → (i : ℕ) → Contains from.clauses.items i → IsWatchedBy watches.new from.lit i }
+    ensures added { IsTrue result → (i : ℕ) → Contains from.clauses.items i
+        → IsWatchedBy watches.new from.lit i }
 {
     if place >= watches.len() {
         return false;
@@ -120,7 +124,8 @@ fn hand_over(watches: &mut [Watch], place: usize, from: Watch) -> bool
     false
 }
 
-/// Watches a clause by one of its literals that a cube holds. `false` says that it has none, and is no tautology.
+/// Watches a clause by one of its literals that a cube holds. `false` says that it has none, and is
+/// no tautology.
 fn watch_clause(
     formula: &Formula,
     cube: &[Lit],
@@ -150,7 +155,8 @@ fn watch_each(
     clauses: &[usize],
 ) -> Result<bool, AllocError>
     ensures kept { KeepsWatches watches.old watches.new }
-    ensures met { IfOk result (λ is. IsTrue is → (i : ℕ) → Contains clauses.now i → IsMet formula.now cube.now watches.new i) }
+    ensures met { IfOk result (λ is. IsTrue is → (i : ℕ) → Contains clauses.now i
+        → IsMet formula.now cube.now watches.new i) }
 {
     for clause in clauses {
         let is_met = watch_clause(formula, cube, watches, *clause)?;
@@ -182,8 +188,10 @@ fn take_over(
     from: Watch,
 ) -> Result<bool, AllocError>
     ensures kept { IfOk result (λ is. IsTrue is → KeepsWatches watches.old watches.new) }
-    ensures met { IfOk result (λ is. IsTrue is → (clause : List Literal) (i : ℕ) → slice_get formula.now.clauses i ≡ Some clause
-        → from.lit ∈ clause → Contains from.clauses.items i → IsMet formula.now cube.now watches.new i) }
+    ensures met { IfOk result (λ is. IsTrue is → (clause : List Literal) (i : ℕ)
+        → slice_get formula.now.clauses i ≡ Some clause
+        → from.lit ∈ clause → Contains from.clauses.items i
+        → IsMet formula.now cube.now watches.new i) }
 {
     match place_of(cube, from.lit) {
         Some(place) => Ok(hand_over(watches, place, from)),
@@ -227,7 +235,8 @@ struct Aligned {
     aside: Vec<Watch>,
 }
 
-/// Keeps the lists of the literals that stand at the same place in a cube of the same length, and puts the others aside.
+/// Keeps the lists of the literals that stand at the same place in a cube of the same length, and
+/// puts the others aside.
 fn align(alloc: Global, cube: &[Lit], from: Vec<Watch>) -> Result<Aligned, AllocError>
     requires { length from.items ≡ length cube.now }
     ensures { IfOk result (IsAligned cube.now from.items) }
@@ -260,7 +269,8 @@ fn begin(alloc: Global, cube: &[Lit], from: Vec<Watch>) -> Result<Aligned, Alloc
     })
 }
 
-/// Watches each clause by a literal of a cube, as they are watched by those of another. `None` if one has none.
+/// Watches each clause by a literal of a cube, as they are watched by those of another. `None` if
+/// one has none.
 fn renew(
     alloc: Global,
     formula: &Formula,
@@ -268,7 +278,8 @@ fn renew(
     from: Vec<Watch>,
 ) -> Result<Option<Vec<Watch>>, AllocError>
     requires { (i : ℕ) → IsWatched formula.now from.items i }
-    ensures { IfOk result (λ found. IfSome found (λ watches. (i : ℕ) → IsMet formula.now cube.now watches.items i)) }
+    ensures { IfOk result
+        (λ found. IfSome found (λ watches. (i : ℕ) → IsMet formula.now cube.now watches.items i)) }
 {
     let Aligned { mut watches, aside } = begin(alloc, cube, from)?;
     let is_met = take_over_all(formula, cube, &mut watches, aside)?;
@@ -277,14 +288,16 @@ fn renew(
 
 /// The same where none is watched yet.
 fn first(alloc: Global, formula: &Formula, cube: &[Lit]) -> Result<Option<Vec<Watch>>, AllocError>
-    ensures { IfOk result (λ found. IfSome found (λ watches. (i : ℕ) → IsMet formula.now cube.now watches.items i)) }
+    ensures { IfOk result
+        (λ found. IfSome found (λ watches. (i : ℕ) → IsMet formula.now cube.now watches.items i)) }
 {
     let mut watches = watches_of(alloc, cube)?;
     let is_met = watch_all(formula, cube, &mut watches)?;
     if is_met { Ok(Some(watches)) } else { Ok(None) }
 }
 
-/// Watches each clause by a literal of a cube, as they are watched by those of another, if there was one.
+/// Watches each clause by a literal of a cube, as they are watched by those of another, if there
+/// was one.
 fn watches_for(
     alloc: Global,
     formula: &Formula,
@@ -292,7 +305,8 @@ fn watches_for(
     from: Option<Vec<Watch>>,
 ) -> Result<Option<Vec<Watch>>, AllocError>
     requires { IfSome from (λ from. (i : ℕ) → IsWatched formula.now from.items i) }
-    ensures { IfOk result (λ found. IfSome found (λ watches. (i : ℕ) → IsMet formula.now cube.now watches.items i)) }
+    ensures { IfOk result
+        (λ found. IfSome found (λ watches. (i : ℕ) → IsMet formula.now cube.now watches.items i)) }
 {
     match from {
         Some(from) => renew(alloc, formula, cube, from),
@@ -348,7 +362,8 @@ impl InitialCubes {
     ) -> Result<Option<RuleFault>, AllocError>
         requires watching { IsWatching formula.now self.old }
         requires ordered { IsOrdered set.now }
-        ensures fault { IfOk result (λ fault. IsAnswer (initial_condition Cubes formula.now set.now ∷ []) fault) }
+        ensures fault { IfOk result
+            (λ fault. IsAnswer (initial_condition Cubes formula.now set.now ∷ []) fault) }
         ensures kept { IsWatching formula.now self.new }
     {
         let is_initial = self.is_initial(alloc, formula, set)?;

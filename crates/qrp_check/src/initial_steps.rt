@@ -32,12 +32,14 @@ impl InitialSteps {
         }
     }
 
-    /// Whether the literals are, as they are written, the clause behind the one that was found last, and in order.
+    /// Whether the literals are, as they are written, the clause after the one that was found last,
+    /// and in order.
     ///
     /// `false` says nothing.
     pub(crate) fn is_next<S: Side>(&mut self, formula: &Formula, lits: &[Lit]) -> bool
         requires { AreKnown formula.now self.old }
-        ensures follows { IsTrue result → AllHold (initial_condition S.side formula.now lits.now ∷ []) }
+        ensures follows { IsTrue result
+            → AllHold (initial_condition S.side formula.now lits.now ∷ []) }
         ensures ordered { IsTrue result → IsOrdered lits.now }
         ensures bound { IsTrue result → AreBound formula.now.blocks lits.now }
         ensures known { AreKnown formula.now self.new }
@@ -60,7 +62,8 @@ impl InitialSteps {
     ) -> Result<Option<RuleFault>, AllocError>
         requires known { AreKnown formula.now self.old }
         requires ordered { IsOrdered set.now }
-        ensures fault { IfOk result (λ fault. IsAnswer (initial_condition S.side formula.now set.now ∷ []) fault) }
+        ensures fault { IfOk result
+            (λ fault. IsAnswer (initial_condition S.side formula.now set.now ∷ []) fault) }
         ensures known { OnOk result (AreKnown formula.now self.new) }
     {
         match S::REDUCED {

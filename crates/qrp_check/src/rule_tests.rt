@@ -237,7 +237,8 @@ const EXISTS_ALL_EXISTS: &str = "p cnf 3 0\ne 1 0\na 2 0\ne 3 0\n";
 
 const ALL_EXISTS_ALL: &str = "p cnf 3 0\na 1 0\ne 2 0\na 3 0\n";
 
-/// A formula, two sets, a third, and its faults as a reduct of their resolvent: by the plain rules, and with any pivot.
+/// A formula, two sets, a third, and its faults as a reduct of their resolvent: by the plain rules,
+/// and with any pivot.
 type Resolution = (
     &'static str,
     &'static [i32],
@@ -372,7 +373,7 @@ const CUBE_RESOLVENTS: [Resolution; 4] = [
     ),
 ];
 
-/// Compares the answers for a resolution on one side.
+/// Compares the results for a resolution on one side.
 fn resolves<S: Side>(rt: &impl Abort, alloc: Global, resolution: Resolution) -> Result<(), Fail> {
     let (text, a, b, to, plain, any_pivot) = resolution;
     let found = resolvent::<S>(rt, alloc, text, a, b, to, Rules::plain())?;

@@ -1,5 +1,5 @@
-//! What the rows of `tests/*.rows` do not show: verdicts with their cores, faults as values, single pulls, and trimmed
-//! traces step by step.
+//! What the rows of `tests/*.rows` do not show: verdicts with their cores, faults as values, single
+//! pulls, and trimmed traces step by step.
 
 ghost use Rattle.std.specs.Prelude.{◌<◌};
 
@@ -25,7 +25,7 @@ const PROOF_OF_TRUTH: &[u8] =
 /// A clause without literals.
 const EMPTY_CLAUSE: &[u8] = b"p cnf 0 1\n0\n";
 
-/// The answer for a trace that is kept step by step.
+/// The result for a trace that is kept step by step.
 fn checked(
     alloc: Global,
     rules: Rules,
@@ -37,7 +37,7 @@ fn checked(
     Ok(check(alloc, &read, &steps, steps.sets(), steps.result(), rules))
 }
 
-/// The answer for the same bytes.
+/// The result for the same bytes.
 fn verified(alloc: Global, rules: Rules, formula: &[u8], trace: &[u8]) -> Result<Verified, Fault> {
     let mut source = SliceSource::new(formula);
     verify(alloc, &mut source, &mut SliceSource::new(trace), rules)
@@ -75,7 +75,7 @@ fn verifies_proofs(rt: HostRuntime) -> Result<(), Fail> {
     verifies(&rt, alloc, TRUE_FORMULA, PROOF_OF_TRUTH, true, &all)
 }
 
-/// Compares an answer with a fault.
+/// Compares a result with a fault.
 fn expect_fault(rt: &impl Abort, answer: Result<Verified, CheckFault>, fault: &CheckFault) {
     assert_eq!(rt; answer.err(), Some(*fault));
 }
@@ -123,7 +123,8 @@ fn put_link(sink: &mut VecSink, number: u64, earlier: u64) -> Result<(), SinkFau
     put_bytes(sink, b" 0\n")
 }
 
-/// 10,000 steps without literals, each from the one so many before it; the first so many are the clause.
+/// 10,000 steps without literals, each from the one so many before it; the first so many are the
+/// clause.
 fn chain(alloc: Global, back: u64) -> Result<VecSink, Fail>
     requires { back < 10000 }
 {

@@ -66,12 +66,13 @@ fn push_sets(alloc: Global, trace: &mut Trace, sets: &[QuantSet]) -> Result<(), 
 
 /// The trace without the steps outside the core.
 ///
-/// Sets, result and the number of variables in the header stay as written. The steps at the places of the core stay in
-/// their order, with their numbers, literals and antecedents, and the header counts them. The places are strictly
-/// ascending and below the number of steps, as `check` gives them.
+/// Sets, result and the number of variables in the header stay as written. The steps at the places
+/// of the core stay in their order, with their numbers, literals and antecedents, and the header
+/// counts them. The places are strictly ascending and below the number of steps, as `check` gives
+/// them.
 ///
 /// # Errors
-/// If memory was refused.
+/// If an allocation fails.
 pub fn trim(alloc: Global, trace: &Trace, verified: &Verified) -> Result<Trace, AllocError>
     requires rises { IsStrictlyIncreasing verified.now.core.items }
     requires within { AllByRecursion (λ i. i < length trace.now.steps) verified.now.core.items }

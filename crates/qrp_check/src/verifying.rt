@@ -2,7 +2,8 @@
 
 ghost use Rattle.std.specs.Prelude.{◌≡◌, ◌-◌, ◌^◌, ◌<◌, ◌↔◌, IfErr, IfSome};
 ghost use Rattle.qrp_check.specs.Headline.{Headline};
-ghost use Rattle.qrp_check.specs.Verdict.{IsVerdictUnless, IsFormulaDevice, IsTraceDevice, IsFormulaFault, StandsOnLine, WasRead, StopsBehindTrace};
+ghost use Rattle.qrp_check.specs.Verdict.{IsVerdictUnless, IsFormulaDevice, IsTraceDevice};
+ghost use Rattle.qrp_check.specs.Verdict.{IsFormulaFault, StandsOnLine, WasRead, StopsBehindTrace};
 ghost use Rattle.qbf_text.specs.Stopping.{IfKnown};
 
 use crate::checking::check;
@@ -14,14 +15,16 @@ use std::alloc::Global;
 
 /// Whether a trace (QRP) proves its result of a formula (QDIMACS 1.1), both from their bytes.
 ///
-/// For all formula and trace bytes, it answers Verified exactly where the bytes spell a closed prenex formula and a
-/// trace whose sets agree with it and whose last empty step, with all steps below that one, follows by the rules; and
-/// whenever it answers Verified, that formula is false if the trace says `r unsat` and true if it says `r sat`.
+/// For all formula and trace bytes, it returns Verified exactly where the bytes spell a closed
+/// prenex formula and a trace whose sets agree with it and whose last empty step, with all steps
+/// below that one, follows by the rules; and whenever it returns Verified, that formula is false if
+/// the trace says `r unsat` and true if it says `r sat`.
 ///
 /// # Errors
-/// The formula's fault with its line, and then the trace is not pulled; else the trace's fault with its line; else the
-/// first fault of the check. In place of any of these `F9`, `P9` or `C5` if memory was refused, and `F1` or `P1` exactly
-/// where the source failed; `F1`, `F9`, `P1` and `P9` stand on line 0.
+/// The formula's fault with its line, and then the trace is not pulled; else the trace's fault with
+/// its line; else the first fault of the check. In place of any of these `F9`, `P9` or `C5` if an
+/// allocation failed, and `F1` or `P1` exactly where the source failed; `F1`, `F9`, `P1` and `P9`
+/// stand on line 0.
 pub fn verify<A: Source, B: Source>(
     alloc: Global,
     formula: &mut A,
@@ -29,15 +32,18 @@ pub fn verify<A: Source, B: Source>(
     rules: Rules,
 ) -> Result<Verified, Fault>
     // The sentence above, where both sources tell their bytes.
-    ensures headline { IfSome (A.remaining formula.old) (λ a. IfSome (B.remaining trace.old) (λ b. Headline rules a b result)) }
-    ensures verdict { IsVerdictUnless rules (A.remaining formula.old) (B.remaining trace.old) result }
+    ensures headline { IfSome (A.remaining formula.old)
+        (λ a. IfSome (B.remaining trace.old) (λ b. Headline rules a b result)) }
+    ensures verdict { IsVerdictUnless rules (A.remaining formula.old)
+        (B.remaining trace.old) result }
     ensures formula_failed { A.failures formula.old < 2 ^ 64 - 1 →
         (IsFormulaDevice result ↔ (A.failures formula.old < A.failures formula.new)) }
     ensures trace_failed { B.failures trace.old < 2 ^ 64 - 1 →
         (IsTraceDevice result ↔ (B.failures trace.old < B.failures trace.new)) }
     ensures lines { IfErr result StandsOnLine }
     // Where the trace was read, nothing is read past its result word but at most 4,096 bytes.
-    ensures stops { WasRead result → IfKnown StopsBehindTrace (B.remaining trace.old) (B.remaining trace.new) }
+    ensures stops { WasRead result
+        → IfKnown StopsBehindTrace (B.remaining trace.old) (B.remaining trace.new) }
     ensures not_pulled { IsFormulaFault result → trace.new ≡ trace.old }
 {
     let read = read_formula(alloc, formula)?;

@@ -2,7 +2,7 @@
 
 ghost use Rattle.std.specs.Prelude.{◌≤◌, ◌↔◌, IsTrue};
 ghost use Rattle.qbf_core.specs.Literal.{Literal};
-ghost use Rattle.qbf_core.specs.Lists.{◌∈◌, ◌⊆◌};
+ghost use Rattle.qbf_core.specs.Members.{◌∈◌, ◌⊆◌};
 ghost use Rattle.qbf_core.specs.Sets.{IsOrdered};
 
 use qbf_core::{Lit, Var};
@@ -25,7 +25,8 @@ fn skip_to(lits: &[Lit], var: Var) -> &[Lit]
     rest
 }
 
-/// Whether an ordered list, whose variables are no earlier than that of the literal, begins with it.
+/// Whether an ordered list, whose variables are no earlier than that of the literal, begins with
+/// it.
 fn begins(lits: &[Lit], lit: Lit) -> bool
     requires ordered { IsOrdered lits.now }
     requires later { (m : Literal) → m ∈ lits.now → lit.var ≤ m.var }
@@ -37,8 +38,9 @@ fn begins(lits: &[Lit], lit: Lit) -> bool
     }
 }
 
-/// What is left of an ordered list from the variable of a literal on, and whether the literal is in it.
-pub(crate) fn seek(lits: &[Lit], lit: Lit) -> (&[Lit], bool)
+/// What is left of an ordered list from the variable of a literal on, and whether the literal is in
+/// it.
+pub(crate) fn advance_to(lits: &[Lit], lit: Lit) -> (&[Lit], bool)
     requires { IsOrdered lits.now }
     ensures ordered { IsOrdered result.0.now }
     ensures within { result.0.now ⊆ lits.now }

@@ -1,13 +1,14 @@
-//! Literals as they are written: most steps and clauses are in order already, and need no set of their own.
+//! Literals as they are written: most steps and clauses are in order already, and need no set of
+//! their own.
 
 ghost use Rattle.std.specs.Prelude.{◌≡◌, ◌↔◌, IsTrue, IfOk, OnOk};
 ghost use Rattle.std.specs.Result.{IsErrOf};
 ghost use Rattle.qbf_core.specs.Literal.{Literal};
-ghost use Rattle.qbf_core.specs.Lists.{◌∈◌};
+ghost use Rattle.qbf_core.specs.Members.{◌∈◌};
 ghost use Rattle.qbf_core.specs.Blocks.{AreBound, IsBound};
 ghost use Rattle.qbf_core.specs.Rules.{IsClean, IsTautology};
 ghost use Rattle.qbf_core.specs.Sets.{HasMembersOf, IsOrdered};
-ghost use Rattle.qrp_check.specs.Kept.{shown};
+ghost use Rattle.qrp_check.specs.Kept.{set_or_written};
 
 use qbf_core::{Lit, LitSet, Prefix, SetFault};
 use std::alloc::Global;
@@ -46,21 +47,23 @@ fn is_set(prefix: &Prefix, lits: &[Lit]) -> bool
     is_ordered(lits) && are_bound(prefix, lits)
 }
 
-/// The set of the literals where they are not in order as written, or `None` where they are such a set.
+/// The set of the literals where they are not in order as written, or `None` where they are such a
+/// set.
 ///
 /// # Errors
 /// As those of `LitSet::from_slice`.
-pub(crate) fn sorted(
+pub(crate) fn set_unless_ordered(
     alloc: Global,
     prefix: &Prefix,
     lits: &[Lit],
 ) -> Result<Option<LitSet>, SetFault>
-    ensures ordered { IfOk result (λ set. IsOrdered (shown set lits.now)) }
-    ensures members { IfOk result (λ set. HasMembersOf (shown set lits.now) lits.now) }
+    ensures ordered { IfOk result (λ set. IsOrdered (set_or_written set lits.now)) }
+    ensures members { IfOk result (λ set. HasMembersOf (set_or_written set lits.now) lits.now) }
     ensures fit { OnOk result (IsClean lits.now × AreBound prefix.now lits.now) }
     ensures clash { IsErrOf result SetFault.E1 → IsTautology lits.now }
     ensures clean { IsErrOf result SetFault.E2 → IsClean lits.now }
-    ensures unbound { IsErrOf result SetFault.E2 → (l : Literal) × (l ∈ lits.now) × (IsBound prefix.now l.var → ⊥) }
+    ensures unbound { IsErrOf result SetFault.E2
+        → (l : Literal) × (l ∈ lits.now) × (IsBound prefix.now l.var → ⊥) }
 {
     if is_set(prefix, lits) {
         return Ok(None);
@@ -76,8 +79,8 @@ pub(crate) fn sorted(
 }
 
 /// The members of the set, or the literals as written where there is none.
-pub(crate) fn shown<'a>(set: &'a Option<LitSet>, lits: &'a [Lit]) -> &'a [Lit]
-    ensures { result.now ≡ shown set.now lits.now }
+pub(crate) fn set_or_written<'a>(set: &'a Option<LitSet>, lits: &'a [Lit]) -> &'a [Lit]
+    ensures { result.now ≡ set_or_written set.now lits.now }
 {
     match set {
         Some(set) => set.as_slice(),

@@ -1,5 +1,5 @@
-pub mod BufferedMore
-pub mod ProgramMore
-pub mod WordsMore
-pub mod OutputMore
-pub mod TrimMore
+pub mod BufferPart
+pub mod ProgramReport
+pub mod WordByWord
+pub mod SentTexts
+pub mod TrimmedOutput

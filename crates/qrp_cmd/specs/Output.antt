@@ -118,13 +118,15 @@ pub record IsTrimmedFrom (rules : Rules) (formula trace : List ℕ) (t : Derivat
 -- What the trimming of a trace answers: the trimmed trace, as far as the bytes are told, or a refusal as for a check.
 abbrev pub IsTrimmed : Rules → Reading → Reading → Result Derivation Fault → Type 0
 IsTrimmed rules formula trace (Ok t) =
-    IfSome formula.told (λ a. IfSome trace.told (λ b. IsTrimmedFrom rules a b t)) × (formula.after ≡ formula.before) × (trace.after ≡ trace.before)
+    IfSome formula.told (λ a. IfSome trace.told (λ b. IsTrimmedFrom rules a b t)) × (formula.after ≡ formula.before)
+    × (trace.after ≡ trace.before)
 IsTrimmed rules formula trace (Err e) = IsChecked rules formula trace (Err e)
 
 -- the report of a job on its texts
 abbrev pub IsOutput : Job → Reading → Reading → Report → Type 0
 IsOutput job.Format formula trace r =
-    (reading : Result Qbf (FormulaFault × ℕ)) × IsFormulaRead formula.told formula.before formula.after reading × (r ≡ format_report reading)
+    (reading : Result Qbf (FormulaFault × ℕ)) × IsFormulaRead formula.told formula.before formula.after reading
+    × (r ≡ format_report reading)
 IsOutput (job.Check rules) formula trace r =
     (answer : Result Verified Fault) × IsChecked rules formula trace answer × (r ≡ check_report rules answer)
 IsOutput (job.Trim rules) formula trace r =

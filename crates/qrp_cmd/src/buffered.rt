@@ -1,6 +1,7 @@
 //! A buffer before a sink.
 
-ghost use Rattle.std.specs.Prelude.{◌≡◌, ℕ, ◌+◌, ◌-◌, ◌<◌, ◌≤◌, List, [], ◌++◌, length, take, drop, ◌^◌, true, false, decimal, IfOk, OnOk, OnErr};
+ghost use Rattle.std.specs.Prelude.{◌≡◌, ℕ, ◌+◌, ◌-◌, ◌<◌, ◌≤◌, List, [], ◌++◌, length, take, drop};
+ghost use Rattle.std.specs.Prelude.{◌^◌, true, false, decimal, IfOk, OnOk, OnErr};
 ghost use Rattle.std.specs.Io.KnownBytes.{append_known, Keeps, WriteAppends};
 ghost use Rattle.qbf_text.specs.Written.{IsPut};
 
@@ -56,7 +57,7 @@ impl Held {
         self.start += n;
     }
 
-    /// Adds the bytes where there is room for all of them, and answers whether there was.
+    /// Adds the bytes where there is room for all of them, and returns whether there was.
     #[inline(always)]
     fn append(&mut self, bytes: &[u8]) -> bool
         ensures all { result ≡ true → self.new ≡ self.old ++ bytes.now }
@@ -71,7 +72,8 @@ impl Held {
         true
     }
 
-    /// Adds the digits of a number where there is room for any number, and answers whether there was.
+    /// Adds the digits of a number where there is room for any number, and returns whether there
+    /// was.
     #[inline(always)]
     fn append_number(&mut self, n: u64) -> bool
         ensures all { result ≡ true → self.new ≡ self.old ++ decimal n }
@@ -95,7 +97,7 @@ impl Held {
         self.end = end;
     }
 
-    /// Adds bytes from the front, as far as there is room, and answers how many.
+    /// Adds bytes from the front, as far as there is room, and returns how many.
     fn append_some(&mut self, bytes: &[u8]) -> usize
         ensures fits { result ≤ length bytes.now }
         ensures some { self.old ≡ [] → 0 < length bytes.now → 0 < result }
@@ -135,9 +137,11 @@ impl<S: Sink> Buffered<S> {
 
     /// Sends on what is held back.
     fn send_on(&mut self) -> Result<(), SinkFault>
-        ensures bytes { Keeps (⟦<Buffered<S> as Sink>⟧.written self.old) (⟦<Buffered<S> as Sink>⟧.written self.new) }
+        ensures bytes { Keeps (⟦<Buffered<S> as Sink>⟧.written self.old)
+            (⟦<Buffered<S> as Sink>⟧.written self.new) }
         ensures ok { OnOk result (S.failures self.new.sink ≡ S.failures self.old.sink) }
-        ensures err { OnErr result (S.failures self.old.sink < 2 ^ 64 - 1 → S.failures self.old.sink < S.failures self.new.sink) }
+        ensures err { OnErr result (S.failures self.old.sink < 2 ^ 64 - 1
+            → S.failures self.old.sink < S.failures self.new.sink) }
         ensures stays { S.failures self.old.sink ≤ S.failures self.new.sink }
         ensures empty { OnOk result (self.new.held ≡ []) }
     {
@@ -148,16 +152,19 @@ impl<S: Sink> Buffered<S> {
         Ok(())
     }
 
-    /// Sends on what is held back, and then holds some of the bytes back, at least one. There must be some.
+    /// Sends on what is held back, and then holds some of the bytes back, at least one. There must
+    /// be some.
     #[cold]
     #[inline(never)]
     fn push_behind(&mut self, bytes: &[u8]) -> Result<usize, SinkFault>
         requires { 0 < length bytes.now }
         ensures some { IfOk result (λ n. 0 < n) }
         ensures fits { IfOk result (λ n. n ≤ length bytes.now) }
-        ensures bytes { WriteAppends (⟦<Buffered<S> as Sink>⟧.written self.old) (⟦<Buffered<S> as Sink>⟧.written self.new) result bytes.now }
+        ensures bytes { WriteAppends (⟦<Buffered<S> as Sink>⟧.written self.old)
+            (⟦<Buffered<S> as Sink>⟧.written self.new) result bytes.now }
         ensures ok { OnOk result (S.failures self.new.sink ≡ S.failures self.old.sink) }
-        ensures err { OnErr result (S.failures self.old.sink < 2 ^ 64 - 1 → S.failures self.old.sink < S.failures self.new.sink) }
+        ensures err { OnErr result (S.failures self.old.sink < 2 ^ 64 - 1
+            → S.failures self.old.sink < S.failures self.new.sink) }
         ensures stays { S.failures self.old.sink ≤ S.failures self.new.sink }
     {
         self.send_on()?;
@@ -168,7 +175,8 @@ impl<S: Sink> Buffered<S> {
     #[cold]
     #[inline(never)]
     fn push_number_behind(&mut self, n: u64) -> Result<(), SinkFault>
-        ensures { IsPut (⟦<Buffered<S> as Sink>⟧.written) (⟦<Buffered<S> as Sink>⟧.failures) self.old self.new (decimal n) result }
+        ensures { IsPut (⟦<Buffered<S> as Sink>⟧.written)
+            (⟦<Buffered<S> as Sink>⟧.failures) self.old self.new (decimal n) result }
     {
         self.send_on()?;
         self.held.begin_with(n);

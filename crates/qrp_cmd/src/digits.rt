@@ -35,7 +35,8 @@ fn digit_count(n: u64) -> usize
     count + short_count(left)
 }
 
-/// Puts the digits of a number from a place on, and answers where they end. There is room for the longest number.
+/// Puts the digits of a number from a place on, and returns where they end. There is room for the
+/// longest number.
 #[inline(always)]
 pub fn put_digits(bytes: &mut [u8], at: usize, n: u64) -> usize
     requires { at + 20 ≤ length bytes.old }

@@ -1,4 +1,5 @@
-//! The program `qrp_cmd`: formulas of quantified Boolean logic in canonical form, and the check of their proofs.
+//! The program `qrp_cmd`: formulas of quantified Boolean logic in canonical form, and the check of
+//! their proofs.
 #![tactic(auto)]
 
 ghost use Rattle.std.specs.Prelude.{◌≡◌, ◌⊎◌, IfOk, IfErr, drop};
@@ -29,7 +30,7 @@ use std::io::ErrorKind;
 use std::process::ExitCode;
 pub use words::request;
 
-/// The words without the first, which is the program's name.
+/// The arguments without the first, which is the program's name.
 fn after_name(alloc: Global, mut args: Args) -> Result<Vec<String>, Start>
     ensures words { IfOk result (λ words. words.items ≡ drop 1 (into_iter_items args)) }
     ensures refused { IfErr result (λ e. e ≡ NoMemory) }
@@ -44,7 +45,7 @@ fn after_name(alloc: Global, mut args: Args) -> Result<Vec<String>, Start>
     Ok(words)
 }
 
-/// The words after the program's name.
+/// The arguments after the program's name.
 fn given_words(rt: &HostRuntime) -> Result<Vec<String>, Start>
     ensures { IfErr result (λ e. (e ≡ NoMemory) ⊎ (e ≡ Usage)) }
 {

@@ -17,7 +17,8 @@ pub trait Open {
     /// An opened file.
     type File: Source + Drop;
 
-    /// What opening this path may answer: the bytes of the file, where they are known, or why it is not opened.
+    /// What opening this path may return: the bytes of the file, where they are known, or why it is
+    /// not opened.
     ghost opens: { Self → List ℕ → Result (Option (List ℕ)) Unopened → Type 0 };
 
     /// Opens a file, of which no more than `LIMIT` bytes are read.

@@ -1,4 +1,4 @@
-//! From the words of the command line to a run over files.
+//! From the command line to a run over files.
 
 ghost use Rattle.std.specs.Prelude.{◌≡◌, ℕ, Some, None, [], map, IfOk, IfErr};
 ghost use Rattle.std.specs.String.{string_bytes};
@@ -16,7 +16,8 @@ use std::alloc::Global;
 
 /// Ends before a job begins. The status stays whether or not the line went out.
 fn stop<S: Sink>(sink: &mut S, start: Start) -> Status
-    ensures { IsSent S.Sink sink.old sink.new (start_line start) (start_status start) (start_status start) result }
+    ensures { IsSent S.Sink sink.old sink.new (start_line start) (start_status start)
+        (start_status start) result }
 {
     if put_bytes(sink, start.line().as_bytes()).is_ok() {
         let _ = sink.finish();
@@ -26,7 +27,8 @@ fn stop<S: Sink>(sink: &mut S, start: Start) -> Status
 
 /// Ends before a job begins, where the refusals of the job go.
 fn refuse<O: Sink, E: Sink>(job: Job, start: Start, out: &mut O, err: &mut E) -> Status
-    ensures { IsReported O.Sink out.old out.new E.Sink err.old err.new (start_report (refusals job) start) result }
+    ensures { IsReported O.Sink out.old out.new E.Sink err.old err.new
+        (start_report (refusals job) start) result }
 {
     match job {
         Job::Check(_) => stop(out, start),
@@ -43,7 +45,8 @@ fn on_both<F: Open, O: Sink, E: Sink>(
     out: &mut O,
     err: &mut E,
 ) -> Status
-    ensures { (r : Report) × IsOnFiles (F.opens files.now) job paths.entry.0.now (Some paths.entry.1.now) r
+    ensures { (r : Report)
+        × IsOnFiles (F.opens files.now) job paths.entry.0.now (Some paths.entry.1.now) r
         × IsReported O.Sink out.old out.new E.Sink err.old err.new r result }
 {
     let mut formula = match files.open(paths.0) {
@@ -78,13 +81,14 @@ fn on_formula<F: Open, O: Sink, E: Sink>(
     }
 }
 
-/// Does what the words after the program's name ask for, over the files that they name: writes the report to `out` or
-/// `err`, and answers the status.
+/// Does what the arguments ask for, over the files that they name: writes the report to `out` or
+/// `err`, and returns the status.
 ///
-/// Where the words are no row of the usage, the line `USAGE` goes to `err` with status 5. A file that cannot be opened is
-/// told in a line with status 3, and want of memory while it is opened in a line with status 4, where the refusals of
-/// the command go; the formula is opened before the trace, and both before anything is read. These statuses stay
-/// whether or not the line went out. Else the report is that of `run`.
+/// If the arguments are not a command line of the usage, the line `USAGE` goes to `err` with
+/// status 5. A file that cannot be opened is reported in a line with status 3, and out of memory
+/// while it is opened in a line with status 4, where the refusals of the command go; the formula is
+/// opened before the trace, and both before anything is read. These statuses stay whether or not
+/// the line went out. Else the report is that of `run`.
 fn answer<F: Open, O: Sink, E: Sink>(
     alloc: Global,
     files: &F,
@@ -107,8 +111,8 @@ fn answer<F: Open, O: Sink, E: Sink>(
     }
 }
 
-/// The whole program, but for where its words, its files and its sinks come from: `answer`, or the end where the words
-/// were not got, which goes to `err`.
+/// The whole program, but for where its arguments, its files and its sinks come from: `answer`, or
+/// the end where the arguments were not got, which goes to `err`.
 pub fn program<F: Open, O: Sink, E: Sink>(
     alloc: Global,
     files: &F,
@@ -116,9 +120,11 @@ pub fn program<F: Open, O: Sink, E: Sink>(
     out: &mut O,
     err: &mut E,
 ) -> Status
-    ensures words { IfOk words (λ words. (r : Report) × IsProgram (F.opens files.now) (map (λ w. string_bytes w) words.items) r
+    ensures words { IfOk words (λ words. (r : Report)
+        × IsProgram (F.opens files.now) (map (λ w. string_bytes w) words.items) r
         × IsReported O.Sink out.old out.new E.Sink err.old err.new r result) }
-    ensures no_words { IfErr words (λ start. IsReported O.Sink out.old out.new E.Sink err.old err.new (start_report Errors start) result) }
+    ensures no_words { IfErr words (λ start. IsReported O.Sink out.old out.new E.Sink err.old
+        err.new (start_report Errors start) result) }
 {
     match words {
         Ok(words) => answer(alloc, files, &words, out, err),

@@ -1,18 +1,22 @@
 //! A job from its sources to its sinks.
 
-ghost use Rattle.std.specs.Prelude.{◌≡◌, ◌⊎◌, ◌↔◌, ◌<◌, ◌-◌, ◌^◌, ℕ, Result, Err, IfOk, IfErr, OnOk, IfSome};
+ghost use Rattle.std.specs.Prelude.{◌≡◌, ◌⊎◌, ◌↔◌, ◌<◌, ◌-◌, ◌^◌, ℕ, Result, Err, IfOk, IfErr};
+ghost use Rattle.std.specs.Prelude.{OnOk, IfSome};
 ghost use Rattle.std.specs.Io.KnownBytes.{Keeps};
 ghost use Rattle.qbf_core.specs.Qbf.{Qbf};
 ghost use Rattle.qdimacs.specs.declared.fault.FormulaFault.{FormulaFault};
 ghost use Rattle.qdimacs.specs.Grammar.{text};
 ghost use Rattle.qrp.specs.Derivations.{Derivation};
 ghost use Rattle.qrp.specs.Grammar.{text as trace_text};
-ghost use Rattle.qrp_check.specs.Verdict.{IsVerdictUnless, IsFormulaDevice, IsTraceDevice, IsFormulaFault, StandsOnLine};
+ghost use Rattle.qrp_check.specs.Verdict.{IsVerdictUnless, IsFormulaDevice, IsTraceDevice};
+ghost use Rattle.qrp_check.specs.Verdict.{IsFormulaFault, StandsOnLine};
 ghost use Rattle.qrp_check.specs.declared.verdict.Verified.{Verified};
 ghost use Rattle.qrp_check.specs.declared.verdict.Fault.{Fault};
 ghost use Rattle.qrp_report.specs.Lines.{fault_line, fault_status, verdict_line};
 ghost use Rattle.qrp_cmd.specs.declared.job.Job.TheVariants.{Format};
-ghost use Rattle.qrp_cmd.specs.Output.{Report, IsOutput, IsFormulaRead, IsChecked, IsTrimmed, IsTrimmedFrom, trim_report, format_report, check_report, reading_of, HasFailed, IsSent, IsReported};
+ghost use Rattle.qrp_cmd.specs.Output.{Report, IsOutput, IsFormulaRead, IsChecked, IsTrimmed};
+ghost use Rattle.qrp_cmd.specs.Output.{IsTrimmedFrom, trim_report, format_report, check_report};
+ghost use Rattle.qrp_cmd.specs.Output.{reading_of, HasFailed, IsSent, IsReported};
 
 use crate::job::Job;
 use qbf_core::Formula;
@@ -23,8 +27,8 @@ use qrp_check::{CheckFault, Fault, Rules, check, trim, verify};
 use qrp_report::{fault_status, put_fault, put_verdict};
 use std::alloc::Global;
 
-/// The status of the program: 0 done, 1 the proof is refused, 2 a text is refused, 3 a device failed,
-/// 4 memory was refused.
+/// The status of the program: 0 done, 1 the proof is refused, 2 a text is refused, 3 a device
+/// failed, 4 an allocation failed.
 pub type Status = u8;
 
 /// The status where a device failed.
@@ -33,7 +37,8 @@ const DEVICE_FAILED: Status = 3;
 /// Ends what was sent to a sink.
 fn end_text<S: Sink>(sink: &mut S, status: Status) -> Status
     ensures bytes { Keeps (S.written sink.old) (S.written sink.new) }
-    ensures status { ((S.failures sink.new ≡ S.failures sink.old) × S.finished sink.new × (result ≡ status))
+    ensures status { ((S.failures sink.new ≡ S.failures sink.old) × S.finished sink.new
+        × (result ≡ status))
         ⊎ (HasFailed (S.failures sink.old) (S.failures sink.new) × (result ≡ 3)) }
 {
     match sink.finish() {
@@ -54,7 +59,8 @@ fn send_formula<S: Sink>(formula: &Formula, sink: &mut S) -> Status
 
 /// Sends the line for a fault.
 fn send_fault<S: Sink>(sink: &mut S, fault: &Fault) -> Status
-    ensures { IsSent S.Sink sink.old sink.new (fault_line fault.now) (fault_status fault.now) 3 result }
+    ensures { IsSent S.Sink sink.old sink.new (fault_line fault.now)
+        (fault_status fault.now) 3 result }
 {
     match put_fault(sink, fault) {
         Ok(()) => end_text(sink, fault_status(fault)),
@@ -81,7 +87,8 @@ fn format_job<F: Source, O: Sink, E: Sink>(
 ) -> Status
     ensures { (r : Report)
         × ((reading : Result Qbf (FormulaFault × ℕ))
-        × IsFormulaRead (F.remaining formula.old) (F.failures formula.old) (F.failures formula.new) reading × (r ≡ format_report reading))
+        × IsFormulaRead (F.remaining formula.old) (F.failures formula.old)
+        (F.failures formula.new) reading × (r ≡ format_report reading))
         × IsReported O.Sink out.old out.new E.Sink err.old err.new r result }
 {
     match read_formula(alloc, formula) {
@@ -101,7 +108,8 @@ fn check_job<F: Source, T: Source, O: Sink>(
     ensures { (answer : Result Verified Fault)
         × IsChecked rules (reading_of F.Source formula.old formula.new)
         (reading_of T.Source trace.old trace.new) answer
-        × IsSent O.Sink out.old out.new (check_report rules answer).text (check_report rules answer).status (check_report rules answer).failed result }
+        × IsSent O.Sink out.old out.new (check_report rules answer).text
+        (check_report rules answer).status (check_report rules answer).failed result }
 {
     match verify(alloc, formula, trace, rules) {
         Ok(verified) => send_verdict(out, verified.truth),
@@ -116,8 +124,10 @@ fn trimmed<F: Source, T: Source>(
     formula: &mut F,
     trace: &mut T,
 ) -> Result<Trace, Fault>
-    ensures refused { IfErr result (λ e. IsVerdictUnless rules (F.remaining formula.old) (T.remaining trace.old) (Err e)) }
-    ensures trimmed { IfOk result (λ t. IfSome (F.remaining formula.old) (λ a. IfSome (T.remaining trace.old) (λ b. IsTrimmedFrom rules a b t))) }
+    ensures refused { IfErr result
+        (λ e. IsVerdictUnless rules (F.remaining formula.old) (T.remaining trace.old) (Err e)) }
+    ensures trimmed { IfOk result (λ t. IfSome (F.remaining formula.old)
+        (λ a. IfSome (T.remaining trace.old) (λ b. IsTrimmedFrom rules a b t))) }
     ensures formula_failed { IfErr result (λ e. F.failures formula.old < 2 ^ 64 - 1 →
         (IsFormulaDevice (Err e) ↔ (F.failures formula.old < F.failures formula.new))) }
     ensures trace_failed { IfErr result (λ e. T.failures trace.old < 2 ^ 64 - 1 →
@@ -160,7 +170,8 @@ fn trim_job<F: Source, T: Source, O: Sink, E: Sink>(
     ensures { (answer : Result Derivation Fault)
         × IsTrimmed rules (reading_of F.Source formula.old formula.new)
         (reading_of T.Source trace.old trace.new) answer
-        × IsReported O.Sink out.old out.new E.Sink err.old err.new (trim_report rules answer) result }
+        × IsReported O.Sink out.old out.new E.Sink err.old err.new
+        (trim_report rules answer) result }
 {
     match trimmed(alloc, rules, formula, trace) {
         Ok(shorter) => send_trace(&shorter, out),
@@ -168,13 +179,15 @@ fn trim_job<F: Source, T: Source, O: Sink, E: Sink>(
     }
 }
 
-/// Does a job: reads the formula and, where the job asks for it, the trace, and writes the report to `out` or `err`.
+/// Does a job: reads the formula and, where the job asks for it, the trace, and writes the report
+/// to `out` or `err`.
 ///
-/// Where the bytes of the sources are told, the report is the one for what they spell. A source that fails is told in
-/// a line with status 3, want of memory in a line with status 4, on the sink that takes the refusals of the job: `out`
-/// for `Check`, `err` for the others. The other sink gets nothing. Where the sink of the report fails, in a write or in
-/// `finish`, the status is 3 and a beginning of the text went out. For `Format`, and with a fault of the formula, the
-/// trace is not pulled.
+/// Where the bytes of the sources are known, the report is the one for what they spell. A source
+/// that fails is reported in a line with status 3, out of memory in a line with status 4, on the
+/// sink that takes the refusals of the job: `out` for `Check`, `err` for the others. The other sink
+/// gets nothing. Where the sink of the report fails, in a write or in `finish`, the status is 3 and
+/// a beginning of the text went out. For `Format`, and with a fault of the formula, the trace is
+/// not pulled.
 pub fn run<F: Source, T: Source, O: Sink, E: Sink>(
     alloc: Global,
     job: Job,

@@ -6,13 +6,13 @@ ghost use Rattle.qrp_cmd.specs.Lines.{start_line, start_status};
 /// How the program ends before its job begins.
 #[derive(Clone, Copy, Debug, PartialEq, Eq)]
 pub enum Start {
-    /// The words are no row of the usage.
+    /// The arguments are not one of the command lines of the usage.
     Usage,
     /// The formula's file cannot be opened.
     NoFormula,
     /// The trace's file cannot be opened.
     NoTrace,
-    /// Memory was refused: while the words were got, or while a file was opened.
+    /// An allocation failed: while the arguments were read, or while a file was opened.
     NoMemory,
 }
 

@@ -10,12 +10,12 @@ use crate::start::Start;
 pub enum Unopened {
     /// It cannot be opened.
     NoFile,
-    /// Memory was refused.
+    /// An allocation failed.
     NoMemory,
 }
 
 impl Unopened {
-    /// How the program ends, where a file that cannot be opened is told as `no_file`.
+    /// How the program ends, where a file that cannot be opened is reported as `no_file`.
     pub fn start(self, no_file: Start) -> Start
         ensures { result ≡ not_opened no_file self }
     {

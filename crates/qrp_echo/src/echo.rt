@@ -10,7 +10,8 @@ use qbf_text::{Sink, Source};
 use qrp::{Trace, TraceFault, read_trace, write_trace};
 use std::alloc::Global;
 
-/// The status of the program: 0 done, 1 the bytes are no trace, 3 a device failed, 4 memory was refused.
+/// The status of the program: 0 done, 1 the bytes are no trace, 3 a device failed, 4 an allocation
+/// failed.
 pub type Status = u8;
 
 /// The status where a device failed.
@@ -42,7 +43,8 @@ fn send<K: Sink>(trace: &Trace, sink: &mut K) -> Status
 
 /// Writes the canonical text of the trace that the source holds.
 ///
-/// Of a fault nothing is written. Where the sink fails, in a write or in `finish`, a beginning of the text went out.
+/// Of a fault nothing is written. Where the sink fails, in a write or in `finish`, a beginning of
+/// the text went out.
 pub fn echo<S: Source, K: Sink>(alloc: Global, source: &mut S, sink: &mut K) -> Status
     ensures { (read : Result Derivation Fault)
         × IsRead (S.remaining source.old) (S.failures source.old) (S.failures source.new) read

@@ -1,7 +1,8 @@
 //! The program `qrp_echo` reads a trace from its input and writes its canonical text.
 //! It is for tests alone: a trace that is written and read again is to be the same.
 //!
-//! Status 0: done; 1: the bytes are no trace, and nothing was written; 3: a device failed; 4: memory was refused.
+//! Status 0: done; 1: the bytes are no trace, and nothing was written; 3: a device failed; 4: an
+//! allocation failed.
 #![tactic(auto)]
 
 mod echo;
@@ -14,7 +15,7 @@ use std::process::ExitCode;
 /// The most bytes that are read of the input.
 const LIMIT: u64 = 4611686018427387904;
 
-/// The status where memory was refused.
+/// The status if an allocation failed.
 const NO_MEMORY: Status = 4;
 
 fn main(rt: HostRuntime) -> ExitCode {

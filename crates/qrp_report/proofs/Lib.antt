@@ -1,2 +1,2 @@
-pub mod PartsMore
-pub mod LinesMore
+pub mod LineParts
+pub mod RefusalLines

@@ -1,4 +1,4 @@
-//! The lines and the statuses by which verdicts and refusals are told.
+//! The lines and the statuses of verdicts and refusals.
 #![tactic(auto)]
 
 mod lines;

@@ -2,7 +2,8 @@
 
 ghost use Rattle.std.specs.Prelude.{◌≡◌, ◌++◌, decimal};
 ghost use Rattle.qbf_text.specs.Written.{IsPut};
-ghost use Rattle.qrp_report.specs.Lines.{formula_line, trace_line, check_line, fault_line, fault_status, line, verdict_line, part_text, parts_text};
+ghost use Rattle.qrp_report.specs.Lines.{formula_line, trace_line, check_line, fault_line};
+ghost use Rattle.qrp_report.specs.Lines.{fault_status, line, verdict_line, part_text, parts_text};
 
 use crate::names::{formula_fault_name, rule_fault_name, trace_fault_name};
 use qbf_core::Var;
@@ -76,7 +77,8 @@ fn put_trace_fault<S: Sink>(sink: &mut S, fault: TraceFault, line: u64) -> Resul
 
 /// Sends the line that ends in the variable of a faulty quantifier set.
 fn put_set_fault<S: Sink>(sink: &mut S, beginning: &'static str, var: Var) -> Result<(), SinkFault>
-    ensures { IsPut S.written S.failures sink.old sink.new (beginning.now ++ line (decimal var)) result }
+    ensures { IsPut S.written S.failures sink.old sink.new
+        (beginning.now ++ line (decimal var)) result }
 {
     put_parts(
         sink,

@@ -3,7 +3,7 @@
 use super::*;
 use std::process::Abort;
 
-/// The digits at a place, with enough bytes behind them for a word and without.
+/// The digits at a place, with enough bytes after them for a word and without.
 fn reads(rt: &impl Abort, bytes: &[u8], from: usize, wanted: (u64, usize)) {
     if from <= bytes.len() {
         assert_eq!(rt; digits(bytes, from), wanted);

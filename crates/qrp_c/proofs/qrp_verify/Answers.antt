@@ -1,7 +1,7 @@
 use Rattle.std.proofs.Common.{arith}
 use Rattle.qrp_check.specs.Verdict.{IsFormulaDevice, IsTraceDevice}
 use Rattle.qrp_check.specs.Headline as over_answers
-use Rattle.qrp_c.proofs.VerdictsMore.{headline_told}
+use Rattle.qrp_c.proofs.HeadlineOfStruct.{headline_told}
 use Rattle.qrp_c.proofs.qrp_verify.Goals as goal
 
 pub returns-clause-headline : goal.returns-clause-headline
@@ -11,4 +11,5 @@ returns-clause-headline c =
     rw (← c.new-formula_source.ensures.made, ← c.new-trace_source.ensures.made) c.verify-answer.ensures.headline in
     let no_formula : IsFormulaDevice answer → ⊥ = λ d. omega (arith, (c.verify-answer.ensures.formula_failed (omega arith)).0 d) in
     let no_trace : IsTraceDevice answer → ⊥ = λ d. omega (arith, (c.verify-answer.ensures.trace_failed (omega arith)).0 d) in
-    rw c.tell-verdict.ensures.0 (headline_told (record { any_pivot = c.args.any_pivot }) c.args.formula.now c.args.trace.now answer told no_formula no_trace)
+    rw c.tell-verdict.ensures.0
+    (headline_told (record { any_pivot = c.args.any_pivot }) c.args.formula.now c.args.trace.now answer told no_formula no_trace)

@@ -9,7 +9,8 @@ use std::alloc::AllocError;
 use std::process::Abort;
 use std::test::Fail;
 
-/// Two files in memory: `f` is a formula and `t` a trace. Memory is refused for `m`, and no other file is there.
+/// Two files in memory: `f` is a formula and `t` a trace. An allocation fails for `m`, and no other
+/// file is there.
 #[derive(Clone, Copy)]
 struct Shelf<'a> {
     formula: &'a [u8],
@@ -44,7 +45,7 @@ const FORMULA: &[u8] = b"p cnf 2 3\na 1 0\ne 2 0\n1 2 0\n-1 2 0\n-2 0\n";
 const TRACE: &[u8] =
     b"p qrp 2 5\n1 1 2 0 0\n2 -1 2 0 0\n3 -2 0 0\n4 2 0 1 2 0\n5 0 4 3 0\nr unsat\n";
 
-/// The words as a list of texts.
+/// The arguments as a list of texts.
 fn given(alloc: Global, words: &[&str]) -> Result<Vec<String>, AllocError> {
     let mut list = Vec::new(alloc);
     for word in words {
@@ -53,7 +54,7 @@ fn given(alloc: Global, words: &[&str]) -> Result<Vec<String>, AllocError> {
     Ok(list)
 }
 
-/// Checks what the program writes on these words over this formula and the trace.
+/// Checks what the program writes on these arguments over this formula and the trace.
 fn expect<R: Abort + AllocGlobal>(
     rt: &R,
     formula: &[u8],
@@ -106,7 +107,7 @@ fn commands_and_flags(rt: HostRuntime) -> Result<(), Fail> {
 fn missing_files(rt: HostRuntime) -> Result<(), Fail> {
     let formula: &[u8] = b"DEVICE formula\n";
     let trace: &[u8] = b"DEVICE trace\n";
-    // No formula at all: a fault of its text is told only where the trace is there.
+    // No formula at all: a fault of its text is reported only where the trace is there.
     expect(
         &rt,
         b"",
@@ -147,7 +148,7 @@ fn other_words(rt: HostRuntime) -> Result<(), Fail> {
     Ok(())
 }
 
-/// Runs the program with an error sink of this room, where the words were not got.
+/// Runs the program with an error sink of this room, where the arguments were not read.
 fn no_words(alloc: Global, start: Start, room: Option<u64>) -> Result<(PieceSink, Status), Fail> {
     let files = Shelf {
         formula: FORMULA,

@@ -45,7 +45,8 @@ fn run_on(
     })
 }
 
-/// Checks what a job writes to its two sinks, and its status, for texts that are pulled whole and byte by byte.
+/// Checks what a job writes to its two sinks, and its status, for texts that are pulled whole and
+/// byte by byte.
 pub fn expect<R: Abort + AllocGlobal>(
     rt: &R,
     job: Job,
@@ -178,7 +179,8 @@ fn a_reader_fails_past_its_limit(rt: HostRuntime) -> Result<(), Fail> {
     Ok(())
 }
 
-/// Checks that a sink keeps a beginning of the text where it fails, and that the other sink gets nothing.
+/// Checks that a sink keeps a beginning of the text where it fails, and that the other sink gets
+/// nothing.
 fn cut<R: Abort + AllocGlobal>(
     rt: &R,
     job: Job,

@@ -2,7 +2,7 @@ use super::*;
 use std::alloc::{AllocError, Global};
 use std::test::Fail;
 
-/// The words as a list of texts.
+/// The arguments as a list of texts.
 fn given(alloc: Global, words: &[&str]) -> Result<Vec<String>, AllocError> {
     let mut list = Vec::new(alloc);
     for word in words {
@@ -20,7 +20,7 @@ fn rows_of_the_usage(rt: HostRuntime) -> Result<(), Fail> {
         (&["format", "--qu"], Job::Format, 1, None),
         (&["check", "check", "t"], check, 1, Some(2)),
         (&["trim", "f", "t"], trim, 1, Some(2)),
-        // Of three words none is the flag.
+        // Of three arguments none is the flag.
         (&["check", "f", "--qu"], check, 1, Some(2)),
         (&["check", "--qu", "t"], check, 1, Some(2)),
     ];

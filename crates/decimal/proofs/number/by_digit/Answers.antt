@@ -12,11 +12,13 @@ short_fits ds h l = let most : 10 ^ length ds ≤ 10 ^ 18 = pow-le-pow_right (om
 
 -- one digit more: its list, its value, and that it fits
 one_more : (r : List ℕ) (i : ℕ) → i < 18 → i < length r → AllDigits 10 (take i r) → IsInRange 48 57 (get_or r i 0)
-    → AllDigits 10 (take (i + 1) r) × (digits_value 10 (take (i + 1) r) ≡ digits_value 10 (take i r) * 10 + (get_or r i 0 - 48)) × (digits_value 10 (take i r) * 10 + (get_or r i 0 - 48) < 10 ^ 18)
+    → AllDigits 10 (take (i + 1) r) × (digits_value 10 (take (i + 1) r) ≡ digits_value 10 (take i r) * 10 + (get_or r i 0 - 48))
+    × (digits_value 10 (take i r) * 10 + (get_or r i 0 - 48) < 10 ^ 18)
 one_more r i few within before here =
     let is : digit_value (get_or r i 0) + 48 ≡ get_or r i 0 = digit_value_digit (get_or r i 0) here in
     let all : AllDigits 10 (take (i + 1) r) = digits_more 10 r i within before (omega arith) in
-    let value : digits_value 10 (take (i + 1) r) ≡ digits_value 10 (take i r) * 10 + (get_or r i 0 - 48) = omega (arith, digits_value_more 10 r i within) in
+    let value : digits_value 10 (take (i + 1) r) ≡ digits_value 10 (take i r) * 10 + (get_or r i 0 - 48) =
+    omega (arith, digits_value_more 10 r i within) in
     let fits : digits_value 10 (take (i + 1) r) < 10 ^ 18 = short_fits (take (i + 1) r) all (omega (arith, length-take (i + 1) r)) in
     (all, value, omega arith)
 
@@ -36,4 +38,9 @@ pub loop-i-preserved : goal.loop-i-preserved
 loop-i-preserved c =
     let r = take (length c.args.bytes.now - c.args.from) (drop c.args.from c.args.bytes.now) in
     let more = one_more r c.loop-i.i c.loop-i-test.true c.if-i-rest.true c.loop-i.invariant.digits c.if-is_ascii_digit.ensures.cases in
-    record { most = omega arith; within = omega arith; digits = more.0; value = omega (arith, more.1, c.loop-i.invariant.value, c.from.ensures) }
+    record {
+      most = omega arith;
+      within = omega arith;
+      digits = more.0;
+      value = omega (arith, more.1, c.loop-i.invariant.value, c.from.ensures);
+    }

@@ -7,16 +7,20 @@ use Rattle.qbf_core.proofs.prefix.put_far.Goals as goal
 
 pub returns-then-reached-number-clause-kept : goal.returns-then-reached-number-clause-kept
 returns-then-reached-number-clause-kept c = λ es told none.
-    beyond_noted c.args.reached c.args.far.now.entries es c.args.var c.args.place (omega (arith, c.if-reached-number.true, c.number.ensures.value)) told
+    beyond_noted c.args.reached c.args.far.now.entries es c.args.var c.args.place
+    (omega (arith, c.if-reached-number.true, c.number.ensures.value)) told
 
 pub returns-clause-kept : goal.returns-clause-kept
 returns-clause-kept c = λ es told none.
-    let out : lookup (nat_eq c.args.var) c.args.far.now.entries ≡ None = told c.args.var (omega (arith, c.if-reached-number.false, c.number.ensures.value)) ∙ none in
+    let out : lookup (nat_eq c.args.var) c.args.far.now.entries ≡ None =
+    told c.args.var (omega (arith, c.if-reached-number.false, c.number.ensures.value)) ∙ none in
     rw (added c.args.far.now c.insert.new.self c.args.var c.args.place (sym (ap is_some out)) c.in_ok-insert.ensures.entries)
     (beyond_added c.args.reached c.args.far.now.entries es c.args.var c.args.place out none told)
 
 pub returns-clause-within : goal.returns-clause-within
 returns-clause-within c = λ es told none all.
-    let out : lookup (nat_eq c.args.var) c.args.far.now.entries ≡ None = told c.args.var (omega (arith, c.if-reached-number.false, c.number.ensures.value)) ∙ none in
+    let out : lookup (nat_eq c.args.var) c.args.far.now.entries ≡ None =
+    told c.args.var (omega (arith, c.if-reached-number.false, c.number.ensures.value)) ∙ none in
     rw (added c.args.far.now c.insert.new.self c.args.var c.args.place (sym (ap is_some out)) c.in_ok-insert.ensures.entries)
-    (AllByRecursion-push (λ e. IsVariable e.0) c.args.far.now.entries (c.args.var, c.args.place) all (subst IsVariable c.number.ensures.value (c.number.ensures.low, c.number.ensures.high)))
+    (AllByRecursion-push (λ e. IsVariable e.0) c.args.far.now.entries (c.args.var, c.args.place) all
+    (subst IsVariable c.number.ensures.value (c.number.ensures.low, c.number.ensures.high)))

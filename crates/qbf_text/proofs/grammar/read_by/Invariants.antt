@@ -4,14 +4,15 @@ use Rattle.qbf_text.specs.Ahead.{ahead}
 use Rattle.qbf_text.specs.Rows.{reads_from}
 use Rattle.qbf_text.specs.Stopping.{IfKnown, tokens_next}
 use Rattle.qbf_text.proofs.Stops.{SoFar}
-use Rattle.qbf_text.proofs.Going.{Leads}
+use Rattle.qbf_text.proofs.OneToken.{Leads}
 use Rattle.qbf_text.proofs.grammar.read_by.Given as goal
 
 abbrev pub invariant-tokens : goal.invariant-tokens
 invariant-tokens g l = record {
   so_far : Leads (reads_from g.G.Grammar.row_of (g.G.Grammar.place l.fn.grammar) (left l.fn.scanner (g.S.Source.remaining l.fn.source)))
       (reads_from g.G.Grammar.row_of (g.G.Grammar.place l.grammar) (left l.scanner (g.S.Source.remaining l.source)));
-  stops : IfKnown (SoFar g.G.Grammar.row_of (g.G.Grammar.place l.fn.grammar) (g.G.Grammar.place l.grammar) (tokens_next l.fn.scanner) (tokens_next l.scanner))
+  stops : IfKnown (SoFar g.G.Grammar.row_of (g.G.Grammar.place l.fn.grammar) (g.G.Grammar.place l.grammar) (tokens_next l.fn.scanner)
+      (tokens_next l.scanner))
       (ahead l.fn.scanner.pending (g.S.Source.remaining l.fn.source)) (ahead l.scanner.pending (g.S.Source.remaining l.source));
   ready : ¬ HasFailed l.scanner;
   remains : IsReady l.fn.scanner (g.S.Source.remaining l.fn.source) → IsReady l.scanner (g.S.Source.remaining l.source);

@@ -1,7 +1,7 @@
 use Rattle.std.proofs.Common.{refl}
 use Rattle.std.specs.Prelude.{decimal}
 use Rattle.std.proofs.lemmas.Result.{err_from_is_err_and}
-use Rattle.qbf_text.proofs.SentMore.{put_fails, put_then}
+use Rattle.qbf_text.proofs.SentParts.{put_fails, put_then}
 use Rattle.qbf_text.proofs.spelling.put_minus.Goals as goal
 
 pub returns-in_err-put_byte : goal.returns-in_err-put_byte

@@ -1,4 +1,4 @@
-use Rattle.qdimacs.proofs.Full.{full}
+use Rattle.qdimacs.proofs.AllVariablesBound.{full}
 use Rattle.qdimacs.proofs.grammar.is_full.Goals as goal
 
 pub returns-clause-full : goal.returns-clause-full

@@ -1,5 +1,5 @@
 use Rattle.std.proofs.Common.{refl}
-use Rattle.qrp.proofs.Making.{made_closed, sound_closed}
+use Rattle.qrp.proofs.TraceParts.{made_closed, sound_closed}
 use Rattle.qrp.proofs.grammar.close.Goals as goal
 
 pub returns-in_ok-close_step-in-Step-clause-row : goal.returns-in_ok-close_step-in-Step-clause-row
@@ -8,4 +8,5 @@ returns-in_ok-close_step-in-Step-clause-row c =
 
 pub returns-in_ok-close_step-in-Step-clause-sound : goal.returns-in_ok-close_step-in-Step-clause-sound
 returns-in_ok-close_step-in-Step-clause-sound c =
-    rw c.in_ok-close_step-in-Step.ensures (sound_closed c.args.parts.now c.in-Step.number c.requires.made (rw c.in-Step.is at c.requires.complete))
+    rw c.in_ok-close_step-in-Step.ensures
+    (sound_closed c.args.parts.now c.in-Step.number c.requires.made (rw c.in-Step.is at c.requires.complete))

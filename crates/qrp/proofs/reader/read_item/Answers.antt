@@ -3,7 +3,7 @@ use Rattle.qbf_text.specs.Reading.{left}
 use Rattle.qbf_text.specs.Rows.{reads_from}
 use Rattle.qbf_text.specs.Taking.{Reads}
 use Rattle.qrp.specs.Items.{Giving, item_row}
-use Rattle.qrp.proofs.ItemRows.{item_given, fault_given}
+use Rattle.qrp.proofs.RowsReadTheItem.{item_given, fault_given}
 use Rattle.qbf_text.specs.Ahead.{ahead}
 use Rattle.qbf_text.specs.Stopping.{tokens_next}
 use Rattle.qrp.specs.Given.{numbers_with}
@@ -12,15 +12,21 @@ use Rattle.qrp.proofs.reader.read_item.Goals as goal
 
 pub returns-in-Ok-give-clause-gives : goal.returns-in-Ok-give-clause-gives
 returns-in-Ok-give-clause-gives g c = λ p at_.
-    item_given p _ _ _ c.in-Ok-give.item _ (rw at_ at c.in-Ok.ensures.reads) (rw (← c.in-Ok-give.ensures.next.numbers) at c.in-Ok-give.ensures.item)
+    item_given p _ _ _ c.in-Ok-give.item _ (rw at_ at c.in-Ok.ensures.reads)
+    (rw (← c.in-Ok-give.ensures.next.numbers) at c.in-Ok-give.ensures.item)
 
 pub returns-in-Err-clause-gives : goal.returns-in-Err-clause-gives
 returns-in-Err-clause-gives g c = λ p at_. rw c.fault_of.ensures
-    (fault_given p (left c.args.scanner.now (g.S.Source.remaining c.args.source.now)) c.read_by.new.grammar.giving (left c.read_by.new.scanner (g.S.Source.remaining c.read_by.new.source)) c.in-Err.error
-    (subst (λ (q : Giving). Reads (reads_from item_row q (left c.args.scanner.now (g.S.Source.remaining c.args.source.now))) c.read_by.new.grammar.giving (left c.read_by.new.scanner (g.S.Source.remaining c.read_by.new.source)) (Err c.in-Err.error)) at_ c.in-Err.ensures.reads))
+    (fault_given p (left c.args.scanner.now (g.S.Source.remaining c.args.source.now)) c.read_by.new.grammar.giving
+    (left c.read_by.new.scanner (g.S.Source.remaining c.read_by.new.source)) c.in-Err.error
+    (subst (λ (q : Giving). Reads (reads_from item_row q (left c.args.scanner.now (g.S.Source.remaining c.args.source.now)))
+    c.read_by.new.grammar.giving (left c.read_by.new.scanner (g.S.Source.remaining c.read_by.new.source)) (Err c.in-Err.error)) at_
+    c.in-Err.ensures.reads))
 
 pub returns-in-Ok-give-clause-stops : goal.returns-in-Ok-give-clause-stops
 returns-in-Ok-give-clause-stops g c = λ p at_.
-    item_stops p c.args.grammar.now.giving c.read_by.new.grammar.giving (tokens_next c.args.scanner.now) c.in-Ok-give.item (numbers_with c.read_by.new.grammar.numbers (Ok c.in-Ok-give.item))
-    (ahead c.args.scanner.now.pending (g.S.Source.remaining c.args.source.now)) (ahead c.read_by.new.scanner.pending (g.S.Source.remaining c.read_by.new.source)) (length c.read_by.new.scanner.pending ≤ 4096)
+    item_stops p c.args.grammar.now.giving c.read_by.new.grammar.giving (tokens_next c.args.scanner.now) c.in-Ok-give.item
+    (numbers_with c.read_by.new.grammar.numbers (Ok c.in-Ok-give.item))
+    (ahead c.args.scanner.now.pending (g.S.Source.remaining c.args.source.now))
+    (ahead c.read_by.new.scanner.pending (g.S.Source.remaining c.read_by.new.source)) (length c.read_by.new.scanner.pending ≤ 4096)
     at_ c.in-Ok-give.ensures.item c.in-Ok.ensures.stops

@@ -6,5 +6,6 @@ use Rattle.qrp.proofs.writing.put_literals.Given as goal
 
 abbrev pub invariant-loop-lit : goal.invariant-loop-lit
 invariant-loop-lit g l = record {
-  sent : IsSent g.K.Sink.written g.K.Sink.failures l.fn.sink l.sink (flat_map spaced_literal l.lits) (flat_map spaced_literal (drop l.lit-index l.lits));
+  sent : IsSent g.K.Sink.written g.K.Sink.failures l.fn.sink l.sink (flat_map spaced_literal l.lits)
+      (flat_map spaced_literal (drop l.lit-index l.lits));
 }

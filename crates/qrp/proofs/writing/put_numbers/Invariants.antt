@@ -6,5 +6,6 @@ use Rattle.qrp.proofs.writing.put_numbers.Given as goal
 
 abbrev pub invariant-loop-number : goal.invariant-loop-number
 invariant-loop-number g l = record {
-  sent : IsSent g.K.Sink.written g.K.Sink.failures l.fn.sink l.sink (flat_map spaced l.numbers) (flat_map spaced (drop l.number-index l.numbers));
+  sent : IsSent g.K.Sink.written g.K.Sink.failures l.fn.sink l.sink (flat_map spaced l.numbers)
+      (flat_map spaced (drop l.number-index l.numbers));
 }

@@ -4,7 +4,7 @@ use Rattle.qbf_core.specs.declared.quantifier.Quantifier.{Quantifier}
 use Rattle.qbf_core.specs.declared.quantifier.Quantifier.TheVariants.{All, Exists}
 use Rattle.qbf_core.specs.Blocks.{letter_of}
 use Rattle.qbf_text.specs.Canonical.{spelled}
-use Rattle.qbf_text.proofs.SentMore.{put_fails, put_then}
+use Rattle.qbf_text.proofs.SentParts.{put_fails, put_then}
 use Rattle.qrp.specs.Grammar.{letter}
 use Rattle.qrp.specs.Texts.{spaced_numbers, closing, set_text}
 use Rattle.qrp.proofs.writing.put_set.Goals as goal
@@ -30,4 +30,5 @@ pub returns : goal.returns
 returns g c =
     put_then (spaced_numbers c.set.inside.vars.items ++ closing) (ap set_text (sym c.set.view_is))
     (rw (c.letter.ensures, ← letter_text c.set.inside.quantifier) at c.in_ok-put_byte.ensures.put)
-    (put_then closing (ap (λ (ns : List ℕ). spaced_numbers ns ++ closing) (sym c.deref.ensures.value)) c.in_ok-put_variables.ensures c.put_bytes.ensures.put)
+    (put_then closing (ap (λ (ns : List ℕ). spaced_numbers ns ++ closing) (sym c.deref.ensures.value)) c.in_ok-put_variables.ensures
+    c.put_bytes.ensures.put)

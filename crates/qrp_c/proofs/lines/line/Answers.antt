@@ -1,6 +1,6 @@
 use Rattle.std.proofs.Common.{◌<◌, ◌^◌, arith, refl, subst}
 use Rattle.qrp_c.specs.declared.verdict.QrpVerdict.{QrpVerdict}
-use Rattle.qrp_c.proofs.LinesMore.{line_short, kept_whole}
+use Rattle.qrp_c.proofs.LineRoom.{line_short, kept_whole}
 use Rattle.qrp_c.proofs.lines.line.Goals as goal
 
 pub returns : goal.returns

@@ -1,23 +1,27 @@
 use Rattle.std.proofs.Common.{refl, sym, ◌∙◌}
 use Rattle.std.proofs.lemmas.Bool.{false≢true}
 use Rattle.qrp_check.proofs.Reducing.{binds_block}
-use Rattle.qrp_check.proofs.Passing.{passes_one, fails_unbound, fails_other, fails_early}
+use Rattle.qrp_check.proofs.SetsAgree.{passes_one, fails_unbound, fails_other, fails_early}
 use Rattle.qrp_check.proofs.agree.next_block.Goals as goal
 
 pub returns-then-not-is_bound-clause-err : goal.returns-then-not-is_bound-clause-err
-returns-then-not-is_bound-clause-err c = fails_unbound c.args.prefix.now c.args.highest c.args.quantifier c.args.var (λ b. false≢true (c.if-not-is_bound.ensures ∙ b))
+returns-then-not-is_bound-clause-err c =
+    fails_unbound c.args.prefix.now c.args.highest c.args.quantifier c.args.var (λ b. false≢true (c.if-not-is_bound.ensures ∙ b))
 
 pub returns-then-not-is_bound_by-clause-err : goal.returns-then-not-is_bound_by-clause-err
 returns-then-not-is_bound_by-clause-err c =
-    fails_other c.args.prefix.now c.args.highest c.args.quantifier c.args.var (sym c.if-not-is_bound.ensures) (λ b. false≢true (c.if-not-is_bound_by.ensures.1 b))
+    fails_other c.args.prefix.now c.args.highest c.args.quantifier c.args.var (sym c.if-not-is_bound.ensures)
+    (λ b. false≢true (c.if-not-is_bound_by.ensures.1 b))
 
 pub returns-then-block-highest-clause-err : goal.returns-then-block-highest-clause-err
 returns-then-block-highest-clause-err c =
-    fails_early c.args.prefix.now c.args.highest c.in-Some.block c.args.quantifier c.args.var (c.if-not-is_bound_by.ensures.0 refl) (sym c.in-Some.ensures) c.if-block-highest.true
+    fails_early c.args.prefix.now c.args.highest c.in-Some.block c.args.quantifier c.args.var (c.if-not-is_bound_by.ensures.0 refl)
+    (sym c.in-Some.ensures) c.if-block-highest.true
 
 pub returns-else-block-highest-clause-ok : goal.returns-else-block-highest-clause-ok
 returns-else-block-highest-clause-ok c =
-    passes_one c.args.prefix.now c.args.highest c.in-Some.block c.args.quantifier c.args.var (c.if-not-is_bound_by.ensures.0 refl) (sym c.in-Some.ensures) c.if-block-highest.false
+    passes_one c.args.prefix.now c.args.highest c.in-Some.block c.args.quantifier c.args.var (c.if-not-is_bound_by.ensures.0 refl)
+    (sym c.in-Some.ensures) c.if-block-highest.false
 
 pub returns-in-None-clause-err : goal.returns-in-None-clause-err
 returns-in-None-clause-err c = λ before rest passed.

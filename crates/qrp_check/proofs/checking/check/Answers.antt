@@ -1,41 +1,48 @@
 use Rattle.std.proofs.Common.{ap}
 use Rattle.qbf_core.specs.Rules.{Clauses, Cubes}
 use Rattle.qrp_check.specs.Proof.{side_of}
-use Rattle.qrp_check.proofs.Keeping.{proves, refuses, shows_false, shows_true, closed_of}
+use Rattle.qrp_check.proofs.KeptSets.{proves, refuses, shows_false, shows_true, closed_of}
 use Rattle.qrp_check.proofs.StepsAt.{answer_rises, answer_inside}
 use Rattle.qrp_check.proofs.checking.check.Goals as goal
 
 pub returns-in_default-find_goal-clause-refused : goal.returns-in_default-find_goal-clause-refused
-returns-in_default-find_goal-clause-refused g c = λ other. (rw c.prefix.ensures at c.in_default.ensures.none, c.in_default-find_goal.ensures.none)
+returns-in_default-find_goal-clause-refused g c =
+    λ other. (rw c.prefix.ensures at c.in_default.ensures.none, c.in_default-find_goal.ensures.none)
 
 pub returns-in-Unsat-clause-proves : goal.returns-in-Unsat-clause-proves
 returns-in-Unsat-clause-proves g c =
-    proves c.args.rules c.args.formula.now c.args.sets.now (g.T.Steps.steps c.args.trace.now) c.args.outcome Clauses c.check_core.result (ap side_of c.in-Unsat.is)
+    proves c.args.rules c.args.formula.now c.args.sets.now (g.T.Steps.steps c.args.trace.now) c.args.outcome Clauses c.check_core.result
+    (ap side_of c.in-Unsat.is)
     (rw c.prefix.ensures at c.in_default.ensures.none) c.check_core.ensures.derives
 
 pub returns-in-Unsat-clause-truth : goal.returns-in-Unsat-clause-truth
 returns-in-Unsat-clause-truth g c =
-    shows_false c.args.rules c.args.formula.now c.args.sets.now (g.T.Steps.steps c.args.trace.now) c.args.outcome c.check_core.result (ap side_of c.in-Unsat.is)
+    shows_false c.args.rules c.args.formula.now c.args.sets.now (g.T.Steps.steps c.args.trace.now) c.args.outcome c.check_core.result
+    (ap side_of c.in-Unsat.is)
     (closed_of c.args.formula.now c.max_var-bound.ensures.sound) (returns-in-Unsat-clause-proves g c) c.check_core.ensures.claim
 
 pub returns-in-Unsat-clause-refused : goal.returns-in-Unsat-clause-refused
 returns-in-Unsat-clause-refused g c =
-    refuses c.args.rules c.args.formula.now c.args.sets.now (g.T.Steps.steps c.args.trace.now) c.args.outcome Clauses c.check_core.result (ap side_of c.in-Unsat.is)
+    refuses c.args.rules c.args.formula.now c.args.sets.now (g.T.Steps.steps c.args.trace.now) c.args.outcome Clauses c.check_core.result
+    (ap side_of c.in-Unsat.is)
     (rw c.prefix.ensures at c.in_default.ensures.none) c.check_core.ensures.refused
 
 pub returns-in-Sat-clause-proves : goal.returns-in-Sat-clause-proves
 returns-in-Sat-clause-proves g c =
-    proves c.args.rules c.args.formula.now c.args.sets.now (g.T.Steps.steps c.args.trace.now) c.args.outcome Cubes c.check_core-in-Sat.result (ap side_of c.in-Sat.is)
+    proves c.args.rules c.args.formula.now c.args.sets.now
+    (g.T.Steps.steps c.args.trace.now) c.args.outcome Cubes c.check_core-in-Sat.result (ap side_of c.in-Sat.is)
     (rw c.prefix.ensures at c.in_default.ensures.none) c.check_core-in-Sat.ensures.derives
 
 pub returns-in-Sat-clause-truth : goal.returns-in-Sat-clause-truth
 returns-in-Sat-clause-truth g c =
-    shows_true c.args.rules c.args.formula.now c.args.sets.now (g.T.Steps.steps c.args.trace.now) c.args.outcome c.check_core-in-Sat.result (ap side_of c.in-Sat.is)
+    shows_true c.args.rules c.args.formula.now c.args.sets.now (g.T.Steps.steps c.args.trace.now) c.args.outcome c.check_core-in-Sat.result
+    (ap side_of c.in-Sat.is)
     (closed_of c.args.formula.now c.max_var-bound.ensures.sound) (returns-in-Sat-clause-proves g c) c.check_core-in-Sat.ensures.claim
 
 pub returns-in-Sat-clause-refused : goal.returns-in-Sat-clause-refused
 returns-in-Sat-clause-refused g c =
-    refuses c.args.rules c.args.formula.now c.args.sets.now (g.T.Steps.steps c.args.trace.now) c.args.outcome Cubes c.check_core-in-Sat.result (ap side_of c.in-Sat.is)
+    refuses c.args.rules c.args.formula.now c.args.sets.now
+    (g.T.Steps.steps c.args.trace.now) c.args.outcome Cubes c.check_core-in-Sat.result (ap side_of c.in-Sat.is)
     (rw c.prefix.ensures at c.in_default.ensures.none) c.check_core-in-Sat.ensures.refused
 
 pub returns-in-Unsat-clause-rises : goal.returns-in-Unsat-clause-rises
@@ -45,7 +52,9 @@ pub returns-in-Unsat-clause-within : goal.returns-in-Unsat-clause-within
 returns-in-Unsat-clause-within g c = answer_inside (g.T.Steps.steps c.args.trace.now) c.check_core.result c.check_core.ensures.core
 
 pub returns-in-Sat-clause-rises : goal.returns-in-Sat-clause-rises
-returns-in-Sat-clause-rises g c = answer_rises (g.T.Steps.steps c.args.trace.now) c.check_core-in-Sat.result c.check_core-in-Sat.ensures.core
+returns-in-Sat-clause-rises g c =
+    answer_rises (g.T.Steps.steps c.args.trace.now) c.check_core-in-Sat.result c.check_core-in-Sat.ensures.core
 
 pub returns-in-Sat-clause-within : goal.returns-in-Sat-clause-within
-returns-in-Sat-clause-within g c = answer_inside (g.T.Steps.steps c.args.trace.now) c.check_core-in-Sat.result c.check_core-in-Sat.ensures.core
+returns-in-Sat-clause-within g c =
+    answer_inside (g.T.Steps.steps c.args.trace.now) c.check_core-in-Sat.result c.check_core-in-Sat.ensures.core

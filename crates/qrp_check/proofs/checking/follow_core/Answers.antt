@@ -6,8 +6,8 @@ use Rattle.qrp_check.specs.Kept.{AreKept, IsEntry, IfRule}
 use Rattle.qrp_check.specs.Proof.{IsFirstFaultyStep}
 use Rattle.qrp_check.specs.declared.step.StepFault.{StepFault}
 use Rattle.qrp.specs.Inferences.{Inference}
-use Rattle.qrp_check.proofs.Keeping.{kept_skip, kept_push}
-use Rattle.qrp_check.proofs.Listing.{marked, unmarked}
+use Rattle.qrp_check.proofs.KeptSets.{kept_skip, kept_push}
+use Rattle.qrp_check.proofs.MarkedPlaces.{marked, unmarked}
 use Rattle.qrp_check.proofs.Marking.{core_within}
 use Rattle.qrp_check.proofs.checking.follow_core.Goals as goal
 
@@ -18,10 +18,12 @@ loop-place-preserved-then-not-marks-place g c =
     let apart : IsInCore (g.T.Steps.steps c.args.trace.now) i → ⊥ = λ core. out ((c.requires.core i).1 core) in
     record {
       follows = below_more
-          (λ (j : ℕ). IsInCore (g.T.Steps.steps c.args.trace.now) j → StepFollows c.args.rules g.S.Side.side c.args.formula.now (g.T.Steps.steps c.args.trace.now) j)
+          (λ (j : ℕ). IsInCore (g.T.Steps.steps c.args.trace.now) j
+          → StepFollows c.args.rules g.S.Side.side c.args.formula.now (g.T.Steps.steps c.args.trace.now) j)
           i c.loop-place.invariant.follows (λ core. absurd (apart core));
       known = c.loop-place.invariant.known;
-      kept = subst (λ (ks : List (List Literal)). AreKept c.args.formula.now.blocks (g.T.Steps.steps c.args.trace.now) (i + 1) ks) (sym c.in_ok-keep.ensures.kept)
+      kept = subst (λ (ks : List (List Literal)). AreKept c.args.formula.now.blocks (g.T.Steps.steps c.args.trace.now) (i + 1) ks)
+          (sym c.in_ok-keep.ensures.kept)
           (kept_skip c.args.formula.now.blocks (g.T.Steps.steps c.args.trace.now) i c.loop-place.kept [] apart c.loop-place.invariant.kept);
     }
 
@@ -37,7 +39,8 @@ returns-in-Err-Rule-clause-refused g c =
     let is = marked c.args.marks.now c.loop-place.place
     (omega (arith, c.loop-place-test.true, c.len-place-end.ensures.len, c.requires.len)) c.if-not-marks-place.false in
     let fails : IsStepFault c.args.rules g.S.Side.side c.args.formula.now steps c.loop-place.place c.in-Err-Rule.fault =
-    subst (λ (e : StepFault). IfRule e (IsStepFault c.args.rules g.S.Side.side c.args.formula.now steps c.loop-place.place)) c.in-Err-Rule.field-0-is c.in-Err-Rule.ensures.fault in
+    subst (λ (e : StepFault). IfRule e (IsStepFault c.args.rules g.S.Side.side c.args.formula.now steps c.loop-place.place))
+    c.in-Err-Rule.field-0-is c.in-Err-Rule.ensures.fault in
     subst (IsFirstFaultyStep c.args.rules g.S.Side.side c.args.formula.now steps c.number.result) (sym c.in-Err-Rule.fault-is) (record {
       place = c.loop-place.place;
       needed = (c.requires.core c.loop-place.place).0 is;
@@ -53,12 +56,15 @@ loop-place-preserved g c =
     (omega (arith, c.loop-place-test.true, c.len-place-end.ensures.len, c.requires.len)) c.if-not-marks-place.false in
     record {
       follows = below_more
-          (λ (j : ℕ). IsInCore (g.T.Steps.steps c.args.trace.now) j → StepFollows c.args.rules g.S.Side.side c.args.formula.now (g.T.Steps.steps c.args.trace.now) j)
+          (λ (j : ℕ). IsInCore (g.T.Steps.steps c.args.trace.now) j
+          → StepFollows c.args.rules g.S.Side.side c.args.formula.now (g.T.Steps.steps c.args.trace.now) j)
           i c.loop-place.invariant.follows (λ core. c.in-Ok.ensures.follows);
       known = c.in-Ok.ensures.known;
-      kept = subst (λ (ks : List (List Literal)). AreKept c.args.formula.now.blocks (g.T.Steps.steps c.args.trace.now) (i + 1) ks) (sym c.in_ok-keep-in-Ok.ensures.kept)
-          (kept_push c.args.formula.now.blocks (g.T.Steps.steps c.args.trace.now) i c.loop-place.kept c.shown.result.now
-          (λ step here. subst (λ (z : List Literal). IsEntry c.args.formula.now.blocks z step.lits) (sym c.shown.ensures) (c.in-Ok.ensures.set step here)) c.loop-place.invariant.kept);
+      kept = subst (λ (ks : List (List Literal)). AreKept c.args.formula.now.blocks (g.T.Steps.steps c.args.trace.now) (i + 1) ks)
+          (sym c.in_ok-keep-in-Ok.ensures.kept)
+          (kept_push c.args.formula.now.blocks (g.T.Steps.steps c.args.trace.now) i c.loop-place.kept c.set_or_written.result.now
+          (λ step here. subst (λ (z : List Literal). IsEntry c.args.formula.now.blocks z step.lits) (sym c.set_or_written.ensures)
+          (c.in-Ok.ensures.set step here)) c.loop-place.invariant.kept);
     }
 
 pub returns-clause-follows : goal.returns-clause-follows

@@ -1,12 +1,13 @@
 use Rattle.std.proofs.Common.{◌≡◌, ◌-◌, ◌<◌, [], arith, sym, ◌∙◌}
 use Rattle.std.proofs.lemmas.Option.{slice_get_within}
-use Rattle.qrp_check.proofs.Places.{empty_of, full_of, goal_here, later_step}
+use Rattle.qrp_check.proofs.StepPlaces.{empty_of, full_of, goal_here, later_step}
 use Rattle.qrp_check.proofs.goal.find_goal.Goals as goal
 
 pub loop-i-init : goal.loop-i-init
 loop-i-init g c = record {
   within = omega (arith, c.len-i.ensures.len);
-  later = λ j step here empty. let less = slice_get_within (g.T.Steps.steps c.args.trace.now) j step here in omega (arith, less, c.len-i.ensures.len);
+  later = λ j step here empty. let less = slice_get_within (g.T.Steps.steps c.args.trace.now) j step here in
+      omega (arith, less, c.len-i.ensures.len);
 }
 
 pub returns-then-is_empty-clause-some : goal.returns-then-is_empty-clause-some

@@ -1,6 +1,6 @@
 use Rattle.std.proofs.Common.{take, List, ◌⊎◌}
 use Rattle.qbf_core.specs.Literal.{Literal}
-use Rattle.qbf_core.specs.Lists.{◌∈◌}
+use Rattle.qbf_core.specs.Members.{◌∈◌}
 use Rattle.qbf_core.specs.Rules.{IsTautology}
 use Rattle.qrp_check.proofs.initial.initial_cube_fault.Given as goal
 

@@ -1,5 +1,5 @@
 use Rattle.std.proofs.Common.{take}
-use Rattle.qbf_core.specs.Lists.{◌∈◌}
+use Rattle.qbf_core.specs.Members.{◌∈◌}
 use Rattle.qrp_check.proofs.initial.is_among.Given as goal
 
 abbrev pub invariant-loop-other : goal.invariant-loop-other

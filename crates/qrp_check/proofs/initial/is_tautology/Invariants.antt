@@ -1,7 +1,7 @@
 use Rattle.std.proofs.Common.{take}
 use Rattle.qbf_core.specs.Literal.{Literal}
 use Rattle.qbf_core.specs.Literal.{negated}
-use Rattle.qbf_core.specs.Lists.{◌∈◌}
+use Rattle.qbf_core.specs.Members.{◌∈◌}
 use Rattle.qrp_check.proofs.initial.is_tautology.Given as goal
 
 abbrev pub invariant-loop-lit : goal.invariant-loop-lit

@@ -1,7 +1,7 @@
 use Rattle.std.proofs.Common.{refl, subst, inl, inr}
 use Rattle.std.proofs.lemmas.Bool.{false≢true}
 use Rattle.qbf_core.specs.Literal.{Literal}
-use Rattle.qbf_core.specs.Lists.{◌∈◌}
+use Rattle.qbf_core.specs.Members.{◌∈◌}
 use Rattle.qbf_core.proofs.Members.{in_at, in_take_more, in_take_all}
 use Rattle.qrp_check.proofs.initial.shares.Goals as goal
 
@@ -19,10 +19,11 @@ returns-then-is_member c = (
 )
 
 pub loop-lit-preserved : goal.loop-lit-preserved
-loop-lit-preserved c = λ m h k. elim (in_take_more c.args.clause.now c.loop-lit.lit-index c.lit-item.result m c.loop-lit-test.true c.lit-item.is h) [
-  | inl before ↦ c.loop-lit.invariant m before k
-  | inr e ↦ false≢true (c.if-is_member.ensures.1 (subst (λ (z : Literal). z ∈ c.args.set.now) e k))
-]
+loop-lit-preserved c =
+    λ m h k. elim (in_take_more c.args.clause.now c.loop-lit.lit-index c.lit-item.result m c.loop-lit-test.true c.lit-item.is h) [
+      | inl before ↦ c.loop-lit.invariant m before k
+      | inr e ↦ false≢true (c.if-is_member.ensures.1 (subst (λ (z : Literal). z ∈ c.args.set.now) e k))
+    ]
 
 pub returns : goal.returns
 returns c = (

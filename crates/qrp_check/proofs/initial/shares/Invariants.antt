@@ -1,6 +1,6 @@
 use Rattle.std.proofs.Common.{take}
 use Rattle.qbf_core.specs.Literal.{Literal}
-use Rattle.qbf_core.specs.Lists.{◌∈◌}
+use Rattle.qbf_core.specs.Members.{◌∈◌}
 use Rattle.qrp_check.proofs.initial.shares.Given as goal
 
 abbrev pub invariant-loop-lit : goal.invariant-loop-lit

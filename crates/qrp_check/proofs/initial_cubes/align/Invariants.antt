@@ -1,4 +1,4 @@
-use Rattle.qrp_check.proofs.Watching.{IsAlignedTo}
+use Rattle.qrp_check.proofs.WatchedClauses.{IsAlignedTo}
 use Rattle.qrp_check.proofs.initial_cubes.align.Given as goal
 
 abbrev pub invariant-loop-place : goal.invariant-loop-place

@@ -1,5 +1,5 @@
 use Rattle.std.proofs.Common.{sym, refl, arith, ◌<◌, length}
-use Rattle.qrp_check.proofs.Watching.{written_keeps, written_watches, nothing_listed}
+use Rattle.qrp_check.proofs.WatchedClauses.{written_keeps, written_watches, nothing_listed}
 use Rattle.qrp_check.proofs.initial_cubes.hand_over.Goals as goal
 
 pub returns-then-is_free-clause-kept : goal.returns-then-is_free-clause-kept

@@ -1,6 +1,6 @@
 use Rattle.std.proofs.Common.{ℕ, List, Contains, subst, sym}
-use Rattle.qrp_check.proofs.Watching.{met_by, met_if}
-use Rattle.qrp_check.proofs.Starts.{got_in}
+use Rattle.qrp_check.proofs.WatchedClauses.{met_by, met_if}
+use Rattle.qrp_check.proofs.ReductsByMembers.{got_in}
 use Rattle.qrp_check.proofs.initial_cubes.take_over.Goals as goal
 
 pub returns-in-Some-clause-met : goal.returns-in-Some-clause-met
@@ -9,4 +9,5 @@ returns-in-Some-clause-met c = λ t clause i at held listed.
     (got_in c.args.cube.now c.in-Some.place c.args.from.lit c.in-Some.ensures) (c.hand_over.ensures.added t i listed)
 
 pub returns-in-None-clause-met : goal.returns-in-None-clause-met
-returns-in-None-clause-met c = met_if c.watch_each.result c.watch_each.ensures.met (λ all clause i at held listed. all i (subst (λ (xs : List ℕ). Contains xs i) (sym c.deref.ensures.value) listed))
+returns-in-None-clause-met c = met_if c.watch_each.result c.watch_each.ensures.met
+    (λ all clause i at held listed. all i (subst (λ (xs : List ℕ). Contains xs i) (sym c.deref.ensures.value) listed))

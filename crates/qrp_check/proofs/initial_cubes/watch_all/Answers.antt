@@ -1,5 +1,5 @@
 use Rattle.std.proofs.Common.{arith}
-use Rattle.qrp_check.proofs.Watching.{met_next}
+use Rattle.qrp_check.proofs.WatchedClauses.{met_next}
 use Rattle.std.proofs.lemmas.Option.{slice_get_within}
 use Rattle.qrp_check.proofs.initial_cubes.watch_all.Goals as goal
 

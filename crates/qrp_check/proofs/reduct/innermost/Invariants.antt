@@ -3,4 +3,4 @@ use Rattle.qrp_check.specs.Walks.{IsInnermost}
 use Rattle.qrp_check.proofs.reduct.innermost.Given as goal
 
 abbrev pub invariant-loop-lit : goal.invariant-loop-lit
-invariant-loop-lit l = IsInnermost l.prefix l.quantifier l.spared (take l.lit-index l.lits) l.found
+invariant-loop-lit l = IsInnermost l.prefix l.quantifier l.pivot (take l.lit-index l.lits) l.found

@@ -1,7 +1,7 @@
 use Rattle.std.proofs.Common.{◌+◌, ◌∙◌, ℕ, drop, refl, sym, subst, inl, inr, ◌++◌}
 use Rattle.std.proofs.lemmas.Bool.{false≢true}
 use Rattle.qbf_core.specs.Literal.{Literal}
-use Rattle.qbf_core.specs.Lists.{◌∈◌}
+use Rattle.qbf_core.specs.Members.{◌∈◌}
 use Rattle.qbf_core.specs.Rules.{resolvent}
 use Rattle.qrp_check.proofs.Cursors.{Reaches, HasVar}
 use Rattle.qbf_core.proofs.Members.{in_at, in_take_more, in_take_all}
@@ -10,7 +10,11 @@ use Rattle.qrp_check.proofs.Cursors.{reach_start, reach_more, reach_in}
 use Rattle.qrp_check.proofs.resolvent.is_within.Goals as goal
 
 pub loop-lit-init : goal.loop-lit-init
-loop-lit-init c = record { left = reach_start c.args.a.now c.args.to.now c.requires.a; right = reach_start c.args.b.now c.args.to.now c.requires.b; done = λ l h. absurd h }
+loop-lit-init c = record {
+  left = reach_start c.args.a.now c.args.to.now c.requires.a;
+  right = reach_start c.args.b.now c.args.to.now c.requires.b;
+  done = λ l h. absurd h;
+}
 
 pub returns-then-not-is_resolved : goal.returns-then-not-is_resolved
 returns-then-not-is_resolved c = (
@@ -18,11 +22,14 @@ returns-then-not-is_resolved c = (
   λ all.
       let i : ℕ = c.loop-lit.lit-index in
       let x : Literal = c.lit-item.result in
-      let w = from_without c.args.pivot (c.args.a.now ++ c.args.b.now) x (all x (in_at c.args.to.now i x c.loop-lit-test.true c.lit-item.is)) in
+      let w =
+      from_without c.args.pivot (c.args.a.now ++ c.args.b.now) x (all x (in_at c.args.to.now i x c.loop-lit-test.true c.lit-item.is)) in
       c.if-not-is_resolved.ensures.1 (
         elim (in_append c.args.a.now c.args.b.now x w.0) [
-          | inl h ↦ inl (c.seek-in_a.ensures.found.1 (reach_in c.args.a.now c.loop-lit.left.now c.args.to.now i x x c.loop-lit-test.true c.lit-item.is c.loop-lit.invariant.left refl h))
-          | inr h ↦ inr (c.seek-in_b.ensures.found.1 (reach_in c.args.b.now c.loop-lit.right.now c.args.to.now i x x c.loop-lit-test.true c.lit-item.is c.loop-lit.invariant.right refl h))
+          | inl h ↦ inl (c.advance_to-in_a.ensures.found.1 (reach_in c.args.a.now c.loop-lit.left.now c.args.to.now i x x
+              c.loop-lit-test.true c.lit-item.is c.loop-lit.invariant.left refl h))
+          | inr h ↦ inr (c.advance_to-in_b.ensures.found.1 (reach_in c.args.b.now c.loop-lit.right.now c.args.to.now i x x
+              c.loop-lit-test.true c.lit-item.is c.loop-lit.invariant.right refl h))
         ],
         (λ e. w.1 (sym c.var.ensures ∙ e)),
       ),
@@ -32,8 +39,12 @@ pub loop-lit-preserved : goal.loop-lit-preserved
 loop-lit-preserved c =
     let i : ℕ = c.loop-lit.lit-index in
     let x : Literal = c.lit-item.result in
-    let left' : Reaches c.args.a.now c.seek-in_a.result.0.now (HasVar (drop (i + 1) c.args.to.now)) = reach_more c.args.a.now c.loop-lit.left.now _ c.args.to.now i x.var x c.requires.to c.loop-lit-test.true c.lit-item.is c.loop-lit.invariant.left c.seek-in_a.ensures.ordered c.seek-in_a.ensures.within refl c.seek-in_a.ensures.kept in
-    let right' : Reaches c.args.b.now c.seek-in_b.result.0.now (HasVar (drop (i + 1) c.args.to.now)) = reach_more c.args.b.now c.loop-lit.right.now _ c.args.to.now i x.var x c.requires.to c.loop-lit-test.true c.lit-item.is c.loop-lit.invariant.right c.seek-in_b.ensures.ordered c.seek-in_b.ensures.within refl c.seek-in_b.ensures.kept in
+    let left' : Reaches c.args.a.now c.advance_to-in_a.result.0.now (HasVar (drop (i + 1) c.args.to.now)) =
+    reach_more c.args.a.now c.loop-lit.left.now _ c.args.to.now i x.var x c.requires.to c.loop-lit-test.true c.lit-item.is
+    c.loop-lit.invariant.left c.advance_to-in_a.ensures.ordered c.advance_to-in_a.ensures.within refl c.advance_to-in_a.ensures.kept in
+    let right' : Reaches c.args.b.now c.advance_to-in_b.result.0.now (HasVar (drop (i + 1) c.args.to.now)) =
+    reach_more c.args.b.now c.loop-lit.right.now _ c.args.to.now i x.var x c.requires.to c.loop-lit-test.true c.lit-item.is
+    c.loop-lit.invariant.right c.advance_to-in_b.ensures.ordered c.advance_to-in_b.ensures.within refl c.advance_to-in_b.ensures.kept in
     record {
       left = left';
       right = right';
@@ -42,8 +53,8 @@ loop-lit-preserved c =
         | inr e ↦ subst (λ (z : Literal). z ∈ resolvent c.args.a.now c.args.b.now c.args.pivot) (sym e) (
             let t = c.if-not-is_resolved.ensures.0 refl in
             in_without c.args.pivot (c.args.a.now ++ c.args.b.now) x (elim t.0 [
-              | inl k ↦ append_left c.args.a.now c.args.b.now x (c.loop-lit.invariant.left.within x (c.seek-in_a.ensures.found.0 k))
-              | inr k ↦ append_right c.args.a.now c.args.b.now x (c.loop-lit.invariant.right.within x (c.seek-in_b.ensures.found.0 k))
+              | inl k ↦ append_left c.args.a.now c.args.b.now x (c.loop-lit.invariant.left.within x (c.advance_to-in_a.ensures.found.0 k))
+              | inr k ↦ append_right c.args.a.now c.args.b.now x (c.loop-lit.invariant.right.within x (c.advance_to-in_b.ensures.found.0 k))
             ]) (λ e. t.1 (c.var.ensures ∙ e)))
       ];
     }

@@ -1,5 +1,5 @@
 use Rattle.std.proofs.Common.{take, drop}
-use Rattle.qbf_core.specs.Lists.{◌⊆◌}
+use Rattle.qbf_core.specs.Members.{◌⊆◌}
 use Rattle.qbf_core.specs.Rules.{resolvent}
 use Rattle.qrp_check.proofs.Cursors.{Reaches, HasVar}
 use Rattle.qrp_check.proofs.resolvent.is_within.Given as goal

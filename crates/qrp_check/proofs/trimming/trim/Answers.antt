@@ -63,7 +63,9 @@ returns c =
     let core : List ℕ = c.args.verified.now.core.items in
     let steps : List Inference = c.args.trace.now.steps in
     let whole : take c.loop-place.place-index core ≡ core =
-    take_all c.loop-place.place-index core (omega (arith, c.loop-place-test.false, ap (λ (ps : List ℕ). length ps) c.deref-place-items.ensures.value)) in
+    take_all c.loop-place.place-index core
+    (omega (arith, c.loop-place-test.false, ap (λ (ps : List ℕ). length ps) c.deref-place-items.ensures.value)) in
     let kept : List ℕ → Derivation = λ ps. kept_steps c.args.trace.now core (steps_at steps ps) in
-    let counted : ℕ → Derivation = λ n. record c.args.trace.now { header = record { vars = c.args.trace.now.header.vars; steps = n }; steps = steps_at steps core } in
+    let counted : ℕ → Derivation =
+    λ n. record c.args.trace.now { header = record { vars = c.args.trace.now.header.vars; steps = n }; steps = steps_at steps core } in
     c.loop-place.invariant ∙ ap kept whole ∙ ap counted (sym (length_at steps core c.requires.within))

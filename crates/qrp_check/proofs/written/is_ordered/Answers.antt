@@ -4,8 +4,8 @@ use Rattle.qbf_core.specs.Literal.{Literal}
 use Rattle.qbf_core.specs.Sets.{IsOrdered}
 use Rattle.qbf_core.proofs.Members.{in_take_more}
 use Rattle.qbf_core.proofs.Order.{take_more_in}
-use Rattle.qrp_check.proofs.Forms.{taken_below}
-use Rattle.qrp_check.proofs.Writing.{ordered_taken, taken_whole}
+use Rattle.qrp_check.proofs.ReducedForms.{taken_below}
+use Rattle.qrp_check.proofs.OrderedLists.{ordered_taken, taken_whole}
 use Rattle.qrp_check.proofs.written.is_ordered.Goals as goal
 
 pub loop-lit-init : goal.loop-lit-init
@@ -21,7 +21,8 @@ returns-then-number-last c = (
       absurd (elim c.loop-lit.invariant.reached [
         | inl none ↦ omega (arith, late, none, c.number-number.ensures.low)
         | inr w ↦
-            let less : w.0.var < x.var = taken_below c.args.lits.now c.loop-lit.lit-index x w.0 ordered c.loop-lit-test.true c.lit-item.is w.1 in
+            let less : w.0.var < x.var =
+            taken_below c.args.lits.now c.loop-lit.lit-index x w.0 ordered c.loop-lit-test.true c.lit-item.is w.1 in
             let same : w.0.var ≡ c.loop-lit.last = w.2 in
             omega (arith, late, is, less, same)
       ]),
@@ -44,4 +45,5 @@ loop-lit-preserved c =
     }
 
 pub returns : goal.returns
-returns c = (λ _. subst IsOrdered (taken_whole c.args.lits.now c.loop-lit.lit-index c.loop-lit-test.false) c.loop-lit.invariant.ordered, λ _. refl)
+returns c =
+    (λ _. subst IsOrdered (taken_whole c.args.lits.now c.loop-lit.lit-index c.loop-lit-test.false) c.loop-lit.invariant.ordered, λ _. refl)

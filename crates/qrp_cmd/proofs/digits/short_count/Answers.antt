@@ -12,4 +12,5 @@ pub returns-then-n-lt1000 : goal.returns-then-n-lt1000
 returns-then-n-lt1000 c = omega (arith, length_pair c.args.n c.if-n-lt100.false (omega arith), length_one (c.args.n / 100) (omega arith))
 
 pub returns-else-n-lt1000 : goal.returns-else-n-lt1000
-returns-else-n-lt1000 c = omega (arith, length_pair c.args.n c.if-n-lt100.false (omega arith), length_two (c.args.n / 100) (omega arith) (omega arith))
+returns-else-n-lt1000 c =
+    omega (arith, length_pair c.args.n c.if-n-lt100.false (omega arith), length_two (c.args.n / 100) (omega arith) (omega arith))

@@ -1,5 +1,5 @@
 use Rattle.std.proofs.Common.{inr, refl}
-use Rattle.qrp_cmd.proofs.ProgramMore.{of_run}
+use Rattle.qrp_cmd.proofs.ProgramReport.{of_run}
 use Rattle.qrp_cmd.proofs.program.on_both.Goals as goal
 
 pub returns : goal.returns

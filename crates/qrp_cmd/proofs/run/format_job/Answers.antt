@@ -1,5 +1,5 @@
 use Rattle.std.proofs.Common.{refl, Ok, Err}
-use Rattle.qrp_cmd.proofs.OutputMore.{formula_read, formula_refused}
+use Rattle.qrp_cmd.proofs.SentTexts.{formula_read, formula_refused}
 use Rattle.qrp_cmd.specs.Output.{format_report}
 use Rattle.qrp_cmd.proofs.run.format_job.Goals as goal
 
@@ -15,7 +15,8 @@ returns-in-Err g c = (
   format_report (Err (c.in-Err.fault, c.in-Err.line)),
   (
     Err (c.in-Err.fault, c.in-Err.line),
-    formula_refused _ _ _ c.in-Err.fault c.in-Err.line c.in-Err.ensures.exact c.in-Err.ensures.source c.in-Err.ensures.kept c.in-Err.ensures.line_1 c.in-Err.ensures.line_9,
+    formula_refused _ _ _ c.in-Err.fault c.in-Err.line c.in-Err.ensures.exact c.in-Err.ensures.source c.in-Err.ensures.kept
+        c.in-Err.ensures.line_1 c.in-Err.ensures.line_9,
     refl,
   ),
   (c.send_fault.ensures, refl),

@@ -1,5 +1,5 @@
 use Rattle.qrp_cmd.specs.Output.{check_report}
-use Rattle.qrp_cmd.proofs.OutputMore.{check_goes_out, check_output}
+use Rattle.qrp_cmd.proofs.SentTexts.{check_goes_out, check_output}
 use Rattle.std.proofs.Common.{refl}
 use Rattle.qrp_cmd.proofs.run.run.Goals as goal
 

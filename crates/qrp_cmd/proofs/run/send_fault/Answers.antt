@@ -1,5 +1,5 @@
 use Rattle.std.proofs.Common.{sym}
-use Rattle.qrp_cmd.proofs.OutputMore.{sent_ended}
+use Rattle.qrp_cmd.proofs.SentTexts.{sent_ended}
 use Rattle.qrp_cmd.proofs.run.send_fault.Goals as goal
 
 pub returns-in-Ok : goal.returns-in-Ok

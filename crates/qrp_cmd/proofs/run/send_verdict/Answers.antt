@@ -1,4 +1,4 @@
-use Rattle.qrp_cmd.proofs.OutputMore.{sent_ended}
+use Rattle.qrp_cmd.proofs.SentTexts.{sent_ended}
 use Rattle.qrp_cmd.proofs.run.send_verdict.Goals as goal
 
 pub returns-in-Ok : goal.returns-in-Ok

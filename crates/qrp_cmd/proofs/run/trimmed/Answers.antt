@@ -1,16 +1,18 @@
 use Rattle.std.proofs.lemmas.Result.{err_from_is_err_and}
 use Rattle.qrp_check.proofs.VerdictsOfBytes.{check_refused}
-use Rattle.qrp_cmd.proofs.TrimMore.{trimmed_from}
+use Rattle.qrp_cmd.proofs.TrimmedOutput.{trimmed_from}
 use Rattle.qrp_cmd.proofs.run.trimmed.Goals as goal
 
 pub returns-in_err-verified-clause-refused : goal.returns-in_err-verified-clause-refused
 returns-in_err-verified-clause-refused g c =
     let p = err_from_is_err_and c.from_residual-in_err-verified.result c.from_residual-in_err-verified.ensures.1 in
-    rw (p.1, p.2) (check_refused c.args.rules (g.F.Source.remaining c.args.formula.now) (g.T.Source.remaining c.args.trace.now) c.in_ok-read.read c.in_ok-whole.whole c.in_err-verified.field-0.0
+    rw (p.1, p.2) (check_refused c.args.rules (g.F.Source.remaining c.args.formula.now)
+    (g.T.Source.remaining c.args.trace.now) c.in_ok-read.read c.in_ok-whole.whole c.in_err-verified.field-0.0
     c.in_ok-read.ensures.exact c.in_ok-whole.ensures.exact (rw (c.sets.ensures, c.result.ensures) at c.in_err-verified.ensures.refused))
 
 pub returns-in-Ok-clause-trimmed : goal.returns-in-Ok-clause-trimmed
 returns-in-Ok-clause-trimmed g c =
-    trimmed_from c.args.rules (g.F.Source.remaining c.args.formula.now) (g.T.Source.remaining c.args.trace.now) c.in_ok-read.read c.in_ok-whole.whole c.in_ok-verified.verified.core.items c.in-Ok.shorter
+    trimmed_from c.args.rules (g.F.Source.remaining c.args.formula.now)
+    (g.T.Source.remaining c.args.trace.now) c.in_ok-read.read c.in_ok-whole.whole c.in_ok-verified.verified.core.items c.in-Ok.shorter
     c.in_ok-read.ensures.exact c.in_ok-whole.ensures.exact c.header-header.ensures.sound
     c.in_ok-verified.ensures.core (rw (c.sets.ensures, c.result.ensures) at c.in_ok-verified.ensures.proves) c.in-Ok.ensures

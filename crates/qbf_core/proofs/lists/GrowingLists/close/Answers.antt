@@ -8,7 +8,8 @@ invariant_of-self-2 g c =
     let inside = c.self.inside in
     let r = c.self.invariant in
     let end = c.len-end.ensures ∙ inside.items.ok.0 in
-    rw (c.in_ok-push.ensures.items) (closed_reach inside.ends.items inside.start c.len-end.result (omega (arith, end, r.1)) r.0, omega (arith, end))
+    rw (c.in_ok-push.ensures.items)
+    (closed_reach inside.ends.items inside.start c.len-end.result (omega (arith, end, r.1)) r.0, omega (arith, end))
 
 pub returns-clause-closed : goal.returns-clause-closed
 returns-clause-closed g c =

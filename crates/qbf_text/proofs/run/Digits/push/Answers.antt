@@ -1,6 +1,6 @@
 use Rattle.std.proofs.Common.{◌≡◌, true, sym, ◌∙◌}
 use Rattle.std.specs.Char.{is_ascii_digit}
-use Rattle.qbf_text.proofs.DigitsMore.{push_taken, push_not_taken}
+use Rattle.qbf_text.proofs.DigitByDigit.{push_taken, push_not_taken}
 use Rattle.qbf_text.proofs.run.Digits.push.Goals as goal
 
 pub returns-in-Value : goal.returns-in-Value

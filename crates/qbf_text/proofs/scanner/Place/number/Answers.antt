@@ -1,5 +1,5 @@
 use Rattle.std.proofs.Common.{◌^◌, ◌<◌}
-use Rattle.qbf_text.proofs.OnHand.{gives_ending, gives_blanked}
+use Rattle.qbf_text.proofs.LeftAfterNumber.{gives_ending, gives_blanked}
 use Rattle.qbf_text.proofs.Stops.{takes_ending, takes_blanked}
 use Rattle.qbf_text.proofs.scanner.Place.number.Goals as goal
 

@@ -4,5 +4,6 @@ use Rattle.qbf_text.proofs.scanner.Scanner.next_token.Goals as goal
 
 pub returns-in-Ok-Some-clause-takes : goal.returns-in-Ok-Some-clause-takes
 returns-in-Ok-Some-clause-takes g c _ = rw (← c.self.view_is)
-    (known_takes (tokens_at c.self.inside.place) (tokens_at c.at_hand.new.self) (tokens_at c.scan.new.self) (c.in-Ok-Some.token, c.scan.new.self.line) _ _ _
+    (known_takes (tokens_at c.self.inside.place) (tokens_at c.at_hand.new.self) (tokens_at c.scan.new.self)
+    (c.in-Ok-Some.token, c.scan.new.self.line) _ _ _
     (c.in_default.ensures.skips (g.S.Source.remaining c.args.source.now)) (rw c.in-Ok-Some.field-0-is at c.in-Ok-Some.ensures.takes))

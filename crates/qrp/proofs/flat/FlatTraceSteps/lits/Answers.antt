@@ -6,4 +6,5 @@ pub lits-requires : goal.lits-requires
 lits-requires c = numbered_within c.self.inside.index c.self.inside.steps c.args.i (rw (← c.self.view_is) at c.requires)
 
 pub returns : goal.returns
-returns c = λ step here. c.lits.ensures (body step) (numbered_at c.self.inside.index c.self.inside.steps c.args.i step (rw (← c.self.view_is) at here))
+returns c = λ step here. c.lits.ensures (body step)
+    (numbered_at c.self.inside.index c.self.inside.steps c.args.i step (rw (← c.self.view_is) at here))

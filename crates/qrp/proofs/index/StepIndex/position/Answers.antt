@@ -1,18 +1,20 @@
 use Rattle.std.proofs.Common.{nat_eq, ℕ, Some, sym, ap, ◌∙◌}
 use Rattle.std.specs.List.{IsDistinct}
 use Rattle.qbf_core.proofs.Bound.{apart_of}
-use Rattle.qrp.proofs.Counted.{front_at, listed_at, none_there}
+use Rattle.qrp.proofs.CountedNumbers.{front_at, listed_at, none_there}
 use Rattle.qrp.proofs.Positions.{one_place}
 use Rattle.qrp.proofs.index.StepIndex.position.Goals as goal
 
 pub returns-in-Some-clause-found : goal.returns-in-Some-clause-found
 returns-in-Some-clause-found c = rw (← c.self.view_is) (
-    front_at c.self.inside.first c.self.inside.counted c.self.inside.listed.keys c.in-Some.i c.in-Some.ensures.some.0 ∙ ap (λ (k : ℕ). Some k) c.in-Some.ensures.some.1)
+    front_at c.self.inside.first c.self.inside.counted c.self.inside.listed.keys c.in-Some.i c.in-Some.ensures.some.0
+    ∙ ap (λ (k : ℕ). Some k) c.in-Some.ensures.some.1)
 
 pub returns-in-Some-clause-only : goal.returns-in-Some-clause-only
 returns-in-Some-clause-only c = λ i here.
     let distinct : IsDistinct nat_eq c.args.self.now = rw (← c.self.view_is) c.self.invariant.numbers.distinct in
-    ap (λ (k : ℕ). Some k) (one_place c.args.self.now (apart_of c.args.self.now distinct) c.in-Some.i i c.args.number (returns-in-Some-clause-found c) here)
+    ap (λ (k : ℕ). Some k)
+    (one_place c.args.self.now (apart_of c.args.self.now distinct) c.in-Some.i i c.args.number (returns-in-Some-clause-found c) here)
 
 pub returns-in_err-i-clause-only : goal.returns-in_err-i-clause-only
 returns-in_err-i-clause-only c = λ i here.
@@ -21,7 +23,8 @@ returns-in_err-i-clause-only c = λ i here.
 
 pub returns-clause-found : goal.returns-clause-found
 returns-clause-found c = rw (← c.self.view_is) (
-    listed_at c.self.inside.first c.self.inside.counted c.self.inside.listed.keys c.args.number c.in_ok-i.i (sym c.get_index_of.ensures.index ∙ c.in_ok-i.was))
+    listed_at c.self.inside.first c.self.inside.counted c.self.inside.listed.keys c.args.number c.in_ok-i.i
+    (sym c.get_index_of.ensures.index ∙ c.in_ok-i.was))
 
 pub returns-clause-only : goal.returns-clause-only
 returns-clause-only c = λ i here.

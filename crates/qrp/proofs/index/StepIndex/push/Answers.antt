@@ -1,6 +1,6 @@
 use Rattle.std.proofs.Common.{◌≡◌, ◌<◌, ◌^◌, ℕ, List, [], ◌∷◌, ◌++◌, refl, sym, ap, subst, ◌∙◌, arith, append_assoc}
 use Rattle.qrp.specs.Kept.{count_from, AreStepNumbers}
-use Rattle.qrp.proofs.Counted.{counted_pushed, numbers_pushed, unused_behind}
+use Rattle.qrp.proofs.CountedNumbers.{counted_pushed, numbers_pushed, unused_behind}
 use Rattle.qrp.proofs.index.StepIndex.push.Goals as goal
 use Rattle.qrp.proofs.index.StepIndex.push.Goals.{then-self-eq0, else-self-eq0}
 
@@ -13,14 +13,17 @@ returns-then-continues-clause-pushed c =
     let none = c.is_empty.ensures.0 c.if-is_empty.true in
     let next = c.continues.ensures.next c.if-continues.true in
     rw (← c.self.view_is) (elim c.if-self-eq0.branch [
-      | then-self-eq0 w ↦ rw w.self-inside-is (counted_pushed f n c.args.number ks none next c.args.number (λ e. refl) (λ ne. absurd (ne w.if-self-eq0.true)))
-      | else-self-eq0 w ↦ rw w.self-inside-is (counted_pushed f n c.args.number ks none next f (λ e. absurd (w.if-self-eq0.false e)) (λ ne. refl))
+      | then-self-eq0 w ↦ rw w.self-inside-is
+          (counted_pushed f n c.args.number ks none next c.args.number (λ e. refl) (λ ne. absurd (ne w.if-self-eq0.true)))
+      | else-self-eq0 w ↦ rw w.self-inside-is
+          (counted_pushed f n c.args.number ks none next f (λ e. absurd (w.if-self-eq0.false e)) (λ ne. refl))
     ])
 
 pub returns-then-continues-clause-sound : goal.returns-then-continues-clause-sound
 returns-then-continues-clause-sound c =
     let sound : AreStepNumbers (c.args.self.now ++ c.args.number ∷ []) =
-    numbers_pushed c.args.self.now c.args.number (rw (← c.self.view_is) c.self.invariant.numbers) c.requires (omega (arith, c.ranges.number.fits)) in
+    numbers_pushed c.args.self.now c.args.number (rw (← c.self.view_is) c.self.invariant.numbers) c.requires
+    (omega (arith, c.ranges.number.fits)) in
     subst AreStepNumbers (sym (returns-then-continues-clause-pushed c)) sound
 
 pub invariant_of-self : goal.invariant_of-self
@@ -38,9 +41,12 @@ returns-clause-sound c =
     let xs : List ℕ = count_from c.self.inside.first c.self.inside.counted in
     let ks : List ℕ = c.self.inside.listed.keys in
     let used = rw (← c.self.view_is) at c.requires in
-    let new : c.insert.new.self.keys ≡ ks ++ c.args.number ∷ [] = rw (unused_behind xs ks c.args.number used) at c.in_ok-insert.ensures.keys in
-    let whole : xs ++ c.insert.new.self.keys ≡ (xs ++ ks) ++ c.args.number ∷ [] = ap (λ (ns : List ℕ). xs ++ ns) new ∙ sym (append_assoc xs ks (c.args.number ∷ [])) in
-    subst AreStepNumbers (sym whole) (numbers_pushed (xs ++ ks) c.args.number c.self.invariant.numbers used (omega (arith, c.ranges.number.fits)))
+    let new : c.insert.new.self.keys ≡ ks ++ c.args.number ∷ [] =
+    rw (unused_behind xs ks c.args.number used) at c.in_ok-insert.ensures.keys in
+    let whole : xs ++ c.insert.new.self.keys ≡ (xs ++ ks) ++ c.args.number ∷ [] =
+    ap (λ (ns : List ℕ). xs ++ ns) new ∙ sym (append_assoc xs ks (c.args.number ∷ [])) in
+    subst AreStepNumbers (sym whole)
+    (numbers_pushed (xs ++ ks) c.args.number c.self.invariant.numbers used (omega (arith, c.ranges.number.fits)))
 
 pub invariant_of-self-2 : goal.invariant_of-self-2
 invariant_of-self-2 c = record { numbers = returns-clause-sound c; few = c.self.invariant.few }

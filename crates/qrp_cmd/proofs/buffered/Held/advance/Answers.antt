@@ -1,5 +1,5 @@
 use Rattle.std.proofs.Common.{◌≤◌, length}
-use Rattle.qrp_cmd.proofs.BufferedMore.{part, part_advance}
+use Rattle.qrp_cmd.proofs.BufferPart.{part, part_advance}
 use Rattle.qrp_cmd.proofs.buffered.Held.advance.Goals as goal
 
 pub returns : goal.returns

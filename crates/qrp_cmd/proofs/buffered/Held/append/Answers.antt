@@ -1,5 +1,5 @@
 use Rattle.std.proofs.Common.{◌≡◌, ◌∙◌, ◌≤◌, ◌++◌, List, ℕ, length, ap, arith}
-use Rattle.qrp_cmd.proofs.BufferedMore.{part_append}
+use Rattle.qrp_cmd.proofs.BufferPart.{part_append}
 use Rattle.qrp_cmd.proofs.buffered.Held.append.Goals as goal
 
 pub returns-clause-all : goal.returns-clause-all

@@ -1,0 +1,236 @@
+-- The tokens left, byte by byte.
+use Rattle.std.proofs.Common.{◌≡◌, ℕ, ◌+◌, Bool, true, false, cond, ◌||◌, List, [], ◌∷◌, ◌++◌, map, count_by, refl, sym, ◌∙◌, arith}
+use Rattle.std.proofs.Common.{add_assoc, zero-add, add-zero, append-nil}
+use Rattle.std.specs.List.{slice_split, onto_first}
+use Rattle.std.specs.Prelude.{⊤}
+use Rattle.std.proofs.lemmas.Bool.Decides.{nat_tests}
+use Rattle.std.proofs.lemmas.List.Sums.{sum_by-cons}
+use Rattle.qbf_text.specs.declared.token.Comments.{Comments}
+use Rattle.qbf_text.specs.declared.token.Token.TheVariants as kinds
+use Rattle.qbf_text.specs.Tokens.{is_line_end, is_blank, is_comment_byte, is_comment_line, runs, kind, counted, line_tokens, tokens_from}
+use Rattle.qbf_text.specs.Tokens.{tokens}
+use Rattle.qbf_text.specs.Left.{rest_tokens, left_from, tokens_left, is_separator, IsUnbroken, IsWithinLine, EndsRun, EndsLine}
+
+-- ---- the number of a line
+
+counted_next : (n : ℕ) → counted (counted n + 1) ≡ counted (n + 1)
+counted_next n = omega arith
+
+counted_more : (n k : ℕ) → counted (counted n + k) ≡ counted (n + k)
+counted_more n k = omega arith
+
+pub line_counted : (f : Comments) (n m : ℕ) (line : List ℕ) → counted n ≡ counted m → line_tokens f n line ≡ line_tokens f m line
+line_counted f n m line e = rw e refl
+
+lines_counted : (f : Comments) (n m : ℕ) (lines : List (List ℕ)) → counted n ≡ counted m → tokens_from f n lines ≡ tokens_from f m lines
+lines_counted f n m [] e = refl
+lines_counted f n m (line ∷ lines) e =
+    rw (line_counted f n m line e, lines_counted f (n + 1) (m + 1) lines (omega (arith, e))) refl
+
+rest_counted : (f : Comments) (begun : Bool) (n m : ℕ) (rest : List ℕ) → counted n ≡ counted m
+    → rest_tokens f begun n rest ≡ rest_tokens f begun m rest
+rest_counted f true n m rest e = rw e refl
+rest_counted f false n m rest e = line_counted f n m rest e
+
+left_counted : (f : Comments) (begun : Bool) (n m : ℕ) (lines : List (List ℕ)) → counted n ≡ counted m
+    → left_from f begun n lines ≡ left_from f begun m lines
+left_counted f begun n m [] e = refl
+left_counted f begun n m (rest ∷ lines) e =
+    rw (rest_counted f begun n m rest e, lines_counted f (n + 1) (m + 1) lines (omega (arith, e))) refl
+
+-- the tokens left speak of the counted number alone
+pub tokens_left-counted : (f : Comments) (begun : Bool) (n m : ℕ) (bytes : List ℕ) → counted n ≡ counted m
+    → tokens_left f begun n bytes ≡ tokens_left f begun m bytes
+tokens_left-counted f begun n m bytes e =
+    let k = count_by is_line_end bytes in
+    let c : counted (n + k) ≡ counted (m + k) = omega (arith, e) in
+    rw (left_counted f begun n m (slice_split is_line_end bytes) e, c) refl
+
+-- ---- the end
+
+pub left_nothing : (f : Comments) (begun : Bool) (n : ℕ) → tokens_left f begun n [] ≡ (kinds.End, counted n) ∷ []
+left_nothing f true n = rw add-zero refl
+left_nothing f false n = rw add-zero refl
+
+-- ---- a line end
+
+count_line_end : (bs : List ℕ) → count_by is_line_end (10 ∷ bs) ≡ 1 + count_by is_line_end bs
+count_line_end bs = sum_by-cons (λ x. cond (is_line_end x) 1 0) 10 bs
+
+rest_nothing : (f : Comments) (begun : Bool) (n : ℕ) → rest_tokens f begun n [] ≡ []
+rest_nothing f true n = refl
+rest_nothing f false n = refl
+
+left_from_start : (f : Comments) (n : ℕ) (lines : List (List ℕ)) → left_from f false n lines ≡ tokens_from f n lines
+left_from_start f n [] = refl
+left_from_start f n (line ∷ lines) = refl
+
+pub left_line_end : (f : Comments) (begun : Bool) (n : ℕ) (bs : List ℕ) → tokens_left f begun n (10 ∷ bs) ≡ tokens_left f false (n + 1) bs
+left_line_end f begun n bs =
+    rw (
+      rest_nothing f begun n,
+      left_from_start f (n + 1) (slice_split is_line_end bs),
+      count_line_end bs,
+      add_assoc n 1 (count_by is_line_end bs),
+    ) refl
+
+-- the whole text
+pub left_all : (f : Comments) (bytes : List ℕ) → tokens_left f false 1 bytes ≡ tokens f bytes
+left_all f bytes = rw (left_from_start f 1 (slice_split is_line_end bytes)) refl
+
+-- ---- a blank
+
+blank_no_line_end : (b : ℕ) → is_blank b ≡ true → is_line_end b ≡ false
+blank_no_line_end b h = grind (arith, nat_tests)
+
+runs_blank : (b : ℕ) (rest : List ℕ) → is_blank b ≡ true → runs (b ∷ rest) ≡ runs rest
+runs_blank b rest h = rw h refl
+
+rest_blank : (f : Comments) (begun : Bool) (n b : ℕ) (rest : List ℕ) → is_blank b ≡ true
+    → rest_tokens f begun n (b ∷ rest) ≡ rest_tokens f begun n rest
+rest_blank f true n b rest h = rw h refl
+rest_blank f false n b rest h = rw h refl
+
+from_blank : (f : Comments) (begun : Bool) (n b : ℕ) (lines : List (List ℕ)) → is_blank b ≡ true
+    → left_from f begun n (onto_first b lines) ≡ left_from f begun n lines
+from_blank f begun n b [] h = rw (rest_blank f begun n b [] h, rest_nothing f begun n) refl
+from_blank f begun n b (line ∷ lines) h = rw (rest_blank f begun n b line h) refl
+
+count_other : (b : ℕ) (bs : List ℕ) → is_line_end b ≡ false → count_by is_line_end (b ∷ bs) ≡ count_by is_line_end bs
+count_other b bs h = sum_by-cons (λ x. cond (is_line_end x) 1 0) b bs ∙ rw (h, zero-add) refl
+
+pub left_blank : (f : Comments) (begun : Bool) (n b : ℕ) (bs : List ℕ) → is_blank b ≡ true
+    → tokens_left f begun n (b ∷ bs) ≡ tokens_left f begun n bs
+left_blank f begun n b bs h =
+    let e = blank_no_line_end b h in
+    rw (count_other b bs e, e, from_blank f begun n b (slice_split is_line_end bs) h) refl
+
+-- ---- a run
+
+-- the lists with some items put before the first
+abbrev pub onto_front : List ℕ → List (List ℕ) → List (List ℕ)
+onto_front run [] = run ∷ []
+onto_front run (line ∷ lines) = (run ++ line) ∷ lines
+
+onto_front_first : (b : ℕ) (bs : List ℕ) (lines : List (List ℕ)) → onto_first b (onto_front bs lines) ≡ onto_front (b ∷ bs) lines
+onto_front_first b bs [] = refl
+onto_front_first b bs (line ∷ lines) = refl
+
+nonempty_first : (b : ℕ) (lines : List (List ℕ)) → onto_front [] (onto_first b lines) ≡ onto_first b lines
+nonempty_first b [] = refl
+nonempty_first b (line ∷ lines) = refl
+
+nonempty_cond : (c : Bool) (b : ℕ) (lines : List (List ℕ))
+    → onto_front [] (cond c ([] ∷ lines) (onto_first b lines)) ≡ cond c ([] ∷ lines) (onto_first b lines)
+nonempty_cond true b lines = refl
+nonempty_cond false b lines = nonempty_first b lines
+
+split_nonempty : (p : ℕ → Bool) (bs : List ℕ) → onto_front [] (slice_split p bs) ≡ slice_split p bs
+split_nonempty p [] = refl
+split_nonempty p (b ∷ bs) = nonempty_cond (p b) b (slice_split p bs)
+
+-- bytes with no line end among them stay on the line
+split_front : (run rest : List ℕ) → IsWithinLine run → slice_split is_line_end (run ++ rest) ≡ onto_front run (slice_split is_line_end rest)
+split_front [] rest h = sym (split_nonempty is_line_end rest)
+split_front (b ∷ bs) rest h = rw (h.0, split_front bs rest h.1) (onto_front_first b bs (slice_split is_line_end rest))
+
+count_front : (run rest : List ℕ) → IsWithinLine run → count_by is_line_end (run ++ rest) ≡ count_by is_line_end rest
+count_front [] rest h = refl
+count_front (b ∷ bs) rest h = count_other b (bs ++ rest) h.0 ∙ count_front bs rest h.1
+
+-- ---- a comment line
+
+comment_front : (f : Comments) (n c : ℕ) (bs line : List ℕ) → is_blank c ≡ false → is_comment_byte f c ≡ true
+    → line_tokens f n (c ∷ bs ++ line) ≡ []
+comment_front f n c bs line blank comment = rw (blank, comment) refl
+
+comment_lines : (f : Comments) (n c : ℕ) (bs : List ℕ) (lines : List (List ℕ)) → is_blank c ≡ false → is_comment_byte f c ≡ true
+    → left_from f false n (onto_front (c ∷ bs) ([] ∷ lines)) ≡ left_from f false n ([] ∷ lines)
+comment_lines f n c bs lines blank comment = rw (comment_front f n c bs [] blank comment) refl
+
+open_line : (rest : List ℕ) → EndsLine rest → (lines : List (List ℕ)) × (slice_split is_line_end rest ≡ [] ∷ lines)
+open_line [] h = ([], refl)
+open_line (b ∷ bs) h = (slice_split is_line_end bs, rw h refl)
+
+pub left_comment : (f : Comments) (n c : ℕ) (bs rest : List ℕ) → is_blank c ≡ false → is_comment_byte f c ≡ true → IsWithinLine (c ∷ bs)
+    → EndsLine rest
+    → tokens_left f false n ((c ∷ bs) ++ rest) ≡ tokens_left f false n rest
+left_comment f n c bs rest blank comment within ends =
+    let o = open_line rest ends in
+    rw (count_front (c ∷ bs) rest within, split_front (c ∷ bs) rest within, o.1, comment_lines f n c bs o.0 blank comment) refl
+
+-- ---- a run
+
+or_left : (x y : Bool) → (x || y) ≡ false → x ≡ false
+or_left false y h = refl
+or_left true y h = h
+
+or_right : (x y : Bool) → (x || y) ≡ false → y ≡ false
+or_right false y h = h
+or_right true y h = absurd (cc)
+
+pub no_blank : (b : ℕ) → is_separator b ≡ false → is_blank b ≡ false
+no_blank b h = or_left (is_blank b) (is_line_end b) h
+
+pub no_line_end : (b : ℕ) → is_separator b ≡ false → is_line_end b ≡ false
+no_line_end b h = or_right (is_blank b) (is_line_end b) h
+
+pub unbroken_within : (run : List ℕ) → IsUnbroken run → IsWithinLine run
+unbroken_within [] h = tt
+unbroken_within (b ∷ bs) h = (no_line_end b h.0, unbroken_within bs h.1)
+
+-- the rest of a line begins with a blank, or there is none
+abbrev pub IsOpen : List ℕ → Type 0
+IsOpen [] = ⊤
+IsOpen (b ∷ bs) = is_blank b ≡ true
+
+split_run : (run rest : List ℕ) → IsUnbroken run → slice_split is_blank (run ++ rest) ≡ onto_front run (slice_split is_blank rest)
+split_run [] rest h = sym (split_nonempty is_blank rest)
+split_run (b ∷ bs) rest h = rw (no_blank b h.0, split_run bs rest h.1) (onto_front_first b bs (slice_split is_blank rest))
+
+runs_run : (b : ℕ) (bs rest : List ℕ) → IsUnbroken (b ∷ bs) → IsOpen rest → runs ((b ∷ bs) ++ rest) ≡ (b ∷ bs) ∷ runs rest
+runs_run b bs [] h open_rest = rw (split_run (b ∷ bs) [] h, append-nil (b ∷ bs)) refl
+runs_run b bs (c ∷ cs) h open_rest = rw (split_run (b ∷ bs) (c ∷ cs) h, open_rest, append-nil (b ∷ bs)) refl
+
+-- the run stands behind another token of its line, or does not begin a comment line
+abbrev pub IsToken : Comments → Bool → List ℕ → Type 0
+IsToken f begun [] = ⊥
+IsToken f true (b ∷ bs) = ⊤
+IsToken f false (b ∷ bs) = is_comment_byte f b ≡ false
+
+line_no_comment : (f : Comments) (n : ℕ) (line : List ℕ) → is_comment_line f line ≡ false
+    → line_tokens f n line ≡ map (λ run. (kind run, counted n)) (runs line)
+line_no_comment f n line h = rw h refl
+
+rest_run : (f : Comments) (begun : Bool) (n b : ℕ) (bs rest : List ℕ) → IsUnbroken (b ∷ bs) → IsOpen rest → IsToken f begun (b ∷ bs)
+    → rest_tokens f begun n ((b ∷ bs) ++ rest) ≡ (kind (b ∷ bs), counted n) ∷ rest_tokens f true n rest
+rest_run f true n b bs rest h o t = rw (runs_run b bs rest h o) refl
+rest_run f false n b bs rest h o t =
+    line_no_comment f n ((b ∷ bs) ++ rest) (rw (no_blank b h.0) t) ∙ rw (runs_run b bs rest h o) refl
+
+open_blank : (b : ℕ) (lines : List (List ℕ)) → is_blank b ≡ true
+    → (line : List ℕ) × (more : List (List ℕ)) × (onto_first b lines ≡ line ∷ more) × IsOpen line
+open_blank b [] h = (b ∷ [], [], refl, h)
+open_blank b (line ∷ lines) h = (b ∷ line, lines, refl, h)
+
+or_cases : (x y : Bool) → y ≡ false → (x || y) ≡ true → x ≡ true
+or_cases true y e h = refl
+or_cases false y e h = absurd (cc)
+
+open_at : (b : ℕ) (lines : List (List ℕ)) (ends : Bool) → is_line_end b ≡ ends → is_separator b ≡ true
+    → (line : List ℕ) × (more : List (List ℕ)) × (cond ends ([] ∷ lines) (onto_first b lines) ≡ line ∷ more) × IsOpen line
+open_at b lines true e h = ([], lines, refl, tt)
+open_at b lines false e h = open_blank b lines (or_cases (is_blank b) (is_line_end b) e h)
+
+open_rest : (rest : List ℕ) → EndsRun rest
+    → (line : List ℕ) × (lines : List (List ℕ)) × (slice_split is_line_end rest ≡ line ∷ lines) × IsOpen line
+open_rest [] h = ([], [], refl, tt)
+open_rest (b ∷ bs) h = open_at b (slice_split is_line_end bs) (is_line_end b) refl h
+
+pub left_run : (f : Comments) (begun : Bool) (n : ℕ) (run rest : List ℕ) → IsUnbroken run → EndsRun rest → IsToken f begun run
+    → tokens_left f begun n (run ++ rest) ≡ (kind run, counted n) ∷ tokens_left f true n rest
+left_run f begun n [] rest h ends t = absurd t
+left_run f begun n (b ∷ bs) rest h ends t =
+    let o = open_rest rest ends in
+    let within = unbroken_within (b ∷ bs) h in
+    rw (count_front (b ∷ bs) rest within, split_front (b ∷ bs) rest within, o.2, rest_run f begun n b bs o.0 h o.3 t) refl

@@ -1,0 +1,151 @@
+-- The tokens of a canonical text.
+use Rattle.std.proofs.Common.{◌≡◌, ℕ, ◌+◌, Bool, true, false, List, [], ◌∷◌, ◌++◌, refl, sym, ap, ◌∙◌, append_assoc}
+use Rattle.std.specs.Prelude.{decimal}
+use Rattle.std.specs.List.{flat_map, AllByRecursion}
+use Rattle.std.proofs.lemmas.Fmt.{digits_decimal, decimal_nonempty}
+use Rattle.qbf_text.specs.declared.token.Comments.{Comments}
+use Rattle.qbf_text.specs.declared.token.Comments.TheVariants.{Qdimacs, Qrp}
+use Rattle.qbf_text.specs.declared.token.Word.{Word}
+use Rattle.qbf_text.specs.declared.token.Word.TheVariants as word
+use Rattle.qbf_text.specs.declared.token.Token.{Token}
+use Rattle.qbf_text.specs.declared.token.Token.TheVariants as token
+use Rattle.qbf_text.specs.Lined.{unlined}
+use Rattle.qbf_text.specs.Left.{IsUnbroken, EndsRun, tokens_left}
+use Rattle.qbf_text.specs.Tokens.{kind, counted, tokens}
+use Rattle.qbf_text.specs.Canonical.{letters, spelled, line_rest, line_text, lines_text, IsPlain, IsOpening, IsLine}
+use Rattle.qbf_text.proofs.ByteByByte.{left_run, left_blank, left_line_end, left_nothing, left_all, IsToken}
+use Rattle.qbf_text.proofs.Spelled.{own, digits_unbroken, token_digits, kind_decimal, kind_minus}
+
+-- ---- one token
+
+kind_word : (w : Word) → kind (letters w) ≡ token.Word w
+kind_word word.P = refl
+kind_word word.Cnf = refl
+kind_word word.Qrp = refl
+kind_word word.A = refl
+kind_word word.E = refl
+kind_word word.R = refl
+kind_word word.Sat = refl
+kind_word word.Unsat = refl
+
+word_unbroken : (w : Word) → IsUnbroken (letters w)
+word_unbroken word.P = (refl, tt)
+word_unbroken word.Cnf = (refl, (refl, (refl, tt)))
+word_unbroken word.Qrp = (refl, (refl, (refl, tt)))
+word_unbroken word.A = (refl, tt)
+word_unbroken word.E = (refl, tt)
+word_unbroken word.R = (refl, tt)
+word_unbroken word.Sat = (refl, (refl, (refl, tt)))
+word_unbroken word.Unsat = (refl, (refl, (refl, (refl, (refl, tt)))))
+
+pub kind_spelled : (t : Token) → IsPlain t → kind (spelled t) ≡ t
+kind_spelled (token.Word w) h = kind_word w
+kind_spelled (token.Number false n) h = kind_decimal n h
+kind_spelled (token.Number true n) h = kind_minus n h.0 h.1
+kind_spelled token.Big h = absurd h
+kind_spelled token.Bad h = absurd h
+kind_spelled token.End h = absurd h
+
+spelled_unbroken : (t : Token) → IsPlain t → IsUnbroken (spelled t)
+spelled_unbroken (token.Word w) h = word_unbroken w
+spelled_unbroken (token.Number false n) h = digits_unbroken (decimal n) (digits_decimal own n h)
+spelled_unbroken (token.Number true n) h = (refl, digits_unbroken (decimal n) (digits_decimal own n h.1))
+spelled_unbroken token.Big h = absurd h
+spelled_unbroken token.Bad h = absurd h
+spelled_unbroken token.End h = absurd h
+
+-- behind another token of its line each token is one
+word_behind : (f : Comments) (w : Word) → IsToken f true (letters w)
+word_behind f word.P = tt
+word_behind f word.Cnf = tt
+word_behind f word.Qrp = tt
+word_behind f word.A = tt
+word_behind f word.E = tt
+word_behind f word.R = tt
+word_behind f word.Sat = tt
+word_behind f word.Unsat = tt
+
+behind : (f : Comments) (t : Token) → IsPlain t → IsToken f true (spelled t)
+behind f (token.Word w) h = word_behind f w
+behind f (token.Number false n) h = token_digits f true (decimal n) (decimal_nonempty n h) (digits_decimal own n h)
+behind f (token.Number true n) h = tt
+behind f token.Big h = absurd h
+behind f token.Bad h = absurd h
+behind f token.End h = absurd h
+
+-- at the beginning of a line the others are
+word_first : (f : Comments) (w : Word) → IsOpening (token.Word w) → IsToken f false (letters w)
+word_first f word.Cnf o = absurd o
+word_first Qdimacs word.P o = refl
+word_first Qdimacs word.Qrp o = refl
+word_first Qdimacs word.A o = refl
+word_first Qdimacs word.E o = refl
+word_first Qdimacs word.R o = refl
+word_first Qdimacs word.Sat o = refl
+word_first Qdimacs word.Unsat o = refl
+word_first Qrp word.P o = refl
+word_first Qrp word.Qrp o = refl
+word_first Qrp word.A o = refl
+word_first Qrp word.E o = refl
+word_first Qrp word.R o = refl
+word_first Qrp word.Sat o = refl
+word_first Qrp word.Unsat o = refl
+
+minus_first : (f : Comments) (ds : List ℕ) → IsToken f false (45 ∷ ds)
+minus_first Qdimacs ds = refl
+minus_first Qrp ds = refl
+
+first : (f : Comments) (t : Token) → IsOpening t → IsPlain t → IsToken f false (spelled t)
+first f (token.Word w) o h = word_first f w o
+first f (token.Number false n) o h = token_digits f false (decimal n) (decimal_nonempty n h) (digits_decimal own n h)
+first f (token.Number true n) o h = minus_first f (decimal n)
+first f token.Big o h = absurd h
+first f token.Bad o h = absurd h
+first f token.End o h = absurd h
+
+-- a token that is written before a separator or the end is the next
+left_token : (f : Comments) (begun : Bool) (n : ℕ) (t : Token) (rest : List ℕ) → IsPlain t → IsToken f begun (spelled t) → EndsRun rest
+    → tokens_left f begun n (spelled t ++ rest) ≡ (t, counted n) ∷ tokens_left f true n rest
+left_token f begun n t rest plain is ends =
+    left_run f begun n (spelled t) rest (spelled_unbroken t plain) ends is
+    ∙ ap (λ k. (k, counted n) ∷ tokens_left f true n rest) (kind_spelled t plain)
+
+-- ---- a line
+
+rest_ends : (ts : List Token) (rest : List ℕ) → EndsRun (line_rest ts ++ rest)
+rest_ends [] rest = refl
+rest_ends (t ∷ ts) rest = refl
+
+left_rest : (f : Comments) (n : ℕ) (ts : List Token) (rest : List ℕ) → AllByRecursion IsPlain ts
+    → unlined (tokens_left f true n (line_rest ts ++ rest)) ≡ ts ++ unlined (tokens_left f false (n + 1) rest)
+left_rest f n [] rest h = ap unlined (left_line_end f true n rest)
+left_rest f n (t ∷ ts) rest h =
+    ap unlined (left_blank f true n 32 ((spelled t ++ line_rest ts) ++ rest) refl
+    ∙ ap (tokens_left f true n) (append_assoc (spelled t) (line_rest ts) rest)
+    ∙ left_token f true n t (line_rest ts ++ rest) h.0 (behind f t h.0) (rest_ends ts rest))
+    ∙ ap (λ k. t ∷ k) (left_rest f n ts rest h.1)
+
+left_line : (f : Comments) (n : ℕ) (line : List Token) (rest : List ℕ) → IsLine line
+    → unlined (tokens_left f false n (line_text line ++ rest)) ≡ line ++ unlined (tokens_left f false (n + 1) rest)
+left_line f n [] rest h = absurd h
+left_line f n (t ∷ ts) rest h =
+    ap unlined (ap (tokens_left f false n) (append_assoc (spelled t) (line_rest ts) rest)
+    ∙ left_token f false n t (line_rest ts ++ rest) h.1.0 (first f t h.0 h.1.0) (rest_ends ts rest))
+    ∙ ap (λ k. t ∷ k) (left_rest f n ts rest h.1.1)
+
+-- the tokens of lines
+abbrev pub joined : List (List Token) → List Token
+joined lines = flat_map (λ line. line) lines
+
+left_lines : (f : Comments) (n : ℕ) (lines : List (List Token)) → AllByRecursion IsLine lines
+    → unlined (tokens_left f false n (lines_text lines)) ≡ joined lines ++ token.End ∷ []
+left_lines f n [] h = ap unlined (left_nothing f false n)
+left_lines f n (line ∷ lines) h =
+    left_line f n line (lines_text lines) h.0
+    ∙ ap (λ k. line ++ k) (left_lines f (n + 1) lines h.1)
+    ∙ sym (append_assoc line (joined lines) (token.End ∷ []))
+
+-- The tokens of a canonical text are those that it was written from, and End.
+pub tokens-lines_text : (f : Comments) (lines : List (List Token)) → AllByRecursion IsLine lines
+    → unlined (tokens f (lines_text lines)) ≡ joined lines ++ token.End ∷ []
+tokens-lines_text f lines h = ap unlined (sym (left_all f (lines_text lines))) ∙ left_lines f 1 lines h

@@ -1,0 +1,89 @@
+-- Texts that go out part by part.
+use Rattle.std.proofs.Common.{◌≡◌, ℕ, ◌-◌, ◌^◌, ◌<◌, Ok, Err, List, [], ◌++◌, Option, take, drop, refl, sym, ap, subst, ◌∙◌, append_assoc}
+use Rattle.std.proofs.Common.{append-nil}
+use Rattle.std.specs.Prelude.{Result}
+use Rattle.qbf_text.specs.Written.{IsPut, IsSent}
+use Rattle.std.proofs.Math.ListN.{take-append-drop}
+use Rattle.std.specs.Io.KnownBytes.{Appends}
+use Rattle.std.proofs.KnownBytes.{Appends-trans, Appends-nil}
+
+module _ {S : Type 0} {written : S → Option (List ℕ)} {failures : S → ℕ} where
+  pub sent_none : (a : S) (whole : List ℕ) → IsSent written failures a a whole whole
+  sent_none a whole = record { sent = []; parts = refl; appended = Appends-nil (written a); works = refl }
+
+  sent_step : (a b c : S) (whole rest part more : List ℕ) → IsSent written failures a b whole rest → rest ≡ part ++ more
+      → Appends (written b) (written c) part → failures c ≡ failures b → IsSent written failures a c whole more
+  sent_step a b c whole rest part more s e p works = record {
+    sent = s.sent ++ part;
+    parts = s.parts ∙ ap (λ r. s.sent ++ r) e ∙ sym (append_assoc s.sent part more);
+    appended = Appends-trans (written a) (written b) (written c) s.sent part s.appended p;
+    works = works ∙ s.works;
+  }
+
+  -- one push more, of n bytes
+  pub sent_more : {a b c : S} {whole rest : List ℕ} (n : ℕ) → IsSent written failures a b whole rest
+      → Appends (written b) (written c) (take n rest) → failures c ≡ failures b → IsSent written failures a c whole (drop n rest)
+  sent_more {rest = rest} n s p works = sent_step _ _ _ _ rest (take n rest) (drop n rest) s (sym (take-append-drop n rest)) p works
+
+  module _ {T U E F : Type 0} where
+    -- a part that fails, and with it the whole
+    pub put_fails : {a b : S} {whole part : List ℕ} {e : E} {f : F} {r : Result U F} (more : List ℕ) → whole ≡ part ++ more → r ≡ Err f
+        → IsPut {T = T} written failures a b part (Err e) → IsPut written failures a b whole r
+    put_fails {a} {b} {whole} more is fails p = subst (λ r. IsPut written failures a b whole r) (sym fails) (record {
+      ok = tt;
+      err = (p.err.0, p.err.1 ++ more, is ∙ ap (λ k. k ++ more) p.err.2 ∙ append_assoc p.err.0 p.err.1 more, p.err.3);
+      failures_ok = tt;
+      failures_err = p.failures_err;
+    })
+
+    then_by : (a b c : S) (whole part more : List ℕ) (u : T) (r : Result U F) → whole ≡ part ++ more
+        → IsPut {E = E} written failures a b part (Ok u) → IsPut written failures b c more r → IsPut written failures a c whole r
+    then_by a b c whole part more u (Ok v) is p q = record {
+      ok = subst (Appends (written a) (written c)) (sym is) (Appends-trans (written a) (written b) (written c) part more p.ok q.ok);
+      err = tt;
+      failures_ok = q.failures_ok ∙ p.failures_ok;
+      failures_err = tt;
+    }
+    then_by a b c whole part more u (Err f) is p q = record {
+      ok = tt;
+      err = (
+        part ++ q.err.0,
+        q.err.1,
+        is ∙ ap (λ k. part ++ k) q.err.2 ∙ sym (append_assoc part q.err.0 q.err.1),
+        Appends-trans (written a) (written b) (written c) part q.err.0 p.ok q.err.3,
+      );
+      failures_ok = tt;
+      failures_err = subst (λ n. n < 2 ^ 64 - 1 → n < failures c) p.failures_ok q.failures_err;
+    }
+
+    -- a part that goes out, and then the rest
+    pub put_then : {a b c : S} {whole part : List ℕ} {u : T} {r : Result U F} (more : List ℕ) → whole ≡ part ++ more
+        → IsPut {E = E} written failures a b part (Ok u) → IsPut written failures b c more r → IsPut written failures a c whole r
+    put_then more is p q = then_by _ _ _ _ _ more _ _ is p q
+
+  module _ {T E : Type 0} where
+    -- what went out of the whole before a call that sends the rest
+    pub sent_put : {a b c : S} {whole rest : List ℕ} {r : Result T E} → IsSent written failures a b whole rest
+        → IsPut written failures b c rest r → IsPut written failures a c whole r
+    sent_put {r = r} s q = then_by {T = Unit {0}} {E = E} _ _ _ _ s.sent _ tt r s.parts
+        (record { ok = s.appended; err = tt; failures_ok = s.works; failures_err = tt }) q
+
+    -- what went out before a call that sends a part more
+    pub sent_part : {a b c : S} {whole rest part : List ℕ} {u : T} (more : List ℕ) → IsSent written failures a b whole rest
+        → rest ≡ part ++ more → IsPut {E = E} written failures b c part (Ok u) → IsSent written failures a c whole more
+    sent_part more s is p = sent_step _ _ _ _ _ _ more s is p.ok p.failures_ok
+
+    -- nothing is left to go out
+    pub sent_whole : {a b : S} {whole rest : List ℕ} {u : T} → IsSent written failures a b whole rest → rest ≡ []
+        → IsPut {E = E} written failures a b whole (Ok u)
+    sent_whole {a} {b} s none = record {
+      ok = subst (Appends (written a) (written b)) (sym (s.parts ∙ ap (λ k. s.sent ++ k) none ∙ append-nil s.sent)) s.appended;
+      err = tt;
+      failures_ok = s.works;
+      failures_err = tt;
+    }
+
+    -- the same, where the call sends it under another name
+    pub sent_last : {a b c : S} {whole rest part : List ℕ} {r : Result T E} → IsSent written failures a b whole rest → rest ≡ part
+        → IsPut written failures b c part r → IsPut written failures a c whole r
+    sent_last {b = b} {c = c} {r = r} s is q = sent_put s (subst (λ k. IsPut written failures b c k r) (sym is) q)

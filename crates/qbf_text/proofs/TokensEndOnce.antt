@@ -1,0 +1,39 @@
+-- The tokens of a text end once.
+use Rattle.std.proofs.Common.{◌≡◌, ◌≢◌, ℕ, ◌+◌, Bool, true, false, List, [], ◌∷◌, ◌++◌, map, refl, ap, append_assoc}
+use Rattle.std.specs.List.{slice_split}
+use Rattle.std.specs.Prelude.{count_by}
+use Rattle.qbf_text.specs.declared.token.Comments.{Comments}
+use Rattle.qbf_text.specs.declared.token.Token.{Token}
+use Rattle.qbf_text.specs.declared.token.Token.TheVariants as kinds
+use Rattle.qbf_text.specs.Lined.{Lined, EndsOnce}
+use Rattle.qbf_text.specs.Left.{is_end}
+use Rattle.qbf_text.specs.Tokens.{is_line_end, is_comment_line, runs, kind, counted, line_tokens, tokens_from, tokens}
+use Rattle.qbf_text.proofs.KnownLeft.{kind_no_end}
+
+no_end : (t : Token) → is_end t ≡ false → t ≢ kinds.End
+no_end t h e = absurd (let f : is_end t ≡ true = ap is_end e in cc)
+
+put_before : (t : Lined) (ts : List Lined) → t.0 ≢ kinds.End → EndsOnce ts → EndsOnce (t ∷ ts)
+put_before t [] n h = absurd h
+put_before t (u ∷ ts) n h = (n, h)
+
+runs_before : (n : ℕ) (rs : List (List ℕ)) (ts : List Lined) → EndsOnce ts → EndsOnce (map (λ run. (kind run, n)) rs ++ ts)
+runs_before n [] ts h = h
+runs_before n (run ∷ rs) ts h =
+    put_before (kind run, n) (map (λ r. (kind r, n)) rs ++ ts) (no_end (kind run) (kind_no_end run)) (runs_before n rs ts h)
+
+line_before : (f : Comments) (n : ℕ) (line : List ℕ) (ts : List Lined) → EndsOnce ts → EndsOnce (line_tokens f n line ++ ts)
+line_before f n line ts h = by (is_comment_line f line) refl
+  where
+    by : (b : Bool) → is_comment_line f line ≡ b → EndsOnce (line_tokens f n line ++ ts)
+    by true e = rw e h
+    by false e = rw e (runs_before (counted n) (runs line) ts h)
+
+lines_before : (f : Comments) (n : ℕ) (lines : List (List ℕ)) (ts : List Lined) → EndsOnce ts → EndsOnce (tokens_from f n lines ++ ts)
+lines_before f n [] ts h = h
+lines_before f n (line ∷ lines) ts h =
+    rw (append_assoc (line_tokens f n line) (tokens_from f (n + 1) lines) ts)
+    (line_before f n line (tokens_from f (n + 1) lines ++ ts) (lines_before f (n + 1) lines ts h))
+
+pub tokens-EndsOnce : (f : Comments) (bytes : List ℕ) → EndsOnce (tokens f bytes)
+tokens-EndsOnce f bytes = lines_before f 1 (slice_split is_line_end bytes) ((kinds.End, counted (1 + count_by is_line_end bytes)) ∷ []) refl

@@ -1,0 +1,123 @@
+-- Numbers that are counted from a first one, with others behind them.
+use Rattle.std.proofs.Common.{◌≡◌, ◌<◌, ◌≤◌, ◌+◌, ◌-◌, ◌^◌, ◌⊎◌, ◌||◌, ℕ, zero, suc, Bool, true, false, nat_eq, List, [], ◌∷◌, ◌++◌, length}
+use Rattle.std.proofs.Common.{position, slice_get, Option, None, Some, IfSome, IfNone, refl, sym, ap, subst, ◌∙◌, inl, inr, arith}
+use Rattle.std.specs.List.{IsDistinct, AllByRecursion}
+use Rattle.std.specs.Option.{is_some}
+use Rattle.std.proofs.lemmas.Bool.{cases_lt}
+use Rattle.std.proofs.lemmas.Bool.Decides.{eqb_tells}
+use Rattle.std.proofs.lemmas.List.{append-nil}
+use Rattle.qrp.specs.Kept.{count_from, AreStepNumbers}
+use Rattle.qrp.specs.Reading.{is_used}
+use Rattle.qrp.proofs.Positions.{position_found, position_only}
+use Rattle.qrp.proofs.ReadIsSpelled.{push_all, push_distinct}
+
+pub count_length : (f n : ℕ) → length (count_from f n) ≡ n
+count_length f zero = refl
+count_length f (suc n) = ap suc (count_length (suc f) n)
+
+count_more : (f n : ℕ) → count_from f (n + 1) ≡ count_from f n ++ (f + n) ∷ []
+count_more f zero = (let e : f ≡ f + 0 = omega arith in ap (λ (m : ℕ). m ∷ []) e)
+count_more f (suc n) =
+    let shift : suc n + 1 ≡ suc (n + 1) = omega arith in
+    let e : suc f + n ≡ f + suc n = omega arith in
+    ap (count_from f) shift ∙ ap (λ (ns : List ℕ). f ∷ ns) (count_more (suc f) n ∙ ap (λ (m : ℕ). count_from (suc f) n ++ m ∷ []) e)
+
+-- ---- what stands at a place
+
+pub front_at : (f n : ℕ) (ks : List ℕ) (i : ℕ) → i < n → slice_get (count_from f n ++ ks) i ≡ Some (f + i)
+front_at f zero ks i less = absurd (omega (arith, less))
+front_at f (suc n) ks zero less = (let e : f ≡ f + 0 = omega arith in ap (λ (m : ℕ). Some m) e)
+front_at f (suc n) ks (suc i) less =
+    let e : suc f + i ≡ f + suc i = omega arith in
+    front_at (suc f) n ks i (omega (arith, less)) ∙ ap (λ (m : ℕ). Some m) e
+
+pub behind_at : (f n : ℕ) (ks : List ℕ) (i : ℕ) → slice_get (count_from f n ++ ks) (n + i) ≡ slice_get ks i
+behind_at f zero ks i = (let e : 0 + i ≡ i = omega arith in ap (slice_get ks) e)
+behind_at f (suc n) ks i =
+    let e : suc n + i ≡ suc (n + i) = omega arith in
+    ap (slice_get (count_from f (suc n) ++ ks)) e ∙ behind_at (suc f) n ks i
+
+pub late_at : (f n : ℕ) (ks : List ℕ) (i : ℕ) → n ≤ i → slice_get (count_from f n ++ ks) i ≡ slice_get ks (i - n)
+late_at f n ks i late =
+    let e : i ≡ n + (i - n) = omega (arith, late) in
+    ap (slice_get (count_from f n ++ ks)) e ∙ behind_at f n ks (i - n)
+
+pub all_at : {X : Type 0} (P : X → Type 0) (xs : List X) (i : ℕ) (x : X) → AllByRecursion P xs → slice_get xs i ≡ Some x → P x
+all_at P [] i x h e = cc e
+all_at P (y ∷ xs) zero x h e = let same : y ≡ x = cc e in subst P same h.0
+all_at P (y ∷ xs) (suc i) x h e = all_at P xs i x h.1 e
+
+-- ---- whether a number is there
+
+-- no counted number is m
+abbrev pub NotCounted : ℕ → ℕ → ℕ → Type 0
+NotCounted f n m = (i : ℕ) → i < n → f + i ≡ m → ⊥
+
+used_at : (ks : List ℕ) (i m : ℕ) → slice_get ks i ≡ Some m → is_used m ks ≡ true
+used_at [] i m h = absurd (cc h)
+used_at (k ∷ ks) zero m h = elim (eqb_tells m k) [
+  | inl (t, is) ↦ rw t refl
+  | inr (t, ne) ↦ absurd (ne (let e : k ≡ m = cc h in sym e))
+]
+used_at (k ∷ ks) (suc i) m h = elim (eqb_tells m k) [
+  | inl (t, is) ↦ rw t refl
+  | inr (t, ne) ↦ rw t (used_at ks i m h)
+]
+
+unused_front : (f n : ℕ) (ks : List ℕ) (m : ℕ) → NotCounted f n m → is_used m (count_from f n ++ ks) ≡ is_used m ks
+unused_front f zero ks m out = refl
+unused_front f (suc n) ks m out = elim (eqb_tells m f) [
+  | inl (t, is) ↦ absurd (out 0 (omega arith) (let e : m ≡ f = is in omega (arith, e)))
+  | inr (t, ne) ↦ rw t (unused_front (suc f) n ks m (λ i less e. out (suc i) (omega (arith, less)) (omega (arith, e))))
+]
+
+pub found_used : (f n : ℕ) (ks : List ℕ) (m : ℕ) (o : Option ℕ) → IfSome o (λ i. (i < n) × (f + i ≡ m)) → is_some o ≡ true
+    → is_used m (count_from f n ++ ks) ≡ true
+found_used f n ks m None h t = cc t
+found_used f n ks m (Some i) h t = used_at (count_from f n ++ ks) i m (front_at f n ks i h.0 ∙ ap (λ (k : ℕ). Some k) h.1)
+
+pub unfound_used : (f n : ℕ) (ks : List ℕ) (m : ℕ) (o : Option ℕ) → IfNone o (NotCounted f n m) → is_some o ≡ false
+    → is_used m (count_from f n ++ ks) ≡ is_used m ks
+unfound_used f n ks m None out t = unused_front f n ks m out
+unfound_used f n ks m (Some i) out t = cc t
+
+-- a number that is not counted and not listed has no place
+pub none_there : (f n : ℕ) (ks : List ℕ) (m : ℕ) → NotCounted f n m → IsDistinct nat_eq ks → position (nat_eq m) ks ≡ None
+    → (i : ℕ) → slice_get (count_from f n ++ ks) i ≡ Some m → ⊥
+none_there f n ks m out distinct none i here = elim (cases_lt i n) [
+  | inl less ↦ out i less (let e : Some (f + i) ≡ Some m = sym (front_at f n ks i less) ∙ here in cc e)
+  | inr late ↦
+      let at : slice_get ks (i - n) ≡ Some m = sym (late_at f n ks i late) ∙ here in
+      let e : None ≡ Some (i - n) = sym none ∙ position_only ks m (i - n) distinct at in
+      cc e
+]
+
+-- a listed number stands behind those that are counted
+pub listed_at : (f n : ℕ) (ks : List ℕ) (m i : ℕ) → position (nat_eq m) ks ≡ Some i → slice_get (count_from f n ++ ks) (n + i) ≡ Some m
+listed_at f n ks m i e =
+    behind_at f n ks i ∙ subst (λ (o : Option ℕ). IfSome o (λ j. slice_get ks j ≡ Some m)) e (position_found ks m)
+
+-- ---- one more number
+
+pub numbers_pushed : (ns : List ℕ) (m : ℕ) → AreStepNumbers ns → is_used m ns ≡ false → m < 2 ^ 64 → AreStepNumbers (ns ++ m ∷ [])
+numbers_pushed ns m are new fit =
+    record { distinct = push_distinct ns m are.distinct new; fit = push_all (λ n. n < 2 ^ 64) ns m are.fit fit }
+
+or_false : (a b : Bool) → (a || b) ≡ false → b ≡ false
+or_false true b e = absurd (cc e)
+or_false false b e = e
+
+pub unused_behind : (xs ks : List ℕ) (m : ℕ) → is_used m (xs ++ ks) ≡ false → is_used m ks ≡ false
+unused_behind [] ks m e = e
+unused_behind (x ∷ xs) ks m e = unused_behind xs ks m (or_false (nat_eq m x) (is_used m (xs ++ ks)) e)
+
+-- of numbers that are all counted
+pub counted_pushed : (f n m : ℕ) (ks : List ℕ) → length ks ≡ 0 → (n ≡ 0) ⊎ (f + n ≡ m) → (g : ℕ) → (n ≡ 0 → g ≡ m) → ((n ≡ 0 → ⊥) → g ≡ f)
+    → count_from g (n + 1) ++ ks ≡ (count_from f n ++ ks) ++ m ∷ []
+counted_pushed f n m (k ∷ ks) none next g first later = absurd (omega (arith, none))
+counted_pushed f zero m [] none next g first later = ap (λ (k : ℕ). k ∷ []) (first refl)
+counted_pushed f (suc n) m [] none next g first later =
+    let same : g ≡ f = later (λ e. cc e) in
+    let e : f + suc n ≡ m = elim next [ inl z ↦ absurd (cc z) | inr e ↦ e ] in
+    append-nil (count_from g (suc n + 1)) ∙ ap (λ (h : ℕ). count_from h (suc n + 1)) same ∙ count_more f (suc n)
+    ∙ ap (λ (k : ℕ). count_from f (suc n) ++ k ∷ []) e ∙ ap (λ (ns : List ℕ). ns ++ m ∷ []) (sym (append-nil (count_from f (suc n))))

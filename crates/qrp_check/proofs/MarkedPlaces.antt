@@ -1,0 +1,67 @@
+-- The marked places, listed from the first on.
+use Rattle.std.proofs.Common.{◌≡◌, ℕ, ◌+◌, ◌<◌, ◌≤◌, ◌↔◌, Bool, true, false, List, [], ◌∷◌, ◌++◌, inl, inr, sym, ap, ◌∙◌, subst, length}
+use Rattle.std.proofs.Common.{get_or, Some, arith}
+use Rattle.std.specs.Prelude.{slice_get}
+use Rattle.std.proofs.lemmas.Option.{slice_get_within, slice_get-get_or, get_or_from_slice_get}
+use Rattle.std.proofs.lemmas.Bool.{cases_eq}
+use Rattle.qrp_check.specs.Marks.{IsMarked, ListsMarked}
+use Rattle.qrp_check.specs.Core.{IsInCore, ListsCore}
+use Rattle.qrp.specs.Inferences.{Inference}
+use Rattle.qrp_check.proofs.Marking.{core_within}
+use Rattle.qrp_check.proofs.StepPlaces.{pushed_cases, pushed_old, pushed_new}
+
+-- what was read says whether the place is marked
+pub marked : (marks : List Bool) (i : ℕ) → i < length marks → get_or marks i false ≡ true → IsMarked marks i
+marked marks i less is = slice_get-get_or marks i false less ∙ ap Some is
+
+pub unmarked : (marks : List Bool) (i : ℕ) → get_or marks i false ≡ false → IsMarked marks i → ⊥
+unmarked marks i clear m = let f : true ≡ false = sym (get_or_from_slice_get marks i true false m) ∙ clear in cc f
+
+pub listing_none : (marks : List Bool) → ListsMarked marks 0 []
+listing_none marks = record {
+  rises = λ k l a b h g less. cc h;
+  sound = λ k a h. cc h;
+  full = λ a less h. absurd (omega arith);
+}
+
+pub listing_skip : (marks : List Bool) (i : ℕ) (places : List ℕ) → (IsMarked marks i → ⊥) → ListsMarked marks i places
+    → ListsMarked marks (i + 1) places
+listing_skip marks i places out listing = record {
+  rises = listing.rises;
+  sound = λ k a h. let w = listing.sound k a h in ((let less : a < i = w.0 in omega arith), w.1);
+  full = λ a less h. elim (cases_eq a i) [
+    | inl e ↦ absurd (out (subst (λ x. IsMarked marks x) e h))
+    | inr ne ↦ listing.full a (omega arith) h
+  ];
+}
+
+pub listing_push : (marks : List Bool) (i : ℕ) (places : List ℕ) → IsMarked marks i → ListsMarked marks i places
+    → ListsMarked marks (i + 1) (places ++ i ∷ [])
+listing_push marks i places is listing = record {
+  rises = λ k l a b h g less. elim (pushed_cases places i l b g) [
+    | inl old ↦ elim (pushed_cases places i k a h) [
+      | inl older ↦ listing.rises k l a b older old less
+      | inr (e, _) ↦ absurd (let within : l < length places = slice_get_within places l b old in omega arith)
+    ]
+    | inr (e, f) ↦ elim (pushed_cases places i k a h) [
+      | inl older ↦ (let below : a < i = (listing.sound k a older).0 in omega arith)
+      | inr (e2, _) ↦ absurd (omega arith)
+    ]
+  ];
+  sound = λ k a h. elim (pushed_cases places i k a h) [
+    | inl old ↦ (let w = listing.sound k a old in ((let less : a < i = w.0 in omega arith), w.1))
+    | inr (_, f) ↦ (omega arith, subst (λ x. IsMarked marks x) (sym f) is)
+  ];
+  full = λ a less h. elim (cases_eq a i) [
+    | inl e ↦ (length places, subst (λ x. slice_get (places ++ i ∷ []) (length places) ≡ Some x) (sym e) (pushed_new places i))
+    | inr ne ↦ (let w = listing.full a (omega arith) h in (w.0, pushed_old places i w.0 a w.1))
+  ];
+}
+
+pub listing_done : (steps : List Inference) (marks : List Bool) (i : ℕ) (places : List ℕ) → length steps ≤ i
+    → ((j : ℕ) → IsMarked marks j ↔ IsInCore steps j) → ListsMarked marks i places → ListsCore steps places
+listing_done steps marks i places all core listing = record {
+  rises = listing.rises;
+  sound = λ k a h. (core a).0 (listing.sound k a h).1;
+  full = λ a h. listing.full a (let less : a < length steps = core_within steps a h in omega arith) ((core a).1 h);
+}

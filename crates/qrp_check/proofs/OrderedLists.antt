@@ -1,0 +1,72 @@
+-- Ordered lists: their beginnings, and their lengths.
+use Rattle.std.proofs.Common.{◌≡◌, ◌<◌, ◌≤◌, ◌+◌, ℕ, zero, suc, List, [], ◌∷◌, length, get_or, take, refl, sym, ap, subst, ◌∙◌, inl, inr}
+use Rattle.std.proofs.Common.{arith}
+use Rattle.qbf_core.specs.Literal.{Literal}
+use Rattle.qbf_core.specs.Members.{◌∈◌, ◌⊆◌}
+use Rattle.qbf_core.specs.Sets.{IsOrdered}
+use Rattle.qbf_core.proofs.Members.{in_take_more}
+
+-- one more literal above those so far
+pub ordered_taken : (xs : List Literal) (i : ℕ) (x : Literal) → i < length xs → x ≡ get_or xs i x → IsOrdered (take i xs)
+    → ((m : Literal) → m ∈ take i xs → m.var < x.var) → IsOrdered (take (i + 1) xs)
+ordered_taken [] i x less e o below = absurd (omega arith)
+ordered_taken (y ∷ xs) zero x less e o below = ((λ m h. absurd h), tt)
+ordered_taken (y ∷ xs) (suc i) x less e o below =
+    let shift : suc i + 1 ≡ suc (i + 1) = omega arith in
+    subst (λ (n : ℕ). IsOrdered (take n (y ∷ xs))) (sym shift) (later, ordered_taken xs i x (omega arith) e o.1 (λ m h. below m (inr h)))
+  where
+    later : (m : Literal) → m ∈ take (i + 1) xs → y.var < m.var
+    later m h = elim (in_take_more xs i x m (omega arith) e h) [
+      | inl k ↦ o.0 m k
+      | inr f ↦ (let var_of : Literal → ℕ = λ z. z.var in subst (λ (n : ℕ). y.var < n) (sym (ap var_of f)) (below y (inl refl)))
+    ]
+
+pub taken_whole : (xs : List Literal) (n : ℕ) → length xs ≤ n → take n xs ≡ xs
+taken_whole [] zero long = refl
+taken_whole [] (suc n) long = refl
+taken_whole (x ∷ xs) zero long = absurd (omega arith)
+taken_whole (x ∷ xs) (suc n) long = ap (λ (ys : List Literal). x ∷ ys) (taken_whole xs n (omega arith))
+
+-- an ordered list in another is no longer than that, and is all of it where it is as long
+first_out : (t f m : Literal) (ts fs : List Literal) → IsOrdered (t ∷ ts) → IsOrdered (f ∷ fs) → t ∈ fs → m ∈ (t ∷ ts) → m ∈ (f ∷ fs)
+    → m ∈ fs
+first_out t f m ts fs o p h k (inr in_rest) = in_rest
+first_out t f m ts fs o p h k (inl e) =
+    let lt : f.var < t.var = p.0 t h in
+    let var_of : Literal → ℕ = λ z. z.var in
+    let same : m.var ≡ f.var = ap var_of e in
+    elim k [
+      | inl g ↦ (let is : m.var ≡ t.var = ap var_of g in absurd (omega (arith, lt, same, is)))
+      | inr g ↦ (let less : t.var < m.var = o.0 m g in absurd (omega (arith, lt, same, less)))
+    ]
+
+rest_in : (t f : Literal) (ts fs : List Literal) → IsOrdered (t ∷ ts) → t ≡ f → (t ∷ ts) ⊆ (f ∷ fs) → ts ⊆ fs
+rest_in t f ts fs o e sub m h = elim (sub m (inr h)) [
+  | inl g ↦ (let var_of : Literal → ℕ = λ z. z.var in
+      let same : m.var ≡ t.var = ap var_of (g ∙ sym e) in
+      let less : t.var < m.var = o.0 m h in
+      absurd (omega (arith, same, less)))
+  | inr k ↦ k
+]
+
+ordered_shorter : (to from : List Literal) → IsOrdered to → IsOrdered from → to ⊆ from → length to ≤ length from
+ordered_shorter [] from o p sub = omega arith
+ordered_shorter (t ∷ ts) [] o p sub = absurd (sub t (inl refl))
+ordered_shorter (t ∷ ts) (f ∷ fs) o p sub = elim (sub t (inl refl)) [
+  | inl e ↦ (let le : length ts ≤ length fs = ordered_shorter ts fs o.1 p.1 (rest_in t f ts fs o e sub) in omega (arith, le))
+  | inr h ↦ (let le : length (t ∷ ts) ≤ length fs = ordered_shorter (t ∷ ts) fs o p.1 (λ m k. first_out t f m ts fs o p h k (sub m k)) in
+      omega (arith, le))
+]
+
+pub ordered_whole : (to from : List Literal) → IsOrdered to → IsOrdered from → to ⊆ from → length from ≤ length to → from ⊆ to
+ordered_whole [] [] o p sub long m h = h
+ordered_whole [] (f ∷ fs) o p sub long m h = absurd (omega (arith, long))
+ordered_whole (t ∷ ts) [] o p sub long m h = absurd h
+ordered_whole (t ∷ ts) (f ∷ fs) o p sub long m h = elim (sub t (inl refl)) [
+  | inl e ↦ elim h [
+    | inl g ↦ inl (g ∙ sym e)
+    | inr k ↦ inr (ordered_whole ts fs o.1 p.1 (rest_in t f ts fs o e sub) (omega (arith, long)) m k)
+  ]
+  | inr k ↦ (let le : length (t ∷ ts) ≤ length fs = ordered_shorter (t ∷ ts) fs o p.1 (λ n j. first_out t f n ts fs o p k j (sub n j)) in
+      absurd (omega (arith, le, long)))
+]

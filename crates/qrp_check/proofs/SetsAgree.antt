@@ -1,0 +1,197 @@
+-- How far the sets of a trace agree: one pair more, and one list of pairs more.
+use Rattle.std.proofs.Common.{◌≡◌, ◌≤◌, ◌<◌, ◌+◌, ℕ, zero, suc, List, [], ◌∷◌, ◌++◌, ◌⊎◌, inl, inr, refl, sym, ap, subst, ◌∙◌, arith}
+use Rattle.std.proofs.Common.{length, get_or, take, drop, slice_get, Some}
+use Rattle.std.proofs.lemmas.List.{append_assoc}
+use Rattle.qbf_core.specs.declared.quantifier.Quantifier.{Quantifier}
+use Rattle.qbf_core.specs.Blocks.{Block, Binds, IsBound, block_in, pairs, pairs_of_block}
+use Rattle.qbf_core.proofs.Bound.{binds_in, in_bound}
+use Rattle.qbf_core.proofs.Members.{in_push, push_in}
+use Rattle.qrp_check.specs.declared.fault.CheckFault.{CheckFault}
+use Rattle.qrp_check.specs.declared.fault.CheckFault.TheVariants.{C1, C2, C3}
+use Rattle.qrp_check.specs.Conditions.{AllHold, IsFirstFailure}
+use Rattle.qrp_check.specs.Sets.{set_conditions, PairsAgree, IsPairFault}
+use Rattle.qrp_check.specs.Passed.{IsPassed, Passes, FailsIn}
+
+-- places of a list with more behind it
+push_at : {A : Type 0} (xs : List A) (y r : A) (i : ℕ) → slice_get (xs ++ y ∷ []) i ≡ Some r
+    → ((slice_get xs i ≡ Some r) × (take i (xs ++ y ∷ []) ≡ take i xs)) ⊎ ((r ≡ y) × (take i (xs ++ y ∷ []) ≡ xs))
+push_at [] y r zero e = inr ((let s : r ≡ y = cc e in s), refl)
+push_at [] y r (suc i) e = cc e
+push_at (x ∷ xs) y r zero e = inl (e, refl)
+push_at (x ∷ xs) y r (suc i) e = elim (push_at xs y r i e) [
+  | inl w ↦ inl (w.0, ap (λ zs. x ∷ zs) w.1)
+  | inr w ↦ inr (w.0, ap (λ zs. x ∷ zs) w.1)
+]
+
+here_at : {A : Type 0} (xs ys : List A) (y : A) → (slice_get (xs ++ y ∷ ys) (length xs) ≡ Some y) × (take (length xs) (xs ++ y ∷ ys) ≡ xs)
+here_at [] ys y = (refl, refl)
+here_at (x ∷ xs) ys y = let w = here_at xs ys y in (w.0, ap (λ zs. x ∷ zs) w.1)
+
+before_at : {A : Type 0} (xs ys : List A) (r : A) (j : ℕ) → j < length xs → slice_get (xs ++ ys) j ≡ Some r
+    → (slice_get xs j ≡ Some r) × (take j (xs ++ ys) ≡ take j xs)
+before_at [] ys r j less e = absurd (omega arith)
+before_at (x ∷ xs) ys r zero less e = (e, refl)
+before_at (x ∷ xs) ys r (suc j) less e = let w = before_at xs ys r j (omega arith) e in (w.0, ap (λ zs. x ∷ zs) w.1)
+
+bound_by : (blocks : List Block) (q : Quantifier) (v : ℕ) → Binds blocks q v → IsBound blocks v
+bound_by blocks q v binds = in_bound (pairs blocks) q v (binds_in (pairs blocks) q v binds)
+
+-- one pair more
+pub passes_one : (blocks : List Block) (highest n : ℕ) (q : Quantifier) (v : ℕ) → Binds blocks q v → block_in v blocks ≡ Some n
+    → highest ≤ n
+    → Passes blocks highest ((q, v) ∷ []) n
+passes_one blocks highest n q v binds at le before passed = record {
+  agree = λ i r e. elim (push_at before (q, v) r i e) [
+    | inl w ↦ subst (λ bs. AllHold (set_conditions blocks bs r)) (sym w.1) (passed.agree i r w.0)
+    | inr w ↦ subst (λ bs. AllHold (set_conditions blocks bs r)) (sym w.1)
+        (subst (λ p. AllHold (set_conditions blocks before p)) (sym w.0) conditions)
+  ];
+  low = λ k. (
+    (λ up p h i e. elim (in_push before (q, v) p h) [
+      | inl b ↦ (passed.low k).0 (let l : highest ≤ k = omega arith in l) p b i e
+      | inr same ↦
+          let f : Quantifier × ℕ → ℕ = λ x. x.1 in
+          let here : block_in v blocks ≡ Some i = subst (λ w. block_in w blocks ≡ Some i) (ap f same) e in
+          let is : i ≡ n = cc (here, at) in
+          omega arith
+    ]),
+    (λ all. all (q, v) (push_in before (q, v) (q, v) (inr refl)) n at),
+  );
+}
+  where
+    conditions : AllHold (set_conditions blocks before (q, v))
+    conditions = (
+      bound_by blocks q v binds,
+      (
+        binds,
+        (
+          (λ p h i j ei ej. (passed.low j).0 (let is : j ≡ n = cc (ej, at) in let l : highest ≤ j = omega arith in l) p h i ei),
+          tt,
+        ),
+      ),
+    )
+
+-- a pair that fails after those that are passed
+pub fails_one : (blocks : List Block) (highest : ℕ) (p : Quantifier × ℕ) (fault : CheckFault)
+    → ((before : List (Quantifier × ℕ)) → IsPassed blocks before highest → IsFirstFailure (set_conditions blocks before p) fault)
+    → FailsIn blocks highest (p ∷ []) fault
+fails_one blocks highest p fault fails before rest passed =
+    let w = here_at before rest p in
+    record {
+      place = length before;
+      pair = p;
+      here = w.0;
+      first = subst (λ bs. IsFirstFailure (set_conditions blocks bs p) fault) (sym w.1) (fails before passed);
+      earlier = λ j r less e.
+          let b = before_at before (p ∷ rest) r j less e in
+          subst (λ bs. AllHold (set_conditions blocks bs r)) (sym b.1) (passed.agree j r b.0);
+    }
+
+pub fails_unbound : (blocks : List Block) (highest : ℕ) (q : Quantifier) (v : ℕ) → (IsBound blocks v → ⊥)
+    → FailsIn blocks highest ((q, v) ∷ []) (C1 v)
+fails_unbound blocks highest q v out = fails_one blocks highest (q, v) (C1 v) (λ before passed. inl (out, refl))
+
+pub fails_other : (blocks : List Block) (highest : ℕ) (q : Quantifier) (v : ℕ) → IsBound blocks v → (Binds blocks q v → ⊥)
+    → FailsIn blocks highest ((q, v) ∷ []) (C2 v)
+fails_other blocks highest q v bound out = fails_one blocks highest (q, v) (C2 v) (λ before passed. inr (bound, inl (out, refl)))
+
+pub fails_early : (blocks : List Block) (highest n : ℕ) (q : Quantifier) (v : ℕ) → Binds blocks q v → block_in v blocks ≡ Some n
+    → n < highest
+    → FailsIn blocks highest ((q, v) ∷ []) (C3 v)
+fails_early blocks highest n q v binds at less = fails_one blocks highest (q, v) (C3 v) (λ before passed.
+    inr (
+      bound_by blocks q v binds,
+      inr (
+        binds,
+        inl (
+          (λ all. let le : highest ≤ n = (passed.low n).1 (λ p h i e. all p h i n e at) in let no : ⊥ = omega arith in no),
+          refl,
+        ),
+      ),
+    ))
+
+-- no pair
+append_nil : {A : Type 0} (xs : List A) → xs ++ [] ≡ xs
+append_nil [] = refl
+append_nil (x ∷ xs) = ap (λ ys. x ∷ ys) (append_nil xs)
+
+pub passed_none : (blocks : List Block) → IsPassed blocks [] 0
+passed_none blocks = record { agree = λ i r e. absurd (cc e); low = λ k. ((λ le p h. absurd h), (λ all. omega arith)) }
+
+pub passes_none : (blocks : List Block) (highest : ℕ) → Passes blocks highest [] highest
+passes_none blocks highest before passed = subst (λ ps. IsPassed blocks ps highest) (sym (append_nil before)) passed
+
+-- one list of pairs more
+pub passes_more : (blocks : List Block) (highest n m : ℕ) (ps qs : List (Quantifier × ℕ)) → Passes blocks highest ps n
+    → Passes blocks n qs m → Passes blocks highest (ps ++ qs) m
+passes_more blocks highest n m ps qs first second before passed =
+    subst (λ rs. IsPassed blocks rs m) (append_assoc before ps qs) (second (before ++ ps) (first before passed))
+
+pub fails_more : (blocks : List Block) (highest n : ℕ) (ps qs more : List (Quantifier × ℕ)) (fault : CheckFault)
+    → Passes blocks highest ps n → FailsIn blocks n qs fault
+    → FailsIn blocks highest ((ps ++ qs) ++ more) fault
+fails_more blocks highest n ps qs more fault first second before rest passed =
+    subst (λ rs. IsPairFault blocks rs fault) (assoc before ps qs more rest) (second (before ++ ps) (more ++ rest) (first before passed))
+  where
+    assoc : {A : Type 0} (xs ys zs us vs : List A) → (xs ++ ys) ++ (zs ++ (us ++ vs)) ≡ xs ++ (((ys ++ zs) ++ us) ++ vs)
+    assoc [] [] [] us vs = refl
+    assoc [] [] (z ∷ zs) us vs = ap (λ ws. z ∷ ws) (assoc [] [] zs us vs)
+    assoc [] (y ∷ ys) zs us vs = ap (λ ws. y ∷ ws) (assoc [] ys zs us vs)
+    assoc (x ∷ xs) ys zs us vs = ap (λ ws. x ∷ ws) (assoc xs ys zs us vs)
+
+-- of nothing before, and nothing behind
+pub agrees_by_passes : (blocks : List Block) (ps : List (Quantifier × ℕ)) (n : ℕ) → Passes blocks 0 ps n → PairsAgree blocks ps
+agrees_by_passes blocks ps n passes = (passes [] (passed_none blocks)).agree
+
+pub fault_by_fails : (blocks : List Block) (ps : List (Quantifier × ℕ)) (fault : CheckFault) → FailsIn blocks 0 ps fault
+    → IsPairFault blocks ps fault
+fault_by_fails blocks ps fault fails = subst (λ rs. IsPairFault blocks rs fault) (append_nil ps) (fails [] [] (passed_none blocks))
+
+-- one variable more of a set
+abbrev pub under : Quantifier → List ℕ → List (Quantifier × ℕ)
+under q vs = pairs_of_block (record { quantifier = q; vars = vs })
+
+pub under_next : (q : Quantifier) (vs : List ℕ) (i v : ℕ) → i < length vs → v ≡ get_or vs i v
+    → under q (take (i + 1) vs) ≡ under q (take i vs) ++ (q, v) ∷ []
+under_next q [] i v less e = absurd (omega arith)
+under_next q (w ∷ vs) zero v less e = ap (λ (n : ℕ). (q, n) ∷ []) (sym e)
+under_next q (w ∷ vs) (suc i) v less e =
+    let shift : suc (i + 1) ≡ suc i + 1 = omega arith in
+    subst (λ n. under q (take n (w ∷ vs)) ≡ (q, w) ∷ (under q (take i vs) ++ (q, v) ∷ [])) shift
+    (ap (λ ps. (q, w) ∷ ps) (under_next q vs i v (omega arith) e))
+
+pub under_rest : (q : Quantifier) (vs : List ℕ) (i v : ℕ) → i < length vs → v ≡ get_or vs i v
+    → (under q (take i vs) ++ (q, v) ∷ []) ++ under q (drop (i + 1) vs) ≡ under q vs
+under_rest q [] i v less e = absurd (omega arith)
+under_rest q (w ∷ vs) zero v less e = ap (λ (n : ℕ). (q, n) ∷ under q vs) e
+under_rest q (w ∷ vs) (suc i) v less e =
+    let shift : suc (i + 1) ≡ suc i + 1 = omega arith in
+    subst (λ n. (q, w) ∷ ((under q (take i vs) ++ (q, v) ∷ []) ++ under q (drop n (w ∷ vs))) ≡ (q, w) ∷ under q vs) shift
+    (ap (λ ps. (q, w) ∷ ps) (under_rest q vs i v (omega arith) e))
+
+-- one set more
+pub sets_next : (sets : List Block) (i : ℕ) (s : Block) → i < length sets → s ≡ get_or sets i s
+    → pairs (take (i + 1) sets) ≡ pairs (take i sets) ++ pairs_of_block s
+sets_next [] i s less e = absurd (omega arith)
+sets_next (t ∷ sets) zero s less e =
+    subst (λ (x : Block). pairs_of_block t ++ [] ≡ pairs_of_block x) (sym e) (append_nil (pairs_of_block t))
+sets_next (t ∷ sets) (suc i) s less e =
+    let shift : suc (i + 1) ≡ suc i + 1 = omega arith in
+    subst (λ n. pairs (take n (t ∷ sets)) ≡ (pairs_of_block t ++ pairs (take i sets)) ++ pairs_of_block s) shift
+    (ap (λ ps. pairs_of_block t ++ ps) (sets_next sets i s (omega arith) e)
+    ∙ sym (append_assoc (pairs_of_block t) (pairs (take i sets)) (pairs_of_block s)))
+
+pub sets_rest : (sets : List Block) (i : ℕ) (s : Block) → i < length sets → s ≡ get_or sets i s
+    → (pairs (take i sets) ++ pairs_of_block s) ++ pairs (drop (i + 1) sets) ≡ pairs sets
+sets_rest [] i s less e = absurd (omega arith)
+sets_rest (t ∷ sets) zero s less e = ap (λ (x : Block). pairs_of_block x ++ pairs sets) e
+sets_rest (t ∷ sets) (suc i) s less e =
+    let shift : suc (i + 1) ≡ suc i + 1 = omega arith in
+    let ts : List (Quantifier × ℕ) = pairs_of_block t in
+    let inner : List (Quantifier × ℕ) = pairs (take i sets) in
+    let own : List (Quantifier × ℕ) = pairs_of_block s in
+    subst (λ n. ((ts ++ inner) ++ own) ++ pairs (drop n (t ∷ sets)) ≡ ts ++ pairs sets) shift
+    (
+    ap (λ ps. ps ++ pairs (drop (i + 1) sets)) (append_assoc ts inner own)
+    ∙ (append_assoc ts (inner ++ own) (pairs (drop (i + 1) sets)) ∙ ap (λ ps. ts ++ ps) (sets_rest sets i s (omega arith) e))
+    )

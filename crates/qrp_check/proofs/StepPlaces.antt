@@ -1,0 +1,65 @@
+-- Steps at their places.
+use Rattle.std.proofs.Common.{◌≡◌, ℕ, zero, suc, ◌<◌, ◌≤◌, true, false, List, [], ◌∷◌, ◌++◌, ◌⊎◌, Some, refl, sym, ap, ◌∙◌, arith, length}
+use Rattle.std.proofs.Common.{eqb, subst, inl, inr}
+use Rattle.std.specs.Prelude.{slice_get}
+use Rattle.std.proofs.Math.Dec.{eqb-suc-zero}
+use Rattle.std.proofs.lemmas.Bool.{false≢true, cases_eq}
+use Rattle.qrp.specs.Inferences.{Inference, IsAt}
+use Rattle.qrp_check.specs.Core.{IsGoal}
+
+-- a place within a list has an element
+pub at_place : {A : Type 0} (xs : List A) (i : ℕ) → i < length xs → (x : A) × (slice_get xs i ≡ Some x)
+at_place [] i less = absurd (omega (arith, less))
+at_place (x ∷ xs) zero less = (x, refl)
+at_place (x ∷ xs) (suc i) less = at_place xs i (omega (arith, less))
+
+pub within_place : {A : Type 0} (xs : List A) (i : ℕ) (x : A) → slice_get xs i ≡ Some x → i < length xs
+within_place [] i x here = cc here
+within_place (y ∷ xs) zero x here = omega arith
+within_place (y ∷ xs) (suc i) x here = let less : i < length xs = within_place xs i x here in omega (arith, less)
+
+pub one_at : {A : Type 0} (xs : List A) (i : ℕ) (x y : A) → slice_get xs i ≡ Some x → slice_get xs i ≡ Some y → x ≡ y
+one_at xs i x y p q = let e : Some x ≡ Some y = sym p ∙ q in cc e
+
+pub empty_of : {A : Type 0} (xs : List A) → eqb (length xs) 0 ≡ true → xs ≡ []
+empty_of [] e = refl
+empty_of (x ∷ xs) e = absurd (false≢true (sym (eqb-suc-zero (length xs)) ∙ e))
+
+pub full_of : {A : Type 0} (xs : List A) → eqb (length xs) 0 ≡ false → xs ≡ [] → ⊥
+full_of [] e is = false≢true (sym e)
+full_of (x ∷ xs) e is = cc is
+
+-- ---- the last step without literals
+
+pub goal_here : (steps : List Inference) (i : ℕ) → i < length steps → ((step : Inference) → IsAt steps i step → step.lits ≡ [])
+    → ((j : ℕ) (step : Inference) → IsAt steps j step → step.lits ≡ [] → j ≤ i) → IsGoal steps i
+goal_here steps i less empty last =
+    let s = at_place steps i less in
+    record { step = s.0; here = s.1; empty = empty s.0 s.1; last = last }
+
+pub later_step : (steps : List Inference) (i p : ℕ) → i ≡ suc p
+    → ((step : Inference) → IsAt steps p step → step.lits ≡ [] → ⊥)
+    → ((j : ℕ) (step : Inference) → IsAt steps j step → step.lits ≡ [] → j < i)
+    → (j : ℕ) (step : Inference) → IsAt steps j step → step.lits ≡ [] → j < p
+later_step steps i p is full later j step here empty = elim (cases_eq j p) [
+  | inl e ↦ absurd (full step (subst (λ (k : ℕ). IsAt steps k step) e here) empty)
+  | inr ne ↦ (let less : j < i = later j step here empty in omega (arith, less, is, ne))
+]
+
+-- ---- a list with one more
+
+pub pushed_cases : {A : Type 0} (xs : List A) (x : A) (k : ℕ) (a : A) → slice_get (xs ++ x ∷ []) k ≡ Some a
+    → (slice_get xs k ≡ Some a) ⊎ ((k ≡ length xs) × (a ≡ x))
+pushed_cases [] x zero a h = inr (refl, cc h)
+pushed_cases [] x (suc k) a h = cc h
+pushed_cases (y ∷ xs) x zero a h = inl h
+pushed_cases (y ∷ xs) x (suc k) a h = elim (pushed_cases xs x k a h) [ inl g ↦ inl g | inr (e, f) ↦ inr (ap suc e, f) ]
+
+pub pushed_old : {A : Type 0} (xs : List A) (x : A) (k : ℕ) (a : A) → slice_get xs k ≡ Some a → slice_get (xs ++ x ∷ []) k ≡ Some a
+pushed_old [] x k a h = cc h
+pushed_old (y ∷ xs) x zero a h = h
+pushed_old (y ∷ xs) x (suc k) a h = pushed_old xs x k a h
+
+pub pushed_new : {A : Type 0} (xs : List A) (x : A) → slice_get (xs ++ x ∷ []) (length xs) ≡ Some x
+pushed_new [] x = refl
+pushed_new (y ∷ xs) x = pushed_new xs x
