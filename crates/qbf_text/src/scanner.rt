@@ -220,7 +220,7 @@ impl Place {
             Gives (left_at self.old (S.remaining source.old))
             (left_at self.new (S.remaining source.new))
             ((token, self.new.line) ∷ []))) }
-        // The source is read no further than behind the token.
+        // The source is read no further than after the token.
         ensures takes { IfOk result (λ found. IfSome found (λ token.
             PlaceTakes self.old (S.remaining source.old) self.new (S.remaining source.new)
             (token, self.new.line))) }
@@ -339,7 +339,7 @@ impl Scanner {
         ensures token { IfOk result (λ token.
             GivesNext (left self.old (S.remaining source.old))
             (left self.new (S.remaining source.new)) token) }
-        // Nothing is taken behind a token but a separator.
+        // Nothing is taken after a token but a separator.
         ensures takes { IfOk result (λ token. is_end token.0 ≡ false →
             ScannerTakes self.old (S.remaining source.old) self.new
             (S.remaining source.new) token) }
