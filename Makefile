@@ -44,14 +44,15 @@ demo: all
 	$(PROGRAM) check examples/carry-from-tables/carry-from-tables.qdimacs examples/carry-from-tables/carry-from-tables.qrp
 	$(PROGRAM) format examples/two_clauses.qdimacs
 
+# The programs and the tests that `rt ci` proved and built are those that the scripts after it run.
 test:
 	scripts/check-promises
 	scripts/check-memory-faults
 	$(RT) ci
-	cd crates/qbf_core && $(RT) test > /dev/null
-	cd crates/qrp && $(RT) test > /dev/null
+	mkdir -p bin
+	cp crates/qrp_cmd/out/qrp_cmd $(PROGRAM)
+	cp crates/qrp_echo/out/qrp_echo $(ECHO)
 	scripts/test-refusals
-	$(MAKE) all $(ECHO)
 	scripts/test-program $(PROGRAM) $(ECHO)
 	scripts/test-scripts $(PROGRAM)
 	$(MAKE) lib

@@ -1,6 +1,6 @@
 -- Lists in one buffer.
-use Rattle.std.proofs.Common.{◌≡◌, ◌≤◌, ◌<◌, ◌-◌, ℕ, zero, suc, List, [], ◌∷◌, ◌++◌, length, take, drop, get_or, slice_get, slice_range}
-use Rattle.std.proofs.Common.{Some, refl, sym, ap, ◌∙◌, arith, length-append, length-drop}
+use Rattle.std.proofs.Common.{◌≡◌, ◌≤◌, ◌<◌, ◌-◌, ℕ, zero, suc, List, [], ◌∷◌, ◌++◌, length, take, drop, slice_get, slice_range}
+use Rattle.std.proofs.Common.{Option, Some, refl, sym, ap, ◌∙◌, arith, length-append, length-drop}
 use Rattle.std.proofs.lemmas.List.{drop-append-le, take-append-le, take-append-drop, length-take-le}
 use Rattle.std.proofs.Math.Seq.{drop-append_seam}
 use Rattle.std.specs.Option.{unwrap_or}
@@ -66,16 +66,14 @@ pub same_count : {X : Type 0} (lits : List X) (from : ℕ) (es : List ℕ) → l
 same_count lits from [] = refl
 same_count lits from (e ∷ es) = ap suc (same_count lits e es)
 
-start_behind : (from : ℕ) (es : List ℕ) (i d : ℕ) → i < length es → start_of from es (suc i) ≡ get_or es i d
-start_behind from [] i d less = absurd (omega arith)
-start_behind from (e ∷ es) zero d less = refl
-start_behind from (e ∷ es) (suc i) d less = start_behind e es i d (omega arith)
+pub start_found : (from : ℕ) (es : List ℕ) (i e : ℕ) → slice_get es i ≡ Some e → start_of from es (suc i) ≡ e
+start_found from [] i e h = absurd (cc h)
+start_found from (x ∷ es) zero e h = cc h
+start_found from (x ∷ es) (suc i) e h = start_found x es i e h
 
-pub start_found : (es : List ℕ) (i d : ℕ) → (i ≡ 0 → ⊥) → i < length es → get_or es (i - 1) d ≡ start_of 0 es i
-start_found es zero d some less = absurd (some refl)
-start_found es (suc i) d some less =
-    let k : suc i - 1 ≡ i = omega arith in
-    rw k (sym (start_behind 0 es i d (omega arith)))
+pub start_after : (es : List ℕ) (i e : ℕ) → (i ≡ 0 → ⊥) → slice_get es (i - 1) ≡ Some e → e ≡ start_of 0 es i
+start_after es zero e some h = absurd (some refl)
+start_after es (suc i) e some h = let k : suc i - 1 ≡ i = omega arith in sym (start_found 0 es i e (rw k at h))
 
 pub part_at : {X : Type 0} (lits : List X) (from : ℕ) (es : List ℕ) (i e : ℕ) → slice_get es i ≡ Some e
     → slice_get (parts lits from es) i ≡ Some (slice_range lits (start_of from es i) e)
@@ -92,9 +90,9 @@ within_at from (x ∷ es) zero n e h r =
 within_at from (x ∷ es) (suc i) n e h r = within_at x es i n e h r.1
 
 -- a place among the parts is one among their ends
-pub part_place : {X : Type 0} (lits : List X) (es ds : List ℕ) (whole : List (List X)) (i : ℕ) → parts lits 0 es ≡ whole → ds ≡ es
-    → i < length whole → i < length ds
-part_place lits es ds whole i is same less = omega (arith, ap length same, ap length is, same_count lits 0 es)
+pub part_place : {X : Type 0} (xs : List X) (es : List ℕ) (whole : List (List X)) (i : ℕ) → parts xs 0 es ≡ whole
+    → i < length whole → i < length es
+part_place xs es whole i is less = omega (arith, ap length is, same_count xs 0 es)
 
 -- ---- without the last parts
 
@@ -142,9 +140,12 @@ last_of : (e : ℕ) (es : List ℕ) (d : ℕ) → unwrap_or (slice_get (e ∷ es
 last_of e [] d = refl
 last_of e (x ∷ es) d = last_of x es d
 
-pub last_is : (es : List ℕ) → unwrap_or (slice_get es (length es - 1)) 0 ≡ end_of 0 es
-last_is [] = refl
-last_is (e ∷ es) = let k : suc (length es) - 1 ≡ length es = omega arith in rw k (last_of e es 0)
+last_kept : (es : List ℕ) → unwrap_or (slice_get es (length es - 1)) 0 ≡ end_of 0 es
+last_kept [] = refl
+last_kept (e ∷ es) = let k : suc (length es) - 1 ≡ length es = omega arith in rw k (last_of e es 0)
+
+pub last_is : (es : List ℕ) (n e : ℕ) → n ≡ length es → slice_get es (n - 1) ≡ Some e → e ≡ end_of 0 es
+last_is es n e len h = sym (ap (λ (o : Option ℕ). unwrap_or o 0) (rw len at h)) ∙ last_kept es
 
 -- ---- lists that grow
 

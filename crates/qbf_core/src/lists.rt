@@ -2,8 +2,9 @@
 
 ghost use Rattle.std.specs.Prelude.{◌≡◌, ◌≤◌, ◌<◌, List, [], ◌∷◌, ◌++◌, length, take, slice_get};
 ghost use Rattle.std.specs.Prelude.{slice_range, ◌-◌, Some, OnOk, OnErr};
-ghost use Rattle.qbf_core.specs.Lists.{start_of, end_of};
+ghost use Rattle.qbf_core.specs.Lists.{start_of};
 
+use crate::ends::Ends;
 use std::alloc::{AllocError, Global};
 use std::marker::Model;
 
@@ -12,7 +13,7 @@ use std::marker::Model;
 pub struct Lists<T> {
     items: Vec<T>,
     /// Where each list ends. It begins where the one before ends.
-    ends: Vec<usize>,
+    ends: Ends,
 }
 
 impl<T> Model for Lists<T> {
@@ -21,35 +22,21 @@ impl<T> Model for Lists<T> {
 
     ghost Value = { List (List T) };
 
-    ghost view = { λ s. parts s.items.items 0 s.ends.items };
+    ghost view = { λ s. parts s.items.items 0 s.ends };
 
-    ghost invariant = { λ s. Reaches 0 s.ends.items (length s.items.items) };
+    ghost invariant = { λ s. Reaches 0 s.ends (length s.items.items) };
 }
 
 /// Where the list at place `i` begins.
-fn start(ends: &[usize], i: usize) -> usize
+#[inline(always)]
+fn start(ends: &Ends, i: usize) -> usize
     requires { i < length ends.now }
     ensures { result ≡ start_of 0 ends.now i }
 {
     if i == 0 {
         return 0;
     }
-    ends[i - 1]
-}
-
-/// Where the list at place `i` ends.
-fn end(ends: &[usize], i: usize) -> usize
-    requires { i < length ends.now }
-    ensures { slice_get ends.now i ≡ Some result }
-{
-    ends[i]
-}
-
-/// Where the last list ends.
-fn last_end(ends: &[usize]) -> usize
-    ensures { result ≡ end_of 0 ends.now }
-{
-    ends.last().copied().unwrap_or(0)
+    ends.get(i - 1)
 }
 
 /// A part of a buffer.
@@ -68,7 +55,7 @@ impl<T: Copy + Drop> Lists<T> {
     {
         Lists {
             items: Vec::new(alloc),
-            ends: Vec::new(alloc),
+            ends: Ends::new(alloc),
         }
     }
 
@@ -84,7 +71,7 @@ impl<T: Copy + Drop> Lists<T> {
         requires { i < length self.now }
         ensures { slice_get self.now i ≡ Some result.now }
     {
-        part(&self.items, start(&self.ends, i), end(&self.ends, i))
+        part(&self.items, start(&self.ends, i), self.ends.get(i))
     }
 
     /// Adds a list at the end.
@@ -95,11 +82,14 @@ impl<T: Copy + Drop> Lists<T> {
         ensures pushed { OnOk result (self.new ≡ self.old ++ list.now ∷ []) }
         ensures err { OnErr result (self.new ≡ self.old) }
     {
-        self.ends.reserve(1)?;
+        let end = self.items.len();
         self.items.extend_from_slice(list)?;
         match self.ends.push(self.items.len()) {
             Ok(()) => Ok(()),
-            Err(_) => unreachable!(),
+            Err(error) => {
+                self.items.truncate(end);
+                Err(error)
+            }
         }
     }
 
@@ -107,9 +97,8 @@ impl<T: Copy + Drop> Lists<T> {
     pub fn pop(&mut self)
         ensures { self.new ≡ take (length self.old - 1) self.old }
     {
-        if self.ends.pop().is_some() {
-            self.items.truncate(last_end(&self.ends));
-        }
+        self.ends.pop();
+        self.items.truncate(self.ends.last());
     }
 }
 
@@ -120,7 +109,7 @@ impl<T: Copy + Drop> Lists<T> {
 pub struct GrowingLists<T> {
     items: Vec<T>,
     /// Where each whole list ends.
-    ends: Vec<usize>,
+    ends: Ends,
     /// Where the last whole list ends, and the list that is begun begins.
     start: usize,
 }
@@ -132,9 +121,9 @@ impl<T> Model for GrowingLists<T> {
     ghost Value = { Growing T };
 
     ghost view = { λ s.
-        record { whole = parts s.items.items 0 s.ends.items; begun = drop s.start s.items.items } };
+        record { whole = parts s.items.items 0 s.ends; begun = drop s.start s.items.items } };
 
-    ghost invariant = { λ s. Reaches 0 s.ends.items s.start × (s.start ≤ length s.items.items) };
+    ghost invariant = { λ s. Reaches 0 s.ends s.start × (s.start ≤ length s.items.items) };
 }
 
 impl<T: Copy + Drop> GrowingLists<T> {
@@ -144,7 +133,7 @@ impl<T: Copy + Drop> GrowingLists<T> {
     {
         GrowingLists {
             items: Vec::new(alloc),
-            ends: Vec::new(alloc),
+            ends: Ends::new(alloc),
             start: 0,
         }
     }

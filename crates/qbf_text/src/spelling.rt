@@ -14,8 +14,18 @@ use crate::sink::{Sink, SinkFault, put_byte, put_number};
 pub fn put_spaced<S: Sink>(sink: &mut S, n: u64) -> Result<(), SinkFault>
     ensures { IsPut S.written S.failures sink.old sink.new (spaced n) result }
 {
-    put_byte(sink, b' ')?;
-    put_number(sink, n)
+    sink.push_spaced(false, n)
+}
+
+/// Sends a number after a blank, directly after a minus if it is negative.
+///
+/// A `SinkFault` where the sink failed. What went out is a beginning of these bytes then.
+#[inline(always)]
+pub fn put_spaced_signed<S: Sink>(sink: &mut S, negative: bool, n: u64) -> Result<(), SinkFault>
+    ensures { IsPut S.written S.failures sink.old sink.new
+        (32 ∷ spelled (Number negative n)) result }
+{
+    sink.push_spaced(negative, n)
 }
 
 /// Sends a number after a minus.

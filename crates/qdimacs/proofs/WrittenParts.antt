@@ -1,6 +1,6 @@
 -- The parts of a canonical text, one after the other.
 use Rattle.std.proofs.Common.{◌≡◌, ℕ, Bool, true, false, cond, List, [], ◌∷◌, ◌++◌, map, Option, Some, None, refl, ap, sym, ◌∙◌}
-use Rattle.std.proofs.Common.{append_assoc, append-nil, drop, drop-cons, slice_get, get_or, length, suc, ◌<◌, ◌+◌, add-one}
+use Rattle.std.proofs.Common.{append_assoc, append-nil, drop, drop-cons, slice_get, get_or, length, suc, arith, ◌<◌, ◌+◌, add-one}
 use Rattle.std.specs.Prelude.{decimal}
 use Rattle.std.specs.Fmt.{digits}
 use Rattle.std.proofs.lemmas.Grind.{flat_map-append}
@@ -26,19 +26,21 @@ zero_decimal = refl
 
 -- a literal goes out by its sign and its variable
 pub literal_parts : (l : Literal) (negative : Bool) (v : ℕ) → negative ≡ l.negative → v ≡ l.var
-    → literal_text l ≡ spelled (token.Number negative v) ++ 32 ∷ []
-literal_parts l negative v sign is = (λ i. spelled (token.Number (sym sign i) (sym is i)) ++ 32 ∷ [])
+    → spelled (literal l) ≡ spelled (token.Number negative v)
+literal_parts l negative v sign is = (λ i. spelled (token.Number (sym sign i) (sym is i)))
 
-lits_rest : (ls : List Literal) → line_rest (map literal ls ++ number 0 ∷ []) ≡ 32 ∷ clause_rest ls
+-- an empty clause
+pub no_literals : (ls : List Literal) → length ls < 1 → line_text (clause ls) ≡ 48 ∷ 10 ∷ []
+no_literals [] none = ap (λ (k : List ℕ). k ++ 10 ∷ []) zero_decimal
+no_literals (l ∷ ls) none = absurd (omega (arith, none))
+
+lits_rest : (ls : List Literal) → line_rest (map literal ls ++ number 0 ∷ []) ≡ clause_rest ls
 lits_rest [] = ap (λ (k : List ℕ). 32 ∷ (k ++ 10 ∷ [])) zero_decimal
-lits_rest (l ∷ ls) =
-    ap (λ (k : List ℕ). 32 ∷ (spelled (literal l) ++ k)) (lits_rest ls)
-    ∙ ap (λ (k : List ℕ). 32 ∷ k) (sym (append_assoc (spelled (literal l)) (32 ∷ []) (clause_rest ls)))
+lits_rest (l ∷ ls) = ap (λ (k : List ℕ). literal_text l ++ k) (lits_rest ls)
 
-pub clause_text : (ls : List Literal) → line_text (clause ls) ≡ clause_rest ls
-clause_text [] = ap (λ (k : List ℕ). k ++ 10 ∷ []) zero_decimal
-clause_text (l ∷ ls) =
-    ap (λ (k : List ℕ). spelled (literal l) ++ k) (lits_rest ls) ∙ sym (append_assoc (spelled (literal l)) (32 ∷ []) (clause_rest ls))
+-- a clause by its first literal
+pub first_literal : (l : Literal) (ls : List Literal) → line_text (clause (l ∷ ls)) ≡ spelled (literal l) ++ clause_rest ls
+first_literal l ls = ap (λ (k : List ℕ). spelled (literal l) ++ k) (lits_rest ls)
 
 pub clause_next : (ls : List Literal) (i : ℕ) (l : Literal) → i < length ls → l ≡ get_or ls i l
     → clause_rest (drop i ls) ≡ literal_text l ++ clause_rest (drop (i + 1) ls)
@@ -47,8 +49,8 @@ clause_next ls i l lt is =
     ap clause_rest one
 
 pub clauses_next : (cs : List (List Literal)) (i : ℕ) (c : List Literal) → slice_get cs i ≡ Some c
-    → clauses_text (drop i cs) ≡ clause_rest c ++ clauses_text (drop (i + 1) cs)
-clauses_next cs i c at = ap clauses_text (drop_at cs i c at) ∙ ap (λ (k : List ℕ). k ++ clauses_text (drop (i + 1) cs)) (clause_text c)
+    → clauses_text (drop i cs) ≡ line_text (clause c) ++ clauses_text (drop (i + 1) cs)
+clauses_next cs i c at = ap clauses_text (drop_at cs i c at)
 
 -- ---- a prefix
 

@@ -1,35 +1,63 @@
 //! The canonical text of a formula.
 
-ghost use Rattle.std.specs.Prelude.{Ok, ◌≡◌, [], ◌++◌, None};
+ghost use Rattle.std.specs.Prelude.{Ok, ◌≡◌, [], ◌∷◌, ◌++◌, None};
 ghost use Rattle.qbf_core.specs.Blocks.{pairs, is_quantifier};
 ghost use Rattle.qbf_text.specs.Written.{IsPut};
-ghost use Rattle.qbf_text.specs.Canonical.{line_text};
-ghost use Rattle.qdimacs.specs.Grammar.{header, text};
+ghost use Rattle.qbf_text.specs.Canonical.{line_text, spelled};
+ghost use Rattle.qdimacs.specs.Grammar.{header, text, clause, literal};
 ghost use Rattle.qdimacs.specs.Reading.{read_formula};
 ghost use Rattle.qdimacs.specs.Texts.{zero_text, opening, prefix_rest, literal_text, clause_rest};
 ghost use Rattle.qdimacs.specs.Texts.{clauses_text};
 
 use qbf_core::{Formula, Lit, Prefix, Quantifier};
-use qbf_text::{Sink, SinkFault, put_byte, put_bytes, put_signed, put_spaced};
+use qbf_text::{Sink, SinkFault, put_byte, put_bytes, put_signed, put_spaced, put_spaced_signed};
 
-/// A literal and a blank.
+/// The first literal of a clause.
+#[inline(always)]
+fn put_first<K: Sink>(sink: &mut K, lit: Lit) -> Result<(), SinkFault>
+    ensures { IsPut K.written K.failures sink.old sink.new (spelled (literal lit)) result }
+{
+    put_signed(sink, lit.is_negative(), u64::from(lit.var().number()))
+}
+
+/// A literal behind a blank.
 #[inline(always)]
 fn put_literal<K: Sink>(sink: &mut K, lit: Lit) -> Result<(), SinkFault>
     ensures { IsPut K.written K.failures sink.old sink.new (literal_text lit) result }
 {
-    put_signed(sink, lit.is_negative(), u64::from(lit.var().number()))?;
-    put_byte(sink, b' ')
+    put_spaced_signed(sink, lit.is_negative(), u64::from(lit.var().number()))
 }
 
-/// A clause and its zero.
+/// The literals behind the first, and the zero of the clause.
 #[inline(always)]
-fn put_clause<K: Sink>(sink: &mut K, lits: &[Lit]) -> Result<(), SinkFault>
+fn put_rest<K: Sink>(sink: &mut K, lits: &[Lit]) -> Result<(), SinkFault>
     ensures { IsPut K.written K.failures sink.old sink.new (clause_rest lits.now) result }
 {
     for lit in lits {
         put_literal(sink, *lit)?;
     }
-    put_bytes(sink, b"0\n")
+    put_bytes(sink, b" 0\n")
+}
+
+/// A clause that is not empty.
+#[inline(always)]
+fn put_literals<K: Sink>(sink: &mut K, first: Lit, rest: &[Lit]) -> Result<(), SinkFault>
+    ensures { IsPut K.written K.failures sink.old sink.new
+        (line_text (clause (first ∷ rest.now))) result }
+{
+    put_first(sink, first)?;
+    put_rest(sink, rest)
+}
+
+/// A clause and its zero.
+#[inline(always)]
+fn put_clause<K: Sink>(sink: &mut K, lits: &[Lit]) -> Result<(), SinkFault>
+    ensures { IsPut K.written K.failures sink.old sink.new (line_text (clause lits.now)) result }
+{
+    match lits {
+        [] => put_bytes(sink, b"0\n"),
+        [first, rest @ ..] => put_literals(sink, *first, rest),
+    }
 }
 
 /// Whether two quantifiers are one.

@@ -1,14 +1,13 @@
 -- Numbers that are counted from a first one, with others behind them.
 use Rattle.std.proofs.Common.{◌≡◌, ◌<◌, ◌≤◌, ◌+◌, ◌-◌, ◌^◌, ◌⊎◌, ◌||◌, ℕ, zero, suc, Bool, true, false, nat_eq, List, [], ◌∷◌, ◌++◌, length}
-use Rattle.std.proofs.Common.{position, slice_get, Option, None, Some, IfSome, IfNone, refl, sym, ap, subst, ◌∙◌, inl, inr, arith}
-use Rattle.std.specs.List.{IsDistinct, AllByRecursion}
+use Rattle.std.proofs.Common.{slice_get, Option, None, Some, IfSome, IfNone, refl, sym, ap, subst, ◌∙◌, inl, inr, arith}
+use Rattle.std.specs.List.{AllByRecursion}
 use Rattle.std.specs.Option.{is_some}
 use Rattle.std.proofs.lemmas.Bool.{cases_lt}
 use Rattle.std.proofs.lemmas.Bool.Decides.{eqb_tells}
 use Rattle.std.proofs.lemmas.List.{append-nil}
 use Rattle.qrp.specs.Kept.{count_from, AreStepNumbers}
 use Rattle.qrp.specs.Reading.{is_used}
-use Rattle.qrp.proofs.Positions.{position_found, position_only}
 use Rattle.qrp.proofs.ReadIsSpelled.{push_all, push_distinct}
 
 pub count_length : (f n : ℕ) → length (count_from f n) ≡ n
@@ -82,20 +81,33 @@ unfound_used f n ks m None out t = unused_front f n ks m out
 unfound_used f n ks m (Some i) out t = cc t
 
 -- a number that is not counted and not listed has no place
-pub none_there : (f n : ℕ) (ks : List ℕ) (m : ℕ) → NotCounted f n m → IsDistinct nat_eq ks → position (nat_eq m) ks ≡ None
+pub none_there : (f n : ℕ) (ks : List ℕ) (m : ℕ) → NotCounted f n m → ((i : ℕ) → slice_get ks i ≡ Some m → ⊥)
     → (i : ℕ) → slice_get (count_from f n ++ ks) i ≡ Some m → ⊥
-none_there f n ks m out distinct none i here = elim (cases_lt i n) [
+none_there f n ks m out none i here = elim (cases_lt i n) [
   | inl less ↦ out i less (let e : Some (f + i) ≡ Some m = sym (front_at f n ks i less) ∙ here in cc e)
-  | inr late ↦
-      let at : slice_get ks (i - n) ≡ Some m = sym (late_at f n ks i late) ∙ here in
-      let e : None ≡ Some (i - n) = sym none ∙ position_only ks m (i - n) distinct at in
-      cc e
+  | inr late ↦ none (i - n) (sym (late_at f n ks i late) ∙ here)
 ]
 
 -- a listed number stands behind those that are counted
-pub listed_at : (f n : ℕ) (ks : List ℕ) (m i : ℕ) → position (nat_eq m) ks ≡ Some i → slice_get (count_from f n ++ ks) (n + i) ≡ Some m
-listed_at f n ks m i e =
-    behind_at f n ks i ∙ subst (λ (o : Option ℕ). IfSome o (λ j. slice_get ks j ≡ Some m)) e (position_found ks m)
+pub listed_at : (f n : ℕ) (ks : List ℕ) (m i : ℕ) → slice_get ks i ≡ Some m → slice_get (count_from f n ++ ks) (n + i) ≡ Some m
+listed_at f n ks m i e = behind_at f n ks i ∙ e
+
+unused_none : (ks : List ℕ) (m : ℕ) → ((i : ℕ) → slice_get ks i ≡ Some m → ⊥) → is_used m ks ≡ false
+unused_none [] m none = refl
+unused_none (k ∷ ks) m none = elim (eqb_tells m k) [
+  | inl (t, is) ↦ absurd (none 0 (ap (λ (x : ℕ). Some x) (sym is)))
+  | inr (t, ne) ↦ rw t (unused_none ks m (λ i. none (suc i)))
+]
+
+pub unused_of_none : (ks : List ℕ) (m : ℕ) → length ks ≡ 0 → is_used m ks ≡ false
+unused_of_none [] m none = refl
+unused_of_none (k ∷ ks) m none = absurd (omega (arith, none))
+
+-- what a look-up finds says whether the number is listed
+pub listed_used : (ks : List ℕ) (m : ℕ) (o : Option ℕ) → IfSome o (λ i. slice_get ks i ≡ Some m)
+    → IfNone o ((i : ℕ) → slice_get ks i ≡ Some m → ⊥) → is_some o ≡ is_used m ks
+listed_used ks m None some none = sym (unused_none ks m none)
+listed_used ks m (Some i) some none = sym (used_at ks i m some)
 
 -- ---- one more number
 

@@ -8,6 +8,8 @@ pub mod ReadIsSpelled
 pub mod Answered
 pub mod WrittenParts
 pub mod Flats
+pub mod PushedItems
+pub mod ListedNumbers
 pub mod CountedNumbers
 pub mod TraceParts
 pub mod RowsReadTheTrace

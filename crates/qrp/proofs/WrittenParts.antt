@@ -1,17 +1,19 @@
 -- The parts of a canonical text, one after the other.
 use Rattle.std.proofs.Common.{◌≡◌, ℕ, Bool, List, [], ◌∷◌, ◌++◌, map, refl, ap, sym, ◌∙◌, append_assoc, append-nil, drop, drop-cons, get_or}
-use Rattle.std.proofs.Common.{length, zero, suc, arith, ◌<◌, ◌+◌, add-one}
+use Rattle.std.proofs.Common.{length, zero, suc, inl, inr, arith, ◌<◌, ◌+◌, add-one}
 use Rattle.std.specs.Prelude.{decimal}
 use Rattle.std.specs.Fmt.{digits}
-use Rattle.std.specs.List.{flat_map}
+use Rattle.std.specs.List.{AllByRecursion, flat_map}
 use Rattle.std.proofs.lemmas.Grind.{flat_map-append}
+use Rattle.std.proofs.lemmas.Option.{slice_get_cases}
 use Rattle.qbf_core.specs.Literal.{Literal}
 use Rattle.qbf_core.specs.Blocks.{Block}
 use Rattle.qbf_text.specs.declared.token.Token.{Token}
 use Rattle.qbf_text.specs.declared.token.Token.TheVariants as token
 use Rattle.qbf_text.specs.Canonical.{spaced, spelled, line_rest, line_text, lines_text}
+use Rattle.qrp.specs.declared.item.Header.{Header}
 use Rattle.qrp.specs.Inferences.{Inference, IsAt}
-use Rattle.qrp.specs.Derivations.{Derivation}
+use Rattle.qrp.specs.Derivations.{Derivation, steps_at, with_steps_at}
 use Rattle.qrp.specs.Grammar.{number, literal, letter, set, step, header, result, text}
 use Rattle.qrp.specs.Texts.{spaced_numbers, spaced_literal, spaced_literals, zero_text, closing, set_text, step_text, sets_text, steps_text}
 
@@ -36,6 +38,31 @@ steps_next steps i less = rw (add-one) (from steps i less)
     from [] i less = absurd (omega arith)
     from (s ∷ steps) zero less = (s, refl, refl)
     from (s ∷ steps) (suc i) less = from steps i (omega arith)
+
+-- the rest of the steps at some places, from the k-th of them on
+pub steps_at_next : (steps : List Inference) (places : List ℕ) (k : ℕ) → AllByRecursion (λ i. i < length steps) places → k < length places
+    → (step : Inference) × IsAt steps (get_or places k 0) step
+    × (steps_text (steps_at steps (drop k places)) ≡ step_text step ++ steps_text (steps_at steps (drop (k + 1) places)))
+steps_at_next steps places k inside less = rw (add-one) (from places k inside less)
+  where
+    from : (places : List ℕ) (k : ℕ) → AllByRecursion (λ i. i < length steps) places → k < length places
+        → (step : Inference) × IsAt steps (get_or places k 0) step
+        × (steps_text (steps_at steps (drop k places)) ≡ step_text step ++ steps_text (steps_at steps (drop (suc k) places)))
+    from [] k inside less = absurd (omega arith)
+    from (p ∷ places) zero inside less = elim (slice_get_cases steps p).1 [
+      | inl (s, _, is, _) ↦ (s, is, rw is refl)
+      | inr (past, _) ↦ absurd (let below : p < length steps = inside.0 in omega (arith, below, past))
+    ]
+    from (p ∷ places) (suc k) inside less = from places k inside.1 (omega arith)
+
+-- as many steps stand at some places as there are places
+pub length_at : (steps : List Inference) (places : List ℕ) → AllByRecursion (λ i. i < length steps) places
+    → length (steps_at steps places) ≡ length places
+length_at steps [] inside = refl
+length_at steps (p ∷ places) inside = elim (slice_get_cases steps p).1 [
+  | inl (s, _, is, _) ↦ rw is (ap suc (length_at steps places inside.1))
+  | inr (past, _) ↦ absurd (let less : p < length steps = inside.0 in omega (arith, less, past))
+]
 
 -- the same for numbers
 pub numbers_next : (ns : List ℕ) (i : ℕ) → i < length ns
@@ -97,3 +124,12 @@ text_parts d =
     ∙ ap (λ (k : List ℕ). k ++ (line_text (result d.result) ++ [])) (flat_map-append line_text (map set d.sets) (map step d.steps))
     ∙ append_assoc (lines_text (map set d.sets)) (lines_text (map step d.steps)) (line_text (result d.result) ++ [])
     ∙ (λ i. sets_lines d.sets i ++ (steps_lines d.steps i ++ append-nil (line_text (result d.result)) i)))
+
+-- the same of the text with the steps at some places alone
+pub text_parts_at : (d : Derivation) (places : List ℕ) (h : Header) → AllByRecursion (λ i. i < length d.steps) places → h ≡ d.header
+    → text (with_steps_at d places) ≡ line_text (header (record { vars = h.vars; steps = length places }))
+    ++ (sets_text d.sets ++ (steps_text (steps_at d.steps places) ++ line_text (result d.result)))
+text_parts_at d places h inside is =
+    text_parts (with_steps_at d places)
+    ∙ (λ i. line_text (header (record { vars = (sym is i).vars; steps = length_at d.steps places inside i }))
+    ++ (sets_text d.sets ++ (steps_text (steps_at d.steps places) ++ line_text (result d.result))))

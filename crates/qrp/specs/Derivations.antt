@@ -1,6 +1,6 @@
 -- What contracts see of a trace (QRP).
-use Rattle.std.specs.Prelude.{◌<◌, ◌^◌, List, [], ◌∷◌, ◌++◌, map, length, nat_eq}
-use Rattle.std.specs.List.{AllByRecursion, IsDistinct}
+use Rattle.std.specs.Prelude.{◌<◌, ◌^◌, ℕ, List, [], ◌∷◌, ◌++◌, map, length, nat_eq, slice_get}
+use Rattle.std.specs.List.{AllByRecursion, IsDistinct, filter_map}
 use Rattle.qbf_core.specs.Blocks.{Block, IsVariable}
 use Rattle.qrp.specs.declared.item.Header.{Header}
 use Rattle.qrp.specs.declared.item.Outcome.{Outcome}
@@ -41,3 +41,14 @@ items_of_lists h sets steps = item.Header h ∷ (map item.Set sets ++ map item.S
 -- the parts of a trace in order: its header, its sets, its steps and its result
 abbrev pub items_of : Derivation → List Item
 items_of d = item.Header d.header ∷ map item.Set d.sets ++ map item.Step d.steps ++ item.Result d.result ∷ []
+
+-- the steps at these places
+abbrev pub steps_at : List Inference → List ℕ → List Inference
+steps_at steps places = filter_map (slice_get steps) places
+
+-- the trace with the steps at these places alone, and their count in its header
+abbrev pub with_steps_at : Derivation → List ℕ → Derivation
+with_steps_at d places = record d {
+  header = record { vars = d.header.vars; steps = length (steps_at d.steps places) };
+  steps = steps_at d.steps places;
+}

@@ -6,7 +6,7 @@ ghost use Rattle.std.specs.List.{AllByRecursion, IsDistinct};
 ghost use Rattle.qrp.specs.Kept.{AreStepNumbers};
 ghost use Rattle.qrp.specs.Reading.{is_used};
 
-use indexmap::IndexSet;
+use crate::listed::Listed;
 use std::alloc::{AllocError, Global};
 use std::marker::Model;
 
@@ -44,7 +44,7 @@ pub struct StepIndex {
     /// else is kept of them.
     counted: usize,
     /// The numbers of the steps after those.
-    listed: IndexSet<u64>,
+    listed: Listed,
 }
 
 impl Model for StepIndex {
@@ -53,9 +53,9 @@ impl Model for StepIndex {
 
     ghost Value = { List ℕ };
 
-    ghost view = { λ s. count_from s.first s.counted ++ s.listed.keys };
+    ghost view = { λ s. count_from s.first s.counted ++ s.listed };
 
-    ghost invariant = { λ s. AreIndexed s.first s.counted s.listed.keys };
+    ghost invariant = { λ s. AreIndexed s.first s.counted s.listed };
 }
 
 impl StepIndex {
@@ -66,7 +66,7 @@ impl StepIndex {
         StepIndex {
             first: 0,
             counted: 0,
-            listed: IndexSet::new(alloc),
+            listed: Listed::new(alloc),
         }
     }
 
@@ -87,10 +87,7 @@ impl StepIndex {
         if i < self.counted {
             return self.first + i as u64;
         }
-        match self.listed.get_index(i - self.counted) {
-            Some(number) => *number,
-            None => unreachable!(),
-        }
+        self.listed.number(i - self.counted)
     }
 
     /// The place of the step with this number: `Some(i)` exactly where `number(i)` is it.
@@ -103,7 +100,7 @@ impl StepIndex {
         }
         // The length comes with the fact that it has less than 64 bits.
         let _listed = self.listed.len();
-        let i = self.listed.get_index_of(&number)?;
+        let i = self.listed.position(number)?;
         Some(self.counted + i)
     }
 
@@ -111,7 +108,14 @@ impl StepIndex {
     pub(crate) fn contains(&self, number: u64) -> bool
         ensures { result ≡ is_used number self.now }
     {
-        place_of(self.first, self.counted, number).is_some() || self.listed.contains(&number)
+        if place_of(self.first, self.counted, number).is_some() {
+            return true;
+        }
+        // Mostly all steps are counted, and nothing has to be looked up.
+        if self.listed.len() == 0 {
+            return false;
+        }
+        self.listed.position(number).is_some()
     }
 
     /// Adds the number of one more step. An `Err` means that an allocation failed, and changes
@@ -122,14 +126,14 @@ impl StepIndex {
         ensures sound { AreStepNumbers self.new }
         ensures err { OnErr result (self.new ≡ self.old) }
     {
-        if self.listed.is_empty() && continues(self.first, self.counted, number) {
+        if self.listed.len() == 0 && continues(self.first, self.counted, number) {
             if self.counted == 0 {
                 self.first = number;
             }
             self.counted += 1;
             return Ok(());
         }
-        self.listed.insert(number)?;
+        self.listed.push(number)?;
         Ok(())
     }
 }

@@ -9,6 +9,7 @@ mod index;
 mod item;
 mod items;
 mod laws;
+mod listed;
 mod places;
 mod reader;
 mod steps;
@@ -24,7 +25,4 @@ pub use laws::trace_laws;
 pub use reader::TraceReader;
 pub use steps::Steps;
 pub use trace::{Trace, read_trace};
-pub use writing::write_trace;
-
-#[cfg(test)]
-mod tests;
+pub use writing::{write_steps_at, write_trace};

@@ -1,8 +1,10 @@
 //! Writing the canonical text of a trace.
 
 ghost use Rattle.std.specs.Prelude.{◌≡◌, ◌<◌, Ok, length};
+ghost use Rattle.std.specs.List.{AllByRecursion};
 ghost use Rattle.qbf_text.specs.Canonical.{line_text};
 ghost use Rattle.qbf_text.specs.Written.{IsPut};
+ghost use Rattle.qrp.specs.Derivations.{steps_at, with_steps_at};
 ghost use Rattle.qrp.specs.Grammar.{header, result as result_line, text};
 ghost use Rattle.qrp.specs.Inferences.{Inference, IsAt};
 ghost use Rattle.qrp.specs.Reading.{read_trace};
@@ -13,7 +15,7 @@ use crate::item::{Header, Outcome, QuantSet};
 use crate::steps::Steps;
 use crate::trace::Trace;
 use qbf_core::{Lit, Var};
-use qbf_text::{Sink, SinkFault, put_byte, put_bytes, put_number, put_signed, put_spaced};
+use qbf_text::{Sink, SinkFault, put_byte, put_bytes, put_number, put_spaced, put_spaced_signed};
 
 // ---- a literal
 
@@ -21,8 +23,7 @@ use qbf_text::{Sink, SinkFault, put_byte, put_bytes, put_number, put_signed, put
 fn put_literal<K: Sink>(sink: &mut K, lit: Lit) -> Result<(), SinkFault>
     ensures { IsPut K.written K.failures sink.old sink.new (spaced_literal lit) result }
 {
-    put_byte(sink, b' ')?;
-    put_signed(sink, lit.is_negative(), u64::from(lit.var().number()))
+    put_spaced_signed(sink, lit.is_negative(), u64::from(lit.var().number()))
 }
 
 #[inline(always)]
@@ -99,6 +100,17 @@ fn put_steps<K: Sink>(sink: &mut K, trace: &Trace) -> Result<(), SinkFault>
     Ok(())
 }
 
+fn put_steps_at<K: Sink>(sink: &mut K, trace: &Trace, places: &[usize]) -> Result<(), SinkFault>
+    requires { AllByRecursion (λ i. i < length trace.now.steps) places.now }
+    ensures { IsPut K.written K.failures sink.old sink.new
+        (steps_text (steps_at trace.now.steps places.now)) result }
+{
+    for place in places {
+        put_step(sink, trace, *place)?;
+    }
+    Ok(())
+}
+
 // ---- the whole
 
 fn put_header<K: Sink>(sink: &mut K, numbers: Header) -> Result<(), SinkFault>
@@ -136,5 +148,32 @@ pub fn write_trace<K: Sink>(trace: &Trace, sink: &mut K) -> Result<(), SinkFault
     put_header(sink, trace.header())?;
     put_sets(sink, trace.sets())?;
     put_steps(sink, trace)?;
+    put_result(sink, trace.result())
+}
+
+/// Writes the canonical text of the trace with the steps at these places alone, as `write_trace`
+/// does. It takes no memory.
+///
+/// Sets, result and the number of variables in the header stay as they are; the header counts the
+/// places. Each place is below the number of steps, and a place that is named twice is written
+/// twice.
+///
+/// A `SinkFault` where the sink failed. What went out is a beginning of the text then.
+pub fn write_steps_at<K: Sink>(
+    trace: &Trace,
+    places: &[usize],
+    sink: &mut K,
+) -> Result<(), SinkFault>
+    requires { AllByRecursion (λ i. i < length trace.now.steps) places.now }
+    ensures { IsPut K.written K.failures sink.old sink.new
+        (text (with_steps_at trace.now places.now)) result }
+{
+    let header = Header {
+        vars: trace.header().vars,
+        steps: places.len() as u64,
+    };
+    put_header(sink, header)?;
+    put_sets(sink, trace.sets())?;
+    put_steps_at(sink, trace, places)?;
     put_result(sink, trace.result())
 }

@@ -1,20 +1,21 @@
 -- One step of the core: the sets of its antecedents, and its conditions.
 use Rattle.std.proofs.Common.{◌≡◌, ℕ, zero, suc, ◌<◌, ◌≤◌, List, [], ◌∷◌, Option, Some, None, inl, inr, refl, sym, ap, subst, ◌∙◌, arith}
-use Rattle.std.proofs.Common.{length, get_or, take}
+use Rattle.std.proofs.Common.{length, get_or, take, nat_eq}
 use Rattle.std.specs.Prelude.{slice_get}
-use Rattle.std.specs.List.{AllByRecursion}
+use Rattle.std.specs.List.{AllByRecursion, IsDistinct}
 use Rattle.qbf_core.specs.Literal.{Literal, positive, negative}
 use Rattle.qbf_core.specs.Members.{◌∈◌}
 use Rattle.qbf_core.specs.Blocks.{Block, AreBound, IsBound}
 use Rattle.qbf_core.specs.Qbf.{Qbf}
 use Rattle.qbf_core.specs.Rules.{Side, IsClean, IsTautology}
 use Rattle.qbf_core.specs.Sets.{HasMembersOf, IsOrdered}
-use Rattle.qbf_core.proofs.Bound.{in_all, bound_each}
-use Rattle.qrp.specs.Inferences.{Inference, IsAt, HasFewAntecedents}
+use Rattle.qbf_core.proofs.Bound.{in_all, bound_each, apart_of}
+use Rattle.qrp.specs.Inferences.{Inference, IsAt, HasFewAntecedents, numbers}
+use Rattle.qrp.proofs.Positions.{one_place, number_at}
 use Rattle.qrp_check.specs.declared.fault.RuleFault.{RuleFault}
 use Rattle.qrp_check.specs.declared.fault.RuleFault.TheVariants.{S1, S2, S3}
 use Rattle.qrp_check.specs.Conditions.{Condition, AllHold, IsFirstFailure, IsAnswer, IsNumberOf, lits_of, reduct_conditions}
-use Rattle.qrp_check.specs.Conditions.{resolvent_conditions, initial_condition, StepFollows, IsStepFault}
+use Rattle.qrp_check.specs.Conditions.{resolvent_conditions, initial_condition, step_conditions}
 use Rattle.qrp_check.specs.declared.verdict.Rules.{Rules}
 use Rattle.qrp_check.specs.Core.{IsInCore, next}
 use Rattle.qrp_check.specs.Kept.{IsSetOf, IsEntry, AreKept, later_conditions, set_or_written}
@@ -66,37 +67,29 @@ needed steps place index number core ants less below here is =
       named = subst (λ (n : ℕ). n ∈ above.0.ants) (sym is) (ants above.0 above.1);
     })
 
--- what is kept under a number is that of the literals of its step
-pub entry_found : (blocks : List Block) (steps : List Inference) (kept : List (List Literal)) (place index number : ℕ) (answer : Option ℕ)
-    (entry : List Literal)
+-- the set of an earlier step is that of the literals under its number
+pub earlier_set : (blocks : List Block) (steps : List Inference) (kept : List (List Literal)) (place index number : ℕ) (set : List Literal)
     → AreKept blocks steps place kept → IsInCore steps place → ((step : Inference) → IsAt steps place step → number ∈ step.ants)
-    → IsOnly steps number answer → answer ≡ Some index
-    → index < place → (below : Inference) × IsAt steps index below × (below.number ≡ number) → slice_get kept index ≡ Some entry
-    → IsNumberOf (take place steps) number × IsEntry blocks entry (lits_of (take place steps) number)
-    × ((step : Inference) → IsAt steps index step → step.lits ≡ lits_of (take place steps) number)
-entry_found blocks steps kept place index number answer entry are core ants only found less (below, here, is) has =
+    → IsDistinct nat_eq (numbers steps)
+    → index < place → (below : Inference) × IsAt steps index below × (below.number ≡ number)
+    → ((step : Inference) (entry : List Literal) → IsAt steps index step → slice_get kept index ≡ Some entry
+    → IsEntry blocks entry step.lits
+    → IsOrdered set × IsSetOf blocks set step.lits)
+    → IsOrdered set × IsNumberOf (take place steps) number × IsSetOf blocks set (lits_of (take place steps) number)
+earlier_set blocks steps kept place index number set are core ants distinct less (below, here, is) given =
     let own : IsNumberOf (take place steps) number = (below, in_taken steps place index below less here, is) in
     let s = named (take place steps) number own in
     let w = in_take steps place s.0 s.1 in
-    let e : Some w.0 ≡ Some index = sym (only w.0 s.0 w.2 s.2) ∙ found in
-    let same : w.0 ≡ index = cc e in
+    let same : w.0 ≡ index = one_place (numbers steps) (apart_of (numbers steps) distinct) w.0 index number
+    (number_at steps w.0 s.0 w.2 ∙ ap (λ (k : ℕ). Some k) s.2) (number_at steps index below here ∙ ap (λ (k : ℕ). Some k) is) in
     let at : IsAt steps index s.0 = subst (λ (k : ℕ). IsAt steps k s.0) same w.2 in
     let k = are.sets index s.0 less (needed steps place index number core ants less below here is) at in
-    let f : Some k.0 ≡ Some entry = sym k.1 ∙ has in
-    let is_entry : k.0 ≡ entry = cc f in (
-      own,
-      subst (λ (lits : List Literal). IsEntry blocks entry lits) s.3 (subst (λ (z : List Literal). IsEntry blocks z s.0.lits) is_entry k.2),
-      λ step there. ap (λ (t : Inference). t.lits) (same_step steps index step s.0 there at) ∙ s.3,
-    )
-  where
-    same_step : (steps : List Inference) (i : ℕ) (s t : Inference) → IsAt steps i s → IsAt steps i t → s ≡ t
-    same_step steps i s t a b = let e : Some s ≡ Some t = sym a ∙ b in cc e
+    let g = given s.0 k.0 at k.1 k.2 in
+    (g.0, own, subst (λ (lits : List Literal). IsSetOf blocks set lits) s.3 g.1)
 
--- the set that is lent of an entry: the entry, or where nothing was kept the literals themselves
-pub lent_entry : (blocks : List Block) (entry lits : List Literal) → (entry ≡ [] → ⊥) → IsEntry blocks entry lits
-    → IsOrdered entry × IsSetOf blocks entry lits
-lent_entry blocks entry lits some (inl h) = h
-lent_entry blocks entry lits some (inr (none, _, _)) = absurd (some none)
+-- such a set is over the prefix
+pub bound_set : (blocks : List Block) (set lits : List Literal) → IsSetOf blocks set lits → AreBound blocks set
+bound_set blocks set lits is = is.bound
 
 pub lent_written : (blocks : List Block) (entry lits : List Literal) → entry ≡ [] → IsEntry blocks entry lits
     → IsOrdered lits × IsSetOf blocks lits lits
@@ -224,55 +217,33 @@ two_listed (x ∷ y ∷ z ∷ xs) d e some less = absurd (omega (arith, less))
 
 -- ---- a step and its set
 
-pub not_clean : (rules : Rules) (side : Side) (f : Qbf) (steps : List Inference) (place : ℕ) (lits : List Literal) → IsInCore steps place
-    → ((step : Inference) → IsAt steps place step → lits ≡ step.lits) → IsTautology lits → IsStepFault rules side f steps place S1
-not_clean rules side f steps place lits core same (v, p, n) =
-    let s = at_place steps place (core_within steps place core) in
-    let e : lits ≡ s.0.lits = same s.0 s.1 in
-    record {
-      step = s.0;
-      here = s.1;
-      first = inl (
-        (λ clean. clean (positive v) (subst (λ (ls : List Literal). positive v ∈ ls) e p)
-            (subst (λ (ls : List Literal). negative v ∈ ls) e n)),
-        refl,
-      );
-    }
+pub not_clean : (rules : Rules) (side : Side) (f : Qbf) (before : List Inference) (step : Inference) (lits : List Literal)
+    → lits ≡ step.lits → IsTautology lits → IsFirstFailure (step_conditions rules side f before step) S1
+not_clean rules side f before step lits e (v, p, n) = inl (
+  (λ clean. clean (positive v) (subst (λ (ls : List Literal). positive v ∈ ls) e p)
+      (subst (λ (ls : List Literal). negative v ∈ ls) e n)),
+  refl,
+)
 
-pub not_all_bound : (rules : Rules) (side : Side) (f : Qbf) (steps : List Inference) (place : ℕ) (lits : List Literal)
-    → IsInCore steps place
-    → ((step : Inference) → IsAt steps place step → lits ≡ step.lits) → IsClean lits
-    → (l : Literal) × (l ∈ lits) × (IsBound f.blocks l.var → ⊥) → IsStepFault rules side f steps place S2
-not_all_bound rules side f steps place lits core same clean (l, h, free) =
-    let s = at_place steps place (core_within steps place core) in
-    let e : lits ≡ s.0.lits = same s.0 s.1 in
-    record {
-      step = s.0;
-      here = s.1;
-      first = inr (
-        subst IsClean e clean,
-        inl ((λ bound. free (bound_each f.blocks s.0.lits bound l (subst (λ (ls : List Literal). l ∈ ls) e h))), refl),
-      );
-    }
+pub not_all_bound : (rules : Rules) (side : Side) (f : Qbf) (before : List Inference) (step : Inference) (lits : List Literal)
+    → lits ≡ step.lits → IsClean lits → (l : Literal) × (l ∈ lits) × (IsBound f.blocks l.var → ⊥)
+    → IsFirstFailure (step_conditions rules side f before step) S2
+not_all_bound rules side f before step lits e clean (l, h, free) = inr (
+  subst IsClean e clean,
+  inl ((λ bound. free (bound_each f.blocks step.lits bound l (subst (λ (ls : List Literal). l ∈ ls) e h))), refl),
+)
 
-pub follows : (rules : Rules) (side : Side) (f : Qbf) (steps : List Inference) (place : ℕ) (lits : List Literal) → IsInCore steps place
-    → ((step : Inference) → IsAt steps place step → lits ≡ step.lits) → IsClean lits → AreBound f.blocks lits
-    → ((step : Inference) → IsAt steps place step → AllHold (later_conditions rules side f (take place steps) step))
-    → StepFollows rules side f steps place
-follows rules side f steps place lits core same clean bound later =
-    let s = at_place steps place (core_within steps place core) in
-    let e : lits ≡ s.0.lits = same s.0 s.1 in
-    record { step = s.0; here = s.1; all = (subst IsClean e clean, (subst (AreBound f.blocks) e bound, later s.0 s.1)) }
+pub follows : (rules : Rules) (side : Side) (f : Qbf) (before : List Inference) (step : Inference) (lits : List Literal)
+    → lits ≡ step.lits → IsClean lits → AreBound f.blocks lits → AllHold (later_conditions rules side f before step)
+    → AllHold (step_conditions rules side f before step)
+follows rules side f before step lits e clean bound later = (subst IsClean e clean, (subst (AreBound f.blocks) e bound, later))
 
-pub follows_not : (rules : Rules) (side : Side) (f : Qbf) (steps : List Inference) (place : ℕ) (lits : List Literal) (fault : RuleFault)
-    → IsInCore steps place
-    → ((step : Inference) → IsAt steps place step → lits ≡ step.lits) → IsClean lits → AreBound f.blocks lits
-    → ((step : Inference) → IsAt steps place step → IsFirstFailure (later_conditions rules side f (take place steps) step) fault)
-    → IsStepFault rules side f steps place fault
-follows_not rules side f steps place lits fault core same clean bound later =
-    let s = at_place steps place (core_within steps place core) in
-    let e : lits ≡ s.0.lits = same s.0 s.1 in
-    record { step = s.0; here = s.1; first = inr (subst IsClean e clean, inr (subst (AreBound f.blocks) e bound, later s.0 s.1)) }
+pub follows_not : (rules : Rules) (side : Side) (f : Qbf) (before : List Inference) (step : Inference) (lits : List Literal)
+    (fault : RuleFault) → lits ≡ step.lits → IsClean lits → AreBound f.blocks lits
+    → IsFirstFailure (later_conditions rules side f before step) fault
+    → IsFirstFailure (step_conditions rules side f before step) fault
+follows_not rules side f before step lits fault e clean bound later =
+    inr (subst IsClean e clean, inr (subst (AreBound f.blocks) e bound, later))
 
 pub answer_none : (conditions : List (Condition RuleFault)) (answer : Option RuleFault) → answer ≡ None → IsAnswer conditions answer
     → AllHold conditions

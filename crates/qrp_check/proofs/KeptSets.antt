@@ -1,6 +1,6 @@
 -- The sets that are kept while the core is walked.
 use Rattle.std.proofs.Common.{◌≡◌, ◌≢◌, ℕ, ◌+◌, ◌↔◌, true, false, List, [], ◌∷◌, ◌++◌, Some, inl, inr, refl, sym, ap, subst, ◌∙◌, arith}
-use Rattle.std.proofs.Common.{length, length-append, IsTrue}
+use Rattle.std.proofs.Common.{length, length-append, IsTrue, take}
 use Rattle.std.specs.Prelude.{slice_get, Result, Ok, Err, OnOk, IfOk, IfErr}
 use Rattle.std.proofs.lemmas.Bool.{cases_eq}
 use Rattle.qbf_core.specs.Literal.{Literal}
@@ -13,13 +13,15 @@ use Rattle.qrp.specs.declared.item.Outcome.{Outcome}
 use Rattle.qrp_check.specs.declared.fault.CheckFault.{CheckFault}
 use Rattle.qrp_check.specs.declared.fault.CheckFault.TheVariants.{C1, C2, C3, C4, C5, C6}
 use Rattle.qrp_check.specs.declared.verdict.Rules.{Rules}
+use Rattle.qrp_check.specs.declared.antecedents.AntecedentSets.{AntecedentSets}
+use Rattle.qrp_check.specs.Antecedents.{AreFound}
 use Rattle.qrp_check.specs.Core.{IsInCore}
 use Rattle.qrp_check.specs.Kept.{IsEntry, AreKept, IsCoreFault}
 use Rattle.qrp_check.specs.Proof.{side_of, Derives, Proves, IsFirstFault, ResultHolds}
 use Rattle.qrp_check.specs.Sets.{SetsAgree}
 use Rattle.qrp_check.specs.declared.verdict.Verified.{Verified}
 use Rattle.qrp_check.proofs.Soundness.{soundness}
-use Rattle.qrp_check.proofs.StepPlaces.{pushed_old, pushed_new}
+use Rattle.qrp.proofs.PushedItems.{pushed_old, pushed_new}
 
 more_entries : (kept : List (List Literal)) (x : List Literal) (i : ℕ) → length kept ≡ i → length (kept ++ x ∷ []) ≡ i + 1
 more_entries kept x i count = length-append kept (x ∷ []) ∙ ap (λ (n : ℕ). n + 1) count
@@ -49,6 +51,19 @@ kept_push blocks steps i kept entry is are = record {
     | inr ne ↦ (let w = are.sets j step (omega (arith, less, ne)) core here in (w.0, pushed_old kept entry j w.0 w.1, w.2))
   ];
 }
+
+-- of the step after those of which sets are kept
+pub kept_here : (blocks : List Block) (steps : List Inference) (i : ℕ) (kept : List (List Literal)) → AreKept blocks steps i kept
+    → AreKept blocks steps (length kept) kept
+kept_here blocks steps i kept are = subst (λ (k : ℕ). AreKept blocks steps k kept) (sym are.count) are
+
+pub found_here : (blocks : List Block) (steps : List Inference) (i : ℕ) (kept : List (List Literal)) (sets : AntecedentSets)
+    → AreKept blocks steps i kept
+    → ((step : Inference) → AreKept blocks steps (length kept) kept → IsAt steps (length kept) step
+    → AreFound blocks (take (length kept) steps) step.ants sets)
+    → (step : Inference) → IsAt steps i step → AreFound blocks (take i steps) step.ants sets
+found_here blocks steps i kept sets are found step here = subst (λ (k : ℕ). AreFound blocks (take k steps) step.ants sets) are.count
+    (found step (kept_here blocks steps i kept are) (subst (λ (k : ℕ). IsAt steps k step) (sym are.count) here))
 
 -- a fault of the core is the first fault
 pub core_fault : (rules : Rules) (f : Qbf) (sets : List Block) (steps : List Inference) (outcome : Outcome) (side : Side) (e : CheckFault)

@@ -1,5 +1,5 @@
 -- Steps at their places.
-use Rattle.std.proofs.Common.{◌≡◌, ℕ, zero, suc, ◌<◌, ◌≤◌, true, false, List, [], ◌∷◌, ◌++◌, ◌⊎◌, Some, refl, sym, ap, ◌∙◌, arith, length}
+use Rattle.std.proofs.Common.{◌≡◌, ℕ, zero, suc, ◌<◌, ◌≤◌, true, false, List, [], ◌∷◌, Some, refl, sym, ◌∙◌, arith, length}
 use Rattle.std.proofs.Common.{eqb, subst, inl, inr}
 use Rattle.std.specs.Prelude.{slice_get}
 use Rattle.std.proofs.Math.Dec.{eqb-suc-zero}
@@ -47,19 +47,3 @@ later_step steps i p is full later j step here empty = elim (cases_eq j p) [
 ]
 
 -- ---- a list with one more
-
-pub pushed_cases : {A : Type 0} (xs : List A) (x : A) (k : ℕ) (a : A) → slice_get (xs ++ x ∷ []) k ≡ Some a
-    → (slice_get xs k ≡ Some a) ⊎ ((k ≡ length xs) × (a ≡ x))
-pushed_cases [] x zero a h = inr (refl, cc h)
-pushed_cases [] x (suc k) a h = cc h
-pushed_cases (y ∷ xs) x zero a h = inl h
-pushed_cases (y ∷ xs) x (suc k) a h = elim (pushed_cases xs x k a h) [ inl g ↦ inl g | inr (e, f) ↦ inr (ap suc e, f) ]
-
-pub pushed_old : {A : Type 0} (xs : List A) (x : A) (k : ℕ) (a : A) → slice_get xs k ≡ Some a → slice_get (xs ++ x ∷ []) k ≡ Some a
-pushed_old [] x k a h = cc h
-pushed_old (y ∷ xs) x zero a h = h
-pushed_old (y ∷ xs) x (suc k) a h = pushed_old xs x k a h
-
-pub pushed_new : {A : Type 0} (xs : List A) (x : A) → slice_get (xs ++ x ∷ []) (length xs) ≡ Some x
-pushed_new [] x = refl
-pushed_new (y ∷ xs) x = pushed_new xs x

@@ -14,7 +14,7 @@ use Rattle.qrp.specs.Inferences.{Inference, IsAt, numbers}
 use Rattle.qrp.specs.Reading.{is_used}
 use Rattle.qrp.proofs.Numbers.{HasOwnNumbers}
 use Rattle.qrp_check.specs.Core.{ListsCore}
-use Rattle.qrp_check.specs.Trim.{steps_at}
+use Rattle.qrp.specs.Derivations.{steps_at}
 use Rattle.qrp_check.specs.declared.fault.CheckFault.{CheckFault}
 use Rattle.qrp_check.specs.declared.verdict.Verified.{Verified}
 use Rattle.qrp_check.proofs.Marking.{core_within}
@@ -55,14 +55,6 @@ pub core_inside : (steps : List Inference) (core : List ℕ) → ListsCore steps
 core_inside steps core lists = all_at (λ i. i < length steps) core (λ k i here. core_within steps i (lists.sound k i here))
 
 -- ---- the steps
-
-pub length_at : (steps : List Inference) (places : List ℕ) → AllByRecursion (λ i. i < length steps) places
-    → length (steps_at steps places) ≡ length places
-length_at steps [] inside = refl
-length_at steps (p ∷ places) inside = elim (slice_get_cases steps p).1 [
-  | inl (s, _, is, _) ↦ rw is (ap suc (length_at steps places inside.1))
-  | inr (past, _) ↦ absurd (let less : p < length steps = inside.0 in omega (arith, less, past))
-]
 
 pub next_at : (steps : List Inference) (places : List ℕ) (k : ℕ) (s : Inference) → k < length places → IsAt steps (get_or places k 0) s
     → steps_at steps (take (k + 1) places) ≡ steps_at steps (take k places) ++ s ∷ []

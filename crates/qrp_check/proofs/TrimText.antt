@@ -5,14 +5,15 @@ use Rattle.std.specs.List.{AllByRecursion, IsDistinct}
 use Rattle.std.proofs.lemmas.Option.{slice_get_cases, slice_get_within}
 use Rattle.qbf_core.specs.Members.{◌∈◌}
 use Rattle.qrp.specs.Inferences.{Inference, IsInference, numbers}
-use Rattle.qrp.specs.Derivations.{Derivation, IsWellFormed}
+use Rattle.qrp.specs.Derivations.{Derivation, IsWellFormed, steps_at}
 use Rattle.qrp.proofs.Numbers.{HasOwnNumbers, own_numbers}
 use Rattle.qrp.proofs.CanonicalTextIsRead.{text_is_read}
 use Rattle.qrp_check.specs.Core.{ListsCore}
 use Rattle.qrp_check.specs.Laws.{TrimmedTextProves}
-use Rattle.qrp_check.specs.Trim.{steps_at, trimmed}
+use Rattle.qrp_check.specs.Trim.{trimmed}
 use Rattle.qrp_check.proofs.Marking.{core_within}
-use Rattle.qrp_check.proofs.StepsAt.{core_inside, length_at, each_at, numbers_at, others_at}
+use Rattle.qrp.proofs.WrittenParts.{length_at}
+use Rattle.qrp_check.proofs.StepsAt.{core_inside, each_at, numbers_at, others_at}
 use Rattle.qrp_check.proofs.TrimKeeps.{trimming_keeps}
 use Rattle.qrp_check.proofs.TrimAgain.{trimmed_is_fixed}
 

@@ -10,7 +10,7 @@ use Rattle.qbf_core.specs.Members.{◌∈◌}
 use Rattle.qbf_core.specs.Qbf.{Qbf}
 use Rattle.qbf_core.specs.Rules.{Cubes, IsInitial, IsTautology}
 use Rattle.qrp_check.specs.Watches.{IsAligned, IsHeld, IsMet, IsWatched, IsWatchedBy, KeepsWatches}
-use Rattle.qrp_check.proofs.StepPlaces.{pushed_cases, pushed_new, pushed_old}
+use Rattle.qrp.proofs.PushedItems.{pushed_cases, pushed_new, pushed_old}
 use Rattle.qrp_check.specs.declared.initial_cubes.Aligned.{Aligned}
 use Rattle.qrp_check.specs.declared.initial_cubes.Watch.{Watch}
 

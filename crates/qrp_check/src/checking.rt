@@ -14,12 +14,13 @@ ghost use Rattle.qrp_check.specs.Proof.{Derives, Proves, IsFirstFault};
 ghost use Rattle.qrp_check.specs.Verdict.{is_sat};
 
 use crate::agree::sets_fault;
+use crate::antecedents::{FoundPlaces, antecedents};
 use crate::fault::CheckFault;
 use crate::goal::find_goal;
 use crate::initial_steps::InitialSteps;
 use crate::marks::{mark_core, marked_places};
 use crate::side::{Clauses, Cubes, Side};
-use crate::step::{StepFault, step_set};
+use crate::step::{Setting, StepFault, step_set};
 use crate::verdict::{Rules, Verified};
 use crate::written::set_or_written;
 use qbf_core::{Formula, Lists, Lit};
@@ -39,28 +40,29 @@ fn keep(kept: &mut Lists<Lit>, set: &[Lit]) -> Result<(), CheckFault>
 
 /// Goes over the marked steps, which are the core, while each follows from those before it.
 fn follow_core<S: Side, T: Steps>(
-    alloc: Global,
-    formula: &Formula,
+    setting: Setting,
     trace: &T,
     marks: &[bool],
-    rules: Rules,
+    found: &mut FoundPlaces,
 ) -> Result<(), CheckFault>
     requires len { length marks.now ≡ length (T.steps trace.now) }
     requires core { (i : ℕ) → IsMarked marks.now i ↔ IsInCore (T.steps trace.now) i }
     ensures follows { OnOk result ((i : ℕ) → IsInCore (T.steps trace.now) i
-        → StepFollows rules S.side formula.now (T.steps trace.now) i) }
-    ensures refused { IfErr result (IsCoreFault rules S.side formula.now (T.steps trace.now)) }
+        → StepFollows setting.entry.rules S.side setting.entry.formula.now (T.steps trace.now) i) }
+    ensures refused { IfErr result
+        (IsCoreFault setting.entry.rules S.side setting.entry.formula.now (T.steps trace.now)) }
 {
     // A list for each step so far: the set of a marked one that is not in order as written, or
     // nothing.
-    let mut kept = Lists::new(alloc);
+    let mut kept = Lists::new(setting.alloc);
     let mut starts = InitialSteps::new();
     for place in 0..trace.len() {
         if !marks[place] {
             keep(&mut kept, &[])?;
             continue;
         }
-        match step_set::<S, T>(alloc, formula, trace, place, &kept, &mut starts, rules) {
+        let antecedents = antecedents(trace, &kept, found);
+        match step_set::<S>(setting, antecedents, &mut starts, trace.lits(place)) {
             Ok(set) => keep(&mut kept, set_or_written(&set, &[]))?,
             Err(StepFault::Rule(fault)) => return Err(CheckFault::C6(trace.number(place), fault)),
             Err(StepFault::Memory) => return Err(CheckFault::C5),
@@ -72,24 +74,25 @@ fn follow_core<S: Side, T: Steps>(
 /// The places of the core beside what they show, where each of its steps follows from those before
 /// it.
 fn check_core<S: Side, T: Steps>(
-    alloc: Global,
-    formula: &Formula,
+    setting: Setting,
     trace: &T,
     goal: usize,
     truth: bool,
-    rules: Rules,
 ) -> Result<Verified, CheckFault>
     requires { IsGoal (T.steps trace.now) goal }
-    ensures derives { OnOk result (Derives rules S.side formula.now (T.steps trace.now)) }
+    ensures derives { OnOk result
+        (Derives setting.entry.rules S.side setting.entry.formula.now (T.steps trace.now)) }
     ensures core { IfOk result (λ v. ListsCore (T.steps trace.now) v.core.items) }
     ensures claim { IfOk result (λ v. v.truth ≡ truth) }
-    ensures refused { IfErr result (IsCoreFault rules S.side formula.now (T.steps trace.now)) }
+    ensures refused { IfErr result
+        (IsCoreFault setting.entry.rules S.side setting.entry.formula.now (T.steps trace.now)) }
 {
-    let Ok(marks) = mark_core(alloc, trace, goal) else {
+    let mut found = FoundPlaces::new(setting.alloc, trace);
+    let Ok(marks) = mark_core(setting.alloc, trace, goal, &mut found) else {
         return Err(CheckFault::C5);
     };
-    follow_core::<S, T>(alloc, formula, trace, &marks, rules)?;
-    match marked_places(alloc, &marks) {
+    follow_core::<S, T>(setting, trace, &marks, &mut found)?;
+    match marked_places(setting.alloc, &marks) {
         Ok(core) => Ok(Verified { truth, core }),
         Err(_) => Err(CheckFault::C5),
     }
@@ -134,8 +137,13 @@ pub fn check<T: Steps>(
     let Some(goal) = find_goal(trace) else {
         return Err(CheckFault::C4);
     };
+    let setting = Setting {
+        alloc,
+        formula,
+        rules,
+    };
     match outcome {
-        Outcome::Unsat => check_core::<Clauses, T>(alloc, formula, trace, goal, false, rules),
-        Outcome::Sat => check_core::<Cubes, T>(alloc, formula, trace, goal, true, rules),
+        Outcome::Unsat => check_core::<Clauses, T>(setting, trace, goal, false),
+        Outcome::Sat => check_core::<Cubes, T>(setting, trace, goal, true),
     }
 }

@@ -3,15 +3,36 @@
 ghost use Rattle.std.specs.Prelude.{◌≡◌, ◌-◌, ◌^◌, ◌<◌, ◌↔◌, IfErr, IfSome};
 ghost use Rattle.qrp_check.specs.Headline.{Headline};
 ghost use Rattle.qrp_check.specs.Verdict.{IsVerdictUnless, IsFormulaDevice, IsTraceDevice};
+ghost use Rattle.qrp_check.specs.Verdict.{IsVerdictOf};
 ghost use Rattle.qrp_check.specs.Verdict.{IsFormulaFault, StandsOnLine, WasRead, StopsBehindTrace};
 ghost use Rattle.qbf_text.specs.Stopping.{IfKnown};
 
 use crate::checking::check;
 use crate::verdict::{Fault, Rules, Verified};
+use qbf_core::Formula;
 use qbf_text::Source;
 use qdimacs::read_formula;
 use qrp::read_flat;
 use std::alloc::Global;
+
+/// Whether a trace proves its result of a formula that was read, with the trace's fault first.
+fn verify_trace<B: Source>(
+    alloc: Global,
+    formula: &Formula,
+    trace: &mut B,
+    rules: Rules,
+) -> Result<Verified, Fault>
+    ensures verdict { IsVerdictOf rules formula.now (B.remaining trace.old) result }
+    ensures failed { B.failures trace.old < 2 ^ 64 - 1 →
+        (IsTraceDevice result ↔ (B.failures trace.old < B.failures trace.new)) }
+    ensures lines { IfErr result StandsOnLine }
+    ensures stops { WasRead result
+        → IfKnown StopsBehindTrace (B.remaining trace.old) (B.remaining trace.new) }
+{
+    let flat = read_flat(alloc, trace)?;
+    let verified = check(alloc, formula, &flat, flat.sets(), flat.result(), rules)?;
+    Ok(verified)
+}
 
 /// Whether a trace (QRP) proves its result of a formula (QDIMACS 1.1), both from their bytes.
 ///
@@ -47,7 +68,5 @@ pub fn verify<A: Source, B: Source>(
     ensures not_pulled { IsFormulaFault result → trace.new ≡ trace.old }
 {
     let read = read_formula(alloc, formula)?;
-    let flat = read_flat(alloc, trace)?;
-    let verified = check(alloc, &read, &flat, flat.sets(), flat.result(), rules)?;
-    Ok(verified)
+    verify_trace(alloc, &read, trace, rules)
 }

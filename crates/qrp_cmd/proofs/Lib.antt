@@ -1,4 +1,5 @@
 pub mod BufferPart
+pub mod PairDigits
 pub mod ProgramReport
 pub mod WordByWord
 pub mod SentTexts

@@ -1,11 +1,14 @@
 //! A buffer before a sink.
 
 ghost use Rattle.std.specs.Prelude.{◌≡◌, ℕ, ◌+◌, ◌-◌, ◌<◌, ◌≤◌, List, [], ◌++◌, length, take, drop};
+ghost use Rattle.std.specs.Prelude.{◌∷◌};
 ghost use Rattle.std.specs.Prelude.{◌^◌, true, false, decimal, IfOk, OnOk, OnErr};
 ghost use Rattle.std.specs.Io.KnownBytes.{append_known, Keeps, WriteAppends};
+ghost use Rattle.qbf_text.specs.Canonical.{spelled};
+ghost use Rattle.qbf_text.specs.declared.token.Token.TheVariants.{Number};
 ghost use Rattle.qbf_text.specs.Written.{IsPut};
 
-use crate::digits::put_digits;
+use crate::digits::{put_digits, put_spaced};
 use qbf_text::{Sink, SinkFault};
 use std::marker::Model;
 
@@ -14,6 +17,9 @@ const ROOM: usize = 8192;
 
 /// How many digits a number has at most.
 const LONGEST: usize = 20;
+
+/// How many bytes a number takes at most behind a blank and a minus.
+const LONGEST_SPACED: usize = LONGEST + 2;
 
 /// The bytes that are held back.
 #[derive(Drop)]
@@ -85,6 +91,31 @@ impl Held {
         let end = put_digits(&mut self.bytes, self.end, n);
         self.end = end;
         true
+    }
+
+    /// Adds a number behind a blank, directly after a minus if it is negative, where there is room
+    /// for any number, and returns whether there was.
+    #[inline(always)]
+    fn append_spaced(&mut self, negative: bool, n: u64) -> bool
+        ensures all { result ≡ true → self.new ≡ self.old ++ 32 ∷ spelled (Number negative n) }
+        ensures none { result ≡ false → self.new ≡ self.old }
+    {
+        if ROOM - self.end < LONGEST_SPACED {
+            return false;
+        }
+        let end = put_spaced(&mut self.bytes, self.end, negative, n);
+        self.end = end;
+        true
+    }
+
+    /// Holds a number back, behind a blank, where nothing is held.
+    fn begin_with_spaced(&mut self, negative: bool, n: u64)
+        requires { self.old ≡ [] }
+        ensures { self.new ≡ 32 ∷ spelled (Number negative n) }
+    {
+        let end = put_spaced(&mut self.bytes, 0, negative, n);
+        self.start = 0;
+        self.end = end;
     }
 
     /// Holds the digits of a number back where nothing is held.
@@ -171,6 +202,17 @@ impl<S: Sink> Buffered<S> {
         Ok(self.held.append_some(bytes))
     }
 
+    /// Sends on what is held back, and then the bytes.
+    #[cold]
+    #[inline(never)]
+    fn push_all_behind(&mut self, bytes: &[u8]) -> Result<(), SinkFault>
+        ensures { IsPut (⟦<Buffered<S> as Sink>⟧.written)
+            (⟦<Buffered<S> as Sink>⟧.failures) self.old self.new bytes.now result }
+    {
+        self.send_on()?;
+        self.sink.push_all(bytes)
+    }
+
     /// Sends on what is held back, and then holds the digits of a number back.
     #[cold]
     #[inline(never)]
@@ -180,6 +222,18 @@ impl<S: Sink> Buffered<S> {
     {
         self.send_on()?;
         self.held.begin_with(n);
+        Ok(())
+    }
+
+    /// Sends on what is held back, and then holds a number back, behind a blank.
+    #[cold]
+    #[inline(never)]
+    fn push_spaced_behind(&mut self, negative: bool, n: u64) -> Result<(), SinkFault>
+        ensures { IsPut (⟦<Buffered<S> as Sink>⟧.written) (⟦<Buffered<S> as Sink>⟧.failures)
+            self.old self.new (32 ∷ spelled (Number negative n)) result }
+    {
+        self.send_on()?;
+        self.held.begin_with_spaced(negative, n);
         Ok(())
     }
 }
@@ -200,11 +254,28 @@ impl<S: Sink> Sink for Buffered<S> {
     }
 
     #[inline(always)]
+    fn push_all(&mut self, bytes: &[u8]) -> Result<(), SinkFault> {
+        if bytes.is_empty() || self.held.append(bytes) {
+            return Ok(());
+        }
+        self.push_all_behind(bytes)
+    }
+
+    #[inline(always)]
     fn push_number(&mut self, n: u64) -> Result<(), SinkFault> {
         if self.held.append_number(n) {
             return Ok(());
         }
         self.push_number_behind(n)
+    }
+
+    #[inline(always)]
+    fn push_spaced(&mut self, negative: bool, n: u64) -> Result<(), SinkFault> {
+        if self.held.append_spaced(negative, n) {
+            Ok(())
+        } else {
+            self.push_spaced_behind(negative, n)
+        }
     }
 
     fn finish(&mut self) -> Result<(), SinkFault> {

@@ -1,13 +1,15 @@
 //! A job from its sources to its sinks.
 
 ghost use Rattle.std.specs.Prelude.{◌≡◌, ◌⊎◌, ◌↔◌, ◌<◌, ◌-◌, ◌^◌, ℕ, Result, Err, IfOk, IfErr};
-ghost use Rattle.std.specs.Prelude.{OnOk, IfSome};
+ghost use Rattle.std.specs.Prelude.{OnOk, IfSome, length};
+ghost use Rattle.std.specs.List.{AllByRecursion};
 ghost use Rattle.std.specs.Io.KnownBytes.{Keeps};
 ghost use Rattle.qbf_core.specs.Qbf.{Qbf};
 ghost use Rattle.qdimacs.specs.declared.fault.FormulaFault.{FormulaFault};
 ghost use Rattle.qdimacs.specs.Grammar.{text};
 ghost use Rattle.qrp.specs.Derivations.{Derivation};
 ghost use Rattle.qrp.specs.Grammar.{text as trace_text};
+ghost use Rattle.qrp_check.specs.Trim.{trimmed};
 ghost use Rattle.qrp_check.specs.Verdict.{IsVerdictUnless, IsFormulaDevice, IsTraceDevice};
 ghost use Rattle.qrp_check.specs.Verdict.{IsFormulaFault, StandsOnLine};
 ghost use Rattle.qrp_check.specs.declared.verdict.Verified.{Verified};
@@ -22,8 +24,8 @@ use crate::job::Job;
 use qbf_core::Formula;
 use qbf_text::{Sink, Source};
 use qdimacs::{read_formula, write_formula};
-use qrp::{Trace, read_trace, write_trace};
-use qrp_check::{CheckFault, Fault, Rules, check, trim, verify};
+use qrp::{Trace, read_trace, write_steps_at};
+use qrp_check::{Fault, Rules, Verified, check, verify};
 use qrp_report::{fault_status, put_fault, put_verdict};
 use std::alloc::Global;
 
@@ -117,17 +119,20 @@ fn check_job<F: Source, T: Source, O: Sink>(
     }
 }
 
-/// The trace that was read, without the steps that its goal does not need.
-fn trimmed<F: Source, T: Source>(
+/// The trace that was read, and what the check says of it: the steps that its goal needs.
+fn checked<F: Source, T: Source>(
     alloc: Global,
     rules: Rules,
     formula: &mut F,
     trace: &mut T,
-) -> Result<Trace, Fault>
+) -> Result<(Trace, Verified), Fault>
     ensures refused { IfErr result
         (λ e. IsVerdictUnless rules (F.remaining formula.old) (T.remaining trace.old) (Err e)) }
-    ensures trimmed { IfOk result (λ t. IfSome (F.remaining formula.old)
-        (λ a. IfSome (T.remaining trace.old) (λ b. IsTrimmedFrom rules a b t))) }
+    ensures trimmed { IfOk result (λ r. IfSome (F.remaining formula.old)
+        (λ a. IfSome (T.remaining trace.old)
+        (λ b. IsTrimmedFrom rules a b (trimmed r.0 r.1.core.items)))) }
+    ensures within { IfOk result (λ r.
+        AllByRecursion (λ i. i < length r.0.steps) r.1.core.items) }
     ensures formula_failed { IfErr result (λ e. F.failures formula.old < 2 ^ 64 - 1 →
         (IsFormulaDevice (Err e) ↔ (F.failures formula.old < F.failures formula.new))) }
     ensures trace_failed { IfErr result (λ e. T.failures trace.old < 2 ^ 64 - 1 →
@@ -142,17 +147,16 @@ fn trimmed<F: Source, T: Source>(
     // The header comes with the fact that the trace is well formed.
     let _header = whole.header();
     let verified = check(alloc, &read, &whole, whole.sets(), whole.result(), rules)?;
-    match trim(alloc, &whole, &verified) {
-        Ok(shorter) => Ok(shorter),
-        Err(_) => Err(Fault::Check(CheckFault::C5)),
-    }
+    Ok((whole, verified))
 }
 
-/// Sends the canonical text of a trace.
-fn send_trace<S: Sink>(trace: &Trace, sink: &mut S) -> Status
-    ensures { IsSent S.Sink sink.old sink.new (trace_text trace.now) 0 3 result }
+/// Sends the canonical text of a trace without the steps outside the core.
+fn send_trimmed<S: Sink>(trace: &Trace, verified: &Verified, sink: &mut S) -> Status
+    requires { AllByRecursion (λ i. i < length trace.now.steps) verified.now.core.items }
+    ensures { IsSent S.Sink sink.old sink.new
+        (trace_text (trimmed trace.now verified.now.core.items)) 0 3 result }
 {
-    match write_trace(trace, sink) {
+    match write_steps_at(trace, &verified.core, sink) {
         Ok(()) => end_text(sink, 0),
         Err(_) => DEVICE_FAILED,
     }
@@ -173,8 +177,8 @@ fn trim_job<F: Source, T: Source, O: Sink, E: Sink>(
         × IsReported O.Sink out.old out.new E.Sink err.old err.new
         (trim_report rules answer) result }
 {
-    match trimmed(alloc, rules, formula, trace) {
-        Ok(shorter) => send_trace(&shorter, out),
+    match checked(alloc, rules, formula, trace) {
+        Ok((whole, verified)) => send_trimmed(&whole, &verified, out),
         Err(fault) => send_fault(err, &fault),
     }
 }

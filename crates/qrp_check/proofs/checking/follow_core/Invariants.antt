@@ -8,7 +8,7 @@ use Rattle.qrp_check.proofs.checking.follow_core.Given as goal
 abbrev pub invariant-loop-place : goal.invariant-loop-place
 invariant-loop-place g l = record {
   follows : (j : ℕ) → j < l.place → IsInCore (g.T.Steps.steps l.trace) j
-      → StepFollows l.rules g.S.Side.side l.formula (g.T.Steps.steps l.trace) j;
-  known : AreKnown l.formula l.starts;
-  kept : AreKept l.formula.blocks (g.T.Steps.steps l.trace) l.place l.kept;
+      → StepFollows l.setting.rules g.S.Side.side l.setting.formula.now (g.T.Steps.steps l.trace) j;
+  known : AreKnown l.setting.formula.now l.starts;
+  kept : AreKept l.setting.formula.now.blocks (g.T.Steps.steps l.trace) l.place l.kept;
 }

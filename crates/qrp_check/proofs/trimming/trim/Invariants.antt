@@ -1,5 +1,5 @@
 use Rattle.std.proofs.Common.{◌≡◌, length, take}
-use Rattle.qrp_check.specs.Trim.{steps_at}
+use Rattle.qrp.specs.Derivations.{steps_at}
 use Rattle.qrp_check.proofs.trimming.trim.Given as goal
 
 abbrev pub invariant-loop-place : goal.invariant-loop-place

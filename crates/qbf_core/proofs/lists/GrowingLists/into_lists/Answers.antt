@@ -7,4 +7,4 @@ returns g c =
     let inside = c.self.inside in
     let r = c.self.invariant in
     let le : inside.start ≤ inside.start = omega arith in
-    rw (← c.self.view_is, c.truncate.ensures.items) (kept_parts inside.items.items inside.start 0 inside.ends.items inside.start r.0 le r.1)
+    rw (← c.self.view_is, c.truncate.ensures.items) (kept_parts inside.items.items inside.start 0 inside.ends inside.start r.0 le r.1)

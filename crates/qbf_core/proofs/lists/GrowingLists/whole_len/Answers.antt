@@ -4,5 +4,5 @@ use Rattle.qbf_core.proofs.Flats.{same_count}
 use Rattle.qbf_core.proofs.lists.GrowingLists.whole_len.Goals as goal
 
 pub returns : goal.returns
-returns g c = c.len.ensures ∙ c.self.inside.ends.ok.0 ∙ sym (same_count c.self.inside.items.items 0 c.self.inside.ends.items)
+returns g c = c.len.ensures ∙ sym (same_count c.self.inside.items.items 0 c.self.inside.ends)
     ∙ ap (λ (s : Growing _). length s.whole) c.self.view_is

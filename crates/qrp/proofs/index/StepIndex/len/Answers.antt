@@ -9,5 +9,5 @@ returns-clause-len c = rw (← c.self.view_is) (
       arith,
       c.len.ensures.len,
       count_length c.self.inside.first c.self.inside.counted,
-      length-append (count_from c.self.inside.first c.self.inside.counted) c.self.inside.listed.keys,
+      length-append (count_from c.self.inside.first c.self.inside.counted) c.self.inside.listed,
     ))

@@ -1,5 +1,4 @@
-use Rattle.std.proofs.Common.{◌<◌, ◌+◌, ◌^◌, ℕ, ◌-◌, arith, sym, length, length-append, ◌++◌, ◌∙◌}
-use Rattle.std.proofs.lemmas.Option.{slice_get-get_or}
+use Rattle.std.proofs.Common.{◌<◌, ◌+◌, ◌^◌, ℕ, arith, length-append, ◌++◌, ◌∙◌}
 use Rattle.qrp.specs.Kept.{count_from}
 use Rattle.qrp.proofs.CountedNumbers.{count_length, front_at, late_at, all_at}
 use Rattle.qrp.proofs.index.StepIndex.number.Goals as goal
@@ -7,29 +6,26 @@ use Rattle.qrp.proofs.index.StepIndex.number.Goals as goal
 pub overflow_add-result : goal.overflow_add-result
 overflow_add-result c =
     let fit : c.self.inside.first + c.args.i < 2 ^ 64 =
-    all_at (λ (n : ℕ). n < 2 ^ 64) (count_from c.self.inside.first c.self.inside.counted ++ c.self.inside.listed.keys) c.args.i
+    all_at (λ (n : ℕ). n < 2 ^ 64) (count_from c.self.inside.first c.self.inside.counted ++ c.self.inside.listed) c.args.i
     (c.self.inside.first + c.args.i)
-    c.self.invariant.numbers.fit (front_at c.self.inside.first c.self.inside.counted c.self.inside.listed.keys c.args.i c.if-i-self.true) in
+    c.self.invariant.numbers.fit (front_at c.self.inside.first c.self.inside.counted c.self.inside.listed c.args.i c.if-i-self.true) in
     omega (arith, fit)
 
 pub returns-then-i-self : goal.returns-then-i-self
 returns-then-i-self c =
-    rw (← c.self.view_is) (front_at c.self.inside.first c.self.inside.counted c.self.inside.listed.keys c.args.i c.if-i-self.true)
+    rw (← c.self.view_is) (front_at c.self.inside.first c.self.inside.counted c.self.inside.listed c.args.i c.if-i-self.true)
 
-pub unreachable-requires : goal.unreachable-requires
-unreachable-requires c =
+pub number-requires : goal.number-requires
+number-requires c =
     let inside = rw (← c.self.view_is) at c.requires in
-    let less : c.args.i - c.self.inside.counted < length c.self.inside.listed.keys =
     omega (
       arith,
       inside,
       c.if-i-self.false,
       count_length c.self.inside.first c.self.inside.counted,
-      length-append (count_from c.self.inside.first c.self.inside.counted) c.self.inside.listed.keys,
-    ) in
-    let has = slice_get-get_or c.self.inside.listed.keys (c.args.i - c.self.inside.counted) 0 less in
-    cc (c.in-None.ensures.key, has)
+      length-append (count_from c.self.inside.first c.self.inside.counted) c.self.inside.listed,
+    )
 
 pub returns : goal.returns
 returns c = rw (← c.self.view_is) (
-    late_at c.self.inside.first c.self.inside.counted c.self.inside.listed.keys c.args.i c.if-i-self.false ∙ sym c.in-Some.ensures.key)
+    late_at c.self.inside.first c.self.inside.counted c.self.inside.listed c.args.i c.if-i-self.false ∙ c.number.ensures)

@@ -1,4 +1,4 @@
-use Rattle.std.proofs.Common.{nat_eq, ℕ, Some, sym, ap, ◌∙◌}
+use Rattle.std.proofs.Common.{nat_eq, ℕ, Some, ap, ◌∙◌}
 use Rattle.std.specs.List.{IsDistinct}
 use Rattle.qbf_core.proofs.Bound.{apart_of}
 use Rattle.qrp.proofs.CountedNumbers.{front_at, listed_at, none_there}
@@ -7,7 +7,7 @@ use Rattle.qrp.proofs.index.StepIndex.position.Goals as goal
 
 pub returns-in-Some-clause-found : goal.returns-in-Some-clause-found
 returns-in-Some-clause-found c = rw (← c.self.view_is) (
-    front_at c.self.inside.first c.self.inside.counted c.self.inside.listed.keys c.in-Some.i c.in-Some.ensures.some.0
+    front_at c.self.inside.first c.self.inside.counted c.self.inside.listed c.in-Some.i c.in-Some.ensures.some.0
     ∙ ap (λ (k : ℕ). Some k) c.in-Some.ensures.some.1)
 
 pub returns-in-Some-clause-only : goal.returns-in-Some-clause-only
@@ -18,13 +18,13 @@ returns-in-Some-clause-only c = λ i here.
 
 pub returns-in_err-i-clause-only : goal.returns-in_err-i-clause-only
 returns-in_err-i-clause-only c = λ i here.
-    absurd (none_there c.self.inside.first c.self.inside.counted c.self.inside.listed.keys c.args.number c.in_default.ensures.none
-    c.len-listed.ensures.unique (sym c.get_index_of.ensures.index ∙ c.in_err-i.was) i (rw (← c.self.view_is) at here))
+    absurd (none_there c.self.inside.first c.self.inside.counted c.self.inside.listed c.args.number c.in_default.ensures.none
+    c.in_err-i.ensures.none i (rw (← c.self.view_is) at here))
 
 pub returns-clause-found : goal.returns-clause-found
 returns-clause-found c = rw (← c.self.view_is) (
-    listed_at c.self.inside.first c.self.inside.counted c.self.inside.listed.keys c.args.number c.in_ok-i.i
-    (sym c.get_index_of.ensures.index ∙ c.in_ok-i.was))
+    listed_at c.self.inside.first c.self.inside.counted c.self.inside.listed c.args.number c.in_ok-i.i
+    c.in_ok-i.ensures.some)
 
 pub returns-clause-only : goal.returns-clause-only
 returns-clause-only c = λ i here.

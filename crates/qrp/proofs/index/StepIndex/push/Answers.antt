@@ -1,6 +1,6 @@
 use Rattle.std.proofs.Common.{◌≡◌, ◌<◌, ◌^◌, ℕ, List, [], ◌∷◌, ◌++◌, refl, sym, ap, subst, ◌∙◌, arith, append_assoc}
 use Rattle.qrp.specs.Kept.{count_from, AreStepNumbers}
-use Rattle.qrp.proofs.CountedNumbers.{counted_pushed, numbers_pushed, unused_behind}
+use Rattle.qrp.proofs.CountedNumbers.{counted_pushed, numbers_pushed}
 use Rattle.qrp.proofs.index.StepIndex.push.Goals as goal
 use Rattle.qrp.proofs.index.StepIndex.push.Goals.{then-self-eq0, else-self-eq0}
 
@@ -9,8 +9,8 @@ pub returns-then-continues-clause-pushed : goal.returns-then-continues-clause-pu
 returns-then-continues-clause-pushed c =
     let f : ℕ = c.self.inside.first in
     let n : ℕ = c.self.inside.counted in
-    let ks : List ℕ = c.self.inside.listed.keys in
-    let none = c.is_empty.ensures.0 c.if-is_empty.true in
+    let ks : List ℕ = c.self.inside.listed in
+    let none = sym c.len.ensures.len ∙ c.if-len-eq0.true in
     let next = c.continues.ensures.next c.if-continues.true in
     rw (← c.self.view_is) (elim c.if-self-eq0.branch [
       | then-self-eq0 w ↦ rw w.self-inside-is
@@ -39,12 +39,10 @@ invariant_of-self c =
 pub returns-clause-sound : goal.returns-clause-sound
 returns-clause-sound c =
     let xs : List ℕ = count_from c.self.inside.first c.self.inside.counted in
-    let ks : List ℕ = c.self.inside.listed.keys in
+    let ks : List ℕ = c.self.inside.listed in
     let used = rw (← c.self.view_is) at c.requires in
-    let new : c.insert.new.self.keys ≡ ks ++ c.args.number ∷ [] =
-    rw (unused_behind xs ks c.args.number used) at c.in_ok-insert.ensures.keys in
-    let whole : xs ++ c.insert.new.self.keys ≡ (xs ++ ks) ++ c.args.number ∷ [] =
-    ap (λ (ns : List ℕ). xs ++ ns) new ∙ sym (append_assoc xs ks (c.args.number ∷ [])) in
+    let whole : xs ++ c.push.new.self ≡ (xs ++ ks) ++ c.args.number ∷ [] =
+    ap (λ (ns : List ℕ). xs ++ ns) c.in_ok-push.ensures.pushed ∙ sym (append_assoc xs ks (c.args.number ∷ [])) in
     subst AreStepNumbers (sym whole)
     (numbers_pushed (xs ++ ks) c.args.number c.self.invariant.numbers used (omega (arith, c.ranges.number.fits)))
 

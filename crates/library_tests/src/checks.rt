@@ -1,0 +1,192 @@
+//! What the rows of `tests/*.rows` do not show: verdicts with their cores, faults as values, single
+//! pulls, and trimmed traces step by step.
+
+ghost use Rattle.std.specs.Prelude.{◌<◌};
+
+use qbf_core::Var;
+use qbf_text::{PieceSource, SinkFault, SliceSource, VecSink, put_bytes, put_number};
+use qdimacs::{FormulaFault, read_formula};
+use qrp::{Steps, Trace, TraceFault, read_trace, write_trace};
+use qrp_check::{CheckFault, Fault, RuleFault, Rules, Verified, check, trim, verify};
+use std::alloc::Global;
+use std::process::Abort;
+use std::test::Fail;
+
+const FALSE_FORMULA: &[u8] = b"p cnf 2 2\ne 1 0\na 2 0\n1 2 0\n-1 2 0\n";
+
+const REFUTATION: &[u8] =
+    b"p qrp 2 5\ne 1 0\na 2 0\n1 1 2 0 0\n2 -1 2 0 0\n3 1 0 1 0\n4 -1 0 2 0\n5 0 3 4 0\nr unsat\n";
+
+const TRUE_FORMULA: &[u8] = b"p cnf 2 2\na 1 0\ne 2 0\n1 -2 0\n-1 2 0\n";
+
+const PROOF_OF_TRUTH: &[u8] =
+    b"p qrp 2 5\n1 1 2 0 0\n2 -1 -2 0 0\n3 1 0 1 0\n4 -1 0 2 0\n5 0 3 4 0\nr sat\n";
+
+/// A clause without literals.
+const EMPTY_CLAUSE: &[u8] = b"p cnf 0 1\n0\n";
+
+/// The result for a trace that is kept step by step.
+fn checked(
+    alloc: Global,
+    rules: Rules,
+    formula: &[u8],
+    trace: &[u8],
+) -> Result<Result<Verified, CheckFault>, Fail> {
+    let read = read_formula(alloc, &mut SliceSource::new(formula))?;
+    let steps = read_trace(alloc, &mut SliceSource::new(trace))?;
+    Ok(check(alloc, &read, &steps, steps.sets(), steps.result(), rules))
+}
+
+/// The result for the same bytes.
+fn verified(alloc: Global, rules: Rules, formula: &[u8], trace: &[u8]) -> Result<Verified, Fault> {
+    let mut source = SliceSource::new(formula);
+    verify(alloc, &mut source, &mut SliceSource::new(trace), rules)
+}
+
+/// Compares what was found with a truth and the places of a core.
+fn expect(rt: &impl Abort, found: &Verified, truth: bool, core: &[usize]) {
+    assert_eq!(rt; found.truth, truth);
+    assert_eq!(rt; found.core.as_slice(), core);
+}
+
+/// Checks a trace that is kept step by step, and verifies the same bytes, by both rules.
+fn verifies(
+    rt: &impl Abort,
+    alloc: Global,
+    formula: &[u8],
+    trace: &[u8],
+    truth: bool,
+    core: &[usize],
+) -> Result<(), Fail> {
+    for rules in [Rules::plain(), Rules::any_pivot()] {
+        let found = checked(alloc, rules, formula, trace)??;
+        expect(rt, &found, truth, core);
+        let found = verified(alloc, rules, formula, trace)?;
+        expect(rt, &found, truth, core);
+    }
+    Ok(())
+}
+
+#[test]
+fn verifies_proofs(rt: HostRuntime) -> Result<(), Fail> {
+    let alloc = rt.alloc();
+    let all = [0usize, 1, 2, 3, 4];
+    verifies(&rt, alloc, FALSE_FORMULA, REFUTATION, false, &all)?;
+    verifies(&rt, alloc, TRUE_FORMULA, PROOF_OF_TRUTH, true, &all)
+}
+
+/// Compares a result with a fault.
+fn expect_fault(rt: &impl Abort, answer: Result<Verified, CheckFault>, fault: &CheckFault) {
+    assert_eq!(rt; answer.err(), Some(*fault));
+}
+
+#[test]
+fn names_the_first_fault(rt: HostRuntime) -> Result<(), Fail> {
+    let alloc = rt.alloc();
+    let one = Var::new(1).expect(&rt, "a variable");
+    for (formula, trace, fault) in [
+        (EMPTY_CLAUSE, REFUTATION, CheckFault::C1(one)),
+        (TRUE_FORMULA, REFUTATION, CheckFault::C2(one)),
+        // The cube of the second step meets the second clause alone.
+        (
+            FALSE_FORMULA,
+            PROOF_OF_TRUTH,
+            CheckFault::C6(2, RuleFault::S5),
+        ),
+    ] {
+        for rules in [Rules::plain(), Rules::any_pivot()] {
+            let answer = checked(alloc, rules, formula, trace)?;
+            expect_fault(&rt, answer, &fault);
+            let answer = verified(alloc, rules, formula, trace);
+            assert_eq!(rt; answer.err(), Some(Fault::Check(fault)));
+        }
+    }
+    Ok(())
+}
+
+#[test]
+fn names_the_fault_of_a_text(rt: HostRuntime) {
+    let mut formula = SliceSource::new(REFUTATION);
+    let mut trace = PieceSource::new(FALSE_FORMULA, 1, 0);
+    let answer = verify(rt.alloc(), &mut formula, &mut trace, Rules::plain());
+    assert_eq!(rt; answer.err(), Some(Fault::Formula(FormulaFault::F2, 1)));
+    assert_eq!(rt; trace.pulls(), 0, "the trace of a faulty formula");
+    let answer = verified(rt.alloc(), Rules::plain(), FALSE_FORMULA, TRUE_FORMULA);
+    assert_eq!(rt; answer.err(), Some(Fault::Trace(TraceFault::P2, 1)));
+}
+
+/// Sends a step without literals that follows from an earlier one.
+fn put_link(sink: &mut VecSink, number: u64, earlier: u64) -> Result<(), SinkFault> {
+    put_number(sink, number)?;
+    put_bytes(sink, b" 0 ")?;
+    put_number(sink, earlier)?;
+    put_bytes(sink, b" 0\n")
+}
+
+/// 10,000 steps without literals, each from the one so many before it; the first so many are the
+/// clause.
+fn chain(alloc: Global, back: u64) -> Result<VecSink, Fail>
+    requires { back < 10000 }
+{
+    let mut sink = VecSink::new(alloc, 0)?;
+    put_bytes(&mut sink, b"p qrp 0 10000\n")?;
+    for number in 1..=back {
+        put_number(&mut sink, number)?;
+        put_bytes(&mut sink, b" 0 0\n")?;
+    }
+    for number in back + 1..=10_000 {
+        put_link(&mut sink, number, number - back)?;
+    }
+    put_bytes(&mut sink, b"r unsat\n")?;
+    Ok(sink)
+}
+
+#[test]
+fn follows_a_long_chain(rt: HostRuntime) -> Result<(), Fail> {
+    let alloc = rt.alloc();
+    for back in [1u64, 2, 7] {
+        let mut core = Vec::new(alloc);
+        for place in 0..10_000usize {
+            // The last step is at the place 9,999.
+            if (9_999 - place as u64) % back == 0 {
+                core.push(place)?;
+            }
+        }
+        let text = chain(alloc, back)?;
+        verifies(&rt, alloc, EMPTY_CLAUSE, text.bytes(), false, &core)?;
+    }
+    Ok(())
+}
+
+/// What is left of a trace that proves its result.
+fn trimmed(alloc: Global, rules: Rules, formula: &[u8], trace: &[u8]) -> Result<Trace, Fail> {
+    let read = read_formula(alloc, &mut SliceSource::new(formula))?;
+    let whole = read_trace(alloc, &mut SliceSource::new(trace))?;
+    let verified = check(alloc, &read, &whole, whole.sets(), whole.result(), rules)?;
+    Ok(trim(alloc, &whole, &verified)?)
+}
+
+#[test]
+fn keeps_what_the_goal_needs(rt: HostRuntime) -> Result<(), Fail> {
+    let alloc = rt.alloc();
+    for rules in [Rules::plain(), Rules::any_pivot()] {
+        let left = trimmed(alloc, rules, FALSE_FORMULA, REFUTATION)?;
+        let mut sink = VecSink::new(alloc, 0)?;
+        assert!(rt; write_trace(&left, &mut sink).is_ok());
+        assert_eq!(rt; sink.bytes(), REFUTATION);
+    }
+    Ok(())
+}
+
+#[test]
+fn leaves_out_every_other_step(rt: HostRuntime) -> Result<(), Fail> {
+    let alloc = rt.alloc();
+    let text = chain(alloc, 2)?;
+    let left = trimmed(alloc, Rules::plain(), EMPTY_CLAUSE, text.bytes())?;
+    assert_eq!(rt; left.header().steps, 5_000);
+    assert_eq!(rt; left.len(), 5_000);
+    for place in 0..left.len() {
+        assert_eq!(rt; left.number(place), 2 * place as u64 + 2);
+    }
+    Ok(())
+}

@@ -1,0 +1,15 @@
+//! Tests of the libraries through their public calls: what no clause says.
+#![tactic(auto)]
+
+#[cfg(test)]
+mod checks;
+#[cfg(test)]
+mod formula_files;
+#[cfg(test)]
+mod formulas;
+#[cfg(test)]
+mod rules;
+#[cfg(test)]
+mod texts;
+#[cfg(test)]
+mod traces;

@@ -1,0 +1,18 @@
+-- What stands at a place after one more item came at the end.
+use Rattle.std.proofs.Common.{◌≡◌, ℕ, zero, suc, ◌⊎◌, List, [], ◌∷◌, ◌++◌, Some, inl, inr, refl, ap, length, slice_get}
+
+pub pushed_cases : {A : Type 0} (xs : List A) (x : A) (k : ℕ) (a : A) → slice_get (xs ++ x ∷ []) k ≡ Some a
+    → (slice_get xs k ≡ Some a) ⊎ ((k ≡ length xs) × (a ≡ x))
+pushed_cases [] x zero a h = inr (refl, cc h)
+pushed_cases [] x (suc k) a h = cc h
+pushed_cases (y ∷ xs) x zero a h = inl h
+pushed_cases (y ∷ xs) x (suc k) a h = elim (pushed_cases xs x k a h) [ inl g ↦ inl g | inr (e, f) ↦ inr (ap suc e, f) ]
+
+pub pushed_old : {A : Type 0} (xs : List A) (x : A) (k : ℕ) (a : A) → slice_get xs k ≡ Some a → slice_get (xs ++ x ∷ []) k ≡ Some a
+pushed_old [] x k a h = cc h
+pushed_old (y ∷ xs) x zero a h = h
+pushed_old (y ∷ xs) x (suc k) a h = pushed_old xs x k a h
+
+pub pushed_new : {A : Type 0} (xs : List A) (x : A) → slice_get (xs ++ x ∷ []) (length xs) ≡ Some x
+pushed_new [] x = refl
+pushed_new (y ∷ xs) x = pushed_new xs x
