@@ -17,11 +17,13 @@ fn bytes_come_through(rt: HostRuntime) -> Result<(), Fail> {
         assert!(rt; put_byte(&mut sink, byte).is_ok());
         sent.push(byte)?;
     }
+    // The last bytes are held back.
+    assert!(rt; sink.sink.bytes().len() < sent.len());
     let more = sent.clone()?;
-    // More bytes at once than the buffer has room for.
+    // More bytes at once than the buffer has room for are sent on.
     assert!(rt; put_bytes(&mut sink, &more).is_ok());
     sent.extend_from_slice(&more)?;
-    assert!(rt; sink.sink.bytes().len() < sent.len());
+    assert_eq!(rt; sink.sink.bytes().len(), sent.len());
     assert!(rt; sink.finish().is_ok());
     assert!(rt; sink.sink.bytes() == sent.as_slice());
     Ok(())
