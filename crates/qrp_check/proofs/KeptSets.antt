@@ -12,7 +12,7 @@ use Rattle.qrp.specs.Inferences.{Inference, IsAt}
 use Rattle.qrp.specs.declared.item.Outcome.{Outcome}
 use Rattle.qrp_check.specs.declared.fault.CheckFault.{CheckFault}
 use Rattle.qrp_check.specs.declared.fault.CheckFault.TheVariants.{C1, C2, C3, C4, C5, C6}
-use Rattle.qrp_check.specs.declared.verdict.Rules.{Rules}
+use Rattle.qrp_rules.specs.declared.rules.Rules.{Rules}
 use Rattle.qrp_check.specs.declared.antecedents.AntecedentSets.{AntecedentSets}
 use Rattle.qrp_check.specs.Antecedents.{AreFound}
 use Rattle.qrp_check.specs.Core.{IsInCore}
@@ -21,7 +21,7 @@ use Rattle.qrp_check.specs.Proof.{side_of, Derives, Proves, IsFirstFault, Result
 use Rattle.qrp_check.specs.Sets.{SetsAgree}
 use Rattle.qrp_check.specs.declared.verdict.Verified.{Verified}
 use Rattle.qrp_check.proofs.Soundness.{soundness}
-use Rattle.qrp.proofs.PushedItems.{pushed_old, pushed_new}
+use Rattle.qbf_core.proofs.PushedItems.{pushed_old, pushed_new}
 
 more_entries : (kept : List (List Literal)) (x : List Literal) (i : ℕ) → length kept ≡ i → length (kept ++ x ∷ []) ≡ i + 1
 more_entries kept x i count = length-append kept (x ∷ []) ∙ ap (λ (n : ℕ). n + 1) count

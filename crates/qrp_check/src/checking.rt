@@ -17,14 +17,12 @@ use crate::agree::sets_fault;
 use crate::antecedents::{FoundPlaces, antecedents};
 use crate::fault::CheckFault;
 use crate::goal::find_goal;
-use crate::initial_steps::InitialSteps;
 use crate::marks::{mark_core, marked_places};
-use crate::side::{Clauses, Cubes, Side};
 use crate::step::{Setting, StepFault, step_set};
-use crate::verdict::{Rules, Verified};
-use crate::written::set_or_written;
+use crate::verdict::Verified;
 use qbf_core::{Formula, Lists, Lit};
 use qrp::{Outcome, QuantSet, Steps};
+use qrp_rules::{Clauses, Cubes, InitialSteps, Rules, Side, set_or_written};
 use std::alloc::Global;
 
 /// Keeps the set of the step at the next place, or nothing of it.

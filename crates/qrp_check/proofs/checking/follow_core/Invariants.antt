@@ -1,7 +1,7 @@
 use Rattle.std.proofs.Common.{ℕ, ◌<◌}
 use Rattle.qrp_check.specs.Core.{IsInCore}
 use Rattle.qrp_check.specs.Conditions.{StepFollows}
-use Rattle.qrp_check.specs.Initial.{AreKnown}
+use Rattle.qrp_rules.specs.Initial.{AreKnown}
 use Rattle.qrp_check.specs.Kept.{AreKept}
 use Rattle.qrp_check.proofs.checking.follow_core.Given as goal
 
