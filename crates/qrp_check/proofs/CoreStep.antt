@@ -14,12 +14,11 @@ use Rattle.qrp.specs.Inferences.{Inference, IsAt, HasFewAntecedents, numbers}
 use Rattle.qrp.proofs.Positions.{one_place, number_at}
 use Rattle.qrp_rules.specs.declared.fault.RuleFault.{RuleFault}
 use Rattle.qrp_rules.specs.declared.fault.RuleFault.TheVariants.{S1, S2, S3}
-use Rattle.qrp_check.specs.Conditions.{IsNumberOf, lits_of}
+use Rattle.qrp_check.specs.Conditions.{IsNumberOf, lits_of, step_conditions}
 use Rattle.qrp_rules.specs.Conditions.{Condition, AllHold, IsFirstFailure, IsAnswer, reduct_conditions}
-use Rattle.qrp_check.specs.Conditions.{step_conditions}
 use Rattle.qrp_rules.specs.Conditions.{resolvent_conditions, initial_condition}
 use Rattle.qrp_rules.specs.declared.rules.Rules.{Rules}
-use Rattle.qrp_check.specs.Core.{IsInCore, next}
+use Rattle.qrp_check.specs.Core.{IsInCore, Needs}
 use Rattle.qrp_check.specs.Kept.{IsSetOf, IsEntry, AreKept, later_conditions}
 use Rattle.qrp_rules.specs.Written.{set_or_written}
 use Rattle.qrp_check.proofs.Marking.{core_within}
@@ -58,17 +57,17 @@ found_late steps place number index answer only found late (s, h, is) =
 
 needed : (steps : List Inference) (place index number : ℕ) → IsInCore steps place
     → ((step : Inference) → IsAt steps place step → number ∈ step.ants) → index < place
-    → (below : Inference) → IsAt steps index below → below.number ≡ number → IsInCore steps index
+    → (below : Inference) → IsAt steps index below → below.number ≡ number → Needs steps place index
 needed steps place index number core ants less below here is =
     let above = at_place steps place (core_within steps place core) in
-    next core (record {
+    record {
       before = less;
       above = above.0;
       at_above = above.1;
       below = below;
       at_below = here;
       named = subst (λ (n : ℕ). n ∈ above.0.ants) (sym is) (ants above.0 above.1);
-    })
+    }
 
 -- the set of an earlier step is that of the literals under its number
 pub earlier_set : (blocks : List Block) (steps : List Inference) (kept : List (List Literal)) (place index number : ℕ) (set : List Literal)
@@ -86,7 +85,7 @@ earlier_set blocks steps kept place index number set are core ants distinct less
     let same : w.0 ≡ index = one_place (numbers steps) (apart_of (numbers steps) distinct) w.0 index number
     (number_at steps w.0 s.0 w.2 ∙ ap (λ (k : ℕ). Some k) s.2) (number_at steps index below here ∙ ap (λ (k : ℕ). Some k) is) in
     let at : IsAt steps index s.0 = subst (λ (k : ℕ). IsAt steps k s.0) same w.2 in
-    let k = are.sets index s.0 less (needed steps place index number core ants less below here is) at in
+    let k = are.sets index place s.0 less (omega arith) core (needed steps place index number core ants less below here is) at in
     let g = given s.0 k.0 at k.1 k.2 in
     (g.0, own, subst (λ (lits : List Literal). IsSetOf blocks set lits) s.3 g.1)
 

@@ -1,5 +1,5 @@
 -- The sets of the core steps that were looked at.
-use Rattle.std.specs.Prelude.{◌≡◌, ℕ, ◌<◌, List, [], ◌∷◌, ◌⊎◌, Some, slice_get, length}
+use Rattle.std.specs.Prelude.{◌≡◌, ℕ, ◌<◌, ◌≤◌, Bool, if◌then◌else◌, List, [], ◌∷◌, ◌++◌, ◌⊎◌, Some, slice_get, length}
 use Rattle.qbf_core.specs.Literal.{Literal}
 use Rattle.qbf_core.specs.Members.{◌∈◌}
 use Rattle.qbf_core.specs.Blocks.{Block, AreBound}
@@ -9,7 +9,7 @@ use Rattle.qbf_core.specs.Sets.{HasMembersOf, IsOrdered}
 use Rattle.qrp.specs.Inferences.{Inference, IsAt}
 use Rattle.qrp_check.specs.Conditions.{IsNumberOf, antecedent_conditions}
 use Rattle.qrp_rules.specs.Conditions.{Condition}
-use Rattle.qrp_check.specs.Core.{IsInCore}
+use Rattle.qrp_check.specs.Core.{IsInCore, Needs}
 use Rattle.qrp_check.specs.Proof.{IsFirstFaultyStep}
 use Rattle.qrp_rules.specs.declared.rules.Rules.{Rules}
 use Rattle.qrp_rules.specs.declared.fault.RuleFault.{RuleFault}
@@ -28,11 +28,21 @@ pub record IsSetOf (blocks : List Block) (set lits : List Literal) : Type 0 wher
 abbrev pub IsEntry : List Block → List Literal → List Literal → Type 0
 IsEntry blocks entry lits = (IsOrdered entry × IsSetOf blocks entry lits) ⊎ ((entry ≡ []) × IsOrdered lits × AreBound blocks lits)
 
--- each step before place i has an entry, each of the core that of its literals
+-- each step before place i has an entry: that of its literals, where a step of the core from i on needs it
 pub record AreKept (blocks : List Block) (steps : List Inference) (i : ℕ) (kept : List (List Literal)) : Type 0 where
   pub count : length kept ≡ i
-  pub sets : (j : ℕ) (step : Inference) → j < i → IsInCore steps j → IsAt steps j step
+  pub sets : (j k : ℕ) (step : Inference) → j < i → i ≤ k → IsInCore steps k → Needs steps k j → IsAt steps j step
       → (entry : List Literal) × (slice_get kept j ≡ Some entry) × IsEntry blocks entry step.lits
+
+-- the entries with nothing for the last one
+abbrev pub forgot : List (List Literal) → List (List Literal)
+forgot [] = []
+forgot (entry ∷ []) = [] ∷ []
+forgot (entry ∷ next ∷ entries) = entry ∷ forgot (next ∷ entries)
+
+-- the entries with one more, and with nothing for the one before it if that is done with
+abbrev pub kept_after : Bool → List (List Literal) → List Literal → List (List Literal)
+kept_after is_done kept entry = (if is_done then forgot kept else kept) ++ entry ∷ []
 
 -- the fault is one of the rules, and this holds of it
 abbrev pub IfRule : StepFault → (RuleFault → Type 0) → Type 0

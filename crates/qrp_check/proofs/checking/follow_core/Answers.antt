@@ -6,9 +6,10 @@ use Rattle.qrp_check.specs.Conditions.{StepFollows}
 use Rattle.qrp_check.specs.Core.{IsInCore}
 use Rattle.qrp_check.specs.Kept.{AreKept, IsEntry}
 use Rattle.qrp_rules.specs.Written.{set_or_written}
+use Rattle.qrp_check.specs.Marks.{ArePassing}
 use Rattle.qrp_check.specs.Proof.{IsFirstFaultyStep}
 use Rattle.qrp.specs.Inferences.{Inference}
-use Rattle.qrp_check.proofs.KeptSets.{kept_skip, kept_push, kept_here, found_here}
+use Rattle.qrp_check.proofs.KeptSets.{kept_skip, kept_push_after, kept_here, found_here}
 use Rattle.qrp_check.proofs.MarkedPlaces.{marked, unmarked}
 use Rattle.qrp_check.proofs.Marking.{core_within}
 use Rattle.qrp_check.proofs.checking.follow_core.Goals as goal
@@ -24,6 +25,7 @@ loop-place-preserved-then-not-marks-place g c =
           → StepFollows c.args.setting.rules g.S.Side.side c.args.setting.formula.now (g.T.Steps.steps c.args.trace.now) j)
           i c.loop-place.invariant.follows (λ core. absurd (apart core));
       known = c.loop-place.invariant.known;
+      passing = c.loop-place.invariant.passing;
       kept = subst (λ (ks : List (List Literal)). AreKept c.args.setting.formula.now.blocks (g.T.Steps.steps c.args.trace.now) (i + 1) ks)
           (sym c.in_ok-keep.ensures.kept)
           (kept_skip c.args.setting.formula.now.blocks (g.T.Steps.steps c.args.trace.now) i c.loop-place.kept [] apart
@@ -70,6 +72,8 @@ loop-place-preserved g c =
     let f : Qbf = c.args.setting.formula.now in
     let steps : List Inference = g.T.Steps.steps c.args.trace.now in
     let i : ℕ = c.loop-place.place in
+    let passing : ArePassing steps c.antecedents-antecedents.new.uses.passing.items =
+    rw c.antecedents-antecedents.ensures.passing c.loop-place.invariant.passing in
     record {
       follows = below_more
           (λ (j : ℕ). IsInCore steps j → StepFollows c.args.setting.rules g.S.Side.side f steps j)
@@ -83,9 +87,11 @@ loop-place-preserved g c =
                 (c.antecedents-antecedents.ensures.found f.blocks) s.0 s.1) (c.lits.ensures s.0 s.1);
           });
       known = c.in-Ok.ensures.known;
+      passing = passing;
       kept = subst (λ (ks : List (List Literal)). AreKept f.blocks steps (i + 1) ks)
           (sym c.in_ok-keep-in-Ok.ensures.kept)
-          (kept_push f.blocks steps i c.loop-place.kept c.set_or_written.result.now
+          (kept_push_after f.blocks steps c.antecedents-antecedents.new.uses.passing.items i c.loop-place.kept c.ends_at.result
+          c.set_or_written.result.now passing c.ends_at.ensures
           (λ step here. subst (λ (z : List Literal). IsEntry f.blocks z step.lits) (sym c.set_or_written.ensures)
           (subst (λ (z : List Literal). IsEntry f.blocks (set_or_written c.in-Ok.set []) z) (c.lits.ensures step here)
           c.in-Ok.ensures.set)) c.loop-place.invariant.kept);
