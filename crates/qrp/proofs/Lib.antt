@@ -8,7 +8,6 @@ pub mod ReadIsSpelled
 pub mod Answered
 pub mod WrittenParts
 pub mod Flats
-pub mod PushedItems
 pub mod ListedNumbers
 pub mod CountedNumbers
 pub mod TraceParts

@@ -5,7 +5,7 @@ use Rattle.std.specs.Map.{lookup}
 use Rattle.std.proofs.lemmas.Bool.{cases_eq, eq-eqb, ne_eqb}
 use Rattle.std.proofs.lemmas.List.{get_or-set_same, get_or-set_other}
 use Rattle.qrp.specs.Listed.{IsListed}
-use Rattle.qrp.proofs.PushedItems.{pushed_cases, pushed_old, pushed_new}
+use Rattle.qbf_core.proofs.PushedItems.{pushed_cases, pushed_old, pushed_new}
 
 -- the table was made longer
 pub listed_grown : (table grown : List ℕ) (far : List (ℕ × ℕ)) (numbers : List ℕ) → ((n : ℕ) → get_or grown n 0 ≡ get_or table n 0)

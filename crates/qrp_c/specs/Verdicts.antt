@@ -6,7 +6,7 @@ use Rattle.qbf_core.specs.Truth.{IsTrueFormula}
 use Rattle.qdimacs.specs.Reading.{read_formula}
 use Rattle.qrp.specs.Derivations.{Derivation}
 use Rattle.qrp.specs.Reading.{read_trace}
-use Rattle.qrp_check.specs.declared.verdict.Rules.{Rules}
+use Rattle.qrp_rules.specs.declared.rules.Rules.{Rules}
 use Rattle.qrp_check.specs.declared.verdict.Verified.{Verified}
 use Rattle.qrp_check.specs.declared.verdict.Fault.{Fault}
 use Rattle.qrp_check.specs.Proof.{side_of, ResultHolds}

@@ -12,17 +12,19 @@ use Rattle.qbf_core.specs.Sets.{HasMembersOf, IsOrdered}
 use Rattle.qbf_core.proofs.Bound.{in_all, bound_each, apart_of}
 use Rattle.qrp.specs.Inferences.{Inference, IsAt, HasFewAntecedents, numbers}
 use Rattle.qrp.proofs.Positions.{one_place, number_at}
-use Rattle.qrp_check.specs.declared.fault.RuleFault.{RuleFault}
-use Rattle.qrp_check.specs.declared.fault.RuleFault.TheVariants.{S1, S2, S3}
-use Rattle.qrp_check.specs.Conditions.{Condition, AllHold, IsFirstFailure, IsAnswer, IsNumberOf, lits_of, reduct_conditions}
-use Rattle.qrp_check.specs.Conditions.{resolvent_conditions, initial_condition, step_conditions}
-use Rattle.qrp_check.specs.declared.verdict.Rules.{Rules}
+use Rattle.qrp_rules.specs.declared.fault.RuleFault.{RuleFault}
+use Rattle.qrp_rules.specs.declared.fault.RuleFault.TheVariants.{S1, S2, S3}
+use Rattle.qrp_check.specs.Conditions.{IsNumberOf, lits_of, step_conditions}
+use Rattle.qrp_rules.specs.Conditions.{Condition, AllHold, IsFirstFailure, IsAnswer, reduct_conditions}
+use Rattle.qrp_rules.specs.Conditions.{resolvent_conditions, initial_condition}
+use Rattle.qrp_rules.specs.declared.rules.Rules.{Rules}
 use Rattle.qrp_check.specs.Core.{IsInCore, Needs}
-use Rattle.qrp_check.specs.Kept.{IsSetOf, IsEntry, AreKept, later_conditions, set_or_written}
+use Rattle.qrp_check.specs.Kept.{IsSetOf, IsEntry, AreKept, later_conditions}
+use Rattle.qrp_rules.specs.Written.{set_or_written}
 use Rattle.qrp_check.proofs.Marking.{core_within}
 use Rattle.qrp_check.proofs.StepFaults.{in_take, named}
 use Rattle.qrp_check.proofs.StepPlaces.{at_place}
-use Rattle.qrp_check.proofs.MembersDecide.{same_answer, same_self, reduct_same, resolvent_same, initial_same}
+use Rattle.qrp_rules.proofs.MembersDecide.{same_answer, same_self, reduct_same, resolvent_same, initial_same}
 
 -- ---- earlier steps
 

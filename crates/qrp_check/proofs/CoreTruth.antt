@@ -9,10 +9,11 @@ use Rattle.qbf_core.specs.Truth.{IsTrueFormula}
 use Rattle.qbf_core.proofs.Inferences.{in_append, append_left, append_right}
 use Rattle.qbf_core.proofs.TruthLaws.{fewer_clauses, fewer_cubes, beside_none}
 use Rattle.qrp.specs.Inferences.{IsAt, Inference}
-use Rattle.qrp_check.specs.declared.verdict.Rules.{Rules}
+use Rattle.qrp_rules.specs.declared.rules.Rules.{Rules}
 use Rattle.qrp_check.specs.Core.{IsInCore, Needs, next}
 use Rattle.qrp_check.specs.Proof.{Derives}
-use Rattle.qrp_check.specs.Conditions.{AllHold, antecedent_conditions, initial_condition, lits_of, step_conditions}
+use Rattle.qrp_check.specs.Conditions.{antecedent_conditions, lits_of, step_conditions}
+use Rattle.qrp_rules.specs.Conditions.{AllHold, initial_condition}
 use Rattle.qrp_check.specs.Laws.{IsTrueWithSets, AreOfCore, CoreKeepsTheTruth}
 use Rattle.qrp_check.proofs.AddedSets.{AreGood, Grown, one_grown, grown_on, initial_grows, reduct_grows}
 use Rattle.qrp_check.proofs.ParentsReduced.{resolved_grown}

@@ -20,7 +20,7 @@ use Rattle.qrp.specs.Faults as traces
 use Rattle.qrp.specs.Reading.{read_trace}
 use Rattle.qrp.proofs.ReadIsSpelled as traces_sound
 use Rattle.qrp.proofs.SpelledIsRead as traces_complete
-use Rattle.qrp_check.specs.declared.verdict.Rules.{Rules}
+use Rattle.qrp_rules.specs.declared.rules.Rules.{Rules}
 use Rattle.qrp_check.specs.declared.verdict.Verified.{Verified}
 use Rattle.qrp_check.specs.declared.verdict.Fault.{Fault}
 use Rattle.qrp_check.specs.declared.verdict.Fault.TheVariants as fault

@@ -1,5 +1,6 @@
 -- The sets that are kept while the core is walked.
-use Rattle.std.proofs.Common.{◌≡◌, ◌≢◌, ℕ, zero, suc, ◌+◌, ◌-◌, ◌<◌, ◌≤◌, ◌↔◌, Bool, true, false, List, [], ◌∷◌, ◌++◌, Some, inl, inr, refl, sym, ap, subst, ◌∙◌, arith}
+use Rattle.std.proofs.Common.{◌≡◌, ◌≢◌, ℕ, zero, suc, ◌+◌, ◌-◌, ◌<◌, ◌≤◌, ◌↔◌, Bool, true, false, List, [], ◌∷◌, ◌++◌, Some, inl, inr, refl}
+use Rattle.std.proofs.Common.{sym, ap, subst, ◌∙◌, arith}
 use Rattle.std.proofs.Common.{length, length-append, IsTrue, take}
 use Rattle.std.specs.Prelude.{slice_get, Result, Ok, Err, OnOk, IfOk, IfErr}
 use Rattle.std.proofs.lemmas.Bool.{cases_eq}
@@ -12,7 +13,7 @@ use Rattle.qrp.specs.Inferences.{Inference, IsAt}
 use Rattle.qrp.specs.declared.item.Outcome.{Outcome}
 use Rattle.qrp_check.specs.declared.fault.CheckFault.{CheckFault}
 use Rattle.qrp_check.specs.declared.fault.CheckFault.TheVariants.{C1, C2, C3, C4, C5, C6}
-use Rattle.qrp_check.specs.declared.verdict.Rules.{Rules}
+use Rattle.qrp_rules.specs.declared.rules.Rules.{Rules}
 use Rattle.qrp_check.specs.declared.antecedents.AntecedentSets.{AntecedentSets}
 use Rattle.qrp_check.specs.Antecedents.{AreFound}
 use Rattle.qrp_check.specs.Core.{IsInCore, Needs, next}
@@ -22,7 +23,7 @@ use Rattle.qrp_check.specs.Proof.{side_of, Derives, Proves, IsFirstFault, Result
 use Rattle.qrp_check.specs.Sets.{SetsAgree}
 use Rattle.qrp_check.specs.declared.verdict.Verified.{Verified}
 use Rattle.qrp_check.proofs.Soundness.{soundness}
-use Rattle.qrp.proofs.PushedItems.{pushed_old, pushed_new}
+use Rattle.qbf_core.proofs.PushedItems.{pushed_old, pushed_new}
 
 more_entries : (kept : List (List Literal)) (x : List Literal) (i : ℕ) → length kept ≡ i → length (kept ++ x ∷ []) ≡ i + 1
 more_entries kept x i count = length-append kept (x ∷ []) ∙ ap (λ (n : ℕ). n + 1) count

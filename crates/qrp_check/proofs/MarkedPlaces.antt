@@ -8,7 +8,7 @@ use Rattle.qrp_check.specs.Marks.{IsMarked, ListsMarked}
 use Rattle.qrp_check.specs.Core.{IsInCore, ListsCore}
 use Rattle.qrp.specs.Inferences.{Inference}
 use Rattle.qrp_check.proofs.Marking.{core_within}
-use Rattle.qrp.proofs.PushedItems.{pushed_cases, pushed_old, pushed_new}
+use Rattle.qbf_core.proofs.PushedItems.{pushed_cases, pushed_old, pushed_new}
 
 -- what was read says whether the place is marked
 pub marked : (marks : List Bool) (i : ℕ) → i < length marks → get_or marks i false ≡ true → IsMarked marks i

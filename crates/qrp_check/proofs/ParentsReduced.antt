@@ -7,7 +7,7 @@ use Rattle.qbf_core.specs.Rules.{IsClean, Side, IsReducible, IsReduct, Clashes, 
 use Rattle.qbf_core.specs.Blocks.{Block, IsBound, AreBound}
 use Rattle.qbf_core.proofs.Bound.{bound_each, in_all}
 use Rattle.qbf_core.specs.Qbf.{Qbf, IsClosed}
-use Rattle.qrp_check.specs.Conditions.{IsReducibleInParents}
+use Rattle.qrp_rules.specs.Conditions.{IsReducibleInParents}
 use Rattle.qbf_core.proofs.Members.{in_or_not}
 use Rattle.qbf_core.proofs.Inferences.{in_append, append_left, append_right, in_without, from_without, resolvent_clean}
 use Rattle.qrp_check.proofs.AddedSets.{AreGood, Grown, one_grown, grown_on, reduct_grows, resolvent_grows}

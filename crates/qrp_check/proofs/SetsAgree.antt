@@ -8,7 +8,7 @@ use Rattle.qbf_core.proofs.Bound.{binds_in, in_bound}
 use Rattle.qbf_core.proofs.Members.{in_push, push_in}
 use Rattle.qrp_check.specs.declared.fault.CheckFault.{CheckFault}
 use Rattle.qrp_check.specs.declared.fault.CheckFault.TheVariants.{C1, C2, C3}
-use Rattle.qrp_check.specs.Conditions.{AllHold, IsFirstFailure}
+use Rattle.qrp_rules.specs.Conditions.{AllHold, IsFirstFailure}
 use Rattle.qrp_check.specs.Sets.{set_conditions, PairsAgree, IsPairFault}
 use Rattle.qrp_check.specs.Passed.{IsPassed, Passes, FailsIn}
 

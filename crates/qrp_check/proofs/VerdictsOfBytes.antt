@@ -6,7 +6,7 @@ use Rattle.qdimacs.specs.Reading.{read_formula}
 use Rattle.qdimacs.specs.Reading as formulas
 use Rattle.qrp.specs.Answers as traces
 use Rattle.qrp.specs.Derivations.{Derivation}
-use Rattle.qrp_check.specs.declared.verdict.Rules.{Rules}
+use Rattle.qrp_rules.specs.declared.rules.Rules.{Rules}
 use Rattle.qrp_check.specs.declared.verdict.Fault.{Fault}
 use Rattle.qrp_check.specs.declared.verdict.Fault.TheVariants as fault
 use Rattle.qrp_check.specs.declared.fault.CheckFault.{CheckFault}

@@ -1,23 +1,17 @@
 -- What follows by some rules follows by wider ones.
-use Rattle.std.proofs.Common.{◌≡◌, ℕ, List, [], ◌∷◌, Option, Some, None, IsTrue, inl, inr, refl, take}
+use Rattle.std.proofs.Common.{ℕ, List, [], ◌∷◌, IsTrue, inl, inr, take}
 use Rattle.qbf_core.specs.Literal.{Literal}
 use Rattle.qbf_core.specs.Blocks.{Block}
 use Rattle.qbf_core.specs.Qbf.{Qbf}
 use Rattle.qbf_core.specs.Rules.{Side}
 use Rattle.qrp.specs.Inferences.{Inference}
-use Rattle.qrp_check.specs.declared.verdict.Rules.{Rules}
-use Rattle.qrp_check.specs.declared.fault.RuleFault.{RuleFault}
-use Rattle.qrp_check.specs.Conditions.{Condition, AllHold, AllowsPivot, IsAnswer, StepFollows, antecedent_conditions, resolvent_conditions}
+use Rattle.qrp_rules.specs.declared.rules.Rules.{Rules}
+use Rattle.qrp_check.specs.Conditions.{StepFollows, antecedent_conditions}
+use Rattle.qrp_rules.specs.Conditions.{AllHold, AllowsPivot}
 use Rattle.qrp_check.specs.Laws.{MorePivotsKeep, ReducedParentsKeep}
 use Rattle.qrp_check.specs.Proof.{side_of}
-use Rattle.qrp_check.specs.Unreduced.{FollowsUnreduced, unreduced_antecedents, unreduced_conditions}
-use Rattle.qrp_check.proofs.StepFaults.{no_fault}
-
--- parents as they stand may be left unreduced
-pub reduced_too : (rules : Rules) (side : Side) (blocks : List Block) (a b to : List Literal)
-    → AllHold (unreduced_conditions rules side blocks a b to) → AllHold (resolvent_conditions rules side blocks a b to)
-reduced_too rules side blocks a b to (some, (one, (pivot, (within, (each, last))))) =
-    (some, (one, (pivot, (within, ((λ x c l h. elim (each x c l h) [ inl k ↦ inl k | inr red ↦ inr (inl red) ]), last)))))
+use Rattle.qrp_check.specs.Unreduced.{FollowsUnreduced, unreduced_antecedents}
+use Rattle.qrp_rules.proofs.UnreducedParents.{reduced_too}
 
 by_antecedents : (rules : Rules) (side : Side) (f : Qbf) (before : List Inference) (ants : List ℕ) (lits : List Literal)
     → AllHold (unreduced_antecedents rules side f before ants lits) → AllHold (antecedent_conditions rules side f before ants lits)
@@ -75,15 +69,3 @@ more_pivots_keep rules wider f sets steps result more proof = record {
     each = λ i core. pivots_follow rules wider (side_of result) f steps i more (proof.derives.each i core);
   };
 }
-
--- where all conditions hold, nothing is answered
-answers_nothing : (conditions : List (Condition RuleFault)) (answer : Option RuleFault) → AllHold conditions → IsAnswer conditions answer
-    → answer ≡ None
-answers_nothing conditions None all is = refl
-answers_nothing conditions (Some fault) all fails = absurd (no_fault conditions fault all fails)
-
-pub answers_as_before : (rules : Rules) (side : Side) (blocks : List Block) (a b to : List Literal) (answer : Option RuleFault)
-    → IsAnswer (resolvent_conditions rules side blocks a b to) answer → AllHold (unreduced_conditions rules side blocks a b to)
-    → answer ≡ None
-answers_as_before rules side blocks a b to answer is all =
-    answers_nothing (resolvent_conditions rules side blocks a b to) answer (reduced_too rules side blocks a b to all) is

@@ -11,7 +11,7 @@ use Rattle.qbf_text.specs.Tokens.{tokens}
 use Rattle.qdimacs.specs.Grammar.{IsFormula}
 use Rattle.qrp.specs.Derivations.{Derivation}
 use Rattle.qrp.specs.Grammar.{IsTrace}
-use Rattle.qrp_check.specs.declared.verdict.Rules.{Rules}
+use Rattle.qrp_rules.specs.declared.rules.Rules.{Rules}
 use Rattle.qrp_check.specs.declared.verdict.Verified.{Verified}
 use Rattle.qrp_check.specs.declared.verdict.Fault.{Fault}
 use Rattle.qrp_check.specs.Proof.{side_of, IsProof, ResultHolds}

@@ -1,5 +1,5 @@
 -- The sets of the core steps that were looked at.
-use Rattle.std.specs.Prelude.{◌≡◌, ℕ, ◌<◌, ◌≤◌, Bool, if◌then◌else◌, List, [], ◌∷◌, ◌++◌, ◌⊎◌, Option, Some, None, slice_get, length}
+use Rattle.std.specs.Prelude.{◌≡◌, ℕ, ◌<◌, ◌≤◌, Bool, if◌then◌else◌, List, [], ◌∷◌, ◌++◌, ◌⊎◌, Some, slice_get, length}
 use Rattle.qbf_core.specs.Literal.{Literal}
 use Rattle.qbf_core.specs.Members.{◌∈◌}
 use Rattle.qbf_core.specs.Blocks.{Block, AreBound}
@@ -7,12 +7,13 @@ use Rattle.qbf_core.specs.Qbf.{Qbf}
 use Rattle.qbf_core.specs.Rules.{Side}
 use Rattle.qbf_core.specs.Sets.{HasMembersOf, IsOrdered}
 use Rattle.qrp.specs.Inferences.{Inference, IsAt}
-use Rattle.qrp_check.specs.Conditions.{Condition, IsNumberOf, antecedent_conditions}
+use Rattle.qrp_check.specs.Conditions.{IsNumberOf, antecedent_conditions}
+use Rattle.qrp_rules.specs.Conditions.{Condition}
 use Rattle.qrp_check.specs.Core.{IsInCore, Needs}
 use Rattle.qrp_check.specs.Proof.{IsFirstFaultyStep}
-use Rattle.qrp_check.specs.declared.verdict.Rules.{Rules}
-use Rattle.qrp_check.specs.declared.fault.RuleFault.{RuleFault}
-use Rattle.qrp_check.specs.declared.fault.RuleFault.TheVariants.{S3}
+use Rattle.qrp_rules.specs.declared.rules.Rules.{Rules}
+use Rattle.qrp_rules.specs.declared.fault.RuleFault.{RuleFault}
+use Rattle.qrp_rules.specs.declared.fault.RuleFault.TheVariants.{S3}
 use Rattle.qrp_check.specs.declared.fault.CheckFault.{CheckFault}
 use Rattle.qrp_check.specs.declared.fault.CheckFault.TheVariants.{C1, C2, C3, C4, C5, C6}
 use Rattle.qrp_check.specs.declared.step.StepFault.{StepFault}
@@ -22,11 +23,6 @@ use Rattle.qrp_check.specs.declared.step.StepFault.TheVariants.{Rule, Memory}
 pub record IsSetOf (blocks : List Block) (set lits : List Literal) : Type 0 where
   pub members : HasMembersOf set lits
   pub bound : AreBound blocks set
-
--- the members of a set, or the literals themselves where no set was made of them
-abbrev pub set_or_written : Option (List Literal) → List Literal → List Literal
-set_or_written None lits = lits
-set_or_written (Some set) lits = set
 
 -- what is kept of literals: their set in order, or nothing where they are such a set as written
 abbrev pub IsEntry : List Block → List Literal → List Literal → Type 0

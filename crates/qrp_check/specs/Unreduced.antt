@@ -4,20 +4,17 @@ use Rattle.qbf_core.specs.Literal.{Literal}
 use Rattle.qbf_core.specs.Members.{◌∈◌}
 use Rattle.qbf_core.specs.Blocks.{Block, AreBound}
 use Rattle.qbf_core.specs.Qbf.{Qbf}
-use Rattle.qbf_core.specs.Rules.{Side, IsClean, IsReducible}
+use Rattle.qbf_core.specs.Rules.{Side, IsClean}
 use Rattle.qrp.specs.declared.item.Outcome.{Outcome}
 use Rattle.qrp.specs.Inferences.{Inference, IsAt}
-use Rattle.qrp_check.specs.declared.verdict.Rules.{Rules}
-use Rattle.qrp_check.specs.declared.fault.RuleFault.{RuleFault}
-use Rattle.qrp_check.specs.Conditions.{Condition, AllHold, IsNumberOf, lits_of, initial_condition, reduct_conditions, resolution_conditions}
+use Rattle.qrp_rules.specs.declared.rules.Rules.{Rules}
+use Rattle.qrp_rules.specs.declared.fault.RuleFault.{RuleFault}
+use Rattle.qrp_check.specs.Conditions.{IsNumberOf, lits_of}
+use Rattle.qrp_rules.specs.Conditions.{Condition, AllHold, initial_condition, reduct_conditions}
+use Rattle.qrp_rules.specs.Unreduced.{unreduced_conditions}
 use Rattle.qrp_check.specs.Core.{IsGoal, IsInCore}
 use Rattle.qrp_check.specs.Proof.{side_of}
 use Rattle.qrp_check.specs.Sets.{SetsAgree}
-
--- a and b clash in one variable, which may be resolved on, and `to` is a reduct of their resolvent
-abbrev pub unreduced_conditions : Rules → Side → List Block → List Literal → List Literal → List Literal → List (Condition RuleFault)
-unreduced_conditions rules side blocks a b to =
-    resolution_conditions rules side blocks a b to (λ whole l. IsReducible side blocks whole l)
 
 -- by the number of antecedents, as `antecedent_conditions`
 abbrev pub unreduced_antecedents : Rules → Side → Qbf → List Inference → List ℕ → List Literal → List (Condition RuleFault)

@@ -6,9 +6,9 @@ ghost use Rattle.qrp_check.specs.Passed.{FailsIn, Passes};
 ghost use Rattle.qrp_check.specs.Sets.{IsSetFault, SetsAgree};
 
 use crate::fault::CheckFault;
-use crate::reduct::is_bound_by;
 use qbf_core::{Prefix, Quantifier, Var};
 use qrp::QuantSet;
+use qrp_rules::is_bound_by;
 
 /// The block of a set variable, where it agrees with the prefix and is no smaller than those named
 /// before.

@@ -16,12 +16,12 @@ use crate::fault::CheckFault;
 use crate::following::follow_core;
 use crate::goal::find_goal;
 use crate::marks::{mark_core, marked_places};
-use crate::side::{Clauses, Cubes, Side};
 use crate::step::Setting;
 use crate::uses::Uses;
-use crate::verdict::{Rules, Verified};
+use crate::verdict::Verified;
 use qbf_core::Formula;
 use qrp::{Outcome, QuantSet, Steps};
+use qrp_rules::{Clauses, Cubes, Rules, Side};
 use std::alloc::Global;
 
 /// The places of the core beside what they show, where each of its steps follows from those before

@@ -10,14 +10,12 @@ ghost use Rattle.qrp_check.specs.Marks.{ArePassing, IsMarked};
 
 use crate::antecedents::antecedents;
 use crate::fault::CheckFault;
-use crate::initial_steps::InitialSteps;
 use crate::kept_sets::KeptSets;
-use crate::side::Side;
 use crate::step::{Setting, StepFault, step_set};
 use crate::uses::Uses;
-use crate::written::set_or_written;
 use qbf_core::Lit;
 use qrp::Steps;
+use qrp_rules::{InitialSteps, Side, set_or_written};
 
 /// What is known of the steps before a place.
 #[derive(Drop)]

@@ -8,11 +8,12 @@ ghost use Rattle.qrp_check.specs.Verdict.{IsFormulaFault, StandsOnLine, WasRead,
 ghost use Rattle.qbf_text.specs.Stopping.{IfKnown};
 
 use crate::checking::check;
-use crate::verdict::{Fault, Rules, Verified};
+use crate::verdict::{Fault, Verified};
 use qbf_core::Formula;
 use qbf_text::Source;
 use qdimacs::read_formula;
 use qrp::read_flat;
+use qrp_rules::Rules;
 use std::alloc::Global;
 
 /// Whether a trace proves its result of a formula that was read, with the trace's fault first.

@@ -4,7 +4,7 @@ use Rattle.std.proofs.lemmas.List.{get_or-map}
 use Rattle.std.specs.Prelude.{Result}
 use Rattle.qrp_cmd.specs.declared.job.Job.{Job}
 use Rattle.qrp_cmd.specs.declared.job.Job.TheVariants as job
-use Rattle.qrp_check.specs.declared.verdict.Rules.{Rules}
+use Rattle.qrp_rules.specs.declared.rules.Rules.{Rules}
 use Rattle.qrp_check.specs.declared.verdict.Verified.{Verified}
 use Rattle.qrp_check.specs.declared.verdict.Fault.{Fault}
 use Rattle.qrp_cmd.specs.Output.{IsOutput, IsChecked, Reading, Report}

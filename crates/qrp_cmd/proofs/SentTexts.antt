@@ -8,7 +8,7 @@ use Rattle.qbf_text.specs.declared.sink.Sink.{Ghosts}
 use Rattle.qdimacs.specs.declared.fault.FormulaFault.{FormulaFault}
 use Rattle.qdimacs.specs.declared.fault.FormulaFault.TheVariants.{F1, F2, F3, F4, F5, F6, F7, F8, F9}
 use Rattle.qdimacs.specs.Reading.{Gives, Stops, reads_bytes, read_formula}
-use Rattle.qrp_check.specs.declared.verdict.Rules.{Rules}
+use Rattle.qrp_rules.specs.declared.rules.Rules.{Rules}
 use Rattle.qrp_cmd.specs.declared.job.Job.{Job}
 use Rattle.qrp_cmd.specs.declared.job.Job.TheVariants as job
 use Rattle.qrp_check.specs.declared.verdict.Verified.{Verified}

@@ -5,7 +5,7 @@ use Rattle.qbf_core.specs.Qbf.{Qbf}
 use Rattle.qdimacs.specs.Reading as formulas
 use Rattle.qrp.specs.Answers as traces
 use Rattle.qrp.specs.Derivations.{Derivation, IsWellFormed}
-use Rattle.qrp_check.specs.declared.verdict.Rules.{Rules}
+use Rattle.qrp_rules.specs.declared.rules.Rules.{Rules}
 use Rattle.qrp_check.specs.Core.{ListsCore}
 use Rattle.qrp_check.specs.Laws.{IsTrimmedProof}
 use Rattle.qrp_check.specs.Proof.{IsProof}

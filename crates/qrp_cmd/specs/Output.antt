@@ -11,7 +11,7 @@ use Rattle.qdimacs.specs.Grammar.{text}
 use Rattle.qdimacs.specs.Reading.{read_formula}
 use Rattle.qrp_cmd.specs.declared.job.Job.{Job}
 use Rattle.qrp_cmd.specs.declared.job.Job.TheVariants as job
-use Rattle.qrp_check.specs.declared.verdict.Rules.{Rules}
+use Rattle.qrp_rules.specs.declared.rules.Rules.{Rules}
 use Rattle.qrp_check.specs.declared.verdict.Verified.{Verified}
 use Rattle.qrp_check.specs.declared.verdict.Fault.{Fault}
 use Rattle.qrp_check.specs.declared.verdict.Fault.TheVariants as fault

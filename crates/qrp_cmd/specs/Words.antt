@@ -1,6 +1,6 @@
 -- The words of the command line.
 use Rattle.std.specs.Prelude.{◌≡◌, ℕ, true, false, List, [], ◌∷◌, ◌⊎◌, Option, Some, None, codes}
-use Rattle.qrp_check.specs.declared.verdict.Rules.{Rules}
+use Rattle.qrp_rules.specs.declared.rules.Rules.{Rules}
 use Rattle.qrp_cmd.specs.declared.job.Job.{Job}
 use Rattle.qrp_cmd.specs.declared.job.Job.TheVariants as job
 

@@ -5,7 +5,7 @@ use Rattle.qdimacs.specs.declared.fault.FormulaFault.{FormulaFault}
 use Rattle.qdimacs.specs.declared.fault.FormulaFault.TheVariants.{F1, F2, F3, F4, F5, F6, F7, F8, F9}
 use Rattle.qrp.specs.declared.fault.TraceFault.{TraceFault}
 use Rattle.qrp.specs.declared.fault.TraceFault.TheVariants.{P1, P2, P3, P4, P5, P6, P7, P8, P9}
-use Rattle.qrp_check.specs.declared.fault.RuleFault.{RuleFault}
+use Rattle.qrp_rules.specs.declared.fault.RuleFault.{RuleFault}
 use Rattle.qrp_check.specs.declared.fault.CheckFault.{CheckFault}
 use Rattle.qrp_check.specs.declared.fault.CheckFault.TheVariants.{C6}
 use Rattle.qrp_report.specs.Lines.{rule_fault_name, check_line, formula_fault_name, formula_line, trace_fault_name, trace_line}

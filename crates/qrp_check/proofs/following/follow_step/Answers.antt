@@ -4,7 +4,8 @@ use Rattle.qbf_core.specs.Qbf.{Qbf}
 use Rattle.qrp.specs.Inferences.{Inference}
 use Rattle.qrp_check.specs.Conditions.{StepFollows}
 use Rattle.qrp_check.specs.Core.{IsInCore}
-use Rattle.qrp_check.specs.Kept.{AreKept, IsEntry, set_or_written}
+use Rattle.qrp_check.specs.Kept.{AreKept, IsEntry}
+use Rattle.qrp_rules.specs.Written.{set_or_written}
 use Rattle.qrp_check.specs.Marks.{ArePassing}
 use Rattle.qrp_check.specs.Proof.{IsFirstFaultyStep}
 use Rattle.qrp_check.proofs.StepPlaces.{at_place}

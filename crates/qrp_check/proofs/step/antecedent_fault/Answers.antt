@@ -1,7 +1,7 @@
 use Rattle.std.proofs.Common.{Option, ◌∷◌, []}
 use Rattle.std.proofs.lemmas.Result.{IfOk-weaker}
-use Rattle.qrp_check.specs.declared.fault.RuleFault.{RuleFault}
-use Rattle.qrp_check.specs.Conditions.{IsAnswer, initial_condition}
+use Rattle.qrp_rules.specs.declared.fault.RuleFault.{RuleFault}
+use Rattle.qrp_rules.specs.Conditions.{IsAnswer, initial_condition}
 use Rattle.qrp_check.proofs.CoreStep.{no_antecedent, one_antecedent, two_antecedents}
 use Rattle.qrp_check.proofs.step.antecedent_fault.Goals as goal
 

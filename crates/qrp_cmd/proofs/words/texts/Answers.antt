@@ -1,7 +1,7 @@
 use Rattle.std.proofs.Common.{◌≡◌, ◌∙◌, sym, ap, List, ℕ, ◌∷◌, [], inl, inr, codes}
 use Rattle.std.proofs.lemmas.Bool.{true≢false}
 use Rattle.std.specs.String.{string_bytes}
-use Rattle.qrp_check.specs.declared.verdict.Rules.{Rules}
+use Rattle.qrp_rules.specs.declared.rules.Rules.{Rules}
 use Rattle.qrp_cmd.specs.Words.{Texts}
 use Rattle.qrp_cmd.proofs.WordByWord.{three_words, first_same, flag_second, flag_fourth}
 use Rattle.qrp_cmd.proofs.words.texts.Goals as goal

@@ -1,5 +1,0 @@
-use Rattle.qrp_check.specs.Index.{IsIndexBelow}
-use Rattle.qrp_check.proofs.clause_index.hashed_clauses.Given as goal
-
-abbrev pub invariant-loop-place : goal.invariant-loop-place
-invariant-loop-place l = IsIndexBelow l.formula l.filed.items l.place

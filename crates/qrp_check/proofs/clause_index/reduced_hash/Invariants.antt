@@ -1,6 +1,0 @@
-use Rattle.std.proofs.Common.{take}
-use Rattle.qrp_check.proofs.ReducedForms.{Numbered}
-use Rattle.qrp_check.proofs.clause_index.reduced_hash.Given as goal
-
-abbrev pub invariant-loop-lit : goal.invariant-loop-lit
-invariant-loop-lit l = Numbered l.prefix l.block (take l.lit-index l.lits) l.hash

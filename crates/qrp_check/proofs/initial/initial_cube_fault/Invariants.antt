@@ -1,8 +1,0 @@
-use Rattle.std.proofs.Common.{take, List, ◌⊎◌}
-use Rattle.qbf_core.specs.Literal.{Literal}
-use Rattle.qbf_core.specs.Members.{◌∈◌}
-use Rattle.qbf_core.specs.Rules.{IsTautology}
-use Rattle.qrp_check.proofs.initial.initial_cube_fault.Given as goal
-
-abbrev pub invariant-loop-i : goal.invariant-loop-i
-invariant-loop-i l = (c : List Literal) → c ∈ take l.i l.formula.clauses → IsTautology c ⊎ ((m : Literal) × (m ∈ c) × (m ∈ l.set))

@@ -1,0 +1,12 @@
+pub mod FirstFailures
+pub mod UnreducedParents
+pub mod Cursors
+pub mod Clashing
+pub mod Reducing
+pub mod ResolventRows
+pub mod ReductsByMembers
+pub mod MembersDecide
+pub mod ReducedForms
+pub mod OrderedLists
+pub mod Merging
+pub mod WatchedClauses

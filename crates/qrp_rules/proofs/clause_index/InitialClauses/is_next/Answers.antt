@@ -1,0 +1,12 @@
+use Rattle.qrp_rules.proofs.Merging.{copy_bound, copy_initial}
+use Rattle.qrp_rules.proofs.clause_index.InitialClauses.is_next.Goals as goal
+
+pub returns-clause-initial : goal.returns-clause-initial
+returns-clause-initial c = λ _.
+    copy_initial c.args.formula.now c.clause.result.now c.args.lits.now _ c.clause.ensures
+    (c.is_copy.ensures.ordered c.if-not-is_copy.false) (c.is_copy.ensures.members c.if-not-is_copy.false)
+
+pub returns-clause-bound : goal.returns-clause-bound
+returns-clause-bound c = λ _.
+    copy_bound c.args.formula.now c.clause.result.now c.args.lits.now _ c.max_var-closed.ensures.sound c.clause.ensures
+    (c.is_copy.ensures.members c.if-not-is_copy.false)

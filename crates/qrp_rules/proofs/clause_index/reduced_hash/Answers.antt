@@ -1,0 +1,38 @@
+use Rattle.std.proofs.Common.{ℕ, ◌+◌, ◌∙◌, take, sym, subst, List}
+use Rattle.std.proofs.lemmas.Bool.{false≢true}
+use Rattle.qbf_core.specs.declared.quantifier.Quantifier.TheVariants.{All}
+use Rattle.qbf_core.specs.Literal.{Literal}
+use Rattle.qbf_core.proofs.Members.{in_take_more}
+use Rattle.qbf_core.proofs.Order.{take_more_in, all_taken}
+use Rattle.qrp_rules.specs.Walks.{StandsAfter}
+use Rattle.qrp_rules.proofs.ReducedForms.{numbered_skip, numbered_push, numbered_done, taken_below}
+use Rattle.qrp_rules.proofs.clause_index.reduced_hash.Goals as goal
+use Rattle.qrp_rules.proofs.clause_index.reduced_hash.Goals.{then-not-stands_after, else-not-stands_after}
+
+pub loop-lit-preserved : goal.loop-lit-preserved
+loop-lit-preserved c =
+    let i : ℕ = c.loop-lit.lit-index in
+    let x : Literal = c.lit-item.result in
+    let lits : List Literal = c.args.lits.now in
+    elim c.if-not-stands_after.branch [
+      | then-not-stands_after w ↦ rw w.hash-is (
+          numbered_push c.args.prefix.now c.innermost-block.result (take i lits) (take (i + 1) lits) x c.loop-lit.hash _
+          (λ m h. in_take_more lits i x m c.loop-lit-test.true c.lit-item.is h)
+          (λ m h. take_more_in lits i x m c.loop-lit-test.true c.lit-item.is h)
+          (λ m h. taken_below lits i x m c.requires c.loop-lit-test.true c.lit-item.is h) w.hash_with-hash.ensures
+          (λ stands. false≢true (sym w.if-not-stands_after.true ∙ c.stands_after.ensures.1
+          (subst (λ (v : ℕ). StandsAfter c.args.prefix.now All c.innermost-block.result v) (sym c.var.ensures) stands)))
+          c.loop-lit.invariant)
+      | else-not-stands_after w ↦ rw w.hash-is (
+          numbered_skip c.args.prefix.now c.innermost-block.result (take i lits) (take (i + 1) lits) x c.loop-lit.hash
+          (λ m h. in_take_more lits i x m c.loop-lit-test.true c.lit-item.is h)
+          (λ m h. take_more_in lits i x m c.loop-lit-test.true c.lit-item.is h)
+          (subst (λ (v : ℕ). StandsAfter c.args.prefix.now All c.innermost-block.result v) c.var.ensures
+          (c.stands_after.ensures.0 w.if-not-stands_after.false))
+          c.loop-lit.invariant)
+    ]
+
+pub returns : goal.returns
+returns c =
+    numbered_done c.args.prefix.now c.innermost-block.result c.args.lits.now (take c.loop-lit.lit-index c.args.lits.now) c.loop-lit.hash
+    (all_taken c.args.lits.now c.loop-lit.lit-index c.loop-lit-test.false) c.innermost-block.ensures c.loop-lit.invariant

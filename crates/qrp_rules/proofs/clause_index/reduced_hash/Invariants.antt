@@ -1,0 +1,6 @@
+use Rattle.std.proofs.Common.{take}
+use Rattle.qrp_rules.proofs.ReducedForms.{Numbered}
+use Rattle.qrp_rules.proofs.clause_index.reduced_hash.Given as goal
+
+abbrev pub invariant-loop-lit : goal.invariant-loop-lit
+invariant-loop-lit l = Numbered l.prefix l.block (take l.lit-index l.lits) l.hash

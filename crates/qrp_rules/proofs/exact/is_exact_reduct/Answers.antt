@@ -1,0 +1,30 @@
+use Rattle.std.proofs.Common.{◌∙◌, inl, inr}
+use Rattle.qrp_rules.proofs.Merging.{bound_within}
+use Rattle.qrp_rules.proofs.Reducing.{reducible_after}
+use Rattle.qrp_rules.proofs.exact.is_exact_reduct.Goals as goal
+
+pub returns-then-from-to-clause-follows : goal.returns-then-from-to-clause-follows
+returns-then-from-to-clause-follows g c = λ t.
+    let same = c.is_copy.ensures.members t in
+    (same.0, ((λ l h. inl (same.1 l h)), tt))
+
+pub returns-then-from-to-clause-bound : goal.returns-then-from-to-clause-bound
+returns-then-from-to-clause-bound g c =
+    λ t. bound_within c.args.prefix.now c.args.from.now c.args.to.now c.requires.bound (c.is_copy.ensures.members t).0
+
+pub returns-clause-follows : goal.returns-clause-follows
+returns-clause-follows g c = λ t. (
+  c.is_rest.ensures.within t,
+  (
+    (λ l h. elim (c.is_rest.ensures.each t l h) [
+      | inl k ↦ inl k
+      | inr stands ↦ inr
+          (reducible_after g.S.Side.side c.args.prefix.now c.REDUCED.result c.DECIDING.result c.args.from.now c.innermost-block.result l
+          (c.REDUCED.ensures ∙ g.met.S.Side.reduces) (c.DECIDING.ensures ∙ g.met.S.Side.decides) c.innermost-block.ensures stands)
+    ]),
+    tt,
+  ),
+)
+
+pub returns-clause-bound : goal.returns-clause-bound
+returns-clause-bound g c = λ t. bound_within c.args.prefix.now c.args.from.now c.args.to.now c.requires.bound (c.is_rest.ensures.within t)

@@ -1,0 +1,46 @@
+use Rattle.std.proofs.Common.{refl, sym}
+use Rattle.std.proofs.lemmas.Bool.{false≢true}
+use Rattle.qbf_core.specs.Rules.{Clauses}
+use Rattle.qbf_core.proofs.Bound.{bound_each}
+use Rattle.qbf_core.proofs.Order.{clean_from_same}
+use Rattle.qrp_rules.proofs.MembersDecide.{same_self}
+use Rattle.qrp_rules.proofs.ReductsByMembers.{got_in, not_clean, reduct_from}
+use Rattle.qrp_rules.proofs.initial.has_reduct.Goals as goal
+
+pub returns-then-not-is_among : goal.returns-then-not-is_among
+returns-then-not-is_among c = (
+  λ t. absurd (false≢true t),
+  λ h. absurd (false≢true (c.if-not-is_among.ensures.1
+      (h.1.within c.in-Some.lit.now (got_in c.args.set.now 0 c.in-Some.lit.now (sym c.in-Some.ensures.value))))),
+)
+
+pub returns-then-is_ordered : goal.returns-then-is_ordered
+returns-then-is_ordered c = (
+  λ t. (
+    clean_from_same c.args.clause.now c.args.clause.now (c.if-is_ordered.ensures.0 refl) (same_self c.args.clause.now),
+    c.has_ordered_reduct.ensures.0 t,
+  ),
+  λ h. c.has_ordered_reduct.ensures.1 h.1,
+)
+
+pub returns-in-Ok : goal.returns-in-Ok
+returns-in-Ok c =
+    let told = rw c.as_slice.ensures.value at c.has_ordered_reduct-in-Ok.ensures in (
+      (λ t. (
+        c.in-Ok.ensures.fit.0,
+        reduct_from Clauses c.args.prefix.now c.in-Ok.from c.args.clause.now c.args.set.now c.in-Ok.ensures.members (told.0 t),
+      )),
+      (λ h. told.1 (reduct_from Clauses c.args.prefix.now c.args.clause.now c.in-Ok.from c.args.set.now
+          (c.in-Ok.ensures.members.1, c.in-Ok.ensures.members.0) h.1)),
+    )
+
+pub returns-in-Err-E1 : goal.returns-in-Err-E1
+returns-in-Err-E1 c = (
+  λ t. absurd (false≢true t),
+  λ h. absurd (not_clean c.args.clause.now (c.in-Err-E1.ensures.clash (cc c.in-Err-E1.field-0-is)) h.0),
+)
+
+pub returns-in-Err-E2 : goal.returns-in-Err-E2
+returns-in-Err-E2 c =
+    let w = c.in-Err-E2.ensures.unbound (cc c.in-Err-E2.field-0-is) in
+    absurd (w.2 (bound_each c.args.prefix.now c.args.clause.now c.requires.bound w.0 w.1))

@@ -1,0 +1,63 @@
+use Rattle.std.proofs.Common.{◌+◌, ◌∙◌, ℕ, drop, refl, sym, subst, inl, inr, ◌++◌}
+use Rattle.std.proofs.lemmas.Bool.{false≢true}
+use Rattle.qbf_core.specs.Literal.{Literal}
+use Rattle.qbf_core.specs.Members.{◌∈◌}
+use Rattle.qbf_core.specs.Rules.{resolvent}
+use Rattle.qrp_rules.proofs.Cursors.{Reaches, HasVar}
+use Rattle.qbf_core.proofs.Members.{in_at, in_take_more, in_take_all}
+use Rattle.qbf_core.proofs.Inferences.{in_append, append_left, append_right, in_without, from_without}
+use Rattle.qrp_rules.proofs.Cursors.{reach_start, reach_more, reach_in}
+use Rattle.qrp_rules.proofs.resolvent.is_within.Goals as goal
+
+pub loop-lit-init : goal.loop-lit-init
+loop-lit-init c = record {
+  left = reach_start c.args.a.now c.args.to.now c.requires.a;
+  right = reach_start c.args.b.now c.args.to.now c.requires.b;
+  done = λ l h. absurd h;
+}
+
+pub returns-then-not-is_resolved : goal.returns-then-not-is_resolved
+returns-then-not-is_resolved c = (
+  λ t. absurd (false≢true t),
+  λ all.
+      let i : ℕ = c.loop-lit.lit-index in
+      let x : Literal = c.lit-item.result in
+      let w =
+      from_without c.args.pivot (c.args.a.now ++ c.args.b.now) x (all x (in_at c.args.to.now i x c.loop-lit-test.true c.lit-item.is)) in
+      c.if-not-is_resolved.ensures.1 (
+        elim (in_append c.args.a.now c.args.b.now x w.0) [
+          | inl h ↦ inl (c.advance_to-in_a.ensures.found.1 (reach_in c.args.a.now c.loop-lit.left.now c.args.to.now i x x
+              c.loop-lit-test.true c.lit-item.is c.loop-lit.invariant.left refl h))
+          | inr h ↦ inr (c.advance_to-in_b.ensures.found.1 (reach_in c.args.b.now c.loop-lit.right.now c.args.to.now i x x
+              c.loop-lit-test.true c.lit-item.is c.loop-lit.invariant.right refl h))
+        ],
+        (λ e. w.1 (sym c.var.ensures ∙ e)),
+      ),
+)
+
+pub loop-lit-preserved : goal.loop-lit-preserved
+loop-lit-preserved c =
+    let i : ℕ = c.loop-lit.lit-index in
+    let x : Literal = c.lit-item.result in
+    let left' : Reaches c.args.a.now c.advance_to-in_a.result.0.now (HasVar (drop (i + 1) c.args.to.now)) =
+    reach_more c.args.a.now c.loop-lit.left.now _ c.args.to.now i x.var x c.requires.to c.loop-lit-test.true c.lit-item.is
+    c.loop-lit.invariant.left c.advance_to-in_a.ensures.ordered c.advance_to-in_a.ensures.within refl c.advance_to-in_a.ensures.kept in
+    let right' : Reaches c.args.b.now c.advance_to-in_b.result.0.now (HasVar (drop (i + 1) c.args.to.now)) =
+    reach_more c.args.b.now c.loop-lit.right.now _ c.args.to.now i x.var x c.requires.to c.loop-lit-test.true c.lit-item.is
+    c.loop-lit.invariant.right c.advance_to-in_b.ensures.ordered c.advance_to-in_b.ensures.within refl c.advance_to-in_b.ensures.kept in
+    record {
+      left = left';
+      right = right';
+      done = λ l h. elim (in_take_more c.args.to.now i x l c.loop-lit-test.true c.lit-item.is h) [
+        | inl k ↦ c.loop-lit.invariant.done l k
+        | inr e ↦ subst (λ (z : Literal). z ∈ resolvent c.args.a.now c.args.b.now c.args.pivot) (sym e) (
+            let t = c.if-not-is_resolved.ensures.0 refl in
+            in_without c.args.pivot (c.args.a.now ++ c.args.b.now) x (elim t.0 [
+              | inl k ↦ append_left c.args.a.now c.args.b.now x (c.loop-lit.invariant.left.within x (c.advance_to-in_a.ensures.found.0 k))
+              | inr k ↦ append_right c.args.a.now c.args.b.now x (c.loop-lit.invariant.right.within x (c.advance_to-in_b.ensures.found.0 k))
+            ]) (λ e. t.1 (c.var.ensures ∙ e)))
+      ];
+    }
+
+pub returns : goal.returns
+returns c = (λ _ l h. c.loop-lit.invariant.done l (in_take_all c.args.to.now c.loop-lit.lit-index l c.loop-lit-test.false h), λ _. refl)

@@ -1,0 +1,12 @@
+use Rattle.std.proofs.Common.{take, drop}
+use Rattle.qbf_core.specs.Members.{◌⊆◌}
+use Rattle.qbf_core.specs.Rules.{resolvent}
+use Rattle.qrp_rules.proofs.Cursors.{Reaches, HasVar}
+use Rattle.qrp_rules.proofs.resolvent.is_within.Given as goal
+
+abbrev pub invariant-loop-lit : goal.invariant-loop-lit
+invariant-loop-lit l = record {
+  left : Reaches l.a l.left (HasVar (drop l.lit-index l.to));
+  right : Reaches l.b l.right (HasVar (drop l.lit-index l.to));
+  done : take l.lit-index l.to ⊆ resolvent l.a l.b l.pivot;
+}

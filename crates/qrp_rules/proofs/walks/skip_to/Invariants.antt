@@ -1,0 +1,15 @@
+use Rattle.std.proofs.Common.{◌≤◌, length}
+use Rattle.qbf_core.specs.Literal.{Literal}
+use Rattle.qbf_core.specs.Members.{◌∈◌}
+use Rattle.qbf_core.specs.Sets.{IsOrdered}
+use Rattle.qrp_rules.proofs.walks.skip_to.Given as goal
+
+abbrev pub invariant-loop-first : goal.invariant-loop-first
+invariant-loop-first l = record {
+  ordered : IsOrdered l.rest;
+  within : (m : Literal) → m ∈ l.rest → m ∈ l.lits;
+  kept : (m : Literal) → m ∈ l.lits → l.var ≤ m.var → m ∈ l.rest;
+}
+
+abbrev pub decreases-loop-first : goal.decreases-loop-first
+decreases-loop-first l = length l.rest

@@ -1,0 +1,12 @@
+use Rattle.std.proofs.Common.{◌≡◌, ◌≤◌, ◌⊎◌, take}
+use Rattle.qbf_core.specs.Literal.{Literal}
+use Rattle.qbf_core.specs.Members.{◌∈◌}
+use Rattle.qbf_core.specs.Sets.{IsOrdered}
+use Rattle.qrp_rules.proofs.written.is_ordered.Given as goal
+
+abbrev pub invariant-loop-lit : goal.invariant-loop-lit
+invariant-loop-lit l = record {
+  ordered : IsOrdered (take l.lit-index l.lits);
+  below : (m : Literal) → m ∈ take l.lit-index l.lits → m.var ≤ l.last;
+  reached : (l.last ≡ 0) ⊎ ((m : Literal) × (m ∈ take l.lit-index l.lits) × (m.var ≡ l.last));
+}

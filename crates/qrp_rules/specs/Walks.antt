@@ -1,0 +1,45 @@
+-- What walks over ordered sets find: clashes, and innermost blocks.
+use Rattle.std.specs.Prelude.{◌≡◌, ℕ, ◌<◌, ◌↔◌, ◌⊎◌, List, Option, Some, None}
+use Rattle.qbf_core.specs.declared.quantifier.Quantifier.{Quantifier}
+use Rattle.qbf_core.specs.Literal.{Literal}
+use Rattle.qbf_core.specs.Members.{◌∈◌}
+use Rattle.qbf_core.specs.Blocks.{Block, Binds, block_in}
+use Rattle.qbf_core.specs.Rules.{Clashes, IsOnlyClash}
+use Rattle.qrp_rules.specs.declared.reduct.Reducible.{Reducible}
+use Rattle.qrp_rules.specs.declared.resolvent.Clash.{Clash}
+use Rattle.qrp_rules.specs.declared.resolvent.Clash.TheVariants.{Nothing, One, More}
+
+-- in how many variables two sets clash
+abbrev pub IsClashOf : List Literal → List Literal → Clash → Type 0
+IsClashOf a b Nothing = (x : ℕ) → Clashes a b x → ⊥
+IsClashOf a b (One x) = IsOnlyClash a b x
+IsClashOf a b More = (x : ℕ) × (y : ℕ) × Clashes a b x × Clashes a b y × (x ≡ y → ⊥)
+
+-- v is the pivot, if there is one
+abbrev pub IsPivotNumber : Option ℕ → ℕ → Type 0
+IsPivotNumber None v = ⊥
+IsPivotNumber (Some x) v = v ≡ x
+
+-- the place k is after the block, if there is one
+abbrev pub IsAfter : Option ℕ → ℕ → Type 0
+IsAfter None k = Unit {0}
+IsAfter (Some block) k = block < k
+
+-- the block of v is before k, where v has the quantifier q and is not left aside
+abbrev pub IsHeldBefore : List Block → Quantifier → Option ℕ → ℕ → ℕ → Type 0
+IsHeldBefore blocks q pivot v k =
+    (IsPivotNumber pivot v → ⊥) → Binds blocks q v → (i : ℕ) → block_in v blocks ≡ Some i → i < k
+
+-- the innermost block of these literals: what is after it is after the block of each
+abbrev pub IsInnermost : List Block → Quantifier → Option ℕ → List Literal → Option ℕ → Type 0
+IsInnermost blocks q pivot lits block =
+    (k : ℕ) → IsAfter block k ↔ ((l : Literal) → l ∈ lits → IsHeldBefore blocks q pivot l.var k)
+
+-- v has the quantifier q, and its block is after this one
+abbrev pub StandsAfter : List Block → Quantifier → Option ℕ → ℕ → Type 0
+StandsAfter blocks q block v = Binds blocks q v × ((k : ℕ) → block_in v blocks ≡ Some k → IsAfter block k)
+
+-- a literal of v may be missing: v is left aside, or a reduction may take the literal out
+abbrev pub MayLack : List Block → Option Reducible → Option ℕ → ℕ → Type 0
+MayLack blocks None pivot v = IsPivotNumber pivot v
+MayLack blocks (Some after) pivot v = IsPivotNumber pivot v ⊎ StandsAfter blocks after.quantifier after.block v

@@ -1,0 +1,267 @@
+//! The clauses of a formula, found by the literals that universal reduction cannot take out of
+//! them.
+
+ghost use Rattle.std.specs.Prelude.{◌≡◌, ◌↔◌, ℕ, List, [], ◌∷◌, Some, Contains, IsTrue, OnOk, IfOk};
+ghost use Rattle.std.specs.Prelude.{IfSome, IfNone};
+ghost use Rattle.qbf_core.specs.Literal.{Literal};
+ghost use Rattle.qbf_core.specs.Blocks.{AreBound};
+ghost use Rattle.qbf_core.specs.Rules.{Clauses, IsClean, IsInitial};
+ghost use Rattle.qbf_core.specs.Qbf.{Qbf};
+ghost use Rattle.qbf_core.specs.Sets.{IsOrdered};
+ghost use Rattle.qrp_rules.specs.Conditions.{IsAnswer, initial_condition};
+ghost use Rattle.qrp_rules.specs.Index.{HasReductAt, IsIndex, IsIndexed, IsReducedForm, hash_with};
+ghost use Rattle.qrp_rules.specs.Index.{hash_from};
+
+use crate::exact::is_copy;
+use crate::fault::RuleFault;
+use crate::initial::has_reduct;
+use crate::reduct::{innermost, stands_after};
+use crate::written::is_ordered;
+use qbf_core::{Formula, Lit, LitSet, Prefix, Quantifier, SetFault};
+use std::alloc::{AllocError, Global};
+
+/// Odd, so that multiplying by it loses nothing of a number of 64 bits.
+const FACTOR: u64 = 1099511628211;
+
+/// A hash with one literal more.
+fn hash_with(hash: u64, lit: Lit) -> u64
+    ensures { result ≡ hash_with hash lit }
+{
+    let sign = if lit.is_negative() { 1 } else { 0 };
+    let code = 2 * u64::from(lit.var().number()) + sign;
+    hash.wrapping_mul(FACTOR).wrapping_add(code)
+}
+
+/// The hash of the literals of a clause that are not reducible in it.
+fn reduced_hash(prefix: &Prefix, lits: &[Lit]) -> u64
+    requires { IsOrdered lits.now }
+    ensures { (form : List Literal) × IsReducedForm Clauses prefix.now lits.now form
+        × (result ≡ hash_from 0 form) }
+{
+    let block = innermost(prefix, Quantifier::Exists, None, lits);
+    let mut hash = 0u64;
+    for lit in lits {
+        if !stands_after(prefix, Quantifier::All, block, lit.var()) {
+            hash = hash_with(hash, *lit);
+        }
+    }
+    hash
+}
+
+/// The same of a clause as written, or `None` where it is not clean.
+fn clause_hash(alloc: Global, prefix: &Prefix, clause: &[Lit]) -> Result<Option<u64>, AllocError>
+    requires { AreBound prefix.now clause.now }
+    ensures { IfOk result (λ hash. IsClean clause.now →
+        (form : List Literal) × IsReducedForm Clauses prefix.now clause.now form
+        × (hash ≡ Some (hash_from 0 form))) }
+{
+    if is_ordered(clause) {
+        return Ok(Some(reduced_hash(prefix, clause)));
+    }
+    match LitSet::from_slice(alloc, clause, prefix) {
+        Ok(set) => Ok(Some(reduced_hash(prefix, set.as_slice()))),
+        Err(SetFault::E1) => Ok(None),
+        // The clause is bound, so this is not met.
+        Err(SetFault::E2) => Ok(None),
+        Err(SetFault::E3) => Err(AllocError),
+    }
+}
+
+/// Whether the clause at a place, if there is one, is clean and has the set as a reduct.
+fn has_reduct_at(
+    alloc: Global,
+    formula: &Formula,
+    place: usize,
+    set: &[Lit],
+) -> Result<bool, AllocError>
+    requires { IsOrdered set.now }
+    ensures { IfOk result (λ t. IsTrue t ↔ HasReductAt formula.now set.now place) }
+{
+    // Its contract says that the clauses are bound.
+    let _closed = formula.max_var();
+    if place >= formula.clauses() {
+        return Ok(false);
+    }
+    has_reduct(alloc, formula.prefix(), formula.clause(place), set)
+}
+
+/// A clause of the formula, and the hash that it shares with its reducts.
+#[derive(Clone, Copy)]
+struct IndexEntry {
+    hash: u64,
+    place: usize,
+}
+
+/// The clean clauses of a formula in their order, each with its hash.
+fn hashed_clauses(alloc: Global, formula: &Formula) -> Result<Vec<IndexEntry>, AllocError>
+    ensures { IfOk result (λ filed. IsIndex formula.now filed.items) }
+{
+    // Its contract says that the clauses are bound.
+    let _closed = formula.max_var();
+    let mut filed = Vec::with_capacity(alloc, formula.clauses())?;
+    for place in 0..formula.clauses() {
+        if let Some(hash) = clause_hash(alloc, formula.prefix(), formula.clause(place))? {
+            filed.push(IndexEntry { hash, place })?;
+        }
+    }
+    Ok(filed)
+}
+
+/// The clean clauses of a formula, found by their hashes.
+#[derive(Drop)]
+struct ClauseIndex {
+    /// In the order of the hashes.
+    filed: Vec<IndexEntry>,
+}
+
+impl ClauseIndex {
+    ghost use Rattle.std.specs.List.Sorted.{IsNonDecreasingBy};
+    ghost use Rattle.qrp_rules.specs.Index.{hash_of};
+
+    /// The index of a formula.
+    fn new(alloc: Global, formula: &Formula) -> Result<ClauseIndex, AllocError>
+        ensures index { IfOk result (λ index. IsIndex formula.now index.filed.items) }
+        ensures sorted { IfOk result (λ index. IsNonDecreasingBy hash_of index.filed.items) }
+    {
+        let mut filed = hashed_clauses(alloc, formula)?;
+        filed.sort_unstable_by_key(|filed| filed.hash);
+        Ok(ClauseIndex { filed })
+    }
+
+    /// The clauses from the first with a hash on.
+    fn from_hash(&self, hash: u64) -> &[IndexEntry]
+        requires { IsNonDecreasingBy hash_of self.now.filed.items }
+        ensures sorted { IsNonDecreasingBy hash_of result.now }
+        ensures all { (place : ℕ)
+            → Contains self.now.filed.items (record { hash = hash; place = place })
+            → Contains result.now (record { hash = hash; place = place }) }
+    {
+        let first = self.filed.partition_point(|filed| filed.hash < hash);
+        &self.filed[first..]
+    }
+
+    /// The place of a clean clause that has the set as a reduct. Only clauses with its hash are
+    /// tried.
+    fn find(
+        &self,
+        alloc: Global,
+        formula: &Formula,
+        set: &[Lit],
+    ) -> Result<Option<usize>, AllocError>
+        requires index { IsIndex formula.now self.now.filed.items }
+        requires sorted { IsNonDecreasingBy hash_of self.now.filed.items }
+        requires ordered { IsOrdered set.now }
+        ensures some { IfOk result (λ found. IfSome found (HasReductAt formula.now set.now)) }
+        ensures none { IfOk result
+            (λ found. IfNone found (IsInitial Clauses formula.now set.now → ⊥)) }
+    {
+        let hash = reduced_hash(formula.prefix(), set);
+        let rest = self.from_hash(hash);
+        for filed in rest {
+            if filed.hash > hash {
+                return Ok(None);
+            }
+            if has_reduct_at(alloc, formula, filed.place, set)? {
+                return Ok(Some(filed.place));
+            }
+        }
+        Ok(None)
+    }
+}
+
+/// How the initial clauses of a trace are found in the formula.
+#[derive(Drop)]
+pub(crate) struct InitialClauses {
+    /// The place after the clause that was found last: solvers write initial steps in the order of
+    /// the clauses.
+    next: usize,
+    /// Made when a clause is first not found there.
+    index: Option<ClauseIndex>,
+}
+
+impl InitialClauses {
+    /// Nothing is known of the formula, and no memory taken.
+    pub(crate) fn new() -> InitialClauses
+        ensures { (f : Qbf) → IsIndexed f result }
+    {
+        InitialClauses {
+            next: 0,
+            index: None,
+        }
+    }
+
+    /// Whether the literals are, as they are written, the clause after the one that was found last,
+    /// and in order.
+    ///
+    /// `false` says nothing.
+    pub(crate) fn is_next(&mut self, formula: &Formula, lits: &[Lit]) -> bool
+        requires { IsIndexed formula.now self.old }
+        ensures initial { IsTrue result → IsInitial Clauses formula.now lits.now }
+        ensures ordered { IsTrue result → IsOrdered lits.now }
+        ensures bound { IsTrue result → AreBound formula.now.blocks lits.now }
+        ensures kept { IsIndexed formula.now self.new }
+    {
+        // Its contract says that the clauses are bound.
+        let _closed = formula.max_var();
+        if self.next >= formula.clauses() {
+            return false;
+        }
+        if !is_copy(formula.clause(self.next), lits) {
+            return false;
+        }
+        self.next = self.next.saturating_add(1);
+        true
+    }
+
+    /// The place of a clean clause that has the set as a reduct, by the index.
+    fn find(
+        &mut self,
+        alloc: Global,
+        formula: &Formula,
+        set: &[Lit],
+    ) -> Result<Option<usize>, AllocError>
+        requires indexed { IsIndexed formula.now self.old }
+        requires ordered { IsOrdered set.now }
+        ensures some { IfOk result (λ found. IfSome found (HasReductAt formula.now set.now)) }
+        ensures none { IfOk result
+            (λ found. IfNone found (IsInitial Clauses formula.now set.now → ⊥)) }
+        ensures kept { OnOk result (IsIndexed formula.now self.new) }
+    {
+        if let Some(index) = &self.index {
+            return index.find(alloc, formula, set);
+        }
+        let index = ClauseIndex::new(alloc, formula)?;
+        let found = index.find(alloc, formula, set)?;
+        self.index = Some(index);
+        Ok(found)
+    }
+
+    /// Why the set is no initial clause, or `None` where it is one.
+    ///
+    /// # Errors
+    /// If an allocation fails.
+    pub(crate) fn fault(
+        &mut self,
+        alloc: Global,
+        formula: &Formula,
+        set: &[Lit],
+    ) -> Result<Option<RuleFault>, AllocError>
+        requires indexed { IsIndexed formula.now self.old }
+        requires ordered { IsOrdered set.now }
+        ensures fault { IfOk result
+            (λ fault. IsAnswer (initial_condition Clauses formula.now set.now ∷ []) fault) }
+        ensures kept { OnOk result (IsIndexed formula.now self.new) }
+    {
+        if has_reduct_at(alloc, formula, self.next, set)? {
+            self.next = self.next.saturating_add(1);
+            return Ok(None);
+        }
+        match self.find(alloc, formula, set)? {
+            Some(place) => {
+                self.next = place.saturating_add(1);
+                Ok(None)
+            }
+            None => Ok(Some(RuleFault::S4)),
+        }
+    }
+}

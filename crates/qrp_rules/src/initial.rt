@@ -1,0 +1,113 @@
+//! Whether a set is an initial clause or an initial cube of a formula.
+
+ghost use Rattle.std.specs.Prelude.{◌↔◌, [], ◌∷◌, ◌⊎◌, IsTrue, IfOk};
+ghost use Rattle.qbf_core.specs.Literal.{Literal};
+ghost use Rattle.qbf_core.specs.Members.{◌∈◌};
+ghost use Rattle.qbf_core.specs.Blocks.{AreBound};
+ghost use Rattle.qbf_core.specs.Rules.{Clauses, Cubes, IsClean, IsReduct, IsTautology};
+ghost use Rattle.qbf_core.specs.Sets.{IsOrdered};
+ghost use Rattle.qrp_rules.specs.Conditions.{IsAnswer, initial_condition};
+
+use crate::fault::RuleFault;
+use crate::reduct::ordered_reduct_fault_by;
+use crate::written::is_ordered;
+use qbf_core::{Formula, Lit, LitSet, Prefix, Quantifier, SetFault, is_member};
+use std::alloc::{AllocError, Global};
+
+/// Whether a clause in order has the set as a reduct.
+fn has_ordered_reduct(prefix: &Prefix, clause: &[Lit], set: &[Lit]) -> bool
+    requires clause { IsOrdered clause.now }
+    requires set { IsOrdered set.now }
+    ensures { IsTrue result ↔ IsReduct Clauses prefix.now clause.now set.now }
+{
+    ordered_reduct_fault_by(prefix, Quantifier::All, Quantifier::Exists, clause, set).is_none()
+}
+
+/// Whether a clause as written is clean and has the set as a reduct.
+pub(crate) fn has_reduct(
+    alloc: Global,
+    prefix: &Prefix,
+    clause: &[Lit],
+    set: &[Lit],
+) -> Result<bool, AllocError>
+    requires bound { AreBound prefix.now clause.now }
+    requires ordered { IsOrdered set.now }
+    ensures { IfOk result
+        (λ t. IsTrue t ↔ (IsClean clause.now × IsReduct Clauses prefix.now clause.now set.now)) }
+{
+    // Most clauses miss the first literal already, and are no set yet.
+    if let Some(lit) = set.first() {
+        if !is_among(clause, *lit) {
+            return Ok(false);
+        }
+    }
+    if is_ordered(clause) {
+        return Ok(has_ordered_reduct(prefix, clause, set));
+    }
+    match LitSet::from_slice(alloc, clause, prefix) {
+        Ok(from) => Ok(has_ordered_reduct(prefix, from.as_slice(), set)),
+        Err(SetFault::E1) => Ok(false),
+        // The clause is bound, so this is not met.
+        Err(SetFault::E2) => Ok(false),
+        Err(SetFault::E3) => Err(AllocError),
+    }
+}
+
+/// Whether a clause as written has a literal of the set.
+fn shares(clause: &[Lit], set: &[Lit]) -> bool
+    requires { IsOrdered set.now }
+    ensures { IsTrue result ↔ ((l : Literal) × (l ∈ clause.now) × (l ∈ set.now)) }
+{
+    for lit in clause {
+        if is_member(set, *lit) {
+            return true;
+        }
+    }
+    false
+}
+
+/// Whether a clause as written has a literal.
+fn is_among(clause: &[Lit], lit: Lit) -> bool
+    ensures { IsTrue result ↔ lit ∈ clause.now }
+{
+    for other in clause {
+        if *other == lit {
+            return true;
+        }
+    }
+    false
+}
+
+/// Whether a clause as written holds a variable with both signs.
+pub(crate) fn is_tautology(clause: &[Lit]) -> bool
+    ensures { IsTrue result ↔ IsTautology clause.now }
+{
+    for lit in clause {
+        if is_among(clause, lit.negated()) {
+            return true;
+        }
+    }
+    false
+}
+
+/// Whether the set makes a clause true, or nothing can make it false.
+fn meets(set: &[Lit], clause: &[Lit]) -> bool
+    requires { IsOrdered set.now }
+    ensures { IsTrue result
+        ↔ (IsTautology clause.now ⊎ ((l : Literal) × (l ∈ clause.now) × (l ∈ set.now))) }
+{
+    shares(clause, set) || is_tautology(clause)
+}
+
+/// Why the set is no initial cube.
+pub(crate) fn initial_cube_fault(formula: &Formula, set: &[Lit]) -> Option<RuleFault>
+    requires { IsOrdered set.now }
+    ensures { IsAnswer (initial_condition Cubes formula.now set.now ∷ []) result }
+{
+    for i in 0..formula.clauses() {
+        if !meets(set, formula.clause(i)) {
+            return Some(RuleFault::S5);
+        }
+    }
+    None
+}

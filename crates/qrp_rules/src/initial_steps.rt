@@ -1,0 +1,74 @@
+//! The initial steps of a trace, on either side.
+
+ghost use Rattle.std.specs.Prelude.{[], ◌∷◌, IsTrue, OnOk, IfOk};
+ghost use Rattle.qbf_core.specs.Blocks.{AreBound};
+ghost use Rattle.qbf_core.specs.Qbf.{Qbf};
+ghost use Rattle.qbf_core.specs.Sets.{IsOrdered};
+ghost use Rattle.qrp_rules.specs.Conditions.{AllHold, IsAnswer, initial_condition};
+ghost use Rattle.qrp_rules.specs.Initial.{AreKnown};
+
+use crate::clause_index::InitialClauses;
+use crate::fault::RuleFault;
+use crate::initial_cubes::InitialCubes;
+use crate::side::Side;
+use qbf_core::{Formula, Lit, Quantifier};
+use std::alloc::{AllocError, Global};
+
+/// What is kept of a formula, so that its initial steps are found fast.
+#[derive(Drop)]
+pub struct InitialSteps {
+    clauses: InitialClauses,
+    cubes: InitialCubes,
+}
+
+impl InitialSteps {
+    /// Nothing is known of the formula, and no memory taken.
+    pub fn new() -> InitialSteps
+        ensures { (f : Qbf) → AreKnown f result }
+    {
+        InitialSteps {
+            clauses: InitialClauses::new(),
+            cubes: InitialCubes::new(),
+        }
+    }
+
+    /// Whether the literals are, as they are written, the clause after the one that was found last,
+    /// and in order.
+    ///
+    /// `false` says nothing.
+    pub fn is_next<S: Side>(&mut self, formula: &Formula, lits: &[Lit]) -> bool
+        requires { AreKnown formula.now self.old }
+        ensures follows { IsTrue result
+            → AllHold (initial_condition S.side formula.now lits.now ∷ []) }
+        ensures ordered { IsTrue result → IsOrdered lits.now }
+        ensures bound { IsTrue result → AreBound formula.now.blocks lits.now }
+        ensures known { AreKnown formula.now self.new }
+    {
+        match S::REDUCED {
+            Quantifier::All => self.clauses.is_next(formula, lits),
+            Quantifier::Exists => false,
+        }
+    }
+
+    /// Why a set is no initial step, or `None` where it is one.
+    ///
+    /// # Errors
+    /// If an allocation fails.
+    pub fn fault<S: Side>(
+        &mut self,
+        alloc: Global,
+        formula: &Formula,
+        set: &[Lit],
+    ) -> Result<Option<RuleFault>, AllocError>
+        requires known { AreKnown formula.now self.old }
+        requires ordered { IsOrdered set.now }
+        ensures fault { IfOk result
+            (λ fault. IsAnswer (initial_condition S.side formula.now set.now ∷ []) fault) }
+        ensures known { OnOk result (AreKnown formula.now self.new) }
+    {
+        match S::REDUCED {
+            Quantifier::All => self.clauses.fault(alloc, formula, set),
+            Quantifier::Exists => self.cubes.fault(alloc, formula, set),
+        }
+    }
+}

@@ -1,0 +1,185 @@
+//! Whether a set is a reduct of the resolvent of two others.
+
+ghost use Rattle.std.specs.Prelude.{◌≡◌, ◌↔◌, ◌⊎◌, IsTrue, None};
+ghost use Rattle.qbf_core.specs.Literal.{Literal};
+ghost use Rattle.qbf_core.specs.Members.{◌∈◌, ◌⊆◌};
+ghost use Rattle.qbf_core.specs.Blocks.{AreBound};
+ghost use Rattle.qbf_core.specs.Rules.{Clashes, IsReducible, resolvent};
+ghost use Rattle.qbf_core.specs.Sets.{IsOrdered};
+ghost use Rattle.qrp_rules.specs.Conditions.{AllHold, AllowsPivot, IsAnswer, IsReducibleInParents};
+ghost use Rattle.qrp_rules.specs.Conditions.{resolvent_conditions};
+ghost use Rattle.qrp_rules.specs.Unreduced.{unreduced_conditions};
+ghost use Rattle.qrp_rules.specs.Walks.{IsClashOf};
+
+use crate::fault::RuleFault;
+use crate::reduct::{Reducible, block_if, inner, innermost, is_bound_by, is_covered, outer};
+use crate::rules::Rules;
+use crate::side::Side;
+use crate::walks::advance_to;
+use qbf_core::{Lit, LitSet, Prefix, Var};
+
+/// The variables in which two sets clash.
+enum Clash {
+    Nothing,
+    One(Var),
+    More,
+}
+
+/// The variables in which two ordered lists clash.
+fn find_clash(a: &[Lit], b: &[Lit]) -> Clash
+    requires a { IsOrdered a.now }
+    requires b { IsOrdered b.now }
+    ensures { IsClashOf a.now b.now result }
+{
+    let mut rest = b;
+    let mut found: Option<Var> = None;
+    for lit in a {
+        let (others, opposite) = advance_to(rest, lit.negated());
+        rest = others;
+        if opposite {
+            match found {
+                Some(_) => return Clash::More,
+                None => found = Some(lit.var()),
+            }
+        }
+    }
+    match found {
+        Some(pivot) => Clash::One(pivot),
+        None => Clash::Nothing,
+    }
+}
+
+/// Whether a literal of the variable, in one of the antecedents or both, is in the resolvent.
+fn is_resolved(in_a: bool, in_b: bool, var: Var, pivot: Var) -> bool
+    ensures { IsTrue result ↔ ((IsTrue in_a ⊎ IsTrue in_b) × (var ≡ pivot → ⊥)) }
+{
+    (in_a || in_b) && var.number() != pivot.number()
+}
+
+/// Whether each literal of a step is in the resolvent.
+fn is_within(to: &[Lit], a: &[Lit], b: &[Lit], pivot: Var) -> bool
+    requires to { IsOrdered to.now }
+    requires a { IsOrdered a.now }
+    requires b { IsOrdered b.now }
+    ensures { IsTrue result ↔ to.now ⊆ resolvent a.now b.now pivot }
+{
+    let mut left = a;
+    let mut right = b;
+    for lit in to {
+        let (xs, in_a) = advance_to(left, *lit);
+        let (ys, in_b) = advance_to(right, *lit);
+        if !is_resolved(in_a, in_b, lit.var(), pivot) {
+            return false;
+        }
+        left = xs;
+        right = ys;
+    }
+    true
+}
+
+/// Whether each literal of the resolvent is in the step, or reducible in the resolvent or in each
+/// antecedent with it.
+///
+/// A literal is reducible in the resolvent or in an antecedent if it stands after the outer one of
+/// the innermost blocks of the two. So each antecedent is walked over once, with its own outer
+/// block, and a literal that both hold is looked at in both walks.
+fn is_reduced<S: Side>(prefix: &Prefix, a: &[Lit], b: &[Lit], to: &[Lit], pivot: Var) -> bool
+    requires a { IsOrdered a.now }
+    requires b { IsOrdered b.now }
+    requires to { IsOrdered to.now }
+    requires clash { Clashes a.now b.now pivot }
+    ensures { IsTrue result ↔ ((l : Literal) → l ∈ resolvent a.now b.now pivot
+        → (l ∈ to.now) ⊎ (IsReducible S.side prefix.now (resolvent a.now b.now pivot) l
+        ⊎ IsReducibleInParents S.side prefix.now a.now b.now l)) }
+{
+    let reduced = S::REDUCED;
+    let deciding = S::DECIDING;
+    let aside = Some(pivot.number());
+    // Most steps leave nothing out, and then no block matters.
+    if is_covered(prefix, None, aside, a, to) && is_covered(prefix, None, aside, b, to) {
+        return true;
+    }
+    let beside_a = innermost(prefix, deciding, aside, a);
+    let beside_b = innermost(prefix, deciding, aside, b);
+    let of_pivot = block_if(prefix, deciding, None, pivot);
+    let whole = inner(beside_a, beside_b);
+    let in_a = Reducible {
+        quantifier: reduced,
+        block: outer(whole, inner(beside_a, of_pivot)),
+    };
+    let in_b = Reducible {
+        quantifier: reduced,
+        block: outer(whole, inner(beside_b, of_pivot)),
+    };
+    is_covered(prefix, Some(in_a), aside, a, to) && is_covered(prefix, Some(in_b), aside, b, to)
+}
+
+/// Whether a step may resolve on the variable.
+pub(crate) fn is_pivot<S: Side>(prefix: &Prefix, pivot: Var, rules: Rules) -> bool
+    ensures { IsTrue result ↔ AllowsPivot rules S.side prefix.now pivot }
+{
+    rules.any_pivot || is_bound_by(prefix, S::DECIDING, pivot)
+}
+
+/// Why an ordered list does not follow from two others by resolution, or `None` where it does: as
+/// `resolvent_fault`, of literals in the order of their variables, no variable twice. It takes no
+/// memory.
+pub fn ordered_resolvent_fault<S: Side>(
+    prefix: &Prefix,
+    a: &[Lit],
+    b: &[Lit],
+    to: &[Lit],
+    rules: Rules,
+) -> Option<RuleFault>
+    requires a { IsOrdered a.now }
+    requires b { IsOrdered b.now }
+    requires to { IsOrdered to.now }
+    ensures { IsAnswer (resolvent_conditions rules S.side prefix.now a.now b.now to.now) result }
+{
+    match find_clash(a, b) {
+        Clash::Nothing => Some(RuleFault::S8),
+        Clash::More => Some(RuleFault::S9),
+        Clash::One(pivot) => {
+            if !is_pivot::<S>(prefix, pivot, rules) {
+                return Some(RuleFault::S10);
+            }
+            if !is_within(to, a, b, pivot) {
+                return Some(RuleFault::S11);
+            }
+            if !is_reduced::<S>(prefix, a, b, to, pivot) {
+                return Some(RuleFault::S12);
+            }
+            None
+        }
+    }
+}
+
+/// Why a set does not follow from two others by resolution, or `None` where it does. The sets are
+/// over this prefix.
+///
+/// It follows if the two clash in exactly one variable, that variable has the deciding quantifier,
+/// and the set is their resolvent without literals that are reducible in it, or in each of the two
+/// that holds them: Q-resolution on clauses, and term resolution on cubes, where the two may be
+/// reduced before they are resolved. By `Rules::any_pivot` the variable may have either quantifier:
+/// QU-resolution (Van Gelder 2012), and its dual. The results, of which the first that fits is
+/// given, are `S8`, no variable clashes; `S9`, more than one does; `S10`, the pivot has the other
+/// quantifier, which is never returned where the rules allow any; `S11`, a literal of the set is
+/// not in the resolvent; `S12`, a literal of the resolvent is missing, and reducible neither in it
+/// nor in each of the two that holds it. It takes no memory.
+pub fn resolvent_fault<S: Side>(
+    prefix: &Prefix,
+    a: &LitSet,
+    b: &LitSet,
+    to: &LitSet,
+    rules: Rules,
+) -> Option<RuleFault>
+    requires a { AreBound prefix.now a.now }
+    requires b { AreBound prefix.now b.now }
+    requires to { AreBound prefix.now to.now }
+    ensures fault { IsAnswer (resolvent_conditions rules S.side prefix.now a.now b.now to.now)
+        result }
+    ensures as_before { AllHold (unreduced_conditions rules S.side prefix.now a.now b.now to.now)
+        → result ≡ None }
+{
+    ordered_resolvent_fault::<S>(prefix, a.as_slice(), b.as_slice(), to.as_slice(), rules)
+}

@@ -1,0 +1,89 @@
+//! Literals as they are written: most steps and clauses are in order already, and need no set of
+//! their own.
+
+ghost use Rattle.std.specs.Prelude.{◌≡◌, ◌↔◌, IsTrue, IfOk, OnOk};
+ghost use Rattle.std.specs.Result.{IsErrOf};
+ghost use Rattle.qbf_core.specs.Literal.{Literal};
+ghost use Rattle.qbf_core.specs.Members.{◌∈◌};
+ghost use Rattle.qbf_core.specs.Blocks.{AreBound, IsBound};
+ghost use Rattle.qbf_core.specs.Rules.{IsClean, IsTautology};
+ghost use Rattle.qbf_core.specs.Sets.{HasMembersOf, IsOrdered};
+ghost use Rattle.qrp_rules.specs.Written.{set_or_written};
+
+use qbf_core::{Lit, LitSet, Prefix, SetFault};
+use std::alloc::Global;
+
+/// Whether literals stand in the order of their variables, and no variable twice.
+pub(crate) fn is_ordered(lits: &[Lit]) -> bool
+    ensures { IsTrue result ↔ IsOrdered lits.now }
+{
+    let mut last = 0;
+    for lit in lits {
+        let number = lit.var().number();
+        if number <= last {
+            return false;
+        }
+        last = number;
+    }
+    true
+}
+
+/// Whether the variable of each literal is bound.
+fn are_bound(prefix: &Prefix, lits: &[Lit]) -> bool
+    ensures { IsTrue result ↔ AreBound prefix.now lits.now }
+{
+    for lit in lits {
+        if !prefix.is_bound(lit.var()) {
+            return false;
+        }
+    }
+    true
+}
+
+/// Whether literals are a set over the prefix, in order, as they are written.
+fn is_set(prefix: &Prefix, lits: &[Lit]) -> bool
+    ensures { IsTrue result ↔ (IsOrdered lits.now × AreBound prefix.now lits.now) }
+{
+    is_ordered(lits) && are_bound(prefix, lits)
+}
+
+/// The set of the literals where they are not in order as written, or `None` where they are such a
+/// set, which takes no memory.
+///
+/// # Errors
+/// As those of `LitSet::from_slice`.
+pub fn set_unless_ordered(
+    alloc: Global,
+    prefix: &Prefix,
+    lits: &[Lit],
+) -> Result<Option<LitSet>, SetFault>
+    ensures ordered { IfOk result (λ set. IsOrdered (set_or_written set lits.now)) }
+    ensures members { IfOk result (λ set. HasMembersOf (set_or_written set lits.now) lits.now) }
+    ensures fit { OnOk result (IsClean lits.now × AreBound prefix.now lits.now) }
+    ensures clash { IsErrOf result SetFault.E1 → IsTautology lits.now }
+    ensures clean { IsErrOf result SetFault.E2 → IsClean lits.now }
+    ensures unbound { IsErrOf result SetFault.E2
+        → (l : Literal) × (l ∈ lits.now) × (IsBound prefix.now l.var → ⊥) }
+{
+    if is_set(prefix, lits) {
+        return Ok(None);
+    }
+    match LitSet::from_slice(alloc, lits, prefix) {
+        Ok(set) => {
+            // Its contract says that they are in order.
+            let _ordered = set.as_slice();
+            Ok(Some(set))
+        }
+        Err(fault) => Err(fault),
+    }
+}
+
+/// The members of the set, or the literals as written where there is none.
+pub fn set_or_written<'a>(set: &'a Option<LitSet>, lits: &'a [Lit]) -> &'a [Lit]
+    ensures { result.now ≡ set_or_written set.now lits.now }
+{
+    match set {
+        Some(set) => set.as_slice(),
+        None => lits,
+    }
+}
