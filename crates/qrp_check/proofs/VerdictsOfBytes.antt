@@ -41,10 +41,3 @@ of_bytes rules None trace f answer reads_f is = inl tt
 of_bytes rules (Some a) trace f answer reads_f (no_fault, inl verdict) = inl (rw reads_f verdict)
 of_bytes rules (Some a) trace f answer reads_f (no_fault, inr (inl memory)) = inr (inl memory)
 of_bytes rules (Some a) trace f answer reads_f (no_fault, inr (inr device)) = inr (inr (inr device))
-
--- A fault of the check is the verdict on the bytes.
-pub check_refused : (rules : Rules) (formula trace : Option (List ℕ)) (f : Qbf) (d : Derivation) (e : CheckFault)
-    → IfSome (formulas.reads_bytes formula) (λ r. r ≡ Ok f) → IfSome (traces.reads_bytes trace) (λ r. r ≡ Ok d)
-    → (e ≢ C5 → IsFirstFault rules f d.sets d.steps d.result e) → IsVerdictUnless rules formula trace (Err (fault.Check e))
-check_refused rules formula trace f d e reads_f reads_d first =
-    of_bytes rules formula trace f (Err (fault.Check e)) reads_f (refused_trace rules trace f d e reads_d first)

@@ -1,8 +1,9 @@
 //! A trace without the steps that its goal does not need.
 
-ghost use Rattle.std.specs.Prelude.{◌≡◌, ◌<◌, ◌++◌, length, OnOk, IfOk};
+ghost use Rattle.std.specs.Prelude.{◌≡◌, ◌<◌, [], ◌++◌, length, OnOk, IfOk};
 ghost use Rattle.std.specs.List.{AllByRecursion};
 ghost use Rattle.std.specs.List.Sorted.{IsStrictlyIncreasing};
+ghost use Rattle.qrp.specs.Derivations.{IsWellFormed, steps_at};
 ghost use Rattle.qrp.specs.Inferences.{IsAt};
 ghost use Rattle.qrp_check.specs.Trim.{trimmed};
 
@@ -64,6 +65,22 @@ fn push_sets(alloc: Global, trace: &mut Trace, sets: &[QuantSet]) -> Result<(), 
     Ok(())
 }
 
+/// Adds copies of the steps at some places of a trace to another that has none.
+fn push_steps(shorter: &mut Trace, trace: &Trace, places: &[usize]) -> Result<(), AllocError>
+    requires sound { IsWellFormed trace.now }
+    requires empty { shorter.old.steps ≡ [] }
+    requires rises { IsStrictlyIncreasing places.now }
+    requires within { AllByRecursion (λ i. i < length trace.now.steps) places.now }
+    ensures { OnOk result
+        (shorter.new ≡ record shorter.old { steps = steps_at trace.now.steps places.now }) }
+{
+    for place in places {
+        let step = step_at(trace, *place);
+        shorter.push_lists(step.number, step.lits, step.ants)?;
+    }
+    Ok(())
+}
+
 /// The trace without the steps outside the core.
 ///
 /// Sets, result and the number of variables in the header stay as written. The steps at the places
@@ -84,9 +101,6 @@ pub fn trim(alloc: Global, trace: &Trace, verified: &Verified) -> Result<Trace, 
     };
     let mut shorter = Trace::new(alloc, header, trace.result());
     push_sets(alloc, &mut shorter, trace.sets())?;
-    for place in &verified.core {
-        let step = step_at(trace, *place);
-        shorter.push_lists(step.number, step.lits, step.ants)?;
-    }
+    push_steps(&mut shorter, trace, &verified.core)?;
     Ok(shorter)
 }

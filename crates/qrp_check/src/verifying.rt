@@ -1,6 +1,7 @@
 //! The check of a trace against a formula, both from their bytes.
 
-ghost use Rattle.std.specs.Prelude.{◌≡◌, ◌-◌, ◌^◌, ◌<◌, ◌↔◌, IfErr, IfSome};
+ghost use Rattle.std.specs.Prelude.{◌≡◌, ◌-◌, ◌^◌, ◌<◌, ◌↔◌, ℕ, List, Option, Ok, IfErr, IfSome};
+ghost use Rattle.qrp.specs.Answers.{reads_bytes};
 ghost use Rattle.qrp_check.specs.Headline.{Headline};
 ghost use Rattle.qrp_check.specs.Verdict.{IsVerdictUnless, IsFormulaDevice, IsTraceDevice};
 ghost use Rattle.qrp_check.specs.Verdict.{IsVerdictOf};
@@ -12,9 +13,25 @@ use crate::verdict::{Fault, Verified};
 use qbf_core::Formula;
 use qbf_text::Source;
 use qdimacs::read_formula;
-use qrp::read_flat;
+use qrp::{FlatTrace, read_flat};
 use qrp_rules::Rules;
 use std::alloc::Global;
+
+/// Whether a trace that was read proves its result of a formula.
+fn check_read(
+    alloc: Global,
+    formula: &Formula,
+    trace: &FlatTrace,
+    rules: Rules,
+) -> Result<Verified, Fault>
+    ensures verdict { (bytes : Option (List ℕ))
+        → IfSome (reads_bytes bytes) (λ read. read ≡ Ok trace.now)
+        → IsVerdictOf rules formula.now bytes result }
+    ensures read { WasRead result }
+{
+    let verified = check(alloc, formula, trace, trace.sets(), trace.result(), rules)?;
+    Ok(verified)
+}
 
 /// Whether a trace proves its result of a formula that was read, with the trace's fault first.
 fn verify_trace<B: Source>(
@@ -30,9 +47,8 @@ fn verify_trace<B: Source>(
     ensures stops { WasRead result
         → IfKnown StopsBehindTrace (B.remaining trace.old) (B.remaining trace.new) }
 {
-    let flat = read_flat(alloc, trace)?;
-    let verified = check(alloc, formula, &flat, flat.sets(), flat.result(), rules)?;
-    Ok(verified)
+    let read = read_flat(alloc, trace)?;
+    check_read(alloc, formula, &read, rules)
 }
 
 /// Whether a trace (QRP) proves its result of a formula (QDIMACS 1.1), both from their bytes.
