@@ -106,9 +106,12 @@ kept_push_after blocks steps passing i kept true entry pass done is are = record
     )
     | inr ne ↦ elim (cases_eq (suc j) i) [
       | inl last ↦ absurd (not_last j k last up core needs)
-      | inr early ↦ (let w = are.sets j k step (omega (arith, less, ne)) (omega (arith, up)) core needs here in
-        (w.0, pushed_old (forgot kept) entry j w.0
-        (forgot_before kept j w.0 (omega (arith, less, ne, early, are.count)) w.1), w.2))
+      | inr early ↦ (let w = are.sets j k step (omega (arith, less, ne)) (omega (arith, up)) core needs here in (
+        w.0,
+        pushed_old (forgot kept) entry j w.0
+            (forgot_before kept j w.0 (omega (arith, less, ne, early, are.count)) w.1),
+        w.2,
+      ))
     ]
   ];
 }

@@ -6,70 +6,23 @@ ghost use Rattle.std.specs.List.{AllByRecursion};
 ghost use Rattle.std.specs.List.Sorted.{IsStrictlyIncreasing};
 ghost use Rattle.qbf_core.specs.Truth.{IsTrueFormula};
 ghost use Rattle.qrp_check.specs.declared.fault.CheckFault.TheVariants.{C5};
-ghost use Rattle.qrp_check.specs.Conditions.{StepFollows};
-ghost use Rattle.qrp_check.specs.Core.{IsGoal, IsInCore, ListsCore};
-ghost use Rattle.qrp_check.specs.Kept.{IsCoreFault, kept_after};
-ghost use Rattle.qrp_check.specs.Marks.{ArePassing, IsMarked};
+ghost use Rattle.qrp_check.specs.Core.{IsGoal, ListsCore};
+ghost use Rattle.qrp_check.specs.Kept.{IsCoreFault};
 ghost use Rattle.qrp_check.specs.Proof.{Derives, Proves, IsFirstFault};
 ghost use Rattle.qrp_check.specs.Verdict.{is_sat};
 
 use crate::agree::sets_fault;
-use crate::antecedents::antecedents;
 use crate::fault::CheckFault;
+use crate::following::follow_core;
 use crate::goal::find_goal;
-use crate::kept_sets::KeptSets;
 use crate::marks::{mark_core, marked_places};
-use crate::step::{Setting, StepFault, step_set};
+use crate::step::Setting;
 use crate::uses::Uses;
 use crate::verdict::Verified;
-use qbf_core::{Formula, Lit};
+use qbf_core::Formula;
 use qrp::{Outcome, QuantSet, Steps};
-use qrp_rules::{Clauses, Cubes, InitialSteps, Rules, Side, set_or_written};
+use qrp_rules::{Clauses, Cubes, Rules, Side};
 use std::alloc::Global;
-
-/// Keeps the set of the step at the next place, or nothing of it, and nothing of the step before it
-/// if that is done with.
-fn keep(kept: &mut KeptSets, set: &[Lit], is_done: bool) -> Result<(), CheckFault>
-    ensures kept { OnOk result (kept.new ≡ kept_after is_done kept.old set.now) }
-    ensures memory { IfErr result (λ e. e ≡ C5) }
-{
-    match kept.push(set, is_done) {
-        Ok(()) => Ok(()),
-        Err(_) => Err(CheckFault::C5),
-    }
-}
-
-/// Goes over the marked steps, which are the core, while each follows from those before it.
-fn follow_core<S: Side, T: Steps>(
-    setting: Setting,
-    trace: &T,
-    marks: &[bool],
-    uses: &mut Uses,
-) -> Result<(), CheckFault>
-    requires len { length marks.now ≡ length (T.steps trace.now) }
-    requires core { (i : ℕ) → IsMarked marks.now i ↔ IsInCore (T.steps trace.now) i }
-    requires passing { ArePassing (T.steps trace.now) uses.old.passing.items }
-    ensures follows { OnOk result ((i : ℕ) → IsInCore (T.steps trace.now) i
-        → StepFollows setting.entry.rules S.side setting.entry.formula.now (T.steps trace.now) i) }
-    ensures refused { IfErr result
-        (IsCoreFault setting.entry.rules S.side setting.entry.formula.now (T.steps trace.now)) }
-{
-    let mut kept = KeptSets::new(setting.alloc);
-    let mut starts = InitialSteps::new();
-    for place in 0..trace.len() {
-        if !marks[place] {
-            keep(&mut kept, &[], false)?;
-            continue;
-        }
-        let antecedents = antecedents(trace, &kept, uses);
-        match step_set::<S>(setting, antecedents, &mut starts, trace.lits(place)) {
-            Ok(set) => keep(&mut kept, set_or_written(&set, &[]), uses.ends_at(place))?,
-            Err(StepFault::Rule(fault)) => return Err(CheckFault::C6(trace.number(place), fault)),
-            Err(StepFault::Memory) => return Err(CheckFault::C5),
-        }
-    }
-    Ok(())
-}
 
 /// The places of the core beside what they show, where each of its steps follows from those before
 /// it.
@@ -93,7 +46,7 @@ fn check_core<S: Side, T: Steps>(
     let Ok(marks) = mark_core(setting.alloc, trace, goal, &mut uses) else {
         return Err(CheckFault::C5);
     };
-    follow_core::<S, T>(setting, trace, &marks, &mut uses)?;
+    follow_core::<S, T>(setting, trace, &marks, uses)?;
     match marked_places(setting.alloc, &marks) {
         Ok(core) => Ok(Verified { truth, core }),
         Err(_) => Err(CheckFault::C5),
