@@ -14,7 +14,8 @@ use crate::side::Side;
 use qbf_core::{Formula, Lit, Quantifier};
 use std::alloc::{AllocError, Global};
 
-/// What is kept of a formula, so that its initial steps are found fast.
+/// What is kept of a formula, so that its initial steps are found fast. Each call takes the same
+/// formula, of which the contracts say that all is known.
 #[derive(Drop)]
 pub struct InitialSteps {
     clauses: InitialClauses,
@@ -50,7 +51,8 @@ impl InitialSteps {
         }
     }
 
-    /// Why a set is no initial step, or `None` where it is one.
+    /// Why a set in order is no initial step, or `None` where it is one: `S4` for clauses, `S5` for
+    /// cubes, as `Side::initial_fault` says.
     ///
     /// # Errors
     /// If an allocation fails.
