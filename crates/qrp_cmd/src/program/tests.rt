@@ -3,6 +3,7 @@ ghost use Rattle.qrp_cmd.specs.declared.unopened.Unopened.{Unopened};
 
 use super::*;
 use crate::open::LIMIT;
+use crate::run::tests::sinks;
 use crate::unopened::Unopened;
 use qbf_text::{FromRead, PieceSink, VecSink};
 use std::alloc::AllocError;
@@ -54,6 +55,18 @@ fn given(alloc: Global, words: &[&str]) -> Result<Vec<String>, AllocError> {
     Ok(list)
 }
 
+/// What the program writes on these arguments, and its status.
+fn answer_to(
+    alloc: Global,
+    files: &Shelf<'_>,
+    words: &[&str],
+) -> Result<(VecSink, VecSink, Status), Fail> {
+    let (mut out, mut err) = sinks(alloc)?;
+    let words = given(alloc, words)?;
+    let status = program(alloc, files, Ok(words), &mut out, &mut err);
+    Ok((out, err, status))
+}
+
 /// Checks what the program writes on these arguments over this formula and the trace.
 fn expect<R: Abort + AllocGlobal>(
     rt: &R,
@@ -65,42 +78,45 @@ fn expect<R: Abort + AllocGlobal>(
         formula,
         trace: TRACE,
     };
-    let mut out = VecSink::new(rt.alloc(), 0)?;
-    let mut err = VecSink::new(rt.alloc(), 0)?;
-    let given = given(rt.alloc(), words)?;
-    let status = program(rt.alloc(), &files, Ok(given), &mut out, &mut err);
+    let (out, err, status) = answer_to(rt.alloc(), &files, words)?;
     assert_eq!(rt; out.bytes(), wanted.0, "out, at {words:?}");
     assert_eq!(rt; err.bytes(), wanted.1, "err, at {words:?}");
     assert_eq!(rt; status, wanted.2, "at {words:?}");
     Ok(())
 }
 
+/// Words of a command line, what goes to the two sinks, and the status.
+type Answer = (
+    &'static [&'static str],
+    (&'static [u8], &'static [u8], Status),
+);
+
+const REFUSED: &[u8] = b"REFUSED step 4 S10\n";
+
+const VERIFIED: &[u8] = b"VERIFIED false\n";
+
+const NO_FORMULA: &[u8] = b"REFUSED formula F2 line 1\n";
+
+const COMMANDS_AND_FLAGS: &[Answer] = &[
+    (&["format", "f"], (FORMULA, b"", 0)),
+    (&["check", "f", "t"], (REFUSED, b"", 1)),
+    (&["check", "--qu", "f", "t"], (VERIFIED, b"", 0)),
+    (&["check", "f", "t", "--qu"], (VERIFIED, b"", 0)),
+    (&["trim", "f", "t"], (b"", REFUSED, 1)),
+    (&["trim", "--qu", "f", "t"], (TRACE, b"", 0)),
+    (&["trim", "f", "t", "--qu"], (TRACE, b"", 0)),
+    // The trace is no formula.
+    (&["check", "t", "f"], (NO_FORMULA, b"", 2)),
+    (&["trim", "t", "f"], (b"", NO_FORMULA, 2)),
+    (&["format", "t"], (b"", NO_FORMULA, 2)),
+];
+
 #[test]
 fn commands_and_flags(rt: HostRuntime) -> Result<(), Fail> {
-    let refused: &[u8] = b"REFUSED step 4 S10\n";
-    let verified: &[u8] = b"VERIFIED false\n";
-    expect(&rt, FORMULA, &["format", "f"], (FORMULA, b"", 0))?;
-    expect(&rt, FORMULA, &["check", "f", "t"], (refused, b"", 1))?;
-    expect(
-        &rt,
-        FORMULA,
-        &["check", "--qu", "f", "t"],
-        (verified, b"", 0),
-    )?;
-    expect(
-        &rt,
-        FORMULA,
-        &["check", "f", "t", "--qu"],
-        (verified, b"", 0),
-    )?;
-    expect(&rt, FORMULA, &["trim", "f", "t"], (b"", refused, 1))?;
-    expect(&rt, FORMULA, &["trim", "--qu", "f", "t"], (TRACE, b"", 0))?;
-    expect(&rt, FORMULA, &["trim", "f", "t", "--qu"], (TRACE, b"", 0))?;
-    // The trace is no formula.
-    let no_formula: &[u8] = b"REFUSED formula F2 line 1\n";
-    expect(&rt, FORMULA, &["check", "t", "f"], (no_formula, b"", 2))?;
-    expect(&rt, FORMULA, &["trim", "t", "f"], (b"", no_formula, 2))?;
-    expect(&rt, FORMULA, &["format", "t"], (b"", no_formula, 2))
+    for (words, wanted) in COMMANDS_AND_FLAGS {
+        expect(&rt, FORMULA, words, *wanted)?;
+    }
+    Ok(())
 }
 
 #[test]
