@@ -3,7 +3,7 @@ ghost use Rattle.qrp_cmd.specs.declared.unopened.Unopened.{Unopened};
 
 use super::*;
 use crate::open::LIMIT;
-use crate::run::tests::sinks;
+use crate::run::tests::{is_same, sinks};
 use crate::unopened::Unopened;
 use qbf_text::{FromRead, PieceSink, VecSink};
 use std::alloc::AllocError;
@@ -79,9 +79,7 @@ fn expect<R: Abort + AllocGlobal>(
         trace: TRACE,
     };
     let (out, err, status) = answer_to(rt.alloc(), &files, words)?;
-    assert_eq!(rt; out.bytes(), wanted.0, "out, at {words:?}");
-    assert_eq!(rt; err.bytes(), wanted.1, "err, at {words:?}");
-    assert_eq!(rt; status, wanted.2, "at {words:?}");
+    is_same(rt, (out.bytes(), err.bytes(), status), wanted, &words);
     Ok(())
 }
 
@@ -111,42 +109,64 @@ const COMMANDS_AND_FLAGS: &[Answer] = &[
     (&["format", "t"], (b"", NO_FORMULA, 2)),
 ];
 
-#[test]
-fn commands_and_flags(rt: HostRuntime) -> Result<(), Fail> {
-    for (words, wanted) in COMMANDS_AND_FLAGS {
-        expect(&rt, FORMULA, words, *wanted)?;
+/// Checks what the program writes on each of these command lines.
+fn expect_all<R: Abort + AllocGlobal>(
+    rt: &R,
+    formula: &[u8],
+    answers: &[Answer],
+) -> Result<(), Fail> {
+    for (words, wanted) in answers {
+        expect(rt, formula, words, *wanted)?;
     }
     Ok(())
 }
 
 #[test]
-fn missing_files(rt: HostRuntime) -> Result<(), Fail> {
-    let formula: &[u8] = b"DEVICE formula\n";
-    let trace: &[u8] = b"DEVICE trace\n";
-    // No formula at all: a fault of its text is reported only where the trace is there.
-    expect(
-        &rt,
-        b"",
+fn commands_and_flags(rt: HostRuntime) -> Result<(), Fail> {
+    expect_all(&rt, FORMULA, COMMANDS_AND_FLAGS)
+}
+
+const NO_FORMULA_FILE: &[u8] = b"DEVICE formula\n";
+
+const NO_TRACE_FILE: &[u8] = b"DEVICE trace\n";
+
+/// The formula has no text: a fault of it is reported only where the trace is there.
+const MISSING_TRACES: &[Answer] = &[
+    (
         &["check", "f", "t"],
         (b"REFUSED formula F7 line 1\n", b"", 2),
-    )?;
-    expect(&rt, b"", &["check", "f", "x"], (trace, b"", 3))?;
-    expect(&rt, b"", &["trim", "f", "x"], (b"", trace, 3))?;
-    expect(&rt, FORMULA, &["check", "x", "t"], (formula, b"", 3))?;
-    expect(&rt, FORMULA, &["check", "x", "y"], (formula, b"", 3))?;
-    expect(&rt, FORMULA, &["trim", "x", "t"], (b"", formula, 3))?;
-    expect(&rt, FORMULA, &["trim", "x", "--qu"], (b"", formula, 3))?;
-    expect(&rt, FORMULA, &["format", "x"], (b"", formula, 3))
+    ),
+    (&["check", "f", "x"], (NO_TRACE_FILE, b"", 3)),
+    (&["trim", "f", "x"], (b"", NO_TRACE_FILE, 3)),
+];
+
+const MISSING_FORMULAS: &[Answer] = &[
+    (&["check", "x", "t"], (NO_FORMULA_FILE, b"", 3)),
+    (&["check", "x", "y"], (NO_FORMULA_FILE, b"", 3)),
+    (&["trim", "x", "t"], (b"", NO_FORMULA_FILE, 3)),
+    (&["trim", "x", "--qu"], (b"", NO_FORMULA_FILE, 3)),
+    (&["format", "x"], (b"", NO_FORMULA_FILE, 3)),
+];
+
+#[test]
+fn missing_files(rt: HostRuntime) -> Result<(), Fail> {
+    expect_all(&rt, b"", MISSING_TRACES)?;
+    expect_all(&rt, FORMULA, MISSING_FORMULAS)
 }
+
+const NO_MEMORY: &[u8] = b"NO MEMORY\n";
+
+const REFUSED_MEMORY: &[Answer] = &[
+    (&["check", "m", "x"], (NO_MEMORY, b"", 4)),
+    (&["check", "f", "m"], (NO_MEMORY, b"", 4)),
+    (&["trim", "m", "x"], (b"", NO_MEMORY, 4)),
+    (&["trim", "f", "m"], (b"", NO_MEMORY, 4)),
+    (&["format", "m"], (b"", NO_MEMORY, 4)),
+];
 
 #[test]
 fn files_that_memory_is_refused_for(rt: HostRuntime) -> Result<(), Fail> {
-    let line: &[u8] = b"NO MEMORY\n";
-    expect(&rt, FORMULA, &["check", "m", "x"], (line, b"", 4))?;
-    expect(&rt, FORMULA, &["check", "f", "m"], (line, b"", 4))?;
-    expect(&rt, FORMULA, &["trim", "m", "x"], (b"", line, 4))?;
-    expect(&rt, FORMULA, &["trim", "f", "m"], (b"", line, 4))?;
-    expect(&rt, FORMULA, &["format", "m"], (b"", line, 4))
+    expect_all(&rt, FORMULA, REFUSED_MEMORY)
 }
 
 #[test]
@@ -178,12 +198,14 @@ fn no_words(alloc: Global, start: Start, room: Option<u64>) -> Result<(PieceSink
 
 #[test]
 fn words_that_are_not_got(rt: HostRuntime) -> Result<(), Fail> {
-    let (err, status) = no_words(rt.alloc(), Start::NoMemory, None)?;
-    assert_eq!(rt; err.bytes(), b"NO MEMORY\n".as_slice());
-    assert_eq!(rt; status, 4);
-    // The status stays where the line does not go out.
-    let (err, status) = no_words(rt.alloc(), Start::Usage, Some(3))?;
-    assert_eq!(rt; err.bytes(), b"USA".as_slice());
-    assert_eq!(rt; status, 5);
+    let rows: [(Start, Option<u64>, &[u8], Status); 2] = [
+        (Start::NoMemory, None, b"NO MEMORY\n", 4),
+        // The status stays where the line does not go out.
+        (Start::Usage, Some(3), b"USA", 5),
+    ];
+    for (start, room, line, wanted) in rows {
+        let (err, status) = no_words(rt.alloc(), start, room)?;
+        is_same(&rt, (err.bytes(), status), (line, wanted), &start);
+    }
     Ok(())
 }

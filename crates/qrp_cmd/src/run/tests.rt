@@ -4,6 +4,7 @@ ghost use Rattle.std.specs.Prelude.{◌<◌};
 
 use super::*;
 use qbf_text::{FromRead, PieceSink, PieceSource, SliceSource, VecSink, put_bytes};
+use std::fmt::Debug;
 use std::process::Abort;
 use std::test::Fail;
 
@@ -20,6 +21,16 @@ struct Ran {
     err: VecSink,
     status: Status,
     pulls: u64,
+}
+
+/// Compares what was found at a place with what is wanted there.
+pub fn is_same<T: Copy + PartialEq + Debug>(
+    rt: &impl Abort,
+    found: T,
+    wanted: T,
+    place: &impl Debug,
+) {
+    assert_eq!(rt; found, wanted, "at {place:?}");
 }
 
 /// Two sinks that have nothing yet.
@@ -51,9 +62,9 @@ fn run_on(
 
 /// Compares what a run on pieces of this length wrote, and its status, with these.
 fn has_said(rt: &impl Abort, ran: &Ran, out: &[u8], err: &[u8], status: Status, piece: usize) {
-    assert_eq!(rt; ran.out.bytes(), out, "out, in pieces of {piece}");
-    assert_eq!(rt; ran.err.bytes(), err, "err, in pieces of {piece}");
-    assert_eq!(rt; ran.status, status, "in pieces of {piece}");
+    is_same(rt, ran.out.bytes(), out, &("out, in pieces of", piece));
+    is_same(rt, ran.err.bytes(), err, &("err, in pieces of", piece));
+    is_same(rt, ran.status, status, &("status, in pieces of", piece));
 }
 
 /// Checks what a job writes to its two sinks, and its status, for texts that are pulled whole and
@@ -145,8 +156,8 @@ fn check_says(
 ) -> Result<(), Fail> {
     let job = Job::Check(Rules::plain());
     let ran = run_on(alloc, job, (TWO_CLAUSES, pulls.0), (REFUTATION, pulls.1), 1)?;
-    assert_eq!(rt; ran.out.bytes(), line, "at the pulls {pulls:?}");
-    assert_eq!(rt; ran.status, status, "at the pulls {pulls:?}");
+    is_same(rt, ran.out.bytes(), line, &pulls);
+    is_same(rt, ran.status, status, &pulls);
     Ok(())
 }
 
@@ -185,8 +196,8 @@ fn a_reader_fails_past_its_limit(rt: HostRuntime) -> Result<(), Fail> {
         (36, b"VERIFIED false\n", 0),
     ] {
         let (out, status) = check_up_to(rt.alloc(), limit)?;
-        assert_eq!(rt; out.bytes(), line, "with limit {limit}");
-        assert_eq!(rt; status, wanted, "with limit {limit}");
+        is_same(&rt, out.bytes(), line, &limit);
+        is_same(&rt, status, wanted, &limit);
     }
     Ok(())
 }
@@ -220,11 +231,7 @@ fn cut<R: Abort + AllocGlobal>(
     assert!(rt; piece > 0);
     let mut out = PieceSink::new(rt.alloc(), piece, room, finish_fails, 64)?;
     is_cut(rt, rt.alloc(), job, &mut out)?;
-    assert_eq!(rt;
-        out.bytes(),
-        kept,
-        "with room {room:?}, in pieces of {piece}"
-    );
+    is_same(rt, out.bytes(), kept, &(room, piece));
     Ok(())
 }
 

@@ -1,6 +1,6 @@
 //! A trace is not pulled where the formula is refused.
 
-use super::tests::sinks;
+use super::tests::{is_same, sinks};
 use super::*;
 use qbf_text::{PieceSource, VecSink};
 use std::test::Fail;
@@ -26,8 +26,8 @@ fn the_trace_is_not_pulled(rt: HostRuntime) -> Result<(), Fail> {
     for job in [Job::Check(plain), Job::Trim(plain)] {
         for (formula, fail_at, line) in rows {
             let (written, pulls) = said(rt.alloc(), job, formula, fail_at)?;
-            assert_eq!(rt; written.bytes(), line, "at {job:?}");
-            assert_eq!(rt; pulls, 0, "at {job:?}");
+            is_same(&rt, written.bytes(), line, &job);
+            is_same(&rt, pulls, 0, &job);
         }
     }
     Ok(())
