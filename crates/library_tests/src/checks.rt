@@ -3,7 +3,7 @@
 
 ghost use Rattle.std.specs.Prelude.{◌<◌};
 
-use qbf_core::Var;
+use qbf_core::{Formula, Var};
 use qbf_text::{PieceSource, SinkFault, SliceSource, VecSink, put_bytes, put_number};
 use qdimacs::{FormulaFault, read_formula};
 use qrp::{Steps, Trace, TraceFault, read_trace, write_trace};
@@ -25,6 +25,16 @@ const PROOF_OF_TRUTH: &[u8] =
 /// A clause without literals.
 const EMPTY_CLAUSE: &[u8] = b"p cnf 0 1\n0\n";
 
+/// The formula of a text.
+fn formula_of(alloc: Global, text: &[u8]) -> Result<Formula, Fail> {
+    Ok(read_formula(alloc, &mut SliceSource::new(text))?)
+}
+
+/// The trace of a text, kept step by step.
+fn trace_of(alloc: Global, text: &[u8]) -> Result<Trace, Fail> {
+    Ok(read_trace(alloc, &mut SliceSource::new(text))?)
+}
+
 /// The result for a trace that is kept step by step.
 fn checked(
     alloc: Global,
@@ -32,9 +42,9 @@ fn checked(
     formula: &[u8],
     trace: &[u8],
 ) -> Result<Result<Verified, CheckFault>, Fail> {
-    let read = read_formula(alloc, &mut SliceSource::new(formula))?;
-    let steps = read_trace(alloc, &mut SliceSource::new(trace))?;
-    Ok(check(alloc, &read, &steps, steps.sets(), steps.result(), rules))
+    let formula = formula_of(alloc, formula)?;
+    let trace = trace_of(alloc, trace)?;
+    Ok(check(alloc, &formula, &trace, trace.sets(), trace.result(), rules))
 }
 
 /// The result for the same bytes.
@@ -158,12 +168,17 @@ fn follows_a_long_chain(rt: HostRuntime) -> Result<(), Fail> {
     Ok(())
 }
 
-/// What is left of a trace that proves its result.
+/// What is left of a trace that proves its result on a formula.
+fn trim_on(alloc: Global, rules: Rules, formula: &Formula, whole: &Trace) -> Result<Trace, Fail> {
+    let verified = check(alloc, formula, whole, whole.sets(), whole.result(), rules)?;
+    Ok(trim(alloc, whole, &verified)?)
+}
+
+/// The same of two texts.
 fn trimmed(alloc: Global, rules: Rules, formula: &[u8], trace: &[u8]) -> Result<Trace, Fail> {
-    let read = read_formula(alloc, &mut SliceSource::new(formula))?;
-    let whole = read_trace(alloc, &mut SliceSource::new(trace))?;
-    let verified = check(alloc, &read, &whole, whole.sets(), whole.result(), rules)?;
-    Ok(trim(alloc, &whole, &verified)?)
+    let formula = formula_of(alloc, formula)?;
+    let whole = trace_of(alloc, trace)?;
+    trim_on(alloc, rules, &formula, &whole)
 }
 
 #[test]

@@ -1,5 +1,8 @@
 //! Worked formulas and faults, whole and byte by byte.
 
+ghost use Rattle.std.specs.Prelude.{◌<◌};
+
+use qbf_core::Formula;
 use qbf_text::{PieceSink, PieceSource, SinkFault, VecSink};
 use qdimacs::*;
 use std::alloc::Global;
@@ -8,13 +11,25 @@ use std::test::Fail;
 
 const FORMULA: &[u8] = b"p cnf 2 2\ne 1 0\na 2 0\n1 2 0\n-1 2 0\n";
 
+/// The canonical text of a formula.
+fn written(alloc: Global, formula: &Formula) -> Result<VecSink, Fail> {
+    let mut sink = VecSink::new(alloc, 0)?;
+    write_formula(formula, &mut sink)?;
+    Ok(sink)
+}
+
+/// The canonical text of a formula whose text is read in pieces of this length.
+fn formatted(alloc: Global, text: &[u8], piece: usize) -> Result<VecSink, Fail>
+    requires { 0 < piece }
+{
+    let formula = read_formula(alloc, &mut PieceSource::new(text, piece, 0))?;
+    written(alloc, &formula)
+}
+
 /// Reads a formula whole and byte by byte, and compares its canonical text.
 fn formats(rt: &impl Abort, alloc: Global, text: &[u8], wanted: &[u8]) -> Result<(), Fail> {
     for piece in [1, 4096] {
-        let mut source = PieceSource::new(text, piece, 0);
-        let formula = read_formula(alloc, &mut source)?;
-        let mut sink = VecSink::new(alloc, 0)?;
-        write_formula(&formula, &mut sink)?;
+        let sink = formatted(alloc, text, piece)?;
         assert_eq!(rt; sink.bytes(), wanted, "in pieces of {piece}");
     }
     Ok(())

@@ -42,23 +42,48 @@ fn variables_up_to_a_last_one(rt: HostRuntime) {
     assert!(rt; Var::up_to(0, 1).is_none());
 }
 
+#[test]
+fn a_new_prefix(rt: HostRuntime) {
+    assert_eq!(rt; Prefix::new(rt.alloc()).blocks(), 0);
+}
+
+/// Quantifiers that alternate, so that each place is its own block.
+fn quantifier_at(place: usize) -> Quantifier {
+    if place % 2 == 0 {
+        Quantifier::Exists
+    } else {
+        Quantifier::All
+    }
+}
+
+/// The prefix that binds these variables in turn.
+fn bound_in_turn(rt: &impl Abort, alloc: Global, numbers: &[u32]) -> Result<Prefix, Fail> {
+    let mut prefix = Prefix::new(alloc);
+    for (place, number) in numbers.iter().enumerate() {
+        prefix.push(quantifier_at(place), variable(rt, *number))?;
+    }
+    Ok(prefix)
+}
+
 /// The prefix `e 7`, `a 2 1`.
 fn exists_then_all(rt: &impl Abort, alloc: Global) -> Result<Prefix, Fail> {
-    let mut prefix = Prefix::new(alloc);
-    assert_eq!(rt; prefix.blocks(), 0);
-    prefix.push(Quantifier::Exists, variable(rt, 7))?;
-    prefix.push(Quantifier::All, variable(rt, 2))?;
+    let mut prefix = bound_in_turn(rt, alloc, &[7, 2])?;
     prefix.push(Quantifier::All, variable(rt, 1))?;
     Ok(prefix)
+}
+
+/// The prefix has three variables in two blocks, the last of them this one.
+fn ends_with(rt: &impl Abort, prefix: &Prefix, last: Var) {
+    assert_eq!(rt; prefix.len(), 3);
+    assert_eq!(rt; prefix.blocks(), 2);
+    assert!(rt; prefix.pair(2) == (Quantifier::All, last));
 }
 
 #[test]
 fn prefixes(rt: HostRuntime) -> Result<(), Fail> {
     let mut prefix = exists_then_all(&rt, rt.alloc())?;
     assert!(rt; prefix.push(Quantifier::Exists, variable(&rt, 2)) == Err(PrefixFault::B1));
-    assert_eq!(rt; prefix.len(), 3);
-    assert_eq!(rt; prefix.blocks(), 2);
-    assert!(rt; prefix.pair(2) == (Quantifier::All, variable(&rt, 1)));
+    ends_with(&rt, &prefix, variable(&rt, 1));
     Ok(())
 }
 
@@ -86,24 +111,6 @@ fn variables_of_a_prefix(rt: HostRuntime) -> Result<(), Fail> {
     finds_bound(&rt, &prefix);
     finds_nothing(&rt, &prefix, variable(&rt, 3));
     Ok(())
-}
-
-/// Quantifiers that alternate, so that each place is its own block.
-fn quantifier_at(place: usize) -> Quantifier {
-    if place % 2 == 0 {
-        Quantifier::Exists
-    } else {
-        Quantifier::All
-    }
-}
-
-/// The prefix that binds these variables in turn.
-fn bound_in_turn(rt: &impl Abort, alloc: Global, numbers: &[u32]) -> Result<Prefix, Fail> {
-    let mut prefix = Prefix::new(alloc);
-    for (place, number) in numbers.iter().enumerate() {
-        prefix.push(quantifier_at(place), variable(rt, *number))?;
-    }
-    Ok(prefix)
 }
 
 /// Each variable is found at its place, and not bound again.
@@ -138,36 +145,77 @@ fn prefixes_of_sparse_variables(rt: HostRuntime) -> Result<(), Fail> {
     Ok(())
 }
 
+/// The prefix of one variable.
+fn one_variable(alloc: Global, quantifier: Quantifier, var: Var) -> Result<Prefix, Fail>
+    ensures { IfOk result (λ prefix. pairs prefix ≡ (quantifier, var) ∷ []) }
+{
+    let mut prefix = Prefix::new(alloc);
+    prefix.push(quantifier, var)?;
+    Ok(prefix)
+}
+
+/// The formula of one universal variable and no clause, whose header allows five variables.
+fn no_clause(alloc: Global, one: Var) -> Result<Formula, Fail>
+    requires { one ≡ 1 }
+    ensures { IfOk result (λ formula. (pairs formula.blocks ≡ (All, one) ∷ [])
+        × (formula.clauses ≡ [])) }
+{
+    Ok(Formula::new(alloc, 5, one_variable(alloc, Quantifier::All, one)?))
+}
+
+/// That formula with a clause which has this literal twice.
+fn twice_in_a_clause(rt: &impl Abort, alloc: Global, lit: Lit) -> Result<Formula, Fail>
+    requires { lit.var ≡ 1 }
+{
+    let mut formula = no_clause(alloc, lit.var())?;
+    let clause = Vec::from_slice(alloc, &[lit, lit])?;
+    assert!(rt; formula.push_clause(clause).is_ok());
+    Ok(formula)
+}
+
+/// The formula has one clause, of these literals.
+fn has_one_clause(rt: &impl Abort, formula: &Formula, lits: &[Lit]) {
+    assert_eq!(rt; formula.clauses(), 1);
+    assert!(rt; formula.clause(0) == lits);
+}
+
 #[test]
 fn formulas(rt: HostRuntime) -> Result<(), Fail> {
-    let one = variable(&rt, 1);
-    let mut prefix = Prefix::new(rt.alloc());
-    prefix.push(Quantifier::All, one)?;
-    let mut formula = Formula::new(rt.alloc(), 5, prefix);
-    let mut clause = Vec::new(rt.alloc());
-    clause.push(Lit::new(one, true))?;
-    clause.push(Lit::new(one, true))?;
-    assert!(rt; formula.push_clause(clause).is_ok());
+    let lit = Lit::new(variable(&rt, 1), true);
+    let formula = twice_in_a_clause(&rt, rt.alloc(), lit)?;
     assert_eq!(rt; formula.max_var(), 5);
     assert_eq!(rt; formula.prefix().len(), 1);
-    assert_eq!(rt; formula.clauses(), 1);
-    assert!(rt; formula.clause(0) == [Lit::new(one, true), Lit::new(one, true)].as_slice());
+    has_one_clause(&rt, &formula, &[lit, lit]);
     Ok(())
+}
+
+/// The list of one literal. Its negation is in a list that is only begun.
+fn one_whole_list(alloc: Global, lit: Lit) -> Result<Lists<Lit>, Fail>
+    ensures { IfOk result (λ lists. lists ≡ (lit ∷ []) ∷ []) }
+{
+    let mut clauses = GrowingLists::new(alloc);
+    clauses.push(lit)?;
+    clauses.close()?;
+    clauses.push(lit.negated())?;
+    Ok(clauses.into_lists())
+}
+
+/// The formula of one existential variable and the clause of this literal.
+fn whole(rt: &impl Abort, alloc: Global, one: Var, lit: Lit) -> Result<Formula, Fail>
+    requires one { one ≡ 1 }
+    requires lit { lit.var ≡ one }
+{
+    let prefix = one_variable(alloc, Quantifier::Exists, one)?;
+    assert_eq!(rt; prefix.len(), 1);
+    Ok(Formula::whole(5, prefix, one_whole_list(alloc, lit)?))
 }
 
 #[test]
 fn formulas_made_whole(rt: HostRuntime) -> Result<(), Fail> {
     let one = variable(&rt, 1);
-    let mut prefix = Prefix::new(rt.alloc());
-    prefix.push(Quantifier::Exists, one)?;
-    assert_eq!(rt; prefix.len(), 1);
-    let mut clauses = GrowingLists::new(rt.alloc());
-    clauses.push(Lit::new(one, false))?;
-    clauses.close()?;
-    clauses.push(Lit::new(one, true))?;
-    let formula = Formula::whole(5, prefix, clauses.into_lists());
-    assert_eq!(rt; formula.clauses(), 1);
-    assert!(rt; formula.clause(0) == [Lit::new(one, false)].as_slice());
+    let lit = Lit::new(one, false);
+    let formula = whole(&rt, rt.alloc(), one, lit)?;
+    has_one_clause(&rt, &formula, &[lit]);
     Ok(())
 }
 

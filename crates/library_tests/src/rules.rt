@@ -295,6 +295,7 @@ type Resolution = (
     Option<RuleFault>,
 );
 
+/// Which literals resolve, by the plain rules and with any pivot.
 const CLAUSE_RESOLVENTS: &[Resolution] = &[
     (EXISTS_ALL, &[1, 2], &[-1, 2], &[], None, None),
     (
@@ -322,7 +323,11 @@ const CLAUSE_RESOLVENTS: &[Resolution] = &[
         Some(RuleFault::S10),
         None,
     ),
-    // The same, where the step leaves out what is not reducible, or holds what is in neither.
+];
+
+/// Clauses that leave out what is not reducible, or hold what is in neither.
+const OTHER_RESOLVENTS: &[Resolution] = &[
+    // With a universal pivot.
     (
         ALL_EXISTS,
         &[1, 2],
@@ -347,6 +352,10 @@ const CLAUSE_RESOLVENTS: &[Resolution] = &[
         Some(RuleFault::S11),
         Some(RuleFault::S11),
     ),
+];
+
+/// Literals that are left out of a clause.
+const LEFT_OUT_OF_CLAUSES: &[Resolution] = &[
     // Universal 2 is reducible in the first clause, and not in the resolvent.
     (EXISTS_ALL_EXISTS, &[1, 2], &[-1, 3], &[3], None, None),
     (EXISTS_ALL_EXISTS, &[-1, 3], &[1, 2], &[3], None, None),
@@ -368,6 +377,10 @@ const CLAUSE_RESOLVENTS: &[Resolution] = &[
         Some(RuleFault::S12),
         Some(RuleFault::S12),
     ),
+];
+
+/// Literals that are kept in a clause.
+const KEPT_IN_CLAUSES: &[Resolution] = &[
     // An existential literal is never left out.
     (
         EXISTS_ALL_EXISTS,
@@ -430,18 +443,35 @@ fn resolves<S: Side>(rt: &impl Abort, alloc: Global, resolution: Resolution) -> 
     Ok(())
 }
 
-#[test]
-fn resolvents_of_clauses(rt: HostRuntime) -> Result<(), Fail> {
-    for resolution in CLAUSE_RESOLVENTS {
-        resolves::<Clauses>(&rt, rt.alloc(), *resolution)?;
+/// Compares the results for several resolutions on one side.
+fn all_resolve<S: Side>(rt: &impl Abort, alloc: Global, rows: &[Resolution]) -> Result<(), Fail> {
+    for resolution in rows {
+        resolves::<S>(rt, alloc, *resolution)?;
     }
     Ok(())
 }
 
 #[test]
+fn resolvents_of_clauses(rt: HostRuntime) -> Result<(), Fail> {
+    all_resolve::<Clauses>(&rt, rt.alloc(), CLAUSE_RESOLVENTS)
+}
+
+#[test]
+fn no_resolvents_of_clauses(rt: HostRuntime) -> Result<(), Fail> {
+    all_resolve::<Clauses>(&rt, rt.alloc(), OTHER_RESOLVENTS)
+}
+
+#[test]
+fn literals_left_out_of_clauses(rt: HostRuntime) -> Result<(), Fail> {
+    all_resolve::<Clauses>(&rt, rt.alloc(), LEFT_OUT_OF_CLAUSES)
+}
+
+#[test]
+fn literals_kept_in_clauses(rt: HostRuntime) -> Result<(), Fail> {
+    all_resolve::<Clauses>(&rt, rt.alloc(), KEPT_IN_CLAUSES)
+}
+
+#[test]
 fn resolvents_of_cubes(rt: HostRuntime) -> Result<(), Fail> {
-    for resolution in CUBE_RESOLVENTS {
-        resolves::<Cubes>(&rt, rt.alloc(), *resolution)?;
-    }
-    Ok(())
+    all_resolve::<Cubes>(&rt, rt.alloc(), CUBE_RESOLVENTS)
 }

@@ -333,15 +333,13 @@ fn gives_the_result_for_good(rt: HostRuntime) {
     assert_eq!(rt; source.pulls(), pulls);
 }
 
-#[test]
-fn hands_over_the_numbers(rt: HostRuntime) {
-    // The second step is not complete, so its number was not given.
-    let mut source = SliceSource::new(b"p qrp 0 0\n9 0 0\n7 1 0");
-    let mut reader = TraceReader::new(rt.alloc());
-    assert!(rt; reader.next_item(&mut source).is_ok());
-    assert!(rt; reader.next_item(&mut source).is_ok());
-    assert!(rt; reader.next_item(&mut source).is_err());
-    let index = reader.into_index();
+/// The reader gives an item.
+fn gives_item(reader: &mut TraceReader, source: &mut SliceSource<'_>) -> bool {
+    reader.next_item(source).is_ok()
+}
+
+/// The index has the number 9 alone.
+fn has_nine(rt: &impl Abort, index: &StepIndex) {
     assert_eq!(rt; index.len(), 1);
     assert_eq!(rt; index.position(9), Some(0));
     assert_eq!(rt; index.position(7), None);
@@ -351,22 +349,44 @@ fn hands_over_the_numbers(rt: HostRuntime) {
 }
 
 #[test]
+fn hands_over_the_numbers(rt: HostRuntime) {
+    // The second step is not complete, so its number was not given.
+    let mut source = SliceSource::new(b"p qrp 0 0\n9 0 0\n7 1 0");
+    let mut reader = TraceReader::new(rt.alloc());
+    assert!(rt; gives_item(&mut reader, &mut source));
+    assert!(rt; gives_item(&mut reader, &mut source));
+    assert!(rt; !gives_item(&mut reader, &mut source));
+    has_nine(&rt, &reader.into_index());
+}
+
+/// The trace has five steps, of which the first two have these literals.
+fn lends_literals(rt: &impl Abort, flat: &FlatTrace, one: Var, two: Var) {
+    assert_eq!(rt; flat.len(), 5);
+    let (first, second) = (flat.lits(0), flat.lits(1));
+    assert_eq!(rt;
+        first,
+        [Lit::new(one, false), Lit::new(two, false)].as_slice()
+    );
+    assert_eq!(rt;
+        second,
+        [Lit::new(one, true), Lit::new(two, false)].as_slice()
+    );
+}
+
+/// The third of its steps has one antecedent.
+fn lends_antecedents(rt: &impl Abort, flat: &FlatTrace) {
+    assert_eq!(rt; flat.len(), 5);
+    assert_eq!(rt; flat.ants(2), [1].as_slice());
+}
+
+#[test]
 fn lends_slices_at_once(rt: HostRuntime) -> Result<(), Fail> {
     let flat = read_flat(rt.alloc(), &mut SliceSource::new(TRACE))?;
-    if let (5, Some(one), Some(two)) = (flat.len(), Var::new(1), Var::new(2)) {
-        let (first, second, ants) = (flat.lits(0), flat.lits(1), flat.ants(2));
-        assert_eq!(rt;
-            first,
-            [Lit::new(one, false), Lit::new(two, false)].as_slice()
-        );
-        assert_eq!(rt;
-            second,
-            [Lit::new(one, true), Lit::new(two, false)].as_slice()
-        );
-        assert_eq!(rt; ants, [1].as_slice());
-        return Ok(());
-    }
-    panic!(&rt; "not five steps")
+    let one = Var::new(1).expect(&rt, "a variable");
+    let two = Var::new(2).expect(&rt, "a variable");
+    lends_literals(&rt, &flat, one, two);
+    lends_antecedents(&rt, &flat);
+    Ok(())
 }
 
 /// A trace of an empty set and an empty step.

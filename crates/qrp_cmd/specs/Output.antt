@@ -115,6 +115,11 @@ pub record IsTrimmedFrom (rules : Rules) (formula trace : List ℕ) (t : Derivat
   pub is : t ≡ trimmed d core
   pub whole : IsTrimmedProof rules f t
 
+-- the same of a formula that was read, whatever text it has
+abbrev pub IsTrimmedOf : Rules → Qbf → Option (List ℕ) → Derivation → Type 0
+IsTrimmedOf rules f trace t =
+    (formula : List ℕ) → read_formula formula ≡ Ok f → IfSome trace (λ b. IsTrimmedFrom rules formula b t)
+
 -- What the trimming of a trace answers: the trimmed trace, as far as the bytes are told, or a refusal as for a check.
 abbrev pub IsTrimmed : Rules → Reading → Reading → Result Derivation Fault → Type 0
 IsTrimmed rules formula trace (Ok t) =

@@ -11,13 +11,14 @@ ghost use Rattle.qrp.specs.Derivations.{Derivation};
 ghost use Rattle.qrp.specs.Grammar.{text as trace_text};
 ghost use Rattle.qrp_check.specs.Trim.{trimmed};
 ghost use Rattle.qrp_check.specs.Verdict.{IsVerdictUnless, IsFormulaDevice, IsTraceDevice};
-ghost use Rattle.qrp_check.specs.Verdict.{IsFormulaFault, StandsOnLine};
+ghost use Rattle.qrp_check.specs.Verdict.{IsVerdictOf, IsFormulaFault, StandsOnLine};
 ghost use Rattle.qrp_check.specs.declared.verdict.Verified.{Verified};
 ghost use Rattle.qrp_check.specs.declared.verdict.Fault.{Fault};
 ghost use Rattle.qrp_report.specs.Lines.{fault_line, fault_status, verdict_line};
 ghost use Rattle.qrp_cmd.specs.declared.job.Job.TheVariants.{Format};
 ghost use Rattle.qrp_cmd.specs.Output.{Report, IsOutput, IsFormulaRead, IsChecked, IsTrimmed};
-ghost use Rattle.qrp_cmd.specs.Output.{IsTrimmedFrom, trim_report, format_report, check_report};
+ghost use Rattle.qrp_cmd.specs.Output.{IsTrimmedFrom, IsTrimmedOf, trim_report, format_report};
+ghost use Rattle.qrp_cmd.specs.Output.{check_report};
 ghost use Rattle.qrp_cmd.specs.Output.{reading_of, HasFailed, IsSent, IsReported};
 
 use crate::job::Job;
@@ -119,7 +120,33 @@ fn check_job<F: Source, T: Source, O: Sink>(
     }
 }
 
-/// The trace that was read, and what the check says of it: the steps that its goal needs.
+/// The trace that was read, and what the check of it on a formula says: the steps that its goal
+/// needs.
+fn checked_trace<T: Source>(
+    alloc: Global,
+    rules: Rules,
+    formula: &Formula,
+    trace: &mut T,
+) -> Result<(Trace, Verified), Fault>
+    ensures refused { IfErr result
+        (λ e. IsVerdictOf rules formula.now (T.remaining trace.old) (Err e)) }
+    ensures trimmed { IfOk result (λ r. IsTrimmedOf rules formula.now (T.remaining trace.old)
+        (trimmed r.0 r.1.core.items)) }
+    ensures within { IfOk result (λ r.
+        AllByRecursion (λ i. i < length r.0.steps) r.1.core.items) }
+    ensures failed { IfErr result (λ e. T.failures trace.old < 2 ^ 64 - 1 →
+        (IsTraceDevice (Err e) ↔ (T.failures trace.old < T.failures trace.new))) }
+    ensures lines { IfErr result StandsOnLine }
+    ensures works { OnOk result (T.failures trace.new ≡ T.failures trace.old) }
+{
+    let whole = read_trace(alloc, trace)?;
+    // The header comes with the fact that the trace is well formed.
+    let _header = whole.header();
+    let verified = check(alloc, formula, &whole, whole.sets(), whole.result(), rules)?;
+    Ok((whole, verified))
+}
+
+/// The same of a formula that is read before the trace.
 fn checked<F: Source, T: Source>(
     alloc: Global,
     rules: Rules,
@@ -143,11 +170,7 @@ fn checked<F: Source, T: Source>(
     ensures not_pulled { IfErr result (λ e. IsFormulaFault (Err e) → trace.new ≡ trace.old) }
 {
     let read = read_formula(alloc, formula)?;
-    let whole = read_trace(alloc, trace)?;
-    // The header comes with the fact that the trace is well formed.
-    let _header = whole.header();
-    let verified = check(alloc, &read, &whole, whole.sets(), whole.result(), rules)?;
-    Ok((whole, verified))
+    checked_trace(alloc, rules, &read, trace)
 }
 
 /// Sends the canonical text of a trace without the steps outside the core.
@@ -215,6 +238,6 @@ pub fn run<F: Source, T: Source, O: Sink, E: Sink>(
 }
 
 #[cfg(test)]
-mod tests;
+pub mod tests;
 #[cfg(test)]
 mod unpulled;

@@ -1,6 +1,7 @@
 use super::*;
 use qbf_text::{PieceSink, put_byte, put_bytes};
 use std::alloc::Global;
+use std::process::Abort;
 use std::test::Fail;
 
 /// A buffer before a sink that takes 1,000 bytes at a push, and has room for this many or for all.
@@ -8,34 +9,60 @@ fn buffered(alloc: Global, room: Option<u64>) -> Result<Buffered<PieceSink>, Fai
     Ok(Buffered::new(PieceSink::new(alloc, 1000, room, false, 0)?))
 }
 
+/// Puts 30,000 bytes one by one, and returns them.
+fn put_each(
+    rt: &impl Abort,
+    alloc: Global,
+    sink: &mut Buffered<PieceSink>,
+) -> Result<Vec<u8>, Fail> {
+    let mut sent = Vec::new(alloc);
+    for n in 0..30_000u32 {
+        let byte = (n % 251) as u8;
+        assert!(rt; put_byte(sink, byte).is_ok());
+        sent.push(byte)?;
+    }
+    Ok(sent)
+}
+
+/// The bytes, and the same again.
+fn twice(alloc: Global, bytes: &[u8]) -> Result<Vec<u8>, Fail> {
+    let mut all = Vec::from_slice(alloc, bytes)?;
+    all.extend_from_slice(bytes)?;
+    Ok(all)
+}
+
+/// Puts at once what was put before, and then all has come through.
+fn come_through(rt: &impl Abort, sink: &mut Buffered<PieceSink>, sent: &[u8], all: &[u8]) {
+    // The last bytes are held back.
+    assert!(rt; sink.sink.bytes().len() < sent.len());
+    // More bytes at once than the buffer has room for are sent on.
+    assert!(rt; put_bytes(sink, sent).is_ok());
+    assert_eq!(rt; sink.sink.bytes().len(), all.len());
+    assert!(rt; sink.finish().is_ok());
+    assert!(rt; sink.sink.bytes() == all);
+}
+
 #[test]
 fn bytes_come_through(rt: HostRuntime) -> Result<(), Fail> {
     let mut sink = buffered(rt.alloc(), None)?;
-    let mut sent = Vec::new(rt.alloc());
-    for n in 0..30_000u32 {
-        let byte = (n % 251) as u8;
-        assert!(rt; put_byte(&mut sink, byte).is_ok());
-        sent.push(byte)?;
-    }
-    // The last bytes are held back.
-    assert!(rt; sink.sink.bytes().len() < sent.len());
-    let more = sent.clone()?;
-    // More bytes at once than the buffer has room for are sent on.
-    assert!(rt; put_bytes(&mut sink, &more).is_ok());
-    sent.extend_from_slice(&more)?;
-    assert_eq!(rt; sink.sink.bytes().len(), sent.len());
-    assert!(rt; sink.finish().is_ok());
-    assert!(rt; sink.sink.bytes() == sent.as_slice());
+    let sent = put_each(&rt, rt.alloc(), &mut sink)?;
+    let all = twice(rt.alloc(), &sent)?;
+    come_through(&rt, &mut sink, &sent, &all);
     Ok(())
+}
+
+/// What is held back goes to a sink that takes three bytes of it.
+fn fails_behind_three(rt: &impl Abort, sink: &mut Buffered<PieceSink>) {
+    assert!(rt; put_bytes(sink, b"VERIFIED").is_ok());
+    assert_eq!(rt; sink.sink.bytes().len(), 0);
+    assert!(rt; sink.finish().is_err());
+    assert_eq!(rt; sink.sink.bytes(), b"VER".as_slice());
 }
 
 #[test]
 fn a_failure_keeps_the_rest(rt: HostRuntime) -> Result<(), Fail> {
     let mut sink = buffered(rt.alloc(), Some(3))?;
-    assert!(rt; put_bytes(&mut sink, b"VERIFIED").is_ok());
-    assert_eq!(rt; sink.sink.bytes().len(), 0);
-    assert!(rt; sink.finish().is_err());
-    assert_eq!(rt; sink.sink.bytes(), b"VER".as_slice());
+    fails_behind_three(&rt, &mut sink);
     // The sink works again from then on.
     assert!(rt; sink.finish().is_ok());
     assert_eq!(rt; sink.sink.bytes(), b"VERIFIED".as_slice());

@@ -3,6 +3,7 @@ ghost use Rattle.qrp_cmd.specs.declared.unopened.Unopened.{Unopened};
 
 use super::*;
 use crate::open::LIMIT;
+use crate::run::tests::{is_same, sinks};
 use crate::unopened::Unopened;
 use qbf_text::{FromRead, PieceSink, VecSink};
 use std::alloc::AllocError;
@@ -54,6 +55,18 @@ fn given(alloc: Global, words: &[&str]) -> Result<Vec<String>, AllocError> {
     Ok(list)
 }
 
+/// What the program writes on these arguments, and its status.
+fn answer_to(
+    alloc: Global,
+    files: &Shelf<'_>,
+    words: &[&str],
+) -> Result<(VecSink, VecSink, Status), Fail> {
+    let (mut out, mut err) = sinks(alloc)?;
+    let words = given(alloc, words)?;
+    let status = program(alloc, files, Ok(words), &mut out, &mut err);
+    Ok((out, err, status))
+}
+
 /// Checks what the program writes on these arguments over this formula and the trace.
 fn expect<R: Abort + AllocGlobal>(
     rt: &R,
@@ -65,72 +78,95 @@ fn expect<R: Abort + AllocGlobal>(
         formula,
         trace: TRACE,
     };
-    let mut out = VecSink::new(rt.alloc(), 0)?;
-    let mut err = VecSink::new(rt.alloc(), 0)?;
-    let given = given(rt.alloc(), words)?;
-    let status = program(rt.alloc(), &files, Ok(given), &mut out, &mut err);
-    assert_eq!(rt; out.bytes(), wanted.0, "out, at {words:?}");
-    assert_eq!(rt; err.bytes(), wanted.1, "err, at {words:?}");
-    assert_eq!(rt; status, wanted.2, "at {words:?}");
+    let (out, err, status) = answer_to(rt.alloc(), &files, words)?;
+    is_same(rt, (out.bytes(), err.bytes(), status), wanted, &words);
+    Ok(())
+}
+
+/// Words of a command line, what goes to the two sinks, and the status.
+type Answer = (
+    &'static [&'static str],
+    (&'static [u8], &'static [u8], Status),
+);
+
+const REFUSED: &[u8] = b"REFUSED step 4 S10\n";
+
+const VERIFIED: &[u8] = b"VERIFIED false\n";
+
+const NO_FORMULA: &[u8] = b"REFUSED formula F2 line 1\n";
+
+const COMMANDS_AND_FLAGS: &[Answer] = &[
+    (&["format", "f"], (FORMULA, b"", 0)),
+    (&["check", "f", "t"], (REFUSED, b"", 1)),
+    (&["check", "--qu", "f", "t"], (VERIFIED, b"", 0)),
+    (&["check", "f", "t", "--qu"], (VERIFIED, b"", 0)),
+    (&["trim", "f", "t"], (b"", REFUSED, 1)),
+    (&["trim", "--qu", "f", "t"], (TRACE, b"", 0)),
+    (&["trim", "f", "t", "--qu"], (TRACE, b"", 0)),
+    // The trace is no formula.
+    (&["check", "t", "f"], (NO_FORMULA, b"", 2)),
+    (&["trim", "t", "f"], (b"", NO_FORMULA, 2)),
+    (&["format", "t"], (b"", NO_FORMULA, 2)),
+];
+
+/// Checks what the program writes on each of these command lines.
+fn expect_all<R: Abort + AllocGlobal>(
+    rt: &R,
+    formula: &[u8],
+    answers: &[Answer],
+) -> Result<(), Fail> {
+    for (words, wanted) in answers {
+        expect(rt, formula, words, *wanted)?;
+    }
     Ok(())
 }
 
 #[test]
 fn commands_and_flags(rt: HostRuntime) -> Result<(), Fail> {
-    let refused: &[u8] = b"REFUSED step 4 S10\n";
-    let verified: &[u8] = b"VERIFIED false\n";
-    expect(&rt, FORMULA, &["format", "f"], (FORMULA, b"", 0))?;
-    expect(&rt, FORMULA, &["check", "f", "t"], (refused, b"", 1))?;
-    expect(
-        &rt,
-        FORMULA,
-        &["check", "--qu", "f", "t"],
-        (verified, b"", 0),
-    )?;
-    expect(
-        &rt,
-        FORMULA,
-        &["check", "f", "t", "--qu"],
-        (verified, b"", 0),
-    )?;
-    expect(&rt, FORMULA, &["trim", "f", "t"], (b"", refused, 1))?;
-    expect(&rt, FORMULA, &["trim", "--qu", "f", "t"], (TRACE, b"", 0))?;
-    expect(&rt, FORMULA, &["trim", "f", "t", "--qu"], (TRACE, b"", 0))?;
-    // The trace is no formula.
-    let no_formula: &[u8] = b"REFUSED formula F2 line 1\n";
-    expect(&rt, FORMULA, &["check", "t", "f"], (no_formula, b"", 2))?;
-    expect(&rt, FORMULA, &["trim", "t", "f"], (b"", no_formula, 2))?;
-    expect(&rt, FORMULA, &["format", "t"], (b"", no_formula, 2))
+    expect_all(&rt, FORMULA, COMMANDS_AND_FLAGS)
 }
+
+const NO_FORMULA_FILE: &[u8] = b"DEVICE formula\n";
+
+const NO_TRACE_FILE: &[u8] = b"DEVICE trace\n";
+
+/// The formula has no text: a fault of it is reported only where the trace is there.
+const MISSING_TRACES: &[Answer] = &[
+    (
+        &["check", "f", "t"],
+        (b"REFUSED formula F7 line 1\n", b"", 2),
+    ),
+    (&["check", "f", "x"], (NO_TRACE_FILE, b"", 3)),
+    (&["trim", "f", "x"], (b"", NO_TRACE_FILE, 3)),
+];
+
+const MISSING_FORMULAS: &[Answer] = &[
+    (&["check", "x", "t"], (NO_FORMULA_FILE, b"", 3)),
+    (&["check", "x", "y"], (NO_FORMULA_FILE, b"", 3)),
+    (&["trim", "x", "t"], (b"", NO_FORMULA_FILE, 3)),
+    (&["trim", "x", "--qu"], (b"", NO_FORMULA_FILE, 3)),
+    (&["format", "x"], (b"", NO_FORMULA_FILE, 3)),
+];
 
 #[test]
 fn missing_files(rt: HostRuntime) -> Result<(), Fail> {
-    let formula: &[u8] = b"DEVICE formula\n";
-    let trace: &[u8] = b"DEVICE trace\n";
-    // No formula at all: a fault of its text is reported only where the trace is there.
-    expect(
-        &rt,
-        b"",
-        &["check", "f", "t"],
-        (b"REFUSED formula F7 line 1\n", b"", 2),
-    )?;
-    expect(&rt, b"", &["check", "f", "x"], (trace, b"", 3))?;
-    expect(&rt, b"", &["trim", "f", "x"], (b"", trace, 3))?;
-    expect(&rt, FORMULA, &["check", "x", "t"], (formula, b"", 3))?;
-    expect(&rt, FORMULA, &["check", "x", "y"], (formula, b"", 3))?;
-    expect(&rt, FORMULA, &["trim", "x", "t"], (b"", formula, 3))?;
-    expect(&rt, FORMULA, &["trim", "x", "--qu"], (b"", formula, 3))?;
-    expect(&rt, FORMULA, &["format", "x"], (b"", formula, 3))
+    expect_all(&rt, b"", MISSING_TRACES)?;
+    expect_all(&rt, FORMULA, MISSING_FORMULAS)
 }
+
+const NO_MEMORY: &[u8] = b"NO MEMORY\n";
+
+const REFUSED_MEMORY: &[Answer] = &[
+    (&["check", "m", "x"], (NO_MEMORY, b"", 4)),
+    (&["check", "f", "m"], (NO_MEMORY, b"", 4)),
+    (&["trim", "m", "x"], (b"", NO_MEMORY, 4)),
+    (&["trim", "f", "m"], (b"", NO_MEMORY, 4)),
+    (&["format", "m"], (b"", NO_MEMORY, 4)),
+];
 
 #[test]
 fn files_that_memory_is_refused_for(rt: HostRuntime) -> Result<(), Fail> {
-    let line: &[u8] = b"NO MEMORY\n";
-    expect(&rt, FORMULA, &["check", "m", "x"], (line, b"", 4))?;
-    expect(&rt, FORMULA, &["check", "f", "m"], (line, b"", 4))?;
-    expect(&rt, FORMULA, &["trim", "m", "x"], (b"", line, 4))?;
-    expect(&rt, FORMULA, &["trim", "f", "m"], (b"", line, 4))?;
-    expect(&rt, FORMULA, &["format", "m"], (b"", line, 4))
+    expect_all(&rt, FORMULA, REFUSED_MEMORY)
 }
 
 #[test]
@@ -162,12 +198,14 @@ fn no_words(alloc: Global, start: Start, room: Option<u64>) -> Result<(PieceSink
 
 #[test]
 fn words_that_are_not_got(rt: HostRuntime) -> Result<(), Fail> {
-    let (err, status) = no_words(rt.alloc(), Start::NoMemory, None)?;
-    assert_eq!(rt; err.bytes(), b"NO MEMORY\n".as_slice());
-    assert_eq!(rt; status, 4);
-    // The status stays where the line does not go out.
-    let (err, status) = no_words(rt.alloc(), Start::Usage, Some(3))?;
-    assert_eq!(rt; err.bytes(), b"USA".as_slice());
-    assert_eq!(rt; status, 5);
+    let rows: [(Start, Option<u64>, &[u8], Status); 2] = [
+        (Start::NoMemory, None, b"NO MEMORY\n", 4),
+        // The status stays where the line does not go out.
+        (Start::Usage, Some(3), b"USA", 5),
+    ];
+    for (start, room, line, wanted) in rows {
+        let (err, status) = no_words(rt.alloc(), start, room)?;
+        is_same(&rt, (err.bytes(), status), (line, wanted), &start);
+    }
     Ok(())
 }

@@ -4,6 +4,7 @@ ghost use Rattle.std.specs.Prelude.{◌<◌};
 
 use super::*;
 use qbf_text::{FromRead, PieceSink, PieceSource, SliceSource, VecSink, put_bytes};
+use std::fmt::Debug;
 use std::process::Abort;
 use std::test::Fail;
 
@@ -22,6 +23,21 @@ struct Ran {
     pulls: u64,
 }
 
+/// Compares what was found at a place with what is wanted there.
+pub fn is_same<T: Copy + PartialEq + Debug>(
+    rt: &impl Abort,
+    found: T,
+    wanted: T,
+    place: &impl Debug,
+) {
+    assert_eq!(rt; found, wanted, "at {place:?}");
+}
+
+/// Two sinks that have nothing yet.
+pub fn sinks(alloc: Global) -> Result<(VecSink, VecSink), Fail> {
+    Ok((VecSink::new(alloc, 0)?, VecSink::new(alloc, 0)?))
+}
+
 /// Runs a job on bytes that are pulled in pieces. The pulls with these numbers fail, none at 0.
 fn run_on(
     alloc: Global,
@@ -34,8 +50,7 @@ fn run_on(
 {
     let mut source = PieceSource::new(formula.0, piece, formula.1);
     let mut steps = PieceSource::new(trace.0, piece, trace.1);
-    let mut out = VecSink::new(alloc, 0)?;
-    let mut err = VecSink::new(alloc, 0)?;
+    let (mut out, mut err) = sinks(alloc)?;
     let status = run(alloc, job, &mut source, &mut steps, &mut out, &mut err);
     Ok(Ran {
         out,
@@ -43,6 +58,13 @@ fn run_on(
         status,
         pulls: steps.pulls(),
     })
+}
+
+/// Compares what a run on pieces of this length wrote, and its status, with these.
+fn has_said(rt: &impl Abort, ran: &Ran, out: &[u8], err: &[u8], status: Status, piece: usize) {
+    is_same(rt, ran.out.bytes(), out, &("out, in pieces of", piece));
+    is_same(rt, ran.err.bytes(), err, &("err, in pieces of", piece));
+    is_same(rt, ran.status, status, &("status, in pieces of", piece));
 }
 
 /// Checks what a job writes to its two sinks, and its status, for texts that are pulled whole and
@@ -58,9 +80,7 @@ pub fn expect<R: Abort + AllocGlobal>(
     for piece in [1usize, 4096] {
         assert!(rt; piece > 0);
         let ran = run_on(rt.alloc(), job, (texts.0, 0), (texts.1, 0), piece)?;
-        assert_eq!(rt; ran.out.bytes(), out, "out, in pieces of {piece}");
-        assert_eq!(rt; ran.err.bytes(), err, "err, in pieces of {piece}");
-        assert_eq!(rt; ran.status, status, "in pieces of {piece}");
+        has_said(rt, &ran, out, err, status, piece);
     }
     Ok(())
 }
@@ -104,78 +124,98 @@ fn a_literal_that_is_repeated(rt: HostRuntime) -> Result<(), Fail> {
     expect(&rt, Job::Trim(plain), texts, trace.bytes(), b"", 0)
 }
 
+/// How often a job pulls a trace that begins wrong, and what it writes to its first sink.
+fn pulls_of(alloc: Global, job: Job, formula: &[u8]) -> Result<(u64, VecSink), Fail> {
+    let ran = run_on(alloc, job, (formula, 0), (b"p qrp", 0), 1)?;
+    Ok((ran.pulls, ran.out))
+}
+
 #[test]
 fn the_trace_of_a_refused_formula_is_not_pulled(rt: HostRuntime) -> Result<(), Fail> {
     let free = b"p cnf 3 2\ne 1 0\na 2 0\n1 3 0\n-1 2 0\n".as_slice();
-    let check = run_on(
-        rt.alloc(),
-        Job::Check(Rules::plain()),
-        (free, 0),
-        (b"p qrp", 0),
-        1,
-    )?;
-    assert_eq!(rt;
-        check.out.bytes(),
-        b"REFUSED formula F6 line 4\n".as_slice()
-    );
-    assert_eq!(rt; check.pulls, 0);
-    let format = run_on(rt.alloc(), Job::Format, (TWO_CLAUSES, 0), (b"p qrp", 0), 1)?;
-    assert_eq!(rt; format.pulls, 0);
+    let (pulls, out) = pulls_of(rt.alloc(), Job::Check(Rules::plain()), free)?;
+    assert_eq!(rt; out.bytes(), b"REFUSED formula F6 line 4\n".as_slice());
+    assert_eq!(rt; pulls, 0);
+    Ok(())
+}
+
+#[test]
+fn the_trace_is_not_pulled_for_format(rt: HostRuntime) -> Result<(), Fail> {
+    let (pulls, _) = pulls_of(rt.alloc(), Job::Format, TWO_CLAUSES)?;
+    assert_eq!(rt; pulls, 0);
+    Ok(())
+}
+
+/// A check says this line with this status, if these pulls of the formula and the trace fail.
+fn check_says(
+    rt: &impl Abort,
+    alloc: Global,
+    pulls: (u64, u64),
+    line: &[u8],
+    status: Status,
+) -> Result<(), Fail> {
+    let job = Job::Check(Rules::plain());
+    let ran = run_on(alloc, job, (TWO_CLAUSES, pulls.0), (REFUTATION, pulls.1), 1)?;
+    is_same(rt, ran.out.bytes(), line, &pulls);
+    is_same(rt, ran.status, status, &pulls);
     Ok(())
 }
 
 #[test]
 fn sources_that_fail_are_told(rt: HostRuntime) -> Result<(), Fail> {
-    let job = Job::Check(Rules::plain());
     for fail_at in 1..37u64 {
-        let ran = run_on(rt.alloc(), job, (TWO_CLAUSES, fail_at), (REFUTATION, 0), 1)?;
-        assert_eq!(rt;
-            ran.out.bytes(),
-            b"DEVICE formula\n".as_slice(),
-            "at pull {fail_at}"
-        );
-        assert_eq!(rt; ran.status, 3, "at pull {fail_at}");
+        check_says(&rt, rt.alloc(), (fail_at, 0), b"DEVICE formula\n", 3)?;
     }
     for fail_at in 1..83u64 {
-        let ran = run_on(rt.alloc(), job, (TWO_CLAUSES, 0), (REFUTATION, fail_at), 1)?;
-        assert_eq!(rt;
-            ran.out.bytes(),
-            b"DEVICE trace\n".as_slice(),
-            "at pull {fail_at}"
-        );
-        assert_eq!(rt; ran.status, 3, "at pull {fail_at}");
+        check_says(&rt, rt.alloc(), (0, fail_at), b"DEVICE trace\n", 3)?;
     }
-    let after = run_on(rt.alloc(), job, (TWO_CLAUSES, 37), (REFUTATION, 0), 1)?;
-    assert_eq!(rt; after.out.bytes(), b"VERIFIED false\n".as_slice());
-    let format = run_on(rt.alloc(), Job::Format, (TWO_CLAUSES, 7), (b"", 0), 1)?;
-    assert_eq!(rt; format.out.bytes(), b"".as_slice());
-    assert_eq!(rt; format.err.bytes(), b"DEVICE formula\n".as_slice());
-    assert_eq!(rt; format.status, 3);
+    check_says(&rt, rt.alloc(), (37, 0), b"VERIFIED false\n", 0)
+}
+
+#[test]
+fn a_formula_that_fails_is_told_for_format(rt: HostRuntime) -> Result<(), Fail> {
+    let ran = run_on(rt.alloc(), Job::Format, (TWO_CLAUSES, 7), (b"", 0), 1)?;
+    has_said(&rt, &ran, b"", b"DEVICE formula\n", 3, 1);
     Ok(())
+}
+
+/// What a check says of a formula that is read up to a limit, and its status.
+fn check_up_to(alloc: Global, limit: u64) -> Result<(VecSink, Status), Fail> {
+    let mut formula = FromRead::new(TWO_CLAUSES, limit);
+    let mut trace = SliceSource::new(REFUTATION);
+    let (mut out, mut err) = sinks(alloc)?;
+    let job = Job::Check(Rules::plain());
+    let status = run(alloc, job, &mut formula, &mut trace, &mut out, &mut err);
+    Ok((out, status))
 }
 
 #[test]
 fn a_reader_fails_past_its_limit(rt: HostRuntime) -> Result<(), Fail> {
-    for (limit, line, status) in [
+    for (limit, line, wanted) in [
         (35u64, b"DEVICE formula\n".as_slice(), 3),
         (36, b"VERIFIED false\n", 0),
     ] {
-        let mut formula = FromRead::new(TWO_CLAUSES, limit);
-        let mut trace = SliceSource::new(REFUTATION);
-        let mut out = VecSink::new(rt.alloc(), 0)?;
-        let mut err = VecSink::new(rt.alloc(), 0)?;
-        let job = Job::Check(Rules::plain());
-        let answer = run(
-            rt.alloc(),
-            job,
-            &mut formula,
-            &mut trace,
-            &mut out,
-            &mut err,
-        );
-        assert_eq!(rt; out.bytes(), line, "with limit {limit}");
-        assert_eq!(rt; answer, status, "with limit {limit}");
+        let (out, status) = check_up_to(rt.alloc(), limit)?;
+        is_same(&rt, out.bytes(), line, &limit);
+        is_same(&rt, status, wanted, &limit);
     }
+    Ok(())
+}
+
+/// Runs a job on the worked texts, and returns what its other sink got, and the status.
+fn run_into(alloc: Global, job: Job, out: &mut PieceSink) -> Result<(VecSink, Status), Fail> {
+    let mut formula = SliceSource::new(TWO_CLAUSES);
+    let mut trace = SliceSource::new(REFUTATION);
+    let mut err = VecSink::new(alloc, 0)?;
+    let status = run(alloc, job, &mut formula, &mut trace, out, &mut err);
+    Ok((err, status))
+}
+
+/// A run into this sink fails, and the other sink gets nothing.
+fn is_cut(rt: &impl Abort, alloc: Global, job: Job, out: &mut PieceSink) -> Result<(), Fail> {
+    let (err, status) = run_into(alloc, job, out)?;
+    assert_eq!(rt; err.bytes(), b"".as_slice());
+    assert_eq!(rt; status, 3);
     Ok(())
 }
 
@@ -189,25 +229,9 @@ fn cut<R: Abort + AllocGlobal>(
 ) -> Result<(), Fail> {
     let (room, piece, finish_fails) = sink;
     assert!(rt; piece > 0);
-    let mut formula = SliceSource::new(TWO_CLAUSES);
-    let mut trace = SliceSource::new(REFUTATION);
     let mut out = PieceSink::new(rt.alloc(), piece, room, finish_fails, 64)?;
-    let mut err = VecSink::new(rt.alloc(), 0)?;
-    let answer = run(
-        rt.alloc(),
-        job,
-        &mut formula,
-        &mut trace,
-        &mut out,
-        &mut err,
-    );
-    assert_eq!(rt;
-        out.bytes(),
-        kept,
-        "with room {room:?}, in pieces of {piece}"
-    );
-    assert_eq!(rt; err.bytes(), b"".as_slice());
-    assert_eq!(rt; answer, 3);
+    is_cut(rt, rt.alloc(), job, &mut out)?;
+    is_same(rt, out.bytes(), kept, &(room, piece));
     Ok(())
 }
 

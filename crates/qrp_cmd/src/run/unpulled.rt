@@ -1,8 +1,19 @@
 //! A trace is not pulled where the formula is refused.
 
+use super::tests::{is_same, sinks};
 use super::*;
 use qbf_text::{PieceSource, VecSink};
 use std::test::Fail;
+
+/// What a job writes to either of its sinks, and how often it pulls the trace.
+fn said(alloc: Global, job: Job, formula: &[u8], fail_at: u64) -> Result<(VecSink, u64), Fail> {
+    let mut source = PieceSource::new(formula, 4096, fail_at);
+    let mut trace = PieceSource::new(b"p qrp 0 0\n1 0 0\nr sat\n", 4096, 0);
+    let (mut out, mut err) = sinks(alloc)?;
+    run(alloc, job, &mut source, &mut trace, &mut out, &mut err);
+    let written = if out.bytes().is_empty() { err } else { out };
+    Ok((written, trace.pulls()))
+}
 
 #[test]
 fn the_trace_is_not_pulled(rt: HostRuntime) -> Result<(), Fail> {
@@ -14,18 +25,9 @@ fn the_trace_is_not_pulled(rt: HostRuntime) -> Result<(), Fail> {
     ];
     for job in [Job::Check(plain), Job::Trim(plain)] {
         for (formula, fail_at, line) in rows {
-            let mut source = PieceSource::new(formula, 4096, fail_at);
-            let mut trace = PieceSource::new(b"p qrp 0 0\n1 0 0\nr sat\n", 4096, 0);
-            let mut out = VecSink::new(rt.alloc(), 0)?;
-            let mut err = VecSink::new(rt.alloc(), 0)?;
-            run(rt.alloc(), job, &mut source, &mut trace, &mut out, &mut err);
-            let said = if out.bytes().is_empty() {
-                err.bytes()
-            } else {
-                out.bytes()
-            };
-            assert_eq!(rt; said, line, "at {job:?}");
-            assert_eq!(rt; trace.pulls(), 0, "at {job:?}");
+            let (written, pulls) = said(rt.alloc(), job, formula, fail_at)?;
+            is_same(&rt, written.bytes(), line, &job);
+            is_same(&rt, pulls, 0, &job);
         }
     }
     Ok(())

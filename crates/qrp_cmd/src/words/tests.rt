@@ -1,4 +1,5 @@
 use super::*;
+use crate::run::tests::is_same;
 use std::alloc::{AllocError, Global};
 use std::test::Fail;
 
@@ -26,7 +27,7 @@ fn rows_of_the_usage(rt: HostRuntime) -> Result<(), Fail> {
     ];
     for (row, job, formula, trace) in rows {
         let words = given(rt.alloc(), row)?;
-        assert_eq!(rt; request(&words), Some((job, formula, trace)), "at {row:?}");
+        is_same(&rt, request(&words), Some((job, formula, trace)), &row);
     }
     Ok(())
 }
@@ -46,10 +47,11 @@ fn rows_with_the_flag(rt: HostRuntime) -> Result<(), Fail> {
     ];
     for (row, job, formula, trace) in rows {
         let words = given(rt.alloc(), row)?;
-        assert_eq!(rt;
+        is_same(
+            &rt,
             request(&words),
             Some((job, formula, Some(trace))),
-            "at {row:?}"
+            &row,
         );
     }
     Ok(())
@@ -76,7 +78,7 @@ fn other_words(rt: HostRuntime) -> Result<(), Fail> {
     ];
     for row in rows {
         let words = given(rt.alloc(), row)?;
-        assert_eq!(rt; request(&words), None, "at {row:?}");
+        is_same(&rt, request(&words), None, &row);
     }
     Ok(())
 }

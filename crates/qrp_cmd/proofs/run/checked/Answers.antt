@@ -1,19 +1,12 @@
-use Rattle.std.proofs.Common.{refl}
-use Rattle.std.proofs.lemmas.Result.{err_from_is_err_and}
-use Rattle.qrp_check.proofs.VerdictsOfBytes.{check_refused}
-use Rattle.qrp_cmd.proofs.TrimmedOutput.{trimmed_from}
+use Rattle.qrp_cmd.proofs.TrimmedOutput.{refused_from, trimmed_from}
 use Rattle.qrp_cmd.proofs.run.checked.Goals as goal
 
-pub returns-in_err-verified-clause-refused : goal.returns-in_err-verified-clause-refused
-returns-in_err-verified-clause-refused g c =
-    let p = err_from_is_err_and c.from_residual-in_err-verified.result c.from_residual-in_err-verified.ensures.1 in
-    rw (p.1, p.2) (check_refused c.args.rules (g.F.Source.remaining c.args.formula.now)
-    (g.T.Source.remaining c.args.trace.now) c.in_ok-read.read c.in_ok-whole.whole c.in_err-verified.field-0.0
-    c.in_ok-read.ensures.exact c.in_ok-whole.ensures.exact (rw (c.sets.ensures, c.result.ensures) at c.in_err-verified.ensures.refused))
+pub returns-clause-refused : goal.returns-clause-refused
+returns-clause-refused g c =
+    refused_from c.args.rules (g.F.Source.remaining c.args.formula.now) (g.T.Source.remaining c.args.trace.now)
+    c.in_ok-read.read _ c.in_ok-read.ensures.exact c.checked_trace.ensures.refused
 
 pub returns-clause-trimmed : goal.returns-clause-trimmed
 returns-clause-trimmed g c =
-    trimmed_from c.args.rules (g.F.Source.remaining c.args.formula.now)
-    (g.T.Source.remaining c.args.trace.now) c.in_ok-read.read c.in_ok-whole.whole c.in_ok-verified.verified.core.items _
-    c.in_ok-read.ensures.exact c.in_ok-whole.ensures.exact c.header-header.ensures.sound
-    c.in_ok-verified.ensures.core (rw (c.sets.ensures, c.result.ensures) at c.in_ok-verified.ensures.proves) refl
+    trimmed_from c.args.rules (g.F.Source.remaining c.args.formula.now) (g.T.Source.remaining c.args.trace.now)
+    c.in_ok-read.read _ c.in_ok-read.ensures.exact c.checked_trace.ensures.trimmed
