@@ -84,8 +84,6 @@ pub fn check<T: Steps>(
     ensures refused { IfErr result
         (λ e. e ≢ C5 → IsFirstFault rules formula.now sets.now (T.steps trace.now) outcome e) }
 {
-    // The bound comes with the fact that the formula is closed.
-    let _bound = formula.max_var();
     if let Some(fault) = sets_fault(formula.prefix(), sets) {
         return Err(fault);
     }

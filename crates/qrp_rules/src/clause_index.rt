@@ -77,8 +77,6 @@ fn has_reduct_at(
     requires { IsOrdered set.now }
     ensures { IfOk result (λ t. IsTrue t ↔ HasReductAt formula.now set.now place) }
 {
-    // Its contract says that the clauses are bound.
-    let _closed = formula.max_var();
     if place >= formula.clauses() {
         return Ok(false);
     }
@@ -96,8 +94,6 @@ struct IndexEntry {
 fn hashed_clauses(alloc: Global, formula: &Formula) -> Result<Vec<IndexEntry>, AllocError>
     ensures { IfOk result (λ filed. IsIndex formula.now filed.items) }
 {
-    // Its contract says that the clauses are bound.
-    let _closed = formula.max_var();
     let mut filed = Vec::with_capacity(alloc, formula.clauses())?;
     for place in 0..formula.clauses() {
         if let Some(hash) = clause_hash(alloc, formula.prefix(), formula.clause(place))? {
@@ -201,8 +197,6 @@ impl InitialClauses {
         ensures bound { IsTrue result → AreBound formula.now.blocks lits.now }
         ensures kept { IsIndexed formula.now self.new }
     {
-        // Its contract says that the clauses are bound.
-        let _closed = formula.max_var();
         if self.next >= formula.clauses() {
             return false;
         }

@@ -7,43 +7,43 @@ use Rattle.qrp_check.proofs.checking.check.Goals as goal
 
 pub returns-in_default-find_goal-clause-refused : goal.returns-in_default-find_goal-clause-refused
 returns-in_default-find_goal-clause-refused g c =
-    λ other. (rw c.prefix.ensures at c.in_default.ensures.none, c.in_default-find_goal.ensures.none)
+    λ other. (rw c.prefix.ensures.value at c.in_default.ensures.none, c.in_default-find_goal.ensures.none)
 
 pub returns-in-Unsat-clause-proves : goal.returns-in-Unsat-clause-proves
 returns-in-Unsat-clause-proves g c =
     proves c.args.rules c.args.formula.now c.args.sets.now (g.T.Steps.steps c.args.trace.now) c.args.outcome Clauses c.check_core.result
     (ap side_of c.in-Unsat.is)
-    (rw c.prefix.ensures at c.in_default.ensures.none) c.check_core.ensures.derives
+    (rw c.prefix.ensures.value at c.in_default.ensures.none) c.check_core.ensures.derives
 
 pub returns-in-Unsat-clause-truth : goal.returns-in-Unsat-clause-truth
 returns-in-Unsat-clause-truth g c =
     shows_false c.args.rules c.args.formula.now c.args.sets.now (g.T.Steps.steps c.args.trace.now) c.args.outcome c.check_core.result
     (ap side_of c.in-Unsat.is)
-    (closed_of c.args.formula.now c.max_var-bound.ensures.sound) (returns-in-Unsat-clause-proves g c) c.check_core.ensures.claim
+    (closed_of c.args.formula.now c.prefix.ensures.sound) (returns-in-Unsat-clause-proves g c) c.check_core.ensures.claim
 
 pub returns-in-Unsat-clause-refused : goal.returns-in-Unsat-clause-refused
 returns-in-Unsat-clause-refused g c =
     refuses c.args.rules c.args.formula.now c.args.sets.now (g.T.Steps.steps c.args.trace.now) c.args.outcome Clauses c.check_core.result
     (ap side_of c.in-Unsat.is)
-    (rw c.prefix.ensures at c.in_default.ensures.none) c.check_core.ensures.refused
+    (rw c.prefix.ensures.value at c.in_default.ensures.none) c.check_core.ensures.refused
 
 pub returns-in-Sat-clause-proves : goal.returns-in-Sat-clause-proves
 returns-in-Sat-clause-proves g c =
     proves c.args.rules c.args.formula.now c.args.sets.now
     (g.T.Steps.steps c.args.trace.now) c.args.outcome Cubes c.check_core-in-Sat.result (ap side_of c.in-Sat.is)
-    (rw c.prefix.ensures at c.in_default.ensures.none) c.check_core-in-Sat.ensures.derives
+    (rw c.prefix.ensures.value at c.in_default.ensures.none) c.check_core-in-Sat.ensures.derives
 
 pub returns-in-Sat-clause-truth : goal.returns-in-Sat-clause-truth
 returns-in-Sat-clause-truth g c =
     shows_true c.args.rules c.args.formula.now c.args.sets.now (g.T.Steps.steps c.args.trace.now) c.args.outcome c.check_core-in-Sat.result
     (ap side_of c.in-Sat.is)
-    (closed_of c.args.formula.now c.max_var-bound.ensures.sound) (returns-in-Sat-clause-proves g c) c.check_core-in-Sat.ensures.claim
+    (closed_of c.args.formula.now c.prefix.ensures.sound) (returns-in-Sat-clause-proves g c) c.check_core-in-Sat.ensures.claim
 
 pub returns-in-Sat-clause-refused : goal.returns-in-Sat-clause-refused
 returns-in-Sat-clause-refused g c =
     refuses c.args.rules c.args.formula.now c.args.sets.now
     (g.T.Steps.steps c.args.trace.now) c.args.outcome Cubes c.check_core-in-Sat.result (ap side_of c.in-Sat.is)
-    (rw c.prefix.ensures at c.in_default.ensures.none) c.check_core-in-Sat.ensures.refused
+    (rw c.prefix.ensures.value at c.in_default.ensures.none) c.check_core-in-Sat.ensures.refused
 
 pub returns-in-Unsat-clause-rises : goal.returns-in-Unsat-clause-rises
 returns-in-Unsat-clause-rises g c = answer_rises (g.T.Steps.steps c.args.trace.now) c.check_core.result c.check_core.ensures.core

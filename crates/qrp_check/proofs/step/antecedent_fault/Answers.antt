@@ -17,10 +17,10 @@ pub returns-in-One-clause-fault : goal.returns-in-One-clause-fault
 returns-in-One-clause-fault g c = λ before step given is.
     let found = rw c.in-One.is at given in
     one_antecedent c.args.setting.rules g.S.Side.side c.args.setting.formula.now before step c.args.set.now found.0 c.one_fault.result
-    found.1 is (rw c.prefix.ensures at (c.one_fault.ensures before found.0) found.2)
+    found.1 is (rw c.prefix.ensures.value at (c.one_fault.ensures before found.0) found.2)
 
 pub returns-in-Two-clause-fault : goal.returns-in-Two-clause-fault
 returns-in-Two-clause-fault g c = λ before step given is.
     let found = rw c.in-Two.is at given in
     two_antecedents c.args.setting.rules g.S.Side.side c.args.setting.formula.now before step c.args.set.now found.0 found.1
-    c.two_fault.result found.2 is (rw c.prefix-in-Two.ensures at (c.two_fault.ensures before found.0 found.1) found.3 found.4)
+    c.two_fault.result found.2 is (rw c.prefix-in-Two.ensures.value at (c.two_fault.ensures before found.0 found.1) found.3 found.4)

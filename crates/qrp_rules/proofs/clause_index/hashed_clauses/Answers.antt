@@ -16,7 +16,7 @@ loop-place-preserved c = elim c.match-branch-3.branch [
       (λ clean.
       let t = c.in_ok-hash.ensures clean in
       let same : Some w.in-Some.hash ≡ Some (hash_from 0 t.0) = sym w.in-Some.is ∙ t.2 in
-      (t.0, subst (λ (bs : List Block). IsReducedForm Clauses bs c.clause.result.now t.0) c.prefix.ensures t.1, cc same))
+      (t.0, subst (λ (bs : List Block). IsReducedForm Clauses bs c.clause.result.now t.0) c.prefix.ensures.value t.1, cc same))
       c.loop-place.invariant))
   | in_default w ↦ rw w.filed-is (
       unfiled c.args.formula.now c.loop-place.filed.items c.loop-place.place c.clause.result.now c.clause.ensures
@@ -26,4 +26,4 @@ loop-place-preserved c = elim c.match-branch-3.branch [
 
 pub returns : goal.returns
 returns c = filed_all c.args.formula.now c.loop-place.filed.items c.loop-place.place
-    (omega (arith, c.loop-place-test.false, c.clauses-place-end.ensures)) c.loop-place.invariant
+    (omega (arith, c.loop-place-test.false, c.clauses-place-end.ensures.value)) c.loop-place.invariant

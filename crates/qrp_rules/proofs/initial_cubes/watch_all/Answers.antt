@@ -11,4 +11,4 @@ loop-clause-preserved c =
 pub returns : goal.returns
 returns c = λ t i clause at.
     let inside = slice_get_within c.args.formula.now.clauses i clause at in
-    c.loop-clause.invariant i (omega (arith, inside, c.loop-clause-test.false, c.clauses-clause-end.ensures)) clause at
+    c.loop-clause.invariant i (omega (arith, inside, c.loop-clause-test.false, c.clauses-clause-end.ensures.value)) clause at

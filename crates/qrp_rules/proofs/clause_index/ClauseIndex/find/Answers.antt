@@ -9,7 +9,7 @@ pub returns-then-filed-hash-clause-none : goal.returns-then-filed-hash-clause-no
 returns-then-filed-hash-clause-none c =
     let w = c.reduced_hash-hash.ensures in
     none_initial c.args.formula.now c.args.self.now.filed.items c.args.set.now w.0 c.reduced_hash-hash.result c.requires.index
-    (subst (λ (bs : List Block). IsReducedForm Clauses bs c.args.set.now w.0) c.prefix.ensures w.1) w.2
+    (subst (λ (bs : List Block). IsReducedForm Clauses bs c.args.set.now w.0) c.prefix.ensures.value w.1) w.2
     (λ i at h. none_left c.args.formula.now c.args.set.now c.from_hash-rest.result.now c.reduced_hash-hash.result c.loop-filed.filed-index
     c.loop-filed.invariant
     (above_from c.from_hash-rest.result.now c.reduced_hash-hash.result c.loop-filed.filed-index
@@ -20,7 +20,7 @@ pub returns-clause-none : goal.returns-clause-none
 returns-clause-none c =
     let w = c.reduced_hash-hash.ensures in
     none_initial c.args.formula.now c.args.self.now.filed.items c.args.set.now w.0 c.reduced_hash-hash.result c.requires.index
-    (subst (λ (bs : List Block). IsReducedForm Clauses bs c.args.set.now w.0) c.prefix.ensures w.1) w.2
+    (subst (λ (bs : List Block). IsReducedForm Clauses bs c.args.set.now w.0) c.prefix.ensures.value w.1) w.2
     (λ i at h. none_left c.args.formula.now c.args.set.now c.from_hash-rest.result.now c.reduced_hash-hash.result c.loop-filed.filed-index
     c.loop-filed.invariant
     (λ k d le less. absurd (omega (arith, le, less, c.loop-filed-test.false)))

@@ -8,5 +8,5 @@ returns-clause-initial c = λ _.
 
 pub returns-clause-bound : goal.returns-clause-bound
 returns-clause-bound c = λ _.
-    copy_bound c.args.formula.now c.clause.result.now c.args.lits.now _ c.max_var-closed.ensures.sound c.clause.ensures
+    copy_bound c.args.formula.now c.clause.result.now c.args.lits.now _ c.clauses.ensures.sound c.clause.ensures
     (c.is_copy.ensures.members c.if-not-is_copy.false)
