@@ -69,11 +69,7 @@ pub fn set_unless_ordered(
         return Ok(None);
     }
     match LitSet::from_slice(alloc, lits, prefix) {
-        Ok(set) => {
-            // Its contract says that they are in order.
-            let _ordered = set.as_slice();
-            Ok(Some(set))
-        }
+        Ok(set) => Ok(Some(set)),
         Err(fault) => Err(fault),
     }
 }
