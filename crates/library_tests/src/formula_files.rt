@@ -116,6 +116,14 @@ fn says_that_a_source_failed(rt: HostRuntime) {
     assert!(rt; read_formula(rt.alloc(), &mut source).is_ok());
 }
 
+/// The formula of this source has this fault.
+fn is_refused(rt: &impl Abort, alloc: Global, source: &mut PieceSource<'_>, fault: FormulaFault) {
+    match read_formula(alloc, source) {
+        Ok(_) => panic!(rt; "no fault {fault:?}"),
+        Err(answer) => assert_eq!(rt; answer.0, fault),
+    }
+}
+
 #[test]
 fn pulls_nothing_behind_a_fault(rt: HostRuntime) {
     // The byte after the wrong token is the last one that is looked at: the next pull would fail.
@@ -129,10 +137,7 @@ fn pulls_nothing_behind_a_fault(rt: HostRuntime) {
         (b"p cnf 1 0\ne 1 0\n1 0\n", 18, FormulaFault::F8),
     ] {
         let mut source = PieceSource::new(text, 1, looked_at + 1);
-        match read_formula(rt.alloc(), &mut source) {
-            Ok(_) => panic!(&rt; "no fault {fault:?}"),
-            Err(answer) => assert_eq!(&rt; answer.0, fault),
-        }
+        is_refused(&rt, rt.alloc(), &mut source, fault);
         assert_eq!(&rt; source.pulls(), looked_at);
     }
 }

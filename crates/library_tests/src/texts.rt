@@ -233,14 +233,17 @@ fn pulls_no_more_than_the_limit(rt: HostRuntime) {
     assert_eq!(rt; scanner.next_token(&mut source), Err(ScanFault));
 }
 
+/// Sends a text of its own.
+fn send(sink: &mut impl Sink) -> Result<(), SinkFault> {
+    put_bytes(sink, b"p cnf ")?;
+    put_number(sink, 12)?;
+    sink.finish()
+}
+
 #[test]
 fn sends_to_a_writer(rt: HostRuntime) -> Result<(), Fail> {
     let mut written = Vec::new(rt.alloc());
-    let mut sink = ToWrite::new(&mut written);
-    put_bytes(&mut sink, b"p cnf ")?;
-    put_number(&mut sink, 12)?;
-    sink.finish()?;
-    drop(sink);
+    send(&mut ToWrite::new(&mut written))?;
     assert_eq!(rt; written.as_slice(), b"p cnf 12".as_slice());
     Ok(())
 }
