@@ -232,6 +232,19 @@ fn two_blocks(alloc: Global, outer: Var, inner: Var) -> Result<Prefix, Fail> {
     Ok(prefix)
 }
 
+/// The set holds this literal, and not its negation.
+fn has_with_sign(rt: &impl Abort, set: &LitSet, lit: Lit) {
+    assert!(rt; set.contains(lit));
+    assert!(rt; !set.contains(lit.negated()));
+}
+
+/// The same, and so says the search of its literals.
+fn is_told_with_sign(rt: &impl Abort, set: &LitSet, lit: Lit) {
+    has_with_sign(rt, set, lit);
+    assert!(rt; is_member(set.as_slice(), lit));
+    assert!(rt; !is_member(set.as_slice(), lit.negated()));
+}
+
 #[test]
 fn sets(rt: HostRuntime) -> Result<(), Fail> {
     let alloc = rt.alloc();
@@ -246,12 +259,15 @@ fn sets(rt: HostRuntime) -> Result<(), Fail> {
     ];
     let set = LitSet::from_slice(alloc, &lits, &prefix)?;
     assert!(rt; set.as_slice() == [Lit::new(one, false), Lit::new(two, true)].as_slice());
-    assert!(rt; set.contains(Lit::new(two, true)));
-    assert!(rt; is_member(set.as_slice(), Lit::new(two, true)));
-    assert!(rt; !set.contains(Lit::new(two, false)));
-    assert!(rt; !is_member(set.as_slice(), Lit::new(two, false)));
+    is_told_with_sign(&rt, &set, Lit::new(two, true));
     assert!(rt; !set.contains(Lit::new(three, false)));
-    let empty = LitSet::from_slice(alloc, &[], &prefix)?;
+    Ok(())
+}
+
+#[test]
+fn sets_of_nothing(rt: HostRuntime) -> Result<(), Fail> {
+    let prefix = two_blocks(rt.alloc(), variable(&rt, 1), variable(&rt, 2))?;
+    let empty = LitSet::from_slice(rt.alloc(), &[], &prefix)?;
     assert!(rt; empty.as_slice().is_empty());
     Ok(())
 }
@@ -284,12 +300,6 @@ fn has_gaps(rt: &impl Abort, set: &LitSet) {
     assert!(rt; !set.contains(Lit::new(variable(rt, 3), true)));
     assert!(rt; !set.contains(Lit::new(variable(rt, 6), true)));
     assert!(rt; !set.contains(Lit::new(variable(rt, 13), false)));
-}
-
-/// The set holds this literal, and not its negation.
-fn has_with_sign(rt: &impl Abort, set: &LitSet, lit: Lit) {
-    assert!(rt; set.contains(lit));
-    assert!(rt; !set.contains(lit.negated()));
 }
 
 #[test]
@@ -514,14 +524,19 @@ fn three_clauses(rt: &impl Abort, alloc: Global) -> Result<Formula, Fail> {
     Ok(formula)
 }
 
+/// The formula has the clauses that were added.
+fn are_three_clauses(rt: &impl Abort, formula: &Formula, positive: Lit, negative: Lit) {
+    assert_eq!(rt; formula.clauses(), 3);
+    assert!(rt; formula.clause(0) == [positive, negative, positive].as_slice());
+    assert!(rt; formula.clause(1).is_empty());
+    assert!(rt; formula.clause(2) == [negative; 5].as_slice());
+}
+
 #[test]
 fn adds_clauses_again_after_a_refusal(rt: HostRuntime) -> Result<(), Fail> {
     let one = variable(&rt, 1);
     let (positive, negative) = (Lit::new(one, false), Lit::new(one, true));
     let formula = three_clauses(&rt, rt.alloc())?;
-    assert_eq!(rt; formula.clauses(), 3);
-    assert!(rt; formula.clause(0) == [positive, negative, positive].as_slice());
-    assert!(rt; formula.clause(1).is_empty());
-    assert!(rt; formula.clause(2) == [negative; 5].as_slice());
+    are_three_clauses(&rt, &formula, positive, negative);
     Ok(())
 }

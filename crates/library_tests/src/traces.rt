@@ -319,15 +319,25 @@ fn gives_each_fault_of_a_text_for_good(rt: HostRuntime) {
     }
 }
 
+/// How many steps a trace has, and how often its source was pulled. The next pull would fail.
+fn pulls_for_trace(alloc: Global) -> Result<(usize, u64), Fail> {
+    let mut source = PieceSource::new(TRACE, 1, 83);
+    let trace = read_trace(alloc, &mut source)?;
+    Ok((trace.len(), source.pulls()))
+}
+
+/// The same of a flat trace.
+fn pulls_for_flat(alloc: Global) -> Result<(usize, u64), Fail> {
+    let mut source = PieceSource::new(TRACE, 1, 83);
+    let flat = read_flat(alloc, &mut source)?;
+    Ok((flat.len(), source.pulls()))
+}
+
 #[test]
 fn pulls_nothing_behind_the_result(rt: HostRuntime) -> Result<(), Fail> {
-    // The byte after the result word is the last one that is looked at: the next pull would fail.
-    let mut source = PieceSource::new(TRACE, 1, 83);
-    let steps = read_trace(rt.alloc(), &mut source)?.len();
-    assert_eq!(rt; (steps, source.pulls()), (5, 82));
-    let mut source = PieceSource::new(TRACE, 1, 83);
-    let steps = read_flat(rt.alloc(), &mut source)?.len();
-    assert_eq!(rt; (steps, source.pulls()), (5, 82));
+    // The byte after the result word is the last one that is looked at.
+    assert_eq!(rt; pulls_for_trace(rt.alloc())?, (5, 82));
+    assert_eq!(rt; pulls_for_flat(rt.alloc())?, (5, 82));
     Ok(())
 }
 
@@ -464,16 +474,20 @@ fn one_set_and_step(rt: &impl Abort, alloc: Global, header: Header) -> Trace {
     trace
 }
 
-#[test]
-fn grows_by_sets_and_steps(rt: HostRuntime) -> Result<(), Fail> {
-    let header = Header { vars: 1, steps: 1 };
-    let trace = one_set_and_step(&rt, rt.alloc(), header);
-    is_written(&rt, rt.alloc(), &trace, b"p qrp 1 1\ne 0\n7 0 0\nr sat\n")?;
+/// The trace has this header, one set, and the step of number 7.
+fn has_set_and_step(rt: &impl Abort, trace: &Trace, header: Header) {
     assert_eq!(rt; trace.header(), header);
     assert_eq!(rt; trace.sets().len(), 1);
     assert_eq!(rt; trace.result(), Outcome::Sat);
     assert_eq!(rt; trace.position(7), Some(0));
-    Ok(())
+}
+
+#[test]
+fn grows_by_sets_and_steps(rt: HostRuntime) -> Result<(), Fail> {
+    let header = Header { vars: 1, steps: 1 };
+    let trace = one_set_and_step(&rt, rt.alloc(), header);
+    has_set_and_step(&rt, &trace, header);
+    is_written(&rt, rt.alloc(), &trace, b"p qrp 1 1\ne 0\n7 0 0\nr sat\n")
 }
 
 // ---- what has an allocation fail, and then tried again
@@ -595,26 +609,39 @@ fn grows_again_after_a_refusal(rt: HostRuntime) -> Result<(), Fail> {
     Ok(())
 }
 
-#[test]
-fn writes_a_beginning(rt: HostRuntime) -> Result<(), Fail> {
-    let trace = read_trace(rt.alloc(), &mut SliceSource::new(TRACE))?;
-    for room in [0, 5, 33, 81] {
-        let mut sink = PieceSink::new(rt.alloc(), 1, Some(room), false, 0)?;
-        assert!(rt; write_trace(&trace, &mut sink).is_err());
-        assert_eq!(rt; sink.bytes(), &TRACE[..room as usize]);
-    }
+/// A sink with this room takes a beginning of the trace.
+fn writes_up_to(rt: &impl Abort, alloc: Global, trace: &Trace, room: u64) -> Result<(), Fail>
+    requires { room ≤ 81 }
+{
+    let mut sink = PieceSink::new(alloc, 1, Some(room), false, 0)?;
+    assert!(rt; write_trace(trace, &mut sink).is_err());
+    assert_eq!(rt; sink.bytes(), &TRACE[..room as usize]);
     Ok(())
 }
 
 #[test]
-fn writes_the_steps_at_some_places(rt: HostRuntime) -> Result<(), Fail> {
-    let trace = read_trace(rt.alloc(), &mut SliceSource::new(TRACE))?;
+fn writes_a_beginning(rt: HostRuntime) -> Result<(), Fail> {
+    let trace = trace_of(rt.alloc(), TRACE, 4096)?;
+    for room in [0, 5, 33, 81] {
+        writes_up_to(&rt, rt.alloc(), &trace, room)?;
+    }
+    Ok(())
+}
+
+/// The second and the fourth of five steps are written.
+fn writes_two(rt: &impl Abort, alloc: Global, trace: &Trace) -> Result<(), Fail> {
     assert_eq!(rt; trace.len(), 5);
-    let mut sink = VecSink::new(rt.alloc(), 0)?;
-    assert!(rt; write_steps_at(&trace, &[1, 3], &mut sink).is_ok());
+    let mut sink = VecSink::new(alloc, 0)?;
+    assert!(rt; write_steps_at(trace, &[1, 3], &mut sink).is_ok());
     assert_eq!(rt;
         sink.bytes(),
         b"p qrp 2 2\ne 1 0\na 2 0\n2 -1 2 0 0\n4 -1 0 2 0\nr unsat\n".as_slice()
     );
     Ok(())
+}
+
+#[test]
+fn writes_the_steps_at_some_places(rt: HostRuntime) -> Result<(), Fail> {
+    let trace = trace_of(rt.alloc(), TRACE, 4096)?;
+    writes_two(&rt, rt.alloc(), &trace)
 }
