@@ -3,10 +3,11 @@
 
 ghost use Rattle.std.specs.Prelude.{◌<◌};
 
+use crate::traces::is_written;
 use qbf_core::{Formula, Var};
 use qbf_text::{PieceSource, SinkFault, SliceSource, VecSink, put_bytes, put_number};
 use qdimacs::{FormulaFault, read_formula};
-use qrp::{Steps, Trace, TraceFault, read_trace, write_trace};
+use qrp::{Steps, Trace, TraceFault, read_trace};
 use qrp_check::{CheckFault, Fault, RuleFault, Rules, Verified, check, trim, verify};
 use std::alloc::Global;
 use std::process::Abort;
@@ -186,11 +187,18 @@ fn keeps_what_the_goal_needs(rt: HostRuntime) -> Result<(), Fail> {
     let alloc = rt.alloc();
     for rules in [Rules::plain(), Rules::any_pivot()] {
         let left = trimmed(alloc, rules, FALSE_FORMULA, REFUTATION)?;
-        let mut sink = VecSink::new(alloc, 0)?;
-        assert!(rt; write_trace(&left, &mut sink).is_ok());
-        assert_eq!(rt; sink.bytes(), REFUTATION);
+        is_written(&rt, alloc, &left, REFUTATION)?;
     }
     Ok(())
+}
+
+/// The trace has the 5,000 steps of even numbers.
+fn is_halved(rt: &impl Abort, left: &Trace) {
+    assert_eq!(rt; left.header().steps, 5_000);
+    assert_eq!(rt; left.len(), 5_000);
+    for place in 0..left.len() {
+        assert_eq!(rt; left.number(place), 2 * place as u64 + 2);
+    }
 }
 
 #[test]
@@ -198,10 +206,6 @@ fn leaves_out_every_other_step(rt: HostRuntime) -> Result<(), Fail> {
     let alloc = rt.alloc();
     let text = chain(alloc, 2)?;
     let left = trimmed(alloc, Rules::plain(), EMPTY_CLAUSE, text.bytes())?;
-    assert_eq!(rt; left.header().steps, 5_000);
-    assert_eq!(rt; left.len(), 5_000);
-    for place in 0..left.len() {
-        assert_eq!(rt; left.number(place), 2 * place as u64 + 2);
-    }
+    is_halved(&rt, &left);
     Ok(())
 }

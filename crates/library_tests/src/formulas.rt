@@ -23,14 +23,19 @@ fn variables_and_literals(rt: HostRuntime) {
     assert!(rt; Var::new(2147483648).is_none());
     let last = variable(&rt, 2147483647);
     assert_eq!(rt; last.number(), 2147483647);
+    is_turned(&rt, last);
+    assert!(rt; Lit::new(variable(&rt, 1), true) != Lit::new(variable(&rt, 1), false));
+}
+
+/// The literals of a variable after the first.
+fn is_turned(rt: &impl Abort, last: Var) {
     let lit = Lit::new(last, true);
     assert!(rt; lit.var() == last);
     assert!(rt; lit.is_negative());
     assert!(rt; lit.negated() == Lit::new(last, false));
     assert!(rt; lit.negated() < lit);
-    assert!(rt; Lit::new(variable(&rt, 1), true) < lit.negated());
+    assert!(rt; Lit::new(variable(rt, 1), true) < lit.negated());
     assert!(rt; lit.negated().negated() == lit);
-    assert!(rt; Lit::new(variable(&rt, 1), true) != Lit::new(variable(&rt, 1), false));
 }
 
 #[test]
@@ -227,6 +232,19 @@ fn two_blocks(alloc: Global, outer: Var, inner: Var) -> Result<Prefix, Fail> {
     Ok(prefix)
 }
 
+/// The set holds this literal, and not its negation.
+fn has_with_sign(rt: &impl Abort, set: &LitSet, lit: Lit) {
+    assert!(rt; set.contains(lit));
+    assert!(rt; !set.contains(lit.negated()));
+}
+
+/// The same, and so says the search of its literals.
+fn is_told_with_sign(rt: &impl Abort, set: &LitSet, lit: Lit) {
+    has_with_sign(rt, set, lit);
+    assert!(rt; is_member(set.as_slice(), lit));
+    assert!(rt; !is_member(set.as_slice(), lit.negated()));
+}
+
 #[test]
 fn sets(rt: HostRuntime) -> Result<(), Fail> {
     let alloc = rt.alloc();
@@ -241,14 +259,22 @@ fn sets(rt: HostRuntime) -> Result<(), Fail> {
     ];
     let set = LitSet::from_slice(alloc, &lits, &prefix)?;
     assert!(rt; set.as_slice() == [Lit::new(one, false), Lit::new(two, true)].as_slice());
-    assert!(rt; set.contains(Lit::new(two, true)));
-    assert!(rt; is_member(set.as_slice(), Lit::new(two, true)));
-    assert!(rt; !set.contains(Lit::new(two, false)));
-    assert!(rt; !is_member(set.as_slice(), Lit::new(two, false)));
+    is_told_with_sign(&rt, &set, Lit::new(two, true));
     assert!(rt; !set.contains(Lit::new(three, false)));
-    let empty = LitSet::from_slice(alloc, &[], &prefix)?;
+    Ok(())
+}
+
+#[test]
+fn sets_of_nothing(rt: HostRuntime) -> Result<(), Fail> {
+    let prefix = two_blocks(rt.alloc(), variable(&rt, 1), variable(&rt, 2))?;
+    let empty = LitSet::from_slice(rt.alloc(), &[], &prefix)?;
     assert!(rt; empty.as_slice().is_empty());
     Ok(())
+}
+
+/// Whether the literals are no set, by this fault.
+fn is_no_set(alloc: Global, prefix: &Prefix, lits: &[Lit], fault: SetFault) -> bool {
+    matches!(LitSet::from_slice(alloc, lits, prefix), Err(found) if found == fault)
 }
 
 #[test]
@@ -262,23 +288,15 @@ fn literals_that_are_no_set(rt: HostRuntime) -> Result<(), Fail> {
         Lit::new(one, false),
         Lit::new(one, true),
     ];
-    let refused = LitSet::from_slice(alloc, &clash, &prefix);
-    assert!(rt; matches!(refused, Err(SetFault::E1)));
+    assert!(rt; is_no_set(alloc, &prefix, &clash, SetFault::E1));
     let unbound = [Lit::new(three, false), Lit::new(one, false)];
-    let refused = LitSet::from_slice(alloc, &unbound, &prefix);
-    assert!(rt; matches!(refused, Err(SetFault::E2)));
+    assert!(rt; is_no_set(alloc, &prefix, &unbound, SetFault::E2));
     Ok(())
 }
 
-/// The set of 12, -4 and -9 holds these literals, and none of the others.
+/// The set of 12, -4 and -9 holds 12, and no literal of a variable between or behind its own.
 fn has_gaps(rt: &impl Abort, set: &LitSet) {
-    let four = Lit::new(variable(rt, 4), true);
-    let nine = Lit::new(variable(rt, 9), true);
-    assert!(rt; set.contains(four));
-    assert!(rt; set.contains(nine));
     assert!(rt; set.contains(Lit::new(variable(rt, 12), false)));
-    assert!(rt; !set.contains(four.negated()));
-    assert!(rt; !set.contains(nine.negated()));
     assert!(rt; !set.contains(Lit::new(variable(rt, 3), true)));
     assert!(rt; !set.contains(Lit::new(variable(rt, 6), true)));
     assert!(rt; !set.contains(Lit::new(variable(rt, 13), false)));
@@ -292,6 +310,8 @@ fn sets_with_gaps(rt: HostRuntime) -> Result<(), Fail> {
     let nine = Lit::new(variable(&rt, 9), true);
     let twelve = Lit::new(variable(&rt, 12), false);
     let set = LitSet::from_slice(rt.alloc(), &[twelve, four, nine], &prefix)?;
+    has_with_sign(&rt, &set, four);
+    has_with_sign(&rt, &set, nine);
     has_gaps(&rt, &set);
     Ok(())
 }
@@ -305,8 +325,8 @@ fn sets_of_far_variables(rt: HostRuntime) -> Result<(), Fail> {
     let last = Lit::new(variable(&rt, 2147483647), true);
     let set = LitSet::from_slice(rt.alloc(), &[last, five, one, five], &prefix)?;
     assert!(rt; set.as_slice() == [one, five, last].as_slice());
-    let refused = LitSet::from_slice(rt.alloc(), &[last, five, one, five.negated()], &prefix);
-    assert!(rt; matches!(refused, Err(SetFault::E1)));
+    let clash = [last, five, one, five.negated()];
+    assert!(rt; is_no_set(rt.alloc(), &prefix, &clash, SetFault::E1));
     Ok(())
 }
 
@@ -316,6 +336,13 @@ fn are_three_lists(rt: &impl Abort, lists: &Lists<u64>) {
     assert!(rt; lists.get(0) == [7, 9].as_slice());
     assert!(rt; lists.get(1).is_empty());
     assert!(rt; lists.get(2) == [4].as_slice());
+}
+
+/// The lists of 7 and 9, and of 5.
+fn are_two_lists(rt: &impl Abort, lists: &Lists<u64>) {
+    assert_eq!(rt; lists.len(), 2);
+    assert!(rt; lists.get(0) == [7, 9].as_slice());
+    assert!(rt; lists.get(1) == [5].as_slice());
 }
 
 /// These lists, after none was taken away.
@@ -337,26 +364,36 @@ fn lists(rt: HostRuntime) -> Result<(), Fail> {
     lists.pop();
     assert_eq!(rt; lists.len(), 1);
     lists.push(&[5])?;
-    assert_eq!(rt; lists.len(), 2);
-    assert!(rt; lists.get(0) == [7, 9].as_slice());
-    assert!(rt; lists.get(1) == [5].as_slice());
+    are_two_lists(&rt, &lists);
     Ok(())
 }
 
-/// Lists that grow to those of 7 and 9, of nothing, and of 4, and to one of 5 that is begun.
-fn grown_lists(rt: &impl Abort, alloc: Global) -> Result<GrowingLists<u64>, Fail> {
-    let mut growing = GrowingLists::new(alloc);
+/// Adds the lists of 7 and 9, and of nothing.
+fn grow_two(rt: &impl Abort, growing: &mut GrowingLists<u64>) -> Result<(), Fail> {
     growing.push(7u64)?;
     growing.push(9)?;
     assert_eq!(rt; growing.begun_len(), 2);
     growing.close()?;
     assert_eq!(rt; growing.begun_len(), 0);
     growing.close()?;
+    Ok(())
+}
+
+/// Begins the list of 3, and adds that of 4 in its place. Then one of 5 is begun.
+fn grow_one(growing: &mut GrowingLists<u64>) -> Result<(), Fail> {
     growing.push(3)?;
     growing.begin();
     growing.push(4)?;
     growing.close()?;
     growing.push(5)?;
+    Ok(())
+}
+
+/// Lists that grow to those of 7 and 9, of nothing, and of 4, and to one of 5 that is begun.
+fn grown_lists(rt: &impl Abort, alloc: Global) -> Result<GrowingLists<u64>, Fail> {
+    let mut growing = GrowingLists::new(alloc);
+    grow_two(rt, &mut growing)?;
+    grow_one(&mut growing)?;
     Ok(growing)
 }
 
@@ -460,21 +497,39 @@ fn add_again(
     Ok(())
 }
 
+/// Adds three clauses to a formula of one universal variable, each at the second try if an
+/// allocation fails.
+fn add_three_again(
+    rt: &impl Abort,
+    alloc: Global,
+    formula: &mut Formula,
+    one: Var,
+) -> Result<(), Fail>
+    requires one { one ≡ 1 }
+    requires bound { pairs formula.old.blocks ≡ (All, one) ∷ [] }
+    requires empty { formula.old.clauses ≡ [] }
+{
+    let (positive, negative) = (Lit::new(one, false), Lit::new(one, true));
+    add_again(rt, alloc, formula, &[positive, negative, positive])?;
+    add_again(rt, alloc, formula, &[])?;
+    add_again(rt, alloc, formula, &[negative; 5])
+}
+
 /// A formula of one universal variable with three clauses, which are added at the second try if
 /// an allocation fails.
 fn three_clauses(rt: &impl Abort, alloc: Global) -> Result<Formula, Fail> {
     let one = variable(rt, 1);
-    let (positive, negative) = (Lit::new(one, false), Lit::new(one, true));
     let mut formula = Formula::new(alloc, 1, one_block(alloc, one)?);
-    add_again(rt, alloc, &mut formula, &[positive, negative, positive])?;
-    add_again(rt, alloc, &mut formula, &[])?;
-    add_again(
-        rt,
-        alloc,
-        &mut formula,
-        &[negative, negative, negative, negative, negative],
-    )?;
+    add_three_again(rt, alloc, &mut formula, one)?;
     Ok(formula)
+}
+
+/// The formula has the clauses that were added.
+fn are_three_clauses(rt: &impl Abort, formula: &Formula, positive: Lit, negative: Lit) {
+    assert_eq!(rt; formula.clauses(), 3);
+    assert!(rt; formula.clause(0) == [positive, negative, positive].as_slice());
+    assert!(rt; formula.clause(1).is_empty());
+    assert!(rt; formula.clause(2) == [negative; 5].as_slice());
 }
 
 #[test]
@@ -482,9 +537,6 @@ fn adds_clauses_again_after_a_refusal(rt: HostRuntime) -> Result<(), Fail> {
     let one = variable(&rt, 1);
     let (positive, negative) = (Lit::new(one, false), Lit::new(one, true));
     let formula = three_clauses(&rt, rt.alloc())?;
-    assert_eq!(rt; formula.clauses(), 3);
-    assert!(rt; formula.clause(0) == [positive, negative, positive].as_slice());
-    assert!(rt; formula.clause(1).is_empty());
-    assert!(rt; formula.clause(2) == [negative; 5].as_slice());
+    are_three_clauses(&rt, &formula, positive, negative);
     Ok(())
 }

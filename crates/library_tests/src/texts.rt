@@ -177,6 +177,13 @@ fn puts_numbers(rt: HostRuntime) -> Result<(), Fail> {
     Ok(())
 }
 
+/// A sink with so much room takes a beginning of a text and fails.
+fn takes_a_beginning(rt: &impl Abort, sink: &mut PieceSink, text: &[u8], room: u64) {
+    assert_eq!(rt; put_bytes(sink, text), Err(SinkFault));
+    assert!(rt; text.starts_with(sink.bytes()), "with room {room}");
+    assert_eq!(rt; sink.bytes().len() as u64, room);
+}
+
 /// A sink with less room than the text takes a beginning of it and fails, and works again.
 fn puts_a_beginning(
     rt: &impl Abort,
@@ -188,9 +195,7 @@ fn puts_a_beginning(
     requires { 0 < piece }
 {
     let mut sink = PieceSink::new(alloc, piece, Some(room), true, 0)?;
-    assert_eq!(rt; put_bytes(&mut sink, text), Err(SinkFault));
-    assert!(rt; text.starts_with(sink.bytes()), "in pieces of {piece}");
-    assert_eq!(rt; sink.bytes().len() as u64, room);
+    takes_a_beginning(rt, &mut sink, text, room);
     assert_eq!(rt; sink.push(b"-1"), Ok(piece.min(2)));
     assert_eq!(rt; sink.finish(), Err(SinkFault));
     Ok(())
@@ -233,14 +238,17 @@ fn pulls_no_more_than_the_limit(rt: HostRuntime) {
     assert_eq!(rt; scanner.next_token(&mut source), Err(ScanFault));
 }
 
+/// Sends a text of its own.
+fn send(sink: &mut impl Sink) -> Result<(), SinkFault> {
+    put_bytes(sink, b"p cnf ")?;
+    put_number(sink, 12)?;
+    sink.finish()
+}
+
 #[test]
 fn sends_to_a_writer(rt: HostRuntime) -> Result<(), Fail> {
     let mut written = Vec::new(rt.alloc());
-    let mut sink = ToWrite::new(&mut written);
-    put_bytes(&mut sink, b"p cnf ")?;
-    put_number(&mut sink, 12)?;
-    sink.finish()?;
-    drop(sink);
+    send(&mut ToWrite::new(&mut written))?;
     assert_eq!(rt; written.as_slice(), b"p cnf 12".as_slice());
     Ok(())
 }

@@ -34,11 +34,21 @@ fn has_same_steps<A: Steps, B: Steps>(a: &A, b: &B) -> bool {
     true
 }
 
-/// The canonical text of a trace is this.
-fn is_written(rt: &impl Abort, alloc: Global, trace: &Trace, wanted: &[u8]) -> Result<(), Fail> {
-    let mut sink = VecSink::new(alloc, 0)?;
-    assert!(rt; write_trace(trace, &mut sink).is_ok());
+/// The canonical text of a trace, which goes to a sink that has nothing yet, is this.
+fn is_written_to(rt: &impl Abort, sink: &mut VecSink, trace: &Trace, wanted: &[u8]) {
+    assert!(rt; write_trace(trace, sink).is_ok());
     assert_eq!(rt; sink.bytes(), wanted);
+}
+
+/// The canonical text of a trace is this.
+pub fn is_written(
+    rt: &impl Abort,
+    alloc: Global,
+    trace: &Trace,
+    wanted: &[u8],
+) -> Result<(), Fail> {
+    let mut sink = VecSink::new(alloc, 0)?;
+    is_written_to(rt, &mut sink, trace, wanted);
     Ok(())
 }
 
@@ -48,6 +58,28 @@ fn are_alike(rt: &impl Abort, flat: &FlatTrace, trace: &Trace) {
     assert_eq!(rt; flat.sets().len(), trace.sets().len());
     assert_eq!(rt; flat.result(), trace.result());
     assert!(rt; has_same_steps(flat, trace));
+}
+
+/// The trace of a text that is read in pieces.
+fn trace_of(alloc: Global, text: &[u8], piece: usize) -> Result<Trace, Fail>
+    requires { 0 < piece }
+{
+    Ok(read_trace(alloc, &mut PieceSource::new(text, piece, 0))?)
+}
+
+/// The flat trace of a text that is read in pieces is like this trace.
+fn reads_alike(
+    rt: &impl Abort,
+    alloc: Global,
+    text: &[u8],
+    trace: &Trace,
+    piece: usize,
+) -> Result<(), Fail>
+    requires { 0 < piece }
+{
+    let flat = read_flat(alloc, &mut PieceSource::new(text, piece, 0))?;
+    are_alike(rt, &flat, trace);
+    Ok(())
 }
 
 /// Reads a trace in pieces, into both keepings, and compares its canonical text.
@@ -60,11 +92,9 @@ fn reads_in_pieces(
 ) -> Result<(), Fail>
     requires { 0 < piece }
 {
-    let trace = read_trace(alloc, &mut PieceSource::new(text, piece, 0))?;
+    let trace = trace_of(alloc, text, piece)?;
     is_written(rt, alloc, &trace, wanted)?;
-    let flat = read_flat(alloc, &mut PieceSource::new(text, piece, 0))?;
-    are_alike(rt, &flat, &trace);
-    Ok(())
+    reads_alike(rt, alloc, text, &trace, piece)
 }
 
 /// Reads a trace whole and byte by byte, into both keepings, and compares its canonical text.
@@ -235,6 +265,20 @@ fn gives(
     matches!(reader.next_item(source), Err(fault) if fault == wanted)
 }
 
+/// The next three items are this fault, and nothing is pulled for them.
+fn gives_again(
+    rt: &impl Abort,
+    reader: &mut TraceReader,
+    source: &mut PieceSource<'_>,
+    wanted: (TraceFault, u64),
+) {
+    let pulls = source.pulls();
+    for _ in 0..3 {
+        assert!(rt; gives(reader, source, wanted), "{wanted:?}");
+    }
+    assert_eq!(rt; source.pulls(), pulls);
+}
+
 /// Reads up to the first fault, which three more calls give again, and they pull nothing.
 fn gives_for_good(
     rt: &impl Abort,
@@ -244,11 +288,7 @@ fn gives_for_good(
 ) {
     let mut reader = TraceReader::new(alloc);
     assert_eq!(rt; first_fault(&mut reader, source), Some(wanted));
-    let pulls = source.pulls();
-    for _ in 0..3 {
-        assert!(rt; gives(&mut reader, source, wanted), "{wanted:?}");
-    }
-    assert_eq!(rt; source.pulls(), pulls);
+    gives_again(rt, &mut reader, source, wanted);
 }
 
 #[test]
@@ -279,15 +319,25 @@ fn gives_each_fault_of_a_text_for_good(rt: HostRuntime) {
     }
 }
 
+/// How many steps a trace has, and how often its source was pulled. The next pull would fail.
+fn pulls_for_trace(alloc: Global) -> Result<(usize, u64), Fail> {
+    let mut source = PieceSource::new(TRACE, 1, 83);
+    let trace = read_trace(alloc, &mut source)?;
+    Ok((trace.len(), source.pulls()))
+}
+
+/// The same of a flat trace.
+fn pulls_for_flat(alloc: Global) -> Result<(usize, u64), Fail> {
+    let mut source = PieceSource::new(TRACE, 1, 83);
+    let flat = read_flat(alloc, &mut source)?;
+    Ok((flat.len(), source.pulls()))
+}
+
 #[test]
 fn pulls_nothing_behind_the_result(rt: HostRuntime) -> Result<(), Fail> {
-    // The byte after the result word is the last one that is looked at: the next pull would fail.
-    let mut source = PieceSource::new(TRACE, 1, 83);
-    let steps = read_trace(rt.alloc(), &mut source)?.len();
-    assert_eq!(rt; (steps, source.pulls()), (5, 82));
-    let mut source = PieceSource::new(TRACE, 1, 83);
-    let steps = read_flat(rt.alloc(), &mut source)?.len();
-    assert_eq!(rt; (steps, source.pulls()), (5, 82));
+    // The byte after the result word is the last one that is looked at.
+    assert_eq!(rt; pulls_for_trace(rt.alloc())?, (5, 82));
+    assert_eq!(rt; pulls_for_flat(rt.alloc())?, (5, 82));
     Ok(())
 }
 
@@ -300,21 +350,44 @@ fn pulls_nothing_behind_a_fault(rt: HostRuntime) {
     assert_eq!(rt; source.pulls(), 16);
 }
 
+/// The reader gives the header of `TRACE`.
+fn gives_header(reader: &mut TraceReader, source: &mut PieceSource<'_>) -> bool {
+    matches!(
+        reader.next_item(source),
+        Ok(Item::Header(Header { vars: 2, steps: 5 }))
+    )
+}
+
+/// The reader gives a set.
+fn gives_set(reader: &mut TraceReader, source: &mut PieceSource<'_>) -> bool {
+    matches!(reader.next_item(source), Ok(Item::Set(_)))
+}
+
 /// The reader gives the header and the two sets of `TRACE`.
 fn gives_header_and_sets(rt: &impl Abort, reader: &mut TraceReader, source: &mut PieceSource<'_>) {
-    assert!(rt;
-        matches!(
-            reader.next_item(source),
-            Ok(Item::Header(Header { vars: 2, steps: 5 }))
-        )
-    );
-    assert!(rt; matches!(reader.next_item(source), Ok(Item::Set(_))));
-    assert!(rt; matches!(reader.next_item(source), Ok(Item::Set(_))));
+    assert!(rt; gives_header(reader, source));
+    assert!(rt; gives_set(reader, source));
+    assert!(rt; gives_set(reader, source));
+}
+
+/// The reader gives a step.
+fn gives_step(reader: &mut TraceReader, source: &mut PieceSource<'_>) -> bool {
+    matches!(reader.next_item(source), Ok(Item::Step(_)))
 }
 
 /// The reader gives the result of `TRACE`.
-fn gives_result(rt: &impl Abort, reader: &mut TraceReader, source: &mut PieceSource<'_>) {
-    assert!(rt; matches!(reader.next_item(source), Ok(Item::Result(Outcome::Unsat))));
+fn gives_result(reader: &mut TraceReader, source: &mut PieceSource<'_>) -> bool {
+    matches!(reader.next_item(source), Ok(Item::Result(Outcome::Unsat)))
+}
+
+/// The next four items are the result of `TRACE`, and nothing is pulled behind the first of them.
+fn gives_result_again(rt: &impl Abort, reader: &mut TraceReader, source: &mut PieceSource<'_>) {
+    assert!(rt; gives_result(reader, source));
+    let pulls = source.pulls();
+    for _ in 0..3 {
+        assert!(rt; gives_result(reader, source));
+    }
+    assert_eq!(rt; source.pulls(), pulls);
 }
 
 #[test]
@@ -323,14 +396,9 @@ fn gives_the_result_for_good(rt: HostRuntime) {
     let mut reader = TraceReader::new(rt.alloc());
     gives_header_and_sets(&rt, &mut reader, &mut source);
     for _ in 0..5 {
-        assert!(rt; matches!(reader.next_item(&mut source), Ok(Item::Step(_))));
+        assert!(rt; gives_step(&mut reader, &mut source));
     }
-    gives_result(&rt, &mut reader, &mut source);
-    let pulls = source.pulls();
-    for _ in 0..3 {
-        gives_result(&rt, &mut reader, &mut source);
-    }
-    assert_eq!(rt; source.pulls(), pulls);
+    gives_result_again(&rt, &mut reader, &mut source);
 }
 
 /// The reader gives an item.
@@ -406,16 +474,20 @@ fn one_set_and_step(rt: &impl Abort, alloc: Global, header: Header) -> Trace {
     trace
 }
 
-#[test]
-fn grows_by_sets_and_steps(rt: HostRuntime) -> Result<(), Fail> {
-    let header = Header { vars: 1, steps: 1 };
-    let trace = one_set_and_step(&rt, rt.alloc(), header);
-    is_written(&rt, rt.alloc(), &trace, b"p qrp 1 1\ne 0\n7 0 0\nr sat\n")?;
+/// The trace has this header, one set, and the step of number 7.
+fn has_set_and_step(rt: &impl Abort, trace: &Trace, header: Header) {
     assert_eq!(rt; trace.header(), header);
     assert_eq!(rt; trace.sets().len(), 1);
     assert_eq!(rt; trace.result(), Outcome::Sat);
     assert_eq!(rt; trace.position(7), Some(0));
-    Ok(())
+}
+
+#[test]
+fn grows_by_sets_and_steps(rt: HostRuntime) -> Result<(), Fail> {
+    let header = Header { vars: 1, steps: 1 };
+    let trace = one_set_and_step(&rt, rt.alloc(), header);
+    has_set_and_step(&rt, &trace, header);
+    is_written(&rt, rt.alloc(), &trace, b"p qrp 1 1\ne 0\n7 0 0\nr sat\n")
 }
 
 // ---- what has an allocation fail, and then tried again
@@ -511,13 +583,19 @@ fn sink_of(alloc: Global, room: usize) -> Result<VecSink, Fail> {
     }
 }
 
+/// Adds three steps, each at the second try if an allocation fails.
+fn add_steps_again(rt: &impl Abort, alloc: Global, trace: &mut Trace, lit: Lit) -> Result<(), Fail>
+    requires { trace.old.steps ≡ [] }
+{
+    add_step_again(rt, alloc, trace, 7, lit, &[])?;
+    add_step_again(rt, alloc, trace, 3, lit, &[7])?;
+    add_step_again(rt, alloc, trace, 9, lit, &[3, 7])
+}
+
 /// A trace of one set and three steps, each added at the second try if an allocation fails.
 fn three_steps(rt: &impl Abort, alloc: Global, one: Var) -> Result<Trace, Fail> {
     let mut trace = one_set(rt, alloc, one)?;
-    let lit = Lit::new(one, true);
-    add_step_again(rt, alloc, &mut trace, 7, lit, &[])?;
-    add_step_again(rt, alloc, &mut trace, 3, lit, &[7])?;
-    add_step_again(rt, alloc, &mut trace, 9, lit, &[3, 7])?;
+    add_steps_again(rt, alloc, &mut trace, Lit::new(one, true))?;
     Ok(trace)
 }
 
@@ -526,34 +604,44 @@ fn grows_again_after_a_refusal(rt: HostRuntime) -> Result<(), Fail> {
     let one = Var::new(1).expect(&rt, "a variable");
     let trace = three_steps(&rt, rt.alloc(), one)?;
     let mut sink = sink_of(rt.alloc(), 100)?;
-    assert!(rt; write_trace(&trace, &mut sink).is_ok());
-    assert_eq!(rt;
-        sink.bytes(),
-        b"p qrp 1 3\ne 1 0\n7 -1 0 0\n3 -1 0 7 0\n9 -1 0 3 7 0\nr unsat\n".as_slice()
-    );
+    let wanted = b"p qrp 1 3\ne 1 0\n7 -1 0 0\n3 -1 0 7 0\n9 -1 0 3 7 0\nr unsat\n";
+    is_written_to(&rt, &mut sink, &trace, wanted);
+    Ok(())
+}
+
+/// A sink with this room takes a beginning of the trace.
+fn writes_up_to(rt: &impl Abort, alloc: Global, trace: &Trace, room: u64) -> Result<(), Fail>
+    requires { room ≤ 81 }
+{
+    let mut sink = PieceSink::new(alloc, 1, Some(room), false, 0)?;
+    assert!(rt; write_trace(trace, &mut sink).is_err());
+    assert_eq!(rt; sink.bytes(), &TRACE[..room as usize]);
     Ok(())
 }
 
 #[test]
 fn writes_a_beginning(rt: HostRuntime) -> Result<(), Fail> {
-    let trace = read_trace(rt.alloc(), &mut SliceSource::new(TRACE))?;
+    let trace = trace_of(rt.alloc(), TRACE, 4096)?;
     for room in [0, 5, 33, 81] {
-        let mut sink = PieceSink::new(rt.alloc(), 1, Some(room), false, 0)?;
-        assert!(rt; write_trace(&trace, &mut sink).is_err());
-        assert_eq!(rt; sink.bytes(), &TRACE[..room as usize]);
+        writes_up_to(&rt, rt.alloc(), &trace, room)?;
     }
     Ok(())
 }
 
-#[test]
-fn writes_the_steps_at_some_places(rt: HostRuntime) -> Result<(), Fail> {
-    let trace = read_trace(rt.alloc(), &mut SliceSource::new(TRACE))?;
+/// The second and the fourth of five steps are written.
+fn writes_two(rt: &impl Abort, alloc: Global, trace: &Trace) -> Result<(), Fail> {
     assert_eq!(rt; trace.len(), 5);
-    let mut sink = VecSink::new(rt.alloc(), 0)?;
-    assert!(rt; write_steps_at(&trace, &[1, 3], &mut sink).is_ok());
+    let mut sink = VecSink::new(alloc, 0)?;
+    assert!(rt; write_steps_at(trace, &[1, 3], &mut sink).is_ok());
     assert_eq!(rt;
         sink.bytes(),
         b"p qrp 2 2\ne 1 0\na 2 0\n2 -1 2 0 0\n4 -1 0 2 0\nr unsat\n".as_slice()
     );
     Ok(())
+}
+
+#[test]
+fn writes_the_steps_at_some_places(rt: HostRuntime) -> Result<(), Fail> {
+    let trace = trace_of(rt.alloc(), TRACE, 4096)?;
+    writes_two(&rt, rt.alloc(), &trace)
 }

@@ -1,4 +1,5 @@
 use super::*;
+use crate::run::tests::is_same;
 use qbf_text::{PieceSink, put_byte, put_bytes};
 use std::alloc::Global;
 use std::process::Abort;
@@ -37,7 +38,7 @@ fn come_through(rt: &impl Abort, sink: &mut Buffered<PieceSink>, sent: &[u8], al
     assert!(rt; sink.sink.bytes().len() < sent.len());
     // More bytes at once than the buffer has room for are sent on.
     assert!(rt; put_bytes(sink, sent).is_ok());
-    assert_eq!(rt; sink.sink.bytes().len(), all.len());
+    is_same(rt, sink.sink.bytes().len(), all.len(), &"bytes at once");
     assert!(rt; sink.finish().is_ok());
     assert!(rt; sink.sink.bytes() == all);
 }
@@ -54,9 +55,9 @@ fn bytes_come_through(rt: HostRuntime) -> Result<(), Fail> {
 /// What is held back goes to a sink that takes three bytes of it.
 fn fails_behind_three(rt: &impl Abort, sink: &mut Buffered<PieceSink>) {
     assert!(rt; put_bytes(sink, b"VERIFIED").is_ok());
-    assert_eq!(rt; sink.sink.bytes().len(), 0);
+    is_same(rt, sink.sink.bytes().len(), 0, &"bytes held back");
     assert!(rt; sink.finish().is_err());
-    assert_eq!(rt; sink.sink.bytes(), b"VER".as_slice());
+    is_same(rt, sink.sink.bytes(), b"VER", &"the end");
 }
 
 #[test]
