@@ -6,9 +6,10 @@ use Rattle.std.specs.Option.{is_some}
 use Rattle.std.proofs.lemmas.Bool.{cases_lt}
 use Rattle.std.proofs.lemmas.Bool.Decides.{eqb_tells}
 use Rattle.std.proofs.lemmas.List.{append-nil}
+use Rattle.qbf_core.proofs.PrefixLaws.{AllByRecursion-push}
 use Rattle.qrp.specs.Kept.{count_from, AreStepNumbers}
 use Rattle.qrp.specs.Reading.{is_used}
-use Rattle.qrp.proofs.ReadIsSpelled.{push_all, push_distinct}
+use Rattle.qrp.proofs.ReadIsSpelled.{push_distinct}
 
 pub count_length : (f n : ℕ) → length (count_from f n) ≡ n
 count_length f zero = refl
@@ -113,7 +114,7 @@ listed_used ks m (Some i) some none = sym (used_at ks i m some)
 
 pub numbers_pushed : (ns : List ℕ) (m : ℕ) → AreStepNumbers ns → is_used m ns ≡ false → m < 2 ^ 64 → AreStepNumbers (ns ++ m ∷ [])
 numbers_pushed ns m are new fit =
-    record { distinct = push_distinct ns m are.distinct new; fit = push_all (λ n. n < 2 ^ 64) ns m are.fit fit }
+    record { distinct = push_distinct ns m are.distinct new; fit = AllByRecursion-push (λ n. n < 2 ^ 64) ns m are.fit fit }
 
 or_false : (a b : Bool) → (a || b) ≡ false → b ≡ false
 or_false true b e = absurd (cc e)
