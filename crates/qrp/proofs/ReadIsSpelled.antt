@@ -12,7 +12,7 @@ use Rattle.qbf_text.specs.declared.token.Token.{Token}
 use Rattle.qbf_text.specs.declared.token.Token.TheVariants as token
 use Rattle.qbf_text.specs.declared.token.Word.TheVariants as word
 use Rattle.qbf_text.specs.Lined.{Lined, unlined, EndsOnce}
-use Rattle.qbf_text.proofs.EachIsAnswered.{Answers, each_is_answered, flat_map-push}
+use Rattle.qbf_text.proofs.AcceptedTokens.{Answers, each_is_answered, flat_map-push}
 use Rattle.qrp.specs.declared.item.Header.{Header}
 use Rattle.qrp.specs.declared.item.Outcome.{Outcome}
 use Rattle.qrp.specs.Inferences.{Inference, IsInference, IsLiteral, IsNumber, numbers}

@@ -6,6 +6,7 @@ use Rattle.qbf_text.specs.declared.token.Token.{Token}
 use Rattle.qbf_text.specs.declared.token.Token.TheVariants as token
 use Rattle.qbf_text.specs.declared.token.Word.TheVariants as word
 use Rattle.qbf_text.specs.Lined.{Lined, unlined}
+use Rattle.qbf_text.proofs.AcceptedTokens.{split_at}
 use Rattle.qrp.specs.declared.fault.TraceFault.{TraceFault}
 use Rattle.qrp.specs.declared.item.Header.{Header}
 use Rattle.qrp.specs.declared.item.Outcome.{Outcome}
@@ -17,20 +18,9 @@ use Rattle.qrp.specs.Grammar.{result_word, lists, IsTrace}
 use Rattle.qrp.specs.Faults.{AreLists, Spells, IsFault, whole_before}
 use Rattle.qrp.specs.Laws.{ReadsOnce}
 use Rattle.qrp.specs.Reading.{Fault, Place, AtP, AtQrp, AtVars, AtSteps, Between, InSet, InLits, InAnts, AtResult, Row, Ends, row}
-use Rattle.qrp.specs.Reading.{items_from, items, gathered, nothing, read}
+use Rattle.qrp.specs.Reading.{items, gathered, nothing, read}
 use Rattle.qrp.proofs.AcceptedTokens.{Answer, after, items-one, Leads, Stays, Passes, leads_on, leads_gives, leads_lists}
 use Rattle.qrp.proofs.AcceptedTokens.{leads_variables, leads_literals, leads_antecedents, number_row, letter_row}
-
--- ---- lists of tokens on lines, split
-
-split_at : (ts : List Lined) (xs ys : List Token) → unlined ts ≡ xs ++ ys
-    → (before : List Lined) × (behind : List Lined) × (ts ≡ before ++ behind) × (unlined before ≡ xs) × (unlined behind ≡ ys)
-split_at ts [] ys e = ([], ts, refl, refl, e)
-split_at [] (x ∷ xs) ys e = absurd cc
-split_at (t ∷ ts) (x ∷ xs) ys e =
-    let same : t.0 ≡ x = cc in
-    let r = split_at ts xs ys (cc) in
-    (t ∷ r.0, r.1, ap (λ (k : List Lined). t ∷ k) r.2, (λ i. same i ∷ r.3 i), r.4)
 
 -- ---- gathering
 
@@ -74,23 +64,17 @@ result_row_ok : (o : Outcome) → row AtResult (result_word o) ≡ Ends o
 result_row_ok Sat = refl
 result_row_ok Unsat = refl
 
-one_more : (ts : List Lined) (t : Token) (us : List Token) → unlined ts ≡ t ∷ us
-    → (line : ℕ) × (more : List Lined) × (ts ≡ (t, line) ∷ more)
-one_more [] t us e = absurd cc
-one_more (u ∷ ts) t us e = let same : u.0 ≡ t = cc in (u.1, ts, (λ i. (same i, u.1) ∷ ts))
-
 -- the items of a trace that is spelled
 pub spelled_items : (ts : List Lined) (d : Derivation) → IsTrace (unlined ts) d
     → items ts ≡ map Ok (items_of_lists d.header d.sets d.steps) ++ Ok (item.Result d.result) ∷ []
 spelled_items ts d is =
-    let k = split_at ts (lists d.header d.sets d.steps ++ token.Word word.R ∷ []) (result_word d.result ∷ is.rest)
+    let k = split_at ts (lists d.header d.sets d.steps ++ token.Word word.R ∷ []) (result_word d.result) is.rest
     (is.spelled ∙ simp append_assoc) in
-    let w = one_more k.1 (result_word d.result) is.rest k.4 in
-    ap items k.2
-    ∙ leads_gives (leads_on (leads_lists d.header d.sets d.steps is.grammatical) (Passes refl Stays)) k.0 k.3 k.1
+    ap items k.3
+    ∙ leads_gives (leads_on (leads_lists d.header d.sets d.steps is.grammatical) (Passes refl Stays)) k.0 k.4
+    ((result_word d.result, k.1) ∷ k.2)
     ∙ ap (λ (x : List Answer). map Ok (items_of_lists d.header d.sets d.steps) ++ x)
-    (ap (items_from AtResult) w.2 ∙ items-one AtResult (result_word d.result, w.0) w.1
-    ∙ ap (λ (x : Row). after x w.0 w.1) (result_row_ok d.result))
+    (items-one AtResult (result_word d.result, k.1) k.2 ∙ ap (λ (x : Row). after x k.1 k.2) (result_row_ok d.result))
 
 pub spelled_is_read : (ts : List Lined) (d : Derivation) → IsTrace (unlined ts) d → read ts ≡ Ok d
 spelled_is_read ts d is =
