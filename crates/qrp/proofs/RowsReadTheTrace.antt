@@ -1,5 +1,5 @@
 -- What is read by the rows of a trace that is made is what reading says.
-use Rattle.std.proofs.Common.{◌≡◌, ℕ, List, [], ◌∷◌, ◌++◌, Option, Some, None, IfSome, Result, Ok, Err, refl, ap, sym, subst, ◌∙◌}
+use Rattle.std.proofs.Common.{rules, ◌≡◌, ℕ, List, [], ◌∷◌, ◌++◌, Option, Some, None, IfSome, Result, Ok, Err, refl, ap, sym, subst, ◌∙◌}
 use Rattle.qbf_text.specs.declared.token.Comments.TheVariants.{Qrp}
 use Rattle.qbf_text.specs.declared.token.Token.{Token}
 use Rattle.qbf_text.specs.declared.grammar.ReadError.{ReadError}
@@ -36,13 +36,7 @@ Makes ts = (d : Derivation) (place : Place) → answer_of (read_from trace_row (
 makes_one : (t : Token) (line : ℕ) (ts : List Lined) → Makes ts → (d : Derivation) (r : Row)
     → answer_of (going.after trace_row (row_with d r) (t, line) ts) ≡ gathered d (after r line ts)
 unfolding gathered
-makes_one t line ts more d (Goes next) = more d next
-makes_one t line ts more d (Closes (item.Header h) next) = more (record d { header = h }) next
-makes_one t line ts more d (Closes (item.Set s) next) = more (record d { sets = d.sets ++ s ∷ [] }) next
-makes_one t line ts more d (Closes (item.Step s) next) = more (record d { steps = d.steps ++ s ∷ [] }) next
-makes_one t line ts more d (Closes (item.Result o) next) = refl
-makes_one t line ts more d (Ends o) = refl
-makes_one t line ts more d (Fails f) = refl
+makes_one t line ts more d r = search rules
 
 makes_none : Makes []
 unfolding read_from items_from gathered
@@ -59,15 +53,7 @@ makes (t ∷ ts) = λ d place.
 
 refuses_from : (f : TraceFault) (line : ℕ) (whole : Option (Result Derivation Fault)) → IfSome whole (λ r. r ≡ Err (f, line))
     → Refuses f line whole
-refuses_from P1 line whole h = tt
-refuses_from P2 line whole h = h
-refuses_from P3 line whole h = h
-refuses_from P4 line whole h = h
-refuses_from P5 line whole h = h
-refuses_from P6 line whole h = h
-refuses_from P7 line whole h = h
-refuses_from P8 line whole h = h
-refuses_from P9 line whole h = tt
+refuses_from f line whole h = search rules
 
 pub gives_whole : (ts : List Lined) (d : Derivation) → taking.Answers (read_from trace_row (Making nothing AtP) ts) (Whole d) (Ok tt)
     → read ts ≡ Ok d
@@ -75,9 +61,8 @@ gives_whole ts d h = sym (makes ts nothing AtP) ∙ ap answer_of h.1
 
 pub gives_fault : (ts : List Lined) (next : Progress) (e : ReadError TraceFault)
     → taking.Answers (read_from trace_row (Making nothing AtP) ts) next (Err e) → Refuses (fault_of e).0 (fault_of e).1 (Some (read ts))
-gives_fault ts next error.Device h = tt
-gives_fault ts next error.Memory h = tt
 gives_fault ts next (error.Text f line) h = refuses_from f line (Some (read ts)) (sym (makes ts nothing AtP) ∙ ap answer_of h)
+gives_fault ts next e h = tt
 
 -- the trace that was read
 pub whole_read : (place next : Progress) (d : Derivation) → place ≡ Making nothing AtP → next ≡ Whole d → (remaining : Option (List ℕ))
