@@ -19,13 +19,6 @@ use Rattle.qrp.specs.Texts.{spaced_numbers, spaced_literal, spaced_literals, zer
 
 -- ---- lists
 
--- the rest of a list of parts, from place i on
-pub parts_next : {X : Type 0} (f : X → List ℕ) (xs : List X) (i : ℕ) (x : X) → i < length xs → x ≡ get_or xs i x
-    → flat_map f (drop i xs) ≡ f x ++ flat_map f (drop (i + 1) xs)
-parts_next f xs i x lt is =
-    let one : drop i xs ≡ x ∷ drop (i + 1) xs = rw (add-one) (drop-cons xs i x lt ∙ ap (λ (y : _). y ∷ drop (suc i) xs) (sym is)) in
-    ap (flat_map f) one
-
 -- the rest of the steps, from place i on
 pub steps_next : (steps : List Inference) (i : ℕ) → i < length steps
     → (step : Inference) × IsAt steps i step
@@ -63,18 +56,6 @@ length_at steps (p ∷ places) inside = elim (slice_get_cases steps p).1 [
   | inl (s, _, is, _) ↦ rw is (ap suc (length_at steps places inside.1))
   | inr (past, _) ↦ absurd (let less : p < length steps = inside.0 in omega (arith, less, past))
 ]
-
--- the same for numbers
-pub numbers_next : (ns : List ℕ) (i : ℕ) → i < length ns
-    → spaced_numbers (drop i ns) ≡ spaced (get_or ns i 0) ++ spaced_numbers (drop (i + 1) ns)
-numbers_next ns i lt =
-    let one : drop i ns ≡ get_or ns i 0 ∷ drop (i + 1) ns = rw (add-one) (drop-cons ns i 0 lt) in
-    ap spaced_numbers one
-
--- a literal goes out by its sign and its variable
-pub literal_parts : (l : Literal) (negative : Bool) (v : ℕ) → negative ≡ l.negative → v ≡ l.var
-    → spelled (literal l) ≡ spelled (token.Number negative v)
-literal_parts l negative v sign is = (λ i. spelled (token.Number (sym sign i) (sym is i)))
 
 zero_decimal : decimal 0 ≡ 48 ∷ []
 unfolding digits
