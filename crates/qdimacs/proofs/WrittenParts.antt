@@ -24,11 +24,6 @@ zero_decimal = refl
 
 -- ---- a clause
 
--- a literal goes out by its sign and its variable
-pub literal_parts : (l : Literal) (negative : Bool) (v : ℕ) → negative ≡ l.negative → v ≡ l.var
-    → spelled (literal l) ≡ spelled (token.Number negative v)
-literal_parts l negative v sign is = (λ i. spelled (token.Number (sym sign i) (sym is i)))
-
 -- an empty clause
 pub no_literals : (ls : List Literal) → length ls < 1 → line_text (clause ls) ≡ 48 ∷ 10 ∷ []
 no_literals [] none = ap (λ (k : List ℕ). k ++ 10 ∷ []) zero_decimal
@@ -44,9 +39,7 @@ first_literal l ls = ap (λ (k : List ℕ). spelled (literal l) ++ k) (lits_rest
 
 pub clause_next : (ls : List Literal) (i : ℕ) (l : Literal) → i < length ls → l ≡ get_or ls i l
     → clause_rest (drop i ls) ≡ literal_text l ++ clause_rest (drop (i + 1) ls)
-clause_next ls i l lt is =
-    let one : drop i ls ≡ l ∷ drop (i + 1) ls = rw (add-one) (drop-cons ls i l lt ∙ ap (λ (y : Literal). y ∷ drop (suc i) ls) (sym is)) in
-    ap clause_rest one
+clause_next ls i l lt is = rw (add-one) (ap clause_rest (drop-cons ls i l lt ∙ ap (λ (y : Literal). y ∷ drop (suc i) ls) (sym is)))
 
 pub clauses_next : (cs : List (List Literal)) (i : ℕ) (c : List Literal) → slice_get cs i ≡ Some c
     → clauses_text (drop i cs) ≡ line_text (clause c) ++ clauses_text (drop (i + 1) cs)
@@ -124,18 +117,14 @@ rest-all (p ∷ ps) = ap (λ (x : List ℕ). spelled (letter p.0) ++ (spaced p.1
 pub prefix_text : (bs : List Block) → blocks_of (pairs bs) ≡ bs → prefix_rest None (pairs bs) ≡ sets_text bs
 prefix_text bs same = rest-all (pairs bs) ∙ ap sets_text same
 
-pub prefix_next : (last : Option Quantifier) (ps : List (Quantifier × ℕ)) (i : ℕ) (q : Quantifier) (v n : ℕ) → slice_get ps i ≡ Some (q, v)
-    → n ≡ v
-    → prefix_rest last (drop i ps) ≡ opening last q ++ (spaced n ++ prefix_rest (Some q) (drop (i + 1) ps))
-prefix_next last ps i q v n at same = ap (prefix_rest last) (drop_at ps i (q, v) at)
-    ∙ ap (λ (k : ℕ). opening last q ++ (spaced k ++ prefix_rest (Some q) (drop (i + 1) ps))) (sym same)
+pub prefix_next : (last : Option Quantifier) (ps : List (Quantifier × ℕ)) (i : ℕ) (q : Quantifier) (v : ℕ) → slice_get ps i ≡ Some (q, v)
+    → prefix_rest last (drop i ps) ≡ opening last q ++ (spaced v ++ prefix_rest (Some q) (drop (i + 1) ps))
+prefix_next last ps i q v at = ap (prefix_rest last) (drop_at ps i (q, v) at)
 
 -- ---- the whole
 
-pub text_parts : (f : Qbf) (m n : ℕ) → m ≡ f.max_var → n ≡ length f.clauses → blocks_of (pairs f.blocks) ≡ f.blocks
-    → text f ≡ line_text (header m n) ++ (prefix_rest None (pairs f.blocks) ++ clauses_text f.clauses)
-text_parts f m n e k same =
-    ap (λ (x : List ℕ). line_text (header f.max_var (length f.clauses)) ++ x)
+pub text_parts : (f : Qbf) → blocks_of (pairs f.blocks) ≡ f.blocks
+    → text f ≡ line_text (header f.max_var (length f.clauses)) ++ (prefix_rest None (pairs f.blocks) ++ clauses_text f.clauses)
+text_parts f same = ap (λ (x : List ℕ). line_text (header f.max_var (length f.clauses)) ++ x)
     (flat_map-append line_text (map set f.blocks) (map clause f.clauses)
     ∙ ap (λ (x : List ℕ). x ++ clauses_text f.clauses) (sym (prefix_text f.blocks same)))
-    ∙ (λ i. line_text (header (sym e i) (sym k i)) ++ (prefix_rest None (pairs f.blocks) ++ clauses_text f.clauses))
