@@ -4,11 +4,30 @@ use Rattle.std.proofs.Common.{append-nil, ◌+◌, suc, add-one, drop-cons, get_
 use Rattle.std.proofs.lemmas.Result.{err_from_is_err_and}
 use Rattle.std.specs.List.{flat_map}
 use Rattle.std.specs.Result.{IsErrAnd}
-use Rattle.std.specs.Prelude.{Result}
+use Rattle.std.specs.Prelude.{Result, decimal, map, false}
+use Rattle.std.specs.Fmt.{digits}
+use Rattle.qbf_text.specs.declared.token.Token.{Token}
+use Rattle.qbf_text.specs.declared.token.Token.TheVariants as token
+use Rattle.qbf_text.specs.Canonical.{spelled, line_rest}
 use Rattle.qbf_text.specs.Written.{IsPut, IsSent}
 use Rattle.std.proofs.Math.ListN.{take-append-drop}
 use Rattle.std.specs.Io.KnownBytes.{Appends}
 use Rattle.std.proofs.KnownBytes.{Appends-trans, Appends-nil}
+
+pub zero_decimal : decimal 0 ≡ 48 ∷ []
+unfolding digits
+zero_decimal = refl
+
+-- tokens of a list go out one by one
+pub line_rest-map : {X : Type 0} (f : X → Token) (xs : List X) (ts : List Token)
+    → line_rest (map f xs ++ ts) ≡ flat_map (λ x. 32 ∷ spelled (f x)) xs ++ line_rest ts
+line_rest-map f [] ts = refl
+line_rest-map f (x ∷ xs) ts = ap (λ (k : List ℕ). 32 ∷ (spelled (f x) ++ k)) (line_rest-map f xs ts)
+    ∙ sym (append_assoc (32 ∷ spelled (f x)) (flat_map (λ y. 32 ∷ spelled (f y)) xs) (line_rest ts))
+
+-- a zero closes them
+pub zero_rest : (ts : List Token) → line_rest (token.Number false 0 ∷ ts) ≡ 32 ∷ 48 ∷ line_rest ts
+zero_rest ts = ap (λ (k : List ℕ). 32 ∷ (k ++ line_rest ts)) zero_decimal
 
 -- the rest of a list of parts, from place i on
 pub parts_next : {X : Type 0} (f : X → List ℕ) (xs : List X) (i : ℕ) (x d : X) → i < length xs → x ≡ get_or xs i d

@@ -5,6 +5,8 @@ use Rattle.std.specs.Prelude.{decimal}
 use Rattle.std.specs.Fmt.{digits}
 use Rattle.std.specs.List.{AllByRecursion, flat_map}
 use Rattle.std.proofs.lemmas.Grind.{flat_map-append}
+use Rattle.std.proofs.lemmas.List.Folds.{flat_map-map}
+use Rattle.qbf_text.proofs.SentParts.{line_rest-map, zero_rest}
 use Rattle.std.proofs.lemmas.Option.{slice_get_cases}
 use Rattle.qbf_core.specs.Literal.{Literal}
 use Rattle.qbf_core.specs.Blocks.{Block}
@@ -57,25 +59,8 @@ length_at steps (p ∷ places) inside = elim (slice_get_cases steps p).1 [
   | inr (past, _) ↦ absurd (let less : p < length steps = inside.0 in omega (arith, less, past))
 ]
 
-zero_decimal : decimal 0 ≡ 48 ∷ []
-unfolding digits
-zero_decimal = refl
-
-numbers_rest : (ns : List ℕ) (ts : List Token) → line_rest (map number ns ++ ts) ≡ spaced_numbers ns ++ line_rest ts
-numbers_rest [] ts = refl
-numbers_rest (n ∷ ns) ts =
-    ap (λ (k : List ℕ). 32 ∷ (decimal n ++ k)) (numbers_rest ns ts) ∙ sym (append_assoc (spaced n) (spaced_numbers ns) (line_rest ts))
-
-literals_rest : (ls : List Literal) (ts : List Token) → line_rest (map literal ls ++ ts) ≡ spaced_literals ls ++ line_rest ts
-literals_rest [] ts = refl
-literals_rest (l ∷ ls) ts = ap (λ (k : List ℕ). 32 ∷ (spelled (literal l) ++ k)) (literals_rest ls ts)
-    ∙ sym (append_assoc (spaced_literal l) (spaced_literals ls) (line_rest ts))
-
-zero_rest : (ts : List Token) → line_rest (number 0 ∷ ts) ≡ zero_text ++ line_rest ts
-zero_rest ts = ap (λ (k : List ℕ). 32 ∷ (k ++ line_rest ts)) zero_decimal
-
 closed_numbers : (ns : List ℕ) → line_rest (map number ns ++ number 0 ∷ []) ≡ spaced_numbers ns ++ closing
-closed_numbers ns = numbers_rest ns (number 0 ∷ []) ∙ ap (λ (k : List ℕ). spaced_numbers ns ++ k) (zero_rest [])
+closed_numbers ns = line_rest-map number ns (number 0 ∷ []) ∙ ap (λ (k : List ℕ). spaced_numbers ns ++ k) (zero_rest [])
 
 set_line : (s : Block) → line_text (set s) ≡ set_text s
 set_line s = ap (λ (k : List ℕ). spelled (letter s.quantifier) ++ k) (closed_numbers s.vars)
@@ -83,28 +68,20 @@ set_line s = ap (λ (k : List ℕ). spelled (letter s.quantifier) ++ k) (closed_
 step_line : (s : Inference) → line_text (step s) ≡ step_text s
 step_line s =
     ap (λ (k : List ℕ). decimal s.number ++ k)
-    (literals_rest s.lits (number 0 ∷ (map number s.ants ++ number 0 ∷ []))
+    (line_rest-map literal s.lits (number 0 ∷ (map number s.ants ++ number 0 ∷ []))
     ∙ ap (λ (k : List ℕ). spaced_literals s.lits ++ k)
     (zero_rest (map number s.ants ++ number 0 ∷ []) ∙ ap (λ (k : List ℕ). zero_text ++ k) (closed_numbers s.ants)))
-
-sets_lines : (sets : List Block) → lines_text (map set sets) ≡ sets_text sets
-sets_lines [] = refl
-sets_lines (s ∷ sets) = (λ i. set_line s i ++ sets_lines sets i)
-
-steps_lines : (steps : List Inference) → lines_text (map step steps) ≡ steps_text steps
-steps_lines [] = refl
-steps_lines (s ∷ steps) = (λ i. step_line s i ++ steps_lines steps i)
 
 -- ---- the whole
 
 pub text_parts : (d : Derivation)
     → text d ≡ line_text (header d.header) ++ (sets_text d.sets ++ (steps_text d.steps ++ line_text (result d.result)))
 text_parts d =
-    ap (λ (k : List ℕ). line_text (header d.header) ++ k)
-    (flat_map-append line_text (map set d.sets ++ map step d.steps) (result d.result ∷ [])
-    ∙ ap (λ (k : List ℕ). k ++ (line_text (result d.result) ++ [])) (flat_map-append line_text (map set d.sets) (map step d.steps))
-    ∙ append_assoc (lines_text (map set d.sets)) (lines_text (map step d.steps)) (line_text (result d.result) ++ [])
-    ∙ (λ i. sets_lines d.sets i ++ (steps_lines d.steps i ++ append-nil (line_text (result d.result)) i)))
+    let lines : lines_text (map set d.sets ++ map step d.steps ++ result d.result ∷ [])
+    ≡ flat_map (λ s. line_text (set s)) d.sets ++ (flat_map (λ s. line_text (step s)) d.steps ++ line_text (result d.result)) =
+    simp (append-nil, flat_map-append, flat_map-map, append_assoc) in
+    ap (λ (k : List ℕ). line_text (header d.header) ++ k) (lines
+    ∙ (λ i. flat_map (λ s. set_line s i) d.sets ++ (flat_map (λ s. step_line s i) d.steps ++ line_text (result d.result))))
 
 -- the same of the text with the steps at some places alone
 pub text_parts_at : (d : Derivation) (places : List ℕ) (h : Header) → AllByRecursion (λ i. i < length d.steps) places → h ≡ d.header
