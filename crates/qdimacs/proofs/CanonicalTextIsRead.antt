@@ -1,5 +1,5 @@
 -- The canonical text is read again.
-use Rattle.std.proofs.Common.{rules, ◌≡◌, ℕ, Bool, true, List, [], ◌∷◌, ◌++◌, length, map, refl, ap, sym, subst, ◌∙◌, arith, append_assoc}
+use Rattle.std.proofs.Common.{rules, ◌≡◌, ℕ, Bool, true, List, [], ◌∷◌, ◌++◌, length, map, refl, ap, ◌∙◌, arith, append_assoc}
 use Rattle.std.proofs.lemmas.Grind.{flat_map-append}
 use Rattle.std.proofs.lemmas.List.Folds.{flat_map-map}
 use Rattle.std.specs.List.{flat_map, AllByRecursion}
@@ -14,7 +14,6 @@ use Rattle.qbf_text.specs.Tokens.{tokens}
 use Rattle.qbf_text.specs.Canonical.{IsPlain, IsLine}
 use Rattle.qbf_text.proofs.CanonicalTokens.{joined, tokens-lines_text, all_appended, all_mapped, closed_plain}
 use Rattle.qdimacs.specs.Grammar.{number, literal, letter, header, set, clause, spelling, lines, text}
-use Rattle.qbf_core.proofs.PrefixLaws.{AllByRecursion-push}
 use Rattle.qdimacs.specs.Laws.{ReadsText}
 use Rattle.qdimacs.proofs.AcceptedTokens.{bound_one}
 use Rattle.qdimacs.proofs.SpelledIsRead.{spelled_is_read}

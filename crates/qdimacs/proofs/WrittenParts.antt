@@ -1,8 +1,6 @@
 -- The parts of a canonical text, one after the other.
-use Rattle.std.proofs.Common.{rules, ◌≢◌, ◌≡◌, ℕ, Bool, true, false, cond, List, [], ◌∷◌, ◌++◌, map, Option, Some, None, refl, ap, sym, ◌∙◌}
-use Rattle.std.proofs.Common.{append_assoc, append-nil, drop, drop-cons, slice_get, get_or, length, suc, arith, ◌<◌, ◌+◌, add-one}
-use Rattle.std.specs.Prelude.{decimal}
-use Rattle.std.specs.Fmt.{digits}
+use Rattle.std.proofs.Common.{rules, ◌≢◌, ◌≡◌, ℕ, true, false, List, [], ◌∷◌, ◌++◌, map, Option, Some, None, refl, ap, sym, ◌∙◌}
+use Rattle.std.proofs.Common.{append_assoc, drop, drop-cons, slice_get, get_or, length, suc, arith, ◌<◌, ◌+◌, add-one}
 use Rattle.std.specs.List.{flat_map}
 use Rattle.std.proofs.lemmas.Grind.{flat_map-append}
 use Rattle.qbf_text.proofs.SentParts.{line_rest-map, zero_decimal, zero_rest}
@@ -11,7 +9,6 @@ use Rattle.qbf_core.specs.declared.quantifier.Quantifier.{Quantifier}
 use Rattle.qbf_core.specs.Literal.{Literal}
 use Rattle.qbf_core.specs.Blocks.{Block, pairs, Alternates, is_quantifier}
 use Rattle.qbf_core.specs.Qbf.{Qbf}
-use Rattle.qbf_text.specs.declared.token.Token.TheVariants as token
 use Rattle.qbf_text.specs.Canonical.{spaced, spelled, line_rest, line_text}
 use Rattle.qdimacs.specs.Grammar.{number, literal, letter, set, clause, header, text}
 use Rattle.qdimacs.specs.Texts.{opening, prefix_rest, literal_text, clause_rest, sets_text, clauses_text, zero_text}

@@ -1,15 +1,12 @@
 -- What the answer of a whole trace says.
-use Rattle.std.proofs.Common.{rules, ◌≡◌, ℕ, List, Option, Some, None, IfSome, Result, Ok, Err, subst}
+use Rattle.std.proofs.Common.{rules, ℕ, List, Option, Some, None, IfSome, Result}
 use Rattle.qbf_text.specs.Lined.{Lined, EndsOnce}
 use Rattle.qbf_text.specs.Tokens as text
 use Rattle.qbf_text.specs.declared.token.Comments.TheVariants.{Qrp}
 use Rattle.qbf_text.proofs.TokensEndOnce.{tokens-EndsOnce}
-use Rattle.qrp.specs.declared.fault.TraceFault.{TraceFault}
-use Rattle.qrp.specs.declared.fault.TraceFault.TheVariants.{P1, P2, P3, P4, P5, P6, P7, P8, P9}
 use Rattle.qrp.specs.Derivations.{Derivation}
 use Rattle.qrp.specs.Reading.{Fault, read}
-use Rattle.qrp.specs.Faults.{Reads}
-use Rattle.qrp.specs.Answers.{Refuses, Gives, StandsUnless, Answers, reads_bytes}
+use Rattle.qrp.specs.Answers.{Gives, Answers, reads_bytes}
 use Rattle.qrp.proofs.ReadIsSpelled.{read_explained}
 
 answered : (ts : List Lined) (result : Result Derivation Fault) → Gives result (Some (read ts)) → EndsOnce ts → Answers ts result

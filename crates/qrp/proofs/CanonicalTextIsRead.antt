@@ -1,12 +1,10 @@
 -- The canonical text is read again.
-use Rattle.std.proofs.Common.{rules, append-nil, ◌≡◌, ℕ, ◌<◌, ◌^◌, Bool, true, false, List, [], ◌∷◌, ◌++◌, map, Ok, refl, ap, sym, ◌∙◌, arith, append_assoc}
+use Rattle.std.proofs.Common.{rules, append-nil, ◌≡◌, ℕ, ◌<◌, ◌^◌, Bool, List, [], ◌∷◌, ◌++◌, map, Ok, ap, sym, ◌∙◌, arith, append_assoc}
 use Rattle.std.proofs.lemmas.Grind.{flat_map-append}
 use Rattle.std.proofs.lemmas.List.{map-append}
 use Rattle.std.proofs.lemmas.List.Folds.{flat_map-map}
 use Rattle.std.specs.List.{flat_map, AllByRecursion}
 use Rattle.qbf_core.specs.declared.quantifier.Quantifier.{Quantifier}
-use Rattle.qbf_core.specs.declared.quantifier.Quantifier.TheVariants.{All, Exists}
-use Rattle.qbf_core.specs.Literal.{Literal}
 use Rattle.qbf_core.specs.Blocks.{Block, IsVariable}
 use Rattle.qbf_text.specs.declared.token.Comments.TheVariants.{Qrp}
 use Rattle.qbf_text.specs.declared.token.Token.{Token}
@@ -15,7 +13,6 @@ use Rattle.qbf_text.specs.Tokens.{tokens}
 use Rattle.qbf_text.specs.Canonical.{IsPlain, IsLine}
 use Rattle.qbf_text.proofs.CanonicalTokens.{joined, tokens-lines_text, all_appended, all_mapped, closed_plain}
 use Rattle.qrp.specs.declared.item.Outcome.{Outcome}
-use Rattle.qrp.specs.declared.item.Outcome.TheVariants.{Sat, Unsat}
 use Rattle.qrp.specs.declared.item.Item.TheVariants as item
 use Rattle.qrp.specs.Inferences.{Inference, IsInference, IsLiteral, numbers}
 use Rattle.qrp.specs.Derivations.{Derivation, IsWellFormed}
@@ -40,9 +37,15 @@ steps_lines : (steps : List Inference) → AllByRecursion IsInference steps → 
     → AllByRecursion (λ s. AllByRecursion (λ n. n < 2 ^ 64) s.ants) steps → AllByRecursion IsLine (map step steps)
 steps_lines [] h small ants = tt
 steps_lines (s ∷ steps) h small ants = (
-  (tt, (small.0, all_appended IsPlain (map literal s.lits) (number 0 ∷ (map number s.ants ++ number 0 ∷ []))
-      (all_mapped IsLiteral IsPlain literal (λ l is. literal_plain l.var l.negative is) s.lits h.0.lits)
-      (omega arith, closed_plain (map number s.ants) (all_mapped (λ n. n < 2 ^ 64) IsPlain number (λ n is. is) s.ants ants.0)))),
+  (
+    tt,
+    (
+      small.0,
+      all_appended IsPlain (map literal s.lits) (number 0 ∷ (map number s.ants ++ number 0 ∷ []))
+          (all_mapped IsLiteral IsPlain literal (λ l is. literal_plain l.var l.negative is) s.lits h.0.lits)
+          (omega arith, closed_plain (map number s.ants) (all_mapped (λ n. n < 2 ^ 64) IsPlain number (λ n is. is) s.ants ants.0)),
+    ),
+  ),
   steps_lines steps h.1 small.1 ants.1,
 )
 

@@ -1,8 +1,6 @@
 -- Reading an item stops behind its last word.
-use Rattle.std.proofs.Common.{rules, ◌≡◌, ℕ, false, List, [], ◌∷◌, ◌++◌, Option, Some, None, Ok, ◌⊎◌, inl, inr, refl, ap, sym, subst, ◌∙◌}
-use Rattle.qbf_text.specs.declared.token.Token.{Token}
+use Rattle.std.proofs.Common.{rules, ◌≡◌, ℕ, List, [], ◌∷◌, ◌++◌, Option, Ok, ◌⊎◌, refl, ap, ◌∙◌}
 use Rattle.qbf_text.specs.declared.token.Token.TheVariants as token
-use Rattle.qbf_text.specs.Left.{is_end}
 use Rattle.qbf_text.specs.Lined.{Lined}
 use Rattle.qbf_text.specs.Rows.{Read, read_from}
 use Rattle.qbf_text.specs.Rows as rows
@@ -13,10 +11,10 @@ use Rattle.qrp.specs.declared.fault.TraceFault.TheVariants.{P7}
 use Rattle.qrp.specs.declared.item.Item.{Item}
 use Rattle.qrp.specs.declared.item.Item.TheVariants as item
 use Rattle.qrp.specs.declared.reader.Stage.{Stage}
-use Rattle.qrp.specs.declared.reader.Stage.TheVariants.{AtHeader, AtLists, HasResult, HasFault}
+use Rattle.qrp.specs.declared.reader.Stage.TheVariants.{AtHeader, AtLists}
 use Rattle.qrp.specs.Given.{StopsBehindPart, place_next}
-use Rattle.qrp.specs.Items.{Giving, Takes, Gives, Whole, Over, Giver, GivingRow, item_row, as_given, giving, Stands, StopsBehind}
-use Rattle.qrp.specs.Reading.{Place, AtP, Between, items_from}
+use Rattle.qrp.specs.Items.{Giving, Takes, Gives, Whole, Over, Giver, item_row, as_given, giving, Stands, StopsBehind}
+use Rattle.qrp.specs.Reading.{Place, Between, items_from}
 use Rattle.qrp.proofs.RowsReadTheItem.{gives, given_of}
 use Rattle.qrp.proofs.AcceptedTokens.{Answer, end_row}
 

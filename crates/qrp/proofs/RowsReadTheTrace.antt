@@ -1,5 +1,5 @@
 -- What is read by the rows of a trace that is made is what reading says.
-use Rattle.std.proofs.Common.{rules, ◌≡◌, ℕ, List, [], ◌∷◌, ◌++◌, Option, Some, None, IfSome, Result, Ok, Err, refl, ap, sym, subst, ◌∙◌}
+use Rattle.std.proofs.Common.{rules, ◌≡◌, ℕ, List, [], ◌∷◌, Option, Some, None, IfSome, Result, Ok, Err, refl, ap, sym, subst, ◌∙◌}
 use Rattle.qbf_text.specs.declared.token.Comments.TheVariants.{Qrp}
 use Rattle.qbf_text.specs.declared.token.Token.{Token}
 use Rattle.qbf_text.specs.declared.grammar.ReadError.{ReadError}
@@ -12,12 +12,11 @@ use Rattle.qbf_text.specs.Tokens.{tokens}
 use Rattle.qbf_text.proofs.OneToken.{read-one}
 use Rattle.qbf_text.proofs.OneToken as going
 use Rattle.qrp.specs.declared.fault.TraceFault.{TraceFault}
-use Rattle.qrp.specs.declared.fault.TraceFault.TheVariants.{P1, P2, P3, P4, P5, P6, P7, P8, P9}
-use Rattle.qrp.specs.declared.item.Item.TheVariants as item
+use Rattle.qrp.specs.declared.fault.TraceFault.TheVariants.{P7}
 use Rattle.qrp.specs.Answers.{Gives, Refuses, reads_bytes}
 use Rattle.qrp.specs.Derivations.{Derivation}
 use Rattle.qrp.specs.Making.{Progress, Making, Whole, row_with, trace_row, fault_of}
-use Rattle.qrp.specs.Reading.{Fault, Place, AtP, Row, Goes, Closes, Ends, Fails, row, items_from, gathered, nothing, read}
+use Rattle.qrp.specs.Reading.{Fault, Place, AtP, Row, row, items_from, gathered, nothing, read}
 use Rattle.qrp.proofs.AcceptedTokens.{after, items-one}
 
 -- ---- what is read by rows is what the items make

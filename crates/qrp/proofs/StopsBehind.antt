@@ -1,11 +1,9 @@
 -- Reading a trace stops behind its result word.
-use Rattle.std.proofs.Common.{◌≡◌, ◌≤◌, ℕ, false, List, [], ◌∷◌, ◌++◌, length, Option, Some, None, Ok, refl, ap, sym, ◌∙◌, append_assoc}
+use Rattle.std.proofs.Common.{◌≡◌, ◌≤◌, ℕ, List, [], ◌∷◌, ◌++◌, length, Option, Some, None, Ok, refl, ap, sym, ◌∙◌, append_assoc}
 use Rattle.qbf_text.specs.declared.token.Comments.TheVariants.{Qrp}
-use Rattle.qbf_text.specs.declared.token.Token.{Token}
 use Rattle.qbf_text.specs.declared.token.Token.TheVariants as token
 use Rattle.qbf_text.specs.declared.grammar.ReadError.TheVariants as error
 use Rattle.qbf_text.specs.Ahead.{ahead}
-use Rattle.qbf_text.specs.Left.{is_end}
 use Rattle.qbf_text.specs.Lined.{Lined}
 use Rattle.qbf_text.specs.Rows.{read_from}
 use Rattle.qbf_text.specs.Rows as rows
@@ -15,7 +13,7 @@ use Rattle.qbf_text.proofs.StopsAtTokens.{taken_no_end, unread_fault}
 use Rattle.qrp.specs.declared.fault.TraceFault.TheVariants.{P7}
 use Rattle.qrp.specs.Answers.{StopsBehindResult}
 use Rattle.qrp.specs.Derivations.{Derivation}
-use Rattle.qrp.specs.Making.{Progress, Making, Whole, Over, MadeRow, row_with, trace_row}
+use Rattle.qrp.specs.Making.{Progress, Making, Whole, Over, row_with, trace_row}
 use Rattle.qrp.specs.Reading.{AtP, nothing}
 use Rattle.qrp.proofs.AcceptedTokens.{end_row}
 use Rattle.qrp.proofs.RowsReadTheTrace.{gives_whole, gives_fault}

@@ -1,23 +1,19 @@
 -- The parts of a canonical text, one after the other.
-use Rattle.std.proofs.Common.{◌≡◌, ℕ, Bool, List, [], ◌∷◌, ◌++◌, map, refl, ap, sym, ◌∙◌, append_assoc, append-nil, drop, drop-cons, get_or}
+use Rattle.std.proofs.Common.{◌≡◌, ℕ, List, [], ◌∷◌, ◌++◌, map, refl, ap, sym, ◌∙◌, append_assoc, append-nil, drop, get_or}
 use Rattle.std.proofs.Common.{length, zero, suc, inl, inr, arith, ◌<◌, ◌+◌, add-one}
 use Rattle.std.specs.Prelude.{decimal}
-use Rattle.std.specs.Fmt.{digits}
 use Rattle.std.specs.List.{AllByRecursion, flat_map}
 use Rattle.std.proofs.lemmas.Grind.{flat_map-append}
 use Rattle.std.proofs.lemmas.List.Folds.{flat_map-map}
 use Rattle.qbf_text.proofs.SentParts.{line_rest-map, zero_rest}
 use Rattle.std.proofs.lemmas.Option.{slice_get_cases}
-use Rattle.qbf_core.specs.Literal.{Literal}
 use Rattle.qbf_core.specs.Blocks.{Block}
-use Rattle.qbf_text.specs.declared.token.Token.{Token}
-use Rattle.qbf_text.specs.declared.token.Token.TheVariants as token
-use Rattle.qbf_text.specs.Canonical.{spaced, spelled, line_rest, line_text, lines_text}
+use Rattle.qbf_text.specs.Canonical.{spelled, line_rest, line_text, lines_text}
 use Rattle.qrp.specs.declared.item.Header.{Header}
 use Rattle.qrp.specs.Inferences.{Inference, IsAt}
 use Rattle.qrp.specs.Derivations.{Derivation, steps_at, with_steps_at}
 use Rattle.qrp.specs.Grammar.{number, literal, letter, set, step, header, result, text}
-use Rattle.qrp.specs.Texts.{spaced_numbers, spaced_literal, spaced_literals, zero_text, closing, set_text, step_text, sets_text, steps_text}
+use Rattle.qrp.specs.Texts.{spaced_numbers, spaced_literals, zero_text, closing, set_text, step_text, sets_text, steps_text}
 
 -- ---- lists
 
