@@ -50,10 +50,6 @@ gathered_lists h sets steps more =
     ∙ gathered_sets at sets (map Ok (map item.Step steps) ++ more)
     ∙ gathered_steps (record { header = h; sets = sets; steps = []; result = Sat }) steps more
 
-gathered_fault : (d : Derivation) (e : Fault) → gathered d (Err e ∷ []) ≡ Err e
-unfolding gathered
-gathered_fault d e = refl
-
 gathered_result : (d : Derivation) (o : Outcome) → gathered d (Ok (item.Result o) ∷ []) ≡ Ok (record d { result = o })
 unfolding gathered
 gathered_result d o = refl
