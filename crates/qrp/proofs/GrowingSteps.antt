@@ -1,5 +1,5 @@
 -- Steps in flat buffers that grow.
-use Rattle.std.proofs.Common.{◌≡◌, ◌<◌, ◌-◌, ◌^◌, ℕ, zero, suc, List, [], ◌∷◌, ◌++◌, length, take, refl, sym, ap, subst, ◌∙◌, arith}
+use Rattle.std.proofs.Common.{get_or, ◌≡◌, ◌<◌, ◌-◌, ◌^◌, ℕ, zero, suc, List, [], ◌∷◌, ◌++◌, length, take, refl, sym, ap, subst, ◌∙◌, arith}
 use Rattle.std.proofs.Common.{length-append}
 use Rattle.std.specs.List.{AllByRecursion, IsDistinct}
 use Rattle.std.specs.Prelude.{nat_eq}
@@ -33,6 +33,11 @@ bodies_popped lits ants e =
 pub record IsStep (s : Inference) : Type 0 where
   pub inference : IsInference s
   pub fit : AllByRecursion (λ n. n < 2 ^ 64) s.ants
+
+-- the numbers of a slice, each of which fits
+pub numbers_fit : (ns : List ℕ) → ((i : ℕ) → get_or ns i 0 < 2 ^ 64) → AllByRecursion (λ n. n < 2 ^ 64) ns
+numbers_fit [] fit = tt
+numbers_fit (n ∷ ns) fit = (fit 0, numbers_fit ns (λ i. fit (suc i)))
 
 abbrev AntsFit : Inference → Type 0
 AntsFit s = AllByRecursion (λ n. n < 2 ^ 64) s.ants
