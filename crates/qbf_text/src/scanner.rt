@@ -5,6 +5,7 @@ ghost use Rattle.std.specs.Prelude.{length, IfSome, IfNone, false, true, IsOk, I
 ghost use Rattle.std.specs.Prelude.{OnErr};
 ghost use Rattle.std.specs.Io.KnownBytes.{Consumes, IsAtEnd};
 ghost use Rattle.qbf_text.specs.Ahead.{ahead, first_of};
+ghost use Rattle.qbf_text.specs.Pulling.{HasPulled};
 ghost use Rattle.qbf_text.specs.Tokens.{kind};
 ghost use Rattle.qbf_text.specs.Left.{is_separator, IsUnbroken, IsWithinLine, EndsRun, EndsLine};
 ghost use Rattle.qbf_text.specs.Left.{Gives, is_end};
@@ -22,11 +23,8 @@ fn skip_line<S: Source>(window: &mut Window, source: &mut S) -> Result<(), Sourc
         × Consumes (ahead window.old (S.remaining source.old))
         (ahead window.new (S.remaining source.new)) skipped) }
     ensures end { OnOk result (IfSome (ahead window.new (S.remaining source.new)) EndsLine) }
-    ensures bound { OnOk result
-        (length window.new + S.bound source.new ≤ length window.old + S.bound source.old) }
-    ensures ok { OnOk result (S.failures source.new ≡ S.failures source.old) }
-    ensures err { OnErr result
-        (S.failures source.old < 2 ^ 64 - 1 → S.failures source.old < S.failures source.new) }
+    ensures pulled {
+        HasPulled S.bound S.failures window.old window.new source.old source.new result }
 {
     while let Some(byte) = window.peek(source)? {
         if byte == b'\n' {
@@ -49,12 +47,8 @@ fn read_as<R: Run, S: Source>(
         × Consumes (ahead window.old (S.remaining source.old))
         (ahead window.new (S.remaining source.new)) more) }
     ensures end { OnOk result (IfSome (ahead window.new (S.remaining source.new)) EndsRun) }
-    ensures few { OnOk result (length window.new ≤ 4096) }
-    ensures bound { OnOk result
-        (length window.new + S.bound source.new ≤ length window.old + S.bound source.old) }
-    ensures ok { OnOk result (S.failures source.new ≡ S.failures source.old) }
-    ensures err { OnErr result
-        (S.failures source.old < 2 ^ 64 - 1 → S.failures source.old < S.failures source.new) }
+    ensures pulled {
+        HasPulled S.bound S.failures window.old window.new source.old source.new result }
 {
     let mut run = R::begin(first);
     'bytes: while let Some(byte) = window.peek(source)? {
@@ -74,12 +68,8 @@ fn read_run<S: Source>(first: u8, window: &mut Window, source: &mut S) -> Result
         × Consumes (ahead window.old (S.remaining source.old))
         (ahead window.new (S.remaining source.new)) more) }
     ensures end { OnOk result (IfSome (ahead window.new (S.remaining source.new)) EndsRun) }
-    ensures few { OnOk result (length window.new ≤ 4096) }
-    ensures bound { OnOk result
-        (length window.new + S.bound source.new ≤ length window.old + S.bound source.old) }
-    ensures ok { OnOk result (S.failures source.new ≡ S.failures source.old) }
-    ensures err { OnErr result
-        (S.failures source.old < 2 ^ 64 - 1 → S.failures source.old < S.failures source.new) }
+    ensures pulled {
+        HasPulled S.bound S.failures window.old window.new source.old source.new result }
 {
     if begins_number(first) {
         read_as::<Numeral, S>(first, window, source)
@@ -224,7 +214,6 @@ impl Place {
         ensures takes { IfOk result (λ found. IfSome found (λ token.
             PlaceTakes self.old (S.remaining source.old) self.new (S.remaining source.new)
             (token, self.new.line))) }
-        ensures few { IfOk result (λ found. IfSome found (λ _. length self.new.window ≤ 4096)) }
         ensures no_end { IfOk result (λ found. IfSome found (λ token. is_end token ≡ false)) }
         ensures none { IfOk result (λ found. IfNone found
             (Gives (left_at self.old (S.remaining source.old))
@@ -235,12 +224,8 @@ impl Place {
         ensures bound { IfOk result (λ found. IfSome found (λ _.
             length self.new.window + S.bound source.new
             < length self.old.window + S.bound source.old)) }
-        ensures no_more { OnOk result (
-            length self.new.window + S.bound source.new
-            ≤ length self.old.window + S.bound source.old) }
-        ensures ok { OnOk result (S.failures source.new ≡ S.failures source.old) }
-        ensures err { OnErr result
-            (S.failures source.old < 2 ^ 64 - 1 → S.failures source.old < S.failures source.new) }
+        ensures pulled { HasPulled S.bound S.failures self.old.window self.new.window
+            source.old source.new result }
     {
         // The proof reads here that the number has 64 bits.
         let _line = self.line;
