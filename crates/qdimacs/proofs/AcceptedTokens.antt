@@ -1,7 +1,7 @@
 -- Accepted tokens, and the place that they lead to.
-use Rattle.std.proofs.Common.{rules, ◌≡◌, ◌≢◌, ℕ, ◌<◌, ◌≤◌, ◌+◌, Bool, true, false, List, [], ◌∷◌, ◌++◌, length, map}
+use Rattle.std.proofs.Common.{rules, ◌≡◌, ◌∙◌, ◌≢◌, ℕ, ◌<◌, ◌≤◌, ◌+◌, Bool, true, false, List, [], ◌∷◌, ◌++◌, length, map}
 use Rattle.std.proofs.Common.{refl, ◌∙◌, arith, append_assoc, nat_eq}
-use Rattle.std.proofs.lemmas.List.{append-nil, length-append}
+use Rattle.std.proofs.lemmas.List.{map-append, append-nil, length-append}
 use Rattle.std.specs.List.{flat_map, AllByRecursion, IsDistinct}
 use Rattle.std.proofs.lemmas.Map.Keys.{IsDistinct-head, IsDistinct-tail}
 use Rattle.qbf_core.specs.declared.quantifier.Quantifier.{Quantifier}
@@ -10,6 +10,8 @@ use Rattle.qbf_core.specs.Blocks.{Block, pairs, pairs_of_block, is_bound, blocks
 use Rattle.qbf_text.specs.declared.token.Token.{Token}
 use Rattle.qbf_text.specs.declared.token.Token.TheVariants as token
 use Rattle.qbf_text.specs.declared.token.Word.TheVariants as word
+use Rattle.qbf_text.proofs.DistinctNumbers.{middle, front_all, front_distinct, new_number}
+use Rattle.qdimacs.proofs.AllVariablesBound.{is_bound_variables}
 use Rattle.qbf_text.proofs.AcceptedTokens.{Leads, Stays, Passes, leads_then}
 use Rattle.qdimacs.specs.Grammar.{number, literal, letter, header, set, clause}
 use Rattle.qbf_text.specs.Rows.{Goes, Ends}
@@ -35,37 +37,16 @@ pub record AreGood (max_var : ℕ) (ps : List (Quantifier × ℕ)) : Type 0 wher
   pub distinct : IsDistinct nat_eq (variables ps)
   pub within : AllByRecursion (λ v. (1 ≤ v) × (v ≤ max_var)) (variables ps)
 
-middle : {X : Type 0} (P : X → Type 0) (f : Quantifier × ℕ → X) (ps more : List (Quantifier × ℕ)) (x : Quantifier × ℕ)
-    → AllByRecursion P (map f (ps ++ x ∷ more)) → P (f x)
-middle P f [] more x h = h.0
-middle P f (y ∷ ps) more x h = middle P f ps more x h.1
-
--- a variable that comes later is not bound yet
-new_variable : (ps more : List (Quantifier × ℕ)) (x : Quantifier × ℕ) → IsDistinct nat_eq (variables (ps ++ x ∷ more))
-    → is_bound x.1 ps ≡ false
-new_variable [] more x h = refl
-new_variable (y ∷ ps) more x h =
-    let apart = middle (λ v. nat_eq y.1 v ≡ false) (λ p. p.1) ps more x (IsDistinct-head nat_eq y.1 (variables (ps ++ x ∷ more)) h) in
-    let rest = new_variable ps more x (IsDistinct-tail nat_eq y.1 (variables (ps ++ x ∷ more)) h) in
-    search rules
-
 -- what holds of each variable holds of a bound one
 pub bound_one : (P : ℕ → Type 0) (v : ℕ) (ps : List (Quantifier × ℕ)) → is_bound v ps ≡ true → AllByRecursion P (variables ps) → P v
 bound_one P v [] e h = absurd cc
 bound_one P v (y ∷ ps) e h = let rest = bound_one P v ps in search rules
 
-front_all : (P : ℕ → Type 0) (xs ys : List (Quantifier × ℕ)) → AllByRecursion P (variables (xs ++ ys)) → AllByRecursion P (variables xs)
-front_all P [] ys h = tt
-front_all P (x ∷ xs) ys h = (h.0, front_all P xs ys h.1)
-
-front_distinct : (xs ys : List (Quantifier × ℕ)) → IsDistinct nat_eq (variables (xs ++ ys)) → IsDistinct nat_eq (variables xs)
-unfolding IsDistinct
-front_distinct [] ys h = tt
-front_distinct (x ∷ xs) ys h = (front_all (λ v. nat_eq x.1 v ≡ false) xs ys h.0, front_distinct xs ys h.1)
-
 pub good_front : (max_var : ℕ) (xs ys : List (Quantifier × ℕ)) → AreGood max_var (xs ++ ys) → AreGood max_var xs
-good_front max_var xs ys good =
-    record { distinct = front_distinct xs ys good.distinct; within = front_all (λ v. (1 ≤ v) × (v ≤ max_var)) xs ys good.within }
+good_front max_var xs ys good = record {
+  distinct = front_distinct (variables xs) (variables ys) (rw map-append at good.distinct);
+  within = front_all (λ v. (1 ≤ v) × (v ≤ max_var)) (variables xs) (variables ys) (rw map-append at good.within);
+}
 
 -- ---- a set
 
@@ -80,8 +61,9 @@ leads_variables : (h : Heading) (ps : List (Quantifier × ℕ)) (q : Quantifier)
     → Leads row (InSet h ps q) (map number vs) (InSet h (ps ++ map (λ v. (q, v)) vs) q)
 leads_variables h ps q [] good = rw append-nil Stays
 leads_variables h ps q (v ∷ vs) good =
-    let bounds = middle (λ w. (1 ≤ w) × (w ≤ h.max_var)) (λ p. p.1) ps (map (λ w. (q, w)) vs) (q, v) good.within in
-    let fresh = new_variable ps (map (λ w. (q, w)) vs) (q, v) good.distinct in
+    let more = variables (map (λ w. (q, w)) vs) in
+    let bounds = middle (λ w. (1 ≤ w) × (w ≤ h.max_var)) (variables ps) more v (rw map-append at good.within) in
+    let fresh = is_bound_variables v ps ∙ new_number (variables ps) more v (rw map-append at good.distinct) in
     Passes (variable_row h ps q v bounds.0 bounds.1 fresh)
     (rw append_assoc at (leads_variables h (ps ++ (q, v) ∷ []) q vs (rw append_assoc good)))
 

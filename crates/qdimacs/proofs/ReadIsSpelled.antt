@@ -15,9 +15,10 @@ use Rattle.qbf_text.specs.declared.token.Token.{Token}
 use Rattle.qbf_text.specs.declared.token.Token.TheVariants as token
 use Rattle.qbf_text.specs.Lined.{Lined, EndsOnce}
 use Rattle.qbf_text.specs.Left.{is_end}
+use Rattle.qbf_text.proofs.DistinctNumbers.{push_distinct}
+use Rattle.qdimacs.proofs.AllVariablesBound.{is_bound_variables}
 use Rattle.qbf_text.proofs.AcceptedTokens.{each_is_answered, flat_map-push}
 use Rattle.qbf_text.proofs.AcceptedTokens as accepted
-use Rattle.qdimacs.proofs.OneToken.{no_place_after_end}
 use Rattle.qdimacs.proofs.SpelledIsRead.{read_once}
 use Rattle.qdimacs.specs.Grammar.{number, literal, letter, header, set, clause, IsFormula}
 use Rattle.qbf_text.specs.Lined.{unlined}
@@ -32,29 +33,14 @@ use Rattle.qbf_text.proofs.TokensEndOnce.{tokens-EndsOnce}
 
 -- ---- one token
 
+no_place_after_end : (place next : Place) → row place token.End ≡ Goes next → ⊥
+no_place_after_end place next e = search rules
+
 number_is : (to : ℕ → Place) (t : Token) (next : Place) → number_row to t (header_number t) ≡ Goes next
     → (v : ℕ) × (t ≡ number v) × (v ≤ 2147483647) × (to v ≡ next)
 number_is to t next e = search rules
 
 -- ---- what is accepted so far, and one more
-
-push_variables : (P : ℕ → Type 0) (ps : List (Quantifier × ℕ)) (q : Quantifier) (v : ℕ) → AllByRecursion P (variables ps) → P v
-    → AllByRecursion P (variables (ps ++ (q, v) ∷ []))
-push_variables P [] q v h p = (p, tt)
-push_variables P (x ∷ ps) q v h p = (h.0, push_variables P ps q v h.1 p)
-
-or_false : (a b : Bool) → (a || b) ≡ false → (a ≡ false) × (b ≡ false)
-or_false a b e = search rules
-
-push_distinct : (ps : List (Quantifier × ℕ)) (q : Quantifier) (v : ℕ) → IsDistinct nat_eq (variables ps) → is_bound v ps ≡ false
-    → IsDistinct nat_eq (variables (ps ++ (q, v) ∷ []))
-unfolding IsDistinct
-push_distinct [] q v h e = (tt, tt)
-push_distinct (x ∷ ps) q v h e =
-    let k = or_false (nat_eq v x.1) (is_bound v ps) e in (
-      push_variables (λ w. nat_eq x.1 w ≡ false) ps q v h.0 (ne_eqb x.1 v (λ same. eqb-false v x.1 k.0 (sym same))),
-      push_distinct ps q v h.1 k.1,
-    )
 
 none_so_far : (h : Heading) → h.max_var ≤ 2147483647 → h.count ≤ 2147483647 → IsSoFar h [] []
 unfolding IsDistinct
@@ -67,8 +53,8 @@ more_variables h ps q v s low high fresh = record {
   count = s.count;
   closed = tt;
   few = s.few;
-  distinct = push_distinct ps q v s.distinct fresh;
-  within = push_variables (λ w. (1 ≤ w) × (w ≤ h.max_var)) ps q v s.within (low, high);
+  distinct = rw map-append (push_distinct (variables ps) v s.distinct (sym (is_bound_variables v ps) ∙ fresh));
+  within = rw map-append (AllByRecursion-push (λ w. (1 ≤ w) × (w ≤ h.max_var)) (variables ps) v s.within (low, high));
 }
 
 more_clauses : (h : Heading) (ps : List (Quantifier × ℕ)) (cs : List (List Literal)) (ls : List Literal) → IsSoFar h ps cs

@@ -16,7 +16,7 @@ use Rattle.qdimacs.specs.Grammar.{header, set, clause, IsFormula}
 use Rattle.qbf_text.specs.Lined.{unlined}
 use Rattle.qdimacs.specs.Faults.{IsSoFar, Spells, IsFault}
 use Rattle.qdimacs.specs.Reading.{Heading, Place, AtP, AtCnf, AtVars, AtCount, Between, InSet, InClause, Whole, Over, Row, row, read, answer_of}
-use Rattle.qdimacs.proofs.OneToken.{read-one, after}
+use Rattle.qbf_text.proofs.OneToken.{read-one, after}
 use Rattle.qdimacs.proofs.AcceptedTokens.{leads_vars, leads_header, leads_sets, leads_begun_set, leads_clauses, leads_begun_clause, end_row}
 use Rattle.qdimacs.proofs.AcceptedTokens.{AreGood, good_front}
 
@@ -48,8 +48,8 @@ spelled_is_read ts f is =
     ap read k.3
     ∙ ap answer_of (leads_reads (leads_lists h is.sets f.clauses w.numbers w.count good closed (omega arith)) k.0 k.4
     ((token.End, k.1) ∷ k.2))
-    ∙ read-one (Between h (pairs is.sets) f.clauses) token.End k.1 k.2
-    ∙ ap (λ (r : Row). after r k.1 k.2) (end_row h (pairs is.sets) f.clauses (omega arith))
+    ∙ ap answer_of (read-one row (Between h (pairs is.sets) f.clauses) (token.End, k.1) k.2
+    ∙ ap (λ (r : Row). after row r (token.End, k.1) k.2) (end_row h (pairs is.sets) f.clauses (omega arith)))
     ∙ ap (λ (bs : List Block). Ok (record { max_var = f.max_var; blocks = bs; clauses = f.clauses }))
     (ap blocks_of is.bound ∙ blocks_of-pairs f.blocks w.prefix.alternates)
 
@@ -83,7 +83,7 @@ pub fault_is_found : (ts : List Lined) (f : FormulaFault) (line : ℕ) → IsFau
 fault_is_found ts f line is =
     ap read is.whole
     ∙ ap answer_of (leads_reads (spelled_leads (unlined is.before) is.place is.stands) is.before refl ((is.wrong, line) ∷ is.after))
-    ∙ read-one is.place is.wrong line is.after ∙ ap (λ (r : Row). after r line is.after) is.refused
+    ∙ ap answer_of (read-one row is.place (is.wrong, line) is.after ∙ ap (λ (r : Row). after row r (is.wrong, line) is.after) is.refused)
 
 -- Tokens read as nothing else.
 pub read_once : ReadsOnce

@@ -10,6 +10,7 @@ use Rattle.qbf_core.specs.Blocks.{Block, IsVariable}
 use Rattle.qbf_text.specs.declared.token.Token.{Token}
 use Rattle.qbf_text.specs.declared.token.Token.TheVariants as token
 use Rattle.qbf_text.specs.Lined.{Lined, unlined}
+use Rattle.qbf_text.proofs.DistinctNumbers.{new_number}
 use Rattle.qrp.specs.declared.fault.TraceFault.TheVariants.{P7}
 use Rattle.qrp.specs.declared.item.Header.{Header}
 use Rattle.qrp.specs.declared.item.Item.{Item}
@@ -135,18 +136,6 @@ leads_step : (ns : List ℕ) (s : Inference) → IsInference s → is_used s.num
 leads_step ns s h fresh = Passes (number_row ns s.number h.number fresh)
     (leads_then (leads_literals ns s.number [] s.lits h.lits) (Passes refl
     (leads_then (leads_antecedents ns s.number s.lits [] s.ants h.ants h.few) (Completes (zero_row ns s) Stays))))
-
-middle : (P : ℕ → Type 0) (ns more : List ℕ) (n : ℕ) → AllByRecursion P (ns ++ n ∷ more) → P n
-middle P [] more n h = h.0
-middle P (m ∷ ns) more n h = middle P ns more n h.1
-
--- a number that comes later is not used yet
-new_number : (ns more : List ℕ) (n : ℕ) → IsDistinct nat_eq (ns ++ n ∷ more) → is_used n ns ≡ false
-new_number [] more n h = refl
-new_number (m ∷ ns) more n h =
-    let apart = middle (λ k. nat_eq m k ≡ false) ns more n (IsDistinct-head nat_eq m (ns ++ n ∷ more) h) in
-    let rest = new_number ns more n (IsDistinct-tail nat_eq m (ns ++ n ∷ more) h) in
-    search rules
 
 leads_steps : (ns : List ℕ) (steps : List Inference) → AllByRecursion IsInference steps → IsDistinct nat_eq (ns ++ numbers steps)
     → Leads (Between ns) (flat_map step steps) (map item.Step steps) (Between (ns ++ numbers steps))

@@ -9,7 +9,7 @@ use Rattle.std.proofs.lemmas.List.{append-nil}
 use Rattle.qbf_core.proofs.PrefixLaws.{AllByRecursion-push}
 use Rattle.qrp.specs.Kept.{count_from, AreStepNumbers}
 use Rattle.qrp.specs.Reading.{is_used}
-use Rattle.qrp.proofs.ReadIsSpelled.{push_distinct}
+use Rattle.qbf_text.proofs.DistinctNumbers.{push_distinct}
 
 pub count_length : (f n : ℕ) → length (count_from f n) ≡ n
 count_length f zero = refl

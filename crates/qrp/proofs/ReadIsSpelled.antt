@@ -12,6 +12,7 @@ use Rattle.qbf_text.specs.declared.token.Token.{Token}
 use Rattle.qbf_text.specs.declared.token.Token.TheVariants as token
 use Rattle.qbf_text.specs.declared.token.Word.TheVariants as word
 use Rattle.qbf_text.specs.Lined.{Lined, unlined, EndsOnce}
+use Rattle.qbf_text.proofs.DistinctNumbers.{push_distinct}
 use Rattle.qbf_text.proofs.AcceptedTokens.{Answers, each_is_answered, flat_map-push}
 use Rattle.qrp.specs.declared.item.Header.{Header}
 use Rattle.qrp.specs.declared.item.Outcome.{Outcome}
@@ -23,18 +24,6 @@ use Rattle.qrp.specs.Reading.{Place, AtP, AtQrp, AtVars, AtSteps, Between, InSet
 use Rattle.qrp.specs.Reading.{Fails, row, is_used, read}
 use Rattle.qrp.proofs.AcceptedTokens.{end_row}
 use Rattle.qrp.proofs.SpelledIsRead.{read_once}
-
-or_false : (a b : Bool) → (a || b) ≡ false → (a ≡ false) × (b ≡ false)
-or_false a b e = search rules
-
-pub push_distinct : (ns : List ℕ) (n : ℕ) → IsDistinct nat_eq ns → is_used n ns ≡ false → IsDistinct nat_eq (ns ++ n ∷ [])
-unfolding IsDistinct
-push_distinct [] n h e = (tt, tt)
-push_distinct (m ∷ ns) n h e =
-    let k = or_false (nat_eq n m) (is_used n ns) e in (
-      AllByRecursion-push (λ w. nat_eq m w ≡ false) ns n h.0 (ne_eqb m n (λ same. eqb-false n m k.0 (sym same))),
-      push_distinct ns n h.1 k.1,
-    )
 
 -- ---- lists that grow
 
