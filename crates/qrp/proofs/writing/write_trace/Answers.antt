@@ -1,5 +1,4 @@
 use Rattle.qbf_text.proofs.SentParts.{part_fails, part_then}
-use Rattle.qrp.proofs.CanonicalTextIsRead.{text_is_read}
 use Rattle.qrp.proofs.WrittenParts.{text_parts}
 use Rattle.qrp.proofs.writing.write_trace.Goals as goal
 
@@ -19,15 +18,3 @@ returns-in_err-put_steps-clause-put g c = rw (text_parts c.args.trace.now) (part
 pub returns-clause-put : goal.returns-clause-put
 returns-clause-put g c = rw (text_parts c.args.trace.now) (part_then (rw c.header.ensures.value at c.in_ok-put_header.ensures)
     (part_then (rw c.sets.ensures at c.in_ok-put_sets.ensures) (part_then c.in_ok-put_steps.ensures (rw c.result.ensures at c.put_result.ensures))))
-
-pub returns-in_err-put_header-clause-reads_back : goal.returns-in_err-put_header-clause-reads_back
-returns-in_err-put_header-clause-reads_back g c = text_is_read c.args.trace.now c.header.ensures.sound
-
-pub returns-in_err-put_sets-clause-reads_back : goal.returns-in_err-put_sets-clause-reads_back
-returns-in_err-put_sets-clause-reads_back g c = text_is_read c.args.trace.now c.header.ensures.sound
-
-pub returns-in_err-put_steps-clause-reads_back : goal.returns-in_err-put_steps-clause-reads_back
-returns-in_err-put_steps-clause-reads_back g c = text_is_read c.args.trace.now c.header.ensures.sound
-
-pub returns-clause-reads_back : goal.returns-clause-reads_back
-returns-clause-reads_back g c = text_is_read c.args.trace.now c.header.ensures.sound
