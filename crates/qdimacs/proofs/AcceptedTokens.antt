@@ -3,7 +3,6 @@ use Rattle.std.proofs.Common.{rules, ◌≡◌, ◌∙◌, ◌≢◌, ℕ, ◌<�
 use Rattle.std.proofs.Common.{refl, ◌∙◌, arith, append_assoc, nat_eq}
 use Rattle.std.proofs.lemmas.List.{map-append, append-nil, length-append}
 use Rattle.std.specs.List.{flat_map, AllByRecursion, IsDistinct}
-use Rattle.std.proofs.lemmas.Map.Keys.{IsDistinct-head, IsDistinct-tail}
 use Rattle.qbf_core.specs.declared.quantifier.Quantifier.{Quantifier}
 use Rattle.qbf_core.specs.Literal.{Literal}
 use Rattle.qbf_core.specs.Blocks.{Block, pairs, pairs_of_block, is_bound, blocks_of, variables}

@@ -1,8 +1,7 @@
 -- What is read is spelled, and a fault that is found stands.
-use Rattle.std.proofs.Common.{rules, inl, inr, ◌⊎◌, ◌≡◌, ◌≢◌, ℕ, ◌<◌, ◌≤◌, Bool, true, false, ◌||◌, List, [], ◌∷◌, ◌++◌, length, map}
+use Rattle.std.proofs.Common.{rules, inl, inr, ◌⊎◌, ◌≡◌, ◌≢◌, ℕ, ◌<◌, ◌≤◌, true, false, List, [], ◌∷◌, ◌++◌, length, map}
 use Rattle.std.proofs.Common.{Option, Some, None, IfSome, Result, Ok, Err, refl, ap, sym, subst, ◌∙◌, arith, append_assoc, nat_eq}
 use Rattle.std.proofs.lemmas.List.{append-nil, map-append, length-append}
-use Rattle.std.proofs.lemmas.Bool.{eqb-false, ne_eqb}
 use Rattle.std.specs.List.{flat_map, AllByRecursion, IsDistinct}
 use Rattle.qbf_core.specs.declared.quantifier.Quantifier.{Quantifier}
 use Rattle.qbf_core.specs.Literal.{Literal}

@@ -1,8 +1,7 @@
 -- What is read is spelled, and a fault that is found stands.
 use Rattle.std.proofs.Common.{rules, ◌≡◌, ℕ, ◌≤◌, ◌+◌, List, [], ◌∷◌, ◌++◌, ◌⊎◌, inl, inr, length, Ok, Err, refl, ap, sym, ◌∙◌}
-use Rattle.std.proofs.Common.{Bool, false, ◌||◌, arith, append_assoc, append-nil, nat_eq}
+use Rattle.std.proofs.Common.{false, arith, append_assoc, append-nil}
 use Rattle.std.proofs.lemmas.List.{map-append, length-append}
-use Rattle.std.proofs.lemmas.Bool.{eqb-false, ne_eqb}
 use Rattle.std.specs.List.{flat_map, AllByRecursion, IsDistinct}
 use Rattle.qbf_core.specs.declared.quantifier.Quantifier.{Quantifier}
 use Rattle.qbf_core.specs.Literal.{Literal}

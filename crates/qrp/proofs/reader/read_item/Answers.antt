@@ -1,4 +1,4 @@
-use Rattle.std.proofs.Common.{◌≤◌, length, Ok, Err, subst}
+use Rattle.std.proofs.Common.{◌≤◌, length, Err, subst}
 use Rattle.qbf_text.specs.Reading.{left}
 use Rattle.qbf_text.specs.Rows.{reads_from}
 use Rattle.qbf_text.specs.Taking.{Reads}
