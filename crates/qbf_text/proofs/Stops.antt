@@ -14,7 +14,8 @@ use Rattle.qbf_text.specs.Left.{is_separator, is_end, tokens_left, IsUnbroken, I
 use Rattle.qbf_text.specs.Lined.{Lined}
 use Rattle.qbf_text.specs.Rows.{Row, Goes, Ends, Whole, Read, read_from}
 use Rattle.qbf_text.specs.Rows as rows
-use Rattle.qbf_text.specs.Stopping.{IfKnown, BeginsAs, Skips, TakesToken, tokens_at, PlaceSkips, PlaceTakes, FindsToken, FindsNone, StopsBehind}
+use Rattle.qbf_text.specs.Stopping.{IfKnown, BeginsAs, Skips, TakesToken, tokens_at, PlaceSkips, PlaceTakes}
+use Rattle.qbf_text.specs.Stopping.{FindsToken, FindsNone, StopsBehind}
 use Rattle.qbf_text.specs.Tokens.{kind, is_blank, is_line_end, is_comment_byte, counted}
 use Rattle.qbf_text.proofs.OneToken.{after, read-one}
 use Rattle.qbf_text.proofs.KnownLeft.{always, Gives-trans}

@@ -23,7 +23,8 @@ fn skip_line<S: Source>(window: &mut Window, source: &mut S) -> Result<(), Sourc
         × Consumes (ahead window.old (S.remaining source.old))
         (ahead window.new (S.remaining source.new)) skipped) }
     ensures end { OnOk result (IfSome (ahead window.new (S.remaining source.new)) EndsLine) }
-    ensures pulled { HasPulled S.bound S.failures window.old window.new source.old source.new result }
+    ensures pulled { HasPulled S.bound S.failures window.old window.new
+        source.old source.new result }
 {
     while let Some(byte) = window.peek(source)? {
         if byte == b'\n' {
@@ -46,7 +47,8 @@ fn read_as<R: Run, S: Source>(
         × Consumes (ahead window.old (S.remaining source.old))
         (ahead window.new (S.remaining source.new)) more) }
     ensures end { OnOk result (IfSome (ahead window.new (S.remaining source.new)) EndsRun) }
-    ensures pulled { HasPulled S.bound S.failures window.old window.new source.old source.new result }
+    ensures pulled { HasPulled S.bound S.failures window.old window.new
+        source.old source.new result }
 {
     let mut run = R::begin(first);
     'bytes: while let Some(byte) = window.peek(source)? {
@@ -66,7 +68,8 @@ fn read_run<S: Source>(first: u8, window: &mut Window, source: &mut S) -> Result
         × Consumes (ahead window.old (S.remaining source.old))
         (ahead window.new (S.remaining source.new)) more) }
     ensures end { OnOk result (IfSome (ahead window.new (S.remaining source.new)) EndsRun) }
-    ensures pulled { HasPulled S.bound S.failures window.old window.new source.old source.new result }
+    ensures pulled { HasPulled S.bound S.failures window.old window.new
+        source.old source.new result }
 {
     if begins_number(first) {
         read_as::<Numeral, S>(first, window, source)

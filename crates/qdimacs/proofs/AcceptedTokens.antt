@@ -25,7 +25,8 @@ number_row_ok to n le = search rules
 pub leads_vars : (v : ℕ) → v ≤ 2147483647 → Leads row AtP (token.Word word.P ∷ token.Word word.Cnf ∷ number v ∷ []) (AtCount v)
 leads_vars v lv = Passes refl (Passes refl (Passes (number_row_ok AtCount v lv) Stays))
 
-pub leads_header : (h : Heading) → h.max_var ≤ 2147483647 → h.count ≤ 2147483647 → Leads row AtP (header h.max_var h.count) (Between h [] [])
+pub leads_header : (h : Heading) → h.max_var ≤ 2147483647 → h.count ≤ 2147483647
+    → Leads row AtP (header h.max_var h.count) (Between h [] [])
 leads_header h lv lc = leads_then (leads_vars h.max_var lv)
     (Passes (number_row_ok (λ c. Between (record { max_var = h.max_var; count = c }) [] []) h.count lc) Stays)
 
@@ -78,7 +79,8 @@ leads_sets h ps [] good = rw append-nil Stays
 leads_sets h ps (s ∷ sets) good =
     let next = ps ++ pairs_of_block s in
     let all : AreGood h.max_var (next ++ pairs sets) = rw append_assoc good in
-    rw (← append_assoc ps (pairs_of_block s) (pairs sets)) (leads_then (leads_then (leads_begun_set h ps s.quantifier s.vars (good_front h.max_var next (pairs sets) all))
+    rw (← append_assoc ps (pairs_of_block s) (pairs sets)) (leads_then
+    (leads_then (leads_begun_set h ps s.quantifier s.vars (good_front h.max_var next (pairs sets) all))
     (Passes refl Stays)) (leads_sets h next sets all))
 
 -- ---- a clause

@@ -47,7 +47,8 @@ numbers_line : (ls : List Literal) → AllByRecursion IsPlain (clause ls) → Is
 numbers_line [] h = (tt, h)
 numbers_line (l ∷ ls) h = (tt, h)
 
-clause_line : (bs : List Block) → AllByRecursion IsVariable (variables (pairs bs)) → (ls : List Literal) → AreBound bs ls → IsLine (clause ls)
+clause_line : (bs : List Block) → AllByRecursion IsVariable (variables (pairs bs)) → (ls : List Literal) → AreBound bs ls
+    → IsLine (clause ls)
 clause_line bs within ls h = numbers_line ls (closed_plain (map literal ls) (all_mapped (λ l. is_bound l.var (pairs bs) ≡ true) IsPlain
     literal (λ l bound. literal_plain l.var l.negative (bound_one IsVariable l.var (pairs bs) bound within)) ls h))
 

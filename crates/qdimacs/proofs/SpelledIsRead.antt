@@ -15,7 +15,8 @@ use Rattle.qbf_text.specs.Lined.{Lined}
 use Rattle.qdimacs.specs.Grammar.{header, set, clause, IsFormula}
 use Rattle.qbf_text.specs.Lined.{unlined}
 use Rattle.qdimacs.specs.Faults.{IsSoFar, Spells, IsFault}
-use Rattle.qdimacs.specs.Reading.{Heading, Place, AtP, AtCnf, AtVars, AtCount, Between, InSet, InClause, Whole, Over, Row, row, read, answer_of}
+use Rattle.qdimacs.specs.Reading.{Heading, Place, AtP, AtCnf, AtVars, AtCount, Between, InSet, InClause, Whole, Over}
+use Rattle.qdimacs.specs.Reading.{Row, row, read, answer_of}
 use Rattle.qbf_text.proofs.OneToken.{read-one, after}
 use Rattle.qdimacs.proofs.AcceptedTokens.{leads_vars, leads_header, leads_sets, leads_begun_set, leads_clauses, leads_begun_clause, end_row}
 use Rattle.qdimacs.proofs.AcceptedTokens.{AreGood, good_front}
@@ -25,7 +26,8 @@ leads_lists : (h : Heading) (sets : List Block) (cs : List (List Literal)) → h
     → AreGood h.max_var (pairs sets) → AllByRecursion (AllByRecursion (λ l. is_bound l.var (pairs sets) ≡ true)) cs → length cs ≤ h.count
     → Leads row AtP (header h.max_var h.count ++ flat_map set sets ++ flat_map clause cs) (Between h (pairs sets) cs)
 leads_lists h sets cs lv lc good closed few =
-    leads_then (leads_then (leads_header h lv lc) (leads_sets h [] sets good)) (leads_clauses h (pairs sets) good [] cs closed (omega arith))
+    leads_then (leads_then (leads_header h lv lc) (leads_sets h [] sets good))
+    (leads_clauses h (pairs sets) good [] cs closed (omega arith))
 
 both : (P Q : ℕ → Type 0) (vs : List ℕ) → AllByRecursion (λ v. P v × Q v) vs → (R : ℕ → Type 0) → AllByRecursion R vs
     → AllByRecursion (λ v. P v × R v) vs

@@ -70,7 +70,8 @@ leads_gives Stays (t ∷ before) e rest = absurd cc
 leads_gives (Passes taken l) [] e rest = absurd cc
 leads_gives {p} (Passes {t = u} taken l) (t ∷ before) e rest =
     let same : t.0 ≡ u = cc in
-    items-one p t (before ++ rest) ∙ ap (λ (r : Row). after r t.1 (before ++ rest)) (ap (row p) same ∙ taken) ∙ leads_gives l before (cc) rest
+    items-one p t (before ++ rest) ∙ ap (λ (r : Row). after r t.1 (before ++ rest)) (ap (row p) same ∙ taken)
+    ∙ leads_gives l before (cc) rest
 leads_gives (Completes taken l) [] e rest = absurd cc
 leads_gives {p} (Completes {t = u} {i = i} taken l) (t ∷ before) e rest =
     let same : t.0 ≡ u = cc in
@@ -127,7 +128,8 @@ leads_antecedents ns n ls ants (b ∷ bs) h few = Passes (antecedent_row ns n ls
 pub number_row : (ns : List ℕ) (n : ℕ) → IsNumber n → is_used n ns ≡ false → row (Between ns) (number n) ≡ Goes (InLits ns n [])
 number_row ns n h fresh = search rules
 
-zero_row : (ns : List ℕ) (s : Inference) → row (InAnts ns s.number s.lits s.ants) (number 0) ≡ Closes (item.Step s) (Between (ns ++ s.number ∷ []))
+zero_row : (ns : List ℕ) (s : Inference)
+    → row (InAnts ns s.number s.lits s.ants) (number 0) ≡ Closes (item.Step s) (Between (ns ++ s.number ∷ []))
 zero_row ns s = search rules
 
 leads_step : (ns : List ℕ) (s : Inference) → IsInference s → is_used s.number ns ≡ false

@@ -99,7 +99,8 @@ literals_go : (ns : List ℕ) (n : ℕ) (ls : List Literal) (t : Token) (next : 
     → ((t ≡ number 0) × (next ≡ InAnts ns n ls [])) ⊎ ((l : Literal) × IsLiteral l × (t ≡ literal l) × (next ≡ InLits ns n (ls ++ l ∷ [])))
 literals_go ns n ls t next e = search rules
 
-antecedents_go : (ns : List ℕ) (n : ℕ) (ls : List Literal) (ants : List ℕ) (t : Token) (next : Place) → IsTo (row (InAnts ns n ls ants) t) next
+antecedents_go : (ns : List ℕ) (n : ℕ) (ls : List Literal) (ants : List ℕ) (t : Token) (next : Place)
+    → IsTo (row (InAnts ns n ls ants) t) next
     → ((t ≡ number 0) × (next ≡ Between (ns ++ n ∷ [])))
     ⊎ ((a : ℕ) × IsNumber a × (length ants + 1 ≤ 2) × (t ≡ number a) × (next ≡ InAnts ns n ls (ants ++ a ∷ [])))
 antecedents_go ns n ls ants t next e = search rules

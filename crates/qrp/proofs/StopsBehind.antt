@@ -40,7 +40,11 @@ with_held d here held same few bytes rest s =
       unbroken = s.unbroken;
       separates = s.separates;
       few = few;
-      missing = (s.line, gives_fault (tokens Qrp s.before) Over (error.Text P7 s.line) (rw (same s.before) at (unread_fault trace_row refused s)));
+      missing = (
+        s.line,
+        gives_fault (tokens Qrp s.before) Over (error.Text P7 s.line)
+            (rw (same s.before) at (unread_fault trace_row refused s)),
+      );
       whole = gives_whole (tokens Qrp front) d ((token.End, s.end_line) ∷ [], rw (same front) at s.whole);
     }
 
