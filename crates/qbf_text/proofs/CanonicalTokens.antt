@@ -1,5 +1,5 @@
 -- The tokens of a canonical text.
-use Rattle.std.proofs.Common.{◌≡◌, ℕ, ◌+◌, Bool, true, false, List, [], ◌∷◌, ◌++◌, refl, sym, ap, ◌∙◌, append_assoc}
+use Rattle.std.proofs.Common.{◌≡◌, ℕ, ◌+◌, Bool, true, false, map, arith, List, [], ◌∷◌, ◌++◌, refl, sym, ap, ◌∙◌, append_assoc}
 use Rattle.std.specs.Prelude.{decimal}
 use Rattle.std.specs.List.{flat_map, AllByRecursion}
 use Rattle.std.proofs.lemmas.Fmt.{digits_decimal, decimal_nonempty}
@@ -132,6 +132,19 @@ left_line f n (t ∷ ts) rest h =
     ap unlined (ap (tokens_left f false n) (append_assoc (spelled t) (line_rest ts) rest)
     ∙ left_token f false n t (line_rest ts ++ rest) h.1.0 (first f t h.0 h.1.0) (rest_ends ts rest))
     ∙ ap (λ k. t ∷ k) (left_rest f n ts rest h.1.1)
+
+pub all_appended : {X : Type 0} (P : X → Type 0) (xs ys : List X) → AllByRecursion P xs → AllByRecursion P ys → AllByRecursion P (xs ++ ys)
+all_appended P [] ys h k = k
+all_appended P (x ∷ xs) ys h k = (h.0, all_appended P xs ys h.1 k)
+
+pub all_mapped : {X Y : Type 0} (P : X → Type 0) (Q : Y → Type 0) (f : X → Y) → ((x : X) → P x → Q (f x)) → (xs : List X)
+    → AllByRecursion P xs → AllByRecursion Q (map f xs)
+all_mapped P Q f one [] h = tt
+all_mapped P Q f one (x ∷ xs) h = (one x h.0, all_mapped P Q f one xs h.1)
+
+-- plain tokens and a zero
+pub closed_plain : (ts : List Token) → AllByRecursion IsPlain ts → AllByRecursion IsPlain (ts ++ token.Number false 0 ∷ [])
+closed_plain ts h = all_appended IsPlain ts (token.Number false 0 ∷ []) h (omega arith, tt)
 
 -- the tokens of lines
 abbrev pub joined : List (List Token) → List Token

@@ -1,11 +1,40 @@
 -- Texts that go out part by part.
-use Rattle.std.proofs.Common.{◌≡◌, ℕ, ◌-◌, ◌^◌, ◌<◌, Ok, Err, List, [], ◌++◌, Option, take, drop, refl, sym, ap, subst, ◌∙◌, append_assoc}
-use Rattle.std.proofs.Common.{append-nil}
-use Rattle.std.specs.Prelude.{Result}
+use Rattle.std.proofs.Common.{◌≡◌, ℕ, ◌-◌, ◌^◌, ◌<◌, Ok, Err, List, [], ◌∷◌, ◌++◌, Option, take, drop, refl, sym, ap, subst, ◌∙◌}
+use Rattle.std.proofs.Common.{append_assoc, append-nil, ◌+◌, suc, add-one, drop-cons, get_or, length}
+use Rattle.std.proofs.lemmas.Result.{err_from_is_err_and}
+use Rattle.std.specs.List.{flat_map}
+use Rattle.std.specs.Result.{IsErrAnd}
+use Rattle.std.specs.Prelude.{Result, decimal, map, false}
+use Rattle.std.specs.Fmt.{digits}
+use Rattle.qbf_text.specs.declared.token.Token.{Token}
+use Rattle.qbf_text.specs.declared.token.Token.TheVariants as token
+use Rattle.qbf_text.specs.Canonical.{spelled, line_rest}
 use Rattle.qbf_text.specs.Written.{IsPut, IsSent}
 use Rattle.std.proofs.Math.ListN.{take-append-drop}
 use Rattle.std.specs.Io.KnownBytes.{Appends}
 use Rattle.std.proofs.KnownBytes.{Appends-trans, Appends-nil}
+
+pub zero_decimal : decimal 0 ≡ 48 ∷ []
+unfolding digits
+zero_decimal = refl
+
+-- tokens of a list go out one by one
+pub line_rest-map : {X : Type 0} (f : X → Token) (xs : List X) (ts : List Token)
+    → line_rest (map f xs ++ ts) ≡ flat_map (λ x. 32 ∷ spelled (f x)) xs ++ line_rest ts
+line_rest-map f [] ts = refl
+line_rest-map f (x ∷ xs) ts = ap (λ (k : List ℕ). 32 ∷ (spelled (f x) ++ k)) (line_rest-map f xs ts)
+    ∙ sym (append_assoc (32 ∷ spelled (f x)) (flat_map (λ y. 32 ∷ spelled (f y)) xs) (line_rest ts))
+
+-- a zero closes them
+pub zero_rest : (ts : List Token) → line_rest (token.Number false 0 ∷ ts) ≡ 32 ∷ 48 ∷ line_rest ts
+zero_rest ts = ap (λ (k : List ℕ). 32 ∷ (k ++ line_rest ts)) zero_decimal
+
+-- the rest of a list of parts, from place i on
+pub parts_next : {X : Type 0} (f : X → List ℕ) (xs : List X) (i : ℕ) (x d : X) → i < length xs → x ≡ get_or xs i d
+    → flat_map f (drop i xs) ≡ f x ++ flat_map f (drop (i + 1) xs)
+parts_next {X} f xs i x d lt is =
+    let one : drop i xs ≡ x ∷ drop (i + 1) xs = rw add-one (drop-cons xs i d lt ∙ ap (λ (y : X). y ∷ drop (suc i) xs) (sym is)) in
+    ap (flat_map f) one
 
 module _ {S : Type 0} {written : S → Option (List ℕ)} {failures : S → ℕ} where
   pub sent_none : (a : S) (whole : List ℕ) → IsSent written failures a a whole whole
@@ -87,3 +116,35 @@ module _ {S : Type 0} {written : S → Option (List ℕ)} {failures : S → ℕ}
     pub sent_last : {a b c : S} {whole rest part : List ℕ} {r : Result T E} → IsSent written failures a b whole rest → rest ≡ part
         → IsPut written failures b c part r → IsPut written failures a c whole r
     sent_last {b = b} {c = c} {r = r} s is q = sent_put s (subst (λ k. IsPut written failures b c k r) (sym is) q)
+
+  module _ {T U E F : Type 0} where
+    -- a part that fails at the exit of a `?`
+    pub part_fails : {a b : S} {part : List ℕ} {e : E} {r : Result U F} (Q : F → Type 0) (more : List ℕ) → IsErrAnd r Q
+        → IsPut {T = T} written failures a b part (Err e) → IsPut written failures a b (part ++ more) r
+    part_fails {r = r} Q more is p = put_fails more refl (err_from_is_err_and r is).1 p
+
+    pub part_then : {a b c : S} {part more : List ℕ} {u : T} {r : Result U F} → IsPut {E = E} written failures a b part (Ok u)
+        → IsPut written failures b c more r → IsPut written failures a c (part ++ more) r
+    part_then {more = more} p q = put_then more refl p q
+
+  module _ {T U E F : Type 0} where
+    -- the same of what is left
+    pub sent_fails : {a b c : S} {whole rest part : List ℕ} {e : E} {r : Result U F} (Q : F → Type 0) (more : List ℕ)
+        → IsSent written failures a b whole rest → rest ≡ part ++ more → IsErrAnd r Q → IsPut {T = T} written failures b c part (Err e)
+        → IsPut written failures a c whole r
+    sent_fails {r = r} Q more s is fails p = sent_put s (put_fails more is (err_from_is_err_and r fails).1 p)
+
+  -- ---- the parts of a list
+
+  module _ {X : Type 0} (f : X → List ℕ) (xs : List X) (i : ℕ) (x d : X) {T E : Type 0} where
+    -- one more goes out
+    pub sent_next : {a b c : S} {whole : List ℕ} {u : T} → IsSent written failures a b whole (flat_map f (drop i xs)) → i < length xs
+        → x ≡ get_or xs i d → IsPut {E = E} written failures b c (f x) (Ok u)
+        → IsSent written failures a c whole (flat_map f (drop (i + 1) xs))
+    sent_next s lt is p = sent_part _ s (parts_next f xs i x d lt is) p
+
+    -- the next fails
+    pub next_fails : {U F : Type 0} {a b c : S} {whole : List ℕ} {e : E} {r : Result U F} (Q : F → Type 0)
+        → IsSent written failures a b whole (flat_map f (drop i xs)) → i < length xs → x ≡ get_or xs i d → IsErrAnd r Q
+        → IsPut {T = T} written failures b c (f x) (Err e) → IsPut written failures a c whole r
+    next_fails Q s lt is fails p = sent_fails Q _ s (parts_next f xs i x d lt is) fails p

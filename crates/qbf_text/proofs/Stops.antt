@@ -14,10 +14,11 @@ use Rattle.qbf_text.specs.Left.{is_separator, is_end, tokens_left, IsUnbroken, I
 use Rattle.qbf_text.specs.Lined.{Lined}
 use Rattle.qbf_text.specs.Rows.{Row, Goes, Ends, Whole, Read, read_from}
 use Rattle.qbf_text.specs.Rows as rows
-use Rattle.qbf_text.specs.Stopping.{IfKnown, BeginsAs, Skips, TakesToken, tokens_at, PlaceSkips, PlaceTakes, StopsBehind}
+use Rattle.qbf_text.specs.Stopping.{IfKnown, BeginsAs, Skips, TakesToken, tokens_at, PlaceSkips, PlaceTakes}
+use Rattle.qbf_text.specs.Stopping.{FindsToken, FindsNone, StopsBehind}
 use Rattle.qbf_text.specs.Tokens.{kind, is_blank, is_line_end, is_comment_byte, counted}
 use Rattle.qbf_text.proofs.OneToken.{after, read-one}
-use Rattle.qbf_text.proofs.KnownLeft.{always}
+use Rattle.qbf_text.proofs.KnownLeft.{always, Gives-trans}
 use Rattle.qbf_text.proofs.ByteByByte.{left_nothing, left_line_end, left_blank, left_comment, left_run, IsToken, tokens_left-counted}
 use Rattle.qbf_text.proofs.LeftAfterNumber.{number_taken, spelled_ending, spelled_blanked}
 
@@ -204,12 +205,25 @@ place_takes_behind p q r a b c token s t =
     known_trans _ _ _ (takes_behind (tokens_at p) (tokens_at q) (tokens_at r) token) (ahead p.window a) (ahead q.window b)
     (ahead r.window c) s t
 
--- of any bytes that remain
-pub place_takes_some : (p q r : Place) (found : Option Lined) → ((rem : Option (List ℕ)) → PlaceSkips p rem q rem)
-    → IfSome found (λ token. (rem : Option (List ℕ)) → PlaceTakes q rem r rem token)
-    → IfSome found (λ token. (rem : Option (List ℕ)) → PlaceTakes p rem r rem token)
-place_takes_some p q r None s t = tt
-place_takes_some p q r (Some token) s t = λ rem. place_takes_behind p q r rem rem rem token (s rem) (t rem)
+-- what is passed by and passed by again is passed by
+pub none_more : {p q r : Place} {a b c : Option (List ℕ)} → FindsNone p a q b → FindsNone q b r c → FindsNone p a r c
+none_more {p} {q} {r} {a} {b} {c} s t =
+    record { gives = Gives-trans _ _ _ [] s.gives t.gives; skips = place_skips_more p q r a b c s.skips t.skips }
+
+-- a token behind it is found
+pub found_token : {p q r : Place} {a b c : Option (List ℕ)} {token : Lined} → FindsNone p a q b → FindsToken q b r c token
+    → FindsToken p a r c token
+found_token {p} {q} {r} {a} {b} {c} {token} s t = record {
+  gives = Gives-trans _ _ _ _ s.gives t.gives;
+  takes = place_takes_behind p q r a b c token s.skips t.takes;
+  no_end = t.no_end;
+}
+
+pub found_behind : (p q r : Place) (found : Option Lined) → ((rem : Option (List ℕ)) → FindsNone p rem q rem)
+    → IfSome found (λ token. (rem : Option (List ℕ)) → FindsToken q rem r rem token)
+    → IfSome found (λ token. (rem : Option (List ℕ)) → FindsToken p rem r rem token)
+found_behind p q r None s t = tt
+found_behind p q r (Some token) s t = λ rem. found_token (s rem) (t rem)
 
 -- ---- token after token
 

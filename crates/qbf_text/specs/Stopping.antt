@@ -1,11 +1,13 @@
 -- Where reading stops: behind a token, and at most one separator.
-use Rattle.std.specs.Prelude.{◌≡◌, ℕ, false, true, List, [], ◌∷◌, ◌++◌, Option, Some, None, Result, Ok, Err, ⊤}
+use Rattle.std.specs.Prelude.{◌≡◌, ℕ, false, true, List, [], ◌∷◌, ◌++◌, Option, Some, None, IfSome, Result, Ok, Err, ⊤}
 use Rattle.qbf_text.specs.declared.grammar.ReadError.{ReadError}
 use Rattle.qbf_text.specs.declared.scanner.Place.{Place}
 use Rattle.qbf_text.specs.declared.token.Token.{Token}
 use Rattle.qbf_text.specs.declared.token.Token.TheVariants.{End}
 use Rattle.qbf_text.specs.Ahead.{ahead}
-use Rattle.qbf_text.specs.Left.{is_separator, is_end, tokens_left, IsUnbroken}
+use Rattle.std.specs.Io.KnownBytes.{IsAtEnd}
+use Rattle.qbf_text.specs.Left.{is_separator, is_end, tokens_left, IsUnbroken, Gives}
+use Rattle.qbf_text.specs.Places.{left_at}
 use Rattle.qbf_text.specs.Lined.{Lined}
 use Rattle.qbf_text.specs.Reading.{Reading}
 use Rattle.qbf_text.specs.Rows.{Row, Ends, Whole, read_from}
@@ -63,6 +65,23 @@ PlaceSkips p before q after = IfKnown (Skips (tokens_at p) (tokens_at q)) (ahead
 abbrev pub PlaceTakes : Place → Option (List ℕ) → Place → Option (List ℕ) → Lined → Type 0
 PlaceTakes p before q after token =
     IfKnown (TakesToken (tokens_at p) (tokens_at q) token) (ahead p.window before) (ahead q.window after)
+
+-- one token was given and taken, and it is not End
+pub record FindsToken (p : Place) (before : Option (List ℕ)) (q : Place) (after : Option (List ℕ)) (token : Lined) : Type 0 where
+  pub gives : Gives (left_at p before) (left_at q after) (token ∷ [])
+  pub takes : PlaceTakes p before q after token
+  pub no_end : is_end token.0 ≡ false
+
+-- none was given, and what was taken has none
+pub record FindsNone (p : Place) (before : Option (List ℕ)) (q : Place) (after : Option (List ℕ)) : Type 0 where
+  pub gives : Gives (left_at p before) (left_at q after) []
+  pub skips : PlaceSkips p before q after
+
+-- none was given, and End alone is left
+pub record FindsEnd (p : Place) (before : Option (List ℕ)) (q : Place) (after : Option (List ℕ)) : Type 0 where
+  pub gives : Gives (left_at p before) (left_at q after) []
+  pub left : IfSome (left_at q after) (λ left. left ≡ (End, q.line) ∷ [])
+  pub at_end : IsAtEnd after
 
 -- the same of a scanner
 abbrev pub ScannerTakes : Reading → Option (List ℕ) → Reading → Option (List ℕ) → Lined → Type 0

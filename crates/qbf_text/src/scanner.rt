@@ -5,6 +5,7 @@ ghost use Rattle.std.specs.Prelude.{length, IfSome, IfNone, false, true, IsOk, I
 ghost use Rattle.std.specs.Prelude.{OnErr};
 ghost use Rattle.std.specs.Io.KnownBytes.{Consumes, IsAtEnd};
 ghost use Rattle.qbf_text.specs.Ahead.{ahead, first_of};
+ghost use Rattle.qbf_text.specs.Pulling.{HasPulled};
 ghost use Rattle.qbf_text.specs.Tokens.{kind};
 ghost use Rattle.qbf_text.specs.Left.{is_separator, IsUnbroken, IsWithinLine, EndsRun, EndsLine};
 ghost use Rattle.qbf_text.specs.Left.{Gives, is_end};
@@ -22,11 +23,8 @@ fn skip_line<S: Source>(window: &mut Window, source: &mut S) -> Result<(), Sourc
         × Consumes (ahead window.old (S.remaining source.old))
         (ahead window.new (S.remaining source.new)) skipped) }
     ensures end { OnOk result (IfSome (ahead window.new (S.remaining source.new)) EndsLine) }
-    ensures bound { OnOk result
-        (length window.new + S.bound source.new ≤ length window.old + S.bound source.old) }
-    ensures ok { OnOk result (S.failures source.new ≡ S.failures source.old) }
-    ensures err { OnErr result
-        (S.failures source.old < 2 ^ 64 - 1 → S.failures source.old < S.failures source.new) }
+    ensures pulled { HasPulled S.bound S.failures window.old window.new
+        source.old source.new result }
 {
     while let Some(byte) = window.peek(source)? {
         if byte == b'\n' {
@@ -49,12 +47,8 @@ fn read_as<R: Run, S: Source>(
         × Consumes (ahead window.old (S.remaining source.old))
         (ahead window.new (S.remaining source.new)) more) }
     ensures end { OnOk result (IfSome (ahead window.new (S.remaining source.new)) EndsRun) }
-    ensures few { OnOk result (length window.new ≤ 4096) }
-    ensures bound { OnOk result
-        (length window.new + S.bound source.new ≤ length window.old + S.bound source.old) }
-    ensures ok { OnOk result (S.failures source.new ≡ S.failures source.old) }
-    ensures err { OnErr result
-        (S.failures source.old < 2 ^ 64 - 1 → S.failures source.old < S.failures source.new) }
+    ensures pulled { HasPulled S.bound S.failures window.old window.new
+        source.old source.new result }
 {
     let mut run = R::begin(first);
     'bytes: while let Some(byte) = window.peek(source)? {
@@ -74,12 +68,8 @@ fn read_run<S: Source>(first: u8, window: &mut Window, source: &mut S) -> Result
         × Consumes (ahead window.old (S.remaining source.old))
         (ahead window.new (S.remaining source.new)) more) }
     ensures end { OnOk result (IfSome (ahead window.new (S.remaining source.new)) EndsRun) }
-    ensures few { OnOk result (length window.new ≤ 4096) }
-    ensures bound { OnOk result
-        (length window.new + S.bound source.new ≤ length window.old + S.bound source.old) }
-    ensures ok { OnOk result (S.failures source.new ≡ S.failures source.old) }
-    ensures err { OnErr result
-        (S.failures source.old < 2 ^ 64 - 1 → S.failures source.old < S.failures source.new) }
+    ensures pulled { HasPulled S.bound S.failures window.old window.new
+        source.old source.new result }
 {
     if begins_number(first) {
         read_as::<Numeral, S>(first, window, source)
@@ -99,21 +89,17 @@ struct Place {
 }
 
 impl Place {
-    ghost use Rattle.qbf_text.specs.Places.{left_at};
-    ghost use Rattle.qbf_text.specs.Stopping.{PlaceSkips, PlaceTakes};
+    ghost use Rattle.qbf_text.specs.Stopping.{FindsToken, FindsNone, FindsEnd};
     ghost use Rattle.qbf_text.specs.declared.token.Token.TheVariants.{End};
 
     /// The next token and its line, if it is a number that was pulled whole with the separator
     /// after it: both are taken then, and else nothing is.
     #[inline(always)]
     fn number(&mut self) -> Option<(Token, u64)>
-        ensures some { IfSome result (λ token. (remaining : Option (List ℕ)) →
-            Gives (left_at self.old remaining) (left_at self.new remaining) (token ∷ [])) }
-        ensures takes { IfSome result (λ token. (remaining : Option (List ℕ)) →
-            PlaceTakes self.old remaining self.new remaining token) }
-        ensures no_end { IfSome result (λ token. is_end token.0 ≡ false) }
-        ensures less { IfSome result (λ _. length self.new.window < length self.old.window) }
-        ensures few { IfSome result (λ _. length self.new.window ≤ 4096) }
+        ensures found { IfSome result (λ token. (remaining : Option (List ℕ)) →
+            FindsToken self.old remaining self.new remaining token) }
+        ensures less { IfSome result (λ _. (length self.new.window < length self.old.window)
+            × (length self.new.window ≤ 4096)) }
         ensures none { IfNone result (self.new ≡ self.old) }
     {
         let Some(found) = self.window.number() else {
@@ -136,10 +122,8 @@ impl Place {
     fn pass_separator(&mut self, byte: u8)
         requires next { Some byte ≡ first_of self.old.window }
         requires separates { is_separator byte ≡ true }
-        ensures same { (remaining : Option (List ℕ)) →
-            Gives (left_at self.old remaining) (left_at self.new remaining) [] }
-        ensures skips { (remaining : Option (List ℕ))
-            → PlaceSkips self.old remaining self.new remaining }
+        ensures none { (remaining : Option (List ℕ))
+            → FindsNone self.old remaining self.new remaining }
         ensures less { length self.new.window < length self.old.window }
         ensures line { self.new.line < 2 ^ 64 }
     {
@@ -154,10 +138,8 @@ impl Place {
 
     /// Goes past the separators that were pulled.
     fn skip_separators(&mut self)
-        ensures same { (remaining : Option (List ℕ)) →
-            Gives (left_at self.old remaining) (left_at self.new remaining) [] }
-        ensures skips { (remaining : Option (List ℕ))
-            → PlaceSkips self.old remaining self.new remaining }
+        ensures none { (remaining : Option (List ℕ))
+            → FindsNone self.old remaining self.new remaining }
         ensures no_more { length self.new.window ≤ length self.old.window }
     {
         while let Some(byte) = self.window.first() {
@@ -173,17 +155,12 @@ impl Place {
     #[cold]
     #[inline(never)]
     fn number_behind(&mut self) -> Option<(Token, u64)>
-        ensures some { IfSome result (λ token. (remaining : Option (List ℕ)) →
-            Gives (left_at self.old remaining) (left_at self.new remaining) (token ∷ [])) }
-        ensures takes { IfSome result (λ token. (remaining : Option (List ℕ)) →
-            PlaceTakes self.old remaining self.new remaining token) }
-        ensures no_end { IfSome result (λ token. is_end token.0 ≡ false) }
-        ensures less { IfSome result (λ _. length self.new.window < length self.old.window) }
-        ensures few { IfSome result (λ _. length self.new.window ≤ 4096) }
+        ensures found { IfSome result (λ token. (remaining : Option (List ℕ)) →
+            FindsToken self.old remaining self.new remaining token) }
+        ensures less { IfSome result (λ _. (length self.new.window < length self.old.window)
+            × (length self.new.window ≤ 4096)) }
         ensures none { IfNone result ((remaining : Option (List ℕ)) →
-            Gives (left_at self.old remaining) (left_at self.new remaining) []) }
-        ensures skips { IfNone result
-            ((remaining : Option (List ℕ)) → PlaceSkips self.old remaining self.new remaining) }
+            FindsNone self.old remaining self.new remaining) }
         ensures no_more { length self.new.window ≤ length self.old.window }
     {
         self.skip_separators();
@@ -193,17 +170,12 @@ impl Place {
     /// The next token and its line, if it is a number that was pulled whole.
     #[inline(always)]
     fn at_hand(&mut self) -> Option<(Token, u64)>
-        ensures some { IfSome result (λ token. (remaining : Option (List ℕ)) →
-            Gives (left_at self.old remaining) (left_at self.new remaining) (token ∷ [])) }
-        ensures takes { IfSome result (λ token. (remaining : Option (List ℕ)) →
-            PlaceTakes self.old remaining self.new remaining token) }
-        ensures no_end { IfSome result (λ token. is_end token.0 ≡ false) }
-        ensures less { IfSome result (λ _. length self.new.window < length self.old.window) }
-        ensures few { IfSome result (λ _. length self.new.window ≤ 4096) }
+        ensures found { IfSome result (λ token. (remaining : Option (List ℕ)) →
+            FindsToken self.old remaining self.new remaining token) }
+        ensures less { IfSome result (λ _. (length self.new.window < length self.old.window)
+            × (length self.new.window ≤ 4096)) }
         ensures none { IfNone result ((remaining : Option (List ℕ)) →
-            Gives (left_at self.old remaining) (left_at self.new remaining) []) }
-        ensures skips { IfNone result
-            ((remaining : Option (List ℕ)) → PlaceSkips self.old remaining self.new remaining) }
+            FindsNone self.old remaining self.new remaining) }
         ensures no_more { length self.new.window ≤ length self.old.window }
     {
         match self.number() {
@@ -216,31 +188,17 @@ impl Place {
     #[cold]
     #[inline(never)]
     fn scan<S: Source>(&mut self, source: &mut S) -> Result<Option<Token>, SourceFault>
-        ensures some { IfOk result (λ found. IfSome found (λ token.
-            Gives (left_at self.old (S.remaining source.old))
-            (left_at self.new (S.remaining source.new))
-            ((token, self.new.line) ∷ []))) }
         // The source is read no further than after the token.
-        ensures takes { IfOk result (λ found. IfSome found (λ token.
-            PlaceTakes self.old (S.remaining source.old) self.new (S.remaining source.new)
+        ensures found { IfOk result (λ found. IfSome found (λ token.
+            FindsToken self.old (S.remaining source.old) self.new (S.remaining source.new)
             (token, self.new.line))) }
-        ensures few { IfOk result (λ found. IfSome found (λ _. length self.new.window ≤ 4096)) }
-        ensures no_end { IfOk result (λ found. IfSome found (λ token. is_end token ≡ false)) }
-        ensures none { IfOk result (λ found. IfNone found
-            (Gives (left_at self.old (S.remaining source.old))
-            (left_at self.new (S.remaining source.new)) []
-            × IfSome (left_at self.new (S.remaining source.new))
-            (λ left. left ≡ (End, self.new.line) ∷ []))) }
-        ensures at_end { IfOk result (λ found. IfNone found (IsAtEnd (S.remaining source.new))) }
-        ensures bound { IfOk result (λ found. IfSome found (λ _.
+        ensures less { IfOk result (λ found. IfSome found (λ _.
             length self.new.window + S.bound source.new
             < length self.old.window + S.bound source.old)) }
-        ensures no_more { OnOk result (
-            length self.new.window + S.bound source.new
-            ≤ length self.old.window + S.bound source.old) }
-        ensures ok { OnOk result (S.failures source.new ≡ S.failures source.old) }
-        ensures err { OnErr result
-            (S.failures source.old < 2 ^ 64 - 1 → S.failures source.old < S.failures source.new) }
+        ensures none { IfOk result (λ found. IfNone found
+            (FindsEnd self.old (S.remaining source.old) self.new (S.remaining source.new))) }
+        ensures pulled { HasPulled S.bound S.failures self.old.window self.new.window
+            source.old source.new result }
     {
         // The proof reads here that the number has 64 bits.
         let _line = self.line;

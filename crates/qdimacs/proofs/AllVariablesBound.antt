@@ -46,7 +46,7 @@ module _ (n : ℕ) (vs : List ℕ) (distinct : IsDistinct eqb vs) (within : AllB
       by true e = refl
       by false e = absurd (crowded v low high e)
 
-is_bound_variables : (v : ℕ) (ps : List (Quantifier × ℕ)) → is_bound v ps ≡ list_any (eqb v) (variables ps)
+pub is_bound_variables : (v : ℕ) (ps : List (Quantifier × ℕ)) → is_bound v ps ≡ list_any (eqb v) (variables ps)
 is_bound_variables v [] = refl
 is_bound_variables v (p ∷ ps) = ap (λ (b : Bool). eqb v p.1 || b) (is_bound_variables v ps)
 

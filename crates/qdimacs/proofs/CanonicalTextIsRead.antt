@@ -1,38 +1,30 @@
 -- The canonical text is read again.
-use Rattle.std.proofs.Common.{rules, ◌≡◌, ℕ, Bool, List, [], ◌∷◌, ◌++◌, length, map, refl, ap, sym, subst, ◌∙◌, arith, append_assoc}
+use Rattle.std.proofs.Common.{rules, ◌≡◌, ℕ, Bool, true, List, [], ◌∷◌, ◌++◌, length, map, refl, ap, ◌∙◌, arith, append_assoc}
 use Rattle.std.proofs.lemmas.Grind.{flat_map-append}
+use Rattle.std.proofs.lemmas.List.Folds.{flat_map-map}
 use Rattle.std.specs.List.{flat_map, AllByRecursion}
 use Rattle.qbf_core.specs.declared.quantifier.Quantifier.{Quantifier}
 use Rattle.qbf_core.specs.Literal.{Literal}
-use Rattle.qbf_core.specs.Blocks.{Block, pairs, variables, IsVariable, AreBound}
+use Rattle.qbf_core.specs.Blocks.{Block, pairs, variables, is_bound, IsVariable, AreBound}
 use Rattle.qbf_core.specs.Qbf.{Qbf, IsWellFormed}
 use Rattle.qbf_text.specs.declared.token.Comments.TheVariants.{Qdimacs}
 use Rattle.qbf_text.specs.declared.token.Token.{Token}
 use Rattle.qbf_text.specs.declared.token.Token.TheVariants as token
 use Rattle.qbf_text.specs.Tokens.{tokens}
 use Rattle.qbf_text.specs.Canonical.{IsPlain, IsLine}
-use Rattle.qbf_text.proofs.CanonicalTokens.{joined, tokens-lines_text}
+use Rattle.qbf_text.proofs.CanonicalTokens.{joined, tokens-lines_text, all_appended, all_mapped, closed_plain}
 use Rattle.qdimacs.specs.Grammar.{number, literal, letter, header, set, clause, spelling, lines, text}
-use Rattle.qbf_core.proofs.PrefixLaws.{AllByRecursion-push}
 use Rattle.qdimacs.specs.Laws.{ReadsText}
 use Rattle.qdimacs.proofs.AcceptedTokens.{bound_one}
 use Rattle.qdimacs.proofs.SpelledIsRead.{spelled_is_read}
 
 -- ---- the lines can be written
 
-zero_plain : IsPlain (number 0)
-zero_plain = search rules
-
-pub variables_plain : (vs : List ℕ) → AllByRecursion IsVariable vs → AllByRecursion IsPlain (map number vs)
-variables_plain [] h = tt
-variables_plain (v ∷ vs) h = (omega (arith, h.0.1), variables_plain vs h.1)
+variable_plain : (v : ℕ) → IsVariable v → IsPlain (number v)
+variable_plain v h = omega (arith, h.1)
 
 literal_plain : (v : ℕ) (negative : Bool) → IsVariable v → IsPlain (token.Number negative v)
 literal_plain v negative h = search rules
-
-pub literals_plain : (ls : List Literal) → AllByRecursion (λ l. IsVariable l.var) ls → AllByRecursion IsPlain (map literal ls)
-literals_plain [] h = tt
-literals_plain (l ∷ ls) h = (literal_plain l.var l.negative h.0, literals_plain ls h.1)
 
 letter_line : (q : Quantifier) (ts : List Token) → AllByRecursion IsPlain ts → IsLine (letter q ∷ ts)
 letter_line q ts h = search rules
@@ -47,51 +39,34 @@ sets_lines [] h = tt
 sets_lines (b ∷ bs) h =
     let k = front IsVariable b.quantifier b.vars (pairs bs) h in (
       letter_line b.quantifier (map number b.vars ++ number 0 ∷ [])
-          (AllByRecursion-push IsPlain (map number b.vars) (number 0) (variables_plain b.vars k.0) zero_plain),
+          (closed_plain (map number b.vars) (all_mapped IsVariable IsPlain number variable_plain b.vars k.0)),
       sets_lines bs k.1,
     )
 
-bound_variables : (bs : List Block) (ls : List Literal) → AllByRecursion IsVariable (variables (pairs bs)) → AreBound bs ls
-    → AllByRecursion (λ l. IsVariable l.var) ls
-bound_variables bs [] within h = tt
-bound_variables bs (l ∷ ls) within h = (bound_one IsVariable l.var (pairs bs) h.0 within, bound_variables bs ls within h.1)
+numbers_line : (ls : List Literal) → AllByRecursion IsPlain (clause ls) → IsLine (clause ls)
+numbers_line [] h = (tt, h)
+numbers_line (l ∷ ls) h = (tt, h)
 
-numbers_line : (ts : List Token) → AllByRecursion IsPlain ts → (ls : List Literal) → ts ≡ clause ls → IsLine (clause ls)
-numbers_line ts h [] e = (tt, subst (AllByRecursion IsPlain) e h)
-numbers_line ts h (l ∷ ls) e = (tt, subst (AllByRecursion IsPlain) e h)
-
-clauses_lines : (bs : List Block) (cs : List (List Literal)) → AllByRecursion IsVariable (variables (pairs bs))
-    → AllByRecursion (AreBound bs) cs → AllByRecursion IsLine (map clause cs)
-clauses_lines bs [] within h = tt
-clauses_lines bs (c ∷ cs) within h = (
-  numbers_line (clause c)
-      (AllByRecursion-push IsPlain (map literal c) (number 0) (literals_plain c (bound_variables bs c within h.0)) zero_plain) c refl,
-  clauses_lines bs cs within h.1,
-)
-
-all_append : (xs ys : List (List Token)) → AllByRecursion IsLine xs → AllByRecursion IsLine ys → AllByRecursion IsLine (xs ++ ys)
-all_append [] ys h k = k
-all_append (x ∷ xs) ys h k = (h.0, all_append xs ys h.1 k)
+clause_line : (bs : List Block) → AllByRecursion IsVariable (variables (pairs bs)) → (ls : List Literal) → AreBound bs ls
+    → IsLine (clause ls)
+clause_line bs within ls h = numbers_line ls (closed_plain (map literal ls) (all_mapped (λ l. is_bound l.var (pairs bs) ≡ true) IsPlain
+    literal (λ l bound. literal_plain l.var l.negative (bound_one IsVariable l.var (pairs bs) bound within)) ls h))
 
 lines_written : (f : Qbf) → IsWellFormed f → AllByRecursion IsLine (lines f)
 lines_written f w = (
   (tt, (tt, (tt, (omega (arith, w.numbers), (omega (arith, w.count), tt))))),
-  all_append (map set f.blocks) (map clause f.clauses) (sets_lines f.blocks w.prefix.within)
-      (clauses_lines f.blocks f.clauses w.prefix.within w.closed),
+  all_appended IsLine (map set f.blocks) (map clause f.clauses) (sets_lines f.blocks w.prefix.within)
+      (all_mapped (AreBound f.blocks) IsLine clause (clause_line f.blocks w.prefix.within) f.clauses w.closed),
 )
 
 -- ---- the tokens of the lines
 
-joined-map : {X : Type 0} (g : X → List Token) (xs : List X) → joined (map g xs) ≡ flat_map g xs
-joined-map g [] = refl
-joined-map g (x ∷ xs) = ap (λ k. g x ++ k) (joined-map g xs)
-
 joined_lines : (f : Qbf) → joined (lines f) ++ token.End ∷ [] ≡ spelling f f.blocks
 joined_lines f =
     let h = header f.max_var (length f.clauses) in
-    ap (λ k. (h ++ k) ++ token.End ∷ []) (flat_map-append (λ line. line) (map set f.blocks) (map clause f.clauses) ∙ ap (λ k. k
-    ++ joined (map clause f.clauses)) (joined-map set f.blocks) ∙ ap (λ k. flat_map set f.blocks ++ k) (joined-map clause f.clauses))
-    ∙ ap (λ k. k ++ token.End ∷ []) (sym (append_assoc h (flat_map set f.blocks) (flat_map clause f.clauses)))
+    let parts : joined (map set f.blocks ++ map clause f.clauses) ≡ flat_map set f.blocks ++ flat_map clause f.clauses =
+    simp (flat_map-append, flat_map-map) in
+    ap (λ (k : List Token). (h ++ k) ++ token.End ∷ []) parts ∙ simp append_assoc
 
 -- What is written is read again.
 pub text_is_read : ReadsText

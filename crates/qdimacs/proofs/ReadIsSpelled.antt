@@ -1,9 +1,7 @@
 -- What is read is spelled, and a fault that is found stands.
-use Rattle.std.proofs.Common.{rules, inl, inr, ◌⊎◌, ◌≡◌, ◌≢◌, ℕ, ◌<◌, ◌≤◌, Bool, true, false, ◌||◌, List, [], ◌∷◌, ◌++◌, length, map}
-use Rattle.std.proofs.Common.{Option, Some, None, IfSome, Result, refl, ap, sym, subst, ◌∙◌, arith, append_assoc, nat_eq}
+use Rattle.std.proofs.Common.{rules, inl, inr, ◌⊎◌, ◌≡◌, ◌≢◌, ℕ, ◌<◌, ◌≤◌, true, false, List, [], ◌∷◌, ◌++◌, length, map}
+use Rattle.std.proofs.Common.{Option, Some, None, IfSome, Result, Ok, Err, refl, ap, sym, subst, ◌∙◌, arith, append_assoc, nat_eq}
 use Rattle.std.proofs.lemmas.List.{append-nil, map-append, length-append}
-use Rattle.std.proofs.lemmas.Grind.{flat_map-append}
-use Rattle.std.proofs.lemmas.Bool.{eqb-false, ne_eqb}
 use Rattle.std.specs.List.{flat_map, AllByRecursion, IsDistinct}
 use Rattle.qbf_core.specs.declared.quantifier.Quantifier.{Quantifier}
 use Rattle.qbf_core.specs.Literal.{Literal}
@@ -16,13 +14,17 @@ use Rattle.qbf_text.specs.declared.token.Token.{Token}
 use Rattle.qbf_text.specs.declared.token.Token.TheVariants as token
 use Rattle.qbf_text.specs.Lined.{Lined, EndsOnce}
 use Rattle.qbf_text.specs.Left.{is_end}
-use Rattle.qdimacs.proofs.OneToken.{read-one, after, no_place_after_end}
+use Rattle.qbf_text.proofs.DistinctNumbers.{push_distinct}
+use Rattle.qdimacs.proofs.AllVariablesBound.{is_bound_variables}
+use Rattle.qbf_text.proofs.AcceptedTokens.{each_is_answered, flat_map-push}
+use Rattle.qbf_text.proofs.AcceptedTokens as accepted
+use Rattle.qdimacs.proofs.SpelledIsRead.{read_once}
 use Rattle.qdimacs.specs.Grammar.{number, literal, letter, header, set, clause, IsFormula}
 use Rattle.qbf_text.specs.Lined.{unlined}
 use Rattle.qdimacs.specs.Faults.{Reads, Answers, IsSoFar, Spells}
 use Rattle.qbf_text.specs.Rows.{Goes, Ends, Fails}
 use Rattle.qdimacs.specs.Reading.{Heading, Place, AtP, AtCnf, AtVars, AtCount, Between, InSet, InClause, Whole, Over, Row, row}
-use Rattle.qdimacs.specs.Reading.{header_number, number_row, member, set_row, literal_in, clause_row, read_from, answer_at, read, Gives}
+use Rattle.qdimacs.specs.Reading.{header_number, number_row, member, set_row, literal_in, clause_row, read, Gives}
 use Rattle.qdimacs.specs.Reading.{reads_bytes, IsWhole}
 use Rattle.qbf_text.specs.declared.token.Comments.TheVariants.{Qdimacs}
 use Rattle.qbf_text.specs.Tokens as text
@@ -30,29 +32,14 @@ use Rattle.qbf_text.proofs.TokensEndOnce.{tokens-EndsOnce}
 
 -- ---- one token
 
+no_place_after_end : (place next : Place) → row place token.End ≡ Goes next → ⊥
+no_place_after_end place next e = search rules
+
 number_is : (to : ℕ → Place) (t : Token) (next : Place) → number_row to t (header_number t) ≡ Goes next
     → (v : ℕ) × (t ≡ number v) × (v ≤ 2147483647) × (to v ≡ next)
 number_is to t next e = search rules
 
 -- ---- what is accepted so far, and one more
-
-push_variables : (P : ℕ → Type 0) (ps : List (Quantifier × ℕ)) (q : Quantifier) (v : ℕ) → AllByRecursion P (variables ps) → P v
-    → AllByRecursion P (variables (ps ++ (q, v) ∷ []))
-push_variables P [] q v h p = (p, tt)
-push_variables P (x ∷ ps) q v h p = (h.0, push_variables P ps q v h.1 p)
-
-or_false : (a b : Bool) → (a || b) ≡ false → (a ≡ false) × (b ≡ false)
-or_false a b e = search rules
-
-push_distinct : (ps : List (Quantifier × ℕ)) (q : Quantifier) (v : ℕ) → IsDistinct nat_eq (variables ps) → is_bound v ps ≡ false
-    → IsDistinct nat_eq (variables (ps ++ (q, v) ∷ []))
-unfolding IsDistinct
-push_distinct [] q v h e = (tt, tt)
-push_distinct (x ∷ ps) q v h e =
-    let k = or_false (nat_eq v x.1) (is_bound v ps) e in (
-      push_variables (λ w. nat_eq x.1 w ≡ false) ps q v h.0 (ne_eqb x.1 v (λ same. eqb-false v x.1 k.0 (sym same))),
-      push_distinct ps q v h.1 k.1,
-    )
 
 none_so_far : (h : Heading) → h.max_var ≤ 2147483647 → h.count ≤ 2147483647 → IsSoFar h [] []
 unfolding IsDistinct
@@ -65,8 +52,8 @@ more_variables h ps q v s low high fresh = record {
   count = s.count;
   closed = tt;
   few = s.few;
-  distinct = push_distinct ps q v s.distinct fresh;
-  within = push_variables (λ w. (1 ≤ w) × (w ≤ h.max_var)) ps q v s.within (low, high);
+  distinct = rw map-append (push_distinct (variables ps) v s.distinct (sym (is_bound_variables v ps) ∙ fresh));
+  within = rw map-append (AllByRecursion-push (λ w. (1 ≤ w) × (w ≤ h.max_var)) (variables ps) v s.within (low, high));
 }
 
 more_clauses : (h : Heading) (ps : List (Quantifier × ℕ)) (cs : List (List Literal)) (ls : List Literal) → IsSoFar h ps cs
@@ -80,20 +67,10 @@ more_clauses h ps cs ls s bound more = record {
   few = omega (arith, length-append cs (ls ∷ []));
 }
 
--- ---- the tokens of the lists, and one more
+-- ---- one token more
 
 abbrev front : Heading → List Block → List (List Literal) → List Token
 front h sets cs = header h.max_var h.count ++ flat_map set sets ++ flat_map clause cs
-
-set_pushed : (sets : List Block) (s : Block) → flat_map set (sets ++ s ∷ []) ≡ flat_map set sets ++ set s
-set_pushed sets s = flat_map-append set sets (s ∷ []) ∙ ap (λ (x : List Token). flat_map set sets ++ x) (append-nil (set s))
-
-pairs_pushed : (sets : List Block) (s : Block) → pairs (sets ++ s ∷ []) ≡ pairs sets ++ pairs_of_block s
-pairs_pushed sets s =
-    flat_map-append pairs_of_block sets (s ∷ []) ∙ ap (λ (x : List (Quantifier × ℕ)). pairs sets ++ x) (append-nil (pairs_of_block s))
-
-clause_pushed : (cs : List (List Literal)) (c : List Literal) → flat_map clause (cs ++ c ∷ []) ≡ flat_map clause cs ++ clause c
-clause_pushed cs c = flat_map-append clause cs (c ∷ []) ∙ ap (λ (x : List Token). flat_map clause cs ++ x) (append-nil (clause c))
 
 some_pushed : {X : Type 0} (xs : List X) (x : X) → (xs ++ x ∷ []) ≢ []
 some_pushed [] x e = cc
@@ -111,41 +88,31 @@ record IsBegun (ts : List Token) (h : Heading) (ps : List (Quantifier × ℕ)) (
 -- a clause goes on with a literal, or is closed
 clause_goes : (h : Heading) (ps : List (Quantifier × ℕ)) (cs : List (List Literal)) (ls : List Literal) (t : Token) (next : Place)
     → clause_row h ps cs ls (literal_in h.max_var ps t) ≡ Goes next
-    → ((t ≡ number 0) × (Between h ps (cs ++ ls ∷ []) ≡ next))
-    ⊎ ((l : Literal) × (t ≡ literal l) × (is_bound l.var ps ≡ true) × (InClause h ps cs (ls ++ l ∷ []) ≡ next))
+    → ((t ≡ number 0) × (next ≡ Between h ps (cs ++ ls ∷ [])))
+    ⊎ ((l : Literal) × (t ≡ literal l) × (is_bound l.var ps ≡ true) × (next ≡ InClause h ps cs (ls ++ l ∷ [])))
 clause_goes h ps cs ls t next e = search rules
 
-clause_step : (ts : List Token) (h : Heading) (ps : List (Quantifier × ℕ)) (cs : List (List Literal)) (ls : List Literal) (t : Token)
+clause_step : {ts : List Token} {h : Heading} {ps : List (Quantifier × ℕ)} {cs : List (List Literal)} {ls : List Literal} (t : Token)
     (next : Place) → IsBegun ts h ps cs ls → clause_row h ps cs ls (literal_in h.max_var ps t) ≡ Goes next → Spells (ts ++ t ∷ []) next
-clause_step ts h ps cs ls t next b e = elim (clause_goes h ps cs ls t next e) [
-  | inl k ↦
-      let spelled : ts ++ t ∷ [] ≡ front h b.sets (cs ++ ls ∷ []) =
-      (λ i. b.spelled i ++ k.0 i ∷ [])
-      ∙ append_assoc (front h b.sets cs) (map literal ls) (number 0 ∷ [])
-      ∙ append_assoc (header h.max_var h.count ++ flat_map set b.sets) (flat_map clause cs) (clause ls)
-      ∙ ap (λ (x : List Token). header h.max_var h.count ++ flat_map set b.sets ++ x) (sym (clause_pushed cs ls)) in
-      subst (Spells (ts ++ t ∷ [])) k.1 (b.sets, spelled, b.bound, more_clauses h ps cs ls b.so_far b.free b.more)
-  | inr k ↦
-      let spelled : ts ++ t ∷ [] ≡ front h b.sets cs ++ map literal (ls ++ k.0 ∷ []) =
-      (λ i. b.spelled i ++ k.1 i ∷ [])
-      ∙ append_assoc (front h b.sets cs) (map literal ls) (literal k.0 ∷ [])
-      ∙ ap (λ (x : List Token). front h b.sets cs ++ x) (sym (map-append literal ls (k.0 ∷ []))) in
-      subst (Spells (ts ++ t ∷ [])) k.3 (
-        b.sets,
-        spelled,
-        b.bound,
-        b.so_far,
-        AllByRecursion-push (λ x. is_bound x.var ps ≡ true) ls k.0 b.free k.2,
-        some_pushed ls k.0,
-        b.more,
-      )
+clause_step {h = h} {ps = ps} {cs = cs} {ls = ls} t next b e = elim (clause_goes h ps cs ls t next e) [
+  | inl k ↦ rw (k.1, k.0, b.spelled)
+      (b.sets, (simp (flat_map-push, append_assoc)), b.bound, more_clauses h ps cs ls b.so_far b.free b.more)
+  | inr k ↦ rw (k.3, k.1, b.spelled) (
+    b.sets,
+    rw (map-append, append_assoc (front h b.sets cs) (map literal ls) (literal k.0 ∷ [])),
+    b.bound,
+    b.so_far,
+    AllByRecursion-push (λ x. is_bound x.var ps ≡ true) ls k.0 b.free k.2,
+    some_pushed ls k.0,
+    b.more,
+  )
 ]
 
 -- a set goes on with a variable, or is closed
 set_goes : (h : Heading) (ps : List (Quantifier × ℕ)) (q : Quantifier) (t : Token) (next : Place)
     → set_row h ps q (member h.max_var t) ≡ Goes next
-    → ((t ≡ number 0) × (Between h ps [] ≡ next))
-    ⊎ ((v : ℕ) × (t ≡ number v) × (1 ≤ v) × (v ≤ h.max_var) × (is_bound v ps ≡ false) × (InSet h (ps ++ (q, v) ∷ []) q ≡ next))
+    → ((t ≡ number 0) × (next ≡ Between h ps []))
+    ⊎ ((v : ℕ) × (t ≡ number v) × (1 ≤ v) × (v ≤ h.max_var) × (is_bound v ps ≡ false) × (next ≡ InSet h (ps ++ (q, v) ∷ []) q))
 set_goes h ps q t next e = search rules
 
 set_step : (ts : List Token) (h : Heading) (ps : List (Quantifier × ℕ)) (q : Quantifier) (t : Token) (next : Place)
@@ -153,32 +120,25 @@ set_step : (ts : List Token) (h : Heading) (ps : List (Quantifier × ℕ)) (q : 
 set_step ts h ps q t next b e = elim (set_goes h ps q t next e) [
   | inl k ↦
       let s : Block = record { quantifier = q; vars = b.1 } in
-      let base : List Token = header h.max_var h.count ++ flat_map set b.0 in
-      let spelled : ts ++ t ∷ [] ≡ front h (b.0 ++ s ∷ []) [] =
-      (λ i. b.2 i ++ k.0 i ∷ [])
-      ∙ append_assoc base (letter q ∷ map number b.1) (number 0 ∷ [])
-      ∙ append_assoc (header h.max_var h.count) (flat_map set b.0) (set s)
-      ∙ ap (λ (x : List Token). header h.max_var h.count ++ x) (sym (set_pushed b.0 s))
-      ∙ sym (append-nil (header h.max_var h.count ++ flat_map set (b.0 ++ s ∷ []))) in
-      subst (Spells (ts ++ t ∷ [])) k.1 (b.0 ++ s ∷ [], spelled, pairs_pushed b.0 s ∙ b.3, b.4)
-  | inr k ↦
-      let v = k.0 in
-      let base : List Token = header h.max_var h.count ++ flat_map set b.0 in
-      let spelled : ts ++ t ∷ [] ≡ base ++ letter q ∷ map number (b.1 ++ v ∷ []) =
-      (λ i. b.2 i ++ k.1 i ∷ [])
-      ∙ append_assoc base (letter q ∷ map number b.1) (number v ∷ [])
-      ∙ ap (λ (x : List Token). base ++ letter q ∷ x) (sym (map-append number b.1 (v ∷ []))) in
-      let pairs_are : pairs b.0 ++ map (λ w. (q, w)) (b.1 ++ v ∷ []) ≡ ps ++ (q, v) ∷ [] =
-      ap (λ (x : List (Quantifier × ℕ)). pairs b.0 ++ x) (map-append (λ w. (q, w)) b.1 (v ∷ []))
-      ∙ sym (append_assoc (pairs b.0) (map (λ w. (q, w)) b.1) ((q, v) ∷ []))
-      ∙ ap (λ (x : List (Quantifier × ℕ)). x ++ (q, v) ∷ []) b.3 in
-      subst (Spells (ts ++ t ∷ [])) k.5 (b.0, b.1 ++ v ∷ [], spelled, pairs_are, more_variables h ps q v b.4 k.2 k.3 k.4)
+      rw (k.1, k.0, b.2) (
+        b.0 ++ s ∷ [],
+        (simp (flat_map-push, append_assoc)) ∙ sym (append-nil (header h.max_var h.count ++ flat_map set (b.0 ++ s ∷ []))),
+        flat_map-push pairs_of_block b.0 s ∙ b.3,
+        b.4,
+      )
+  | inr k ↦ rw (k.5, k.1, b.2) (
+    b.0,
+    b.1 ++ k.0 ∷ [],
+    (simp (map-append, append_assoc)),
+    rw (← b.3) (simp (map-append, append_assoc)),
+    more_variables h ps q k.0 b.4 k.2 k.3 k.4,
+  )
 ]
 
 -- between lists a set or a clause begins
 between_goes : (h : Heading) (ps : List (Quantifier × ℕ)) (cs : List (List Literal)) (t : Token) (next : Place)
     → row (Between h ps cs) t ≡ Goes next
-    → ((q : Quantifier) × (cs ≡ []) × (t ≡ letter q) × (InSet h ps q ≡ next))
+    → ((q : Quantifier) × (cs ≡ []) × (t ≡ letter q) × (next ≡ InSet h ps q))
     ⊎ ((length cs < h.count) × (clause_row h ps cs [] (literal_in h.max_var ps t) ≡ Goes next))
 between_goes h ps cs t next e = search rules
 
@@ -186,13 +146,16 @@ between_step : (ts : List Token) (h : Heading) (ps : List (Quantifier × ℕ)) (
     → Spells ts (Between h ps cs) → row (Between h ps cs) t ≡ Goes next → Spells (ts ++ t ∷ []) next
 between_step ts h ps cs t next b e = elim (between_goes h ps cs t next e) [
   | inl k ↦
-      let c : Spells ts (Between h ps []) = subst (λ (x : List (List Literal)). Spells ts (Between h ps x)) k.1 b in
-      let base : List Token = header h.max_var h.count ++ flat_map set c.0 in
-      let spelled : ts ++ t ∷ [] ≡ base ++ letter k.0 ∷ [] =
-      (λ i. c.1 i ++ k.2 i ∷ []) ∙ ap (λ (x : List Token). x ++ letter k.0 ∷ []) (append-nil base) in
-      subst (Spells (ts ++ t ∷ [])) k.3 (c.0, [], spelled, append-nil (pairs c.0) ∙ c.2, c.3)
+      let c : Spells ts (Between h ps []) = rw k.1 at b in
+      rw (k.3, k.2, c.1) (
+        c.0,
+        [],
+        ap (λ (x : List Token). x ++ letter k.0 ∷ []) (append-nil (header h.max_var h.count ++ flat_map set c.0)),
+        append-nil (pairs c.0) ∙ c.2,
+        c.3,
+      )
   | inr k ↦
-      clause_step ts h ps cs [] t next
+      clause_step t next
       (record { sets = b.0; spelled = b.1 ∙ sym (append-nil (front h b.0 cs)); bound = b.2; so_far = b.3; free = tt; more = k.0 }) k.1
 ]
 
@@ -210,7 +173,7 @@ step ts (InSet h ps q) next t b e = set_step ts h ps q t next b e
 step ts (Whole f) next t b e = absurd b
 step ts Over next t b e = absurd b
 step ts (InClause h ps cs ls) next t b e =
-    clause_step ts h ps cs ls t next (record { sets = b.0; spelled = b.1; bound = b.2; so_far = b.3; free = b.4; more = b.6 }) e
+    clause_step t next (record { sets = b.0; spelled = b.1; bound = b.2; so_far = b.3; free = b.4; more = b.6 }) e
 
 -- ---- the end
 
@@ -268,45 +231,31 @@ last_is_whole p next t e = subst IsWhole (sym (last p next t e).whole) tt
 
 -- ---- the whole
 
-tokens_pushed : (before : List Lined) (t : Lined) → unlined (before ++ t ∷ []) ≡ unlined before ++ t.0 ∷ []
-tokens_pushed before t = map-append (λ u. u.0) before (t ∷ [])
-
-once_rest : (t : Lined) (ts : List Lined) → t.0 ≢ token.End → EndsOnce (t ∷ ts) → EndsOnce ts
-once_rest t ts n once = search rules
-
 once_end : (t : Lined) (ts : List Lined) → t.0 ≡ token.End → EndsOnce (t ∷ ts) → ts ≡ []
 once_end t ts e once = search rules
 
-explains_from : (before : List Lined) (p : Place) (ts : List Lined) → Spells (unlined before) p → EndsOnce ts
-    → Reads (before ++ ts) (read_from p ts)
-explains_from before p [] b once = absurd once
-explains_from before p (t ∷ ts) b once =
-    subst (Reads (before ++ t ∷ ts)) (sym (read-one p t.0 t.1 ts))
-    (by (row p t.0) refl (λ next said more. explains_from (before ++ t ∷ []) next ts said more))
+answer : (before : List Lined) (p : Place) (t : Lined) (ts : List Lined) → Spells (unlined before) p → EndsOnce (t ∷ ts)
+    → accepted.Answers Spells Reads before t ts
+answer before p t ts b once = by (row p t.0) refl
   where
-    by : (r : Row) → row p t.0 ≡ r → ((next : Place) → Spells (unlined (before ++ t ∷ [])) next → EndsOnce ts
-        → Reads ((before ++ t ∷ []) ++ ts) (read_from next ts)) → Reads (before ++ t ∷ ts) (after r t.1 ts)
-    by (Goes next) is go =
-        let said : Spells (unlined (before ++ t ∷ [])) next =
-        subst (λ (x : List Token). Spells x next) (sym (tokens_pushed before t)) (step (unlined before) p next t.0 b is) in
-        let rest = once_rest t ts (λ e. no_place_after_end p next (ap (row p) (sym e) ∙ is)) once in
-        subst (λ (x : List Lined). Reads x (read_from next ts)) (append_assoc before (t ∷ []) ts) (go next said rest)
-    by (Ends u next) is go =
+    by : (r : Row) → row p t.0 ≡ r → accepted.Answers Spells Reads before t ts
+    by (Goes next) is = inr ((λ e. no_place_after_end p next (ap (row p) (sym e) ∙ is)), next, step (unlined before) p next t.0 b is)
+    by (Ends u next) is =
         let k = last p next t.0 is in
-        let none = once_end t ts k.at_end once in
-        let said : Spells (unlined before) (Between k.h k.ps k.cs) = subst (Spells (unlined before)) k.between b in
-        let spelled : unlined before ++ token.End ∷ [] ≡ unlined (before ++ t ∷ ts) =
-        (λ i. unlined before ++ sym k.at_end i ∷ []) ∙ sym (tokens_pushed before t)
-        ∙ ap (λ (x : List Lined). unlined (before ++ t ∷ x)) (sym none) in
-        let is_formula = whole_formula (unlined before) k.h k.ps k.cs said (let f = said.3 in omega (arith, f.few, k.all)) in
-        subst (λ (x : Place). Reads (before ++ t ∷ ts) (answer_at x)) (sym k.whole)
-        (subst (λ (x : List Token). IsFormula x (record { max_var = k.h.max_var; blocks = blocks_of k.ps; clauses = k.cs })) spelled
-        is_formula)
-    by (Fails f) is go = record { before = before; wrong = t.0; after = ts; whole = refl; place = p; stands = b; refused = is }
+        let none : ts ≡ [] = once_end t ts k.at_end once in
+        let said : Spells (unlined before) (Between k.h k.ps k.cs) = rw k.between at b in
+        let whole = whole_formula (unlined before) k.h k.ps k.cs said (let f = said.3 in omega (arith, f.few, k.all)) in
+        let spelled : unlined (before ++ t ∷ ts) ≡ unlined before ++ token.End ∷ [] =
+        map-append (λ u. u.0) before (t ∷ ts) ∙ (λ i. unlined before ++ k.at_end i ∷ unlined (none i)) in
+        inl (Ok (record { max_var = k.h.max_var; blocks = blocks_of k.ps; clauses = k.cs }), rw spelled whole)
+    by (Fails f) is =
+        inl (Err (f, t.1), record { before = before; wrong = t.0; after = ts; whole = refl; place = p; stands = b; refused = is })
 
 -- What is read is spelled; a fault that is found stands.
 pub read_explained : (ts : List Lined) → EndsOnce ts → Reads ts (read ts)
-read_explained ts once = explains_from [] AtP ts refl once
+read_explained ts once =
+    let r = each_is_answered Spells Reads answer [] AtP ts refl once in
+    rw (read_once ts r.0 r.1) r.1
 
 answered : (ts : List Lined) (result : Result Qbf (FormulaFault × ℕ)) → Gives result (Some (read ts)) → EndsOnce ts → Answers ts result
 answered ts result h once = let read = read_explained ts once in search rules

@@ -148,6 +148,7 @@ fn put_header<K: Sink>(sink: &mut K, max_var: u32, count: u32) -> Result<(), Sin
 /// leading zeros, and each line ends with byte 10. Reading the text gives the formula.
 ///
 /// A `SinkFault` where the sink failed. What went out is a beginning of the text then.
+#[tactic(auto, using(crate::proofs::CanonicalTextIsRead::text_is_read))]
 pub fn write_formula<K: Sink>(formula: &Formula, sink: &mut K) -> Result<(), SinkFault>
     ensures put { IsPut K.written K.failures sink.old sink.new (text formula.now) result }
     // The text is read as the formula.

@@ -1,20 +1,18 @@
 -- The canonical text is read again.
-use Rattle.std.proofs.Common.{◌≡◌, ℕ, ◌<◌, ◌^◌, Bool, true, false, List, [], ◌∷◌, ◌++◌, map, Ok, refl, ap, sym, ◌∙◌, arith, append_assoc}
+use Rattle.std.proofs.Common.{rules, append-nil, ◌≡◌, ℕ, ◌<◌, ◌^◌, Bool, List, [], ◌∷◌, ◌++◌, map, Ok, ap, sym, ◌∙◌, arith, append_assoc}
 use Rattle.std.proofs.lemmas.Grind.{flat_map-append}
 use Rattle.std.proofs.lemmas.List.{map-append}
+use Rattle.std.proofs.lemmas.List.Folds.{flat_map-map}
 use Rattle.std.specs.List.{flat_map, AllByRecursion}
 use Rattle.qbf_core.specs.declared.quantifier.Quantifier.{Quantifier}
-use Rattle.qbf_core.specs.declared.quantifier.Quantifier.TheVariants.{All, Exists}
-use Rattle.qbf_core.specs.Literal.{Literal}
 use Rattle.qbf_core.specs.Blocks.{Block, IsVariable}
 use Rattle.qbf_text.specs.declared.token.Comments.TheVariants.{Qrp}
 use Rattle.qbf_text.specs.declared.token.Token.{Token}
 use Rattle.qbf_text.specs.declared.token.Token.TheVariants as token
 use Rattle.qbf_text.specs.Tokens.{tokens}
 use Rattle.qbf_text.specs.Canonical.{IsPlain, IsLine}
-use Rattle.qbf_text.proofs.CanonicalTokens.{joined, tokens-lines_text}
+use Rattle.qbf_text.proofs.CanonicalTokens.{joined, tokens-lines_text, all_appended, all_mapped, closed_plain}
 use Rattle.qrp.specs.declared.item.Outcome.{Outcome}
-use Rattle.qrp.specs.declared.item.Outcome.TheVariants.{Sat, Unsat}
 use Rattle.qrp.specs.declared.item.Item.TheVariants as item
 use Rattle.qrp.specs.Inferences.{Inference, IsInference, IsLiteral, numbers}
 use Rattle.qrp.specs.Derivations.{Derivation, IsWellFormed}
@@ -22,40 +20,18 @@ use Rattle.qrp.specs.Grammar.{number, literal, letter, header, set, step, result
 use Rattle.qrp.specs.Laws.{ReadsText, ItemsOfTrace}
 use Rattle.qrp.proofs.SpelledIsRead.{spelled_is_read, spelled_items}
 
-appended : (ts us : List Token) → AllByRecursion IsPlain ts → AllByRecursion IsPlain us → AllByRecursion IsPlain (ts ++ us)
-appended [] us h k = k
-appended (t ∷ ts) us h k = (h.0, appended ts us h.1 k)
-
-zero_plain : AllByRecursion IsPlain (number 0 ∷ [])
-zero_plain = (omega arith, tt)
-
-variables_plain : (vs : List ℕ) → AllByRecursion IsVariable vs → AllByRecursion IsPlain (map number vs)
-variables_plain [] h = tt
-variables_plain (v ∷ vs) h = (omega (arith, h.0.1), variables_plain vs h.1)
-
-numbers_plain : (ns : List ℕ) → AllByRecursion (λ n. n < 2 ^ 64) ns → AllByRecursion IsPlain (map number ns)
-numbers_plain [] h = tt
-numbers_plain (n ∷ ns) h = (h.0, numbers_plain ns h.1)
+variable_plain : (v : ℕ) → IsVariable v → IsPlain (number v)
+variable_plain v h = omega (arith, h.1)
 
 literal_plain : (v : ℕ) (negative : Bool) → IsVariable v → IsPlain (token.Number negative v)
-literal_plain v true h = (h.0, omega (arith, h.1))
-literal_plain v false h = omega (arith, h.1)
-
-literals_plain : (ls : List Literal) → AllByRecursion IsLiteral ls → AllByRecursion IsPlain (map literal ls)
-literals_plain [] h = tt
-literals_plain (l ∷ ls) h = (literal_plain l.var l.negative h.0, literals_plain ls h.1)
+literal_plain v negative h = search rules
 
 letter_line : (q : Quantifier) (ts : List Token) → AllByRecursion IsPlain ts → IsLine (letter q ∷ ts)
-letter_line All ts h = (tt, (tt, h))
-letter_line Exists ts h = (tt, (tt, h))
+letter_line q ts h = search rules
 
-sets_lines : (sets : List Block) → AllByRecursion (λ s. AllByRecursion IsVariable s.vars) sets → AllByRecursion IsLine (map set sets)
-sets_lines [] h = tt
-sets_lines (s ∷ sets) h = (
-  letter_line s.quantifier (map number s.vars ++ number 0 ∷ [])
-      (appended (map number s.vars) (number 0 ∷ []) (variables_plain s.vars h.0) zero_plain),
-  sets_lines sets h.1,
-)
+set_line : (s : Block) → AllByRecursion IsVariable s.vars → IsLine (set s)
+set_line s h = letter_line s.quantifier (map number s.vars ++ number 0 ∷ [])
+    (closed_plain (map number s.vars) (all_mapped IsVariable IsPlain number variable_plain s.vars h))
 
 steps_lines : (steps : List Inference) → AllByRecursion IsInference steps → AllByRecursion (λ n. n < 2 ^ 64) (numbers steps)
     → AllByRecursion (λ s. AllByRecursion (λ n. n < 2 ^ 64) s.ants) steps → AllByRecursion IsLine (map step steps)
@@ -65,46 +41,32 @@ steps_lines (s ∷ steps) h small ants = (
     tt,
     (
       small.0,
-      appended (map literal s.lits) (number 0 ∷ (map number s.ants ++ number 0 ∷ [])) (literals_plain s.lits h.0.lits)
-          (zero_plain.0, appended (map number s.ants) (number 0 ∷ []) (numbers_plain s.ants ants.0) zero_plain),
+      all_appended IsPlain (map literal s.lits) (number 0 ∷ (map number s.ants ++ number 0 ∷ []))
+          (all_mapped IsLiteral IsPlain literal (λ l is. literal_plain l.var l.negative is) s.lits h.0.lits)
+          (omega arith, closed_plain (map number s.ants) (all_mapped (λ n. n < 2 ^ 64) IsPlain number (λ n is. is) s.ants ants.0)),
     ),
   ),
   steps_lines steps h.1 small.1 ants.1,
 )
 
 result_line : (o : Outcome) → IsLine (result o)
-result_line Sat = (tt, (tt, (tt, tt)))
-result_line Unsat = (tt, (tt, (tt, tt)))
-
-all_append : (xs ys : List (List Token)) → AllByRecursion IsLine xs → AllByRecursion IsLine ys → AllByRecursion IsLine (xs ++ ys)
-all_append [] ys h k = k
-all_append (x ∷ xs) ys h k = (h.0, all_append xs ys h.1 k)
+result_line o = search rules
 
 lines_written : (d : Derivation) → IsWellFormed d → AllByRecursion IsLine (lines d)
 lines_written d w = (
   (tt, (tt, (tt, (w.fits.vars, (w.fits.steps, tt))))),
-  all_append (map set d.sets ++ map step d.steps) (result d.result ∷ [])
-      (all_append (map set d.sets) (map step d.steps) (sets_lines d.sets w.grammatical.variables)
+  all_appended IsLine (map set d.sets ++ map step d.steps) (result d.result ∷ [])
+      (all_appended IsLine (map set d.sets) (map step d.steps)
+      (all_mapped (λ s. AllByRecursion IsVariable s.vars) IsLine set set_line d.sets w.grammatical.variables)
       (steps_lines d.steps w.grammatical.inferences w.fits.numbers_fit w.fits.ants_fit))
       (result_line d.result, tt),
 )
 
-joined-map : {X : Type 0} (g : X → List Token) (xs : List X) → joined (map g xs) ≡ flat_map g xs
-joined-map g [] = refl
-joined-map g (x ∷ xs) = ap (λ (k : List Token). g x ++ k) (joined-map g xs)
-
 joined_lines : (d : Derivation) → joined (lines d) ++ token.End ∷ [] ≡ lists d.header d.sets d.steps ++ result d.result ++ token.End ∷ []
 joined_lines d =
-    let h = header d.header in
     let parts : joined (map set d.sets ++ map step d.steps ++ result d.result ∷ [])
-    ≡ (flat_map set d.sets ++ flat_map step d.steps) ++ result d.result =
-    flat_map-append (λ line. line) (map set d.sets ++ map step d.steps) (result d.result ∷ [])
-    ∙ ap (λ (k : List Token). k ++ result d.result) (flat_map-append (λ line. line) (map set d.sets) (map step d.steps)
-    ∙ ap (λ (k : List Token). k ++ joined (map step d.steps)) (joined-map set d.sets)
-    ∙ ap (λ (k : List Token). flat_map set d.sets ++ k) (joined-map step d.steps)) in
-    ap (λ (k : List Token). (h ++ k) ++ token.End ∷ []) parts
-    ∙ ap (λ (k : List Token). k ++ token.End ∷ []) (sym (append_assoc h (flat_map set d.sets ++ flat_map step d.steps) (result d.result))
-    ∙ ap (λ (k : List Token). k ++ result d.result) (sym (append_assoc h (flat_map set d.sets) (flat_map step d.steps))))
+    ≡ flat_map set d.sets ++ (flat_map step d.steps ++ result d.result) = simp (append-nil, flat_map-append, flat_map-map, append_assoc) in
+    ap (λ (k : List Token). (header d.header ++ k) ++ token.End ∷ []) parts ∙ simp append_assoc
 
 -- What is written is read again.
 pub text_is_read : ReadsText

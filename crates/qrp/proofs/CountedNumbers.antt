@@ -1,14 +1,15 @@
 -- Numbers that are counted from a first one, with others behind them.
-use Rattle.std.proofs.Common.{◌≡◌, ◌<◌, ◌≤◌, ◌+◌, ◌-◌, ◌^◌, ◌⊎◌, ◌||◌, ℕ, zero, suc, Bool, true, false, nat_eq, List, [], ◌∷◌, ◌++◌, length}
+use Rattle.std.proofs.Common.{rules, ◌≡◌, ◌<◌, ◌≤◌, ◌+◌, ◌-◌, ◌^◌, ◌⊎◌, ℕ, zero, suc, true, false, List, [], ◌∷◌, ◌++◌, length}
 use Rattle.std.proofs.Common.{slice_get, Option, None, Some, IfSome, IfNone, refl, sym, ap, subst, ◌∙◌, inl, inr, arith}
 use Rattle.std.specs.List.{AllByRecursion}
 use Rattle.std.specs.Option.{is_some}
 use Rattle.std.proofs.lemmas.Bool.{cases_lt}
 use Rattle.std.proofs.lemmas.Bool.Decides.{eqb_tells}
 use Rattle.std.proofs.lemmas.List.{append-nil}
+use Rattle.qbf_core.proofs.PrefixLaws.{AllByRecursion-push}
 use Rattle.qrp.specs.Kept.{count_from, AreStepNumbers}
 use Rattle.qrp.specs.Reading.{is_used}
-use Rattle.qrp.proofs.ReadIsSpelled.{push_all, push_distinct}
+use Rattle.qbf_text.proofs.DistinctNumbers.{push_distinct}
 
 pub count_length : (f n : ℕ) → length (count_from f n) ≡ n
 count_length f zero = refl
@@ -54,14 +55,8 @@ NotCounted f n m = (i : ℕ) → i < n → f + i ≡ m → ⊥
 
 used_at : (ks : List ℕ) (i m : ℕ) → slice_get ks i ≡ Some m → is_used m ks ≡ true
 used_at [] i m h = absurd (cc h)
-used_at (k ∷ ks) zero m h = elim (eqb_tells m k) [
-  | inl (t, is) ↦ rw t refl
-  | inr (t, ne) ↦ absurd (ne (let e : k ≡ m = cc h in sym e))
-]
-used_at (k ∷ ks) (suc i) m h = elim (eqb_tells m k) [
-  | inl (t, is) ↦ rw t refl
-  | inr (t, ne) ↦ rw t (used_at ks i m h)
-]
+used_at (k ∷ ks) zero m h = search rules
+used_at (k ∷ ks) (suc i) m h = let rest = used_at ks i m h in search rules
 
 unused_front : (f n : ℕ) (ks : List ℕ) (m : ℕ) → NotCounted f n m → is_used m (count_from f n ++ ks) ≡ is_used m ks
 unused_front f zero ks m out = refl
@@ -94,10 +89,10 @@ listed_at f n ks m i e = behind_at f n ks i ∙ e
 
 unused_none : (ks : List ℕ) (m : ℕ) → ((i : ℕ) → slice_get ks i ≡ Some m → ⊥) → is_used m ks ≡ false
 unused_none [] m none = refl
-unused_none (k ∷ ks) m none = elim (eqb_tells m k) [
-  | inl (t, is) ↦ absurd (none 0 (ap (λ (x : ℕ). Some x) (sym is)))
-  | inr (t, ne) ↦ rw t (unused_none ks m (λ i. none (suc i)))
-]
+unused_none (k ∷ ks) m none =
+    let first = none 0 in
+    let rest = unused_none ks m (λ i. none (suc i)) in
+    search rules
 
 pub unused_of_none : (ks : List ℕ) (m : ℕ) → length ks ≡ 0 → is_used m ks ≡ false
 unused_of_none [] m none = refl
@@ -113,15 +108,7 @@ listed_used ks m (Some i) some none = sym (used_at ks i m some)
 
 pub numbers_pushed : (ns : List ℕ) (m : ℕ) → AreStepNumbers ns → is_used m ns ≡ false → m < 2 ^ 64 → AreStepNumbers (ns ++ m ∷ [])
 numbers_pushed ns m are new fit =
-    record { distinct = push_distinct ns m are.distinct new; fit = push_all (λ n. n < 2 ^ 64) ns m are.fit fit }
-
-or_false : (a b : Bool) → (a || b) ≡ false → b ≡ false
-or_false true b e = absurd (cc e)
-or_false false b e = e
-
-pub unused_behind : (xs ks : List ℕ) (m : ℕ) → is_used m (xs ++ ks) ≡ false → is_used m ks ≡ false
-unused_behind [] ks m e = e
-unused_behind (x ∷ xs) ks m e = unused_behind xs ks m (or_false (nat_eq m x) (is_used m (xs ++ ks)) e)
+    record { distinct = push_distinct ns m are.distinct new; fit = AllByRecursion-push (λ n. n < 2 ^ 64) ns m are.fit fit }
 
 -- of numbers that are all counted
 pub counted_pushed : (f n m : ℕ) (ks : List ℕ) → length ks ≡ 0 → (n ≡ 0) ⊎ (f + n ≡ m) → (g : ℕ) → (n ≡ 0 → g ≡ m) → ((n ≡ 0 → ⊥) → g ≡ f)

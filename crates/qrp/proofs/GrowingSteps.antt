@@ -1,10 +1,10 @@
 -- Steps in flat buffers that grow.
-use Rattle.std.proofs.Common.{◌≡◌, ◌<◌, ◌-◌, ◌^◌, ℕ, zero, suc, List, [], ◌∷◌, ◌++◌, length, take, refl, sym, ap, subst, ◌∙◌, arith}
+use Rattle.std.proofs.Common.{get_or, ◌≡◌, ◌<◌, ◌-◌, ◌^◌, ℕ, zero, suc, List, [], ◌∷◌, ◌++◌, length, take, refl, sym, ap, ◌∙◌, arith}
 use Rattle.std.proofs.Common.{length-append}
 use Rattle.std.specs.List.{AllByRecursion, IsDistinct}
 use Rattle.std.specs.Prelude.{nat_eq}
 use Rattle.std.proofs.lemmas.List.{length-map}
-use Rattle.qbf_core.specs.Blocks.{Block}
+use Rattle.qbf_core.specs.Blocks.{Block, IsVariable}
 use Rattle.qbf_core.specs.Literal.{Literal}
 use Rattle.qbf_core.proofs.PrefixLaws.{AllByRecursion-push}
 use Rattle.qrp.specs.declared.grammar.Parts.{Parts}
@@ -14,7 +14,7 @@ use Rattle.qrp.specs.Flat.{Body, bodies, numbered, IsFlat}
 use Rattle.qrp.specs.Inferences.{Inference, IsInference, numbers}
 use Rattle.qrp.specs.Kept.{AreStepNumbers}
 use Rattle.qrp.specs.Making.{IsMade}
-use Rattle.qrp.proofs.TraceParts.{bodies_counted, numbered_more, numbers_kept, whole_kept}
+use Rattle.qrp.proofs.TraceParts.{bodies_counted, numbered_more, numbers_kept}
 
 bodies_taken : (k : ℕ) (lits : List (List Literal)) (ants : List (List ℕ)) → bodies (take k lits) (take k ants) ≡ take k (bodies lits ants)
 bodies_taken zero lits ants = refl
@@ -34,44 +34,50 @@ pub record IsStep (s : Inference) : Type 0 where
   pub inference : IsInference s
   pub fit : AllByRecursion (λ n. n < 2 ^ 64) s.ants
 
--- with one more step
-pub flat_pushed : (h : Header) (sets : List Block) (ns : List ℕ) (bs : List Body) (o : Outcome) (s : Inference) (count : ℕ)
-    → IsFlat h sets ns bs o → AreStepNumbers (ns ++ s.number ∷ []) → IsStep s → count ≡ length (ns ++ s.number ∷ []) → count < 2 ^ 64
-    → IsFlat h sets (ns ++ s.number ∷ []) (bs ++ record { lits = s.lits; ants = s.ants } ∷ []) o
-flat_pushed h sets ns bs o s count f are step is less =
-    let b : Body = record { lits = s.lits; ants = s.ants } in
-    let more : numbered (ns ++ s.number ∷ []) (bs ++ b ∷ []) ≡ numbered ns bs ++ s ∷ [] = numbered_more ns bs s.number b f.counted in
-    let counted : length (bs ++ b ∷ []) ≡ length (ns ++ s.number ∷ []) =
-    omega (arith, f.counted, length-append bs (b ∷ []), length-append ns (s.number ∷ [])) in
-    let kept : numbers (numbered (ns ++ s.number ∷ []) (bs ++ b ∷ [])) ≡ ns ++ s.number ∷ [] =
-    numbers_kept (ns ++ s.number ∷ []) (bs ++ b ∷ []) counted in
-    let before = f.kept.well_formed in
+-- the numbers of a slice, each of which fits
+pub numbers_fit : (ns : List ℕ) → ((i : ℕ) → get_or ns i 0 < 2 ^ 64) → AllByRecursion (λ n. n < 2 ^ 64) ns
+numbers_fit [] fit = tt
+numbers_fit (n ∷ ns) fit = (fit 0, numbers_fit ns (λ i. fit (suc i)))
+
+abbrev AntsFit : Inference → Type 0
+AntsFit s = AllByRecursion (λ n. n < 2 ^ 64) s.ants
+
+-- numbers and bodies of a trace that may be kept
+flat_kept : (h : Header) (sets : List Block) (ns : List ℕ) (bs : List Body) (o : Outcome) → h.vars < 2 ^ 64 → h.steps < 2 ^ 64
+    → AllByRecursion (λ s. AllByRecursion IsVariable s.vars) sets → AllByRecursion IsInference (numbered ns bs)
+    → AllByRecursion AntsFit (numbered ns bs) → length bs ≡ length ns → AreStepNumbers ns → length ns < 2 ^ 64 → IsFlat h sets ns bs o
+flat_kept h sets ns bs o vars_fit steps_fit variables inferences ants_fit counted are less =
+    let kept : numbers (numbered ns bs) ≡ ns = numbers_kept ns bs counted in
     record {
       kept = record {
         same = sym kept;
         well_formed = record {
-          grammatical = record {
-            variables = before.grammatical.variables;
-            inferences = subst (AllByRecursion IsInference) (sym more)
-                (AllByRecursion-push IsInference (numbered ns bs) s before.grammatical.inferences step.inference);
-            distinct = subst (λ (ms : List ℕ). IsDistinct nat_eq ms) (sym kept) are.distinct;
-          };
+          grammatical = record { variables = variables; inferences = inferences; distinct = rw kept are.distinct };
           fits = record {
-            vars = before.fits.vars;
-            steps = before.fits.steps;
-            numbers_fit = subst (AllByRecursion (λ n. n < 2 ^ 64)) (sym kept) are.fit;
-            ants_fit =
-                subst (AllByRecursion AntsFit) (sym more) (AllByRecursion-push AntsFit (numbered ns bs) s before.fits.ants_fit step.fit);
-            count = omega
-                (arith, is, less, ap length kept, length-map (numbered (ns ++ s.number ∷ []) (bs ++ b ∷ [])) (λ (t : Inference). t.number));
+            vars = vars_fit;
+            steps = steps_fit;
+            numbers_fit = rw kept are.fit;
+            ants_fit = ants_fit;
+            count = omega (arith, less, ap length kept, length-map (numbered ns bs) (λ (s : Inference). s.number));
           };
         };
       };
       counted = counted;
     }
-  where
-    AntsFit : Inference → Type 0
-    AntsFit t = AllByRecursion (λ n. n < 2 ^ 64) t.ants
+
+-- with one more step
+pub flat_pushed : (h : Header) (sets : List Block) (ns : List ℕ) (bs : List Body) (o : Outcome) (s : Inference) (count : ℕ)
+    → IsFlat h sets ns bs o → AreStepNumbers (ns ++ s.number ∷ []) → IsStep s → count ≡ length (ns ++ s.number ∷ []) → count < 2 ^ 64
+    → IsFlat h sets (ns ++ s.number ∷ []) (bs ++ record { lits = s.lits; ants = s.ants } ∷ []) o
+flat_pushed h sets ns bs o s count f are step is less =
+    let more = numbered_more ns bs s.number (record { lits = s.lits; ants = s.ants }) f.counted in
+    let before = f.kept.well_formed in
+    flat_kept h sets (ns ++ s.number ∷ []) (bs ++ record { lits = s.lits; ants = s.ants } ∷ []) o before.fits.vars before.fits.steps
+    before.grammatical.variables
+    (rw more (AllByRecursion-push IsInference (numbered ns bs) s before.grammatical.inferences step.inference))
+    (rw more (AllByRecursion-push AntsFit (numbered ns bs) s before.fits.ants_fit step.fit))
+    (omega (arith, f.counted, length-append bs (record { lits = s.lits; ants = s.ants } ∷ []), length-append ns (s.number ∷ []))) are
+    (omega (arith, is, less))
 
 -- what is whole of a trace that was read
 pub whole_flat : (p : Parts) (o : Outcome) (count : ℕ) → IsMade p → IsDistinct nat_eq p.begun.index
@@ -80,5 +86,6 @@ pub whole_flat : (p : Parts) (o : Outcome) (count : ℕ) → IsMade p → IsDist
 whole_flat p o count m distinct fit is less =
     let a = m.lits_counted in
     let b = m.ants_counted in
-    let same : length p.begun.lits.whole ≡ length p.begun.ants.whole = omega (arith, a, b) in
-    record { kept = whole_kept p o count m distinct fit is less; counted = bodies_counted p.begun.lits.whole p.begun.ants.whole same ∙ a }
+    flat_kept p.header p.sets.items p.begun.index (bodies p.begun.lits.whole p.begun.ants.whole) o m.vars_fit m.steps_fit m.variables
+    m.inferences m.ants_fit (bodies_counted p.begun.lits.whole p.begun.ants.whole (omega (arith, a, b)) ∙ a)
+    (record { distinct = distinct; fit = fit }) (omega (arith, is, less))

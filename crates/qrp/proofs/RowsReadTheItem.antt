@@ -1,5 +1,5 @@
 -- What is read by the rows of the items is the next item.
-use Rattle.std.proofs.Common.{◌≡◌, ℕ, Bool, false, List, [], ◌∷◌, Some, None, IfSome, Ok, Err, ◌⊎◌, inl, inr, refl, ap, sym, ◌∙◌}
+use Rattle.std.proofs.Common.{rules, ◌≡◌, ℕ, false, List, [], ◌∷◌, Some, None, IfSome, Ok, Err, ◌⊎◌, refl, ap, sym, ◌∙◌}
 use Rattle.qbf_text.specs.declared.token.Token.{Token}
 use Rattle.qbf_text.specs.declared.token.Token.TheVariants as token
 use Rattle.qbf_text.specs.declared.grammar.ReadError.{ReadError}
@@ -12,18 +12,18 @@ use Rattle.qbf_text.specs.Taking.{Leaves, Reads}
 use Rattle.qbf_text.proofs.OneToken.{read-one}
 use Rattle.qbf_text.proofs.OneToken as going
 use Rattle.qrp.specs.declared.fault.TraceFault.{TraceFault}
-use Rattle.qrp.specs.declared.fault.TraceFault.TheVariants.{P1, P2, P3, P4, P5, P6, P7, P8, P9}
+use Rattle.qrp.specs.declared.fault.TraceFault.TheVariants.{P7}
 use Rattle.qrp.specs.declared.item.Item.{Item}
 use Rattle.qrp.specs.declared.item.Item.TheVariants as item
 use Rattle.qrp.specs.Given.{GivesAnswer, GivesUnless, GivesNextItem, left_behind, stage_after}
 use Rattle.qrp.specs.declared.reader.Stage.{Stage}
-use Rattle.qrp.specs.declared.reader.Stage.TheVariants.{AtHeader, AtLists, HasResult, HasFault}
+use Rattle.qrp.specs.declared.reader.Stage.TheVariants.{AtHeader, AtLists}
 use Rattle.qrp.specs.Items.{Giving, Takes, Gives, Whole, Over, Giver, item_row, as_given, giving, Stands, GivesItem}
 use Rattle.qrp.specs.Making.{fault_of}
 use Rattle.qrp.specs.Parts.{KnownItems, known_items}
-use Rattle.qrp.specs.Reading.{Place, AtP, AtQrp, AtVars, AtSteps, Between, InSet, InLits, InAnts, AtResult, Row, Goes, Closes, Ends, Fails}
+use Rattle.qrp.specs.Reading.{Place, Row}
 use Rattle.qrp.specs.Reading.{row, items_from}
-use Rattle.qrp.proofs.AcceptedTokens.{Answer, after, items-one}
+use Rattle.qrp.proofs.AcceptedTokens.{Answer, after, items-one, end_row}
 
 -- the items that are left to give where reading by rows answers this
 abbrev pub given_of : Read Giving (Unit {0}) TraceFault → List Answer
@@ -39,31 +39,14 @@ given_of Cut = Err (P7, 0) ∷ []
 abbrev pub More : List Lined → Type 0
 More ts = (p : Place) → items_from p ts ≡ given_of (read_from item_row (Takes p) ts)
 
-pub end_row : (p : Place) → row p token.End ≡ Fails P7
-end_row AtP = refl
-end_row AtQrp = refl
-end_row AtVars = refl
-end_row (AtSteps vars) = refl
-end_row (Between ns) = refl
-end_row (InSet q vs) = refl
-end_row (InLits ns n ls) = refl
-end_row (InAnts ns n ls ants) = refl
-end_row AtResult = refl
-
 by_row : (t : Lined) (ts : List Lined) → is_end t.0 ≡ false → More ts → (r : Row)
     → after r t.1 ts ≡ given_of (going.after item_row (as_given r) t ts)
-by_row t ts open_ more (Goes next) = more next
-by_row t ts open_ more (Closes i next) = ap (λ (b : Bool). Ok i ∷ items_from next (behind b t ts)) (sym open_)
-by_row t ts open_ more (Ends o) = refl
-by_row t ts open_ more (Fails f) = refl
+by_row t ts open_ more r = search rules
 
 by_token : (t : Token) (line : ℕ) (ts : List Lined) → More ts → (p : Place)
     → after (row p t) line ts ≡ given_of (going.after item_row (as_given (row p t)) (t, line) ts)
-by_token (token.Word w) line ts more p = by_row (token.Word w, line) ts refl more (row p (token.Word w))
-by_token (token.Number negative n) line ts more p = by_row (token.Number negative n, line) ts refl more (row p (token.Number negative n))
-by_token token.Big line ts more p = by_row (token.Big, line) ts refl more (row p token.Big)
-by_token token.Bad line ts more p = by_row (token.Bad, line) ts refl more (row p token.Bad)
 by_token token.End line ts more p = rw (end_row p) refl
+by_token t line ts more p = by_row (t, line) ts refl more (row p t)
 
 gives_none : More []
 unfolding items_from read_from
@@ -80,24 +63,14 @@ pub item_given : (p : Place) (known : Known) (next : Giving) (rest : Known) (i :
     → GivesAnswer (known_items p known) (left_behind (stage_after (Ok i)) ns rest) (Ok i)
 item_given p None next rest i ns leaves is = tt
 item_given p (Some ts) next None i ns leaves is = absurd leaves
-item_given p (Some ts) next (Some rest) (item.Header h) ns leaves is = gives ts p ∙ ap given_of (rw is at leaves)
-item_given p (Some ts) next (Some rest) (item.Set s) ns leaves is = gives ts p ∙ ap given_of (rw is at leaves)
-item_given p (Some ts) next (Some rest) (item.Step s) ns leaves is = gives ts p ∙ ap given_of (rw is at leaves)
 item_given p (Some ts) next (Some rest) (item.Result o) ns leaves is =
     let last = gives ts p ∙ ap given_of (rw is at leaves) in
     (last, sym last)
+item_given p (Some ts) next (Some rest) i ns leaves is = gives ts p ∙ ap given_of (rw is at leaves)
 
 unless : (f : TraceFault) (line : ℕ) (before : KnownItems) → GivesAnswer before (Some (Err (f, line) ∷ [])) (Err (f, line))
     → GivesUnless f before (Some (Err (f, line) ∷ [])) (Err (f, line))
-unless P1 line before h = refl
-unless P2 line before h = h
-unless P3 line before h = h
-unless P4 line before h = h
-unless P5 line before h = h
-unless P6 line before h = h
-unless P7 line before h = h
-unless P8 line before h = h
-unless P9 line before h = refl
+unless f line before h = search rules
 
 fault_left : (p : Place) (known : Known) (f : TraceFault) (line : ℕ)
     → IfSome (reads_from item_row (Takes p) known) (λ r. r ≡ rows.Fault f line)
@@ -119,12 +92,7 @@ pub next_given : (stage : Stage) (before g : Giver) (known after_ : Known) (answ
     → Stands stage before
     → ((p : Place) → before.giving ≡ Takes p → GivesItem (known_items p known) g.numbers after_ answer)
     → GivesNextItem (left_behind stage before.numbers known) (left_behind (stage_after answer) g.numbers after_) answer
-next_given AtHeader before g known after_ answer open_ stands h = h AtP stands
-next_given AtLists before g known after_ answer open_ stands h = h (Between before.numbers) stands
-next_given (HasResult o) before g known after_ answer (inl e) stands h = absurd cc
-next_given (HasResult o) before g known after_ answer (inr e) stands h = absurd cc
-next_given (HasFault f line) before g known after_ answer (inl e) stands h = absurd cc
-next_given (HasFault f line) before g known after_ answer (inr e) stands h = absurd cc
+next_given stage before g known after_ answer open_ stands h = search rules
 
 -- a fault is given for good
 pub given_again : (f : TraceFault) (line : ℕ) → GivesUnless f (Some (Err (f, line) ∷ [])) (Some (Err (f, line) ∷ [])) (Err (f, line))

@@ -1,5 +1,5 @@
 -- What is read by the rows of a trace that is made is what reading says.
-use Rattle.std.proofs.Common.{◌≡◌, ℕ, List, [], ◌∷◌, ◌++◌, Option, Some, None, IfSome, Result, Ok, Err, refl, ap, sym, subst, ◌∙◌}
+use Rattle.std.proofs.Common.{rules, ◌≡◌, ℕ, List, [], ◌∷◌, Option, Some, None, IfSome, Result, Ok, Err, refl, ap, sym, subst, ◌∙◌}
 use Rattle.qbf_text.specs.declared.token.Comments.TheVariants.{Qrp}
 use Rattle.qbf_text.specs.declared.token.Token.{Token}
 use Rattle.qbf_text.specs.declared.grammar.ReadError.{ReadError}
@@ -12,12 +12,11 @@ use Rattle.qbf_text.specs.Tokens.{tokens}
 use Rattle.qbf_text.proofs.OneToken.{read-one}
 use Rattle.qbf_text.proofs.OneToken as going
 use Rattle.qrp.specs.declared.fault.TraceFault.{TraceFault}
-use Rattle.qrp.specs.declared.fault.TraceFault.TheVariants.{P1, P2, P3, P4, P5, P6, P7, P8, P9}
-use Rattle.qrp.specs.declared.item.Item.TheVariants as item
+use Rattle.qrp.specs.declared.fault.TraceFault.TheVariants.{P7}
 use Rattle.qrp.specs.Answers.{Gives, Refuses, reads_bytes}
 use Rattle.qrp.specs.Derivations.{Derivation}
 use Rattle.qrp.specs.Making.{Progress, Making, Whole, row_with, trace_row, fault_of}
-use Rattle.qrp.specs.Reading.{Fault, Place, AtP, Row, Goes, Closes, Ends, Fails, row, items_from, gathered, nothing, read}
+use Rattle.qrp.specs.Reading.{Fault, Place, AtP, Row, row, items_from, gathered, nothing, read}
 use Rattle.qrp.proofs.AcceptedTokens.{after, items-one}
 
 -- ---- what is read by rows is what the items make
@@ -36,13 +35,7 @@ Makes ts = (d : Derivation) (place : Place) → answer_of (read_from trace_row (
 makes_one : (t : Token) (line : ℕ) (ts : List Lined) → Makes ts → (d : Derivation) (r : Row)
     → answer_of (going.after trace_row (row_with d r) (t, line) ts) ≡ gathered d (after r line ts)
 unfolding gathered
-makes_one t line ts more d (Goes next) = more d next
-makes_one t line ts more d (Closes (item.Header h) next) = more (record d { header = h }) next
-makes_one t line ts more d (Closes (item.Set s) next) = more (record d { sets = d.sets ++ s ∷ [] }) next
-makes_one t line ts more d (Closes (item.Step s) next) = more (record d { steps = d.steps ++ s ∷ [] }) next
-makes_one t line ts more d (Closes (item.Result o) next) = refl
-makes_one t line ts more d (Ends o) = refl
-makes_one t line ts more d (Fails f) = refl
+makes_one t line ts more d r = search rules
 
 makes_none : Makes []
 unfolding read_from items_from gathered
@@ -59,15 +52,7 @@ makes (t ∷ ts) = λ d place.
 
 refuses_from : (f : TraceFault) (line : ℕ) (whole : Option (Result Derivation Fault)) → IfSome whole (λ r. r ≡ Err (f, line))
     → Refuses f line whole
-refuses_from P1 line whole h = tt
-refuses_from P2 line whole h = h
-refuses_from P3 line whole h = h
-refuses_from P4 line whole h = h
-refuses_from P5 line whole h = h
-refuses_from P6 line whole h = h
-refuses_from P7 line whole h = h
-refuses_from P8 line whole h = h
-refuses_from P9 line whole h = tt
+refuses_from f line whole h = search rules
 
 pub gives_whole : (ts : List Lined) (d : Derivation) → taking.Answers (read_from trace_row (Making nothing AtP) ts) (Whole d) (Ok tt)
     → read ts ≡ Ok d
@@ -75,9 +60,8 @@ gives_whole ts d h = sym (makes ts nothing AtP) ∙ ap answer_of h.1
 
 pub gives_fault : (ts : List Lined) (next : Progress) (e : ReadError TraceFault)
     → taking.Answers (read_from trace_row (Making nothing AtP) ts) next (Err e) → Refuses (fault_of e).0 (fault_of e).1 (Some (read ts))
-gives_fault ts next error.Device h = tt
-gives_fault ts next error.Memory h = tt
 gives_fault ts next (error.Text f line) h = refuses_from f line (Some (read ts)) (sym (makes ts nothing AtP) ∙ ap answer_of h)
+gives_fault ts next e h = tt
 
 -- the trace that was read
 pub whole_read : (place next : Progress) (d : Derivation) → place ≡ Making nothing AtP → next ≡ Whole d → (remaining : Option (List ℕ))

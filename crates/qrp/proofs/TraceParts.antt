@@ -1,14 +1,10 @@
 -- What the parts of a trace make.
 use Rattle.std.proofs.Common.{◌≡◌, ℕ, suc, ◌<◌, ◌^◌, List, [], ◌∷◌, ◌++◌, length, refl, ap, sym, subst, ◌∙◌, arith, length-append}
-use Rattle.std.specs.List.{AllByRecursion, IsDistinct}
-use Rattle.std.specs.Prelude.{nat_eq}
-use Rattle.std.proofs.lemmas.List.{length-map}
+use Rattle.std.specs.List.{AllByRecursion}
 use Rattle.qbf_core.specs.Literal.{Literal}
 use Rattle.qbf_core.proofs.PrefixLaws.{AllByRecursion-push}
 use Rattle.qrp.specs.declared.grammar.Parts.{Parts}
-use Rattle.qrp.specs.declared.item.Outcome.{Outcome}
 use Rattle.qrp.specs.declared.places.At.TheVariants as at
-use Rattle.qrp.specs.Kept.{IsKept}
 use Rattle.qrp.specs.Flat.{Body, bodies, numbered}
 use Rattle.qrp.specs.Inferences.{Inference, IsInference, numbers}
 use Rattle.qrp.specs.Making.{closed, made, IsMade}
@@ -76,32 +72,3 @@ sound_closed p n m b = record {
   where
     AntsFit : Inference → Type 0
     AntsFit s = AllByRecursion (λ n. n < 2 ^ 64) s.ants
-
--- what is whole is a trace that may be kept
-pub whole_kept : (p : Parts) (o : Outcome) (count : ℕ) → IsMade p → IsDistinct nat_eq p.begun.index
-    → AllByRecursion (λ n. n < 2 ^ 64) p.begun.index → count ≡ length p.begun.index → count < 2 ^ 64
-    → IsKept (record (made p) { result = o }) p.begun.index
-whole_kept p o count m distinct fit is less =
-    let a = m.lits_counted in
-    let b = m.ants_counted in
-    let same : length p.begun.lits.whole ≡ length p.begun.ants.whole = omega (arith, a, b) in
-    let counted : length (bodies p.begun.lits.whole p.begun.ants.whole) ≡ length p.begun.index =
-    bodies_counted p.begun.lits.whole p.begun.ants.whole same ∙ a in
-    let kept : numbers (made p).steps ≡ p.begun.index = numbers_kept p.begun.index (bodies p.begun.lits.whole p.begun.ants.whole) counted in
-    record {
-      same = sym kept;
-      well_formed = record {
-        grammatical = record {
-          variables = m.variables;
-          inferences = m.inferences;
-          distinct = subst (λ (ns : List ℕ). IsDistinct nat_eq ns) (sym kept) distinct;
-        };
-        fits = record {
-          vars = m.vars_fit;
-          steps = m.steps_fit;
-          numbers_fit = subst (AllByRecursion (λ n. n < 2 ^ 64)) (sym kept) fit;
-          ants_fit = m.ants_fit;
-          count = omega (arith, is, less, ap length kept, length-map (made p).steps (λ (s : Inference). s.number));
-        };
-      };
-    }

@@ -1,5 +1,6 @@
 -- Worked rows of traces.
-use Rattle.std.specs.Prelude.{◌≡◌, ℕ, true, false, List, [], ◌∷◌, ◌++◌, codes, Ok, Err, refl}
+use Rattle.std.specs.Prelude.{◌≡◌, ℕ, true, false, List, [], ◌∷◌, ◌++◌, codes, Result, Ok, Err, refl}
+use Rattle.std.specs.List.{AllByRecursion}
 use Rattle.std.specs.Fmt.{digits}
 use Rattle.qbf_core.specs.declared.quantifier.Quantifier.TheVariants.{All, Exists}
 use Rattle.qbf_core.specs.Literal.{Literal}
@@ -9,14 +10,8 @@ use Rattle.qrp.specs.declared.item.Outcome.TheVariants.{Sat, Unsat}
 use Rattle.qrp.specs.Inferences.{Inference}
 use Rattle.qrp.specs.Derivations.{Derivation}
 use Rattle.qrp.specs.Grammar.{text}
-use Rattle.qrp.specs.Reading.{read_trace, items_from, gathered}
+use Rattle.qrp.specs.Reading.{Fault, read_trace, items_from, gathered}
 
--- lines, each with its byte 10
-abbrev file : List (List ℕ) → List ℕ
-file [] = []
-file (line ∷ lines) = line ++ 10 ∷ file lines
-
--- a set with these variables
 abbrev exists : List ℕ → Block
 exists vs = record { quantifier = Exists; vars = vs }
 
@@ -32,52 +27,17 @@ neg v = record { var = v; negative = true }
 abbrev inference : ℕ → List Literal → List ℕ → Inference
 inference n ls ants = record { number = n; lits = ls; ants = ants }
 
-short_header : read_trace (file (codes "p qrp 1" ∷ codes "e 1 0" ∷ [])) ≡ Err (P2, 2)
-unfolding items_from gathered
-short_header = refl
-
-no_result : read_trace (file (codes "p qrp 0 0" ∷ [])) ≡ Err (P7, 2)
-unfolding items_from gathered
-no_result = refl
-
-zero_number : read_trace (file (codes "p qrp 0 0" ∷ codes "e 0 0" ∷ codes "r sat" ∷ [])) ≡ Err (P4, 2)
-unfolding items_from gathered
-zero_number = refl
-
-set_after_step : read_trace (file (codes "p qrp 0 0" ∷ codes "1 0 0" ∷ codes "a 1 0" ∷ codes "r sat" ∷ [])) ≡ Err (P3, 3)
-unfolding items_from gathered
-set_after_step = refl
-
-no_word : read_trace (file (codes "p qrp 0 0" ∷ codes "1 0 0" ∷ codes "r" ∷ [])) ≡ Err (P7, 4)
-unfolding items_from gathered
-no_word = refl
-
-wrong_word : read_trace (file (codes "p qrp 0 0" ∷ codes "r satx" ∷ [])) ≡ Err (P8, 2)
-unfolding items_from gathered
-wrong_word = refl
-
--- the last row of the table, and its canonical text
-abbrev last_row : Derivation
-last_row = record {
+abbrev small : Derivation
+small = record {
   header = record { vars = 0; steps = 0 };
   sets = exists [] ∷ exists (1 ∷ 1 ∷ []) ∷ [];
   steps = inference 7 [] [] ∷ [];
   result = Sat;
 }
 
-last_row_read : read_trace (file (codes "# p" ∷ codes "p qrp 0 00" ∷ codes "e 0" ∷ codes "e 1 01 0" ∷ codes "7 0 0" ∷ codes "r SAT" ∷ []))
-    ≡ Ok last_row
-unfolding items_from gathered
-last_row_read = refl
-
-last_row_text : text last_row ≡ file (codes "p qrp 0 0" ∷ codes "e 0" ∷ codes "e 1 1 0" ∷ codes "7 0 0" ∷ codes "r sat" ∷ [])
-unfolding digits
-last_row_text = refl
-
--- trace A, and with changed lines the faults that the readers owe
-abbrev trace_a : List ℕ → List ℕ → List ℕ
-trace_a fifth last = file (codes "p qrp 2 5" ∷ codes "e 1 0" ∷ codes "a 2 0" ∷ codes "1 1 2 0 0" ∷ codes "2 -1 2 0 0" ∷ codes "3 1 0 1 0"
-    ∷ codes "4 -1 0 2 0" ∷ fifth ∷ last ∷ [])
+-- trace A, with these last lines or this last number
+abbrev trace_a : List ℕ → List ℕ
+trace_a last = codes "p qrp 2 5\ne 1 0\na 2 0\n1 1 2 0 0\n2 -1 2 0 0\n3 1 0 1 0\n" ++ last
 
 abbrev value_a : ℕ → Derivation
 value_a last = record {
@@ -88,42 +48,45 @@ value_a last = record {
   result = Unsat;
 }
 
-trace_a_read : read_trace (trace_a (codes "5 0 3 4 0") (codes "r unsat")) ≡ Ok (value_a 5)
-unfolding items_from gathered
-trace_a_read = refl
+-- ---- texts, and what is read of them
 
-trace_a_text : text (value_a 5) ≡ trace_a (codes "5 0 3 4 0") (codes "r unsat")
+abbrev rows : List (List ℕ × Result Derivation Fault)
+rows = (codes "p qrp 1\ne 1 0\n", Err (P2, 2))
+    ∷ (codes "p qrp 0 0\n", Err (P7, 2))
+    ∷ (codes "p qrp 0 0\ne 0 0\nr sat\n", Err (P4, 2))
+    -- a set behind a step
+    ∷ (codes "p qrp 0 0\n1 0 0\na 1 0\nr sat\n", Err (P3, 3))
+    -- no word of the result, and a wrong one
+    ∷ (codes "p qrp 0 0\n1 0 0\nr\n", Err (P7, 4))
+    ∷ (codes "p qrp 0 0\nr satx\n", Err (P8, 2))
+    -- a comment, zeros in front, words in upper case
+    ∷ (codes "# p\np qrp 0 00\ne 0\ne 1 01 0\n7 0 0\nr SAT\n", Ok small)
+    ∷ (trace_a (codes "4 -1 0 2 0\n5 0 3 4 0\nr unsat\n"), Ok (value_a 5))
+    -- the greatest number of a step, and one that is greater
+    ∷ (trace_a (codes "4 -1 0 2 0\n18446744073709551615 0 3 4 0\nr unsat\n"), Ok (value_a 18446744073709551615))
+    ∷ (trace_a (codes "4 -1 0 2 0\n18446744073709551616 0 3 4 0\nr unsat\n"), Err (P4, 8))
+    -- the fourth step has the number of the third
+    ∷ (trace_a (codes "3 -1 0 2 0\n5 0 3 4 0\nr unsat\n"), Err (P5, 7))
+    -- three antecedents
+    ∷ (trace_a (codes "4 -1 0 2 0\n5 0 3 4 1 0\nr unsat\n"), Err (P6, 8))
+    ∷ (trace_a (codes "4 -1 0 2 0\n5 0 3 4 0\nr maybe\n"), Err (P8, 9))
+    -- nothing is read behind the result
+    ∷ (trace_a (codes "4 -1 0 2 0\n5 0 3 4 0\nr unsat %$\n"), Ok (value_a 5))
+    -- cut in the last step, with no line end behind it
+    ∷ (trace_a (codes "4 -1 0 2 0\n5 0 3"), Err (P7, 8))
+    ∷ []
+
+rows_read : AllByRecursion (λ r. read_trace r.0 ≡ r.1) rows
+unfolding items_from gathered
+rows_read = (refl, (refl, (refl, (refl, (refl, (refl, (refl, (refl, (refl, (refl, (refl, (refl, (refl, (refl, (refl, tt)))))))))))))))
+
+-- ---- traces, and their canonical texts
+
+abbrev written : List (Derivation × List ℕ)
+written = (small, codes "p qrp 0 0\ne 0\ne 1 1 0\n7 0 0\nr sat\n")
+    ∷ (value_a 5, trace_a (codes "4 -1 0 2 0\n5 0 3 4 0\nr unsat\n"))
+    ∷ []
+
+texts_written : AllByRecursion (λ r. text r.0 ≡ r.1) written
 unfolding digits
-trace_a_text = refl
-
-row_15a : read_trace (trace_a (codes "18446744073709551615 0 3 4 0") (codes "r unsat")) ≡ Ok (value_a 18446744073709551615)
-unfolding items_from gathered
-row_15a = refl
-
-row_15b : read_trace (trace_a (codes "18446744073709551616 0 3 4 0") (codes "r unsat")) ≡ Err (P4, 8)
-unfolding items_from gathered
-row_15b = refl
-
-row_22a : read_trace (trace_a (codes "5 0 3 4 1 0") (codes "r unsat")) ≡ Err (P6, 8)
-unfolding items_from gathered
-row_22a = refl
-
-row_22b : read_trace (trace_a (codes "5 0 3 4 0") (codes "r maybe")) ≡ Err (P8, 9)
-unfolding items_from gathered
-row_22b = refl
-
-row_22c : read_trace (trace_a (codes "5 0 3 4 0") (codes "r unsat %$")) ≡ Ok (value_a 5)
-unfolding items_from gathered
-row_22c = refl
-
--- the fourth step has the number of the third
-row_15c : read_trace (file (codes "p qrp 2 5" ∷ codes "e 1 0" ∷ codes "a 2 0" ∷ codes "1 1 2 0 0" ∷ codes "2 -1 2 0 0" ∷ codes "3 1 0 1 0"
-    ∷ codes "3 -1 0 2 0" ∷ codes "5 0 3 4 0" ∷ codes "r unsat" ∷ [])) ≡ Err (P5, 7)
-unfolding items_from gathered
-row_15c = refl
-
--- cut in the last step, with no line end behind it
-row_10 : read_trace (file (codes "p qrp 2 5" ∷ codes "e 1 0" ∷ codes "a 2 0" ∷ codes "1 1 2 0 0" ∷ codes "2 -1 2 0 0" ∷ codes "3 1 0 1 0"
-    ∷ codes "4 -1 0 2 0" ∷ []) ++ codes "5 0 3") ≡ Err (P7, 8)
-unfolding items_from gathered
-row_10 = refl
+texts_written = (refl, (refl, tt))

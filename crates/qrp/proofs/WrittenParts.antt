@@ -1,30 +1,21 @@
 -- The parts of a canonical text, one after the other.
-use Rattle.std.proofs.Common.{◌≡◌, ℕ, Bool, List, [], ◌∷◌, ◌++◌, map, refl, ap, sym, ◌∙◌, append_assoc, append-nil, drop, drop-cons, get_or}
+use Rattle.std.proofs.Common.{◌≡◌, ℕ, List, [], ◌∷◌, ◌++◌, map, refl, ap, sym, ◌∙◌, append_assoc, append-nil, drop, get_or}
 use Rattle.std.proofs.Common.{length, zero, suc, inl, inr, arith, ◌<◌, ◌+◌, add-one}
 use Rattle.std.specs.Prelude.{decimal}
-use Rattle.std.specs.Fmt.{digits}
 use Rattle.std.specs.List.{AllByRecursion, flat_map}
 use Rattle.std.proofs.lemmas.Grind.{flat_map-append}
+use Rattle.std.proofs.lemmas.List.Folds.{flat_map-map}
+use Rattle.qbf_text.proofs.SentParts.{line_rest-map, zero_rest}
 use Rattle.std.proofs.lemmas.Option.{slice_get_cases}
-use Rattle.qbf_core.specs.Literal.{Literal}
 use Rattle.qbf_core.specs.Blocks.{Block}
-use Rattle.qbf_text.specs.declared.token.Token.{Token}
-use Rattle.qbf_text.specs.declared.token.Token.TheVariants as token
-use Rattle.qbf_text.specs.Canonical.{spaced, spelled, line_rest, line_text, lines_text}
+use Rattle.qbf_text.specs.Canonical.{spelled, line_rest, line_text, lines_text}
 use Rattle.qrp.specs.declared.item.Header.{Header}
 use Rattle.qrp.specs.Inferences.{Inference, IsAt}
 use Rattle.qrp.specs.Derivations.{Derivation, steps_at, with_steps_at}
 use Rattle.qrp.specs.Grammar.{number, literal, letter, set, step, header, result, text}
-use Rattle.qrp.specs.Texts.{spaced_numbers, spaced_literal, spaced_literals, zero_text, closing, set_text, step_text, sets_text, steps_text}
+use Rattle.qrp.specs.Texts.{spaced_numbers, spaced_literals, zero_text, closing, set_text, step_text, sets_text, steps_text}
 
 -- ---- lists
-
--- the rest of a list of parts, from place i on
-pub parts_next : {X : Type 0} (f : X → List ℕ) (xs : List X) (i : ℕ) (x : X) → i < length xs → x ≡ get_or xs i x
-    → flat_map f (drop i xs) ≡ f x ++ flat_map f (drop (i + 1) xs)
-parts_next f xs i x lt is =
-    let one : drop i xs ≡ x ∷ drop (i + 1) xs = rw (add-one) (drop-cons xs i x lt ∙ ap (λ (y : _). y ∷ drop (suc i) xs) (sym is)) in
-    ap (flat_map f) one
 
 -- the rest of the steps, from place i on
 pub steps_next : (steps : List Inference) (i : ℕ) → i < length steps
@@ -64,37 +55,8 @@ length_at steps (p ∷ places) inside = elim (slice_get_cases steps p).1 [
   | inr (past, _) ↦ absurd (let less : p < length steps = inside.0 in omega (arith, less, past))
 ]
 
--- the same for numbers
-pub numbers_next : (ns : List ℕ) (i : ℕ) → i < length ns
-    → spaced_numbers (drop i ns) ≡ spaced (get_or ns i 0) ++ spaced_numbers (drop (i + 1) ns)
-numbers_next ns i lt =
-    let one : drop i ns ≡ get_or ns i 0 ∷ drop (i + 1) ns = rw (add-one) (drop-cons ns i 0 lt) in
-    ap spaced_numbers one
-
--- a literal goes out by its sign and its variable
-pub literal_parts : (l : Literal) (negative : Bool) (v : ℕ) → negative ≡ l.negative → v ≡ l.var
-    → spelled (literal l) ≡ spelled (token.Number negative v)
-literal_parts l negative v sign is = (λ i. spelled (token.Number (sym sign i) (sym is i)))
-
-zero_decimal : decimal 0 ≡ 48 ∷ []
-unfolding digits
-zero_decimal = refl
-
-numbers_rest : (ns : List ℕ) (ts : List Token) → line_rest (map number ns ++ ts) ≡ spaced_numbers ns ++ line_rest ts
-numbers_rest [] ts = refl
-numbers_rest (n ∷ ns) ts =
-    ap (λ (k : List ℕ). 32 ∷ (decimal n ++ k)) (numbers_rest ns ts) ∙ sym (append_assoc (spaced n) (spaced_numbers ns) (line_rest ts))
-
-literals_rest : (ls : List Literal) (ts : List Token) → line_rest (map literal ls ++ ts) ≡ spaced_literals ls ++ line_rest ts
-literals_rest [] ts = refl
-literals_rest (l ∷ ls) ts = ap (λ (k : List ℕ). 32 ∷ (spelled (literal l) ++ k)) (literals_rest ls ts)
-    ∙ sym (append_assoc (spaced_literal l) (spaced_literals ls) (line_rest ts))
-
-zero_rest : (ts : List Token) → line_rest (number 0 ∷ ts) ≡ zero_text ++ line_rest ts
-zero_rest ts = ap (λ (k : List ℕ). 32 ∷ (k ++ line_rest ts)) zero_decimal
-
 closed_numbers : (ns : List ℕ) → line_rest (map number ns ++ number 0 ∷ []) ≡ spaced_numbers ns ++ closing
-closed_numbers ns = numbers_rest ns (number 0 ∷ []) ∙ ap (λ (k : List ℕ). spaced_numbers ns ++ k) (zero_rest [])
+closed_numbers ns = line_rest-map number ns (number 0 ∷ []) ∙ ap (λ (k : List ℕ). spaced_numbers ns ++ k) (zero_rest [])
 
 set_line : (s : Block) → line_text (set s) ≡ set_text s
 set_line s = ap (λ (k : List ℕ). spelled (letter s.quantifier) ++ k) (closed_numbers s.vars)
@@ -102,28 +64,20 @@ set_line s = ap (λ (k : List ℕ). spelled (letter s.quantifier) ++ k) (closed_
 step_line : (s : Inference) → line_text (step s) ≡ step_text s
 step_line s =
     ap (λ (k : List ℕ). decimal s.number ++ k)
-    (literals_rest s.lits (number 0 ∷ (map number s.ants ++ number 0 ∷ []))
+    (line_rest-map literal s.lits (number 0 ∷ (map number s.ants ++ number 0 ∷ []))
     ∙ ap (λ (k : List ℕ). spaced_literals s.lits ++ k)
     (zero_rest (map number s.ants ++ number 0 ∷ []) ∙ ap (λ (k : List ℕ). zero_text ++ k) (closed_numbers s.ants)))
-
-sets_lines : (sets : List Block) → lines_text (map set sets) ≡ sets_text sets
-sets_lines [] = refl
-sets_lines (s ∷ sets) = (λ i. set_line s i ++ sets_lines sets i)
-
-steps_lines : (steps : List Inference) → lines_text (map step steps) ≡ steps_text steps
-steps_lines [] = refl
-steps_lines (s ∷ steps) = (λ i. step_line s i ++ steps_lines steps i)
 
 -- ---- the whole
 
 pub text_parts : (d : Derivation)
     → text d ≡ line_text (header d.header) ++ (sets_text d.sets ++ (steps_text d.steps ++ line_text (result d.result)))
 text_parts d =
-    ap (λ (k : List ℕ). line_text (header d.header) ++ k)
-    (flat_map-append line_text (map set d.sets ++ map step d.steps) (result d.result ∷ [])
-    ∙ ap (λ (k : List ℕ). k ++ (line_text (result d.result) ++ [])) (flat_map-append line_text (map set d.sets) (map step d.steps))
-    ∙ append_assoc (lines_text (map set d.sets)) (lines_text (map step d.steps)) (line_text (result d.result) ++ [])
-    ∙ (λ i. sets_lines d.sets i ++ (steps_lines d.steps i ++ append-nil (line_text (result d.result)) i)))
+    let lines : lines_text (map set d.sets ++ map step d.steps ++ result d.result ∷ [])
+    ≡ flat_map (λ s. line_text (set s)) d.sets ++ (flat_map (λ s. line_text (step s)) d.steps ++ line_text (result d.result)) =
+    simp (append-nil, flat_map-append, flat_map-map, append_assoc) in
+    ap (λ (k : List ℕ). line_text (header d.header) ++ k) (lines
+    ∙ (λ i. flat_map (λ s. set_line s i) d.sets ++ (flat_map (λ s. step_line s i) d.steps ++ line_text (result d.result))))
 
 -- the same of the text with the steps at some places alone
 pub text_parts_at : (d : Derivation) (places : List ℕ) (h : Header) → AllByRecursion (λ i. i < length d.steps) places → h ≡ d.header

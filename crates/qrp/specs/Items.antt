@@ -97,18 +97,17 @@ Stands (HasFault f line) g = ⊤
 abbrev pub GivesItem : KnownItems → List ℕ → Known → Result Item Fault → Type 0
 GivesItem before ns after answer = GivesNextItem before (left_behind (stage_after answer) ns after) answer
 
--- the item is as the grammar asks, and its number is behind the others
-pub record IsItem (old new : List ℕ) (answer : Result Item Fault) : Type 0 where
-  pub proper : IfOk answer (λ i. IsProper old i)
-  pub numbers : new ≡ numbers_with old answer
+-- the item is as the grammar asks, its number is behind the others, and the next token stands where it is to be taken
+pub record IsItem (old new : Giver) (answer : Result Item Fault) : Type 0 where
+  pub proper : IfOk answer (λ i. IsProper old.numbers i)
+  pub numbers : new.numbers ≡ numbers_with old.numbers answer
+  pub stands : Stands (stage_after answer) new
 
--- the scanner did not fail with an item, and behind each but the last less can still come
-pub record IsScanned (scanner : Reading) (before bound : ℕ) (answer : Result Item Fault) : Type 0 where
+-- what was done with the devices: the scanner did not fail with an item, and behind each but the last less can still come; the count
+-- of failures rose exactly where the source failed; a fault of source or memory stands on line 0
+pub record IsDriven (scanner : Reading) (before bound old new : ℕ) (answer : Result Item Fault) : Type 0 where
   pub ready : OnOk answer (¬ HasFailed scanner)
   pub less : is_last answer ≡ false → length scanner.pending + bound < before
-
--- the count of failures rose exactly where the source failed; a fault of source or memory stands on line 0
-pub record IsCounted (old new : ℕ) (answer : Result Item Fault) : Type 0 where
   pub source : IfErr answer (λ e. e.0 ≡ P1 → old < 2 ^ 64 - 1 → old < new)
   pub kept : IfErr answer (λ e. e.0 ≢ P1 → new ≡ old)
   pub lines : IfErr answer (λ e. StandsOnLine e.0 e.1)

@@ -143,15 +143,6 @@ fn know_literals(lits: &[Lit])
     }
 }
 
-/// Nothing is done here: the proof reads each number, and so knows that it has 64 bits.
-fn know_numbers(numbers: &[u64])
-    ensures { AllByRecursion (λ n. n < 2 ^ 64) numbers.now }
-{
-    for number in numbers {
-        let _number = *number;
-    }
-}
-
 impl FlatTrace {
     /// A trace with no sets and no steps. It takes no memory.
     pub(crate) fn new(alloc: Global, header: Header, claim: Outcome) -> FlatTrace
@@ -241,7 +232,6 @@ impl FlatTrace {
         ensures err { OnErr result (self.new ≡ self.old) }
     {
         know_literals(lits);
-        know_numbers(ants);
         self.steps.push(lits, ants)?;
         match self.index.push(number) {
             Ok(()) => {

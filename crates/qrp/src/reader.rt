@@ -10,8 +10,7 @@ ghost use Rattle.qbf_text.specs.Reading.{left, HasFailed};
 ghost use Rattle.qbf_text.specs.Stopping.{tokens_next};
 ghost use Rattle.qrp.specs.Given.{items_left, is_last, stage_after, numbers_with};
 ghost use Rattle.qrp.specs.Given.{GivesNextItem, IsDone, IsProper, StopsBehindItem};
-ghost use Rattle.qrp.specs.Items.{Takes, Stands, StopsBehind, GivesItem, IsItem, IsScanned};
-ghost use Rattle.qrp.specs.Items.{IsCounted};
+ghost use Rattle.qrp.specs.Items.{Takes, StopsBehind, GivesItem, IsItem, IsDriven};
 ghost use Rattle.qrp.specs.Parts.{known_items};
 ghost use Rattle.qrp.specs.Reading.{Place, items};
 
@@ -59,11 +58,9 @@ fn read_item<S: Source>(
         StopsBehind p (tokens_next scanner.old) (ahead scanner.old.pending (S.remaining source.old))
         (ahead scanner.new.pending (S.remaining source.new))
         (length scanner.new.pending ≤ 4096) result }
-    ensures stands { Stands (stage_after result) grammar.new }
-    ensures item { IsItem grammar.old.numbers grammar.new.numbers result }
-    ensures scanner { IsScanned scanner.new (length scanner.old.pending + S.bound source.old)
-        (S.bound source.new) result }
-    ensures counts { IsCounted (S.failures source.old) (S.failures source.new) result }
+    ensures item { IsItem grammar.old grammar.new result }
+    ensures devices { IsDriven scanner.new (length scanner.old.pending + S.bound source.old)
+        (S.bound source.new) (S.failures source.old) (S.failures source.new) result }
 {
     match read_by(grammar, scanner, source) {
         Ok(()) => match grammar.give(alloc) {

@@ -140,6 +140,7 @@ fn put_result<K: Sink>(sink: &mut K, outcome: Outcome) -> Result<(), SinkFault>
 /// and each line ends with byte 10. Reading the text gives the trace.
 ///
 /// A `SinkFault` where the sink failed. What went out is a beginning of the text then.
+#[tactic(auto, using(crate::proofs::CanonicalTextIsRead::text_is_read))]
 pub fn write_trace<K: Sink>(trace: &Trace, sink: &mut K) -> Result<(), SinkFault>
     ensures put { IsPut K.written K.failures sink.old sink.new (text trace.now) result }
     // Reading the text gives the trace.

@@ -10,8 +10,8 @@ bytes-preserved g c =
     record {
       reading = rw c.advance.ensures.rest (read_more _ _ _ _ (g.R.Run.reads c.bytes.run)
           (g.R.Run.reads c.push.new.self) c.args.first c.in-Some.byte s c.in_ok-byte.ensures.kept next text (c.push.ensures _ s.kept));
-      bound = omega (arith, c.in_ok-byte.ensures.bound);
-      failures = c.in_ok-byte.ensures.ok ∙ c.bytes.invariant.failures;
+      bound = omega (arith, c.in_ok-byte.ensures.pulled.bound);
+      failures = c.in_ok-byte.ensures.pulled.ok ∙ c.bytes.invariant.failures;
     }
 
 pub returns-clause-run : goal.returns-clause-run

@@ -12,21 +12,19 @@ use Rattle.qrp.proofs.flat.read_flat.Goals as goal
 
 pub returns-in-Ok-clause-exact : goal.returns-in-Ok-clause-exact
 returns-in-Ok-clause-exact g c =
-    whole_read c.new-grammar.result c.read_by.new.grammar c.into_trace.result c.new-grammar.ensures c.into_trace.ensures
-    (g.S.Source.remaining c.args.source.now)
-    (answers trace_row c.new-grammar.result c.read_by.new.grammar c.new-scanner.result (tokens Qrp) c.new-scanner.ensures.left
-    (g.S.Source.remaining c.args.source.now)
-    (left c.read_by.new.scanner (g.S.Source.remaining c.read_by.new.source)) (Ok tt) c.in-Ok.ensures.reads)
+    let remaining = g.S.Source.remaining c.args.source.now in
+    whole_read _ _ _ c.new-grammar.ensures c.into_trace.ensures remaining
+    (answers trace_row _ _ _ (tokens Qrp) c.new-scanner.ensures.left remaining _ (Ok tt) c.in-Ok.ensures.reads)
 
 pub returns-in-Ok-clause-reads : goal.returns-in-Ok-clause-reads
 returns-in-Ok-clause-reads g c =
     answered_bytes (g.S.Source.remaining c.args.source.now) (Ok c.into_trace.result) (returns-in-Ok-clause-exact g c)
 
 pub returns-in-Err-clause-exact : goal.returns-in-Err-clause-exact
-returns-in-Err-clause-exact g c = rw c.fault_of.ensures (
-    fault_read c.new-grammar.result c.read_by.new.grammar c.in-Err.error c.new-grammar.ensures (g.S.Source.remaining c.args.source.now)
-    (answers trace_row c.new-grammar.result c.read_by.new.grammar c.new-scanner.result (tokens Qrp) c.new-scanner.ensures.left
-    (g.S.Source.remaining c.args.source.now)
+returns-in-Err-clause-exact g c =
+    let remaining = g.S.Source.remaining c.args.source.now in
+    rw c.fault_of.ensures (fault_read _ c.read_by.new.grammar c.in-Err.error c.new-grammar.ensures remaining
+    (answers trace_row _ c.read_by.new.grammar _ (tokens Qrp) c.new-scanner.ensures.left remaining
     (left c.read_by.new.scanner (g.S.Source.remaining c.read_by.new.source)) (Err c.in-Err.error) c.in-Err.ensures.reads))
 
 pub returns-in-Err-clause-reads : goal.returns-in-Err-clause-reads
@@ -35,7 +33,6 @@ returns-in-Err-clause-reads g c =
 
 pub returns-in-Ok-clause-stops : goal.returns-in-Ok-clause-stops
 returns-in-Ok-clause-stops g c =
-    stops_behind_result c.new-grammar.result c.read_by.new.grammar c.into_trace.result
-    (tokens_next c.new-scanner.result) c.new-scanner.result.pending c.read_by.new.scanner.pending
+    stops_behind_result _ _ _ (tokens_next c.new-scanner.result) _ c.read_by.new.scanner.pending
     (g.S.Source.remaining c.args.source.now) (g.S.Source.remaining c.read_by.new.source) c.new-grammar.ensures c.into_trace.ensures
     c.new-scanner.ensures.next c.new-scanner.ensures.pending c.in-Ok.ensures.stops

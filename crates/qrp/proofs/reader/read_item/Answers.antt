@@ -1,4 +1,4 @@
-use Rattle.std.proofs.Common.{◌≤◌, length, Ok, Err, subst}
+use Rattle.std.proofs.Common.{◌≤◌, length, Err, subst}
 use Rattle.qbf_text.specs.Reading.{left}
 use Rattle.qbf_text.specs.Rows.{reads_from}
 use Rattle.qbf_text.specs.Taking.{Reads}
@@ -6,7 +6,6 @@ use Rattle.qrp.specs.Items.{Giving, item_row}
 use Rattle.qrp.proofs.RowsReadTheItem.{item_given, fault_given}
 use Rattle.qbf_text.specs.Ahead.{ahead}
 use Rattle.qbf_text.specs.Stopping.{tokens_next}
-use Rattle.qrp.specs.Given.{numbers_with}
 use Rattle.qrp.proofs.ItemStops.{item_stops}
 use Rattle.qrp.proofs.reader.read_item.Goals as goal
 
@@ -25,8 +24,7 @@ returns-in-Err-clause-gives g c = λ p at_. rw c.fault_of.ensures
 
 pub returns-in-Ok-give-clause-stops : goal.returns-in-Ok-give-clause-stops
 returns-in-Ok-give-clause-stops g c = λ p at_.
-    item_stops p c.args.grammar.now.giving c.read_by.new.grammar.giving (tokens_next c.args.scanner.now) c.in-Ok-give.item
-    (numbers_with c.read_by.new.grammar.numbers (Ok c.in-Ok-give.item))
+    item_stops p _ _ (tokens_next c.args.scanner.now) c.in-Ok-give.item _
     (ahead c.args.scanner.now.pending (g.S.Source.remaining c.args.source.now))
     (ahead c.read_by.new.scanner.pending (g.S.Source.remaining c.read_by.new.source)) (length c.read_by.new.scanner.pending ≤ 4096)
     at_ c.in-Ok-give.ensures.item c.in-Ok.ensures.stops

@@ -1,5 +1,5 @@
-use Rattle.qbf_text.proofs.Stops.{place_takes_some}
+use Rattle.qbf_text.proofs.Stops.{found_behind}
 use Rattle.qbf_text.proofs.scanner.Place.number_behind.Goals as goal
 
-pub returns-clause-takes : goal.returns-clause-takes
-returns-clause-takes c = place_takes_some _ _ _ _ c.skip_separators.ensures.skips c.number.ensures.takes
+pub returns-clause-found : goal.returns-clause-found
+returns-clause-found c = found_behind _ _ _ _ c.skip_separators.ensures.none c.number.ensures.found

@@ -1,29 +1,29 @@
 use Rattle.std.proofs.KnownBytes.{Consumes-nil}
 use Rattle.qbf_text.specs.Ahead.{ahead}
-use Rattle.qbf_text.proofs.KnownLeft.{took_at, gives_line_end, no_line_end_at}
+use Rattle.qbf_text.proofs.KnownLeft.{took_at, gives_blank, gives_line_end, no_line_end_at}
 use Rattle.qbf_text.proofs.LeftAfterNumber.{or_blank}
 use Rattle.qbf_text.proofs.Stops.{skips_line_end, skips_blank}
 use Rattle.qbf_text.specs.Tokens.{is_blank, is_line_end}
 use Rattle.qbf_text.proofs.scanner.Place.pass_separator.Goals as goal
 
-pub returns-then-byte-eq10-clause-same : goal.returns-then-byte-eq10-clause-same
-returns-then-byte-eq10-clause-same c remaining =
+pub returns-then-byte-eq10-clause-none : goal.returns-then-byte-eq10-clause-none
+returns-then-byte-eq10-clause-none c remaining =
     let s = c.args.self.now in
     let took =
     took_at (ahead s.window remaining) s.window _ remaining c.args.byte c.advance.ensures.rest (Consumes-nil _) c.requires.next in
-    rw c.saturating_add-self.ensures (gives_line_end s.comments s.begun s.line c.args.byte _ _ took c.if-byte-eq10.true)
+    rw c.saturating_add-self.ensures (record {
+      gives = gives_line_end s.comments s.begun s.line c.args.byte _ _ took c.if-byte-eq10.true;
+      skips = skips_line_end s.comments s.begun s.line c.args.byte _ _ took c.if-byte-eq10.true;
+    })
 
-pub returns-then-byte-eq10-clause-skips : goal.returns-then-byte-eq10-clause-skips
-returns-then-byte-eq10-clause-skips c remaining =
+pub returns-else-byte-eq10-clause-none : goal.returns-else-byte-eq10-clause-none
+returns-else-byte-eq10-clause-none c remaining =
     let s = c.args.self.now in
     let took =
     took_at (ahead s.window remaining) s.window _ remaining c.args.byte c.advance.ensures.rest (Consumes-nil _) c.requires.next in
-    rw c.saturating_add-self.ensures (skips_line_end s.comments s.begun s.line c.args.byte _ _ took c.if-byte-eq10.true)
-
-pub returns-else-byte-eq10-clause-skips : goal.returns-else-byte-eq10-clause-skips
-returns-else-byte-eq10-clause-skips c remaining =
-    let s = c.args.self.now in
-    let took =
-    took_at (ahead s.window remaining) s.window _ remaining c.args.byte c.advance.ensures.rest (Consumes-nil _) c.requires.next in
-    skips_blank s.comments s.begun s.line c.args.byte _ _ took
-    (or_blank (is_blank c.args.byte) (is_line_end c.args.byte) (no_line_end_at c.args.byte c.if-byte-eq10.false) c.requires.separates)
+    let blank = or_blank (is_blank c.args.byte) (is_line_end c.args.byte) (no_line_end_at c.args.byte c.if-byte-eq10.false)
+    c.requires.separates in
+    record {
+      gives = gives_blank s.comments s.begun s.line c.args.byte _ _ took blank;
+      skips = skips_blank s.comments s.begun s.line c.args.byte _ _ took blank;
+    }

@@ -1,7 +1,7 @@
 use Rattle.std.proofs.Common.{List, ℕ, length, ap, subst, ◌∙◌, arith}
 use Rattle.qrp.specs.Inferences.{Inference}
 use Rattle.qrp.specs.Kept.{AreStepNumbers}
-use Rattle.qrp.proofs.GrowingSteps.{flat_pushed, IsStep}
+use Rattle.qrp.proofs.GrowingSteps.{flat_pushed, numbers_fit, IsStep}
 use Rattle.qrp.proofs.TraceParts.{numbered_more}
 use Rattle.qrp.proofs.flat.FlatTrace.push_step.Goals as goal
 
@@ -10,7 +10,7 @@ invariant_of-self-in-Ok c =
     let step : Inference = record { number = c.args.number; lits = c.args.lits.now; ants = c.args.ants.now } in
     let is : IsStep step = record {
       inference = record { number = c.requires.number; lits = c.know_literals.ensures; ants = c.requires.ants; few = c.requires.few };
-      fit = c.know_numbers.ensures;
+      fit = numbers_fit c.args.ants.now (λ i. let f = c.type_inv.ants i in omega (arith, f));
     } in
     rw (c.in-Ok.ensures.pushed, c.in_ok-push.ensures.pushed) (
     flat_pushed c.self.inside.header c.self.inside.sets.items c.self.inside.index c.self.inside.steps c.self.inside.result step
