@@ -10,3 +10,7 @@ returns-in-Check-clause-report g c =
       check_output c.args.job c.in-Check.rules _ _ answer c.in-Check.is c.check_job.ensures.1,
       check_goes_out c.in-Check.rules answer _ _ (c.check_job.ensures.2, refl),
     )
+
+-- The check finds this too, and searches for long where it is false.
+pub returns-in-Format-clause-not_pulled : goal.returns-in-Format-clause-not_pulled
+returns-in-Format-clause-not_pulled g c is = refl
