@@ -1,6 +1,6 @@
 -- Texts that go out part by part.
 use Rattle.std.proofs.Common.{◌≡◌, ℕ, ◌-◌, ◌^◌, ◌<◌, Ok, Err, List, [], ◌∷◌, ◌++◌, Option, take, drop, refl, sym, ap, subst, ◌∙◌}
-use Rattle.std.proofs.Common.{append_assoc, append-nil, ◌+◌, suc, add-one, drop-cons, get_or, length}
+use Rattle.std.proofs.Common.{append_assoc, ◌+◌, suc, add-one, drop-cons, get_or, length}
 use Rattle.std.proofs.lemmas.Result.{err_from_is_err_and}
 use Rattle.std.specs.List.{flat_map}
 use Rattle.std.specs.Result.{IsErrAnd}
