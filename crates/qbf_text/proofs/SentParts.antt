@@ -1,6 +1,6 @@
 -- Texts that go out part by part.
 use Rattle.std.proofs.Common.{◌≡◌, ℕ, ◌-◌, ◌^◌, ◌<◌, Ok, Err, List, [], ◌∷◌, ◌++◌, Option, take, drop, refl, sym, ap, subst, ◌∙◌}
-use Rattle.std.proofs.Common.{append_assoc, append-nil, ◌+◌, suc, add-one, drop-cons, get_or, length}
+use Rattle.std.proofs.Common.{append_assoc, ◌+◌, suc, add-one, drop-cons, get_or, length}
 use Rattle.std.proofs.lemmas.Result.{err_from_is_err_and}
 use Rattle.std.specs.List.{flat_map}
 use Rattle.std.specs.Result.{IsErrAnd}
@@ -12,7 +12,7 @@ use Rattle.qbf_text.specs.Canonical.{spelled, line_rest}
 use Rattle.qbf_text.specs.Written.{IsPut, IsSent}
 use Rattle.std.proofs.Math.ListN.{take-append-drop}
 use Rattle.std.specs.Io.KnownBytes.{Appends}
-use Rattle.std.proofs.KnownBytes.{Appends-trans, Appends-nil}
+use Rattle.std.proofs.KnownBytes.{Appends-trans}
 
 pub zero_decimal : decimal 0 ≡ 48 ∷ []
 unfolding digits
@@ -37,9 +37,6 @@ parts_next {X} f xs i x d lt is =
     ap (flat_map f) one
 
 module _ {S : Type 0} {written : S → Option (List ℕ)} {failures : S → ℕ} where
-  pub sent_none : (a : S) (whole : List ℕ) → IsSent written failures a a whole whole
-  sent_none a whole = record { sent = []; parts = refl; appended = Appends-nil (written a); works = refl }
-
   sent_step : (a b c : S) (whole rest part more : List ℕ) → IsSent written failures a b whole rest → rest ≡ part ++ more
       → Appends (written b) (written c) part → failures c ≡ failures b → IsSent written failures a c whole more
   sent_step a b c whole rest part more s e p works = record {
@@ -102,17 +99,7 @@ module _ {S : Type 0} {written : S → Option (List ℕ)} {failures : S → ℕ}
         → rest ≡ part ++ more → IsPut {E = E} written failures b c part (Ok u) → IsSent written failures a c whole more
     sent_part more s is p = sent_step _ _ _ _ _ _ more s is p.ok p.failures_ok
 
-    -- nothing is left to go out
-    pub sent_whole : {a b : S} {whole rest : List ℕ} {u : T} → IsSent written failures a b whole rest → rest ≡ []
-        → IsPut {E = E} written failures a b whole (Ok u)
-    sent_whole {a} {b} s none = record {
-      ok = subst (Appends (written a) (written b)) (sym (s.parts ∙ ap (λ k. s.sent ++ k) none ∙ append-nil s.sent)) s.appended;
-      err = tt;
-      failures_ok = s.works;
-      failures_err = tt;
-    }
-
-    -- the same, where the call sends it under another name
+    -- the rest, where the call sends it under another name
     pub sent_last : {a b c : S} {whole rest part : List ℕ} {r : Result T E} → IsSent written failures a b whole rest → rest ≡ part
         → IsPut written failures b c part r → IsPut written failures a c whole r
     sent_last {b = b} {c = c} {r = r} s is q = sent_put s (subst (λ k. IsPut written failures b c k r) (sym is) q)
