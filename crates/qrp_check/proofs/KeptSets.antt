@@ -35,7 +35,8 @@ kept_skip blocks steps i kept entry out are = record {
   count = more_entries kept entry i are.count;
   sets = λ j k step less up core needs here. elim (cases_eq j i) [
     | inl e ↦ absurd (out (subst (IsInCore steps) e (next core needs)))
-    | inr ne ↦ (let w = are.sets j k step (omega (arith, less, ne)) (omega (arith, up)) core needs here in (w.0, pushed_old kept entry j w.0 w.1, w.2))
+    | inr ne ↦ (let w = are.sets j k step (omega (arith, less, ne)) (omega (arith, up)) core needs here in
+        (w.0, pushed_old kept entry j w.0 w.1, w.2))
   ];
 }
 
@@ -50,7 +51,8 @@ kept_push blocks steps i kept entry is are = record {
       subst (λ (n : ℕ). slice_get (kept ++ entry ∷ []) n ≡ Some entry) (are.count ∙ sym e) (pushed_new kept entry),
       is step (subst (λ (n : ℕ). IsAt steps n step) e here),
     )
-    | inr ne ↦ (let w = are.sets j k step (omega (arith, less, ne)) (omega (arith, up)) core needs here in (w.0, pushed_old kept entry j w.0 w.1, w.2))
+    | inr ne ↦ (let w = are.sets j k step (omega (arith, less, ne)) (omega (arith, up)) core needs here in
+        (w.0, pushed_old kept entry j w.0 w.1, w.2))
   ];
 }
 
