@@ -20,12 +20,14 @@ LIBRARY = lib/libqrp.a
 FILL = sed 's|@PREFIX@|$(PREFIX)|; s|@VERSION@|$(shell cat VERSION)|'
 
 .PHONY: all lib demo test bench dist install clean
+.PHONY: test-built test-refusals test-program test-scripts test-examples lib-after-ci test-library test-dist
 
 all: $(PROGRAM)
 
 # `rt run` proves what is not proved yet, builds the program and runs it once.
 $(PROGRAM): $(SOURCES)
 	mkdir -p bin
+	RT=$(RT) scripts/prove-libraries
 	cd crates/qrp_cmd && $(RT) run -- format data/two_clauses.qdimacs > /dev/null
 	cp crates/qrp_cmd/out/qrp_cmd $(PROGRAM)
 
@@ -44,7 +46,7 @@ demo: all
 	$(PROGRAM) check examples/carry-from-tables/carry-from-tables.qdimacs examples/carry-from-tables/carry-from-tables.qrp
 	$(PROGRAM) format examples/two_clauses.qdimacs
 
-# The programs and the tests that `rt ci` proved and built are those that the scripts after it run.
+# The scripts after `rt ci` run the programs and the tests that it proved and built, side by side.
 test:
 	scripts/check-promises
 	scripts/check-memory-faults
@@ -52,13 +54,30 @@ test:
 	mkdir -p bin
 	cp crates/qrp_cmd/out/qrp_cmd $(PROGRAM)
 	cp crates/qrp_echo/out/qrp_echo $(ECHO)
+	$(MAKE) --jobs --output-sync=target test-built
+
+test-built: test-refusals test-program test-scripts test-examples test-library test-dist
+
+test-refusals:
 	scripts/test-refusals
+
+test-program:
 	scripts/test-program $(PROGRAM) $(ECHO)
+
+test-scripts:
 	scripts/test-scripts $(PROGRAM)
-	$(MAKE) lib
-	scripts/test-library $(PROGRAM) lib
-	scripts/make-dist --check
+
+test-examples:
 	examples/check-all $(PROGRAM)
+
+lib-after-ci:
+	RT=$(RT) scripts/build-library --after-ci lib
+
+test-library: lib-after-ci
+	scripts/test-library $(PROGRAM) lib
+
+test-dist: lib-after-ci
+	scripts/make-dist --check
 
 bench: all
 	scripts/bench $(PROGRAM)
