@@ -3,7 +3,7 @@
 ghost use Rattle.std.specs.Prelude.{◌≡◌, ◌<◌, ◌≤◌, ◌∷◌, [], ◌++◌, length, false, IfOk, OnOk};
 ghost use Rattle.std.specs.List.{AllByRecursion};
 ghost use Rattle.qrp.specs.Inferences.{IsNumber, numbers};
-ghost use Rattle.qrp.specs.Reading.{is_used};
+ghost use Rattle.step_index.specs.Numbers.{is_used};
 
 use qbf_core::{Lit, Quantifier, Var};
 use qbf_text::{PieceSink, PieceSource, SliceSource, VecSink};

@@ -9,7 +9,7 @@ use Rattle.qbf_core.specs.Blocks.{Block, pairs, pairs_of_block, is_bound, blocks
 use Rattle.qbf_text.specs.declared.token.Token.{Token}
 use Rattle.qbf_text.specs.declared.token.Token.TheVariants as token
 use Rattle.qbf_text.specs.declared.token.Word.TheVariants as word
-use Rattle.qbf_text.proofs.DistinctNumbers.{middle, front_all, front_distinct, new_number}
+use Rattle.qbf_core.proofs.DistinctNumbers.{middle, front_all, front_distinct, new_number}
 use Rattle.qdimacs.proofs.AllVariablesBound.{is_bound_variables}
 use Rattle.qbf_text.proofs.AcceptedTokens.{Leads, Stays, Passes, leads_then}
 use Rattle.qdimacs.specs.Grammar.{number, literal, letter, header, set, clause}

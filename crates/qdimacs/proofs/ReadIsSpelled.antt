@@ -14,7 +14,7 @@ use Rattle.qbf_text.specs.declared.token.Token.{Token}
 use Rattle.qbf_text.specs.declared.token.Token.TheVariants as token
 use Rattle.qbf_text.specs.Lined.{Lined, EndsOnce}
 use Rattle.qbf_text.specs.Left.{is_end}
-use Rattle.qbf_text.proofs.DistinctNumbers.{push_distinct}
+use Rattle.qbf_core.proofs.DistinctNumbers.{push_distinct}
 use Rattle.qdimacs.proofs.AllVariablesBound.{is_bound_variables}
 use Rattle.qbf_text.proofs.AcceptedTokens.{each_is_answered, flat_map-push}
 use Rattle.qbf_text.proofs.AcceptedTokens as accepted

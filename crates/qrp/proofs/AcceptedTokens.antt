@@ -9,7 +9,7 @@ use Rattle.qbf_core.specs.Blocks.{Block, IsVariable}
 use Rattle.qbf_text.specs.declared.token.Token.{Token}
 use Rattle.qbf_text.specs.declared.token.Token.TheVariants as token
 use Rattle.qbf_text.specs.Lined.{Lined, unlined}
-use Rattle.qbf_text.proofs.DistinctNumbers.{new_number}
+use Rattle.qbf_core.proofs.DistinctNumbers.{new_number}
 use Rattle.qrp.specs.declared.fault.TraceFault.TheVariants.{P7}
 use Rattle.qrp.specs.declared.item.Header.{Header}
 use Rattle.qrp.specs.declared.item.Item.{Item}
@@ -18,7 +18,8 @@ use Rattle.qrp.specs.Inferences.{Inference, IsInference, IsLiteral, IsNumber, nu
 use Rattle.qrp.specs.Derivations.{AreGrammatical, items_of_lists}
 use Rattle.qrp.specs.Grammar.{number, literal, letter, set, step, lists}
 use Rattle.qrp.specs.Reading.{Fault, Place, AtP, Between, InSet, InLits, InAnts, Row, Goes, Closes, Ends, Fails}
-use Rattle.qrp.specs.Reading.{row, is_used, items_from}
+use Rattle.qrp.specs.Reading.{row, items_from}
+use Rattle.step_index.specs.Numbers.{is_used}
 
 abbrev pub Answer : Type 0
 Answer = Result Item Fault

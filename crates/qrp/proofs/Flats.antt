@@ -1,55 +1,80 @@
 -- Steps in flat buffers.
-use Rattle.std.proofs.Common.{◌≡◌, ◌<◌, ℕ, zero, suc, List, [], ◌∷◌, ◌++◌, length, slice_get, Some, refl, ap, arith}
+use Rattle.std.proofs.Common.{◌≡◌, ◌<◌, ◌^◌, ℕ, zero, suc, List, [], ◌∷◌, ◌++◌, length, slice_get, get_or, Some, refl, ap, sym, ◌∙◌, arith}
+use Rattle.std.proofs.lemmas.List.{length-append, length-map, map-append}
+use Rattle.std.specs.List.{AllByRecursion}
+use Rattle.qbf_core.specs.Blocks.{Block}
 use Rattle.qbf_core.specs.Literal.{Literal}
-use Rattle.qrp.specs.Inferences.{Inference, IsAt}
-use Rattle.qrp.specs.Flat.{Body, body, bodies, numbered}
+use Rattle.qbf_core.proofs.PrefixLaws.{AllByRecursion-push}
+use Rattle.step_index.specs.Numbers.{AreStepNumbers}
+use Rattle.qrp.specs.declared.item.Header.{Header}
+use Rattle.qrp.specs.declared.item.Outcome.{Outcome}
+use Rattle.qrp.specs.Flat.{numbered, IsFlat}
+use Rattle.qrp.specs.Inferences.{Inference, IsAt, IsInference, numbers}
 
--- ---- one more body
+-- the parts of the step at a place
+pub numbered_at : (ns : List ℕ) (lits : List (List Literal)) (ants : List (List ℕ)) (i : ℕ) (s : Inference)
+    → IsAt (numbered ns lits ants) i s → (slice_get lits i ≡ Some s.lits) × (slice_get ants i ≡ Some s.ants)
+numbered_at [] lits ants i s h = absurd (cc h)
+numbered_at (n ∷ ns) [] ants i s h = absurd (cc h)
+numbered_at (n ∷ ns) (l ∷ lits) [] i s h = absurd (cc h)
+numbered_at (n ∷ ns) (l ∷ lits) (a ∷ ants) zero s h =
+    let e : record { number = n; lits = l; ants = a } ≡ s = cc h in
+    (ap (λ (x : Inference). Some x.lits) e, ap (λ (x : Inference). Some x.ants) e)
+numbered_at (n ∷ ns) (l ∷ lits) (a ∷ ants) (suc i) s h = numbered_at ns lits ants i s h
 
-pub bodies_more : (lits : List (List Literal)) (ants : List (List ℕ)) (l : List Literal) (a : List ℕ) → length lits ≡ length ants
-    → bodies (lits ++ l ∷ []) (ants ++ a ∷ []) ≡ bodies lits ants ++ record { lits = l; ants = a } ∷ []
-bodies_more [] [] l a e = refl
-bodies_more [] (x ∷ ants) l a e = absurd (omega (arith, e))
-bodies_more (x ∷ lits) [] l a e = absurd (omega (arith, e))
-bodies_more (x ∷ lits) (y ∷ ants) l a e =
-    let same : length lits ≡ length ants = omega (arith, e) in
-    ap (λ (bs : List Body). record { lits = x; ants = y } ∷ bs) (bodies_more lits ants l a same)
+-- ---- one more step
 
--- ---- the body at a place
+pub numbered_more : (ns : List ℕ) (lits : List (List Literal)) (ants : List (List ℕ)) (s : Inference) → length lits ≡ length ns
+    → length ants ≡ length ns
+    → numbered (ns ++ s.number ∷ []) (lits ++ s.lits ∷ []) (ants ++ s.ants ∷ []) ≡ numbered ns lits ants ++ s ∷ []
+numbered_more [] [] [] s e f = refl
+numbered_more [] [] (a ∷ ants) s e f = absurd (omega (arith, f))
+numbered_more [] (l ∷ lits) ants s e f = absurd (omega (arith, e))
+numbered_more (n ∷ ns) [] ants s e f = absurd (omega (arith, e))
+numbered_more (n ∷ ns) (l ∷ lits) [] s e f = absurd (omega (arith, f))
+numbered_more (n ∷ ns) (l ∷ lits) (a ∷ ants) s e f =
+    ap (λ (steps : List Inference). record { number = n; lits = l; ants = a } ∷ steps)
+    (numbered_more ns lits ants s (omega (arith, e)) (omega (arith, f)))
 
-pub bodies_within : (lits : List (List Literal)) (ants : List (List ℕ)) (i : ℕ) → length lits ≡ length ants → i < length (bodies lits ants)
-    → (i < length lits) × (i < length ants)
-bodies_within [] ants i e less = absurd (omega arith)
-bodies_within (x ∷ lits) [] i e less = absurd (omega arith)
-bodies_within (x ∷ lits) (y ∷ ants) zero e less = (omega arith, omega arith)
-bodies_within (x ∷ lits) (y ∷ ants) (suc i) e less =
-    let m = bodies_within lits ants i (omega (arith, e)) (omega arith) in
-    (let k = m.0 in omega arith, let k = m.1 in omega arith)
+-- the numbers of a slice, each of which fits
+pub numbers_fit : (ns : List ℕ) → ((i : ℕ) → get_or ns i 0 < 2 ^ 64) → AllByRecursion (λ n. n < 2 ^ 64) ns
+numbers_fit [] fit = tt
+numbers_fit (n ∷ ns) fit = (fit 0, numbers_fit ns (λ i. fit (suc i)))
 
-pub same_some : {X : Type 0} {x y : X} → Some x ≡ Some y → x ≡ y
-same_some e = cc e
+abbrev AntsFit : Inference → Type 0
+AntsFit s = AllByRecursion (λ n. n < 2 ^ 64) s.ants
 
-pub bodies_at : (lits : List (List Literal)) (ants : List (List ℕ)) (i : ℕ) (b : Body) → slice_get (bodies lits ants) i ≡ Some b
-    → (slice_get lits i ≡ Some b.lits) × (slice_get ants i ≡ Some b.ants)
-bodies_at [] ants i b h = absurd (cc h)
-bodies_at (x ∷ lits) [] i b h = absurd (cc h)
-bodies_at (x ∷ lits) (y ∷ ants) zero b h =
-    let is : record { lits = x; ants = y } ≡ b = cc h in
-    (ap (λ (c : Body). Some c.lits) is, ap (λ (c : Body). Some c.ants) is)
-bodies_at (x ∷ lits) (y ∷ ants) (suc i) b h = bodies_at lits ants i b h
-
--- ---- bodies with their numbers
-
-pub numbered_within : (ns : List ℕ) (bodies : List Body) (i : ℕ) → i < length (numbered ns bodies) → i < length bodies
-numbered_within [] bodies i less = absurd (omega arith)
-numbered_within (n ∷ ns) [] i less = absurd (omega arith)
-numbered_within (n ∷ ns) (b ∷ bodies) zero less = omega arith
-numbered_within (n ∷ ns) (b ∷ bodies) (suc i) less = let m = numbered_within ns bodies i (omega arith) in omega arith
-
-pub numbered_at : (ns : List ℕ) (bodies : List Body) (i : ℕ) (s : Inference) → IsAt (numbered ns bodies) i s
-    → slice_get bodies i ≡ Some (body s)
-numbered_at [] bodies i s h = absurd (cc h)
-numbered_at (n ∷ ns) [] i s h = absurd (cc h)
-numbered_at (n ∷ ns) (b ∷ bodies) zero s h = let e : record { number = n; lits = b.lits; ants = b.ants } ≡ s = cc h in
-    ap (λ (x : Inference). Some (body x)) e
-numbered_at (n ∷ ns) (b ∷ bodies) (suc i) s h = numbered_at ns bodies i s h
+pub flat_pushed : {h : Header} {sets : List Block} {ns : List ℕ} {lits : List (List Literal)} {ants : List (List ℕ)} {o : Outcome}
+    (s : Inference) → IsFlat h sets ns lits ants o → AreStepNumbers (ns ++ s.number ∷ []) → IsInference s → AntsFit s
+    → IsFlat h sets (ns ++ s.number ∷ []) (lits ++ s.lits ∷ []) (ants ++ s.ants ∷ []) o
+flat_pushed {ns = ns} {lits = lits} {ants = ants} s f are is fit =
+    let steps = numbered ns lits ants in
+    let more = numbered_more ns lits ants s f.lits_counted f.ants_counted in
+    let same : numbers (numbered (ns ++ s.number ∷ []) (lits ++ s.lits ∷ []) (ants ++ s.ants ∷ [])) ≡ ns ++ s.number ∷ [] =
+    ap numbers more ∙ map-append (λ (x : Inference). x.number) steps (s ∷ []) ∙ ap (λ (ms : List ℕ). ms ++ s.number ∷ []) (sym f.same) in
+    let before = f.well_formed in
+    record {
+      well_formed = record {
+        grammatical = record {
+          variables = before.grammatical.variables;
+          inferences = rw more (AllByRecursion-push IsInference steps s before.grammatical.inferences is);
+          distinct = rw same are.distinct;
+        };
+        fits = record {
+          vars = before.fits.vars;
+          steps = before.fits.steps;
+          numbers_fit = rw same are.fit;
+          ants_fit = rw more (AllByRecursion-push AntsFit steps s before.fits.ants_fit fit);
+          count = omega (
+            arith,
+            are.count,
+            ap length same,
+            length-map
+                (numbered (ns ++ s.number ∷ []) (lits ++ s.lits ∷ []) (ants ++ s.ants ∷ [])) (λ (x : Inference). x.number),
+          );
+        };
+      };
+      same = sym same;
+      lits_counted = omega (arith, f.lits_counted, length-append lits (s.lits ∷ []), length-append ns (s.number ∷ []));
+      ants_counted = omega (arith, f.ants_counted, length-append ants (s.ants ∷ []), length-append ns (s.number ∷ []));
+    }

@@ -1,5 +1,4 @@
 mod WorkedRows
-pub mod Numbers
 pub mod Positions
 pub mod AcceptedTokens
 pub mod SpelledIsRead
@@ -8,11 +7,7 @@ pub mod ReadIsSpelled
 pub mod Answered
 pub mod WrittenParts
 pub mod Flats
-pub mod ListedNumbers
-pub mod CountedNumbers
-pub mod TraceParts
 pub mod RowsReadTheTrace
 pub mod RowsReadTheItem
-pub mod GrowingSteps
 pub mod StopsBehind
 pub mod ItemStops

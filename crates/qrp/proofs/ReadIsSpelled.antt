@@ -11,7 +11,7 @@ use Rattle.qbf_text.specs.declared.token.Token.{Token}
 use Rattle.qbf_text.specs.declared.token.Token.TheVariants as token
 use Rattle.qbf_text.specs.declared.token.Word.TheVariants as word
 use Rattle.qbf_text.specs.Lined.{Lined, unlined, EndsOnce}
-use Rattle.qbf_text.proofs.DistinctNumbers.{push_distinct}
+use Rattle.qbf_core.proofs.DistinctNumbers.{push_distinct}
 use Rattle.qbf_text.proofs.AcceptedTokens.{Answers, each_is_answered, flat_map-push}
 use Rattle.qrp.specs.declared.item.Header.{Header}
 use Rattle.qrp.specs.declared.item.Outcome.{Outcome}
@@ -20,7 +20,8 @@ use Rattle.qrp.specs.Derivations.{Derivation}
 use Rattle.qrp.specs.Grammar.{number, literal, letter, header, set, step, result_word, lists}
 use Rattle.qrp.specs.Faults.{AreLists, Spells, Reads}
 use Rattle.qrp.specs.Reading.{Place, AtP, AtQrp, AtVars, AtSteps, Between, InSet, InLits, InAnts, AtResult, Row, Goes, Closes, Ends}
-use Rattle.qrp.specs.Reading.{Fails, row, is_used, read}
+use Rattle.qrp.specs.Reading.{Fails, row, read}
+use Rattle.step_index.specs.Numbers.{is_used}
 use Rattle.qrp.proofs.AcceptedTokens.{end_row}
 use Rattle.qrp.proofs.SpelledIsRead.{read_once}
 

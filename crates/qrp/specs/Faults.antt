@@ -12,7 +12,8 @@ use Rattle.qrp.specs.declared.item.Item.{Item}
 use Rattle.qrp.specs.Inferences.{Inference, IsLiteral, IsNumber, numbers}
 use Rattle.qrp.specs.Derivations.{Derivation, AreGrammatical, items_of_lists}
 use Rattle.qrp.specs.Grammar.{number, literal, letter, lists, IsTrace}
-use Rattle.qrp.specs.Reading.{Fault, Place, AtP, AtQrp, AtVars, AtSteps, Between, InSet, InLits, InAnts, AtResult, is_used, row, Fails}
+use Rattle.qrp.specs.Reading.{Fault, Place, AtP, AtQrp, AtVars, AtSteps, Between, InSet, InLits, InAnts, AtResult, row, Fails}
+use Rattle.step_index.specs.Numbers.{is_used}
 
 -- whole sets and whole steps with these numbers, before the tokens of a list that is begun
 pub record AreLists (ts begun : List Token) (ns : List ℕ) : Type 0 where

@@ -1,34 +1,23 @@
--- Steps that lie in flat buffers.
+-- Steps whose literals and antecedents lie in flat buffers.
 use Rattle.std.specs.Prelude.{◌≡◌, ℕ, List, [], ◌∷◌, length}
 use Rattle.qbf_core.specs.Blocks.{Block}
 use Rattle.qbf_core.specs.Literal.{Literal}
 use Rattle.qrp.specs.declared.item.Header.{Header}
 use Rattle.qrp.specs.declared.item.Outcome.{Outcome}
-use Rattle.qrp.specs.Inferences.{Inference}
-use Rattle.qrp.specs.Kept.{IsKept}
+use Rattle.qrp.specs.Derivations.{IsWellFormed}
+use Rattle.qrp.specs.Inferences.{Inference, numbers}
 
--- what a step has beside its number
-pub record Body : Type 0 where
-  pub lits : List Literal
-  pub ants : List ℕ
+-- the steps of these numbers, literals and antecedents
+abbrev pub numbered : List ℕ → List (List Literal) → List (List ℕ) → List Inference
+numbered [] lits ants = []
+numbered (n ∷ ns) [] ants = []
+numbered (n ∷ ns) (l ∷ lits) [] = []
+numbered (n ∷ ns) (l ∷ lits) (a ∷ ants) = record { number = n; lits = l; ants = a } ∷ numbered ns lits ants
 
--- the body of a step
-abbrev pub body : Inference → Body
-body s = record { lits = s.lits; ants = s.ants }
-
--- steps of these numbers and bodies
-abbrev pub numbered : List ℕ → List Body → List Inference
-numbered [] bs = []
-numbered (n ∷ ns) [] = []
-numbered (n ∷ ns) (b ∷ bs) = record { number = n; lits = b.lits; ants = b.ants } ∷ numbered ns bs
-
--- bodies of these literals and antecedents
-abbrev pub bodies : List (List Literal) → List (List ℕ) → List Body
-bodies [] ants = []
-bodies (l ∷ lits) [] = []
-bodies (l ∷ lits) (a ∷ ants) = record { lits = l; ants = a } ∷ bodies lits ants
-
--- the index has the number of each body, and the whole is well formed
-pub record IsFlat (header : Header) (sets : List Block) (index : List ℕ) (flat : List Body) (result : Outcome) : Type 0 where
-  pub kept : IsKept (record { header = header; sets = sets; steps = numbered index flat; result = result }) index
-  pub counted : length flat ≡ length index
+-- each step has its number, its literals and its antecedents, and the whole is well formed
+pub record IsFlat (header : Header) (sets : List Block) (index : List ℕ) (lits : List (List Literal)) (ants : List (List ℕ))
+    (result : Outcome) : Type 0 where
+  pub well_formed : IsWellFormed (record { header = header; sets = sets; steps = numbered index lits ants; result = result })
+  pub same : index ≡ numbers (numbered index lits ants)
+  pub lits_counted : length lits ≡ length index
+  pub ants_counted : length ants ≡ length index

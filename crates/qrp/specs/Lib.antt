@@ -1,7 +1,5 @@
 pub mod Inferences
 pub mod Derivations
-pub mod Kept
-pub mod Listed
 pub mod Grammar
 pub mod Reading
 pub mod Faults

@@ -1,7 +1,5 @@
 -- A trace that is made while its tokens are taken: the rows of its places, with what is made of them.
-use Rattle.std.specs.Prelude.{◌≡◌, ◌<◌, ◌^◌, [], ◌∷◌, ◌++◌, length, ⊤}
-use Rattle.std.specs.List.{AllByRecursion}
-use Rattle.qbf_core.specs.Blocks.{IsVariable}
+use Rattle.std.specs.Prelude.{[], ◌∷◌, ◌++◌, ⊤}
 use Rattle.qbf_core.specs.Lists.{Growing}
 use Rattle.qbf_text.specs.declared.token.Token.{Token}
 use Rattle.qbf_text.specs.Rows as rows
@@ -16,8 +14,7 @@ use Rattle.qrp.specs.declared.item.Outcome.TheVariants.{Sat}
 use Rattle.qrp.specs.declared.places.At.{At}
 use Rattle.qrp.specs.declared.places.At.TheVariants as at
 use Rattle.qrp.specs.Derivations.{Derivation}
-use Rattle.qrp.specs.Flat.{bodies, numbered}
-use Rattle.qrp.specs.Inferences.{IsInference}
+use Rattle.qrp.specs.Flat.{numbered, IsFlat}
 use Rattle.qrp.specs.Places.{IsBegun, place}
 use Rattle.qrp.specs.Reading.{Fault, Place, Row, Goes, Closes, Ends, Fails, row}
 
@@ -76,7 +73,7 @@ abbrev pub made : Parts → Derivation
 made p = record {
   header = p.header;
   sets = p.sets.items;
-  steps = numbered p.begun.index (bodies p.begun.lits.whole p.begun.ants.whole);
+  steps = numbered p.begun.index p.begun.lits.whole p.begun.ants.whole;
   result = Sat;
 }
 
@@ -88,14 +85,8 @@ stands p at.Over = Over
 stands p here = Making (made p) (place p.begun here)
 
 -- what holds of what is whole
-pub record IsMade (p : Parts) : Type 0 where
-  pub vars_fit : p.header.vars < 2 ^ 64
-  pub steps_fit : p.header.steps < 2 ^ 64
-  pub variables : AllByRecursion (λ s. AllByRecursion IsVariable s.vars) p.sets.items
-  pub inferences : AllByRecursion IsInference (made p).steps
-  pub ants_fit : AllByRecursion (λ s. AllByRecursion (λ n. n < 2 ^ 64) s.ants) (made p).steps
-  pub lits_counted : length p.begun.lits.whole ≡ length p.begun.index
-  pub ants_counted : length p.begun.ants.whole ≡ length p.begun.index
+abbrev pub IsMade : Parts → Type 0
+IsMade p = IsFlat p.header p.sets.items p.begun.index p.begun.lits.whole p.begun.ants.whole Sat
 
 -- what holds at each place
 abbrev pub IsSound : At → Parts → Type 0

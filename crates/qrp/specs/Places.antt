@@ -18,7 +18,8 @@ use Rattle.qrp.specs.declared.places.Part.{Part}
 use Rattle.qrp.specs.declared.places.Part.TheVariants as part
 use Rattle.qrp.specs.Inferences.{IsLiteral, IsNumber}
 use Rattle.qrp.specs.Reading.{Place, Row, Goes, Closes, Ends, Fails, AtP, AtQrp, AtVars, AtSteps, Between, InSet, InLits, InAnts, AtResult}
-use Rattle.qrp.specs.Reading.{is_used, row}
+use Rattle.qrp.specs.Reading.{row}
+use Rattle.step_index.specs.Numbers.{is_used}
 
 -- the place of a token, where one is taken
 abbrev pub place : Begun → At → Place

@@ -1,8 +1,7 @@
 //! Traces whose steps lie in flat buffers.
 
-ghost use Rattle.std.specs.Prelude.{◌≡◌, ◌≢◌, ◌<◌, ◌≤◌, ◌-◌, ◌^◌, false, Some, Err, List, [], ◌∷◌};
-ghost use Rattle.std.specs.Prelude.{◌++◌, length, map, slice_get, take, IfSome, IfOk, OnOk, OnErr};
-ghost use Rattle.std.specs.Prelude.{IfErr};
+ghost use Rattle.std.specs.Prelude.{◌≡◌, ◌≢◌, ◌<◌, ◌≤◌, ◌-◌, ◌^◌, false, Some, Err, [], ◌∷◌, ◌++◌};
+ghost use Rattle.std.specs.Prelude.{length, slice_get, take, IfSome, IfOk, IfErr, OnOk, OnErr};
 ghost use Rattle.std.specs.List.{AllByRecursion};
 ghost use Rattle.qbf_core.specs.Blocks.{IsVariable};
 ghost use Rattle.qbf_text.specs.Stopping.{IfKnown};
@@ -11,20 +10,19 @@ ghost use Rattle.qbf_text.specs.declared.token.Comments.TheVariants.{Qrp};
 ghost use Rattle.qrp.specs.declared.fault.TraceFault.TheVariants.{P1, P9};
 ghost use Rattle.qrp.specs.Answers.{reads_bytes, Answers, Gives, StopsBehindResult};
 ghost use Rattle.qrp.specs.Derivations.{IsWellFormed};
-ghost use Rattle.qrp.specs.Flat.{Body};
 ghost use Rattle.qrp.specs.Inferences.{IsLiteral, IsNumber, numbers};
 ghost use Rattle.qrp.specs.Making.{made, IsMade};
-ghost use Rattle.qrp.specs.Reading.{is_used};
+ghost use Rattle.step_index.specs.Numbers.{is_used};
 
 use crate::fault::{Fault, fault_of};
 use crate::grammar::{Parts, TraceGrammar};
-use crate::index::StepIndex;
 use crate::item::{Header, Outcome, QuantSet};
 use crate::steps::Steps;
 use qbf_core::{Lists, Lit, Var};
 use qbf_text::{Comments, Scanner, Source, read_by};
 use std::alloc::{AllocError, Global};
 use std::marker::Model;
+use step_index::StepIndex;
 
 /// The literals and the antecedents of steps, each in one buffer.
 #[derive(Drop)]
@@ -33,21 +31,10 @@ struct FlatSteps {
     ants: Lists<u64>,
 }
 
-impl Model for FlatSteps {
-    ghost use Rattle.std.specs.Prelude.{◌≡◌, List, length};
-    ghost use Rattle.qrp.specs.Flat.{Body, bodies};
-
-    ghost Value = { List Body };
-
-    ghost view = { λ s. bodies s.lits s.ants };
-
-    ghost invariant = { λ s. length s.lits ≡ length s.ants };
-}
-
 impl FlatSteps {
     /// No steps. It takes no memory.
     fn new(alloc: Global) -> FlatSteps
-        ensures { result ≡ [] }
+        ensures { result ≡ record { lits = []; ants = [] } }
     {
         FlatSteps {
             lits: Lists::new(alloc),
@@ -58,8 +45,10 @@ impl FlatSteps {
     /// Adds a step at the end. An `Err` means that an allocation failed, and changes nothing.
     #[inline(always)]
     fn push(&mut self, lits: &[Lit], ants: &[u64]) -> Result<(), AllocError>
-        ensures pushed { OnOk result
-            (self.new ≡ self.old ++ record { lits = lits.now; ants = ants.now } ∷ []) }
+        ensures pushed { OnOk result (self.new ≡ record {
+          lits = self.old.lits ++ lits.now ∷ [];
+          ants = self.old.ants ++ ants.now ∷ [];
+        }) }
         ensures err { OnErr result (self.new ≡ self.old) }
     {
         self.lits.push(lits)?;
@@ -74,7 +63,10 @@ impl FlatSteps {
 
     /// Takes the last step away, if there is one.
     fn pop(&mut self)
-        ensures { self.new ≡ take (length self.old - 1) self.old }
+        ensures { self.new ≡ record {
+          lits = take (length self.old.lits - 1) self.old.lits;
+          ants = take (length self.old.ants - 1) self.old.ants;
+        } }
     {
         self.lits.pop();
         self.ants.pop();
@@ -82,16 +74,16 @@ impl FlatSteps {
 
     /// The literals of the step at place `i`.
     fn lits(&self, i: usize) -> &[Lit]
-        requires { i < length self.now }
-        ensures { (b : Body) → slice_get self.now i ≡ Some b → result.now ≡ b.lits }
+        requires { i < length self.now.lits }
+        ensures { slice_get self.now.lits i ≡ Some result.now }
     {
         self.lits.get(i)
     }
 
     /// The antecedents of the step at place `i`.
     fn ants(&self, i: usize) -> &[u64]
-        requires { i < length self.now }
-        ensures { (b : Body) → slice_get self.now i ≡ Some b → result.now ≡ b.ants }
+        requires { i < length self.now.ants }
+        ensures { slice_get self.now.ants i ≡ Some result.now }
     {
         self.ants.get(i)
     }
@@ -118,11 +110,12 @@ impl Model for FlatTrace {
     ghost view = { λ t. record {
       header = t.header;
       sets = t.sets.items;
-      steps = numbered t.index t.steps;
+      steps = numbered t.index t.steps.lits t.steps.ants;
       result = t.result;
     } };
 
-    ghost invariant = { λ t. IsFlat t.header t.sets.items t.index t.steps t.result };
+    ghost invariant = { λ t.
+        IsFlat t.header t.sets.items t.index t.steps.lits t.steps.ants t.result };
 }
 
 /// Nothing is done here: the proof reads each variable, and so knows its range.
@@ -162,9 +155,6 @@ impl FlatTrace {
         requires { IsMade parts }
         ensures { result ≡ record (made parts) { result = outcome } }
     {
-        // The proof reads here that the numbers are distinct, and that they and their count have 64
-        // bits.
-        let _count = parts.begun.index.len();
         FlatTrace {
             header: parts.header,
             sets: parts.sets,
@@ -234,11 +224,7 @@ impl FlatTrace {
         know_literals(lits);
         self.steps.push(lits, ants)?;
         match self.index.push(number) {
-            Ok(()) => {
-                // The proof reads here that the count has 64 bits.
-                let _count = self.index.len();
-                Ok(())
-            }
+            Ok(()) => Ok(()),
             Err(refused) => {
                 self.steps.pop();
                 Err(refused)

@@ -5,7 +5,8 @@ ghost use Rattle.qbf_text.specs.Taking.{Takes};
 ghost use Rattle.qrp.specs.Making.{Making, Whole, trace_row, row_with, IsWhole, closed, made};
 ghost use Rattle.qrp.specs.Making.{stands, IsMade, IsSound};
 ghost use Rattle.qrp.specs.Places.{row_of, IsComplete};
-ghost use Rattle.qrp.specs.Reading.{AtP, Between, is_used, nothing};
+ghost use Rattle.qrp.specs.Reading.{AtP, Between, nothing};
+ghost use Rattle.step_index.specs.Numbers.{is_used, AreStepNumbers};
 ghost use Rattle.qbf_text.specs.Rows.{Goes};
 
 use crate::fault::TraceFault;
@@ -64,11 +65,12 @@ fn close_set(
 #[inline(always)]
 fn close_step(begun: &mut Begun, number: u64) -> Result<(), AllocError>
     requires { is_used number begun.old.index ≡ false }
-    ensures { OnOk result (begun.new ≡ record begun.old {
+    ensures closed { OnOk result (begun.new ≡ record begun.old {
       lits = closed begun.old.lits;
       ants = closed begun.old.ants;
       index = begun.old.index ++ number ∷ [];
     }) }
+    ensures sound { OnOk result (AreStepNumbers begun.new.index) }
 {
     begun.lits.close()?;
     begun.ants.close()?;

@@ -10,13 +10,13 @@ ghost use Rattle.qrp.specs.Places.{item_of, numbers_behind, IsComplete};
 ghost use Rattle.qrp.specs.Reading.{AtP};
 
 use crate::fault::TraceFault;
-use crate::index::StepIndex;
 use crate::item::{Item, QuantSet, Step};
 use crate::places::{At, Begun, Move, Part, take_at};
 use qbf_text::{Grammar, Stop, Taken, Token};
 use std::alloc::{AllocError, Global};
 use std::marker::Model;
 use std::mem;
+use step_index::StepIndex;
 
 /// Takes a step out of the lists that are begun. Its own have just their room.
 fn take_step(begun: &mut Begun, alloc: Global, number: u64) -> Result<Step, AllocError>

@@ -5,11 +5,9 @@
 mod fault;
 mod flat;
 mod grammar;
-mod index;
 mod item;
 mod items;
 mod laws;
-mod listed;
 mod places;
 mod reader;
 mod steps;
@@ -19,10 +17,10 @@ mod writing;
 
 pub use fault::TraceFault;
 pub use flat::{FlatTrace, read_flat};
-pub use index::StepIndex;
 pub use item::{Header, Item, Outcome, QuantSet, Step};
 pub use laws::trace_laws;
 pub use reader::TraceReader;
+pub use step_index::StepIndex;
 pub use steps::Steps;
 pub use trace::{Trace, read_trace};
 pub use writing::{write_steps_at, write_trace};

@@ -9,7 +9,6 @@ ghost use Rattle.qrp.specs.Places.{row_at, step_row, Moves, Stays, IsAt, IsBegun
 ghost use Rattle.qrp.specs.Reading.{has_room};
 
 use crate::fault::TraceFault;
-use crate::index::StepIndex;
 use crate::item::{Header, Outcome};
 use crate::tokens::{
     Opening, antecedent, header_fault, header_number, is_p, is_qrp, literal, member, opened,
@@ -18,6 +17,7 @@ use crate::tokens::{
 use qbf_core::{GrowingLists, Lit, Quantifier, Var};
 use qbf_text::{Stop, Token};
 use std::alloc::Global;
+use step_index::StepIndex;
 
 /// Where the next token stands.
 #[derive(Clone, Copy)]

@@ -15,12 +15,12 @@ ghost use Rattle.qrp.specs.Parts.{known_items};
 ghost use Rattle.qrp.specs.Reading.{Place, items};
 
 use crate::fault::{Fault, TraceFault, fault_of};
-use crate::index::StepIndex;
 use crate::item::{Item, Outcome};
 use crate::items::ItemGrammar;
 use qbf_text::{Comments, Scanner, Source, read_by};
 use std::alloc::Global;
 use std::marker::Model;
+use step_index::StepIndex;
 
 /// How far a reader is: before the header, between lists, or done for good.
 #[derive(Clone, Copy)]

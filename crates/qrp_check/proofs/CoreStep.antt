@@ -9,9 +9,10 @@ use Rattle.qbf_core.specs.Blocks.{Block, AreBound, IsBound}
 use Rattle.qbf_core.specs.Qbf.{Qbf}
 use Rattle.qbf_core.specs.Rules.{Side, IsClean, IsTautology}
 use Rattle.qbf_core.specs.Sets.{HasMembersOf, IsOrdered}
-use Rattle.qbf_core.proofs.Bound.{in_all, bound_each, apart_of}
+use Rattle.qbf_core.proofs.Bound.{in_all, bound_each}
 use Rattle.qrp.specs.Inferences.{Inference, IsAt, HasFewAntecedents, numbers}
-use Rattle.qrp.proofs.Positions.{one_place, number_at}
+use Rattle.qbf_core.proofs.DistinctNumbers.{one_place}
+use Rattle.qrp.proofs.Positions.{number_at}
 use Rattle.qrp_rules.specs.declared.fault.RuleFault.{RuleFault}
 use Rattle.qrp_rules.specs.declared.fault.RuleFault.TheVariants.{S1, S2, S3}
 use Rattle.qrp_check.specs.Conditions.{IsNumberOf, lits_of, step_conditions}
@@ -82,7 +83,7 @@ earlier_set blocks steps kept place index number set are core ants distinct less
     let own : IsNumberOf (take place steps) number = (below, in_taken steps place index below less here, is) in
     let s = named (take place steps) number own in
     let w = in_take steps place s.0 s.1 in
-    let same : w.0 ≡ index = one_place (numbers steps) (apart_of (numbers steps) distinct) w.0 index number
+    let same : w.0 ≡ index = one_place (numbers steps) distinct w.0 index number
     (number_at steps w.0 s.0 w.2 ∙ ap (λ (k : ℕ). Some k) s.2) (number_at steps index below here ∙ ap (λ (k : ℕ). Some k) is) in
     let at : IsAt steps index s.0 = subst (λ (k : ℕ). IsAt steps k s.0) same w.2 in
     let k = are.sets index place s.0 less (omega arith) core (needed steps place index number core ants less below here is) at in

@@ -11,8 +11,8 @@ use Rattle.std.proofs.lemmas.List.Kept.{AllPairs-from_increasing}
 use Rattle.std.proofs.lemmas.Option.{slice_get_cases, slice_get-get_or}
 use Rattle.qbf_core.specs.Members.{◌∈◌}
 use Rattle.qrp.specs.Inferences.{Inference, IsAt, numbers}
-use Rattle.qrp.specs.Reading.{is_used}
-use Rattle.qrp.proofs.Numbers.{HasOwnNumbers}
+use Rattle.step_index.specs.Numbers.{is_used}
+use Rattle.qrp.proofs.Positions.{HasOwnNumbers}
 use Rattle.qrp_check.specs.Core.{ListsCore}
 use Rattle.qrp.specs.Derivations.{steps_at}
 use Rattle.qrp_check.specs.declared.fault.CheckFault.{CheckFault}

@@ -6,7 +6,7 @@ use Rattle.std.proofs.lemmas.Option.{slice_get_cases, slice_get_within}
 use Rattle.qbf_core.specs.Members.{◌∈◌}
 use Rattle.qrp.specs.Inferences.{Inference, IsInference, numbers}
 use Rattle.qrp.specs.Derivations.{Derivation, IsWellFormed, steps_at}
-use Rattle.qrp.proofs.Numbers.{HasOwnNumbers, own_numbers}
+use Rattle.qrp.proofs.Positions.{HasOwnNumbers, own_numbers}
 use Rattle.qrp.proofs.CanonicalTextIsRead.{text_is_read}
 use Rattle.qrp_check.specs.Core.{ListsCore}
 use Rattle.qrp_check.specs.Laws.{TrimmedTextProves}

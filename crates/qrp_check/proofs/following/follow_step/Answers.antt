@@ -1,4 +1,4 @@
-use Rattle.std.proofs.Common.{ℕ, ◌+◌, List, [], sym, subst, arith, below_more, take}
+use Rattle.std.proofs.Common.{ℕ, ◌+◌, List, [], sym, subst, below_more, take}
 use Rattle.qbf_core.specs.Literal.{Literal}
 use Rattle.qbf_core.specs.Qbf.{Qbf}
 use Rattle.qrp.specs.Inferences.{Inference}

@@ -1,10 +1,9 @@
-use Rattle.std.proofs.Common.{◌≡◌, ◌++◌, ◌∷◌, [], ℕ, false, List, ap, sym, subst, ◌∙◌, length, take, get_or, arith}
+use Rattle.std.proofs.Common.{◌≡◌, ◌++◌, ◌∷◌, [], ℕ, false, List, ap, sym, subst, ◌∙◌, arith}
 use Rattle.std.proofs.lemmas.List.{take_all}
 use Rattle.qrp.specs.Derivations.{Derivation, steps_at}
 use Rattle.qrp.specs.Inferences.{Inference, IsAt, IsInference, numbers}
-use Rattle.qrp.specs.Reading.{is_used}
-use Rattle.qrp.proofs.Numbers.{own_numbers}
-use Rattle.qrp.proofs.WrittenParts.{length_at}
+use Rattle.step_index.specs.Numbers.{is_used}
+use Rattle.qrp.proofs.Positions.{own_numbers}
 use Rattle.qrp_check.proofs.StepsAt.{at_holds, fresh_at, next_at}
 use Rattle.qrp_check.proofs.trimming.push_steps.Goals as goal
 

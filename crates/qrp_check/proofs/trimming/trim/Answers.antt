@@ -1,4 +1,4 @@
-use Rattle.std.proofs.Common.{◌≡◌, ◌∙◌, ℕ, List, sym, ap, refl, length}
+use Rattle.std.proofs.Common.{◌≡◌, ◌∙◌, ℕ, List, sym, ap, refl}
 use Rattle.qrp.specs.Derivations.{Derivation, steps_at}
 use Rattle.qrp.proofs.WrittenParts.{length_at}
 use Rattle.qrp_check.proofs.trimming.trim.Goals as goal

@@ -1,10 +1,9 @@
-use Rattle.qrp.specs.Flat.{body}
-use Rattle.qrp.proofs.Flats.{numbered_within, numbered_at}
+use Rattle.std.proofs.Common.{sym, ◌∙◌}
+use Rattle.qrp.proofs.Flats.{numbered_at}
 use Rattle.qrp.proofs.flat.FlatTraceSteps.lits.Goals as goal
 
-pub lits-requires : goal.lits-requires
-lits-requires c = numbered_within c.self.inside.index c.self.inside.steps c.args.i (rw (← c.self.view_is) at c.requires)
-
 pub returns : goal.returns
-returns c = λ step here. c.lits.ensures (body step)
-    (numbered_at c.self.inside.index c.self.inside.steps c.args.i step (rw (← c.self.view_is) at here))
+returns c = λ step here.
+    let same = sym c.lits.ensures ∙ (numbered_at c.self.inside.index c.self.inside.steps.lits c.self.inside.steps.ants c.args.i step
+    (rw (← c.self.view_is) at here)).0 in
+    cc same

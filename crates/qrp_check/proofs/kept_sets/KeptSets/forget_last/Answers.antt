@@ -1,4 +1,4 @@
-use Rattle.std.proofs.Common.{◌≡◌, ◌-◌, ◌∙◌, ◌++◌, ◌∷◌, ℕ, List, suc, length, sym, ap, subst, arith, slice_get, Some, []}
+use Rattle.std.proofs.Common.{◌≡◌, ◌-◌, ◌∙◌, List, suc, length, sym, ap, subst, arith, Some}
 use Rattle.std.specs.Prelude.{OnOk}
 use Rattle.qbf_core.specs.Literal.{Literal}
 use Rattle.qrp_check.specs.Kept.{forgot}

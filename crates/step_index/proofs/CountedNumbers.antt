@@ -1,0 +1,118 @@
+-- Numbers that are counted from a first one, with others behind them.
+use Rattle.std.proofs.Common.{rules, ◌≡◌, ◌<◌, ◌≤◌, ◌+◌, ◌-◌, ◌^◌, ◌⊎◌, ℕ, zero, suc, true, false, List, [], ◌∷◌, ◌++◌, length}
+use Rattle.std.proofs.Common.{slice_get, nat_eq, Option, None, Some, IfSome, IfNone, refl, sym, ap, ◌∙◌, inl, inr, arith}
+use Rattle.std.specs.Option.{is_some}
+use Rattle.std.proofs.lemmas.Bool.{cases_lt, eq-eqb}
+use Rattle.std.proofs.lemmas.Bool.Decides.{eqb_tells}
+use Rattle.std.proofs.lemmas.List.{append-nil, length-append}
+use Rattle.std.proofs.lemmas.Map.Keys.{any_passes_from_place}
+use Rattle.qbf_core.proofs.PrefixLaws.{AllByRecursion-push}
+use Rattle.step_index.specs.Numbers.{is_used, count_from, AreStepNumbers}
+use Rattle.qbf_core.proofs.DistinctNumbers.{push_distinct}
+
+pub count_length : (f n : ℕ) (ks : List ℕ) → length (count_from f n ++ ks) ≡ n + length ks
+count_length f zero ks = omega arith
+count_length f (suc n) ks = (let rest = count_length (suc f) n ks in omega (arith, rest))
+
+count_more : (f n : ℕ) → count_from f (n + 1) ≡ count_from f n ++ (f + n) ∷ []
+count_more f zero = (let e : f ≡ f + 0 = omega arith in ap (λ (m : ℕ). m ∷ []) e)
+count_more f (suc n) =
+    let shift : suc n + 1 ≡ suc (n + 1) = omega arith in
+    let e : suc f + n ≡ f + suc n = omega arith in
+    ap (count_from f) shift ∙ ap (λ (ns : List ℕ). f ∷ ns) (count_more (suc f) n ∙ ap (λ (m : ℕ). count_from (suc f) n ++ m ∷ []) e)
+
+-- ---- what stands at a place
+
+pub front_at : (f n : ℕ) (ks : List ℕ) (i : ℕ) → i < n → slice_get (count_from f n ++ ks) i ≡ Some (f + i)
+front_at f zero ks i less = absurd (omega (arith, less))
+front_at f (suc n) ks zero less = (let e : f ≡ f + 0 = omega arith in ap (λ (m : ℕ). Some m) e)
+front_at f (suc n) ks (suc i) less =
+    let e : suc f + i ≡ f + suc i = omega arith in
+    front_at (suc f) n ks i (omega (arith, less)) ∙ ap (λ (m : ℕ). Some m) e
+
+pub behind_at : (f n : ℕ) (ks : List ℕ) (i : ℕ) → slice_get (count_from f n ++ ks) (n + i) ≡ slice_get ks i
+behind_at f zero ks i = (let e : 0 + i ≡ i = omega arith in ap (slice_get ks) e)
+behind_at f (suc n) ks i =
+    let e : suc n + i ≡ suc (n + i) = omega arith in
+    ap (slice_get (count_from f (suc n) ++ ks)) e ∙ behind_at (suc f) n ks i
+
+pub late_at : (f n : ℕ) (ks : List ℕ) (i : ℕ) → n ≤ i → slice_get (count_from f n ++ ks) i ≡ slice_get ks (i - n)
+late_at f n ks i late =
+    let e : i ≡ n + (i - n) = omega (arith, late) in
+    ap (slice_get (count_from f n ++ ks)) e ∙ behind_at f n ks (i - n)
+
+-- ---- whether a number is there
+
+-- no counted number is m
+abbrev pub NotCounted : ℕ → ℕ → ℕ → Type 0
+NotCounted f n m = (i : ℕ) → i < n → f + i ≡ m → ⊥
+
+used_at : (ks : List ℕ) (i m : ℕ) → slice_get ks i ≡ Some m → is_used m ks ≡ true
+used_at ks i m h = any_passes_from_place (nat_eq m) ks i m h (eq-eqb m m refl)
+
+unused_front : (f n : ℕ) (ks : List ℕ) (m : ℕ) → NotCounted f n m → is_used m (count_from f n ++ ks) ≡ is_used m ks
+unused_front f zero ks m out = refl
+unused_front f (suc n) ks m out = elim (eqb_tells m f) [
+  | inl (t, is) ↦ absurd (out 0 (omega arith) (let e : m ≡ f = is in omega (arith, e)))
+  | inr (t, ne) ↦ rw t (unused_front (suc f) n ks m (λ i less e. out (suc i) (omega (arith, less)) (omega (arith, e))))
+]
+
+pub found_used : (f n : ℕ) (ks : List ℕ) (m : ℕ) (o : Option ℕ) → IfSome o (λ i. (i < n) × (f + i ≡ m)) → is_some o ≡ true
+    → is_used m (count_from f n ++ ks) ≡ true
+found_used f n ks m None h t = cc t
+found_used f n ks m (Some i) h t = used_at (count_from f n ++ ks) i m (front_at f n ks i h.0 ∙ ap (λ (k : ℕ). Some k) h.1)
+
+pub unfound_used : (f n : ℕ) (ks : List ℕ) (m : ℕ) (o : Option ℕ) → IfNone o (NotCounted f n m) → is_some o ≡ false
+    → is_used m (count_from f n ++ ks) ≡ is_used m ks
+unfound_used f n ks m None out t = unused_front f n ks m out
+unfound_used f n ks m (Some i) out t = cc t
+
+-- a number that is not counted and not listed has no place
+pub none_there : (f n : ℕ) (ks : List ℕ) (m : ℕ) → NotCounted f n m → ((i : ℕ) → slice_get ks i ≡ Some m → ⊥)
+    → (i : ℕ) → slice_get (count_from f n ++ ks) i ≡ Some m → ⊥
+none_there f n ks m out none i here = elim (cases_lt i n) [
+  | inl less ↦ out i less (let e : Some (f + i) ≡ Some m = sym (front_at f n ks i less) ∙ here in cc e)
+  | inr late ↦ none (i - n) (sym (late_at f n ks i late) ∙ here)
+]
+
+-- a listed number stands behind those that are counted
+pub listed_at : (f n : ℕ) (ks : List ℕ) (m i : ℕ) → slice_get ks i ≡ Some m → slice_get (count_from f n ++ ks) (n + i) ≡ Some m
+listed_at f n ks m i e = behind_at f n ks i ∙ e
+
+unused_none : (ks : List ℕ) (m : ℕ) → ((i : ℕ) → slice_get ks i ≡ Some m → ⊥) → is_used m ks ≡ false
+unused_none [] m none = refl
+unused_none (k ∷ ks) m none =
+    let first = none 0 in
+    let rest = unused_none ks m (λ i. none (suc i)) in
+    search rules
+
+pub unused_of_none : (ks : List ℕ) (m : ℕ) → length ks ≡ 0 → is_used m ks ≡ false
+unused_of_none [] m none = refl
+unused_of_none (k ∷ ks) m none = absurd (omega (arith, none))
+
+-- what a look-up finds says whether the number is listed
+pub listed_used : (ks : List ℕ) (m : ℕ) (o : Option ℕ) → IfSome o (λ i. slice_get ks i ≡ Some m)
+    → IfNone o ((i : ℕ) → slice_get ks i ≡ Some m → ⊥) → is_some o ≡ is_used m ks
+listed_used ks m None some none = sym (unused_none ks m none)
+listed_used ks m (Some i) some none = sym (used_at ks i m some)
+
+-- ---- one more number
+
+pub numbers_pushed : (ns : List ℕ) (m : ℕ) → AreStepNumbers ns → is_used m ns ≡ false → m < 2 ^ 64 → length ns + 1 < 2 ^ 64
+    → AreStepNumbers (ns ++ m ∷ [])
+numbers_pushed ns m are new fit few = record {
+  distinct = push_distinct ns m are.distinct new;
+  fit = AllByRecursion-push (λ n. n < 2 ^ 64) ns m are.fit fit;
+  count = omega (arith, few, length-append ns (m ∷ []));
+}
+
+-- of numbers that are all counted
+pub counted_pushed : (f n m : ℕ) (ks : List ℕ) → length ks ≡ 0 → (n ≡ 0) ⊎ (f + n ≡ m) → (g : ℕ) → (n ≡ 0 → g ≡ m) → ((n ≡ 0 → ⊥) → g ≡ f)
+    → count_from g (n + 1) ++ ks ≡ (count_from f n ++ ks) ++ m ∷ []
+counted_pushed f n m (k ∷ ks) none next g first later = absurd (omega (arith, none))
+counted_pushed f zero m [] none next g first later = ap (λ (k : ℕ). k ∷ []) (first refl)
+counted_pushed f (suc n) m [] none next g first later =
+    let same : g ≡ f = later (λ e. cc e) in
+    let e : f + suc n ≡ m = elim next [ inl z ↦ absurd (cc z) | inr e ↦ e ] in
+    append-nil (count_from g (suc n + 1)) ∙ ap (λ (h : ℕ). count_from h (suc n + 1)) same ∙ count_more f (suc n)
+    ∙ ap (λ (k : ℕ). count_from f (suc n) ++ k ∷ []) e ∙ ap (λ (ns : List ℕ). ns ++ m ∷ []) (sym (append-nil (count_from f (suc n))))

@@ -1,0 +1,2 @@
+pub mod ListedNumbers
+pub mod CountedNumbers

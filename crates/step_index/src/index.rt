@@ -1,0 +1,138 @@
+//! The places of step numbers.
+
+ghost use Rattle.std.specs.Prelude.{◌≡◌, ℕ, ◌+◌, ◌^◌, ◌<◌, ◌⊎◌, false, [], ◌∷◌, ◌++◌, length};
+ghost use Rattle.std.specs.Prelude.{nat_eq, slice_get, Some, IfSome, IfNone, IsTrue, OnOk, OnErr};
+ghost use Rattle.std.specs.List.{AllByRecursion, IsDistinct};
+ghost use Rattle.step_index.specs.Numbers.{is_used, AreStepNumbers};
+
+use crate::listed::Listed;
+use std::alloc::{AllocError, Global};
+use std::marker::Model;
+
+/// So many steps are counted at most, so that the number of all steps has 64 bits.
+const LIMIT: usize = 1 << 63;
+
+/// The place of a number among those that are counted from the first.
+fn place_of(first: u64, counted: usize, number: u64) -> Option<usize>
+    ensures some { IfSome result (λ i. (i < counted) × (first + i ≡ number)) }
+    ensures none { IfNone result ((i : ℕ) → i < counted → first + i ≡ number → ⊥) }
+{
+    if number < first {
+        return None;
+    }
+    let i = (number - first) as usize;
+    if i < counted { Some(i) } else { None }
+}
+
+/// Whether a number goes on with the count.
+fn continues(first: u64, counted: usize, number: u64) -> bool
+    ensures fits { IsTrue result → counted < 2 ^ 63 }
+    ensures next { IsTrue result → (counted ≡ 0) ⊎ (first + counted ≡ number) }
+{
+    counted < LIMIT && (counted == 0 || number >= first && number - first == counted as u64)
+}
+
+/// The numbers of steps in the order of a file, no two of them the same, with the place of each.
+///
+/// Contracts see the list of the numbers.
+#[derive(Drop)]
+pub struct StepIndex {
+    /// The number of the first step.
+    first: u64,
+    /// How many steps are counted one by one from the first, as most solvers count all: nothing
+    /// else is kept of them.
+    counted: usize,
+    /// The numbers of the steps after those.
+    listed: Listed,
+}
+
+impl Model for StepIndex {
+    ghost use Rattle.std.specs.Prelude.{ℕ, List, ◌++◌};
+    ghost use Rattle.step_index.specs.Numbers.{count_from, AreIndexed};
+
+    ghost Value = { List ℕ };
+
+    ghost view = { λ s. count_from s.first s.counted ++ s.listed };
+
+    ghost invariant = { λ s. AreIndexed s.first s.counted s.listed };
+}
+
+impl StepIndex {
+    /// An index of no step. It takes no memory.
+    pub fn new(alloc: Global) -> StepIndex
+        ensures { result ≡ [] }
+    {
+        StepIndex {
+            first: 0,
+            counted: 0,
+            listed: Listed::new(alloc),
+        }
+    }
+
+    /// How many steps there are.
+    pub fn len(&self) -> usize
+        ensures len { result ≡ length self.now }
+        ensures distinct { IsDistinct nat_eq self.now }
+        ensures fit { AllByRecursion (λ n. n < 2 ^ 64) self.now }
+    {
+        self.counted + self.listed.len()
+    }
+
+    /// The number of the step at place `i`, counted from 0; `i` is below `len()`.
+    pub fn number(&self, i: usize) -> u64
+        requires { i < length self.now }
+        ensures { slice_get self.now i ≡ Some result }
+    {
+        if i < self.counted {
+            return self.first + i as u64;
+        }
+        self.listed.number(i - self.counted)
+    }
+
+    /// The place of the step with this number: `Some(i)` exactly where `number(i)` is it.
+    pub fn position(&self, number: u64) -> Option<usize>
+        ensures found { IfSome result (λ i. slice_get self.now i ≡ Some number) }
+        ensures only { (i : ℕ) → slice_get self.now i ≡ Some number → result ≡ Some i }
+    {
+        if let Some(i) = place_of(self.first, self.counted, number) {
+            return Some(i);
+        }
+        let i = self.listed.position(number)?;
+        Some(self.counted + i)
+    }
+
+    /// Whether a step has this number.
+    pub fn contains(&self, number: u64) -> bool
+        ensures { result ≡ is_used number self.now }
+    {
+        if place_of(self.first, self.counted, number).is_some() {
+            return true;
+        }
+        // Mostly all steps are counted, and nothing has to be looked up.
+        if self.listed.len() == 0 {
+            return false;
+        }
+        self.listed.position(number).is_some()
+    }
+
+    /// Adds the number of one more step, which no step so far has.
+    ///
+    /// # Errors
+    /// Out of memory. Nothing is changed then.
+    pub fn push(&mut self, number: u64) -> Result<(), AllocError>
+        requires { is_used number self.old ≡ false }
+        ensures pushed { OnOk result (self.new ≡ self.old ++ number ∷ []) }
+        ensures sound { AreStepNumbers self.new }
+        ensures err { OnErr result (self.new ≡ self.old) }
+    {
+        if self.listed.len() == 0 && continues(self.first, self.counted, number) {
+            if self.counted == 0 {
+                self.first = number;
+            }
+            self.counted += 1;
+            return Ok(());
+        }
+        self.listed.push(number)?;
+        Ok(())
+    }
+}

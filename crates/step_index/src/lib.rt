@@ -1,0 +1,7 @@
+//! The numbers of steps, in their order, and the place of each.
+#![tactic(auto)]
+
+mod index;
+mod listed;
+
+pub use index::StepIndex;
