@@ -81,14 +81,7 @@ fn on_formula<F: Open, O: Sink, E: Sink>(
     }
 }
 
-/// Does what the arguments ask for, over the files that they name: writes the report to `out` or
-/// `err`, and returns the status.
-///
-/// If the arguments are not a command line of the usage, the line `USAGE` goes to `err` with
-/// status 5. A file that cannot be opened is reported in a line with status 3, and out of memory
-/// while it is opened in a line with status 4, where the refusals of the command go; the formula is
-/// opened before the trace, and both before anything is read. These statuses stay whether or not
-/// the line went out. Else the report is that of `run`.
+/// Does what the arguments ask for, as `program` says.
 fn answer<F: Open, O: Sink, E: Sink>(
     alloc: Global,
     files: &F,
@@ -111,8 +104,16 @@ fn answer<F: Open, O: Sink, E: Sink>(
     }
 }
 
-/// The whole program, but for where its arguments, its files and its sinks come from: `answer`, or
-/// the end where the arguments were not got, which goes to `err`.
+/// The whole program, but for where its arguments, its files and its sinks come from: does what the
+/// arguments ask for, over the files that they name, writes the report to `out` or `err`, and
+/// returns the status.
+///
+/// If the arguments are not a command line of the usage, the line `USAGE` goes to `err` with
+/// status 5. A file that cannot be opened is reported in a line with status 3, and out of memory
+/// while it is opened in a line with status 4, where the refusals of the command go; the formula is
+/// opened before the trace, and both before anything is read. If the arguments were not got, the
+/// line for the reason goes to `err`, with its status. These statuses stay whether or not the line
+/// went out. Else the report is that of `run`.
 pub fn program<F: Open, O: Sink, E: Sink>(
     alloc: Global,
     files: &F,
