@@ -4,31 +4,20 @@
 
 ghost use Rattle.std.specs.Prelude.{◌≡◌, ◌⊎◌, IfOk, IfErr, drop};
 ghost use Rattle.std.specs.Vec.Iter.{into_iter_items};
-ghost use Rattle.qrp_cmd.specs.declared.start.Start.TheVariants.{NoMemory, Usage};
+ghost use Rattle.qrp_program.specs.declared.start.Start.TheVariants.{NoMemory, Usage};
 
-mod buffered;
-mod digits;
-mod job;
 mod open;
-mod program;
-mod run;
-mod start;
-mod unopened;
-mod words;
 
-use buffered::Buffered;
-pub use job::Job;
+use buffered_sink::Buffered;
 use open::SystemFiles;
-use program::program;
 use qbf_text::ToWrite;
-pub use run::{Status, run};
-pub use start::Start;
+use qrp_program::program;
+pub use qrp_program::{Job, Start, Status, request, run};
 use std::alloc::Global;
 use std::env;
 use std::env::Args;
 use std::io::ErrorKind;
 use std::process::ExitCode;
-pub use words::request;
 
 /// The arguments without the first, which is the program's name.
 fn after_name(alloc: Global, mut args: Args) -> Result<Vec<String>, Start>

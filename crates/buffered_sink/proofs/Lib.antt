@@ -1,0 +1,2 @@
+pub mod BufferPart
+pub mod PairDigits

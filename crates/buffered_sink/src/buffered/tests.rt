@@ -1,0 +1,76 @@
+use super::*;
+use qbf_text::{PieceSink, put_byte, put_bytes};
+use std::alloc::Global;
+use std::fmt::Debug;
+use std::process::Abort;
+use std::test::Fail;
+
+/// Compares what was found with what is wanted there.
+fn is_same<T: Copy + PartialEq + Debug>(rt: &impl Abort, found: T, wanted: T, what: &str) {
+    assert_eq!(rt; found, wanted, "{what}");
+}
+
+/// A buffer before a sink that takes 1,000 bytes at a push, and has room for this many or for all.
+fn buffered(alloc: Global, room: Option<u64>) -> Result<Buffered<PieceSink>, Fail> {
+    Ok(Buffered::new(PieceSink::new(alloc, 1000, room, false, 0)?))
+}
+
+/// Puts 30,000 bytes one by one, and returns them.
+fn put_each(
+    rt: &impl Abort,
+    alloc: Global,
+    sink: &mut Buffered<PieceSink>,
+) -> Result<Vec<u8>, Fail> {
+    let mut sent = Vec::new(alloc);
+    for n in 0..30_000u32 {
+        let byte = (n % 251) as u8;
+        assert!(rt; put_byte(sink, byte).is_ok());
+        sent.push(byte)?;
+    }
+    Ok(sent)
+}
+
+/// The bytes, and the same again.
+fn twice(alloc: Global, bytes: &[u8]) -> Result<Vec<u8>, Fail> {
+    let mut all = Vec::from_slice(alloc, bytes)?;
+    all.extend_from_slice(bytes)?;
+    Ok(all)
+}
+
+/// Puts at once what was put before, and then all has come through.
+fn come_through(rt: &impl Abort, sink: &mut Buffered<PieceSink>, sent: &[u8], all: &[u8]) {
+    // The last bytes are held back.
+    assert!(rt; sink.sink.bytes().len() < sent.len());
+    // More bytes at once than the buffer has room for are sent on.
+    assert!(rt; put_bytes(sink, sent).is_ok());
+    is_same(rt, sink.sink.bytes().len(), all.len(), "bytes at once");
+    assert!(rt; sink.finish().is_ok());
+    assert!(rt; sink.sink.bytes() == all);
+}
+
+#[test]
+fn bytes_come_through(rt: HostRuntime) -> Result<(), Fail> {
+    let mut sink = buffered(rt.alloc(), None)?;
+    let sent = put_each(&rt, rt.alloc(), &mut sink)?;
+    let all = twice(rt.alloc(), &sent)?;
+    come_through(&rt, &mut sink, &sent, &all);
+    Ok(())
+}
+
+/// What is held back goes to a sink that takes three bytes of it.
+fn fails_behind_three(rt: &impl Abort, sink: &mut Buffered<PieceSink>) {
+    assert!(rt; put_bytes(sink, b"VERIFIED").is_ok());
+    is_same(rt, sink.sink.bytes().len(), 0, "bytes held back");
+    assert!(rt; sink.finish().is_err());
+    is_same(rt, sink.sink.bytes(), b"VER", "the end");
+}
+
+#[test]
+fn a_failure_keeps_the_rest(rt: HostRuntime) -> Result<(), Fail> {
+    let mut sink = buffered(rt.alloc(), Some(3))?;
+    fails_behind_three(&rt, &mut sink);
+    // The sink works again from then on.
+    assert!(rt; sink.finish().is_ok());
+    assert_eq!(rt; sink.sink.bytes(), b"VERIFIED".as_slice());
+    Ok(())
+}

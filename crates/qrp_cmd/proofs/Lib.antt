@@ -1,6 +1,0 @@
-pub mod BufferPart
-pub mod PairDigits
-pub mod ProgramReport
-pub mod WordByWord
-pub mod SentTexts
-pub mod TrimmedOutput

@@ -1,0 +1,4 @@
+pub mod ProgramReport
+pub mod WordByWord
+pub mod SentTexts
+pub mod TrimmedOutput

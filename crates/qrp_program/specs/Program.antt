@@ -1,0 +1,60 @@
+-- What the whole program reports on the words behind its name.
+use Rattle.std.specs.Prelude.{◌≡◌, ℕ, List, [], ◌⊎◌, Option, Some, None, Result, Ok, Err, get_or}
+use Rattle.qrp_program.specs.declared.job.Job.{Job}
+use Rattle.qrp_program.specs.declared.start.Start.{Start}
+use Rattle.qrp_program.specs.declared.start.Start.TheVariants as start
+use Rattle.qrp_program.specs.declared.unopened.Unopened.{Unopened}
+use Rattle.qrp_program.specs.declared.unopened.Unopened.TheVariants.{NoFile, NoMemory}
+use Rattle.qrp_program.specs.Lines.{start_line, start_status}
+use Rattle.qrp_program.specs.Output.{Sink, Errors, Report, Reading, IsOutput, refusals}
+use Rattle.qrp_program.specs.Words.{Request, IsRow}
+
+-- a line that ends the program before its job begins; the status stays where the line does not go out
+abbrev pub start_report : Sink → Start → Report
+start_report sink s = record { sink = sink; text = start_line s; status = start_status s; failed = start_status s }
+
+-- how the program ends where a file is not opened
+abbrev pub not_opened : Start → Unopened → Start
+not_opened no_file NoFile = no_file
+not_opened no_file NoMemory = start.NoMemory
+
+-- what opening a path may answer: the bytes of the file, where they are known, or why it is not opened
+abbrev pub Opens : Type 1
+Opens = List ℕ → Result (Option (List ℕ)) Unopened → Type 0
+
+-- The report on a file: the end for this sink where it is not opened, or what is said of the bytes of the opened file.
+abbrev pub IsOnFile : Opens → Sink → Start → List ℕ → (Option (List ℕ) → Type 0) → Report → Type 0
+IsOnFile opens sink no_file path says r =
+    ((e : Unopened) × opens path (Err e) × (r ≡ start_report sink (not_opened no_file e)))
+    ⊎ ((told : Option (List ℕ)) × opens path (Ok told) × says told)
+
+-- an opened file with these bytes, that failed this often
+abbrev pub read : Option (List ℕ) → ℕ → Reading
+read told failures = record { told = told; before = 0; after = failures; unpulled = Unit {0} }
+
+-- the report of a job on an opened formula and an opened trace
+abbrev pub IsOnBoth : Job → Option (List ℕ) → Option (List ℕ) → Report → Type 0
+IsOnBoth j f t r = (m : ℕ) × (n : ℕ) × IsOutput j (read f m) (read t n) r
+
+-- The report on a request: the formula is opened, then the trace, and both before anything is read.
+abbrev pub IsOnFiles : Opens → Job → List ℕ → Option (List ℕ) → Report → Type 0
+IsOnFiles opens j formula None r =
+    IsOnFile opens (refusals j) start.NoFormula formula (λ f. IsOnBoth j f (Some []) r) r
+IsOnFiles opens j formula (Some trace) r =
+    IsOnFile opens (refusals j) start.NoFormula formula (λ f.
+    IsOnFile opens (refusals j) start.NoTrace trace (λ t. IsOnBoth j f t r) r) r
+
+-- the word at a place
+abbrev pub word : List (List ℕ) → ℕ → List ℕ
+word words i = get_or words i []
+
+-- the word at a place, where there is one
+abbrev pub word_at : List (List ℕ) → Option ℕ → Option (List ℕ)
+word_at words None = None
+word_at words (Some i) = Some (word words i)
+
+-- The report of the program: USAGE where the words are no row of the usage, or the report on the files that they name.
+abbrev pub IsProgram : Opens → List (List ℕ) → Report → Type 0
+IsProgram opens words r =
+    (((q : Request) → IsRow words q → ⊥) × (r ≡ start_report Errors start.Usage))
+    ⊎ ((q : Request) × IsRow words q × IsOnFiles opens q.job (word words q.formula) (word_at words q.trace) r)

@@ -1,0 +1,238 @@
+//! A job from its sources to its sinks.
+
+ghost use Rattle.std.specs.Prelude.{◌≡◌, ◌⊎◌, ◌↔◌, ◌<◌, ◌-◌, ◌^◌, ℕ, Result, Err, IfOk, IfErr};
+ghost use Rattle.std.specs.Prelude.{OnOk, IfSome, length};
+ghost use Rattle.std.specs.List.{AllByRecursion};
+ghost use Rattle.std.specs.Io.KnownBytes.{Keeps};
+ghost use Rattle.qbf_core.specs.Qbf.{Qbf};
+ghost use Rattle.qdimacs.specs.declared.fault.FormulaFault.{FormulaFault};
+ghost use Rattle.qdimacs.specs.Grammar.{text};
+ghost use Rattle.qrp.specs.Derivations.{Derivation};
+ghost use Rattle.qrp.specs.Grammar.{text as trace_text};
+ghost use Rattle.qrp_check.specs.Trim.{trimmed};
+ghost use Rattle.qrp_check.specs.Verdict.{IsVerdictUnless, IsFormulaDevice, IsTraceDevice};
+ghost use Rattle.qrp_check.specs.Verdict.{IsVerdictOf, IsFormulaFault, StandsOnLine};
+ghost use Rattle.qrp_check.specs.declared.verdict.Verified.{Verified};
+ghost use Rattle.qrp_check.specs.declared.verdict.Fault.{Fault};
+ghost use Rattle.qrp_report.specs.Lines.{fault_line, fault_status, verdict_line};
+ghost use Rattle.qrp_program.specs.declared.job.Job.TheVariants.{Format};
+ghost use Rattle.qrp_program.specs.Output.{Report, IsOutput, IsFormulaRead, IsChecked, IsTrimmed};
+ghost use Rattle.qrp_program.specs.Output.{IsTrimmedFrom, IsTrimmedOf, trim_report, format_report};
+ghost use Rattle.qrp_program.specs.Output.{check_report};
+ghost use Rattle.qrp_program.specs.Output.{reading_of, HasFailed, IsSent, IsReported};
+
+use crate::job::Job;
+use qbf_core::Formula;
+use qbf_text::{Sink, Source};
+use qdimacs::{read_formula, write_formula};
+use qrp::{Trace, read_trace, write_steps_at};
+use qrp_check::{Fault, Rules, Verified, check, verify};
+use qrp_report::{fault_status, put_fault, put_verdict};
+use std::alloc::Global;
+
+/// The status of the program: 0 done, 1 the proof is refused, 2 a text is refused, 3 a device
+/// failed, 4 an allocation failed.
+pub type Status = u8;
+
+/// The status where a device failed.
+const DEVICE_FAILED: Status = 3;
+
+/// Ends what was sent to a sink.
+fn end_text<S: Sink>(sink: &mut S, status: Status) -> Status
+    ensures bytes { Keeps (S.written sink.old) (S.written sink.new) }
+    ensures status { ((S.failures sink.new ≡ S.failures sink.old) × S.finished sink.new
+        × (result ≡ status))
+        ⊎ (HasFailed (S.failures sink.old) (S.failures sink.new) × (result ≡ 3)) }
+{
+    match sink.finish() {
+        Ok(()) => status,
+        Err(_) => DEVICE_FAILED,
+    }
+}
+
+/// Sends the canonical text of a formula.
+fn send_formula<S: Sink>(formula: &Formula, sink: &mut S) -> Status
+    ensures { IsSent S.Sink sink.old sink.new (text formula.now) 0 3 result }
+{
+    match write_formula(formula, sink) {
+        Ok(()) => end_text(sink, 0),
+        Err(_) => DEVICE_FAILED,
+    }
+}
+
+/// Sends the line for a fault.
+fn send_fault<S: Sink>(sink: &mut S, fault: &Fault) -> Status
+    ensures { IsSent S.Sink sink.old sink.new (fault_line fault.now)
+        (fault_status fault.now) 3 result }
+{
+    match put_fault(sink, fault) {
+        Ok(()) => end_text(sink, fault_status(fault)),
+        Err(_) => DEVICE_FAILED,
+    }
+}
+
+/// Sends the line of a verdict.
+fn send_verdict<S: Sink>(sink: &mut S, truth: bool) -> Status
+    ensures { IsSent S.Sink sink.old sink.new (verdict_line truth) 0 3 result }
+{
+    match put_verdict(sink, truth) {
+        Ok(()) => end_text(sink, 0),
+        Err(_) => DEVICE_FAILED,
+    }
+}
+
+/// Writes the canonical text of the formula to `out`, or its refusal to `err`.
+fn format_job<F: Source, O: Sink, E: Sink>(
+    alloc: Global,
+    formula: &mut F,
+    out: &mut O,
+    err: &mut E,
+) -> Status
+    ensures { (r : Report)
+        × ((reading : Result Qbf (FormulaFault × ℕ))
+        × IsFormulaRead (F.remaining formula.old) (F.failures formula.old)
+        (F.failures formula.new) reading × (r ≡ format_report reading))
+        × IsReported O.Sink out.old out.new E.Sink err.old err.new r result }
+{
+    match read_formula(alloc, formula) {
+        Ok(read) => send_formula(&read, out),
+        Err((fault, line)) => send_fault(err, &Fault::Formula(fault, line)),
+    }
+}
+
+/// Writes the verdict on the trace, or its refusal, to `out`.
+fn check_job<F: Source, T: Source, O: Sink>(
+    alloc: Global,
+    rules: Rules,
+    formula: &mut F,
+    trace: &mut T,
+    out: &mut O,
+) -> Status
+    ensures { (answer : Result Verified Fault)
+        × IsChecked rules (reading_of F.Source formula.old formula.new)
+        (reading_of T.Source trace.old trace.new) answer
+        × IsSent O.Sink out.old out.new (check_report rules answer).text
+        (check_report rules answer).status (check_report rules answer).failed result }
+{
+    match verify(alloc, formula, trace, rules) {
+        Ok(verified) => send_verdict(out, verified.truth),
+        Err(fault) => send_fault(out, &fault),
+    }
+}
+
+/// The trace that was read, and what the check of it on a formula says: the steps that its goal
+/// needs.
+fn checked_trace<T: Source>(
+    alloc: Global,
+    rules: Rules,
+    formula: &Formula,
+    trace: &mut T,
+) -> Result<(Trace, Verified), Fault>
+    ensures refused { IfErr result
+        (λ e. IsVerdictOf rules formula.now (T.remaining trace.old) (Err e)) }
+    ensures trimmed { IfOk result (λ r. IsTrimmedOf rules formula.now (T.remaining trace.old)
+        (trimmed r.0 r.1.core.items)) }
+    ensures within { IfOk result (λ r.
+        AllByRecursion (λ i. i < length r.0.steps) r.1.core.items) }
+    ensures failed { IfErr result (λ e. T.failures trace.old < 2 ^ 64 - 1 →
+        (IsTraceDevice (Err e) ↔ (T.failures trace.old < T.failures trace.new))) }
+    ensures lines { IfErr result StandsOnLine }
+    ensures works { OnOk result (T.failures trace.new ≡ T.failures trace.old) }
+{
+    let whole = read_trace(alloc, trace)?;
+    // The header comes with the fact that the trace is well formed.
+    let _header = whole.header();
+    let verified = check(alloc, formula, &whole, whole.sets(), whole.result(), rules)?;
+    Ok((whole, verified))
+}
+
+/// The same of a formula that is read before the trace.
+fn checked<F: Source, T: Source>(
+    alloc: Global,
+    rules: Rules,
+    formula: &mut F,
+    trace: &mut T,
+) -> Result<(Trace, Verified), Fault>
+    ensures refused { IfErr result
+        (λ e. IsVerdictUnless rules (F.remaining formula.old) (T.remaining trace.old) (Err e)) }
+    ensures trimmed { IfOk result (λ r. IfSome (F.remaining formula.old)
+        (λ a. IfSome (T.remaining trace.old)
+        (λ b. IsTrimmedFrom rules a b (trimmed r.0 r.1.core.items)))) }
+    ensures within { IfOk result (λ r.
+        AllByRecursion (λ i. i < length r.0.steps) r.1.core.items) }
+    ensures formula_failed { IfErr result (λ e. F.failures formula.old < 2 ^ 64 - 1 →
+        (IsFormulaDevice (Err e) ↔ (F.failures formula.old < F.failures formula.new))) }
+    ensures trace_failed { IfErr result (λ e. T.failures trace.old < 2 ^ 64 - 1 →
+        (IsTraceDevice (Err e) ↔ (T.failures trace.old < T.failures trace.new))) }
+    ensures lines { IfErr result StandsOnLine }
+    ensures formula_works { OnOk result (F.failures formula.new ≡ F.failures formula.old) }
+    ensures trace_works { OnOk result (T.failures trace.new ≡ T.failures trace.old) }
+    ensures not_pulled { IfErr result (λ e. IsFormulaFault (Err e) → trace.new ≡ trace.old) }
+{
+    let read = read_formula(alloc, formula)?;
+    checked_trace(alloc, rules, &read, trace)
+}
+
+/// Sends the canonical text of a trace without the steps outside the core.
+fn send_trimmed<S: Sink>(trace: &Trace, verified: &Verified, sink: &mut S) -> Status
+    requires { AllByRecursion (λ i. i < length trace.now.steps) verified.now.core.items }
+    ensures { IsSent S.Sink sink.old sink.new
+        (trace_text (trimmed trace.now verified.now.core.items)) 0 3 result }
+{
+    match write_steps_at(trace, &verified.core, sink) {
+        Ok(()) => end_text(sink, 0),
+        Err(_) => DEVICE_FAILED,
+    }
+}
+
+/// Writes the trimmed trace to `out`, or its refusal to `err`.
+fn trim_job<F: Source, T: Source, O: Sink, E: Sink>(
+    alloc: Global,
+    rules: Rules,
+    formula: &mut F,
+    trace: &mut T,
+    out: &mut O,
+    err: &mut E,
+) -> Status
+    ensures { (answer : Result Derivation Fault)
+        × IsTrimmed rules (reading_of F.Source formula.old formula.new)
+        (reading_of T.Source trace.old trace.new) answer
+        × IsReported O.Sink out.old out.new E.Sink err.old err.new
+        (trim_report rules answer) result }
+{
+    match checked(alloc, rules, formula, trace) {
+        Ok((whole, verified)) => send_trimmed(&whole, &verified, out),
+        Err(fault) => send_fault(err, &fault),
+    }
+}
+
+/// Does a job: reads the formula and, where the job asks for it, the trace, and writes the report
+/// to `out` or `err`.
+///
+/// Where the bytes of the sources are known, the report is the one for what they spell. A source
+/// that fails is reported in a line with status 3, out of memory in a line with status 4, on the
+/// sink that takes the refusals of the job: `out` for `Check`, `err` for the others. The other sink
+/// gets nothing. Where the sink of the report fails, in a write or in `finish`, the status is 3 and
+/// a beginning of the text went out. For `Format`, and with a fault of the formula, the trace is
+/// not pulled.
+pub fn run<F: Source, T: Source, O: Sink, E: Sink>(
+    alloc: Global,
+    job: Job,
+    formula: &mut F,
+    trace: &mut T,
+    out: &mut O,
+    err: &mut E,
+) -> Status
+    ensures report { (r : Report)
+        × IsOutput job
+        (reading_of F.Source formula.old formula.new)
+        (reading_of T.Source trace.old trace.new) r
+        × IsReported O.Sink out.old out.new E.Sink err.old err.new r result }
+    ensures not_pulled { job ≡ Format → trace.new ≡ trace.old }
+{
+    match job {
+        Job::Check(rules) => check_job(alloc, rules, formula, trace, out),
+        Job::Trim(rules) => trim_job(alloc, rules, formula, trace, out, err),
+        Job::Format => format_job(alloc, formula, out, err),
+    }
+}
