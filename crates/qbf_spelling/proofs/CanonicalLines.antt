@@ -1,5 +1,5 @@
 -- The lines of a canonical text can be written.
-use Rattle.std.proofs.Common.{rules, ◌≡◌, ℕ, Bool, true, List, [], ◌∷◌, ◌++◌, map, arith}
+use Rattle.std.proofs.Common.{rules, ℕ, Bool, List, [], ◌∷◌, ◌++◌, map, arith}
 use Rattle.std.specs.List.{AllByRecursion}
 use Rattle.qbf_core.specs.declared.quantifier.Quantifier.{Quantifier}
 use Rattle.qbf_core.specs.Literal.{Literal}

@@ -73,11 +73,7 @@ fn put_variables<K: Sink>(sink: &mut K, vars: &[Var]) -> Result<(), SinkFault>
 /// The line of a set.
 ///
 /// A `SinkFault` where the sink failed. What went out is a beginning of the line then.
-pub fn put_set<K: Sink>(
-    sink: &mut K,
-    quantifier: Quantifier,
-    vars: &[Var],
-) -> Result<(), SinkFault>
+pub fn put_set<K: Sink>(sink: &mut K, quantifier: Quantifier, vars: &[Var]) -> Result<(), SinkFault>
     ensures { IsPut K.written K.failures sink.old sink.new
         (set_text (record { quantifier = quantifier; vars = vars.now })) result }
 {

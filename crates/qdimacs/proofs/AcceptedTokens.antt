@@ -12,23 +12,20 @@ use Rattle.qbf_text.specs.declared.token.Word.TheVariants as word
 use Rattle.qbf_text.proofs.DistinctNumbers.{middle, front_all, front_distinct, new_number}
 use Rattle.qdimacs.proofs.AllVariablesBound.{is_bound_variables}
 use Rattle.qbf_text.proofs.AcceptedTokens.{Leads, Stays, Passes, leads_then}
-use Rattle.qdimacs.specs.Grammar.{number, literal, letter, header, set, clause}
+use Rattle.qbf_spelling.specs.Spelling.{number, literal, letter, set}
+use Rattle.qdimacs.specs.Grammar.{header, clause}
 use Rattle.qbf_text.specs.Rows.{Goes, Ends}
-use Rattle.qdimacs.specs.Reading.{Heading, Place, AtP, AtCount, Between, InSet, InClause, Whole, row, number_row, header_number}
+use Rattle.qdimacs.specs.Reading.{Heading, Place, AtP, AtCount, Between, InSet, InClause, Whole, row}
 
 -- ---- the header
 
-pub number_row_ok : (to : ℕ → Place) (n : ℕ) → n ≤ 2147483647 → number_row to (number n) (header_number (number n)) ≡ Goes (to n)
-number_row_ok to n le = search rules
-
 -- at the number of clauses
 pub leads_vars : (v : ℕ) → v ≤ 2147483647 → Leads row AtP (token.Word word.P ∷ token.Word word.Cnf ∷ number v ∷ []) (AtCount v)
-leads_vars v lv = Passes refl (Passes refl (Passes (number_row_ok AtCount v lv) Stays))
+leads_vars v lv = Passes refl (Passes refl (Passes (search rules) Stays))
 
 pub leads_header : (h : Heading) → h.max_var ≤ 2147483647 → h.count ≤ 2147483647
     → Leads row AtP (header h.max_var h.count) (Between h [] [])
-leads_header h lv lc = leads_then (leads_vars h.max_var lv)
-    (Passes (number_row_ok (λ c. Between (record { max_var = h.max_var; count = c }) [] []) h.count lc) Stays)
+leads_header h lv lc = leads_then (leads_vars h.max_var lv) (Passes (search rules) Stays)
 
 -- ---- variables
 

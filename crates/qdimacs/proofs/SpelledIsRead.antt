@@ -12,7 +12,8 @@ use Rattle.qdimacs.specs.declared.fault.FormulaFault.{FormulaFault}
 use Rattle.qbf_text.specs.declared.token.Token.{Token}
 use Rattle.qbf_text.specs.declared.token.Token.TheVariants as token
 use Rattle.qbf_text.specs.Lined.{Lined}
-use Rattle.qdimacs.specs.Grammar.{header, set, clause, IsFormula}
+use Rattle.qbf_spelling.specs.Spelling.{set}
+use Rattle.qdimacs.specs.Grammar.{header, clause, IsFormula}
 use Rattle.qbf_text.specs.Lined.{unlined}
 use Rattle.qdimacs.specs.Faults.{IsSoFar, Spells, IsFault}
 use Rattle.qdimacs.specs.Reading.{Heading, Place, AtP, AtCnf, AtVars, AtCount, Between, InSet, InClause, Whole, Over}

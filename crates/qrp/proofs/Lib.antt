@@ -5,7 +5,6 @@ pub mod AcceptedTokens
 pub mod SpelledIsRead
 pub mod CanonicalTextIsRead
 pub mod ReadIsSpelled
-pub mod Answered
 pub mod WrittenParts
 pub mod Flats
 pub mod ListedNumbers

@@ -16,7 +16,7 @@ ghost use Rattle.qrp.specs.Inferences.{IsLiteral, IsNumber, numbers};
 ghost use Rattle.qrp.specs.Making.{made, IsMade};
 ghost use Rattle.qrp.specs.Reading.{is_used};
 
-use crate::fault::{Fault, fault_of};
+use crate::fault::{Fault, TraceFault};
 use crate::grammar::{Parts, TraceGrammar};
 use crate::index::StepIndex;
 use crate::item::{Header, Outcome, QuantSet};
@@ -293,6 +293,6 @@ pub fn read_flat<S: Source>(alloc: Global, source: &mut S) -> Result<FlatTrace, 
     let mut grammar = TraceGrammar::new(alloc);
     match read_by(&mut grammar, &mut scanner, source) {
         Ok(()) => Ok(grammar.into_trace()),
-        Err(error) => Err(fault_of(error)),
+        Err(error) => Err(error.fault(TraceFault::P1, TraceFault::P9)),
     }
 }

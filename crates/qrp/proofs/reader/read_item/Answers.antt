@@ -15,7 +15,7 @@ returns-in-Ok-give-clause-gives g c = λ p at_.
     (rw (← c.in-Ok-give.ensures.next.numbers) at c.in-Ok-give.ensures.item)
 
 pub returns-in-Err-clause-gives : goal.returns-in-Err-clause-gives
-returns-in-Err-clause-gives g c = λ p at_. rw c.fault_of.ensures
+returns-in-Err-clause-gives g c = λ p at_. rw c.fault.ensures
     (fault_given p (left c.args.scanner.now (g.S.Source.remaining c.args.source.now)) c.read_by.new.grammar.giving
     (left c.read_by.new.scanner (g.S.Source.remaining c.read_by.new.source)) c.in-Err.error
     (subst (λ (q : Giving). Reads (reads_from item_row q (left c.args.scanner.now (g.S.Source.remaining c.args.source.now)))

@@ -1,6 +1,6 @@
 use Rattle.std.proofs.Common.{drop}
 use Rattle.std.specs.List.{flat_map}
-use Rattle.qrp.specs.Texts.{set_text}
+use Rattle.qbf_spelling.specs.Texts.{set_text}
 use Rattle.qbf_text.specs.Written.{IsSent}
 use Rattle.qrp.proofs.writing.put_sets.Given as goal
 
