@@ -4,9 +4,9 @@ use Rattle.std.specs.List.{list_any, IsDistinct, AllByRecursion}
 use Rattle.std.proofs.lemmas.List.{length-map}
 use Rattle.std.proofs.lemmas.Map.Keys.{IsDistinct-cons}
 use Rattle.std.proofs.lemmas.Map.Steps.{length-le_from_distinct_below}
-use Rattle.qbf_core.specs.declared.quantifier.Quantifier.{Quantifier}
 use Rattle.qbf_core.specs.Blocks.{Block, pairs, variables, is_bound, IsVariable, IsPrefix}
 use Rattle.qdimacs.specs.Reading.{IsFull}
+use Rattle.qdimacs.specs.Reading.{Pairs}
 
 -- ---- numbers that are in no list
 
@@ -46,7 +46,7 @@ module _ (n : ℕ) (vs : List ℕ) (distinct : IsDistinct eqb vs) (within : AllB
       by true e = refl
       by false e = absurd (crowded v low high e)
 
-pub is_bound_variables : (v : ℕ) (ps : List (Quantifier × ℕ)) → is_bound v ps ≡ list_any (eqb v) (variables ps)
+pub is_bound_variables : (v : ℕ) (ps : Pairs) → is_bound v ps ≡ list_any (eqb v) (variables ps)
 is_bound_variables v [] = refl
 is_bound_variables v (p ∷ ps) = ap (λ (b : Bool). eqb v p.1 || b) (is_bound_variables v ps)
 

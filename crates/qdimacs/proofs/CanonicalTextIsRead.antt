@@ -19,10 +19,11 @@ use Rattle.qdimacs.specs.Grammar.{header, clause, spelling, lines, text}
 use Rattle.qdimacs.specs.Laws.{ReadsText}
 use Rattle.qdimacs.proofs.AcceptedTokens.{bound_one}
 use Rattle.qdimacs.proofs.SpelledIsRead.{spelled_is_read}
+use Rattle.qdimacs.specs.Reading.{Pairs}
 
 -- ---- the lines can be written
 
-front : (P : ℕ → Type 0) (q : Quantifier) (vs : List ℕ) (ps : List (Quantifier × ℕ))
+front : (P : ℕ → Type 0) (q : Quantifier) (vs : List ℕ) (ps : Pairs)
     → AllByRecursion P (variables (map (λ v. (q, v)) vs ++ ps)) → AllByRecursion P vs × AllByRecursion P (variables ps)
 front P q [] ps h = (tt, h)
 front P q (v ∷ vs) ps h = let k = front P q vs ps h.1 in ((h.0, k.0), k.1)

@@ -21,12 +21,14 @@ use Rattle.qbf_spelling.specs.Spelling.{number, literal, letter, set}
 use Rattle.qbf_spelling.specs.Said.{member}
 use Rattle.qdimacs.specs.Grammar.{header, clause, IsFormula}
 use Rattle.qdimacs.specs.Laws.{ReadsAsRead}
+use Rattle.qbf_text.proofs.CanonicalTokens.{all_of}
 use Rattle.qbf_text.proofs.Answered.{explained, AnswersAsRead}
 use Rattle.qbf_text.specs.Lined.{unlined}
 use Rattle.qdimacs.specs.Faults.{Reads, IsSoFar, Spells}
 use Rattle.qbf_text.specs.Rows.{Goes, Ends, Fails}
 use Rattle.qdimacs.specs.Reading.{Heading, Place, AtP, AtCnf, AtVars, AtCount, Between, InSet, InClause, Whole, Over, Row, row}
 use Rattle.qdimacs.specs.Reading.{faults, set_row, bound_literal, clause_row, read, IsWhole, answer_of}
+use Rattle.qdimacs.specs.Reading.{Pairs, Clauses, AreFrom}
 
 -- ---- one token
 
@@ -43,31 +45,32 @@ none_so_far : (h : Heading) → h.max_var ≤ 2147483647 → h.count ≤ 2147483
 unfolding IsDistinct
 none_so_far h lv lc = search rules
 
-more_variables : (h : Heading) (ps : List (Quantifier × ℕ)) (q : Quantifier) (v : ℕ) → IsSoFar h ps [] → 1 ≤ v → v ≤ h.max_var
+more_variables : (h : Heading) (ps : Pairs) (q : Quantifier) (v : ℕ) → IsSoFar h ps [] → 1 ≤ v → v ≤ h.max_var
     → is_bound v ps ≡ false → IsSoFar h (ps ++ (q, v) ∷ []) []
 more_variables h ps q v s low high fresh = record {
   max_var = s.max_var;
   count = s.count;
   closed = tt;
   few = s.few;
-  distinct = rw map-append (push_distinct (variables ps) v s.distinct (sym (is_bound_variables v ps) ∙ fresh));
-  within = rw map-append (AllByRecursion-push (λ w. (1 ≤ w) × (w ≤ h.max_var)) (variables ps) v s.within (low, high));
+  good = record {
+    distinct = rw map-append (push_distinct (variables ps) v s.good.distinct (sym (is_bound_variables v ps) ∙ fresh));
+    within = rw map-append (AllByRecursion-push (λ w. (1 ≤ w) × (w ≤ h.max_var)) (variables ps) v s.good.within (low, high));
+  };
 }
 
-more_clauses : (h : Heading) (ps : List (Quantifier × ℕ)) (cs : List (List Literal)) (ls : List Literal) → IsSoFar h ps cs
-    → AllByRecursion (λ l. is_bound l.var ps ≡ true) ls → length cs < h.count → IsSoFar h ps (cs ++ ls ∷ [])
+more_clauses : (h : Heading) (ps : Pairs) (cs : Clauses) (ls : List Literal) → IsSoFar h ps cs
+    → AreFrom ps ls → length cs < h.count → IsSoFar h ps (cs ++ ls ∷ [])
 more_clauses h ps cs ls s bound more = record {
   max_var = s.max_var;
   count = s.count;
-  distinct = s.distinct;
-  within = s.within;
-  closed = AllByRecursion-push (AllByRecursion (λ l. is_bound l.var ps ≡ true)) cs ls s.closed bound;
+  good = s.good;
+  closed = AllByRecursion-push (AreFrom ps) cs ls s.closed bound;
   few = omega (arith, length-append cs (ls ∷ []));
 }
 
 -- ---- one token more
 
-abbrev front : Heading → List Block → List (List Literal) → List Token
+abbrev front : Heading → List Block → Clauses → List Token
 front h sets cs = header h.max_var h.count ++ flat_map set sets ++ flat_map clause cs
 
 some_pushed : {X : Type 0} (xs : List X) (x : X) → (xs ++ x ∷ []) ≢ []
@@ -75,22 +78,22 @@ some_pushed [] x e = cc
 some_pushed (y ∷ xs) x e = cc
 
 -- a clause that is begun, or about to be
-record IsBegun (ts : List Token) (h : Heading) (ps : List (Quantifier × ℕ)) (cs : List (List Literal)) (ls : List Literal) : Type 0 where
+record IsBegun (ts : List Token) (h : Heading) (ps : Pairs) (cs : Clauses) (ls : List Literal) : Type 0 where
   sets : List Block
   spelled : ts ≡ front h sets cs ++ map literal ls
   bound : pairs sets ≡ ps
   so_far : IsSoFar h ps cs
-  free : AllByRecursion (λ l. is_bound l.var ps ≡ true) ls
+  free : AreFrom ps ls
   more : length cs < h.count
 
 -- a clause goes on with a literal, or is closed
-clause_goes : (h : Heading) (ps : List (Quantifier × ℕ)) (cs : List (List Literal)) (ls : List Literal) (t : Token) (next : Place)
+clause_goes : (h : Heading) (ps : Pairs) (cs : Clauses) (ls : List Literal) (t : Token) (next : Place)
     → clause_row h ps cs ls (bound_literal h.max_var ps t) ≡ Goes next
     → ((t ≡ number 0) × (next ≡ Between h ps (cs ++ ls ∷ [])))
     ⊎ ((l : Literal) × (t ≡ literal l) × (is_bound l.var ps ≡ true) × (next ≡ InClause h ps cs (ls ++ l ∷ [])))
 clause_goes h ps cs ls t next e = search rules
 
-clause_step : {ts : List Token} {h : Heading} {ps : List (Quantifier × ℕ)} {cs : List (List Literal)} {ls : List Literal} (t : Token)
+clause_step : {ts : List Token} {h : Heading} {ps : Pairs} {cs : Clauses} {ls : List Literal} (t : Token)
     (next : Place) → IsBegun ts h ps cs ls → clause_row h ps cs ls (bound_literal h.max_var ps t) ≡ Goes next → Spells (ts ++ t ∷ []) next
 clause_step {h = h} {ps = ps} {cs = cs} {ls = ls} t next b e = elim (clause_goes h ps cs ls t next e) [
   | inl k ↦ rw (k.1, k.0, b.spelled)
@@ -107,13 +110,13 @@ clause_step {h = h} {ps = ps} {cs = cs} {ls = ls} t next b e = elim (clause_goes
 ]
 
 -- a set goes on with a variable, or is closed
-set_goes : (h : Heading) (ps : List (Quantifier × ℕ)) (q : Quantifier) (t : Token) (next : Place)
+set_goes : (h : Heading) (ps : Pairs) (q : Quantifier) (t : Token) (next : Place)
     → set_row h ps q (member faults h.max_var t) ≡ Goes next
     → ((t ≡ number 0) × (next ≡ Between h ps []))
     ⊎ ((v : ℕ) × (t ≡ number v) × (1 ≤ v) × (v ≤ h.max_var) × (is_bound v ps ≡ false) × (next ≡ InSet h (ps ++ (q, v) ∷ []) q))
 set_goes h ps q t next e = search rules
 
-set_step : (ts : List Token) (h : Heading) (ps : List (Quantifier × ℕ)) (q : Quantifier) (t : Token) (next : Place)
+set_step : (ts : List Token) (h : Heading) (ps : Pairs) (q : Quantifier) (t : Token) (next : Place)
     → Spells ts (InSet h ps q) → set_row h ps q (member faults h.max_var t) ≡ Goes next → Spells (ts ++ t ∷ []) next
 set_step ts h ps q t next b e = elim (set_goes h ps q t next e) [
   | inl k ↦
@@ -134,13 +137,13 @@ set_step ts h ps q t next b e = elim (set_goes h ps q t next e) [
 ]
 
 -- between lists a set or a clause begins
-between_goes : (h : Heading) (ps : List (Quantifier × ℕ)) (cs : List (List Literal)) (t : Token) (next : Place)
+between_goes : (h : Heading) (ps : Pairs) (cs : Clauses) (t : Token) (next : Place)
     → row (Between h ps cs) t ≡ Goes next
     → ((q : Quantifier) × (cs ≡ []) × (t ≡ letter q) × (next ≡ InSet h ps q))
     ⊎ ((length cs < h.count) × (clause_row h ps cs [] (bound_literal h.max_var ps t) ≡ Goes next))
 between_goes h ps cs t next e = search rules
 
-between_step : (ts : List Token) (h : Heading) (ps : List (Quantifier × ℕ)) (cs : List (List Literal)) (t : Token) (next : Place)
+between_step : (ts : List Token) (h : Heading) (ps : Pairs) (cs : Clauses) (t : Token) (next : Place)
     → Spells ts (Between h ps cs) → row (Between h ps cs) t ≡ Goes next → Spells (ts ++ t ∷ []) next
 between_step ts h ps cs t next b e = elim (between_goes h ps cs t next e) [
   | inl k ↦
@@ -175,11 +178,7 @@ step ts (InClause h ps cs ls) next t b e =
 
 -- ---- the end
 
-both : (P Q R : ℕ → Type 0) (vs : List ℕ) → ((v : ℕ) → P v → Q v → R v) → AllByRecursion (λ v. P v × Q v) vs → AllByRecursion R vs
-both P Q R [] k h = tt
-both P Q R (v ∷ vs) k h = (k v h.0.0 h.0.1, both P Q R vs k h.1)
-
-whole_formula : (ts : List Token) (h : Heading) (ps : List (Quantifier × ℕ)) (cs : List (List Literal)) → Spells ts (Between h ps cs)
+whole_formula : (ts : List Token) (h : Heading) (ps : Pairs) (cs : Clauses) → Spells ts (Between h ps cs)
     → h.count ≡ length cs → IsFormula (ts ++ token.End ∷ []) (record { max_var = h.max_var; blocks = blocks_of ps; clauses = cs })
 whole_formula ts h ps cs b all =
     let are : pairs (blocks_of ps) ≡ ps = pairs-blocks_of ps in
@@ -192,16 +191,16 @@ whole_formula ts h ps cs b all =
       well_formed = record {
         prefix = record {
           alternates = Alternates-blocks_of ps;
-          distinct = subst (λ (x : List (Quantifier × ℕ)). IsDistinct nat_eq (variables x)) (sym are) s.distinct;
-          within = subst (λ (x : List (Quantifier × ℕ)). AllByRecursion (λ v. (1 ≤ v) × (v ≤ 2147483647)) (variables x))
-              (sym are) (both (λ v. 1 ≤ v) (λ v. v ≤ h.max_var) (λ v. (1 ≤ v) × (v ≤ 2147483647)) (variables ps)
-              (λ v low high. (low, omega (arith, s.max_var))) s.within);
+          distinct = subst (λ (x : Pairs). IsDistinct nat_eq (variables x)) (sym are) s.good.distinct;
+          within = subst (λ (x : Pairs). AllByRecursion (λ v. (1 ≤ v) × (v ≤ 2147483647)) (variables x))
+              (sym are) (all_of (λ v. (1 ≤ v) × (v ≤ h.max_var)) (λ v. (1 ≤ v) × (v ≤ 2147483647))
+              (λ v is. (is.0, omega (arith, is.1, s.max_var))) (variables ps) s.good.within);
         };
         numbers = s.max_var;
-        top = subst (λ (x : List (Quantifier × ℕ)). AllByRecursion (λ v. v ≤ h.max_var) (variables x)) (sym are)
-            (both (λ v. 1 ≤ v) (λ v. v ≤ h.max_var) (λ v. v ≤ h.max_var) (variables ps) (λ v low high. high) s.within);
+        top = subst (λ (x : Pairs). AllByRecursion (λ v. v ≤ h.max_var) (variables x)) (sym are)
+            (all_of (λ v. (1 ≤ v) × (v ≤ h.max_var)) (λ v. v ≤ h.max_var) (λ v is. is.1) (variables ps) s.good.within);
         closed =
-            subst (λ (x : List (Quantifier × ℕ)). AllByRecursion (AllByRecursion (λ l. is_bound l.var x ≡ true)) cs) (sym are) s.closed;
+            subst (λ (x : Pairs). AllByRecursion (AllByRecursion (λ l. is_bound l.var x ≡ true)) cs) (sym are) s.closed;
         count = omega (arith, s.count);
       };
     }
@@ -209,8 +208,8 @@ whole_formula ts h ps cs b all =
 -- reading ends behind whole lists, at the end
 record IsLast (p : Place) (t : Token) (next : Place) : Type 0 where
   h : Heading
-  ps : List (Quantifier × ℕ)
-  cs : List (List Literal)
+  ps : Pairs
+  cs : Clauses
   between : p ≡ Between h ps cs
   whole : next ≡ Whole (record { max_var = h.max_var; blocks = blocks_of ps; clauses = cs })
   all : h.count ≤ length cs

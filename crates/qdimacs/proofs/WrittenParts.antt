@@ -14,6 +14,7 @@ use Rattle.qbf_spelling.specs.Texts.{literal_text, closing}
 use Rattle.qbf_spelling.proofs.WrittenParts.{closed_numbers, closed_literals}
 use Rattle.qdimacs.specs.Grammar.{clause, header, text}
 use Rattle.qdimacs.specs.Texts.{opening, prefix_rest, sets_text, clauses_text}
+use Rattle.qdimacs.specs.Reading.{Pairs, Clauses}
 
 -- ---- a clause
 
@@ -27,7 +28,7 @@ pub first_literal : (l : Literal) (ls : List Literal)
     → line_text (clause (l ∷ ls)) ≡ spelled (literal l) ++ (flat_map literal_text ls ++ closing)
 first_literal l ls = ap (λ (k : List ℕ). spelled (literal l) ++ k) (closed_literals ls)
 
-pub clauses_next : (cs : List (List Literal)) (i : ℕ) (c : List Literal) → slice_get cs i ≡ Some c
+pub clauses_next : (cs : Clauses) (i : ℕ) (c : List Literal) → slice_get cs i ≡ Some c
     → clauses_text (drop i cs) ≡ line_text (clause c) ++ clauses_text (drop (i + 1) cs)
 clauses_next cs i c at = ap clauses_text (drop_at cs i c at)
 
@@ -49,7 +50,7 @@ rest_alternates b [] h = (h, tt, tt)
 rest_alternates b (c ∷ bs) h = (h.0, h.2, other_quantifier b.quantifier c.quantifier h.1)
 
 -- the variables of a block that is begun
-variables_rest : (q : Quantifier) (vs : List ℕ) (ps : List (Quantifier × ℕ))
+variables_rest : (q : Quantifier) (vs : List ℕ) (ps : Pairs)
     → prefix_rest (Some q) (map (λ v. (q, v)) vs ++ ps) ≡ flat_map spaced vs ++ prefix_rest (Some q) ps
 variables_rest q [] ps = refl
 variables_rest q (v ∷ vs) ps = rw (same_quantifier q) (ap (λ (k : List ℕ). spaced v ++ k) (variables_rest q vs ps)
@@ -65,7 +66,7 @@ opens : (last : Option Quantifier) (b : Block) (bs : List Block) → Differs las
 opens None b bs d = refl
 opens (Some q) b bs d = rw d refl
 
-block_begins : (last : Option Quantifier) (q : Quantifier) (vs : List ℕ) (ps : List (Quantifier × ℕ)) → vs ≢ []
+block_begins : (last : Option Quantifier) (q : Quantifier) (vs : List ℕ) (ps : Pairs) → vs ≢ []
     → prefix_rest last (map (λ v. (q, v)) vs ++ ps) ≡ opening last q ++ (flat_map spaced vs ++ prefix_rest (Some q) ps)
 block_begins last q [] ps some = absurd (some refl)
 block_begins last q (v ∷ vs) ps some = ap (λ (k : List ℕ). opening last q ++ (spaced v ++ k)) (variables_rest q vs ps)
@@ -87,7 +88,7 @@ prefix_from last (b ∷ bs) alternates differs =
     (sym (append_assoc vars closing (sets_text bs)) ∙ ap (λ (k : List ℕ). k ++ sets_text bs) (sym (closed_numbers b.vars)))
     ∙ ap (λ (k : List ℕ). closing_of last ++ k) (sym (append_assoc letter_of_b set_of_b (sets_text bs)))
 
-pub prefix_next : (last : Option Quantifier) (ps : List (Quantifier × ℕ)) (i : ℕ) (q : Quantifier) (v : ℕ) → slice_get ps i ≡ Some (q, v)
+pub prefix_next : (last : Option Quantifier) (ps : Pairs) (i : ℕ) (q : Quantifier) (v : ℕ) → slice_get ps i ≡ Some (q, v)
     → prefix_rest last (drop i ps) ≡ opening last q ++ (spaced v ++ prefix_rest (Some q) (drop (i + 1) ps))
 prefix_next last ps i q v at = ap (prefix_rest last) (drop_at ps i (q, v) at)
 

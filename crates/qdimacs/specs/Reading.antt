@@ -3,6 +3,7 @@
 -- and what is a fault.
 use Rattle.std.specs.Prelude.{◌≡◌, ◌≤◌, ℕ, Bool, true, false, List, [], ◌∷◌, ◌++◌, length, Option, Some, None, option_map, Result}
 use Rattle.std.specs.Prelude.{Ok, Err, nat_lt, if◌then◌else◌}
+use Rattle.std.specs.List.{AllByRecursion}
 use Rattle.qbf_core.specs.declared.quantifier.Quantifier.{Quantifier}
 use Rattle.qbf_core.specs.Literal.{Literal}
 use Rattle.qbf_core.specs.Blocks.{blocks_of, is_bound}
@@ -21,6 +22,21 @@ use Rattle.qbf_text.specs.Rows as rows
 use Rattle.qbf_text.specs.declared.token.Comments.TheVariants.{Qdimacs}
 use Rattle.qbf_text.specs.Tokens as text
 
+-- variables, each with its quantifier
+abbrev pub Pairs : Type 0
+Pairs = List (Quantifier × ℕ)
+
+abbrev pub Clauses : Type 0
+Clauses = List (List Literal)
+
+-- the variable of each literal is one of these
+abbrev pub AreFrom : Pairs → List Literal → Type 0
+AreFrom ps ls = AllByRecursion (λ l. is_bound l.var ps ≡ true) ls
+
+-- what is read: a formula, or the first fault and its line
+abbrev pub Answer : Type 0
+Answer = Result Qbf (FormulaFault × ℕ)
+
 -- the numbers of the header
 pub record Heading : Type 0 where
   pub max_var : ℕ
@@ -34,11 +50,11 @@ pub data Place : Type 0 where
   AtVars : Place
   AtCount : (max_var : ℕ) → Place
   -- after whole sets and whole clauses
-  Between : Heading → List (Quantifier × ℕ) → List (List Literal) → Place
+  Between : Heading → Pairs → Clauses → Place
   -- in a set, the pairs of its own variables the last
-  InSet : Heading → List (Quantifier × ℕ) → Quantifier → Place
+  InSet : Heading → Pairs → Quantifier → Place
   -- in a clause that has begun with these literals
-  InClause : Heading → List (Quantifier × ℕ) → List (List Literal) → List Literal → Place
+  InClause : Heading → Pairs → Clauses → List Literal → Place
   -- behind the end
   Whole : Qbf → Place
   -- behind a fault
@@ -67,12 +83,12 @@ is_cnf t = false
 -- ---- a set
 
 -- at a variable of a set, bound before or not
-abbrev pub bind_row : Heading → List (Quantifier × ℕ) → Quantifier → ℕ → Bool → Row
+abbrev pub bind_row : Heading → Pairs → Quantifier → ℕ → Bool → Row
 bind_row h ps q v true = Fails F5
 bind_row h ps q v false = Goes (InSet h (ps ++ (q, v) ∷ []) q)
 
 -- in a set
-abbrev pub set_row : Heading → List (Quantifier × ℕ) → Quantifier → Result (Option ℕ) FormulaFault → Row
+abbrev pub set_row : Heading → Pairs → Quantifier → Result (Option ℕ) FormulaFault → Row
 set_row h ps q (Err f) = Fails f
 set_row h ps q (Ok None) = Goes (Between h ps [])
 set_row h ps q (Ok (Some v)) = bind_row h ps q v (is_bound v ps)
@@ -80,21 +96,21 @@ set_row h ps q (Ok (Some v)) = bind_row h ps q v (is_bound v ps)
 -- ---- a clause
 
 -- each variable that the header allows is bound
-abbrev pub IsFull : ℕ → List (Quantifier × ℕ) → Type 0
+abbrev pub IsFull : ℕ → Pairs → Type 0
 IsFull max_var ps = (v : ℕ) → 1 ≤ v → v ≤ max_var → is_bound v ps ≡ true
 
 -- the literal that is said in a clause, if its variable is bound
-abbrev pub bound_in : List (Quantifier × ℕ) → Result (Option Literal) FormulaFault → Result (Option Literal) FormulaFault
+abbrev pub bound_in : Pairs → Result (Option Literal) FormulaFault → Result (Option Literal) FormulaFault
 bound_in ps (Ok (Some l)) = if is_bound l.var ps then Ok (Some l) else Err F6
 bound_in ps (Ok None) = Ok None
 bound_in ps (Err f) = Err f
 
 -- the literal that a token says in a clause, or None where it closes the clause
-abbrev pub bound_literal : ℕ → List (Quantifier × ℕ) → Token → Result (Option Literal) FormulaFault
+abbrev pub bound_literal : ℕ → Pairs → Token → Result (Option Literal) FormulaFault
 bound_literal max_var ps t = bound_in ps (literal_in faults max_var t)
 
 -- in a clause
-abbrev pub clause_row : Heading → List (Quantifier × ℕ) → List (List Literal) → List Literal
+abbrev pub clause_row : Heading → Pairs → Clauses → List Literal
     → Result (Option Literal) FormulaFault → Row
 clause_row h ps cs ls (Err f) = Fails f
 clause_row h ps cs ls (Ok None) = Goes (Between h ps (cs ++ ls ∷ []))
@@ -103,12 +119,12 @@ clause_row h ps cs ls (Ok (Some l)) = Goes (InClause h ps cs (ls ++ l ∷ []))
 -- ---- between lists
 
 -- the set that a token begins: none, once a clause was begun
-abbrev pub begun_set : List (List Literal) → Token → Option Quantifier
+abbrev pub begun_set : Clauses → Token → Option Quantifier
 begun_set [] t = quantifier t
 begun_set (c ∷ cs) t = None
 
 -- whether clauses are still to come
-abbrev pub has_more : Heading → List (List Literal) → Bool
+abbrev pub has_more : Heading → Clauses → Bool
 has_more h cs = nat_lt (length cs) h.count
 
 -- what a token that begins no set says: that a clause begins (true), or that all is read (false)
@@ -123,7 +139,7 @@ clause_or_end more (token.Word w) = Err F3
 clause_or_end more token.Bad = Err F3
 
 -- between lists: a set or a clause begins, or all is read
-abbrev pub between_row : Heading → List (Quantifier × ℕ) → List (List Literal) → Option Quantifier
+abbrev pub between_row : Heading → Pairs → Clauses → Option Quantifier
     → Result Bool FormulaFault → Result (Option Literal) FormulaFault → Row
 between_row h ps cs (Some q) mark first = Goes (InSet h ps q)
 between_row h ps cs None (Err f) first = Fails f
@@ -152,30 +168,30 @@ IsWhole (Whole f) = Unit {0}
 IsWhole place = ⊥
 
 -- what is read behind the last token
-abbrev pub answer_at : Place → Result Qbf (FormulaFault × ℕ)
+abbrev pub answer_at : Place → Answer
 answer_at (Whole f) = Ok f
 answer_at place = Err (F7, 0)
 
 -- what is read by the rows
-abbrev pub answer_of : Read Place (Unit {0}) FormulaFault → Result Qbf (FormulaFault × ℕ)
+abbrev pub answer_of : Read Place (Unit {0}) FormulaFault → Answer
 answer_of (rows.Whole u place rest) = answer_at place
 answer_of (rows.Fault f line) = Err (f, line)
 answer_of rows.Cut = Err (F7, 0)
 
 -- What is read from a place on.
-abbrev pub read_from : Place → List Lined → Result Qbf (FormulaFault × ℕ)
+abbrev pub read_from : Place → List Lined → Answer
 read_from place ts = answer_of (rows.read_from row place ts)
 
 -- What tokens are read as.
-abbrev pub read : List Lined → Result Qbf (FormulaFault × ℕ)
+abbrev pub read : List Lined → Answer
 read ts = read_from AtP ts
 
 -- The same of bytes.
-abbrev pub read_formula : List ℕ → Result Qbf (FormulaFault × ℕ)
+abbrev pub read_formula : List ℕ → Answer
 read_formula bytes = read (text.tokens Qdimacs bytes)
 
 -- where the bytes are told
-abbrev pub reads_bytes : Option (List ℕ) → Option (Result Qbf (FormulaFault × ℕ))
+abbrev pub reads_bytes : Option (List ℕ) → Option (Answer)
 reads_bytes bytes = option_map read_formula bytes
 
 -- the source failed, or memory ran out
@@ -185,5 +201,5 @@ is_outside F9 = true
 is_outside f = false
 
 -- The answer is what was to be read, unless the source failed or memory ran out.
-abbrev pub Gives : Result Qbf (FormulaFault × ℕ) → Option (Result Qbf (FormulaFault × ℕ)) → Type 0
+abbrev pub Gives : Answer → Option (Answer) → Type 0
 Gives answer whole = answering.Gives is_outside answer whole
