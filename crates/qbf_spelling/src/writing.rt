@@ -31,6 +31,7 @@ pub fn put_header<K: Sink>(
 /// The letter of a quantifier.
 ///
 /// A `SinkFault` where the sink failed. Nothing went out then.
+#[tactic(auto, using(crate::proofs::WrittenParts::letter_text))]
 pub fn put_letter<K: Sink>(sink: &mut K, quantifier: Quantifier) -> Result<(), SinkFault>
     ensures { IsPut K.written K.failures sink.old sink.new (spelled (letter quantifier)) result }
 {

@@ -197,6 +197,7 @@ fn has_more(parts: &Parts) -> bool
 
 /// Takes a token between lists.
 #[inline(always)]
+#[tactic(auto, using(crate::proofs::FormulaParts::made_whole))]
 fn take_opening(parts: &mut Parts, token: Token) -> Result<At, Stop<FormulaFault>>
     requires sound { IsSound at.Between parts.old }
     ensures row { Moves (row (stands parts.old at.Between) token) parts.new result }

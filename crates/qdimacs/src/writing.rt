@@ -26,6 +26,7 @@ fn put_nonempty<K: Sink>(sink: &mut K, first: Lit, rest: &[Lit]) -> Result<(), S
 
 /// A clause and its zero.
 #[inline(always)]
+#[tactic(auto, using(crate::proofs::WrittenParts::no_literals))]
 fn put_clause<K: Sink>(sink: &mut K, lits: &[Lit]) -> Result<(), SinkFault>
     ensures { IsPut K.written K.failures sink.old sink.new (line_text (clause lits.now)) result }
 {

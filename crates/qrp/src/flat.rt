@@ -57,6 +57,7 @@ impl FlatSteps {
 
     /// Adds a step at the end. An `Err` means that an allocation failed, and changes nothing.
     #[inline(always)]
+    #[tactic(auto, using(crate::proofs::Flats::bodies_more))]
     fn push(&mut self, lits: &[Lit], ants: &[u64]) -> Result<(), AllocError>
         ensures pushed { OnOk result
             (self.new ≡ self.old ++ record { lits = lits.now; ants = ants.now } ∷ []) }
@@ -73,6 +74,7 @@ impl FlatSteps {
     }
 
     /// Takes the last step away, if there is one.
+    #[tactic(auto, using(crate::proofs::GrowingSteps::bodies_popped))]
     fn pop(&mut self)
         ensures { self.new ≡ take (length self.old - 1) self.old }
     {
@@ -81,6 +83,7 @@ impl FlatSteps {
     }
 
     /// The literals of the step at place `i`.
+    #[tactic(auto, using(crate::proofs::Flats::bodies_within, crate::proofs::Flats::bodies_at))]
     fn lits(&self, i: usize) -> &[Lit]
         requires { i < length self.now }
         ensures { (b : Body) → slice_get self.now i ≡ Some b → result.now ≡ b.lits }
@@ -89,6 +92,7 @@ impl FlatSteps {
     }
 
     /// The antecedents of the step at place `i`.
+    #[tactic(auto, using(crate::proofs::Flats::bodies_within, crate::proofs::Flats::bodies_at))]
     fn ants(&self, i: usize) -> &[u64]
         requires { i < length self.now }
         ensures { (b : Body) → slice_get self.now i ≡ Some b → result.now ≡ b.ants }
@@ -258,14 +262,17 @@ impl Steps for FlatTrace {
         self.index.number(i)
     }
 
+    #[tactic(auto, using(crate::proofs::Flats::numbered_within, crate::proofs::Flats::numbered_at))]
     fn lits(&self, i: usize) -> &[Lit] {
         self.steps.lits(i)
     }
 
+    #[tactic(auto, using(crate::proofs::Flats::numbered_within, crate::proofs::Flats::numbered_at))]
     fn ants(&self, i: usize) -> &[u64] {
         self.steps.ants(i)
     }
 
+    #[tactic(auto, using(crate::proofs::Positions::step_found))]
     fn position(&self, number: u64) -> Option<usize> {
         self.index.position(number)
     }

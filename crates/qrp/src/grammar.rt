@@ -78,6 +78,7 @@ fn close_step(begun: &mut Begun, number: u64) -> Result<(), AllocError>
 
 /// Puts a part that is complete after the others.
 #[inline(always)]
+#[tactic(auto, using(crate::proofs::TraceParts::made_closed))]
 fn close(parts: &mut Parts, part: Part) -> Result<(), AllocError>
     requires made { IsMade parts.old }
     requires complete { IsComplete part parts.old.begun }

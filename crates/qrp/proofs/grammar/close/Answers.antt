@@ -1,10 +1,5 @@
-use Rattle.std.proofs.Common.{refl}
-use Rattle.qrp.proofs.TraceParts.{made_closed, sound_closed}
+use Rattle.qrp.proofs.TraceParts.{sound_closed}
 use Rattle.qrp.proofs.grammar.close.Goals as goal
-
-pub returns-in_ok-close_step-in-Step-clause-row : goal.returns-in_ok-close_step-in-Step-clause-row
-returns-in_ok-close_step-in-Step-clause-row c =
-    rw (c.in-Step.is, c.in_ok-close_step-in-Step.ensures, made_closed c.args.parts.now c.in-Step.number c.requires.made) refl
 
 pub returns-in_ok-close_step-in-Step-clause-sound : goal.returns-in_ok-close_step-in-Step-clause-sound
 returns-in_ok-close_step-in-Step-clause-sound c =

@@ -1,10 +1,6 @@
 use Rattle.qrp.specs.Flat.{numbered}
-use Rattle.qrp.proofs.Positions.{step_found, step_only}
+use Rattle.qrp.proofs.Positions.{step_only}
 use Rattle.qrp.proofs.flat.FlatTraceSteps.position.Goals as goal
-
-pub returns-clause-found : goal.returns-clause-found
-returns-clause-found c = rw (← c.self.view_is) (step_found (numbered c.self.inside.index c.self.inside.steps) c.self.inside.index
-    c.args.number c.position.result c.self.invariant.kept.same c.position.ensures.found)
 
 pub returns-clause-only : goal.returns-clause-only
 returns-clause-only c = rw (← c.self.view_is) (step_only (numbered c.self.inside.index c.self.inside.steps) c.self.inside.index
