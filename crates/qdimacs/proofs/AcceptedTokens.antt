@@ -1,21 +1,18 @@
 -- Accepted tokens, and the place that they lead to.
-use Rattle.std.proofs.Common.{rules, ◌≡◌, ◌∙◌, ◌≢◌, ℕ, ◌<◌, ◌≤◌, ◌+◌, Bool, true, false, List, [], ◌∷◌, ◌++◌, length, map}
-use Rattle.std.proofs.Common.{refl, ◌∙◌, arith, append_assoc}
-use Rattle.std.proofs.lemmas.List.{map-append, append-nil, length-append}
-use Rattle.std.specs.List.{flat_map, AllByRecursion}
-use Rattle.qbf_core.specs.declared.quantifier.Quantifier.{Quantifier}
-use Rattle.qbf_core.specs.Literal.{Literal}
-use Rattle.qbf_core.specs.Blocks.{Block, pairs, pairs_of_block, is_bound, blocks_of, variables}
-use Rattle.qbf_text.specs.declared.token.Token.{Token}
-use Rattle.qbf_text.specs.declared.token.Token.TheVariants as token
-use Rattle.qbf_text.specs.declared.token.Word.TheVariants as word
+use Rattle.qbf_spelling.proofs.Words
+use Words.{rules, ◌≡◌, ◌∙◌, ◌≢◌, ℕ, ◌<◌, ◌≤◌, ◌+◌, Bool, true, false, List, [], ◌∷◌, ◌++◌, length, map, refl, ◌∙◌, arith, append_assoc}
+use Words.{map-append, length-append, flat_map, AllByRecursion, Quantifier, Literal, Block, pairs, is_bound, blocks_of, variables, Token}
+use Words.{number, literal, letter, set, Ends}
+use Words.token
+use Words.word
+use Rattle.std.proofs.lemmas.List.{append-nil}
+use Rattle.qbf_core.specs.Blocks.{pairs_of_block}
 use Rattle.qbf_text.proofs.DistinctNumbers.{middle, front_all, front_distinct, new_number}
 use Rattle.qdimacs.proofs.AllVariablesBound.{is_bound_variables}
 use Rattle.qbf_text.proofs.AcceptedTokens.{Leads, Stays, Passes, leads_then}
-use Rattle.qbf_spelling.specs.Spelling.{number, literal, letter, set}
 use Rattle.qdimacs.specs.Faults.{AreGood}
 use Rattle.qdimacs.specs.Grammar.{header, clause}
-use Rattle.qbf_text.specs.Rows.{Goes, Ends}
+use Rattle.qbf_text.specs.Rows.{Goes}
 use Rattle.qdimacs.specs.Reading.{Heading, Place, AtP, AtCount, Between, InSet, InClause, Whole, row}
 use Rattle.qdimacs.specs.Reading.{Pairs, Clauses, AreFrom}
 

@@ -1,10 +1,12 @@
 -- As many bound variables as the header allows: each that it allows is bound.
-use Rattle.std.proofs.Common.{rules, ◌≡◌, ℕ, ◌≤◌, ◌+◌, ◌||◌, Bool, true, false, List, [], ◌∷◌, length, eqb, refl, sym, ap, ◌∙◌, arith}
-use Rattle.std.specs.List.{list_any, IsDistinct, AllByRecursion}
+use Rattle.qbf_spelling.proofs.Words
+use Words.{rules, ◌≡◌, ℕ, ◌≤◌, ◌+◌, ◌||◌, Bool, true, false, List, [], ◌∷◌, length, eqb, refl, sym, ap, ◌∙◌, arith, IsDistinct}
+use Words.{AllByRecursion, Block, pairs, variables, is_bound, IsVariable}
+use Rattle.std.specs.List.{list_any}
 use Rattle.std.proofs.lemmas.List.{length-map}
 use Rattle.std.proofs.lemmas.Map.Keys.{IsDistinct-cons}
 use Rattle.std.proofs.lemmas.Map.Steps.{length-le_from_distinct_below}
-use Rattle.qbf_core.specs.Blocks.{Block, pairs, variables, is_bound, IsVariable, IsPrefix}
+use Rattle.qbf_core.specs.Blocks.{IsPrefix}
 use Rattle.qdimacs.specs.Reading.{IsFull}
 use Rattle.qdimacs.specs.Reading.{Pairs}
 

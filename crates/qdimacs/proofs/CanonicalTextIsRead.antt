@@ -1,19 +1,12 @@
 -- The canonical text is read again.
-use Rattle.std.proofs.Common.{◌≡◌, ℕ, true, List, [], ◌∷◌, ◌++◌, length, map, refl, ap, ◌∙◌, arith, append_assoc}
-use Rattle.std.proofs.lemmas.Grind.{flat_map-append}
-use Rattle.std.proofs.lemmas.List.Folds.{flat_map-map}
-use Rattle.std.specs.List.{flat_map, AllByRecursion}
-use Rattle.qbf_core.specs.declared.quantifier.Quantifier.{Quantifier}
-use Rattle.qbf_core.specs.Literal.{Literal}
-use Rattle.qbf_core.specs.Blocks.{Block, pairs, variables, is_bound, IsVariable, AreBound}
-use Rattle.qbf_core.specs.Qbf.{Qbf, IsWellFormed}
-use Rattle.qbf_text.specs.declared.token.Comments.TheVariants.{Qdimacs}
-use Rattle.qbf_text.specs.declared.token.Token.{Token}
-use Rattle.qbf_text.specs.declared.token.Token.TheVariants as token
-use Rattle.qbf_text.specs.Tokens.{tokens}
+use Rattle.qbf_spelling.proofs.Words
+use Words.{◌≡◌, ℕ, true, List, [], ◌∷◌, ◌++◌, length, map, refl, ap, ◌∙◌, arith, append_assoc, flat_map-append, flat_map-map, flat_map}
+use Words.{AllByRecursion, Quantifier, Literal, Block, pairs, variables, is_bound, IsVariable, Qbf, Qdimacs, Token, tokens, literal, set}
+use Words.token
+use Rattle.qbf_core.specs.Blocks.{AreBound}
+use Rattle.qbf_core.specs.Qbf.{IsWellFormed}
 use Rattle.qbf_text.specs.Canonical.{IsPlain, IsLine}
 use Rattle.qbf_text.proofs.CanonicalTokens.{joined, tokens-lines_text, all_appended, all_mapped, all_of, closed_plain}
-use Rattle.qbf_spelling.specs.Spelling.{literal, set}
 use Rattle.qbf_spelling.proofs.CanonicalLines.{literals_plain, set_written}
 use Rattle.qdimacs.specs.Grammar.{header, clause, spelling, lines, text}
 use Rattle.qdimacs.specs.Laws.{ReadsText}

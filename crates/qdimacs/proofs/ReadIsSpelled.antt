@@ -1,31 +1,26 @@
 -- What is read is spelled, and a fault that is found stands.
-use Rattle.std.proofs.Common.{rules, inl, inr, ◌⊎◌, ◌≡◌, ◌≢◌, ℕ, ◌<◌, ◌≤◌, true, false, List, [], ◌∷◌, ◌++◌, length, map}
-use Rattle.std.proofs.Common.{Ok, Err, refl, ap, sym, subst, ◌∙◌, arith, append_assoc, nat_eq}
-use Rattle.std.proofs.lemmas.List.{append-nil, map-append, length-append}
-use Rattle.std.specs.List.{flat_map, AllByRecursion, IsDistinct}
-use Rattle.qbf_core.specs.declared.quantifier.Quantifier.{Quantifier}
-use Rattle.qbf_core.specs.Literal.{Literal}
-use Rattle.qbf_core.specs.Blocks.{Block, pairs, pairs_of_block, is_bound, blocks_of, variables}
-use Rattle.qbf_core.proofs.PrefixLaws.{AllByRecursion-push}
+use Rattle.qbf_spelling.proofs.Words
+use Words.{rules, inl, inr, ◌⊎◌, ◌≡◌, ◌≢◌, ℕ, ◌<◌, ◌≤◌, true, false, List, [], ◌∷◌, ◌++◌, length, map, Ok, Err, refl, ap, sym, subst, ◌∙◌}
+use Words.{arith, append_assoc, nat_eq, map-append, length-append, flat_map, AllByRecursion, IsDistinct, Quantifier, Literal, Block, pairs}
+use Words.{is_bound, blocks_of, variables, AllByRecursion-push, Token, Lined, number, literal, letter, set, unlined, Ends}
+use Words.token
+use Rattle.std.proofs.lemmas.List.{append-nil}
+use Rattle.qbf_core.specs.Blocks.{pairs_of_block}
 use Rattle.qbf_core.proofs.BlockLaws.{pairs-blocks_of, Alternates-blocks_of}
-use Rattle.qbf_text.specs.declared.token.Token.{Token}
-use Rattle.qbf_text.specs.declared.token.Token.TheVariants as token
-use Rattle.qbf_text.specs.Lined.{Lined, EndsOnce}
+use Rattle.qbf_text.specs.Lined.{EndsOnce}
 use Rattle.qbf_text.specs.Left.{is_end}
 use Rattle.qbf_text.proofs.DistinctNumbers.{push_distinct}
 use Rattle.qdimacs.proofs.AllVariablesBound.{is_bound_variables}
 use Rattle.qbf_text.proofs.AcceptedTokens.{each_is_answered, flat_map-push}
 use Rattle.qbf_text.proofs.AcceptedTokens as accepted
 use Rattle.qdimacs.proofs.SpelledIsRead.{read_once}
-use Rattle.qbf_spelling.specs.Spelling.{number, literal, letter, set}
 use Rattle.qbf_spelling.specs.Said.{member}
 use Rattle.qdimacs.specs.Grammar.{header, clause, IsFormula}
 use Rattle.qdimacs.specs.Laws.{ReadsAsRead}
 use Rattle.qbf_text.proofs.CanonicalTokens.{all_of}
 use Rattle.qbf_text.proofs.Answered.{explained, AnswersAsRead}
-use Rattle.qbf_text.specs.Lined.{unlined}
 use Rattle.qdimacs.specs.Faults.{Reads, IsSoFar, Spells}
-use Rattle.qbf_text.specs.Rows.{Goes, Ends, Fails}
+use Rattle.qbf_text.specs.Rows.{Goes, Fails}
 use Rattle.qdimacs.specs.Reading.{Heading, Place, AtP, AtCnf, AtVars, AtCount, Between, InSet, InClause, Whole, Over, Row, row}
 use Rattle.qdimacs.specs.Reading.{faults, set_row, bound_literal, clause_row, read, IsWhole, answer_of}
 use Rattle.qdimacs.specs.Reading.{Pairs, Clauses, AreFrom}

@@ -1,22 +1,17 @@
 -- What tokens spell is read, and a fault that stands is found.
-use Rattle.std.proofs.Common.{◌≡◌, ℕ, ◌≤◌, List, [], ◌∷◌, ◌++◌, length, map, Ok, Err, refl, ap, sym, subst, ◌∙◌, arith}
-use Rattle.std.specs.List.{flat_map, AllByRecursion}
-use Rattle.qbf_core.specs.Blocks.{Block, pairs, blocks_of}
-use Rattle.qbf_core.specs.Qbf.{Qbf}
+use Rattle.qbf_spelling.proofs.Words
+use Words.{◌≡◌, ℕ, ◌≤◌, List, [], ◌∷◌, ◌++◌, length, map, Ok, Err, refl, ap, sym, subst, ◌∙◌, arith, flat_map, AllByRecursion, Block, pairs}
+use Words.{blocks_of, Qbf, Token, Lined, set, unlined, read-one}
+use Words.token
 use Rattle.qbf_core.proofs.BlockLaws.{blocks_of-pairs}
 use Rattle.qbf_text.proofs.AcceptedTokens.{split_at, Leads, Stays, Passes, leads_then, leads_reads}
 use Rattle.qdimacs.specs.Laws.{ReadsOnce}
 use Rattle.qdimacs.specs.declared.fault.FormulaFault.{FormulaFault}
-use Rattle.qbf_text.specs.declared.token.Token.{Token}
-use Rattle.qbf_text.specs.declared.token.Token.TheVariants as token
-use Rattle.qbf_text.specs.Lined.{Lined}
-use Rattle.qbf_spelling.specs.Spelling.{set}
 use Rattle.qdimacs.specs.Grammar.{header, clause, IsFormula}
-use Rattle.qbf_text.specs.Lined.{unlined}
 use Rattle.qdimacs.specs.Faults.{AreGood, Spells, IsFault}
 use Rattle.qdimacs.specs.Reading.{Heading, Place, AtP, AtCnf, AtVars, AtCount, Between, InSet, InClause, Whole, Over}
 use Rattle.qdimacs.specs.Reading.{Row, row, read, answer_of}
-use Rattle.qbf_text.proofs.OneToken.{read-one, after}
+use Rattle.qbf_text.proofs.OneToken.{after}
 use Rattle.qdimacs.proofs.AcceptedTokens.{leads_vars, leads_header, leads_sets, leads_begun_set, leads_clauses, leads_begun_clause, end_row}
 use Rattle.qdimacs.proofs.AcceptedTokens.{good_front}
 use Rattle.qdimacs.specs.Reading.{Pairs, Clauses, AreFrom}

@@ -1,14 +1,10 @@
 -- Worked rows of formulas.
-use Rattle.std.specs.Prelude.{◌≡◌, ℕ, true, false, List, [], ◌∷◌, codes, Ok, Err, refl}
-use Rattle.std.specs.List.{AllByRecursion}
+use Rattle.qbf_spelling.proofs.Words.{codes, AllByRecursion, Literal, Block, Qbf, read_from}
+use Rattle.std.specs.Prelude.{◌≡◌, ℕ, true, false, List, [], ◌∷◌, Ok, Err, refl}
 use Rattle.std.specs.Fmt.{digits}
 use Rattle.qbf_core.specs.declared.quantifier.Quantifier.TheVariants.{All, Exists}
-use Rattle.qbf_core.specs.Literal.{Literal}
-use Rattle.qbf_core.specs.Blocks.{Block}
-use Rattle.qbf_core.specs.Qbf.{Qbf}
 use Rattle.qdimacs.specs.declared.fault.FormulaFault.TheVariants.{F2, F3, F4, F5, F6, F7, F8}
 use Rattle.qdimacs.specs.Grammar.{text}
-use Rattle.qbf_text.specs.Rows.{read_from}
 use Rattle.qdimacs.specs.Reading.{read_formula}
 use Rattle.qdimacs.specs.Reading.{Answer}
 

@@ -1,15 +1,10 @@
 -- The parts of a canonical text, one after the other.
-use Rattle.std.proofs.Common.{rules, ◌≢◌, ◌≡◌, ℕ, true, false, List, [], ◌∷◌, ◌++◌, map, Option, Some, None, refl, ap, sym, ◌∙◌}
-use Rattle.std.proofs.Common.{append_assoc, drop, slice_get, length, arith, ◌<◌, ◌+◌}
-use Rattle.std.specs.List.{flat_map}
-use Rattle.std.proofs.lemmas.Grind.{flat_map-append}
+use Rattle.qbf_spelling.proofs.Words
+use Words.{rules, ◌≢◌, ◌≡◌, ℕ, true, false, List, [], ◌∷◌, ◌++◌, map, Option, Some, None, refl, ap, sym, ◌∙◌, append_assoc, drop, slice_get}
+use Words.{length, arith, ◌<◌, ◌+◌, flat_map, flat_map-append, Quantifier, Literal, Block, pairs, Qbf, number, literal, letter, set}
 use Rattle.qbf_text.proofs.SentParts.{zero_decimal, drop_at}
-use Rattle.qbf_core.specs.declared.quantifier.Quantifier.{Quantifier}
-use Rattle.qbf_core.specs.Literal.{Literal}
-use Rattle.qbf_core.specs.Blocks.{Block, pairs, Alternates, is_quantifier}
-use Rattle.qbf_core.specs.Qbf.{Qbf}
+use Rattle.qbf_core.specs.Blocks.{Alternates, is_quantifier}
 use Rattle.qbf_text.specs.Canonical.{spaced, spelled, line_rest, line_text}
-use Rattle.qbf_spelling.specs.Spelling.{number, literal, letter, set}
 use Rattle.qbf_spelling.specs.Texts.{literal_text, closing}
 use Rattle.qbf_spelling.proofs.WrittenParts.{closed_numbers, closed_literals}
 use Rattle.qdimacs.specs.Grammar.{clause, header, text}

@@ -1,23 +1,18 @@
 -- Reading from the first token on, to the formula or to the first fault.
 -- QDIMACS 1.1, input format, token by token: for each place in the text a row says which tokens go on, which end,
 -- and what is a fault.
-use Rattle.std.specs.Prelude.{◌≡◌, ◌≤◌, ℕ, Bool, true, false, List, [], ◌∷◌, ◌++◌, length, Option, Some, None, option_map, Result}
-use Rattle.std.specs.Prelude.{Ok, Err, nat_lt, if◌then◌else◌}
-use Rattle.std.specs.List.{AllByRecursion}
-use Rattle.qbf_core.specs.declared.quantifier.Quantifier.{Quantifier}
-use Rattle.qbf_core.specs.Literal.{Literal}
+use Rattle.qbf_spelling.specs.Words
+use Words.{◌≡◌, ◌≤◌, ℕ, Bool, true, false, List, [], ◌∷◌, ◌++◌, length, Option, Some, None, option_map, Result, Ok, Err, nat_lt}
+use Words.{if◌then◌else◌, AllByRecursion, Quantifier, Literal, Qbf, Token, Lined, Fails}
+use Words.token
+use Words.word
 use Rattle.qbf_core.specs.Blocks.{blocks_of, is_bound}
-use Rattle.qbf_core.specs.Qbf.{Qbf}
 use Rattle.qdimacs.specs.declared.fault.FormulaFault.{FormulaFault}
 use Rattle.qdimacs.specs.declared.fault.FormulaFault.TheVariants.{F2, F3, F4, F5, F6, F7, F8, F9, F1}
-use Rattle.qbf_text.specs.declared.token.Token.{Token}
-use Rattle.qbf_text.specs.declared.token.Token.TheVariants as token
-use Rattle.qbf_text.specs.declared.token.Word.TheVariants as word
-use Rattle.qbf_text.specs.Lined.{Lined}
 use Rattle.qbf_text.specs.Answering as answering
 use Rattle.qbf_spelling.specs.declared.said.Faults.{Faults}
 use Rattle.qbf_spelling.specs.Said.{is_p, quantifier, member, literal_in, word_row, number_row}
-use Rattle.qbf_text.specs.Rows.{Goes, Ends, Fails, Read}
+use Rattle.qbf_text.specs.Rows.{Goes, Ends, Read}
 use Rattle.qbf_text.specs.Rows as rows
 use Rattle.qbf_text.specs.declared.token.Comments.TheVariants.{Qdimacs}
 use Rattle.qbf_text.specs.Tokens as text

@@ -1,15 +1,10 @@
 -- Accepted tokens: the items that they close, and the place that they lead to.
-use Rattle.std.proofs.Common.{rules, ◌≡◌, ℕ, ◌<◌, ◌≤◌, Bool, false, List, [], ◌∷◌, ◌++◌, length, map, Result, Ok, Err}
-use Rattle.std.proofs.Common.{refl, ap, ◌∙◌, arith, append_assoc, append-nil, nat_eq}
-use Rattle.std.proofs.lemmas.List.{length-append}
-use Rattle.std.specs.List.{flat_map, AllByRecursion, IsDistinct}
-use Rattle.qbf_core.specs.declared.quantifier.Quantifier.{Quantifier}
-use Rattle.qbf_core.specs.Literal.{Literal}
-use Rattle.qbf_core.specs.Blocks.{Block, IsVariable}
-use Rattle.qbf_text.specs.declared.token.Token.{Token}
-use Rattle.qbf_text.specs.declared.token.Token.TheVariants as token
-use Rattle.qbf_text.specs.declared.token.Word.TheVariants as word
-use Rattle.qbf_text.specs.Lined.{Lined, unlined}
+use Rattle.qbf_spelling.proofs.Words
+use Words.{rules, ◌≡◌, ℕ, ◌<◌, ◌≤◌, Bool, false, List, [], ◌∷◌, ◌++◌, length, map, Result, Ok, Err, refl, ap, ◌∙◌, arith, append_assoc}
+use Words.{append-nil, nat_eq, length-append, flat_map, AllByRecursion, IsDistinct, Quantifier, Literal, Block, IsVariable, Token, Lined}
+use Words.{unlined, number, literal, letter, set}
+use Words.token
+use Words.word
 use Rattle.qbf_text.proofs.DistinctNumbers.{new_number}
 use Rattle.qrp.specs.declared.fault.TraceFault.TheVariants.{P7}
 use Rattle.qrp.specs.declared.item.Header.{Header}
@@ -17,7 +12,6 @@ use Rattle.qrp.specs.declared.item.Item.{Item}
 use Rattle.qrp.specs.declared.item.Item.TheVariants as item
 use Rattle.qrp.specs.Inferences.{Inference, IsInference, IsLiteral, IsNumber, numbers}
 use Rattle.qrp.specs.Derivations.{AreGrammatical, items_of_lists}
-use Rattle.qbf_spelling.specs.Spelling.{number, literal, letter, set}
 use Rattle.qrp.specs.Grammar.{step, lists}
 use Rattle.qrp.specs.Reading.{Fault, Place, AtP, Between, InSet, InLits, InAnts, AtResult, Row, Goes, Closes, Ends, Fails}
 use Rattle.qrp.specs.Reading.{row, is_used, items_from}

@@ -1,21 +1,14 @@
 -- The canonical text is read again.
-use Rattle.std.proofs.Common.{rules, append-nil, ◌≡◌, ◌<◌, ◌^◌, List, [], ◌∷◌, ◌++◌, map, Ok, ap, sym, ◌∙◌, arith, append_assoc}
-use Rattle.std.proofs.lemmas.Grind.{flat_map-append}
-use Rattle.std.proofs.lemmas.List.{map-append}
-use Rattle.std.proofs.lemmas.List.Folds.{flat_map-map}
-use Rattle.std.specs.List.{flat_map, AllByRecursion}
-use Rattle.qbf_core.specs.Blocks.{IsVariable}
-use Rattle.qbf_text.specs.declared.token.Comments.TheVariants.{Qrp}
-use Rattle.qbf_text.specs.declared.token.Token.{Token}
-use Rattle.qbf_text.specs.declared.token.Token.TheVariants as token
-use Rattle.qbf_text.specs.Tokens.{tokens}
+use Rattle.qbf_spelling.proofs.Words
+use Words.{rules, append-nil, ◌≡◌, ◌<◌, ◌^◌, List, [], ◌∷◌, ◌++◌, map, Ok, ap, sym, ◌∙◌, arith, append_assoc, flat_map-append, map-append}
+use Words.{flat_map-map, flat_map, AllByRecursion, IsVariable, Qrp, Token, tokens, number, literal, set}
+use Words.token
 use Rattle.qbf_text.specs.Canonical.{IsPlain, IsLine}
 use Rattle.qbf_text.proofs.CanonicalTokens.{joined, tokens-lines_text, all_appended, all_mapped, closed_plain}
 use Rattle.qrp.specs.declared.item.Outcome.{Outcome}
 use Rattle.qrp.specs.declared.item.Item.TheVariants as item
 use Rattle.qrp.specs.Inferences.{Inference, IsInference, numbers}
 use Rattle.qrp.specs.Derivations.{Derivation, IsWellFormed}
-use Rattle.qbf_spelling.specs.Spelling.{number, literal, set}
 use Rattle.qbf_spelling.proofs.CanonicalLines.{literals_plain, set_written}
 use Rattle.qrp.specs.Grammar.{header, step, result, lists, lines, text}
 use Rattle.qrp.specs.Laws.{ReadsText, ItemsOfTrace}

@@ -1,12 +1,10 @@
 -- Steps in flat buffers that grow.
-use Rattle.std.proofs.Common.{get_or, ◌≡◌, ◌<◌, ◌-◌, ◌^◌, ℕ, zero, suc, List, [], ◌∷◌, ◌++◌, length, take, refl, sym, ap, ◌∙◌, arith}
+use Rattle.qbf_spelling.proofs.Words
+use Words.{get_or, ◌≡◌, ◌<◌, ◌-◌, ◌^◌, ℕ, zero, suc, List, [], ◌∷◌, ◌++◌, length, take, refl, sym, ap, ◌∙◌, arith, AllByRecursion}
+use Words.{IsDistinct, Block, IsVariable, Literal, AllByRecursion-push}
 use Rattle.std.proofs.Common.{length-append}
-use Rattle.std.specs.List.{AllByRecursion, IsDistinct}
 use Rattle.std.specs.Prelude.{nat_eq}
 use Rattle.std.proofs.lemmas.List.{length-map}
-use Rattle.qbf_core.specs.Blocks.{Block, IsVariable}
-use Rattle.qbf_core.specs.Literal.{Literal}
-use Rattle.qbf_core.proofs.PrefixLaws.{AllByRecursion-push}
 use Rattle.qrp.specs.declared.grammar.Parts.{Parts}
 use Rattle.qrp.specs.declared.item.Header.{Header}
 use Rattle.qrp.specs.declared.item.Outcome.{Outcome}

@@ -1,23 +1,17 @@
 -- What is read is spelled, and a fault that is found stands.
-use Rattle.std.proofs.Common.{rules, ◌≡◌, ℕ, ◌≤◌, ◌+◌, List, [], ◌∷◌, ◌++◌, ◌⊎◌, inl, inr, length, Ok, Err, refl, ap, sym, ◌∙◌}
-use Rattle.std.proofs.Common.{false, arith, append_assoc, append-nil}
-use Rattle.std.proofs.lemmas.List.{map-append, length-append}
-use Rattle.std.specs.List.{flat_map, AllByRecursion, IsDistinct}
-use Rattle.qbf_core.specs.declared.quantifier.Quantifier.{Quantifier}
-use Rattle.qbf_core.specs.Literal.{Literal}
-use Rattle.qbf_core.specs.Blocks.{Block, IsVariable}
-use Rattle.qbf_core.proofs.PrefixLaws.{AllByRecursion-push}
-use Rattle.qbf_text.specs.declared.token.Token.{Token}
-use Rattle.qbf_text.specs.declared.token.Token.TheVariants as token
-use Rattle.qbf_text.specs.declared.token.Word.TheVariants as word
-use Rattle.qbf_text.specs.Lined.{Lined, unlined, EndsOnce}
+use Rattle.qbf_spelling.proofs.Words
+use Words.{rules, ◌≡◌, ℕ, ◌≤◌, ◌+◌, List, [], ◌∷◌, ◌++◌, ◌⊎◌, inl, inr, length, Ok, Err, refl, ap, sym, ◌∙◌, false, arith, append_assoc}
+use Words.{append-nil, map-append, length-append, flat_map, AllByRecursion, IsDistinct, Quantifier, Literal, Block, IsVariable}
+use Words.{AllByRecursion-push, Token, Lined, unlined, number, literal, letter, set}
+use Words.token
+use Words.word
+use Rattle.qbf_text.specs.Lined.{EndsOnce}
 use Rattle.qbf_text.proofs.DistinctNumbers.{push_distinct}
 use Rattle.qbf_text.proofs.AcceptedTokens.{Answers, flat_map-push}
 use Rattle.qrp.specs.declared.item.Header.{Header}
 use Rattle.qrp.specs.declared.item.Outcome.{Outcome}
 use Rattle.qrp.specs.Inferences.{Inference, IsInference, IsLiteral, IsNumber, numbers}
 use Rattle.qrp.specs.Derivations.{Derivation}
-use Rattle.qbf_spelling.specs.Spelling.{number, literal, letter, set}
 use Rattle.qrp.specs.Grammar.{header, step, result_word, lists}
 use Rattle.qrp.specs.Laws.{ReadsAsRead}
 use Rattle.qbf_text.proofs.Answered.{explained}

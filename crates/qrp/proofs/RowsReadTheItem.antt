@@ -1,15 +1,15 @@
 -- What is read by the rows of the items is the next item.
-use Rattle.std.proofs.Common.{rules, ◌≡◌, ℕ, false, List, [], ◌∷◌, Some, None, IfSome, Ok, Err, ◌⊎◌, refl, ap, sym, ◌∙◌}
-use Rattle.qbf_text.specs.declared.token.Token.{Token}
-use Rattle.qbf_text.specs.declared.token.Token.TheVariants as token
+use Rattle.qbf_spelling.proofs.Words
+use Words.{rules, ◌≡◌, ℕ, false, List, [], ◌∷◌, Some, None, IfSome, Ok, Err, ◌⊎◌, refl, ap, sym, ◌∙◌, Token, Lined, Read, read_from}
+use Words.{read-one}
+use Words.token
 use Rattle.qbf_text.specs.declared.grammar.ReadError.{ReadError}
 use Rattle.qbf_text.specs.declared.grammar.ReadError.TheVariants as error
 use Rattle.qbf_text.specs.Left.{is_end}
-use Rattle.qbf_text.specs.Lined.{Lined, Known}
-use Rattle.qbf_text.specs.Rows.{Read, Cut, behind, read_from, reads_from}
+use Rattle.qbf_text.specs.Lined.{Known}
+use Rattle.qbf_text.specs.Rows.{Cut, behind, reads_from}
 use Rattle.qbf_text.specs.Rows as rows
 use Rattle.qbf_text.specs.Taking.{Leaves, Reads}
-use Rattle.qbf_text.proofs.OneToken.{read-one}
 use Rattle.qbf_text.proofs.OneToken as going
 use Rattle.qrp.specs.declared.fault.TraceFault.{TraceFault}
 use Rattle.qrp.specs.declared.fault.TraceFault.TheVariants.{P1, P7, P9}

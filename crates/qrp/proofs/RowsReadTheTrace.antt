@@ -1,10 +1,8 @@
 -- What is read by the rows of a trace that is made is what reading says.
-use Rattle.std.proofs.Common.{rules, ◌≡◌, ℕ, List, [], ◌∷◌, Result, Ok, Err, refl, ap, sym, ◌∙◌}
-use Rattle.qbf_text.specs.declared.token.Token.{Token}
-use Rattle.qbf_text.specs.Lined.{Lined}
-use Rattle.qbf_text.specs.Rows.{Read, Cut, read_from}
+use Rattle.qbf_spelling.proofs.Words
+use Words.{rules, ◌≡◌, ℕ, List, [], ◌∷◌, Result, Ok, Err, refl, ap, sym, ◌∙◌, Token, Lined, Read, read_from, read-one}
+use Rattle.qbf_text.specs.Rows.{Cut}
 use Rattle.qbf_text.specs.Rows as rows
-use Rattle.qbf_text.proofs.OneToken.{read-one}
 use Rattle.qbf_text.proofs.OneToken as going
 use Rattle.qbf_text.proofs.Answered.{AnswersAsRead}
 use Rattle.qrp.specs.declared.fault.TraceFault.{TraceFault}

@@ -1,13 +1,10 @@
 -- Reading a trace stops behind its result word.
-use Rattle.std.proofs.Common.{◌≡◌, ◌≤◌, ℕ, List, [], ◌++◌, length, Option, Some, None, Ok, refl, ap, sym, ◌∙◌, append_assoc}
-use Rattle.qbf_text.specs.declared.token.Comments.TheVariants.{Qrp}
-use Rattle.qbf_text.specs.declared.token.Token.TheVariants as token
-use Rattle.qbf_text.specs.Ahead.{ahead}
-use Rattle.qbf_text.specs.Lined.{Lined}
-use Rattle.qbf_text.specs.Rows.{read_from}
+use Rattle.qbf_spelling.proofs.Words
+use Words.{◌≡◌, ◌≤◌, ℕ, List, [], ◌++◌, length, Option, Some, None, Ok, refl, ap, sym, ◌∙◌, append_assoc, Qrp, ahead, Lined}
+use Words.{tokens}
+use Words.token
 use Rattle.qbf_text.specs.Rows as rows
 use Rattle.qbf_text.specs.Stopping.{IfKnown, StopsBehind, Stops}
-use Rattle.qbf_text.specs.Tokens.{tokens}
 use Rattle.qbf_text.proofs.StopsAtTokens.{taken_no_end, unread_fault}
 use Rattle.qrp.specs.declared.fault.TraceFault.TheVariants.{P7}
 use Rattle.qrp.specs.Answers.{StopsBehindResult}

@@ -1,17 +1,13 @@
 -- The parts of a canonical text, one after the other.
-use Rattle.std.proofs.Common.{◌≡◌, ℕ, List, [], ◌∷◌, ◌++◌, map, refl, ap, sym, ◌∙◌, append_assoc, append-nil, drop, get_or}
-use Rattle.std.proofs.Common.{length, zero, suc, inl, inr, arith, ◌<◌, ◌+◌, add-one}
-use Rattle.std.specs.Prelude.{decimal}
-use Rattle.std.specs.List.{AllByRecursion, flat_map}
-use Rattle.std.proofs.lemmas.Grind.{flat_map-append}
-use Rattle.std.proofs.lemmas.List.Folds.{flat_map-map}
+use Rattle.qbf_spelling.proofs.Words
+use Words.{◌≡◌, ℕ, List, [], ◌∷◌, ◌++◌, map, refl, ap, sym, ◌∙◌, append_assoc, append-nil, drop, get_or, length, zero, suc, inl, inr, arith}
+use Words.{◌<◌, ◌+◌, add-one, decimal, AllByRecursion, flat_map, flat_map-append, flat_map-map, number, literal, set}
 use Rattle.qbf_text.proofs.SentParts.{line_rest-map, zero_rest, part_at}
 use Rattle.std.proofs.lemmas.Option.{slice_get_cases}
 use Rattle.qbf_text.specs.Canonical.{line_text, lines_text}
 use Rattle.qrp.specs.declared.item.Header.{Header}
 use Rattle.qrp.specs.Inferences.{Inference, IsAt}
 use Rattle.qrp.specs.Derivations.{Derivation, steps_at, with_steps_at}
-use Rattle.qbf_spelling.specs.Spelling.{number, literal, set}
 use Rattle.qbf_spelling.specs.Texts.{literal_text}
 use Rattle.qbf_spelling.proofs.WrittenParts.{closed_numbers, set_line}
 use Rattle.qrp.specs.Grammar.{step, header, result, text}

@@ -1,8 +1,7 @@
 -- What the calls answer that read a whole trace.
-use Rattle.std.specs.Prelude.{◌≡◌, ◌≤◌, ℕ, List, ◌++◌, length, Bool, true, false, Option, option_map, Result, Ok, Err}
+use Rattle.qbf_spelling.specs.Words.{◌≡◌, ◌≤◌, ℕ, List, ◌++◌, length, Bool, true, false, Option, option_map, Result, Ok, Err, Lined}
 use Rattle.qbf_text.specs.Answering as answering
 use Rattle.qbf_text.specs.Left.{IsUnbroken}
-use Rattle.qbf_text.specs.Lined.{Lined}
 use Rattle.qrp.specs.declared.fault.TraceFault.{TraceFault}
 use Rattle.qbf_text.specs.Stopping.{IsAtMostASeparator}
 use Rattle.qrp.specs.declared.fault.TraceFault.TheVariants.{P1, P7, P9}

@@ -1,7 +1,5 @@
 -- Steps that lie in flat buffers.
-use Rattle.std.specs.Prelude.{◌≡◌, ℕ, List, [], ◌∷◌, length}
-use Rattle.qbf_core.specs.Blocks.{Block}
-use Rattle.qbf_core.specs.Literal.{Literal}
+use Rattle.qbf_spelling.specs.Words.{◌≡◌, ℕ, List, [], ◌∷◌, length, Block, Literal}
 use Rattle.qrp.specs.declared.item.Header.{Header}
 use Rattle.qrp.specs.declared.item.Outcome.{Outcome}
 use Rattle.qrp.specs.Inferences.{Inference}

@@ -1,6 +1,5 @@
 -- What was left to give before a part of a trace, and what is left behind it.
-use Rattle.std.specs.Prelude.{List, Option, Some, None, Result}
-use Rattle.qbf_text.specs.Lined.{Known}
+use Rattle.qbf_spelling.specs.Words.{List, Option, Some, None, Result, Known}
 use Rattle.qrp.specs.declared.item.Item.{Item}
 use Rattle.qrp.specs.Reading.{Fault, Place, items_from}
 

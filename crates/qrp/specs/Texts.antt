@@ -1,7 +1,5 @@
 -- The parts of a canonical text, as they are written one after the other.
-use Rattle.std.specs.Prelude.{ℕ, List, [], ◌∷◌, ◌++◌, decimal}
-use Rattle.std.specs.List.{flat_map}
-use Rattle.qbf_core.specs.Blocks.{Block}
+use Rattle.qbf_spelling.specs.Words.{ℕ, List, [], ◌∷◌, ◌++◌, decimal, flat_map, Block}
 use Rattle.qbf_text.specs.Canonical.{spaced}
 use Rattle.qrp.specs.Inferences.{Inference}
 use Rattle.qbf_spelling.specs.Texts.{literal_text, closing, set_text}
