@@ -142,6 +142,10 @@ pub all_mapped : {X Y : Type 0} (P : X → Type 0) (Q : Y → Type 0) (f : X →
 all_mapped P Q f one [] h = tt
 all_mapped P Q f one (x ∷ xs) h = (one x h.0, all_mapped P Q f one xs h.1)
 
+pub all_of : {X : Type 0} (P Q : X → Type 0) → ((x : X) → P x → Q x) → (xs : List X) → AllByRecursion P xs → AllByRecursion Q xs
+all_of P Q one [] h = tt
+all_of P Q one (x ∷ xs) h = (one x h.0, all_of P Q one xs h.1)
+
 -- plain tokens and a zero
 pub closed_plain : (ts : List Token) → AllByRecursion IsPlain ts → AllByRecursion IsPlain (ts ++ token.Number false 0 ∷ [])
 closed_plain ts h = all_appended IsPlain ts (token.Number false 0 ∷ []) h (omega arith, tt)

@@ -1,6 +1,7 @@
 -- Texts that go out part by part.
 use Rattle.std.proofs.Common.{◌≡◌, ℕ, ◌-◌, ◌^◌, ◌<◌, Ok, Err, List, [], ◌∷◌, ◌++◌, Option, take, drop, refl, sym, ap, subst, ◌∙◌}
-use Rattle.std.proofs.Common.{append_assoc, ◌+◌, suc, add-one, drop-cons, get_or, length}
+use Rattle.std.proofs.Common.{append_assoc, ◌+◌, slice_get, Some, suc, add-one, drop-cons, get_or, length}
+use Rattle.std.proofs.lemmas.Option.{slice_get_within, get_or_from_slice_get}
 use Rattle.std.proofs.lemmas.Result.{err_from_is_err_and}
 use Rattle.std.specs.List.{flat_map}
 use Rattle.std.specs.Result.{IsErrAnd}
@@ -28,6 +29,15 @@ line_rest-map f (x ∷ xs) ts = ap (λ (k : List ℕ). 32 ∷ (spelled (f x) ++ 
 -- a zero closes them
 pub zero_rest : (ts : List Token) → line_rest (token.Number false 0 ∷ ts) ≡ 32 ∷ 48 ∷ line_rest ts
 zero_rest ts = ap (λ (k : List ℕ). 32 ∷ (k ++ line_rest ts)) zero_decimal
+
+-- the rest of a list, from the item at place i on
+pub drop_at : {X : Type 0} (xs : List X) (i : ℕ) (x : X) → slice_get xs i ≡ Some x → drop i xs ≡ x ∷ drop (i + 1) xs
+drop_at xs i x at = let lt = slice_get_within xs i x at in let e = get_or_from_slice_get xs i x x at in
+    rw (add-one) (drop-cons xs i x lt ∙ ap (λ y. y ∷ drop (suc i) xs) e)
+
+pub part_at : {X : Type 0} (f : X → List ℕ) (xs : List X) (i : ℕ) (x : X) → slice_get xs i ≡ Some x
+    → flat_map f (drop i xs) ≡ f x ++ flat_map f (drop (i + 1) xs)
+part_at f xs i x at = ap (flat_map f) (drop_at xs i x at)
 
 -- the rest of a list of parts, from place i on
 pub parts_next : {X : Type 0} (f : X → List ℕ) (xs : List X) (i : ℕ) (x d : X) → i < length xs → x ≡ get_or xs i d

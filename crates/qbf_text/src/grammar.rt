@@ -58,6 +58,23 @@ impl<F> From<ScanFault> for ReadError<F> {
     }
 }
 
+impl<F: Copy> ReadError<F> {
+    ghost use Rattle.std.specs.Prelude.{◌≡◌};
+    ghost use Rattle.qbf_text.specs.Answering.{fault_of};
+
+    /// The fault that it stands for, and its line: `device` where the source failed and `memory`
+    /// where an allocation failed, both on line 0.
+    pub fn fault(self, device: F, memory: F) -> (F, u64)
+        ensures { result ≡ fault_of device memory self }
+    {
+        match self {
+            ReadError::Device => (device, 0),
+            ReadError::Memory => (memory, 0),
+            ReadError::Text { fault, line } => (fault, line),
+        }
+    }
+}
+
 /// A text by its rows: what each place makes of each token.
 ///
 /// It is handed one token after the other, and keeps what it makes of them.

@@ -1,48 +1,39 @@
 -- Accepted tokens, and the place that they lead to.
-use Rattle.std.proofs.Common.{rules, ◌≡◌, ◌∙◌, ◌≢◌, ℕ, ◌<◌, ◌≤◌, ◌+◌, Bool, true, false, List, [], ◌∷◌, ◌++◌, length, map}
-use Rattle.std.proofs.Common.{refl, ◌∙◌, arith, append_assoc, nat_eq}
-use Rattle.std.proofs.lemmas.List.{map-append, append-nil, length-append}
-use Rattle.std.specs.List.{flat_map, AllByRecursion, IsDistinct}
-use Rattle.qbf_core.specs.declared.quantifier.Quantifier.{Quantifier}
-use Rattle.qbf_core.specs.Literal.{Literal}
-use Rattle.qbf_core.specs.Blocks.{Block, pairs, pairs_of_block, is_bound, blocks_of, variables}
-use Rattle.qbf_text.specs.declared.token.Token.{Token}
-use Rattle.qbf_text.specs.declared.token.Token.TheVariants as token
-use Rattle.qbf_text.specs.declared.token.Word.TheVariants as word
+use Rattle.qbf_spelling.proofs.Words
+use Words.{rules, ◌≡◌, ◌∙◌, ◌≢◌, ℕ, ◌<◌, ◌≤◌, ◌+◌, Bool, true, false, List, [], ◌∷◌, ◌++◌, length, map, refl, ◌∙◌, arith, append_assoc}
+use Words.{map-append, length-append, flat_map, AllByRecursion, Quantifier, Literal, Block, pairs, is_bound, blocks_of, variables, Token}
+use Words.{number, literal, letter, set, Ends}
+use Words.token
+use Words.word
+use Rattle.std.proofs.lemmas.List.{append-nil}
+use Rattle.qbf_core.specs.Blocks.{pairs_of_block}
 use Rattle.qbf_core.proofs.DistinctNumbers.{middle, front_all, front_distinct, new_number}
 use Rattle.qdimacs.proofs.AllVariablesBound.{is_bound_variables}
 use Rattle.qbf_text.proofs.AcceptedTokens.{Leads, Stays, Passes, leads_then}
-use Rattle.qdimacs.specs.Grammar.{number, literal, letter, header, set, clause}
-use Rattle.qbf_text.specs.Rows.{Goes, Ends}
-use Rattle.qdimacs.specs.Reading.{Heading, Place, AtP, AtCount, Between, InSet, InClause, Whole, row, number_row, header_number}
+use Rattle.qdimacs.specs.Faults.{AreGood}
+use Rattle.qdimacs.specs.Grammar.{header, clause}
+use Rattle.qbf_text.specs.Rows.{Goes}
+use Rattle.qdimacs.specs.Reading.{Heading, Place, AtP, AtCount, Between, InSet, InClause, Whole, row}
+use Rattle.qdimacs.specs.Reading.{Pairs, Clauses, AreFrom}
 
 -- ---- the header
 
-pub number_row_ok : (to : ℕ → Place) (n : ℕ) → n ≤ 2147483647 → number_row to (number n) (header_number (number n)) ≡ Goes (to n)
-number_row_ok to n le = search rules
-
 -- at the number of clauses
 pub leads_vars : (v : ℕ) → v ≤ 2147483647 → Leads row AtP (token.Word word.P ∷ token.Word word.Cnf ∷ number v ∷ []) (AtCount v)
-leads_vars v lv = Passes refl (Passes refl (Passes (number_row_ok AtCount v lv) Stays))
+leads_vars v lv = Passes refl (Passes refl (Passes (search rules) Stays))
 
 pub leads_header : (h : Heading) → h.max_var ≤ 2147483647 → h.count ≤ 2147483647
     → Leads row AtP (header h.max_var h.count) (Between h [] [])
-leads_header h lv lc = leads_then (leads_vars h.max_var lv)
-    (Passes (number_row_ok (λ c. Between (record { max_var = h.max_var; count = c }) [] []) h.count lc) Stays)
+leads_header h lv lc = leads_then (leads_vars h.max_var lv) (Passes (search rules) Stays)
 
 -- ---- variables
 
--- the rules of a formula's variables: distinct, and within the number of variables
-pub record AreGood (max_var : ℕ) (ps : List (Quantifier × ℕ)) : Type 0 where
-  pub distinct : IsDistinct nat_eq (variables ps)
-  pub within : AllByRecursion (λ v. (1 ≤ v) × (v ≤ max_var)) (variables ps)
-
 -- what holds of each variable holds of a bound one
-pub bound_one : (P : ℕ → Type 0) (v : ℕ) (ps : List (Quantifier × ℕ)) → is_bound v ps ≡ true → AllByRecursion P (variables ps) → P v
+pub bound_one : (P : ℕ → Type 0) (v : ℕ) (ps : Pairs) → is_bound v ps ≡ true → AllByRecursion P (variables ps) → P v
 bound_one P v [] e h = absurd cc
 bound_one P v (y ∷ ps) e h = let rest = bound_one P v ps in search rules
 
-pub good_front : (max_var : ℕ) (xs ys : List (Quantifier × ℕ)) → AreGood max_var (xs ++ ys) → AreGood max_var xs
+pub good_front : (max_var : ℕ) (xs ys : Pairs) → AreGood max_var (xs ++ ys) → AreGood max_var xs
 good_front max_var xs ys good = record {
   distinct = front_distinct (variables xs) (variables ys) (rw map-append at good.distinct);
   within = front_all (λ v. (1 ≤ v) × (v ≤ max_var)) (variables xs) (variables ys) (rw map-append at good.within);
@@ -50,14 +41,14 @@ good_front max_var xs ys good = record {
 
 -- ---- a set
 
-variable_row : (h : Heading) (ps : List (Quantifier × ℕ)) (q : Quantifier) (v : ℕ) → 1 ≤ v → v ≤ h.max_var → is_bound v ps ≡ false
+variable_row : (h : Heading) (ps : Pairs) (q : Quantifier) (v : ℕ) → 1 ≤ v → v ≤ h.max_var → is_bound v ps ≡ false
     → row (InSet h ps q) (number v) ≡ Goes (InSet h (ps ++ (q, v) ∷ []) q)
 variable_row h ps q v low high fresh = search rules
 
-letter_row : (h : Heading) (ps : List (Quantifier × ℕ)) (q : Quantifier) → row (Between h ps []) (letter q) ≡ Goes (InSet h ps q)
+letter_row : (h : Heading) (ps : Pairs) (q : Quantifier) → row (Between h ps []) (letter q) ≡ Goes (InSet h ps q)
 letter_row h ps q = search rules
 
-leads_variables : (h : Heading) (ps : List (Quantifier × ℕ)) (q : Quantifier) (vs : List ℕ) → AreGood h.max_var (ps ++ map (λ v. (q, v)) vs)
+leads_variables : (h : Heading) (ps : Pairs) (q : Quantifier) (vs : List ℕ) → AreGood h.max_var (ps ++ map (λ v. (q, v)) vs)
     → Leads row (InSet h ps q) (map number vs) (InSet h (ps ++ map (λ v. (q, v)) vs) q)
 leads_variables h ps q [] good = rw append-nil Stays
 leads_variables h ps q (v ∷ vs) good =
@@ -68,12 +59,12 @@ leads_variables h ps q (v ∷ vs) good =
     (rw append_assoc at (leads_variables h (ps ++ (q, v) ∷ []) q vs (rw append_assoc good)))
 
 -- a set that is not closed
-pub leads_begun_set : (h : Heading) (ps : List (Quantifier × ℕ)) (q : Quantifier) (vs : List ℕ)
+pub leads_begun_set : (h : Heading) (ps : Pairs) (q : Quantifier) (vs : List ℕ)
     → AreGood h.max_var (ps ++ map (λ v. (q, v)) vs)
     → Leads row (Between h ps []) (letter q ∷ map number vs) (InSet h (ps ++ map (λ v. (q, v)) vs) q)
 leads_begun_set h ps q vs good = Passes (letter_row h ps q) (leads_variables h ps q vs good)
 
-pub leads_sets : (h : Heading) (ps : List (Quantifier × ℕ)) (sets : List Block) → AreGood h.max_var (ps ++ pairs sets)
+pub leads_sets : (h : Heading) (ps : Pairs) (sets : List Block) → AreGood h.max_var (ps ++ pairs sets)
     → Leads row (Between h ps []) (flat_map set sets) (Between h (ps ++ pairs sets) [])
 leads_sets h ps [] good = rw append-nil Stays
 leads_sets h ps (s ∷ sets) good =
@@ -85,13 +76,13 @@ leads_sets h ps (s ∷ sets) good =
 
 -- ---- a clause
 
-module _ (h : Heading) (ps : List (Quantifier × ℕ)) (good : AreGood h.max_var ps) where
-  literal_row : (cs : List (List Literal)) (ls : List Literal) (v : ℕ) (negative : Bool) → 1 ≤ v → v ≤ h.max_var → is_bound v ps ≡ true
+module _ (h : Heading) (ps : Pairs) (good : AreGood h.max_var ps) where
+  literal_row : (cs : Clauses) (ls : List Literal) (v : ℕ) (negative : Bool) → 1 ≤ v → v ≤ h.max_var → is_bound v ps ≡ true
       → row (InClause h ps cs ls) (token.Number negative v) ≡ Goes (InClause h ps cs (ls ++ record { var = v; negative = negative } ∷ []))
   literal_row cs ls v negative low high bound = search rules
 
   -- the literals of a clause that is not closed
-  leads_literals : (cs : List (List Literal)) (ls xs : List Literal) → AllByRecursion (λ l. is_bound l.var ps ≡ true) xs
+  leads_literals : (cs : Clauses) (ls xs : List Literal) → AreFrom ps xs
       → Leads row (InClause h ps cs ls) (map literal xs) (InClause h ps cs (ls ++ xs))
   leads_literals cs ls [] bound = rw append-nil Stays
   leads_literals cs ls (l ∷ xs) bound =
@@ -99,31 +90,31 @@ module _ (h : Heading) (ps : List (Quantifier × ℕ)) (good : AreGood h.max_var
       Passes (literal_row cs ls l.var l.negative bounds.0 bounds.1 bound.0)
       (rw append_assoc at (leads_literals cs (ls ++ l ∷ []) xs bound.1))
 
-  first_row : (cs : List (List Literal)) (negative : Bool) (n : ℕ) → length cs < h.count
+  first_row : (cs : Clauses) (negative : Bool) (n : ℕ) → length cs < h.count
       → row (Between h ps cs) (token.Number negative n) ≡ row (InClause h ps cs []) (token.Number negative n)
   first_row cs negative n more = search rules
 
-  begins : {cs : List (List Literal)} {negative : Bool} {n : ℕ} {ts : List Token} {q : Place} → length cs < h.count
+  begins : {cs : Clauses} {negative : Bool} {n : ℕ} {ts : List Token} {q : Place} → length cs < h.count
       → Leads row (InClause h ps cs []) (token.Number negative n ∷ ts) q → Leads row (Between h ps cs) (token.Number negative n ∷ ts) q
   begins {cs} {negative} {n} more (Passes e l) = Passes (first_row cs negative n more ∙ e) l
 
-  pub leads_begun_clause : (cs : List (List Literal)) (ls : List Literal) → AllByRecursion (λ l. is_bound l.var ps ≡ true) ls → ls ≢ []
+  pub leads_begun_clause : (cs : Clauses) (ls : List Literal) → AreFrom ps ls → ls ≢ []
       → length cs < h.count → Leads row (Between h ps cs) (map literal ls) (InClause h ps cs ls)
   leads_begun_clause cs [] bound some more = absurd (some refl)
   leads_begun_clause cs (l ∷ ls) bound some more = begins more (leads_literals cs [] (l ∷ ls) bound)
 
-  leads_clause : (cs : List (List Literal)) (c : List Literal) → AllByRecursion (λ l. is_bound l.var ps ≡ true) c → length cs < h.count
+  leads_clause : (cs : Clauses) (c : List Literal) → AreFrom ps c → length cs < h.count
       → Leads row (Between h ps cs) (clause c) (Between h ps (cs ++ c ∷ []))
   leads_clause cs [] bound more = begins more (Passes refl Stays)
   leads_clause cs (l ∷ ls) bound more = begins more (leads_then (leads_literals cs [] (l ∷ ls) bound) (Passes refl Stays))
 
-  pub leads_clauses : (cs xs : List (List Literal)) → AllByRecursion (AllByRecursion (λ l. is_bound l.var ps ≡ true)) xs
+  pub leads_clauses : (cs xs : Clauses) → AllByRecursion (AreFrom ps) xs
       → length cs + length xs ≤ h.count → Leads row (Between h ps cs) (flat_map clause xs) (Between h ps (cs ++ xs))
   leads_clauses cs [] bound few = rw append-nil Stays
   leads_clauses cs (c ∷ xs) bound few = leads_then (leads_clause cs c bound.0 (omega arith))
       (rw append_assoc at (leads_clauses (cs ++ c ∷ []) xs bound.1 (omega (arith, length-append cs (c ∷ [])))))
 
 -- the end, once all clauses are there
-pub end_row : (h : Heading) (ps : List (Quantifier × ℕ)) (cs : List (List Literal)) → h.count ≤ length cs
+pub end_row : (h : Heading) (ps : Pairs) (cs : Clauses) → h.count ≤ length cs
     → row (Between h ps cs) token.End ≡ Ends tt (Whole (record { max_var = h.max_var; blocks = blocks_of ps; clauses = cs }))
 end_row h ps cs all = search rules

@@ -1,12 +1,14 @@
 -- As many bound variables as the header allows: each that it allows is bound.
-use Rattle.std.proofs.Common.{rules, ◌≡◌, ℕ, ◌≤◌, ◌+◌, ◌||◌, Bool, true, false, List, [], ◌∷◌, length, eqb, refl, sym, ap, ◌∙◌, arith}
-use Rattle.std.specs.List.{list_any, IsDistinct, AllByRecursion}
+use Rattle.qbf_spelling.proofs.Words
+use Words.{rules, ◌≡◌, ℕ, ◌≤◌, ◌+◌, ◌||◌, Bool, true, false, List, [], ◌∷◌, length, eqb, refl, sym, ap, ◌∙◌, arith, IsDistinct}
+use Words.{AllByRecursion, Block, pairs, variables, is_bound, IsVariable}
+use Rattle.std.specs.List.{list_any}
 use Rattle.std.proofs.lemmas.List.{length-map}
 use Rattle.std.proofs.lemmas.Map.Keys.{IsDistinct-cons}
 use Rattle.std.proofs.lemmas.Map.Steps.{length-le_from_distinct_below}
-use Rattle.qbf_core.specs.declared.quantifier.Quantifier.{Quantifier}
-use Rattle.qbf_core.specs.Blocks.{Block, pairs, variables, is_bound, IsVariable, IsPrefix}
+use Rattle.qbf_core.specs.Blocks.{IsPrefix}
 use Rattle.qdimacs.specs.Reading.{IsFull}
+use Rattle.qdimacs.specs.Reading.{Pairs}
 
 -- ---- numbers that are in no list
 
@@ -46,7 +48,7 @@ module _ (n : ℕ) (vs : List ℕ) (distinct : IsDistinct eqb vs) (within : AllB
       by true e = refl
       by false e = absurd (crowded v low high e)
 
-pub is_bound_variables : (v : ℕ) (ps : List (Quantifier × ℕ)) → is_bound v ps ≡ list_any (eqb v) (variables ps)
+pub is_bound_variables : (v : ℕ) (ps : Pairs) → is_bound v ps ≡ list_any (eqb v) (variables ps)
 is_bound_variables v [] = refl
 is_bound_variables v (p ∷ ps) = ap (λ (b : Bool). eqb v p.1 || b) (is_bound_variables v ps)
 

@@ -1,35 +1,22 @@
 -- The canonical text is read again.
-use Rattle.std.proofs.Common.{rules, ◌≡◌, ℕ, Bool, true, List, [], ◌∷◌, ◌++◌, length, map, refl, ap, ◌∙◌, arith, append_assoc}
-use Rattle.std.proofs.lemmas.Grind.{flat_map-append}
-use Rattle.std.proofs.lemmas.List.Folds.{flat_map-map}
-use Rattle.std.specs.List.{flat_map, AllByRecursion}
-use Rattle.qbf_core.specs.declared.quantifier.Quantifier.{Quantifier}
-use Rattle.qbf_core.specs.Literal.{Literal}
-use Rattle.qbf_core.specs.Blocks.{Block, pairs, variables, is_bound, IsVariable, AreBound}
-use Rattle.qbf_core.specs.Qbf.{Qbf, IsWellFormed}
-use Rattle.qbf_text.specs.declared.token.Comments.TheVariants.{Qdimacs}
-use Rattle.qbf_text.specs.declared.token.Token.{Token}
-use Rattle.qbf_text.specs.declared.token.Token.TheVariants as token
-use Rattle.qbf_text.specs.Tokens.{tokens}
+use Rattle.qbf_spelling.proofs.Words
+use Words.{◌≡◌, ℕ, true, List, [], ◌∷◌, ◌++◌, length, map, refl, ap, ◌∙◌, arith, append_assoc, flat_map-append, flat_map-map, flat_map}
+use Words.{AllByRecursion, Quantifier, Literal, Block, pairs, variables, is_bound, IsVariable, Qbf, Qdimacs, Token, tokens, literal, set}
+use Words.token
+use Rattle.qbf_core.specs.Blocks.{AreBound}
+use Rattle.qbf_core.specs.Qbf.{IsWellFormed}
 use Rattle.qbf_text.specs.Canonical.{IsPlain, IsLine}
-use Rattle.qbf_text.proofs.CanonicalTokens.{joined, tokens-lines_text, all_appended, all_mapped, closed_plain}
-use Rattle.qdimacs.specs.Grammar.{number, literal, letter, header, set, clause, spelling, lines, text}
+use Rattle.qbf_text.proofs.CanonicalTokens.{joined, tokens-lines_text, all_appended, all_mapped, all_of, closed_plain}
+use Rattle.qbf_spelling.proofs.CanonicalLines.{literals_plain, set_written}
+use Rattle.qdimacs.specs.Grammar.{header, clause, spelling, lines, text}
 use Rattle.qdimacs.specs.Laws.{ReadsText}
 use Rattle.qdimacs.proofs.AcceptedTokens.{bound_one}
 use Rattle.qdimacs.proofs.SpelledIsRead.{spelled_is_read}
+use Rattle.qdimacs.specs.Reading.{Pairs}
 
 -- ---- the lines can be written
 
-variable_plain : (v : ℕ) → IsVariable v → IsPlain (number v)
-variable_plain v h = omega (arith, h.1)
-
-literal_plain : (v : ℕ) (negative : Bool) → IsVariable v → IsPlain (token.Number negative v)
-literal_plain v negative h = search rules
-
-letter_line : (q : Quantifier) (ts : List Token) → AllByRecursion IsPlain ts → IsLine (letter q ∷ ts)
-letter_line q ts h = search rules
-
-front : (P : ℕ → Type 0) (q : Quantifier) (vs : List ℕ) (ps : List (Quantifier × ℕ))
+front : (P : ℕ → Type 0) (q : Quantifier) (vs : List ℕ) (ps : Pairs)
     → AllByRecursion P (variables (map (λ v. (q, v)) vs ++ ps)) → AllByRecursion P vs × AllByRecursion P (variables ps)
 front P q [] ps h = (tt, h)
 front P q (v ∷ vs) ps h = let k = front P q vs ps h.1 in ((h.0, k.0), k.1)
@@ -37,11 +24,7 @@ front P q (v ∷ vs) ps h = let k = front P q vs ps h.1 in ((h.0, k.0), k.1)
 sets_lines : (bs : List Block) → AllByRecursion IsVariable (variables (pairs bs)) → AllByRecursion IsLine (map set bs)
 sets_lines [] h = tt
 sets_lines (b ∷ bs) h =
-    let k = front IsVariable b.quantifier b.vars (pairs bs) h in (
-      letter_line b.quantifier (map number b.vars ++ number 0 ∷ [])
-          (closed_plain (map number b.vars) (all_mapped IsVariable IsPlain number variable_plain b.vars k.0)),
-      sets_lines bs k.1,
-    )
+    let k = front IsVariable b.quantifier b.vars (pairs bs) h in (set_written b k.0, sets_lines bs k.1)
 
 numbers_line : (ls : List Literal) → AllByRecursion IsPlain (clause ls) → IsLine (clause ls)
 numbers_line [] h = (tt, h)
@@ -49,8 +32,8 @@ numbers_line (l ∷ ls) h = (tt, h)
 
 clause_line : (bs : List Block) → AllByRecursion IsVariable (variables (pairs bs)) → (ls : List Literal) → AreBound bs ls
     → IsLine (clause ls)
-clause_line bs within ls h = numbers_line ls (closed_plain (map literal ls) (all_mapped (λ l. is_bound l.var (pairs bs) ≡ true) IsPlain
-    literal (λ l bound. literal_plain l.var l.negative (bound_one IsVariable l.var (pairs bs) bound within)) ls h))
+clause_line bs within ls h = numbers_line ls (closed_plain (map literal ls) (literals_plain ls
+    (all_of (λ l. is_bound l.var (pairs bs) ≡ true) (λ l. IsVariable l.var) (λ l is. bound_one IsVariable l.var (pairs bs) is within) ls h)))
 
 lines_written : (f : Qbf) → IsWellFormed f → AllByRecursion IsLine (lines f)
 lines_written f w = (

@@ -1,43 +1,38 @@
 -- What is read is spelled, and a fault that is found stands.
-use Rattle.std.proofs.Common.{rules, inl, inr, ◌⊎◌, ◌≡◌, ◌≢◌, ℕ, ◌<◌, ◌≤◌, true, false, List, [], ◌∷◌, ◌++◌, length, map}
-use Rattle.std.proofs.Common.{Option, Some, None, IfSome, Result, Ok, Err, refl, ap, sym, subst, ◌∙◌, arith, append_assoc, nat_eq}
-use Rattle.std.proofs.lemmas.List.{append-nil, map-append, length-append}
-use Rattle.std.specs.List.{flat_map, AllByRecursion, IsDistinct}
-use Rattle.qbf_core.specs.declared.quantifier.Quantifier.{Quantifier}
-use Rattle.qbf_core.specs.Literal.{Literal}
-use Rattle.qbf_core.specs.Blocks.{Block, pairs, pairs_of_block, is_bound, blocks_of, variables}
-use Rattle.qbf_core.specs.Qbf.{Qbf}
-use Rattle.qbf_core.proofs.PrefixLaws.{AllByRecursion-push}
+use Rattle.qbf_spelling.proofs.Words
+use Words.{rules, inl, inr, ◌⊎◌, ◌≡◌, ◌≢◌, ℕ, ◌<◌, ◌≤◌, true, false, List, [], ◌∷◌, ◌++◌, length, map, Ok, Err, refl, ap, sym, subst, ◌∙◌}
+use Words.{arith, append_assoc, nat_eq, map-append, length-append, flat_map, AllByRecursion, IsDistinct, Quantifier, Literal, Block, pairs}
+use Words.{is_bound, blocks_of, variables, AllByRecursion-push, Token, Lined, number, literal, letter, set, unlined, Ends}
+use Words.token
+use Rattle.std.proofs.lemmas.List.{append-nil}
+use Rattle.qbf_core.specs.Blocks.{pairs_of_block}
 use Rattle.qbf_core.proofs.BlockLaws.{pairs-blocks_of, Alternates-blocks_of}
-use Rattle.qdimacs.specs.declared.fault.FormulaFault.{FormulaFault}
-use Rattle.qbf_text.specs.declared.token.Token.{Token}
-use Rattle.qbf_text.specs.declared.token.Token.TheVariants as token
-use Rattle.qbf_text.specs.Lined.{Lined, EndsOnce}
+use Rattle.qbf_text.specs.Lined.{EndsOnce}
 use Rattle.qbf_text.specs.Left.{is_end}
 use Rattle.qbf_core.proofs.DistinctNumbers.{push_distinct}
 use Rattle.qdimacs.proofs.AllVariablesBound.{is_bound_variables}
 use Rattle.qbf_text.proofs.AcceptedTokens.{each_is_answered, flat_map-push}
 use Rattle.qbf_text.proofs.AcceptedTokens as accepted
 use Rattle.qdimacs.proofs.SpelledIsRead.{read_once}
-use Rattle.qdimacs.specs.Grammar.{number, literal, letter, header, set, clause, IsFormula}
-use Rattle.qbf_text.specs.Lined.{unlined}
-use Rattle.qdimacs.specs.Faults.{Reads, Answers, IsSoFar, Spells}
-use Rattle.qbf_text.specs.Rows.{Goes, Ends, Fails}
+use Rattle.qbf_spelling.specs.Said.{member}
+use Rattle.qdimacs.specs.Grammar.{header, clause, IsFormula}
+use Rattle.qdimacs.specs.Laws.{ReadsAsRead}
+use Rattle.qbf_text.proofs.CanonicalTokens.{all_of}
+use Rattle.qbf_text.proofs.Answered.{explained, AnswersAsRead}
+use Rattle.qdimacs.specs.Faults.{Reads, IsSoFar, Spells}
+use Rattle.qbf_text.specs.Rows.{Goes, Fails}
 use Rattle.qdimacs.specs.Reading.{Heading, Place, AtP, AtCnf, AtVars, AtCount, Between, InSet, InClause, Whole, Over, Row, row}
-use Rattle.qdimacs.specs.Reading.{header_number, number_row, member, set_row, literal_in, clause_row, read, Gives}
-use Rattle.qdimacs.specs.Reading.{reads_bytes, IsWhole}
-use Rattle.qbf_text.specs.declared.token.Comments.TheVariants.{Qdimacs}
-use Rattle.qbf_text.specs.Tokens as text
-use Rattle.qbf_text.proofs.TokensEndOnce.{tokens-EndsOnce}
+use Rattle.qdimacs.specs.Reading.{faults, set_row, bound_literal, clause_row, read, IsWhole, answer_of}
+use Rattle.qdimacs.specs.Reading.{Pairs, Clauses, AreFrom}
 
 -- ---- one token
 
 no_place_after_end : (place next : Place) → row place token.End ≡ Goes next → ⊥
 no_place_after_end place next e = search rules
 
-number_is : (to : ℕ → Place) (t : Token) (next : Place) → number_row to t (header_number t) ≡ Goes next
-    → (v : ℕ) × (t ≡ number v) × (v ≤ 2147483647) × (to v ≡ next)
-number_is to t next e = search rules
+count_is : (v : ℕ) (t : Token) (next : Place) → row (AtCount v) t ≡ Goes next
+    → (n : ℕ) × (t ≡ number n) × (n ≤ 2147483647) × (Between (record { max_var = v; count = n }) [] [] ≡ next)
+count_is v t next e = search rules
 
 -- ---- what is accepted so far, and one more
 
@@ -45,31 +40,32 @@ none_so_far : (h : Heading) → h.max_var ≤ 2147483647 → h.count ≤ 2147483
 unfolding IsDistinct
 none_so_far h lv lc = search rules
 
-more_variables : (h : Heading) (ps : List (Quantifier × ℕ)) (q : Quantifier) (v : ℕ) → IsSoFar h ps [] → 1 ≤ v → v ≤ h.max_var
+more_variables : (h : Heading) (ps : Pairs) (q : Quantifier) (v : ℕ) → IsSoFar h ps [] → 1 ≤ v → v ≤ h.max_var
     → is_bound v ps ≡ false → IsSoFar h (ps ++ (q, v) ∷ []) []
 more_variables h ps q v s low high fresh = record {
   max_var = s.max_var;
   count = s.count;
   closed = tt;
   few = s.few;
-  distinct = rw map-append (push_distinct (variables ps) v s.distinct (sym (is_bound_variables v ps) ∙ fresh));
-  within = rw map-append (AllByRecursion-push (λ w. (1 ≤ w) × (w ≤ h.max_var)) (variables ps) v s.within (low, high));
+  good = record {
+    distinct = rw map-append (push_distinct (variables ps) v s.good.distinct (sym (is_bound_variables v ps) ∙ fresh));
+    within = rw map-append (AllByRecursion-push (λ w. (1 ≤ w) × (w ≤ h.max_var)) (variables ps) v s.good.within (low, high));
+  };
 }
 
-more_clauses : (h : Heading) (ps : List (Quantifier × ℕ)) (cs : List (List Literal)) (ls : List Literal) → IsSoFar h ps cs
-    → AllByRecursion (λ l. is_bound l.var ps ≡ true) ls → length cs < h.count → IsSoFar h ps (cs ++ ls ∷ [])
+more_clauses : (h : Heading) (ps : Pairs) (cs : Clauses) (ls : List Literal) → IsSoFar h ps cs
+    → AreFrom ps ls → length cs < h.count → IsSoFar h ps (cs ++ ls ∷ [])
 more_clauses h ps cs ls s bound more = record {
   max_var = s.max_var;
   count = s.count;
-  distinct = s.distinct;
-  within = s.within;
-  closed = AllByRecursion-push (AllByRecursion (λ l. is_bound l.var ps ≡ true)) cs ls s.closed bound;
+  good = s.good;
+  closed = AllByRecursion-push (AreFrom ps) cs ls s.closed bound;
   few = omega (arith, length-append cs (ls ∷ []));
 }
 
 -- ---- one token more
 
-abbrev front : Heading → List Block → List (List Literal) → List Token
+abbrev front : Heading → List Block → Clauses → List Token
 front h sets cs = header h.max_var h.count ++ flat_map set sets ++ flat_map clause cs
 
 some_pushed : {X : Type 0} (xs : List X) (x : X) → (xs ++ x ∷ []) ≢ []
@@ -77,23 +73,23 @@ some_pushed [] x e = cc
 some_pushed (y ∷ xs) x e = cc
 
 -- a clause that is begun, or about to be
-record IsBegun (ts : List Token) (h : Heading) (ps : List (Quantifier × ℕ)) (cs : List (List Literal)) (ls : List Literal) : Type 0 where
+record IsBegun (ts : List Token) (h : Heading) (ps : Pairs) (cs : Clauses) (ls : List Literal) : Type 0 where
   sets : List Block
   spelled : ts ≡ front h sets cs ++ map literal ls
   bound : pairs sets ≡ ps
   so_far : IsSoFar h ps cs
-  free : AllByRecursion (λ l. is_bound l.var ps ≡ true) ls
+  free : AreFrom ps ls
   more : length cs < h.count
 
 -- a clause goes on with a literal, or is closed
-clause_goes : (h : Heading) (ps : List (Quantifier × ℕ)) (cs : List (List Literal)) (ls : List Literal) (t : Token) (next : Place)
-    → clause_row h ps cs ls (literal_in h.max_var ps t) ≡ Goes next
+clause_goes : (h : Heading) (ps : Pairs) (cs : Clauses) (ls : List Literal) (t : Token) (next : Place)
+    → clause_row h ps cs ls (bound_literal h.max_var ps t) ≡ Goes next
     → ((t ≡ number 0) × (next ≡ Between h ps (cs ++ ls ∷ [])))
     ⊎ ((l : Literal) × (t ≡ literal l) × (is_bound l.var ps ≡ true) × (next ≡ InClause h ps cs (ls ++ l ∷ [])))
 clause_goes h ps cs ls t next e = search rules
 
-clause_step : {ts : List Token} {h : Heading} {ps : List (Quantifier × ℕ)} {cs : List (List Literal)} {ls : List Literal} (t : Token)
-    (next : Place) → IsBegun ts h ps cs ls → clause_row h ps cs ls (literal_in h.max_var ps t) ≡ Goes next → Spells (ts ++ t ∷ []) next
+clause_step : {ts : List Token} {h : Heading} {ps : Pairs} {cs : Clauses} {ls : List Literal} (t : Token)
+    (next : Place) → IsBegun ts h ps cs ls → clause_row h ps cs ls (bound_literal h.max_var ps t) ≡ Goes next → Spells (ts ++ t ∷ []) next
 clause_step {h = h} {ps = ps} {cs = cs} {ls = ls} t next b e = elim (clause_goes h ps cs ls t next e) [
   | inl k ↦ rw (k.1, k.0, b.spelled)
       (b.sets, (simp (flat_map-push, append_assoc)), b.bound, more_clauses h ps cs ls b.so_far b.free b.more)
@@ -109,14 +105,14 @@ clause_step {h = h} {ps = ps} {cs = cs} {ls = ls} t next b e = elim (clause_goes
 ]
 
 -- a set goes on with a variable, or is closed
-set_goes : (h : Heading) (ps : List (Quantifier × ℕ)) (q : Quantifier) (t : Token) (next : Place)
-    → set_row h ps q (member h.max_var t) ≡ Goes next
+set_goes : (h : Heading) (ps : Pairs) (q : Quantifier) (t : Token) (next : Place)
+    → set_row h ps q (member faults h.max_var t) ≡ Goes next
     → ((t ≡ number 0) × (next ≡ Between h ps []))
     ⊎ ((v : ℕ) × (t ≡ number v) × (1 ≤ v) × (v ≤ h.max_var) × (is_bound v ps ≡ false) × (next ≡ InSet h (ps ++ (q, v) ∷ []) q))
 set_goes h ps q t next e = search rules
 
-set_step : (ts : List Token) (h : Heading) (ps : List (Quantifier × ℕ)) (q : Quantifier) (t : Token) (next : Place)
-    → Spells ts (InSet h ps q) → set_row h ps q (member h.max_var t) ≡ Goes next → Spells (ts ++ t ∷ []) next
+set_step : (ts : List Token) (h : Heading) (ps : Pairs) (q : Quantifier) (t : Token) (next : Place)
+    → Spells ts (InSet h ps q) → set_row h ps q (member faults h.max_var t) ≡ Goes next → Spells (ts ++ t ∷ []) next
 set_step ts h ps q t next b e = elim (set_goes h ps q t next e) [
   | inl k ↦
       let s : Block = record { quantifier = q; vars = b.1 } in
@@ -136,13 +132,13 @@ set_step ts h ps q t next b e = elim (set_goes h ps q t next e) [
 ]
 
 -- between lists a set or a clause begins
-between_goes : (h : Heading) (ps : List (Quantifier × ℕ)) (cs : List (List Literal)) (t : Token) (next : Place)
+between_goes : (h : Heading) (ps : Pairs) (cs : Clauses) (t : Token) (next : Place)
     → row (Between h ps cs) t ≡ Goes next
     → ((q : Quantifier) × (cs ≡ []) × (t ≡ letter q) × (next ≡ InSet h ps q))
-    ⊎ ((length cs < h.count) × (clause_row h ps cs [] (literal_in h.max_var ps t) ≡ Goes next))
+    ⊎ ((length cs < h.count) × (clause_row h ps cs [] (bound_literal h.max_var ps t) ≡ Goes next))
 between_goes h ps cs t next e = search rules
 
-between_step : (ts : List Token) (h : Heading) (ps : List (Quantifier × ℕ)) (cs : List (List Literal)) (t : Token) (next : Place)
+between_step : (ts : List Token) (h : Heading) (ps : Pairs) (cs : Clauses) (t : Token) (next : Place)
     → Spells ts (Between h ps cs) → row (Between h ps cs) t ≡ Goes next → Spells (ts ++ t ∷ []) next
 between_step ts h ps cs t next b e = elim (between_goes h ps cs t next e) [
   | inl k ↦
@@ -165,7 +161,7 @@ step ts AtP next t b e = search rules
 step ts AtCnf next t b e = search rules
 step ts AtVars next t b e = search rules
 step ts (AtCount v) next t b e =
-    let k = number_is (λ n. Between (record { max_var = v; count = n }) [] []) t next e in
+    let k = count_is v t next e in
     let none = none_so_far (record { max_var = v; count = k.0 }) b.1 k.2 in
     subst (Spells (ts ++ t ∷ [])) k.3 ([], (λ i. b.0 i ++ k.1 i ∷ []), refl, none)
 step ts (Between h ps cs) next t b e = between_step ts h ps cs t next b e
@@ -177,11 +173,7 @@ step ts (InClause h ps cs ls) next t b e =
 
 -- ---- the end
 
-both : (P Q R : ℕ → Type 0) (vs : List ℕ) → ((v : ℕ) → P v → Q v → R v) → AllByRecursion (λ v. P v × Q v) vs → AllByRecursion R vs
-both P Q R [] k h = tt
-both P Q R (v ∷ vs) k h = (k v h.0.0 h.0.1, both P Q R vs k h.1)
-
-whole_formula : (ts : List Token) (h : Heading) (ps : List (Quantifier × ℕ)) (cs : List (List Literal)) → Spells ts (Between h ps cs)
+whole_formula : (ts : List Token) (h : Heading) (ps : Pairs) (cs : Clauses) → Spells ts (Between h ps cs)
     → h.count ≡ length cs → IsFormula (ts ++ token.End ∷ []) (record { max_var = h.max_var; blocks = blocks_of ps; clauses = cs })
 whole_formula ts h ps cs b all =
     let are : pairs (blocks_of ps) ≡ ps = pairs-blocks_of ps in
@@ -194,16 +186,16 @@ whole_formula ts h ps cs b all =
       well_formed = record {
         prefix = record {
           alternates = Alternates-blocks_of ps;
-          distinct = subst (λ (x : List (Quantifier × ℕ)). IsDistinct nat_eq (variables x)) (sym are) s.distinct;
-          within = subst (λ (x : List (Quantifier × ℕ)). AllByRecursion (λ v. (1 ≤ v) × (v ≤ 2147483647)) (variables x))
-              (sym are) (both (λ v. 1 ≤ v) (λ v. v ≤ h.max_var) (λ v. (1 ≤ v) × (v ≤ 2147483647)) (variables ps)
-              (λ v low high. (low, omega (arith, s.max_var))) s.within);
+          distinct = subst (λ (x : Pairs). IsDistinct nat_eq (variables x)) (sym are) s.good.distinct;
+          within = subst (λ (x : Pairs). AllByRecursion (λ v. (1 ≤ v) × (v ≤ 2147483647)) (variables x))
+              (sym are) (all_of (λ v. (1 ≤ v) × (v ≤ h.max_var)) (λ v. (1 ≤ v) × (v ≤ 2147483647))
+              (λ v is. (is.0, omega (arith, is.1, s.max_var))) (variables ps) s.good.within);
         };
         numbers = s.max_var;
-        top = subst (λ (x : List (Quantifier × ℕ)). AllByRecursion (λ v. v ≤ h.max_var) (variables x)) (sym are)
-            (both (λ v. 1 ≤ v) (λ v. v ≤ h.max_var) (λ v. v ≤ h.max_var) (variables ps) (λ v low high. high) s.within);
+        top = subst (λ (x : Pairs). AllByRecursion (λ v. v ≤ h.max_var) (variables x)) (sym are)
+            (all_of (λ v. (1 ≤ v) × (v ≤ h.max_var)) (λ v. v ≤ h.max_var) (λ v is. is.1) (variables ps) s.good.within);
         closed =
-            subst (λ (x : List (Quantifier × ℕ)). AllByRecursion (AllByRecursion (λ l. is_bound l.var x ≡ true)) cs) (sym are) s.closed;
+            subst (λ (x : Pairs). AllByRecursion (AllByRecursion (λ l. is_bound l.var x ≡ true)) cs) (sym are) s.closed;
         count = omega (arith, s.count);
       };
     }
@@ -211,8 +203,8 @@ whole_formula ts h ps cs b all =
 -- reading ends behind whole lists, at the end
 record IsLast (p : Place) (t : Token) (next : Place) : Type 0 where
   h : Heading
-  ps : List (Quantifier × ℕ)
-  cs : List (List Literal)
+  ps : Pairs
+  cs : Clauses
   between : p ≡ Between h ps cs
   whole : next ≡ Whole (record { max_var = h.max_var; blocks = blocks_of ps; clauses = cs })
   all : h.count ≤ length cs
@@ -252,16 +244,9 @@ answer before p t ts b once = by (row p t.0) refl
         inl (Err (f, t.1), record { before = before; wrong = t.0; after = ts; whole = refl; place = p; stands = b; refused = is })
 
 -- What is read is spelled; a fault that is found stands.
-pub read_explained : (ts : List Lined) → EndsOnce ts → Reads ts (read ts)
-read_explained ts once =
-    let r = each_is_answered Spells Reads answer [] AtP ts refl once in
-    rw (read_once ts r.0 r.1) r.1
+pub read_explained : ReadsAsRead
+read_explained = explained Spells Reads read AtP refl answer read_once
 
-answered : (ts : List Lined) (result : Result Qbf (FormulaFault × ℕ)) → Gives result (Some (read ts)) → EndsOnce ts → Answers ts result
-answered ts result h once = let read = read_explained ts once in search rules
-
--- what reading gives is the answer, where the bytes are told
-pub answered_bytes : (remaining : Option (List ℕ)) (result : Result Qbf (FormulaFault × ℕ)) → Gives result (reads_bytes remaining)
-    → IfSome remaining (λ bytes. Answers (text.tokens Qdimacs bytes) result)
-answered_bytes None result h = tt
-answered_bytes (Some bytes) result h = answered (text.tokens Qdimacs bytes) result h (tokens-EndsOnce Qdimacs bytes)
+-- reading by rows answers what is read
+pub answers_as_read : AnswersAsRead row answer_of AtP read
+answers_as_read = record { same = λ ts. refl; fault = λ f line. refl }

@@ -1,29 +1,24 @@
 -- What tokens spell is read, and a fault that stands is found.
-use Rattle.std.proofs.Common.{rules, ◌≡◌, ℕ, ◌≤◌, true, List, [], ◌∷◌, ◌++◌, length, map, Ok, Err, refl, ap, sym, subst, ◌∙◌, arith}
-use Rattle.std.specs.List.{flat_map, AllByRecursion}
-use Rattle.qbf_core.specs.declared.quantifier.Quantifier.{Quantifier}
-use Rattle.qbf_core.specs.Literal.{Literal}
-use Rattle.qbf_core.specs.Blocks.{Block, pairs, is_bound, blocks_of}
-use Rattle.qbf_core.specs.Qbf.{Qbf}
+use Rattle.qbf_spelling.proofs.Words
+use Words.{◌≡◌, ℕ, ◌≤◌, List, [], ◌∷◌, ◌++◌, length, map, Ok, Err, refl, ap, sym, subst, ◌∙◌, arith, flat_map, AllByRecursion, Block, pairs}
+use Words.{blocks_of, Qbf, Token, Lined, set, unlined, read-one}
+use Words.token
 use Rattle.qbf_core.proofs.BlockLaws.{blocks_of-pairs}
 use Rattle.qbf_text.proofs.AcceptedTokens.{split_at, Leads, Stays, Passes, leads_then, leads_reads}
 use Rattle.qdimacs.specs.Laws.{ReadsOnce}
 use Rattle.qdimacs.specs.declared.fault.FormulaFault.{FormulaFault}
-use Rattle.qbf_text.specs.declared.token.Token.{Token}
-use Rattle.qbf_text.specs.declared.token.Token.TheVariants as token
-use Rattle.qbf_text.specs.Lined.{Lined}
-use Rattle.qdimacs.specs.Grammar.{header, set, clause, IsFormula}
-use Rattle.qbf_text.specs.Lined.{unlined}
-use Rattle.qdimacs.specs.Faults.{IsSoFar, Spells, IsFault}
+use Rattle.qdimacs.specs.Grammar.{header, clause, IsFormula}
+use Rattle.qdimacs.specs.Faults.{AreGood, Spells, IsFault}
 use Rattle.qdimacs.specs.Reading.{Heading, Place, AtP, AtCnf, AtVars, AtCount, Between, InSet, InClause, Whole, Over}
 use Rattle.qdimacs.specs.Reading.{Row, row, read, answer_of}
-use Rattle.qbf_text.proofs.OneToken.{read-one, after}
+use Rattle.qbf_text.proofs.OneToken.{after}
 use Rattle.qdimacs.proofs.AcceptedTokens.{leads_vars, leads_header, leads_sets, leads_begun_set, leads_clauses, leads_begun_clause, end_row}
-use Rattle.qdimacs.proofs.AcceptedTokens.{AreGood, good_front}
+use Rattle.qdimacs.proofs.AcceptedTokens.{good_front}
+use Rattle.qdimacs.specs.Reading.{Pairs, Clauses, AreFrom}
 
 -- whole sets and whole clauses
-leads_lists : (h : Heading) (sets : List Block) (cs : List (List Literal)) → h.max_var ≤ 2147483647 → h.count ≤ 2147483647
-    → AreGood h.max_var (pairs sets) → AllByRecursion (AllByRecursion (λ l. is_bound l.var (pairs sets) ≡ true)) cs → length cs ≤ h.count
+leads_lists : (h : Heading) (sets : List Block) (cs : Clauses) → h.max_var ≤ 2147483647 → h.count ≤ 2147483647
+    → AreGood h.max_var (pairs sets) → AllByRecursion (AreFrom (pairs sets)) cs → length cs ≤ h.count
     → Leads row AtP (header h.max_var h.count ++ flat_map set sets ++ flat_map clause cs) (Between h (pairs sets) cs)
 leads_lists h sets cs lv lc good closed few =
     leads_then (leads_then (leads_header h lv lc) (leads_sets h [] sets good))
@@ -43,7 +38,7 @@ spelled_is_read ts f is =
       distinct = w.prefix.distinct;
       within = both (λ v. 1 ≤ v) (λ v. v ≤ 2147483647) _ w.prefix.within (λ v. v ≤ f.max_var) w.top;
     }) in
-    let closed = subst (λ (ps : List (Quantifier × ℕ)). AllByRecursion (AllByRecursion (λ l. is_bound l.var ps ≡ true)) f.clauses)
+    let closed = subst (λ (ps : Pairs). AllByRecursion (AreFrom ps) f.clauses)
     (sym is.bound) w.closed in
     let front = header f.max_var (length f.clauses) ++ flat_map set is.sets ++ flat_map clause f.clauses in
     let k = split_at ts front token.End [] is.spelled in
@@ -56,13 +51,10 @@ spelled_is_read ts f is =
     (ap blocks_of is.bound ∙ blocks_of-pairs f.blocks w.prefix.alternates)
 
 -- The tokens before a place lead to it.
-good_so_far : (h : Heading) (ps : List (Quantifier × ℕ)) (cs : List (List Literal)) → IsSoFar h ps cs → AreGood h.max_var ps
-good_so_far h ps cs s = search rules
-
-leads_between : {ts : List Token} {h : Heading} {ps : List (Quantifier × ℕ)} {cs : List (List Literal)} → Spells ts (Between h ps cs)
+leads_between : {ts : List Token} {h : Heading} {ps : Pairs} {cs : Clauses} → Spells ts (Between h ps cs)
     → Leads row AtP ts (Between h ps cs)
 leads_between {h = h} {ps = ps} {cs = cs} e =
-    rw (e.1, ← e.2) (leads_lists h e.0 cs e.3.max_var e.3.count (rw e.2 (good_so_far h ps cs e.3)) (rw e.2 e.3.closed) e.3.few)
+    rw (e.1, ← e.2) (leads_lists h e.0 cs e.3.max_var e.3.count (rw e.2 e.3.good) (rw e.2 e.3.closed) e.3.few)
 
 spelled_leads : (ts : List Token) (place : Place) → Spells ts place → Leads row AtP ts place
 spelled_leads ts AtP e = rw e Stays
@@ -71,12 +63,12 @@ spelled_leads ts AtVars e = rw e (Passes refl (Passes refl Stays))
 spelled_leads ts (AtCount v) e = rw e.0 (leads_vars v e.1)
 spelled_leads ts (Between h ps cs) e = leads_between e
 spelled_leads ts (InSet h ps q) e =
-    let good : AreGood h.max_var (pairs e.0 ++ map (λ v. (q, v)) e.1) = rw e.3 (good_so_far h ps [] e.4) in
+    let good : AreGood h.max_var (pairs e.0 ++ map (λ v. (q, v)) e.1) = rw e.3 e.4.good in
     let front = good_front h.max_var (pairs e.0) (map (λ v. (q, v)) e.1) good in
     rw (e.2, ← e.3) (leads_then (leads_then (leads_header h e.4.max_var e.4.count) (leads_sets h [] e.0 front))
     (leads_begun_set h (pairs e.0) q e.1 good))
 spelled_leads ts (InClause h ps cs ls) e = rw e.1 (leads_then (leads_between (e.0, refl, e.2, e.3))
-    (leads_begun_clause h ps (good_so_far h ps cs e.3) cs ls e.4 e.5 e.6))
+    (leads_begun_clause h ps e.3.good cs ls e.4 e.5 e.6))
 spelled_leads ts (Whole f) e = absurd e
 spelled_leads ts Over e = absurd e
 

@@ -1,16 +1,12 @@
 -- Worked rows of formulas.
-use Rattle.std.specs.Prelude.{◌≡◌, ℕ, true, false, List, [], ◌∷◌, codes, Result, Ok, Err, refl}
-use Rattle.std.specs.List.{AllByRecursion}
+use Rattle.qbf_spelling.proofs.Words.{codes, AllByRecursion, Literal, Block, Qbf, read_from}
+use Rattle.std.specs.Prelude.{◌≡◌, ℕ, true, false, List, [], ◌∷◌, Ok, Err, refl}
 use Rattle.std.specs.Fmt.{digits}
 use Rattle.qbf_core.specs.declared.quantifier.Quantifier.TheVariants.{All, Exists}
-use Rattle.qbf_core.specs.Literal.{Literal}
-use Rattle.qbf_core.specs.Blocks.{Block}
-use Rattle.qbf_core.specs.Qbf.{Qbf}
-use Rattle.qdimacs.specs.declared.fault.FormulaFault.{FormulaFault}
 use Rattle.qdimacs.specs.declared.fault.FormulaFault.TheVariants.{F2, F3, F4, F5, F6, F7, F8}
 use Rattle.qdimacs.specs.Grammar.{text}
-use Rattle.qbf_text.specs.Rows.{read_from}
 use Rattle.qdimacs.specs.Reading.{read_formula}
+use Rattle.qdimacs.specs.Reading.{Answer}
 
 abbrev exists : List ℕ → Block
 exists vs = record { quantifier = Exists; vars = vs }
@@ -35,7 +31,7 @@ joined = record { max_var = 4; blocks = exists (3 ∷ 1 ∷ []) ∷ all (2 ∷ [
 
 -- ---- texts, and what is read of them
 
-abbrev rows : List (List ℕ × Result Qbf (FormulaFault × ℕ))
+abbrev rows : List (List ℕ × Answer)
 rows = (codes "p cnf 2 2\ne 1 0\na 2 0\n1 2 0\n-1 2 0\n", Ok value_a)
     -- a clause is missing, and there is one too many
     ∷ (codes "p cnf 2 2\ne 1 0\na 2 0\n1 2 0\n", Err (F8, 5))

@@ -1,21 +1,15 @@
 -- The parts of a canonical text, one after the other.
-use Rattle.std.proofs.Common.{rules, ◌≢◌, ◌≡◌, ℕ, true, false, List, [], ◌∷◌, ◌++◌, map, Option, Some, None, refl, ap, sym, ◌∙◌}
-use Rattle.std.proofs.Common.{append_assoc, drop, drop-cons, slice_get, get_or, length, suc, arith, ◌<◌, ◌+◌, add-one}
-use Rattle.std.specs.List.{flat_map}
-use Rattle.std.proofs.lemmas.Grind.{flat_map-append}
-use Rattle.qbf_text.proofs.SentParts.{line_rest-map, zero_decimal, zero_rest}
-use Rattle.std.proofs.lemmas.Option.{slice_get_within, get_or_from_slice_get}
-use Rattle.qbf_core.specs.declared.quantifier.Quantifier.{Quantifier}
-use Rattle.qbf_core.specs.Literal.{Literal}
-use Rattle.qbf_core.specs.Blocks.{Block, pairs, Alternates, is_quantifier}
-use Rattle.qbf_core.specs.Qbf.{Qbf}
+use Rattle.qbf_spelling.proofs.Words
+use Words.{rules, ◌≢◌, ◌≡◌, ℕ, true, false, List, [], ◌∷◌, ◌++◌, map, Option, Some, None, refl, ap, sym, ◌∙◌, append_assoc, drop, slice_get}
+use Words.{length, arith, ◌<◌, ◌+◌, flat_map, flat_map-append, Quantifier, Literal, Block, pairs, Qbf, number, literal, letter, set}
+use Rattle.qbf_text.proofs.SentParts.{zero_decimal, drop_at}
+use Rattle.qbf_core.specs.Blocks.{Alternates, is_quantifier}
 use Rattle.qbf_text.specs.Canonical.{spaced, spelled, line_rest, line_text}
-use Rattle.qdimacs.specs.Grammar.{number, literal, letter, set, clause, header, text}
-use Rattle.qdimacs.specs.Texts.{opening, prefix_rest, literal_text, clause_rest, sets_text, clauses_text, zero_text}
-
-pub drop_at : {X : Type 0} (xs : List X) (i : ℕ) (x : X) → slice_get xs i ≡ Some x → drop i xs ≡ x ∷ drop (i + 1) xs
-drop_at xs i x at = let lt = slice_get_within xs i x at in let e = get_or_from_slice_get xs i x x at in
-    rw (add-one) (drop-cons xs i x lt ∙ ap (λ y. y ∷ drop (suc i) xs) e)
+use Rattle.qbf_spelling.specs.Texts.{literal_text, closing}
+use Rattle.qbf_spelling.proofs.WrittenParts.{closed_numbers, closed_literals}
+use Rattle.qdimacs.specs.Grammar.{clause, header, text}
+use Rattle.qdimacs.specs.Texts.{opening, prefix_rest, sets_text, clauses_text}
+use Rattle.qdimacs.specs.Reading.{Pairs, Clauses}
 
 -- ---- a clause
 
@@ -24,26 +18,16 @@ pub no_literals : (ls : List Literal) → length ls < 1 → line_text (clause ls
 no_literals [] none = ap (λ (k : List ℕ). k ++ 10 ∷ []) zero_decimal
 no_literals (l ∷ ls) none = absurd (omega (arith, none))
 
-lits_rest : (ls : List Literal) → line_rest (map literal ls ++ number 0 ∷ []) ≡ clause_rest ls
-lits_rest [] = ap (λ (k : List ℕ). 32 ∷ (k ++ 10 ∷ [])) zero_decimal
-lits_rest (l ∷ ls) = ap (λ (k : List ℕ). literal_text l ++ k) (lits_rest ls)
-
 -- a clause by its first literal
-pub first_literal : (l : Literal) (ls : List Literal) → line_text (clause (l ∷ ls)) ≡ spelled (literal l) ++ clause_rest ls
-first_literal l ls = ap (λ (k : List ℕ). spelled (literal l) ++ k) (lits_rest ls)
+pub first_literal : (l : Literal) (ls : List Literal)
+    → line_text (clause (l ∷ ls)) ≡ spelled (literal l) ++ (flat_map literal_text ls ++ closing)
+first_literal l ls = ap (λ (k : List ℕ). spelled (literal l) ++ k) (closed_literals ls)
 
-pub clause_next : (ls : List Literal) (i : ℕ) (l : Literal) → i < length ls → l ≡ get_or ls i l
-    → clause_rest (drop i ls) ≡ literal_text l ++ clause_rest (drop (i + 1) ls)
-clause_next ls i l lt is = rw (add-one) (ap clause_rest (drop-cons ls i l lt ∙ ap (λ (y : Literal). y ∷ drop (suc i) ls) (sym is)))
-
-pub clauses_next : (cs : List (List Literal)) (i : ℕ) (c : List Literal) → slice_get cs i ≡ Some c
+pub clauses_next : (cs : Clauses) (i : ℕ) (c : List Literal) → slice_get cs i ≡ Some c
     → clauses_text (drop i cs) ≡ line_text (clause c) ++ clauses_text (drop (i + 1) cs)
 clauses_next cs i c at = ap clauses_text (drop_at cs i c at)
 
 -- ---- a prefix
-
-set_rest : (vs : List ℕ) → line_rest (map number vs ++ number 0 ∷ []) ≡ flat_map spaced vs ++ zero_text
-set_rest vs = line_rest-map number vs (number 0 ∷ []) ∙ ap (λ (k : List ℕ). flat_map spaced vs ++ k) (zero_rest [])
 
 same_quantifier : (q : Quantifier) → is_quantifier q q ≡ true
 same_quantifier q = search rules
@@ -61,30 +45,30 @@ rest_alternates b [] h = (h, tt, tt)
 rest_alternates b (c ∷ bs) h = (h.0, h.2, other_quantifier b.quantifier c.quantifier h.1)
 
 -- the variables of a block that is begun
-variables_rest : (q : Quantifier) (vs : List ℕ) (ps : List (Quantifier × ℕ))
+variables_rest : (q : Quantifier) (vs : List ℕ) (ps : Pairs)
     → prefix_rest (Some q) (map (λ v. (q, v)) vs ++ ps) ≡ flat_map spaced vs ++ prefix_rest (Some q) ps
 variables_rest q [] ps = refl
 variables_rest q (v ∷ vs) ps = rw (same_quantifier q) (ap (λ (k : List ℕ). spaced v ++ k) (variables_rest q vs ps)
     ∙ sym (append_assoc (spaced v) (flat_map spaced vs) (prefix_rest (Some q) ps)))
 
 -- what closes a block, if there is one
-abbrev closing : Option Quantifier → List ℕ
-closing None = []
-closing (Some q) = zero_text
+abbrev closing_of : Option Quantifier → List ℕ
+closing_of None = []
+closing_of (Some q) = closing
 
 opens : (last : Option Quantifier) (b : Block) (bs : List Block) → Differs last (b ∷ bs)
-    → opening last b.quantifier ≡ closing last ++ spelled (letter b.quantifier)
+    → opening last b.quantifier ≡ closing_of last ++ spelled (letter b.quantifier)
 opens None b bs d = refl
 opens (Some q) b bs d = rw d refl
 
-block_begins : (last : Option Quantifier) (q : Quantifier) (vs : List ℕ) (ps : List (Quantifier × ℕ)) → vs ≢ []
+block_begins : (last : Option Quantifier) (q : Quantifier) (vs : List ℕ) (ps : Pairs) → vs ≢ []
     → prefix_rest last (map (λ v. (q, v)) vs ++ ps) ≡ opening last q ++ (flat_map spaced vs ++ prefix_rest (Some q) ps)
 block_begins last q [] ps some = absurd (some refl)
 block_begins last q (v ∷ vs) ps some = ap (λ (k : List ℕ). opening last q ++ (spaced v ++ k)) (variables_rest q vs ps)
     ∙ ap (λ (k : List ℕ). opening last q ++ k) (sym (append_assoc (spaced v) (flat_map spaced vs) (prefix_rest (Some q) ps)))
 
 prefix_from : (last : Option Quantifier) (bs : List Block) → Alternates bs → Differs last bs
-    → prefix_rest last (pairs bs) ≡ closing last ++ sets_text bs
+    → prefix_rest last (pairs bs) ≡ closing_of last ++ sets_text bs
 prefix_from None [] alternates differs = refl
 prefix_from (Some q) [] alternates differs = refl
 prefix_from last (b ∷ bs) alternates differs =
@@ -94,12 +78,12 @@ prefix_from last (b ∷ bs) alternates differs =
     let vars = flat_map spaced b.vars in
     block_begins last b.quantifier b.vars (pairs bs) h.0
     ∙ (λ i. opens last b bs differs i ++ (vars ++ prefix_from (Some b.quantifier) bs h.1 h.2 i))
-    ∙ append_assoc (closing last) letter_of_b (vars ++ (zero_text ++ sets_text bs))
-    ∙ ap (λ (k : List ℕ). closing last ++ (letter_of_b ++ k))
-    (sym (append_assoc vars zero_text (sets_text bs)) ∙ ap (λ (k : List ℕ). k ++ sets_text bs) (sym (set_rest b.vars)))
-    ∙ ap (λ (k : List ℕ). closing last ++ k) (sym (append_assoc letter_of_b set_of_b (sets_text bs)))
+    ∙ append_assoc (closing_of last) letter_of_b (vars ++ (closing ++ sets_text bs))
+    ∙ ap (λ (k : List ℕ). closing_of last ++ (letter_of_b ++ k))
+    (sym (append_assoc vars closing (sets_text bs)) ∙ ap (λ (k : List ℕ). k ++ sets_text bs) (sym (closed_numbers b.vars)))
+    ∙ ap (λ (k : List ℕ). closing_of last ++ k) (sym (append_assoc letter_of_b set_of_b (sets_text bs)))
 
-pub prefix_next : (last : Option Quantifier) (ps : List (Quantifier × ℕ)) (i : ℕ) (q : Quantifier) (v : ℕ) → slice_get ps i ≡ Some (q, v)
+pub prefix_next : (last : Option Quantifier) (ps : Pairs) (i : ℕ) (q : Quantifier) (v : ℕ) → slice_get ps i ≡ Some (q, v)
     → prefix_rest last (drop i ps) ≡ opening last q ++ (spaced v ++ prefix_rest (Some q) (drop (i + 1) ps))
 prefix_next last ps i q v at = ap (prefix_rest last) (drop_at ps i (q, v) at)
 

@@ -1,25 +1,36 @@
 -- Reading from the first token on, to the formula or to the first fault.
 -- QDIMACS 1.1, input format, token by token: for each place in the text a row says which tokens go on, which end,
 -- and what is a fault.
-use Rattle.std.specs.Prelude.{◌≡◌, ◌≤◌, ℕ, zero, suc, Bool, true, false, List, [], ◌∷◌, ◌++◌, length, Option, Some, None, IfSome, Result}
-use Rattle.std.specs.Prelude.{Ok, Err, nat_lt, if◌then◌else◌}
-use Rattle.qbf_core.specs.declared.quantifier.Quantifier.{Quantifier}
-use Rattle.qbf_core.specs.declared.quantifier.Quantifier.TheVariants.{All, Exists}
-use Rattle.qbf_core.specs.Literal.{Literal}
+use Rattle.qbf_spelling.specs.Words
+use Words.{◌≡◌, ◌≤◌, ℕ, Bool, true, false, List, [], ◌∷◌, ◌++◌, length, Option, Some, None, option_map, Result, Ok, Err, nat_lt}
+use Words.{if◌then◌else◌, AllByRecursion, Quantifier, Literal, Qbf, Token, Lined, Fails}
+use Words.token
+use Words.word
 use Rattle.qbf_core.specs.Blocks.{blocks_of, is_bound}
-use Rattle.qbf_core.specs.Qbf.{Qbf}
 use Rattle.qdimacs.specs.declared.fault.FormulaFault.{FormulaFault}
 use Rattle.qdimacs.specs.declared.fault.FormulaFault.TheVariants.{F2, F3, F4, F5, F6, F7, F8, F9, F1}
-use Rattle.qbf_text.specs.declared.token.Token.{Token}
-use Rattle.qbf_text.specs.declared.token.Token.TheVariants as token
-use Rattle.qbf_text.specs.declared.token.Word.TheVariants as word
-use Rattle.qbf_text.specs.declared.grammar.ReadError.{ReadError}
-use Rattle.qbf_text.specs.declared.grammar.ReadError.TheVariants as error
-use Rattle.qbf_text.specs.Lined.{Lined}
-use Rattle.qbf_text.specs.Rows.{Goes, Ends, Fails, Read}
+use Rattle.qbf_text.specs.Answering as answering
+use Rattle.qbf_spelling.specs.declared.said.Faults.{Faults}
+use Rattle.qbf_spelling.specs.Said.{is_p, quantifier, member, literal_in, word_row, number_row}
+use Rattle.qbf_text.specs.Rows.{Goes, Ends, Read}
 use Rattle.qbf_text.specs.Rows as rows
 use Rattle.qbf_text.specs.declared.token.Comments.TheVariants.{Qdimacs}
 use Rattle.qbf_text.specs.Tokens as text
+
+-- variables, each with its quantifier
+abbrev pub Pairs : Type 0
+Pairs = List (Quantifier × ℕ)
+
+abbrev pub Clauses : Type 0
+Clauses = List (List Literal)
+
+-- the variable of each literal is one of these
+abbrev pub AreFrom : Pairs → List Literal → Type 0
+AreFrom ps ls = AllByRecursion (λ l. is_bound l.var ps ≡ true) ls
+
+-- what is read: a formula, or the first fault and its line
+abbrev pub Answer : Type 0
+Answer = Result Qbf (FormulaFault × ℕ)
 
 -- the numbers of the header
 pub record Heading : Type 0 where
@@ -34,11 +45,11 @@ pub data Place : Type 0 where
   AtVars : Place
   AtCount : (max_var : ℕ) → Place
   -- after whole sets and whole clauses
-  Between : Heading → List (Quantifier × ℕ) → List (List Literal) → Place
+  Between : Heading → Pairs → Clauses → Place
   -- in a set, the pairs of its own variables the last
-  InSet : Heading → List (Quantifier × ℕ) → Quantifier → Place
+  InSet : Heading → Pairs → Quantifier → Place
   -- in a clause that has begun with these literals
-  InClause : Heading → List (Quantifier × ℕ) → List (List Literal) → List Literal → Place
+  InClause : Heading → Pairs → Clauses → List Literal → Place
   -- behind the end
   Whole : Qbf → Place
   -- behind a fault
@@ -50,55 +61,29 @@ Row = rows.Row Place (Unit {0}) FormulaFault
 
 -- ---- the header
 
--- what is wrong with a token that the header does not accept
-abbrev pub header_fault : Token → FormulaFault
-header_fault token.End = F7
-header_fault t = F2
+-- the faults that tokens are
+abbrev pub faults : Faults FormulaFault
+faults = record { header = F2; stray = F3; range = F4; minus_zero = F3; end = F7 }
 
 -- a number without `-` that a header may have
 abbrev pub header_number : Token → Option ℕ
 header_number (token.Number false n) = if nat_lt 2147483647 n then None else Some n
 header_number t = None
 
--- where a number is wanted
-abbrev pub number_row : (ℕ → Place) → Token → Option ℕ → Row
-number_row next t None = Fails (header_fault t)
-number_row next t (Some n) = Goes (next n)
-
--- the word `p`
-abbrev pub is_p : Token → Bool
-is_p (token.Word word.P) = true
-is_p t = false
-
 -- the word `cnf`
 abbrev pub is_cnf : Token → Bool
 is_cnf (token.Word word.Cnf) = true
 is_cnf t = false
 
--- where a word is wanted
-abbrev pub word_row : Place → Token → Bool → Row
-word_row next t true = Goes next
-word_row next t false = Fails (header_fault t)
-
 -- ---- a set
 
--- the variable that a token says in a set, or None where it closes the set
-abbrev pub member : ℕ → Token → Result (Option ℕ) FormulaFault
-member max_var (token.Number false zero) = Ok None
-member max_var (token.Number false (suc n)) = if nat_lt max_var (suc n) then Err F4 else Ok (Some (suc n))
-member max_var (token.Number true n) = Err F4
-member max_var token.Big = Err F4
-member max_var token.End = Err F7
-member max_var (token.Word w) = Err F3
-member max_var token.Bad = Err F3
-
 -- at a variable of a set, bound before or not
-abbrev pub bind_row : Heading → List (Quantifier × ℕ) → Quantifier → ℕ → Bool → Row
+abbrev pub bind_row : Heading → Pairs → Quantifier → ℕ → Bool → Row
 bind_row h ps q v true = Fails F5
 bind_row h ps q v false = Goes (InSet h (ps ++ (q, v) ∷ []) q)
 
 -- in a set
-abbrev pub set_row : Heading → List (Quantifier × ℕ) → Quantifier → Result (Option ℕ) FormulaFault → Row
+abbrev pub set_row : Heading → Pairs → Quantifier → Result (Option ℕ) FormulaFault → Row
 set_row h ps q (Err f) = Fails f
 set_row h ps q (Ok None) = Goes (Between h ps [])
 set_row h ps q (Ok (Some v)) = bind_row h ps q v (is_bound v ps)
@@ -106,23 +91,21 @@ set_row h ps q (Ok (Some v)) = bind_row h ps q v (is_bound v ps)
 -- ---- a clause
 
 -- each variable that the header allows is bound
-abbrev pub IsFull : ℕ → List (Quantifier × ℕ) → Type 0
+abbrev pub IsFull : ℕ → Pairs → Type 0
 IsFull max_var ps = (v : ℕ) → 1 ≤ v → v ≤ max_var → is_bound v ps ≡ true
 
+-- the literal that is said in a clause, if its variable is bound
+abbrev pub bound_in : Pairs → Result (Option Literal) FormulaFault → Result (Option Literal) FormulaFault
+bound_in ps (Ok (Some l)) = if is_bound l.var ps then Ok (Some l) else Err F6
+bound_in ps (Ok None) = Ok None
+bound_in ps (Err f) = Err f
+
 -- the literal that a token says in a clause, or None where it closes the clause
-abbrev pub literal_in : ℕ → List (Quantifier × ℕ) → Token → Result (Option Literal) FormulaFault
-literal_in max_var ps (token.Number false zero) = Ok None
-literal_in max_var ps (token.Number true zero) = Err F3
-literal_in max_var ps (token.Number negative (suc n)) =
-    if nat_lt max_var (suc n) then Err F4
-    else if is_bound (suc n) ps then Ok (Some (record { var = suc n; negative = negative })) else Err F6
-literal_in max_var ps token.Big = Err F4
-literal_in max_var ps token.End = Err F7
-literal_in max_var ps (token.Word w) = Err F3
-literal_in max_var ps token.Bad = Err F3
+abbrev pub bound_literal : ℕ → Pairs → Token → Result (Option Literal) FormulaFault
+bound_literal max_var ps t = bound_in ps (literal_in faults max_var t)
 
 -- in a clause
-abbrev pub clause_row : Heading → List (Quantifier × ℕ) → List (List Literal) → List Literal
+abbrev pub clause_row : Heading → Pairs → Clauses → List Literal
     → Result (Option Literal) FormulaFault → Row
 clause_row h ps cs ls (Err f) = Fails f
 clause_row h ps cs ls (Ok None) = Goes (Between h ps (cs ++ ls ∷ []))
@@ -130,19 +113,13 @@ clause_row h ps cs ls (Ok (Some l)) = Goes (InClause h ps cs (ls ++ l ∷ []))
 
 -- ---- between lists
 
--- the quantifier that a letter names
-abbrev pub set_letter : Token → Option Quantifier
-set_letter (token.Word word.A) = Some All
-set_letter (token.Word word.E) = Some Exists
-set_letter t = None
-
 -- the set that a token begins: none, once a clause was begun
-abbrev pub begun_set : List (List Literal) → Token → Option Quantifier
-begun_set [] t = set_letter t
+abbrev pub begun_set : Clauses → Token → Option Quantifier
+begun_set [] t = quantifier t
 begun_set (c ∷ cs) t = None
 
 -- whether clauses are still to come
-abbrev pub has_more : Heading → List (List Literal) → Bool
+abbrev pub has_more : Heading → Clauses → Bool
 has_more h cs = nat_lt (length cs) h.count
 
 -- what a token that begins no set says: that a clause begins (true), or that all is read (false)
@@ -157,7 +134,7 @@ clause_or_end more (token.Word w) = Err F3
 clause_or_end more token.Bad = Err F3
 
 -- between lists: a set or a clause begins, or all is read
-abbrev pub between_row : Heading → List (Quantifier × ℕ) → List (List Literal) → Option Quantifier
+abbrev pub between_row : Heading → Pairs → Clauses → Option Quantifier
     → Result Bool FormulaFault → Result (Option Literal) FormulaFault → Row
 between_row h ps cs (Some q) mark first = Goes (InSet h ps q)
 between_row h ps cs None (Err f) first = Fails f
@@ -168,14 +145,15 @@ between_row h ps cs None (Ok false) first = Ends tt (Whole (record { max_var = h
 
 -- the row of each place
 abbrev pub row : Place → Token → Row
-row AtP t = word_row AtCnf t (is_p t)
-row AtCnf t = word_row AtVars t (is_cnf t)
-row AtVars t = number_row AtCount t (header_number t)
-row (AtCount v) t = number_row (λ c. Between (record { max_var = v; count = c }) [] []) t (header_number t)
+row AtP t = word_row faults Fails (Goes AtCnf) t (is_p t)
+row AtCnf t = word_row faults Fails (Goes AtVars) t (is_cnf t)
+row AtVars t = number_row faults Fails (λ v. Goes (AtCount v)) t (header_number t)
+row (AtCount v) t =
+    number_row faults Fails (λ c. Goes (Between (record { max_var = v; count = c }) [] [])) t (header_number t)
 row (Between h ps cs) t =
-    between_row h ps cs (begun_set cs t) (clause_or_end (has_more h cs) t) (literal_in h.max_var ps t)
-row (InSet h ps q) t = set_row h ps q (member h.max_var t)
-row (InClause h ps cs ls) t = clause_row h ps cs ls (literal_in h.max_var ps t)
+    between_row h ps cs (begun_set cs t) (clause_or_end (has_more h cs) t) (bound_literal h.max_var ps t)
+row (InSet h ps q) t = set_row h ps q (member faults h.max_var t)
+row (InClause h ps cs ls) t = clause_row h ps cs ls (bound_literal h.max_var ps t)
 row (Whole f) t = Fails F3
 row Over t = Fails F3
 
@@ -185,46 +163,38 @@ IsWhole (Whole f) = Unit {0}
 IsWhole place = ⊥
 
 -- what is read behind the last token
-abbrev pub answer_at : Place → Result Qbf (FormulaFault × ℕ)
+abbrev pub answer_at : Place → Answer
 answer_at (Whole f) = Ok f
 answer_at place = Err (F7, 0)
 
 -- what is read by the rows
-abbrev pub answer_of : Read Place (Unit {0}) FormulaFault → Result Qbf (FormulaFault × ℕ)
+abbrev pub answer_of : Read Place (Unit {0}) FormulaFault → Answer
 answer_of (rows.Whole u place rest) = answer_at place
 answer_of (rows.Fault f line) = Err (f, line)
 answer_of rows.Cut = Err (F7, 0)
 
 -- What is read from a place on.
-abbrev pub read_from : Place → List Lined → Result Qbf (FormulaFault × ℕ)
+abbrev pub read_from : Place → List Lined → Answer
 read_from place ts = answer_of (rows.read_from row place ts)
 
 -- What tokens are read as.
-abbrev pub read : List Lined → Result Qbf (FormulaFault × ℕ)
+abbrev pub read : List Lined → Answer
 read ts = read_from AtP ts
 
--- Who returned this fault did so as reading does, unless the source failed, untold or out of memory.
-abbrev pub Stops : FormulaFault → ℕ → Option (Result Qbf (FormulaFault × ℕ)) → Type 0
-Stops F1 line whole = Unit {0}
-Stops F9 line whole = Unit {0}
-Stops f line whole = IfSome whole (λ r. r ≡ Err (f, line))
-
--- The answer is what was to be read, unless the source failed or memory ran out.
-abbrev pub Gives : Result Qbf (FormulaFault × ℕ) → Option (Result Qbf (FormulaFault × ℕ)) → Type 0
-Gives (Ok f) whole = IfSome whole (λ r. r ≡ Ok f)
-Gives (Err e) whole = Stops e.0 e.1 whole
-
 -- The same of bytes.
-abbrev pub read_formula : List ℕ → Result Qbf (FormulaFault × ℕ)
+abbrev pub read_formula : List ℕ → Answer
 read_formula bytes = read (text.tokens Qdimacs bytes)
 
 -- where the bytes are told
-abbrev pub reads_bytes : Option (List ℕ) → Option (Result Qbf (FormulaFault × ℕ))
-reads_bytes None = None
-reads_bytes (Some bytes) = Some (read_formula bytes)
+abbrev pub reads_bytes : Option (List ℕ) → Option (Answer)
+reads_bytes bytes = option_map read_formula bytes
 
--- the fault and the line that an error stands for
-abbrev pub fault_of : ReadError FormulaFault → FormulaFault × ℕ
-fault_of error.Device = (F1, 0)
-fault_of error.Memory = (F9, 0)
-fault_of (error.Text f line) = (f, line)
+-- the source failed, or memory ran out
+abbrev pub is_outside : FormulaFault → Bool
+is_outside F1 = true
+is_outside F9 = true
+is_outside f = false
+
+-- The answer is what was to be read, unless the source failed or memory ran out.
+abbrev pub Gives : Answer → Option (Answer) → Type 0
+Gives answer whole = answering.Gives is_outside answer whole

@@ -11,10 +11,9 @@ ghost use Rattle.qdimacs.specs.Reading.{AtP, Whole, IsFull, IsWhole, begun_set, 
 ghost use Rattle.qdimacs.specs.Reading.{bind_row};
 
 use crate::fault::FormulaFault;
-use crate::tokens::{
-    clause_or_end, header_fault, header_number, is_cnf, is_p, literal, member, set_letter,
-};
+use crate::tokens::{FAULTS, bound_literal, clause_or_end, header_number, is_cnf};
 use qbf_core::{Formula, GrowingLists, Lit, Prefix, PrefixFault, Quantifier, Var};
+use qbf_spelling::{header_fault, is_p, member, quantifier};
 use qbf_text::{Grammar, Stop, Taken, Token};
 use std::alloc::Global;
 use std::marker::Model;
@@ -66,7 +65,7 @@ fn take_p(token: Token) -> Result<At, Stop<FormulaFault>>
     if is_p(token) {
         return Ok(At::Cnf);
     }
-    Err(Stop::Text(header_fault(token)))
+    Err(Stop::Text(header_fault(FAULTS, token)))
 }
 
 /// Takes the word `cnf`.
@@ -77,7 +76,7 @@ fn take_cnf(token: Token) -> Result<At, Stop<FormulaFault>>
     if is_cnf(token) {
         return Ok(At::Vars);
     }
-    Err(Stop::Text(header_fault(token)))
+    Err(Stop::Text(header_fault(FAULTS, token)))
 }
 
 /// Takes the number of variables.
@@ -87,7 +86,7 @@ fn take_vars(token: Token) -> Result<At, Stop<FormulaFault>>
 {
     match header_number(token) {
         Some(max_var) => Ok(At::Count(max_var)),
-        None => Err(Stop::Text(header_fault(token))),
+        None => Err(Stop::Text(header_fault(FAULTS, token))),
     }
 }
 
@@ -113,7 +112,7 @@ fn take_count(parts: &mut Parts, max_var: u32, token: Token) -> Result<At, Stop<
             parts.full = is_full(&parts.prefix, max_var);
             Ok(At::Between)
         }
-        None => Err(Stop::Text(header_fault(token))),
+        None => Err(Stop::Text(header_fault(FAULTS, token))),
     }
 }
 
@@ -144,7 +143,7 @@ fn take_member(
     ensures row { Moves (row (stands parts.old (at.Set quantifier)) token) parts.new result }
     ensures sound { IfOk result (λ next. IsSound next parts.new) }
 {
-    match member(parts.max_var, token) {
+    match member(FAULTS, parts.max_var, token) {
         Ok(Some(var)) => bind(parts, quantifier, var),
         Ok(None) => {
             parts.full = is_full(&parts.prefix, parts.max_var);
@@ -163,7 +162,7 @@ fn take_literal(parts: &mut Parts, token: Token) -> Result<At, Stop<FormulaFault
     ensures row { Moves (row (stands parts.old at.Clause) token) parts.new result }
     ensures sound { IfOk result (λ next. IsSound next parts.new) }
 {
-    match literal(&parts.prefix, parts.max_var, parts.full, token) {
+    match bound_literal(&parts.prefix, parts.max_var, parts.full, token) {
         Ok(Some(lit)) => match parts.clauses.push(lit) {
             Ok(()) => Ok(At::Clause),
             Err(_) => Err(Stop::Memory),
@@ -185,7 +184,7 @@ fn opened(parts: &Parts, token: Token) -> Option<Quantifier>
     if parts.clauses.whole_len() != 0 {
         return None;
     }
-    set_letter(token)
+    quantifier(token)
 }
 
 /// Whether the header tells of more clauses.
@@ -198,6 +197,7 @@ fn has_more(parts: &Parts) -> bool
 
 /// Takes a token between lists.
 #[inline(always)]
+#[tactic(auto, using(crate::proofs::FormulaParts::made_whole))]
 fn take_opening(parts: &mut Parts, token: Token) -> Result<At, Stop<FormulaFault>>
     requires sound { IsSound at.Between parts.old }
     ensures row { Moves (row (stands parts.old at.Between) token) parts.new result }

@@ -8,7 +8,7 @@ ghost use Rattle.qbf_text.specs.declared.token.Comments.TheVariants.{Qdimacs};
 ghost use Rattle.qdimacs.specs.Faults.{Answers};
 ghost use Rattle.qdimacs.specs.Reading.{reads_bytes, Gives};
 
-use crate::fault::{Fault, fault_of};
+use crate::fault::{Fault, FormulaFault};
 use crate::grammar::FormulaGrammar;
 use qbf_core::Formula;
 use qbf_text::{Comments, Scanner, Source, read_by};
@@ -45,6 +45,6 @@ pub fn read_formula<S: Source>(alloc: Global, source: &mut S) -> Result<Formula,
     let mut grammar = FormulaGrammar::new(alloc);
     match read_by(&mut grammar, &mut scanner, source) {
         Ok(()) => Ok(grammar.into_formula()),
-        Err(error) => Err(fault_of(error)),
+        Err(error) => Err(error.fault(FormulaFault::F1, FormulaFault::F9)),
     }
 }

@@ -3,60 +3,36 @@
 ghost use Rattle.std.specs.Prelude.{Ok, ◌≡◌, [], ◌∷◌, ◌++◌, None};
 ghost use Rattle.qbf_core.specs.Blocks.{pairs, is_quantifier};
 ghost use Rattle.qbf_text.specs.Written.{IsPut};
-ghost use Rattle.qbf_text.specs.Canonical.{line_text, spelled};
-ghost use Rattle.qdimacs.specs.Grammar.{header, text, clause, literal};
+ghost use Rattle.qbf_text.specs.Canonical.{line_text};
+ghost use Rattle.qbf_spelling.specs.Texts.{closing};
+ghost use Rattle.qdimacs.specs.Grammar.{text, clause};
 ghost use Rattle.qdimacs.specs.Reading.{read_formula};
-ghost use Rattle.qdimacs.specs.Texts.{zero_text, opening, prefix_rest, literal_text, clause_rest};
-ghost use Rattle.qdimacs.specs.Texts.{clauses_text};
+ghost use Rattle.qdimacs.specs.Texts.{opening, prefix_rest, clauses_text};
 
 use qbf_core::{Formula, Lit, Prefix, Quantifier};
-use qbf_text::{Sink, SinkFault, put_byte, put_bytes, put_signed, put_spaced, put_spaced_signed};
-
-/// The first literal of a clause.
-#[inline(always)]
-fn put_first<K: Sink>(sink: &mut K, lit: Lit) -> Result<(), SinkFault>
-    ensures { IsPut K.written K.failures sink.old sink.new (spelled (literal lit)) result }
-{
-    put_signed(sink, lit.is_negative(), u64::from(lit.var().number()))
-}
-
-/// A literal behind a blank.
-#[inline(always)]
-fn put_literal<K: Sink>(sink: &mut K, lit: Lit) -> Result<(), SinkFault>
-    ensures { IsPut K.written K.failures sink.old sink.new (literal_text lit) result }
-{
-    put_spaced_signed(sink, lit.is_negative(), u64::from(lit.var().number()))
-}
-
-/// The literals behind the first, and the zero of the clause.
-#[inline(always)]
-fn put_rest<K: Sink>(sink: &mut K, lits: &[Lit]) -> Result<(), SinkFault>
-    ensures { IsPut K.written K.failures sink.old sink.new (clause_rest lits.now) result }
-{
-    for lit in lits {
-        put_literal(sink, *lit)?;
-    }
-    put_bytes(sink, b" 0\n")
-}
+use qbf_spelling::{put_header, put_letter, put_literals};
+use qbf_text::{Sink, SinkFault, put_bytes, put_signed, put_spaced};
 
 /// A clause that is not empty.
 #[inline(always)]
-fn put_literals<K: Sink>(sink: &mut K, first: Lit, rest: &[Lit]) -> Result<(), SinkFault>
+fn put_nonempty<K: Sink>(sink: &mut K, first: Lit, rest: &[Lit]) -> Result<(), SinkFault>
     ensures { IsPut K.written K.failures sink.old sink.new
         (line_text (clause (first ∷ rest.now))) result }
 {
-    put_first(sink, first)?;
-    put_rest(sink, rest)
+    put_signed(sink, first.is_negative(), u64::from(first.var().number()))?;
+    put_literals(sink, rest)?;
+    put_bytes(sink, b" 0\n")
 }
 
 /// A clause and its zero.
 #[inline(always)]
+#[tactic(auto, using(crate::proofs::WrittenParts::no_literals))]
 fn put_clause<K: Sink>(sink: &mut K, lits: &[Lit]) -> Result<(), SinkFault>
     ensures { IsPut K.written K.failures sink.old sink.new (line_text (clause lits.now)) result }
 {
     match lits {
         [] => put_bytes(sink, b"0\n"),
-        [first, rest @ ..] => put_literals(sink, *first, rest),
+        [first, rest @ ..] => put_nonempty(sink, *first, rest),
     }
 }
 
@@ -79,7 +55,7 @@ fn put_opening<K: Sink>(
     ensures { IsPut K.written K.failures sink.old sink.new (opening last quantifier) result }
 {
     match last {
-        None => put_byte(sink, quantifier.letter()),
+        None => put_letter(sink, quantifier),
         Some(open) if is_same(open, quantifier) => Ok(()),
         Some(_) => put_next(sink, quantifier),
     }
@@ -88,10 +64,10 @@ fn put_opening<K: Sink>(
 /// The zero of a block, and the letter of the next.
 fn put_next<K: Sink>(sink: &mut K, quantifier: Quantifier) -> Result<(), SinkFault>
     ensures { IsPut K.written K.failures sink.old sink.new
-        (zero_text ++ opening None quantifier) result }
+        (closing ++ opening None quantifier) result }
 {
     put_bytes(sink, b" 0\n")?;
-    put_byte(sink, quantifier.letter())
+    put_letter(sink, quantifier)
 }
 
 /// What stands after the last variable.
@@ -130,17 +106,6 @@ fn put_clauses<K: Sink>(sink: &mut K, formula: &Formula) -> Result<(), SinkFault
     Ok(())
 }
 
-/// The line of the header.
-fn put_header<K: Sink>(sink: &mut K, max_var: u32, count: u32) -> Result<(), SinkFault>
-    ensures { IsPut K.written K.failures sink.old sink.new
-        (line_text (header max_var count)) result }
-{
-    put_bytes(sink, b"p cnf")?;
-    put_spaced(sink, u64::from(max_var))?;
-    put_spaced(sink, u64::from(count))?;
-    put_byte(sink, b'\n')
-}
-
 /// Writes the canonical text of the formula in QDIMACS 1.1, and does not `finish` the sink.
 ///
 /// The lines are the header, each block as a set, outermost first, and each clause with its
@@ -154,7 +119,8 @@ pub fn write_formula<K: Sink>(formula: &Formula, sink: &mut K) -> Result<(), Sin
     // The text is read as the formula.
     ensures reads_back { read_formula (text formula.now) ≡ Ok formula.now }
 {
-    put_header(sink, formula.max_var(), formula.clauses() as u32)?;
+    let max_var = u64::from(formula.max_var());
+    put_header(sink, b"p cnf", max_var, formula.clauses() as u64)?;
     put_prefix(sink, formula.prefix())?;
     put_clauses(sink, formula)
 }

@@ -1,14 +1,10 @@
 -- Accepted tokens: the items that they close, and the place that they lead to.
-use Rattle.std.proofs.Common.{rules, ◌≡◌, ℕ, ◌<◌, ◌≤◌, Bool, false, List, [], ◌∷◌, ◌++◌, length, map, Result, Ok, Err}
-use Rattle.std.proofs.Common.{refl, ap, ◌∙◌, arith, append_assoc, append-nil, nat_eq}
-use Rattle.std.proofs.lemmas.List.{length-append}
-use Rattle.std.specs.List.{flat_map, AllByRecursion, IsDistinct}
-use Rattle.qbf_core.specs.declared.quantifier.Quantifier.{Quantifier}
-use Rattle.qbf_core.specs.Literal.{Literal}
-use Rattle.qbf_core.specs.Blocks.{Block, IsVariable}
-use Rattle.qbf_text.specs.declared.token.Token.{Token}
-use Rattle.qbf_text.specs.declared.token.Token.TheVariants as token
-use Rattle.qbf_text.specs.Lined.{Lined, unlined}
+use Rattle.qbf_spelling.proofs.Words
+use Words.{rules, ◌≡◌, ℕ, ◌<◌, ◌≤◌, Bool, false, List, [], ◌∷◌, ◌++◌, length, map, Result, Ok, Err, refl, ap, ◌∙◌, arith, append_assoc}
+use Words.{append-nil, nat_eq, length-append, flat_map, AllByRecursion, IsDistinct, Quantifier, Literal, Block, IsVariable, Token, Lined}
+use Words.{unlined, number, literal, letter, set}
+use Words.token
+use Words.word
 use Rattle.qbf_core.proofs.DistinctNumbers.{new_number}
 use Rattle.qrp.specs.declared.fault.TraceFault.TheVariants.{P7}
 use Rattle.qrp.specs.declared.item.Header.{Header}
@@ -16,8 +12,8 @@ use Rattle.qrp.specs.declared.item.Item.{Item}
 use Rattle.qrp.specs.declared.item.Item.TheVariants as item
 use Rattle.qrp.specs.Inferences.{Inference, IsInference, IsLiteral, IsNumber, numbers}
 use Rattle.qrp.specs.Derivations.{AreGrammatical, items_of_lists}
-use Rattle.qrp.specs.Grammar.{number, literal, letter, set, step, lists}
-use Rattle.qrp.specs.Reading.{Fault, Place, AtP, Between, InSet, InLits, InAnts, Row, Goes, Closes, Ends, Fails}
+use Rattle.qrp.specs.Grammar.{step, lists}
+use Rattle.qrp.specs.Reading.{Fault, Place, AtP, Between, InSet, InLits, InAnts, AtResult, Row, Goes, Closes, Ends, Fails}
 use Rattle.qrp.specs.Reading.{row, items_from}
 use Rattle.step_index.specs.Numbers.{is_used}
 
@@ -128,6 +124,10 @@ leads_antecedents ns n ls ants (b ∷ bs) h few = Passes (antecedent_row ns n ls
 
 pub number_row : (ns : List ℕ) (n : ℕ) → IsNumber n → is_used n ns ≡ false → row (Between ns) (number n) ≡ Goes (InLits ns n [])
 number_row ns n h fresh = search rules
+
+pub result_begins : (ns : List ℕ) → row (Between ns) (token.Word word.R) ≡ Goes AtResult
+result_begins [] = refl
+result_begins (n ∷ ns) = refl
 
 zero_row : (ns : List ℕ) (s : Inference)
     → row (InAnts ns s.number s.lits s.ants) (number 0) ≡ Closes (item.Step s) (Between (ns ++ s.number ∷ []))

@@ -1,37 +1,18 @@
 -- The canonical text is read again.
-use Rattle.std.proofs.Common.{rules, append-nil, ◌≡◌, ℕ, ◌<◌, ◌^◌, Bool, List, [], ◌∷◌, ◌++◌, map, Ok, ap, sym, ◌∙◌, arith, append_assoc}
-use Rattle.std.proofs.lemmas.Grind.{flat_map-append}
-use Rattle.std.proofs.lemmas.List.{map-append}
-use Rattle.std.proofs.lemmas.List.Folds.{flat_map-map}
-use Rattle.std.specs.List.{flat_map, AllByRecursion}
-use Rattle.qbf_core.specs.declared.quantifier.Quantifier.{Quantifier}
-use Rattle.qbf_core.specs.Blocks.{Block, IsVariable}
-use Rattle.qbf_text.specs.declared.token.Comments.TheVariants.{Qrp}
-use Rattle.qbf_text.specs.declared.token.Token.{Token}
-use Rattle.qbf_text.specs.declared.token.Token.TheVariants as token
-use Rattle.qbf_text.specs.Tokens.{tokens}
+use Rattle.qbf_spelling.proofs.Words
+use Words.{rules, append-nil, ◌≡◌, ◌<◌, ◌^◌, List, [], ◌∷◌, ◌++◌, map, Ok, ap, sym, ◌∙◌, arith, append_assoc, flat_map-append, map-append}
+use Words.{flat_map-map, flat_map, AllByRecursion, IsVariable, Qrp, Token, tokens, number, literal, set}
+use Words.token
 use Rattle.qbf_text.specs.Canonical.{IsPlain, IsLine}
 use Rattle.qbf_text.proofs.CanonicalTokens.{joined, tokens-lines_text, all_appended, all_mapped, closed_plain}
 use Rattle.qrp.specs.declared.item.Outcome.{Outcome}
 use Rattle.qrp.specs.declared.item.Item.TheVariants as item
-use Rattle.qrp.specs.Inferences.{Inference, IsInference, IsLiteral, numbers}
+use Rattle.qrp.specs.Inferences.{Inference, IsInference, numbers}
 use Rattle.qrp.specs.Derivations.{Derivation, IsWellFormed}
-use Rattle.qrp.specs.Grammar.{number, literal, letter, header, set, step, result, lists, lines, text}
+use Rattle.qbf_spelling.proofs.CanonicalLines.{literals_plain, set_written}
+use Rattle.qrp.specs.Grammar.{header, step, result, lists, lines, text}
 use Rattle.qrp.specs.Laws.{ReadsText, ItemsOfTrace}
 use Rattle.qrp.proofs.SpelledIsRead.{spelled_is_read, spelled_items}
-
-variable_plain : (v : ℕ) → IsVariable v → IsPlain (number v)
-variable_plain v h = omega (arith, h.1)
-
-literal_plain : (v : ℕ) (negative : Bool) → IsVariable v → IsPlain (token.Number negative v)
-literal_plain v negative h = search rules
-
-letter_line : (q : Quantifier) (ts : List Token) → AllByRecursion IsPlain ts → IsLine (letter q ∷ ts)
-letter_line q ts h = search rules
-
-set_line : (s : Block) → AllByRecursion IsVariable s.vars → IsLine (set s)
-set_line s h = letter_line s.quantifier (map number s.vars ++ number 0 ∷ [])
-    (closed_plain (map number s.vars) (all_mapped IsVariable IsPlain number variable_plain s.vars h))
 
 steps_lines : (steps : List Inference) → AllByRecursion IsInference steps → AllByRecursion (λ n. n < 2 ^ 64) (numbers steps)
     → AllByRecursion (λ s. AllByRecursion (λ n. n < 2 ^ 64) s.ants) steps → AllByRecursion IsLine (map step steps)
@@ -42,7 +23,7 @@ steps_lines (s ∷ steps) h small ants = (
     (
       small.0,
       all_appended IsPlain (map literal s.lits) (number 0 ∷ (map number s.ants ++ number 0 ∷ []))
-          (all_mapped IsLiteral IsPlain literal (λ l is. literal_plain l.var l.negative is) s.lits h.0.lits)
+          (literals_plain s.lits h.0.lits)
           (omega arith, closed_plain (map number s.ants) (all_mapped (λ n. n < 2 ^ 64) IsPlain number (λ n is. is) s.ants ants.0)),
     ),
   ),
@@ -57,7 +38,7 @@ lines_written d w = (
   (tt, (tt, (tt, (w.fits.vars, (w.fits.steps, tt))))),
   all_appended IsLine (map set d.sets ++ map step d.steps) (result d.result ∷ [])
       (all_appended IsLine (map set d.sets) (map step d.steps)
-      (all_mapped (λ s. AllByRecursion IsVariable s.vars) IsLine set set_line d.sets w.grammatical.variables)
+      (all_mapped (λ s. AllByRecursion IsVariable s.vars) IsLine set set_written d.sets w.grammatical.variables)
       (steps_lines d.steps w.grammatical.inferences w.fits.numbers_fit w.fits.ants_fit))
       (result_line d.result, tt),
 )

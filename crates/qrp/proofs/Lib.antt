@@ -4,7 +4,6 @@ pub mod AcceptedTokens
 pub mod SpelledIsRead
 pub mod CanonicalTextIsRead
 pub mod ReadIsSpelled
-pub mod Answered
 pub mod WrittenParts
 pub mod Flats
 pub mod RowsReadTheTrace

@@ -1,23 +1,20 @@
 -- What is read is spelled, and a fault that is found stands.
-use Rattle.std.proofs.Common.{rules, ◌≡◌, ℕ, ◌≤◌, ◌+◌, List, [], ◌∷◌, ◌++◌, ◌⊎◌, inl, inr, length, Ok, Err, refl, ap, sym, ◌∙◌}
-use Rattle.std.proofs.Common.{false, arith, append_assoc, append-nil}
-use Rattle.std.proofs.lemmas.List.{map-append, length-append}
-use Rattle.std.specs.List.{flat_map, AllByRecursion, IsDistinct}
-use Rattle.qbf_core.specs.declared.quantifier.Quantifier.{Quantifier}
-use Rattle.qbf_core.specs.Literal.{Literal}
-use Rattle.qbf_core.specs.Blocks.{Block, IsVariable}
-use Rattle.qbf_core.proofs.PrefixLaws.{AllByRecursion-push}
-use Rattle.qbf_text.specs.declared.token.Token.{Token}
-use Rattle.qbf_text.specs.declared.token.Token.TheVariants as token
-use Rattle.qbf_text.specs.declared.token.Word.TheVariants as word
-use Rattle.qbf_text.specs.Lined.{Lined, unlined, EndsOnce}
+use Rattle.qbf_spelling.proofs.Words
+use Words.{rules, ◌≡◌, ℕ, ◌≤◌, ◌+◌, List, [], ◌∷◌, ◌++◌, ◌⊎◌, inl, inr, length, Ok, Err, refl, ap, sym, ◌∙◌, false, arith, append_assoc}
+use Words.{append-nil, map-append, length-append, flat_map, AllByRecursion, IsDistinct, Quantifier, Literal, Block, IsVariable}
+use Words.{AllByRecursion-push, Token, Lined, unlined, number, literal, letter, set}
+use Words.token
+use Words.word
+use Rattle.qbf_text.specs.Lined.{EndsOnce}
 use Rattle.qbf_core.proofs.DistinctNumbers.{push_distinct}
-use Rattle.qbf_text.proofs.AcceptedTokens.{Answers, each_is_answered, flat_map-push}
+use Rattle.qbf_text.proofs.AcceptedTokens.{Answers, flat_map-push}
 use Rattle.qrp.specs.declared.item.Header.{Header}
 use Rattle.qrp.specs.declared.item.Outcome.{Outcome}
 use Rattle.qrp.specs.Inferences.{Inference, IsInference, IsLiteral, IsNumber, numbers}
 use Rattle.qrp.specs.Derivations.{Derivation}
-use Rattle.qrp.specs.Grammar.{number, literal, letter, header, set, step, result_word, lists}
+use Rattle.qrp.specs.Grammar.{header, step, result_word, lists}
+use Rattle.qrp.specs.Laws.{ReadsAsRead}
+use Rattle.qbf_text.proofs.Answered.{explained}
 use Rattle.qrp.specs.Faults.{AreLists, Spells, Reads}
 use Rattle.qrp.specs.Reading.{Place, AtP, AtQrp, AtVars, AtSteps, Between, InSet, InLits, InAnts, AtResult, Row, Goes, Closes, Ends}
 use Rattle.qrp.specs.Reading.{Fails, row, read}
@@ -185,7 +182,5 @@ answer before p t ts s once = by (row p t.0) refl
         inl (Err (f, t.1), record { before = before; wrong = t.0; after = ts; whole = refl; place = p; stands = s; refused = is })
 
 -- What is read is spelled; a fault that is found stands.
-pub read_explained : (ts : List Lined) → EndsOnce ts → Reads ts (read ts)
-read_explained ts once =
-    let r = each_is_answered Spells Reads answer [] AtP ts refl once in
-    rw (read_once ts r.0 r.1) r.1
+pub read_explained : ReadsAsRead
+read_explained = explained Spells Reads read AtP refl answer read_once

@@ -1,25 +1,25 @@
 -- What is read by the rows of the items is the next item.
-use Rattle.std.proofs.Common.{rules, ◌≡◌, ℕ, false, List, [], ◌∷◌, Some, None, IfSome, Ok, Err, ◌⊎◌, refl, ap, sym, ◌∙◌}
-use Rattle.qbf_text.specs.declared.token.Token.{Token}
-use Rattle.qbf_text.specs.declared.token.Token.TheVariants as token
+use Rattle.qbf_spelling.proofs.Words
+use Words.{rules, ◌≡◌, ℕ, false, List, [], ◌∷◌, Some, None, IfSome, Ok, Err, ◌⊎◌, refl, ap, sym, ◌∙◌, Token, Lined, Read, read_from}
+use Words.{read-one}
+use Words.token
 use Rattle.qbf_text.specs.declared.grammar.ReadError.{ReadError}
 use Rattle.qbf_text.specs.declared.grammar.ReadError.TheVariants as error
 use Rattle.qbf_text.specs.Left.{is_end}
-use Rattle.qbf_text.specs.Lined.{Lined, Known}
-use Rattle.qbf_text.specs.Rows.{Read, Cut, behind, read_from, reads_from}
+use Rattle.qbf_text.specs.Lined.{Known}
+use Rattle.qbf_text.specs.Rows.{Cut, behind, reads_from}
 use Rattle.qbf_text.specs.Rows as rows
 use Rattle.qbf_text.specs.Taking.{Leaves, Reads}
-use Rattle.qbf_text.proofs.OneToken.{read-one}
 use Rattle.qbf_text.proofs.OneToken as going
 use Rattle.qrp.specs.declared.fault.TraceFault.{TraceFault}
-use Rattle.qrp.specs.declared.fault.TraceFault.TheVariants.{P7}
+use Rattle.qrp.specs.declared.fault.TraceFault.TheVariants.{P1, P7, P9}
 use Rattle.qrp.specs.declared.item.Item.{Item}
 use Rattle.qrp.specs.declared.item.Item.TheVariants as item
 use Rattle.qrp.specs.Given.{GivesAnswer, GivesUnless, GivesNextItem, left_behind, stage_after}
 use Rattle.qrp.specs.declared.reader.Stage.{Stage}
 use Rattle.qrp.specs.declared.reader.Stage.TheVariants.{AtHeader, AtLists}
 use Rattle.qrp.specs.Items.{Giving, Takes, Gives, Whole, Over, Giver, item_row, as_given, giving, Stands, GivesItem}
-use Rattle.qrp.specs.Making.{fault_of}
+use Rattle.qbf_text.specs.Answering.{fault_of}
 use Rattle.qrp.specs.Parts.{KnownItems, known_items}
 use Rattle.qrp.specs.Reading.{Place, Row}
 use Rattle.qrp.specs.Reading.{row, items_from}
@@ -82,7 +82,7 @@ fault_left p (Some ts) f line h =
 
 pub fault_given : (p : Place) (known : Known) (next : Giving) (rest : Known) (e : ReadError TraceFault)
     → Reads (reads_from item_row (Takes p) known) next rest (Err e)
-    → GivesUnless (fault_of e).0 (known_items p known) (Some (Err (fault_of e) ∷ [])) (Err (fault_of e))
+    → GivesUnless (fault_of P1 P9 e).0 (known_items p known) (Some (Err (fault_of P1 P9 e) ∷ [])) (Err (fault_of P1 P9 e))
 fault_given p known next rest error.Device h = refl
 fault_given p known next rest error.Memory h = refl
 fault_given p known next rest (error.Text f line) h = unless f line (known_items p known) (fault_left p known f line h)

@@ -1,18 +1,16 @@
 -- What tokens spell is read, and a fault that stands is found.
-use Rattle.std.proofs.Common.{◌≡◌, ℕ, List, [], ◌∷◌, ◌++◌, map, Ok, Err, refl, ap, sym, ◌∙◌, append_assoc, append-nil}
-use Rattle.std.proofs.lemmas.List.{map-append}
-use Rattle.qbf_core.specs.Blocks.{Block}
-use Rattle.qbf_text.specs.declared.token.Token.{Token}
-use Rattle.qbf_text.specs.declared.token.Token.TheVariants as token
-use Rattle.qbf_text.specs.declared.token.Word.TheVariants as word
-use Rattle.qbf_text.specs.Lined.{Lined, unlined}
+use Rattle.qbf_spelling.proofs.Words
+use Words.{◌≡◌, ℕ, List, [], ◌∷◌, ◌++◌, map, Ok, Err, refl, ap, sym, ◌∙◌, append_assoc, append-nil, map-append, Block, Token, Lined}
+use Words.{unlined}
+use Words.token
+use Words.word
 use Rattle.qbf_text.proofs.AcceptedTokens.{split_at}
 use Rattle.qrp.specs.declared.fault.TraceFault.{TraceFault}
 use Rattle.qrp.specs.declared.item.Header.{Header}
 use Rattle.qrp.specs.declared.item.Outcome.{Outcome}
 use Rattle.qrp.specs.declared.item.Outcome.TheVariants.{Sat, Unsat}
 use Rattle.qrp.specs.declared.item.Item.TheVariants as item
-use Rattle.qrp.specs.Inferences.{Inference}
+use Rattle.qrp.specs.Inferences.{Inference, numbers}
 use Rattle.qrp.specs.Derivations.{Derivation, items_of_lists}
 use Rattle.qrp.specs.Grammar.{result_word, lists, IsTrace}
 use Rattle.qrp.specs.Faults.{AreLists, Spells, IsFault, whole_before}
@@ -20,7 +18,7 @@ use Rattle.qrp.specs.Laws.{ReadsOnce}
 use Rattle.qrp.specs.Reading.{Fault, Place, AtP, AtQrp, AtVars, AtSteps, Between, InSet, InLits, InAnts, AtResult, Row, Ends, row}
 use Rattle.qrp.specs.Reading.{items, gathered, nothing, read}
 use Rattle.qrp.proofs.AcceptedTokens.{Answer, after, items-one, Leads, Stays, Passes, leads_on, leads_gives, leads_lists}
-use Rattle.qrp.proofs.AcceptedTokens.{leads_variables, leads_literals, leads_antecedents, number_row, letter_row}
+use Rattle.qrp.proofs.AcceptedTokens.{leads_variables, leads_literals, leads_antecedents, number_row, letter_row, result_begins}
 
 -- ---- gathering
 
@@ -67,7 +65,7 @@ spelled_items ts d is =
     let k = split_at ts (lists d.header d.sets d.steps ++ token.Word word.R ∷ []) (result_word d.result) is.rest
     (is.spelled ∙ simp append_assoc) in
     ap items k.3
-    ∙ leads_gives (leads_on (leads_lists d.header d.sets d.steps is.grammatical) (Passes refl Stays)) k.0 k.4
+    ∙ leads_gives (leads_on (leads_lists d.header d.sets d.steps is.grammatical) (Passes (result_begins (numbers d.steps)) Stays)) k.0 k.4
     ((result_word d.result, k.1) ∷ k.2)
     ∙ ap (λ (x : List Answer). map Ok (items_of_lists d.header d.sets d.steps) ++ x)
     (items-one AtResult (result_word d.result, k.1) k.2 ∙ ap (λ (x : Row). after x k.1 k.2) (result_row_ok d.result))
@@ -95,7 +93,7 @@ spelled_leads ts (InSet q vs) e = leads_begun e.0 (Passes (letter_row q) (leads_
 spelled_leads ts (InLits ns n ls) e = leads_begun e.0 (Passes (number_row ns n e.1 e.2) (leads_literals ns n [] ls e.3))
 spelled_leads ts (InAnts ns n ls ants) e = leads_begun e.0 (Passes (number_row ns n e.1 e.2)
     (leads_on (leads_literals ns n [] ls e.3) (Passes refl (leads_antecedents ns n ls [] ants e.4 e.5))))
-spelled_leads ts AtResult e = leads_begun e.1 (Passes refl Stays)
+spelled_leads ts AtResult e = leads_begun e.1 (Passes (result_begins e.0) Stays)
 
 before_fault : (ts : List Token) (place : Place) (s : Spells ts place) (e : Fault)
     → gathered nothing (map Ok (whole_before ts place s) ++ Err e ∷ []) ≡ Err e

@@ -1,14 +1,10 @@
 -- Reading a trace stops behind its result word.
-use Rattle.std.proofs.Common.{◌≡◌, ◌≤◌, ℕ, List, [], ◌∷◌, ◌++◌, length, Option, Some, None, Ok, refl, ap, sym, ◌∙◌, append_assoc}
-use Rattle.qbf_text.specs.declared.token.Comments.TheVariants.{Qrp}
-use Rattle.qbf_text.specs.declared.token.Token.TheVariants as token
-use Rattle.qbf_text.specs.declared.grammar.ReadError.TheVariants as error
-use Rattle.qbf_text.specs.Ahead.{ahead}
-use Rattle.qbf_text.specs.Lined.{Lined}
-use Rattle.qbf_text.specs.Rows.{read_from}
+use Rattle.qbf_spelling.proofs.Words
+use Words.{◌≡◌, ◌≤◌, ℕ, List, [], ◌++◌, length, Option, Some, None, Ok, refl, ap, sym, ◌∙◌, append_assoc, Qrp, ahead, Lined}
+use Words.{tokens}
+use Words.token
 use Rattle.qbf_text.specs.Rows as rows
 use Rattle.qbf_text.specs.Stopping.{IfKnown, StopsBehind, Stops}
-use Rattle.qbf_text.specs.Tokens.{tokens}
 use Rattle.qbf_text.proofs.StopsAtTokens.{taken_no_end, unread_fault}
 use Rattle.qrp.specs.declared.fault.TraceFault.TheVariants.{P7}
 use Rattle.qrp.specs.Answers.{StopsBehindResult}
@@ -16,7 +12,7 @@ use Rattle.qrp.specs.Derivations.{Derivation}
 use Rattle.qrp.specs.Making.{Progress, Making, Whole, Over, row_with, trace_row}
 use Rattle.qrp.specs.Reading.{AtP, nothing}
 use Rattle.qrp.proofs.AcceptedTokens.{end_row}
-use Rattle.qrp.proofs.RowsReadTheTrace.{gives_whole, gives_fault}
+use Rattle.qrp.proofs.RowsReadTheTrace.{answer_of, answers_as_read}
 
 -- no place takes End
 refused : (p : Progress) → trace_row p token.End ≡ rows.Fails P7
@@ -42,10 +38,9 @@ with_held d here held same few bytes rest s =
       few = few;
       missing = (
         s.line,
-        gives_fault (tokens Qrp s.before) Over (error.Text P7 s.line)
-            (rw (same s.before) at (unread_fault trace_row refused s)),
+        sym (answers_as_read.same (tokens Qrp s.before)) ∙ ap answer_of (rw (same s.before) at (unread_fault trace_row refused s)),
       );
-      whole = gives_whole (tokens Qrp front) d ((token.End, s.end_line) ∷ [], rw (same front) at s.whole);
+      whole = sym (answers_as_read.same (tokens Qrp front)) ∙ ap answer_of (rw (same front) at s.whole);
     }
 
 pub stops_behind_result : (first next : Progress) (d : Derivation) (here : List ℕ → List Lined) (pending held : List ℕ)

@@ -1,10 +1,8 @@
 -- Worked rows of traces.
-use Rattle.std.specs.Prelude.{◌≡◌, ℕ, true, false, List, [], ◌∷◌, ◌++◌, codes, Result, Ok, Err, refl}
-use Rattle.std.specs.List.{AllByRecursion}
+use Rattle.qbf_spelling.proofs.Words.{codes, AllByRecursion, Literal, Block}
+use Rattle.std.specs.Prelude.{◌≡◌, ℕ, true, false, List, [], ◌∷◌, ◌++◌, Result, Ok, Err, refl}
 use Rattle.std.specs.Fmt.{digits}
 use Rattle.qbf_core.specs.declared.quantifier.Quantifier.TheVariants.{All, Exists}
-use Rattle.qbf_core.specs.Literal.{Literal}
-use Rattle.qbf_core.specs.Blocks.{Block}
 use Rattle.qrp.specs.declared.fault.TraceFault.TheVariants.{P2, P3, P4, P5, P6, P7, P8}
 use Rattle.qrp.specs.declared.item.Outcome.TheVariants.{Sat, Unsat}
 use Rattle.qrp.specs.Inferences.{Inference}

@@ -1,34 +1,27 @@
 -- The parts of a canonical text, one after the other.
-use Rattle.std.proofs.Common.{◌≡◌, ℕ, List, [], ◌∷◌, ◌++◌, map, refl, ap, sym, ◌∙◌, append_assoc, append-nil, drop, get_or}
-use Rattle.std.proofs.Common.{length, zero, suc, inl, inr, arith, ◌<◌, ◌+◌, add-one}
-use Rattle.std.specs.Prelude.{decimal}
-use Rattle.std.specs.List.{AllByRecursion, flat_map}
-use Rattle.std.proofs.lemmas.Grind.{flat_map-append}
-use Rattle.std.proofs.lemmas.List.Folds.{flat_map-map}
-use Rattle.qbf_text.proofs.SentParts.{line_rest-map, zero_rest}
+use Rattle.qbf_spelling.proofs.Words
+use Words.{◌≡◌, ℕ, List, [], ◌∷◌, ◌++◌, map, refl, ap, sym, ◌∙◌, append_assoc, append-nil, drop, get_or, length, zero, suc, inl, inr, arith}
+use Words.{◌<◌, ◌+◌, add-one, decimal, AllByRecursion, flat_map, flat_map-append, flat_map-map, number, literal, set}
+use Rattle.qbf_text.proofs.SentParts.{line_rest-map, zero_rest, part_at}
 use Rattle.std.proofs.lemmas.Option.{slice_get_cases}
-use Rattle.qbf_core.specs.Blocks.{Block}
-use Rattle.qbf_text.specs.Canonical.{spelled, line_rest, line_text, lines_text}
+use Rattle.qbf_text.specs.Canonical.{line_text, lines_text}
 use Rattle.qrp.specs.declared.item.Header.{Header}
 use Rattle.qrp.specs.Inferences.{Inference, IsAt}
 use Rattle.qrp.specs.Derivations.{Derivation, steps_at, with_steps_at}
-use Rattle.qrp.specs.Grammar.{number, literal, letter, set, step, header, result, text}
-use Rattle.qrp.specs.Texts.{spaced_numbers, spaced_literals, zero_text, closing, set_text, step_text, sets_text, steps_text}
+use Rattle.qbf_spelling.specs.Texts.{literal_text}
+use Rattle.qbf_spelling.proofs.WrittenParts.{closed_numbers, set_line}
+use Rattle.qrp.specs.Grammar.{step, header, result, text}
+use Rattle.qrp.specs.Texts.{zero_text, step_text, sets_text, steps_text}
 
 -- ---- lists
 
 -- the rest of the steps, from place i on
 pub steps_next : (steps : List Inference) (i : ℕ) → i < length steps
-    → (step : Inference) × IsAt steps i step
-    × (flat_map step_text (drop i steps) ≡ step_text step ++ flat_map step_text (drop (i + 1) steps))
-steps_next steps i less = rw (add-one) (from steps i less)
-  where
-    from : (steps : List Inference) (i : ℕ) → i < length steps
-        → (step : Inference) × IsAt steps i step
-        × (flat_map step_text (drop i steps) ≡ step_text step ++ flat_map step_text (drop (suc i) steps))
-    from [] i less = absurd (omega arith)
-    from (s ∷ steps) zero less = (s, refl, refl)
-    from (s ∷ steps) (suc i) less = from steps i (omega arith)
+    → (step : Inference) × IsAt steps i step × (steps_text (drop i steps) ≡ step_text step ++ steps_text (drop (i + 1) steps))
+steps_next steps i less = elim (slice_get_cases steps i).1 [
+  | inl (s, _, is, _) ↦ (s, is, part_at step_text steps i s is)
+  | inr (past, _) ↦ absurd (omega (arith, less, past))
+]
 
 -- the rest of the steps at some places, from the k-th of them on
 pub steps_at_next : (steps : List Inference) (places : List ℕ) (k : ℕ) → AllByRecursion (λ i. i < length steps) places → k < length places
@@ -55,17 +48,11 @@ length_at steps (p ∷ places) inside = elim (slice_get_cases steps p).1 [
   | inr (past, _) ↦ absurd (let less : p < length steps = inside.0 in omega (arith, less, past))
 ]
 
-closed_numbers : (ns : List ℕ) → line_rest (map number ns ++ number 0 ∷ []) ≡ spaced_numbers ns ++ closing
-closed_numbers ns = line_rest-map number ns (number 0 ∷ []) ∙ ap (λ (k : List ℕ). spaced_numbers ns ++ k) (zero_rest [])
-
-set_line : (s : Block) → line_text (set s) ≡ set_text s
-set_line s = ap (λ (k : List ℕ). spelled (letter s.quantifier) ++ k) (closed_numbers s.vars)
-
 step_line : (s : Inference) → line_text (step s) ≡ step_text s
 step_line s =
     ap (λ (k : List ℕ). decimal s.number ++ k)
     (line_rest-map literal s.lits (number 0 ∷ (map number s.ants ++ number 0 ∷ []))
-    ∙ ap (λ (k : List ℕ). spaced_literals s.lits ++ k)
+    ∙ ap (λ (k : List ℕ). flat_map literal_text s.lits ++ k)
     (zero_rest (map number s.ants ++ number 0 ∷ []) ∙ ap (λ (k : List ℕ). zero_text ++ k) (closed_numbers s.ants)))
 
 -- ---- the whole

@@ -1,7 +1,7 @@
 -- What the calls answer that read a whole trace.
-use Rattle.std.specs.Prelude.{◌≡◌, ◌≤◌, ℕ, List, ◌++◌, length, Option, Some, None, IfSome, Result, Ok, Err}
+use Rattle.qbf_spelling.specs.Words.{◌≡◌, ◌≤◌, ℕ, List, ◌++◌, length, Bool, true, false, Option, option_map, Result, Ok, Err, Lined}
+use Rattle.qbf_text.specs.Answering as answering
 use Rattle.qbf_text.specs.Left.{IsUnbroken}
-use Rattle.qbf_text.specs.Lined.{Lined, unlined}
 use Rattle.qrp.specs.declared.fault.TraceFault.{TraceFault}
 use Rattle.qbf_text.specs.Stopping.{IsAtMostASeparator}
 use Rattle.qrp.specs.declared.fault.TraceFault.TheVariants.{P1, P7, P9}
@@ -12,30 +12,21 @@ use Rattle.qrp.specs.Faults.{IsFault}
 
 -- what bytes read as, where they are told
 abbrev pub reads_bytes : Option (List ℕ) → Option (Result Derivation Fault)
-reads_bytes None = None
-reads_bytes (Some bytes) = Some (read_trace bytes)
+reads_bytes bytes = option_map read_trace bytes
 
--- the fault is that of reading, unless the source failed or memory ran out
-abbrev pub Refuses : TraceFault → ℕ → Option (Result Derivation Fault) → Type 0
-Refuses P1 line whole = Unit {0}
-Refuses P9 line whole = Unit {0}
-Refuses f line whole = IfSome whole (λ r. r ≡ Err (f, line))
+-- the source failed, or memory ran out
+abbrev pub is_outside : TraceFault → Bool
+is_outside P1 = true
+is_outside P9 = true
+is_outside f = false
 
--- the answer is what was read
+-- the answer is what was read, unless the source failed or memory ran out
 abbrev pub Gives : Result Derivation Fault → Option (Result Derivation Fault) → Type 0
-Gives (Ok d) whole = IfSome whole (λ r. r ≡ Ok d)
-Gives (Err e) whole = Refuses e.0 e.1 whole
+Gives answer whole = answering.Gives is_outside answer whole
 
--- the fault stands in these tokens, unless the source failed or memory ran out
-abbrev pub StandsUnless : List Lined → TraceFault → ℕ → Type 0
-StandsUnless ts P1 line = Unit {0}
-StandsUnless ts P9 line = Unit {0}
-StandsUnless ts f line = IsFault ts f line
-
--- the answer is the trace that the tokens spell, or the fault that stands in them
+-- the answer is the trace that the tokens spell, or the fault that stands in them, unless the source failed or memory ran out
 abbrev pub Answers : List Lined → Result Derivation Fault → Type 0
-Answers ts (Ok d) = IsTrace (unlined ts) d
-Answers ts (Err e) = StandsUnless ts e.0 e.1
+Answers ts answer = answering.Answers is_outside IsTrace IsFault ts answer
 
 -- What was consumed of the bytes ends with the result word and at most one separator, but for at most 4,096 bytes that were pulled
 -- with it. These are held and not looked at, and lost with the reader.

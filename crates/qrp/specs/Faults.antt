@@ -1,17 +1,16 @@
 -- Where the first fault stands: the tokens before it are accepted, and the row of its place refuses it.
-use Rattle.std.specs.Prelude.{◌≡◌, ◌≤◌, ℕ, false, List, [], ◌∷◌, ◌++◌, map, length, Result, Ok, Err}
-use Rattle.std.specs.List.{AllByRecursion}
-use Rattle.qbf_core.specs.Blocks.{Block, IsVariable}
-use Rattle.qbf_text.specs.declared.token.Token.{Token}
-use Rattle.qbf_text.specs.declared.token.Token.TheVariants as token
-use Rattle.qbf_text.specs.declared.token.Word.TheVariants as word
-use Rattle.qbf_text.specs.Lined.{Lined, unlined}
+use Rattle.qbf_spelling.specs.Words
+use Words.{◌≡◌, ◌≤◌, ℕ, false, List, [], ◌∷◌, ◌++◌, map, length, Result, AllByRecursion, Block, IsVariable, Token, Lined, number, literal}
+use Words.{letter}
+use Words.token
+use Words.word
 use Rattle.qrp.specs.declared.fault.TraceFault.{TraceFault}
 use Rattle.qrp.specs.declared.item.Header.{Header}
 use Rattle.qrp.specs.declared.item.Item.{Item}
 use Rattle.qrp.specs.Inferences.{Inference, IsLiteral, IsNumber, numbers}
 use Rattle.qrp.specs.Derivations.{Derivation, AreGrammatical, items_of_lists}
-use Rattle.qrp.specs.Grammar.{number, literal, letter, lists, IsTrace}
+use Rattle.qbf_text.specs.Answering as answering
+use Rattle.qrp.specs.Grammar.{lists, IsTrace}
 use Rattle.qrp.specs.Reading.{Fault, Place, AtP, AtQrp, AtVars, AtSteps, Between, InSet, InLits, InAnts, AtResult, row, Fails}
 use Rattle.step_index.specs.Numbers.{is_used}
 
@@ -51,16 +50,9 @@ whole_before ts (InAnts ns n ls ants) s = items_of_lists s.0.header s.0.sets s.0
 whole_before ts AtResult s = items_of_lists s.1.header s.1.sets s.1.steps
 
 -- The fault stands on this line.
-pub record IsFault (ts : List Lined) (fault : TraceFault) (line : ℕ) : Type 0 where
-  pub before : List Lined
-  pub wrong : Token
-  pub after : List Lined
-  pub whole : ts ≡ before ++ (wrong, line) ∷ after
-  pub place : Place
-  pub stands : Spells (unlined before) place
-  pub refused : row place wrong ≡ Fails fault
+abbrev pub IsFault : List Lined → TraceFault → ℕ → Type 0
+IsFault ts fault line = answering.IsFault Spells (λ place t f. row place t ≡ Fails f) ts fault line
 
 -- What the tokens read as: the trace that they spell, or the fault that stands.
 abbrev pub Reads : List Lined → Result Derivation Fault → Type 0
-Reads ts (Ok d) = IsTrace (unlined ts) d
-Reads ts (Err e) = IsFault ts e.0 e.1
+Reads ts answer = answering.Reads IsTrace IsFault ts answer

@@ -1,9 +1,8 @@
 -- The parts of a trace, given one after the other: the rows of the places with what is given.
-use Rattle.std.specs.Prelude.{◌≡◌, ◌≢◌, ◌<◌, Option, ◌+◌, ◌-◌, ◌^◌, ℕ, false, List, length, Result, Ok, IfOk, OnOk, IfErr, ⊤}
-use Rattle.qbf_text.specs.Lined.{Lined, Known}
+use Rattle.qbf_spelling.specs.Words
+use Words.{◌≡◌, ◌≢◌, ◌<◌, Option, ◌+◌, ◌-◌, ◌^◌, ℕ, false, List, length, Result, Ok, IfOk, OnOk, IfErr, ⊤, Lined, Known, Token}
 use Rattle.qbf_text.specs.Stopping.{IfKnown}
 use Rattle.qbf_text.specs.Reading.{Reading, HasFailed}
-use Rattle.qbf_text.specs.declared.token.Token.{Token}
 use Rattle.qbf_text.specs.Rows as rows
 use Rattle.qrp.specs.declared.fault.TraceFault.{TraceFault}
 use Rattle.qrp.specs.declared.fault.TraceFault.TheVariants.{P1, P7}

@@ -1,12 +1,9 @@
 -- A trace that is made while its tokens are taken: the rows of its places, with what is made of them.
 use Rattle.std.specs.Prelude.{[], ◌∷◌, ◌++◌, ⊤}
 use Rattle.qbf_core.specs.Lists.{Growing}
-use Rattle.qbf_text.specs.declared.token.Token.{Token}
 use Rattle.qbf_text.specs.Rows as rows
-use Rattle.qbf_text.specs.declared.grammar.ReadError.{ReadError}
-use Rattle.qbf_text.specs.declared.grammar.ReadError.TheVariants as error
 use Rattle.qrp.specs.declared.fault.TraceFault.{TraceFault}
-use Rattle.qrp.specs.declared.fault.TraceFault.TheVariants.{P1, P7, P9}
+use Rattle.qrp.specs.declared.fault.TraceFault.TheVariants.{P7}
 use Rattle.qrp.specs.declared.grammar.Parts.{Parts}
 use Rattle.qrp.specs.declared.item.Item.{Item}
 use Rattle.qrp.specs.declared.item.Item.TheVariants as item
@@ -16,7 +13,7 @@ use Rattle.qrp.specs.declared.places.At.TheVariants as at
 use Rattle.qrp.specs.Derivations.{Derivation}
 use Rattle.qrp.specs.Flat.{numbered, IsFlat}
 use Rattle.qrp.specs.Places.{IsBegun, place}
-use Rattle.qrp.specs.Reading.{Fault, Place, Row, Goes, Closes, Ends, Fails, row}
+use Rattle.qrp.specs.Reading.{Place, Row, Goes, Closes, Ends, Fails, row}
 
 -- How far a trace is made: what of it, and where the next token stands.
 pub data Progress : Type 0 where
@@ -55,12 +52,6 @@ abbrev pub IsWhole : Progress → Type 0
 IsWhole (Making d place) = ⊥
 IsWhole (Whole d) = Unit {0}
 IsWhole Over = ⊥
-
--- the fault and the line that an error stands for
-abbrev pub fault_of : ReadError TraceFault → Fault
-fault_of error.Device = (P1, 0)
-fault_of error.Memory = (P9, 0)
-fault_of (error.Text f line) = (f, line)
 
 -- ---- the flat buffers
 

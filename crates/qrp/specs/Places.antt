@@ -1,12 +1,10 @@
 -- Where a token stands while a trace is read: what the lists that are begun say of its place.
-use Rattle.std.specs.Prelude.{◌≡◌, ◌<◌, ◌≤◌, ◌^◌, ℕ, false, List, [], ◌∷◌, ◌++◌, length, Result, Ok, Err, ⊤, if◌then◌else◌}
-use Rattle.std.specs.List.{AllByRecursion}
-use Rattle.qbf_core.specs.Blocks.{IsVariable}
-use Rattle.qbf_text.specs.declared.token.Token.{Token}
+use Rattle.qbf_spelling.specs.Words
+use Words.{◌≡◌, ◌<◌, ◌≤◌, ◌^◌, ℕ, false, List, [], ◌∷◌, ◌++◌, length, Result, Ok, Err, ⊤, AllByRecursion, IsVariable, Token}
 use Rattle.qbf_text.specs.declared.grammar.Stop.{Stop}
 use Rattle.qbf_text.specs.declared.grammar.Stop.TheVariants as stop
 use Rattle.qrp.specs.declared.fault.TraceFault.{TraceFault}
-use Rattle.qrp.specs.declared.fault.TraceFault.TheVariants.{P5, P7}
+use Rattle.qrp.specs.declared.fault.TraceFault.TheVariants.{P7}
 use Rattle.qrp.specs.declared.item.Item.{Item}
 use Rattle.qrp.specs.declared.item.Item.TheVariants as item
 use Rattle.qrp.specs.declared.places.At.{At}
@@ -42,10 +40,6 @@ row_at b (at.Behind p) t = Fails P7
 row_at b (at.Whole o) t = Fails P7
 row_at b at.Over t = Fails P7
 row_at b here t = row (place b here) t
-
--- the row between lists of a number
-abbrev pub step_row : List ℕ → ℕ → Row
-step_row ns n = if is_used n ns then Fails P5 else Goes (InLits ns n [])
 
 -- the item that a part is
 abbrev pub item_of : Begun → Part → Item

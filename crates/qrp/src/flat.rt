@@ -14,7 +14,7 @@ ghost use Rattle.qrp.specs.Inferences.{IsLiteral, IsNumber, numbers};
 ghost use Rattle.qrp.specs.Making.{made, IsMade};
 ghost use Rattle.step_index.specs.Numbers.{is_used};
 
-use crate::fault::{Fault, fault_of};
+use crate::fault::{Fault, TraceFault};
 use crate::grammar::{Parts, TraceGrammar};
 use crate::item::{Header, Outcome, QuantSet};
 use crate::steps::Steps;
@@ -252,6 +252,7 @@ impl Steps for FlatTrace {
         self.steps.ants(i)
     }
 
+    #[tactic(auto, using(crate::proofs::Positions::step_found))]
     fn position(&self, number: u64) -> Option<usize> {
         self.index.position(number)
     }
@@ -279,6 +280,6 @@ pub fn read_flat<S: Source>(alloc: Global, source: &mut S) -> Result<FlatTrace, 
     let mut grammar = TraceGrammar::new(alloc);
     match read_by(&mut grammar, &mut scanner, source) {
         Ok(()) => Ok(grammar.into_trace()),
-        Err(error) => Err(fault_of(error)),
+        Err(error) => Err(error.fault(TraceFault::P1, TraceFault::P9)),
     }
 }

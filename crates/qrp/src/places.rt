@@ -4,17 +4,16 @@ ghost use Rattle.std.specs.Prelude.{◌≡◌, [], IfOk};
 ghost use Rattle.qrp.specs.declared.places.At.TheVariants as at;
 ghost use Rattle.qrp.specs.declared.places.Begun.{Begun};
 ghost use Rattle.qrp.specs.Inferences.{IsNumber};
-ghost use Rattle.qrp.specs.Parts.{has_steps};
-ghost use Rattle.qrp.specs.Places.{row_at, step_row, Moves, Stays, IsAt, IsBegun, IsMoved};
-ghost use Rattle.qrp.specs.Reading.{has_room};
+ghost use Rattle.qrp.specs.Places.{row_at, Moves, Stays, IsAt, IsBegun, IsMoved};
+ghost use Rattle.qrp.specs.Reading.{has_room, has_steps, step_row};
 
 use crate::fault::TraceFault;
 use crate::item::{Header, Outcome};
 use crate::tokens::{
-    Opening, antecedent, header_fault, header_number, is_p, is_qrp, literal, member, opened,
-    outcome_of,
+    FAULTS, LAST_VARIABLE, Opening, antecedent, header_number, is_qrp, opened, outcome_of,
 };
 use qbf_core::{GrowingLists, Lit, Quantifier, Var};
+use qbf_spelling::{header_fault, is_p, literal, member};
 use qbf_text::{Stop, Token};
 use std::alloc::Global;
 use step_index::StepIndex;
@@ -109,7 +108,7 @@ fn take_p(token: Token) -> Result<Move, Stop<TraceFault>>
     if is_p(token) {
         return Ok(Move::Goes(At::Qrp));
     }
-    Err(Stop::Text(header_fault(token)))
+    Err(Stop::Text(header_fault(FAULTS, token)))
 }
 
 /// Takes the word `qrp`.
@@ -120,7 +119,7 @@ fn take_qrp(token: Token) -> Result<Move, Stop<TraceFault>>
     if is_qrp(token) {
         return Ok(Move::Goes(At::Vars));
     }
-    Err(Stop::Text(header_fault(token)))
+    Err(Stop::Text(header_fault(FAULTS, token)))
 }
 
 /// Takes the number of variables.
@@ -130,7 +129,7 @@ fn take_vars(token: Token) -> Result<Move, Stop<TraceFault>>
 {
     match header_number(token) {
         Some(vars) => Ok(Move::Goes(At::Steps(vars))),
-        None => Err(Stop::Text(header_fault(token))),
+        None => Err(Stop::Text(header_fault(FAULTS, token))),
     }
 }
 
@@ -141,7 +140,7 @@ fn take_steps(vars: u64, token: Token) -> Result<Move, Stop<TraceFault>>
 {
     match header_number(token) {
         Some(steps) => Ok(Move::Closes(Part::Header(Header { vars, steps }))),
-        None => Err(Stop::Text(header_fault(token))),
+        None => Err(Stop::Text(header_fault(FAULTS, token))),
     }
 }
 
@@ -201,7 +200,7 @@ fn take_member(
     ensures stays { Stays begun.old begun.new }
     ensures sound { IfOk result (λ m. IsMoved m begun.new) }
 {
-    match member(token) {
+    match member(FAULTS, LAST_VARIABLE, token) {
         Ok(Some(var)) => match begun.vars.push(var) {
             Ok(()) => Ok(Move::Goes(At::Set(quantifier))),
             Err(_) => Err(Stop::Memory),
@@ -221,7 +220,7 @@ fn take_literal(begun: &mut Begun, number: u64, token: Token) -> Result<Move, St
     ensures stays { Stays begun.old begun.new }
     ensures sound { IfOk result (λ m. IsMoved m begun.new) }
 {
-    match literal(token) {
+    match literal(FAULTS, LAST_VARIABLE, token) {
         Ok(Some(lit)) => match begun.lits.push(lit) {
             Ok(()) => Ok(Move::Goes(At::Lits(number))),
             Err(_) => Err(Stop::Memory),

@@ -14,7 +14,7 @@ ghost use Rattle.qrp.specs.Items.{Takes, StopsBehind, GivesItem, IsItem, IsDrive
 ghost use Rattle.qrp.specs.Parts.{known_items};
 ghost use Rattle.qrp.specs.Reading.{Place, items};
 
-use crate::fault::{Fault, TraceFault, fault_of};
+use crate::fault::{Fault, TraceFault};
 use crate::item::{Item, Outcome};
 use crate::items::ItemGrammar;
 use qbf_text::{Comments, Scanner, Source, read_by};
@@ -67,7 +67,7 @@ fn read_item<S: Source>(
             Ok(item) => Ok(item),
             Err(_) => Err((TraceFault::P9, 0)),
         },
-        Err(error) => Err(fault_of(error)),
+        Err(error) => Err(error.fault(TraceFault::P1, TraceFault::P9)),
     }
 }
 

@@ -1,37 +1,27 @@
 //! What one token says at its place in a trace.
 
 ghost use Rattle.std.specs.Prelude.{◌≡◌, ◌<◌, ◌^◌, true, IfOk, OnOk, IfSome};
-ghost use Rattle.qbf_core.specs.Blocks.{IsVariable};
 ghost use Rattle.qbf_text.specs.Lined.{weight};
-ghost use Rattle.qrp.specs.Inferences.{IsLiteral, IsNumber};
-ghost use Rattle.qrp.specs.Parts.{opened, outcome_of};
-ghost use Rattle.qrp.specs.Reading.{header_fault, is_p, is_qrp, header_number, member, literal_in};
-ghost use Rattle.qrp.specs.Reading.{antecedent};
+ghost use Rattle.qrp.specs.Inferences.{IsNumber};
+ghost use Rattle.qrp.specs.Reading.{antecedent, header_number, is_qrp, opened, outcome_of};
 
 use crate::fault::TraceFault;
 use crate::item::Outcome;
-use qbf_core::{Lit, Quantifier, Var};
+use qbf_core::Quantifier;
+use qbf_spelling::Faults;
 use qbf_text::{Token, Word};
 
 /// The greatest variable of a trace.
-const LAST_VARIABLE: u32 = 2147483647;
+pub const LAST_VARIABLE: u32 = 2147483647;
 
-/// What a token is that a header does not accept.
-pub fn header_fault(token: Token) -> TraceFault
-    ensures { result ≡ header_fault token }
-{
-    match token {
-        Token::End => TraceFault::P7,
-        _ => TraceFault::P2,
-    }
-}
-
-/// Whether a token is the word `p`.
-pub fn is_p(token: Token) -> bool
-    ensures { result ≡ is_p token }
-{
-    matches!(token, Token::Word(Word::P))
-}
+/// The faults that tokens of a trace are.
+pub const FAULTS: Faults<TraceFault> = Faults {
+    header: TraceFault::P2,
+    stray: TraceFault::P3,
+    range: TraceFault::P4,
+    minus_zero: TraceFault::P4,
+    end: TraceFault::P7,
+};
 
 /// Whether a token is the word `qrp`.
 pub fn is_qrp(token: Token) -> bool
@@ -89,47 +79,6 @@ pub fn outcome_of(token: Token) -> Result<Outcome, TraceFault>
         Token::Word(Word::Unsat) => Ok(Outcome::Unsat),
         Token::End => Err(TraceFault::P7),
         _ => Err(TraceFault::P8),
-    }
-}
-
-/// The variable that a token says in a set, or `None` where it closes the set.
-pub fn member(token: Token) -> Result<Option<Var>, TraceFault>
-    ensures says { result ≡ member token }
-    ensures range { IfOk result (λ o. IfSome o IsVariable) }
-{
-    match token {
-        Token::Number { negative: true, .. } | Token::Big => Err(TraceFault::P4),
-        Token::Number { value: 0, .. } => Ok(None),
-        Token::Number { value, .. } => match Var::up_to(LAST_VARIABLE, value) {
-            Some(var) => Ok(Some(var)),
-            None => Err(TraceFault::P4),
-        },
-        Token::End => Err(TraceFault::P7),
-        Token::Word(_) | Token::Bad => Err(TraceFault::P3),
-    }
-}
-
-/// The literal that a token says in a step, or `None` where it closes the literals.
-pub fn literal(token: Token) -> Result<Option<Lit>, TraceFault>
-    ensures says { result ≡ literal_in token }
-    ensures range { IfOk result (λ o. IfSome o IsLiteral) }
-{
-    match token {
-        Token::Number {
-            negative: false,
-            value: 0,
-        } => Ok(None),
-        Token::Number {
-            negative: true,
-            value: 0,
-        } => Err(TraceFault::P4),
-        Token::Number { negative, value } => {
-            let var = Var::up_to(LAST_VARIABLE, value).ok_or(TraceFault::P4)?;
-            Ok(Some(Lit::new(var, negative)))
-        }
-        Token::Big => Err(TraceFault::P4),
-        Token::End => Err(TraceFault::P7),
-        Token::Word(_) | Token::Bad => Err(TraceFault::P3),
     }
 }
 

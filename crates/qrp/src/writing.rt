@@ -5,73 +5,24 @@ ghost use Rattle.std.specs.List.{AllByRecursion};
 ghost use Rattle.qbf_text.specs.Canonical.{line_text};
 ghost use Rattle.qbf_text.specs.Written.{IsPut};
 ghost use Rattle.qrp.specs.Derivations.{steps_at, with_steps_at};
-ghost use Rattle.qrp.specs.Grammar.{header, result as result_line, text};
+ghost use Rattle.qrp.specs.Grammar.{result as result_line, text};
 ghost use Rattle.qrp.specs.Inferences.{Inference, IsAt};
 ghost use Rattle.qrp.specs.Reading.{read_trace};
-ghost use Rattle.qrp.specs.Texts.{spaced_numbers, spaced_literal, spaced_literals};
-ghost use Rattle.qrp.specs.Texts.{set_text, step_text, sets_text, steps_text};
+ghost use Rattle.qrp.specs.Texts.{step_text, sets_text, steps_text};
 
-use crate::item::{Header, Outcome, QuantSet};
+use crate::item::{Outcome, QuantSet};
 use crate::steps::Steps;
 use crate::trace::Trace;
-use qbf_core::{Lit, Var};
-use qbf_text::{Sink, SinkFault, put_byte, put_bytes, put_number, put_spaced, put_spaced_signed};
+use qbf_spelling::{put_header, put_literals, put_set};
+use qbf_text::{Sink, SinkFault, put_all_spaced, put_bytes, put_number};
 
-// ---- a literal
-
-#[inline(always)]
-fn put_literal<K: Sink>(sink: &mut K, lit: Lit) -> Result<(), SinkFault>
-    ensures { IsPut K.written K.failures sink.old sink.new (spaced_literal lit) result }
-{
-    put_spaced_signed(sink, lit.is_negative(), u64::from(lit.var().number()))
-}
-
-#[inline(always)]
-fn put_literals<K: Sink>(sink: &mut K, lits: &[Lit]) -> Result<(), SinkFault>
-    ensures { IsPut K.written K.failures sink.old sink.new (spaced_literals lits.now) result }
-{
-    for lit in lits {
-        put_literal(sink, *lit)?;
-    }
-    Ok(())
-}
-
-// ---- numbers
-
-#[inline(always)]
-fn put_numbers<K: Sink>(sink: &mut K, numbers: &[u64]) -> Result<(), SinkFault>
-    ensures { IsPut K.written K.failures sink.old sink.new (spaced_numbers numbers.now) result }
-{
-    for number in numbers {
-        put_spaced(sink, *number)?;
-    }
-    Ok(())
-}
-
-fn put_variables<K: Sink>(sink: &mut K, vars: &[Var]) -> Result<(), SinkFault>
-    ensures { IsPut K.written K.failures sink.old sink.new (spaced_numbers vars.now) result }
-{
-    for var in vars {
-        put_spaced(sink, u64::from(var.number()))?;
-    }
-    Ok(())
-}
-
-// ---- a set
-
-fn put_set<K: Sink>(sink: &mut K, set: &QuantSet) -> Result<(), SinkFault>
-    ensures { IsPut K.written K.failures sink.old sink.new (set_text set.now) result }
-{
-    put_byte(sink, set.quantifier.letter())?;
-    put_variables(sink, &set.vars)?;
-    put_bytes(sink, b" 0\n")
-}
+// ---- sets
 
 fn put_sets<K: Sink>(sink: &mut K, sets: &[QuantSet]) -> Result<(), SinkFault>
     ensures { IsPut K.written K.failures sink.old sink.new (sets_text sets.now) result }
 {
     for set in sets {
-        put_set(sink, set)?;
+        put_set(sink, set.quantifier, &set.vars)?;
     }
     Ok(())
 }
@@ -87,7 +38,7 @@ fn put_step<K: Sink>(sink: &mut K, trace: &Trace, place: usize) -> Result<(), Si
     put_number(sink, trace.number(place))?;
     put_literals(sink, trace.lits(place))?;
     put_bytes(sink, b" 0")?;
-    put_numbers(sink, trace.ants(place))?;
+    put_all_spaced(sink, trace.ants(place))?;
     put_bytes(sink, b" 0\n")
 }
 
@@ -113,15 +64,6 @@ fn put_steps_at<K: Sink>(sink: &mut K, trace: &Trace, places: &[usize]) -> Resul
 
 // ---- the whole
 
-fn put_header<K: Sink>(sink: &mut K, numbers: Header) -> Result<(), SinkFault>
-    ensures { IsPut K.written K.failures sink.old sink.new (line_text (header numbers)) result }
-{
-    put_bytes(sink, b"p qrp")?;
-    put_spaced(sink, numbers.vars)?;
-    put_spaced(sink, numbers.steps)?;
-    put_bytes(sink, b"\n")
-}
-
 fn put_result<K: Sink>(sink: &mut K, outcome: Outcome) -> Result<(), SinkFault>
     ensures { IsPut K.written K.failures sink.old sink.new
         (line_text (result_line outcome)) result }
@@ -146,7 +88,8 @@ pub fn write_trace<K: Sink>(trace: &Trace, sink: &mut K) -> Result<(), SinkFault
     // Reading the text gives the trace.
     ensures reads_back { read_trace (text trace.now) ≡ Ok trace.now }
 {
-    put_header(sink, trace.header())?;
+    let header = trace.header();
+    put_header(sink, b"p qrp", header.vars, header.steps)?;
     put_sets(sink, trace.sets())?;
     put_steps(sink, trace)?;
     put_result(sink, trace.result())
@@ -169,11 +112,7 @@ pub fn write_steps_at<K: Sink>(
     ensures { IsPut K.written K.failures sink.old sink.new
         (text (with_steps_at trace.now places.now)) result }
 {
-    let header = Header {
-        vars: trace.header().vars,
-        steps: places.len() as u64,
-    };
-    put_header(sink, header)?;
+    put_header(sink, b"p qrp", trace.header().vars, places.len() as u64)?;
     put_sets(sink, trace.sets())?;
     put_steps_at(sink, trace, places)?;
     put_result(sink, trace.result())

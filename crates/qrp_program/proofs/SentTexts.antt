@@ -7,7 +7,7 @@ use Rattle.qbf_core.specs.Qbf.{Qbf}
 use Rattle.qbf_text.specs.declared.sink.Sink.{Ghosts}
 use Rattle.qdimacs.specs.declared.fault.FormulaFault.{FormulaFault}
 use Rattle.qdimacs.specs.declared.fault.FormulaFault.TheVariants.{F1, F2, F3, F4, F5, F6, F7, F8, F9}
-use Rattle.qdimacs.specs.Reading.{Gives, Stops, reads_bytes, read_formula}
+use Rattle.qdimacs.specs.Reading.{Gives, reads_bytes, read_formula}
 use Rattle.qrp_rules.specs.declared.rules.Rules.{Rules}
 use Rattle.qrp_program.specs.declared.job.Job.{Job}
 use Rattle.qrp_program.specs.declared.job.Job.TheVariants as job
@@ -43,7 +43,7 @@ stopped : (told : Option (List ℕ)) (e : FormulaFault) (n : ℕ) → IfSome (re
 stopped None e n s = tt
 stopped (Some bytes) e n s = s
 
-pub formula_refused : (told : Option (List ℕ)) (before after : ℕ) (e : FormulaFault) (n : ℕ) → Stops e n (reads_bytes told)
+pub formula_refused : (told : Option (List ℕ)) (before after : ℕ) (e : FormulaFault) (n : ℕ) → Gives (Err (e, n)) (reads_bytes told)
     → (e ≡ F1 → HasFailed before after) → (e ≢ F1 → after ≡ before) → (e ≡ F1 → n ≡ 0) → (e ≡ F9 → n ≡ 0)
     → IsFormulaRefused told before after e n
 formula_refused told before after F1 n s failed kept one nine = (one refl, failed refl)

@@ -1,5 +1,4 @@
-use Rattle.std.proofs.Common.{take}
-use Rattle.std.specs.List.{AllByRecursion}
+use Rattle.qbf_spelling.proofs.Words.{take, AllByRecursion}
 use Rattle.qrp.specs.Inferences.{IsLiteral}
 use Rattle.qrp.proofs.flat.know_literals.Given as goal
 

@@ -1,6 +1,4 @@
-use Rattle.std.proofs.Common.{take}
-use Rattle.std.specs.List.{AllByRecursion}
-use Rattle.qbf_core.specs.Blocks.{IsVariable}
+use Rattle.qbf_spelling.proofs.Words.{take, AllByRecursion, IsVariable}
 use Rattle.qrp.proofs.flat.know_variables.Given as goal
 
 abbrev pub invariant-loop-var : goal.invariant-loop-var

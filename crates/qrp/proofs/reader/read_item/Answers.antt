@@ -1,11 +1,8 @@
-use Rattle.std.proofs.Common.{◌≤◌, length, Err, subst}
-use Rattle.qbf_text.specs.Reading.{left}
+use Rattle.qbf_spelling.proofs.Words.{◌≤◌, length, Err, subst, left, ahead, tokens_next}
 use Rattle.qbf_text.specs.Rows.{reads_from}
 use Rattle.qbf_text.specs.Taking.{Reads}
 use Rattle.qrp.specs.Items.{Giving, item_row}
 use Rattle.qrp.proofs.RowsReadTheItem.{item_given, fault_given}
-use Rattle.qbf_text.specs.Ahead.{ahead}
-use Rattle.qbf_text.specs.Stopping.{tokens_next}
 use Rattle.qrp.proofs.ItemStops.{item_stops}
 use Rattle.qrp.proofs.reader.read_item.Goals as goal
 
@@ -15,7 +12,7 @@ returns-in-Ok-give-clause-gives g c = λ p at_.
     (rw (← c.in-Ok-give.ensures.next.numbers) at c.in-Ok-give.ensures.item)
 
 pub returns-in-Err-clause-gives : goal.returns-in-Err-clause-gives
-returns-in-Err-clause-gives g c = λ p at_. rw c.fault_of.ensures
+returns-in-Err-clause-gives g c = λ p at_. rw c.fault.ensures
     (fault_given p (left c.args.scanner.now (g.S.Source.remaining c.args.source.now)) c.read_by.new.grammar.giving
     (left c.read_by.new.scanner (g.S.Source.remaining c.read_by.new.source)) c.in-Err.error
     (subst (λ (q : Giving). Reads (reads_from item_row q (left c.args.scanner.now (g.S.Source.remaining c.args.source.now)))

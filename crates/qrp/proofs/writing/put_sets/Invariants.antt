@@ -1,7 +1,5 @@
-use Rattle.std.proofs.Common.{drop}
-use Rattle.std.specs.List.{flat_map}
-use Rattle.qrp.specs.Texts.{set_text}
-use Rattle.qbf_text.specs.Written.{IsSent}
+use Rattle.qbf_spelling.proofs.Words.{drop, flat_map, IsSent}
+use Rattle.qbf_spelling.specs.Texts.{set_text}
 use Rattle.qrp.proofs.writing.put_sets.Given as goal
 
 abbrev pub invariant-loop-set : goal.invariant-loop-set

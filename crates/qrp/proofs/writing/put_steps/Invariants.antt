@@ -1,7 +1,5 @@
-use Rattle.std.proofs.Common.{drop}
-use Rattle.std.specs.List.{flat_map}
+use Rattle.qbf_spelling.proofs.Words.{drop, flat_map, IsSent}
 use Rattle.qrp.specs.Texts.{step_text}
-use Rattle.qbf_text.specs.Written.{IsSent}
 use Rattle.qrp.proofs.writing.put_steps.Given as goal
 
 abbrev pub invariant-loop-place : goal.invariant-loop-place

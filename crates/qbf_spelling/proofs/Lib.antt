@@ -1,0 +1,3 @@
+pub mod WrittenParts
+pub mod CanonicalLines
+pub mod Words

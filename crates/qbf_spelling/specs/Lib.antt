@@ -1,0 +1,4 @@
+pub mod Spelling
+pub mod Said
+pub mod Texts
+pub mod Words

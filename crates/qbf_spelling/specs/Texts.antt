@@ -1,0 +1,19 @@
+-- The parts of a canonical text, as they are written one after the other.
+use Rattle.std.specs.Prelude.{ℕ, List, [], ◌∷◌, ◌++◌}
+use Rattle.std.specs.List.{flat_map}
+use Rattle.qbf_core.specs.Literal.{Literal}
+use Rattle.qbf_core.specs.Blocks.{Block}
+use Rattle.qbf_text.specs.Canonical.{spaced, spelled}
+use Rattle.qbf_spelling.specs.Spelling.{literal, letter}
+
+-- a literal behind a blank
+abbrev pub literal_text : Literal → List ℕ
+literal_text l = 32 ∷ spelled (literal l)
+
+-- a zero behind a blank, and the line end
+abbrev pub closing : List ℕ
+closing = 32 ∷ 48 ∷ 10 ∷ []
+
+-- the line of a set
+abbrev pub set_text : Block → List ℕ
+set_text s = spelled (letter s.quantifier) ++ (flat_map spaced s.vars ++ closing)

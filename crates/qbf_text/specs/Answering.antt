@@ -1,0 +1,60 @@
+-- What a call answers that reads a whole text, in any format: what the text spells, or its first fault and the line of that.
+use Rattle.std.specs.Prelude.{◌≡◌, ℕ, Bool, true, false, List, ◌∷◌, ◌++◌, Option, IfSome, Result, Ok, Err}
+use Rattle.qbf_text.specs.declared.grammar.ReadError.{ReadError}
+use Rattle.qbf_text.specs.declared.grammar.ReadError.TheVariants as error
+use Rattle.qbf_text.specs.declared.token.Comments.{Comments}
+use Rattle.qbf_text.specs.declared.token.Token.{Token}
+use Rattle.qbf_text.specs.Lined.{Lined, unlined, EndsOnce}
+use Rattle.qbf_text.specs.Tokens.{tokens}
+
+-- The fault stands on this line: the tokens before it spell a place, and that place refuses this one.
+pub record IsFault {P F : Type 0} (Spells : List Token → P → Type 0) (Refuses : P → Token → F → Type 0) (ts : List Lined) (fault : F)
+    (line : ℕ) : Type 0 where
+  pub before : List Lined
+  pub wrong : Token
+  pub after : List Lined
+  pub whole : ts ≡ before ++ (wrong, line) ∷ after
+  pub place : P
+  pub stands : Spells (unlined before) place
+  pub refused : Refuses place wrong fault
+
+-- What tokens read as: what they spell, or the fault that stands.
+abbrev pub Reads : {A F : Type 0} → (List Token → A → Type 0) → (List Lined → F → ℕ → Type 0) → List Lined → Result A (F × ℕ) → Type 0
+Reads Spelled Stands ts (Ok a) = Spelled (unlined ts) a
+Reads Spelled Stands ts (Err e) = Stands ts e.0 e.1
+
+-- this holds, but where something else is to blame
+abbrev pub Unless : Bool → Type 0 → Type 0
+Unless true A = Unit {0}
+Unless false A = A
+
+-- The same, where some faults are not of the text: the source failed, or memory ran out.
+abbrev pub Answers : {A F : Type 0} → (F → Bool) → (List Token → A → Type 0) → (List Lined → F → ℕ → Type 0) → List Lined
+    → Result A (F × ℕ) → Type 0
+Answers outside Spelled Stands ts (Ok a) = Spelled (unlined ts) a
+Answers outside Spelled Stands ts (Err e) = Unless (outside e.0) (Stands ts e.0 e.1)
+
+-- The answer is what was to be read, as far as that is known, unless the source failed or memory ran out.
+abbrev pub Gives : {A F : Type 0} → (F → Bool) → Result A (F × ℕ) → Option (Result A (F × ℕ)) → Type 0
+Gives outside (Ok a) whole = IfSome whole (λ r. r ≡ Ok a)
+Gives outside (Err e) whole = Unless (outside e.0) (IfSome whole (λ r. r ≡ Err (e.0, e.1)))
+
+-- the fault and the line that an error stands for, by the faults of source and memory
+abbrev pub fault_of : {F : Type 0} → F → F → ReadError F → F × ℕ
+fault_of device memory error.Device = (device, 0)
+fault_of device memory error.Memory = (memory, 0)
+fault_of device memory (error.Text f line) = (f, line)
+
+-- ---- laws
+
+-- tokens that end read as something
+abbrev pub ReadsAsRead : {R : Type 0} → (List Lined → R → Type 0) → (List Lined → R) → Type 0
+ReadsAsRead Reads read = (ts : List Lined) → EndsOnce ts → Reads ts (read ts)
+
+-- and as nothing else
+abbrev pub ReadsOnce : {R : Type 0} → (List Lined → R → Type 0) → (List Lined → R) → Type 0
+ReadsOnce {R} Reads read = (ts : List Lined) (r : R) → Reads ts r → read ts ≡ r
+
+-- and bytes as what their tokens read as
+abbrev pub BytesRead : {R : Type 0} → (List Lined → R → Type 0) → (List Lined → R) → Comments → Type 0
+BytesRead Reads read format = (bytes : List ℕ) → Reads (tokens format bytes) (read (tokens format bytes))
