@@ -5,6 +5,7 @@
 #   - on an arm whose pattern has one of the words, or whose guard asks for ErrorKind::OutOfMemory;
 #   - on the arm Err(_) or Err(name) of a match on a call that is refused for want of memory alone, directly below
 #     `if CALL.is_err()`, or in the else of `let Ok(..) = CALL else`;
+#   - as the second argument of `ReadError::fault`, which its contract answers for want of memory alone;
 #   - or in a `from` that takes want of memory.
 # Calls that are refused for want of memory alone: functions and methods of the crates whose error is AllocError, and
 # those listed here. A method is found by the type of what stands before it. What is not understood is refused.
@@ -211,6 +212,8 @@ function statement(n, text, m) {
 
 # Why an answer may not stand on a line, or nothing.
 function stands(n, text) {
+    text = code[n]
+    if (match(text, /error\.fault\([A-Za-z0-9:]+, /) && !has_word(substr(text, RSTART, RLENGTH))) return ""
     if (code[n] ~ /=>/) return arm(n)
     n = holder(n)
     while (code[n] ~ /[(]$/) {
