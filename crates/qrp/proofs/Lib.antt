@@ -15,3 +15,4 @@ pub mod RowsReadTheItem
 pub mod GrowingSteps
 pub mod StopsBehind
 pub mod ItemStops
+pub mod ReadingLaws
