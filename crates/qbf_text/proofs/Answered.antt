@@ -46,8 +46,8 @@ module _ {A F : Type 0} (outside : F → Bool) (Spelled : List Token → A → T
       answered (tokens format bytes) (read (tokens format bytes)) result (reads (tokens format bytes) (tokens-EndsOnce format bytes)) given
 
 -- reading by these rows from this place on answers what is read
-pub record AnswersAsRead {P A F : Type 0} (row : P → Token → Row P (Unit {0}) F) (answer : Read P (Unit {0}) F → Result A (F × ℕ)) (first : P)
-    (read : List Lined → Result A (F × ℕ)) : Type 0 where
+pub record AnswersAsRead {P A F : Type 0} (row : P → Token → Row P (Unit {0}) F)
+    (answer : Read P (Unit {0}) F → Result A (F × ℕ)) (first : P) (read : List Lined → Result A (F × ℕ)) : Type 0 where
   pub same : (ts : List Lined) → answer (read_from row first ts) ≡ read ts
   pub fault : (f : F) (line : ℕ) → answer (Fault f line) ≡ Err (f, line)
 
@@ -82,7 +82,8 @@ module _ {P A F : Type 0} {row : P → Token → Row P (Unit {0}) F} {answer : R
       unless false x = x
 
       by : (remaining : Option (List ℕ))
-          → IfSome remaining (λ bytes. taking.Answers {A = Unit {0}} (read_from row place (tokens format bytes)) next (Err (error.Text f line)))
+          → IfSome remaining
+          (λ bytes. taking.Answers {A = Unit {0}} (read_from row place (tokens format bytes)) next (Err (error.Text f line)))
           → IfSome (option_map (λ bytes. read (tokens format bytes)) remaining) (λ r. r ≡ Err (f, line))
       by None h = tt
       by (Some bytes) h =

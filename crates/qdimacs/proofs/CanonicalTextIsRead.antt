@@ -33,7 +33,8 @@ numbers_line (l ∷ ls) h = (tt, h)
 clause_line : (bs : List Block) → AllByRecursion IsVariable (variables (pairs bs)) → (ls : List Literal) → AreBound bs ls
     → IsLine (clause ls)
 clause_line bs within ls h = numbers_line ls (closed_plain (map literal ls) (literals_plain ls
-    (all_of (λ l. is_bound l.var (pairs bs) ≡ true) (λ l. IsVariable l.var) (λ l is. bound_one IsVariable l.var (pairs bs) is within) ls h)))
+    (all_of (λ l. is_bound l.var (pairs bs) ≡ true) (λ l. IsVariable l.var)
+    (λ l is. bound_one IsVariable l.var (pairs bs) is within) ls h)))
 
 lines_written : (f : Qbf) → IsWellFormed f → AllByRecursion IsLine (lines f)
 lines_written f w = (

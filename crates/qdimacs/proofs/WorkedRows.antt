@@ -1,24 +1,13 @@
 -- Worked rows of formulas.
-use Rattle.qbf_spelling.proofs.Words.{codes, AllByRecursion, Literal, Block, Qbf, read_from}
-use Rattle.std.specs.Prelude.{◌≡◌, ℕ, true, false, List, [], ◌∷◌, Ok, Err, refl}
+use Rattle.qbf_spelling.proofs.Words.{codes, AllByRecursion, Qbf, read_from}
+use Rattle.std.specs.Prelude.{◌≡◌, ℕ, List, [], ◌∷◌, Ok, Err, refl}
 use Rattle.std.specs.Fmt.{digits}
-use Rattle.qbf_core.specs.declared.quantifier.Quantifier.TheVariants.{All, Exists}
+use Rattle.qbf_core.specs.Literal.{positive as pos, negative as neg}
+use Rattle.qbf_spelling.proofs.Worked.{exists, all}
 use Rattle.qdimacs.specs.declared.fault.FormulaFault.TheVariants.{F2, F3, F4, F5, F6, F7, F8}
 use Rattle.qdimacs.specs.Grammar.{text}
 use Rattle.qdimacs.specs.Reading.{read_formula}
 use Rattle.qdimacs.specs.Reading.{Answer}
-
-abbrev exists : List ℕ → Block
-exists vs = record { quantifier = Exists; vars = vs }
-
-abbrev all : List ℕ → Block
-all vs = record { quantifier = All; vars = vs }
-
-abbrev pos : ℕ → Literal
-pos v = record { var = v; negative = false }
-
-abbrev neg : ℕ → Literal
-neg v = record { var = v; negative = true }
 
 abbrev value_a : Qbf
 value_a = record { max_var = 2; blocks = exists (1 ∷ []) ∷ all (2 ∷ []) ∷ []; clauses = (pos 1 ∷ pos 2 ∷ []) ∷ (neg 1 ∷ pos 2 ∷ []) ∷ [] }

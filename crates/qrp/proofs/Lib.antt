@@ -10,3 +10,4 @@ pub mod RowsReadTheTrace
 pub mod RowsReadTheItem
 pub mod StopsBehind
 pub mod ItemStops
+pub mod ReadingLaws

@@ -1,26 +1,15 @@
 -- Worked rows of traces.
-use Rattle.qbf_spelling.proofs.Words.{codes, AllByRecursion, Literal, Block}
-use Rattle.std.specs.Prelude.{◌≡◌, ℕ, true, false, List, [], ◌∷◌, ◌++◌, Result, Ok, Err, refl}
+use Rattle.qbf_spelling.proofs.Words.{codes, AllByRecursion, Literal}
+use Rattle.std.specs.Prelude.{◌≡◌, ℕ, List, [], ◌∷◌, ◌++◌, Result, Ok, Err, refl}
 use Rattle.std.specs.Fmt.{digits}
-use Rattle.qbf_core.specs.declared.quantifier.Quantifier.TheVariants.{All, Exists}
+use Rattle.qbf_core.specs.Literal.{positive as pos, negative as neg}
+use Rattle.qbf_spelling.proofs.Worked.{exists, all}
 use Rattle.qrp.specs.declared.fault.TraceFault.TheVariants.{P2, P3, P4, P5, P6, P7, P8}
 use Rattle.qrp.specs.declared.item.Outcome.TheVariants.{Sat, Unsat}
 use Rattle.qrp.specs.Inferences.{Inference}
 use Rattle.qrp.specs.Derivations.{Derivation}
 use Rattle.qrp.specs.Grammar.{text}
 use Rattle.qrp.specs.Reading.{Fault, read_trace, items_from, gathered}
-
-abbrev exists : List ℕ → Block
-exists vs = record { quantifier = Exists; vars = vs }
-
-abbrev all : List ℕ → Block
-all vs = record { quantifier = All; vars = vs }
-
-abbrev pos : ℕ → Literal
-pos v = record { var = v; negative = false }
-
-abbrev neg : ℕ → Literal
-neg v = record { var = v; negative = true }
 
 abbrev inference : ℕ → List Literal → List ℕ → Inference
 inference n ls ants = record { number = n; lits = ls; ants = ants }

@@ -9,5 +9,6 @@ returns-in_err-put_set g c = next_fails set_text _ _ _ _ _ c.loop-set.invariant.
 
 pub loop-set-preserved : goal.loop-set-preserved
 loop-set-preserved g c = record {
-  sent = sent_next set_text _ _ _ _ c.loop-set.invariant.sent c.loop-set-test.true (c.set.view_is ∙ c.set-item.is) (rw c.deref.ensures.value at c.in_ok-put_set.ensures);
+  sent = sent_next set_text _ _ _ _ c.loop-set.invariant.sent c.loop-set-test.true (c.set.view_is ∙ c.set-item.is)
+      (rw c.deref.ensures.value at c.in_ok-put_set.ensures);
 }
