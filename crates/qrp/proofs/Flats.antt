@@ -1,5 +1,6 @@
 -- Steps in flat buffers.
-use Rattle.qbf_spelling.proofs.Words.{◌≡◌, ◌<◌, ℕ, zero, suc, List, [], ◌∷◌, ◌++◌, length, slice_get, Some, refl, ap, arith, Literal}
+use Rattle.std.proofs.Common.{◌≡◌, ◌<◌, ℕ, zero, suc, List, [], ◌∷◌, ◌++◌, length, slice_get, Some, refl, ap, arith}
+use Rattle.qbf_spelling.proofs.Words.{Literal}
 use Rattle.qrp.specs.Inferences.{Inference, IsAt}
 use Rattle.qrp.specs.Flat.{Body, body, bodies, numbered}
 

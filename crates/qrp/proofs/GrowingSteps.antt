@@ -1,9 +1,8 @@
 -- Steps in flat buffers that grow.
-use Rattle.qbf_spelling.proofs.Words
-use Words.{get_or, ◌≡◌, ◌<◌, ◌-◌, ◌^◌, ℕ, zero, suc, List, [], ◌∷◌, ◌++◌, length, take, refl, sym, ap, ◌∙◌, arith, AllByRecursion}
-use Words.{IsDistinct, Block, IsVariable, Literal, AllByRecursion-push}
+use Rattle.std.proofs.Common.{get_or, ◌≡◌, ◌<◌, ◌-◌, ◌^◌, ℕ, zero, suc, List, [], ◌∷◌, ◌++◌, length, take, refl, sym, ap, ◌∙◌, arith}
 use Rattle.std.proofs.Common.{length-append}
 use Rattle.std.specs.Prelude.{nat_eq}
+use Rattle.qbf_spelling.proofs.Words.{AllByRecursion, IsDistinct, Block, IsVariable, Literal, AllByRecursion-push}
 use Rattle.std.proofs.lemmas.List.{length-map}
 use Rattle.qrp.specs.declared.grammar.Parts.{Parts}
 use Rattle.qrp.specs.declared.item.Header.{Header}

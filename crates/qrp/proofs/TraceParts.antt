@@ -1,8 +1,6 @@
 -- What the parts of a trace make.
-use Rattle.qbf_spelling.proofs.Words
-use Words.{◌≡◌, ℕ, suc, ◌<◌, ◌^◌, List, [], ◌∷◌, ◌++◌, length, refl, ap, sym, subst, ◌∙◌, arith, AllByRecursion, Literal}
-use Words.{AllByRecursion-push}
-use Rattle.std.proofs.Common.{length-append}
+use Rattle.std.proofs.Common.{◌≡◌, ℕ, suc, ◌<◌, ◌^◌, List, [], ◌∷◌, ◌++◌, length, refl, ap, sym, subst, ◌∙◌, arith, length-append}
+use Rattle.qbf_spelling.proofs.Words.{AllByRecursion, Literal, AllByRecursion-push}
 use Rattle.qrp.specs.declared.grammar.Parts.{Parts}
 use Rattle.qrp.specs.declared.places.At.TheVariants as at
 use Rattle.qrp.specs.Flat.{Body, bodies, numbered}

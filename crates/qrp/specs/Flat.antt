@@ -1,5 +1,6 @@
 -- Steps that lie in flat buffers.
-use Rattle.qbf_spelling.specs.Words.{◌≡◌, ℕ, List, [], ◌∷◌, length, Block, Literal}
+use Rattle.std.specs.Prelude.{◌≡◌, ℕ, List, [], ◌∷◌, length}
+use Rattle.qbf_spelling.specs.Words.{Block, Literal}
 use Rattle.qrp.specs.declared.item.Header.{Header}
 use Rattle.qrp.specs.declared.item.Outcome.{Outcome}
 use Rattle.qrp.specs.Inferences.{Inference}

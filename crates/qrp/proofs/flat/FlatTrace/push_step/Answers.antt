@@ -1,4 +1,4 @@
-use Rattle.qbf_spelling.proofs.Words.{List, ℕ, length, ap, subst, ◌∙◌, arith}
+use Rattle.std.proofs.Common.{List, ℕ, length, ap, subst, ◌∙◌, arith}
 use Rattle.qrp.specs.Inferences.{Inference}
 use Rattle.qrp.specs.Kept.{AreStepNumbers}
 use Rattle.qrp.proofs.GrowingSteps.{flat_pushed, numbers_fit, IsStep}

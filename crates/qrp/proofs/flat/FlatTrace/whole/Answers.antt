@@ -1,4 +1,4 @@
-use Rattle.qbf_spelling.proofs.Words.{arith}
+use Rattle.std.proofs.Common.{arith}
 use Rattle.qrp.proofs.GrowingSteps.{whole_flat}
 use Rattle.qrp.proofs.flat.FlatTrace.whole.Goals as goal
 
