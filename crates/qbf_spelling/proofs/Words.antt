@@ -1,13 +1,9 @@
 -- The names that both formats cite most, passed on from one place. Declares nothing.
-pub use Rattle.std.proofs.Common.{Bool, Err, IfSome, List, None, Ok, Option, Result, Some, [], add-one, ap, append-nil, append_assoc, arith}
-pub use Rattle.std.proofs.Common.{drop, eqb, false, get_or, inl, inr, length, map, nat_eq, refl, rules, slice_get, subst, suc, sym, take}
-pub use Rattle.std.proofs.Common.{true, zero, ℕ, ◌++◌, ◌+◌, ◌-◌, ◌<◌, ◌^◌, ◌||◌, ◌∙◌, ◌∷◌, ◌≡◌, ◌≢◌, ◌≤◌, ◌⊎◌}
 pub use Rattle.std.proofs.lemmas.Grind.{flat_map-append}
 pub use Rattle.std.proofs.lemmas.List.{length-append, map-append}
 pub use Rattle.std.proofs.lemmas.List.Folds.{flat_map-map}
 pub use Rattle.std.specs.List.{AllByRecursion, flat_map}
 unfoldable pub use Rattle.std.specs.List.{IsDistinct}
-pub use Rattle.std.specs.Prelude.{codes, decimal}
 pub use Rattle.qbf_core.proofs.PrefixLaws.{AllByRecursion-push}
 pub use Rattle.qbf_core.specs.Blocks.{Block, IsVariable, blocks_of, is_bound, pairs, variables}
 pub use Rattle.qbf_core.specs.Literal.{Literal}

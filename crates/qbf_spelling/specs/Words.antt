@@ -1,8 +1,5 @@
 -- The names that both formats cite most, passed on from one place. Declares nothing.
 pub use Rattle.std.specs.List.{AllByRecursion, flat_map}
-pub use Rattle.std.specs.Prelude.{Bool, Err, IfErr, IfOk, List, None, Ok, OnOk, Option, Result, Some, [], decimal, false, if◌then◌else◌}
-pub use Rattle.std.specs.Prelude.{length, map, nat_eq, nat_lt, option_map, slice_get, suc, true, zero, ℕ, ⊤, ◌++◌, ◌+◌, ◌-◌, ◌<◌, ◌^◌, ◌∷◌}
-pub use Rattle.std.specs.Prelude.{◌≡◌, ◌≢◌, ◌≤◌}
 pub use Rattle.qbf_core.specs.Blocks.{Block, IsVariable, pairs}
 pub use Rattle.qbf_core.specs.Literal.{Literal}
 pub use Rattle.qbf_core.specs.Qbf.{IsWellFormed, Qbf}

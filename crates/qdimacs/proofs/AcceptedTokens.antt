@@ -1,6 +1,7 @@
 -- Accepted tokens, and the place that they lead to.
+use Rattle.std.proofs.Common.{rules, ◌≡◌, ◌∙◌, ◌≢◌, ℕ, ◌<◌, ◌≤◌, ◌+◌, Bool, true, false, List, [], ◌∷◌, ◌++◌, length, map, refl, arith}
+use Rattle.std.proofs.Common.{append_assoc}
 use Rattle.qbf_spelling.proofs.Words
-use Words.{rules, ◌≡◌, ◌∙◌, ◌≢◌, ℕ, ◌<◌, ◌≤◌, ◌+◌, Bool, true, false, List, [], ◌∷◌, ◌++◌, length, map, refl, ◌∙◌, arith, append_assoc}
 use Words.{map-append, length-append, flat_map, AllByRecursion, Quantifier, Literal, Block, pairs, is_bound, blocks_of, variables, Token}
 use Words.{number, literal, letter, set, Ends}
 use Words.token

@@ -1,7 +1,6 @@
 -- As many bound variables as the header allows: each that it allows is bound.
-use Rattle.qbf_spelling.proofs.Words
-use Words.{rules, ◌≡◌, ℕ, ◌≤◌, ◌+◌, ◌||◌, Bool, true, false, List, [], ◌∷◌, length, eqb, refl, sym, ap, ◌∙◌, arith, IsDistinct}
-use Words.{AllByRecursion, Block, pairs, variables, is_bound, IsVariable}
+use Rattle.std.proofs.Common.{rules, ◌≡◌, ℕ, ◌≤◌, ◌+◌, ◌||◌, Bool, true, false, List, [], ◌∷◌, length, eqb, refl, sym, ap, ◌∙◌, arith}
+use Rattle.qbf_spelling.proofs.Words.{IsDistinct, AllByRecursion, Block, pairs, variables, is_bound, IsVariable}
 use Rattle.std.specs.List.{list_any}
 use Rattle.std.proofs.lemmas.List.{length-map}
 use Rattle.std.proofs.lemmas.Map.Keys.{IsDistinct-cons}

@@ -1,7 +1,8 @@
 -- The canonical text is read again.
+use Rattle.std.proofs.Common.{◌≡◌, ℕ, true, List, [], ◌∷◌, ◌++◌, length, map, refl, ap, ◌∙◌, arith, append_assoc}
 use Rattle.qbf_spelling.proofs.Words
-use Words.{◌≡◌, ℕ, true, List, [], ◌∷◌, ◌++◌, length, map, refl, ap, ◌∙◌, arith, append_assoc, flat_map-append, flat_map-map, flat_map}
-use Words.{AllByRecursion, Quantifier, Literal, Block, pairs, variables, is_bound, IsVariable, Qbf, Qdimacs, Token, tokens, literal, set}
+use Words.{flat_map-append, flat_map-map, flat_map, AllByRecursion, Quantifier, Literal, Block, pairs, variables, is_bound, IsVariable, Qbf}
+use Words.{Qdimacs, Token, tokens, literal, set}
 use Words.token
 use Rattle.qbf_core.specs.Blocks.{AreBound}
 use Rattle.qbf_core.specs.Qbf.{IsWellFormed}

@@ -1,5 +1,6 @@
 -- What the parts of a formula make.
-use Rattle.qbf_spelling.proofs.Words.{◌≡◌, Bool, false, List, Option, None, Result, Ok, ap, Quantifier, Literal, Block, pairs, Ends}
+use Rattle.std.proofs.Common.{◌≡◌, Bool, false, List, Option, None, Result, Ok, ap}
+use Rattle.qbf_spelling.proofs.Words.{Quantifier, Literal, Block, pairs, Ends}
 use Rattle.qbf_core.proofs.BlockLaws.{blocks_of-pairs}
 use Rattle.qdimacs.specs.declared.fault.FormulaFault.{FormulaFault}
 use Rattle.qdimacs.specs.declared.grammar.Parts.{Parts}

@@ -1,8 +1,9 @@
 -- What is read is spelled, and a fault that is found stands.
+use Rattle.std.proofs.Common.{rules, inl, inr, ◌⊎◌, ◌≡◌, ◌≢◌, ℕ, ◌<◌, ◌≤◌, true, false, List, [], ◌∷◌, ◌++◌, length, map, Ok, Err, refl, ap}
+use Rattle.std.proofs.Common.{sym, subst, ◌∙◌, arith, append_assoc, nat_eq}
 use Rattle.qbf_spelling.proofs.Words
-use Words.{rules, inl, inr, ◌⊎◌, ◌≡◌, ◌≢◌, ℕ, ◌<◌, ◌≤◌, true, false, List, [], ◌∷◌, ◌++◌, length, map, Ok, Err, refl, ap, sym, subst, ◌∙◌}
-use Words.{arith, append_assoc, nat_eq, map-append, length-append, flat_map, AllByRecursion, IsDistinct, Quantifier, Literal, Block, pairs}
-use Words.{is_bound, blocks_of, variables, AllByRecursion-push, Token, Lined, number, literal, letter, set, unlined, Ends}
+use Words.{map-append, length-append, flat_map, AllByRecursion, IsDistinct, Quantifier, Literal, Block, pairs, is_bound, blocks_of}
+use Words.{variables, AllByRecursion-push, Token, Lined, number, literal, letter, set, unlined, Ends}
 use Words.token
 use Rattle.std.proofs.lemmas.List.{append-nil}
 use Rattle.qbf_core.specs.Blocks.{pairs_of_block}

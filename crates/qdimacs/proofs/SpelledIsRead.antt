@@ -1,7 +1,7 @@
 -- What tokens spell is read, and a fault that stands is found.
+use Rattle.std.proofs.Common.{◌≡◌, ℕ, ◌≤◌, List, [], ◌∷◌, ◌++◌, length, map, Ok, Err, refl, ap, sym, subst, ◌∙◌, arith}
 use Rattle.qbf_spelling.proofs.Words
-use Words.{◌≡◌, ℕ, ◌≤◌, List, [], ◌∷◌, ◌++◌, length, map, Ok, Err, refl, ap, sym, subst, ◌∙◌, arith, flat_map, AllByRecursion, Block, pairs}
-use Words.{blocks_of, Qbf, Token, Lined, set, unlined, read-one}
+use Words.{flat_map, AllByRecursion, Block, pairs, blocks_of, Qbf, Token, Lined, set, unlined, read-one}
 use Words.token
 use Rattle.qbf_core.proofs.BlockLaws.{blocks_of-pairs}
 use Rattle.qbf_text.proofs.AcceptedTokens.{split_at, Leads, Stays, Passes, leads_then, leads_reads}

@@ -1,6 +1,6 @@
 -- Worked rows of formulas.
-use Rattle.qbf_spelling.proofs.Words.{codes, AllByRecursion, Qbf, read_from}
-use Rattle.std.specs.Prelude.{◌≡◌, ℕ, List, [], ◌∷◌, Ok, Err, refl}
+use Rattle.std.specs.Prelude.{codes, ◌≡◌, ℕ, List, [], ◌∷◌, Ok, Err, refl}
+use Rattle.qbf_spelling.proofs.Words.{AllByRecursion, Qbf, read_from}
 use Rattle.std.specs.Fmt.{digits}
 use Rattle.qbf_core.specs.Literal.{positive as pos, negative as neg}
 use Rattle.qbf_spelling.proofs.Worked.{exists, all}

@@ -1,7 +1,7 @@
 -- The parts of a canonical text, one after the other.
-use Rattle.qbf_spelling.proofs.Words
-use Words.{rules, ◌≢◌, ◌≡◌, ℕ, true, false, List, [], ◌∷◌, ◌++◌, map, Option, Some, None, refl, ap, sym, ◌∙◌, append_assoc, drop, slice_get}
-use Words.{length, arith, ◌<◌, ◌+◌, flat_map, flat_map-append, Quantifier, Literal, Block, pairs, Qbf, number, literal, letter, set}
+use Rattle.std.proofs.Common.{rules, ◌≢◌, ◌≡◌, ℕ, true, false, List, [], ◌∷◌, ◌++◌, map, Option, Some, None, refl, ap, sym, ◌∙◌}
+use Rattle.std.proofs.Common.{append_assoc, drop, slice_get, length, arith, ◌<◌, ◌+◌}
+use Rattle.qbf_spelling.proofs.Words.{flat_map, flat_map-append, Quantifier, Literal, Block, pairs, Qbf, number, literal, letter, set}
 use Rattle.qbf_text.proofs.SentParts.{zero_decimal, drop_at}
 use Rattle.qbf_core.specs.Blocks.{Alternates, is_quantifier}
 use Rattle.qbf_text.specs.Canonical.{spaced, spelled, line_rest, line_text}

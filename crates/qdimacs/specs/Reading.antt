@@ -1,9 +1,10 @@
 -- Reading from the first token on, to the formula or to the first fault.
 -- QDIMACS 1.1, input format, token by token: for each place in the text a row says which tokens go on, which end,
 -- and what is a fault.
+use Rattle.std.specs.Prelude.{◌≡◌, ◌≤◌, ℕ, Bool, true, false, List, [], ◌∷◌, ◌++◌, length, Option, Some, None, option_map, Result, Ok, Err}
+use Rattle.std.specs.Prelude.{nat_lt, if◌then◌else◌}
 use Rattle.qbf_spelling.specs.Words
-use Words.{◌≡◌, ◌≤◌, ℕ, Bool, true, false, List, [], ◌∷◌, ◌++◌, length, Option, Some, None, option_map, Result, Ok, Err, nat_lt}
-use Words.{if◌then◌else◌, AllByRecursion, Quantifier, Literal, Qbf, Token, Lined, Fails}
+use Words.{AllByRecursion, Quantifier, Literal, Qbf, Token, Lined, Fails}
 use Words.token
 use Words.word
 use Rattle.qbf_core.specs.Blocks.{blocks_of, is_bound}

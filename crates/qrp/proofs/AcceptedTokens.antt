@@ -1,8 +1,9 @@
 -- Accepted tokens: the items that they close, and the place that they lead to.
+use Rattle.std.proofs.Common.{rules, ◌≡◌, ℕ, ◌<◌, ◌≤◌, Bool, false, List, [], ◌∷◌, ◌++◌, length, map, Result, Ok, Err, refl, ap, ◌∙◌, arith}
+use Rattle.std.proofs.Common.{append_assoc, append-nil, nat_eq}
 use Rattle.qbf_spelling.proofs.Words
-use Words.{rules, ◌≡◌, ℕ, ◌<◌, ◌≤◌, Bool, false, List, [], ◌∷◌, ◌++◌, length, map, Result, Ok, Err, refl, ap, ◌∙◌, arith, append_assoc}
-use Words.{append-nil, nat_eq, length-append, flat_map, AllByRecursion, IsDistinct, Quantifier, Literal, Block, IsVariable, Token, Lined}
-use Words.{unlined, number, literal, letter, set}
+use Words.{length-append, flat_map, AllByRecursion, IsDistinct, Quantifier, Literal, Block, IsVariable, Token, Lined, unlined, number}
+use Words.{literal, letter, set}
 use Words.token
 use Words.word
 use Rattle.qbf_core.proofs.DistinctNumbers.{new_number}

@@ -1,7 +1,7 @@
 -- The canonical text is read again.
+use Rattle.std.proofs.Common.{rules, append-nil, ◌≡◌, ◌<◌, ◌^◌, List, [], ◌∷◌, ◌++◌, map, Ok, ap, sym, ◌∙◌, arith, append_assoc}
 use Rattle.qbf_spelling.proofs.Words
-use Words.{rules, append-nil, ◌≡◌, ◌<◌, ◌^◌, List, [], ◌∷◌, ◌++◌, map, Ok, ap, sym, ◌∙◌, arith, append_assoc, flat_map-append, map-append}
-use Words.{flat_map-map, flat_map, AllByRecursion, IsVariable, Qrp, Token, tokens, number, literal, set}
+use Words.{flat_map-append, map-append, flat_map-map, flat_map, AllByRecursion, IsVariable, Qrp, Token, tokens, number, literal, set}
 use Words.token
 use Rattle.qbf_text.specs.Canonical.{IsPlain, IsLine}
 use Rattle.qbf_text.proofs.CanonicalTokens.{joined, tokens-lines_text, all_appended, all_mapped, closed_plain}

@@ -1,6 +1,7 @@
 -- Reading an item stops behind its last word.
+use Rattle.std.proofs.Common.{rules, ◌≡◌, ℕ, List, [], ◌∷◌, ◌++◌, Option, Ok, ◌⊎◌, refl, ap, ◌∙◌}
 use Rattle.qbf_spelling.proofs.Words
-use Words.{rules, ◌≡◌, ℕ, List, [], ◌∷◌, ◌++◌, Option, Ok, ◌⊎◌, refl, ap, ◌∙◌, Lined}
+use Words.{Lined}
 use Words.token
 use Rattle.qbf_text.specs.Rows as rows
 use Rattle.qbf_text.specs.Stopping as text

@@ -1,8 +1,9 @@
 -- What is read is spelled, and a fault that is found stands.
+use Rattle.std.proofs.Common.{rules, ◌≡◌, ℕ, ◌≤◌, ◌+◌, List, [], ◌∷◌, ◌++◌, ◌⊎◌, inl, inr, length, Ok, Err, refl, ap, sym, ◌∙◌, false}
+use Rattle.std.proofs.Common.{arith, append_assoc, append-nil}
 use Rattle.qbf_spelling.proofs.Words
-use Words.{rules, ◌≡◌, ℕ, ◌≤◌, ◌+◌, List, [], ◌∷◌, ◌++◌, ◌⊎◌, inl, inr, length, Ok, Err, refl, ap, sym, ◌∙◌, false, arith, append_assoc}
-use Words.{append-nil, map-append, length-append, flat_map, AllByRecursion, IsDistinct, Quantifier, Literal, Block, IsVariable}
-use Words.{AllByRecursion-push, Token, Lined, unlined, number, literal, letter, set}
+use Words.{map-append, length-append, flat_map, AllByRecursion, IsDistinct, Quantifier, Literal, Block, IsVariable, AllByRecursion-push}
+use Words.{Token, Lined, unlined, number, literal, letter, set}
 use Words.token
 use Words.word
 use Rattle.qbf_text.specs.Lined.{EndsOnce}

@@ -1,7 +1,7 @@
 -- What is read by the rows of the items is the next item.
+use Rattle.std.proofs.Common.{rules, ◌≡◌, ℕ, false, List, [], ◌∷◌, Some, None, IfSome, Ok, Err, ◌⊎◌, refl, ap, sym, ◌∙◌}
 use Rattle.qbf_spelling.proofs.Words
-use Words.{rules, ◌≡◌, ℕ, false, List, [], ◌∷◌, Some, None, IfSome, Ok, Err, ◌⊎◌, refl, ap, sym, ◌∙◌, Token, Lined, Read, read_from}
-use Words.{read-one}
+use Words.{Token, Lined, Read, read_from, read-one}
 use Words.token
 use Rattle.qbf_text.specs.declared.grammar.ReadError.{ReadError}
 use Rattle.qbf_text.specs.declared.grammar.ReadError.TheVariants as error

@@ -1,6 +1,6 @@
 -- What is read by the rows of a trace that is made is what reading says.
-use Rattle.qbf_spelling.proofs.Words
-use Words.{rules, ◌≡◌, ℕ, List, [], ◌∷◌, Result, Ok, Err, refl, ap, sym, ◌∙◌, Token, Lined, Read, read_from, read-one}
+use Rattle.std.proofs.Common.{rules, ◌≡◌, ℕ, List, [], ◌∷◌, Result, Ok, Err, refl, ap, sym, ◌∙◌}
+use Rattle.qbf_spelling.proofs.Words.{Token, Lined, Read, read_from, read-one}
 use Rattle.qbf_text.specs.Rows.{Cut}
 use Rattle.qbf_text.specs.Rows as rows
 use Rattle.qbf_text.proofs.OneToken as going

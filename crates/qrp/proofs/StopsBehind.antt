@@ -1,7 +1,7 @@
 -- Reading a trace stops behind its result word.
+use Rattle.std.proofs.Common.{◌≡◌, ◌≤◌, ℕ, List, [], ◌++◌, length, Option, Some, None, Ok, refl, ap, sym, ◌∙◌, append_assoc}
 use Rattle.qbf_spelling.proofs.Words
-use Words.{◌≡◌, ◌≤◌, ℕ, List, [], ◌++◌, length, Option, Some, None, Ok, refl, ap, sym, ◌∙◌, append_assoc, Qrp, ahead, Lined}
-use Words.{tokens}
+use Words.{Qrp, ahead, Lined, tokens}
 use Words.token
 use Rattle.qbf_text.specs.Rows as rows
 use Rattle.qbf_text.specs.Stopping.{IfKnown, StopsBehind, Stops}

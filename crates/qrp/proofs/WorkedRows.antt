@@ -1,6 +1,6 @@
 -- Worked rows of traces.
-use Rattle.qbf_spelling.proofs.Words.{codes, AllByRecursion, Literal}
-use Rattle.std.specs.Prelude.{◌≡◌, ℕ, List, [], ◌∷◌, ◌++◌, Result, Ok, Err, refl}
+use Rattle.std.specs.Prelude.{codes, ◌≡◌, ℕ, List, [], ◌∷◌, ◌++◌, Result, Ok, Err, refl}
+use Rattle.qbf_spelling.proofs.Words.{AllByRecursion, Literal}
 use Rattle.std.specs.Fmt.{digits}
 use Rattle.qbf_core.specs.Literal.{positive as pos, negative as neg}
 use Rattle.qbf_spelling.proofs.Worked.{exists, all}

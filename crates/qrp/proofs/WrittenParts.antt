@@ -1,7 +1,8 @@
 -- The parts of a canonical text, one after the other.
-use Rattle.qbf_spelling.proofs.Words
-use Words.{◌≡◌, ℕ, List, [], ◌∷◌, ◌++◌, map, refl, ap, sym, ◌∙◌, append_assoc, append-nil, drop, get_or, length, zero, suc, inl, inr, arith}
-use Words.{◌<◌, ◌+◌, add-one, decimal, AllByRecursion, flat_map, flat_map-append, flat_map-map, number, literal, set}
+use Rattle.std.proofs.Common.{◌≡◌, ℕ, List, [], ◌∷◌, ◌++◌, map, refl, ap, sym, ◌∙◌, append_assoc, append-nil, drop, get_or, length, zero}
+use Rattle.std.proofs.Common.{suc, inl, inr, arith, ◌<◌, ◌+◌, add-one}
+use Rattle.std.specs.Prelude.{decimal}
+use Rattle.qbf_spelling.proofs.Words.{AllByRecursion, flat_map, flat_map-append, flat_map-map, number, literal, set}
 use Rattle.qbf_text.proofs.SentParts.{line_rest-map, zero_rest, part_at}
 use Rattle.std.proofs.lemmas.Option.{slice_get_cases}
 use Rattle.qbf_text.specs.Canonical.{line_text, lines_text}

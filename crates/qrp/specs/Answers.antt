@@ -1,5 +1,6 @@
 -- What the calls answer that read a whole trace.
-use Rattle.qbf_spelling.specs.Words.{◌≡◌, ◌≤◌, ℕ, List, ◌++◌, length, Bool, true, false, Option, option_map, Result, Ok, Err, Lined}
+use Rattle.std.specs.Prelude.{◌≡◌, ◌≤◌, ℕ, List, ◌++◌, length, Bool, true, false, Option, option_map, Result, Ok, Err}
+use Rattle.qbf_spelling.specs.Words.{Lined}
 use Rattle.qbf_text.specs.Answering as answering
 use Rattle.qbf_text.specs.Left.{IsUnbroken}
 use Rattle.qrp.specs.declared.fault.TraceFault.{TraceFault}

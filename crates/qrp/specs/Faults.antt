@@ -1,7 +1,7 @@
 -- Where the first fault stands: the tokens before it are accepted, and the row of its place refuses it.
+use Rattle.std.specs.Prelude.{◌≡◌, ◌≤◌, ℕ, false, List, [], ◌∷◌, ◌++◌, map, length, Result}
 use Rattle.qbf_spelling.specs.Words
-use Words.{◌≡◌, ◌≤◌, ℕ, false, List, [], ◌∷◌, ◌++◌, map, length, Result, AllByRecursion, Block, IsVariable, Token, Lined, number, literal}
-use Words.{letter}
+use Words.{AllByRecursion, Block, IsVariable, Token, Lined, number, literal, letter}
 use Words.token
 use Words.word
 use Rattle.qrp.specs.declared.fault.TraceFault.{TraceFault}

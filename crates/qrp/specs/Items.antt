@@ -1,6 +1,6 @@
 -- The parts of a trace, given one after the other: the rows of the places with what is given.
-use Rattle.qbf_spelling.specs.Words
-use Words.{◌≡◌, ◌≢◌, ◌<◌, Option, ◌+◌, ◌-◌, ◌^◌, ℕ, false, List, length, Result, Ok, IfOk, OnOk, IfErr, ⊤, Lined, Known, Token}
+use Rattle.std.specs.Prelude.{◌≡◌, ◌≢◌, ◌<◌, Option, ◌+◌, ◌-◌, ◌^◌, ℕ, false, List, length, Result, Ok, IfOk, OnOk, IfErr, ⊤}
+use Rattle.qbf_spelling.specs.Words.{Lined, Known, Token}
 use Rattle.qbf_text.specs.Stopping.{IfKnown}
 use Rattle.qbf_text.specs.Reading.{Reading, HasFailed}
 use Rattle.qbf_text.specs.Rows as rows

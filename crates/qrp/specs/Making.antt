@@ -1,5 +1,6 @@
 -- A trace that is made while its tokens are taken: the rows of its places, with what is made of them.
-use Rattle.qbf_spelling.specs.Words.{[], ◌∷◌, ◌++◌, ⊤, Token}
+use Rattle.std.specs.Prelude.{[], ◌∷◌, ◌++◌, ⊤}
+use Rattle.qbf_spelling.specs.Words.{Token}
 use Rattle.qbf_core.specs.Lists.{Growing}
 use Rattle.qbf_text.specs.Rows as rows
 use Rattle.qrp.specs.declared.fault.TraceFault.{TraceFault}

@@ -1,5 +1,6 @@
 -- What was left to give before a part of a trace, and what is left behind it.
-use Rattle.qbf_spelling.specs.Words.{List, Option, Some, None, Result, Known}
+use Rattle.std.specs.Prelude.{List, Option, Some, None, Result}
+use Rattle.qbf_spelling.specs.Words.{Known}
 use Rattle.qrp.specs.declared.item.Item.{Item}
 use Rattle.qrp.specs.Reading.{Fault, Place, items_from}
 

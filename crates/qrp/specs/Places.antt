@@ -1,6 +1,6 @@
 -- Where a token stands while a trace is read: what the lists that are begun say of its place.
-use Rattle.qbf_spelling.specs.Words
-use Words.{◌≡◌, ◌<◌, ◌≤◌, ◌^◌, ℕ, false, List, [], ◌∷◌, ◌++◌, length, Result, Ok, Err, ⊤, AllByRecursion, IsVariable, Token}
+use Rattle.std.specs.Prelude.{◌≡◌, ◌<◌, ◌≤◌, ◌^◌, ℕ, false, List, [], ◌∷◌, ◌++◌, length, Result, Ok, Err, ⊤}
+use Rattle.qbf_spelling.specs.Words.{AllByRecursion, IsVariable, Token}
 use Rattle.qbf_text.specs.declared.grammar.Stop.{Stop}
 use Rattle.qbf_text.specs.declared.grammar.Stop.TheVariants as stop
 use Rattle.qrp.specs.declared.fault.TraceFault.{TraceFault}

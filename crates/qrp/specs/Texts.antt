@@ -1,5 +1,6 @@
 -- The parts of a canonical text, as they are written one after the other.
-use Rattle.qbf_spelling.specs.Words.{ℕ, List, [], ◌∷◌, ◌++◌, decimal, flat_map, Block}
+use Rattle.std.specs.Prelude.{ℕ, List, [], ◌∷◌, ◌++◌, decimal}
+use Rattle.qbf_spelling.specs.Words.{flat_map, Block}
 use Rattle.qbf_text.specs.Canonical.{spaced}
 use Rattle.qrp.specs.Inferences.{Inference}
 use Rattle.qbf_spelling.specs.Texts.{literal_text, closing, set_text}

@@ -1,4 +1,5 @@
-use Rattle.qbf_spelling.proofs.Words.{take, AllByRecursion}
+use Rattle.std.proofs.Common.{take}
+use Rattle.qbf_spelling.proofs.Words.{AllByRecursion}
 use Rattle.qrp.specs.Inferences.{IsLiteral}
 use Rattle.qrp.proofs.flat.know_literals.Given as goal
 

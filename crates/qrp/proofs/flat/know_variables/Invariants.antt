@@ -1,4 +1,5 @@
-use Rattle.qbf_spelling.proofs.Words.{take, AllByRecursion, IsVariable}
+use Rattle.std.proofs.Common.{take}
+use Rattle.qbf_spelling.proofs.Words.{AllByRecursion, IsVariable}
 use Rattle.qrp.proofs.flat.know_variables.Given as goal
 
 abbrev pub invariant-loop-var : goal.invariant-loop-var

@@ -1,4 +1,5 @@
-use Rattle.qbf_spelling.proofs.Words.{Ok, Err, refl, left, tokens_next, Qrp}
+use Rattle.std.proofs.Common.{Ok, Err, refl}
+use Rattle.qbf_spelling.proofs.Words.{left, tokens_next, Qrp}
 use Rattle.qbf_text.proofs.Answered.{answered_bytes, whole_given, fault_given}
 use Rattle.qrp.specs.Answers.{is_outside}
 use Rattle.qrp.specs.Faults.{IsFault}

@@ -1,4 +1,5 @@
-use Rattle.qbf_spelling.proofs.Words.{◌≤◌, length, Err, subst, left, ahead, tokens_next}
+use Rattle.std.proofs.Common.{◌≤◌, length, Err, subst}
+use Rattle.qbf_spelling.proofs.Words.{left, ahead, tokens_next}
 use Rattle.qbf_text.specs.Rows.{reads_from}
 use Rattle.qbf_text.specs.Taking.{Reads}
 use Rattle.qrp.specs.Items.{Giving, item_row}

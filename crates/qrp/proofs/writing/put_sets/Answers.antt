@@ -1,4 +1,4 @@
-use Rattle.qbf_spelling.proofs.Words.{◌∙◌}
+use Rattle.std.proofs.Common.{◌∙◌}
 use Rattle.qbf_spelling.specs.Texts.{set_text}
 use Rattle.qbf_text.proofs.SentParts.{sent_next, next_fails}
 use Rattle.qrp.proofs.writing.put_sets.Goals as goal

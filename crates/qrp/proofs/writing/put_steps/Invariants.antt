@@ -1,4 +1,5 @@
-use Rattle.qbf_spelling.proofs.Words.{drop, flat_map, IsSent}
+use Rattle.std.proofs.Common.{drop}
+use Rattle.qbf_spelling.proofs.Words.{flat_map, IsSent}
 use Rattle.qrp.specs.Texts.{step_text}
 use Rattle.qrp.proofs.writing.put_steps.Given as goal
 

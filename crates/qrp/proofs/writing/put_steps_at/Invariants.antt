@@ -1,4 +1,5 @@
-use Rattle.qbf_spelling.proofs.Words.{drop, IsSent}
+use Rattle.std.proofs.Common.{drop}
+use Rattle.qbf_spelling.proofs.Words.{IsSent}
 use Rattle.qrp.specs.Derivations.{steps_at}
 use Rattle.qrp.specs.Texts.{steps_text}
 use Rattle.qrp.proofs.writing.put_steps_at.Given as goal

@@ -1,4 +1,5 @@
-use Rattle.qbf_spelling.proofs.Words.{◌≤◌, length, refl, ahead, tokens_next}
+use Rattle.std.proofs.Common.{◌≤◌, length, refl}
+use Rattle.qbf_spelling.proofs.Words.{ahead, tokens_next}
 use Rattle.qrp.proofs.ItemStops.{next_stops}
 use Rattle.qrp.specs.Given.{items_left}
 use Rattle.qrp.proofs.RowsReadTheItem.{next_given, given_again}
