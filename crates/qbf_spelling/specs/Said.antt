@@ -8,26 +8,6 @@ use Rattle.qbf_text.specs.declared.token.Token.TheVariants as token
 use Rattle.qbf_text.specs.declared.token.Word.TheVariants as word
 use Rattle.qbf_spelling.specs.declared.said.Faults.{Faults}
 
--- what a token is that the header does not accept
-abbrev pub header_fault : {F : Type 0} → Faults F → Token → F
-header_fault faults token.End = faults.end
-header_fault faults t = faults.header
-
--- whether a token is the word `p`
-abbrev pub is_p : Token → Bool
-is_p (token.Word word.P) = true
-is_p t = false
-
--- what a header makes of a token where it wants a word, with what it makes of a fault
-abbrev pub word_row : {F R : Type 0} → Faults F → (F → R) → R → Token → Bool → R
-word_row faults fails next t true = next
-word_row faults fails next t false = fails (header_fault faults t)
-
--- and where it wants a number
-abbrev pub number_row : {F R : Type 0} → Faults F → (F → R) → (ℕ → R) → Token → Option ℕ → R
-number_row faults fails next t None = fails (header_fault faults t)
-number_row faults fails next t (Some n) = next n
-
 -- the quantifier that a letter names
 abbrev pub quantifier : Token → Option Quantifier
 quantifier (token.Word word.A) = Some All

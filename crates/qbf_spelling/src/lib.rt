@@ -2,8 +2,10 @@
 //! says, and how these are written.
 #![tactic(auto)]
 
+mod header;
 mod said;
 mod writing;
 
-pub use said::{Faults, header_fault, is_p, literal, member, quantifier};
+pub use header::{HeaderAt, HeaderForm, HeaderMove, header_move};
+pub use said::{Faults, literal, member, quantifier};
 pub use writing::{put_header, put_letter, put_literal, put_literals, put_set};

@@ -2,7 +2,7 @@
 
 ghost use Rattle.std.specs.Prelude.{◌≡◌, ◌≤◌, IfSome, IfOk};
 ghost use Rattle.qbf_core.specs.Blocks.{IsVariable};
-ghost use Rattle.qbf_spelling.specs.Said.{header_fault, is_p, quantifier, member, literal_in};
+ghost use Rattle.qbf_spelling.specs.Said.{quantifier, member, literal_in};
 
 use qbf_core::{Lit, Quantifier, Var};
 use qbf_text::{Token, Word};
@@ -20,23 +20,6 @@ pub struct Faults<F> {
     pub minus_zero: F,
     /// The end of the text.
     pub end: F,
-}
-
-/// What a token is that a header does not accept.
-pub fn header_fault<F: Copy>(faults: Faults<F>, token: Token) -> F
-    ensures { result ≡ header_fault faults token }
-{
-    match token {
-        Token::End => faults.end,
-        _ => faults.header,
-    }
-}
-
-/// Whether a token is the word `p`, which begins a header.
-pub fn is_p(token: Token) -> bool
-    ensures { result ≡ is_p token }
-{
-    matches!(token, Token::Word(Word::P))
 }
 
 /// The quantifier that a token is the letter of.

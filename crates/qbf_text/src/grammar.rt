@@ -31,6 +31,17 @@ pub enum Stop<F> {
     Text(F),
 }
 
+impl<F> From<F> for Stop<F> {
+    ghost use Rattle.std.specs.Prelude.{◌≡◌};
+    ghost use Rattle.qbf_text.specs.declared.grammar.Stop.TheVariants.{Text};
+
+    ghost from_gives = { λ fault stop. stop ≡ Text fault };
+
+    fn from(fault: F) -> Stop<F> {
+        Stop::Text(fault)
+    }
+}
+
 /// Why nothing was read.
 #[derive(Drop)]
 pub enum ReadError<F> {

@@ -11,16 +11,17 @@ use Rattle.qbf_core.specs.Blocks.{pairs_of_block}
 use Rattle.qbf_core.proofs.DistinctNumbers.{middle, front_all, front_distinct, new_number}
 use Rattle.qdimacs.proofs.AllVariablesBound.{is_bound_variables}
 use Rattle.qbf_text.proofs.AcceptedTokens.{Leads, Stays, Passes, leads_then}
+use Rattle.qbf_spelling.specs.declared.header.HeaderAt.TheVariants as place
 use Rattle.qdimacs.specs.Faults.{AreGood}
 use Rattle.qdimacs.specs.Grammar.{header, clause}
 use Rattle.qbf_text.specs.Rows.{Goes}
-use Rattle.qdimacs.specs.Reading.{Heading, Place, AtP, AtCount, Between, InSet, InClause, Whole, row}
+use Rattle.qdimacs.specs.Reading.{Heading, Place, AtP, InHeader, Between, InSet, InClause, Whole, row}
 use Rattle.qdimacs.specs.Reading.{Pairs, Clauses, AreFrom}
 
 -- ---- the header
 
 -- at the number of clauses
-pub leads_vars : (v : ℕ) → v ≤ 2147483647 → Leads row AtP (token.Word word.P ∷ token.Word word.Cnf ∷ number v ∷ []) (AtCount v)
+pub leads_vars : (v : ℕ) → v ≤ 2147483647 → Leads row AtP (token.Word word.P ∷ token.Word word.Cnf ∷ number v ∷ []) (InHeader (place.Second v))
 leads_vars v lv = Passes refl (Passes refl (Passes (search rules) Stays))
 
 pub leads_header : (h : Heading) → h.max_var ≤ 2147483647 → h.count ≤ 2147483647

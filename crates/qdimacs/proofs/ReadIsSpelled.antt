@@ -15,6 +15,7 @@ use Rattle.qdimacs.proofs.AllVariablesBound.{is_bound_variables}
 use Rattle.qbf_text.proofs.AcceptedTokens.{each_is_answered, flat_map-push}
 use Rattle.qbf_text.proofs.AcceptedTokens as accepted
 use Rattle.qdimacs.proofs.SpelledIsRead.{read_once}
+use Rattle.qbf_spelling.specs.declared.header.HeaderAt.TheVariants as place
 use Rattle.qbf_spelling.specs.Said.{member}
 use Rattle.qdimacs.specs.Grammar.{header, clause, IsFormula}
 use Rattle.qdimacs.specs.Laws.{ReadsAsRead}
@@ -22,7 +23,7 @@ use Rattle.qbf_text.proofs.CanonicalTokens.{all_of}
 use Rattle.qbf_text.proofs.Answered.{explained, AnswersAsRead}
 use Rattle.qdimacs.specs.Faults.{Reads, IsSoFar, Spells}
 use Rattle.qbf_text.specs.Rows.{Goes, Fails}
-use Rattle.qdimacs.specs.Reading.{Heading, Place, AtP, AtCnf, AtVars, AtCount, Between, InSet, InClause, Whole, Over, Row, row}
+use Rattle.qdimacs.specs.Reading.{Heading, Place, AtP, InHeader, Between, InSet, InClause, Whole, Over, Row, row}
 use Rattle.qdimacs.specs.Reading.{faults, set_row, bound_literal, clause_row, read, IsWhole, answer_of}
 use Rattle.qdimacs.specs.Reading.{Pairs, Clauses, AreFrom}
 
@@ -31,7 +32,7 @@ use Rattle.qdimacs.specs.Reading.{Pairs, Clauses, AreFrom}
 no_place_after_end : (place next : Place) → row place token.End ≡ Goes next → ⊥
 no_place_after_end place next e = search rules
 
-count_is : (v : ℕ) (t : Token) (next : Place) → row (AtCount v) t ≡ Goes next
+count_is : (v : ℕ) (t : Token) (next : Place) → row (InHeader (place.Second v)) t ≡ Goes next
     → (n : ℕ) × (t ≡ number n) × (n ≤ 2147483647) × (Between (record { max_var = v; count = n }) [] [] ≡ next)
 count_is v t next e = search rules
 
@@ -158,10 +159,10 @@ between_step ts h ps cs t next b e = elim (between_goes h ps cs t next e) [
 
 -- an accepted token leads to a place that the tokens spell
 step : (ts : List Token) (p next : Place) (t : Token) → Spells ts p → row p t ≡ Goes next → Spells (ts ++ t ∷ []) next
-step ts AtP next t b e = search rules
-step ts AtCnf next t b e = search rules
-step ts AtVars next t b e = search rules
-step ts (AtCount v) next t b e =
+step ts (InHeader place.P) next t b e = search rules
+step ts (InHeader place.Format) next t b e = search rules
+step ts (InHeader place.First) next t b e = search rules
+step ts (InHeader (place.Second v)) next t b e =
     let k = count_is v t next e in
     let none = none_so_far (record { max_var = v; count = k.0 }) b.1 k.2 in
     subst (Spells (ts ++ t ∷ [])) k.3 ([], (λ i. b.0 i ++ k.1 i ∷ []), refl, none)
@@ -246,7 +247,7 @@ answer before p t ts b once = by (row p t.0) refl
 
 -- What is read is spelled; a fault that is found stands.
 pub read_explained : ReadsAsRead
-read_explained = explained Spells Reads read AtP refl answer read_once
+read_explained = explained Spells Reads read AtP (refl, tt) answer read_once
 
 -- reading by rows answers what is read
 pub answers_as_read : AnswersAsRead row answer_of AtP read

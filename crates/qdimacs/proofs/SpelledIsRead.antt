@@ -5,11 +5,12 @@ use Words.{flat_map, AllByRecursion, Block, pairs, blocks_of, Qbf, Token, Lined,
 use Words.token
 use Rattle.qbf_core.proofs.BlockLaws.{blocks_of-pairs}
 use Rattle.qbf_text.proofs.AcceptedTokens.{split_at, Leads, Stays, Passes, leads_then, leads_reads}
+use Rattle.qbf_spelling.specs.declared.header.HeaderAt.TheVariants as place
 use Rattle.qdimacs.specs.Laws.{ReadsOnce}
 use Rattle.qdimacs.specs.declared.fault.FormulaFault.{FormulaFault}
 use Rattle.qdimacs.specs.Grammar.{header, clause, IsFormula}
 use Rattle.qdimacs.specs.Faults.{AreGood, Spells, IsFault}
-use Rattle.qdimacs.specs.Reading.{Heading, Place, AtP, AtCnf, AtVars, AtCount, Between, InSet, InClause, Whole, Over}
+use Rattle.qdimacs.specs.Reading.{Heading, Place, AtP, InHeader, Between, InSet, InClause, Whole, Over}
 use Rattle.qdimacs.specs.Reading.{Row, row, read, answer_of}
 use Rattle.qbf_text.proofs.OneToken.{after}
 use Rattle.qdimacs.proofs.AcceptedTokens.{leads_vars, leads_header, leads_sets, leads_begun_set, leads_clauses, leads_begun_clause, end_row}
@@ -57,10 +58,10 @@ leads_between {h = h} {ps = ps} {cs = cs} e =
     rw (e.1, ← e.2) (leads_lists h e.0 cs e.3.max_var e.3.count (rw e.2 e.3.good) (rw e.2 e.3.closed) e.3.few)
 
 spelled_leads : (ts : List Token) (place : Place) → Spells ts place → Leads row AtP ts place
-spelled_leads ts AtP e = rw e Stays
-spelled_leads ts AtCnf e = rw e (Passes refl Stays)
-spelled_leads ts AtVars e = rw e (Passes refl (Passes refl Stays))
-spelled_leads ts (AtCount v) e = rw e.0 (leads_vars v e.1)
+spelled_leads ts (InHeader place.P) e = rw e.0 Stays
+spelled_leads ts (InHeader place.Format) e = rw e.0 (Passes refl Stays)
+spelled_leads ts (InHeader place.First) e = rw e.0 (Passes refl (Passes refl Stays))
+spelled_leads ts (InHeader (place.Second v)) e = rw e.0 (leads_vars v e.1)
 spelled_leads ts (Between h ps cs) e = leads_between e
 spelled_leads ts (InSet h ps q) e =
     let good : AreGood h.max_var (pairs e.0 ++ map (λ v. (q, v)) e.1) = rw e.3 e.4.good in

@@ -7,11 +7,12 @@ use Rattle.qbf_text.specs.declared.grammar.Taken.{Taken}
 use Rattle.qbf_text.specs.declared.grammar.Taken.TheVariants as taken
 use Rattle.qbf_text.specs.declared.grammar.Stop.{Stop}
 use Rattle.qbf_text.specs.declared.grammar.Stop.TheVariants as stop
+use Rattle.qbf_spelling.specs.Headers.{IsUpTo}
 use Rattle.qdimacs.specs.declared.fault.FormulaFault.{FormulaFault}
 use Rattle.qdimacs.specs.declared.grammar.At.{At}
 use Rattle.qdimacs.specs.declared.grammar.At.TheVariants as at
 use Rattle.qdimacs.specs.declared.grammar.Parts.{Parts}
-use Rattle.qdimacs.specs.Reading.{Heading, Place, AtP, AtCnf, AtVars, AtCount, Between, InSet, InClause, Whole, Over, Row, IsFull}
+use Rattle.qdimacs.specs.Reading.{Heading, Place, InHeader, Between, InSet, InClause, Whole, Over, Row, IsFull}
 
 -- the numbers of the header
 abbrev pub heading : Parts → Heading
@@ -23,10 +24,7 @@ made p = record { max_var = p.max_var; blocks = p.prefix; clauses = p.clauses.wh
 
 -- where reading stands with these parts
 abbrev pub stands : Parts → At → Place
-stands p at.P = AtP
-stands p at.Cnf = AtCnf
-stands p at.Vars = AtVars
-stands p (at.Count v) = AtCount v
+stands p (at.Header here) = InHeader here
 stands p at.Between = Between (heading p) (pairs p.prefix) p.clauses.whole
 stands p (at.Set q) = InSet (heading p) (pairs p.prefix) q
 stands p at.Clause = InClause (heading p) (pairs p.prefix) p.clauses.whole p.clauses.begun
@@ -66,10 +64,7 @@ pub record IsMade (p : Parts) : Type 0 where
 
 -- what holds at each place
 abbrev pub IsSound : At → Parts → Type 0
-IsSound at.P p = IsNothing p
-IsSound at.Cnf p = IsNothing p
-IsSound at.Vars p = IsNothing p
-IsSound (at.Count v) p = IsNothing p × (v ≤ 2147483647)
+IsSound (at.Header here) p = IsNothing p × IsUpTo 2147483647 here
 IsSound at.Between p = IsMade p × (p.clauses.begun ≡ [])
 IsSound (at.Set q) p = AreCounted p × (p.clauses.whole ≡ []) × (p.clauses.begun ≡ [])
 IsSound at.Clause p = IsMade p × AreBound p.prefix p.clauses.begun × (length p.clauses.whole < p.count)

@@ -12,7 +12,13 @@ use Rattle.qdimacs.specs.declared.fault.FormulaFault.{FormulaFault}
 use Rattle.qdimacs.specs.declared.fault.FormulaFault.TheVariants.{F2, F3, F4, F5, F6, F7, F8, F9, F1}
 use Rattle.qbf_text.specs.Answering as answering
 use Rattle.qbf_spelling.specs.declared.said.Faults.{Faults}
-use Rattle.qbf_spelling.specs.Said.{is_p, quantifier, member, literal_in, word_row, number_row}
+use Rattle.qbf_spelling.specs.declared.header.HeaderForm.{HeaderForm}
+use Rattle.qbf_spelling.specs.declared.header.HeaderAt.{HeaderAt}
+use Rattle.qbf_spelling.specs.declared.header.HeaderAt.TheVariants as header
+use Rattle.qbf_spelling.specs.declared.header.HeaderMove.{HeaderMove}
+use Rattle.qbf_spelling.specs.declared.header.HeaderMove.TheVariants as moves
+use Rattle.qbf_spelling.specs.Headers.{header_move}
+use Rattle.qbf_spelling.specs.Said.{quantifier, member, literal_in}
 use Rattle.qbf_text.specs.Rows.{Goes, Ends, Read}
 use Rattle.qbf_text.specs.Rows as rows
 use Rattle.qbf_text.specs.declared.token.Comments.TheVariants.{Qdimacs}
@@ -41,10 +47,7 @@ pub record Heading : Type 0 where
 -- Where a token stands, after what the tokens before it spell.
 pub data Place : Type 0 where
   -- in the header
-  AtP : Place
-  AtCnf : Place
-  AtVars : Place
-  AtCount : (max_var : ℕ) → Place
+  InHeader : HeaderAt → Place
   -- after whole sets and whole clauses
   Between : Heading → Pairs → Clauses → Place
   -- in a set, the pairs of its own variables the last
@@ -66,15 +69,15 @@ Row = rows.Row Place (Unit {0}) FormulaFault
 abbrev pub faults : Faults FormulaFault
 faults = record { header = F2; stray = F3; range = F4; minus_zero = F3; end = F7 }
 
--- a number without `-` that a header may have
-abbrev pub header_number : Token → Option ℕ
-header_number (token.Number false n) = if nat_lt 2147483647 n then None else Some n
-header_number t = None
+-- the header: the word `cnf`, and two numbers
+abbrev pub form : HeaderForm FormulaFault
+form = record { format = word.Cnf; last = Some 2147483647; faults = faults }
 
--- the word `cnf`
-abbrev pub is_cnf : Token → Bool
-is_cnf (token.Word word.Cnf) = true
-is_cnf t = false
+-- in the header
+abbrev pub header_row : Result HeaderMove FormulaFault → Row
+header_row (Err f) = Fails f
+header_row (Ok (moves.Goes next)) = Goes (InHeader next)
+header_row (Ok (moves.Ends max_var count)) = Goes (Between (record { max_var = max_var; count = count }) [] [])
 
 -- ---- a set
 
@@ -146,11 +149,7 @@ between_row h ps cs None (Ok false) first = Ends tt (Whole (record { max_var = h
 
 -- the row of each place
 abbrev pub row : Place → Token → Row
-row AtP t = word_row faults Fails (Goes AtCnf) t (is_p t)
-row AtCnf t = word_row faults Fails (Goes AtVars) t (is_cnf t)
-row AtVars t = number_row faults Fails (λ v. Goes (AtCount v)) t (header_number t)
-row (AtCount v) t =
-    number_row faults Fails (λ c. Goes (Between (record { max_var = v; count = c }) [] [])) t (header_number t)
+row (InHeader here) t = header_row (header_move form here t)
 row (Between h ps cs) t =
     between_row h ps cs (begun_set cs t) (clause_or_end (has_more h cs) t) (bound_literal h.max_var ps t)
 row (InSet h ps q) t = set_row h ps q (member faults h.max_var t)
@@ -173,6 +172,10 @@ abbrev pub answer_of : Read Place (Unit {0}) FormulaFault → Answer
 answer_of (rows.Whole u place rest) = answer_at place
 answer_of (rows.Fault f line) = Err (f, line)
 answer_of rows.Cut = Err (F7, 0)
+
+-- where the first token stands
+abbrev pub AtP : Place
+AtP = InHeader header.P
 
 -- What is read from a place on.
 abbrev pub read_from : Place → List Lined → Answer

@@ -4,6 +4,7 @@ ghost use Rattle.std.specs.Prelude.{◌≡◌, ◌≤◌, true, IfOk};
 ghost use Rattle.std.specs.List.{AllByRecursion};
 ghost use Rattle.qbf_core.specs.Blocks.{pairs, variables, is_bound, IsPrefix};
 ghost use Rattle.qbf_core.specs.Qbf.{IsWellFormed};
+ghost use Rattle.qbf_spelling.specs.declared.header.HeaderAt.TheVariants as header;
 ghost use Rattle.qdimacs.specs.declared.grammar.At.TheVariants as at;
 ghost use Rattle.qdimacs.specs.declared.grammar.Parts.{Parts};
 ghost use Rattle.qdimacs.specs.Places.{made, heading, stands, Moves, Went, IsSound};
@@ -11,9 +12,9 @@ ghost use Rattle.qdimacs.specs.Reading.{AtP, Whole, IsFull, IsWhole, begun_set, 
 ghost use Rattle.qdimacs.specs.Reading.{bind_row};
 
 use crate::fault::FormulaFault;
-use crate::tokens::{FAULTS, bound_literal, clause_or_end, header_number, is_cnf};
+use crate::tokens::{FAULTS, FORM, bound_literal, clause_or_end};
 use qbf_core::{Formula, GrowingLists, Lit, Prefix, PrefixFault, Quantifier, Var};
-use qbf_spelling::{header_fault, is_p, member, quantifier};
+use qbf_spelling::{HeaderAt, HeaderMove, header_move, member, quantifier};
 use qbf_text::{Grammar, Stop, Taken, Token};
 use std::alloc::Global;
 use std::marker::Model;
@@ -21,14 +22,8 @@ use std::marker::Model;
 /// Where the next token stands.
 #[derive(Clone, Copy)]
 enum At {
-    /// At the word `p`.
-    P,
-    /// At the word `cnf`.
-    Cnf,
-    /// At the number of variables.
-    Vars,
-    /// At the number of clauses, after that of variables.
-    Count(u32),
+    /// In the header.
+    Header(HeaderAt),
     /// Between lists.
     Between,
     /// In a set.
@@ -57,39 +52,6 @@ struct Parts {
 
 // ---- the header
 
-/// Takes the word `p`.
-fn take_p(token: Token) -> Result<At, Stop<FormulaFault>>
-    ensures row { (p : Parts) → Moves (row (stands p at.P) token) p result }
-    ensures sound { (p : Parts) → IsSound at.P p → IfOk result (λ next. IsSound next p) }
-{
-    if is_p(token) {
-        return Ok(At::Cnf);
-    }
-    Err(Stop::Text(header_fault(FAULTS, token)))
-}
-
-/// Takes the word `cnf`.
-fn take_cnf(token: Token) -> Result<At, Stop<FormulaFault>>
-    ensures row { (p : Parts) → Moves (row (stands p at.Cnf) token) p result }
-    ensures sound { (p : Parts) → IsSound at.Cnf p → IfOk result (λ next. IsSound next p) }
-{
-    if is_cnf(token) {
-        return Ok(At::Vars);
-    }
-    Err(Stop::Text(header_fault(FAULTS, token)))
-}
-
-/// Takes the number of variables.
-fn take_vars(token: Token) -> Result<At, Stop<FormulaFault>>
-    ensures row { (p : Parts) → Moves (row (stands p at.Vars) token) p result }
-    ensures sound { (p : Parts) → IsSound at.Vars p → IfOk result (λ next. IsSound next p) }
-{
-    match header_number(token) {
-        Some(max_var) => Ok(At::Count(max_var)),
-        None => Err(Stop::Text(header_fault(FAULTS, token))),
-    }
-}
-
 /// Whether a prefix binds each variable up to this one.
 fn is_full(prefix: &Prefix, max_var: u32) -> bool
     requires top { AllByRecursion (λ v. v ≤ max_var) (variables (pairs prefix.now)) }
@@ -99,20 +61,20 @@ fn is_full(prefix: &Prefix, max_var: u32) -> bool
     prefix.len() == max_var as usize
 }
 
-/// Takes the number of clauses.
-fn take_count(parts: &mut Parts, max_var: u32, token: Token) -> Result<At, Stop<FormulaFault>>
-    requires sound { IsSound (at.Count max_var) parts.old }
-    ensures row { Moves (row (stands parts.old (at.Count max_var)) token) parts.new result }
+/// Takes a token of the header.
+fn take_header(parts: &mut Parts, here: HeaderAt, token: Token) -> Result<At, Stop<FormulaFault>>
+    requires sound { IsSound (at.Header here) parts.old }
+    ensures row { Moves (row (stands parts.old (at.Header here)) token) parts.new result }
     ensures sound { IfOk result (λ next. IsSound next parts.new) }
 {
-    match header_number(token) {
-        Some(count) => {
-            parts.max_var = max_var;
-            parts.count = count;
-            parts.full = is_full(&parts.prefix, max_var);
+    match header_move(FORM, here, token)? {
+        HeaderMove::Goes(next) => Ok(At::Header(next)),
+        HeaderMove::Ends(max_var, count) => {
+            parts.max_var = max_var as u32;
+            parts.count = count as u32;
+            parts.full = is_full(&parts.prefix, parts.max_var);
             Ok(At::Between)
         }
-        None => Err(Stop::Text(header_fault(FAULTS, token))),
     }
 }
 
@@ -226,10 +188,7 @@ fn take_at(here: At, parts: &mut Parts, token: Token) -> Result<At, Stop<Formula
         At::Clause => take_literal(parts, token),
         At::Between => take_opening(parts, token),
         At::Set(quantifier) => take_member(parts, quantifier, token),
-        At::P => take_p(token),
-        At::Cnf => take_cnf(token),
-        At::Vars => take_vars(token),
-        At::Count(max_var) => take_count(parts, max_var, token),
+        At::Header(here) => take_header(parts, here, token),
         At::Whole | At::Over => Err(Stop::Text(FormulaFault::F3)),
     }
 }
@@ -258,7 +217,7 @@ fn go(here: &mut At, next: Result<At, Stop<FormulaFault>>) -> Result<Taken<()>, 
 impl Parts {
     /// Nothing yet. It takes no memory.
     fn new(alloc: Global) -> Parts
-        ensures { IsSound at.P result }
+        ensures { IsSound (at.Header header.P) result }
     {
         Parts {
             max_var: 0,
@@ -305,7 +264,7 @@ impl FormulaGrammar {
         ensures { result ≡ AtP }
     {
         FormulaGrammar {
-            at: At::P,
+            at: At::Header(HeaderAt::P),
             parts: Parts::new(alloc),
         }
     }

@@ -2,12 +2,11 @@
 
 ghost use Rattle.std.specs.Prelude.{◌≡◌, ◌≤◌, true, IfSome, IfOk};
 ghost use Rattle.qbf_core.specs.Blocks.{pairs, IsBound};
-ghost use Rattle.qdimacs.specs.Reading.{bound_literal, clause_or_end, IsFull, is_cnf};
-ghost use Rattle.qdimacs.specs.Reading.{header_number};
+ghost use Rattle.qdimacs.specs.Reading.{bound_literal, clause_or_end, IsFull};
 
 use crate::fault::FormulaFault;
 use qbf_core::{Lit, Prefix};
-use qbf_spelling::{Faults, literal};
+use qbf_spelling::{Faults, HeaderForm, literal};
 use qbf_text::{Token, Word};
 
 /// The faults that tokens of a formula are.
@@ -19,26 +18,12 @@ pub(crate) const FAULTS: Faults<FormulaFault> = Faults {
     end: FormulaFault::F7,
 };
 
-/// Whether a token is the word `cnf`.
-pub(crate) fn is_cnf(token: Token) -> bool
-    ensures { result ≡ is_cnf token }
-{
-    matches!(token, Token::Word(Word::Cnf))
-}
-
-/// A number of variables or of clauses.
-pub(crate) fn header_number(token: Token) -> Option<u32>
-    ensures says { result ≡ header_number token }
-    ensures small { IfSome result (λ n. n ≤ 2147483647) }
-{
-    match token {
-        Token::Number {
-            negative: false,
-            value,
-        } if value <= 2147483647 => Some(value as u32),
-        _ => None,
-    }
-}
+/// The header of a formula: the word `cnf`, and the numbers of variables and of clauses.
+pub(crate) const FORM: HeaderForm<FormulaFault> = HeaderForm {
+    format: Word::Cnf,
+    last: Some(2147483647),
+    faults: FAULTS,
+};
 
 /// The literal that a token says in a clause, or `None` where it closes the clause.
 ///

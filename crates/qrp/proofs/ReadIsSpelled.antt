@@ -9,6 +9,7 @@ use Words.word
 use Rattle.qbf_text.specs.Lined.{EndsOnce}
 use Rattle.qbf_core.proofs.DistinctNumbers.{push_distinct}
 use Rattle.qbf_text.proofs.AcceptedTokens.{Answers, flat_map-push}
+use Rattle.qbf_spelling.specs.declared.header.HeaderAt.TheVariants as place
 use Rattle.qrp.specs.declared.item.Header.{Header}
 use Rattle.qrp.specs.declared.item.Outcome.{Outcome}
 use Rattle.qrp.specs.Inferences.{Inference, IsInference, IsLiteral, IsNumber, numbers}
@@ -17,7 +18,7 @@ use Rattle.qrp.specs.Grammar.{header, step, result_word, lists}
 use Rattle.qrp.specs.Laws.{ReadsAsRead}
 use Rattle.qbf_text.proofs.Answered.{explained}
 use Rattle.qrp.specs.Faults.{AreLists, Spells, Reads}
-use Rattle.qrp.specs.Reading.{Place, AtP, AtQrp, AtVars, AtSteps, Between, InSet, InLits, InAnts, AtResult, Row, Goes, Closes, Ends}
+use Rattle.qrp.specs.Reading.{Place, AtP, InHeader, Between, InSet, InLits, InAnts, AtResult, Row, Goes, Closes, Ends}
 use Rattle.qrp.specs.Reading.{Fails, row, read}
 use Rattle.step_index.specs.Numbers.{is_used}
 use Rattle.qrp.proofs.AcceptedTokens.{end_row}
@@ -81,7 +82,7 @@ IsTo (Closes i p) next = p ≡ next
 IsTo (Ends o) next = ⊥
 IsTo (Fails f) next = ⊥
 
-header_goes : (v : ℕ) (t : Token) (next : Place) → IsTo (row (AtSteps v) t) next → (n : ℕ) × (t ≡ number n) × (next ≡ Between [])
+header_goes : (v : ℕ) (t : Token) (next : Place) → IsTo (row (InHeader (place.Second v)) t) next → (n : ℕ) × (t ≡ number n) × (next ≡ Between [])
 header_goes v t next e = search rules
 
 list_begins : (ns : List ℕ) (t : Token) (next : Place) → IsTo (row (Between ns) t) next
@@ -113,10 +114,10 @@ result_ends p t o e = search rules
 -- an accepted token leads to a place that the tokens spell
 goes : (ts : List Token) (p next : Place) (t : Token) → Spells ts p → IsTo (row p t) next → Spells (ts ++ t ∷ []) next
 unfolding IsDistinct
-goes ts AtP next t s e = search rules
-goes ts AtQrp next t s e = search rules
-goes ts AtVars next t s e = search rules
-goes ts (AtSteps v) next t s e =
+goes ts (InHeader place.P) next t s e = search rules
+goes ts (InHeader place.Format) next t s e = search rules
+goes ts (InHeader place.First) next t s e = search rules
+goes ts (InHeader (place.Second v)) next t s e =
     let k = header_goes v t next e in
     rw (k.2, k.1, s) (record {
       header = record { vars = v; steps = k.0 };

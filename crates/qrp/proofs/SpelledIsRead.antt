@@ -5,6 +5,7 @@ use Words.{map-append, Block, Token, Lined, unlined}
 use Words.token
 use Words.word
 use Rattle.qbf_text.proofs.AcceptedTokens.{split_at}
+use Rattle.qbf_spelling.specs.declared.header.HeaderAt.TheVariants as place
 use Rattle.qrp.specs.declared.fault.TraceFault.{TraceFault}
 use Rattle.qrp.specs.declared.item.Header.{Header}
 use Rattle.qrp.specs.declared.item.Outcome.{Outcome}
@@ -15,7 +16,7 @@ use Rattle.qrp.specs.Derivations.{Derivation, items_of_lists}
 use Rattle.qrp.specs.Grammar.{result_word, lists, IsTrace}
 use Rattle.qrp.specs.Faults.{AreLists, Spells, IsFault, whole_before}
 use Rattle.qrp.specs.Laws.{ReadsOnce}
-use Rattle.qrp.specs.Reading.{Fault, Place, AtP, AtQrp, AtVars, AtSteps, Between, InSet, InLits, InAnts, AtResult, Row, Ends, row}
+use Rattle.qrp.specs.Reading.{Fault, Place, AtP, InHeader, Between, InSet, InLits, InAnts, AtResult, Row, Ends, row}
 use Rattle.qrp.specs.Reading.{items, gathered, nothing, read}
 use Rattle.qrp.proofs.AcceptedTokens.{Answer, after, items-one, Leads, Stays, Passes, leads_on, leads_gives, leads_lists}
 use Rattle.qrp.proofs.AcceptedTokens.{leads_variables, leads_literals, leads_antecedents, number_row, letter_row, result_begins}
@@ -84,10 +85,10 @@ leads_begun a l = rw a.spelled (leads_on (rw a.numbered at (leads_lists a.header
 
 -- the tokens before a place lead to it
 spelled_leads : (ts : List Token) (place : Place) (s : Spells ts place) → Leads AtP ts (whole_before ts place s) place
-spelled_leads ts AtP e = rw e Stays
-spelled_leads ts AtQrp e = rw e (Passes refl Stays)
-spelled_leads ts AtVars e = rw e (Passes refl (Passes refl Stays))
-spelled_leads ts (AtSteps v) e = rw e (Passes refl (Passes refl (Passes refl Stays)))
+spelled_leads ts (InHeader place.P) e = rw e Stays
+spelled_leads ts (InHeader place.Format) e = rw e (Passes refl Stays)
+spelled_leads ts (InHeader place.First) e = rw e (Passes refl (Passes refl Stays))
+spelled_leads ts (InHeader (place.Second v)) e = rw e (Passes refl (Passes refl (Passes refl Stays)))
 spelled_leads ts (Between ns) e = leads_begun e Stays
 spelled_leads ts (InSet q vs) e = leads_begun e.0 (Passes (letter_row q) (leads_variables q [] vs e.1))
 spelled_leads ts (InLits ns n ls) e = leads_begun e.0 (Passes (number_row ns n e.1 e.2) (leads_literals ns n [] ls e.3))
@@ -98,10 +99,7 @@ spelled_leads ts AtResult e = leads_begun e.1 (Passes (result_begins e.0) Stays)
 before_fault : (ts : List Token) (place : Place) (s : Spells ts place) (e : Fault)
     → gathered nothing (map Ok (whole_before ts place s) ++ Err e ∷ []) ≡ Err e
 unfolding gathered
-before_fault ts AtP s e = refl
-before_fault ts AtQrp s e = refl
-before_fault ts AtVars s e = refl
-before_fault ts (AtSteps v) s e = refl
+before_fault ts (InHeader here) s e = refl
 before_fault ts (Between ns) s e = gathered_lists s.header s.sets s.steps (Err e ∷ [])
 before_fault ts (InSet q vs) s e = gathered_lists s.0.header s.0.sets s.0.steps (Err e ∷ [])
 before_fault ts (InLits ns n ls) s e = gathered_lists s.0.header s.0.sets s.0.steps (Err e ∷ [])

@@ -4,6 +4,7 @@ use Rattle.qbf_spelling.specs.Words
 use Words.{AllByRecursion, Block, IsVariable, Token, Lined, number, literal, letter}
 use Words.token
 use Words.word
+use Rattle.qbf_spelling.specs.Headers.{header_before}
 use Rattle.qrp.specs.declared.fault.TraceFault.{TraceFault}
 use Rattle.qrp.specs.declared.item.Header.{Header}
 use Rattle.qrp.specs.declared.item.Item.{Item}
@@ -11,7 +12,7 @@ use Rattle.qrp.specs.Inferences.{Inference, IsLiteral, IsNumber, numbers}
 use Rattle.qrp.specs.Derivations.{Derivation, AreGrammatical, items_of_lists}
 use Rattle.qbf_text.specs.Answering as answering
 use Rattle.qrp.specs.Grammar.{lists, IsTrace}
-use Rattle.qrp.specs.Reading.{Fault, Place, AtP, AtQrp, AtVars, AtSteps, Between, InSet, InLits, InAnts, AtResult, row, Fails}
+use Rattle.qrp.specs.Reading.{Fault, Place, InHeader, Between, InSet, InLits, InAnts, AtResult, row, Fails}
 use Rattle.step_index.specs.Numbers.{is_used}
 
 -- whole sets and whole steps with these numbers, before the tokens of a list that is begun
@@ -25,10 +26,7 @@ pub record AreLists (ts begun : List Token) (ns : List ℕ) : Type 0 where
 
 -- The tokens before a place: an unfinished header, or whole sets and whole steps and then nothing, one begun list, or `r`.
 abbrev pub Spells : List Token → Place → Type 0
-Spells ts AtP = ts ≡ []
-Spells ts AtQrp = ts ≡ token.Word word.P ∷ []
-Spells ts AtVars = ts ≡ token.Word word.P ∷ token.Word word.Qrp ∷ []
-Spells ts (AtSteps v) = ts ≡ token.Word word.P ∷ token.Word word.Qrp ∷ number v ∷ []
+Spells ts (InHeader here) = ts ≡ header_before word.Qrp here
 Spells ts (Between ns) = AreLists ts [] ns
 Spells ts (InSet q vs) = AreLists ts (letter q ∷ map number vs) [] × AllByRecursion IsVariable vs
 Spells ts (InLits ns n ls) = AreLists ts (number n ∷ map literal ls) ns
@@ -39,10 +37,7 @@ Spells ts AtResult = (ns : List ℕ) × AreLists ts (token.Word word.R ∷ []) n
 
 -- the items of the lists that are whole before a place: none while the header is unfinished
 abbrev pub whole_before : (ts : List Token) (place : Place) → Spells ts place → List Item
-whole_before ts AtP s = []
-whole_before ts AtQrp s = []
-whole_before ts AtVars s = []
-whole_before ts (AtSteps v) s = []
+whole_before ts (InHeader here) s = []
 whole_before ts (Between ns) s = items_of_lists s.header s.sets s.steps
 whole_before ts (InSet q vs) s = items_of_lists s.0.header s.0.sets s.0.steps
 whole_before ts (InLits ns n ls) s = items_of_lists s.0.header s.0.sets s.0.steps

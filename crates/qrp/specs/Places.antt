@@ -15,16 +15,13 @@ use Rattle.qrp.specs.declared.places.Move.TheVariants as move
 use Rattle.qrp.specs.declared.places.Part.{Part}
 use Rattle.qrp.specs.declared.places.Part.TheVariants as part
 use Rattle.qrp.specs.Inferences.{IsLiteral, IsNumber}
-use Rattle.qrp.specs.Reading.{Place, Row, Goes, Closes, Ends, Fails, AtP, AtQrp, AtVars, AtSteps, Between, InSet, InLits, InAnts, AtResult}
+use Rattle.qrp.specs.Reading.{Place, Row, Goes, Closes, Ends, Fails, InHeader, Between, InSet, InLits, InAnts, AtResult}
 use Rattle.qrp.specs.Reading.{row}
 use Rattle.step_index.specs.Numbers.{is_used}
 
 -- the place of a token, where one is taken
 abbrev pub place : Begun → At → Place
-place b at.P = AtP
-place b at.Qrp = AtQrp
-place b at.Vars = AtVars
-place b (at.Steps vars) = AtSteps vars
+place b (at.Header here) = InHeader here
 place b at.Between = Between b.index
 place b (at.Set q) = InSet q b.vars.items
 place b (at.Lits n) = InLits b.index n b.lits.begun
@@ -85,10 +82,7 @@ pub record AreAntecedents (ants : List ℕ) : Type 0 where
 
 -- at the place of a token
 abbrev pub IsBegun : At → Begun → Type 0
-IsBegun at.P b = b.index ≡ []
-IsBegun at.Qrp b = b.index ≡ []
-IsBegun at.Vars b = b.index ≡ []
-IsBegun (at.Steps vars) b = (b.index ≡ []) × (vars < 2 ^ 64)
+IsBegun (at.Header here) b = b.index ≡ []
 IsBegun at.Between b = ⊤
 IsBegun (at.Set q) b = (b.index ≡ []) × AllByRecursion IsVariable b.vars.items
 IsBegun (at.Lits n) b = IsNew n b.index × AllByRecursion IsLiteral b.lits.begun

@@ -14,6 +14,7 @@ use crate::flat::FlatTrace;
 use crate::item::{Header, QuantSet};
 use crate::places::{At, Begun, Move, Part, take_at};
 use qbf_core::{Quantifier, Var};
+use qbf_spelling::HeaderAt;
 use qbf_text::{Grammar, Stop, Taken, Token};
 use std::alloc::{AllocError, Global};
 use std::marker::Model;
@@ -165,7 +166,7 @@ impl TraceGrammar {
         ensures { result ≡ Making nothing AtP }
     {
         TraceGrammar {
-            at: At::P,
+            at: At::Header(HeaderAt::P),
             parts: Parts::new(alloc),
         }
     }

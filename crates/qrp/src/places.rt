@@ -9,11 +9,9 @@ ghost use Rattle.qrp.specs.Reading.{has_room, has_steps, step_row};
 
 use crate::fault::TraceFault;
 use crate::item::{Header, Outcome};
-use crate::tokens::{
-    FAULTS, LAST_VARIABLE, Opening, antecedent, header_number, is_qrp, opened, outcome_of,
-};
+use crate::tokens::{FAULTS, FORM, LAST_VARIABLE, Opening, antecedent, opened, outcome_of};
 use qbf_core::{GrowingLists, Lit, Quantifier, Var};
-use qbf_spelling::{header_fault, is_p, literal, member};
+use qbf_spelling::{HeaderAt, HeaderMove, header_move, literal, member};
 use qbf_text::{Stop, Token};
 use std::alloc::Global;
 use step_index::StepIndex;
@@ -21,14 +19,8 @@ use step_index::StepIndex;
 /// Where the next token stands.
 #[derive(Clone, Copy)]
 pub enum At {
-    /// At the word `p`.
-    P,
-    /// At the word `qrp`.
-    Qrp,
-    /// At the number of variables.
-    Vars,
-    /// At the number of steps, after that of variables.
-    Steps(u64),
+    /// In the header.
+    Header(HeaderAt),
     /// Between lists.
     Between,
     /// In a set.
@@ -100,47 +92,14 @@ impl Begun {
 
 // ---- the header
 
-/// Takes the word `p`.
-fn take_p(token: Token) -> Result<Move, Stop<TraceFault>>
-    ensures row { (b : Begun) → Moves (row_at b at.P token) b result }
-    ensures sound { (b : Begun) → IsBegun at.P b → IfOk result (λ m. IsMoved m b) }
+/// Takes a token of the header.
+fn take_header(here: HeaderAt, token: Token) -> Result<Move, Stop<TraceFault>>
+    ensures row { (b : Begun) → Moves (row_at b (at.Header here) token) b result }
+    ensures sound { (b : Begun) → IsBegun (at.Header here) b → IfOk result (λ m. IsMoved m b) }
 {
-    if is_p(token) {
-        return Ok(Move::Goes(At::Qrp));
-    }
-    Err(Stop::Text(header_fault(FAULTS, token)))
-}
-
-/// Takes the word `qrp`.
-fn take_qrp(token: Token) -> Result<Move, Stop<TraceFault>>
-    ensures row { (b : Begun) → Moves (row_at b at.Qrp token) b result }
-    ensures sound { (b : Begun) → IsBegun at.Qrp b → IfOk result (λ m. IsMoved m b) }
-{
-    if is_qrp(token) {
-        return Ok(Move::Goes(At::Vars));
-    }
-    Err(Stop::Text(header_fault(FAULTS, token)))
-}
-
-/// Takes the number of variables.
-fn take_vars(token: Token) -> Result<Move, Stop<TraceFault>>
-    ensures row { (b : Begun) → Moves (row_at b at.Vars token) b result }
-    ensures sound { (b : Begun) → IsBegun at.Vars b → IfOk result (λ m. IsMoved m b) }
-{
-    match header_number(token) {
-        Some(vars) => Ok(Move::Goes(At::Steps(vars))),
-        None => Err(Stop::Text(header_fault(FAULTS, token))),
-    }
-}
-
-/// Takes the number of steps, which completes the header.
-fn take_steps(vars: u64, token: Token) -> Result<Move, Stop<TraceFault>>
-    ensures row { (b : Begun) → Moves (row_at b (at.Steps vars) token) b result }
-    ensures sound { (b : Begun) → IsBegun (at.Steps vars) b → IfOk result (λ m. IsMoved m b) }
-{
-    match header_number(token) {
-        Some(steps) => Ok(Move::Closes(Part::Header(Header { vars, steps }))),
-        None => Err(Stop::Text(header_fault(FAULTS, token))),
+    match header_move(FORM, here, token)? {
+        HeaderMove::Goes(next) => Ok(Move::Goes(At::Header(next))),
+        HeaderMove::Ends(vars, steps) => Ok(Move::Closes(Part::Header(Header { vars, steps }))),
     }
 }
 
@@ -287,10 +246,7 @@ pub fn take_at(here: At, begun: &mut Begun, token: Token) -> Result<Move, Stop<T
         At::Between => take_opening(begun, token),
         At::Set(quantifier) => take_member(begun, quantifier, token),
         At::Result => take_result(token),
-        At::P => take_p(token),
-        At::Qrp => take_qrp(token),
-        At::Vars => take_vars(token),
-        At::Steps(vars) => take_steps(vars, token),
+        At::Header(here) => take_header(here, token),
         At::Behind(_) | At::Whole(_) | At::Over => Err(Stop::Text(TraceFault::P7)),
     }
 }

@@ -3,12 +3,12 @@
 ghost use Rattle.std.specs.Prelude.{◌≡◌, ◌<◌, ◌^◌, true, IfOk, OnOk, IfSome};
 ghost use Rattle.qbf_text.specs.Lined.{weight};
 ghost use Rattle.qrp.specs.Inferences.{IsNumber};
-ghost use Rattle.qrp.specs.Reading.{antecedent, header_number, is_qrp, opened, outcome_of};
+ghost use Rattle.qrp.specs.Reading.{antecedent, opened, outcome_of};
 
 use crate::fault::TraceFault;
 use crate::item::Outcome;
 use qbf_core::Quantifier;
-use qbf_spelling::Faults;
+use qbf_spelling::{Faults, HeaderForm};
 use qbf_text::{Token, Word};
 
 /// The greatest variable of a trace.
@@ -23,25 +23,12 @@ pub const FAULTS: Faults<TraceFault> = Faults {
     end: TraceFault::P7,
 };
 
-/// Whether a token is the word `qrp`.
-pub fn is_qrp(token: Token) -> bool
-    ensures { result ≡ is_qrp token }
-{
-    matches!(token, Token::Word(Word::Qrp))
-}
-
-/// A number of variables or of steps.
-pub fn header_number(token: Token) -> Option<u64>
-    ensures { result ≡ header_number token }
-{
-    match token {
-        Token::Number {
-            negative: false,
-            value,
-        } => Some(value),
-        _ => None,
-    }
-}
+/// The header of a trace: the word `qrp`, and the numbers of variables and of steps.
+pub const FORM: HeaderForm<TraceFault> = HeaderForm {
+    format: Word::Qrp,
+    last: None,
+    faults: FAULTS,
+};
 
 /// What begins between lists.
 #[derive(Clone, Copy)]
