@@ -7,13 +7,11 @@ use Rattle.qbf_text.specs.declared.token.Comments.{Comments}
 use Rattle.qbf_text.specs.declared.token.Token.{Token}
 use Rattle.qbf_text.specs.Answering as answering
 use Rattle.qbf_text.specs.Answering.{Unless, Gives, fault_of, ReadsAsRead, ReadsOnce}
-use Rattle.qbf_text.specs.Lined.{Lined, Known, unlined, EndsOnce}
-use Rattle.qbf_text.specs.Reading.{Reading, left}
-use Rattle.qbf_text.specs.Rows.{Row, Read, Whole, Fault, read_from, reads_from}
+use Rattle.qbf_text.specs.Lined.{Lined, unlined, EndsOnce}
+use Rattle.qbf_text.specs.Rows.{Row, Read, Whole, Fault, read_from}
 use Rattle.qbf_text.specs.Taking as taking
 use Rattle.qbf_text.specs.Tokens.{tokens}
 use Rattle.qbf_text.proofs.AcceptedTokens as accepted
-use Rattle.qbf_text.proofs.OneToken.{answers}
 use Rattle.qbf_text.proofs.TokensEndOnce.{tokens-EndsOnce}
 
 -- where each token is answered or leads on, and tokens read as nothing else, they read as what is read
@@ -53,29 +51,24 @@ pub record AnswersAsRead {P A F : Type 0} (row : P → Token → Row P (Unit {0}
 
 module _ {P A F : Type 0} {row : P → Token → Row P (Unit {0}) F} {answer : Read P (Unit {0}) F → Result A (F × ℕ)} {first : P}
     {read : List Lined → Result A (F × ℕ)} (outside : F → Bool) (is : AnswersAsRead row answer first read) (format : Comments)
-    (scanner : Reading) (begins : (bytes : List ℕ) → left scanner (Some bytes) ≡ Some (tokens format bytes)) (place next : P)
-    (here : place ≡ first) (remaining : Option (List ℕ)) (rest : Known) where
-  whole_by : (a : A) → ((more : List Lined) → answer (Whole tt next more) ≡ Ok a) → (remaining : Option (List ℕ))
-      → IfSome remaining (λ bytes. taking.Answers (read_from row place (tokens format bytes)) next (Ok tt))
-      → Gives outside (Ok a) (option_map (λ bytes. read (tokens format bytes)) remaining)
-  whole_by a whole None h = tt
-  whole_by a whole (Some bytes) h =
-      sym (is.same (tokens format bytes)) ∙ ap (λ (p : P). answer (read_from row p (tokens format bytes))) (sym here)
-      ∙ ap answer h.1 ∙ whole h.0
+    (place next : P) (here : place ≡ first) where
+  same : (ts : List Lined) → read ts ≡ answer (read_from row place ts)
+  same ts = sym (is.same ts) ∙ ap (λ (p : P). answer (read_from row p ts)) (sym here)
 
   -- what was read is given
-  pub whole_given : (a : A) → ((more : List Lined) → answer (Whole tt next more) ≡ Ok a)
-      → taking.Reads (reads_from row place (left scanner remaining)) next rest (Ok tt)
+  pub whole_given : (a : A) → ((more : List Lined) → answer (Whole tt next more) ≡ Ok a) → (remaining : Option (List ℕ))
+      → IfSome remaining (λ bytes. taking.Answers (read_from row place (tokens format bytes)) next (Ok tt))
       → Gives outside (Ok a) (option_map (λ bytes. read (tokens format bytes)) remaining)
-  whole_given a whole reads =
-      whole_by a whole remaining (answers row place next scanner (tokens format) begins remaining rest (Ok tt) reads)
+  whole_given a whole None h = tt
+  whole_given a whole (Some bytes) h = same (tokens format bytes) ∙ ap answer h.1 ∙ whole h.0
 
-  fault_by : (device memory : F) → outside device ≡ true → outside memory ≡ true → (e : ReadError F) (remaining : Option (List ℕ))
-      → IfSome remaining (λ bytes. taking.Answers (read_from row place (tokens format bytes)) next (Err e))
+  -- and so is the fault
+  pub fault_given : (device memory : F) → outside device ≡ true → outside memory ≡ true → (e : ReadError F) (remaining : Option (List ℕ))
+      → IfSome remaining (λ bytes. taking.Answers {A = Unit {0}} (read_from row place (tokens format bytes)) next (Err e))
       → Gives outside (Err (fault_of device memory e)) (option_map (λ bytes. read (tokens format bytes)) remaining)
-  fault_by device memory d m error.Device remaining h = rw d tt
-  fault_by device memory d m error.Memory remaining h = rw m tt
-  fault_by device memory d m (error.Text f line) remaining h = unless (outside f) (by remaining h)
+  fault_given device memory d m error.Device remaining h = rw d tt
+  fault_given device memory d m error.Memory remaining h = rw m tt
+  fault_given device memory d m (error.Text f line) remaining h = unless (outside f) (by remaining h)
     where
       unless : (b : Bool) {X : Type 0} → X → Unless b X
       unless true x = tt
@@ -86,13 +79,4 @@ module _ {P A F : Type 0} {row : P → Token → Row P (Unit {0}) F} {answer : R
           (λ bytes. taking.Answers {A = Unit {0}} (read_from row place (tokens format bytes)) next (Err (error.Text f line)))
           → IfSome (option_map (λ bytes. read (tokens format bytes)) remaining) (λ r. r ≡ Err (f, line))
       by None h = tt
-      by (Some bytes) h =
-          sym (is.same (tokens format bytes)) ∙ ap (λ (p : P). answer (read_from row p (tokens format bytes))) (sym here)
-          ∙ ap answer h ∙ is.fault f line
-
-  -- and so is the fault
-  pub fault_given : (device memory : F) → outside device ≡ true → outside memory ≡ true → (e : ReadError F)
-      → taking.Reads (reads_from row place (left scanner remaining)) next rest (Err e)
-      → Gives outside (Err (fault_of device memory e)) (option_map (λ bytes. read (tokens format bytes)) remaining)
-  fault_given device memory d m e reads =
-      fault_by device memory d m e remaining (answers row place next scanner (tokens format) begins remaining rest (Err e) reads)
+      by (Some bytes) h = same (tokens format bytes) ∙ ap answer h ∙ is.fault f line

@@ -1,15 +1,13 @@
 -- What one token does to what is read.
-use Rattle.std.proofs.Common.{◌≡◌, ℕ, Bool, true, false, List, [], ◌∷◌, Option, Some, None, IfSome, Result, Ok, Err, subst, refl, ap, sym}
+use Rattle.std.proofs.Common.{◌≡◌, ℕ, Bool, true, false, List, [], ◌∷◌, Option, Some, None, IfSome, refl, ap, sym}
 use Rattle.std.proofs.Common.{◌∙◌}
 use Rattle.qbf_text.specs.declared.token.Token.{Token}
 use Rattle.qbf_text.specs.Lined.{Lined, Known}
 use Rattle.qbf_text.specs.Left.{is_end}
 use Rattle.qbf_text.specs.Reading.{GivesNext, IsFirst}
 use Rattle.qbf_text.specs.Rows.{Row, Goes, Ends, Fails, Read, Whole, Fault, behind, read_from, reads_from}
-use Rattle.qbf_text.specs.Taking.{Leaves, Reads, Answers}
-use Rattle.qbf_text.specs.declared.grammar.ReadError.{ReadError}
-use Rattle.qbf_text.specs.declared.grammar.ReadError.TheVariants as error
-use Rattle.qbf_text.specs.Reading.{Reading, left, HasEnded, HasFailed, IsReady}
+use Rattle.qbf_text.specs.Taking.{Leaves}
+use Rattle.qbf_text.specs.Reading.{Reading, HasEnded, HasFailed, IsReady}
 use Rattle.qbf_text.specs.declared.scanner.State.{State}
 use Rattle.qbf_text.specs.declared.scanner.State.TheVariants.{Open, Ended, Failed}
 
@@ -72,22 +70,6 @@ module _ {P A F : Type 0} (row : P → Token → Row P A F) where
   stops place f (Some r) old new t so_far gives e =
       let o = one place (Some r) old new t so_far gives in
       o.1 ∙ ap (λ (x : Row P A F). after x t o.0) e
-
-  told : (place next : P) (ts : List Lined) (rest : Known) (result : Result A (ReadError F))
-      → Reads (reads_from row place (Some ts)) next rest result → Answers (read_from row place ts) next result
-  told place next ts None (Ok a) h = absurd h
-  told place next ts (Some rest) (Ok a) h = (rest, h)
-  told place next ts rest (Err error.Device) h = tt
-  told place next ts rest (Err error.Memory) h = tt
-  told place next ts rest (Err (error.Text f line)) h = h
-
-  -- what was read of a scanner that begins a text whose bytes are told
-  pub answers : (place next : P) (scanner : Reading) (tokens : List ℕ → List Lined) → ((bytes : List ℕ) → left scanner (Some bytes)
-      ≡ Some (tokens bytes)) → (remaining : Option (List ℕ)) (rest : Known) (result : Result A (ReadError F)) → Reads (reads_from row place
-      (left scanner remaining)) next rest result → IfSome remaining (λ bytes. Answers (read_from row place (tokens bytes)) next result)
-  answers place next scanner tokens begins None rest result h = tt
-  answers place next scanner tokens begins (Some bytes) rest result h =
-      told place next (tokens bytes) rest result (subst (λ (k : Known). Reads (reads_from row place k) next rest result) (begins bytes) h)
 
 -- a scanner that gave a token has not failed
 pub unfailed : (old new : Reading) (before after : Option (List ℕ)) → ¬ HasFailed old → (IsReady old before → IsReady new after)

@@ -1,17 +1,18 @@
 //! One loop that reads by the rows of a grammar.
 
-ghost use Rattle.std.specs.Prelude.{◌≡◌, ℕ, ◌+◌, ◌<◌, ◌≤◌, length, false, IfOk, OnOk};
+ghost use Rattle.std.specs.Prelude.{◌≡◌, ℕ, ◌+◌, ◌<◌, ◌≤◌, length, false, List, IfSome, IfOk, OnOk};
 ghost use Rattle.qbf_text.specs.declared.token.Token.{Token};
 ghost use Rattle.std.specs.Io.KnownBytes.{IsAtEnd};
 ghost use Rattle.qbf_text.specs.Reading.{left, HasFailed, IsReady};
-ghost use Rattle.qbf_text.specs.Rows.{Row, reads_from};
-ghost use Rattle.qbf_text.specs.Taking.{Takes, StaysOpen, Reads, Counts, Follows};
+ghost use Rattle.qbf_text.specs.Rows.{Row, read_from, reads_from};
+ghost use Rattle.qbf_text.specs.Taking.{Takes, StaysOpen, Reads, Answers, Counts, Follows};
+ghost use Rattle.qbf_text.specs.Tokens.{tokens};
 ghost use Rattle.qbf_text.specs.Ahead.{ahead};
 ghost use Rattle.qbf_text.specs.Stopping.{tokens_next, Stops};
 
 use crate::scanner::{ScanFault, Scanner};
 use crate::source::Source;
-use crate::token::Token;
+use crate::token::{Comments, Token};
 
 /// What a grammar did with a token that it took.
 #[derive(Drop)]
@@ -161,4 +162,31 @@ pub fn read_by<G: Grammar, S: Source>(
             Err(Stop::Text(fault)) => return Err(ReadError::Text { fault, line }),
         }
     }
+}
+
+/// Reads a text from the first byte of its source on, until the grammar is complete.
+///
+/// # Errors
+/// As those of `read_by`.
+pub fn read_text<G: Grammar, S: Source>(
+    grammar: &mut G,
+    comments: Comments,
+    source: &mut S,
+) -> Result<G::Output, ReadError<G::Fault>>
+    ensures reads { IfSome (S.remaining source.old) (λ bytes. Answers
+        (read_from G.row_of (G.place grammar.old) (tokens comments bytes))
+        (G.place grammar.new) result) }
+    // The last token was taken by some row; after End no byte remains.
+    ensures follows { Follows G.row_of (G.place grammar.new) (S.bound source.new < S.bound source.old)
+        (IsAtEnd (S.remaining source.new)) result }
+    // Behind the last token, unless that is End, no byte is taken but a separator, and at most
+    // 4,096 bytes are held and lost.
+    ensures stops { (held : List ℕ) × Stops G.row_of (G.place grammar.old) (G.place grammar.new)
+        (tokens comments) (S.remaining source.old) (ahead held (S.remaining source.new))
+        (length held ≤ 4096) result }
+    ensures kept { G.kept grammar.new ≡ G.kept grammar.old }
+    ensures counts { Counts (S.failures source.old) (S.failures source.new) result }
+{
+    let mut scanner = Scanner::new(comments);
+    read_by(grammar, &mut scanner, source)
 }

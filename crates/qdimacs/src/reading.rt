@@ -11,7 +11,7 @@ ghost use Rattle.qdimacs.specs.Reading.{reads_bytes, Gives};
 use crate::fault::{Fault, FormulaFault};
 use crate::grammar::FormulaGrammar;
 use qbf_core::Formula;
-use qbf_text::{Comments, Scanner, Source, read_by};
+use qbf_text::{Comments, Source, read_text};
 use std::alloc::Global;
 
 /// Reads a formula in QDIMACS 1.1 to the end of its source: the formula that the bytes spell, or
@@ -41,9 +41,8 @@ pub fn read_formula<S: Source>(alloc: Global, source: &mut S) -> Result<Formula,
     // Where the source failed, the call says so.
     ensures failed { S.failures source.old < S.failures source.new → result ≡ Err (F1, 0) }
 {
-    let mut scanner = Scanner::new(Comments::Qdimacs);
     let mut grammar = FormulaGrammar::new(alloc);
-    match read_by(&mut grammar, &mut scanner, source) {
+    match read_text(&mut grammar, Comments::Qdimacs, source) {
         Ok(()) => Ok(grammar.into_formula()),
         Err(error) => Err(error.fault(FormulaFault::F1, FormulaFault::F9)),
     }

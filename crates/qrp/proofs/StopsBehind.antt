@@ -1,7 +1,7 @@
 -- Reading a trace stops behind its result word.
-use Rattle.std.proofs.Common.{◌≡◌, ◌≤◌, ℕ, List, [], ◌++◌, length, Option, Some, None, Ok, refl, ap, sym, ◌∙◌, append_assoc}
+use Rattle.std.proofs.Common.{◌≡◌, ◌≤◌, ℕ, List, ◌++◌, length, Option, Some, None, Ok, refl, ap, sym, ◌∙◌, append_assoc}
 use Rattle.qbf_spelling.proofs.Words
-use Words.{Qrp, ahead, Lined, tokens}
+use Words.{Qrp, ahead, tokens}
 use Words.token
 use Rattle.qbf_text.specs.Rows as rows
 use Rattle.qbf_text.specs.Stopping.{IfKnown, StopsBehind, Stops}
@@ -21,11 +21,9 @@ refused (Whole d) = refl
 refused Over = refl
 
 -- the bytes held are those behind
-with_held : (d : Derivation) (here : List ℕ → List Lined) (held : List ℕ) → ((text : List ℕ) → here text ≡ tokens Qrp text)
-    → length held ≤ 4096 → (bytes rest : List ℕ)
-    → IfKnown (StopsBehind trace_row (Making nothing AtP) (Whole d) tt here) (Some bytes) (ahead held (Some rest))
-    → StopsBehindResult d bytes rest
-with_held d here held same few bytes rest s =
+with_held : (d : Derivation) (held : List ℕ) → length held ≤ 4096 → (bytes rest : List ℕ)
+    → StopsBehind trace_row (Making nothing AtP) (Whole d) tt (tokens Qrp) bytes (held ++ rest) → StopsBehindResult d bytes rest
+with_held d held few bytes rest s =
     let front = s.before ++ s.word ++ s.behind in
     record {
       before = s.before;
@@ -36,24 +34,20 @@ with_held d here held same few bytes rest s =
       unbroken = s.unbroken;
       separates = s.separates;
       few = few;
-      missing = (
-        s.line,
-        sym (answers_as_read.same (tokens Qrp s.before)) ∙ ap answer_of (rw (same s.before) at (unread_fault trace_row refused s)),
-      );
-      whole = sym (answers_as_read.same (tokens Qrp front)) ∙ ap answer_of (rw (same front) at s.whole);
+      missing = (s.line, sym (answers_as_read.same (tokens Qrp s.before)) ∙ ap answer_of (unread_fault trace_row refused s));
+      whole = sym (answers_as_read.same (tokens Qrp front)) ∙ ap answer_of s.whole;
     }
 
-pub stops_behind_result : (first next : Progress) (d : Derivation) (here : List ℕ → List Lined) (pending held : List ℕ)
-    (before after : Option (List ℕ))
-    → first ≡ Making nothing AtP → next ≡ Whole d → ((text : List ℕ) → here text ≡ tokens Qrp text) → pending ≡ []
-    → Stops trace_row first next here (ahead pending before) (ahead held after) (length held ≤ 4096) (Ok tt)
+pub stops_behind_result : (first next : Progress) (d : Derivation) (before after : Option (List ℕ))
+    → first ≡ Making nothing AtP → next ≡ Whole d
+    → (held : List ℕ) × Stops trace_row first next (tokens Qrp) before (ahead held after) (length held ≤ 4096) (Ok tt)
     → IfKnown (StopsBehindResult d) before after
-stops_behind_result first next d here pending held before after begins ends same none s =
-    let known = s.3 (taken_no_end trace_row refused s.0 next s.1 tt s.2) in
-    by before after (rw (begins, ends, none) at known.0)
+stops_behind_result first next d before after begins ends s =
+    let known = s.1.3 (taken_no_end trace_row refused s.1.0 next s.1.1 tt s.1.2) in
+    by before after (rw (begins, ends) at known.0)
   where
-    by : (before after : Option (List ℕ)) → IfKnown (StopsBehind trace_row (Making nothing AtP) (Whole d) tt here) (ahead [] before)
-        (ahead held after) → IfKnown (StopsBehindResult d) before after
+    by : (before after : Option (List ℕ)) → IfKnown (StopsBehind trace_row (Making nothing AtP) (Whole d) tt (tokens Qrp)) before
+        (ahead s.0 after) → IfKnown (StopsBehindResult d) before after
     by None after k = tt
     by (Some x) None k = k
-    by (Some x) (Some y) k = with_held d here held same (s.3 (taken_no_end trace_row refused s.0 next s.1 tt s.2)).1 x y k
+    by (Some x) (Some y) k = with_held d s.0 (s.1.3 (taken_no_end trace_row refused s.1.0 next s.1.1 tt s.1.2)).1 x y k

@@ -19,7 +19,7 @@ use crate::grammar::{Parts, TraceGrammar};
 use crate::item::{Header, Outcome, QuantSet};
 use crate::steps::Steps;
 use qbf_core::{Lists, Lit, Var};
-use qbf_text::{Comments, Scanner, Source, read_by};
+use qbf_text::{Comments, Source, read_text};
 use std::alloc::{AllocError, Global};
 use std::marker::Model;
 use step_index::StepIndex;
@@ -276,9 +276,8 @@ pub fn read_flat<S: Source>(alloc: Global, source: &mut S) -> Result<FlatTrace, 
     // Where the source failed, the call says so.
     ensures failed { S.failures source.old < S.failures source.new → result ≡ Err (P1, 0) }
 {
-    let mut scanner = Scanner::new(Comments::Qrp);
     let mut grammar = TraceGrammar::new(alloc);
-    match read_by(&mut grammar, &mut scanner, source) {
+    match read_text(&mut grammar, Comments::Qrp, source) {
         Ok(()) => Ok(grammar.into_trace()),
         Err(error) => Err(error.fault(TraceFault::P1, TraceFault::P9)),
     }
