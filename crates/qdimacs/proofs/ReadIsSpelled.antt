@@ -18,7 +18,7 @@ use Rattle.qdimacs.proofs.SpelledIsRead.{read_once}
 use Rattle.qbf_spelling.specs.declared.header.HeaderAt.TheVariants as place
 use Rattle.qbf_spelling.specs.Said.{member}
 use Rattle.qdimacs.specs.Grammar.{header, clause, IsFormula}
-use Rattle.qdimacs.specs.Laws.{ReadsAsRead}
+use Rattle.qbf_text.specs.Answering.{ReadsAsRead}
 use Rattle.qbf_text.proofs.CanonicalTokens.{all_of}
 use Rattle.qbf_text.proofs.Answered.{explained, AnswersAsRead}
 use Rattle.qdimacs.specs.Faults.{Reads, IsSoFar, Spells}
@@ -246,7 +246,7 @@ answer before p t ts b once = by (row p t.0) refl
         inl (Err (f, t.1), record { before = before; wrong = t.0; after = ts; whole = refl; place = p; stands = b; refused = is })
 
 -- What is read is spelled; a fault that is found stands.
-pub read_explained : ReadsAsRead
+pub read_explained : ReadsAsRead Reads read
 read_explained = explained Spells Reads read AtP (refl, tt) answer read_once
 
 -- reading by rows answers what is read

@@ -5,13 +5,14 @@ use Rattle.qbf_text.proofs.Answered.{answered_bytes}
 use Rattle.qbf_text.proofs.TokensEndOnce.{tokens-EndsOnce}
 use Rattle.qdimacs.specs.Faults.{Answers, IsFault}
 use Rattle.qdimacs.specs.Grammar.{IsFormula}
-use Rattle.qdimacs.specs.Laws.{BytesRead}
+use Rattle.qbf_text.specs.Answering.{BytesRead}
+use Rattle.qdimacs.specs.Faults.{Reads}
 use Rattle.qdimacs.specs.Reading.{Answer, Gives, reads_bytes, is_outside, read}
 use Rattle.qdimacs.proofs.ReadIsSpelled.{read_explained}
 use Rattle.qdimacs.proofs.SpelledIsRead.{read_once}
 use Rattle.qdimacs.proofs.CanonicalTextIsRead.{text_is_read}
 
-pub bytes_read : BytesRead
+pub bytes_read : BytesRead Reads read Qdimacs
 bytes_read bytes = read_explained (tokens Qdimacs bytes) (tokens-EndsOnce Qdimacs bytes)
 
 -- who gives what is read answers

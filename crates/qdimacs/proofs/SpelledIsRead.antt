@@ -6,7 +6,8 @@ use Words.token
 use Rattle.qbf_core.proofs.BlockLaws.{blocks_of-pairs}
 use Rattle.qbf_text.proofs.AcceptedTokens.{split_at, Leads, Stays, Passes, leads_then, leads_reads}
 use Rattle.qbf_spelling.specs.declared.header.HeaderAt.TheVariants as place
-use Rattle.qdimacs.specs.Laws.{ReadsOnce}
+use Rattle.qbf_text.specs.Answering.{ReadsOnce}
+use Rattle.qdimacs.specs.Faults.{Reads}
 use Rattle.qdimacs.specs.declared.fault.FormulaFault.{FormulaFault}
 use Rattle.qdimacs.specs.Grammar.{header, clause, IsFormula}
 use Rattle.qdimacs.specs.Faults.{AreGood, Spells, IsFault}
@@ -81,6 +82,6 @@ fault_is_found ts f line is =
     ∙ ap answer_of (read-one row is.place (is.wrong, line) is.after ∙ ap (λ (r : Row). after row r (is.wrong, line) is.after) is.refused)
 
 -- Tokens read as nothing else.
-pub read_once : ReadsOnce
+pub read_once : ReadsOnce Reads read
 read_once ts (Ok f) h = spelled_is_read ts f h
 read_once ts (Err e) h = fault_is_found ts e.0 e.1 h

@@ -15,7 +15,7 @@ use Rattle.qrp.specs.declared.item.Outcome.{Outcome}
 use Rattle.qrp.specs.Inferences.{Inference, IsInference, IsLiteral, IsNumber, numbers}
 use Rattle.qrp.specs.Derivations.{Derivation}
 use Rattle.qrp.specs.Grammar.{header, step, result_word, lists}
-use Rattle.qrp.specs.Laws.{ReadsAsRead}
+use Rattle.qbf_text.specs.Answering.{ReadsAsRead}
 use Rattle.qbf_text.proofs.Answered.{explained}
 use Rattle.qrp.specs.Faults.{AreLists, Spells, Reads}
 use Rattle.qrp.specs.Reading.{Place, AtP, InHeader, Between, InSet, InLits, InAnts, AtResult, Row, Goes, Closes, Ends}
@@ -184,5 +184,5 @@ answer before p t ts s once = by (row p t.0) refl
         inl (Err (f, t.1), record { before = before; wrong = t.0; after = ts; whole = refl; place = p; stands = s; refused = is })
 
 -- What is read is spelled; a fault that is found stands.
-pub read_explained : ReadsAsRead
+pub read_explained : ReadsAsRead Reads read
 read_explained = explained Spells Reads read AtP refl answer read_once

@@ -7,13 +7,14 @@ use Rattle.qrp.specs.Answers.{Answers, Gives, reads_bytes, is_outside}
 use Rattle.qrp.specs.Derivations.{Derivation}
 use Rattle.qrp.specs.Faults.{IsFault}
 use Rattle.qrp.specs.Grammar.{IsTrace}
-use Rattle.qrp.specs.Laws.{BytesRead}
+use Rattle.qbf_text.specs.Answering.{BytesRead}
+use Rattle.qrp.specs.Faults.{Reads}
 use Rattle.qrp.specs.Reading.{Fault, read}
 use Rattle.qrp.proofs.ReadIsSpelled.{read_explained}
 use Rattle.qrp.proofs.SpelledIsRead.{read_once, fault_items}
 use Rattle.qrp.proofs.CanonicalTextIsRead.{text_is_read, trace_items}
 
-pub bytes_read : BytesRead
+pub bytes_read : BytesRead Reads read Qrp
 bytes_read bytes = read_explained (tokens Qrp bytes) (tokens-EndsOnce Qrp bytes)
 
 -- who gives what is read answers

@@ -15,7 +15,8 @@ use Rattle.qrp.specs.Inferences.{Inference, numbers}
 use Rattle.qrp.specs.Derivations.{Derivation, items_of_lists}
 use Rattle.qrp.specs.Grammar.{result_word, lists, IsTrace}
 use Rattle.qrp.specs.Faults.{AreLists, Spells, IsFault, whole_before}
-use Rattle.qrp.specs.Laws.{ReadsOnce}
+use Rattle.qbf_text.specs.Answering.{ReadsOnce}
+use Rattle.qrp.specs.Faults.{Reads}
 use Rattle.qrp.specs.Reading.{Fault, Place, AtP, InHeader, Between, InSet, InLits, InAnts, AtResult, Row, Ends, row}
 use Rattle.qrp.specs.Reading.{items, gathered, nothing, read}
 use Rattle.qrp.proofs.AcceptedTokens.{Answer, after, items-one, Leads, Stays, Passes, leads_on, leads_gives, leads_lists}
@@ -120,6 +121,6 @@ fault_is_found ts f line is =
     ap (gathered nothing) (fault_items ts f line is) ∙ before_fault (unlined is.before) is.place is.stands (f, line)
 
 -- Tokens read as nothing else.
-pub read_once : ReadsOnce
+pub read_once : ReadsOnce Reads read
 read_once ts (Ok d) h = spelled_is_read ts d h
 read_once ts (Err e) h = fault_is_found ts e.0 e.1 h
