@@ -24,7 +24,7 @@ made p = record { max_var = p.max_var; blocks = p.prefix; clauses = p.clauses.wh
 
 -- where reading stands with these parts
 abbrev pub stands : Parts → At → Place
-stands p (at.Header here) = InHeader here
+stands p at.Header = InHeader p.header
 stands p at.Between = Between (heading p) (pairs p.prefix) p.clauses.whole
 stands p (at.Set q) = InSet (heading p) (pairs p.prefix) q
 stands p at.Clause = InClause (heading p) (pairs p.prefix) p.clauses.whole p.clauses.begun
@@ -64,7 +64,7 @@ pub record IsMade (p : Parts) : Type 0 where
 
 -- what holds at each place
 abbrev pub IsSound : At → Parts → Type 0
-IsSound (at.Header here) p = IsNothing p × IsUpTo 2147483647 here
+IsSound at.Header p = IsNothing p × IsUpTo 2147483647 p.header
 IsSound at.Between p = IsMade p × (p.clauses.begun ≡ [])
 IsSound (at.Set q) p = AreCounted p × (p.clauses.whole ≡ []) × (p.clauses.begun ≡ [])
 IsSound at.Clause p = IsMade p × AreBound p.prefix p.clauses.begun × (length p.clauses.whole < p.count)

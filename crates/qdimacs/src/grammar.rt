@@ -23,7 +23,7 @@ use std::marker::Model;
 #[derive(Clone, Copy)]
 enum At {
     /// In the header.
-    Header(HeaderAt),
+    Header,
     /// Between lists.
     Between,
     /// In a set.
@@ -39,6 +39,8 @@ enum At {
 /// What was read of a formula.
 #[derive(Drop)]
 struct Parts {
+    /// The place in the header.
+    header: HeaderAt,
     /// The number of variables that the header says.
     max_var: u32,
     /// The number of clauses that the header says.
@@ -62,13 +64,16 @@ fn is_full(prefix: &Prefix, max_var: u32) -> bool
 }
 
 /// Takes a token of the header.
-fn take_header(parts: &mut Parts, here: HeaderAt, token: Token) -> Result<At, Stop<FormulaFault>>
-    requires sound { IsSound (at.Header here) parts.old }
-    ensures row { Moves (row (stands parts.old (at.Header here)) token) parts.new result }
+fn take_header(parts: &mut Parts, token: Token) -> Result<At, Stop<FormulaFault>>
+    requires sound { IsSound at.Header parts.old }
+    ensures row { Moves (row (stands parts.old at.Header) token) parts.new result }
     ensures sound { IfOk result (λ next. IsSound next parts.new) }
 {
-    match header_move(FORM, here, token)? {
-        HeaderMove::Goes(next) => Ok(At::Header(next)),
+    match header_move(FORM, parts.header, token)? {
+        HeaderMove::Goes(next) => {
+            parts.header = next;
+            Ok(At::Header)
+        }
         HeaderMove::Ends(max_var, count) => {
             parts.max_var = max_var as u32;
             parts.count = count as u32;
@@ -188,7 +193,7 @@ fn take_at(here: At, parts: &mut Parts, token: Token) -> Result<At, Stop<Formula
         At::Clause => take_literal(parts, token),
         At::Between => take_opening(parts, token),
         At::Set(quantifier) => take_member(parts, quantifier, token),
-        At::Header(here) => take_header(parts, here, token),
+        At::Header => take_header(parts, token),
         At::Whole | At::Over => Err(Stop::Text(FormulaFault::F3)),
     }
 }
@@ -217,9 +222,11 @@ fn go(here: &mut At, next: Result<At, Stop<FormulaFault>>) -> Result<Taken<()>, 
 impl Parts {
     /// Nothing yet. It takes no memory.
     fn new(alloc: Global) -> Parts
-        ensures { IsSound (at.Header header.P) result }
+        ensures sound { IsSound at.Header result }
+        ensures header { result.header ≡ header.P }
     {
         Parts {
+            header: HeaderAt::P,
             max_var: 0,
             count: 0,
             prefix: Prefix::new(alloc),
@@ -264,7 +271,7 @@ impl FormulaGrammar {
         ensures { result ≡ AtP }
     {
         FormulaGrammar {
-            at: At::Header(HeaderAt::P),
+            at: At::Header,
             parts: Parts::new(alloc),
         }
     }

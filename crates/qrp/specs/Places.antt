@@ -21,7 +21,7 @@ use Rattle.step_index.specs.Numbers.{is_used}
 
 -- the place of a token, where one is taken
 abbrev pub place : Begun → At → Place
-place b (at.Header here) = InHeader here
+place b at.Header = InHeader b.header
 place b at.Between = Between b.index
 place b (at.Set q) = InSet q b.vars.items
 place b (at.Lits n) = InLits b.index n b.lits.begun
@@ -82,7 +82,7 @@ pub record AreAntecedents (ants : List ℕ) : Type 0 where
 
 -- at the place of a token
 abbrev pub IsBegun : At → Begun → Type 0
-IsBegun (at.Header here) b = b.index ≡ []
+IsBegun at.Header b = b.index ≡ []
 IsBegun at.Between b = ⊤
 IsBegun (at.Set q) b = (b.index ≡ []) × AllByRecursion IsVariable b.vars.items
 IsBegun (at.Lits n) b = IsNew n b.index × AllByRecursion IsLiteral b.lits.begun

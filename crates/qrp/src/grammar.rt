@@ -1,6 +1,7 @@
 //! A trace that is made while its tokens are taken.
 
 ghost use Rattle.std.specs.Prelude.{◌≡◌, false, [], ◌∷◌, ◌++◌, OnOk};
+ghost use Rattle.qbf_spelling.specs.declared.header.HeaderAt.TheVariants as header;
 ghost use Rattle.qbf_text.specs.Taking.{Takes};
 ghost use Rattle.qrp.specs.Making.{Making, Whole, trace_row, row_with, IsWhole, closed, made};
 ghost use Rattle.qrp.specs.Making.{stands, IsMade, IsSound};
@@ -14,7 +15,6 @@ use crate::flat::FlatTrace;
 use crate::item::{Header, QuantSet};
 use crate::places::{At, Begun, Move, Part, take_at};
 use qbf_core::{Quantifier, Var};
-use qbf_spelling::HeaderAt;
 use qbf_text::{Grammar, Stop, Taken, Token};
 use std::alloc::{AllocError, Global};
 use std::marker::Model;
@@ -37,6 +37,7 @@ impl Parts {
         ensures sound { IsMade result }
         ensures made { made result ≡ nothing }
         ensures index { result.begun.index ≡ [] }
+        ensures header { result.begun.header ≡ header.P }
     {
         Parts {
             alloc,
@@ -166,7 +167,7 @@ impl TraceGrammar {
         ensures { result ≡ Making nothing AtP }
     {
         TraceGrammar {
-            at: At::Header(HeaderAt::P),
+            at: At::Header,
             parts: Parts::new(alloc),
         }
     }

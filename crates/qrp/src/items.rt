@@ -12,7 +12,6 @@ ghost use Rattle.qrp.specs.Reading.{AtP};
 use crate::fault::TraceFault;
 use crate::item::{Item, QuantSet, Step};
 use crate::places::{At, Begun, Move, Part, take_at};
-use qbf_spelling::HeaderAt;
 use qbf_text::{Grammar, Stop, Taken, Token};
 use std::alloc::{AllocError, Global};
 use std::marker::Model;
@@ -104,7 +103,7 @@ impl ItemGrammar {
         ensures { result ≡ record { numbers = []; giving = items.Takes AtP } }
     {
         ItemGrammar {
-            at: At::Header(HeaderAt::P),
+            at: At::Header,
             begun: Begun::new(alloc),
         }
     }

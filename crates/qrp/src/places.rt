@@ -1,6 +1,7 @@
 //! Where a token stands in a trace, and what each place makes of it.
 
 ghost use Rattle.std.specs.Prelude.{◌≡◌, [], IfOk};
+ghost use Rattle.qbf_spelling.specs.declared.header.HeaderAt.TheVariants as header;
 ghost use Rattle.qrp.specs.declared.places.At.TheVariants as at;
 ghost use Rattle.qrp.specs.declared.places.Begun.{Begun};
 ghost use Rattle.qrp.specs.Inferences.{IsNumber};
@@ -20,7 +21,7 @@ use step_index::StepIndex;
 #[derive(Clone, Copy)]
 pub enum At {
     /// In the header.
-    Header(HeaderAt),
+    Header,
     /// Between lists.
     Between,
     /// In a set.
@@ -64,6 +65,8 @@ pub enum Move {
 /// The lists that are begun, and the numbers of the steps that are whole.
 #[derive(Drop)]
 pub struct Begun {
+    /// The place in the header.
+    pub header: HeaderAt,
     /// The variables of a set.
     pub vars: Vec<Var>,
     /// The literals of a step, after those of whole steps if such are kept.
@@ -77,11 +80,13 @@ pub struct Begun {
 impl Begun {
     /// Nothing yet. It takes no memory.
     pub fn new(alloc: Global) -> Begun
+        ensures header { result.header ≡ header.P }
         ensures index { result.index ≡ [] }
         ensures lits { result.lits ≡ record { whole = []; begun = [] } }
         ensures ants { result.ants ≡ record { whole = []; begun = [] } }
     {
         Begun {
+            header: HeaderAt::P,
             vars: Vec::new(alloc),
             lits: GrowingLists::new(alloc),
             ants: GrowingLists::new(alloc),
@@ -93,12 +98,17 @@ impl Begun {
 // ---- the header
 
 /// Takes a token of the header.
-fn take_header(here: HeaderAt, token: Token) -> Result<Move, Stop<TraceFault>>
-    ensures row { (b : Begun) → Moves (row_at b (at.Header here) token) b result }
-    ensures sound { (b : Begun) → IsBegun (at.Header here) b → IfOk result (λ m. IsMoved m b) }
+fn take_header(begun: &mut Begun, token: Token) -> Result<Move, Stop<TraceFault>>
+    requires sound { IsBegun at.Header begun.old }
+    ensures row { Moves (row_at begun.old at.Header token) begun.new result }
+    ensures stays { Stays begun.old begun.new }
+    ensures sound { IfOk result (λ m. IsMoved m begun.new) }
 {
-    match header_move(FORM, here, token)? {
-        HeaderMove::Goes(next) => Ok(Move::Goes(At::Header(next))),
+    match header_move(FORM, begun.header, token)? {
+        HeaderMove::Goes(next) => {
+            begun.header = next;
+            Ok(Move::Goes(At::Header))
+        }
         HeaderMove::Ends(vars, steps) => Ok(Move::Closes(Part::Header(Header { vars, steps }))),
     }
 }
@@ -246,7 +256,7 @@ pub fn take_at(here: At, begun: &mut Begun, token: Token) -> Result<Move, Stop<T
         At::Between => take_opening(begun, token),
         At::Set(quantifier) => take_member(begun, quantifier, token),
         At::Result => take_result(token),
-        At::Header(here) => take_header(here, token),
+        At::Header => take_header(begun, token),
         At::Behind(_) | At::Whole(_) | At::Over => Err(Stop::Text(TraceFault::P7)),
     }
 }

@@ -1,7 +1,4 @@
 use Rattle.qrp.proofs.places.take_at.Goals as goal
 
-pub returns-in-Header-clause-row : goal.returns-in-Header-clause-row
-returns-in-Header-clause-row c = rw c.in-Header.is (c.take_header.ensures.row c.args.begun.now)
-
 pub returns-in-Result-clause-row : goal.returns-in-Result-clause-row
 returns-in-Result-clause-row c = rw c.in-Result.is (c.take_result.ensures.row c.args.begun.now)
