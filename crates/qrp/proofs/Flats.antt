@@ -1,5 +1,5 @@
 -- Steps in flat buffers.
-use Rattle.std.proofs.Common.{◌≡◌, ◌<◌, ◌^◌, ℕ, zero, suc, List, [], ◌∷◌, ◌++◌, length, slice_get, get_or, Some, refl, ap, sym, ◌∙◌, arith}
+use Rattle.std.proofs.Common.{◌≡◌, ◌<◌, ◌≤◌, ◌^◌, ℕ, zero, suc, List, [], ◌∷◌, ◌++◌, length, slice_get, get_or, Some, refl, ap, subst, sym, ◌∙◌, arith}
 use Rattle.std.proofs.lemmas.List.{length-append, length-map, map-append}
 use Rattle.std.specs.List.{AllByRecursion}
 use Rattle.qbf_core.specs.Blocks.{Block}
@@ -21,6 +21,15 @@ numbered_at (n ∷ ns) (l ∷ lits) (a ∷ ants) zero s h =
     let e : record { number = n; lits = l; ants = a } ≡ s = cc h in
     (ap (λ (x : Inference). Some x.lits) e, ap (λ (x : Inference). Some x.ants) e)
 numbered_at (n ∷ ns) (l ∷ lits) (a ∷ ants) (suc i) s h = numbered_at ns lits ants i s h
+
+-- a step in flat buffers has few antecedents
+pub few_at : (ns : List ℕ) (lits : List (List Literal)) (ants : List (List ℕ)) (i : ℕ) (a : List ℕ) → length lits ≡ length ns
+    → length ants ≡ length ns → AllByRecursion IsInference (numbered ns lits ants) → slice_get ants i ≡ Some a → length a ≤ 2
+few_at ns lits [] i a e f all h = absurd (cc h)
+few_at [] lits (b ∷ ants) i a e f all h = absurd (omega (arith, f))
+few_at (n ∷ ns) [] (b ∷ ants) i a e f all h = absurd (omega (arith, e))
+few_at (n ∷ ns) (l ∷ lits) (b ∷ ants) zero a e f all h = let same : b ≡ a = cc h in subst (λ (x : List ℕ). length x ≤ 2) same all.0.few
+few_at (n ∷ ns) (l ∷ lits) (b ∷ ants) (suc i) a e f all h = few_at ns lits ants i a (omega (arith, e)) (omega (arith, f)) all.1 h
 
 -- ---- one more step
 

@@ -184,7 +184,8 @@ impl FlatTrace {
 
     /// What it claims of its formula.
     pub fn result(&self) -> Outcome
-        ensures { result ≡ self.now.result }
+        ensures value { result ≡ self.now.result }
+        ensures sound { IsWellFormed self.now }
     {
         self.result
     }

@@ -1,8 +1,8 @@
 -- One step of the core: the sets of its antecedents, and its conditions.
 use Rattle.std.proofs.Common.{◌≡◌, ℕ, zero, suc, ◌<◌, ◌≤◌, List, [], ◌∷◌, Option, Some, None, inl, inr, refl, sym, ap, subst, ◌∙◌, arith}
-use Rattle.std.proofs.Common.{length, get_or, take, nat_eq}
+use Rattle.std.proofs.Common.{length, get_or, take}
 use Rattle.std.specs.Prelude.{slice_get}
-use Rattle.std.specs.List.{AllByRecursion, IsDistinct}
+use Rattle.std.specs.List.{AllByRecursion}
 use Rattle.qbf_core.specs.Literal.{Literal, positive, negative}
 use Rattle.qbf_core.specs.Members.{◌∈◌}
 use Rattle.qbf_core.specs.Blocks.{Block, AreBound, IsBound}
@@ -10,9 +10,7 @@ use Rattle.qbf_core.specs.Qbf.{Qbf}
 use Rattle.qbf_core.specs.Rules.{Side, IsClean, IsTautology}
 use Rattle.qbf_core.specs.Sets.{HasMembersOf, IsOrdered}
 use Rattle.qbf_core.proofs.Bound.{in_all, bound_each}
-use Rattle.qrp.specs.Inferences.{Inference, IsAt, HasFewAntecedents, numbers}
-use Rattle.qbf_core.proofs.DistinctNumbers.{one_place}
-use Rattle.qrp.proofs.Positions.{number_at}
+use Rattle.qrp.specs.Inferences.{Inference, IsAt, IsOnlyAt, HasFewAntecedents}
 use Rattle.qrp_rules.specs.declared.fault.RuleFault.{RuleFault}
 use Rattle.qrp_rules.specs.declared.fault.RuleFault.TheVariants.{S1, S2, S3}
 use Rattle.qrp_check.specs.Conditions.{IsNumberOf, lits_of, step_conditions}
@@ -73,19 +71,17 @@ needed steps place index number core ants less below here is =
 -- the set of an earlier step is that of the literals under its number
 pub earlier_set : (blocks : List Block) (steps : List Inference) (kept : List (List Literal)) (place index number : ℕ) (set : List Literal)
     → AreKept blocks steps place kept → IsInCore steps place → ((step : Inference) → IsAt steps place step → number ∈ step.ants)
-    → IsDistinct nat_eq (numbers steps)
+    → IsOnlyAt steps index number
     → index < place → (below : Inference) × IsAt steps index below × (below.number ≡ number)
     → ((step : Inference) (entry : List Literal) → IsAt steps index step → slice_get kept index ≡ Some entry
     → IsEntry blocks entry step.lits
     → IsOrdered set × IsSetOf blocks set step.lits)
     → IsOrdered set × IsNumberOf (take place steps) number × IsSetOf blocks set (lits_of (take place steps) number)
-earlier_set blocks steps kept place index number set are core ants distinct less (below, here, is) given =
+earlier_set blocks steps kept place index number set are core ants only less (below, here, is) given =
     let own : IsNumberOf (take place steps) number = (below, in_taken steps place index below less here, is) in
     let s = named (take place steps) number own in
     let w = in_take steps place s.0 s.1 in
-    let same : w.0 ≡ index = one_place (numbers steps) distinct w.0 index number
-    (number_at steps w.0 s.0 w.2 ∙ ap (λ (k : ℕ). Some k) s.2) (number_at steps index below here ∙ ap (λ (k : ℕ). Some k) is) in
-    let at : IsAt steps index s.0 = subst (λ (k : ℕ). IsAt steps k s.0) same w.2 in
+    let at : IsAt steps index s.0 = subst (λ (k : ℕ). IsAt steps k s.0) (only w.0 s.0 w.2 s.2) w.2 in
     let k = are.sets index place s.0 less (omega arith) core (needed steps place index number core ants less below here is) at in
     let g = given s.0 k.0 at k.1 k.2 in
     (g.0, own, subst (λ (lits : List Literal). IsSetOf blocks set lits) s.3 g.1)

@@ -10,6 +10,7 @@ use Rattle.std.proofs.lemmas.List.Elements.{filter_map-append}
 use Rattle.std.proofs.lemmas.List.Kept.{AllPairs-from_increasing}
 use Rattle.std.proofs.lemmas.Option.{slice_get_cases, slice_get-get_or}
 use Rattle.qbf_core.specs.Members.{◌∈◌}
+use Rattle.qbf_core.proofs.DistinctNumbers.{all_at}
 use Rattle.qrp.specs.Inferences.{Inference, IsAt, numbers}
 use Rattle.step_index.specs.Numbers.{is_used}
 use Rattle.qrp.proofs.Positions.{HasOwnNumbers}
@@ -21,14 +22,9 @@ use Rattle.qrp_check.proofs.Marking.{core_within}
 
 -- ---- lists by places
 
-pub at_holds : {X : Type 0} (P : X → Type 0) (xs : List X) (i : ℕ) (x : X) → AllByRecursion P xs → slice_get xs i ≡ Some x → P x
-at_holds P [] i x all here = absurd (cc here)
-at_holds P (y ∷ xs) zero x all here = let e : y ≡ x = cc here in subst P e all.0
-at_holds P (y ∷ xs) (suc i) x all here = at_holds P xs i x all.1 here
-
-all_at : {X : Type 0} (P : X → Type 0) (xs : List X) → ((k : ℕ) (x : X) → slice_get xs k ≡ Some x → P x) → AllByRecursion P xs
-all_at P [] each = tt
-all_at P (x ∷ xs) each = (each 0 x refl, all_at P xs (λ k y here. each (suc k) y here))
+all_of_each : {X : Type 0} (P : X → Type 0) (xs : List X) → ((k : ℕ) (x : X) → slice_get xs k ≡ Some x → P x) → AllByRecursion P xs
+all_of_each P [] each = tt
+all_of_each P (x ∷ xs) each = (each 0 x refl, all_of_each P xs (λ k y here. each (suc k) y here))
 
 in_front : (xs : List ℕ) (k x : ℕ) → x ∈ take k xs → (j : ℕ) × (j < k) × (get_or xs j 0 ≡ x)
 in_front [] zero x h = absurd h
@@ -52,7 +48,7 @@ core_rises steps core lists = λ k less.
     (slice_get-get_or core k 0 (omega (arith, less))) (slice_get-get_or core (k + 1) 0 less) (omega arith)
 
 pub core_inside : (steps : List Inference) (core : List ℕ) → ListsCore steps core → AllByRecursion (λ i. i < length steps) core
-core_inside steps core lists = all_at (λ i. i < length steps) core (λ k i here. core_within steps i (lists.sound k i here))
+core_inside steps core lists = all_of_each (λ i. i < length steps) core (λ k i here. core_within steps i (lists.sound k i here))
 
 -- ---- the steps
 
@@ -67,7 +63,7 @@ pub each_at : (P : Inference → Type 0) (steps : List Inference) (places : List
     → AllByRecursion P (steps_at steps places)
 each_at P steps [] all = tt
 each_at P steps (p ∷ places) all = elim (slice_get_cases steps p).1 [
-  | inl (s, _, is, _) ↦ rw is (at_holds P steps p s all is, each_at P steps places all)
+  | inl (s, _, is, _) ↦ rw is (all_at P steps p s all is, each_at P steps places all)
   | inr (_, none) ↦ rw none (each_at P steps places all)
 ]
 

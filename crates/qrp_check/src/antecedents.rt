@@ -4,7 +4,7 @@ ghost use Rattle.std.specs.Prelude.{◌≡◌, ◌<◌, ℕ, List, take, length,
 ghost use Rattle.std.specs.Prelude.{IfNone};
 ghost use Rattle.qbf_core.specs.Members.{◌∈◌};
 ghost use Rattle.qbf_core.specs.Blocks.{Block};
-ghost use Rattle.qrp.specs.Inferences.{Inference, IsAt};
+ghost use Rattle.qrp.specs.Inferences.{Inference, IsAt, IsOnlyAt};
 ghost use Rattle.qrp_check.specs.Antecedents.{AreFound, AreSets, IsFound, IsSetIfAny};
 ghost use Rattle.qrp_check.specs.Conditions.{IsNumberOf};
 ghost use Rattle.qrp_check.specs.Core.{IsInCore};
@@ -38,6 +38,7 @@ fn place_before<T: Steps>(
     ensures before { IfSome result (λ i. i < place) }
     ensures found { IfSome result (λ i. (step : Inference) × IsAt (T.steps trace.now) i step
         × (step.number ≡ number)) }
+    ensures only { IfSome result (λ i. IsOnlyAt (T.steps trace.now) i number) }
     ensures none { IfNone result (IsNumberOf (take place (T.steps trace.now)) number → ⊥) }
 {
     if let Some(index) = told {
@@ -66,8 +67,6 @@ fn antecedent<'a, T: Steps>(
         → AreKept blocks (T.steps trace.now) (length kept.now) kept.now
         → IsFound blocks (take (length kept.now) (T.steps trace.now)) number result }
 {
-    // The length comes with the fact that the numbers are distinct.
-    let _steps = trace.len();
     let index = place_before(trace, kept.len(), number, told)?;
     Some(kept.set(trace, index))
 }
@@ -88,8 +87,6 @@ pub(crate) fn antecedents<'a, T: Steps>(
         → AreFound blocks (take (length kept.now) (T.steps trace.now)) step.ants result }
     ensures passing { uses.new.passing ≡ uses.old.passing }
 {
-    // The length comes with the fact that no step has more than two antecedents.
-    let _steps = trace.len();
     let place = kept.len();
     match trace.ants(place) {
         [] => AntecedentSets::Initial,

@@ -140,8 +140,6 @@ fn checked_trace<T: Source>(
     ensures works { OnOk result (T.failures trace.new ≡ T.failures trace.old) }
 {
     let whole = read_trace(alloc, trace)?;
-    // The header comes with the fact that the trace is well formed.
-    let _header = whole.header();
     let verified = check(alloc, formula, &whole, whole.sets(), whole.result(), rules)?;
     Ok((whole, verified))
 }

@@ -19,4 +19,4 @@ returns-in_err-put_steps_at g c = rw (text_parts_at c.args.trace.now c.args.plac
 pub returns : goal.returns
 returns g c = rw (text_parts_at c.args.trace.now c.args.places.now c.header.result c.requires c.header.ensures.value)
     (part_then c.in_ok-put_header.ensures (part_then (rw c.sets.ensures at c.in_ok-put_sets.ensures)
-    (part_then c.in_ok-put_steps_at.ensures (rw c.result.ensures at c.put_result.ensures))))
+    (part_then c.in_ok-put_steps_at.ensures (rw c.result.ensures.value at c.put_result.ensures))))

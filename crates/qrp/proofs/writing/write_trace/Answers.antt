@@ -21,4 +21,4 @@ pub returns-clause-put : goal.returns-clause-put
 returns-clause-put g c = rw (text_parts c.args.trace.now)
     (part_then (rw c.header-header.ensures.value at c.in_ok-put_header.ensures)
     (part_then (rw c.sets.ensures at c.in_ok-put_sets.ensures)
-    (part_then c.in_ok-put_steps.ensures (rw c.result.ensures at c.put_result.ensures))))
+    (part_then c.in_ok-put_steps.ensures (rw c.result.ensures.value at c.put_result.ensures))))

@@ -7,7 +7,7 @@ pub returns-in-len1-clause-found : goal.returns-in-len1-clause-found
 returns-in-len1-clause-found g c = λ blocks step are here.
     let at = subst (λ (k : ℕ). IsAt (g.T.Steps.steps c.args.trace.now) k step) (sym c.len-place.ensures) here in (
       _,
-      sym (c.ants.ensures step at) ∙ one_listed c.ants.result.now _ c.in-len1.len_at_least c.in-len1.len_below,
+      sym (c.ants.ensures.value step at) ∙ one_listed c.ants.result.now _ c.in-len1.len_at_least c.in-len1.len_below,
       c.antecedent.ensures.found blocks are,
     )
 
@@ -16,7 +16,7 @@ returns-in-len2-clause-found g c = λ blocks step are here.
     let at = subst (λ (k : ℕ). IsAt (g.T.Steps.steps c.args.trace.now) k step) (sym c.len-place.ensures) here in (
       _,
       _,
-      sym (c.ants.ensures step at) ∙ two_listed c.ants.result.now _ _ c.in-len2.len_at_least c.in-len2.len_below,
+      sym (c.ants.ensures.value step at) ∙ two_listed c.ants.result.now _ _ c.in-len2.len_at_least c.in-len2.len_below,
       c.antecedent-first.ensures.found blocks are,
       c.antecedent-second.ensures.found blocks are,
     )

@@ -43,7 +43,7 @@ returns-in-Err-Rule-clause-refused g c =
             (found_here f.blocks steps i c.args.progress.now.kept c.antecedents-antecedents.result c.requires.before.kept
             (c.antecedents-antecedents.ensures.found f.blocks) s.0 s.1) (c.lits.ensures s.0 s.1);
       };
-      numbered = sym (c.number.ensures s.0 s.1);
+      numbered = sym (c.number.ensures.value s.0 s.1);
       earlier = c.requires.before.follows;
     })
 

@@ -4,26 +4,27 @@ use Rattle.qrp.specs.Derivations.{Derivation, steps_at}
 use Rattle.qrp.specs.Inferences.{Inference, IsAt, IsInference, numbers}
 use Rattle.step_index.specs.Numbers.{is_used}
 use Rattle.qrp.proofs.Positions.{own_numbers}
-use Rattle.qrp_check.proofs.StepsAt.{at_holds, fresh_at, next_at}
+use Rattle.qbf_core.proofs.DistinctNumbers.{all_at}
+use Rattle.qrp_check.proofs.StepsAt.{fresh_at, next_at}
 use Rattle.qrp_check.proofs.trimming.push_steps.Goals as goal
 
 pub push_lists-requires-clause-number : goal.push_lists-requires-clause-number
 push_lists-requires-clause-number c =
     let step : Inference = record { number = c.step.inside.number; lits = c.step.inside.lits.now; ants = c.step.inside.ants.now } in
     let at : IsAt c.args.trace.now.steps _ step = rw (← c.step.view_is) at c.step_at-step.ensures in
-    (at_holds IsInference c.args.trace.now.steps _ step c.requires.sound.grammatical.inferences at).number
+    (all_at IsInference c.args.trace.now.steps _ step c.requires.sound.grammatical.inferences at).number
 
 pub push_lists-requires-clause-ants : goal.push_lists-requires-clause-ants
 push_lists-requires-clause-ants c =
     let step : Inference = record { number = c.step.inside.number; lits = c.step.inside.lits.now; ants = c.step.inside.ants.now } in
     let at : IsAt c.args.trace.now.steps _ step = rw (← c.step.view_is) at c.step_at-step.ensures in
-    (at_holds IsInference c.args.trace.now.steps _ step c.requires.sound.grammatical.inferences at).ants
+    (all_at IsInference c.args.trace.now.steps _ step c.requires.sound.grammatical.inferences at).ants
 
 pub push_lists-requires-clause-few : goal.push_lists-requires-clause-few
 push_lists-requires-clause-few c =
     let step : Inference = record { number = c.step.inside.number; lits = c.step.inside.lits.now; ants = c.step.inside.ants.now } in
     let at : IsAt c.args.trace.now.steps _ step = rw (← c.step.view_is) at c.step_at-step.ensures in
-    (at_holds IsInference c.args.trace.now.steps _ step c.requires.sound.grammatical.inferences at).few
+    (all_at IsInference c.args.trace.now.steps _ step c.requires.sound.grammatical.inferences at).few
 
 pub push_lists-requires-clause-fresh : goal.push_lists-requires-clause-fresh
 push_lists-requires-clause-fresh c =

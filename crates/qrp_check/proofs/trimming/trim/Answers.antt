@@ -14,5 +14,5 @@ returns c =
     let pushed : c.push_steps.new.shorter ≡ at core c.push_sets.new.trace =
     rw c.deref.ensures.value at c.in_ok-push_steps.ensures in
     let begun : at core c.push_sets.new.trace ≡ counted c.args.verified.now.core.len =
-    rw (c.in_ok-push_sets.ensures, c.new-shorter.ensures, c.sets.ensures, c.result.ensures, c.header.ensures.value, c.len.ensures) refl in
+    rw (c.in_ok-push_sets.ensures, c.new-shorter.ensures, c.sets.ensures, c.result.ensures.value, c.header.ensures.value, c.len.ensures) refl in
     pushed ∙ begun ∙ ap counted (c.args.verified.now.core.ok.0 ∙ sym (length_at c.args.trace.now.steps core c.requires.within))

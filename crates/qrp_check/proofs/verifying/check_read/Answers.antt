@@ -6,4 +6,4 @@ pub returns-in_err-verified-clause-verdict : goal.returns-in_err-verified-clause
 returns-in_err-verified-clause-verdict c =
     let p = err_from_is_err_and c.from_residual.result c.from_residual.ensures.1 in
     λ bytes spelled. rw (p.1, p.2) (refused_trace c.args.rules bytes c.args.formula.now c.args.trace.now
-    c.in_err-verified.field-0.0 spelled (rw (c.sets.ensures, c.result.ensures) at c.in_err-verified.ensures.refused))
+    c.in_err-verified.field-0.0 spelled (rw (c.sets.ensures, c.result.ensures.value) at c.in_err-verified.ensures.refused))
