@@ -13,7 +13,7 @@ use Rattle.qrp.specs.declared.item.Item.TheVariants as item
 use Rattle.qrp.specs.declared.reader.Stage.{Stage}
 use Rattle.qrp.specs.declared.reader.Stage.TheVariants.{AtHeader, AtLists}
 use Rattle.qrp.specs.Given.{StopsBehindPart, place_next}
-use Rattle.qrp.specs.Items.{Giving, Takes, Gives, Whole, Over, Giver, item_row, as_given, giving, Stands, StopsBehind}
+use Rattle.qrp.specs.Items.{Giving, Takes, Gives, Whole, Giver, item_row, as_given, giving, Stands, StopsBehind}
 use Rattle.qrp.specs.Reading.{Place, Between, items_from}
 use Rattle.qrp.proofs.RowsReadTheItem.{gives, given_of}
 use Rattle.qrp.proofs.AcceptedTokens.{Answer, end_row}
@@ -23,7 +23,6 @@ refused : (p : Giving) → item_row p token.End ≡ rows.Fails P7
 refused (Takes p) = ap as_given (end_row p)
 refused (Gives i p) = refl
 refused (Whole o) = refl
-refused Over = refl
 
 -- an item that is complete is given
 given_whole : (i : Item) (ns : List ℕ) (rest : List Lined)

@@ -18,7 +18,7 @@ use Rattle.qrp.specs.declared.item.Item.TheVariants as item
 use Rattle.qrp.specs.Given.{GivesAnswer, GivesUnless, GivesNextItem, left_behind, stage_after}
 use Rattle.qrp.specs.declared.reader.Stage.{Stage}
 use Rattle.qrp.specs.declared.reader.Stage.TheVariants.{AtHeader, AtLists}
-use Rattle.qrp.specs.Items.{Giving, Takes, Gives, Whole, Over, Giver, item_row, as_given, giving, Stands, GivesItem}
+use Rattle.qrp.specs.Items.{Giving, Takes, Gives, Whole, Giver, item_row, as_given, giving, Stands, GivesItem}
 use Rattle.qbf_text.specs.Answering.{fault_of}
 use Rattle.qrp.specs.Parts.{KnownItems, known_items}
 use Rattle.qrp.specs.Reading.{Place, Row}
@@ -30,7 +30,6 @@ abbrev pub given_of : Read Giving (Unit {0}) TraceFault → List Answer
 given_of (rows.Whole u (Takes p) rest) = []
 given_of (rows.Whole u (Gives i next) rest) = Ok i ∷ items_from next rest
 given_of (rows.Whole u (Whole o) rest) = Ok (item.Result o) ∷ []
-given_of (rows.Whole u Over rest) = []
 given_of (rows.Fault f line) = Err (f, line) ∷ []
 given_of Cut = Err (P7, 0) ∷ []
 

@@ -16,7 +16,7 @@ use Rattle.qrp.specs.declared.reader.Stage.{Stage}
 use Rattle.qrp.specs.declared.reader.Stage.TheVariants.{AtHeader, AtLists, HasResult, HasFault}
 use Rattle.qrp.specs.Given.{left_behind, is_last, numbers_with, stage_after, GivesNextItem, IsProper, StandsOnLine, StopsBehindPart}
 use Rattle.qrp.specs.Parts.{KnownItems}
-use Rattle.qrp.specs.Places.{place, item_of, numbers_behind, IsBegun, IsComplete}
+use Rattle.qrp.specs.Places.{place, item_of, numbers_behind}
 use Rattle.qrp.specs.Reading.{Fault, Place, AtP, Between, Row, Goes, Closes, Ends, Fails, row}
 
 -- What stands next.
@@ -27,8 +27,6 @@ pub data Giving : Type 0 where
   Gives : Item → Place → Giving
   -- behind the result
   Whole : Outcome → Giving
-  -- behind a fault
-  Over : Giving
 
 -- the numbers of the steps that were given, and what stands next
 pub record Giver : Type 0 where
@@ -50,28 +48,18 @@ abbrev pub item_row : Giving → Token → GivingRow
 item_row (Takes p) t = as_given (row p t)
 item_row (Gives i p) t = rows.Fails P7
 item_row (Whole o) t = rows.Fails P7
-item_row Over t = rows.Fails P7
 
 -- what stands next with these lists
 abbrev pub giving_at : Begun → At → Giving
 giving_at b (at.Behind p) = Gives (item_of b p) (Between (numbers_behind b p))
 giving_at b (at.Whole o) = Whole o
-giving_at b at.Over = Over
 giving_at b here = Takes (place b here)
-
--- what holds at each place
-abbrev pub IsGiving : At → Begun → Type 0
-IsGiving (at.Behind p) b = IsComplete p b
-IsGiving (at.Whole o) b = ⊤
-IsGiving at.Over b = ⊤
-IsGiving here b = IsBegun here b
 
 -- an item is complete
 abbrev pub IsGiven : Giving → Type 0
 IsGiven (Takes p) = ⊥
 IsGiven (Gives i p) = ⊤
 IsGiven (Whole o) = ⊤
-IsGiven Over = ⊥
 
 -- what stands next where this item is complete, with the numbers behind it
 abbrev pub giving : Item → List ℕ → Giving

@@ -21,7 +21,7 @@ pub data Progress : Type 0 where
   Making : Derivation → Place → Progress
   -- behind the result
   Whole : Derivation → Progress
-  -- behind a fault
+  -- behind a part for which there was no memory
   Over : Progress
 
 -- what a place makes of a token while a trace is made
@@ -73,7 +73,6 @@ made p = record {
 abbrev pub stands : Parts → At → Progress
 stands p (at.Whole o) = Whole (record (made p) { result = o })
 stands p (at.Behind q) = Over
-stands p at.Over = Over
 stands p here = Making (made p) (place p.begun here)
 
 -- what holds of what is whole
@@ -84,5 +83,4 @@ IsMade p = IsFlat p.header p.sets.items p.begun.index p.begun.lits.whole p.begun
 abbrev pub IsSound : At → Parts → Type 0
 IsSound (at.Whole o) p = IsMade p
 IsSound (at.Behind q) p = ⊤
-IsSound at.Over p = ⊤
 IsSound here p = IsMade p × IsBegun here p.begun

@@ -10,8 +10,6 @@ use Rattle.qrp.specs.declared.item.Item.TheVariants as item
 use Rattle.qrp.specs.declared.places.At.{At}
 use Rattle.qrp.specs.declared.places.At.TheVariants as at
 use Rattle.qrp.specs.declared.places.Begun.{Begun}
-use Rattle.qrp.specs.declared.places.Move.{Move}
-use Rattle.qrp.specs.declared.places.Move.TheVariants as move
 use Rattle.qrp.specs.declared.places.Part.{Part}
 use Rattle.qrp.specs.declared.places.Part.TheVariants as part
 use Rattle.qrp.specs.Inferences.{IsLiteral, IsNumber}
@@ -29,13 +27,11 @@ place b (at.Ants n) = InAnts b.index n b.lits.begun b.ants.begun
 place b at.Result = AtResult
 place b (at.Behind p) = AtResult
 place b (at.Whole o) = AtResult
-place b at.Over = AtResult
 
 -- what is made of a token there
 abbrev pub row_at : Begun → At → Token → Row
 row_at b (at.Behind p) t = Fails P7
 row_at b (at.Whole o) t = Fails P7
-row_at b at.Over t = Fails P7
 row_at b here t = row (place b here) t
 
 -- the item that a part is
@@ -54,11 +50,11 @@ numbers_behind b (part.Set q) = []
 abbrev pub row_of : Begun → Part → Row
 row_of b p = Closes (item_of b p) (Between (numbers_behind b p))
 
--- a token does what its row says, unless memory was refused
-abbrev pub Moves : Row → Begun → Result Move (Stop TraceFault) → Type 0
-Moves r b (Ok (move.Goes next)) = r ≡ Goes (place b next)
-Moves r b (Ok (move.Closes p)) = r ≡ row_of b p
-Moves r b (Ok (move.Ends o)) = r ≡ Ends o
+-- a token leads where its row says, unless memory was refused
+abbrev pub Moves : Row → Begun → Result At (Stop TraceFault) → Type 0
+Moves r b (Ok (at.Behind p)) = r ≡ row_of b p
+Moves r b (Ok (at.Whole o)) = r ≡ Ends o
+Moves r b (Ok next) = r ≡ Goes (place b next)
 Moves r b (Err stop.Memory) = ⊤
 Moves r b (Err (stop.Text f)) = r ≡ Fails f
 
@@ -80,7 +76,13 @@ pub record AreAntecedents (ants : List ℕ) : Type 0 where
   pub fit : AllByRecursion (λ n. n < 2 ^ 64) ants
   pub few : length ants ≤ 2
 
--- at the place of a token
+-- behind a part
+abbrev pub IsComplete : Part → Begun → Type 0
+IsComplete (part.Header h) b = (b.index ≡ []) × (h.vars < 2 ^ 64) × (h.steps < 2 ^ 64)
+IsComplete (part.Set q) b = (b.index ≡ []) × AllByRecursion IsVariable b.vars.items
+IsComplete (part.Step n) b = IsNew n b.index × AllByRecursion IsLiteral b.lits.begun × AreAntecedents b.ants.begun
+
+-- at each place
 abbrev pub IsBegun : At → Begun → Type 0
 IsBegun at.Header b = b.index ≡ []
 IsBegun at.Between b = ⊤
@@ -88,25 +90,15 @@ IsBegun (at.Set q) b = (b.index ≡ []) × AllByRecursion IsVariable b.vars.item
 IsBegun (at.Lits n) b = IsNew n b.index × AllByRecursion IsLiteral b.lits.begun
 IsBegun (at.Ants n) b = IsNew n b.index × AllByRecursion IsLiteral b.lits.begun × AreAntecedents b.ants.begun
 IsBegun at.Result b = ⊤
-IsBegun (at.Behind p) b = ⊥
-IsBegun (at.Whole o) b = ⊥
-IsBegun at.Over b = ⊥
+IsBegun (at.Behind p) b = IsComplete p b
+IsBegun (at.Whole o) b = ⊤
 
--- the same, and nothing where no token is taken
+-- the same where a token is taken
 abbrev pub IsAt : At → Begun → Type 0
 IsAt (at.Behind p) b = ⊤
-IsAt (at.Whole o) b = ⊤
-IsAt at.Over b = ⊤
 IsAt here b = IsBegun here b
 
--- behind a part
-abbrev pub IsComplete : Part → Begun → Type 0
-IsComplete (part.Header h) b = (b.index ≡ []) × (h.vars < 2 ^ 64) × (h.steps < 2 ^ 64)
-IsComplete (part.Set q) b = (b.index ≡ []) × AllByRecursion IsVariable b.vars.items
-IsComplete (part.Step n) b = IsNew n b.index × AllByRecursion IsLiteral b.lits.begun × AreAntecedents b.ants.begun
-
--- behind a token
-abbrev pub IsMoved : Move → Begun → Type 0
-IsMoved (move.Goes next) b = IsBegun next b
-IsMoved (move.Closes p) b = IsComplete p b
-IsMoved (move.Ends o) b = ⊤
+-- at the place that a token leads to; where it is not taken, what held stays
+abbrev pub Leads : At → Begun → Begun → Result At (Stop TraceFault) → Type 0
+Leads here old new (Ok next) = IsBegun next new
+Leads here old new (Err e) = IsBegun here old → IsBegun here new

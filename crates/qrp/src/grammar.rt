@@ -13,7 +13,7 @@ ghost use Rattle.qbf_text.specs.Rows.{Goes};
 use crate::fault::TraceFault;
 use crate::flat::FlatTrace;
 use crate::item::{Header, QuantSet};
-use crate::places::{At, Begun, Move, Part, take_at};
+use crate::places::{At, Begun, Part, take_at};
 use qbf_core::{Quantifier, Var};
 use qbf_text::{Grammar, Stop, Taken, Token};
 use std::alloc::{AllocError, Global};
@@ -116,29 +116,17 @@ fn take(here: &mut At, parts: &mut Parts, token: Token) -> Result<Taken<()>, Sto
         (stands parts.new here.new) result }
     ensures sound { IsSound here.new parts.new }
 {
-    match take_at(*here, &mut parts.begun, token) {
-        Ok(Move::Goes(next)) => {
-            *here = next;
-            Ok(Taken::More)
-        }
-        Ok(Move::Closes(part)) => match close(parts, part) {
+    *here = take_at(*here, &mut parts.begun, token)?;
+    match *here {
+        At::Behind(part) => match close(parts, part) {
             Ok(()) => {
                 *here = At::Between;
                 Ok(Taken::More)
             }
-            Err(_) => {
-                *here = At::Over;
-                Err(Stop::Memory)
-            }
+            Err(_) => Err(Stop::Memory),
         },
-        Ok(Move::Ends(outcome)) => {
-            *here = At::Whole(outcome);
-            Ok(Taken::Done(()))
-        }
-        Err(stop) => {
-            *here = At::Over;
-            Err(stop)
-        }
+        At::Whole(_) => Ok(Taken::Done(())),
+        _ => Ok(Taken::More),
     }
 }
 

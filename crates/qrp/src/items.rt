@@ -4,14 +4,14 @@ ghost use Rattle.std.specs.Prelude.{◌≡◌, Ok, [], IfOk, OnOk, OnErr};
 ghost use Rattle.qbf_text.specs.Taking.{Takes};
 ghost use Rattle.qrp.specs.Given.{numbers_with, IsProper};
 ghost use Rattle.qrp.specs.Items as items;
-ghost use Rattle.qrp.specs.Items.{giving_at, giving, item_row, IsGiven, IsGiving, IsNextAfter};
+ghost use Rattle.qrp.specs.Items.{giving_at, giving, item_row, IsGiven, IsNextAfter};
 ghost use Rattle.qrp.specs.declared.places.Part.TheVariants as part;
-ghost use Rattle.qrp.specs.Places.{item_of, numbers_behind, IsComplete};
+ghost use Rattle.qrp.specs.Places.{item_of, numbers_behind, IsBegun, IsComplete};
 ghost use Rattle.qrp.specs.Reading.{AtP};
 
 use crate::fault::TraceFault;
 use crate::item::{Item, QuantSet, Step};
-use crate::places::{At, Begun, Move, Part, take_at};
+use crate::places::{At, Begun, Part, take_at};
 use qbf_text::{Grammar, Stop, Taken, Token};
 use std::alloc::{AllocError, Global};
 use std::marker::Model;
@@ -52,29 +52,16 @@ fn take_part(begun: &mut Begun, alloc: Global, part: Part) -> Result<Item, Alloc
 /// Takes a token at its place.
 #[inline(always)]
 fn take(here: &mut At, begun: &mut Begun, token: Token) -> Result<Taken<()>, Stop<TraceFault>>
-    requires sound { IsGiving here.old begun.old }
+    requires sound { IsBegun here.old begun.old }
     ensures row { Takes (item_row (giving_at begun.old here.old) token)
         (giving_at begun.new here.new) result }
-    ensures sound { IsGiving here.new begun.new }
+    ensures sound { IsBegun here.new begun.new }
     ensures kept { begun.new.index ≡ begun.old.index }
 {
-    match take_at(*here, begun, token) {
-        Ok(Move::Goes(next)) => {
-            *here = next;
-            Ok(Taken::More)
-        }
-        Ok(Move::Closes(part)) => {
-            *here = At::Behind(part);
-            Ok(Taken::Done(()))
-        }
-        Ok(Move::Ends(outcome)) => {
-            *here = At::Whole(outcome);
-            Ok(Taken::Done(()))
-        }
-        Err(stop) => {
-            *here = At::Over;
-            Err(stop)
-        }
+    *here = take_at(*here, begun, token)?;
+    match *here {
+        At::Behind(_) | At::Whole(_) => Ok(Taken::Done(())),
+        _ => Ok(Taken::More),
     }
 }
 
@@ -88,13 +75,14 @@ pub struct ItemGrammar {
 }
 
 impl Model for ItemGrammar {
-    ghost use Rattle.qrp.specs.Items.{Giver, giving_at, IsGiving};
+    ghost use Rattle.qrp.specs.Items.{Giver, giving_at};
+    ghost use Rattle.qrp.specs.Places.{IsBegun};
 
     ghost Value = { Giver };
 
     ghost view = { λ g. record { numbers = g.begun.index; giving = giving_at g.begun g.at } };
 
-    ghost invariant = { λ g. IsGiving g.at g.begun };
+    ghost invariant = { λ g. IsBegun g.at g.begun };
 }
 
 impl ItemGrammar {

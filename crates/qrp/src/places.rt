@@ -1,11 +1,11 @@
 //! Where a token stands in a trace, and what each place makes of it.
 
-ghost use Rattle.std.specs.Prelude.{◌≡◌, [], IfOk};
+ghost use Rattle.std.specs.Prelude.{◌≡◌, []};
 ghost use Rattle.qbf_spelling.specs.declared.header.HeaderAt.TheVariants as header;
 ghost use Rattle.qrp.specs.declared.places.At.TheVariants as at;
 ghost use Rattle.qrp.specs.declared.places.Begun.{Begun};
 ghost use Rattle.qrp.specs.Inferences.{IsNumber};
-ghost use Rattle.qrp.specs.Places.{row_at, Moves, Stays, IsAt, IsBegun, IsMoved};
+ghost use Rattle.qrp.specs.Places.{row_at, Moves, Leads, Stays, IsAt, IsBegun};
 ghost use Rattle.qrp.specs.Reading.{has_room, has_steps, step_row};
 
 use crate::fault::TraceFault;
@@ -36,8 +36,6 @@ pub enum At {
     Behind(Part),
     /// Behind this result, where no token is taken.
     Whole(Outcome),
-    /// Behind a fault, where no token is taken.
-    Over,
 }
 
 /// A part of a trace that is complete. What it lists is in `Begun`.
@@ -49,17 +47,6 @@ pub enum Part {
     Set(Quantifier),
     /// The step with this number.
     Step(u64),
-}
-
-/// What a token does.
-#[derive(Clone, Copy)]
-pub enum Move {
-    /// It leads to this place.
-    Goes(At),
-    /// It completes a part.
-    Closes(Part),
-    /// It completes the trace, which has this result.
-    Ends(Outcome),
 }
 
 /// The lists that are begun, and the numbers of the steps that are whole.
@@ -98,18 +85,18 @@ impl Begun {
 // ---- the header
 
 /// Takes a token of the header.
-fn take_header(begun: &mut Begun, token: Token) -> Result<Move, Stop<TraceFault>>
+fn take_header(begun: &mut Begun, token: Token) -> Result<At, Stop<TraceFault>>
     requires sound { IsBegun at.Header begun.old }
     ensures row { Moves (row_at begun.old at.Header token) begun.new result }
     ensures stays { Stays begun.old begun.new }
-    ensures sound { IfOk result (λ m. IsMoved m begun.new) }
+    ensures sound { Leads at.Header begun.old begun.new result }
 {
     match header_move(FORM, begun.header, token)? {
         HeaderMove::Goes(next) => {
             begun.header = next;
-            Ok(Move::Goes(At::Header))
+            Ok(At::Header)
         }
-        HeaderMove::Ends(vars, steps) => Ok(Move::Closes(Part::Header(Header { vars, steps }))),
+        HeaderMove::Ends(vars, steps) => Ok(At::Behind(Part::Header(Header { vars, steps }))),
     }
 }
 
@@ -124,34 +111,34 @@ fn has_steps(index: &StepIndex) -> bool
 
 /// Begins a step, if its number is new.
 #[inline(always)]
-fn open_step(begun: &mut Begun, number: u64) -> Result<Move, Stop<TraceFault>>
+fn open_step(begun: &mut Begun, number: u64) -> Result<At, Stop<TraceFault>>
     requires number { IsNumber number }
     ensures row { Moves (step_row begun.old.index number) begun.new result }
     ensures stays { Stays begun.old begun.new }
-    ensures sound { IfOk result (λ m. IsMoved m begun.new) }
+    ensures sound { Leads at.Between begun.old begun.new result }
 {
     if begun.index.contains(number) {
         return Err(Stop::Text(TraceFault::P5));
     }
     begun.lits.begin();
-    Ok(Move::Goes(At::Lits(number)))
+    Ok(At::Lits(number))
 }
 
 /// Takes a token between lists.
 #[inline(always)]
-fn take_opening(begun: &mut Begun, token: Token) -> Result<Move, Stop<TraceFault>>
+fn take_opening(begun: &mut Begun, token: Token) -> Result<At, Stop<TraceFault>>
     ensures row { Moves (row_at begun.old at.Between token) begun.new result }
     ensures stays { Stays begun.old begun.new }
-    ensures sound { IfOk result (λ m. IsMoved m begun.new) }
+    ensures sound { Leads at.Between begun.old begun.new result }
 {
     let has_steps = has_steps(&begun.index);
     match opened(has_steps, token) {
         Ok(Opening::Set(quantifier)) => {
             begun.vars.clear();
-            Ok(Move::Goes(At::Set(quantifier)))
+            Ok(At::Set(quantifier))
         }
         Ok(Opening::Step(number)) => open_step(begun, number),
-        Ok(Opening::Result) => Ok(Move::Goes(At::Result)),
+        Ok(Opening::Result) => Ok(At::Result),
         Err(fault) => Err(Stop::Text(fault)),
     }
 }
@@ -163,18 +150,18 @@ fn take_member(
     begun: &mut Begun,
     quantifier: Quantifier,
     token: Token,
-) -> Result<Move, Stop<TraceFault>>
+) -> Result<At, Stop<TraceFault>>
     requires sound { IsBegun (at.Set quantifier) begun.old }
     ensures row { Moves (row_at begun.old (at.Set quantifier) token) begun.new result }
     ensures stays { Stays begun.old begun.new }
-    ensures sound { IfOk result (λ m. IsMoved m begun.new) }
+    ensures sound { Leads (at.Set quantifier) begun.old begun.new result }
 {
     match member(FAULTS, LAST_VARIABLE, token) {
         Ok(Some(var)) => match begun.vars.push(var) {
-            Ok(()) => Ok(Move::Goes(At::Set(quantifier))),
+            Ok(()) => Ok(At::Set(quantifier)),
             Err(_) => Err(Stop::Memory),
         },
-        Ok(None) => Ok(Move::Closes(Part::Set(quantifier))),
+        Ok(None) => Ok(At::Behind(Part::Set(quantifier))),
         Err(fault) => Err(Stop::Text(fault)),
     }
 }
@@ -183,20 +170,20 @@ fn take_member(
 
 /// Takes a token in the literals of a step.
 #[inline(always)]
-fn take_literal(begun: &mut Begun, number: u64, token: Token) -> Result<Move, Stop<TraceFault>>
+fn take_literal(begun: &mut Begun, number: u64, token: Token) -> Result<At, Stop<TraceFault>>
     requires sound { IsBegun (at.Lits number) begun.old }
     ensures row { Moves (row_at begun.old (at.Lits number) token) begun.new result }
     ensures stays { Stays begun.old begun.new }
-    ensures sound { IfOk result (λ m. IsMoved m begun.new) }
+    ensures sound { Leads (at.Lits number) begun.old begun.new result }
 {
     match literal(FAULTS, LAST_VARIABLE, token) {
         Ok(Some(lit)) => match begun.lits.push(lit) {
-            Ok(()) => Ok(Move::Goes(At::Lits(number))),
+            Ok(()) => Ok(At::Lits(number)),
             Err(_) => Err(Stop::Memory),
         },
         Ok(None) => {
             begun.ants.begin();
-            Ok(Move::Goes(At::Ants(number)))
+            Ok(At::Ants(number))
         }
         Err(fault) => Err(Stop::Text(fault)),
     }
@@ -212,19 +199,19 @@ fn has_room(ants: &GrowingLists<u64>) -> bool
 
 /// Takes a token in the antecedents of a step.
 #[inline(always)]
-fn take_antecedent(begun: &mut Begun, number: u64, token: Token) -> Result<Move, Stop<TraceFault>>
+fn take_antecedent(begun: &mut Begun, number: u64, token: Token) -> Result<At, Stop<TraceFault>>
     requires sound { IsBegun (at.Ants number) begun.old }
     ensures row { Moves (row_at begun.old (at.Ants number) token) begun.new result }
     ensures stays { Stays begun.old begun.new }
-    ensures sound { IfOk result (λ m. IsMoved m begun.new) }
+    ensures sound { Leads (at.Ants number) begun.old begun.new result }
 {
     let room = has_room(&begun.ants);
     match antecedent(room, token) {
         Ok(Some(ant)) => match begun.ants.push(ant) {
-            Ok(()) => Ok(Move::Goes(At::Ants(number))),
+            Ok(()) => Ok(At::Ants(number)),
             Err(_) => Err(Stop::Memory),
         },
-        Ok(None) => Ok(Move::Closes(Part::Step(number))),
+        Ok(None) => Ok(At::Behind(Part::Step(number))),
         Err(fault) => Err(Stop::Text(fault)),
     }
 }
@@ -232,23 +219,23 @@ fn take_antecedent(begun: &mut Begun, number: u64, token: Token) -> Result<Move,
 // ---- the whole
 
 /// Takes the word of the result, which completes the trace.
-fn take_result(token: Token) -> Result<Move, Stop<TraceFault>>
+fn take_result(token: Token) -> Result<At, Stop<TraceFault>>
     ensures row { (b : Begun) → Moves (row_at b at.Result token) b result }
-    ensures sound { (b : Begun) → IfOk result (λ m. IsMoved m b) }
+    ensures sound { (b : Begun) → Leads at.Result b b result }
 {
     match outcome_of(token) {
-        Ok(outcome) => Ok(Move::Ends(outcome)),
+        Ok(outcome) => Ok(At::Whole(outcome)),
         Err(fault) => Err(Stop::Text(fault)),
     }
 }
 
-/// Takes a token at this place. Whole lists and the numbers of whole steps stay as they are.
+/// The place that a token leads to. Whole lists and the numbers of whole steps stay as they are.
 #[inline(always)]
-pub fn take_at(here: At, begun: &mut Begun, token: Token) -> Result<Move, Stop<TraceFault>>
+pub fn take_at(here: At, begun: &mut Begun, token: Token) -> Result<At, Stop<TraceFault>>
     requires sound { IsAt here begun.old }
     ensures row { Moves (row_at begun.old here token) begun.new result }
     ensures stays { Stays begun.old begun.new }
-    ensures sound { IfOk result (λ m. IsMoved m begun.new) }
+    ensures sound { Leads here begun.old begun.new result }
 {
     match here {
         At::Lits(number) => take_literal(begun, number, token),
@@ -257,6 +244,6 @@ pub fn take_at(here: At, begun: &mut Begun, token: Token) -> Result<Move, Stop<T
         At::Set(quantifier) => take_member(begun, quantifier, token),
         At::Result => take_result(token),
         At::Header => take_header(begun, token),
-        At::Behind(_) | At::Whole(_) | At::Over => Err(Stop::Text(TraceFault::P7)),
+        At::Behind(_) | At::Whole(_) => Err(Stop::Text(TraceFault::P7)),
     }
 }
