@@ -23,7 +23,7 @@ use Rattle.qbf_text.proofs.CanonicalTokens.{all_of}
 use Rattle.qbf_text.proofs.Answered.{explained, AnswersAsRead}
 use Rattle.qdimacs.specs.Faults.{Reads, IsSoFar, Spells}
 use Rattle.qbf_text.specs.Rows.{Goes, Fails}
-use Rattle.qdimacs.specs.Reading.{Heading, Place, AtP, InHeader, Between, InSet, InClause, Whole, Over, Row, row}
+use Rattle.qdimacs.specs.Reading.{Heading, Place, AtP, InHeader, Between, InSet, InClause, Whole, Row, row}
 use Rattle.qdimacs.specs.Reading.{faults, set_row, bound_literal, clause_row, read, IsWhole, answer_of}
 use Rattle.qdimacs.specs.Reading.{Pairs, Clauses, AreFrom}
 
@@ -169,7 +169,6 @@ step ts (InHeader (place.Second v)) next t b e =
 step ts (Between h ps cs) next t b e = between_step ts h ps cs t next b e
 step ts (InSet h ps q) next t b e = set_step ts h ps q t next b e
 step ts (Whole f) next t b e = absurd b
-step ts Over next t b e = absurd b
 step ts (InClause h ps cs ls) next t b e =
     clause_step t next (record { sets = b.0; spelled = b.1; bound = b.2; so_far = b.3; free = b.4; more = b.6 }) e
 

@@ -11,7 +11,7 @@ use Rattle.qdimacs.specs.Faults.{Reads}
 use Rattle.qdimacs.specs.declared.fault.FormulaFault.{FormulaFault}
 use Rattle.qdimacs.specs.Grammar.{header, clause, IsFormula}
 use Rattle.qdimacs.specs.Faults.{AreGood, Spells, IsFault}
-use Rattle.qdimacs.specs.Reading.{Heading, Place, AtP, InHeader, Between, InSet, InClause, Whole, Over}
+use Rattle.qdimacs.specs.Reading.{Heading, Place, AtP, InHeader, Between, InSet, InClause, Whole}
 use Rattle.qdimacs.specs.Reading.{Row, row, read, answer_of}
 use Rattle.qbf_text.proofs.OneToken.{after}
 use Rattle.qdimacs.proofs.AcceptedTokens.{leads_vars, leads_header, leads_sets, leads_begun_set, leads_clauses, leads_begun_clause, end_row}
@@ -72,7 +72,6 @@ spelled_leads ts (InSet h ps q) e =
 spelled_leads ts (InClause h ps cs ls) e = rw e.1 (leads_then (leads_between (e.0, refl, e.2, e.3))
     (leads_begun_clause h ps e.3.good cs ls e.4 e.5 e.6))
 spelled_leads ts (Whole f) e = absurd e
-spelled_leads ts Over e = absurd e
 
 -- A fault that stands is the one that is found.
 pub fault_is_found : (ts : List Lined) (f : FormulaFault) (line : ℕ) → IsFault ts f line → read ts ≡ Err (f, line)

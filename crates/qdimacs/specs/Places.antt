@@ -3,8 +3,6 @@ use Rattle.std.specs.Prelude.{◌≡◌, ◌<◌, ◌≤◌, true, [], length, R
 use Rattle.qbf_spelling.specs.Words.{AllByRecursion, pairs, Qbf, IsWellFormed, Fails}
 use Rattle.qbf_core.specs.Blocks.{variables, AreBound, IsPrefix}
 use Rattle.qbf_text.specs.Rows.{Goes, Ends}
-use Rattle.qbf_text.specs.declared.grammar.Taken.{Taken}
-use Rattle.qbf_text.specs.declared.grammar.Taken.TheVariants as taken
 use Rattle.qbf_text.specs.declared.grammar.Stop.{Stop}
 use Rattle.qbf_text.specs.declared.grammar.Stop.TheVariants as stop
 use Rattle.qbf_spelling.specs.Headers.{IsUpTo}
@@ -12,7 +10,7 @@ use Rattle.qdimacs.specs.declared.fault.FormulaFault.{FormulaFault}
 use Rattle.qdimacs.specs.declared.grammar.At.{At}
 use Rattle.qdimacs.specs.declared.grammar.At.TheVariants as at
 use Rattle.qdimacs.specs.declared.grammar.Parts.{Parts}
-use Rattle.qdimacs.specs.Reading.{Heading, Place, InHeader, Between, InSet, InClause, Whole, Over, Row, IsFull}
+use Rattle.qdimacs.specs.Reading.{Heading, Place, InHeader, Between, InSet, InClause, Whole, Row, IsFull}
 
 -- the numbers of the header
 abbrev pub heading : Parts → Heading
@@ -29,7 +27,6 @@ stands p at.Between = Between (heading p) (pairs p.prefix) p.clauses.whole
 stands p (at.Set q) = InSet (heading p) (pairs p.prefix) q
 stands p at.Clause = InClause (heading p) (pairs p.prefix) p.clauses.whole p.clauses.begun
 stands p at.Whole = Whole (made p)
-stands p at.Over = Over
 
 -- the row that leads there
 abbrev pub row_to : Parts → At → Row
@@ -69,10 +66,8 @@ IsSound at.Between p = IsMade p × (p.clauses.begun ≡ [])
 IsSound (at.Set q) p = AreCounted p × (p.clauses.whole ≡ []) × (p.clauses.begun ≡ [])
 IsSound at.Clause p = IsMade p × AreBound p.prefix p.clauses.begun × (length p.clauses.whole < p.count)
 IsSound at.Whole p = IsWellFormed (made p)
-IsSound at.Over p = ⊤
 
--- who takes a token goes to the next place, and nothing is taken behind the end or a fault
-abbrev pub Went : Result At (Stop FormulaFault) → At → Result (Taken (Unit {0})) (Stop FormulaFault) → Type 0
-Went (Ok at.Whole) now result = (now ≡ at.Whole) × (result ≡ Ok (taken.Done tt))
-Went (Ok next) now result = (now ≡ next) × (result ≡ Ok taken.More)
-Went (Err e) now result = (now ≡ at.Over) × (result ≡ Err e)
+-- at the place that a token leads to; where it is not taken, nothing is changed
+abbrev pub Leads : Parts → Parts → Result At (Stop FormulaFault) → Type 0
+Leads old new (Ok next) = IsSound next new
+Leads old new (Err e) = new ≡ old

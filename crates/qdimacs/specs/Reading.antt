@@ -56,8 +56,6 @@ pub data Place : Type 0 where
   InClause : Heading → Pairs → Clauses → List Literal → Place
   -- behind the end
   Whole : Qbf → Place
-  -- behind a fault
-  Over : Place
 
 -- What the row of a place makes of a token.
 abbrev pub Row : Type 0
@@ -155,7 +153,6 @@ row (Between h ps cs) t =
 row (InSet h ps q) t = set_row h ps q (member faults h.max_var t)
 row (InClause h ps cs ls) t = clause_row h ps cs ls (bound_literal h.max_var ps t)
 row (Whole f) t = Fails F3
-row Over t = Fails F3
 
 -- the end was read
 abbrev pub IsWhole : Place → Type 0

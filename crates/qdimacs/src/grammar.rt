@@ -1,13 +1,13 @@
 //! A formula that is made while its tokens are taken.
 
-ghost use Rattle.std.specs.Prelude.{◌≡◌, ◌≤◌, true, IfOk};
+ghost use Rattle.std.specs.Prelude.{◌≡◌, ◌≤◌, true};
 ghost use Rattle.std.specs.List.{AllByRecursion};
 ghost use Rattle.qbf_core.specs.Blocks.{pairs, variables, is_bound, IsPrefix};
 ghost use Rattle.qbf_core.specs.Qbf.{IsWellFormed};
 ghost use Rattle.qbf_spelling.specs.declared.header.HeaderAt.TheVariants as header;
 ghost use Rattle.qdimacs.specs.declared.grammar.At.TheVariants as at;
 ghost use Rattle.qdimacs.specs.declared.grammar.Parts.{Parts};
-ghost use Rattle.qdimacs.specs.Places.{made, heading, stands, Moves, Went, IsSound};
+ghost use Rattle.qdimacs.specs.Places.{made, heading, stands, Moves, Leads, IsSound};
 ghost use Rattle.qdimacs.specs.Reading.{AtP, Whole, IsFull, IsWhole, begun_set, has_more, row};
 ghost use Rattle.qdimacs.specs.Reading.{bind_row};
 
@@ -32,8 +32,6 @@ enum At {
     Clause,
     /// Behind the end.
     Whole,
-    /// Behind a fault.
-    Over,
 }
 
 /// What was read of a formula.
@@ -67,7 +65,7 @@ fn is_full(prefix: &Prefix, max_var: u32) -> bool
 fn take_header(parts: &mut Parts, token: Token) -> Result<At, Stop<FormulaFault>>
     requires sound { IsSound at.Header parts.old }
     ensures row { Moves (row (stands parts.old at.Header) token) parts.new result }
-    ensures sound { IfOk result (λ next. IsSound next parts.new) }
+    ensures sound { Leads parts.old parts.new result }
 {
     match header_move(FORM, parts.header, token)? {
         HeaderMove::Goes(next) => {
@@ -91,7 +89,7 @@ fn bind(parts: &mut Parts, quantifier: Quantifier, var: Var) -> Result<At, Stop<
     requires top { var ≤ parts.old.max_var }
     ensures row { Moves (bind_row (heading parts.old) (pairs parts.old.prefix) quantifier var
         (is_bound var (pairs parts.old.prefix))) parts.new result }
-    ensures sound { IfOk result (λ next. IsSound next parts.new) }
+    ensures sound { Leads parts.old parts.new result }
 {
     match parts.prefix.push(quantifier, var) {
         Ok(()) => Ok(At::Set(quantifier)),
@@ -108,7 +106,7 @@ fn take_member(
 ) -> Result<At, Stop<FormulaFault>>
     requires sound { IsSound (at.Set quantifier) parts.old }
     ensures row { Moves (row (stands parts.old (at.Set quantifier)) token) parts.new result }
-    ensures sound { IfOk result (λ next. IsSound next parts.new) }
+    ensures sound { Leads parts.old parts.new result }
 {
     match member(FAULTS, parts.max_var, token) {
         Ok(Some(var)) => bind(parts, quantifier, var),
@@ -127,7 +125,7 @@ fn take_member(
 fn take_literal(parts: &mut Parts, token: Token) -> Result<At, Stop<FormulaFault>>
     requires sound { IsSound at.Clause parts.old }
     ensures row { Moves (row (stands parts.old at.Clause) token) parts.new result }
-    ensures sound { IfOk result (λ next. IsSound next parts.new) }
+    ensures sound { Leads parts.old parts.new result }
 {
     match bound_literal(&parts.prefix, parts.max_var, parts.full, token) {
         Ok(Some(lit)) => match parts.clauses.push(lit) {
@@ -168,7 +166,7 @@ fn has_more(parts: &Parts) -> bool
 fn take_opening(parts: &mut Parts, token: Token) -> Result<At, Stop<FormulaFault>>
     requires sound { IsSound at.Between parts.old }
     ensures row { Moves (row (stands parts.old at.Between) token) parts.new result }
-    ensures sound { IfOk result (λ next. IsSound next parts.new) }
+    ensures sound { Leads parts.old parts.new result }
 {
     if let Some(quantifier) = opened(parts, token) {
         return Ok(At::Set(quantifier));
@@ -187,35 +185,14 @@ fn take_opening(parts: &mut Parts, token: Token) -> Result<At, Stop<FormulaFault
 fn take_at(here: At, parts: &mut Parts, token: Token) -> Result<At, Stop<FormulaFault>>
     requires sound { IsSound here parts.old }
     ensures row { Moves (row (stands parts.old here) token) parts.new result }
-    ensures sound { IfOk result (λ next. IsSound next parts.new) }
+    ensures sound { Leads parts.old parts.new result }
 {
     match here {
         At::Clause => take_literal(parts, token),
         At::Between => take_opening(parts, token),
         At::Set(quantifier) => take_member(parts, quantifier, token),
         At::Header => take_header(parts, token),
-        At::Whole | At::Over => Err(Stop::Text(FormulaFault::F3)),
-    }
-}
-
-/// Goes to the next place, if there is one.
-#[inline(always)]
-fn go(here: &mut At, next: Result<At, Stop<FormulaFault>>) -> Result<Taken<()>, Stop<FormulaFault>>
-    ensures { Went next here.new result }
-{
-    match next {
-        Ok(At::Whole) => {
-            *here = At::Whole;
-            Ok(Taken::Done(()))
-        }
-        Ok(place) => {
-            *here = place;
-            Ok(Taken::More)
-        }
-        Err(stop) => {
-            *here = At::Over;
-            Err(stop)
-        }
+        At::Whole => Err(Stop::Text(FormulaFault::F3)),
     }
 }
 
@@ -307,7 +284,10 @@ impl Grammar for FormulaGrammar {
 
     #[inline(always)]
     fn take(&mut self, token: Token) -> Result<Taken<()>, Stop<FormulaFault>> {
-        let next = take_at(self.at, &mut self.parts, token);
-        go(&mut self.at, next)
+        self.at = take_at(self.at, &mut self.parts, token)?;
+        match self.at {
+            At::Whole => Ok(Taken::Done(())),
+            _ => Ok(Taken::More),
+        }
     }
 }
