@@ -24,31 +24,22 @@ use Rattle.qrp.proofs.AcceptedTokens.{leads_variables, leads_literals, leads_ant
 
 -- ---- gathering
 
-gathered_sets : (d : Derivation) (sets : List Block) (more : List Answer)
-    → gathered d (map Ok (map item.Set sets) ++ more) ≡ gathered (record d { sets = d.sets ++ sets }) more
+gathered_more : (d : Derivation) (sets : List Block) (steps : List Inference) (more : List Answer)
+    → gathered d (map Ok (map item.Set sets ++ map item.Step steps) ++ more)
+    ≡ gathered (record d { sets = d.sets ++ sets; steps = d.steps ++ steps }) more
 unfolding gathered
-gathered_sets d [] more = ap (λ (x : List Block). gathered (record d { sets = x }) more) (sym (append-nil d.sets))
-gathered_sets d (s ∷ sets) more = gathered_sets (record d { sets = d.sets ++ s ∷ [] }) sets more
-    ∙ ap (λ (x : List Block). gathered (record d { sets = x }) more) (append_assoc d.sets (s ∷ []) sets)
-
-gathered_steps : (d : Derivation) (steps : List Inference) (more : List Answer)
-    → gathered d (map Ok (map item.Step steps) ++ more) ≡ gathered (record d { steps = d.steps ++ steps }) more
-unfolding gathered
-gathered_steps d [] more = ap (λ (x : List Inference). gathered (record d { steps = x }) more) (sym (append-nil d.steps))
-gathered_steps d (s ∷ steps) more = gathered_steps (record d { steps = d.steps ++ s ∷ [] }) steps more
-    ∙ ap (λ (x : List Inference). gathered (record d { steps = x }) more) (append_assoc d.steps (s ∷ []) steps)
+gathered_more d [] [] more = rw (append-nil d.sets, append-nil d.steps) refl
+gathered_more d [] (s ∷ steps) more = gathered_more (record d { steps = d.steps ++ s ∷ [] }) [] steps more
+    ∙ ap (λ (x : List Inference). gathered (record d { sets = d.sets ++ []; steps = x }) more) (append_assoc d.steps (s ∷ []) steps)
+gathered_more d (s ∷ sets) steps more = gathered_more (record d { sets = d.sets ++ s ∷ [] }) sets steps more
+    ∙ ap (λ (x : List Block). gathered (record d { sets = x; steps = d.steps ++ steps }) more) (append_assoc d.sets (s ∷ []) sets)
 
 -- header, sets and steps are gathered in their places
 gathered_lists : (h : Header) (sets : List Block) (steps : List Inference) (more : List Answer)
     → gathered nothing (map Ok (item.Header h ∷ (map item.Set sets ++ map item.Step steps)) ++ more)
     ≡ gathered (record { header = h; sets = sets; steps = steps; result = Sat }) more
 unfolding gathered
-gathered_lists h sets steps more =
-    let at : Derivation = record nothing { header = h } in
-    ap (gathered at) (ap (λ (x : List Answer). x ++ more) (map-append Ok (map item.Set sets) (map item.Step steps))
-    ∙ append_assoc (map Ok (map item.Set sets)) (map Ok (map item.Step steps)) more)
-    ∙ gathered_sets at sets (map Ok (map item.Step steps) ++ more)
-    ∙ gathered_steps (record { header = h; sets = sets; steps = []; result = Sat }) steps more
+gathered_lists h sets steps more = gathered_more (record nothing { header = h }) sets steps more
 
 gathered_result : (d : Derivation) (o : Outcome) → gathered d (Ok (item.Result o) ∷ []) ≡ Ok (record d { result = o })
 unfolding gathered

@@ -108,28 +108,6 @@ fn close(parts: &mut Parts, part: Part) -> Result<(), AllocError>
     }
 }
 
-/// Takes a token at its place.
-#[inline(always)]
-fn take(here: &mut At, parts: &mut Parts, token: Token) -> Result<Taken<()>, Stop<TraceFault>>
-    requires sound { IsSound here.old parts.old }
-    ensures row { Takes (trace_row (stands parts.old here.old) token)
-        (stands parts.new here.new) result }
-    ensures sound { IsSound here.new parts.new }
-{
-    *here = take_at(*here, &mut parts.begun, token)?;
-    match *here {
-        At::Behind(part) => match close(parts, part) {
-            Ok(()) => {
-                *here = At::Between;
-                Ok(Taken::More)
-            }
-            Err(_) => Err(Stop::Memory),
-        },
-        At::Whole(_) => Ok(Taken::Done(())),
-        _ => Ok(Taken::More),
-    }
-}
-
 /// A trace that is read into flat buffers.
 ///
 /// Contracts see what is made so far, and where the next token stands.
@@ -192,6 +170,17 @@ impl Grammar for TraceGrammar {
 
     #[inline(always)]
     fn take(&mut self, token: Token) -> Result<Taken<()>, Stop<TraceFault>> {
-        take(&mut self.at, &mut self.parts, token)
+        self.at = take_at(self.at, &mut self.parts.begun, token)?;
+        match self.at {
+            At::Behind(part) => match close(&mut self.parts, part) {
+                Ok(()) => {
+                    self.at = At::Between;
+                    Ok(Taken::More)
+                }
+                Err(_) => Err(Stop::Memory),
+            },
+            At::Whole(_) => Ok(Taken::Done(())),
+            _ => Ok(Taken::More),
+        }
     }
 }

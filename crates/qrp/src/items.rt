@@ -49,22 +49,6 @@ fn take_part(begun: &mut Begun, alloc: Global, part: Part) -> Result<Item, Alloc
     }
 }
 
-/// Takes a token at its place.
-#[inline(always)]
-fn take(here: &mut At, begun: &mut Begun, token: Token) -> Result<Taken<()>, Stop<TraceFault>>
-    requires sound { IsBegun here.old begun.old }
-    ensures row { Takes (item_row (giving_at begun.old here.old) token)
-        (giving_at begun.new here.new) result }
-    ensures sound { IsBegun here.new begun.new }
-    ensures kept { begun.new.index ≡ begun.old.index }
-{
-    *here = take_at(*here, begun, token)?;
-    match *here {
-        At::Behind(_) | At::Whole(_) => Ok(Taken::Done(())),
-        _ => Ok(Taken::More),
-    }
-}
-
 /// A trace of which one part is given after the other.
 ///
 /// Contracts see the numbers of the steps that were given, and what stands next.
@@ -147,6 +131,10 @@ impl Grammar for ItemGrammar {
 
     #[inline(always)]
     fn take(&mut self, token: Token) -> Result<Taken<()>, Stop<TraceFault>> {
-        take(&mut self.at, &mut self.begun, token)
+        self.at = take_at(self.at, &mut self.begun, token)?;
+        match self.at {
+            At::Behind(_) | At::Whole(_) => Ok(Taken::Done(())),
+            _ => Ok(Taken::More),
+        }
     }
 }

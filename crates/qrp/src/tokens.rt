@@ -77,15 +77,9 @@ pub fn antecedent(room: bool, token: Token) -> Result<Option<u64>, TraceFault>
     ensures room { IfOk result (λ o. IfSome o (λ _. room ≡ true)) }
 {
     match token {
-        Token::Number {
-            negative: false,
-            value: 0,
-        } => Ok(None),
-        Token::Number {
-            negative: false,
-            value,
-        } if room => Ok(Some(value)),
+        Token::Number { negative, value } if !negative && value == 0 => Ok(None),
         Token::Number { .. } | Token::Big if !room => Err(TraceFault::P6),
+        Token::Number { negative, value } if !negative => Ok(Some(value)),
         Token::Number { .. } | Token::Big => Err(TraceFault::P4),
         Token::End => Err(TraceFault::P7),
         Token::Word(_) | Token::Bad => Err(TraceFault::P3),
