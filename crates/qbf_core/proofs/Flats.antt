@@ -112,22 +112,27 @@ reach_less from [] n (suc k) r = refl
 reach_less from (e ∷ es) n zero r = refl
 reach_less from (e ∷ es) n (suc k) r = (r.0, reach_less e es n k r.1)
 
-less_parts : {X : Type 0} (xs : List X) (m from : ℕ) (es : List ℕ) (k : ℕ) → Reaches from es (length xs) → end_of from (take k es) ≤ m
-    → m ≤ length xs
-    → parts (take m xs) from (take k es) ≡ take k (parts xs from es)
-less_parts xs m from [] zero r h le = refl
-less_parts xs m from [] (suc k) r h le = refl
-less_parts xs m from (e ∷ es) zero r h le = refl
-less_parts xs m from (e ∷ es) (suc k) r h le =
-    let w = end_within e es (length xs) k r.1 in
-    let x : slice_range (take m xs) from e ≡ slice_range xs from e = range_less xs m from e r.0 (let y = w.0 in omega arith) le in
-    let rest = less_parts xs m e es k r.1 h le in
+pub fewer_parts : {X : Type 0} (xs : List X) (from : ℕ) (es : List ℕ) (k : ℕ) → parts xs from (take k es) ≡ take k (parts xs from es)
+fewer_parts xs from [] zero = refl
+fewer_parts xs from [] (suc k) = refl
+fewer_parts xs from (e ∷ es) zero = refl
+fewer_parts xs from (e ∷ es) (suc k) = ap (λ (ls : List (List _)). slice_range xs from e ∷ ls) (fewer_parts xs e es k)
+
+pub kept_parts : {X : Type 0} (xs : List X) (m from : ℕ) (es : List ℕ) (n : ℕ) → Reaches from es n → n ≤ m → m ≤ length xs
+    → parts (take m xs) from es ≡ parts xs from es
+kept_parts xs m from [] n r h le = refl
+kept_parts xs m from (e ∷ es) n r h le =
+    let k = reach_le e es n r.1 in
+    let x : slice_range (take m xs) from e ≡ slice_range xs from e = range_less xs m from e r.0 (omega (arith, k, h)) le in
+    let rest = kept_parts xs m e es n r.1 h le in
     (λ i. x i ∷ rest i)
 
 pub parts_popped : {X : Type 0} (xs xs' : List X) (es es' : List ℕ) (n : ℕ) → xs' ≡ take (end_of 0 es') xs → es' ≡ take n es
     → Reaches 0 es (length xs) → parts xs' 0 es' ≡ take n (parts xs 0 es)
 parts_popped xs xs' es es' n a e r =
-    rw (a, e) (less_parts xs (end_of 0 (take n es)) 0 es n r (omega arith) (end_within 0 es (length xs) n r).1)
+    let end : ℕ = end_of 0 (take n es) in
+    let same = kept_parts xs end 0 (take n es) end (reach_less 0 es (length xs) n r) (omega arith) (end_within 0 es (length xs) n r).1 in
+    rw (a, e) (same ∙ fewer_parts xs 0 es n)
 
 pub popped_reach : {X : Type 0} (xs xs' : List X) (es es' : List ℕ) (n : ℕ) → xs' ≡ take (end_of 0 es') xs → es' ≡ take n es
     → Reaches 0 es (length xs) → Reaches 0 es' (length xs')
@@ -135,6 +140,13 @@ popped_reach xs xs' es es' n a e r =
     let m : length (take (end_of 0 (take n es)) xs) ≡ end_of 0 (take n es) =
     length-take-le (end_of 0 (take n es)) xs (end_within 0 es (length xs) n r).1 in
     rw (a, e, m) (reach_less 0 es (length xs) n r)
+
+-- so many ends reach to the last of them, which is in the buffer
+pub fewer_reach : (es es' : List ℕ) (start m k end : ℕ) → es' ≡ take k es → end ≡ end_of 0 es' → Reaches 0 es start → start ≤ m
+    → Reaches 0 es' end × (end ≤ m)
+fewer_reach es es' start m k end e is r le =
+    let last = (end_within 0 es start k r).1 in
+    rw (is, e) (reach_less 0 es start k r, omega (arith, last, le))
 
 last_of : (e : ℕ) (es : List ℕ) (d : ℕ) → unwrap_or (slice_get (e ∷ es) (length es)) d ≡ end_of e es
 last_of e [] d = refl
@@ -156,15 +168,6 @@ grown_parts xs more from (e ∷ es) n r le =
     let m = reach_le e es n r.1 in
     let x : slice_range (xs ++ more) from e ≡ slice_range xs from e = range_before xs more from e r.0 (omega (arith, m, le)) in
     let rest = grown_parts xs more e es n r.1 le in
-    (λ i. x i ∷ rest i)
-
-pub kept_parts : {X : Type 0} (xs : List X) (m from : ℕ) (es : List ℕ) (n : ℕ) → Reaches from es n → n ≤ m → m ≤ length xs
-    → parts (take m xs) from es ≡ parts xs from es
-kept_parts xs m from [] n r h le = refl
-kept_parts xs m from (e ∷ es) n r h le =
-    let k = reach_le e es n r.1 in
-    let x : slice_range (take m xs) from e ≡ slice_range xs from e = range_less xs m from e r.0 (omega (arith, k, h)) le in
-    let rest = kept_parts xs m e es n r.1 h le in
     (λ i. x i ∷ rest i)
 
 -- the rest from a place on is the range up to the end

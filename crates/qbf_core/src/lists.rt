@@ -2,7 +2,7 @@
 
 ghost use Rattle.std.specs.Prelude.{◌≡◌, ◌≤◌, ◌<◌, List, [], ◌∷◌, ◌++◌, length, take, slice_get};
 ghost use Rattle.std.specs.Prelude.{slice_range, ◌-◌, Some, OnOk, OnErr};
-ghost use Rattle.qbf_core.specs.Lists.{start_of};
+ghost use Rattle.qbf_core.specs.Lists.{parts, start_of, LieWithin};
 
 use crate::ends::Ends;
 use std::alloc::{AllocError, Global};
@@ -48,6 +48,16 @@ fn part<T>(buffer: &[T], from: usize, to: usize) -> &[T]
     &buffer[from..to]
 }
 
+/// The list at place `i` of those that lie in a buffer and end at these places.
+#[inline(always)]
+fn list_at<'a, T>(buffer: &'a [T], ends: &Ends, i: usize) -> &'a [T]
+    requires place { i < length ends.now }
+    requires within { LieWithin ends.now (length buffer.now) }
+    ensures { slice_get (parts buffer.now 0 ends.now) i ≡ Some result.now }
+{
+    part(buffer, start(ends, i), ends.get(i))
+}
+
 impl<T: Copy + Drop> Lists<T> {
     /// No lists. It takes no memory yet.
     pub fn new(alloc: Global) -> Lists<T>
@@ -71,7 +81,7 @@ impl<T: Copy + Drop> Lists<T> {
         requires { i < length self.now }
         ensures { slice_get self.now i ≡ Some result.now }
     {
-        part(&self.items, start(&self.ends, i), self.ends.get(i))
+        list_at(&self.items, &self.ends, i)
     }
 
     /// Adds a list at the end.
@@ -147,6 +157,16 @@ impl<T: Copy + Drop> GrowingLists<T> {
         ends.len()
     }
 
+    /// The whole list at place `i`, counted from 0; `i` is below `whole_len()`.
+    #[inline(always)]
+    pub fn get(&self, i: usize) -> &[T]
+        requires { i < length self.now.whole }
+        ensures { slice_get self.now.whole i ≡ Some result.now }
+    {
+        let items = &self.items;
+        list_at(items, &self.ends, i)
+    }
+
     /// How many items the list has that is begun.
     #[inline(always)]
     pub fn begun_len(&self) -> usize
@@ -198,6 +218,18 @@ impl<T: Copy + Drop> GrowingLists<T> {
         self.ends.push(end)?;
         self.start = end;
         Ok(())
+    }
+
+    /// Takes the last whole list away, if there is one. The list that is begun is empty then.
+    pub fn pop(&mut self)
+        ensures { self.new ≡ record {
+          whole = take (length self.old.whole - 1) self.old.whole;
+          begun = [];
+        } }
+    {
+        self.ends.pop();
+        self.start = self.ends.last();
+        self.begin();
     }
 
     /// The whole lists, where they lie. It takes no memory.

@@ -1,0 +1,16 @@
+use Rattle.std.proofs.Common.{[], ◌∙◌, List, ap}
+use Rattle.qbf_core.proofs.Flats.{fewer_parts, fewer_reach, same_count}
+use Rattle.qbf_core.proofs.lists.GrowingLists.pop.Goals as goal
+
+pub invariant_of-self : goal.invariant_of-self
+invariant_of-self g c =
+    let inside = c.self.inside in
+    let r = c.self.invariant in
+    fewer_reach inside.ends _ inside.start _ _ _ c.pop.ensures c.last-self-inside.ensures r.0 r.1
+
+pub returns : goal.returns
+returns g c =
+    let inside = c.self.inside in
+    let fewer = fewer_parts inside.items.items 0 inside.ends in
+    rw (← c.self.view_is, same_count inside.items.items 0 inside.ends)
+    (c.begin.ensures ∙ rw c.pop.ensures (ap (λ (ls : List (List _)). record { whole = ls; begun = [] }) (fewer _)))
