@@ -228,7 +228,8 @@ impl<T: Copy + Drop> GrowingLists<T> {
         } }
     {
         self.ends.pop();
-        self.start = self.ends.last();
+        let start = self.ends.last();
+        self.start = start;
         self.begin();
     }
 

@@ -6,7 +6,7 @@ pub invariant_of-self : goal.invariant_of-self
 invariant_of-self g c =
     let inside = c.self.inside in
     let r = c.self.invariant in
-    fewer_reach inside.ends _ inside.start _ _ _ c.pop.ensures c.last-self-inside.ensures r.0 r.1
+    fewer_reach inside.ends _ inside.start _ _ _ c.pop.ensures c.last-start.ensures r.0 r.1
 
 pub returns : goal.returns
 returns g c =
