@@ -16,6 +16,7 @@ use Rattle.qrp.specs.declared.reader.Stage.{Stage}
 use Rattle.qrp.specs.declared.reader.Stage.TheVariants.{AtHeader, AtLists, HasResult, HasFault}
 use Rattle.qrp.specs.Given.{left_behind, is_last, numbers_with, stage_after, GivesNextItem, IsProper, StandsOnLine, StopsBehindPart}
 use Rattle.qrp.specs.Parts.{KnownItems}
+pub use Rattle.qrp.specs.Places.{IsBegun}
 use Rattle.qrp.specs.Places.{place, item_of, numbers_behind}
 use Rattle.qrp.specs.Reading.{Fault, Place, AtP, Between, Row, Goes, Closes, Ends, Fails, row}
 

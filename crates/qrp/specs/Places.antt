@@ -98,7 +98,7 @@ abbrev pub IsAt : At → Begun → Type 0
 IsAt (at.Behind p) b = ⊤
 IsAt here b = IsBegun here b
 
--- at the place that a token leads to; where it is not taken, what held stays
+-- at the place that a token leads to, where whole lists stay; where it is not taken, what held stays
 abbrev pub Leads : At → Begun → Begun → Result At (Stop TraceFault) → Type 0
-Leads here old new (Ok next) = IsBegun next new
-Leads here old new (Err e) = IsBegun here old → IsBegun here new
+Leads here old new (Ok next) = Stays old new × IsBegun next new
+Leads here old new (Err e) = Stays old new × (IsBegun here old → IsBegun here new)

@@ -2,9 +2,7 @@
 
 ghost use Rattle.std.specs.Prelude.{◌≡◌, false, [], ◌∷◌, ◌++◌, OnOk};
 ghost use Rattle.qbf_spelling.specs.declared.header.HeaderAt.TheVariants as header;
-ghost use Rattle.qbf_text.specs.Taking.{Takes};
-ghost use Rattle.qrp.specs.Making.{Making, Whole, trace_row, row_with, IsWhole, closed, made};
-ghost use Rattle.qrp.specs.Making.{stands, IsMade, IsSound};
+ghost use Rattle.qrp.specs.Making.{Making, Whole, row_with, IsWhole, closed, made, IsMade};
 ghost use Rattle.qrp.specs.Places.{row_of, IsComplete};
 ghost use Rattle.qrp.specs.Reading.{AtP, Between, nothing};
 ghost use Rattle.step_index.specs.Numbers.{is_used, AreStepNumbers};

@@ -1,12 +1,11 @@
 //! The parts of a trace, given one after the other.
 
 ghost use Rattle.std.specs.Prelude.{◌≡◌, Ok, [], IfOk, OnOk, OnErr};
-ghost use Rattle.qbf_text.specs.Taking.{Takes};
 ghost use Rattle.qrp.specs.Given.{numbers_with, IsProper};
 ghost use Rattle.qrp.specs.Items as items;
-ghost use Rattle.qrp.specs.Items.{giving_at, giving, item_row, IsGiven, IsNextAfter};
+ghost use Rattle.qrp.specs.Items.{giving, IsGiven, IsNextAfter};
 ghost use Rattle.qrp.specs.declared.places.Part.TheVariants as part;
-ghost use Rattle.qrp.specs.Places.{item_of, numbers_behind, IsBegun, IsComplete};
+ghost use Rattle.qrp.specs.Places.{item_of, numbers_behind, IsComplete};
 ghost use Rattle.qrp.specs.Reading.{AtP};
 
 use crate::fault::TraceFault;
@@ -59,8 +58,7 @@ pub struct ItemGrammar {
 }
 
 impl Model for ItemGrammar {
-    ghost use Rattle.qrp.specs.Items.{Giver, giving_at};
-    ghost use Rattle.qrp.specs.Places.{IsBegun};
+    ghost use Rattle.qrp.specs.Items.{Giver, giving_at, IsBegun};
 
     ghost Value = { Giver };
 

@@ -5,7 +5,7 @@ ghost use Rattle.qbf_spelling.specs.declared.header.HeaderAt.TheVariants as head
 ghost use Rattle.qrp.specs.declared.places.At.TheVariants as at;
 ghost use Rattle.qrp.specs.declared.places.Begun.{Begun};
 ghost use Rattle.qrp.specs.Inferences.{IsNumber};
-ghost use Rattle.qrp.specs.Places.{row_at, Moves, Leads, Stays, IsAt, IsBegun};
+ghost use Rattle.qrp.specs.Places.{row_at, Moves, Leads, IsAt, IsBegun};
 ghost use Rattle.qrp.specs.Reading.{has_room, has_steps, step_row};
 
 use crate::fault::TraceFault;
@@ -88,7 +88,6 @@ impl Begun {
 fn take_header(begun: &mut Begun, token: Token) -> Result<At, Stop<TraceFault>>
     requires sound { IsBegun at.Header begun.old }
     ensures row { Moves (row_at begun.old at.Header token) begun.new result }
-    ensures stays { Stays begun.old begun.new }
     ensures sound { Leads at.Header begun.old begun.new result }
 {
     match header_move(FORM, begun.header, token)? {
@@ -114,7 +113,6 @@ fn has_steps(index: &StepIndex) -> bool
 fn open_step(begun: &mut Begun, number: u64) -> Result<At, Stop<TraceFault>>
     requires number { IsNumber number }
     ensures row { Moves (step_row begun.old.index number) begun.new result }
-    ensures stays { Stays begun.old begun.new }
     ensures sound { Leads at.Between begun.old begun.new result }
 {
     if begun.index.contains(number) {
@@ -128,18 +126,16 @@ fn open_step(begun: &mut Begun, number: u64) -> Result<At, Stop<TraceFault>>
 #[inline(always)]
 fn take_opening(begun: &mut Begun, token: Token) -> Result<At, Stop<TraceFault>>
     ensures row { Moves (row_at begun.old at.Between token) begun.new result }
-    ensures stays { Stays begun.old begun.new }
     ensures sound { Leads at.Between begun.old begun.new result }
 {
     let has_steps = has_steps(&begun.index);
-    match opened(has_steps, token) {
-        Ok(Opening::Set(quantifier)) => {
+    match opened(has_steps, token)? {
+        Opening::Set(quantifier) => {
             begun.vars.clear();
             Ok(At::Set(quantifier))
         }
-        Ok(Opening::Step(number)) => open_step(begun, number),
-        Ok(Opening::Result) => Ok(At::Result),
-        Err(fault) => Err(Stop::Text(fault)),
+        Opening::Step(number) => open_step(begun, number),
+        Opening::Result => Ok(At::Result),
     }
 }
 
@@ -153,16 +149,14 @@ fn take_member(
 ) -> Result<At, Stop<TraceFault>>
     requires sound { IsBegun (at.Set quantifier) begun.old }
     ensures row { Moves (row_at begun.old (at.Set quantifier) token) begun.new result }
-    ensures stays { Stays begun.old begun.new }
     ensures sound { Leads (at.Set quantifier) begun.old begun.new result }
 {
-    match member(FAULTS, LAST_VARIABLE, token) {
-        Ok(Some(var)) => match begun.vars.push(var) {
+    match member(FAULTS, LAST_VARIABLE, token)? {
+        Some(var) => match begun.vars.push(var) {
             Ok(()) => Ok(At::Set(quantifier)),
             Err(_) => Err(Stop::Memory),
         },
-        Ok(None) => Ok(At::Behind(Part::Set(quantifier))),
-        Err(fault) => Err(Stop::Text(fault)),
+        None => Ok(At::Behind(Part::Set(quantifier))),
     }
 }
 
@@ -173,19 +167,17 @@ fn take_member(
 fn take_literal(begun: &mut Begun, number: u64, token: Token) -> Result<At, Stop<TraceFault>>
     requires sound { IsBegun (at.Lits number) begun.old }
     ensures row { Moves (row_at begun.old (at.Lits number) token) begun.new result }
-    ensures stays { Stays begun.old begun.new }
     ensures sound { Leads (at.Lits number) begun.old begun.new result }
 {
-    match literal(FAULTS, LAST_VARIABLE, token) {
-        Ok(Some(lit)) => match begun.lits.push(lit) {
+    match literal(FAULTS, LAST_VARIABLE, token)? {
+        Some(lit) => match begun.lits.push(lit) {
             Ok(()) => Ok(At::Lits(number)),
             Err(_) => Err(Stop::Memory),
         },
-        Ok(None) => {
+        None => {
             begun.ants.begin();
             Ok(At::Ants(number))
         }
-        Err(fault) => Err(Stop::Text(fault)),
     }
 }
 
@@ -202,17 +194,15 @@ fn has_room(ants: &GrowingLists<u64>) -> bool
 fn take_antecedent(begun: &mut Begun, number: u64, token: Token) -> Result<At, Stop<TraceFault>>
     requires sound { IsBegun (at.Ants number) begun.old }
     ensures row { Moves (row_at begun.old (at.Ants number) token) begun.new result }
-    ensures stays { Stays begun.old begun.new }
     ensures sound { Leads (at.Ants number) begun.old begun.new result }
 {
     let room = has_room(&begun.ants);
-    match antecedent(room, token) {
-        Ok(Some(ant)) => match begun.ants.push(ant) {
+    match antecedent(room, token)? {
+        Some(ant) => match begun.ants.push(ant) {
             Ok(()) => Ok(At::Ants(number)),
             Err(_) => Err(Stop::Memory),
         },
-        Ok(None) => Ok(At::Behind(Part::Step(number))),
-        Err(fault) => Err(Stop::Text(fault)),
+        None => Ok(At::Behind(Part::Step(number))),
     }
 }
 
@@ -223,10 +213,7 @@ fn take_result(token: Token) -> Result<At, Stop<TraceFault>>
     ensures row { (b : Begun) → Moves (row_at b at.Result token) b result }
     ensures sound { (b : Begun) → Leads at.Result b b result }
 {
-    match outcome_of(token) {
-        Ok(outcome) => Ok(At::Whole(outcome)),
-        Err(fault) => Err(Stop::Text(fault)),
-    }
+    Ok(At::Whole(outcome_of(token)?))
 }
 
 /// The place that a token leads to. Whole lists and the numbers of whole steps stay as they are.
@@ -234,7 +221,6 @@ fn take_result(token: Token) -> Result<At, Stop<TraceFault>>
 pub fn take_at(here: At, begun: &mut Begun, token: Token) -> Result<At, Stop<TraceFault>>
     requires sound { IsAt here begun.old }
     ensures row { Moves (row_at begun.old here token) begun.new result }
-    ensures stays { Stays begun.old begun.new }
     ensures sound { Leads here begun.old begun.new result }
 {
     match here {
