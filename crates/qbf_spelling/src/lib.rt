@@ -2,10 +2,12 @@
 //! says, and how these are written.
 #![tactic(auto)]
 
+mod growing;
 mod header;
 mod said;
 mod writing;
 
+pub use growing::grow;
 pub use header::{HeaderAt, HeaderForm, HeaderMove, header_move};
 pub use said::{Faults, literal, member, quantifier};
 pub use writing::{put_header, put_letter, put_literal, put_literals, put_set};

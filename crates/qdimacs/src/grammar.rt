@@ -14,7 +14,7 @@ ghost use Rattle.qdimacs.specs.Reading.{bind_row};
 use crate::fault::FormulaFault;
 use crate::tokens::{FAULTS, FORM, bound_literal, clause_or_end};
 use qbf_core::{Formula, GrowingLists, Lit, Prefix, PrefixFault, Quantifier, Var};
-use qbf_spelling::{HeaderAt, HeaderMove, header_move, member, quantifier};
+use qbf_spelling::{HeaderAt, HeaderMove, grow, header_move, member, quantifier};
 use qbf_text::{Grammar, Stop, Taken, Token};
 use std::alloc::Global;
 use std::marker::Model;
@@ -33,6 +33,9 @@ enum At {
     /// Behind the end.
     Whole,
 }
+
+/// The place that a token leads to, or why it is not taken.
+type Next = Result<At, Stop<FormulaFault>>;
 
 /// What was read of a formula.
 #[derive(Drop)]
@@ -62,7 +65,7 @@ fn is_full(prefix: &Prefix, max_var: u32) -> bool
 }
 
 /// Takes a token of the header.
-fn take_header(parts: &mut Parts, token: Token) -> Result<At, Stop<FormulaFault>>
+fn take_header(parts: &mut Parts, token: Token) -> Next
     requires sound { IsSound at.Header parts.old }
     ensures row { Moves (row (stands parts.old at.Header) token) parts.new result }
     ensures sound { Leads parts.old parts.new result }
@@ -84,7 +87,7 @@ fn take_header(parts: &mut Parts, token: Token) -> Result<At, Stop<FormulaFault>
 // ---- a set
 
 /// Binds a variable innermost.
-fn bind(parts: &mut Parts, quantifier: Quantifier, var: Var) -> Result<At, Stop<FormulaFault>>
+fn bind(parts: &mut Parts, quantifier: Quantifier, var: Var) -> Next
     requires sound { IsSound (at.Set quantifier) parts.old }
     requires top { var ≤ parts.old.max_var }
     ensures row { Moves (bind_row (heading parts.old) (pairs parts.old.prefix) quantifier var
@@ -99,22 +102,17 @@ fn bind(parts: &mut Parts, quantifier: Quantifier, var: Var) -> Result<At, Stop<
 }
 
 /// Takes a token in a set.
-fn take_member(
-    parts: &mut Parts,
-    quantifier: Quantifier,
-    token: Token,
-) -> Result<At, Stop<FormulaFault>>
+fn take_member(parts: &mut Parts, quantifier: Quantifier, token: Token) -> Next
     requires sound { IsSound (at.Set quantifier) parts.old }
     ensures row { Moves (row (stands parts.old (at.Set quantifier)) token) parts.new result }
     ensures sound { Leads parts.old parts.new result }
 {
-    match member(FAULTS, parts.max_var, token) {
-        Ok(Some(var)) => bind(parts, quantifier, var),
-        Ok(None) => {
+    match member(FAULTS, parts.max_var, token)? {
+        Some(var) => bind(parts, quantifier, var),
+        None => {
             parts.full = is_full(&parts.prefix, parts.max_var);
             Ok(At::Between)
         }
-        Err(fault) => Err(Stop::Text(fault)),
     }
 }
 
@@ -122,21 +120,18 @@ fn take_member(
 
 /// Takes a token in a clause.
 #[inline(always)]
-fn take_literal(parts: &mut Parts, token: Token) -> Result<At, Stop<FormulaFault>>
+fn take_literal(parts: &mut Parts, token: Token) -> Next
     requires sound { IsSound at.Clause parts.old }
     ensures row { Moves (row (stands parts.old at.Clause) token) parts.new result }
     ensures sound { Leads parts.old parts.new result }
 {
-    match bound_literal(&parts.prefix, parts.max_var, parts.full, token) {
-        Ok(Some(lit)) => match parts.clauses.push(lit) {
-            Ok(()) => Ok(At::Clause),
-            Err(_) => Err(Stop::Memory),
-        },
-        Ok(None) => match parts.clauses.close() {
+    let said = bound_literal(&parts.prefix, parts.max_var, parts.full, token);
+    match grow(&mut parts.clauses, said)? {
+        Some(_) => Ok(At::Clause),
+        None => match parts.clauses.close() {
             Ok(()) => Ok(At::Between),
             Err(_) => Err(Stop::Memory),
         },
-        Err(fault) => Err(Stop::Text(fault)),
     }
 }
 
@@ -163,7 +158,7 @@ fn has_more(parts: &Parts) -> bool
 /// Takes a token between lists.
 #[inline(always)]
 #[tactic(auto, using(crate::proofs::FormulaParts::made_whole))]
-fn take_opening(parts: &mut Parts, token: Token) -> Result<At, Stop<FormulaFault>>
+fn take_opening(parts: &mut Parts, token: Token) -> Next
     requires sound { IsSound at.Between parts.old }
     ensures row { Moves (row (stands parts.old at.Between) token) parts.new result }
     ensures sound { Leads parts.old parts.new result }
@@ -171,10 +166,9 @@ fn take_opening(parts: &mut Parts, token: Token) -> Result<At, Stop<FormulaFault
     if let Some(quantifier) = opened(parts, token) {
         return Ok(At::Set(quantifier));
     }
-    match clause_or_end(has_more(parts), token) {
-        Ok(true) => take_literal(parts, token),
-        Ok(false) => Ok(At::Whole),
-        Err(fault) => Err(Stop::Text(fault)),
+    match clause_or_end(has_more(parts), token)? {
+        true => take_literal(parts, token),
+        false => Ok(At::Whole),
     }
 }
 
@@ -182,7 +176,7 @@ fn take_opening(parts: &mut Parts, token: Token) -> Result<At, Stop<FormulaFault
 
 /// The place that a token leads to.
 #[inline(always)]
-fn take_at(here: At, parts: &mut Parts, token: Token) -> Result<At, Stop<FormulaFault>>
+fn take_at(here: At, parts: &mut Parts, token: Token) -> Next
     requires sound { IsSound here parts.old }
     ensures row { Moves (row (stands parts.old here) token) parts.new result }
     ensures sound { Leads parts.old parts.new result }

@@ -12,7 +12,7 @@ use crate::fault::TraceFault;
 use crate::item::{Header, Outcome};
 use crate::tokens::{FAULTS, FORM, LAST_VARIABLE, Opening, antecedent, opened, outcome_of};
 use qbf_core::{GrowingLists, Lit, Quantifier, Var};
-use qbf_spelling::{HeaderAt, HeaderMove, header_move, literal, member};
+use qbf_spelling::{HeaderAt, HeaderMove, grow, header_move, literal, member};
 use qbf_text::{Stop, Token};
 use std::alloc::Global;
 use step_index::StepIndex;
@@ -48,6 +48,9 @@ pub enum Part {
     /// The step with this number.
     Step(u64),
 }
+
+/// The place that a token leads to, or why it is not taken.
+type Next = Result<At, Stop<TraceFault>>;
 
 /// The lists that are begun, and the numbers of the steps that are whole.
 #[derive(Drop)]
@@ -85,7 +88,7 @@ impl Begun {
 // ---- the header
 
 /// Takes a token of the header.
-fn take_header(begun: &mut Begun, token: Token) -> Result<At, Stop<TraceFault>>
+fn take_header(begun: &mut Begun, token: Token) -> Next
     requires sound { IsBegun at.Header begun.old }
     ensures row { Moves (row_at begun.old at.Header token) begun.new result }
     ensures sound { Leads at.Header begun.old begun.new result }
@@ -110,7 +113,7 @@ fn has_steps(index: &StepIndex) -> bool
 
 /// Begins a step, if its number is new.
 #[inline(always)]
-fn open_step(begun: &mut Begun, number: u64) -> Result<At, Stop<TraceFault>>
+fn open_step(begun: &mut Begun, number: u64) -> Next
     requires number { IsNumber number }
     ensures row { Moves (step_row begun.old.index number) begun.new result }
     ensures sound { Leads at.Between begun.old begun.new result }
@@ -124,7 +127,7 @@ fn open_step(begun: &mut Begun, number: u64) -> Result<At, Stop<TraceFault>>
 
 /// Takes a token between lists.
 #[inline(always)]
-fn take_opening(begun: &mut Begun, token: Token) -> Result<At, Stop<TraceFault>>
+fn take_opening(begun: &mut Begun, token: Token) -> Next
     ensures row { Moves (row_at begun.old at.Between token) begun.new result }
     ensures sound { Leads at.Between begun.old begun.new result }
 {
@@ -142,11 +145,7 @@ fn take_opening(begun: &mut Begun, token: Token) -> Result<At, Stop<TraceFault>>
 // ---- a set
 
 /// Takes a token in a set.
-fn take_member(
-    begun: &mut Begun,
-    quantifier: Quantifier,
-    token: Token,
-) -> Result<At, Stop<TraceFault>>
+fn take_member(begun: &mut Begun, quantifier: Quantifier, token: Token) -> Next
     requires sound { IsBegun (at.Set quantifier) begun.old }
     ensures row { Moves (row_at begun.old (at.Set quantifier) token) begun.new result }
     ensures sound { Leads (at.Set quantifier) begun.old begun.new result }
@@ -164,16 +163,13 @@ fn take_member(
 
 /// Takes a token in the literals of a step.
 #[inline(always)]
-fn take_literal(begun: &mut Begun, number: u64, token: Token) -> Result<At, Stop<TraceFault>>
+fn take_literal(begun: &mut Begun, number: u64, token: Token) -> Next
     requires sound { IsBegun (at.Lits number) begun.old }
     ensures row { Moves (row_at begun.old (at.Lits number) token) begun.new result }
     ensures sound { Leads (at.Lits number) begun.old begun.new result }
 {
-    match literal(FAULTS, LAST_VARIABLE, token)? {
-        Some(lit) => match begun.lits.push(lit) {
-            Ok(()) => Ok(At::Lits(number)),
-            Err(_) => Err(Stop::Memory),
-        },
+    match grow(&mut begun.lits, literal(FAULTS, LAST_VARIABLE, token))? {
+        Some(_) => Ok(At::Lits(number)),
         None => {
             begun.ants.begin();
             Ok(At::Ants(number))
@@ -191,17 +187,14 @@ fn has_room(ants: &GrowingLists<u64>) -> bool
 
 /// Takes a token in the antecedents of a step.
 #[inline(always)]
-fn take_antecedent(begun: &mut Begun, number: u64, token: Token) -> Result<At, Stop<TraceFault>>
+fn take_antecedent(begun: &mut Begun, number: u64, token: Token) -> Next
     requires sound { IsBegun (at.Ants number) begun.old }
     ensures row { Moves (row_at begun.old (at.Ants number) token) begun.new result }
     ensures sound { Leads (at.Ants number) begun.old begun.new result }
 {
     let room = has_room(&begun.ants);
-    match antecedent(room, token)? {
-        Some(ant) => match begun.ants.push(ant) {
-            Ok(()) => Ok(At::Ants(number)),
-            Err(_) => Err(Stop::Memory),
-        },
+    match grow(&mut begun.ants, antecedent(room, token))? {
+        Some(_) => Ok(At::Ants(number)),
         None => Ok(At::Behind(Part::Step(number))),
     }
 }
@@ -209,7 +202,7 @@ fn take_antecedent(begun: &mut Begun, number: u64, token: Token) -> Result<At, S
 // ---- the whole
 
 /// Takes the word of the result, which completes the trace.
-fn take_result(token: Token) -> Result<At, Stop<TraceFault>>
+fn take_result(token: Token) -> Next
     ensures row { (b : Begun) → Moves (row_at b at.Result token) b result }
     ensures sound { (b : Begun) → Leads at.Result b b result }
 {
@@ -218,7 +211,7 @@ fn take_result(token: Token) -> Result<At, Stop<TraceFault>>
 
 /// The place that a token leads to. Whole lists and the numbers of whole steps stay as they are.
 #[inline(always)]
-pub fn take_at(here: At, begun: &mut Begun, token: Token) -> Result<At, Stop<TraceFault>>
+pub fn take_at(here: At, begun: &mut Begun, token: Token) -> Next
     requires sound { IsAt here begun.old }
     ensures row { Moves (row_at begun.old here token) begun.new result }
     ensures sound { Leads here begun.old begun.new result }
