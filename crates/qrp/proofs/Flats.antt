@@ -1,5 +1,5 @@
 -- Steps in flat buffers.
-use Rattle.std.proofs.Common.{◌≡◌, ◌<◌, ◌≤◌, ◌^◌, ℕ, zero, suc, List, [], ◌∷◌, ◌++◌, length, slice_get, get_or, Some, refl, ap, subst, sym, ◌∙◌, arith}
+use Rattle.std.proofs.Common.{◌≡◌, ◌<◌, ◌≤◌, ◌^◌, ℕ, zero, suc, List, [], ◌∷◌, ◌++◌, length, slice_get, Some, refl, ap, subst, sym, ◌∙◌, arith}
 use Rattle.std.proofs.lemmas.List.{length-append, length-map, map-append}
 use Rattle.std.specs.List.{AllByRecursion}
 use Rattle.qbf_core.specs.Blocks.{Block}
@@ -7,7 +7,6 @@ use Rattle.qbf_core.specs.Literal.{Literal}
 use Rattle.qbf_core.proofs.PrefixLaws.{AllByRecursion-push}
 use Rattle.step_index.specs.Numbers.{AreStepNumbers}
 use Rattle.qrp.specs.declared.item.Header.{Header}
-use Rattle.qrp.specs.declared.item.Outcome.{Outcome}
 use Rattle.qrp.specs.Flat.{numbered, IsFlat}
 use Rattle.qrp.specs.Inferences.{Inference, IsAt, IsInference, numbers}
 
@@ -45,17 +44,12 @@ numbered_more (n ∷ ns) (l ∷ lits) (a ∷ ants) s e f =
     ap (λ (steps : List Inference). record { number = n; lits = l; ants = a } ∷ steps)
     (numbered_more ns lits ants s (omega (arith, e)) (omega (arith, f)))
 
--- the numbers of a slice, each of which fits
-pub numbers_fit : (ns : List ℕ) → ((i : ℕ) → get_or ns i 0 < 2 ^ 64) → AllByRecursion (λ n. n < 2 ^ 64) ns
-numbers_fit [] fit = tt
-numbers_fit (n ∷ ns) fit = (fit 0, numbers_fit ns (λ i. fit (suc i)))
-
 abbrev AntsFit : Inference → Type 0
 AntsFit s = AllByRecursion (λ n. n < 2 ^ 64) s.ants
 
-pub flat_pushed : {h : Header} {sets : List Block} {ns : List ℕ} {lits : List (List Literal)} {ants : List (List ℕ)} {o : Outcome}
-    (s : Inference) → IsFlat h sets ns lits ants o → AreStepNumbers (ns ++ s.number ∷ []) → IsInference s → AntsFit s
-    → IsFlat h sets (ns ++ s.number ∷ []) (lits ++ s.lits ∷ []) (ants ++ s.ants ∷ []) o
+pub flat_pushed : {h : Header} {sets : List Block} {ns : List ℕ} {lits : List (List Literal)} {ants : List (List ℕ)}
+    (s : Inference) → IsFlat h sets ns lits ants → AreStepNumbers (ns ++ s.number ∷ []) → IsInference s → AntsFit s
+    → IsFlat h sets (ns ++ s.number ∷ []) (lits ++ s.lits ∷ []) (ants ++ s.ants ∷ [])
 flat_pushed {ns = ns} {lits = lits} {ants = ants} s f are is fit =
     let steps = numbered ns lits ants in
     let more = numbered_more ns lits ants s f.lits_counted f.ants_counted in

@@ -5,7 +5,7 @@ use Rattle.qbf_core.specs.Lists.{Growing}
 use Rattle.qbf_text.specs.Rows as rows
 use Rattle.qrp.specs.declared.fault.TraceFault.{TraceFault}
 use Rattle.qrp.specs.declared.fault.TraceFault.TheVariants.{P7}
-use Rattle.qrp.specs.declared.grammar.Parts.{Parts}
+use Rattle.qrp.specs.declared.parts.Parts.{Parts}
 use Rattle.qrp.specs.declared.item.Item.{Item}
 use Rattle.qrp.specs.declared.item.Item.TheVariants as item
 use Rattle.qrp.specs.declared.item.Outcome.TheVariants.{Sat}
@@ -77,7 +77,7 @@ stands p here = Making (made p) (place p.begun here)
 
 -- what holds of what is whole
 abbrev pub IsMade : Parts → Type 0
-IsMade p = IsFlat p.header p.sets.items p.begun.index p.begun.lits.whole p.begun.ants.whole Sat
+IsMade p = IsFlat p.header p.sets.items p.begun.index p.begun.lits.whole p.begun.ants.whole
 
 -- what holds at each place
 abbrev pub IsSound : At → Parts → Type 0

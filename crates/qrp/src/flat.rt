@@ -1,139 +1,47 @@
 //! Traces whose steps lie in flat buffers.
 
-ghost use Rattle.std.specs.Prelude.{◌≡◌, ◌≢◌, ◌<◌, ◌≤◌, ◌-◌, ◌^◌, false, Some, Err, [], ◌∷◌, ◌++◌};
-ghost use Rattle.std.specs.Prelude.{length, slice_get, take, IfSome, IfOk, IfErr, OnOk, OnErr};
+ghost use Rattle.std.specs.Prelude.{◌≡◌, ◌≢◌, ◌<◌, ◌≤◌, ◌-◌, ◌^◌, false, Err, [], ◌∷◌, ◌++◌};
+ghost use Rattle.std.specs.Prelude.{length, IfSome, IfOk, IfErr, OnOk, OnErr};
 ghost use Rattle.std.specs.List.{AllByRecursion};
-ghost use Rattle.qbf_core.specs.Blocks.{IsVariable};
 ghost use Rattle.qbf_text.specs.Stopping.{IfKnown};
 ghost use Rattle.qbf_text.specs.Tokens.{tokens};
 ghost use Rattle.qbf_text.specs.declared.token.Comments.TheVariants.{Qrp};
 ghost use Rattle.qrp.specs.declared.fault.TraceFault.TheVariants.{P1, P9};
 ghost use Rattle.qrp.specs.Answers.{reads_bytes, Answers, Gives, StopsBehindResult};
 ghost use Rattle.qrp.specs.Derivations.{IsWellFormed};
-ghost use Rattle.qrp.specs.Inferences.{IsLiteral, IsNumber, numbers};
+ghost use Rattle.qrp.specs.Inferences.{IsNumber, numbers};
 ghost use Rattle.qrp.specs.Making.{made, IsMade};
 ghost use Rattle.step_index.specs.Numbers.{is_used};
 
 use crate::fault::{Fault, TraceFault};
-use crate::grammar::{Parts, TraceGrammar};
+use crate::grammar::TraceGrammar;
 use crate::item::{Header, Outcome, QuantSet};
+use crate::parts::{Parts, begin_step, close};
+use crate::places::Part;
 use crate::steps::Steps;
-use qbf_core::{Lists, Lit, Var};
+use qbf_core::Lit;
 use qbf_text::{Comments, Source, read_text};
 use std::alloc::{AllocError, Global};
 use std::marker::Model;
-use step_index::StepIndex;
-
-/// The literals and the antecedents of steps, each in one buffer.
-#[derive(Drop)]
-struct FlatSteps {
-    lits: Lists<Lit>,
-    ants: Lists<u64>,
-}
-
-impl FlatSteps {
-    /// No steps. It takes no memory.
-    fn new(alloc: Global) -> FlatSteps
-        ensures { result ≡ record { lits = []; ants = [] } }
-    {
-        FlatSteps {
-            lits: Lists::new(alloc),
-            ants: Lists::new(alloc),
-        }
-    }
-
-    /// Adds a step at the end. An `Err` means that an allocation failed, and changes nothing.
-    #[inline(always)]
-    fn push(&mut self, lits: &[Lit], ants: &[u64]) -> Result<(), AllocError>
-        ensures pushed { OnOk result (self.new ≡ record {
-          lits = self.old.lits ++ lits.now ∷ [];
-          ants = self.old.ants ++ ants.now ∷ [];
-        }) }
-        ensures err { OnErr result (self.new ≡ self.old) }
-    {
-        self.lits.push(lits)?;
-        match self.ants.push(ants) {
-            Ok(()) => Ok(()),
-            Err(refused) => {
-                self.lits.pop();
-                Err(refused)
-            }
-        }
-    }
-
-    /// Takes the last step away, if there is one.
-    fn pop(&mut self)
-        ensures { self.new ≡ record {
-          lits = take (length self.old.lits - 1) self.old.lits;
-          ants = take (length self.old.ants - 1) self.old.ants;
-        } }
-    {
-        self.lits.pop();
-        self.ants.pop();
-    }
-
-    /// The literals of the step at place `i`.
-    fn lits(&self, i: usize) -> &[Lit]
-        requires { i < length self.now.lits }
-        ensures { slice_get self.now.lits i ≡ Some result.now }
-    {
-        self.lits.get(i)
-    }
-
-    /// The antecedents of the step at place `i`.
-    fn ants(&self, i: usize) -> &[u64]
-        requires { i < length self.now.ants }
-        ensures { slice_get self.now.ants i ≡ Some result.now }
-    {
-        self.ants.get(i)
-    }
-}
 
 /// A trace that keeps the literals of all its steps in one buffer and their antecedents in another.
 ///
 /// Contracts see the same value as of a `Trace`.
 #[derive(Drop)]
 pub struct FlatTrace {
-    header: Header,
-    sets: Vec<QuantSet>,
-    steps: FlatSteps,
+    parts: Parts,
     result: Outcome,
-    index: StepIndex,
 }
 
 impl Model for FlatTrace {
     ghost use Rattle.qrp.specs.Derivations.{Derivation};
-    ghost use Rattle.qrp.specs.Flat.{numbered, IsFlat};
+    ghost use Rattle.qrp.specs.Making.{made, IsMade};
 
     ghost Value = { Derivation };
 
-    ghost view = { λ t. record {
-      header = t.header;
-      sets = t.sets.items;
-      steps = numbered t.index t.steps.lits t.steps.ants;
-      result = t.result;
-    } };
+    ghost view = { λ t. record (made t.parts) { result = t.result } };
 
-    ghost invariant = { λ t.
-        IsFlat t.header t.sets.items t.index t.steps.lits t.steps.ants t.result };
-}
-
-/// Nothing is done here: the proof reads each variable, and so knows its range.
-fn know_variables(vars: &[Var])
-    ensures { AllByRecursion IsVariable vars.now }
-{
-    for var in vars {
-        let _number = var.number();
-    }
-}
-
-/// Nothing is done here: the proof reads each literal, and so knows its variable's range.
-fn know_literals(lits: &[Lit])
-    ensures { AllByRecursion IsLiteral lits.now }
-{
-    for lit in lits {
-        let _number = lit.var().number();
-    }
+    ghost invariant = { λ t. IsMade t.parts };
 }
 
 impl FlatTrace {
@@ -141,12 +49,11 @@ impl FlatTrace {
     pub(crate) fn new(alloc: Global, header: Header, claim: Outcome) -> FlatTrace
         ensures { result ≡ record { header = header; sets = []; steps = []; result = claim } }
     {
+        let mut parts = Parts::new(alloc);
+        parts.header = header;
         FlatTrace {
-            header,
-            sets: Vec::new(alloc),
-            steps: FlatSteps::new(alloc),
+            parts,
             result: claim,
-            index: StepIndex::new(alloc),
         }
     }
 
@@ -156,14 +63,8 @@ impl FlatTrace {
         ensures { result ≡ record (made parts) { result = outcome } }
     {
         FlatTrace {
-            header: parts.header,
-            sets: parts.sets,
-            steps: FlatSteps {
-                lits: parts.begun.lits.into_lists(),
-                ants: parts.begun.ants.into_lists(),
-            },
+            parts,
             result: outcome,
-            index: parts.begun.index,
         }
     }
 
@@ -172,14 +73,14 @@ impl FlatTrace {
         ensures value { result ≡ self.now.header }
         ensures sound { IsWellFormed self.now }
     {
-        self.header
+        self.parts.header
     }
 
     /// Its quantifier sets, as written.
     pub fn sets(&self) -> &[QuantSet]
         ensures { result.now ≡ self.now.sets }
     {
-        &self.sets
+        &self.parts.sets
     }
 
     /// What it claims of its formula.
@@ -198,10 +99,9 @@ impl FlatTrace {
         ensures given_back { IfErr result (λ back. back ≡ set) }
         ensures err { OnErr result (self.new ≡ self.old) }
     {
-        know_variables(&set.vars);
-        match self.sets.push(set) {
+        match self.parts.push_set(set.quantifier, &set.vars) {
             Ok(()) => Ok(()),
-            Err(refused) => Err(refused.value),
+            Err(_) => Err(set),
         }
     }
 
@@ -222,15 +122,8 @@ impl FlatTrace {
         }) }
         ensures err { OnErr result (self.new ≡ self.old) }
     {
-        know_literals(lits);
-        self.steps.push(lits, ants)?;
-        match self.index.push(number) {
-            Ok(()) => Ok(()),
-            Err(refused) => {
-                self.steps.pop();
-                Err(refused)
-            }
-        }
+        begin_step(&mut self.parts.begun, lits, ants)?;
+        close(&mut self.parts, Part::Step(number))
     }
 }
 
@@ -238,24 +131,24 @@ impl Steps for FlatTrace {
     ghost steps = { λ t. t.steps };
 
     fn len(&self) -> usize {
-        self.index.len()
+        self.parts.begun.index.len()
     }
 
     fn number(&self, i: usize) -> u64 {
-        self.index.number(i)
+        self.parts.begun.index.number(i)
     }
 
     fn lits(&self, i: usize) -> &[Lit] {
-        self.steps.lits(i)
+        self.parts.begun.lits.get(i)
     }
 
     fn ants(&self, i: usize) -> &[u64] {
-        self.steps.ants(i)
+        self.parts.begun.ants.get(i)
     }
 
     #[tactic(auto, using(crate::proofs::Positions::step_found))]
     fn position(&self, number: u64) -> Option<usize> {
-        self.index.position(number)
+        self.parts.begun.index.position(number)
     }
 }
 

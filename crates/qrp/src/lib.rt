@@ -8,6 +8,7 @@ mod grammar;
 mod item;
 mod items;
 mod laws;
+mod parts;
 mod places;
 mod reader;
 mod steps;

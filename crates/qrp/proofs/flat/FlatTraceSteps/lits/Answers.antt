@@ -4,6 +4,6 @@ use Rattle.qrp.proofs.flat.FlatTraceSteps.lits.Goals as goal
 
 pub returns : goal.returns
 returns c = λ step here.
-    let same = sym c.lits.ensures ∙ (numbered_at c.self.inside.index c.self.inside.steps.lits c.self.inside.steps.ants c.args.i step
-    (rw (← c.self.view_is) at here)).0 in
+    let begun = c.self.inside.parts.begun in
+    let same = sym c.get.ensures ∙ (numbered_at begun.index begun.lits.whole begun.ants.whole c.args.i step (rw (← c.self.view_is) at here)).0 in
     cc same

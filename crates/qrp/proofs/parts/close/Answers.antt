@@ -2,7 +2,7 @@ use Rattle.std.proofs.Common.{refl, ◌∷◌, ◌++◌, []}
 use Rattle.step_index.specs.Numbers.{AreStepNumbers}
 use Rattle.qrp.specs.Inferences.{Inference}
 use Rattle.qrp.proofs.Flats.{numbered_more, flat_pushed}
-use Rattle.qrp.proofs.grammar.close.Goals as goal
+use Rattle.qrp.proofs.parts.close.Goals as goal
 
 pub returns-in_ok-close_step-in-Step-clause-row : goal.returns-in_ok-close_step-in-Step-clause-row
 returns-in_ok-close_step-in-Step-clause-row c =

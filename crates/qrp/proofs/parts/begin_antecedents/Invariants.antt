@@ -1,0 +1,10 @@
+use Rattle.std.proofs.Common.{◌≡◌, ◌<◌, ◌^◌, take}
+use Rattle.qbf_spelling.proofs.Words.{AllByRecursion}
+use Rattle.qrp.proofs.parts.begin_antecedents.Given as goal
+
+abbrev pub invariant-loop-ant : goal.invariant-loop-ant
+invariant-loop-ant l = record {
+  begun : l.lists.begun ≡ take l.ant-index l.ants;
+  fit : AllByRecursion (λ n. n < 2 ^ 64) (take l.ant-index l.ants);
+  whole : l.lists.whole ≡ l.fn.lists.whole;
+}

@@ -1,0 +1,241 @@
+//! What a trace is made of, part by part, whether it is read or pushed to.
+
+ghost use Rattle.std.specs.Prelude.{◌≡◌, ◌<◌, ◌≤◌, ◌^◌, false, [], ◌∷◌, ◌++◌, length};
+ghost use Rattle.std.specs.Prelude.{OnOk, OnErr};
+ghost use Rattle.std.specs.List.{AllByRecursion};
+ghost use Rattle.qbf_core.specs.Blocks.{IsVariable};
+ghost use Rattle.qbf_spelling.specs.declared.header.HeaderAt.TheVariants as header;
+ghost use Rattle.qbf_text.specs.Rows.{Goes};
+ghost use Rattle.qrp.specs.Inferences.{IsLiteral};
+ghost use Rattle.qrp.specs.Making.{Making, row_with, closed, made, IsMade};
+ghost use Rattle.qrp.specs.Places.{row_of, IsComplete, Stays};
+ghost use Rattle.qrp.specs.Reading.{Between, nothing};
+ghost use Rattle.step_index.specs.Numbers.{is_used, AreStepNumbers};
+
+use crate::item::{Header, QuantSet};
+use crate::places::{Begun, Part};
+use qbf_core::{GrowingLists, Lit, Quantifier, Var};
+use std::alloc::{AllocError, Global};
+use std::mem;
+use step_index::StepIndex;
+
+/// The parts of a trace.
+#[derive(Drop)]
+pub struct Parts {
+    pub alloc: Global,
+    pub header: Header,
+    /// The sets that are whole.
+    pub sets: Vec<QuantSet>,
+    /// The lists that are begun, which whole ones come before.
+    pub begun: Begun,
+}
+
+impl Parts {
+    /// Nothing yet. It takes no memory.
+    pub fn new(alloc: Global) -> Parts
+        ensures sound { IsMade result }
+        ensures made { made result ≡ nothing }
+        ensures index { result.begun.index ≡ [] }
+        ensures header { result.begun.header ≡ header.P }
+    {
+        Parts {
+            alloc,
+            header: Header { vars: 0, steps: 0 },
+            sets: Vec::new(alloc),
+            begun: Begun::new(alloc),
+        }
+    }
+
+    /// Adds a set with these variables after the others.
+    ///
+    /// # Errors
+    /// Out of memory. What is whole is as it was then.
+    pub fn push_set(&mut self, quantifier: Quantifier, vars: &[Var]) -> Result<(), AllocError>
+        requires { IsMade self.old }
+        ensures pushed { OnOk result (made self.new ≡ record (made self.old) {
+          sets = self.old.sets.items ++ record { quantifier = quantifier; vars = vars.now } ∷ [];
+        }) }
+        ensures err { OnErr result (made self.new ≡ made self.old) }
+        ensures sound { IsMade self.new }
+    {
+        begin_set(&mut self.begun.vars, vars)?;
+        close_set(&mut self.sets, &mut self.begun.vars, self.alloc, quantifier)
+    }
+}
+
+// ---- sets
+
+/// Adds a variable, which is in range, to the list that is begun.
+#[inline(always)]
+fn push_variable(begun: &mut Vec<Var>, var: Var) -> Result<(), AllocError>
+    ensures pushed { OnOk result (begun.new.items ≡ begun.old.items ++ var ∷ []) }
+    ensures in_range { IsVariable var }
+{
+    begun.push(var)?;
+    Ok(())
+}
+
+/// Begins the list of these variables in place of the one that is begun.
+fn begin_set(begun: &mut Vec<Var>, vars: &[Var]) -> Result<(), AllocError>
+    ensures begun { OnOk result (begun.new.items ≡ vars.now) }
+    ensures in_range { OnOk result (AllByRecursion IsVariable vars.now) }
+{
+    begun.clear();
+    for var in vars {
+        push_variable(begun, *var)?;
+    }
+    Ok(())
+}
+
+/// Puts the set that is begun after the others.
+fn close_set(
+    sets: &mut Vec<QuantSet>,
+    vars: &mut Vec<Var>,
+    alloc: Global,
+    quantifier: Quantifier,
+) -> Result<(), AllocError>
+    ensures closed { OnOk result (sets.new.items
+        ≡ sets.old.items ++ record { quantifier = quantifier; vars = vars.old.items } ∷ []) }
+    ensures err { OnErr result (sets.new.items ≡ sets.old.items) }
+{
+    let vars = mem::replace(vars, Vec::new(alloc));
+    sets.push(QuantSet { quantifier, vars })?;
+    Ok(())
+}
+
+// ---- steps
+
+/// Adds a literal, which has a variable, to the list that is begun.
+#[inline(always)]
+fn push_literal(lists: &mut GrowingLists<Lit>, lit: Lit) -> Result<(), AllocError>
+    ensures pushed { OnOk result (lists.new
+        ≡ record lists.old { begun = lists.old.begun ++ lit ∷ [] }) }
+    ensures in_range { IsLiteral lit }
+    ensures err { OnErr result (lists.new ≡ lists.old) }
+{
+    lists.push(lit)
+}
+
+/// Begins the list of these literals in place of the one that is begun.
+fn begin_literals(lists: &mut GrowingLists<Lit>, lits: &[Lit]) -> Result<(), AllocError>
+    ensures begun { OnOk result (lists.new.begun ≡ lits.now) }
+    ensures in_range { OnOk result (AllByRecursion IsLiteral lits.now) }
+    ensures whole { lists.new.whole ≡ lists.old.whole }
+{
+    lists.begin();
+    for lit in lits {
+        push_literal(lists, *lit)?;
+    }
+    Ok(())
+}
+
+/// Begins the list of these antecedents in place of the one that is begun.
+fn begin_antecedents(lists: &mut GrowingLists<u64>, ants: &[u64]) -> Result<(), AllocError>
+    ensures begun { OnOk result (lists.new.begun ≡ ants.now) }
+    ensures fit { OnOk result (AllByRecursion (λ n. n < 2 ^ 64) ants.now) }
+    ensures whole { lists.new.whole ≡ lists.old.whole }
+{
+    lists.begin();
+    for ant in ants {
+        lists.push(*ant)?;
+    }
+    Ok(())
+}
+
+/// Begins the lists of a step in place of those that are begun.
+pub fn begin_step(begun: &mut Begun, lits: &[Lit], ants: &[u64]) -> Result<(), AllocError>
+    ensures lits { OnOk result (begun.new.lits.begun ≡ lits.now) }
+    ensures ants { OnOk result (begun.new.ants.begun ≡ ants.now) }
+    ensures in_range { OnOk result (AllByRecursion IsLiteral lits.now) }
+    ensures fit { OnOk result (AllByRecursion (λ n. n < 2 ^ 64) ants.now) }
+    ensures stays { Stays begun.old begun.new }
+{
+    begin_literals(&mut begun.lits, lits)?;
+    begin_antecedents(&mut begun.ants, ants)?;
+    Ok(())
+}
+
+/// Puts the antecedents that are begun after the others, and the number of their step.
+///
+/// # Errors
+/// Out of memory. The whole lists and the numbers are as they were then.
+#[inline(always)]
+fn close_antecedents(
+    ants: &mut GrowingLists<u64>,
+    index: &mut StepIndex,
+    number: u64,
+) -> Result<(), AllocError>
+    requires { is_used number index.old ≡ false }
+    ensures ants { OnOk result (ants.new ≡ closed ants.old) }
+    ensures index { OnOk result (index.new ≡ index.old ++ number ∷ []) }
+    ensures sound { OnOk result (AreStepNumbers index.new) }
+    ensures err { OnErr result ((ants.new.whole ≡ ants.old.whole) × (index.new ≡ index.old)) }
+{
+    ants.close()?;
+    match index.push(number) {
+        Ok(()) => Ok(()),
+        Err(refused) => {
+            ants.pop();
+            Err(refused)
+        }
+    }
+}
+
+/// Puts the step that is begun after the others.
+///
+/// # Errors
+/// Out of memory. What is whole is as it was then.
+#[inline(always)]
+fn close_step(begun: &mut Begun, number: u64) -> Result<(), AllocError>
+    requires { is_used number begun.old.index ≡ false }
+    ensures closed { OnOk result (begun.new ≡ record begun.old {
+      lits = closed begun.old.lits;
+      ants = closed begun.old.ants;
+      index = begun.old.index ++ number ∷ [];
+    }) }
+    ensures sound { OnOk result (AreStepNumbers begun.new.index) }
+    ensures err { OnErr result (Stays begun.old begun.new) }
+{
+    begun.lits.close()?;
+    match close_antecedents(&mut begun.ants, &mut begun.index, number) {
+        Ok(()) => Ok(()),
+        Err(refused) => {
+            begun.lits.pop();
+            Err(refused)
+        }
+    }
+}
+
+// ---- the whole
+
+/// Puts a part that is complete after the others.
+///
+/// # Errors
+/// Out of memory. What is whole is as it was then.
+#[inline(always)]
+pub fn close(parts: &mut Parts, part: Part) -> Result<(), AllocError>
+    requires made { IsMade parts.old }
+    requires complete { IsComplete part parts.old.begun }
+    ensures row { OnOk result (
+        row_with (made parts.old) (row_of parts.old.begun part)
+        ≡ Goes (Making (made parts.new) (Between parts.new.begun.index))) }
+    ensures sound { IsMade parts.new }
+    ensures err { OnErr result (made parts.new ≡ made parts.old) }
+{
+    match part {
+        Part::Header(header) => {
+            parts.header = header;
+            Ok(())
+        }
+        Part::Set(quantifier) => close_set(
+            &mut parts.sets,
+            &mut parts.begun.vars,
+            parts.alloc,
+            quantifier,
+        ),
+        Part::Step(number) => {
+            close_step(&mut parts.begun, number)?;
+            Ok(())
+        }
+    }
+}
