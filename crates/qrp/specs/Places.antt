@@ -86,14 +86,14 @@ IsComplete (part.Step n) b = IsNew n b.index × AllByRecursion IsLiteral b.lits.
 abbrev pub IsBegun : At → Begun → Type 0
 IsBegun at.Header b = b.index ≡ []
 IsBegun at.Between b = ⊤
-IsBegun (at.Set q) b = (b.index ≡ []) × AllByRecursion IsVariable b.vars.items
+IsBegun (at.Set q) b = IsComplete (part.Set q) b
 IsBegun (at.Lits n) b = IsNew n b.index × AllByRecursion IsLiteral b.lits.begun
-IsBegun (at.Ants n) b = IsNew n b.index × AllByRecursion IsLiteral b.lits.begun × AreAntecedents b.ants.begun
+IsBegun (at.Ants n) b = IsComplete (part.Step n) b
 IsBegun at.Result b = ⊤
 IsBegun (at.Behind p) b = IsComplete p b
 IsBegun (at.Whole o) b = ⊤
 
--- the same where a token is taken
+-- the same, but nothing behind a part, where no token is taken
 abbrev pub IsAt : At → Begun → Type 0
 IsAt (at.Behind p) b = ⊤
 IsAt here b = IsBegun here b
