@@ -407,6 +407,18 @@ fn growing_lists(rt: HostRuntime) -> Result<(), Fail> {
 }
 
 #[test]
+fn whole_lists(rt: HostRuntime) -> Result<(), Fail> {
+    let mut growing = grown_lists(&rt, rt.alloc())?;
+    assert_eq!(rt; growing.whole_len(), 3);
+    assert!(rt; growing.get(0) == [7, 9].as_slice());
+    assert!(rt; growing.get(2) == [4].as_slice());
+    growing.pop();
+    assert_eq!(rt; growing.whole_len(), 2);
+    assert!(rt; growing.begun().is_empty());
+    Ok(())
+}
+
+#[test]
 fn letters(rt: HostRuntime) {
     assert_eq!(rt; Quantifier::All.letter(), b'a');
     assert_eq!(rt; Quantifier::Exists.letter(), b'e');
