@@ -74,17 +74,26 @@ impl Grammar for TraceGrammar {
 
     #[inline(always)]
     fn take(&mut self, token: Token) -> Result<Taken<()>, Stop<TraceFault>> {
-        self.at = take_at(self.at, &mut self.parts.begun, token)?;
-        match self.at {
+        match take_at(self.at, &mut self.parts.begun, token)? {
             At::Behind(part) => match close(&mut self.parts, part) {
                 Ok(()) => {
                     self.at = At::Between;
                     Ok(Taken::More)
                 }
-                Err(_) => Err(Stop::Memory),
+                Err(_) => {
+                    // No token is taken behind a part, whichever it is.
+                    self.at = At::Behind(Part::Step(0));
+                    Err(Stop::Memory)
+                }
             },
-            At::Whole(_) => Ok(Taken::Done(())),
-            _ => Ok(Taken::More),
+            At::Whole(outcome) => {
+                self.at = At::Whole(outcome);
+                Ok(Taken::Done(()))
+            }
+            next => {
+                self.at = next;
+                Ok(Taken::More)
+            }
         }
     }
 }

@@ -78,8 +78,8 @@ pub fn antecedent(room: bool, token: Token) -> Result<Option<u64>, TraceFault>
 {
     match token {
         Token::Number { negative, value } if !negative && value == 0 => Ok(None),
+        Token::Number { negative, value } if !negative && room => Ok(Some(value)),
         Token::Number { .. } | Token::Big if !room => Err(TraceFault::P6),
-        Token::Number { negative, value } if !negative => Ok(Some(value)),
         Token::Number { .. } | Token::Big => Err(TraceFault::P4),
         Token::End => Err(TraceFault::P7),
         Token::Word(_) | Token::Bad => Err(TraceFault::P3),
