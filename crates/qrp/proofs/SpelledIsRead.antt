@@ -1,7 +1,7 @@
 -- What tokens spell is read, and a fault that stands is found.
-use Rattle.std.proofs.Common.{◌≡◌, ℕ, List, [], ◌∷◌, ◌++◌, map, Ok, Err, refl, ap, sym, ◌∙◌, append_assoc, append-nil}
+use Rattle.std.proofs.Common.{◌≡◌, ℕ, List, [], ◌∷◌, ◌++◌, map, Ok, Err, refl, ap, ◌∙◌, append_assoc, append-nil}
 use Rattle.qbf_spelling.proofs.Words
-use Words.{map-append, Block, Token, Lined, unlined}
+use Words.{Block, Token, Lined, unlined}
 use Words.token
 use Words.word
 use Rattle.qbf_text.proofs.AcceptedTokens.{split_at}
