@@ -21,7 +21,7 @@ pub data Progress : Type 0 where
   Making : Derivation → Place → Progress
   -- behind the result
   Whole : Derivation → Progress
-  -- behind a part for which there was no memory
+  -- behind a part, where a trace that is made never stays
   Over : Progress
 
 -- what a place makes of a token while a trace is made

@@ -75,17 +75,13 @@ impl Grammar for TraceGrammar {
     #[inline(always)]
     fn take(&mut self, token: Token) -> Result<Taken<()>, Stop<TraceFault>> {
         match take_at(self.at, &mut self.parts.begun, token)? {
-            At::Behind(part) => match close(&mut self.parts, part) {
-                Ok(()) => {
-                    self.at = At::Between;
-                    Ok(Taken::More)
+            At::Behind(part) => {
+                self.at = At::Between;
+                match close(&mut self.parts, part) {
+                    Ok(()) => Ok(Taken::More),
+                    Err(_) => Err(Stop::Memory),
                 }
-                Err(_) => {
-                    // No token is taken behind a part, whichever it is.
-                    self.at = At::Behind(Part::Step(0));
-                    Err(Stop::Memory)
-                }
-            },
+            }
             At::Whole(outcome) => {
                 self.at = At::Whole(outcome);
                 Ok(Taken::Done(()))
