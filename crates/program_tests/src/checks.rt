@@ -3,11 +3,10 @@
 
 ghost use Rattle.std.specs.Prelude.{◌<◌};
 
-use crate::traces::is_written;
 use qbf_core::{Formula, Var};
 use qbf_text::{PieceSource, SinkFault, SliceSource, VecSink, put_bytes, put_number};
 use qdimacs::{FormulaFault, read_formula};
-use qrp::{Steps, Trace, TraceFault, read_trace};
+use qrp::{Steps, Trace, TraceFault, read_trace, write_trace};
 use qrp_check::{CheckFault, Fault, RuleFault, Rules, Verified, check, trim, verify};
 use std::alloc::Global;
 use std::process::Abort;
@@ -187,7 +186,9 @@ fn keeps_what_the_goal_needs(rt: HostRuntime) -> Result<(), Fail> {
     let alloc = rt.alloc();
     for rules in [Rules::plain(), Rules::any_pivot()] {
         let left = trimmed(alloc, rules, FALSE_FORMULA, REFUTATION)?;
-        is_written(&rt, alloc, &left, REFUTATION)?;
+        let mut sink = VecSink::new(alloc, 0)?;
+        assert!(&rt; write_trace(&left, &mut sink).is_ok());
+        assert_eq!(&rt; sink.bytes(), REFUTATION);
     }
     Ok(())
 }
