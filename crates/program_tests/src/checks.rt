@@ -1,13 +1,15 @@
-//! What the rows of `tests/*.rows` do not show: verdicts with their cores, faults as values, single
-//! pulls, and trimmed traces step by step.
+//! What the rows of `tests/*.rows` do not show: verdicts with their cores, and trimmed traces step by
+//! step.
 
-ghost use Rattle.std.specs.Prelude.{◌<◌};
+ghost use Rattle.std.specs.Prelude.{◌<◌, length};
+ghost use Rattle.std.specs.List.{AllByRecursion};
+ghost use Rattle.std.specs.List.Sorted.{IsStrictlyIncreasing};
 
-use qbf_core::{Formula, Var};
-use qbf_text::{PieceSource, SinkFault, SliceSource, VecSink, put_bytes, put_number};
-use qdimacs::{FormulaFault, read_formula};
-use qrp::{Steps, Trace, TraceFault, read_trace, write_trace};
-use qrp_check::{CheckFault, Fault, RuleFault, Rules, Verified, check, trim, verify};
+use qbf_core::Formula;
+use qbf_text::{SinkFault, SliceSource, VecSink, put_bytes, put_number};
+use qdimacs::read_formula;
+use qrp::{Steps, Trace, read_trace, write_trace};
+use qrp_check::{CheckFault, Fault, Rules, Verified, check, trim, verify};
 use std::alloc::Global;
 use std::process::Abort;
 use std::test::Fail;
@@ -85,46 +87,6 @@ fn verifies_proofs(rt: HostRuntime) -> Result<(), Fail> {
     verifies(&rt, alloc, TRUE_FORMULA, PROOF_OF_TRUTH, true, &all)
 }
 
-/// Compares a result with a fault.
-fn expect_fault(rt: &impl Abort, answer: Result<Verified, CheckFault>, fault: &CheckFault) {
-    assert_eq!(rt; answer.err(), Some(*fault));
-}
-
-#[test]
-fn names_the_first_fault(rt: HostRuntime) -> Result<(), Fail> {
-    let alloc = rt.alloc();
-    let one = Var::new(1).expect(&rt, "a variable");
-    for (formula, trace, fault) in [
-        (EMPTY_CLAUSE, REFUTATION, CheckFault::C1(one)),
-        (TRUE_FORMULA, REFUTATION, CheckFault::C2(one)),
-        // The cube of the second step meets the second clause alone.
-        (
-            FALSE_FORMULA,
-            PROOF_OF_TRUTH,
-            CheckFault::C6(2, RuleFault::S5),
-        ),
-    ] {
-        for rules in [Rules::plain(), Rules::any_pivot()] {
-            let answer = checked(alloc, rules, formula, trace)?;
-            expect_fault(&rt, answer, &fault);
-            let answer = verified(alloc, rules, formula, trace);
-            assert_eq!(rt; answer.err(), Some(Fault::Check(fault)));
-        }
-    }
-    Ok(())
-}
-
-#[test]
-fn names_the_fault_of_a_text(rt: HostRuntime) {
-    let mut formula = SliceSource::new(REFUTATION);
-    let mut trace = PieceSource::new(FALSE_FORMULA, 1, 0);
-    let answer = verify(rt.alloc(), &mut formula, &mut trace, Rules::plain());
-    assert_eq!(rt; answer.err(), Some(Fault::Formula(FormulaFault::F2, 1)));
-    assert_eq!(rt; trace.pulls(), 0, "the trace of a faulty formula");
-    let answer = verified(rt.alloc(), Rules::plain(), FALSE_FORMULA, TRUE_FORMULA);
-    assert_eq!(rt; answer.err(), Some(Fault::Trace(TraceFault::P2, 1)));
-}
-
 /// Sends a step without literals that follows from an earlier one.
 fn put_link(sink: &mut VecSink, number: u64, earlier: u64) -> Result<(), SinkFault> {
     put_number(sink, number)?;
@@ -168,10 +130,20 @@ fn follows_a_long_chain(rt: HostRuntime) -> Result<(), Fail> {
     Ok(())
 }
 
+/// What is left of a trace that proves its result.
+fn shortened(alloc: Global, whole: &Trace, verified: &Verified) -> Result<Trace, Fail>
+    requires rises { IsStrictlyIncreasing verified.now.core.items }
+    requires within { AllByRecursion (λ i. i < length whole.now.steps) verified.now.core.items }
+{
+    Ok(trim(alloc, whole, verified)?)
+}
+
 /// What is left of a trace that proves its result on a formula.
 fn trim_on(alloc: Global, rules: Rules, formula: &Formula, whole: &Trace) -> Result<Trace, Fail> {
-    let verified = check(alloc, formula, whole, whole.sets(), whole.result(), rules)?;
-    Ok(trim(alloc, whole, &verified)?)
+    match check(alloc, formula, whole, whole.sets(), whole.result(), rules) {
+        Ok(verified) => shortened(alloc, whole, &verified),
+        Err(_) => Err(Fail::new("the trace was refused")),
+    }
 }
 
 /// The same of two texts.

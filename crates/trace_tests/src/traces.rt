@@ -512,8 +512,15 @@ fn push_set_again(rt: &impl Abort, trace: &mut Trace, set: QuantSet)
     let sets = trace.sets().len();
     if let Err(back) = trace.push_set(set) {
         assert_eq!(rt; trace.sets().len(), sets);
-        assert!(rt; trace.push_set(back).is_ok());
+        push_refused_set(rt, trace, back);
     }
+}
+
+/// Adds a set that was refused once.
+fn push_refused_set(rt: &impl Abort, trace: &mut Trace, set: QuantSet)
+    ensures { trace.new ≡ record trace.old { sets = trace.old.sets ++ set ∷ [] } }
+{
+    assert!(rt; trace.push_set(set).is_ok());
 }
 
 /// Adds a step. If an allocation fails, the trace is as it was, and the second try adds it.
