@@ -23,7 +23,7 @@ LIBRARY = lib/libqrp.a
 FILL = sed 's|@PREFIX@|$(PREFIX)|; s|@VERSION@|$(shell cat VERSION)|'
 
 .PHONY: all lib demo check test proved-before gate bench dist install clean
-.PHONY: test-refusals test-program test-scripts test-examples test-library test-dist test-proofs
+.PHONY: test-refusals test-program test-scripts test-examples test-library test-dist test-proofs test-checks
 
 all: $(PROGRAM)
 
@@ -61,12 +61,13 @@ test: $(PROVED)
 	RT=$(RT) scripts/build-library lib
 	scripts/check-promises
 	scripts/check-memory-faults
+	scripts/check-adapters
 	$(MAKE) --no-print-directory check
 
 # What is built is tested, side by side: some two minutes.
 check:
 	@for built in $(PROGRAM) $(ECHO) $(LIBRARY); do [ -e $$built ] || { echo "make check: there is no $$built: run 'make test' first"; exit 2; }; done
-	$(MAKE) --jobs --output-sync=target test-refusals test-program test-scripts test-examples test-library test-dist test-proofs
+	$(MAKE) --jobs --output-sync=target test-refusals test-program test-scripts test-examples test-library test-dist test-proofs test-checks
 
 test-refusals:
 	scripts/test-refusals
@@ -88,6 +89,9 @@ test-dist:
 
 test-proofs:
 	scripts/test-proofs
+
+test-checks:
+	scripts/test-checks
 
 gate:
 	RT=$(RT) scripts/gate
