@@ -1,7 +1,10 @@
 """Finds the steps that a proof needs: the last one without literals, and those below it. A part of scripts/explain and the scripts beside it."""
 
+import operator
 from array import array
 from bisect import bisect_left
+from itertools import islice, repeat
+from operator import itemgetter
 
 
 class Core:
@@ -11,42 +14,50 @@ class Core:
         self.numbers = array("Q")
         self.antecedents = array("Q"), array("Q")  # 0 where there is none
         self.goal = None
-        ascending = True
-        for step in trace.steps():
-            head, _, tail = step.text.partition(b" 0 ")
-            number, _, literals = head.partition(b" ")
-            named = tail.split()
-            number = int(number)
-            ascending = ascending and not (self.numbers and number <= self.numbers[-1])
-            if not literals:
-                self.goal = len(self.numbers)
-            self.numbers.append(number)
-            self.antecedents[0].append(int(named[0]))
-            self.antecedents[1].append(int(named[1]) if len(named) > 1 else 0)
-        self.places = None if ascending else {number: place for place, number in enumerate(self.numbers)}
+        for _, texts in trace.pieces():
+            self.take(texts)
+        self.find = self.finder()
         self.needed = self.mark()
 
-    def place(self, number):
-        """The place of the step with this number, None if there is none."""
-        if self.places is not None:
-            return self.places.get(number)
-        place = bisect_left(self.numbers, number)
-        return place if place < len(self.numbers) and self.numbers[place] == number else None
+    def take(self, texts):
+        """Adds these steps."""
+        split = list(map(bytes.partition, texts, repeat(b" 0 ")))
+        begun = len(self.numbers)
+        heads = list(map(itemgetter(0), split))
+        self.numbers.extend(map(int, map(itemgetter(0), map(bytes.partition, heads, repeat(b" ")))))
+        named = list(map(bytes.split, map(itemgetter(2), split)))
+        self.antecedents[0].extend(map(int, map(itemgetter(0), named)))
+        self.antecedents[1].extend([int(words[1]) if len(words) > 1 else 0 for words in named])
+        empty = [place for place, head in enumerate(heads) if b" " not in head]
+        if empty:
+            self.goal = begun + empty[-1]
+
+    def finder(self):
+        """What gives the place of the step with a number: one that is none where there is no such step."""
+        numbers, none = self.numbers, len(self.numbers)
+        if all(map(operator.lt, numbers, islice(numbers, 1, None))):
+            if numbers and numbers[-1] - numbers[0] == none - 1:
+                first = numbers[0]
+                return lambda number: number - first if first <= number else none
+            return lambda number: place if (place := bisect_left(numbers, number)) < none and numbers[place] == number else none
+        places = {number: place for place, number in enumerate(numbers)}
+        return lambda number: places.get(number, none)
 
     def mark(self):
         """A byte for each step, which is 1 if the proof needs it."""
-        needed = bytearray(len(self.numbers))
+        needed, find = bytearray(len(self.numbers)), self.find
         if self.goal is None:
             return needed
-        needed[self.goal] = 1
-        for place in range(self.goal, -1, -1):
-            if needed[place]:
-                for antecedents in self.antecedents:
-                    below = antecedents[place] and self.place(antecedents[place])
-                    if antecedents[place] and below is not None and below < place:
-                        needed[below] = 1
+        first, second = self.antecedents
+        place = self.goal
+        while place >= 0:
+            needed[place] = 1
+            for number in (first[place], second[place]):
+                if number and (below := find(number)) < place:
+                    needed[below] = 1
+            place = needed.rfind(1, 0, place)
         return needed
 
     def needs(self, number):
-        place = self.place(number)
-        return place is not None and bool(self.needed[place])
+        place = self.find(number)
+        return place < len(self.numbers) and bool(self.needed[place])

@@ -7,6 +7,7 @@ from collections import namedtuple
 
 from qrp_words import ALL, GREATEST, GREATEST_VARIABLE, Fault, Words, value
 
+SET_BYTES, CLAUSE_BYTES = frozenset(b"ae"), frozenset(b"-123456789")
 EXISTS, FOR_ALL = "exists", "for all"
 QUANTIFIERS = {b"e": EXISTS, b"a": FOR_ALL}
 ADJECTIVES = {EXISTS: "existential", FOR_ALL: "universal"}
@@ -38,9 +39,9 @@ class Formula:
 
     def read_set(self, words):
         """Reads a quantifier set, if there is one."""
-        text = words.whole_line(b"ae", 0)
+        text = words.whole_line(SET_BYTES)
         if text:
-            self.bind(text[:1], map(int, text[1:-2].split()), words.line)
+            self.bind(text[:1], map(int, text[1:-1].split()), words.line)
             return True
         word = words.next()
         if word not in QUANTIFIERS:
@@ -72,24 +73,28 @@ class Formula:
 
     def clauses(self):
         """Each clause in file order."""
-        words, number = self.words.again(), 0
+        for number, line, texts in self.pieces():
+            for place, text in enumerate(texts):
+                literals = frozenset(map(int, text[:-1].split()))
+                yield Clause(number + place, line + place, literals, is_clean(literals))
+
+    def pieces(self):
+        """The clauses in file order, some at a time: number and line of the first, and the text of each, on lines of their own."""
+        words, number = self.words.again(), 1
         while True:
-            text = words.whole_line(b"-123456789", 0)
-            number += 1
-            if text and number <= self.count:
-                literals = frozenset(map(int, text[:-2].split()))
-                yield Clause(number, words.line, literals, is_clean(literals))
+            texts = words.whole_lines(CLAUSE_BYTES, 0)
+            if texts:
+                yield number, words.line - len(texts) + 1, texts
+                number += len(texts)
                 continue
-            if text:
-                words.split()
             word = words.next()
             if word is None and number > self.count:
                 return
             self.refuse_start(words, word, number)
             words.back()
             line = words.line
-            literals = frozenset(self.literals(words, number))
-            yield Clause(number, line, literals, is_clean(literals))
+            yield number, line, [b" ".join(b"%d" % literal for literal in [*self.literals(words, number), 0])]
+            number += 1
 
     def refuse_start(self, words, word, number):
         """The faults of a word between clauses, after number - 1 of them."""

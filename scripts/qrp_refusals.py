@@ -3,8 +3,12 @@
 A part of scripts/explain. Each function returns sentences.
 """
 
+from itertools import repeat
+from operator import itemgetter
+
 from qrp_formula import ADJECTIVES, UNBOUND
 from qrp_looks import looks
+from qrp_steps import Step
 from qrp_words import WORD, value
 
 SHOWN = 60  # bytes of a line before and after the marked word
@@ -261,12 +265,14 @@ def explain_sets(formula, trace):
 def explain_no_goal(trace):
     """Sentences on a trace without an empty step, and whether it has none."""
     steps, shortest, goal = 0, None, False
-    for step in trace.steps():
-        steps += 1
-        length = step.text.count(b" ", 0, step.text.index(b" 0 "))
-        goal = goal or length == 0
-        if shortest is None or length < shortest[0]:
-            shortest = (length, step)
+    for line, texts in trace.pieces():
+        steps += len(texts)
+        heads = map(itemgetter(0), map(bytes.partition, texts, repeat(b" 0 ")))
+        lengths = list(map(bytes.count, heads, repeat(b" ")))
+        goal = goal or 0 in lengths
+        if shortest is None or min(lengths) < shortest[0]:
+            place = lengths.index(min(lengths))
+            shortest = (lengths[place], Step(line + place, texts[place]))
     word = "clause" if trace.result == "unsat" else "cube"
     sentences = [f"The trace says `r {trace.result}`, and none of its {counted(steps, 'step')} is the empty {word}, so nothing is proved."]
     if not steps:
@@ -280,7 +286,8 @@ def free_variables(formula):
     """The variables of the clauses that no quantifier set binds, in their order."""
     free, seen = set(), set()
     words = formula.words.again()
-    for text in [b" ".join(words.words[words.at :]), *words.texts]:
+    rest = words.data[words.start + len(words.text) :].split(b"\n")
+    for text in [b" ".join(words.words[words.at :]), *rest]:
         if text.lstrip()[:1] == b"c":
             continue
         new = {word for word in WORD.findall(text) if word not in seen}

@@ -8,15 +8,14 @@ SENTENCES = 6
 
 def find_step(trace, number):
     """The step, and those that it names: the literals of earlier ones and the lines of later ones, by their numbers."""
-    start = b"%d " % number
-    found = next((step for step in trace.steps() if step.text.startswith(start) or step.number == number), None)
+    found = next(trace.with_numbers([number]), None)
     if found is None:
         return None, {}, {}
     before, later, passed = {}, {}, False
-    starts = tuple(b"%d " % n for n in found.antecedents)
-    for step in trace.steps():
-        passed = passed or step.line >= found.line and step.number == number
-        if starts and (step.text.startswith(starts) or step.text.startswith(b"0") and step.number in found.antecedents):
+    # It is among those that are looked for, so that the order of the steps is seen.
+    for step in trace.with_numbers([number, *found.antecedents]):
+        passed = passed or step.number == number
+        if step.number in found.antecedents:
             if passed:
                 later[step.number] = step.line
             else:

@@ -5,16 +5,19 @@ lines of text, and taken apart when they are looked at.
 """
 
 from collections import namedtuple
+from itertools import repeat
 
-from qrp_formula import QUANTIFIERS
+from qrp_formula import QUANTIFIERS, SET_BYTES
 from qrp_words import ALL, GREATEST, GREATEST_VARIABLE, Fault, Words, value
+
+STEP_BYTES = frozenset(b"123456789")
 
 # A variable that a quantifier set of the trace names.
 SetVariable = namedtuple("SetVariable", "variable quantifier line")
 
 
 class Step(namedtuple("Step", "line text")):
-    """A step: its line in the trace, and its text as one line with single zeros."""
+    """A step: its line in the trace, and its text as one line with single zeros, without the line end."""
 
     __slots__ = ()
 
@@ -28,7 +31,7 @@ class Step(namedtuple("Step", "line text")):
 
     @property
     def antecedents(self):
-        return list(map(int, self.text[self.text.index(b" 0 ") + 3 : -3].split()))
+        return list(map(int, self.text[self.text.index(b" 0 ") + 3 : -1].split()))
 
 
 class Trace:
@@ -45,9 +48,9 @@ class Trace:
 
     def read_set(self, words):
         """Reads a quantifier set, if there is one."""
-        text = words.whole_line(b"ae", 0)
+        text = words.whole_line(SET_BYTES)
         if text:
-            self.sets += [SetVariable(variable, QUANTIFIERS[text[:1]], words.line) for variable in map(int, text[1:-2].split())]
+            self.sets += [SetVariable(variable, QUANTIFIERS[text[:1]], words.line) for variable in map(int, text[1:-1].split())]
             return True
         word = words.next()
         if word not in QUANTIFIERS:
@@ -58,20 +61,36 @@ class Trace:
             self.sets.append(SetVariable(variable, QUANTIFIERS[word], line))
         return True
 
-    def steps(self, last=ALL):
-        """Each step in file order that begins up to this line. After the last one of all the result is known."""
+    def steps(self):
+        """Each step in file order. After the last one the result is known."""
+        for line, texts in self.pieces():
+            for place, text in enumerate(texts):
+                yield Step(line + place, text)
+
+    def with_numbers(self, numbers, last=ALL):
+        """The steps with one of these numbers, in file order, up to this line."""
+        starts = tuple(b"%d " % number for number in numbers)
+        for line, texts in self.pieces(last):
+            if any(map(bytes.startswith, texts, repeat(starts))):
+                yield from (Step(line + place, text) for place, text in enumerate(texts) if text.startswith(starts))
+
+    def pieces(self, last=ALL):
+        """The steps in file order, some at a time, up to this line: the line of the first, and the text of each, on lines of their own."""
         words, seen = self.words.again(), {}
-        while True:
-            text = words.whole_line(b"123456789", 1)
-            if text:
-                yield Step(words.line, text)
+        while words.line < last or words.at < len(words.words):
+            texts = words.whole_lines(STEP_BYTES, 1)
+            if texts:
+                yield words.line - len(texts) + 1, texts
                 continue
-            word = words.next()
-            if words.line > last:
+            word, line = words.next(), words.line
+            if line > last:
                 return
             if word == b"r":
-                break
-            yield self.read_step(words, word, seen)
+                self.read_result(words)
+                return
+            yield line, [self.read_step(words, word, seen)]
+
+    def read_result(self, words):
         word = words.next()
         if word is None:
             raise Fault("P7", words, inside="the result")
@@ -88,14 +107,13 @@ class Trace:
         if not 0 < number <= GREATEST:
             raise Fault("P4", words, number=number, greatest=GREATEST, inside="the number of a step")
         if line > words.good:
-            if words.good and not seen:
-                seen.update((step.number, step.line) for step in self.steps(words.good))
-            if number in seen:
-                raise Fault("P5", words, number=number, earlier=seen[number])
+            earlier = seen.get(number) or next((step.line for step in self.with_numbers([number], words.good)), None)
+            if earlier:
+                raise Fault("P5", words, number=number, earlier=earlier)
             seen[number] = line
         literals = [literal for literal, _ in numbers(words, f"the literals of step {number}", -GREATEST_VARIABLE, GREATEST_VARIABLE)]
         antecedents = [other for other, _ in numbers(words, f"the antecedents of step {number}", 1, GREATEST, most=2)]
-        return Step(line, b"%s 0\n" % b" ".join(b"%d" % n for n in [number, *literals, 0, *antecedents]))
+        return b" ".join(b"%d" % n for n in [number, *literals, 0, *antecedents, 0])
 
 
 def numbers(words, inside, least, greatest, most=None):
