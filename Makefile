@@ -4,7 +4,9 @@
 # make bench    measures time and memory
 # make lib      leaves the library for C at lib/libqrp.a and lib/libqrp.so
 # make dist     packs the program, the library and the documents below dist/
-# make install  copies the program, the library, its header and the manual pages below $(PREFIX)
+# make install  copies what `make all lib` built below $(PREFIX): program, library, header, manual pages, scripts, documents, examples
+# make uninstall  takes that away again
+# make help     prints these lines
 
 PREFIX ?= /usr/local
 RT ?= rt
@@ -16,10 +18,12 @@ SOURCES = $(shell find crates -path '*/out' -prune -o -type f -print) crates.txt
 # for programs in C, C++ and Python
 LIBRARY = lib/libqrp.a
 
-# what stands between @ and @ in the manual pages and the pkg-config file
-FILL = sed 's|@PREFIX@|$(PREFIX)|; s|@VERSION@|$(shell cat VERSION)|'
+# where `make install` puts things; DESTDIR comes before all of them
+LIBDIR ?= $(PREFIX)/lib
+MANDIR ?= $(PREFIX)/share/man
+INSTALL_FILES = PREFIX='$(PREFIX)' LIBDIR='$(LIBDIR)' MANDIR='$(MANDIR)' DESTDIR='$(DESTDIR)' scripts/install-files
 
-.PHONY: all lib demo test bench dist install clean
+.PHONY: all lib demo test bench dist install uninstall help clean test-install
 .PHONY: test-built test-refusals test-program test-scripts test-examples lib-after-ci test-library test-dist
 
 all: $(PROGRAM)
@@ -85,17 +89,18 @@ bench: all
 dist: all lib
 	scripts/make-dist
 
-install: all lib
-	mkdir -p $(DESTDIR)$(PREFIX)/bin
-	cp $(PROGRAM) $(DESTDIR)$(PREFIX)/bin/qrp_cmd
-	mkdir -p $(DESTDIR)$(PREFIX)/share/man/man1 $(DESTDIR)$(PREFIX)/share/man/man3
-	$(FILL) man/qrp_cmd.1 > $(DESTDIR)$(PREFIX)/share/man/man1/qrp_cmd.1
-	$(FILL) man/qrp_check.3 > $(DESTDIR)$(PREFIX)/share/man/man3/qrp_check.3
-	mkdir -p $(DESTDIR)$(PREFIX)/include $(DESTDIR)$(PREFIX)/lib/pkgconfig
-	cp include/qrp_check.h $(DESTDIR)$(PREFIX)/include/qrp_check.h
-	cp lib/libqrp.a lib/libqrp.so.1 $(DESTDIR)$(PREFIX)/lib
-	ln -sf libqrp.so.1 $(DESTDIR)$(PREFIX)/lib/libqrp.so
-	$(FILL) include/libqrp.pc.in > $(DESTDIR)$(PREFIX)/lib/pkgconfig/libqrp.pc
+install:
+	$(INSTALL_FILES) install
+
+uninstall:
+	$(INSTALL_FILES) uninstall
+
+# on the built program and library
+test-install:
+	scripts/test-install
+
+help:
+	@sed -n 's/^# \(make\)/\1/p' Makefile
 
 clean:
 	rm -rf bin lib dist crates/*/out
