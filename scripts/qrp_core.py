@@ -2,7 +2,6 @@
 
 import operator
 from array import array
-from bisect import bisect_left
 from itertools import islice, repeat
 from operator import itemgetter
 
@@ -13,11 +12,12 @@ class Core:
     def __init__(self, trace):
         self.numbers = array("Q")
         self.antecedents = array("Q"), array("Q")  # 0 where there is none
+        self.lengths = array("L")  # how many literals each step has
         self.goal = None
         for _, texts in trace.pieces():
             self.take(texts)
         self.find = self.finder()
-        self.needed = self.mark()
+        self.marks = None
 
     def take(self, texts):
         """Adds these steps."""
@@ -28,23 +28,28 @@ class Core:
         named = list(map(bytes.split, map(itemgetter(2), split)))
         self.antecedents[0].extend(map(int, map(itemgetter(0), named)))
         self.antecedents[1].extend([int(words[1]) if len(words) > 1 else 0 for words in named])
-        empty = [place for place, head in enumerate(heads) if b" " not in head]
-        if empty:
-            self.goal = begun + empty[-1]
+        lengths = array("L", map(bytes.count, heads, repeat(b" ")))
+        self.lengths.extend(lengths)
+        if 0 in lengths:
+            self.goal = begun + max(place for place, length in enumerate(lengths) if not length)
 
     def finder(self):
         """What gives the place of the step with a number: one that is none where there is no such step."""
         numbers, none = self.numbers, len(self.numbers)
-        if all(map(operator.lt, numbers, islice(numbers, 1, None))):
-            if numbers and numbers[-1] - numbers[0] == none - 1:
-                first = numbers[0]
-                return lambda number: number - first if first <= number else none
-            return lambda number: place if (place := bisect_left(numbers, number)) < none and numbers[place] == number else none
-        places = {number: place for place, number in enumerate(numbers)}
+        if numbers and numbers[-1] - numbers[0] == none - 1 and all(map(operator.lt, numbers, islice(numbers, 1, None))):
+            first = numbers[0]
+            return lambda number: min(number - first, none) if first <= number else none
+        places = dict(zip(numbers, range(none)))
         return lambda number: places.get(number, none)
 
-    def mark(self):
+    @property
+    def needed(self):
         """A byte for each step, which is 1 if the proof needs it."""
+        if self.marks is None:
+            self.marks = self.mark()
+        return self.marks
+
+    def mark(self):
         needed, find = bytearray(len(self.numbers)), self.find
         if self.goal is None:
             return needed

@@ -36,6 +36,7 @@ class Formula:
         while self.read_set(words):
             pass
         self.words = words
+        self.prefix_end = words.place() if words.at else words.start
 
     def read_set(self, words):
         """Reads a quantifier set, if there is one."""
