@@ -23,7 +23,7 @@ LIBDIR ?= $(PREFIX)/lib
 MANDIR ?= $(PREFIX)/share/man
 INSTALL_FILES = PREFIX='$(PREFIX)' LIBDIR='$(LIBDIR)' MANDIR='$(MANDIR)' DESTDIR='$(DESTDIR)' scripts/install-files
 
-.PHONY: all lib demo test bench dist install uninstall help clean test-install
+.PHONY: all lib demo test bench dist install uninstall help clean test-install test-many
 .PHONY: test-built test-refusals test-program test-scripts test-examples lib-after-ci test-library test-dist
 
 all: $(PROGRAM)
@@ -98,6 +98,10 @@ uninstall:
 # on the built program and library
 test-install:
 	scripts/test-install
+
+# what is missing for it is named: scripts/install-tools installs it
+test-many:
+	scripts/test-many $(PROGRAM)
 
 help:
 	@sed -n 's/^# \(make\)/\1/p' Makefile
