@@ -6,7 +6,9 @@
 # make gate     the whole: every proof from nothing, the wrong bodies, all tests
 # make bench    measures time and memory
 # make dist     packs the program, the library and the documents below dist/
-# make install  copies the program, the library, its header and the manual pages below $(PREFIX)
+# make install  copies what `make all lib` built below $(PREFIX): program, library, header, manual pages, scripts, documents, examples
+# make uninstall  takes that away again
+# make help     prints these lines
 
 PREFIX ?= /usr/local
 RT ?= rt
@@ -19,11 +21,13 @@ SOURCES = $(shell find crates -path '*/out' -prune -o -type f -print) crates.txt
 # for programs in C, C++ and Python
 LIBRARY = lib/libqrp.a
 
-# what stands between @ and @ in the manual pages and the pkg-config file
-FILL = sed 's|@PREFIX@|$(PREFIX)|; s|@VERSION@|$(shell cat VERSION)|'
+# where `make install` puts things; DESTDIR comes before all of them
+LIBDIR ?= $(PREFIX)/lib
+MANDIR ?= $(PREFIX)/share/man
+INSTALL_FILES = PREFIX='$(PREFIX)' LIBDIR='$(LIBDIR)' MANDIR='$(MANDIR)' DESTDIR='$(DESTDIR)' scripts/install-files
 
-.PHONY: all lib demo check test proved-before gate bench dist install clean
-.PHONY: test-refusals test-program test-scripts test-examples test-library test-dist test-proofs test-checks
+.PHONY: all lib demo check test proved-before gate bench dist install uninstall help clean
+.PHONY: test-refusals test-program test-scripts test-examples test-library test-dist test-install test-many test-proofs test-checks
 
 all: $(PROGRAM)
 
@@ -67,7 +71,7 @@ test: $(PROVED)
 # What is built is tested, side by side: some two minutes.
 check:
 	@for built in $(PROGRAM) $(ECHO) $(LIBRARY); do [ -e $$built ] || { echo "make check: there is no $$built: run 'make test' first"; exit 2; }; done
-	$(MAKE) --jobs --output-sync=target test-refusals test-program test-scripts test-examples test-library test-dist test-proofs test-checks
+	$(MAKE) --jobs --output-sync=target test-refusals test-program test-scripts test-examples test-library test-dist test-install test-many test-proofs test-checks
 
 test-refusals:
 	scripts/test-refusals
@@ -102,17 +106,22 @@ bench: all
 dist: all lib
 	scripts/make-dist
 
-install: all lib
-	mkdir -p $(DESTDIR)$(PREFIX)/bin
-	cp $(PROGRAM) $(DESTDIR)$(PREFIX)/bin/qrp_cmd
-	mkdir -p $(DESTDIR)$(PREFIX)/share/man/man1 $(DESTDIR)$(PREFIX)/share/man/man3
-	$(FILL) man/qrp_cmd.1 > $(DESTDIR)$(PREFIX)/share/man/man1/qrp_cmd.1
-	$(FILL) man/qrp_check.3 > $(DESTDIR)$(PREFIX)/share/man/man3/qrp_check.3
-	mkdir -p $(DESTDIR)$(PREFIX)/include $(DESTDIR)$(PREFIX)/lib/pkgconfig
-	cp include/qrp_check.h $(DESTDIR)$(PREFIX)/include/qrp_check.h
-	cp lib/libqrp.a lib/libqrp.so.1 $(DESTDIR)$(PREFIX)/lib
-	ln -sf libqrp.so.1 $(DESTDIR)$(PREFIX)/lib/libqrp.so
-	$(FILL) include/libqrp.pc.in > $(DESTDIR)$(PREFIX)/lib/pkgconfig/libqrp.pc
+install:
+	$(INSTALL_FILES) install
+
+uninstall:
+	$(INSTALL_FILES) uninstall
+
+# on the built program and library
+test-install:
+	scripts/test-install
+
+# what is missing for it is named: scripts/install-tools installs it
+test-many:
+	scripts/test-many $(PROGRAM)
+
+help:
+	@sed -n 's/^# \(make\)/\1/p' Makefile
 
 clean:
 	rm -rf bin lib dist crates/*/out

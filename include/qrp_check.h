@@ -1,11 +1,11 @@
 /* qrp_check.h: the proved checker of QBF proofs, in process.
  *
  * A formula in QDIMACS 1.1 and a trace in the text form of QRP are given as bytes in memory. The verdict is that of the program
- * `qrp_cmd check` on files with these bytes, and that it is the truth is proved of the library by machine:
+ * `qrp_cmd check` on files with these bytes. A machine-checked proof shows of the library:
  *
- *     qrp_verify returns QRP_VERIFIED exactly if the bytes spell a closed prenex formula and a trace whose sets agree with
- *     it and whose last empty step, with all steps below that one, follows by the rules (QRP_NO_MEMORY aside); and then that
- *     formula is false if the trace says `r unsat`, and true if it says `r sat`, and `truth` says which.
+ *     qrp_verify returns QRP_VERIFIED if and only if the bytes spell a closed prenex formula and a trace whose sets agree
+ *     with it and in which the last empty step, and every step that it depends on, follows by the rules (QRP_NO_MEMORY aside);
+ *     and then that formula is false if the trace says `r unsat`, and true if it says `r sat`, and `truth` says which.
  *
  * The proof relies on what this page asks of the caller, on the toolchain that proved and built the library, and on the C
  * library's malloc, realloc and free. Link with -lqrp, or with libqrp.a; nothing else is needed. The manual page is
@@ -51,20 +51,21 @@ struct qrp_verdict {
 
 /* Checks the trace against the formula, writes what was found to *out, and returns out->status.
  *
- * formula, trace: of any alignment, and never null, even if the length is 0 (then any address will do, such as that of "").
- *   They need no zero at their end. They stay the caller's; nothing may write to them during the call. They may overlap.
+ * formula, trace: the caller must pass non-NULL pointers for both texts, even if a length is 0 (then any address will do, such
+ *   as that of ""), of any alignment, and must not let anything write to the texts during the call. They need not be
+ *   NUL-terminated, they may overlap, and they stay the caller's.
  * any_pivot: whether a resolution may be on a variable of either quantifier (QU-resolution and its dual); the flag --qu of the
  *   program.
- * out: never null, aligned as the struct; it does not overlap the texts.
+ * out: must be non-NULL and properly aligned, and must not overlap the texts.
  */
 int32_t qrp_verify(const uint8_t *formula, size_t formula_length, const uint8_t *trace, size_t trace_length, bool any_pivot,
                    struct qrp_verdict *out);
 
 /* Writes the line of a verdict, as the program prints it, with its line end and no zero after it, and returns its length.
  *
- * verdict: one that qrp_verify wrote; never null. For any other struct it writes some line, or returns 0.
- * buffer: never null, even if room is 0; it does not overlap the verdict. If the line is longer than room nothing is written,
- *   and otherwise nothing after the line. A room of QRP_LINE_ROOM is enough.
+ * verdict: must be non-NULL, and should be one that qrp_verify wrote. For any other struct it writes some line, or returns 0.
+ * buffer: must be non-NULL, even if room is 0, and must not overlap the verdict. If the line is longer than room nothing is
+ *   written, and otherwise nothing after the line. A room of QRP_LINE_ROOM is enough.
  *
  * It takes no memory, so it also works after QRP_NO_MEMORY.
  */

@@ -5,8 +5,9 @@
     >>> verdict.truth, str(verdict)
     (False, 'VERIFIED false')
 
-It calls the library libqrp, which `make lib` builds: the file that the environment variable QRP_LIBRARY names, or
-lib/libqrp.so of this repository, or the installed one.
+It calls the library libqrp, which `make lib` builds: the file that the environment variable QRP_LIBRARY names, or lib/libqrp.so.1 in a
+folder above this file (of this repository, of an unpacked release, or of the prefix where it is installed), or the one that the
+system's loader finds.
 """
 
 import ctypes
@@ -53,8 +54,8 @@ class Verdict:
 
 
 def _load():
-    beside = pathlib.Path(__file__).resolve().parent.parent / "lib" / "libqrp.so"
-    path = os.environ.get("QRP_LIBRARY") or (str(beside) if beside.exists() else "libqrp.so.1")
+    above = (folder / "lib" / "libqrp.so.1" for folder in pathlib.Path(__file__).resolve().parents)
+    path = os.environ.get("QRP_LIBRARY") or next((str(file) for file in above if file.exists()), "libqrp.so.1")
     library = ctypes.CDLL(path)
     text = [ctypes.c_char_p, ctypes.c_size_t]
     library.qrp_verify.argtypes = [*text, *text, ctypes.c_bool, ctypes.POINTER(_Verdict)]

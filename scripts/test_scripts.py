@@ -1,7 +1,7 @@
-"""Tests scripts/show-step and scripts/draw-proof. usage: scripts/test_scripts.py PROGRAM LIST UNREADABLE
+"""Tests what scripts/explain finds of steps, and scripts/draw-proof. usage: scripts/test_scripts.py PROGRAM LIST UNREADABLE
 
-scripts/test-scripts calls it. LIST has the rows that refuse a step or verify: flag, formula, trace and line. UNREADABLE has the
-rows that cannot be read, and should be empty.
+scripts/test-scripts calls it. LIST has rows of flag, formula, trace and line; of these the ones are tried that refuse a step or verify.
+UNREADABLE has the rows that cannot be read, and should be empty.
 """
 
 import os
@@ -11,10 +11,13 @@ import sys
 import tempfile
 from pathlib import Path
 
-from qrp_steps import Formula, Trace, first_fault
+from qrp_core import Core
+from qrp_formula import Formula
+from qrp_rules import SIDES, judge
+from qrp_steps import Trace
 
 ROOT = Path(__file__).resolve().parent.parent
-SHOW = ROOT / "scripts" / "show-step"
+EXPLAIN = ROOT / "scripts" / "explain"
 DRAW = ROOT / "scripts" / "draw-proof"
 EXAMPLES = sorted(folder for folder in (ROOT / "examples").iterdir() if folder.is_dir())
 FAULTS = {f"S{n}" for n in range(1, 13)}
@@ -39,6 +42,34 @@ def run(script, *words, program):
     return subprocess.run([sys.executable, script, *map(str, words)], capture_output=True, text=True, env=environment, check=False)
 
 
+class Kept(Formula):
+    """A formula whose clauses are kept, since they are asked for again and again."""
+
+    def __init__(self, path):
+        super().__init__(Path(path).read_bytes())
+        self.all_clauses = list(super().clauses())
+
+    def clauses(self):
+        return self.all_clauses
+
+
+def read_trace(path):
+    return Trace(Path(path).read_bytes())
+
+
+def first_fault(formula, trace, any_pivot):
+    """The number and the fault of the first needed step that does not follow, None where all do."""
+    core = Core(trace)
+    before = {}
+    for place, step in enumerate(trace.steps()):
+        if core.needed[place]:
+            finding = judge(formula, SIDES[trace.result], any_pivot, step, before)
+            if finding.fault:
+                return step.number, finding.fault
+            before[step.number] = step.literals
+    return None
+
+
 def check(program, formula, trace, *flags):
     return subprocess.run([program, "check", *flags, formula, trace], capture_output=True, text=True, check=False).stdout.strip()
 
@@ -48,16 +79,18 @@ def try_rows(program, rows):
     seen = set()
     for row in rows:
         flag, formula, trace, line = row.split("\t")
+        if not line.startswith(("VERIFIED ", "REFUSED step ")):
+            continue
         flags = [flag] if flag else []
-        expect(f"{flag} {line}, the first fault", agrees(program, formula, trace, flags, Formula(formula)) == (True, line), row)
+        expect(f"{flag} {line}, the first fault", agrees(program, formula, trace, flags, Kept(formula)) == (True, line), row)
         if line.startswith("VERIFIED "):
             continue
         number, fault = re.fullmatch(r"REFUSED step (\d+) (S\d+)", line).groups()
         seen.add(fault)
-        shown = run(SHOW, *flags, formula, trace, program=program)
+        shown = run(EXPLAIN, *flags, formula, trace, program=program)
         holds = shown.stdout.startswith(f"qrp_cmd says: {line}\n") and f"\nIt does not follow: {fault}. " in shown.stdout
         expect(f"{flag} {line}", shown.returncode == 0 and holds and not shown.stderr, shown)
-        numbered = run(SHOW, *flags, formula, trace, number, program="/nonexistent")
+        numbered = run(EXPLAIN, *flags, formula, trace, number, program="/nonexistent")
         expect(f"{flag} {line}, by its number", numbered.returncode == 0 and numbered.stdout in shown.stdout, numbered)
         if fault == "S3":
             drawn = run(DRAW, formula, trace, program=program)
@@ -91,7 +124,7 @@ def step_damages(steps, place, unbound):
 
 def damages(formula, trace):
     """The two texts with one thing changed, without the trace's quantifier sets: the result, each quantifier, a clause, each step."""
-    kept = Trace(trace)
+    kept = read_trace(trace)
     steps = [(step.number, step.literals, step.antecedents) for step in kept.steps()]
     text = formula.read_text()
     header = re.search(r"^p cnf (\d+) (\d+)$", text, re.MULTILINE)
@@ -114,10 +147,10 @@ def damages(formula, trace):
 def agrees(program, formula, trace, flags, read):
     """Whether the program says of the files what the script finds; and the program's line. `read` is the formula."""
     line = check(program, formula, trace, *flags)
-    found = first_fault(read, Trace(trace), bool(flags))
+    found = first_fault(read, read_trace(trace), bool(flags))
     if found:
         return line == f"REFUSED step {found[0]} {found[1]}", line
-    return line.startswith("VERIFIED ") or (line == "REFUSED trace C4" and not Trace(trace).core()), line
+    return line.startswith("VERIFIED ") or (line == "REFUSED trace C4" and Core(read_trace(trace)).goal is None), line
 
 
 def try_damages(program, pairs):
@@ -132,7 +165,7 @@ def try_damages(program, pairs):
                     continue
                 if formula_text != last:
                     changed_formula.write_text(formula_text)
-                    last, read = formula_text, Formula(changed_formula)
+                    last, read = formula_text, Kept(changed_formula)
                 changed_trace.write_text(trace_text)
                 for flags in [], ["--qu"]:
                     holds, line = agrees(program, changed_formula, changed_trace, flags, read)
@@ -144,7 +177,7 @@ def try_damages(program, pairs):
 def try_proofs(program, pairs):
     """In real proofs the script finds no fault."""
     for formula, trace in pairs:
-        holds, line = agrees(program, formula, trace, [], Formula(formula))
+        holds, line = agrees(program, formula, trace, [], Kept(formula))
         expect(f"{trace.name}: the program says {line}", holds and line.startswith("VERIFIED "))
 
 
@@ -168,8 +201,14 @@ def try_drawings(program):
     pairs = [(f / f"{f.name}.qdimacs", f / f"{f.name}.qrp") for f in EXAMPLES]
     for formula, trace in [*pairs, (ROOT / "examples" / "two_clauses.qdimacs", ROOT / "examples" / "two_clauses.qrp")]:
         drawn = run(DRAW, formula, trace, program=program)
-        expect(f"{trace.name}: status", drawn.returncode == 0 and not drawn.stderr, drawn.stderr)
         nodes, edges = read_graph(trace.name, drawn.stdout)
+        expect(f"{trace.name}: status", drawn.returncode == 0, drawn.stderr)
+        expect(f"{trace.name}: a warning where it is large", ("try --last 100" in drawn.stderr) == (len(nodes) > 300), drawn.stderr)
+        end = run(DRAW, "--last", 4, formula, trace, program=program)
+        last_nodes, last_edges = read_graph(f"{trace.name}, the last four", end.stdout)
+        names = {name for name, _ in nodes[-4:]}
+        holds = end.returncode == 0 and not end.stderr and last_nodes == nodes[-4:]
+        expect(f"{trace.name}: the last four steps", holds and last_edges == [edge for edge in edges if names.issuperset(edge)], end)
         trimmed = subprocess.run([program, "trim", formula, trace], capture_output=True, text=True, check=False).stdout
         steps = [line.split() for line in trimmed.splitlines() if line[0].isdigit()]
         shapes = [(step[0], "box" if step[-2:] == ["0", "0"] else "ellipse") for step in steps]
@@ -184,62 +223,13 @@ def try_drawings(program):
 
 
 def try_words(program):
-    """Command lines that are wrong end with status 2, and where there is nothing to show the status is 1."""
+    """Command lines that are wrong end with status 2, and a text that is no trace with 1."""
     formula, trace = ROOT / "examples" / "two_clauses.qdimacs", ROOT / "examples" / "two_clauses.qrp"
-    for script in SHOW, DRAW:
-        for words in [], [formula], [formula, trace, "1", "2"], ["--other", formula, trace], [formula, "/nonexistent"], ["/nonexistent", trace]:
-            words = [*words, "1"] if script == SHOW and len(words) == 2 else words
-            ended = run(script, *words, program=program)
-            expect(f"usage: {script.name} {words}", ended.returncode == 2 and not ended.stdout and ended.stderr, ended)
-    for words in [formula, trace, "one"], [formula, trace, "-1"]:
-        ended = run(SHOW, *words, program=program)
-        expect(f"usage: show-step {words}", ended.returncode == 2 and not ended.stdout, ended)
-    ended = run(SHOW, formula, trace, program="/nonexistent")
-    expect("no program", ended.returncode == 2 and not ended.stdout, ended)
-    ended = run(SHOW, formula, trace, program=program)
-    expect("no step is refused", ended.returncode == 1 and ended.stdout.startswith("qrp_cmd says: VERIFIED false\n"), ended)
-    ended = run(SHOW, formula, trace, "6", program=program)
-    expect("no such step", ended.returncode == 1 and ended.stdout == "The trace has no step 6.\n", ended)
-    ended = run(SHOW, trace, formula, "1", program=program)
-    expect("no formula", ended.returncode == 1 and not ended.stdout and ended.stderr, ended)
+    for words in [], [formula], [formula, trace, "1"], ["--other", formula, trace], [formula, "/nonexistent"], ["/nonexistent", trace], ["--last", "0", formula, trace]:
+        ended = run(DRAW, *words, program=program)
+        expect(f"usage: draw-proof {words}", ended.returncode == 2 and not ended.stdout and ended.stderr, ended)
     ended = run(DRAW, formula, formula, program=program)
     expect("no trace", ended.returncode == 1 and ended.stderr, ended)
-
-
-def try_texts(program):
-    """Texts in other layouts are read as the program reads them, and tokens that it refuses are not read."""
-    formula = b"c first\r\np cnf 2 2\r\n e 1\t0\na 2 0\n c inside\n1\nc between\n02 00 -1 2 0"
-    trace = b"# first\nc second\np qrp 0 0\n1 1 2 0\n0 2 -1 2 0 0 3\n1 0 1 0 4 -01 0 2 0\n5 0 3 4 0 r UnSat x"
-    tokens = [b"-", b"+1", b"-0", b"-00", b"1-2", b"1_0", b"--1", b"\v1", b"1\f", b"1x", b"\xff", b"a", b"sat"]
-    with tempfile.TemporaryDirectory() as folder:
-        odd_formula, odd_trace, bad = (Path(folder) / name for name in ("formula", "trace", "bad"))
-        odd_formula.write_bytes(formula)
-        odd_trace.write_bytes(trace)
-        expect("an odd layout", agrees(program, odd_formula, odd_trace, [], Formula(odd_formula)) == (True, "VERIFIED false"))
-        for token in tokens:
-            bad.write_bytes(formula.replace(b"-1", token))
-            line = check(program, bad, odd_trace)
-            ended = run(SHOW, bad, odd_trace, "5", program=program)
-            expect(f"{token} in a formula: {line}", line.startswith("REFUSED formula F3 ") and ended.returncode == 1 and not ended.stdout, ended)
-            bad.write_bytes(trace.replace(b"-01", token))
-            line = check(program, odd_formula, bad)
-            ended = run(SHOW, odd_formula, bad, "5", program=program)
-            expect(f"{token} in a trace: {line}", line.startswith("REFUSED trace P3 ") and ended.returncode == 1 and not ended.stdout, ended)
-
-
-def try_page(program):
-    """The commands of docs/REFUSED.md print what the page says."""
-    text = (ROOT / "docs" / "REFUSED.md").read_text()
-    block = re.search(r"^    \$ .*\n(?:    .*\n|\n)*", text, re.MULTILINE)[0]
-    lines = [line[4:] for line in block.rstrip().splitlines()]
-    commands = [line[2:] for line in lines if line.startswith("$ ")]
-    page = "\n".join(line for line in lines if not line.startswith("$ "))
-    environment = dict(os.environ, QRP_CMD=str(program), ROOT=str(ROOT))
-    with tempfile.TemporaryDirectory() as folder:
-        for name in "scripts", "examples":
-            (Path(folder) / name).symlink_to(ROOT / name)
-        printed = subprocess.run(["bash", "-c", "\n".join(commands)], cwd=folder, capture_output=True, text=True, env=environment, check=False)
-    expect("docs/REFUSED.md", page == printed.stdout.rstrip(), printed)
 
 
 def main():
@@ -258,8 +248,6 @@ def main():
     try_damages(program, small + few)
     try_drawings(program)
     try_words(program)
-    try_texts(program)
-    try_page(program)
     print(f"{passed} passed, {failed} failed")
     return 1 if failed or not passed else 0
 

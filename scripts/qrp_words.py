@@ -1,0 +1,139 @@
+"""The words of a text, and how they are refused: the tokens, lines and faults of docs/FORMATS.md.
+
+A part of scripts/explain, scripts/draw-proof and the scripts beside them. Nothing here is proved: a verdict comes from qrp_cmd alone.
+"""
+
+import copy
+import re
+from itertools import repeat
+from operator import itemgetter
+
+GREATEST = 2**64 - 1  # of the numbers of steps
+GREATEST_VARIABLE = 2**31 - 1
+ALL = float("inf")  # as a number of lines: all of them
+
+WORD = re.compile(rb"[^ \t\r\n]+")
+NUMBER = re.compile(rb"-?[0-9]+")
+# Lines are looked at in blocks of so many bytes. What makes the zeros of a block hard to count.
+BLOCK = 1 << 18
+UNUSUAL = (b"\t", b"\r", b" 00", b"-00")
+
+
+class Fault(Exception):
+    """A text is refused: the name of the fault, the line, which word of the line it is (None for the end), and what else is known."""
+
+    def __init__(self, name, words, **known):
+        super().__init__(f"{name} in line {words.line}")
+        self.name, self.line, self.text, self.start = name, words.line, words.text, words.start
+        self.at = words.at - 1 if words.at else None
+        self.known = known
+
+
+def value(word):
+    """A number as such, and any other word as it is. A magnitude that is too big is one that is above GREATEST."""
+    if word is None or not NUMBER.fullmatch(word):
+        return word
+    magnitude = int(word.lstrip(b"-").lstrip(b"0")[:25] or b"0")
+    if word[:1] != b"-":
+        return magnitude
+    return -magnitude or word  # a minus before zero is no number
+
+
+def are_whole(block, lines, first, zeros):
+    """Whether each line of a block begins with one of these bytes, and has so many zeros and one at its end."""
+    if any(part in block for part in UNUSUAL) or not all(map(bytes.endswith, lines, repeat(b" 0"))):
+        return False
+    return first.issuperset(map(itemgetter(0), lines)) and set(map(bytes.count, lines, repeat(b" 0 "))) == {zeros}
+
+
+class Words:
+    """The words of a text one by one. Of the first `good` lines it is known that they are right, as far as they go."""
+
+    def __init__(self, data, comment_bytes, good):
+        self.data = data
+        self.comment_bytes = comment_bytes
+        self.good = good
+        self.line, self.start, self.text = 0, 0, b""  # the line that is read, where it starts, and its text
+        self.words, self.at = [], 0  # its words, and how many of them are taken
+        self.whole_blocks = set()  # where blocks of whole lines start, as far as they were looked at
+        self.word_by_word = 0  # up to here the text is read word by word
+
+    def again(self):
+        """The same words once more, from here on."""
+        return copy.copy(self)
+
+    def next_line(self):
+        """Goes to the next line and returns its text, which is empty at the end."""
+        if self.text.endswith(b"\n") or self.line == 0:
+            self.line += 1
+        self.start += len(self.text)
+        end = self.data.find(b"\n", self.start) + 1
+        self.text = self.data[self.start : end or len(self.data)]
+        self.words, self.at = [], 0
+        return self.text
+
+    def whole_lines(self, first, zeros):
+        """The next lines without their line ends, if they are known to be right and each holds one whole list or step: it begins with
+        one of these bytes, and has so many zeros before the one that ends it. No lines where that is not so of all in the next block."""
+        if self.at < len(self.words) or self.line >= self.good:
+            return []
+        start = self.start + len(self.text)
+        if start < self.word_by_word:
+            return []
+        block = self.data[start : self.data.rfind(b"\n", start, start + BLOCK) + 1]
+        lines = block.split(b"\n")[:-1]
+        if self.line + len(lines) > self.good:
+            lines = lines[: self.good - self.line]
+        if not lines or start not in self.whole_blocks and not are_whole(block, lines, first, zeros):
+            self.word_by_word = start + len(block)
+            return []
+        self.whole_blocks.add(start)
+        self.line += len(lines)
+        self.text = lines[-1] + b"\n"
+        self.start = start + sum(map(len, lines)) + len(lines) - len(self.text)
+        self.words, self.at = [], 0
+        return lines
+
+    def split(self):
+        words = WORD.findall(self.text)
+        self.words = [] if words and words[0][0] in self.comment_bytes else words
+
+    def whole_line(self, first):
+        """The next line without its line end, if it is known to be right and holds one whole list that begins with one of these bytes. Else
+        None."""
+        if self.at < len(self.words) or self.line >= self.good:
+            return None
+        text = self.next_line()
+        if text and text[0] in first and text.endswith(b" 0\n") and b" 0 " not in text and not any(part in text for part in UNUSUAL):
+            return text[:-1]
+        self.split()
+        return None
+
+    def next(self):
+        """The next word, None at the end."""
+        while self.at == len(self.words):
+            if not self.next_line():
+                return None
+            self.split()
+        self.at += 1
+        return self.words[self.at - 1]
+
+    def back(self):
+        """Gives the last word back."""
+        self.at -= 1
+
+    def header(self, word, greatest, wrong, ended):
+        """The two numbers of a header, with the names of its faults."""
+        numbers = []
+        for wanted in (b"p", word, None, None):
+            found = value(self.next())
+            if found is None:
+                raise Fault(ended, self, inside="the header")
+            if not (found == wanted if wanted else isinstance(found, int) and 0 <= found <= greatest):
+                raise Fault(wrong, self, word=word.decode())
+            numbers.append(found)
+        return numbers[2:]
+
+    def place(self):
+        """Where the last word ends in the text."""
+        return self.start + [found.end() for found in WORD.finditer(self.text)][self.at - 1]
