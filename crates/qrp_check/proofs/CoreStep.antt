@@ -5,7 +5,7 @@ use Rattle.std.specs.Prelude.{Bool, IfOk, IfSome, IsTrue, Result, Ok, Err}
 use Rattle.std.specs.List.{AllByRecursion}
 use Rattle.qbf_core.specs.Literal.{Literal, positive}
 use Rattle.qbf_core.specs.Members.{◌∈◌}
-use Rattle.qbf_core.specs.Blocks.{AreBound, IsBound}
+use Rattle.qbf_core.specs.Blocks.{Block, AreBound, IsBound}
 use Rattle.qbf_core.specs.Qbf.{Qbf}
 use Rattle.qbf_core.specs.Rules.{Side, IsClean, IsTautology}
 use Rattle.qbf_core.specs.Sets.{HasMembersOf}
@@ -179,6 +179,13 @@ set_answer rules side f premises set lits answer same fit a =
     answer_after S1 (IsClean lits) ((S2, AreBound f.blocks lits) ∷ premise_conditions rules side f premises lits) answer fit.0
     (answer_after S2 (AreBound f.blocks lits) (premise_conditions rules side f premises lits) answer fit.1
     (premise_answer rules side f premises set lits answer same a))
+
+pub not_tautology : (lits : List Literal) → IsClean lits → IsTautology lits → ⊥
+not_tautology lits clean (v, p, n) = clean (positive v) p n
+
+pub none_unbound : (blocks : List Block) (lits : List Literal) → AreBound blocks lits
+    → (l : Literal) × (l ∈ lits) × (IsBound blocks l.var → ⊥) → ⊥
+none_unbound blocks lits bound (l, h, free) = free (bound_each blocks lits bound l h)
 
 pub not_clean : (rules : Rules) (side : Side) (f : Qbf) (found : Option Premises) (lits : List Literal) → IsTautology lits
     → IsAnswer (found_conditions rules side f found lits) (Some S1)

@@ -37,16 +37,11 @@ fn follow_step<S: Side, T: Steps>(
         (IsCoreFault context.entry.rules S.side context.entry.formula.now (T.steps trace.now)) }
 {
     let found = find_premises(trace, place, &mut state.uses);
-    match step_fault::<S>(
-        context,
-        found,
-        &mut state.seen,
-        &mut state.initial,
-        trace.lits(place),
-    ) {
-        Ok(None) => Ok(()),
-        Ok(Some(fault)) => Err(CheckFault::C6(trace.number(place), fault)),
-        Err(_) => Err(CheckFault::C5),
+    let lits = trace.lits(place);
+    let fault = step_fault::<S>(context, found, &mut state.seen, &mut state.initial, lits)?;
+    match fault {
+        None => Ok(()),
+        Some(fault) => Err(CheckFault::C6(trace.number(place), fault)),
     }
 }
 

@@ -21,12 +21,12 @@ step_fault-requires-clause-fit g c =
 pub number-requires : goal.number-requires
 number-requires g c = core_within (g.T.Steps.steps c.args.trace.now) c.args.place c.requires.core
 
-pub returns-in-Ok-None-clause-follows : goal.returns-in-Ok-None-clause-follows
-returns-in-Ok-None-clause-follows g c =
+pub returns-in-None-clause-follows : goal.returns-in-None-clause-follows
+returns-in-None-clause-follows g c =
     let f : Qbf = c.args.context.formula.now in
     let steps : List Inference = g.T.Steps.steps c.args.trace.now in
     let i : ℕ = c.args.place in
-    let answer = rw c.in-Ok-None.field-0-is at c.in-Ok-None.ensures.fault in
+    let answer = rw c.in-None.is at c.in_ok-fault.ensures.fault in
     record {
       follows = below_more
           (λ (j : ℕ). IsInCore steps j → StepFollows c.args.context.rules g.S.Side.side f steps j)
@@ -35,27 +35,27 @@ returns-in-Ok-None-clause-follows g c =
           record {
             step = s.0;
             here = s.1;
-            all = found_answer c.args.context.rules g.S.Side.side f (take i steps) s.0 c.find_premises-found.result c.lits.result.now None
-                (c.lits.ensures s.0 s.1) (c.find_premises-found.ensures s.0 s.1) answer;
+            all = found_answer c.args.context.rules g.S.Side.side f (take i steps) s.0 c.find_premises-found.result c.lits-lits.result.now None
+                (c.lits-lits.ensures s.0 s.1) (c.find_premises-found.ensures s.0 s.1) answer;
           });
-      known = c.in-Ok-None.ensures.known;
+      known = c.in_ok-fault.ensures.known;
     }
 
-pub returns-in-Ok-Some-clause-refused : goal.returns-in-Ok-Some-clause-refused
-returns-in-Ok-Some-clause-refused g c =
+pub returns-in-Some-clause-refused : goal.returns-in-Some-clause-refused
+returns-in-Some-clause-refused g c =
     let f : Qbf = c.args.context.formula.now in
     let steps : List Inference = g.T.Steps.steps c.args.trace.now in
     let i : ℕ = c.args.place in
     let s = at_place steps i (core_within steps i c.requires.core) in
-    let answer = rw c.in-Ok-Some.field-0-is at c.in-Ok-Some.ensures.fault in
+    let answer = rw c.in-Some.is at c.in_ok-fault.ensures.fault in
     record {
       place = i;
       needed = c.requires.core;
       fails = record {
         step = s.0;
         here = s.1;
-        first = found_answer c.args.context.rules g.S.Side.side f (take i steps) s.0 c.find_premises-found.result c.lits.result.now
-            (Some c.in-Ok-Some.fault) (c.lits.ensures s.0 s.1) (c.find_premises-found.ensures s.0 s.1) answer;
+        first = found_answer c.args.context.rules g.S.Side.side f (take i steps) s.0 c.find_premises-found.result c.lits-lits.result.now
+            (Some c.in-Some.fault) (c.lits-lits.ensures s.0 s.1) (c.find_premises-found.ensures s.0 s.1) answer;
       };
       numbered = sym (c.number.ensures.value s.0 s.1);
       earlier = c.requires.before.follows;

@@ -1,6 +1,9 @@
 use Rattle.qrp_rules.proofs.MembersDecide.{reduct_answer, resolvent_answer, same_self}
 use Rattle.qrp_check.proofs.step.premises_fault.Goals as goal
 
+pub own_set-requires-in-Two-2 : goal.own_set-requires-in-Two-2
+own_set-requires-in-Two-2 g c = rw c.prefix-prefix.ensures.value ((rw c.in-Two.is at c.requires.fit).1)
+
 pub returns-in_ok-own-in-One-clause-fault : goal.returns-in_ok-own-in-One-clause-fault
 returns-in_ok-own-in-One-clause-fault g c = rw c.in-One.is
     (reduct_answer g.S.Side.side c.args.context.formula.now.blocks c.set_or_written.result.now c.in-One.from.now c.args.set.now c.args.set.now
