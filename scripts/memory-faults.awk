@@ -26,9 +26,9 @@ BEGIN {
     size("qbf_text/src/pieces.rt", "reserve")
     size("qbf_text/src/sink.rt", "room")
     size("qrp_check/src/marks.rt", "count")
-    size("qrp_check/src/uses.rt", "count")
     size("qrp_rules/src/clause_index.rt", "formula.clauses()")
     size("qrp_rules/src/initial_cubes.rt", "lits.len()")
+    size("qrp_rules/src/seen.rt", "width")
     size("step_index/src/listed.rt", "index + 1")
     size("step_index/src/listed.rt", "1")
 }
