@@ -50,7 +50,7 @@ SENTENCES = {
     "'%' before a clause": "Some collections end their files with a line of %",
     "'p' before a step": "It looks like a second header",
     "'-0' in a clause": "A number has no plus sign, and 0 no minus.",
-    "'r' in a step": "0 closes each of the two lists of a step: is a 0 missing?",
+    "'r' in a step": "0 closes each list, and a step has two: is a 0 missing?",
     "1 clauses in the header": "and the text has ",
     "-1 clauses in the header": "and here begins one more.",
     "set 0 with the other quantifier": "in line 2 of the trace, and ",
