@@ -1,8 +1,10 @@
-# make          builds the program at bin/qrp_cmd
-# make demo     proves and builds it, and runs it on a real example
-# make test     the whole gate
+# make          proves and builds the program at bin/qrp_cmd
+# make demo     the same, and runs it on real examples
+# make lib      proves and builds the library for C: lib/libqrp.a and lib/libqrp.so
+# make check    tests what is built
+# make test     proves what has changed, builds it, and runs all tests
+# make gate     the whole: every proof from nothing, the wrong bodies, all tests
 # make bench    measures time and memory
-# make lib      leaves the library for C at lib/libqrp.a and lib/libqrp.so
 # make dist     packs the program, the library and the documents below dist/
 # make install  copies what `make all lib` built below $(PREFIX): program, library, header, manual pages, scripts, documents, examples
 # make uninstall  takes that away again
@@ -13,6 +15,7 @@ RT ?= rt
 PROGRAM = bin/qrp_cmd
 # only for the tests
 ECHO = bin/qrp_echo
+PROVED = bin/proved
 SOURCES = $(shell find crates -path '*/out' -prune -o -type f -print) crates.txt
 
 # for programs in C, C++ and Python
@@ -23,26 +26,21 @@ LIBDIR ?= $(PREFIX)/lib
 MANDIR ?= $(PREFIX)/share/man
 INSTALL_FILES = PREFIX='$(PREFIX)' LIBDIR='$(LIBDIR)' MANDIR='$(MANDIR)' DESTDIR='$(DESTDIR)' scripts/install-files
 
-.PHONY: all lib demo test bench dist install uninstall help clean test-install test-many
-.PHONY: test-built test-refusals test-program test-scripts test-examples lib-after-ci test-library test-dist
+.PHONY: all lib demo check test proved-before gate bench dist install uninstall help clean
+.PHONY: test-refusals test-program test-scripts test-examples test-library test-dist test-install test-many test-proofs test-checks
 
 all: $(PROGRAM)
 
-# `rt run` proves what is not proved yet, builds the program and runs it once.
 $(PROGRAM): $(SOURCES)
+	@echo 'proves and builds the program: some ten minutes on four processors, from nothing'
+	RT=$(RT) scripts/prove qrp_cmd
 	mkdir -p bin
-	RT=$(RT) scripts/prove-libraries
-	cd crates/qrp_cmd && $(RT) run -- format data/two_clauses.qdimacs > /dev/null
 	cp crates/qrp_cmd/out/qrp_cmd $(PROGRAM)
-
-$(ECHO): $(SOURCES)
-	mkdir -p bin
-	cd crates/qrp_echo && $(RT) run < stdin > /dev/null
-	cp crates/qrp_echo/out/qrp_echo $(ECHO)
 
 lib: $(LIBRARY)
 
 $(LIBRARY): $(SOURCES) scripts/build-library
+	@echo 'proves and builds the library: a minute more than the program, from nothing'
 	RT=$(RT) scripts/build-library lib
 
 demo: all
@@ -50,17 +48,30 @@ demo: all
 	$(PROGRAM) check examples/carry-from-tables/carry-from-tables.qdimacs examples/carry-from-tables/carry-from-tables.qrp
 	$(PROGRAM) format examples/two_clauses.qdimacs
 
-# The scripts after `rt ci` run the programs and the tests that it proved and built, side by side.
-test:
-	scripts/check-promises
-	scripts/check-memory-faults
-	$(RT) ci
+# Every crate and its tests are proved, and all programs are built.
+$(PROVED): $(SOURCES)
+	@echo 'proves the crates and their tests: some twenty minutes on four processors, from nothing'
+	RT=$(RT) scripts/prove --tests
+	$(MAKE) --no-print-directory proved-before
+
+# The same was done before: only the programs are put in their places.
+proved-before:
 	mkdir -p bin
 	cp crates/qrp_cmd/out/qrp_cmd $(PROGRAM)
 	cp crates/qrp_echo/out/qrp_echo $(ECHO)
-	$(MAKE) --jobs --output-sync=target test-built
+	touch $(PROVED)
 
-test-built: test-refusals test-program test-scripts test-examples test-library test-dist
+test: $(PROVED)
+	RT=$(RT) scripts/build-library lib
+	scripts/check-promises
+	scripts/check-memory-faults
+	scripts/check-adapters
+	$(MAKE) --no-print-directory check
+
+# What is built is tested, side by side: some two minutes.
+check:
+	@for built in $(PROGRAM) $(ECHO) $(LIBRARY); do [ -e $$built ] || { echo "make check: there is no $$built: run 'make test' first"; exit 2; }; done
+	$(MAKE) --jobs --output-sync=target test-refusals test-program test-scripts test-examples test-library test-dist test-install test-many test-proofs test-checks
 
 test-refusals:
 	scripts/test-refusals
@@ -74,14 +85,20 @@ test-scripts:
 test-examples:
 	examples/check-all $(PROGRAM)
 
-lib-after-ci:
-	RT=$(RT) scripts/build-library --after-ci lib
-
-test-library: lib-after-ci
+test-library:
 	scripts/test-library $(PROGRAM) lib
 
-test-dist: lib-after-ci
+test-dist:
 	scripts/make-dist --check
+
+test-proofs:
+	scripts/test-proofs
+
+test-checks:
+	scripts/test-checks
+
+gate:
+	RT=$(RT) scripts/gate
 
 bench: all
 	scripts/bench $(PROGRAM)

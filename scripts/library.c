@@ -11,7 +11,9 @@
 #include <stdio.h>
 #include <stdlib.h>
 #include <string.h>
+#include <sys/mman.h>
 #include <time.h>
+#include <unistd.h>
 
 struct text { uint8_t *bytes; size_t length; };
 struct example { struct text formula, trace; bool any_pivot; int status; char line[64]; };
@@ -95,20 +97,33 @@ static void each_room(const struct example *of, const struct qrp_verdict *v) {
     settle(is, "the line in each room", of);
 }
 
+/* Copies bytes to pages of their own that can only be read, between two that cannot even be read: with `at_end` the last byte stands
+   before the second of these, so that a byte read after it ends the run; else the first stands `skip` bytes after the first of them. */
+static struct text guarded(struct text of, bool at_end, size_t skip) {
+    size_t page = (size_t)sysconf(_SC_PAGESIZE), inner = (of.length + skip + page) / page * page;
+    uint8_t *all = mmap(NULL, inner + 2 * page, PROT_NONE, MAP_PRIVATE | MAP_ANONYMOUS, -1, 0);
+    if (all == MAP_FAILED || mprotect(all + page, inner, PROT_READ | PROT_WRITE)) { perror("guard pages"); exit(3); }
+    struct text copy = {at_end ? all + page + inner - of.length : all + page + skip, of.length};
+    memcpy(copy.bytes, of.bytes, of.length);
+    if (mprotect(all + page, inner, PROT_READ)) { perror("guard pages"); exit(3); }
+    return copy;
+}
+
+static void unguard(struct text of, bool at_end, size_t skip) {
+    size_t page = (size_t)sysconf(_SC_PAGESIZE), inner = (of.length + skip + page) / page * page;
+    munmap((at_end ? of.bytes + of.length - inner : of.bytes - skip) - page, inner + 2 * page);
+}
+
 static void each_alignment(const struct example *of) {
     bool is = true;
     struct qrp_verdict v;
-    if (of->formula.length + of->trace.length > 4096) return;
     for (size_t at = 0; at < 16; at++) {
-        /* the texts end where their blocks end, so that a byte read behind them is found */
         size_t skip = (at + 5) % 16;
-        uint8_t *formula = __real_malloc(at + of->formula.length), *trace = __real_malloc(skip + of->trace.length);
-        memcpy(formula + at, of->formula.bytes, of->formula.length);
-        memcpy(trace + skip, of->trace.bytes, of->trace.length);
-        is &= is_answer(verify(of, formula + at, trace + skip, &v), &v, of->status, of->line);
-        is &= !memcmp(formula + at, of->formula.bytes, of->formula.length) && !memcmp(trace + skip, of->trace.bytes, of->trace.length);
-        __real_free(formula);
-        __real_free(trace);
+        struct text formula = guarded(of->formula, false, at), trace = guarded(of->trace, false, skip);
+        is &= is_answer(verify(of, formula.bytes, trace.bytes, &v), &v, of->status, of->line);
+        is &= !memcmp(formula.bytes, of->formula.bytes, formula.length) && !memcmp(trace.bytes, of->trace.bytes, trace.length);
+        unguard(formula, false, at);
+        unguard(trace, false, skip);
     }
     settle(is, "at each alignment", of);
 }
@@ -149,9 +164,9 @@ static void eight_threads(void) {
     settle(all == 0, "eight threads at once", &examples[0]);
 }
 
-/* The bytes of a file, in a block of that length. */
+/* The bytes of a file, before a page that cannot be read. */
 static struct text bytes_of(const char *name) {
-    struct text text = {NULL, 0};
+    struct text text = {NULL, 0}, copy;
     FILE *file = fopen(name, "rb");
     if (!file || fseek(file, 0, SEEK_END)) { perror(name); exit(3); }
     text.length = (size_t)ftell(file);
@@ -159,7 +174,9 @@ static struct text bytes_of(const char *name) {
     text.bytes = __real_malloc(text.length ? text.length : 1);
     if (fread(text.bytes, 1, text.length, file) != text.length) { perror(name); exit(3); }
     fclose(file);
-    return text;
+    copy = guarded(text, true, 0);
+    __real_free(text.bytes);
+    return copy;
 }
 
 static void read_list(const char *name) {

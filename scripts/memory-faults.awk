@@ -2,13 +2,16 @@
 #
 # A place is one of the words below where it is a value and no pattern, or any Err of a function that is refused for want
 # of memory alone. It must stand
-#   - on an arm whose pattern has one of the words, or whose guard asks for ErrorKind::OutOfMemory;
+#   - on an arm whose pattern has one of the words in each of its alternatives, or whose guard asks for ErrorKind::OutOfMemory;
 #   - on the arm Err(_) or Err(name) of a match on a call that is refused for want of memory alone, directly below
 #     `if CALL.is_err()`, or in the else of `let Ok(..) = CALL else`;
 #   - as the second argument of `ReadError::fault`, which its contract answers for want of memory alone;
 #   - or in a `from` that takes want of memory.
 # Calls that are refused for want of memory alone: functions and methods of the crates whose error is AllocError, and
 # those listed here. A method is found by the type of what stands before it. What is not understood is refused.
+#
+# A request for memory that is made in order to be refused is such an answer too. So each size that is asked for at once is listed here
+# with its file: the length of something that is there, or one more.
 
 BEGIN {
     keep(words, "F9 P9 C5 E3 B2 Memory NoMemory NO_MEMORY AllocError")
@@ -17,6 +20,22 @@ BEGIN {
     keep(alone, "Formula.push_clause Trace.push_set Trace.push_step")
     # Its signature takes several lines.
     keep(alone, "FlatTrace.push_step")
+    size("qbf_core/src/prefix.rt", "1")
+    size("qbf_core/src/set.rt", "width as usize + 1")
+    size("qbf_core/src/set.rt", "lits.len()")
+    size("qbf_text/src/pieces.rt", "reserve")
+    size("qbf_text/src/sink.rt", "room")
+    size("qrp_check/src/marks.rt", "count")
+    size("qrp_rules/src/clause_index.rt", "formula.clauses()")
+    size("qrp_rules/src/initial_cubes.rt", "lits.len()")
+    size("qrp_rules/src/seen.rt", "width")
+    size("step_index/src/listed.rt", "index + 1")
+    size("step_index/src/listed.rt", "1")
+}
+
+# A size that a file asks for once.
+function size(path, text) {
+    listed["crates/" path " asks for " text]++
 }
 
 function keep(set, names, list, i) {
@@ -164,7 +183,8 @@ END {
         if (code[n] ~ /^[^ ]/ && kind[n] != "const") continue
         if (answers(n, callee)) look(n)
     }
-    if (looked < least) { failed++; print "only " looked " places were looked at, where there were " least }
+    if (looked != places) { failed++; print looked " places were looked at, where there were " places }
+    sizes_as_listed()
     print looked + 0 " places answer want of memory"
     print looked - wrong " passed, " failed + 0 " failed"
     exit failed > 0
@@ -185,6 +205,31 @@ function has_word(text, list, i) {
     split(text, list, " ")
     for (i in list) if (list[i] in words) return 1
     return 0
+}
+
+# Whether each alternative of a pattern has a word.
+function each_has_word(text, list, most, i) {
+    most = split(text, list, "|")
+    for (i = 1; i <= most; i++) if (!has_word(list[i])) return 0
+    return 1
+}
+
+# The sizes that are asked for at once are those that are listed, each as often as it is listed.
+function sizes_as_listed(n, text, where, found) {
+    for (n = 1; n <= NR; n++) {
+        text = code[n]
+        if (!match(text, /(with_capacity|reserve|reserve_exact|resize|try_reserve)\(.*|vec!\[in .*;[^;]*;.*/)) continue
+        text = substr(text, RSTART)
+        if (text ~ /^vec!/) { sub(/^[^;]*;[^;]*; */, "", text); sub(/\].*$/, "", text) }
+        else if (text ~ /^with_capacity/) { sub(/^[^,]*, */, "", text); sub(/\)[?;.,]*$/, "", text) }
+        else { sub(/^[a-z_]*\(/, "", text); sub(/,.*$|\)[?;. ].*$|\)$/, "", text) }
+        found[file[n] " asks for " text]++
+    }
+    for (where in found) if (found[where] != listed[where]) {
+        failed++
+        print where ": " found[where] " times, and it is listed " listed[where] + 0 " times"
+    }
+    for (where in listed) if (!(where in found)) { failed++; print where " is listed, and is not there" }
 }
 
 function look(n, why) {
@@ -229,10 +274,11 @@ function stands(n, text) {
     return "below no refused allocation"
 }
 
-function arm(n, text) {
+function arm(n, text, m) {
     text = trimmed(code[n])
     sub(/ =>.*/, "", text)
-    if (text ~ / == ErrorKind::OutOfMemory$/ || (text !~ / if / && has_word(text))) return ""
+    for (m = n; trimmed(code[m]) ~ /^[|] /; m--) text = trimmed(code[m - 1]) " " text
+    if (text ~ / == ErrorKind::OutOfMemory$/ || (text !~ / if / && each_has_word(text))) return ""
     if (text !~ /^Err\([a-z_]+\)$/) return "on an arm that is not for want of memory"
     n = holder(n)
     text = statement(n)

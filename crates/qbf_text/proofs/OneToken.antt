@@ -1,6 +1,6 @@
 -- What one token does to what is read.
 use Rattle.std.proofs.Common.{◌≡◌, ℕ, Bool, true, false, List, [], ◌∷◌, Option, Some, None, IfSome, refl, ap, sym}
-use Rattle.std.proofs.Common.{◌∙◌}
+use Rattle.std.proofs.Common.{◌∙◌, subst}
 use Rattle.qbf_text.specs.declared.token.Token.{Token}
 use Rattle.qbf_text.specs.Lined.{Lined, Known}
 use Rattle.qbf_text.specs.Left.{is_end}
@@ -19,6 +19,9 @@ Leads (Some r) rest = rest ≡ Some r
 pub leads_same : {P A F : Type 0} (whole : Option (Read P A F)) → Leads whole whole
 leads_same None = tt
 leads_same (Some r) = refl
+
+pub leads_then : {P A F : Type 0} (whole before after : Option (Read P A F)) → Leads whole before → before ≡ after → Leads whole after
+leads_then whole before after leads same = subst (Leads whole) same leads
 
 module _ {P A F : Type 0} (row : P → Token → Row P A F) where
   -- what comes of a row
@@ -70,6 +73,14 @@ module _ {P A F : Type 0} (row : P → Token → Row P A F) where
   stops place f (Some r) old new t so_far gives e =
       let o = one place (Some r) old new t so_far gives in
       o.1 ∙ ap (λ (x : Row P A F). after x t o.0) e
+
+-- a scanner in the same state
+pub same_state : (old new : Reading) → new.state ≡ old.state → ¬ HasFailed old → ¬ HasFailed new
+same_state old new same open_ = λ failed. open_ (sym same ∙ failed)
+
+pub ready_still : (old new : Reading) (remaining : Option (List ℕ)) → new.state ≡ old.state → IsReady old remaining
+    → IsReady new remaining
+ready_still old new remaining same ready = (same_state old new same ready.0, λ ended. ready.1 (sym same ∙ ended))
 
 -- a scanner that gave a token has not failed
 pub unfailed : (old new : Reading) (before after : Option (List ℕ)) → ¬ HasFailed old → (IsReady old before → IsReady new after)

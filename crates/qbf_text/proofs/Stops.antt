@@ -16,6 +16,7 @@ use Rattle.qbf_text.specs.Rows.{Row, Goes, Ends, Whole, Read, read_from}
 use Rattle.qbf_text.specs.Rows as rows
 use Rattle.qbf_text.specs.Stopping.{IfKnown, BeginsAs, Skips, TakesToken, tokens_at, PlaceSkips, PlaceTakes}
 use Rattle.qbf_text.specs.Stopping.{FindsToken, FindsNone, StopsBehind}
+use Rattle.qbf_text.specs.Passing.{SoFar}
 use Rattle.qbf_text.specs.Tokens.{kind, is_blank, is_line_end, is_comment_byte, counted}
 use Rattle.qbf_text.proofs.OneToken.{after, read-one}
 use Rattle.qbf_text.proofs.KnownLeft.{always, Gives-trans}
@@ -227,19 +228,29 @@ found_behind p q r (Some token) s t = λ rem. found_token (s rem) (t rem)
 
 -- ---- token after token
 
--- what was read so far: the tokens of the bytes that were taken lead from the first place to this one
-pub record SoFar {P A F : Type 0} (row : P → Token → Row P A F) (first place : P) (here there : List ℕ → List Lined)
-    (old new : List ℕ) : Type 0 where
-  pub front : List ℕ
-  pub given : List Lined
-  pub taken : old ≡ front ++ new
-  pub spelled : (rest : List ℕ) → BeginsAs new rest → here (front ++ rest) ≡ given ++ there rest
-  pub leads : (ts : List Lined) → read_from row first (given ++ ts) ≡ read_from row place ts
-
 module _ {P A F : Type 0} (row : P → Token → Row P A F) (first : P) where
   pub so_far_none : (here : List ℕ → List Lined) (a : Option (List ℕ)) → IfKnown (SoFar row first first here here) a a
   so_far_none here None = tt
   so_far_none here (Some x) = record { front = []; given = []; taken = refl; spelled = λ rest _. refl; leads = λ ts. refl }
+
+  so_far_then : (place next : P) (here mid there : List ℕ → List Lined) (x y z : List ℕ) → SoFar row first place here mid x y
+      → SoFar row place next mid there y z → SoFar row first next here there x z
+  so_far_then place next here mid there x y z s t = record {
+    front = s.front ++ t.front;
+    given = s.given ++ t.given;
+    taken = s.taken ∙ ap (λ l. s.front ++ l) t.taken ∙ sym (append_assoc s.front t.front z);
+    spelled = λ rest h.
+        ap here (append_assoc s.front t.front rest)
+        ∙ s.spelled (t.front ++ rest) (rw t.taken (begins_more t.front z rest h))
+        ∙ ap (λ l. s.given ++ l) (t.spelled rest h)
+        ∙ sym (append_assoc s.given t.given (there rest));
+    leads = λ ts. ap (read_from row first) (append_assoc s.given t.given ts) ∙ s.leads (t.given ++ ts) ∙ t.leads ts;
+  }
+
+  pub known_so_far : (place next : P) (here mid there : List ℕ → List Lined) (a b c : Option (List ℕ))
+      → IfKnown (SoFar row first place here mid) a b → IfKnown (SoFar row place next mid there) b c
+      → IfKnown (SoFar row first next here there) a c
+  known_so_far place next here mid there a b c = known_trans _ _ _ (λ x y z. so_far_then place next here mid there x y z) a b c
 
   so_far_more : (place next : P) (here mid there : List ℕ → List Lined) (token : Lined) (x y z : List ℕ) → row place token.0 ≡ Goes next
       → SoFar row first place here mid x y → TakesToken mid there token y z → SoFar row first next here there x z

@@ -1,6 +1,6 @@
 //! One loop that reads by the rows of a grammar.
 
-ghost use Rattle.std.specs.Prelude.{◌≡◌, ℕ, ◌+◌, ◌<◌, ◌≤◌, length, false, List, IfSome, IfOk, OnOk};
+ghost use Rattle.std.specs.Prelude.{◌≡◌, ℕ, ◌+◌, ◌<◌, ◌≤◌, length, false, List, Option, IfSome, IfOk, OnOk};
 ghost use Rattle.qbf_text.specs.declared.token.Token.{Token};
 ghost use Rattle.std.specs.Io.KnownBytes.{IsAtEnd};
 ghost use Rattle.qbf_text.specs.Reading.{left, HasFailed, IsReady};
@@ -8,11 +8,14 @@ ghost use Rattle.qbf_text.specs.Rows.{Row, read_from, reads_from};
 ghost use Rattle.qbf_text.specs.Taking.{Takes, StaysOpen, Reads, Answers, Counts, Follows};
 ghost use Rattle.qbf_text.specs.Tokens.{tokens};
 ghost use Rattle.qbf_text.specs.Ahead.{ahead};
-ghost use Rattle.qbf_text.specs.Stopping.{tokens_next, Stops};
+ghost use Rattle.qbf_text.specs.Passing.{LeadOn, Passes, SoFar};
+ghost use Rattle.qbf_text.specs.Stopping.{tokens_next, IfKnown, Stops};
 
+use crate::hand::Cursor;
 use crate::scanner::{ScanFault, Scanner};
 use crate::source::Source;
 use crate::token::{Comments, Token};
+use std::alloc::AllocError;
 
 /// What a grammar did with a token that it took.
 #[derive(Drop)]
@@ -70,6 +73,17 @@ impl<F> From<ScanFault> for ReadError<F> {
     }
 }
 
+impl<F> From<AllocError> for ReadError<F> {
+    ghost use Rattle.std.specs.Prelude.{◌≡◌};
+    ghost use Rattle.qbf_text.specs.declared.grammar.ReadError.TheVariants.{Memory};
+
+    ghost from_gives = { λ _ e. e ≡ Memory };
+
+    fn from(_e: AllocError) -> ReadError<F> {
+        ReadError::Memory
+    }
+}
+
 impl<F: Copy> ReadError<F> {
     ghost use Rattle.std.specs.Prelude.{◌≡◌};
     ghost use Rattle.qbf_text.specs.Answering.{fault_of};
@@ -112,11 +126,43 @@ pub trait Grammar {
     /// What this keeps so.
     ghost kept: { Self → Kept };
 
+    /// Takes numbers from the bytes at hand, as far as they stand there whole and lead on. It may take
+    /// none: each token that it leaves is handed to `take`.
+    ///
+    /// # Errors
+    /// Out of memory.
+    fn take_hand(&mut self, bytes: &[u8], from: Cursor) -> Result<Cursor, AllocError>
+        requires { from.at ≤ length bytes.now }
+        ensures passes { IfOk result
+            (λ to. Passes (LeadOn row_of (place self.old) (place self.new)) bytes.now from to) }
+        ensures kept { kept self.new ≡ kept self.old };
+
     /// Takes the next token. After the end of the text it does not go on.
     fn take(&mut self, token: Token) -> Result<Taken<Self::Output>, Stop<Self::Fault>>
         ensures row { Takes (row_of (place self.old) token) (place self.new) result }
         ensures more { StaysOpen token result }
         ensures kept { kept self.new ≡ kept self.old };
+}
+
+/// Lets a grammar take numbers from the bytes at hand.
+#[inline(always)]
+fn hand_over<G: Grammar>(grammar: &mut G, scanner: &mut Scanner) -> Result<(), AllocError>
+    ensures so_far { OnOk result ((remaining : Option (List ℕ)) → IfKnown (SoFar G.row_of
+        (G.place grammar.old) (G.place grammar.new) (tokens_next scanner.old) (tokens_next scanner.new))
+        (ahead scanner.old.pending remaining) (ahead scanner.new.pending remaining)) }
+    ensures leads { OnOk result ((remaining : Option (List ℕ)) →
+        reads_from G.row_of (G.place grammar.old) (left scanner.old remaining)
+        ≡ reads_from G.row_of (G.place grammar.new) (left scanner.new remaining)) }
+    ensures state { scanner.new.state ≡ scanner.old.state }
+    ensures no_more { length scanner.new.pending ≤ length scanner.old.pending }
+    ensures kept { G.kept grammar.new ≡ G.kept grammar.old }
+{
+    if !scanner.is_open() {
+        return Ok(());
+    }
+    let here = grammar.take_hand(scanner.hand(), scanner.cursor())?;
+    scanner.go_to(here);
+    Ok(())
 }
 
 /// Hands on token after token until the grammar is complete.
@@ -154,6 +200,7 @@ pub fn read_by<G: Grammar, S: Source>(
         ≤ length scanner.old.pending + S.bound source.old) }
 {
     'tokens: loop {
+        hand_over(grammar, scanner)?;
         let (token, line) = scanner.next_token(source)?;
         match grammar.take(token) {
             Ok(Taken::More) => {}

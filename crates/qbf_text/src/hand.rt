@@ -1,10 +1,12 @@
 //! Numbers that stand whole among the bytes at hand.
 
-ghost use Rattle.std.specs.Prelude.{◌≡◌, ◌&&◌, nat_eq, IfSome};
+ghost use Rattle.std.specs.Prelude.{◌≡◌, ◌+◌, ◌^◌, ◌<◌, ◌≤◌, ◌&&◌, nat_eq, length, IfSome};
 ghost use Rattle.qbf_text.specs.Runs.{begins_with_minus};
 ghost use Rattle.qbf_text.specs.Hand.{BeginsWithNumber};
+ghost use Rattle.qbf_text.specs.Passing.{PassesNumber};
 
 use crate::separators::is_separator;
+use crate::token::Token;
 use decimal::digits;
 
 /// A number, and the separator after it.
@@ -60,4 +62,69 @@ pub fn number_in_front(bytes: &[u8]) -> Option<Found>
         len: end + 1,
         ends_line: behind == b'\n',
     })
+}
+
+/// A place among the bytes at hand, held by value.
+#[derive(Clone, Copy)]
+pub struct Cursor {
+    /// How many of them stand before it.
+    pub at: usize,
+    /// Its line.
+    pub line: u64,
+    /// Whether a token stands before it on its line.
+    pub begun: bool,
+}
+
+/// A number that was passed, and where the next token stands.
+#[derive(Clone, Copy)]
+pub struct Passed {
+    /// The number.
+    pub token: Token,
+    /// After the separator behind it.
+    pub next: Cursor,
+}
+
+impl Cursor {
+    ghost use Rattle.qbf_text.specs.Passing.{behind};
+
+    /// The cursor behind a number and its separator, which take so many bytes.
+    #[inline(always)]
+    fn behind(self, len: usize, ends_line: bool) -> Cursor
+        requires { self.at + len < 2 ^ 64 }
+        ensures { result ≡ behind self len ends_line }
+    {
+        let line = self.line;
+        Cursor {
+            at: self.at + len,
+            line: if ends_line {
+                line.saturating_add(1)
+            } else {
+                line
+            },
+            begun: !ends_line,
+        }
+    }
+
+    /// The number that stands next and whole among the bytes at hand.
+    ///
+    /// It is None for what is not as usual too: the slow way takes that.
+    #[inline(always)]
+    pub fn number(self, bytes: &[u8]) -> Option<Passed>
+        requires { self.at ≤ length bytes.now }
+        ensures { IfSome result (λ p. PassesNumber bytes.now self p.next p.token) }
+    {
+        let Some(found) = number_in_front(&bytes[self.at..]) else {
+            return None;
+        };
+        // The proof reads here that the number has 64 bits.
+        let _line = self.line;
+        let token = Token::Number {
+            negative: found.negative,
+            value: found.value,
+        };
+        Some(Passed {
+            token,
+            next: self.behind(found.len, found.ends_line),
+        })
+    }
 }

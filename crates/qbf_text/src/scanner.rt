@@ -10,6 +10,7 @@ ghost use Rattle.qbf_text.specs.Tokens.{kind};
 ghost use Rattle.qbf_text.specs.Left.{is_separator, IsUnbroken, IsWithinLine, EndsRun, EndsLine};
 ghost use Rattle.qbf_text.specs.Left.{Gives, is_end};
 
+use crate::hand::Cursor;
 use crate::run::{Numeral, Run, Spelling, begins_number};
 use crate::separators::is_separator;
 use crate::source::{Source, SourceFault};
@@ -261,7 +262,8 @@ impl Model for Scanner {
 
 impl Scanner {
     ghost use Rattle.qbf_text.specs.Tokens.{tokens};
-    ghost use Rattle.qbf_text.specs.Reading.{left, GivesNext, HasEnded, HasFailed, IsReady};
+    ghost use Rattle.qbf_text.specs.Reading.{left, GivesNext, HasEnded, HasFailed, IsOpen, IsReady};
+    ghost use Rattle.qbf_text.specs.Passing.{cursor, moved};
     ghost use Rattle.qbf_text.specs.Stopping.{tokens_next, ScannerTakes};
     ghost use Rattle.qbf_text.specs.declared.token.Token.TheVariants.{End};
 
@@ -282,6 +284,48 @@ impl Scanner {
             },
             state: State::Open,
         }
+    }
+
+    /// Whether neither End nor a fault was given.
+    #[inline(always)]
+    pub fn is_open(&self) -> bool
+        ensures { result ≡ true → IsOpen self.now }
+    {
+        match self.state {
+            State::Open => true,
+            State::Ended | State::Failed => false,
+        }
+    }
+
+    /// The bytes at hand: those that were pulled and not yet looked at.
+    #[inline(always)]
+    pub fn hand(&self) -> &[u8]
+        ensures { result.now ≡ self.now.pending }
+    {
+        self.place.window.bytes()
+    }
+
+    /// Where the first of the bytes at hand stands.
+    #[inline(always)]
+    pub fn cursor(&self) -> Cursor
+        ensures { result ≡ cursor self.now }
+    {
+        Cursor {
+            at: 0,
+            line: self.place.line,
+            begun: self.place.begun,
+        }
+    }
+
+    /// Goes to a place among the bytes at hand.
+    #[inline(always)]
+    pub fn go_to(&mut self, here: Cursor)
+        requires { here.at ≤ length self.old.pending }
+        ensures { self.new ≡ moved self.old here }
+    {
+        self.place.window.skip(here.at);
+        self.place.line = here.line;
+        self.place.begun = here.begun;
     }
 
     /// The next token and its line.

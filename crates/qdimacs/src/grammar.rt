@@ -1,13 +1,14 @@
 //! A formula that is made while its tokens are taken.
 
-ghost use Rattle.std.specs.Prelude.{◌≡◌, ◌≤◌, true};
+ghost use Rattle.std.specs.Prelude.{◌≡◌, ◌≤◌, true, length, IfOk};
 ghost use Rattle.std.specs.List.{AllByRecursion};
 ghost use Rattle.qbf_core.specs.Blocks.{pairs, variables, is_bound, IsPrefix};
 ghost use Rattle.qbf_core.specs.Qbf.{IsWellFormed};
+ghost use Rattle.qbf_text.specs.Passing.{LeadOn, Passes};
 ghost use Rattle.qbf_spelling.specs.declared.header.HeaderAt.TheVariants as header;
 ghost use Rattle.qdimacs.specs.declared.grammar.At.TheVariants as at;
 ghost use Rattle.qdimacs.specs.declared.grammar.Parts.{Parts};
-ghost use Rattle.qdimacs.specs.Places.{made, heading, stands, Moves, Leads, IsSound};
+ghost use Rattle.qdimacs.specs.Places.{made, heading, stands, Moves, Leads, Settles, IsSound};
 ghost use Rattle.qdimacs.specs.Reading.{AtP, Whole, IsFull, IsWhole, begun_set, has_more, row};
 ghost use Rattle.qdimacs.specs.Reading.{bind_row};
 
@@ -15,8 +16,8 @@ use crate::fault::FormulaFault;
 use crate::tokens::{FAULTS, FORM, bound_literal, clause_or_end};
 use qbf_core::{Formula, GrowingLists, Lit, Prefix, PrefixFault, Quantifier, Var};
 use qbf_spelling::{HeaderAt, HeaderMove, grow, header_move, member, quantifier};
-use qbf_text::{Grammar, Stop, Taken, Token};
-use std::alloc::Global;
+use qbf_text::{Cursor, Grammar, Stop, Taken, Token};
+use std::alloc::{AllocError, Global};
 use std::marker::Model;
 
 /// Where the next token stands.
@@ -190,6 +191,69 @@ fn take_at(here: At, parts: &mut Parts, token: Token) -> Next
     }
 }
 
+// ---- clauses in the bytes at hand
+
+/// The next place with the cursor before its token, or that memory was refused.
+type Reached = Result<(At, Cursor), AllocError>;
+
+/// Takes the rest of a clause from the bytes at hand.
+///
+/// # Errors
+/// Out of memory. What holds in a clause holds then.
+#[inline(always)]
+fn take_literals(parts: &mut Parts, bytes: &[u8], from: Cursor) -> Reached
+    requires within { from.at ≤ length bytes.now }
+    requires sound { IsSound at.Clause parts.old }
+    ensures passes { IfOk result (λ r. Passes
+        (LeadOn row (stands parts.old at.Clause) (stands parts.new r.0)) bytes.now from r.1) }
+    ensures sound { Settles parts.new result }
+{
+    let mut here = from;
+    'literals: while let Some(passed) = here.number(bytes) {
+        match take_literal(parts, passed.token) {
+            Ok(At::Clause) => {}
+            Ok(next) => return Ok((next, passed.next)),
+            Err(Stop::Memory) => return Err(AllocError),
+            Err(Stop::Text(_)) => break,
+        }
+        here = passed.next;
+    }
+    Ok((At::Clause, here))
+}
+
+/// Takes the rest of a clause from the bytes at hand, and then clause after clause.
+///
+/// # Errors
+/// Out of memory. What holds in a clause holds then.
+#[inline(always)]
+fn take_clauses(parts: &mut Parts, bytes: &[u8], from: Cursor) -> Reached
+    requires within { from.at ≤ length bytes.now }
+    requires sound { IsSound at.Clause parts.old }
+    ensures passes { IfOk result (λ r. Passes
+        (LeadOn row (stands parts.old at.Clause) (stands parts.new r.0)) bytes.now from r.1) }
+    ensures sound { Settles parts.new result }
+{
+    let mut here = from;
+    'clauses: loop {
+        let (at, next) = take_literals(parts, bytes, here)?;
+        let At::Between = at else {
+            return Ok((at, next));
+        };
+        if !has_more(parts) {
+            return Ok((At::Between, next));
+        }
+        let Some(passed) = next.number(bytes) else {
+            return Ok((At::Between, next));
+        };
+        match take_opening(parts, passed.token) {
+            Ok(At::Clause) => here = passed.next,
+            Ok(at) => return Ok((at, passed.next)),
+            Err(Stop::Memory) => return Err(AllocError),
+            Err(Stop::Text(_)) => return Ok((At::Between, next)),
+        }
+    }
+}
+
 impl Parts {
     /// Nothing yet. It takes no memory.
     fn new(alloc: Global) -> Parts
@@ -275,6 +339,18 @@ impl Grammar for FormulaGrammar {
     ghost Kept = { Unit {0} };
 
     ghost kept = { λ _. tt };
+
+    #[inline(always)]
+    fn take_hand(&mut self, bytes: &[u8], from: Cursor) -> Result<Cursor, AllocError> {
+        match self.at {
+            At::Clause => {
+                let (at, to) = take_clauses(&mut self.parts, bytes, from)?;
+                self.at = at;
+                Ok(to)
+            }
+            _ => Ok(from),
+        }
+    }
 
     #[inline(always)]
     fn take(&mut self, token: Token) -> Result<Taken<()>, Stop<FormulaFault>> {

@@ -11,3 +11,4 @@ pub mod RowsReadTheItem
 pub mod StopsBehind
 pub mod ItemStops
 pub mod ReadingLaws
+pub mod GoingOn

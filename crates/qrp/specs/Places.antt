@@ -1,6 +1,8 @@
 -- Where a token stands while a trace is read: what the lists that are begun say of its place.
-use Rattle.std.specs.Prelude.{◌≡◌, ◌<◌, ◌≤◌, ◌^◌, ℕ, false, List, [], ◌∷◌, ◌++◌, length, Result, Ok, Err, ⊤}
-use Rattle.qbf_spelling.specs.Words.{AllByRecursion, IsVariable, Token}
+use Rattle.std.specs.Prelude.{◌≡◌, ◌⊎◌, ◌<◌, ◌≤◌, ◌^◌, ℕ, Bool, true, false, List, [], ◌∷◌, ◌++◌, length, Result, Ok, Err, ⊤}
+use Rattle.qbf_spelling.specs.Words.{AllByRecursion, IsVariable, Literal, Lined, Token}
+use Rattle.qbf_text.specs.declared.hand.Cursor.{Cursor}
+use Rattle.std.specs.declared.alloc.AllocError.{AllocError}
 use Rattle.qbf_text.specs.declared.grammar.Stop.{Stop}
 use Rattle.qbf_text.specs.declared.grammar.Stop.TheVariants as stop
 use Rattle.qrp.specs.declared.fault.TraceFault.{TraceFault}
@@ -102,3 +104,24 @@ IsAt here b = IsBegun here b
 abbrev pub Leads : At → Begun → Begun → Result At (Stop TraceFault) → Type 0
 Leads here old new (Ok next) = Stays old new × IsBegun next new
 Leads here old new (Err e) = Stays old new × (IsBegun here old → IsBegun here new)
+
+-- in the lists of the step with this number
+abbrev pub IsInStep : ℕ → At → Type 0
+IsInStep n here = (here ≡ at.Lits n) ⊎ (here ≡ at.Ants n)
+
+-- ---- tokens that complete nothing
+
+-- each of the tokens leads on, and all lead from one place to another
+abbrev pub GoOn : Place → Place → List Lined → Type 0
+GoOn first last [] = last ≡ first
+GoOn first last (t ∷ ts) = (next : Place) × (row first t.0 ≡ Goes next) × GoOn next last ts
+
+-- after literals, and the zero after them if that was taken
+abbrev pub lits_place : List ℕ → ℕ → List Literal → Bool → Place
+lits_place ns n ls true = InAnts ns n ls []
+lits_place ns n ls false = InLits ns n ls
+
+-- the lists of a step are begun at the place that is left; if memory was refused, at the place before
+abbrev pub Settles : ℕ → Begun → Begun → Result (At × Cursor) AllocError → Type 0
+Settles n old new (Ok r) = Stays old new × IsBegun r.0 new × IsInStep n r.0
+Settles n old new (Err e) = Stays old new × IsBegun (at.Lits n) new

@@ -6,10 +6,11 @@ ghost use Rattle.qrp.specs.Reading.{AtP, nothing};
 
 use crate::fault::TraceFault;
 use crate::flat::FlatTrace;
+use crate::hand::take_lists;
 use crate::parts::{Parts, close};
 use crate::places::{At, take_at};
-use qbf_text::{Grammar, Stop, Taken, Token};
-use std::alloc::Global;
+use qbf_text::{Cursor, Grammar, Stop, Taken, Token};
+use std::alloc::{AllocError, Global};
 use std::marker::Model;
 
 /// A trace that is read into flat buffers.
@@ -71,6 +72,18 @@ impl Grammar for TraceGrammar {
     ghost Kept = { Unit {0} };
 
     ghost kept = { λ _. tt };
+
+    #[inline(always)]
+    fn take_hand(&mut self, bytes: &[u8], from: Cursor) -> Result<Cursor, AllocError> {
+        match self.at {
+            At::Lits(number) => {
+                let (at, to) = take_lists(&mut self.parts.begun, number, bytes, from)?;
+                self.at = at;
+                Ok(to)
+            }
+            _ => Ok(from),
+        }
+    }
 
     #[inline(always)]
     fn take(&mut self, token: Token) -> Result<Taken<()>, Stop<TraceFault>> {

@@ -9,9 +9,10 @@ ghost use Rattle.qrp.specs.Places.{item_of, numbers_behind, IsComplete};
 ghost use Rattle.qrp.specs.Reading.{AtP};
 
 use crate::fault::TraceFault;
+use crate::hand::take_lists;
 use crate::item::{Item, QuantSet, Step};
 use crate::places::{At, Begun, Part, take_at};
-use qbf_text::{Grammar, Stop, Taken, Token};
+use qbf_text::{Cursor, Grammar, Stop, Taken, Token};
 use std::alloc::{AllocError, Global};
 use std::marker::Model;
 use std::mem;
@@ -126,6 +127,18 @@ impl Grammar for ItemGrammar {
     ghost Kept = { List ℕ };
 
     ghost kept = { λ g. g.numbers };
+
+    #[inline(always)]
+    fn take_hand(&mut self, bytes: &[u8], from: Cursor) -> Result<Cursor, AllocError> {
+        match self.at {
+            At::Lits(number) => {
+                let (at, to) = take_lists(&mut self.begun, number, bytes, from)?;
+                self.at = at;
+                Ok(to)
+            }
+            _ => Ok(from),
+        }
+    }
 
     #[inline(always)]
     fn take(&mut self, token: Token) -> Result<Taken<()>, Stop<TraceFault>> {

@@ -5,6 +5,7 @@
 mod fault;
 mod flat;
 mod grammar;
+mod hand;
 mod item;
 mod items;
 mod laws;

@@ -179,7 +179,7 @@ fn take_literal(begun: &mut Begun, number: u64, token: Token) -> Next
 
 /// Whether another antecedent may come.
 #[inline(always)]
-fn has_room(ants: &GrowingLists<u64>) -> bool
+pub fn has_room(ants: &GrowingLists<u64>) -> bool
     ensures says { result ≡ has_room ants.now.begun }
 {
     ants.begun_len() < 2

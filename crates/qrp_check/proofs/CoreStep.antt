@@ -1,29 +1,30 @@
--- One step of the core: the sets of its antecedents, and its conditions.
+-- One step of the core: its antecedents, and its conditions.
 use Rattle.std.proofs.Common.{◌≡◌, ℕ, zero, suc, ◌<◌, ◌≤◌, List, [], ◌∷◌, Option, Some, None, inl, inr, refl, sym, ap, subst, ◌∙◌, arith}
 use Rattle.std.proofs.Common.{length, get_or, take}
-use Rattle.std.specs.Prelude.{slice_get}
+use Rattle.std.specs.Prelude.{Bool, IfOk, IfSome, IsTrue, Result, Ok, Err}
 use Rattle.std.specs.List.{AllByRecursion}
-use Rattle.qbf_core.specs.Literal.{Literal, positive, negative}
+use Rattle.qbf_core.specs.Literal.{Literal, positive}
 use Rattle.qbf_core.specs.Members.{◌∈◌}
 use Rattle.qbf_core.specs.Blocks.{Block, AreBound, IsBound}
 use Rattle.qbf_core.specs.Qbf.{Qbf}
 use Rattle.qbf_core.specs.Rules.{Side, IsClean, IsTautology}
-use Rattle.qbf_core.specs.Sets.{HasMembersOf, IsOrdered}
-use Rattle.qbf_core.proofs.Bound.{in_all, bound_each}
+use Rattle.qbf_core.specs.Sets.{HasMembersOf}
+use Rattle.qbf_core.proofs.Bound.{bound_each}
 use Rattle.qrp.specs.Inferences.{Inference, IsAt, IsOnlyAt, HasFewAntecedents}
 use Rattle.qrp_rules.specs.declared.fault.RuleFault.{RuleFault}
 use Rattle.qrp_rules.specs.declared.fault.RuleFault.TheVariants.{S1, S2, S3}
-use Rattle.qrp_check.specs.Conditions.{IsNumberOf, lits_of, step_conditions}
-use Rattle.qrp_rules.specs.Conditions.{Condition, AllHold, IsFirstFailure, IsAnswer, reduct_conditions}
-use Rattle.qrp_rules.specs.Conditions.{resolvent_conditions, initial_condition}
+use Rattle.qrp_rules.specs.Conditions.{Condition, IsAnswer, initial_condition, reduct_conditions, resolvent_conditions}
 use Rattle.qrp_rules.specs.declared.rules.Rules.{Rules}
-use Rattle.qrp_check.specs.Core.{IsInCore, Needs}
-use Rattle.qrp_check.specs.Kept.{IsSetOf, IsEntry, AreKept, later_conditions}
-use Rattle.qrp_rules.specs.Written.{set_or_written}
+use Rattle.qrp_check.specs.Conditions.{IsNumberOf, StepFollows, antecedent_conditions, lits_of, step_conditions}
+use Rattle.qrp_check.specs.Core.{IsInCore, Needs, next}
+use Rattle.qrp_check.specs.Premises.{AreFit, ArePremises, IsFit, IsPremise, found_conditions, premise_conditions}
+use Rattle.qrp_check.specs.Premises.{written_conditions}
+use Rattle.qrp_check.specs.declared.premises.Premises.{Premises}
+use Rattle.qrp_check.specs.declared.premises.Premises.TheVariants.{Initial, One, Two}
 use Rattle.qrp_check.proofs.Marking.{core_within}
 use Rattle.qrp_check.proofs.StepFaults.{in_take, named}
-use Rattle.qrp_check.proofs.StepPlaces.{at_place}
-use Rattle.qrp_rules.proofs.MembersDecide.{same_answer, same_self, reduct_same, resolvent_same, initial_same}
+use Rattle.qrp_check.proofs.StepPlaces.{at_place, one_at}
+use Rattle.qrp_rules.proofs.MembersDecide.{initial_answer, reduct_answer, resolvent_answer, same_self}
 
 -- ---- earlier steps
 
@@ -68,50 +69,39 @@ needed steps place index number core ants less below here is =
       named = subst (λ (n : ℕ). n ∈ above.0.ants) (sym is) (ants above.0 above.1);
     }
 
--- the set of an earlier step is that of the literals under its number
-pub earlier_set : (blocks : List Block) (steps : List Inference) (kept : List (List Literal)) (place index number : ℕ) (set : List Literal)
-    → AreKept blocks steps place kept → IsInCore steps place → ((step : Inference) → IsAt steps place step → number ∈ step.ants)
-    → IsOnlyAt steps index number
-    → index < place → (below : Inference) × IsAt steps index below × (below.number ≡ number)
-    → ((step : Inference) (entry : List Literal) → IsAt steps index step → slice_get kept index ≡ Some entry
-    → IsEntry blocks entry step.lits
-    → IsOrdered set × IsSetOf blocks set step.lits)
-    → IsOrdered set × IsNumberOf (take place steps) number × IsSetOf blocks set (lits_of (take place steps) number)
-earlier_set blocks steps kept place index number set are core ants only less (below, here, is) given =
+-- the literals that are lent of an earlier step are those under its number
+pub premise_of : (steps : List Inference) (place index number : ℕ) (lits : List Literal) → index < place
+    → (below : Inference) × IsAt steps index below × (below.number ≡ number) → IsOnlyAt steps index number
+    → ((step : Inference) → IsAt steps index step → lits ≡ step.lits) → IsPremise (take place steps) number lits
+premise_of steps place index number lits less (below, here, is) only given =
     let own : IsNumberOf (take place steps) number = (below, in_taken steps place index below less here, is) in
     let s = named (take place steps) number own in
     let w = in_take steps place s.0 s.1 in
     let at : IsAt steps index s.0 = subst (λ (k : ℕ). IsAt steps k s.0) (only w.0 s.0 w.2 s.2) w.2 in
-    let k = are.sets index place s.0 less (omega arith) core (needed steps place index number core ants less below here is) at in
-    let g = given s.0 k.0 at k.1 k.2 in
-    (g.0, own, subst (λ (lits : List Literal). IsSetOf blocks set lits) s.3 g.1)
+    (own, given s.0 at ∙ s.3)
 
--- such a set is over the prefix
-pub bound_set : (blocks : List Block) (set lits : List Literal) → IsSetOf blocks set lits → AreBound blocks set
-bound_set blocks set lits is = is.bound
+module _ (rules : Rules) (side : Side) (f : Qbf) (steps : List Inference) (place : ℕ) (core : IsInCore steps place)
+    (follows : (j : ℕ) → j < place → IsInCore steps j → StepFollows rules side f steps j) (step : Inference) (here : IsAt steps place step) where
+  -- an antecedent of a step of the core follows itself, so it is clean and bound
+  premise_fit : (number : ℕ) (lits : List Literal) → number ∈ step.ants → IsPremise (take place steps) number lits → IsFit f.blocks lits
+  premise_fit number lits named_here (own, e) =
+      let s = named (take place steps) number own in
+      let w = in_take steps place s.0 s.1 in
+      let at_step : (other : Inference) → IsAt steps place other → number ∈ other.ants =
+      λ other at. subst (λ (t : Inference). number ∈ t.ants) (one_at steps place step other here at) named_here in
+      let done = follows w.0 w.1 (next core (needed steps place w.0 number core at_step w.1 s.0 w.2 s.2)) in
+      let lits_in : Inference → List Literal = λ t. t.lits in
+      let at : done.step.lits ≡ lits = ap lits_in (one_at steps w.0 done.step s.0 done.here w.2) ∙ s.3 ∙ sym e in
+      (subst IsClean at done.all.0, subst (AreBound f.blocks) at done.all.1.0)
 
-pub lent_written : (blocks : List Block) (entry lits : List Literal) → entry ≡ [] → IsEntry blocks entry lits
-    → IsOrdered lits × IsSetOf blocks lits lits
-lent_written blocks entry [] none (inl h) = (tt, record { members = same_self []; bound = tt })
-lent_written blocks entry (l ∷ lits) none (inl h) = absurd (subst (λ (z : List Literal). l ∈ z) none (h.1.members.1 l (inl refl)))
-lent_written blocks entry lits none (inr (_, ordered, bound)) = (ordered, record { members = same_self lits; bound = bound })
-
-pub set_bound : (blocks : List Block) (set lits : List Literal) → HasMembersOf set lits → AreBound blocks lits → AreBound blocks set
-set_bound blocks set lits same bound =
-    in_all (λ (l : Literal). IsBound blocks l.var) set (λ l h. bound_each blocks lits bound l (same.0 l h))
-
--- what is set_or_written of a step is a set of its literals, and what is kept is its entry
-pub shown_set : (blocks : List Block) (set : Option (List Literal)) (lits : List Literal) → HasMembersOf (set_or_written set lits) lits
-    → AreBound blocks lits
-    → IsSetOf blocks (set_or_written set lits) lits
-shown_set blocks set lits members bound =
-    record { members = members; bound = set_bound blocks (set_or_written set lits) lits members bound }
-
-pub shown_entry : (blocks : List Block) (set : Option (List Literal)) (lits : List Literal) → IsOrdered (set_or_written set lits)
-    → HasMembersOf (set_or_written set lits) lits
-    → AreBound blocks lits → IsEntry blocks (set_or_written set []) lits
-shown_entry blocks None lits ordered members bound = inr (refl, ordered, bound)
-shown_entry blocks (Some set) lits ordered members bound = inl (ordered, shown_set blocks (Some set) lits members bound)
+  pub premises_fit : (found : Option Premises) → ArePremises (take place steps) step.ants found → IfSome found (AreFit f.blocks)
+  premises_fit None are = tt
+  premises_fit (Some Initial) are = tt
+  premises_fit (Some (One from)) (n, e, is) = premise_fit n from.now (subst (λ (ns : List ℕ). n ∈ ns) (sym e) (inl refl)) is
+  premises_fit (Some (Two a b)) (m, n, e, is_a, is_b) = (
+    premise_fit m a.now (subst (λ (ns : List ℕ). m ∈ ns) (sym e) (inl refl)) is_a,
+    premise_fit n b.now (subst (λ (ns : List ℕ). n ∈ ns) (sym e) (inr (inl refl))) is_b,
+  )
 
 -- ---- the conditions of a step
 
@@ -120,77 +110,103 @@ pub answer_after : (name : RuleFault) (holds : Type 0) (conditions : List (Condi
 answer_after name holds conditions None h all = (h, all)
 answer_after name holds conditions (Some fault) h first = inr (h, first)
 
-pub one_follows : (side : Side) (blocks : List Block) (before : List Inference) (number : ℕ) (from set : List Literal)
-    (answer : Option RuleFault)
-    → IsNumberOf before number × IsSetOf blocks from (lits_of before number) → IsAnswer (reduct_conditions side blocks from set) answer
-    → IsAnswer ((S3, IsNumberOf before number) ∷ reduct_conditions side blocks (lits_of before number) set) answer
-one_follows side blocks before number from set answer (is, s) a =
-    answer_after S3 (IsNumberOf before number) (reduct_conditions side blocks (lits_of before number) set) answer is
-    (same_answer (reduct_conditions side blocks from set) (reduct_conditions side blocks (lits_of before number) set) answer
-    (reduct_same side blocks from (lits_of before number) set set s.members (same_self set)) a)
+with_earlier : (p q earlier : Type 0) (rest : List (Condition RuleFault)) (answer : Option RuleFault) → earlier
+    → IsAnswer ((S1, p) ∷ (S2, q) ∷ rest) answer → IsAnswer ((S1, p) ∷ (S2, q) ∷ (S3, earlier) ∷ rest) answer
+with_earlier p q earlier rest None e (h, (k, all)) = (h, (k, (e, all)))
+with_earlier p q earlier rest (Some fault) e (inl out) = inl out
+with_earlier p q earlier rest (Some fault) e (inr (h, inl out)) = inr (h, inl out)
+with_earlier p q earlier rest (Some fault) e (inr (h, inr (k, first))) = inr (h, inr (k, inr (e, first)))
 
-pub two_follow : (rules : Rules) (side : Side) (blocks : List Block) (before : List Inference) (m n : ℕ) (a b set : List Literal)
-    (answer : Option RuleFault)
-    → IsNumberOf before m × IsSetOf blocks a (lits_of before m) → IsNumberOf before n × IsSetOf blocks b (lits_of before n)
-    → IsAnswer (resolvent_conditions rules side blocks a b set) answer
-    → IsAnswer ((S3, IsNumberOf before m × IsNumberOf before n)
-    ∷ resolvent_conditions rules side blocks (lits_of before m) (lits_of before n) set) answer
-two_follow rules side blocks before m n a b set answer (is_m, s) (is_n, t) w =
-    answer_after S3 (IsNumberOf before m × IsNumberOf before n)
-    (resolvent_conditions rules side blocks (lits_of before m) (lits_of before n) set) answer (is_m, is_n)
-    (same_answer (resolvent_conditions rules side blocks a b set)
-    (resolvent_conditions rules side blocks (lits_of before m) (lits_of before n) set) answer
-    (resolvent_same rules side blocks a (lits_of before m) b (lits_of before n) set set s.members t.members (same_self set)) w)
+without_earlier : (p q earlier : Type 0) (rest : List (Condition RuleFault)) (answer : Option RuleFault) → (earlier → ⊥)
+    → IsAnswer ((S1, p) ∷ (S2, q) ∷ (S3, ⊥) ∷ []) answer → IsAnswer ((S1, p) ∷ (S2, q) ∷ (S3, earlier) ∷ rest) answer
+without_earlier p q earlier rest None not all = absurd all.1.1.0
+without_earlier p q earlier rest (Some fault) not (inl out) = inl out
+without_earlier p q earlier rest (Some fault) not (inr (h, inl out)) = inr (h, inl out)
+without_earlier p q earlier rest (Some fault) not (inr (h, inr (k, inl (out, is)))) = inr (h, inr (k, inl (not, is)))
+without_earlier p q earlier rest (Some fault) not (inr (h, inr (k, inr (none, first)))) = absurd none
 
--- from a set to the literals of the step
-abbrev named_all : List Inference → List ℕ → Type 0
-named_all before ants = (n : ℕ) → n ∈ ants → IsNumberOf before n
-
-pub no_antecedent : (rules : Rules) (side : Side) (f : Qbf) (before : List Inference) (step : Inference) (set : List Literal)
+-- from the antecedents that were found to the numbers of the step
+from_found : (rules : Rules) (side : Side) (f : Qbf) (before : List Inference) (step : Inference) (found : Option Premises)
     (answer : Option RuleFault)
-    → step.ants ≡ [] → IsSetOf f.blocks set step.lits → IsAnswer (initial_condition side f set ∷ []) answer
-    → IsAnswer (later_conditions rules side f before step) answer
-no_antecedent rules side f before step set answer none s a =
-    rw none (answer_after S3 (named_all before []) (initial_condition side f step.lits ∷ []) answer (λ n h. absurd h)
-    (same_answer (initial_condition side f set ∷ []) (initial_condition side f step.lits ∷ []) answer
-    (initial_same side f set step.lits s.members) a))
+    → ArePremises before step.ants found → IsAnswer (found_conditions rules side f found step.lits) answer
+    → IsAnswer (step_conditions rules side f before step) answer
+from_found rules side f before step None answer not a =
+    without_earlier (IsClean step.lits) (AreBound f.blocks step.lits) ((n : ℕ) → n ∈ step.ants → IsNumberOf before n)
+    (antecedent_conditions rules side f before step.ants step.lits) answer not a
+from_found rules side f before step (Some Initial) answer none a =
+    rw none (with_earlier (IsClean step.lits) (AreBound f.blocks step.lits) ((n : ℕ) → n ∈ [] → IsNumberOf before n)
+    (initial_condition side f step.lits ∷ []) answer (λ n h. absurd h) a)
+from_found rules side f before step (Some (One from)) answer (m, e, (own, is)) a =
+    rw e (with_earlier (IsClean step.lits) (AreBound f.blocks step.lits) ((n : ℕ) → n ∈ (m ∷ []) → IsNumberOf before n)
+    (reduct_conditions side f.blocks (lits_of before m) step.lits) answer
+    (λ n h. elim h [ inl same ↦ subst (IsNumberOf before) (sym same) own | inr none ↦ absurd none ])
+    (subst (λ (z : List Literal). IsAnswer ((S1, IsClean step.lits) ∷ (S2, AreBound f.blocks step.lits)
+    ∷ reduct_conditions side f.blocks z step.lits) answer) is a))
+from_found rules side f before step (Some (Two x y)) answer (m, k, e, (own_x, is_x), (own_y, is_y)) a =
+    rw e (with_earlier (IsClean step.lits) (AreBound f.blocks step.lits) ((n : ℕ) → n ∈ (m ∷ k ∷ []) → IsNumberOf before n)
+    (resolvent_conditions rules side f.blocks (lits_of before m) (lits_of before k) step.lits) answer
+    (λ n h. elim h [
+      | inl same ↦ subst (IsNumberOf before) (sym same) own_x
+      | inr (inl same) ↦ subst (IsNumberOf before) (sym same) own_y
+      | inr (inr none) ↦ absurd none
+    ])
+    (subst (λ (z : List Literal). IsAnswer ((S1, IsClean step.lits) ∷ (S2, AreBound f.blocks step.lits)
+    ∷ resolvent_conditions rules side f.blocks (lits_of before m) z step.lits) answer) is_y
+    (subst (λ (z : List Literal). IsAnswer ((S1, IsClean step.lits) ∷ (S2, AreBound f.blocks step.lits)
+    ∷ resolvent_conditions rules side f.blocks z y.now step.lits) answer) is_x a)))
 
-pub one_antecedent : (rules : Rules) (side : Side) (f : Qbf) (before : List Inference) (step : Inference) (set : List Literal) (number : ℕ)
-    (answer : Option RuleFault)
-    → step.ants ≡ number ∷ [] → IsSetOf f.blocks set step.lits
-    → IsAnswer ((S3, IsNumberOf before number) ∷ reduct_conditions side f.blocks (lits_of before number) set) answer
-    → IsAnswer (later_conditions rules side f before step) answer
-one_antecedent rules side f before step set number answer one s a =
-    rw one (same_answer ((S3, IsNumberOf before number) ∷ reduct_conditions side f.blocks (lits_of before number) set)
-    ((S3, named_all before (number ∷ [])) ∷ reduct_conditions side f.blocks (lits_of before number) step.lits) answer (
-      refl,
-      (λ is n h. elim h [ inl e ↦ subst (IsNumberOf before) (sym e) is | inr k ↦ absurd k ]),
-      (λ all. all number (inl refl)),
-      reduct_same side f.blocks (lits_of before number) (lits_of before number) set step.lits (same_self (lits_of before number)) s.members,
-    )
-    a)
+pub found_answer : (rules : Rules) (side : Side) (f : Qbf) (before : List Inference) (step : Inference) (found : Option Premises)
+    (lits : List Literal) (answer : Option RuleFault) → lits ≡ step.lits → ArePremises before step.ants found
+    → IsAnswer (found_conditions rules side f found lits) answer → IsAnswer (step_conditions rules side f before step) answer
+found_answer rules side f before step found lits answer same are a =
+    from_found rules side f before step found answer are
+    (subst (λ (z : List Literal). IsAnswer (found_conditions rules side f found z) answer) same a)
 
-pub two_antecedents : (rules : Rules) (side : Side) (f : Qbf) (before : List Inference) (step : Inference) (set : List Literal) (m n : ℕ)
-    (answer : Option RuleFault)
-    → step.ants ≡ m ∷ n ∷ [] → IsSetOf f.blocks set step.lits
-    → IsAnswer ((S3, IsNumberOf before m × IsNumberOf before n)
-    ∷ resolvent_conditions rules side f.blocks (lits_of before m) (lits_of before n) set) answer
-    → IsAnswer (later_conditions rules side f before step) answer
-two_antecedents rules side f before step set m n answer two s a =
-    rw two (same_answer ((S3, IsNumberOf before m × IsNumberOf before n)
-    ∷ resolvent_conditions rules side f.blocks (lits_of before m) (lits_of before n) set)
-    ((S3, named_all before (m ∷ n ∷ [])) ∷ resolvent_conditions rules side f.blocks (lits_of before m) (lits_of before n) step.lits)
-    answer (
-      refl,
-      (λ is x h. elim h [
-        | inl e ↦ subst (IsNumberOf before) (sym e) is.0
-        | inr k ↦ elim k [ inl e ↦ subst (IsNumberOf before) (sym e) is.1 | inr g ↦ absurd g ]
-      ]),
-      (λ all. (all m (inl refl), all n (inr (inl refl)))),
-      resolvent_same rules side f.blocks (lits_of before m) (lits_of before m) (lits_of before n) (lits_of before n) set step.lits
-          (same_self (lits_of before m)) (same_self (lits_of before n)) s.members,
-    )
-    a)
+-- a set in the place of the literals
+premise_answer : (rules : Rules) (side : Side) (f : Qbf) (premises : Premises) (set lits : List Literal) (answer : Option RuleFault)
+    → HasMembersOf set lits → IsAnswer (premise_conditions rules side f premises set) answer
+    → IsAnswer (premise_conditions rules side f premises lits) answer
+premise_answer rules side f Initial set lits answer same a = initial_answer side f set lits answer same a
+premise_answer rules side f (One from) set lits answer same a =
+    reduct_answer side f.blocks from.now from.now set lits answer (same_self from.now) same a
+premise_answer rules side f (Two x y) set lits answer same a =
+    resolvent_answer rules side f.blocks x.now x.now y.now y.now set lits answer (same_self x.now) (same_self y.now) same a
+
+pub set_answer : (rules : Rules) (side : Side) (f : Qbf) (premises : Premises) (set lits : List Literal) (answer : Option RuleFault)
+    → HasMembersOf set lits → IsFit f.blocks lits → IsAnswer (premise_conditions rules side f premises set) answer
+    → IsAnswer (written_conditions rules side f premises lits) answer
+set_answer rules side f premises set lits answer same fit a =
+    answer_after S1 (IsClean lits) ((S2, AreBound f.blocks lits) ∷ premise_conditions rules side f premises lits) answer fit.0
+    (answer_after S2 (AreBound f.blocks lits) (premise_conditions rules side f premises lits) answer fit.1
+    (premise_answer rules side f premises set lits answer same a))
+
+pub not_tautology : (lits : List Literal) → IsClean lits → IsTautology lits → ⊥
+not_tautology lits clean (v, p, n) = clean (positive v) p n
+
+pub none_unbound : (blocks : List Block) (lits : List Literal) → AreBound blocks lits
+    → (l : Literal) × (l ∈ lits) × (IsBound blocks l.var → ⊥) → ⊥
+none_unbound blocks lits bound (l, h, free) = free (bound_each blocks lits bound l h)
+
+pub not_clean : (rules : Rules) (side : Side) (f : Qbf) (found : Option Premises) (lits : List Literal) → IsTautology lits
+    → IsAnswer (found_conditions rules side f found lits) (Some S1)
+not_clean rules side f None lits (v, p, n) = inl ((λ clean. clean (positive v) p n), refl)
+not_clean rules side f (Some premises) lits (v, p, n) = inl ((λ clean. clean (positive v) p n), refl)
+
+pub not_all_bound : (rules : Rules) (side : Side) (f : Qbf) (found : Option Premises) (lits : List Literal) → IsClean lits
+    → (l : Literal) × (l ∈ lits) × (IsBound f.blocks l.var → ⊥) → IsAnswer (found_conditions rules side f found lits) (Some S2)
+not_all_bound rules side f None lits clean (l, h, free) = inr (clean, inl ((λ bound. free (bound_each f.blocks lits bound l h)), refl))
+not_all_bound rules side f (Some premises) lits clean (l, h, free) =
+    inr (clean, inl ((λ bound. free (bound_each f.blocks lits bound l h)), refl))
+
+pub ok_all : {E : Type 0} (r : Result Bool E) (p q s : Type 0) → IfOk r (λ t. IsTrue t → p) → IfOk r (λ t. IsTrue t → q)
+    → IfOk r (λ t. IsTrue t → s) → IfOk r (λ t. IsTrue t → p × (q × s))
+ok_all (Ok t) p q s a b c = λ h. (a h, (b h, c h))
+ok_all (Err e) p q s a b c = tt
+
+-- the number of an antecedent that is no earlier step
+pub not_earlier : (before : List Inference) (ants numbers : List ℕ) (n : ℕ) → ants ≡ numbers → n ∈ numbers → (IsNumberOf before n → ⊥)
+    → ((m : ℕ) → m ∈ ants → IsNumberOf before m) → ⊥
+not_earlier before ants numbers n e h not all = not (all n (subst (λ (ns : List ℕ). n ∈ ns) (sym e) h))
 
 -- ---- lists of antecedents
 
@@ -213,42 +229,3 @@ two_listed [] d e some less = absurd (omega (arith, some))
 two_listed (x ∷ []) d e some less = absurd (omega (arith, some))
 two_listed (x ∷ y ∷ []) d e some less = refl
 two_listed (x ∷ y ∷ z ∷ xs) d e some less = absurd (omega (arith, less))
-
--- ---- a step and its set
-
-pub not_clean : (rules : Rules) (side : Side) (f : Qbf) (before : List Inference) (step : Inference) (lits : List Literal)
-    → lits ≡ step.lits → IsTautology lits → IsFirstFailure (step_conditions rules side f before step) S1
-not_clean rules side f before step lits e (v, p, n) = inl (
-  (λ clean. clean (positive v) (subst (λ (ls : List Literal). positive v ∈ ls) e p)
-      (subst (λ (ls : List Literal). negative v ∈ ls) e n)),
-  refl,
-)
-
-pub not_all_bound : (rules : Rules) (side : Side) (f : Qbf) (before : List Inference) (step : Inference) (lits : List Literal)
-    → lits ≡ step.lits → IsClean lits → (l : Literal) × (l ∈ lits) × (IsBound f.blocks l.var → ⊥)
-    → IsFirstFailure (step_conditions rules side f before step) S2
-not_all_bound rules side f before step lits e clean (l, h, free) = inr (
-  subst IsClean e clean,
-  inl ((λ bound. free (bound_each f.blocks step.lits bound l (subst (λ (ls : List Literal). l ∈ ls) e h))), refl),
-)
-
-pub follows : (rules : Rules) (side : Side) (f : Qbf) (before : List Inference) (step : Inference) (lits : List Literal)
-    → lits ≡ step.lits → IsClean lits → AreBound f.blocks lits → AllHold (later_conditions rules side f before step)
-    → AllHold (step_conditions rules side f before step)
-follows rules side f before step lits e clean bound later = (subst IsClean e clean, (subst (AreBound f.blocks) e bound, later))
-
-pub follows_not : (rules : Rules) (side : Side) (f : Qbf) (before : List Inference) (step : Inference) (lits : List Literal)
-    (fault : RuleFault) → lits ≡ step.lits → IsClean lits → AreBound f.blocks lits
-    → IsFirstFailure (later_conditions rules side f before step) fault
-    → IsFirstFailure (step_conditions rules side f before step) fault
-follows_not rules side f before step lits fault e clean bound later =
-    inr (subst IsClean e clean, inr (subst (AreBound f.blocks) e bound, later))
-
-pub answer_none : (conditions : List (Condition RuleFault)) (answer : Option RuleFault) → answer ≡ None → IsAnswer conditions answer
-    → AllHold conditions
-answer_none conditions answer none a = subst (IsAnswer conditions) none a
-
-pub answer_some : (conditions : List (Condition RuleFault)) (answer : Option RuleFault) (fault : RuleFault) → answer ≡ Some fault
-    → IsAnswer conditions answer
-    → IsFirstFailure conditions fault
-answer_some conditions answer fault some a = subst (IsAnswer conditions) some a

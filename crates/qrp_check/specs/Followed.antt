@@ -3,17 +3,25 @@ use Rattle.std.specs.Prelude.{ℕ, ◌<◌, List}
 use Rattle.qbf_core.specs.Qbf.{Qbf}
 use Rattle.qbf_core.specs.Rules.{Side}
 use Rattle.qrp.specs.Inferences.{Inference}
+use Rattle.qrp_rules.specs.Initial.{AreKnown}
+use Rattle.qrp_rules.specs.declared.rules.Rules.{Rules}
 use Rattle.qrp_check.specs.Conditions.{StepFollows}
 use Rattle.qrp_check.specs.Core.{IsInCore}
-use Rattle.qrp_rules.specs.Initial.{AreKnown}
-use Rattle.qrp_check.specs.Kept.{AreKept}
-use Rattle.qrp_check.specs.Marks.{ArePassing}
-use Rattle.qrp_check.specs.declared.following.Progress.{Progress}
-use Rattle.qrp_rules.specs.declared.rules.Rules.{Rules}
+use Rattle.qrp_check.specs.Proof.{IsFirstFaultyStep}
+use Rattle.qrp_check.specs.declared.fault.CheckFault.{CheckFault}
+use Rattle.qrp_check.specs.declared.fault.CheckFault.TheVariants.{C1, C2, C3, C4, C5, C6}
+use Rattle.qrp_check.specs.declared.following.CheckState.{CheckState}
 
--- the steps of the core before place i follow, and what the later ones need is known
-pub record IsFollowed (rules : Rules) (side : Side) (f : Qbf) (steps : List Inference) (i : ℕ) (progress : Progress) : Type 0 where
+-- the steps of the core before place i follow, and so are clean and bound, and what is kept is of this formula
+pub record IsFollowed (rules : Rules) (side : Side) (f : Qbf) (steps : List Inference) (i : ℕ) (state : CheckState) : Type 0 where
   pub follows : (j : ℕ) → j < i → IsInCore steps j → StepFollows rules side f steps j
-  pub known : AreKnown f progress.initial
-  pub passing : ArePassing steps progress.uses.passing.items
-  pub kept : AreKept f.blocks steps i progress.kept
+  pub known : AreKnown f state.initial
+
+-- what is refused of a core: its first step that does not follow, or nothing if an allocation failed
+abbrev pub IsCoreFault : Rules → Side → Qbf → List Inference → CheckFault → Type 0
+IsCoreFault rules side f steps (C1 v) = ⊥
+IsCoreFault rules side f steps (C2 v) = ⊥
+IsCoreFault rules side f steps (C3 v) = ⊥
+IsCoreFault rules side f steps C4 = ⊥
+IsCoreFault rules side f steps C5 = Unit {0}
+IsCoreFault rules side f steps (C6 number fault) = IsFirstFaultyStep rules side f steps number fault

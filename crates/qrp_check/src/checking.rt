@@ -7,7 +7,7 @@ ghost use Rattle.std.specs.List.Sorted.{IsStrictlyIncreasing};
 ghost use Rattle.qbf_core.specs.Truth.{IsTrueFormula};
 ghost use Rattle.qrp_check.specs.declared.fault.CheckFault.TheVariants.{C5};
 ghost use Rattle.qrp_check.specs.Core.{IsGoal, ListsCore};
-ghost use Rattle.qrp_check.specs.Kept.{IsCoreFault};
+ghost use Rattle.qrp_check.specs.Followed.{IsCoreFault};
 ghost use Rattle.qrp_check.specs.Proof.{Derives, Proves, IsFirstFault};
 ghost use Rattle.qrp_check.specs.Verdict.{is_sat};
 
@@ -16,7 +16,7 @@ use crate::fault::CheckFault;
 use crate::following::follow_core;
 use crate::goal::find_goal;
 use crate::marks::{mark_core, marked_places};
-use crate::step::Setting;
+use crate::step::Context;
 use crate::uses::Uses;
 use crate::verdict::Verified;
 use qbf_core::Formula;
@@ -27,27 +27,25 @@ use std::alloc::Global;
 /// The places of the core beside what they show, where each of its steps follows from those before
 /// it.
 fn check_core<S: Side, T: Steps>(
-    setting: Setting,
+    context: Context,
     trace: &T,
     goal: usize,
     truth: bool,
 ) -> Result<Verified, CheckFault>
     requires { IsGoal (T.steps trace.now) goal }
     ensures derives { OnOk result
-        (Derives setting.entry.rules S.side setting.entry.formula.now (T.steps trace.now)) }
+        (Derives context.entry.rules S.side context.entry.formula.now (T.steps trace.now)) }
     ensures core { IfOk result (λ v. ListsCore (T.steps trace.now) v.core.items) }
     ensures claim { IfOk result (λ v. v.truth ≡ truth) }
     ensures refused { IfErr result
-        (IsCoreFault setting.entry.rules S.side setting.entry.formula.now (T.steps trace.now)) }
+        (IsCoreFault context.entry.rules S.side context.entry.formula.now (T.steps trace.now)) }
 {
-    let Ok(mut uses) = Uses::new(setting.alloc, trace) else {
+    let mut uses = Uses::new(context.alloc, trace);
+    let Ok(marks) = mark_core(context.alloc, trace, goal, &mut uses) else {
         return Err(CheckFault::C5);
     };
-    let Ok(marks) = mark_core(setting.alloc, trace, goal, &mut uses) else {
-        return Err(CheckFault::C5);
-    };
-    follow_core::<S, T>(setting, trace, &marks, uses)?;
-    match marked_places(setting.alloc, &marks) {
+    follow_core::<S, T>(context, trace, &marks, uses)?;
+    match marked_places(context.alloc, &marks) {
         Ok(core) => Ok(Verified { truth, core }),
         Err(_) => Err(CheckFault::C5),
     }
@@ -90,13 +88,13 @@ pub fn check<T: Steps>(
     let Some(goal) = find_goal(trace) else {
         return Err(CheckFault::C4);
     };
-    let setting = Setting {
+    let context = Context {
         alloc,
         formula,
         rules,
     };
     match outcome {
-        Outcome::Unsat => check_core::<Clauses, T>(setting, trace, goal, false),
-        Outcome::Sat => check_core::<Cubes, T>(setting, trace, goal, true),
+        Outcome::Unsat => check_core::<Clauses, T>(context, trace, goal, false),
+        Outcome::Sat => check_core::<Cubes, T>(context, trace, goal, true),
     }
 }

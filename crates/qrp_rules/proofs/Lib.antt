@@ -9,4 +9,6 @@ pub mod MembersDecide
 pub mod ReducedForms
 pub mod OrderedLists
 pub mod Merging
+pub mod Exactness
+pub mod Stamps
 pub mod WatchedClauses

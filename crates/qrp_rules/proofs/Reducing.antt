@@ -11,7 +11,7 @@ use Rattle.qbf_core.proofs.Members.{in_or_not}
 use Rattle.qbf_core.proofs.Inferences.{in_append, append_left, append_right, in_without, from_without}
 use Rattle.qrp_rules.specs.Conditions.{IsReducibleInParents}
 use Rattle.qrp_rules.proofs.Clashing.{clash_var, clash_var_right}
-use Rattle.qrp_rules.specs.Walks.{IsAfter, IsHeldBefore, IsInnermost, IsPivotNumber, StandsAfter}
+use Rattle.qrp_rules.specs.Walks.{Accounts, IsAfter, IsHeldBefore, IsInnermost, IsPivotNumber, StandsAfter}
 
 -- what a quantifier binds has a block
 pub binds_block : (blocks : List Block) (q : Quantifier) (v : ℕ) → Binds blocks q v → block_in v blocks ≡ None → ⊥
@@ -138,11 +138,6 @@ innermost_whole blocks q lits x beside own whole (m, h, is) is_beside is_own bot
     (is_own k).1 (subst (λ (v : ℕ). IsHeldBefore blocks q None v k) is (all m h)),
   )),
 )
-
--- each literal of the resolvent is in `to`, or reducible in the resolvent or in the antecedents
-abbrev pub Accounts : Side → List Block → List Literal → List Literal → List Literal → ℕ → Type 0
-Accounts side blocks a b to x = (l : Literal) → l ∈ resolvent a b x
-    → (l ∈ to) ⊎ (IsReducible side blocks (resolvent a b x) l ⊎ IsReducibleInParents side blocks a b l)
 
 -- a literal may be left out of an antecedent after the outer one of two blocks: the innermost of the resolvent, and that of the antecedent
 module _ (side : Side) (blocks : List Block) (reduced deciding : Quantifier) (er : reduced ≡ reduced_quantifier side)

@@ -2,6 +2,7 @@ pub mod Conditions
 pub mod Unreduced
 pub mod Walks
 pub mod Exact
+pub mod Seen
 pub mod Index
 pub mod Watches
 pub mod Initial

@@ -4,7 +4,8 @@ use Rattle.qbf_core.specs.declared.quantifier.Quantifier.{Quantifier}
 use Rattle.qbf_core.specs.Literal.{Literal}
 use Rattle.qbf_core.specs.Members.{◌∈◌}
 use Rattle.qbf_core.specs.Blocks.{Block, Binds, block_in}
-use Rattle.qbf_core.specs.Rules.{Clashes, IsOnlyClash}
+use Rattle.qbf_core.specs.Rules.{Side, Clashes, IsOnlyClash, IsReducible, resolvent}
+use Rattle.qrp_rules.specs.Conditions.{IsReducibleInParents}
 use Rattle.qrp_rules.specs.declared.reduct.Reducible.{Reducible}
 use Rattle.qrp_rules.specs.declared.resolvent.Clash.{Clash}
 use Rattle.qrp_rules.specs.declared.resolvent.Clash.TheVariants.{Nothing, One, More}
@@ -43,3 +44,12 @@ StandsAfter blocks q block v = Binds blocks q v × ((k : ℕ) → block_in v blo
 abbrev pub MayLack : List Block → Option Reducible → Option ℕ → ℕ → Type 0
 MayLack blocks None pivot v = IsPivotNumber pivot v
 MayLack blocks (Some after) pivot v = IsPivotNumber pivot v ⊎ StandsAfter blocks after.quantifier after.block v
+
+-- each literal of `from` is in `to`, or of the pivot, or a reduction may take it out
+abbrev pub Covers : List Block → Reducible → ℕ → List Literal → List Literal → Type 0
+Covers blocks after pivot from to = (l : Literal) → l ∈ from → (l ∈ to) ⊎ MayLack blocks (Some after) (Some pivot) l.var
+
+-- each literal of the resolvent is in `to`, or reducible in the resolvent or in the antecedents
+abbrev pub Accounts : Side → List Block → List Literal → List Literal → List Literal → ℕ → Type 0
+Accounts side blocks a b to x = (l : Literal) → l ∈ resolvent a b x
+    → (l ∈ to) ⊎ (IsReducible side blocks (resolvent a b x) l ⊎ IsReducibleInParents side blocks a b l)

@@ -193,14 +193,14 @@ impl InitialClauses {
     pub(crate) fn is_next(&mut self, formula: &Formula, lits: &[Lit]) -> bool
         requires { IsIndexed formula.now self.old }
         ensures initial { IsTrue result → IsInitial Clauses formula.now lits.now }
-        ensures ordered { IsTrue result → IsOrdered lits.now }
+        ensures clean { IsTrue result → IsClean lits.now }
         ensures bound { IsTrue result → AreBound formula.now.blocks lits.now }
         ensures kept { IsIndexed formula.now self.new }
     {
         if self.next >= formula.clauses() {
             return false;
         }
-        if !is_copy(formula.clause(self.next), lits) {
+        if !is_ordered(lits) || !is_copy(formula.clause(self.next), lits) {
             return false;
         }
         self.next = self.next.saturating_add(1);

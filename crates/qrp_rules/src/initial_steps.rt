@@ -3,6 +3,7 @@
 ghost use Rattle.std.specs.Prelude.{[], ◌∷◌, IsTrue, OnOk, IfOk};
 ghost use Rattle.qbf_core.specs.Blocks.{AreBound};
 ghost use Rattle.qbf_core.specs.Qbf.{Qbf};
+ghost use Rattle.qbf_core.specs.Rules.{IsClean};
 ghost use Rattle.qbf_core.specs.Sets.{IsOrdered};
 ghost use Rattle.qrp_rules.specs.Conditions.{AllHold, IsAnswer, initial_condition};
 ghost use Rattle.qrp_rules.specs.Initial.{AreKnown};
@@ -41,7 +42,7 @@ impl InitialSteps {
         requires { AreKnown formula.now self.old }
         ensures follows { IsTrue result
             → AllHold (initial_condition S.side formula.now lits.now ∷ []) }
-        ensures ordered { IsTrue result → IsOrdered lits.now }
+        ensures clean { IsTrue result → IsClean lits.now }
         ensures bound { IsTrue result → AreBound formula.now.blocks lits.now }
         ensures known { AreKnown formula.now self.new }
     {

@@ -1,6 +1,7 @@
 //! The rules of a step, on sets of literals: initial clauses and cubes, reducts and resolvents.
 #![tactic(auto)]
 
+mod any_order;
 mod clause_index;
 mod exact;
 mod fault;
@@ -10,15 +11,18 @@ mod initial_steps;
 mod reduct;
 mod resolvent;
 mod rules;
+mod seen;
 mod side;
 mod walks;
 mod written;
 
-pub use exact::{is_exact_reduct, is_exact_resolvent};
+pub use any_order::is_resolvent;
+pub use exact::is_exact_reduct;
 pub use fault::RuleFault;
 pub use initial_steps::InitialSteps;
 pub use reduct::{is_bound_by, is_reduct, ordered_reduct_fault, reduct_fault};
 pub use resolvent::{ordered_resolvent_fault, resolvent_fault};
 pub use rules::Rules;
+pub use seen::SeenLits;
 pub use side::{Clauses, Cubes, Side};
 pub use written::{set_or_written, set_unless_ordered};

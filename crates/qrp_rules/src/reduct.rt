@@ -113,7 +113,12 @@ pub(crate) struct Reducible {
 
 /// Whether a literal of the variable may be missing: it is the pivot, or a reduction may take it
 /// out.
-fn may_lack(prefix: &Prefix, reducible: Option<Reducible>, pivot: Option<u32>, var: Var) -> bool
+pub(crate) fn may_lack(
+    prefix: &Prefix,
+    reducible: Option<Reducible>,
+    pivot: Option<u32>,
+    var: Var,
+) -> bool
     ensures { IsTrue result ↔ MayLack prefix.now reducible pivot var }
 {
     match reducible {

@@ -1,15 +1,14 @@
 //! Whether a set is a reduct of the resolvent of two others.
 
-ghost use Rattle.std.specs.Prelude.{◌≡◌, ◌↔◌, ◌⊎◌, IsTrue, None};
+ghost use Rattle.std.specs.Prelude.{◌≡◌, ◌↔◌, ◌⊎◌, IsTrue, List, None};
 ghost use Rattle.qbf_core.specs.Literal.{Literal};
-ghost use Rattle.qbf_core.specs.Members.{◌∈◌, ◌⊆◌};
+ghost use Rattle.qbf_core.specs.Members.{◌⊆◌};
 ghost use Rattle.qbf_core.specs.Blocks.{AreBound};
-ghost use Rattle.qbf_core.specs.Rules.{Clashes, IsReducible, resolvent};
+ghost use Rattle.qbf_core.specs.Rules.{Clashes, resolvent};
 ghost use Rattle.qbf_core.specs.Sets.{IsOrdered};
-ghost use Rattle.qrp_rules.specs.Conditions.{AllHold, AllowsPivot, IsAnswer, IsReducibleInParents};
-ghost use Rattle.qrp_rules.specs.Conditions.{resolvent_conditions};
+ghost use Rattle.qrp_rules.specs.Conditions.{AllHold, AllowsPivot, IsAnswer, resolvent_conditions};
 ghost use Rattle.qrp_rules.specs.Unreduced.{unreduced_conditions};
-ghost use Rattle.qrp_rules.specs.Walks.{IsClashOf};
+ghost use Rattle.qrp_rules.specs.Walks.{Accounts, Covers, IsClashOf};
 
 use crate::fault::RuleFault;
 use crate::reduct::{Reducible, block_if, inner, innermost, is_bound_by, is_covered, outer};
@@ -77,28 +76,24 @@ fn is_within(to: &[Lit], a: &[Lit], b: &[Lit], pivot: Var) -> bool
     true
 }
 
-/// Whether each literal of the resolvent is in the step, or reducible in the resolvent or in each
-/// antecedent with it.
+/// What may be left out of the one and of the other of two antecedents that clash in the pivot: the
+/// literals that are reducible in the resolvent or in that antecedent.
 ///
-/// A literal is reducible in the resolvent or in an antecedent if it stands after the outer one of
-/// the innermost blocks of the two. So each antecedent is walked over once, with its own outer
-/// block, and a literal that both hold is looked at in both walks.
-fn is_reduced<S: Side>(prefix: &Prefix, a: &[Lit], b: &[Lit], to: &[Lit], pivot: Var) -> bool
-    requires a { IsOrdered a.now }
-    requires b { IsOrdered b.now }
-    requires to { IsOrdered to.now }
-    requires clash { Clashes a.now b.now pivot }
-    ensures { IsTrue result ↔ ((l : Literal) → l ∈ resolvent a.now b.now pivot
-        → (l ∈ to.now) ⊎ (IsReducible S.side prefix.now (resolvent a.now b.now pivot) l
-        ⊎ IsReducibleInParents S.side prefix.now a.now b.now l)) }
+/// These stand after the outer one of the innermost blocks of the two. A literal that both hold is
+/// left out if it may be left out of both.
+pub(crate) fn reducible_in_parents<S: Side>(
+    prefix: &Prefix,
+    a: &[Lit],
+    b: &[Lit],
+    pivot: Var,
+) -> (Reducible, Reducible)
+    requires { Clashes a.now b.now pivot }
+    ensures { (to : List Literal) → Accounts S.side prefix.now a.now b.now to pivot
+        ↔ (Covers prefix.now result.0 pivot a.now to × Covers prefix.now result.1 pivot b.now to) }
 {
     let reduced = S::REDUCED;
     let deciding = S::DECIDING;
     let aside = Some(pivot.number());
-    // Most steps leave nothing out, and then no block matters.
-    if is_covered(prefix, None, aside, a, to) && is_covered(prefix, None, aside, b, to) {
-        return true;
-    }
     let beside_a = innermost(prefix, deciding, aside, a);
     let beside_b = innermost(prefix, deciding, aside, b);
     let of_pivot = block_if(prefix, deciding, None, pivot);
@@ -111,6 +106,27 @@ fn is_reduced<S: Side>(prefix: &Prefix, a: &[Lit], b: &[Lit], to: &[Lit], pivot:
         quantifier: reduced,
         block: outer(whole, inner(beside_b, of_pivot)),
     };
+    (in_a, in_b)
+}
+
+/// Whether each literal of the resolvent is in the step, or reducible in the resolvent or in each
+/// antecedent with it.
+///
+/// Each antecedent is walked over once, with its own outer block, and a literal that both hold is
+/// looked at in both walks.
+fn is_reduced<S: Side>(prefix: &Prefix, a: &[Lit], b: &[Lit], to: &[Lit], pivot: Var) -> bool
+    requires a { IsOrdered a.now }
+    requires b { IsOrdered b.now }
+    requires to { IsOrdered to.now }
+    requires clash { Clashes a.now b.now pivot }
+    ensures { IsTrue result ↔ Accounts S.side prefix.now a.now b.now to.now pivot }
+{
+    let aside = Some(pivot.number());
+    // Most steps leave nothing out, and then no block matters.
+    if is_covered(prefix, None, aside, a, to) && is_covered(prefix, None, aside, b, to) {
+        return true;
+    }
+    let (in_a, in_b) = reducible_in_parents::<S>(prefix, a, b, pivot);
     is_covered(prefix, Some(in_a), aside, a, to) && is_covered(prefix, Some(in_b), aside, b, to)
 }
 

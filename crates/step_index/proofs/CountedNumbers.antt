@@ -8,7 +8,8 @@ use Rattle.std.proofs.lemmas.List.{append-nil, length-append}
 use Rattle.std.proofs.lemmas.Map.Keys.{any_passes_from_place}
 use Rattle.qbf_core.proofs.PrefixLaws.{AllByRecursion-push}
 use Rattle.step_index.specs.Numbers.{is_used, count_from, AreStepNumbers}
-use Rattle.qbf_core.proofs.DistinctNumbers.{push_distinct}
+use Rattle.qbf_core.proofs.DistinctNumbers.{push_distinct, all_at}
+use Rattle.std.specs.List.{AllByRecursion}
 
 pub count_length : (f n : ℕ) (ks : List ℕ) → length (count_from f n ++ ks) ≡ n + length ks
 count_length f zero ks = omega arith
@@ -86,9 +87,10 @@ unused_none (k ∷ ks) m none =
     let rest = unused_none ks m (λ i. none (suc i)) in
     search rules
 
-pub unused_of_none : (ks : List ℕ) (m : ℕ) → length ks ≡ 0 → is_used m ks ≡ false
-unused_of_none [] m none = refl
-unused_of_none (k ∷ ks) m none = absurd (omega (arith, none))
+-- a number above all of them
+pub unused_above : (ks : List ℕ) (m top : ℕ) → AllByRecursion (λ n. n ≤ top) ks → top < m → is_used m ks ≡ false
+unused_above ks m top below above = unused_none ks m (λ i here.
+    let least : m ≤ top = all_at (λ (n : ℕ). n ≤ top) ks i m below here in omega (arith, least, above))
 
 -- what a look-up finds says whether the number is listed
 pub listed_used : (ks : List ℕ) (m : ℕ) (o : Option ℕ) → IfSome o (λ i. slice_get ks i ≡ Some m)

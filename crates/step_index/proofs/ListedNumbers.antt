@@ -1,6 +1,8 @@
 -- Numbers that are found by a table and a map, with one more of them.
 use Rattle.std.proofs.Common.{◌≡◌, ℕ, suc, ◌<◌, List, [], ◌∷◌, ◌++◌, Some, inl, inr, sym, ap, subst, ◌∙◌, length}
-use Rattle.std.proofs.Common.{get_or, slice_get, set, cond, nat_eq, arith}
+use Rattle.std.proofs.Common.{get_or, slice_get, set, cond, nat_eq, arith, ◌≤◌, max}
+use Rattle.std.specs.List.{AllByRecursion}
+use Rattle.qbf_core.proofs.PrefixLaws.{AllByRecursion-push}
 use Rattle.std.specs.Map.{lookup}
 use Rattle.std.proofs.lemmas.Bool.{cases_eq, eq-eqb, ne_eqb}
 use Rattle.std.proofs.lemmas.List.{get_or-set_same, get_or-set_other}
@@ -20,6 +22,18 @@ listed_grown table grown far numbers same listed = record {
     | inr e ↦ (w.0, inr e)
   ];
 }
+
+-- ---- no number is greater than the greatest
+
+below_more : (ns : List ℕ) (g top : ℕ) → g ≤ top → AllByRecursion (λ n. n ≤ g) ns → AllByRecursion (λ n. n ≤ top) ns
+below_more [] g top more h = tt
+below_more (n ∷ ns) g top more h = (omega (arith, more, h.0), below_more ns g top more h.1)
+
+-- with one more number
+pub below_raised : (ns : List ℕ) (m g top : ℕ) → top ≡ max g m → AllByRecursion (λ n. n ≤ g) ns → AllByRecursion (λ n. n ≤ top) (ns ++ m ∷ [])
+below_raised ns m g top is h = AllByRecursion-push (λ n. n ≤ top) ns m (below_more ns g top (omega (arith, is)) h) (omega (arith, is))
+
+-- ---- one more number
 
 -- what is at an old place is still there
 module _ (numbers : List ℕ) (m : ℕ) where

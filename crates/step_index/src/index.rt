@@ -108,11 +108,7 @@ impl StepIndex {
         if place_of(self.first, self.counted, number).is_some() {
             return true;
         }
-        // Mostly all steps are counted, and nothing has to be looked up.
-        if self.listed.len() == 0 {
-            return false;
-        }
-        self.listed.position(number).is_some()
+        self.listed.contains(number)
     }
 
     /// Adds the number of one more step, which no step so far has.

@@ -2,6 +2,7 @@
 
 ghost use Rattle.std.specs.Prelude.{◌≡◌, ℕ, ◌+◌, ◌^◌, ◌<◌, [], ◌∷◌, ◌++◌, suc, length, get_or};
 ghost use Rattle.std.specs.Prelude.{slice_get, ◌-◌, Some, IfSome, IfNone, IsTrue, OnOk, OnErr};
+ghost use Rattle.step_index.specs.Numbers.{is_used};
 
 use indexmap::IndexMap;
 use std::alloc::{AllocError, Global};
@@ -9,7 +10,7 @@ use std::marker::Model;
 
 /// The table reaches so many numbers at least, if they come, and `REACH_OF_EACH` more for each
 /// number that is kept.
-const REACH: usize = 1 << 16;
+const REACH: usize = 1 << 20;
 
 /// The table takes so many entries at most for each number that is kept.
 const REACH_OF_EACH: usize = 16;
@@ -21,6 +22,8 @@ const REACH_OF_EACH: usize = 16;
 pub(crate) struct Listed {
     /// The numbers in their order.
     numbers: Vec<u64>,
+    /// The greatest of them, or 0 if there is none.
+    greatest: u64,
     /// For each number below its length: one more than a place of that number, or 0 where `far`
     /// may have it.
     table: Vec<u32>,
@@ -29,14 +32,16 @@ pub(crate) struct Listed {
 }
 
 impl Model for Listed {
-    ghost use Rattle.std.specs.Prelude.{ℕ, List};
+    ghost use Rattle.std.specs.Prelude.{ℕ, List, ◌≤◌};
+    ghost use Rattle.std.specs.List.{AllByRecursion};
     ghost use Rattle.step_index.specs.Listed.{IsListed};
 
     ghost Value = { List ℕ };
 
     ghost view = { λ s. s.numbers.items };
 
-    ghost invariant = { λ s. IsListed s.table.items s.far.entries s.numbers.items };
+    ghost invariant = { λ s. IsListed s.table.items s.far.entries s.numbers.items
+        × AllByRecursion (λ n. n ≤ s.greatest) s.numbers.items };
 }
 
 /// Whether the table may reach a number, where the next place is this one. A place in the table has
@@ -80,6 +85,7 @@ impl Listed {
     {
         Listed {
             numbers: Vec::new(alloc),
+            greatest: 0,
             table: Vec::new(alloc),
             far: IndexMap::new(alloc),
         }
@@ -114,12 +120,24 @@ impl Listed {
         self.far.get(&number).copied()
     }
 
+    /// Whether a number came. One that is greater than all before is not looked up.
+    #[inline(always)]
+    pub(crate) fn contains(&self, number: u64) -> bool
+        ensures { result ≡ is_used number self.now }
+    {
+        if number > self.greatest {
+            return false;
+        }
+        self.position(number).is_some()
+    }
+
     /// Adds a number at the end. An `Err` means that an allocation failed, and changes nothing.
     pub(crate) fn push(&mut self, number: u64) -> Result<(), AllocError>
         ensures pushed { OnOk result (self.new ≡ self.old ++ number ∷ []) }
         ensures small { OnOk result (length self.new < 2 ^ 63) }
         ensures err { OnErr result (self.new ≡ self.old) }
     {
+        let greatest = self.greatest.max(number);
         self.numbers.reserve(1)?;
         let place = self.numbers.len();
         if is_near(place, number) {
@@ -128,6 +146,7 @@ impl Listed {
         } else {
             self.far.insert(number, place)?;
         }
+        self.greatest = greatest;
         match self.numbers.push(number) {
             Ok(()) => Ok(()),
             Err(_) => unreachable!(),

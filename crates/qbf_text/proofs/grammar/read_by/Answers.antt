@@ -1,8 +1,10 @@
 use Rattle.std.proofs.Common.{arith, refl, ◌∙◌}
 use Rattle.qbf_text.specs.Ahead.{ahead}
+use Rattle.qbf_text.specs.Reading.{left}
+use Rattle.qbf_text.specs.Rows.{reads_from}
 use Rattle.qbf_text.specs.Stopping.{tokens_next}
-use Rattle.qbf_text.proofs.OneToken.{leads_same, goes, ends, stops, unfailed}
-use Rattle.qbf_text.proofs.Stops.{so_far_none, so_far_goes, stops_behind}
+use Rattle.qbf_text.proofs.OneToken.{leads_same, leads_then, goes, ends, stops, same_state, ready_still, unfailed}
+use Rattle.qbf_text.proofs.Stops.{so_far_none, known_so_far, so_far_goes, stops_behind}
 use Rattle.qbf_text.proofs.ByteByByte.{left_nothing}
 use Rattle.qbf_text.proofs.grammar.read_by.Goals as goal
 
@@ -19,41 +21,75 @@ tokens-init g c = record {
 }
 
 pub tokens-preserved : goal.tokens-preserved
-tokens-preserved g c = record {
-  so_far = goes g.G.Grammar.row_of _ _ _ _ _ _ c.tokens.invariant.so_far c.in_ok-token.ensures.token
-      (rw c.in-Ok-More.field-0-is at c.in-Ok-More.ensures.row) (rw c.in-Ok-More.field-0-is at c.in-Ok-More.ensures.more);
-  stops = so_far_goes g.G.Grammar.row_of _ _ _ _ _ _ (c.in_ok-token.token, c.in_ok-token.line) _ _ _
-      (rw c.in-Ok-More.field-0-is at c.in-Ok-More.ensures.row) c.tokens.invariant.stops
-      (c.in_ok-token.ensures.takes (rw c.in-Ok-More.field-0-is at c.in-Ok-More.ensures.more));
-  ready = unfailed _ _ _ _ c.tokens.invariant.ready c.in_ok-token.ensures.ready (λ h. (c.next_token.ensures.ended h).1);
-  remains = λ h. c.in_ok-token.ensures.ready (c.tokens.invariant.remains h);
-  kept = c.in-Ok-More.ensures.kept ∙ c.tokens.invariant.kept;
-  counts = c.in_ok-token.ensures.ok ∙ c.tokens.invariant.counts;
-  bound = omega (arith, c.in_ok-token.ensures.no_more, c.tokens.invariant.bound);
-}
+tokens-preserved g c =
+    let row = g.G.Grammar.row_of in
+    let first = g.G.Grammar.place c.args.grammar.now in
+    let at_hand = g.S.Source.remaining c.tokens.source in
+    let whole = reads_from row first (left c.args.scanner.now (g.S.Source.remaining c.args.source.now)) in
+    let h = c.in_ok-hand_over.ensures in
+    let s = c.hand_over.new.scanner in
+    let so_far = leads_then whole (reads_from row (g.G.Grammar.place c.tokens.grammar) (left c.tokens.scanner at_hand))
+    (reads_from row (g.G.Grammar.place c.hand_over.new.grammar) (left s at_hand)) c.tokens.invariant.so_far (h.leads at_hand) in
+    let read = known_so_far row first (g.G.Grammar.place c.tokens.grammar) (g.G.Grammar.place c.hand_over.new.grammar)
+    (tokens_next c.args.scanner.now) (tokens_next c.tokens.scanner) (tokens_next s)
+    (ahead c.args.scanner.now.pending (g.S.Source.remaining c.args.source.now)) (ahead c.tokens.scanner.pending at_hand)
+    (ahead s.pending at_hand) c.tokens.invariant.stops (h.so_far at_hand) in
+    let ready = same_state c.tokens.scanner s h.state c.tokens.invariant.ready in
+    record {
+      so_far = goes row _ _ whole _ _ _ so_far c.in_ok-token.ensures.token
+          (rw c.in-Ok-More.field-0-is at c.in-Ok-More.ensures.row) (rw c.in-Ok-More.field-0-is at c.in-Ok-More.ensures.more);
+      stops = so_far_goes row first _ _ (tokens_next c.args.scanner.now) (tokens_next s) _ (c.in_ok-token.token, c.in_ok-token.line) _ _ _
+          (rw c.in-Ok-More.field-0-is at c.in-Ok-More.ensures.row) read
+          (c.in_ok-token.ensures.takes (rw c.in-Ok-More.field-0-is at c.in-Ok-More.ensures.more));
+      ready = unfailed s c.next_token.new.self at_hand (g.S.Source.remaining c.next_token.new.source) ready c.in_ok-token.ensures.ready
+          (λ h. (c.next_token.ensures.ended h).1);
+      remains = λ r. c.in_ok-token.ensures.ready (ready_still c.tokens.scanner s at_hand h.state (c.tokens.invariant.remains r));
+      kept = c.in-Ok-More.ensures.kept ∙ h.kept ∙ c.tokens.invariant.kept;
+      counts = c.in_ok-token.ensures.ok ∙ c.tokens.invariant.counts;
+      bound = omega (arith, c.in_ok-token.ensures.no_more, h.no_more, c.tokens.invariant.bound);
+    }
 
 pub returns-in-Ok-Done-clause-reads : goal.returns-in-Ok-Done-clause-reads
 returns-in-Ok-Done-clause-reads g c =
-    ends g.G.Grammar.row_of _ _ _ _ _ _ _ c.tokens.invariant.so_far c.in_ok-token.ensures.token
-    (rw c.in-Ok-Done.field-0-is at c.in-Ok-Done.ensures.row)
+    let row = g.G.Grammar.row_of in
+    let at_hand = g.S.Source.remaining c.tokens.source in
+    let whole = reads_from row (g.G.Grammar.place c.args.grammar.now) (left c.args.scanner.now (g.S.Source.remaining c.args.source.now)) in
+    let so_far = leads_then whole (reads_from row (g.G.Grammar.place c.tokens.grammar) (left c.tokens.scanner at_hand))
+    (reads_from row (g.G.Grammar.place c.hand_over.new.grammar) (left c.hand_over.new.scanner at_hand)) c.tokens.invariant.so_far
+    (c.in_ok-hand_over.ensures.leads at_hand) in
+    ends row _ _ _ whole _ _ _ so_far c.in_ok-token.ensures.token (rw c.in-Ok-Done.field-0-is at c.in-Ok-Done.ensures.row)
 
 pub returns-in-Err-Text-clause-reads : goal.returns-in-Err-Text-clause-reads
 returns-in-Err-Text-clause-reads g c =
-    stops g.G.Grammar.row_of _ _ _ _ _ (c.in_ok-token.token, c.in_ok-token.line) c.tokens.invariant.so_far c.in_ok-token.ensures.token
+    let row = g.G.Grammar.row_of in
+    let at_hand = g.S.Source.remaining c.tokens.source in
+    let whole = reads_from row (g.G.Grammar.place c.args.grammar.now) (left c.args.scanner.now (g.S.Source.remaining c.args.source.now)) in
+    let so_far = leads_then whole (reads_from row (g.G.Grammar.place c.tokens.grammar) (left c.tokens.scanner at_hand))
+    (reads_from row (g.G.Grammar.place c.hand_over.new.grammar) (left c.hand_over.new.scanner at_hand)) c.tokens.invariant.so_far
+    (c.in_ok-hand_over.ensures.leads at_hand) in
+    stops row _ _ whole _ _ (c.in_ok-token.token, c.in_ok-token.line) so_far c.in_ok-token.ensures.token
     (rw c.in-Err-Text.field-0-is at c.in-Err-Text.ensures.row)
 
 pub returns-in-Ok-Done-clause-stops : goal.returns-in-Ok-Done-clause-stops
 returns-in-Ok-Done-clause-stops g c =
+    let row = g.G.Grammar.row_of in
+    let first = g.G.Grammar.place c.args.grammar.now in
+    let at_hand = g.S.Source.remaining c.tokens.source in
+    let h = c.hand_over.new in
     let ends_so = rw c.in-Ok-Done.field-0-is at c.in-Ok-Done.ensures.row in
-    let s = c.next_token.new.self in (
-      g.G.Grammar.place c.tokens.grammar,
+    let s = c.next_token.new.self in
+    let read = known_so_far row first (g.G.Grammar.place c.tokens.grammar) (g.G.Grammar.place h.grammar)
+    (tokens_next c.args.scanner.now) (tokens_next c.tokens.scanner) (tokens_next h.scanner)
+    (ahead c.args.scanner.now.pending (g.S.Source.remaining c.args.source.now)) (ahead c.tokens.scanner.pending at_hand)
+    (ahead h.scanner.pending at_hand) c.tokens.invariant.stops (c.in_ok-hand_over.ensures.so_far at_hand) in (
+      g.G.Grammar.place h.grammar,
       c.in_ok-token.token,
       ends_so,
       λ open_. (
-        stops_behind g.G.Grammar.row_of (g.G.Grammar.place c.args.grammar.now) (g.G.Grammar.place c.tokens.grammar)
-            (g.G.Grammar.place c.take.new.self) c.in-Ok-Done.output (tokens_next c.args.scanner.now) (tokens_next c.tokens.scanner)
+        stops_behind row first (g.G.Grammar.place h.grammar)
+            (g.G.Grammar.place c.take.new.self) c.in-Ok-Done.output (tokens_next c.args.scanner.now) (tokens_next h.scanner)
             (tokens_next s) (c.in_ok-token.token, c.in_ok-token.line) _ _ _ _
-            ends_so open_ (left_nothing s.comments s.begun s.line) c.tokens.invariant.stops (c.in_ok-token.ensures.takes open_),
+            ends_so open_ (left_nothing s.comments s.begun s.line) read (c.in_ok-token.ensures.takes open_),
         c.in_ok-token.ensures.few open_,
       ),
     )

@@ -1,7 +1,7 @@
 use Rattle.std.proofs.Common.{ap}
 use Rattle.qbf_core.specs.Rules.{Clauses, Cubes}
 use Rattle.qrp_check.specs.Proof.{side_of}
-use Rattle.qrp_check.proofs.KeptSets.{proves, refuses, shows_false, shows_true, closed_of}
+use Rattle.qrp_check.proofs.CheckAnswers.{proves, refuses, shows_false, shows_true, closed_of}
 use Rattle.qrp_check.proofs.StepsAt.{answer_rises, answer_inside}
 use Rattle.qrp_check.proofs.checking.check.Goals as goal
 

@@ -3,4 +3,4 @@ use Rattle.qrp_check.proofs.following.follow_core.Given as goal
 
 abbrev pub invariant-loop-place : goal.invariant-loop-place
 invariant-loop-place g l =
-    IsFollowed l.setting.rules g.S.Side.side l.setting.formula.now (g.T.Steps.steps l.trace) l.place l.progress
+    IsFollowed l.context.rules g.S.Side.side l.context.formula.now (g.T.Steps.steps l.trace) l.place l.state

@@ -1,0 +1,9 @@
+//! Tests of tokens, texts and formulas through the public calls of their libraries: what no clause says.
+#![tactic(auto)]
+
+#[cfg(test)]
+mod formula_files;
+#[cfg(test)]
+mod formulas;
+#[cfg(test)]
+mod texts;

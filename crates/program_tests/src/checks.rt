@@ -1,0 +1,184 @@
+//! What the rows of `tests/*.rows` do not show: verdicts with their cores, and trimmed traces step by
+//! step.
+
+ghost use Rattle.std.specs.Prelude.{◌<◌, length};
+ghost use Rattle.std.specs.List.{AllByRecursion};
+ghost use Rattle.std.specs.List.Sorted.{IsStrictlyIncreasing};
+
+use qbf_core::Formula;
+use qbf_text::{SinkFault, SliceSource, VecSink, put_bytes, put_number};
+use qdimacs::read_formula;
+use qrp::{Steps, Trace, read_trace, write_trace};
+use qrp_check::{CheckFault, Fault, Rules, Verified, check, trim, verify};
+use std::alloc::Global;
+use std::process::Abort;
+use std::test::Fail;
+
+const FALSE_FORMULA: &[u8] = b"p cnf 2 2\ne 1 0\na 2 0\n1 2 0\n-1 2 0\n";
+
+const REFUTATION: &[u8] =
+    b"p qrp 2 5\ne 1 0\na 2 0\n1 1 2 0 0\n2 -1 2 0 0\n3 1 0 1 0\n4 -1 0 2 0\n5 0 3 4 0\nr unsat\n";
+
+const TRUE_FORMULA: &[u8] = b"p cnf 2 2\na 1 0\ne 2 0\n1 -2 0\n-1 2 0\n";
+
+const PROOF_OF_TRUTH: &[u8] =
+    b"p qrp 2 5\n1 1 2 0 0\n2 -1 -2 0 0\n3 1 0 1 0\n4 -1 0 2 0\n5 0 3 4 0\nr sat\n";
+
+/// A clause without literals.
+const EMPTY_CLAUSE: &[u8] = b"p cnf 0 1\n0\n";
+
+/// The formula of a text.
+fn formula_of(alloc: Global, text: &[u8]) -> Result<Formula, Fail> {
+    Ok(read_formula(alloc, &mut SliceSource::new(text))?)
+}
+
+/// The trace of a text, kept step by step.
+fn trace_of(alloc: Global, text: &[u8]) -> Result<Trace, Fail> {
+    Ok(read_trace(alloc, &mut SliceSource::new(text))?)
+}
+
+/// The result for a trace that is kept step by step.
+fn checked(
+    alloc: Global,
+    rules: Rules,
+    formula: &[u8],
+    trace: &[u8],
+) -> Result<Result<Verified, CheckFault>, Fail> {
+    let formula = formula_of(alloc, formula)?;
+    let trace = trace_of(alloc, trace)?;
+    Ok(check(alloc, &formula, &trace, trace.sets(), trace.result(), rules))
+}
+
+/// The result for the same bytes.
+fn verified(alloc: Global, rules: Rules, formula: &[u8], trace: &[u8]) -> Result<Verified, Fault> {
+    let mut source = SliceSource::new(formula);
+    verify(alloc, &mut source, &mut SliceSource::new(trace), rules)
+}
+
+/// Compares what was found with a truth and the places of a core.
+fn expect(rt: &impl Abort, found: &Verified, truth: bool, core: &[usize]) {
+    assert_eq!(rt; found.truth, truth);
+    assert_eq!(rt; found.core.as_slice(), core);
+}
+
+/// Checks a trace that is kept step by step, and verifies the same bytes, by both rules.
+fn verifies(
+    rt: &impl Abort,
+    alloc: Global,
+    formula: &[u8],
+    trace: &[u8],
+    truth: bool,
+    core: &[usize],
+) -> Result<(), Fail> {
+    for rules in [Rules::plain(), Rules::any_pivot()] {
+        let found = checked(alloc, rules, formula, trace)??;
+        expect(rt, &found, truth, core);
+        let found = verified(alloc, rules, formula, trace)?;
+        expect(rt, &found, truth, core);
+    }
+    Ok(())
+}
+
+#[test]
+fn verifies_proofs(rt: HostRuntime) -> Result<(), Fail> {
+    let alloc = rt.alloc();
+    let all = [0usize, 1, 2, 3, 4];
+    verifies(&rt, alloc, FALSE_FORMULA, REFUTATION, false, &all)?;
+    verifies(&rt, alloc, TRUE_FORMULA, PROOF_OF_TRUTH, true, &all)
+}
+
+/// Sends a step without literals that follows from an earlier one.
+fn put_link(sink: &mut VecSink, number: u64, earlier: u64) -> Result<(), SinkFault> {
+    put_number(sink, number)?;
+    put_bytes(sink, b" 0 ")?;
+    put_number(sink, earlier)?;
+    put_bytes(sink, b" 0\n")
+}
+
+/// 10,000 steps without literals, each from the one so many before it; the first so many are the
+/// clause.
+fn chain(alloc: Global, back: u64) -> Result<VecSink, Fail>
+    requires { back < 10000 }
+{
+    let mut sink = VecSink::new(alloc, 0)?;
+    put_bytes(&mut sink, b"p qrp 0 10000\n")?;
+    for number in 1..=back {
+        put_number(&mut sink, number)?;
+        put_bytes(&mut sink, b" 0 0\n")?;
+    }
+    for number in back + 1..=10_000 {
+        put_link(&mut sink, number, number - back)?;
+    }
+    put_bytes(&mut sink, b"r unsat\n")?;
+    Ok(sink)
+}
+
+#[test]
+fn follows_a_long_chain(rt: HostRuntime) -> Result<(), Fail> {
+    let alloc = rt.alloc();
+    for back in [1u64, 2, 7] {
+        let mut core = Vec::new(alloc);
+        for place in 0..10_000usize {
+            // The last step is at the place 9,999.
+            if (9_999 - place as u64) % back == 0 {
+                core.push(place)?;
+            }
+        }
+        let text = chain(alloc, back)?;
+        verifies(&rt, alloc, EMPTY_CLAUSE, text.bytes(), false, &core)?;
+    }
+    Ok(())
+}
+
+/// What is left of a trace that proves its result.
+fn shortened(alloc: Global, whole: &Trace, verified: &Verified) -> Result<Trace, Fail>
+    requires rises { IsStrictlyIncreasing verified.now.core.items }
+    requires within { AllByRecursion (λ i. i < length whole.now.steps) verified.now.core.items }
+{
+    Ok(trim(alloc, whole, verified)?)
+}
+
+/// What is left of a trace that proves its result on a formula.
+fn trim_on(alloc: Global, rules: Rules, formula: &Formula, whole: &Trace) -> Result<Trace, Fail> {
+    match check(alloc, formula, whole, whole.sets(), whole.result(), rules) {
+        Ok(verified) => shortened(alloc, whole, &verified),
+        Err(_) => Err(Fail::new("the trace was refused")),
+    }
+}
+
+/// The same of two texts.
+fn trimmed(alloc: Global, rules: Rules, formula: &[u8], trace: &[u8]) -> Result<Trace, Fail> {
+    let formula = formula_of(alloc, formula)?;
+    let whole = trace_of(alloc, trace)?;
+    trim_on(alloc, rules, &formula, &whole)
+}
+
+#[test]
+fn keeps_what_the_goal_needs(rt: HostRuntime) -> Result<(), Fail> {
+    let alloc = rt.alloc();
+    for rules in [Rules::plain(), Rules::any_pivot()] {
+        let left = trimmed(alloc, rules, FALSE_FORMULA, REFUTATION)?;
+        let mut sink = VecSink::new(alloc, 0)?;
+        assert!(&rt; write_trace(&left, &mut sink).is_ok());
+        assert_eq!(&rt; sink.bytes(), REFUTATION);
+    }
+    Ok(())
+}
+
+/// The trace has the 5,000 steps of even numbers.
+fn is_halved(rt: &impl Abort, left: &Trace) {
+    assert_eq!(rt; left.header().steps, 5_000);
+    assert_eq!(rt; left.len(), 5_000);
+    for place in 0..left.len() {
+        assert_eq!(rt; left.number(place), 2 * place as u64 + 2);
+    }
+}
+
+#[test]
+fn leaves_out_every_other_step(rt: HostRuntime) -> Result<(), Fail> {
+    let alloc = rt.alloc();
+    let text = chain(alloc, 2)?;
+    let left = trimmed(alloc, Rules::plain(), EMPTY_CLAUSE, text.bytes())?;
+    is_halved(&rt, &left);
+    Ok(())
+}

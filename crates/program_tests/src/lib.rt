@@ -1,0 +1,15 @@
+//! Tests of checks, runs and programs through the public calls of their libraries: what no clause says.
+#![tactic(auto)]
+
+#[cfg(test)]
+mod checks;
+#[cfg(test)]
+mod command_lines;
+#[cfg(test)]
+mod programs;
+#[cfg(test)]
+mod runs;
+#[cfg(test)]
+mod sets;
+#[cfg(test)]
+mod unpulled;

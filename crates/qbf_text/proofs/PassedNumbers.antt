@@ -1,0 +1,188 @@
+-- Numbers that are passed among the bytes at hand.
+use Rattle.std.proofs.Common.{◌≡◌, ℕ, ◌+◌, ◌^◌, ◌<◌, ◌≤◌, Bool, true, false, List, [], ◌∷◌, ◌++◌, drop, length, refl, sym, ap, ◌∙◌}
+use Rattle.std.proofs.Common.{subst, take, ◌-◌, zero, suc, append_assoc, arith, Option, Some, None, ◌⊎◌, inl, inr, length-drop, length-append}
+use Rattle.std.proofs.lemmas.List.{take-append-drop, drop-drop, take_all}
+use Rattle.qbf_text.specs.declared.hand.Cursor.{Cursor}
+use Rattle.qbf_text.specs.declared.token.Comments.{Comments}
+use Rattle.qbf_text.specs.declared.token.Token.{Token}
+use Rattle.qbf_text.specs.declared.token.Token.TheVariants.{Number}
+use Rattle.qbf_text.specs.Ahead.{ahead}
+use Rattle.qbf_text.specs.Hand.{BeginsWithNumber}
+use Rattle.qbf_text.specs.Left.{tokens_left, known_left}
+use Rattle.qbf_text.specs.Lined.{Lined}
+use Rattle.qbf_text.specs.Passing.{tokens_from_cursor, behind, cursor, moved, LeadOn, Passes, PassesNumber, SoFar}
+use Rattle.qbf_text.specs.Reading.{Reading, IsOpen, left}
+use Rattle.qbf_text.specs.Rows.{Row, Goes, read_from, reads_from}
+use Rattle.qbf_text.specs.Stopping.{IfKnown, tokens_next}
+use Rattle.qbf_text.proofs.LeftAfterNumber.{spelled_ending, spelled_blanked}
+use Rattle.qbf_text.proofs.OneToken.{after, read-one}
+
+-- all bytes from a place on
+pub all_behind : (at : ℕ) (bytes : List ℕ) → take (length bytes - at) (drop at bytes) ≡ drop at bytes
+all_behind at bytes = take_all (length bytes - at) (drop at bytes) (omega (arith, length-drop at bytes))
+
+-- the bytes from a number on are its run, the separator and the bytes behind
+split : (bytes : List ℕ) (at len : ℕ) (front : List ℕ) → take len (drop at bytes) ≡ front
+    → drop at bytes ≡ front ++ drop (at + len) bytes
+split bytes at len front is =
+    sym (take-append-drop len (drop at bytes))
+    ∙ ap (λ l. l ++ drop len (drop at bytes)) is
+    ∙ ap (λ l. front ++ l) (drop-drop len at bytes)
+
+zero_or : (n : ℕ) → (n ≡ 0) ⊎ (0 < n)
+zero_or zero = inl refl
+zero_or (suc n) = inr (omega arith)
+
+module _ (bytes : List ℕ) (here : Cursor) (negative : Bool) (value len : ℕ) (ends : Bool)
+    (h : BeginsWithNumber (drop here.at bytes) negative value len ends) (small : here.line < 2 ^ 64) where
+  spelled : (ends_line : Bool) → ends_line ≡ ends → (format : Comments) (rest : List ℕ)
+      → tokens_from_cursor format here ((h.run ++ h.behind ∷ []) ++ rest)
+      ≡ (Number negative value, here.line) ∷ tokens_from_cursor format (behind here len ends_line) rest
+  spelled true e format rest =
+      spelled_ending format here.begun here.line (drop here.at bytes) negative value len ends h small None (sym e) rest
+  spelled false e format rest =
+      spelled_blanked format here.begun here.line (drop here.at bytes) negative value len ends h small None (sym e) rest
+
+  at_behind : (ends_line : Bool) → (behind here len ends_line).at ≡ here.at + len
+  at_behind true = refl
+  at_behind false = refl
+
+  some : 0 < len
+  some = elim (zero_or len) [
+    | inl none ↦ absurd (let empty : [] ≡ h.run ++ h.behind ∷ [] = rw none at h.front in
+        let none_left : 0 ≡ length h.run + 1 = ap length empty ∙ length-append h.run (h.behind ∷ []) in omega (arith, none_left))
+    | inr more ↦ more
+  ]
+
+  -- a number in front of the bytes from the cursor on is passed
+  pub passes_number : here.at ≤ length bytes → PassesNumber bytes here (behind here len ends) (Number negative value)
+  passes_number within = record {
+    front = h.run ++ h.behind ∷ [];
+    no_end = refl;
+    further = rw (at_behind ends) (omega (arith, some));
+    within = rw (at_behind ends) (omega (arith, within, h.within, length-drop here.at bytes));
+    taken = rw (at_behind ends) (split bytes here.at len (h.run ++ h.behind ∷ []) h.front);
+    spelled = spelled ends refl;
+  }
+
+-- ---- number after number
+
+module _ (bytes : List ℕ) where
+  pub passes_none : (Are : List Lined → Type 0) (here : Cursor) → here.at ≤ length bytes → Are [] → Passes Are bytes here here
+  passes_none Are here within are = record {
+    front = [];
+    given = [];
+    forward = omega arith;
+    within = within;
+    taken = refl;
+    spelled = λ format rest. refl;
+    are = are;
+  }
+
+  pub passes_then : (Are Behind Both : List Lined → Type 0) (here mid there : Cursor)
+      → ((ts us : List Lined) → Are ts → Behind us → Both (ts ++ us))
+      → Passes Are bytes here mid → Passes Behind bytes mid there → Passes Both bytes here there
+  passes_then Are Behind Both here mid there both s t = record {
+    front = s.front ++ t.front;
+    given = s.given ++ t.given;
+    forward = omega (arith, s.forward, t.forward);
+    within = t.within;
+    taken = s.taken ∙ ap (λ l. s.front ++ l) t.taken ∙ sym (append_assoc s.front t.front (drop there.at bytes));
+    spelled = λ format rest.
+        ap (tokens_from_cursor format here) (append_assoc s.front t.front rest)
+        ∙ s.spelled format (t.front ++ rest)
+        ∙ ap (λ l. s.given ++ l) (t.spelled format rest)
+        ∙ sym (append_assoc s.given t.given (tokens_from_cursor format there rest));
+    are = both s.given t.given s.are t.are;
+  }
+
+  one_number : (mid there : Cursor) (token : Token) → PassesNumber bytes mid there token
+      → Passes (λ ts. ts ≡ (token, mid.line) ∷ []) bytes mid there
+  one_number mid there token t = record {
+    front = t.front;
+    given = (token, mid.line) ∷ [];
+    forward = omega (arith, t.further);
+    within = t.within;
+    taken = t.taken;
+    spelled = t.spelled;
+    are = refl;
+  }
+
+  -- one number more
+  pub passes_one : (Are Both : List Lined → Type 0) (here mid there : Cursor) (token : Token)
+      → ((ts : List Lined) → Are ts → Both (ts ++ (token, mid.line) ∷ []))
+      → Passes Are bytes here mid → PassesNumber bytes mid there token → Passes Both bytes here there
+  passes_one Are Both here mid there token both s t =
+      passes_then Are (λ us. us ≡ (token, mid.line) ∷ []) Both here mid there
+      (λ ts us are is. subst (λ l. Both (ts ++ l)) (sym is) (both ts are)) s (one_number mid there token t)
+
+  -- the same tokens in other words
+  pub passes_as : (Are Also : List Lined → Type 0) (here there : Cursor) → ((ts : List Lined) → Are ts → Also ts)
+      → Passes Are bytes here there → Passes Also bytes here there
+  passes_as Are Also here there also s = record {
+    front = s.front;
+    given = s.given;
+    forward = s.forward;
+    within = s.within;
+    taken = s.taken;
+    spelled = s.spelled;
+    are = also s.given s.are;
+  }
+
+-- ---- tokens that lead on
+
+module _ {P A F : Type 0} (row : P → Token → Row P A F) (first mid last : P) where
+  pub lead_on_more : (ts : List Lined) (t : Lined) → LeadOn row first mid ts → row mid t.0 ≡ Goes last
+      → LeadOn row first last (ts ++ t ∷ [])
+  lead_on_more ts t on e us =
+      ap (read_from row first) (append_assoc ts (t ∷ []) us)
+      ∙ on (t ∷ us)
+      ∙ read-one row mid t us
+      ∙ ap (λ (r : Row P A F). after row r t us) e
+
+  pub lead_on_then : (ts us : List Lined) → LeadOn row first mid ts → LeadOn row mid last us → LeadOn row first last (ts ++ us)
+  lead_on_then ts us on more vs = ap (read_from row first) (append_assoc ts us vs) ∙ on (us ++ vs) ∙ more vs
+
+  module _ (bytes : List ℕ) (here there : Cursor) where
+    -- one number more leads on
+    pub passes_on : (between : Cursor) (token : Token) → row mid token ≡ Goes last → Passes (LeadOn row first mid) bytes here between
+        → PassesNumber bytes between there token → Passes (LeadOn row first last) bytes here there
+    passes_on between token e =
+        passes_one bytes (LeadOn row first mid) (LeadOn row first last) here between there token
+        (λ ts on. lead_on_more ts (token, between.line) on e)
+
+    pub passes_further : (between : Cursor) → Passes (LeadOn row first mid) bytes here between
+        → Passes (LeadOn row mid last) bytes between there → Passes (LeadOn row first last) bytes here there
+    passes_further between =
+        passes_then bytes (LeadOn row first mid) (LeadOn row mid last) (LeadOn row first last) here between there lead_on_then
+
+-- ---- a scanner that goes to where a grammar came
+
+module _ {P A F : Type 0} (row : P → Token → Row P A F) (first place : P) (r : Reading) (here : Cursor)
+    (p : Passes (LeadOn row first place) r.pending (cursor r) here) where
+  pub handed_so_far : (remaining : Option (List ℕ))
+      → IfKnown (SoFar row first place (tokens_next r) (tokens_next (moved r here))) (ahead r.pending remaining)
+      (ahead (drop here.at r.pending) remaining)
+  handed_so_far None = tt
+  handed_so_far (Some rest) = record {
+    front = p.front;
+    given = p.given;
+    taken = ap (λ l. l ++ rest) p.taken ∙ append_assoc p.front (drop here.at r.pending) rest;
+    spelled = λ more _. p.spelled r.comments more;
+    leads = p.are;
+  }
+
+  known : (remaining : Option (List ℕ))
+      → reads_from row first (known_left r.comments r.begun r.line (ahead r.pending remaining))
+      ≡ reads_from row place (known_left r.comments here.begun here.line (ahead (drop here.at r.pending) remaining))
+  known None = refl
+  known (Some rest) = ap (λ x. Some x) (
+      ap (λ l. read_from row first (tokens_left r.comments r.begun r.line l))
+      (ap (λ l. l ++ rest) p.taken ∙ append_assoc p.front (drop here.at r.pending) rest)
+      ∙ ap (read_from row first) (p.spelled r.comments (drop here.at r.pending ++ rest))
+      ∙ p.are (tokens_left r.comments here.begun here.line (drop here.at r.pending ++ rest)))
+
+  pub handed_leads : IsOpen r → (remaining : Option (List ℕ))
+      → reads_from row first (left r remaining) ≡ reads_from row place (left (moved r here) remaining)
+  unfolding left
+  handed_leads open_ remaining = rw open_ (known remaining)

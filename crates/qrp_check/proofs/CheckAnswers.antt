@@ -1,0 +1,70 @@
+-- What a check answers, from what is told of the core.
+use Rattle.std.proofs.Common.{◌≡◌, ◌≢◌, ◌↔◌, true, false, List, refl, sym, subst, IsTrue}
+use Rattle.std.specs.Prelude.{Result, Ok, Err, OnOk, IfOk, IfErr}
+use Rattle.qbf_core.specs.Blocks.{Block}
+use Rattle.qbf_core.specs.Qbf.{Qbf, IsClosed, IsWellFormed}
+use Rattle.qbf_core.specs.Truth.{IsTrueFormula}
+use Rattle.qbf_core.specs.Rules.{Side, Clauses, Cubes}
+use Rattle.qrp.specs.Inferences.{Inference}
+use Rattle.qrp.specs.declared.item.Outcome.{Outcome}
+use Rattle.qrp_check.specs.declared.fault.CheckFault.{CheckFault}
+use Rattle.qrp_check.specs.declared.fault.CheckFault.TheVariants.{C1, C2, C3, C4, C5, C6}
+use Rattle.qrp_rules.specs.declared.rules.Rules.{Rules}
+use Rattle.qrp_check.specs.Followed.{IsCoreFault}
+use Rattle.qrp_check.specs.Proof.{side_of, Derives, Proves, IsFirstFault, ResultHolds}
+use Rattle.qrp_check.specs.Sets.{SetsAgree}
+use Rattle.qrp_check.specs.declared.verdict.Verified.{Verified}
+use Rattle.qrp_check.proofs.Soundness.{soundness}
+
+-- a fault of the core is the first fault
+pub core_fault : (rules : Rules) (f : Qbf) (sets : List Block) (steps : List Inference) (outcome : Outcome) (side : Side) (e : CheckFault)
+    → side_of outcome ≡ side
+    → SetsAgree f.blocks sets → IsCoreFault rules side f steps e → e ≢ C5 → IsFirstFault rules f sets steps outcome e
+core_fault rules f sets steps outcome side (C1 v) is agree none more = absurd none
+core_fault rules f sets steps outcome side (C2 v) is agree none more = absurd none
+core_fault rules f sets steps outcome side (C3 v) is agree none more = absurd none
+core_fault rules f sets steps outcome side C4 is agree none more = absurd none
+core_fault rules f sets steps outcome side C5 is agree fault more = absurd (more refl)
+core_fault rules f sets steps outcome side (C6 number fault) is agree first more =
+    (agree, subst (λ (s : Side). IsCoreFault rules s f steps (C6 number fault)) (sym is) first)
+
+-- what a verdict claims
+pub claims_false : (f : Qbf) → ResultHolds Clauses f → IsTrue false ↔ IsTrueFormula f
+claims_false f out = ((λ t. absurd (let none : false ≡ true = t in cc none)), (λ is. absurd (out is)))
+
+pub claims_true : (f : Qbf) → ResultHolds Cubes f → IsTrue true ↔ IsTrueFormula f
+claims_true f holds = ((λ t. holds), (λ is. refl))
+
+-- ---- from the core to the trace
+
+pub proves : (rules : Rules) (f : Qbf) (sets : List Block) (steps : List Inference) (outcome : Outcome) (side : Side)
+    (r : Result Verified CheckFault) → side_of outcome ≡ side
+    → SetsAgree f.blocks sets → OnOk r (Derives rules side f steps) → OnOk r (Proves rules f sets steps outcome)
+proves rules f sets steps outcome side (Ok v) is agree derives =
+    record { agree = agree; derives = subst (λ (s : Side). Derives rules s f steps) (sym is) derives }
+proves rules f sets steps outcome side (Err e) is agree derives = tt
+
+pub refuses : (rules : Rules) (f : Qbf) (sets : List Block) (steps : List Inference) (outcome : Outcome) (side : Side)
+    (r : Result Verified CheckFault) → side_of outcome ≡ side
+    → SetsAgree f.blocks sets → IfErr r (IsCoreFault rules side f steps) → IfErr r (λ e. e ≢ C5 → IsFirstFault rules f sets steps outcome e)
+refuses rules f sets steps outcome side (Ok v) is agree fault = tt
+refuses rules f sets steps outcome side (Err e) is agree fault = core_fault rules f sets steps outcome side e is agree fault
+
+pub shows_false : (rules : Rules) (f : Qbf) (sets : List Block) (steps : List Inference) (outcome : Outcome)
+    (r : Result Verified CheckFault) → side_of outcome ≡ Clauses
+    → IsClosed f → OnOk r (Proves rules f sets steps outcome) → IfOk r (λ v. v.truth ≡ false)
+    → IfOk r (λ v. IsTrue v.truth ↔ IsTrueFormula f)
+shows_false rules f sets steps outcome (Ok v) is closed shown claim =
+    rw claim (claims_false f (subst (λ (s : Side). ResultHolds s f) is (soundness rules f sets steps outcome closed shown)))
+shows_false rules f sets steps outcome (Err e) is closed shown claim = tt
+
+pub shows_true : (rules : Rules) (f : Qbf) (sets : List Block) (steps : List Inference) (outcome : Outcome) (r : Result Verified CheckFault)
+    → side_of outcome ≡ Cubes
+    → IsClosed f → OnOk r (Proves rules f sets steps outcome) → IfOk r (λ v. v.truth ≡ true)
+    → IfOk r (λ v. IsTrue v.truth ↔ IsTrueFormula f)
+shows_true rules f sets steps outcome (Ok v) is closed shown claim =
+    rw claim (claims_true f (subst (λ (s : Side). ResultHolds s f) is (soundness rules f sets steps outcome closed shown)))
+shows_true rules f sets steps outcome (Err e) is closed shown claim = tt
+
+pub closed_of : (f : Qbf) → IsWellFormed f → IsClosed f
+closed_of f formed = record { distinct = formed.prefix.distinct; bound = formed.closed }

@@ -1,0 +1,26 @@
+use Rattle.qrp_rules.specs.Conditions.{AllHold, resolvent_conditions}
+use Rattle.qbf_core.specs.Blocks.{AreBound}
+use Rattle.qbf_core.specs.Rules.{IsClean}
+use Rattle.qrp_check.proofs.CoreStep.{ok_all}
+use Rattle.qrp_check.proofs.step.follows_as_written.Goals as goal
+
+pub is_resolvent-requires-clause-clean_b : goal.is_resolvent-requires-clause-clean_b
+is_resolvent-requires-clause-clean_b g c = (rw c.in-Two.is at c.requires.fit).1.0
+
+pub returns-in-Initial-clause-follows : goal.returns-in-Initial-clause-follows
+returns-in-Initial-clause-follows g c =
+    rw c.in-Initial.is (λ t. (c.is_next.ensures.clean t, (c.is_next.ensures.bound t, c.is_next.ensures.follows t)))
+
+pub returns-in-One-clause-follows : goal.returns-in-One-clause-follows
+returns-in-One-clause-follows g c = rw c.in-One.is (λ t. (
+  c.is_exact_reduct.ensures.clean t,
+  (rw c.prefix-prefix.ensures.value at c.is_exact_reduct.ensures.bound t, rw c.prefix-prefix.ensures.value at c.is_exact_reduct.ensures.follows t),
+))
+
+pub returns-in-Two-clause-follows : goal.returns-in-Two-clause-follows
+returns-in-Two-clause-follows g c = rw c.in-Two.is (ok_all c.is_resolvent.result (IsClean c.args.lits.now)
+    (AreBound c.args.context.formula.now.blocks c.args.lits.now)
+    (AllHold (resolvent_conditions c.args.context.rules g.S.Side.side c.args.context.formula.now.blocks c.in-Two.a.now c.in-Two.b.now
+    c.args.lits.now))
+    c.is_resolvent.ensures.clean (rw c.prefix-prefix.ensures.value at c.is_resolvent.ensures.bound)
+    (rw c.prefix-prefix.ensures.value at c.is_resolvent.ensures.follows))

@@ -1,0 +1,88 @@
+//! The literals of the antecedents of a step.
+
+ghost use Rattle.std.specs.Prelude.{◌≡◌, ◌<◌, ℕ, List, take, length, IfSome};
+ghost use Rattle.std.specs.Prelude.{IfNone};
+ghost use Rattle.qrp.specs.Inferences.{Inference, IsAt, IsOnlyAt};
+ghost use Rattle.qrp_check.specs.Conditions.{IsNumberOf};
+ghost use Rattle.qrp_check.specs.Premises.{ArePremises, IsPremise};
+
+use crate::uses::Uses;
+use qbf_core::Lit;
+use qrp::Steps;
+
+/// The literals of the antecedents of a step, as they are written.
+#[derive(Clone, Copy)]
+pub(crate) enum Premises<'a> {
+    /// An initial step has none.
+    Initial,
+    /// The step is a reduct of these.
+    One(&'a [Lit]),
+    /// The step is a resolvent of these.
+    Two(&'a [Lit], &'a [Lit]),
+}
+
+/// The place of the step with a number, if it is before a place. The hint is tried first.
+fn place_before<T: Steps>(
+    trace: &T,
+    place: usize,
+    number: u64,
+    hint: Option<usize>,
+) -> Option<usize>
+    requires { place < length (T.steps trace.now) }
+    ensures before { IfSome result (λ i. i < place) }
+    ensures found { IfSome result (λ i. (step : Inference) × IsAt (T.steps trace.now) i step
+        × (step.number ≡ number)) }
+    ensures only { IfSome result (λ i. IsOnlyAt (T.steps trace.now) i number) }
+    ensures none { IfNone result (IsNumberOf (take place (T.steps trace.now)) number → ⊥) }
+{
+    if let Some(index) = hint {
+        if index < place && trace.number(index) == number {
+            return Some(index);
+        }
+    }
+    let index = trace.position(number)?;
+    if index < place { Some(index) } else { None }
+}
+
+/// The literals of the step with a number, if it is before a place.
+fn find_premise<T: Steps>(
+    trace: &T,
+    place: usize,
+    number: u64,
+    hint: Option<usize>,
+) -> Option<&[Lit]>
+    requires { place < length (T.steps trace.now) }
+    ensures some { IfSome result
+        (λ lits. IsPremise (take place (T.steps trace.now)) number lits.now) }
+    ensures none { IfNone result (IsNumberOf (take place (T.steps trace.now)) number → ⊥) }
+{
+    let index = place_before(trace, place, number, hint)?;
+    Some(trace.lits(index))
+}
+
+/// The literals of the antecedents of the step at a place, or `None` if one of them is not the
+/// number of an earlier step.
+pub(crate) fn find_premises<'a, T: Steps>(
+    trace: &'a T,
+    place: usize,
+    uses: &mut Uses,
+) -> Option<Premises<'a>>
+    requires { place < length (T.steps trace.now) }
+    ensures { (step : Inference) → IsAt (T.steps trace.now) place step
+        → ArePremises (take place (T.steps trace.now)) step.ants result }
+{
+    match trace.ants(place) {
+        [] => Some(Premises::Initial),
+        [number] => {
+            let from = find_premise(trace, place, *number, uses.pop_hint())?;
+            Some(Premises::One(from))
+        }
+        [first, second] => {
+            // The places were found in the other order.
+            let b = find_premise(trace, place, *second, uses.pop_hint())?;
+            let a = find_premise(trace, place, *first, uses.pop_hint())?;
+            Some(Premises::Two(a, b))
+        }
+        _ => unreachable!(),
+    }
+}

@@ -1,0 +1,84 @@
+-- Numbers with the stamp of a time.
+use Rattle.std.proofs.Common.{◌≡◌, ◌<◌, ◌≤◌, ◌+◌, ◌*◌, ◌⊎◌, ℕ, zero, suc, Bool, true, false, nat_eq, List, [], ◌∷◌, length, get_or, if◌then◌else◌}
+use Rattle.std.proofs.Common.{refl, sym, subst, ◌∙◌, inl, inr, arith}
+use Rattle.std.proofs.lemmas.Bool.{cases_eq}
+use Rattle.std.proofs.lemmas.Bool.Decides.{eqb_tells}
+use Rattle.std.proofs.Math.ListN.{replicate, set}
+use Rattle.std.proofs.lemmas.List.{get_or-set_same, get_or-set_other, length-set}
+use Rattle.qbf_core.specs.Literal.{Literal}
+use Rattle.qbf_core.proofs.Order.{same_lit}
+use Rattle.qrp_rules.specs.Seen.{AreUpTo, code, stamped}
+
+-- the number is in the set
+abbrev pub Holds : List Bool → ℕ → Type 0
+Holds s n = get_or s n false ≡ true
+
+same_number : (m n : ℕ) → nat_eq m n ≡ true → m ≡ n
+same_number m n t = elim (eqb_tells m n) [ inl (_, e) ↦ e | inr (f, _) ↦ absurd (let h = rw f at t in cc h) ]
+
+number_same : (m n : ℕ) → m ≡ n → nat_eq m n ≡ true
+number_same m n e = elim (eqb_tells m n) [ inl (t, _) ↦ t | inr (_, ne) ↦ absurd (ne e) ]
+
+pub stamp_of : (xs : List ℕ) (now n : ℕ) → Holds (stamped xs now) n → (n < length xs) × (get_or xs n 0 ≡ now)
+stamp_of [] now n h = cc h
+stamp_of (x ∷ xs) now zero h = (omega arith, same_number x now h)
+stamp_of (x ∷ xs) now (suc n) h = let w = stamp_of xs now n h in ((let less : n < length xs = w.0 in omega arith), w.1)
+
+pub of_stamp : (xs : List ℕ) (now n : ℕ) → n < length xs → get_or xs n 0 ≡ now → Holds (stamped xs now) n
+of_stamp [] now n less e = absurd (omega arith)
+of_stamp (x ∷ xs) now zero less e = number_same x now e
+of_stamp (x ∷ xs) now (suc n) less e = of_stamp xs now n (omega arith) e
+
+-- no number has the stamp of a time to come
+pub none_later : (xs : List ℕ) (last now n : ℕ) → AreUpTo xs last → last < now → Holds (stamped xs now) n → ⊥
+none_later xs last now n upto later h =
+    let is : get_or xs n 0 ≡ now = (stamp_of xs now n h).1 in
+    let le : get_or xs n 0 ≤ last = upto n in
+    omega arith
+
+pub length_stamped : (xs : List ℕ) (now : ℕ) → length (stamped xs now) ≡ length xs
+length_stamped [] now = refl
+length_stamped (x ∷ xs) now = let e : length (stamped xs now) ≡ length xs = length_stamped xs now in omega arith
+
+pub zeros_upto : (xs : List ℕ) (k : ℕ) → xs ≡ replicate k 0 → AreUpTo xs 0
+zeros_upto xs k e n = rw e (zero_at k n)
+  where
+    zero_at : (k n : ℕ) → get_or (replicate k 0) n 0 ≤ 0
+    zero_at zero n = omega arith
+    zero_at (suc k) zero = omega arith
+    zero_at (suc k) (suc n) = zero_at k n
+
+-- one number more
+pub stamp_more : (xs : List ℕ) (i now n : ℕ) → i < length xs → Holds (stamped (set xs i now) now) n → Holds (stamped xs now) n ⊎ (n ≡ i)
+stamp_more xs i now n less h = elim (cases_eq n i) [
+  | inl e ↦ inr e
+  | inr ne ↦ (
+      let w = stamp_of (set xs i now) now n h in
+      let inside : n < length xs = let long : n < length (set xs i now) = w.0 in let same : length (set xs i now) ≡ length xs = length-set xs i now in omega arith in
+      inl (of_stamp xs now n inside (sym (get_or-set_other xs i n now 0 ne) ∙ w.1)))
+]
+
+pub more_stamp : (xs : List ℕ) (i now n : ℕ) → i < length xs → Holds (stamped xs now) n ⊎ (n ≡ i) → Holds (stamped (set xs i now) now) n
+more_stamp xs i now n less h =
+    let same : length (set xs i now) ≡ length xs = length-set xs i now in
+    elim (cases_eq n i) [
+      | inl e ↦ of_stamp (set xs i now) now n (omega arith) (subst (λ (m : ℕ). get_or (set xs i now) m 0 ≡ now) (sym e) (get_or-set_same xs i now 0 less))
+      | inr ne ↦ elim h [
+        | inl k ↦ (let w = stamp_of xs now n k in let inside : n < length xs = w.0 in
+            of_stamp (set xs i now) now n (omega arith) (get_or-set_other xs i n now 0 ne ∙ w.1))
+        | inr e ↦ absurd (ne e)
+      ]
+    ]
+
+-- literals with the same number are the same
+even_odd : (m n : ℕ) → 2 * m + 1 ≡ 2 * n + 0 → ⊥
+even_odd m n e = omega (arith, e)
+
+code_by : (m n : ℕ) (a b : Bool) → 2 * m + (if a then 1 else 0) ≡ 2 * n + (if b then 1 else 0) → (m ≡ n) × (a ≡ b)
+code_by m n true true e = let f : 2 * m + 1 ≡ 2 * n + 1 = e in (omega (arith, f), refl)
+code_by m n false false e = let f : 2 * m + 0 ≡ 2 * n + 0 = e in (omega (arith, f), refl)
+code_by m n true false e = absurd (even_odd m n e)
+code_by m n false true e = absurd (even_odd n m (sym e))
+
+pub code_one : (l m : Literal) → code l ≡ code m → l ≡ m
+code_one l m e = let w = code_by l.var m.var l.negative m.negative e in same_lit l m w.0 w.1

@@ -1,0 +1,96 @@
+//! Literals that were met since the last time that all were forgotten.
+
+ghost use Rattle.std.specs.Prelude.{◌≡◌, ◌↔◌, ◌⊎◌, IsTrue};
+ghost use Rattle.qbf_core.specs.Literal.{Literal};
+ghost use Rattle.qrp_rules.specs.Seen.{Has, code};
+
+use qbf_core::{Lit, Prefix};
+use std::alloc::{AllocError, Global};
+use std::marker::Model;
+
+/// The number of a literal: those of a variable are neighbours.
+fn code(lit: Lit) -> usize
+    ensures { result ≡ code lit }
+{
+    let sign = if lit.is_negative() { 1 } else { 0 };
+    2 * lit.var().number() as usize + sign
+}
+
+/// A set of literals that is emptied by one step, whatever it holds. Contracts see which literals
+/// it has.
+#[derive(Drop)]
+pub struct SeenLits {
+    /// When each literal was met, by its number.
+    stamps: Vec<u32>,
+    /// The stamp of the literals that are in the set. It is never 0.
+    stamp: u32,
+}
+
+impl Model for SeenLits {
+    ghost use Rattle.std.specs.Prelude.{◌≤◌, Bool, List};
+    ghost use Rattle.qrp_rules.specs.Seen.{AreUpTo, stamped};
+
+    ghost Value = { List Bool };
+
+    ghost view = { λ s. stamped s.stamps.items s.stamp };
+
+    ghost invariant = { λ s. (1 ≤ s.stamp) × AreUpTo s.stamps.items s.stamp };
+}
+
+impl SeenLits {
+    /// An empty set. It takes no memory yet, and has no room.
+    pub fn new(alloc: Global) -> SeenLits {
+        SeenLits {
+            stamps: Vec::new(alloc),
+            stamp: 1,
+        }
+    }
+
+    /// Makes room for the literals of a prefix, where there is none yet: of the variables with
+    /// numbers up to twice that of the bound ones. What is in the set then is not said.
+    ///
+    /// # Errors
+    /// If an allocation fails.
+    pub(crate) fn make_room(&mut self, alloc: Global, prefix: &Prefix) -> Result<(), AllocError> {
+        if self.stamps.is_empty() {
+            let width = prefix.len().saturating_mul(4).saturating_add(4);
+            self.stamps = vec![in alloc; 0; width]?;
+        }
+        Ok(())
+    }
+
+    /// Takes all literals out. Once in 2^32 times it takes time for each one that there is room for.
+    pub(crate) fn clear(&mut self)
+        ensures { (l : Literal) → Has self.new l → ⊥ }
+    {
+        match self.stamp.checked_add(1) {
+            Some(next) => self.stamp = next,
+            None => {
+                self.stamps.fill(0);
+                self.stamp = 1;
+            }
+        }
+    }
+
+    /// Whether the literal is in the set.
+    pub(crate) fn contains(&self, lit: Lit) -> bool
+        ensures { IsTrue result ↔ Has self.now lit }
+    {
+        match self.stamps.get(code(lit)) {
+            Some(stamp) => *stamp == self.stamp,
+            None => false,
+        }
+    }
+
+    /// Puts the literal in, or returns `false` if there is no room for it.
+    pub(crate) fn insert(&mut self, lit: Lit) -> bool
+        ensures { (l : Literal) → Has self.new l ↔ (Has self.old l ⊎ ((l ≡ lit) × IsTrue result)) }
+    {
+        let place = code(lit);
+        if place >= self.stamps.len() {
+            return false;
+        }
+        self.stamps[place] = self.stamp;
+        true
+    }
+}

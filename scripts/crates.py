@@ -1,0 +1,170 @@
+"""The crates of crates.txt, folders in which one crate is worked on alone, and work on several crates at once.
+
+`rt` lets one run at a time into a crate and into those below it. To prove several crates at once, each gets a folder of its own with a
+copy of the crate and of the libraries below it, which `rt` takes as they were proved.
+"""
+
+import os
+import shutil
+import signal
+import subprocess
+import threading
+import time
+from concurrent.futures import FIRST_COMPLETED, ThreadPoolExecutor, wait
+from pathlib import Path
+
+PARTS = ("src", "specs", "proofs", "data", "args", "stdin", "stdout", "status")
+# What one run of `rt` may take beside others, in bytes.
+ROOM = 3_000_000_000
+
+
+class Stopped(Exception):
+    """Why the work cannot go on, in one line for the user."""
+
+
+class Crates:
+    """The crates of a repository, each with the crates of the repository that it stands on, lowest first."""
+
+    def __init__(self, root):
+        self.root = Path(root)
+        self.on, self.lines = {}, {}
+        for line in (self.root / "crates.txt").read_text(encoding="utf-8").splitlines():
+            words, _, deps = line.partition("#")[0].partition(":")
+            if words.split():
+                name = words.split()[0]
+                self.lines[name] = line
+                self.on[name] = deps.split()
+        self.on = {name: [dep for dep in deps if dep in self.on] for name, deps in self.on.items()}
+
+    def folder(self, name):
+        return self.root / "crates" / name
+
+    def below(self, name):
+        """The crates below one, each once, lowest first."""
+        found = []
+        for dep in self.on[name]:
+            found += [it for it in [*self.below(dep), dep] if it not in found]
+        return found
+
+    def is_program(self, name):
+        return (self.folder(name) / "src" / "main.rt").exists()
+
+    def lay_out(self, name, room, kept=True):
+        """Makes the folder `room` a repository of one crate and those below it. What was kept of its proofs goes along, unless
+        `kept` says otherwise; of those below it only the built libraries do."""
+        room = Path(room)
+        (room / "crates").mkdir(parents=True)
+        names = [*self.below(name), name]
+        (room / "crates.txt").write_text("".join(f"{self.lines[it]}\n" for it in names), encoding="utf-8")
+        for it in names:
+            copy_crate(self.folder(it), room / "crates" / it)
+        for it in self.below(name):
+            copy(self.folder(it) / "out" / "rlib", room / "crates" / it / "out" / "rlib", linked=True)
+        if kept:
+            copy(self.folder(name) / "out" / "rlib", room / "crates" / name / "out" / "rlib", linked=True)
+            copy(self.folder(name) / "out" / "incremental", room / "crates" / name / "out" / "incremental", linked=True)
+        return Crates(room)
+
+
+def copy_crate(source, target):
+    target.mkdir()
+    for part in PARTS:
+        copy(source / part, target / part)
+
+
+def copy(source, target, linked=False):
+    """Copies a file or folder, if it is there, with its times; or links its files, where the toolchain only reads or replaces them."""
+    if source.exists():
+        target.parent.mkdir(parents=True, exist_ok=True)
+        how = "-al" if linked and source.stat().st_dev == target.parent.stat().st_dev else "-a"
+        done = subprocess.run(["cp", how, str(source), str(target)], capture_output=True, text=True)
+        if done.returncode:
+            raise Stopped(f"cannot copy {source.name}: {(done.stderr.strip() or 'the disk may be full').splitlines()[-1]}")
+
+
+def processors():
+    return len(os.sched_getaffinity(0))
+
+
+def free_memory():
+    with open("/proc/meminfo", encoding="ascii") as lines:
+        return next(int(line.split()[1]) * 1024 for line in lines if line.startswith("MemAvailable"))
+
+
+class Runs:
+    """Commands that run at once, and all end when the first of them must not go on."""
+
+    def __init__(self):
+        self.running, self.lock, self.ended = set(), threading.Lock(), False
+
+    def run(self, words, folder, **more):
+        """Runs a command to its end; gives its status, and what it wrote to its two outputs, or else to both."""
+        with self.lock:
+            if self.ended:
+                raise Stopped("interrupted")
+            how = {"stdin": subprocess.DEVNULL, "stdout": subprocess.PIPE, "stderr": subprocess.STDOUT, "errors": "replace"}
+            try:
+                child = subprocess.Popen(words, cwd=folder, text=True, start_new_session=True, **{**how, **more})
+            except FileNotFoundError as error:
+                raise Stopped(f"there is no {words[0]} on this machine: the Rattle toolchain has it") from error
+            self.running.add(child)
+        out, err = child.communicate()
+        with self.lock:
+            self.running.discard(child)
+        if self.ended:
+            raise Stopped("interrupted")
+        return child.returncode, out, err or out
+
+    def end(self):
+        """Ends every command that still runs."""
+        with self.lock:
+            self.ended = True
+            for child in self.running:
+                try:
+                    os.killpg(child.pid, signal.SIGKILL)
+                except ProcessLookupError:
+                    pass
+
+
+class Lanes:
+    """Tasks that wait for other tasks, on so many lanes; a task may add more. The first that fails ends all."""
+
+    def __init__(self, lanes, runs):
+        self.lanes, self.runs = lanes, runs
+        self.waiting, self.done, self.running = [], set(), {}
+
+    def add(self, key, after, work, jobs=1):
+        """Adds a task: what it waits for, its work, which is given how many jobs it may use, and the most that are of use to it."""
+        self.waiting.append((key, list(after), work, jobs))
+
+    def ready(self):
+        return [task for task in self.waiting if all(key in self.done for key in task[1])]
+
+    def start(self, pool):
+        ready = self.ready()
+        for at, task in enumerate(ready):
+            idle = self.lanes - sum(jobs for _, jobs in self.running.values())
+            if idle < 1 or (self.running and free_memory() < ROOM):
+                return
+            jobs = max(1, min(task[3], idle // (len(ready) - at)))
+            self.waiting.remove(task)
+            self.running[pool.submit(task[2], jobs)] = task[0], jobs
+            if jobs > 1:
+                time.sleep(0.1)
+
+    def run(self):
+        with ThreadPoolExecutor(self.lanes) as pool:
+            try:
+                while self.waiting or self.running:
+                    self.start(pool)
+                    for future in wait(self.running, timeout=2, return_when=FIRST_COMPLETED).done:
+                        key, _ = self.running.pop(future)
+                        future.result()
+                        self.done.add(key)
+            except BaseException:
+                self.runs.end()
+                raise
+
+
+def remove(folder):
+    shutil.rmtree(folder, ignore_errors=True)
