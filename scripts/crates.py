@@ -106,7 +106,7 @@ class Runs:
             try:
                 child = subprocess.Popen(words, cwd=folder, text=True, start_new_session=True, **{**how, **more})
             except FileNotFoundError as error:
-                raise Stopped(f"there is no {words[0]} on this machine: the Rattle toolchain has it") from error
+                raise Stopped(f"there is no {words[0]} on this machine: the Rattle toolchain has it (README, 'Getting it')") from error
             self.running.add(child)
         out, err = child.communicate()
         with self.lock:

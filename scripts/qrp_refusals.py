@@ -114,7 +114,7 @@ def wrong_word(fault, _data):
     if word in (b"a", b"e") and fault.at == 0:
         sentences.append(f"Quantifier sets come before all {'clauses' if fault.name == 'F3' else 'steps'}, and 0 closes each list: is a 0 missing?")
     elif word == b"r" and fault.name == "P3" and inside != "between steps":
-        sentences.append("0 closes each of the two lists of a step: is a 0 missing?")
+        sentences.append("0 closes each list, and a step has two: is a 0 missing?")
     elif fault.at == 0 and word in FIRST_WORDS:
         sentences.append(FIRST_WORDS[word])
     elif word[:1] in (b"+", b"-") and word[1:].isdigit():

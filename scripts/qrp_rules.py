@@ -177,15 +177,8 @@ def resolvent(formula, side, any_pivot, parents, literals):
         ]
         return Finding("S10", reasons, notes)
     whole = {l for l in a | b if abs(l) != pivot}
-    more = sorted(literals - whole, key=abs)
-    if more:
-        reasons = []
-        for l in more:
-            reasons.append(f"{l} is of the pivot, which the resolvent does not hold." if abs(l) == pivot else f"{l} is in neither antecedent.")
-            notes[l] = "pivot, but in the step" if abs(l) == pivot else "not in the resolvent"
-        signs = [l for l in more if abs(l) != pivot and -l in whole]
-        cause = "pivot" if any(abs(l) == pivot for l in more) else "sign" if signs else "more"
-        return Finding("S11", reasons, notes, cause=cause)
+    if literals - whole:
+        return not_resolved(whole, literals, pivot, notes)
     reasons = []
     out = sorted(whole - literals, key=abs)
     in_resolvent = all_kept(formula, side, whole, out)
@@ -203,3 +196,14 @@ def resolvent(formula, side, any_pivot, parents, literals):
         return Finding("S12", reasons, notes, cause=why_left_out(formula, side, kept))
     text = "nothing is left out of it" if whole <= literals else "what is left out of it may be reduced"
     return Finding(None, [f"It is the resolvent of {a_name} and {b_name} on {pivot}, and {text}."], notes)
+
+
+def not_resolved(whole, literals, pivot, notes):
+    """What is found of a step with literals that its resolvent does not hold."""
+    more, reasons = sorted(literals - whole, key=abs), []
+    for l in more:
+        reasons.append(f"{l} is of the pivot, which the resolvent does not hold." if abs(l) == pivot else f"{l} is in neither antecedent.")
+        notes[l] = "pivot, but in the step" if abs(l) == pivot else "not in the resolvent"
+    signs = [l for l in more if abs(l) != pivot and -l in whole]
+    cause = "pivot" if any(abs(l) == pivot for l in more) else "sign" if signs else "more"
+    return Finding("S11", reasons, notes, cause=cause)

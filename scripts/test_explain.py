@@ -50,7 +50,7 @@ SENTENCES = {
     "'%' before a clause": "Some collections end their files with a line of %",
     "'p' before a step": "It looks like a second header",
     "'-0' in a clause": "A number has no plus sign, and 0 no minus.",
-    "'r' in a step": "0 closes each of the two lists of a step: is a 0 missing?",
+    "'r' in a step": "0 closes each list, and a step has two: is a 0 missing?",
     "1 clauses in the header": "and the text has ",
     "-1 clauses in the header": "and here begins one more.",
     "set 0 with the other quantifier": "in line 2 of the trace, and ",
@@ -184,7 +184,7 @@ def try_devices(program):
         limited.write_text(f'#!/bin/sh\nulimit -v 10000\nexec "{program}" "$@"\n')
         limited.chmod(0o755)
         large = Path(folder) / "large"
-        large.write_text("p qrp 0 0\n" + "".join(f"{n} 1 2 3 4 5 6 7 8 9 0 0\n" for n in range(1, 200000)) + "r unsat\n")
+        large.write_text("p qrp 0 0\n" + "".join(f"{n} 1 2 3 4 5 6 7 8 9 0 0\n" for n in range(1, 500000)) + "r unsat\n")
         ended = run(formula, large, program=limited)
         holds = ended.stdout.startswith("qrp_cmd says: NO MEMORY\n\nThe program had up to ")
         expect("memory is refused", ended.returncode == 0 and holds, ended)
@@ -198,8 +198,8 @@ def try_devices(program):
 def try_disagreement(program):
     """A program that names another fault than the script finds is not believed, and neither is the script."""
     formula, trace = ROOT / "examples" / "two_clauses.qdimacs", ROOT / "examples" / "two_clauses.qrp"
-    lines = ["REFUSED step 5 S8", "REFUSED step 9 S8", "REFUSED set C2 variable 1", "REFUSED trace C4", "REFUSED formula F6 line 3", "REFUSED trace P7 line 2", "VERIFIED"]
-    for line in lines:
+    refused = ["step 5 S8", "step 9 S8", "set C2 variable 1", "trace C4", "formula F6 line 3", "trace P7 line 2"]
+    for line in [*(f"REFUSED {rest}" for rest in refused), "VERIFIED"]:
         with tempfile.TemporaryDirectory() as folder:
             liar = Path(folder) / "liar"
             liar.write_text(f"#!/bin/sh\necho '{line}'\nexit 1\n")
@@ -219,7 +219,8 @@ def try_words(program):
     ended = run(formula, trace, program="/nonexistent")
     expect("no program", ended.returncode == 2 and not ended.stdout, ended)
     ended = run(formula, trace, program=program)
-    expect("nothing is refused", ended.returncode == 0 and ended.stdout.startswith("qrp_cmd says: VERIFIED false\n\nThe trace proves that the formula is false."), ended)
+    wanted = "qrp_cmd says: VERIFIED false\n\nThe trace proves that the formula is false."
+    expect("nothing is refused", ended.returncode == 0 and ended.stdout.startswith(wanted), ended)
     ended = run(formula, trace, "6", program=program)
     expect("no such step", ended.returncode == 1 and ended.stdout == "The trace has no step 6.\n", ended)
     ended = run(trace, formula, "1", program=program)
