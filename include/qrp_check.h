@@ -7,15 +7,18 @@
  *     with it and in which the last empty step, and every step that it depends on, follows by the rules (QRP_NO_MEMORY aside);
  *     and then that formula is false if the trace says `r unsat`, and true if it says `r sat`, and `truth` says which.
  *
- * The proof relies on what this page asks of the caller, on the toolchain that proved and built the library, and on the C
- * library's malloc, realloc and free. Link with -lqrp, or with libqrp.a; nothing else is needed. The manual page is
+ * The proof relies on what this page asks of the caller, on the toolchain that proved and built the library, on the C compiler, `ar`,
+ * `objcopy` and the linker that packed it, and on the C library: on its malloc, realloc and free, and on memcpy, memmove and
+ * memset. malloc, realloc and free must be of one allocator, and a block must be aligned to each power of two up to 16 that divides
+ * its size, as those of the C library are. Link with -lqrp, or with libqrp.a; nothing else is needed. The manual page is
  * qrp_check(3).
  *
  * Memory: the library takes what it needs by malloc and realloc, and has freed all of it when a call returns. It keeps no
- * pointer of the caller's and no state.
+ * pointer of the caller's and no state. This is tested, not proved.
  *
  * Threads: several threads may call at once, also on the same texts, since these are only read; each call needs its own
- * struct qrp_verdict and its own buffer. Do not call qrp_verify in a signal handler, since it calls malloc.
+ * struct qrp_verdict and its own buffer (tested, not proved). Do not call qrp_verify in a signal handler, nor in the child that a
+ * process with several threads has forked, since it calls malloc.
  */
 #ifndef QRP_CHECK_H
 #define QRP_CHECK_H
@@ -65,7 +68,7 @@ int32_t qrp_verify(const uint8_t *formula, size_t formula_length, const uint8_t 
  *
  * verdict: must be non-NULL, and should be one that qrp_verify wrote. For any other struct it writes some line, or returns 0.
  * buffer: must be non-NULL, even if room is 0, and must not overlap the verdict. If the line is longer than room nothing is
- *   written, and otherwise nothing after the line. A room of QRP_LINE_ROOM is enough.
+ *   written, and otherwise, for a verdict that qrp_verify wrote, nothing after the line. A room of QRP_LINE_ROOM is enough.
  *
  * It takes no memory, so it also works after QRP_NO_MEMORY.
  */
