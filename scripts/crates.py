@@ -104,7 +104,8 @@ class Runs:
                 raise Stopped("interrupted")
             how = {"stdin": subprocess.DEVNULL, "stdout": subprocess.PIPE, "stderr": subprocess.STDOUT, "errors": "replace"}
             try:
-                child = subprocess.Popen(words, cwd=folder, text=True, start_new_session=True, **{**how, **more})
+                # A group of its own, which can be ended as a whole, and no session: the system shares processors among sessions.
+                child = subprocess.Popen(words, cwd=folder, text=True, preexec_fn=os.setpgrp, **{**how, **more})
             except FileNotFoundError as error:
                 raise Stopped(f"there is no {words[0]} on this machine: the Rattle toolchain has it (README, 'Getting it')") from error
             self.running.add(child)
