@@ -2,7 +2,7 @@
 #
 # A place is one of the words below where it is a value and no pattern, or any Err of a function that is refused for want
 # of memory alone. It must stand
-#   - on an arm whose pattern has one of the words in each of its alternatives, or whose guard asks for ErrorKind::OutOfMemory;
+#   - on an arm whose pattern has one of the words in each of its alternatives;
 #   - on the arm Err(_) or Err(name) of a match on a call that is refused for want of memory alone, directly below
 #     `if CALL.is_err()`, or in the else of `let Ok(..) = CALL else`;
 #   - as the second argument of `ReadError::fault`, which its contract answers for want of memory alone;
@@ -14,7 +14,7 @@
 # with its file: the length of something that is there, or one more.
 
 BEGIN {
-    keep(words, "F9 P9 C5 E3 B2 Memory NoMemory NO_MEMORY AllocError")
+    keep(words, "F9 P9 C5 E3 B2 Memory NoMemory NO_MEMORY AllocError OutOfMemory")
     keep(alone, "Vec.push Vec.reserve IndexSet.insert IndexMap.insert Vec::from_slice Vec::with_capacity BufWriter::new")
     # These hand back what they were given.
     keep(alone, "Formula.push_clause Trace.push_set Trace.push_step")
@@ -278,7 +278,7 @@ function arm(n, text, m) {
     text = trimmed(code[n])
     sub(/ =>.*/, "", text)
     for (m = n; trimmed(code[m]) ~ /^[|] /; m--) text = trimmed(code[m - 1]) " " text
-    if (text ~ / == ErrorKind::OutOfMemory$/ || (text !~ / if / && each_has_word(text))) return ""
+    if (text !~ / if / && each_has_word(text)) return ""
     if (text !~ /^Err\([a-z_]+\)$/) return "on an arm that is not for want of memory"
     n = holder(n)
     text = statement(n)

@@ -78,6 +78,16 @@ fn writes_up_to(
 }
 
 #[test]
+fn leaves_the_sink_unfinished(rt: HostRuntime) -> Result<(), Fail> {
+    let formula = read_formula(rt.alloc(), &mut PieceSource::new(FORMULA, 4096, 0))?;
+    // A `finish` of this sink fails.
+    let mut sink = PieceSink::new(rt.alloc(), 4096, None, true, 35)?;
+    assert!(rt; write_formula(&formula, &mut sink).is_ok());
+    assert_eq!(rt; sink.bytes(), FORMULA);
+    Ok(())
+}
+
+#[test]
 fn writes_a_beginning(rt: HostRuntime) -> Result<(), Fail> {
     let formula = read_formula(rt.alloc(), &mut PieceSource::new(FORMULA, 4096, 0))?;
     for piece in [1, 4096] {

@@ -429,7 +429,8 @@ fn letters(rt: HostRuntime) {
 // With memory these tests try nothing twice. scripts/test-refusals makes each of their allocations
 // fail in turn.
 
-/// Binds a variable. If an allocation fails, the prefix is as it was, and the second try binds it.
+/// Binds a variable. If an allocation fails, the prefix has no variable more, and the second try
+/// binds it.
 fn bind_again(rt: &impl Abort, prefix: &mut Prefix, quantifier: Quantifier, var: Var) {
     let places = prefix.len();
     if prefix.push(quantifier, var).is_err() {
@@ -465,7 +466,7 @@ fn clause_of(alloc: Global, lits: &[Lit]) -> Result<Vec<Lit>, Fail>
     }
 }
 
-/// Adds a clause. If an allocation fails, the formula is as it was, and the second try adds it.
+/// Adds a clause. If an allocation fails, the formula has no clause more, and the second try adds it.
 fn push_again(rt: &impl Abort, formula: &mut Formula, clause: Vec<Lit>)
     requires bound { AreBound formula.old.blocks clause.items }
     requires few { length formula.old.clauses < 2147483647 }

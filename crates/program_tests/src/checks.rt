@@ -32,12 +32,12 @@ fn formula_of(alloc: Global, text: &[u8]) -> Result<Formula, Fail> {
     Ok(read_formula(alloc, &mut SliceSource::new(text))?)
 }
 
-/// The trace of a text, kept step by step.
+/// The trace of a text.
 fn trace_of(alloc: Global, text: &[u8]) -> Result<Trace, Fail> {
     Ok(read_trace(alloc, &mut SliceSource::new(text))?)
 }
 
-/// The result for a trace that is kept step by step.
+/// The result for the trace of a text.
 fn checked(
     alloc: Global,
     rules: Rules,
@@ -61,7 +61,7 @@ fn expect(rt: &impl Abort, found: &Verified, truth: bool, core: &[usize]) {
     assert_eq!(rt; found.core.as_slice(), core);
 }
 
-/// Checks a trace that is kept step by step, and verifies the same bytes, by both rules.
+/// Checks the trace of a text, and verifies the same bytes, by both rules.
 fn verifies(
     rt: &impl Abort,
     alloc: Global,
@@ -84,7 +84,9 @@ fn verifies_proofs(rt: HostRuntime) -> Result<(), Fail> {
     let alloc = rt.alloc();
     let all = [0usize, 1, 2, 3, 4];
     verifies(&rt, alloc, FALSE_FORMULA, REFUTATION, false, &all)?;
-    verifies(&rt, alloc, TRUE_FORMULA, PROOF_OF_TRUTH, true, &all)
+    verifies(&rt, alloc, TRUE_FORMULA, PROOF_OF_TRUTH, true, &all)?;
+    let resolved = b"p qrp 1 3\n1 1 0 0\n2 -1 0 0\n3 0 1 2 0\nr sat\n";
+    verifies(&rt, alloc, b"p cnf 1 0\na 1 0\n", resolved, true, &[0, 1, 2])
 }
 
 /// Sends a step without literals that follows from an earlier one.

@@ -2,7 +2,8 @@
 //! their proofs.
 #![tactic(auto)]
 
-ghost use Rattle.std.specs.Prelude.{◌≡◌, ◌⊎◌, IfOk, IfErr, drop};
+ghost use Rattle.std.specs.Prelude.{◌≡◌, ◌≢◌, ◌⊎◌, IfOk, IfErr, drop};
+ghost use Rattle.std.specs.declared.io.ErrorKind.TheVariants.{OutOfMemory};
 ghost use Rattle.std.specs.Vec.Iter.{into_iter_items};
 ghost use Rattle.qrp_program.specs.declared.start.Start.TheVariants.{NoMemory, Usage};
 
@@ -34,14 +35,25 @@ fn after_name(alloc: Global, mut args: Args) -> Result<Vec<String>, Start>
     Ok(words)
 }
 
+/// Why there are no arguments, by the kind of the error: out of memory, or else one of them is not
+/// UTF-8.
+fn no_words(kind: ErrorKind) -> Start
+    ensures memory { kind ≡ OutOfMemory → result ≡ NoMemory }
+    ensures usage { kind ≢ OutOfMemory → result ≡ Usage }
+{
+    match kind {
+        ErrorKind::OutOfMemory => Start::NoMemory,
+        _ => Start::Usage,
+    }
+}
+
 /// The arguments after the program's name.
 fn given_words(rt: &HostRuntime) -> Result<Vec<String>, Start>
     ensures { IfErr result (λ e. (e ≡ NoMemory) ⊎ (e ≡ Usage)) }
 {
     match env::args(rt) {
         Ok(args) => after_name(rt.alloc(), args),
-        Err(error) if error.kind() == ErrorKind::OutOfMemory => Err(Start::NoMemory),
-        Err(_) => Err(Start::Usage),
+        Err(error) => Err(no_words(error.kind())),
     }
 }
 

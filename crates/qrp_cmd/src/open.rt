@@ -1,6 +1,8 @@
 //! The files of the system.
 
-ghost use Rattle.std.specs.Prelude.{◌≡◌, ℕ, ⊤, List, Option, Result, Ok, Err, IfOk, IfErr};
+ghost use Rattle.std.specs.Prelude.{◌≡◌, ◌≢◌, ℕ, ⊤, List, Option, Result, Ok, Err, IfOk, IfErr};
+ghost use Rattle.std.specs.declared.io.ErrorKind.TheVariants.{OutOfMemory};
+ghost use Rattle.qrp_program.specs.declared.unopened.Unopened.TheVariants.{NoMemory, NoFile};
 
 use qbf_text::FromRead;
 use qrp_program::{LIMIT, Open, Unopened};
@@ -21,6 +23,18 @@ impl<'a, R: Files> SystemFiles<'a, R> {
     }
 }
 
+/// Why a file is not open, by the kind of the error: out of memory, or else there is no such file to
+/// be read.
+fn unopened(kind: ErrorKind) -> Unopened
+    ensures memory { kind ≡ OutOfMemory → result ≡ NoMemory }
+    ensures file { kind ≢ OutOfMemory → result ≡ NoFile }
+{
+    match kind {
+        ErrorKind::OutOfMemory => Unopened::NoMemory,
+        _ => Unopened::NoFile,
+    }
+}
+
 impl<R: Files> Open for SystemFiles<'_, R> {
     type File = FromRead<R::File>;
 
@@ -29,8 +43,7 @@ impl<R: Files> Open for SystemFiles<'_, R> {
     fn open(&self, path: &str) -> Result<FromRead<R::File>, Unopened> {
         match fs::open(self.rt, path) {
             Ok(file) => Ok(FromRead::new(file, LIMIT)),
-            Err(error) if error.kind() == ErrorKind::OutOfMemory => Err(Unopened::NoMemory),
-            Err(_) => Err(Unopened::NoFile),
+            Err(error) => Err(unopened(error.kind())),
         }
     }
 }

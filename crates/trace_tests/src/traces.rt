@@ -82,7 +82,7 @@ fn reads_alike(
     Ok(())
 }
 
-/// Reads a trace in pieces, into both keepings, and compares its canonical text.
+/// Reads a trace in pieces, by both calls, and compares its canonical text.
 fn reads_in_pieces(
     rt: &impl Abort,
     alloc: Global,
@@ -97,7 +97,7 @@ fn reads_in_pieces(
     reads_alike(rt, alloc, text, &trace, piece)
 }
 
-/// Reads a trace whole and byte by byte, into both keepings, and compares its canonical text.
+/// Reads a trace whole and byte by byte, by both calls, and compares its canonical text.
 fn reads(rt: &impl Abort, alloc: Global, text: &[u8], wanted: &[u8]) -> Result<(), Fail> {
     for piece in [1, 4096] {
         reads_in_pieces(rt, alloc, text, wanted, piece)?;
@@ -334,20 +334,60 @@ fn pulls_for_flat(alloc: Global) -> Result<(usize, u64), Fail> {
 }
 
 #[test]
-fn pulls_nothing_behind_the_result(rt: HostRuntime) -> Result<(), Fail> {
+fn pulls_nothing_after_the_result(rt: HostRuntime) -> Result<(), Fail> {
     // The byte after the result word is the last one that is looked at.
     assert_eq!(rt; pulls_for_trace(rt.alloc())?, (5, 82));
     assert_eq!(rt; pulls_for_flat(rt.alloc())?, (5, 82));
     Ok(())
 }
 
+/// A text that is refused, how many of its bytes are looked at, and its fault. The last byte that is
+/// looked at is the one after the wrong token.
+type Refused = (&'static [u8], u64, (TraceFault, u64));
+
+const REFUSED: [Refused; 7] = [
+    (b"p qrp x 0\nr sat\n", 8, (TraceFault::P2, 1)),
+    (b"p qrp 0 0\nsat r\n", 14, (TraceFault::P3, 2)),
+    (b"p qrp 0 0\n7 x 0\n", 14, (TraceFault::P3, 2)),
+    (b"p qrp 0 0\ne 0 0\nr sat\n", 14, (TraceFault::P4, 2)),
+    (b"p qrp 0 0\n7 0 0\n7 0 0\n", 18, (TraceFault::P5, 3)),
+    (b"p qrp 0 0\n7 0 1 2 3 0\n", 20, (TraceFault::P6, 2)),
+    (b"p qrp 0 0\nr cnf behind it", 16, (TraceFault::P8, 2)),
+];
+
+/// A source that gives a refused text byte by byte. It fails if it is pulled once more than the
+/// bytes that are looked at.
+fn source_of(refused: &Refused) -> PieceSource<'static> {
+    PieceSource::new(refused.0, 1, refused.1.saturating_add(1))
+}
+
 #[test]
-fn pulls_nothing_behind_a_fault(rt: HostRuntime) {
-    // The byte after the wrong token is the last.
-    let text = b"p qrp 0 0\nr cnf behind it";
-    let mut source = PieceSource::new(text, 1, 17);
-    gives_for_good(&rt, rt.alloc(), &mut source, (TraceFault::P8, 2));
-    assert_eq!(rt; source.pulls(), 16);
+fn pulls_nothing_after_a_fault_of_an_item(rt: HostRuntime) {
+    for refused in REFUSED {
+        let mut source = source_of(&refused);
+        gives_for_good(&rt, rt.alloc(), &mut source, refused.2);
+        assert_eq!(rt; source.pulls(), refused.1);
+    }
+}
+
+#[test]
+fn pulls_nothing_after_a_fault_of_a_trace(rt: HostRuntime) {
+    for refused in REFUSED {
+        let mut source = source_of(&refused);
+        let whole = read_trace(rt.alloc(), &mut source);
+        is_refused(&rt, whole, refused.2, 1);
+        assert_eq!(rt; source.pulls(), refused.1);
+    }
+}
+
+#[test]
+fn pulls_nothing_after_a_fault_of_a_flat_trace(rt: HostRuntime) {
+    for refused in REFUSED {
+        let mut source = source_of(&refused);
+        let flat = read_flat(rt.alloc(), &mut source);
+        is_refused(&rt, flat, refused.2, 1);
+        assert_eq!(rt; source.pulls(), refused.1);
+    }
 }
 
 /// The reader gives the header of `TRACE`.
@@ -427,10 +467,11 @@ fn hands_over_the_numbers(rt: HostRuntime) {
     has_nine(&rt, &reader.into_index());
 }
 
-/// The trace has five steps, of which the first two have these literals.
-fn lends_literals(rt: &impl Abort, flat: &FlatTrace, one: Var, two: Var) {
+/// The trace has five steps: the literals of the first two and the antecedent of the third, which
+/// are held at once.
+fn lends_slices(rt: &impl Abort, flat: &FlatTrace, one: Var, two: Var) {
     assert_eq!(rt; flat.len(), 5);
-    let (first, second) = (flat.lits(0), flat.lits(1));
+    let (first, second, ants) = (flat.lits(0), flat.lits(1), flat.ants(2));
     assert_eq!(rt;
         first,
         [Lit::new(one, false), Lit::new(two, false)].as_slice()
@@ -439,12 +480,7 @@ fn lends_literals(rt: &impl Abort, flat: &FlatTrace, one: Var, two: Var) {
         second,
         [Lit::new(one, true), Lit::new(two, false)].as_slice()
     );
-}
-
-/// The third of its steps has one antecedent.
-fn lends_antecedents(rt: &impl Abort, flat: &FlatTrace) {
-    assert_eq!(rt; flat.len(), 5);
-    assert_eq!(rt; flat.ants(2), [1].as_slice());
+    assert_eq!(rt; ants, [1].as_slice());
 }
 
 #[test]
@@ -452,8 +488,7 @@ fn lends_slices_at_once(rt: HostRuntime) -> Result<(), Fail> {
     let flat = read_flat(rt.alloc(), &mut SliceSource::new(TRACE))?;
     let one = Var::new(1).expect(&rt, "a variable");
     let two = Var::new(2).expect(&rt, "a variable");
-    lends_literals(&rt, &flat, one, two);
-    lends_antecedents(&rt, &flat);
+    lends_slices(&rt, &flat, one, two);
     Ok(())
 }
 
@@ -492,8 +527,20 @@ fn grows_by_sets_and_steps(rt: HostRuntime) -> Result<(), Fail> {
 
 // ---- what has an allocation fail, and then tried again
 //
-// With memory this test tries nothing twice. scripts/test-refusals makes each of its allocations
+// With memory these tests try nothing twice. scripts/test-refusals makes each of their allocations
 // fail in turn.
+
+/// Reads the items up to the first fault. If an allocation fails, that is P9 on line 0, which three
+/// more calls give again, and they pull nothing.
+#[test]
+fn gives_out_of_memory_for_good(rt: HostRuntime) {
+    let mut source = PieceSource::new(TRACE, 1, 0);
+    let mut reader = TraceReader::new(rt.alloc());
+    if let Some(fault) = first_fault(&mut reader, &mut source) {
+        assert_eq!(rt; fault, (TraceFault::P9, 0));
+        gives_again(&rt, &mut reader, &mut source, fault);
+    }
+}
 
 /// The items in a list, at the second try if an allocation fails.
 fn list_of<T: Copy>(alloc: Global, items: &[T]) -> Result<Vec<T>, Fail>
@@ -505,7 +552,7 @@ fn list_of<T: Copy>(alloc: Global, items: &[T]) -> Result<Vec<T>, Fail>
     }
 }
 
-/// Adds a set. If an allocation fails, the trace is as it was, and the second try adds it.
+/// Adds a set. If an allocation fails, the trace has no set more, and the second try adds it.
 fn push_set_again(rt: &impl Abort, trace: &mut Trace, set: QuantSet)
     ensures { trace.new ≡ record trace.old { sets = trace.old.sets ++ set ∷ [] } }
 {
@@ -523,7 +570,7 @@ fn push_refused_set(rt: &impl Abort, trace: &mut Trace, set: QuantSet)
     assert!(rt; trace.push_set(set).is_ok());
 }
 
-/// Adds a step. If an allocation fails, the trace is as it was, and the second try adds it.
+/// Adds a step. If an allocation fails, the trace has no step more, and the second try adds it.
 fn push_step_again(rt: &impl Abort, trace: &mut Trace, step: Step)
     requires number { IsNumber step.number }
     requires fresh { is_used step.number (numbers trace.old.steps) ≡ false }
@@ -623,6 +670,16 @@ fn writes_up_to(rt: &impl Abort, alloc: Global, trace: &Trace, room: u64) -> Res
     let mut sink = PieceSink::new(alloc, 1, Some(room), false, 0)?;
     assert!(rt; write_trace(trace, &mut sink).is_err());
     assert_eq!(rt; sink.bytes(), &TRACE[..room as usize]);
+    Ok(())
+}
+
+#[test]
+fn leaves_the_sink_unfinished(rt: HostRuntime) -> Result<(), Fail> {
+    let trace = trace_of(rt.alloc(), TRACE, 4096)?;
+    // A `finish` of this sink fails.
+    let mut sink = PieceSink::new(rt.alloc(), 4096, None, true, 82)?;
+    assert!(rt; write_trace(&trace, &mut sink).is_ok());
+    assert_eq!(rt; sink.bytes(), TRACE);
     Ok(())
 }
 
