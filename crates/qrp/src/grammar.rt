@@ -5,7 +5,7 @@ ghost use Rattle.qrp.specs.Making.{Making, Whole, IsWhole};
 ghost use Rattle.qrp.specs.Reading.{AtP, nothing};
 
 use crate::fault::TraceFault;
-use crate::flat::FlatTrace;
+use crate::trace::Trace;
 use crate::hand::take_lists;
 use crate::parts::{Parts, close};
 use crate::places::{At, take_at};
@@ -44,12 +44,12 @@ impl TraceGrammar {
     }
 
     /// The trace that was read. It takes no memory.
-    pub fn into_trace(self) -> FlatTrace
+    pub fn into_trace(self) -> Trace
         requires { IsWhole self }
         ensures { self ≡ Whole result }
     {
         match self.at {
-            At::Whole(outcome) => FlatTrace::whole(self.parts, outcome),
+            At::Whole(outcome) => Trace::whole(self.parts, outcome),
             _ => unreachable!(),
         }
     }
