@@ -11,6 +11,7 @@ mod laws;
 mod parts;
 mod places;
 mod reader;
+mod step_after_step;
 mod steps;
 mod tokens;
 mod trace;
