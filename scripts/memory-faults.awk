@@ -18,8 +18,6 @@ BEGIN {
     keep(alone, "Vec.push Vec.reserve IndexSet.insert IndexMap.insert Vec::from_slice Vec::with_capacity BufWriter::new")
     # These hand back what they were given.
     keep(alone, "Formula.push_clause Trace.push_set Trace.push_step")
-    # Its signature takes several lines.
-    keep(alone, "FlatTrace.push_step")
     size("qbf_core/src/prefix.rt", "1")
     size("qbf_core/src/set.rt", "width as usize + 1")
     size("qbf_core/src/set.rt", "lits.len()")
@@ -312,8 +310,9 @@ function resolved(n, callee, receiver, name) {
     return type_of(n, receiver) "." name
 }
 
-# The type of a field of self, of a parameter or of a local value, or of a field of these.
+# The type of self, of a field of it, of a parameter or of a local value, or of a field of these.
 function type_of(n, receiver, text, found, dot) {
+    if (receiver == "self") return within[n]
     if (sub(/^self\./, "", receiver)) return type[within[n], receiver]
     dot = index(receiver, ".")
     if (dot) return type[type_of(n, substr(receiver, 1, dot - 1)), substr(receiver, dot + 1)]

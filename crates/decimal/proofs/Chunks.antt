@@ -1,6 +1,6 @@
--- From a word that was read from eight bytes back to the bytes.
-use Rattle.std.proofs.Common.{ℕ, zero, suc, ◌≡◌, ◌+◌, ◌-◌, ◌<◌, ◌≤◌, true, false, List, [], ◌∷◌, take, drop, length, get_or, arith, refl}
-use Rattle.std.proofs.Common.{sym, ap, ◌∙◌, inl, inr, subst}
+-- From a word that was read from the first eight bytes back to the bytes.
+use Rattle.std.proofs.Common.{ℕ, zero, suc, ◌≡◌, ◌+◌, ◌-◌, ◌*◌, ◌/◌, ◌^◌, ◌<◌, ◌≤◌, true, false, List, [], ◌∷◌, ◌++◌, take, drop, replicate}
+use Rattle.std.proofs.Common.{length, get_or, arith, refl, sym, ap, ◌∙◌, inl, inr, subst}
 use Rattle.std.specs.List.{prefix_len}
 use Rattle.std.specs.Char.{is_ascii_digit, digit_value}
 use Rattle.std.specs.Int.{w64, to_le_bytes, from_le_bytes}
@@ -8,10 +8,12 @@ use Rattle.std.specs.Array.{IsFirstChunk}
 use Rattle.std.specs.Str.Parse.{digits_value, AllDigits}
 use Rattle.std.proofs.lemmas.Bool.{cond-true, cond-false, cases_Bool, cases_lt, agree_below_at, ltb-true}
 use Rattle.std.proofs.lemmas.Nat.{le_bytes_8}
-use Rattle.std.proofs.lemmas.List.{length-take-le, take-take, get_or-take, get_or-drop, get_or_past, take_all, length-drop}
+use Rattle.std.proofs.lemmas.List.{length-take-le, take-take, drop-take, get_or-take, get_or-drop, get_or_past, length-drop}
 use Rattle.std.proofs.lemmas.List.Sums.{prefix_len_stops}
 use Rattle.decimal.proofs.Masks.{Bytes, is_small}
+use Rattle.decimal.specs.Digits.{AreDigits}
 use Rattle.decimal.proofs.Lists.{bytes_fit}
+use Rattle.decimal.proofs.Moved.{bytes_from}
 
 digit_small : (b : ℕ) → b < 256 → is_ascii_digit b ≡ true → digit_value b < 10
 digit_small b fits digit = ltb-true _ _ (sym (agree_below_at is_ascii_digit (λ x. is_small (digit_value x)) 256 b refl fits) ∙ digit)
@@ -29,27 +31,15 @@ all_front (suc n) (b ∷ bs) h e =
           absurd (omega (arith, e, p))
     ]
 
-module _ (xs : List ℕ) (w n : ℕ) (room : 8 ≤ length xs) (fits : (i : ℕ) → get_or (take 8 xs) i 0 < 256)
-    (read : w ≡ from_le_bytes w64 (take 8 xs))
-    (run : n ≡ prefix_len is_ascii_digit (to_le_bytes w64 w)) (few : n < 8) where
-  pub same : to_le_bytes w64 w ≡ take 8 xs
-  same = le_bytes_8 (take 8 xs) w (length-take-le 8 xs room) fits read
+front_of : (n : ℕ) (xs ys : List ℕ) → n ≤ length xs → take n (xs ++ ys) ≡ take n xs
+front_of zero xs ys h = refl
+front_of (suc n) [] ys h = absurd (omega arith)
+front_of (suc n) (x ∷ xs) ys h = ap (λ l. x ∷ l) (front_of n xs ys (omega (arith, h)))
 
-  pub front_same : take n (to_le_bytes w64 w) ≡ take n xs
-  front_same = ap (take n) same ∙ take-take n 8 xs (omega arith)
-
-  pub front_digits : AllDigits 10 (take n xs)
-  front_digits = subst (AllDigits 10) front_same (all_front n (to_le_bytes w64 w) (bytes_fit w) run)
-
-  pub front_value : digits_value 10 (take n (to_le_bytes w64 w)) ≡ digits_value 10 (take n xs)
-  front_value = ap (digits_value 10) front_same
-
-  pub front_stops : is_ascii_digit (get_or xs n 0) ≡ false
-  front_stops =
-      let bs = to_le_bytes w64 w in
-      let stop : is_ascii_digit (get_or bs n 0) ≡ false = subst (λ k. is_ascii_digit (get_or bs k 0) ≡ false) (sym run)
-      (prefix_len_stops is_ascii_digit bs 0 (subst (λ k. k < 8) run few)) in
-      subst (λ b. is_ascii_digit b ≡ false) (ap (λ l. get_or l n 0) same ∙ get_or-take 8 xs n 0 few) stop
+byte_of : (n : ℕ) (xs ys : List ℕ) → n < length xs → get_or (xs ++ ys) n 0 ≡ get_or xs n 0
+byte_of n [] ys h = absurd (omega arith)
+byte_of zero (x ∷ xs) ys h = refl
+byte_of (suc n) (x ∷ xs) ys h = byte_of n xs ys (omega (arith, h))
 
 front_fits : (xs : List ℕ) → ((i : ℕ) → get_or xs i 0 < 256) → 8 ≤ length xs → (i : ℕ) → get_or (take 8 xs) i 0 < 256
 front_fits xs fits room i =
@@ -58,35 +48,62 @@ front_fits xs fits room i =
       | inr high ↦ subst (λ b. b < 256) (sym (get_or_past (take 8 xs) i 0 (omega (arith, length-take-le 8 xs room)))) (omega arith)
     ]
 
-module _ (bytes e : List ℕ) (from w n v : ℕ) (fits : (i : ℕ) → get_or bytes i 0 < 256)
-    (chunk : IsFirstChunk (take (length bytes - from) (drop from bytes)) e 8) (read : w ≡ from_le_bytes w64 e)
-    (run : n ≡ prefix_len is_ascii_digit (to_le_bytes w64 w)) (few : n < 8) (value : v ≡ digits_value 10 (take n (to_le_bytes w64 w))) where
-  rest : take (length bytes - from) (drop from bytes) ≡ drop from bytes
-  rest = take_all (length bytes - from) (drop from bytes) (omega (arith, length-drop from bytes))
+-- digits from a place on in the first eight bytes, read as one word, and a byte after them there
+module _ (bytes e : List ℕ) (from w n v : ℕ) (fits : (i : ℕ) → get_or bytes i 0 < 256) (chunk : IsFirstChunk bytes e 8)
+    (read : w ≡ from_le_bytes w64 e) (range : w < 2 ^ 64)
+    (run : n ≡ prefix_len is_ascii_digit (to_le_bytes w64 (w / 2 ^ (8 * from)))) (few : from + n < 8)
+    (value : v ≡ digits_value 10 (take n (to_le_bytes w64 (w / 2 ^ (8 * from))))) where
+  abbrev eight : List ℕ
+  eight = take 8 bytes
 
-  room : 8 ≤ length (drop from bytes)
-  room = subst (λ l. 8 ≤ length l) rest chunk.enough
+  long : length eight ≡ 8
+  long = length-take-le 8 bytes chunk.enough
 
-  eight : e ≡ take 8 (drop from bytes)
-  eight = chunk.same ∙ ap (take 8) rest
+  abbrev shifted : List ℕ
+  shifted = to_le_bytes w64 (w / 2 ^ (8 * from))
 
-  each : (i : ℕ) → get_or (take 8 (drop from bytes)) i 0 < 256
-  each = front_fits (drop from bytes) (λ i. subst (λ b. b < 256) (sym (get_or-drop from bytes i 0)) (fits (from + i))) room
+  same : to_le_bytes w64 w ≡ eight
+  same = le_bytes_8 eight w long (front_fits bytes fits chunk.enough) (read ∙ ap (from_le_bytes w64) chunk.same)
 
-  word_read : w ≡ from_le_bytes w64 (take 8 (drop from bytes))
-  word_read = read ∙ ap (from_le_bytes w64) eight
+  moved : shifted ≡ drop from eight ++ replicate from 0
+  moved = bytes_from w from range (omega arith) ∙ ap (λ l. drop from l ++ replicate from 0) same
+
+  left : length (drop from eight) ≡ 8 - from
+  left = omega (arith, length-drop from eight, long)
+
+  rest : drop from eight ≡ take (8 - from) (drop from bytes)
+  rest = let parts : 8 ≡ from + (8 - from) = omega arith in ap (λ k. drop from (take k bytes)) parts ∙ drop-take from (8 - from) bytes
+
+  front : take n shifted ≡ take n (drop from bytes)
+  front =
+      ap (take n) moved
+      ∙ front_of n (drop from eight) (replicate from 0) (omega (arith, left))
+      ∙ ap (take n) rest
+      ∙ take-take n (8 - from) (drop from bytes) (omega arith)
+
+  stop : is_ascii_digit (get_or shifted n 0) ≡ false
+  stop =
+      let small : n < 8 = omega arith in
+      subst (λ k. is_ascii_digit (get_or shifted k 0) ≡ false) (sym run)
+      (prefix_len_stops is_ascii_digit shifted 0 (subst (λ k. k < 8) run small))
+
+  there : get_or shifted n 0 ≡ get_or bytes (from + n) 0
+  there =
+      ap (λ l. get_or l n 0) moved
+      ∙ byte_of n (drop from eight) (replicate from 0) (omega (arith, left))
+      ∙ get_or-drop from eight n 0
+      ∙ get_or-take 8 bytes (from + n) 0 few
 
   back : from + n - from ≡ n
   back = omega arith
 
-  pub digits_read : AllDigits 10 (take (from + n - from) (drop from bytes))
-  digits_read =
-      subst (λ k. AllDigits 10 (take k (drop from bytes))) (sym back) (front_digits (drop from bytes) w n room each word_read run few)
-
-  pub value_read : v ≡ digits_value 10 (take (from + n - from) (drop from bytes))
-  value_read = value ∙ front_value (drop from bytes) w n room each word_read run few
-      ∙ ap (λ k. digits_value 10 (take k (drop from bytes))) (sym back)
-
-  pub stop_read : is_ascii_digit (get_or bytes (from + n) 0) ≡ false
-  stop_read =
-      subst (λ b. is_ascii_digit b ≡ false) (get_or-drop from bytes n 0) (front_stops (drop from bytes) w n room each word_read run few)
+  pub read_as_word : AreDigits bytes from (from + n) v
+  read_as_word = record {
+    order = omega arith;
+    within = omega (arith, chunk.enough);
+    few = omega arith;
+    digits = subst (λ k. AllDigits 10 (take k (drop from bytes))) (sym back)
+        (subst (AllDigits 10) front (all_front n shifted (bytes_fit (w / 2 ^ (8 * from))) run));
+    value_is = value ∙ ap (digits_value 10) front ∙ ap (λ k. digits_value 10 (take k (drop from bytes))) (sym back);
+    stops = subst (λ b. is_ascii_digit b ≡ false) there stop;
+  }

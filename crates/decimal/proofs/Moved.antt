@@ -7,7 +7,9 @@ use Rattle.std.specs.Char.{is_ascii_digit}
 use Rattle.std.specs.Int.{w64, to_le_bytes}
 use Rattle.std.specs.Int.Digits.{number_from_digits, AllBelowBase}
 use Rattle.std.specs.Str.Parse.{digits_value}
-use Rattle.std.proofs.lemmas.List.{length-take, length-replicate, take-append-drop}
+use Rattle.std.proofs.lemmas.List.{length-take, length-drop, length-replicate, take-append-drop}
+use Rattle.std.proofs.lemmas.Nat.{shr_high, shr_below}
+use Rattle.std.proofs.Math.Nat.{pow-le-pow_right}
 use Rattle.std.proofs.lemmas.List.Sums.{prefix_len-le-length}
 use Rattle.std.proofs.lemmas.Int.Digits.{digits_value_is}
 use Rattle.decimal.specs.Word.{word}
@@ -51,6 +53,41 @@ take_bytes (suc n) (b ∷ bs) h = (h.0, take_bytes n bs h.1)
 zeros_bytes : (z : ℕ) (bs : List ℕ) → Bytes bs → Bytes (replicate z 0 ++ bs)
 zeros_bytes zero bs h = h
 zeros_bytes (suc z) bs h = (omega arith, zeros_bytes z bs h)
+
+drop_bytes : (n : ℕ) (bs : List ℕ) → Bytes bs → Bytes (drop n bs)
+drop_bytes zero bs h = h
+drop_bytes (suc n) [] h = tt
+drop_bytes (suc n) (b ∷ bs) h = drop_bytes n bs h.1
+
+bytes_zeros : (bs : List ℕ) (z : ℕ) → Bytes bs → Bytes (bs ++ replicate z 0)
+bytes_zeros [] zero h = tt
+bytes_zeros [] (suc z) h = (omega arith, bytes_zeros [] z tt)
+bytes_zeros (b ∷ bs) z h = (h.0, bytes_zeros bs z h.1)
+
+-- `w >> 8 * k`: the bytes from one on, and zeros after them
+pub bytes_from : (w k : ℕ) → w < 2 ^ 64 → k ≤ 8 → to_le_bytes w64 (w / 2 ^ (8 * k)) ≡ drop k (to_le_bytes w64 w) ++ replicate k 0
+bytes_from w k fits few =
+    let bs = to_le_bytes w64 w in
+    let xs = take k bs in
+    let ys = drop k bs in
+    let zs = replicate k (◌+◌ 0 0) in
+    let s = w / 2 ^ (8 * k) in
+    let long : length bs ≡ 8 = refl in
+    let wide_k : wide (length xs) ≡ 8 * k = wide_is (length xs) ∙ omega (arith, length-take k bs, long) in
+    let split : w ≡ word ys * 2 ^ (8 * k) + word xs =
+    sym (word_bytes w fits) ∙ ap word (sym (take-append-drop k bs)) ∙ word_append xs ys
+    ∙ ap (λ j. word ys * 2 ^ j + word xs) wide_k in
+    let low : word xs < 2 ^ (8 * k) = subst (λ j. word xs < 2 ^ j) wide_k (word_lt xs (take_bytes k bs (bytes_fit w))) in
+    let is : s ≡ word ys = ap (λ x. x / 2 ^ (8 * k)) split ∙ shr_high (word ys) (8 * k) (word xs) low in
+    let back : word (ys ++ zs) ≡ word ys =
+    word_append ys zs ∙ ap (λ z. z * 2 ^ wide (length ys) + word ys) (word_zeros k) ∙ omega arith in
+    let wider : 64 ≤ 64 + 8 * k = omega arith in
+    let more : 2 ^ 64 ≤ 2 ^ (64 + 8 * k) = pow-le-pow_right (omega arith) wider in
+    let small : s < 2 ^ 64 = shr_below w 64 (8 * k) (omega (arith, fits, more)) in
+    let all : length (ys ++ zs) ≡ 8 =
+    length-append ys zs ∙ omega (arith, length-drop k bs, long, length-replicate {A = ℕ} k 0) in
+    same_bytes (to_le_bytes w64 s) (ys ++ zs) (bytes_fit s) (bytes_zeros ys k (drop_bytes k bs (bytes_fit w))) (sym all)
+    (word_bytes s small ∙ is ∙ sym back)
 
 -- the first n bytes of eight, moved to the top
 pub moved : (n : ℕ) (ts : List ℕ) → n ≤ 8 → length ts ≡ 8 → Bytes ts

@@ -1,9 +1,10 @@
 //! The decimal digits that stand at a place of some bytes.
 
 ghost use Rattle.std.specs.Prelude.{◌≡◌, ◌+◌, ◌-◌, ◌≤◌, ◌<◌, length, take, drop, slice_index};
-ghost use Rattle.std.specs.Prelude.{false};
+ghost use Rattle.std.specs.Prelude.{false, IfSome};
 ghost use Rattle.std.specs.Char.{is_ascii_digit};
 ghost use Rattle.std.specs.Str.Parse.{digits_value, AllDigits};
+ghost use Rattle.decimal.specs.Digits.{AreDigits};
 
 use crate::word::short;
 
@@ -31,10 +32,32 @@ fn by_digit(bytes: &[u8], from: usize) -> (u64, usize)
     (value, from + i)
 }
 
+/// The same as `digits` where they stand among the first eight bytes with a byte after them there.
+#[inline(always)]
+fn by_word(bytes: &[u8], from: usize) -> Option<(u64, usize)>
+    ensures { IfSome result (λ r. AreDigits bytes.now from r.1 r.0) }
+{
+    if from >= 8 {
+        return None;
+    }
+    let Some(eight) = bytes.first_chunk::<8>() else {
+        return None;
+    };
+    let Some((len, value)) = short(u64::from_le_bytes(*eight) >> (8 * from)) else {
+        return None;
+    };
+    let end = from + len as usize;
+    if end >= 8 {
+        return None;
+    }
+    Some((value, end))
+}
+
 /// The value of the decimal digits from the place `from` on, at most 18 of them, and the place
 /// after them: `(0, from)` where there is none. The place is at most the length.
 ///
-/// Where eight bytes are left and one to seven of them are digits, it takes them as one word.
+/// Where they stand among the first eight bytes, it takes these as one word, whose place does not
+/// depend on `from`.
 #[inline(always)]
 pub fn digits(bytes: &[u8], from: usize) -> (u64, usize)
     requires { from ≤ length bytes.now }
@@ -44,12 +67,10 @@ pub fn digits(bytes: &[u8], from: usize) -> (u64, usize)
     ensures longest { result.1 < from + 18 → result.1 < length bytes.now
         → is_ascii_digit (slice_index bytes.now result.1) ≡ false }
 {
-    if let Some(eight) = bytes[from..].first_chunk::<8>() {
-        if let Some((len, value)) = short(u64::from_le_bytes(*eight)) {
-            return (value, from + len as usize);
-        }
+    match by_word(bytes, from) {
+        Some(found) => found,
+        None => by_digit(bytes, from),
     }
-    by_digit(bytes, from)
 }
 
 #[cfg(test)]

@@ -62,14 +62,10 @@ pub fn literal<F: Copy>(faults: Faults<F>, last: u32, token: Token) -> Result<Op
     ensures range { IfOk result (λ o. IfSome o (λ l. IsVariable l.var)) }
 {
     match token {
-        Token::Number {
-            negative: false,
-            value: 0,
-        } => Ok(None),
-        Token::Number {
-            negative: true,
-            value: 0,
-        } => Err(faults.minus_zero),
+        Token::Number { negative, value: 0 } => match negative {
+            false => Ok(None),
+            true => Err(faults.minus_zero),
+        },
         Token::Number { negative, value } => match Var::up_to(last, value) {
             Some(var) => Ok(Some(Lit::new(var, negative))),
             None => Err(faults.range),

@@ -279,20 +279,20 @@ module _ {P A F : Type 0} (row : P → Token → Row P A F) (first : P) where
   so_far_goes place next here mid there token a b c e =
       known_trans _ _ _ (λ x y z. so_far_more place next here mid there token x y z e) a b c
 
-  stops_one : (last next : P) (answer : A) (here mid there : List ℕ → List Lined) (token : Lined) (line : ℕ) (x y z : List ℕ)
-      → row last token.0 ≡ Ends answer next → is_end token.0 ≡ false → there [] ≡ (End, line) ∷ []
-      → SoFar row first last here mid x y → TakesToken mid there token y z → StopsBehind row first next answer here x z
-  stops_one last next answer here mid there token line x y z e no_end none s t =
+  stops_one : (last next : P) (answer : A) (here mid there : List ℕ → List Lined) (token : Lined) (x y z : List ℕ)
+      → row last token.0 ≡ Ends answer next → is_end token.0 ≡ false
+      → SoFar row first last here mid x y → TakesToken mid there token y z → StopsBehind row first next answer here there x z
+  stops_one last next answer here mid there token x y z e no_end s t =
       let more = t.skipped ++ t.word ++ t.behind in
       let same = regroup s.front t.skipped t.word t.behind in
+      let before = s.front ++ t.skipped in
       record {
-        before = s.front ++ t.skipped;
+        before = before;
         word = t.word;
         behind = t.behind;
         last = last;
         token = token.0;
         line = t.line;
-        end_line = line;
         taken = s.taken ∙ ap (λ l. s.front ++ l) t.taken ∙ sym (append_assoc s.front more z) ∙ ap (λ l. l ++ z) (sym same);
         unbroken = t.unbroken;
         separates = t.separates;
@@ -302,19 +302,19 @@ module _ {P A F : Type 0} (row : P → Token → Row P A F) (first : P) where
             ap (read_from row first)
             (s.spelled t.skipped (rw t.taken (begins_skipped t.skipped t.word t.behind z)) ∙ ap (λ l. s.given ++ l) t.nothing)
             ∙ s.leads ((End, t.line) ∷ []);
-        whole =
-            ap (λ l. read_from row first (here l)) (same ∙ ap (λ l. s.front ++ l) (sym (append-nil more)))
-            ∙ ap (read_from row first) (s.spelled (more ++ []) (rw t.taken (begins_more more z [] tt))
-            ∙ ap (λ l. s.given ++ l) (t.spelled [] tt ∙ ap (λ l. token ∷ l) none))
-            ∙ s.leads (token ∷ (End, line) ∷ [])
-            ∙ read-one row last token ((End, line) ∷ [])
-            ∙ ap (λ (r : Row P A F). after row r token ((End, line) ∷ [])) e
-            ∙ ap (λ (b : Bool). Whole answer next (rows.behind b token ((End, line) ∷ []))) no_end;
+        whole = λ rest h.
+            ap (λ l. read_from row first (here l)) (ap (λ l. l ++ rest) same ∙ append_assoc s.front more rest)
+            ∙ ap (read_from row first) (s.spelled (more ++ rest) (rw t.taken (begins_more more z rest h))
+            ∙ ap (λ l. s.given ++ l) (t.spelled rest h))
+            ∙ s.leads (token ∷ there rest)
+            ∙ read-one row last token (there rest)
+            ∙ ap (λ (r : Row P A F). after row r token (there rest)) e
+            ∙ ap (λ (b : Bool). Whole answer next (rows.behind b token (there rest))) no_end;
       }
 
-  pub stops_behind : (last next : P) (answer : A) (here mid there : List ℕ → List Lined) (token : Lined) (line : ℕ)
-      (a b c : Option (List ℕ)) → row last token.0 ≡ Ends answer next → is_end token.0 ≡ false → there [] ≡ (End, line) ∷ []
+  pub stops_behind : (last next : P) (answer : A) (here mid there : List ℕ → List Lined) (token : Lined)
+      (a b c : Option (List ℕ)) → row last token.0 ≡ Ends answer next → is_end token.0 ≡ false
       → IfKnown (SoFar row first last here mid) a b → IfKnown (TakesToken mid there token) b c
-      → IfKnown (StopsBehind row first next answer here) a c
-  stops_behind last next answer here mid there token line a b c e no_end none =
-      known_trans _ _ _ (λ x y z. stops_one last next answer here mid there token line x y z e no_end none) a b c
+      → IfKnown (StopsBehind row first next answer here there) a c
+  stops_behind last next answer here mid there token a b c e no_end =
+      known_trans _ _ _ (λ x y z. stops_one last next answer here mid there token x y z e no_end) a b c

@@ -21,8 +21,8 @@ module _ {P A F : Type 0} (row : P → Token → Row P A F) {fault : F} (refused
   taken_no_end p next t a e = refl
 
   -- without the last run there is the fault of the end
-  pub unread_fault : {first next : P} {a : A} {here : List ℕ → List Lined} {old new : List ℕ}
-      → (s : StopsBehind row first next a here old new)
+  pub unread_fault : {first next : P} {a : A} {here there : List ℕ → List Lined} {old new : List ℕ}
+      → (s : StopsBehind row first next a here there old new)
       → read_from row first (here s.before) ≡ Fault fault s.line
   unread_fault s = s.unread ∙ read-one row s.last (token.End, s.line) []
       ∙ ap (λ (r : Row P A F). after row r (token.End, s.line) []) (refused s.last)

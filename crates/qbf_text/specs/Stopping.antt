@@ -89,8 +89,9 @@ ScannerTakes r before s after token =
     IfKnown (TakesToken (tokens_next r) (tokens_next s) token) (ahead r.pending before) (ahead s.pending after)
 
 -- Of the bytes before, no more was taken than what spells the answer: the run of the last token is needed, since without it the
--- last place is not left, and behind it at most one separator was taken.
-pub record StopsBehind {P A F : Type 0} (row : P → Token → Row P A F) (first next : P) (answer : A) (here : List ℕ → List Lined)
+-- last place is not left, and behind it at most one separator was taken. `here` says what tokens bytes have before, and `there` what
+-- they have behind.
+pub record StopsBehind {P A F : Type 0} (row : P → Token → Row P A F) (first next : P) (answer : A) (here there : List ℕ → List Lined)
     (old new : List ℕ) : Type 0 where
   pub before : List ℕ
   pub word : List ℕ
@@ -98,7 +99,6 @@ pub record StopsBehind {P A F : Type 0} (row : P → Token → Row P A F) (first
   pub last : P
   pub token : Token
   pub line : ℕ
-  pub end_line : ℕ
   pub taken : old ≡ before ++ word ++ behind ++ new
   pub unbroken : IsUnbroken word
   pub separates : IsAtMostASeparator behind
@@ -106,12 +106,12 @@ pub record StopsBehind {P A F : Type 0} (row : P → Token → Row P A F) (first
   pub no_end : is_end token ≡ false
   -- the bytes before that run lead to the last place
   pub unread : read_from row first (here before) ≡ read_from row last ((End, line) ∷ [])
-  -- with it they give the answer
-  pub whole : read_from row first (here (before ++ word ++ behind)) ≡ Whole answer next ((End, end_line) ∷ [])
+  -- with it they give the answer, whether the text goes on as it does or ends there
+  pub whole : (rest : List ℕ) → BeginsAs new rest → read_from row first (here (before ++ word ++ behind ++ rest)) ≡ Whole answer next (there rest)
 
 -- where some row takes a token that is not End, nothing is taken behind it but a separator, and this holds too
-abbrev pub Stops : {P A F : Type 0} → (P → Token → Row P A F) → P → P → (List ℕ → List Lined) → Option (List ℕ) → Option (List ℕ) → Type 0
-    → Result A (ReadError F) → Type 0
-Stops {P = P} row first next here before after few (Ok a) = (place : P) × (token : Token) × (row place token ≡ Ends a next)
-    × (is_end token ≡ false → IfKnown (StopsBehind row first next a here) before after × few)
-Stops row first next here before after few (Err e) = ⊤
+abbrev pub Stops : {P A F : Type 0} → (P → Token → Row P A F) → P → P → (here there : List ℕ → List Lined) → Option (List ℕ)
+    → Option (List ℕ) → Type 0 → Result A (ReadError F) → Type 0
+Stops {P = P} row first next here there before after few (Ok a) = (place : P) × (token : Token) × (row place token ≡ Ends a next)
+    × (is_end token ≡ false → IfKnown (StopsBehind row first next a here there) before after × few)
+Stops row first next here there before after few (Err e) = ⊤

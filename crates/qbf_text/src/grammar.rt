@@ -2,6 +2,7 @@
 
 ghost use Rattle.std.specs.Prelude.{◌≡◌, ℕ, ◌+◌, ◌<◌, ◌≤◌, length, false, List, Option, IfSome, IfOk, OnOk};
 ghost use Rattle.qbf_text.specs.declared.token.Token.{Token};
+ghost use Rattle.qbf_text.specs.Lined.{Lined};
 ghost use Rattle.std.specs.Io.KnownBytes.{IsAtEnd};
 ghost use Rattle.qbf_text.specs.Reading.{left, HasFailed, IsReady};
 ghost use Rattle.qbf_text.specs.Rows.{Row, read_from, reads_from};
@@ -188,7 +189,7 @@ pub fn read_by<G: Grammar, S: Source>(
     // Behind the last token, unless that is End, no byte is taken but a separator, and at most
     // 4,096 bytes are held.
     ensures stops { Stops G.row_of (G.place grammar.old) (G.place grammar.new)
-        (tokens_next scanner.old)
+        (tokens_next scanner.old) (tokens_next scanner.new)
         (ahead scanner.old.pending (S.remaining source.old))
         (ahead scanner.new.pending (S.remaining source.new))
         (length scanner.new.pending ≤ 4096) result }
@@ -228,8 +229,9 @@ pub fn read_text<G: Grammar, S: Source>(
         (IsAtEnd (S.remaining source.new)) result }
     // Behind the last token, unless that is End, no byte is taken but a separator, and at most
     // 4,096 bytes are held and lost.
-    ensures stops { (held : List ℕ) × Stops G.row_of (G.place grammar.old) (G.place grammar.new)
-        (tokens comments) (S.remaining source.old) (ahead held (S.remaining source.new))
+    ensures stops { (held : List ℕ) × (there : List ℕ → List Lined)
+        × Stops G.row_of (G.place grammar.old) (G.place grammar.new)
+        (tokens comments) there (S.remaining source.old) (ahead held (S.remaining source.new))
         (length held ≤ 4096) result }
     ensures kept { G.kept grammar.new ≡ G.kept grammar.old }
     ensures counts { Counts (S.failures source.old) (S.failures source.new) result }

@@ -1,6 +1,7 @@
 //! Numbers that stand whole among the bytes at hand.
 
-ghost use Rattle.std.specs.Prelude.{◌≡◌, ◌+◌, ◌^◌, ◌<◌, ◌≤◌, ◌&&◌, nat_eq, length, IfSome};
+ghost use Rattle.std.specs.Prelude.{◌≡◌, ◌+◌, ◌^◌, ◌<◌, ◌≤◌, ◌&&◌, false, nat_eq, length};
+ghost use Rattle.std.specs.Prelude.{IfSome};
 ghost use Rattle.qbf_text.specs.Runs.{begins_with_minus};
 ghost use Rattle.qbf_text.specs.Hand.{BeginsWithNumber};
 ghost use Rattle.qbf_text.specs.Passing.{PassesNumber};
@@ -39,11 +40,22 @@ fn is_minus_zero(negative: bool, value: u64) -> bool
     negative & (value == 0)
 }
 
-/// The number that the bytes begin with, if a separator follows it.
-///
-/// It is None for what is not as usual too: a number of more than 18 digits.
+/// A zero of one digit, and the separator after it.
 #[inline(always)]
-pub fn number_in_front(bytes: &[u8]) -> Option<Found>
+fn zero(ends_line: bool) -> Found
+    ensures { result ≡ record { negative = false; value = 0; len = 2; ends_line = ends_line } }
+{
+    Found {
+        negative: false,
+        value: 0,
+        len: 2,
+        ends_line,
+    }
+}
+
+/// The same as `number_in_front`, with any number of digits up to 18.
+#[inline(always)]
+fn signed_number(bytes: &[u8]) -> Option<Found>
     ensures { IfSome result (λ f. BeginsWithNumber bytes.now f.negative f.value f.len f.ends_line) }
 {
     let negative = begins_with_minus(bytes);
@@ -62,6 +74,21 @@ pub fn number_in_front(bytes: &[u8]) -> Option<Found>
         len: end + 1,
         ends_line: behind == b'\n',
     })
+}
+
+/// The number that the bytes begin with, if a separator follows it.
+///
+/// It is None for what is not as usual too: a number of more than 18 digits. The zero that ends a
+/// list is the most frequent number, so it is looked for first.
+#[inline(always)]
+pub fn number_in_front(bytes: &[u8]) -> Option<Found>
+    ensures { IfSome result (λ f. BeginsWithNumber bytes.now f.negative f.value f.len f.ends_line) }
+{
+    match bytes {
+        [b'0', b' ', ..] => Some(zero(false)),
+        [b'0', b'\n', ..] => Some(zero(true)),
+        _ => signed_number(bytes),
+    }
 }
 
 /// A place among the bytes at hand, held by value.

@@ -43,7 +43,7 @@ on_in_items first last (t ∷ ts) on us =
 
 -- ---- the lists of a step that were taken from the bytes at hand
 
-same_made : (p : Parts) (b : Begun) → Stays p.begun b → made (record p { begun = b }) ≡ made p
+pub same_made : (p : Parts) (b : Begun) → Stays p.begun b → made (record p { begun = b }) ≡ made p
 same_made p b s = rw (s.index, s.lits, s.ants) refl
 
 stands_there : (p : Parts) (n : ℕ) (here : At) → IsInStep n here → stands p here ≡ Making (made p) (place p.begun here)

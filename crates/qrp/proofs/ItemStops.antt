@@ -1,5 +1,5 @@
 -- Reading an item stops behind its last word.
-use Rattle.std.proofs.Common.{rules, ◌≡◌, ℕ, List, [], ◌∷◌, ◌++◌, Option, Ok, ◌⊎◌, refl, ap, ◌∙◌}
+use Rattle.std.proofs.Common.{rules, ◌≡◌, ℕ, List, [], ◌∷◌, ◌++◌, Option, Ok, ◌⊎◌, refl, sym, ap, append-nil, ◌∙◌}
 use Rattle.qbf_spelling.proofs.Words
 use Words.{Lined}
 use Words.token
@@ -30,10 +30,10 @@ given_whole : (i : Item) (ns : List ℕ) (rest : List Lined)
 given_whole (item.Result o) ns rest = ([], refl)
 given_whole i ns rest = (items_from (Between ns) rest, refl)
 
-part_behind : (p : Place) (here : List ℕ → List Lined) (i : Item) (ns bytes rest : List ℕ)
-    → text.StopsBehind item_row (Takes p) (giving i ns) tt here bytes rest → StopsBehindPart p here i bytes rest
-part_behind p here i ns bytes rest s =
-    let whole = given_whole i ns ((token.End, s.end_line) ∷ []) in
+part_behind : (p : Place) (here there : List ℕ → List Lined) (i : Item) (ns bytes rest : List ℕ)
+    → text.StopsBehind item_row (Takes p) (giving i ns) tt here there bytes rest → StopsBehindPart p here i bytes rest
+part_behind p here there i ns bytes rest s =
+    let whole = given_whole i ns (there []) in
     record {
       before = s.before;
       word = s.word;
@@ -42,15 +42,19 @@ part_behind p here i ns bytes rest s =
       unbroken = s.unbroken;
       separates = s.separates;
       missing = (s.line, gives (here s.before) p ∙ ap given_of (unread_fault item_row refused s));
-      whole = (whole.0, gives (here (s.before ++ s.word ++ s.behind)) p ∙ ap given_of s.whole ∙ whole.1);
+      whole = (
+        whole.0,
+        ap (λ l. items_from p (here l)) (sym (append-nil (s.before ++ s.word ++ s.behind)))
+            ∙ gives (here (s.before ++ s.word ++ s.behind ++ [])) p ∙ ap given_of (s.whole [] tt) ∙ whole.1,
+      );
     }
 
-pub item_stops : (p : Place) (first next : Giving) (here : List ℕ → List Lined) (i : Item) (ns : List ℕ) (before after : Option (List ℕ))
+pub item_stops : (p : Place) (first next : Giving) (here there : List ℕ → List Lined) (i : Item) (ns : List ℕ) (before after : Option (List ℕ))
     (few : Type 0) → first ≡ Takes p → next ≡ giving i ns
-    → Stops item_row first next here before after few (Ok tt) → IfKnown (StopsBehindPart p here i) before after × few
-item_stops p first next here i ns before after few begins is s =
+    → Stops item_row first next here there before after few (Ok tt) → IfKnown (StopsBehindPart p here i) before after × few
+item_stops p first next here there i ns before after few begins is s =
     let known = s.3 (taken_no_end item_row refused s.0 next s.1 tt s.2) in
-    (if_known (part_behind p here i ns) before after (rw (begins, is) at known.0), known.1)
+    (if_known (part_behind p here there i ns) before after (rw (begins, is) at known.0), known.1)
 
 -- a reader that is not done
 pub next_stops : (stage : Stage) (g : Giver) (here : List ℕ → List Lined) (before after : Option (List ℕ)) (few : Type 0) (answer : Answer)

@@ -12,3 +12,4 @@ pub mod StopsBehind
 pub mod ItemStops
 pub mod ReadingLaws
 pub mod GoingOn
+pub mod StepAfterStep

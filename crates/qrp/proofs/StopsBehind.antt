@@ -1,7 +1,7 @@
 -- Reading a trace stops behind its result word.
-use Rattle.std.proofs.Common.{◌≡◌, ◌≤◌, ℕ, List, ◌++◌, length, Option, Some, None, Ok, refl, ap, sym, ◌∙◌, append_assoc}
+use Rattle.std.proofs.Common.{◌≡◌, ◌≤◌, ℕ, List, ◌++◌, length, Option, Some, None, Ok, refl, ap, sym, ◌∙◌, append_assoc, append-nil, []}
 use Rattle.qbf_spelling.proofs.Words
-use Words.{Qrp, ahead, tokens}
+use Words.{Qrp, Lined, ahead, tokens, read_from}
 use Words.token
 use Rattle.qbf_text.specs.Rows as rows
 use Rattle.qbf_text.specs.Stopping.{IfKnown, StopsBehind, Stops}
@@ -21,9 +21,9 @@ refused (Whole d) = refl
 refused Over = refl
 
 -- the bytes held are those behind
-with_held : (d : Derivation) (held : List ℕ) → length held ≤ 4096 → (bytes rest : List ℕ)
-    → StopsBehind trace_row (Making nothing AtP) (Whole d) tt (tokens Qrp) bytes (held ++ rest) → StopsBehindResult d bytes rest
-with_held d held few bytes rest s =
+with_held : (d : Derivation) (there : List ℕ → List Lined) (held : List ℕ) → length held ≤ 4096 → (bytes rest : List ℕ)
+    → StopsBehind trace_row (Making nothing AtP) (Whole d) tt (tokens Qrp) there bytes (held ++ rest) → StopsBehindResult d bytes rest
+with_held d there held few bytes rest s =
     let front = s.before ++ s.word ++ s.behind in
     record {
       before = s.before;
@@ -35,19 +35,24 @@ with_held d held few bytes rest s =
       separates = s.separates;
       few = few;
       missing = (s.line, sym (answers_as_read.same (tokens Qrp s.before)) ∙ ap answer_of (unread_fault trace_row refused s));
-      whole = sym (answers_as_read.same (tokens Qrp front)) ∙ ap answer_of s.whole;
+      whole =
+          sym (answers_as_read.same (tokens Qrp front))
+          ∙ ap (λ l. answer_of (read_from trace_row (Making nothing AtP) (tokens Qrp l))) (sym (append-nil front))
+          ∙ ap answer_of (s.whole [] tt);
     }
 
 pub stops_behind_result : (first next : Progress) (d : Derivation) (before after : Option (List ℕ))
     → first ≡ Making nothing AtP → next ≡ Whole d
-    → (held : List ℕ) × Stops trace_row first next (tokens Qrp) before (ahead held after) (length held ≤ 4096) (Ok tt)
+    → (held : List ℕ) × (there : List ℕ → List Lined)
+    × Stops trace_row first next (tokens Qrp) there before (ahead held after) (length held ≤ 4096) (Ok tt)
     → IfKnown (StopsBehindResult d) before after
 stops_behind_result first next d before after begins ends s =
-    let known = s.1.3 (taken_no_end trace_row refused s.1.0 next s.1.1 tt s.1.2) in
-    by before after (rw (begins, ends) at known.0)
+    let stops = s.2 in
+    let known = stops.3 (taken_no_end trace_row refused stops.0 next stops.1 tt stops.2) in
+    by before after (rw (begins, ends) at known.0) known.1
   where
-    by : (before after : Option (List ℕ)) → IfKnown (StopsBehind trace_row (Making nothing AtP) (Whole d) tt (tokens Qrp)) before
-        (ahead s.0 after) → IfKnown (StopsBehindResult d) before after
-    by None after k = tt
-    by (Some x) None k = k
-    by (Some x) (Some y) k = with_held d s.0 (s.1.3 (taken_no_end trace_row refused s.1.0 next s.1.1 tt s.1.2)).1 x y k
+    by : (before after : Option (List ℕ)) → IfKnown (StopsBehind trace_row (Making nothing AtP) (Whole d) tt (tokens Qrp) s.1) before
+        (ahead s.0 after) → length s.0 ≤ 4096 → IfKnown (StopsBehindResult d) before after
+    by None after k few = tt
+    by (Some x) None k few = k
+    by (Some x) (Some y) k few = with_held d s.1 s.0 few x y k

@@ -1,7 +1,9 @@
 -- A trace that is made while its tokens are taken: the rows of its places, with what is made of them.
-use Rattle.std.specs.Prelude.{[], ◌∷◌, ◌++◌, ⊤}
+use Rattle.std.specs.Prelude.{[], ◌∷◌, ◌++◌, Result, Ok, Err, ⊤}
+use Rattle.std.specs.declared.alloc.AllocError.{AllocError}
 use Rattle.qbf_spelling.specs.Words.{Token}
 use Rattle.qbf_core.specs.Lists.{Growing}
+use Rattle.qbf_text.specs.declared.hand.Cursor.{Cursor}
 use Rattle.qbf_text.specs.Rows as rows
 use Rattle.qrp.specs.declared.fault.TraceFault.{TraceFault}
 use Rattle.qrp.specs.declared.fault.TraceFault.TheVariants.{P7}
@@ -84,3 +86,8 @@ abbrev pub IsSound : At → Parts → Type 0
 IsSound (at.Whole o) p = IsMade p
 IsSound (at.Behind q) p = ⊤
 IsSound here p = IsMade p × IsBegun here p.begun
+
+-- the same at the place that is reached; if memory was refused, of what is whole
+abbrev pub IsReached : Parts → Result (At × Cursor) AllocError → Type 0
+IsReached p (Ok r) = IsSound r.0 p
+IsReached p (Err e) = IsMade p

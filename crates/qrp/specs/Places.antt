@@ -1,7 +1,9 @@
 -- Where a token stands while a trace is read: what the lists that are begun say of its place.
-use Rattle.std.specs.Prelude.{◌≡◌, ◌⊎◌, ◌<◌, ◌≤◌, ◌^◌, ℕ, Bool, true, false, List, [], ◌∷◌, ◌++◌, length, Result, Ok, Err, ⊤}
+use Rattle.std.specs.Prelude.{◌≡◌, ◌⊎◌, ◌<◌, ◌≤◌, ◌^◌, ℕ, Bool, true, false, List, [], ◌∷◌, ◌++◌, length, None, Result, Ok, Err, ⊤}
 use Rattle.qbf_spelling.specs.Words.{AllByRecursion, IsVariable, Literal, Lined, Token}
 use Rattle.qbf_text.specs.declared.hand.Cursor.{Cursor}
+use Rattle.qbf_text.specs.declared.hand.Passed.{Passed}
+use Rattle.qbf_text.specs.Passing.{PassesNumber}
 use Rattle.std.specs.declared.alloc.AllocError.{AllocError}
 use Rattle.qbf_text.specs.declared.grammar.Stop.{Stop}
 use Rattle.qbf_text.specs.declared.grammar.Stop.TheVariants as stop
@@ -12,11 +14,12 @@ use Rattle.qrp.specs.declared.item.Item.TheVariants as item
 use Rattle.qrp.specs.declared.places.At.{At}
 use Rattle.qrp.specs.declared.places.At.TheVariants as at
 use Rattle.qrp.specs.declared.places.Begun.{Begun}
+use Rattle.qrp.specs.declared.hand.Reached.{Reached}
 use Rattle.qrp.specs.declared.places.Part.{Part}
 use Rattle.qrp.specs.declared.places.Part.TheVariants as part
 use Rattle.qrp.specs.Inferences.{IsLiteral, IsNumber}
 use Rattle.qrp.specs.Reading.{Place, Row, Goes, Closes, Ends, Fails, InHeader, Between, InSet, InLits, InAnts, AtResult}
-use Rattle.qrp.specs.Reading.{row}
+use Rattle.qrp.specs.Reading.{row, antecedent, has_room}
 use Rattle.step_index.specs.Numbers.{is_used}
 
 -- the place of a token, where one is taken
@@ -121,7 +124,12 @@ abbrev pub lits_place : List ℕ → ℕ → List Literal → Bool → Place
 lits_place ns n ls true = InAnts ns n ls []
 lits_place ns n ls false = InLits ns n ls
 
+-- behind these antecedents a token completes the step
+pub record EndsStep (ants bytes : List ℕ) (here : Cursor) (end : Passed) : Type 0 where
+  pub passes : PassesNumber bytes here end.next end.token
+  pub closes : antecedent (has_room ants) end.token ≡ Ok None
+
 -- the lists of a step are begun at the place that is left; if memory was refused, at the place before
-abbrev pub Settles : ℕ → Begun → Begun → Result (At × Cursor) AllocError → Type 0
-Settles n old new (Ok r) = Stays old new × IsBegun r.0 new × IsInStep n r.0
+abbrev pub Settles : ℕ → Begun → Begun → Result Reached AllocError → Type 0
+Settles n old new (Ok r) = Stays old new × IsBegun r.at new × IsInStep n r.at
 Settles n old new (Err e) = Stays old new × IsBegun (at.Lits n) new

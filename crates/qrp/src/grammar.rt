@@ -5,10 +5,10 @@ ghost use Rattle.qrp.specs.Making.{Making, Whole, IsWhole};
 ghost use Rattle.qrp.specs.Reading.{AtP, nothing};
 
 use crate::fault::TraceFault;
-use crate::flat::FlatTrace;
-use crate::hand::take_lists;
 use crate::parts::{Parts, close};
 use crate::places::{At, take_at};
+use crate::step_after_step::take_steps;
+use crate::trace::Trace;
 use qbf_text::{Cursor, Grammar, Stop, Taken, Token};
 use std::alloc::{AllocError, Global};
 use std::marker::Model;
@@ -44,12 +44,12 @@ impl TraceGrammar {
     }
 
     /// The trace that was read. It takes no memory.
-    pub fn into_trace(self) -> FlatTrace
+    pub fn into_trace(self) -> Trace
         requires { IsWhole self }
         ensures { self ≡ Whole result }
     {
         match self.at {
-            At::Whole(outcome) => FlatTrace::whole(self.parts, outcome),
+            At::Whole(outcome) => Trace::whole(self.parts, outcome),
             _ => unreachable!(),
         }
     }
@@ -77,7 +77,8 @@ impl Grammar for TraceGrammar {
     fn take_hand(&mut self, bytes: &[u8], from: Cursor) -> Result<Cursor, AllocError> {
         match self.at {
             At::Lits(number) => {
-                let (at, to) = take_lists(&mut self.parts.begun, number, bytes, from)?;
+                self.at = At::Between;
+                let (at, to) = take_steps(&mut self.parts, number, bytes, from)?;
                 self.at = at;
                 Ok(to)
             }

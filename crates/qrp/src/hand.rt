@@ -1,19 +1,20 @@
 //! The lists of a step, as far as they stand whole among the bytes at hand.
 
-ghost use Rattle.std.specs.Prelude.{◌≡◌, ℕ, ◌≤◌, List, length, IfOk};
+ghost use Rattle.std.specs.Prelude.{◌≡◌, ℕ, ◌≤◌, List, length, IfOk, IfSome};
 ghost use Rattle.std.specs.List.{AllByRecursion};
 ghost use Rattle.qbf_core.specs.Literal.{Literal};
 ghost use Rattle.qbf_text.specs.Passing.{Passes};
 ghost use Rattle.qrp.specs.declared.places.At.TheVariants as at;
 ghost use Rattle.qrp.specs.Inferences.{IsLiteral};
-ghost use Rattle.qrp.specs.Places.{place, AreAntecedents, GoOn, IsBegun, Settles, lits_place};
+ghost use Rattle.qrp.specs.Places.{place, AreAntecedents, EndsStep, GoOn, IsBegun, Settles};
+ghost use Rattle.qrp.specs.Places.{lits_place};
 ghost use Rattle.qrp.specs.Reading.{InAnts, InLits};
 
 use crate::places::{At, Begun, has_room};
 use crate::tokens::{FAULTS, LAST_VARIABLE, antecedent};
 use qbf_core::{GrowingLists, Lit};
 use qbf_spelling::literal;
-use qbf_text::Cursor;
+use qbf_text::{Cursor, Passed};
 use std::alloc::AllocError;
 
 /// Takes literals, and the zero after them; `false` if that was not taken.
@@ -45,7 +46,7 @@ fn take_literals(
     Ok((here, false))
 }
 
-/// Takes antecedents, and not the zero after them.
+/// Takes antecedents, and not the zero after them, which is returned if it stands there.
 ///
 /// # Errors
 /// Out of memory.
@@ -54,10 +55,12 @@ fn take_antecedents(
     ants: &mut GrowingLists<u64>,
     bytes: &[u8],
     from: Cursor,
-) -> Result<Cursor, AllocError>
+) -> Result<(Cursor, Option<Passed>), AllocError>
     requires { from.at ≤ length bytes.now }
-    ensures passes { IfOk result (λ to. (ns : List ℕ) (n : ℕ) (ls : List Literal) → Passes
-        (GoOn (InAnts ns n ls ants.old.begun) (InAnts ns n ls ants.new.begun)) bytes.now from to) }
+    ensures passes { IfOk result (λ r. (ns : List ℕ) (n : ℕ) (ls : List Literal) → Passes
+        (GoOn (InAnts ns n ls ants.old.begun) (InAnts ns n ls ants.new.begun)) bytes.now from r.0) }
+    ensures end { IfOk result
+        (λ r. IfSome r.1 (λ end. EndsStep ants.new.begun bytes.now r.0 end)) }
     ensures sound { AreAntecedents ants.old.begun → AreAntecedents ants.new.begun }
     ensures whole { ants.new.whole ≡ ants.old.whole }
 {
@@ -65,11 +68,23 @@ fn take_antecedents(
     'antecedents: while let Some(passed) = here.number(bytes) {
         match antecedent(has_room(ants), passed.token) {
             Ok(Some(ant)) => ants.push(ant)?,
-            Ok(None) | Err(_) => break,
+            Ok(None) => return Ok((here, Some(passed))),
+            Err(_) => break,
         }
         here = passed.next;
     }
-    Ok(here)
+    Ok((here, None))
+}
+
+/// How far the lists of a step were taken.
+#[derive(Clone, Copy)]
+pub struct Reached {
+    /// Where the next token stands.
+    pub at: At,
+    /// The place of its bytes.
+    pub here: Cursor,
+    /// The zero that completes the step, if it stands there whole.
+    pub end: Option<Passed>,
 }
 
 /// Takes the rest of the literals of the step with this number, and then its antecedents.
@@ -82,18 +97,28 @@ pub fn take_lists(
     number: u64,
     bytes: &[u8],
     from: Cursor,
-) -> Result<(At, Cursor), AllocError>
+) -> Result<Reached, AllocError>
     requires within { from.at ≤ length bytes.now }
     requires sound { IsBegun (at.Lits number) begun.old }
     ensures passes { IfOk result (λ r. Passes
-        (GoOn (place begun.old (at.Lits number)) (place begun.new r.0)) bytes.now from r.1) }
+        (GoOn (place begun.old (at.Lits number)) (place begun.new r.at)) bytes.now from r.here) }
+    ensures end { IfOk result (λ r. IfSome r.end (λ end.
+        (r.at ≡ at.Ants number) × EndsStep begun.new.ants.begun bytes.now r.here end)) }
     ensures sound { Settles number begun.old begun.new result }
 {
     let (here, closed) = take_literals(&mut begun.lits, bytes, from)?;
     if !closed {
-        return Ok((At::Lits(number), here));
+        return Ok(Reached {
+            at: At::Lits(number),
+            here,
+            end: None,
+        });
     }
     begun.ants.begin();
-    let here = take_antecedents(&mut begun.ants, bytes, here)?;
-    Ok((At::Ants(number), here))
+    let (here, end) = take_antecedents(&mut begun.ants, bytes, here)?;
+    Ok(Reached {
+        at: At::Ants(number),
+        here,
+        end,
+    })
 }

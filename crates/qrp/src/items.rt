@@ -132,9 +132,9 @@ impl Grammar for ItemGrammar {
     fn take_hand(&mut self, bytes: &[u8], from: Cursor) -> Result<Cursor, AllocError> {
         match self.at {
             At::Lits(number) => {
-                let (at, to) = take_lists(&mut self.begun, number, bytes, from)?;
-                self.at = at;
-                Ok(to)
+                let reached = take_lists(&mut self.begun, number, bytes, from)?;
+                self.at = reached.at;
+                Ok(reached.here)
             }
             _ => Ok(from),
         }

@@ -3,7 +3,6 @@
 #![tactic(auto)]
 
 mod fault;
-mod flat;
 mod grammar;
 mod hand;
 mod item;
@@ -12,17 +11,17 @@ mod laws;
 mod parts;
 mod places;
 mod reader;
+mod step_after_step;
 mod steps;
 mod tokens;
 mod trace;
 mod writing;
 
 pub use fault::TraceFault;
-pub use flat::{FlatTrace, read_flat};
 pub use item::{Header, Item, Outcome, QuantSet, Step};
 pub use laws::trace_laws;
 pub use reader::TraceReader;
 pub use step_index::StepIndex;
 pub use steps::Steps;
-pub use trace::{Trace, read_trace};
+pub use trace::{FlatTrace, Trace, read_trace, read_trace as read_flat};
 pub use writing::{write_steps_at, write_trace};

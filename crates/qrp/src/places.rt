@@ -127,7 +127,7 @@ fn open_step(begun: &mut Begun, number: u64) -> Next
 
 /// Takes a token between lists.
 #[inline(always)]
-fn take_opening(begun: &mut Begun, token: Token) -> Next
+pub fn take_opening(begun: &mut Begun, token: Token) -> Next
     ensures row { Moves (row_at begun.old at.Between token) begun.new result }
     ensures sound { Leads at.Between begun.old begun.new result }
 {

@@ -5,7 +5,6 @@ use Rattle.qbf_text.specs.Rows.{reads_from}
 use Rattle.qbf_text.specs.Stopping.{tokens_next}
 use Rattle.qbf_text.proofs.OneToken.{leads_same, leads_then, goes, ends, stops, same_state, ready_still, unfailed}
 use Rattle.qbf_text.proofs.Stops.{so_far_none, known_so_far, so_far_goes, stops_behind}
-use Rattle.qbf_text.proofs.ByteByByte.{left_nothing}
 use Rattle.qbf_text.proofs.grammar.read_by.Goals as goal
 
 pub tokens-init : goal.tokens-init
@@ -88,8 +87,8 @@ returns-in-Ok-Done-clause-stops g c =
       λ open_. (
         stops_behind row first (g.G.Grammar.place h.grammar)
             (g.G.Grammar.place c.take.new.self) c.in-Ok-Done.output (tokens_next c.args.scanner.now) (tokens_next h.scanner)
-            (tokens_next s) (c.in_ok-token.token, c.in_ok-token.line) _ _ _ _
-            ends_so open_ (left_nothing s.comments s.begun s.line) read (c.in_ok-token.ensures.takes open_),
+            (tokens_next s) (c.in_ok-token.token, c.in_ok-token.line) _ _ _
+            ends_so open_ read (c.in_ok-token.ensures.takes open_),
         c.in_ok-token.ensures.few open_,
       ),
     )

@@ -22,7 +22,7 @@ returns-in-Err-clause-gives g c = λ p at_. rw c.fault.ensures
 
 pub returns-in-Ok-give-clause-stops : goal.returns-in-Ok-give-clause-stops
 returns-in-Ok-give-clause-stops g c = λ p at_.
-    item_stops p _ _ (tokens_next c.args.scanner.now) c.in-Ok-give.item _
+    item_stops p _ _ (tokens_next c.args.scanner.now) (tokens_next c.read_by.new.scanner) c.in-Ok-give.item _
     (ahead c.args.scanner.now.pending (g.S.Source.remaining c.args.source.now))
     (ahead c.read_by.new.scanner.pending (g.S.Source.remaining c.read_by.new.source)) (length c.read_by.new.scanner.pending ≤ 4096)
     at_ c.in-Ok-give.ensures.item c.in-Ok.ensures.stops

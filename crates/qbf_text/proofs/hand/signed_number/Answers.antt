@@ -1,6 +1,6 @@
 use Rattle.std.proofs.Common.{sym, ◌∙◌}
 use Rattle.qbf_text.proofs.NumberAtHand.{found}
-use Rattle.qbf_text.proofs.hand.number_in_front.Goals as goal
+use Rattle.qbf_text.proofs.hand.signed_number.Goals as goal
 
 pub returns : goal.returns
 returns c =

@@ -5,7 +5,7 @@ use Rattle.qrp.specs.Answers.{is_outside}
 use Rattle.qrp.proofs.RowsReadTheTrace.{answers_as_read}
 use Rattle.qrp.proofs.ReadingLaws.{given_answers}
 use Rattle.qrp.proofs.StopsBehind.{stops_behind_result}
-use Rattle.qrp.proofs.flat.read_flat.Goals as goal
+use Rattle.qrp.proofs.trace.read_trace.Goals as goal
 
 pub returns-in-Ok-clause-exact : goal.returns-in-Ok-clause-exact
 returns-in-Ok-clause-exact g c =

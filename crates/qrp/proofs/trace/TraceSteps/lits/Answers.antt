@@ -1,6 +1,6 @@
 use Rattle.std.proofs.Common.{sym, ◌∙◌}
 use Rattle.qrp.proofs.Flats.{numbered_at}
-use Rattle.qrp.proofs.flat.FlatTraceSteps.lits.Goals as goal
+use Rattle.qrp.proofs.trace.TraceSteps.lits.Goals as goal
 
 pub returns : goal.returns
 returns c = λ step here.

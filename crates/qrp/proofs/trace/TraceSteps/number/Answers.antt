@@ -1,5 +1,5 @@
 use Rattle.qrp.proofs.Positions.{only_at}
-use Rattle.qrp.proofs.flat.FlatTraceSteps.number.Goals as goal
+use Rattle.qrp.proofs.trace.TraceSteps.number.Goals as goal
 
 pub returns-clause-only : goal.returns-clause-only
 returns-clause-only c = rw (← c.self.view_is) (only_at _ c.self.inside.parts.begun.index c.args.i c.number.result

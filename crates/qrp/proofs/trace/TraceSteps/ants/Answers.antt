@@ -1,6 +1,6 @@
 use Rattle.std.proofs.Common.{sym, ◌∙◌}
 use Rattle.qrp.proofs.Flats.{few_at, numbered_at}
-use Rattle.qrp.proofs.flat.FlatTraceSteps.ants.Goals as goal
+use Rattle.qrp.proofs.trace.TraceSteps.ants.Goals as goal
 
 pub returns-clause-value : goal.returns-clause-value
 returns-clause-value c = λ step here.
