@@ -5,6 +5,7 @@
 # make test     proves what has changed, builds it, and runs all tests
 # make gate     the whole: every proof from nothing, the wrong bodies, all tests
 # make bench    measures time and memory
+# make wheel    packs the Python module with the library inside, below dist/, for pip
 # make dist     packs the program, the library and the documents below dist/
 # make install  copies what `make all lib` built below $(PREFIX): program, library, header, manual pages, scripts, documents, examples
 # make uninstall  takes that away again
@@ -26,7 +27,7 @@ LIBDIR ?= $(PREFIX)/lib
 MANDIR ?= $(PREFIX)/share/man
 INSTALL_FILES = PREFIX='$(PREFIX)' LIBDIR='$(LIBDIR)' MANDIR='$(MANDIR)' DESTDIR='$(DESTDIR)' scripts/install-files
 
-.PHONY: all lib demo check test proved-before gate bench dist install uninstall help clean
+.PHONY: all lib demo check test proved-before gate bench dist wheel install uninstall help clean
 .PHONY: test-refusals test-program test-scripts test-examples test-library test-dist test-install test-many test-proofs test-checks
 
 all: $(PROGRAM)
@@ -105,6 +106,9 @@ bench: all
 
 dist: all lib
 	scripts/make-dist
+
+wheel: lib
+	python3 python/qrp_wheel.py
 
 install:
 	$(INSTALL_FILES) install

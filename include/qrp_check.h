@@ -9,16 +9,25 @@
  *
  * The proof relies on what this page asks of the caller, on the toolchain that proved and built the library, on the C compiler, `ar`,
  * `objcopy` and the linker that packed it, and on the C library: on its malloc, realloc and free, and on memcpy, memmove and
- * memset. malloc, realloc and free must be of one allocator, and a block must be aligned to each power of two up to 16 that divides
- * its size, as those of the C library are. Link with -lqrp, or with libqrp.a; nothing else is needed. The manual page is
- * qrp_check(3).
+ * memset. Link with -lqrp, or with libqrp.a; nothing else is needed. The manual page is qrp_check(3).
  *
- * Memory: the library takes what it needs by malloc and realloc, and has freed all of it when a call returns. It keeps no
- * pointer of the caller's and no state. This is tested, not proved.
+ * What every caller must do; nothing checks it:
+ *   - No pointer is NULL, even if a length or a room is 0 (then any address will do, such as that of "").
+ *   - A text has the length that is given, and nothing writes to it during the call. The texts may have any alignment, need not be
+ *     NUL-terminated, may overlap each other, and stay the caller's.
+ *   - What is written to (a buffer, a list of steps, a verdict) has the room that is given, is properly aligned, and overlaps
+ *     nothing else that is passed to the call.
+ *   - malloc, realloc and free are of one allocator, and a block is aligned to each power of two up to 16 that divides its size,
+ *     as those of the C library are.
+ *   - No call that takes a text comes from a signal handler, nor from the child that a process with several threads has forked,
+ *     since it calls malloc.
  *
- * Threads: several threads may call at once, also on the same texts, since these are only read; each call needs its own
- * struct qrp_verdict and its own buffer (tested, not proved). Do not call qrp_verify in a signal handler, nor in the child that a
- * process with several threads has forked, since it calls malloc.
+ * Memory: nothing that the library returns has to be freed: all results go to memory of the caller. The library takes what it needs
+ * by malloc and realloc, and has freed all of it when a call returns. It keeps no pointer of the caller's and no state (tested, not
+ * proved).
+ *
+ * Threads: several threads may call at once, also on the same texts, since these are only read; each call needs memory of its own
+ * for what it writes (tested, not proved).
  */
 #ifndef QRP_CHECK_H
 #define QRP_CHECK_H
@@ -26,6 +35,12 @@
 #include <stdbool.h>
 #include <stddef.h>
 #include <stdint.h>
+
+/* The version of this header, as qrp_version returns that of the library. */
+#define QRP_VERSION_MAJOR 1
+#define QRP_VERSION_MINOR 0
+#define QRP_VERSION_PATCH 0
+#define QRP_VERSION (QRP_VERSION_MAJOR * 10000 + QRP_VERSION_MINOR * 100 + QRP_VERSION_PATCH)
 
 #ifdef __cplusplus
 extern "C" {
@@ -39,40 +54,62 @@ enum qrp_status {
     QRP_NO_MEMORY = 4      /* out of memory: nothing is known */
 };
 
-/* What was found. It needs no value before qrp_verify, which writes each field. */
+/* What was found. It needs no value before a call, which writes each field. A struct of zeros tells no verdict: its letter is not 'V'. */
 struct qrp_verdict {
     uint64_t place; /* for C6 the number of the step, for C1, C2 and C3 the variable, for F and P the line; else 0 */
     uint8_t status; /* one of enum qrp_status */
     uint8_t truth;  /* 1 if the formula was verified to be true, else 0 */
-    uint8_t letter; /* of the fault: 'F' of the formula's text, 'P' of the trace's, 'C' of the check; 0 if it was verified */
+    uint8_t letter; /* 'V' if it was verified, or of the fault: 'F' of the formula's text, 'P' of the trace's, 'C' of the check */
     uint8_t number; /* of the fault, for example 4 for C4; 0 if it was verified */
     uint8_t rule;   /* for C6 the number of the step's fault, for example 7 for S7; else 0 */
 };
 
-/* A buffer of this size has room for every line. */
+/* A buffer of this size has room for every line, with its zero. */
 #define QRP_LINE_ROOM 48
+
+/* A buffer of this size has room for every text of a fault, with its zero. */
+#define QRP_FAULT_ROOM 128
+
+/* The version of the library: 10000 times its first number, 100 times its second, and its third. */
+uint32_t qrp_version(void);
 
 /* Checks the trace against the formula, writes what was found to *out, and returns out->status.
  *
- * formula, trace: the caller must pass non-NULL pointers for both texts, even if a length is 0 (then any address will do, such
- *   as that of ""), of any alignment, and must not let anything write to the texts during the call. They need not be
- *   NUL-terminated, they may overlap, and they stay the caller's.
  * any_pivot: whether a resolution may be on a variable of either quantifier (QU-resolution and its dual); the flag --qu of the
  *   program.
- * out: must be non-NULL and properly aligned, and must not overlap the texts.
  */
-int32_t qrp_verify(const uint8_t *formula, size_t formula_length, const uint8_t *trace, size_t trace_length, bool any_pivot,
+int32_t qrp_verify(const void *formula, size_t formula_length, const void *trace, size_t trace_length, bool any_pivot,
                    struct qrp_verdict *out);
 
-/* Writes the line of a verdict, as the program prints it, with its line end and no zero after it, and returns its length.
- *
- * verdict: must be non-NULL, and should be one that qrp_verify wrote. For any other struct it writes some line, or returns 0.
- * buffer: must be non-NULL, even if room is 0, and must not overlap the verdict. If the line is longer than room nothing is
- *   written, and otherwise, for a verdict that qrp_verify wrote, nothing after the line. A room of QRP_LINE_ROOM is enough.
- *
- * It takes no memory, so it also works after QRP_NO_MEMORY.
- */
+/* The calls below that write a text work alike: they return its length without the zero that comes after it. If `room` is greater
+ * than that length, the text and its zero are written to the front of the buffer, and else nothing is. The rest of the buffer is left
+ * as it was, in either case and whatever is in the verdict. So a call with a room of 0 returns how much room is needed: one byte more
+ * than the length. */
+
+/* Writes the line of a verdict, as the program prints it, with its line end. The line is empty if no call wrote the verdict, that is
+ * for each struct that qrp_verify never writes, such as one of zeros. It takes no memory, so it also works after QRP_NO_MEMORY. */
 size_t qrp_verdict_line(const struct qrp_verdict *verdict, char *buffer, size_t room);
+
+/* Writes what the fault of a verdict means: one sentence, always the same for the same fault. It is empty if there is no fault. It
+ * takes no memory. */
+size_t qrp_fault_text(const struct qrp_verdict *verdict, char *buffer, size_t room);
+
+/* Checks as qrp_verify does and writes the same to *out. If the trace is verified, it writes the trace with only the steps that the
+ * proof needs, in canonical form, as `qrp_cmd trim` prints it; else the text is empty, and the length 0. The trimmed trace is itself
+ * verified. A room of trace_length + 32 has been enough for every trace that was tried. */
+size_t qrp_trim(const void *formula, size_t formula_length, const void *trace, size_t trace_length, bool any_pivot, char *buffer,
+                size_t room, struct qrp_verdict *out);
+
+/* Writes the formula in canonical form, as `qrp_cmd format` prints it, and zeros to *out, which tell no verdict, since nothing was
+ * checked. If the formula is refused or there is no memory, *out has the fault, and the text is empty, and its length 0. A room of
+ * formula_length + 32 has been enough for every formula that was tried. */
+size_t qrp_format(const void *formula, size_t formula_length, char *buffer, size_t room, struct qrp_verdict *out);
+
+/* Checks as qrp_verify does and writes the same to *out. If the trace is verified, it returns how many steps the proof needs, and if
+ * `room` is not less than that, writes their numbers to the front of `steps`, in the order of the trace; else it returns 0. The rest
+ * of `steps` is left as it was. */
+size_t qrp_core(const void *formula, size_t formula_length, const void *trace, size_t trace_length, bool any_pivot, uint64_t *steps,
+                size_t room, struct qrp_verdict *out);
 
 #ifdef __cplusplus
 }

@@ -7,8 +7,8 @@
 #     `if CALL.is_err()`, or in the else of `let Ok(..) = CALL else`;
 #   - as the second argument of `ReadError::fault`, which its contract answers for want of memory alone;
 #   - or in a `from` that takes want of memory.
-# Calls that are refused for want of memory alone: functions and methods of the crates whose error is AllocError, and
-# those listed here. A method is found by the type of what stands before it. What is not understood is refused.
+# Calls that are refused for want of memory alone: functions and methods of the crates whose error is AllocError, those
+# listed here, and a `write_` call whose last argument is a local VecSink, which fails for want of memory alone. A method is found by the type of what stands before it. What is not understood is refused.
 #
 # A request for memory that is made in order to be refused is such an answer too. So each size that is asked for at once is listed here
 # with its file: the length of something that is there, or one more.
@@ -297,6 +297,9 @@ function call(n, text, callee, deep, i, c) {
     if (i != length(text)) return "more than a call"
     gsub(/::<[A-Za-z0-9_<>]+>::/, "::", callee)
     callee = resolved(n, callee)
+    # A text that is written to a VecSink.
+    if (callee ~ /:write_[a-z_]+$/ && match(text, /, &mut [a-z_]+[)]$/) && type_of(n, substr(text, RSTART + 7, RLENGTH - 8)) == "VecSink")
+        return ""
     return (callee in alone) && !(callee in other) ? "" : "the call " callee " may be refused for another reason"
 }
 

@@ -1,2 +1,3 @@
+pub mod GivenTexts
 pub mod HeadlineOfStruct
 pub mod LineRoom

@@ -21,7 +21,7 @@ use Rattle.qrp_c.specs.Told.{told, answer_line}
 digits : (n : ℕ) → n < 2 ^ 64 → length (decimal n) ≤ 20
 digits n small = length-decimal-le 20 n (omega arith) (omega (arith, small)) small
 
-short_formula : (e : FormulaFault) (n : ℕ) → length (decimal n) ≤ 20 → length (formula_line e n) < 48
+short_formula : (e : FormulaFault) (n : ℕ) → length (decimal n) ≤ 20 → length (formula_line e n) < 47
 short_formula F1 n d = grind (arith, common_steps)
 short_formula F2 n d = grind (arith, common_steps)
 short_formula F3 n d = grind (arith, common_steps)
@@ -32,7 +32,7 @@ short_formula F7 n d = grind (arith, common_steps)
 short_formula F8 n d = grind (arith, common_steps)
 short_formula F9 n d = grind (arith, common_steps)
 
-short_trace : (e : TraceFault) (n : ℕ) → length (decimal n) ≤ 20 → length (trace_line e n) < 48
+short_trace : (e : TraceFault) (n : ℕ) → length (decimal n) ≤ 20 → length (trace_line e n) < 47
 short_trace P1 n d = grind (arith, common_steps)
 short_trace P2 n d = grind (arith, common_steps)
 short_trace P3 n d = grind (arith, common_steps)
@@ -58,14 +58,14 @@ short_name S11 = omega arith
 short_name S12 = omega arith
 
 short_step : (d : ℕ) (name : List ℕ) (n : ℕ) → length (decimal n) ≤ 20 → length name ≤ 3
-    → length (codes "REFUSED step " ++ (decimal n ++ (codes " " ++ (name ++ 10 ∷ [])))) < 48
+    → length (codes "REFUSED step " ++ (decimal n ++ (codes " " ++ (name ++ 10 ∷ [])))) < 47
 short_step d name n small three = grind (arith, common_steps)
 
 -- by the place that was told
-pub line_short : (answer : Result Verified Fault) → (told answer).place < 2 ^ 64 → length (answer_line answer) < 48
+pub line_short : (answer : Result Verified Fault) → (told answer).place < 2 ^ 64 → length (answer_line answer) < 47
 line_short (Ok v) small = by v.truth
   where
-    by : (b : Bool) → length (answer_line (Ok (record v { truth = b }))) < 48
+    by : (b : Bool) → length (answer_line (Ok (record v { truth = b }))) < 47
     by true = omega arith
     by false = omega arith
 line_short (Err (fault.Formula e n)) small = short_formula e n (digits n small)
@@ -77,7 +77,7 @@ line_short (Err (fault.Check C4)) small = omega arith
 line_short (Err (fault.Check C5)) small = omega arith
 line_short (Err (fault.Check (C6 n s))) small = short_step 0 (rule_fault_name s) n (digits n small) (short_name s)
 
-full_is_long : (text sent unsent : List ℕ) → text ≡ sent ++ unsent → length sent ≡ 48 → length text < 48 → ⊥
+full_is_long : (text sent unsent : List ℕ) → text ≡ sent ++ unsent → length sent ≡ 47 → length text < 47 → ⊥
 full_is_long text sent unsent parts full small =
     let all : length text ≡ length sent + length unsent = rw parts (grind (arith, common_steps)) in
     omega (arith, full, all, small)
@@ -86,7 +86,7 @@ full_is_long text sent unsent parts full small =
 pub kept_whole : {S T E : Type 0} (written : S → Option (List ℕ)) (failures : S → ℕ) (old new : S) (text : List ℕ) (result : Result T E)
     (bytes : List ℕ)
     → IsPut written failures old new text result → written old ≡ Some [] → failures old ≡ 0 → written new ≡ Some bytes
-    → (0 < failures new → length bytes ≡ 48) → length text < 48 → written new ≡ Some text
+    → (0 < failures new → length bytes ≡ 47) → length text < 47 → written new ≡ Some text
 kept_whole written failures old new text (Ok u) bytes put none never is full small =
     let grown : Appends (Some []) (Some bytes) text = rw (none, is) at put.ok in
     rw is (ap Some grown)

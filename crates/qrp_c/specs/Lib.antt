@@ -1,2 +1,5 @@
+pub mod Buffers
+pub mod Meanings
+pub mod Texts
 pub mod Told
 pub mod Verdicts

@@ -1,5 +1,5 @@
 -- What a caller in C is told of an answer.
-use Rattle.std.specs.Prelude.{◌≡◌, ℕ, ◌≤◌, if◌then◌else◌, List, IfErr, Result, Ok, Err}
+use Rattle.std.specs.Prelude.{◌≡◌, ◌⊎◌, ℕ, ◌≤◌, Bool, if◌then◌else◌, List, IfErr, Result, Ok, Err}
 use Rattle.qdimacs.specs.declared.fault.FormulaFault.{FormulaFault}
 use Rattle.qdimacs.specs.declared.fault.FormulaFault.TheVariants.{F1, F2, F3, F4, F5, F6, F7, F8, F9}
 use Rattle.qrp.specs.declared.fault.TraceFault.{TraceFault}
@@ -73,9 +73,13 @@ told_fault (fault.Formula e line) = refusal (fault_status (fault.Formula e line)
 told_fault (fault.Trace e line) = refusal (fault_status (fault.Trace e line)) 80 (trace_number e) 0 line
 told_fault (fault.Check c) = told_check (fault_status (fault.Check c)) c
 
+-- what is told of a formula that was verified to have this truth; the letter V, 86
+abbrev pub told_truth : Bool → QrpVerdict
+told_truth b = record { place = 0; status = 0; truth = if b then 1 else 0; letter = 86; number = 0; rule = 0 }
+
 -- what is told of an answer
 abbrev pub told : Result Verified Fault → QrpVerdict
-told (Ok v) = record { place = 0; status = 0; truth = if v.truth then 1 else 0; letter = 0; number = 0; rule = 0 }
+told (Ok v) = told_truth v.truth
 told (Err e) = told_fault e
 
 -- a fault of a check that names a variable names one: a number from 1 to 2147483647
@@ -101,3 +105,11 @@ IsTold answer out = (out ≡ told answer) × IfErr answer NamesVariable
 abbrev pub answer_line : Result Verified Fault → List ℕ
 answer_line (Ok v) = verdict_line v.truth
 answer_line (Err e) = fault_line e
+
+-- the struct tells a fault
+abbrev pub TellsFault : QrpVerdict → Type 0
+TellsFault out = (e : Fault) × NamesVariable e × (out ≡ told_fault e)
+
+-- the struct tells something: a truth or a fault
+abbrev pub TellsSome : QrpVerdict → Type 0
+TellsSome out = ((b : Bool) × (out ≡ told_truth b)) ⊎ TellsFault out

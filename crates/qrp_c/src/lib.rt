@@ -2,23 +2,34 @@
 //! `include/qrp_check.h`.
 #![tactic(auto)]
 
-ghost use Rattle.std.specs.Prelude.{◌≡◌, ◌≤◌, ◌<◌, ◌++◌, pos, length, drop, Result};
+ghost use Rattle.std.specs.Prelude.{◌≡◌, ◌≤◌, ◌+◌, [], pos, drop, Result};
 ghost use Rattle.qrp_check.specs.declared.verdict.Verified.{Verified};
 ghost use Rattle.qrp_check.specs.declared.verdict.Fault.{Fault};
-ghost use Rattle.qrp_c.specs.Told.{IsTold, answer_line};
+ghost use Rattle.qrp_c.specs.Buffers.{IsWritten};
+ghost use Rattle.qrp_c.specs.Meanings.{fault_meaning};
+ghost use Rattle.qrp_c.specs.Told.{IsTold, TellsSome, TellsFault, NamesVariable, told_fault};
+ghost use Rattle.qrp_c.specs.Told.{answer_line};
+ghost use Rattle.qrp_c.specs.Texts.{IsTrimAnswered, IsCoreAnswered, IsFormatAnswered};
 ghost use Rattle.qrp_c.specs.Verdicts.{Headline, IsAnswered};
 
+mod buffer;
+mod formatting;
 mod line;
 mod lines;
+mod meaning;
 mod reading;
 mod telling;
+mod trimming;
 mod verdict;
 
-use lines::line;
+use buffer::{put_numbers, put_text};
+use formatting::format_lent;
+use lines::{line, meaning_of};
 use qbf_text::SliceSource;
-use qrp_check::{Rules, verify};
+use qrp_check::{Fault, Rules, verify};
 use std::alloc::Global;
-use telling::tell;
+use telling::{tell, tell_fault, tell_nothing, tell_truth};
+use trimming::{list_core, trim_lent};
 pub use verdict::QrpVerdict;
 
 /// Whether the trace in these bytes proves its result of the formula in those, as `verify` returns
@@ -49,26 +60,140 @@ pub extern "C" fn qrp_verify(
     i32::from(verdict.status)
 }
 
-/// The line of a verdict of `qrp_verify`, as the program prints it, with its line end.
+/// The line of a verdict, as the program prints it, with its line end and a zero after it.
 ///
 /// In C: `size_t qrp_verdict_line(const struct qrp_verdict *verdict, char *buffer, size_t room)`.
 ///
-/// Answers its length, 48 at most. Where the buffer has room for it, the line stands at its front,
-/// and the rest of the buffer stays as it was; else all of it stays.
+/// Returns its length without the zero, 47 at most. Where the buffer has room for it and the zero,
+/// they stand at its front, and the rest of the buffer stays as it was; else all of it stays. A
+/// struct that is not what is told of any result, such as one of zeros, has the empty line.
 #[unsafe(no_mangle)]
 pub extern "C" fn qrp_verdict_line(verdict: &QrpVerdict, buffer: &mut [u8]) -> usize
-    ensures length { (answer : Result Verified Fault) → IsTold answer verdict.now
-        → result ≡ length (answer_line answer) }
-    ensures written { (answer : Result Verified Fault) → IsTold answer verdict.now
-        → result ≤ length buffer.old
-        → buffer.new ≡ answer_line answer ++ drop result buffer.old }
-    ensures unwritten { length buffer.old < result → buffer.new ≡ buffer.old }
-    ensures short { result ≤ 48 }
+    ensures told { (answer : Result Verified Fault) → IsTold answer verdict.now
+        → IsWritten (answer_line answer) buffer.old buffer.new result }
+    ensures none { ¬ TellsSome verdict.now → IsWritten [] buffer.old buffer.new result }
+    ensures short { result ≤ 47 }
+    // Of any struct.
+    ensures kept { drop (1 + result) buffer.new ≡ drop (1 + result) buffer.old }
 {
-    let line = line(verdict);
-    let bytes = line.as_slice();
-    if bytes.len() <= buffer.len() {
-        buffer[..bytes.len()].copy_from_slice(bytes);
+    put_text(buffer, line(verdict).as_slice())
+}
+
+/// What the fault of a verdict means, in one sentence, with a zero after it.
+///
+/// In C: `size_t qrp_fault_text(const struct qrp_verdict *verdict, char *buffer, size_t room)`.
+///
+/// Returns its length without the zero, and writes as `qrp_verdict_line` does. A struct that tells
+/// no fault has the empty text.
+#[unsafe(no_mangle)]
+pub extern "C" fn qrp_fault_text(verdict: &QrpVerdict, buffer: &mut [u8]) -> usize
+    ensures told { (e : Fault) → NamesVariable e → verdict.now ≡ told_fault e
+        → IsWritten (fault_meaning e) buffer.old buffer.new result }
+    ensures none { ¬ TellsFault verdict.now → IsWritten [] buffer.old buffer.new result }
+    ensures kept { drop (1 + result) buffer.new ≡ drop (1 + result) buffer.old }
+{
+    put_text(buffer, meaning_of(verdict).as_bytes())
+}
+
+/// The trace in these bytes with only the steps that its proof needs, in canonical form, with a
+/// zero after it, if it proves its result of the formula.
+///
+/// In C: `size_t qrp_trim(const void *formula, size_t formula_length, const void *trace, size_t
+/// trace_length, bool any_pivot, char *buffer, size_t room, struct qrp_verdict *out)`.
+///
+/// Returns its length without the zero, and writes as `qrp_verdict_line` does. Writes to `out` what
+/// `qrp_verify` does; where that is a fault the text is empty.
+#[unsafe(no_mangle)]
+pub extern "C" fn qrp_trim(
+    alloc: Global,
+    formula: &[u8],
+    trace: &[u8],
+    any_pivot: bool,
+    buffer: &mut [u8],
+    out: &mut QrpVerdict,
+) -> usize
+    ensures { IsTrimAnswered (record { any_pivot = any_pivot }) formula.now trace.now
+        buffer.old buffer.new out.new result }
+{
+    match trim_lent(alloc, formula, trace, Rules { any_pivot }) {
+        Ok((truth, text)) => {
+            *out = tell_truth(truth);
+            put_text(buffer, text.bytes())
+        }
+        Err(fault) => {
+            *out = tell_fault(&fault);
+            put_text(buffer, b"")
+        }
     }
-    bytes.len()
+}
+
+/// The numbers of the steps that the proof in these bytes needs, in the order of the trace, if it
+/// proves its result of the formula.
+///
+/// In C: `size_t qrp_core(const void *formula, size_t formula_length, const void *trace, size_t
+/// trace_length, bool any_pivot, uint64_t *steps, size_t room, struct qrp_verdict *out)`.
+///
+/// Returns how many they are. Where `steps` has room for all of them they stand at its front, and
+/// the rest stays as it was; else all of it stays. Writes to `out` what `qrp_verify` does; where
+/// that is a fault there are none.
+#[unsafe(no_mangle)]
+pub extern "C" fn qrp_core(
+    alloc: Global,
+    formula: &[u8],
+    trace: &[u8],
+    any_pivot: bool,
+    steps: &mut [u64],
+    out: &mut QrpVerdict,
+) -> usize
+    ensures { IsCoreAnswered (record { any_pivot = any_pivot }) formula.now trace.now
+        steps.old steps.new out.new result }
+{
+    match list_core(alloc, formula, trace, Rules { any_pivot }) {
+        Ok((truth, numbers)) => {
+            *out = tell_truth(truth);
+            put_numbers(steps, &numbers)
+        }
+        Err(fault) => {
+            *out = tell_fault(&fault);
+            0
+        }
+    }
+}
+
+/// The canonical text of the formula in these bytes, with a zero after it.
+///
+/// In C: `size_t qrp_format(const void *formula, size_t formula_length, char *buffer, size_t room,
+/// struct qrp_verdict *out)`.
+///
+/// Returns its length without the zero, and writes as `qrp_verdict_line` does. Writes to `out`
+/// zeros, or the fault, and then the text is empty.
+#[unsafe(no_mangle)]
+pub extern "C" fn qrp_format(
+    alloc: Global,
+    formula: &[u8],
+    buffer: &mut [u8],
+    out: &mut QrpVerdict,
+) -> usize
+    ensures { IsFormatAnswered formula.now buffer.old buffer.new out.new result }
+{
+    match format_lent(alloc, formula) {
+        Ok(text) => {
+            *out = tell_nothing();
+            put_text(buffer, text.bytes())
+        }
+        Err((fault, line)) => {
+            *out = tell_fault(&Fault::Formula(fault, line));
+            put_text(buffer, b"")
+        }
+    }
+}
+
+/// The version of the library: 10000 times the first number, 100 times the second, and the third.
+///
+/// In C: `uint32_t qrp_version(void)`.
+#[unsafe(no_mangle)]
+pub extern "C" fn qrp_version() -> u32
+    ensures { result ≡ 10000 }
+{
+    10000
 }

@@ -6,16 +6,16 @@ use qbf_text::{Sink, SinkFault};
 
 /// How many bytes a line can have: the longest, `REFUSED formula F4 line 18446744073709551615` with
 /// its end, has 45.
-pub const ROOM: usize = 48;
+pub const ROOM: usize = 47;
 
-/// Keeps what was sent, up to 48 bytes. It fails only where it is full.
+/// Keeps what was sent, up to 47 bytes. It fails only where it is full.
 #[derive(Drop)]
 pub struct Line {
     bytes: [u8; ROOM],
     end: usize,
     failures: u64,
-    ghost fits: { end ≤ 48 },
-    ghost full: { 0 < failures → length (take end bytes) ≡ 48 },
+    ghost fits: { end ≤ 47 },
+    ghost full: { 0 < failures → length (take end bytes) ≡ 47 },
 }
 
 impl Line {
@@ -34,6 +34,7 @@ impl Line {
     /// The bytes that were sent.
     pub fn as_slice(&self) -> &[u8]
         ensures written { ⟦<Line as Sink>⟧.written self.now ≡ Some result.now }
+        ensures short { length result.now ≤ 47 }
     {
         &self.bytes[..self.end]
     }

@@ -1,11 +1,13 @@
-//! The fault in a caller's struct, from its numbers.
+//! What a caller's struct tells, from its numbers: a truth, a fault, or nothing.
 
-ghost use Rattle.std.specs.Prelude.{◌≡◌, ◌≤◌, ℕ, Some, IsSome, IfSome};
+ghost use Rattle.std.specs.Prelude.{◌≡◌, ◌≤◌, ℕ, Bool, Some, IsSome, IfSome};
 ghost use Rattle.qrp_check.specs.declared.fault.CheckFault.{CheckFault};
 ghost use Rattle.qrp_check.specs.declared.verdict.Fault.{Fault};
-ghost use Rattle.qrp_c.specs.Told.{told_fault, told_check, formula_number, trace_number};
+ghost use Rattle.qrp_c.specs.Told.{told_truth, told_fault, told_check, formula_number};
+ghost use Rattle.qrp_c.specs.Told.{trace_number};
 ghost use Rattle.qrp_c.specs.Told.{rule_number, NamesVariable, IsNamed};
 
+use crate::telling::{tell_fault, tell_truth};
 use crate::verdict::QrpVerdict;
 use qbf_core::Var;
 use qdimacs::FormulaFault;
@@ -98,8 +100,8 @@ fn check_fault(verdict: &QrpVerdict) -> Option<CheckFault>
     }
 }
 
-/// The fault in this struct, or `None` if it has none.
-pub fn fault(verdict: &QrpVerdict) -> Option<Fault>
+/// The fault that the numbers name, whatever else is in the struct.
+fn named_fault(verdict: &QrpVerdict) -> Option<Fault>
     ensures { (e : Fault) → NamesVariable e → verdict.now ≡ told_fault e → result ≡ Some e }
 {
     match verdict.letter {
@@ -107,5 +109,31 @@ pub fn fault(verdict: &QrpVerdict) -> Option<Fault>
         b'P' => Some(Fault::Trace(trace_fault(verdict.number)?, verdict.place)),
         b'C' => Some(Fault::Check(check_fault(verdict)?)),
         _ => None,
+    }
+}
+
+/// The truth that this struct tells, or `None` if it tells none.
+pub fn truth(verdict: &QrpVerdict) -> Option<bool>
+    ensures told { IfSome result (λ b. verdict.now ≡ told_truth b) }
+    ensures all { (b : Bool) → verdict.now ≡ told_truth b → result ≡ Some b }
+{
+    let truth = verdict.truth == 1;
+    if *verdict == tell_truth(truth) {
+        Some(truth)
+    } else {
+        None
+    }
+}
+
+/// The fault that this struct tells, or `None` if it tells none.
+pub fn fault(verdict: &QrpVerdict) -> Option<Fault>
+    ensures told { IfSome result (λ e. NamesVariable e × (verdict.now ≡ told_fault e)) }
+    ensures all { (e : Fault) → NamesVariable e → verdict.now ≡ told_fault e → result ≡ Some e }
+{
+    let fault = named_fault(verdict)?;
+    if *verdict == tell_fault(&fault) {
+        Some(fault)
+    } else {
+        None
     }
 }

@@ -2,6 +2,8 @@
 
 ghost use Rattle.std.specs.Prelude.{◌≡◌};
 ghost use Rattle.qrp_c.specs.Told.{IsTold, IsNamed, NamesVariable, told_fault, told_check, refusal};
+ghost use Rattle.qrp_c.specs.Told.{told_truth};
+ghost use Rattle.qrp_c.specs.Texts.{told_nothing};
 ghost use Rattle.qrp_c.specs.Told.{formula_number, trace_number, rule_number};
 
 use crate::verdict::QrpVerdict;
@@ -88,7 +90,8 @@ fn tell_check(status: u8, fault: CheckFault) -> QrpVerdict
     }
 }
 
-fn tell_fault(fault: &Fault) -> QrpVerdict
+/// What a caller in C gets of a fault.
+pub fn tell_fault(fault: &Fault) -> QrpVerdict
     ensures told { result ≡ told_fault fault.now }
     ensures named { NamesVariable fault.now }
 {
@@ -100,19 +103,33 @@ fn tell_fault(fault: &Fault) -> QrpVerdict
     }
 }
 
+/// What a caller in C gets of a formula that was verified to have this truth.
+pub fn tell_truth(truth: bool) -> QrpVerdict
+    ensures { result ≡ told_truth truth }
+{
+    QrpVerdict {
+        place: 0,
+        status: 0,
+        truth: if truth { 1 } else { 0 },
+        letter: b'V',
+        number: 0,
+        rule: 0,
+    }
+}
+
+/// What a caller in C gets where nothing was verified or refused.
+pub fn tell_nothing() -> QrpVerdict
+    ensures { result ≡ told_nothing }
+{
+    refused(0, 0, 0, 0, 0)
+}
+
 /// What a caller in C gets of a result.
 pub fn tell(answer: &Result<Verified, Fault>) -> QrpVerdict
     ensures { IsTold answer.now result }
 {
     match answer {
-        Ok(verified) => QrpVerdict {
-            place: 0,
-            status: 0,
-            truth: if verified.truth { 1 } else { 0 },
-            letter: 0,
-            number: 0,
-            rule: 0,
-        },
+        Ok(verified) => tell_truth(verified.truth),
         Err(fault) => tell_fault(fault),
     }
 }

@@ -10,7 +10,7 @@ pub struct QrpVerdict {
     pub status: u8,
     /// 1 where the formula was verified to be true, and else 0.
     pub truth: u8,
-    /// The letter of the fault, `F`, `P` or `C`, or 0.
+    /// `V` if the formula was verified, or the letter of the fault: `F`, `P` or `C`.
     pub letter: u8,
     /// The number of the fault, as 4 of C4, or 0.
     pub number: u8,

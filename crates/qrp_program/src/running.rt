@@ -144,8 +144,12 @@ fn checked_trace<T: Source>(
     Ok((whole, verified))
 }
 
-/// The same of a formula that is read before the trace.
-fn checked<F: Source, T: Source>(
+/// The trace that was read, and what the check of it on a formula says: the steps that its goal
+/// needs. The formula is read before the trace.
+///
+/// # Errors
+/// As of `verify`.
+pub fn checked<F: Source, T: Source>(
     alloc: Global,
     rules: Rules,
     formula: &mut F,

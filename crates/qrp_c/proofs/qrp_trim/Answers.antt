@@ -1,0 +1,28 @@
+use Rattle.std.proofs.Common.{◌≡◌, ◌∙◌, refl, ap, [], Ok, Err}
+use Rattle.qrp.specs.Grammar.{text}
+use Rattle.qrp_c.specs.Told.{told_truth}
+use Rattle.qrp_c.proofs.GivenTexts.{written}
+use Rattle.qrp_c.proofs.qrp_trim.Goals as goal
+
+pub returns-in-Ok : goal.returns-in-Ok
+returns-in-Ok c =
+    let found = c.in-Ok.ensures.ok in
+    let is : c.bytes.result.now ≡ text found.0 = cc (c.bytes.ensures.bytes, found.3) in
+    record {
+      answer = Ok found.0;
+      trimmed = (found.1, refl, refl);
+      told = c.tell_truth.ensures ∙ ap told_truth found.2;
+      named = tt;
+      written = written _ _ _ _ _ is c.put_text.ensures.length c.put_text.ensures.written c.put_text.ensures.unwritten;
+    }
+
+pub returns-in-Err : goal.returns-in-Err
+returns-in-Err c =
+    record {
+      answer = Err c.in-Err.fault;
+      trimmed = c.in-Err.ensures.err;
+      told = c.tell_fault.ensures.told;
+      named = c.tell_fault.ensures.named;
+      written = written [] [] _ _ _ refl c.put_text-in-Err.ensures.length c.put_text-in-Err.ensures.written
+          c.put_text-in-Err.ensures.unwritten;
+    }

@@ -1,0 +1,294 @@
+r"""The proved checker of QBF proofs, in process: a formula (QDIMACS 1.1) and a trace (QRP), as bytes or from files.
+
+    >>> import qrp_check
+    >>> formula = b"p cnf 1 2\ne 1 0\n1 0\n-1 0\n"
+    >>> trace = b"p qrp 1 4\n1 1 0 0\n2 -1 0 0\n3 1 0 0\n4 0 1 2 0\nr unsat\n"
+    >>> verdict = qrp_check.verify(formula, trace)
+    >>> verdict.verified, verdict.truth, str(verdict)
+    (True, False, 'VERIFIED false')
+    >>> qrp_check.core(formula, trace)
+    [1, 2, 4]
+    >>> qrp_check.verify(formula, b"p qrp 1 0\nr unsat\n").meaning
+    'The trace has no step without literals, so it proves nothing.'
+
+A text is anything whose bytes lie together in memory (bytes, bytearray, memoryview, mmap); it is not copied, and must not change during
+the call. Other threads run meanwhile.
+
+The module calls the library libqrp: the file that the environment variable QRP_LIBRARY names, or the one beside this file (in a wheel),
+or lib/libqrp.so.1 in a folder above this file (of the sources after `make lib`, of an unpacked release, or of the prefix where it is
+installed), or the one that the system's loader finds.
+"""
+
+import ctypes
+import dataclasses
+import mmap
+import os
+import pathlib
+import typing
+
+__all__ = ["Refused", "Verdict", "core", "format", "trim", "verify", "verify_files"]
+
+_LINE_ROOM = 48  # QRP_LINE_ROOM
+_FAULT_ROOM = 128  # QRP_FAULT_ROOM
+_NO_MEMORY = 4  # QRP_NO_MEMORY
+_MORE = 32  # A canonical text is at most so much longer, since its header has the right numbers; if not, the call is made again.
+
+# Anything with a buffer; `collections.abc.Buffer` names it from Python 3.12 on.
+Text = typing.Union[bytes, bytearray, memoryview, mmap.mmap]
+Path = typing.Union[str, "os.PathLike[str]"]
+
+
+class _Verdict(ctypes.Structure):
+    """`struct qrp_verdict` of qrp_check.h."""
+
+    place: int
+    status: int
+    truth: int
+    letter: int
+    number: int
+    rule: int
+    _fields_ = [
+        ("place", ctypes.c_uint64),
+        ("status", ctypes.c_uint8),
+        ("truth", ctypes.c_uint8),
+        ("letter", ctypes.c_uint8),
+        ("number", ctypes.c_uint8),
+        ("rule", ctypes.c_uint8),
+    ]
+
+
+@dataclasses.dataclass(frozen=True)
+class Verdict:
+    """What was found. `str()` is the line that the program prints. Ask for `verified`: a verdict has no truth value of its own."""
+
+    status: int
+    """0: verified. 1: the proof is refused. 2: a text is refused. These are the program's exit statuses."""
+    truth: typing.Optional[bool]
+    """The truth of the formula if it was verified, else None."""
+    fault: typing.Optional[str]
+    """The name of the fault, for example 'F6', 'P7', 'C4' or 'S10', else None."""
+    place: typing.Optional[int]
+    """The line of a fault in a text, the variable of C1 to C3, or the number of the step of S1 to S12, else None."""
+    meaning: typing.Optional[str] = dataclasses.field(repr=False)
+    """What the fault means, in one sentence, else None."""
+    line: str = dataclasses.field(repr=False)
+    """The line that the program prints, without its end."""
+
+    @property
+    def verified(self) -> bool:
+        """Whether the trace proves its result of the formula."""
+        return self.status == 0
+
+    def __str__(self) -> str:
+        return self.line
+
+    def __bool__(self) -> bool:
+        raise TypeError("a verdict is neither true nor false: ask for verdict.verified, or for verdict.truth, the truth of the formula")
+
+
+class Refused(ValueError):
+    """A formula or a proof is refused, so there is no text or core of it. `verdict` says why."""
+
+    def __init__(self, verdict: Verdict) -> None:
+        super().__init__(f"{verdict}: {verdict.meaning}")
+        self.verdict = verdict
+
+
+def _load() -> ctypes.CDLL:
+    here = pathlib.Path(__file__).resolve()
+    beside = [here.with_name("libqrp.so.1"), *(folder / "lib" / "libqrp.so.1" for folder in here.parents)]
+    path = os.environ.get("QRP_LIBRARY") or next((str(file) for file in beside if file.exists()), "libqrp.so.1")
+    advice = "build it by `make lib`, install it, or name its file in the environment variable QRP_LIBRARY"
+    try:
+        library = ctypes.CDLL(path)
+        library.qrp_version.restype = ctypes.c_uint32
+    except OSError as error:
+        raise ImportError(f"the library libqrp was not found or cannot be loaded ({error}): {advice}") from error
+    except AttributeError as error:
+        raise ImportError(f"{path} is another library, or an older libqrp ({error}): {advice}") from error
+    text = [ctypes.c_void_p, ctypes.c_size_t]
+    verdict = ctypes.POINTER(_Verdict)
+    written = [ctypes.c_void_p, ctypes.c_size_t]
+    for name, result, types in [
+        ("qrp_verify", ctypes.c_int32, [*text, *text, ctypes.c_bool, verdict]),
+        ("qrp_trim", ctypes.c_size_t, [*text, *text, ctypes.c_bool, *written, verdict]),
+        ("qrp_core", ctypes.c_size_t, [*text, *text, ctypes.c_bool, *written, verdict]),
+        ("qrp_format", ctypes.c_size_t, [*text, *written, verdict]),
+        ("qrp_verdict_line", ctypes.c_size_t, [verdict, *written]),
+        ("qrp_fault_text", ctypes.c_size_t, [verdict, *written]),
+    ]:
+        call = getattr(library, name)
+        call.argtypes = types
+        call.restype = result
+    return library
+
+
+_library = _load()
+
+
+def _version(number: int) -> str:
+    return f"{number // 10000}.{number // 100 % 100}.{number % 100}"
+
+
+__version__ = _version(_library.qrp_version())
+
+
+class _Lent:
+    """The address and length of a text's bytes, in a `with`: as long as it lasts, their owner cannot move or free them."""
+
+    def __init__(self, name: str, text: Text) -> None:
+        self._name = name
+        self._text = text
+        self._buffer = _Buffer()
+
+    def __enter__(self) -> "tuple[object, int]":
+        if isinstance(self._text, str):
+            raise TypeError(f"the {self._name} is a str: pass its bytes (text.encode()), or the names of files to verify_files")
+        try:
+            _get_buffer(self._text, self._buffer, 0)
+        except BufferError:
+            raise TypeError(f"the bytes of the {self._name} do not lie together in memory: pass bytes(..) of it") from None
+        except TypeError:
+            kind = type(self._text).__name__
+            raise TypeError(f"the {self._name} has to be bytes, a bytearray, a memoryview or an mmap, not {kind}") from None
+        return self._buffer.address or _nowhere, self._buffer.length
+
+    def __exit__(self, *_: object) -> None:
+        _release_buffer(self._buffer)
+
+
+class _Buffer(ctypes.Structure):
+    """The first fields of `Py_buffer`, and room for the others."""
+
+    address: int
+    length: int
+    _fields_ = [("address", ctypes.c_void_p), ("owner", ctypes.py_object), ("length", ctypes.c_ssize_t), ("others", ctypes.c_void_p * 16)]
+
+
+_get_buffer = ctypes.pythonapi.PyObject_GetBuffer
+_get_buffer.argtypes = [ctypes.py_object, ctypes.POINTER(_Buffer), ctypes.c_int]
+_get_buffer.restype = ctypes.c_int
+_release_buffer = ctypes.pythonapi.PyBuffer_Release
+_release_buffer.argtypes = [ctypes.POINTER(_Buffer)]
+_release_buffer.restype = None
+# An address for a text of no bytes, since no pointer may be null.
+_nowhere = ctypes.cast(ctypes.create_string_buffer(1), ctypes.c_void_p)
+
+
+def _written(call: "typing.Callable[..., int]", found: _Verdict, room: int) -> str:
+    buffer = ctypes.create_string_buffer(room)
+    call(ctypes.byref(found), buffer, room)
+    return buffer.value.decode("ascii")
+
+
+def _verdict(found: _Verdict) -> Verdict:
+    """What a call wrote. Raises MemoryError."""
+    if found.status == _NO_MEMORY:
+        raise MemoryError("out of memory, so nothing is known: check again with more")
+    line = _written(_library.qrp_verdict_line, found, _LINE_ROOM).rstrip("\n")
+    if found.status == 0:
+        return Verdict(0, bool(found.truth), None, None, None, line)
+    fault = chr(found.letter) + str(found.number)
+    if fault == "C6":
+        fault = f"S{found.rule}"
+    place = None if fault == "C4" else found.place
+    return Verdict(found.status, None, fault, place, _written(_library.qrp_fault_text, found, _FAULT_ROOM), line)
+
+
+def verify(formula: Text, trace: Text, any_pivot: bool = False) -> Verdict:
+    """Checks the trace against the formula; with `any_pivot` resolution may be on variables of either quantifier.
+
+    Raises MemoryError if it is out of memory, and TypeError if a text is no buffer.
+    """
+    found = _Verdict()
+    with _Lent("formula", formula) as lent_formula, _Lent("trace", trace) as lent_trace:
+        _library.qrp_verify(*lent_formula, *lent_trace, any_pivot, ctypes.byref(found))
+    return _verdict(found)
+
+
+def verify_files(formula: Path, trace: Path, any_pivot: bool = False) -> Verdict:
+    """The same with the files of these names. They must not be written or cut meanwhile.
+
+    Raises OSError as `open` does.
+    """
+    with _Mapped(formula) as formula_text, _Mapped(trace) as trace_text:
+        return verify(formula_text, trace_text, any_pivot)
+
+
+class _Mapped:
+    """The bytes of a file, in a `with`: mapped if that can be done, and else read, as of a pipe or an empty file."""
+
+    def __init__(self, path: Path) -> None:
+        self._path = path
+
+    def __enter__(self) -> Text:
+        self._map: "mmap.mmap | None" = None
+        with open(self._path, "rb") as file:
+            try:
+                self._map = mmap.mmap(file.fileno(), 0, access=mmap.ACCESS_READ)
+            except (OSError, ValueError):
+                return file.read()
+        return self._map
+
+    def __exit__(self, *_: object) -> None:
+        if self._map is not None:
+            self._map.close()
+
+
+def trim(formula: Text, trace: Text, any_pivot: bool = False) -> bytes:
+    """The trace with only the steps that its proof needs, in canonical form.
+
+    Raises Refused if the trace does not prove its result, and else as `verify` does.
+    """
+    found = _Verdict()
+    with _Lent("formula", formula) as lent_formula, _Lent("trace", trace) as lent_trace:
+
+        def call(buffer: "ctypes.Array[ctypes.c_char]", room: int) -> int:
+            return int(_library.qrp_trim(*lent_formula, *lent_trace, any_pivot, buffer, room, ctypes.byref(found)))
+
+        return _text(call, found, lent_trace[1] + _MORE)
+
+
+def format(formula: Text) -> bytes:
+    """The formula in canonical form.
+
+    Raises Refused if it is no closed prenex formula, and else as `verify` does.
+    """
+    found = _Verdict()
+    with _Lent("formula", formula) as lent:
+
+        def call(buffer: "ctypes.Array[ctypes.c_char]", room: int) -> int:
+            return int(_library.qrp_format(*lent, buffer, room, ctypes.byref(found)))
+
+        return _text(call, found, lent[1] + _MORE)
+
+
+def _text(call: "typing.Callable[[ctypes.Array[ctypes.c_char], int], int]", found: _Verdict, room: int) -> bytes:
+    """The text that a call writes, in a second call if the first had no room for it."""
+    buffer = ctypes.create_string_buffer(room)
+    length = call(buffer, room)
+    if length >= room:
+        buffer = ctypes.create_string_buffer(length + 1)
+        length = call(buffer, length + 1)
+    if length == 0:
+        raise Refused(_verdict(found))
+    return buffer.raw[:length]
+
+
+def core(formula: Text, trace: Text, any_pivot: bool = False) -> "list[int]":
+    """The numbers of the steps that the proof needs, in the order of the trace.
+
+    Raises Refused if the trace does not prove its result, and else as `verify` does.
+    """
+    found = _Verdict()
+    with _Lent("formula", formula) as lent_formula, _Lent("trace", trace) as lent_trace:
+        # A step takes at least six bytes: its number, two zeros, and what comes after each.
+        room = lent_trace[1] // 6 + 1
+        steps = (ctypes.c_uint64 * room)()
+        count = _library.qrp_core(*lent_formula, *lent_trace, any_pivot, steps, room, ctypes.byref(found))
+        if count > room:
+            steps = (ctypes.c_uint64 * count)()
+            _library.qrp_core(*lent_formula, *lent_trace, any_pivot, steps, count, ctypes.byref(found))
+    if count == 0:
+        raise Refused(_verdict(found))
+    return list(steps[:count])
