@@ -36,9 +36,9 @@ def arguments(words):
 
 
 def seconds(word):
-    """A positive number of seconds."""
+    """A positive number of seconds, at most a year."""
     number = float(word)
-    if not number > 0:
+    if not 0 < number < 366 * 86400:
         raise ValueError(word)
     return number
 

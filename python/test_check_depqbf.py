@@ -59,6 +59,7 @@ def cases(traces, work):
     yield "kept", (*depqbf, "--keep", work / "kept", false), 0, "VERIFIED false"
     yield "kept where nothing can be", (*depqbf, "--keep", solvers["depqbf"], false), 3, "the trace cannot be kept"
     yield "no formula", (), 2, "usage:"
+    yield "no limit", ("--timeout", "inf", false), 2, "invalid seconds value"
     yield "no number", ("--timeout", "-1", false), 2, "invalid seconds value"
     yield "help", ("--help",), 0, "The exit status is 0 if each answer was verified"
 

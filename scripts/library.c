@@ -169,6 +169,7 @@ static void each_room(const struct example *of, const struct qrp_verdict *v) {
     size_t lengths[2] = {strlen(of->line), qrp_fault_text(v, meaning, sizeof meaning)};
     const char *texts[2] = {of->line, meaning};
     struct text pages = fenced(QRP_FAULT_ROOM + 1, true, 0);
+    long before = requests;
     bool is = true;
     for (int k = 0; k < 2; k++)
         for (size_t room = 0; room <= lengths[k] + 2; room++) {
@@ -177,7 +178,7 @@ static void each_room(const struct example *of, const struct qrp_verdict *v) {
             is &= (k ? qrp_fault_text(v, at, room) : qrp_verdict_line(v, at, room)) == lengths[k] && is_kept(&pages, room, texts[k], lengths[k]);
         }
     unguard(pages, true, 0);
-    settle(is && *lengths < QRP_LINE_ROOM, "the line and the meaning in each room", of);
+    settle(is && *lengths < QRP_LINE_ROOM && requests == before, "the line and the meaning in each room, without memory", of);
 }
 
 /* The texts of the other calls in rooms around theirs, before a page that nobody can write. */

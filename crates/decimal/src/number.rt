@@ -9,17 +9,17 @@ ghost use Rattle.decimal.specs.Digits.{AreDigits};
 use crate::word::short;
 
 /// At most this many digits are read, so that their value fits.
-const MOST: usize = 18;
+const MOST: usize = 19;
 
 /// The same as `digits`, by a loop.
 #[cold]
 #[inline(never)]
 fn by_digit(bytes: &[u8], from: usize) -> (u64, usize)
     requires { from ≤ length bytes.now }
-    ensures within { (from ≤ result.1) × (result.1 ≤ length bytes.now) × (result.1 ≤ from + 18) }
+    ensures within { (from ≤ result.1) × (result.1 ≤ length bytes.now) × (result.1 ≤ from + 19) }
     ensures digits { AllDigits 10 (take (result.1 - from) (drop from bytes.now)) }
     ensures value { result.0 ≡ digits_value 10 (take (result.1 - from) (drop from bytes.now)) }
-    ensures longest { result.1 < from + 18 → result.1 < length bytes.now
+    ensures longest { result.1 < from + 19 → result.1 < length bytes.now
         → is_ascii_digit (slice_index bytes.now result.1) ≡ false }
 {
     let rest = &bytes[from..];
@@ -53,7 +53,7 @@ fn by_word(bytes: &[u8], from: usize) -> Option<(u64, usize)>
     Some((value, end))
 }
 
-/// The value of the decimal digits from the place `from` on, at most 18 of them, and the place
+/// The value of the decimal digits from the place `from` on, at most 19 of them, and the place
 /// after them: `(0, from)` where there is none. The place is at most the length.
 ///
 /// Where they stand among the first eight bytes, it takes these as one word, whose place does not
@@ -61,10 +61,10 @@ fn by_word(bytes: &[u8], from: usize) -> Option<(u64, usize)>
 #[inline(always)]
 pub fn digits(bytes: &[u8], from: usize) -> (u64, usize)
     requires { from ≤ length bytes.now }
-    ensures within { (from ≤ result.1) × (result.1 ≤ length bytes.now) × (result.1 ≤ from + 18) }
+    ensures within { (from ≤ result.1) × (result.1 ≤ length bytes.now) × (result.1 ≤ from + 19) }
     ensures digits { AllDigits 10 (take (result.1 - from) (drop from bytes.now)) }
     ensures value { result.0 ≡ digits_value 10 (take (result.1 - from) (drop from bytes.now)) }
-    ensures longest { result.1 < from + 18 → result.1 < length bytes.now
+    ensures longest { result.1 < from + 19 → result.1 < length bytes.now
         → is_ascii_digit (slice_index bytes.now result.1) ≡ false }
 {
     match by_word(bytes, from) {

@@ -28,9 +28,9 @@ value_of ds h small =
 one_more : (xs : List ℕ) (n : ℕ) → n < length xs → take (n + 1) xs ≡ take n xs ++ get_or xs n 0 ∷ []
 one_more xs n h = let more : n + 1 ≡ suc n = omega arith in ap (λ k. take k xs) more ∙ take-suc xs n 0 h
 
--- at most 18 digits fit
-fits_64 : (ds : List ℕ) → AllDigits 10 ds → length ds ≤ 18 → digits_value 10 ds < 2 ^ 64
-fits_64 ds h few = let short : digits_value 10 ds < 10 ^ 18 = rw (own.same ds h) at (digits_value_short own ds 18 (own.from ds h) few) in
+-- at most 19 digits fit
+fits_64 : (ds : List ℕ) → AllDigits 10 ds → length ds ≤ 19 → digits_value 10 ds < 2 ^ 64
+fits_64 ds h few = let short : digits_value 10 ds < 10 ^ 19 = rw (own.same ds h) at (digits_value_short own ds 19 (own.from ds h) few) in
     omega arith
 
 first_digit : (d : ℕ) (ds : List ℕ) → AllDigits 10 (d ∷ ds) → is_ascii_digit d ≡ true
@@ -83,7 +83,7 @@ minus bs n within all small nonzero sep =
     }
 
 module _ (bytes : List ℕ) (negative : Bool) (start value end : ℕ) (sign : negative ≡ begins_with_minus bytes) (after : start ≤ end)
-    (few : end ≤ start + 18)
+    (few : end ≤ start + 19)
     (all : AllDigits 10 (take (end - start) (drop start bytes))) (is : value ≡ digits_value 10 (take (end - start) (drop start bytes)))
     (some : end ≡ start → ⊥) (within : end < length bytes) (nonzero : (negative && nat_eq value 0) ≡ false)
     (sep : is_separator (get_or bytes end 0) ≡ true) where

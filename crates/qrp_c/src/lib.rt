@@ -83,13 +83,14 @@ pub extern "C" fn qrp_verdict_line(verdict: &QrpVerdict, buffer: &mut [u8]) -> u
 ///
 /// In C: `size_t qrp_fault_text(const struct qrp_verdict *verdict, char *buffer, size_t room)`.
 ///
-/// Returns its length without the zero, and writes as `qrp_verdict_line` does. A struct that tells
-/// no fault has the empty text.
+/// Returns its length without the zero, 127 at most, and writes as `qrp_verdict_line` does. A struct
+/// that tells no fault has the empty text.
 #[unsafe(no_mangle)]
 pub extern "C" fn qrp_fault_text(verdict: &QrpVerdict, buffer: &mut [u8]) -> usize
     ensures told { (e : Fault) → NamesVariable e → verdict.now ≡ told_fault e
         → IsWritten (fault_meaning e) buffer.old buffer.new result }
     ensures none { ¬ TellsFault verdict.now → IsWritten [] buffer.old buffer.new result }
+    ensures short { result ≤ 127 }
     ensures kept { drop (1 + result) buffer.new ≡ drop (1 + result) buffer.old }
 {
     put_text(buffer, meaning_of(verdict).as_bytes())

@@ -1,6 +1,6 @@
 //! The line of a verdict, as the program prints it, and what its fault means.
 
-ghost use Rattle.std.specs.Prelude.{◌≡◌, Some, Result, []};
+ghost use Rattle.std.specs.Prelude.{◌≡◌, ◌≤◌, Some, Result, [], length};
 ghost use Rattle.qbf_text.specs.Written.{IsPut};
 ghost use Rattle.qrp_check.specs.declared.verdict.Verified.{Verified};
 ghost use Rattle.qrp_check.specs.declared.verdict.Fault.{Fault};
@@ -48,6 +48,7 @@ pub fn meaning_of(verdict: &QrpVerdict) -> &'static str
     ensures told { (e : Fault) → NamesVariable e → verdict.now ≡ told_fault e
         → result.now ≡ fault_meaning e }
     ensures none { ¬ TellsFault verdict.now → result.now ≡ [] }
+    ensures short { length result.now ≤ 127 }
 {
     match fault(verdict) {
         Some(fault) => fault_meaning(&fault),

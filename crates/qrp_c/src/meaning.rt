@@ -1,6 +1,6 @@
 //! What each fault means, in one sentence.
 
-ghost use Rattle.std.specs.Prelude.{◌≡◌};
+ghost use Rattle.std.specs.Prelude.{◌≡◌, ◌≤◌, length};
 ghost use Rattle.qrp_c.specs.Meanings.{formula_meaning, trace_meaning, rule_meaning};
 ghost use Rattle.qrp_c.specs.Meanings.{check_meaning, fault_meaning};
 
@@ -10,7 +10,8 @@ use qrp_check::{CheckFault, Fault, RuleFault};
 
 /// What a fault of a formula's text means.
 fn formula_meaning(fault: FormulaFault) -> &'static str
-    ensures { result.now ≡ formula_meaning fault }
+    ensures is { result.now ≡ formula_meaning fault }
+    ensures short { length result.now ≤ 127 }
 {
     match fault {
         FormulaFault::F1 => "The formula could not be read.",
@@ -29,7 +30,8 @@ fn formula_meaning(fault: FormulaFault) -> &'static str
 
 /// What a fault of a trace's text means.
 fn trace_meaning(fault: TraceFault) -> &'static str
-    ensures { result.now ≡ trace_meaning fault }
+    ensures is { result.now ≡ trace_meaning fault }
+    ensures short { length result.now ≤ 127 }
 {
     match fault {
         TraceFault::P1 => "The trace could not be read.",
@@ -46,7 +48,8 @@ fn trace_meaning(fault: TraceFault) -> &'static str
 
 /// What a fault of a step means.
 fn rule_meaning(fault: RuleFault) -> &'static str
-    ensures { result.now ≡ rule_meaning fault }
+    ensures is { result.now ≡ rule_meaning fault }
+    ensures short { length result.now ≤ 127 }
 {
     match fault {
         RuleFault::S1 => "The step holds both signs of a variable.",
@@ -70,7 +73,8 @@ fn rule_meaning(fault: RuleFault) -> &'static str
 
 /// What a fault of a check means.
 fn check_meaning(fault: CheckFault) -> &'static str
-    ensures { result.now ≡ check_meaning fault }
+    ensures is { result.now ≡ check_meaning fault }
+    ensures short { length result.now ≤ 127 }
 {
     match fault {
         CheckFault::C1(_) => "The trace has a variable in its sets that the formula does not bind.",
@@ -84,7 +88,8 @@ fn check_meaning(fault: CheckFault) -> &'static str
 
 /// What a fault means.
 pub fn fault_meaning(fault: &Fault) -> &'static str
-    ensures { result.now ≡ fault_meaning fault.now }
+    ensures is { result.now ≡ fault_meaning fault.now }
+    ensures short { length result.now ≤ 127 }
 {
     match *fault {
         Fault::Formula(fault, _) => formula_meaning(fault),

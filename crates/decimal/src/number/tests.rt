@@ -13,7 +13,12 @@ fn reads(rt: &impl Abort, bytes: &[u8], from: usize, wanted: (u64, usize)) {
 #[test]
 fn reads_numbers_of_each_length(rt: HostRuntime) {
     let all = b"1234567890123456789 0 7 99 18446744073709551615";
-    reads(&rt, all, 0, (123456789012345678, 18));
+    reads(&rt, all, 0, (1234567890123456789, 19));
+    reads(&rt, b"12345678901234567890 ", 0, (1234567890123456789, 19));
+    reads(&rt, b"-9999999999999999999 ", 1, (9999999999999999999, 20));
+    reads(&rt, b"-234567 ", 1, (234567, 7));
+    reads(&rt, b"-2345678 ", 1, (2345678, 8));
+    reads(&rt, b"-23456789 ", 1, (23456789, 9));
     reads(&rt, all, 12, (3456789, 19));
     reads(&rt, all, 11, (23456789, 19));
     reads(&rt, all, 18, (9, 19));
