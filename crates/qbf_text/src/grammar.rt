@@ -28,7 +28,7 @@ pub enum Taken<T> {
 }
 
 /// Why a grammar did not take a token. Reading stops then.
-#[derive(Drop)]
+#[derive(Clone, Copy, Debug, Drop)]
 pub enum Stop<F> {
     /// An allocation failed.
     Memory,
@@ -48,7 +48,7 @@ impl<F> From<F> for Stop<F> {
 }
 
 /// Why nothing was read.
-#[derive(Drop)]
+#[derive(Clone, Copy, Debug, Drop)]
 pub enum ReadError<F> {
     /// The source failed.
     Device,
