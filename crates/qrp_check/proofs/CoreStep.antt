@@ -215,10 +215,6 @@ few_at [] i s all here = cc here
 few_at (t ∷ steps) zero s all here = let e : Some t ≡ Some s = here in let same : t ≡ s = cc e in subst HasFewAntecedents same all.0
 few_at (t ∷ steps) (suc i) s all here = few_at steps i s all.1 here
 
-pub none_listed : (xs : List ℕ) → length xs < 1 → xs ≡ []
-none_listed [] less = refl
-none_listed (x ∷ xs) less = absurd (omega (arith, less))
-
 pub one_listed : (xs : List ℕ) (d : ℕ) → 1 ≤ length xs → length xs < 2 → xs ≡ get_or xs 0 d ∷ []
 one_listed [] d some less = absurd (omega (arith, some))
 one_listed (x ∷ []) d some less = refl

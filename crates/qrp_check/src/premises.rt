@@ -1,7 +1,6 @@
 //! The literals of the antecedents of a step.
 
-ghost use Rattle.std.specs.Prelude.{◌≡◌, ◌<◌, ℕ, List, take, length, IfSome};
-ghost use Rattle.std.specs.Prelude.{IfNone};
+ghost use Rattle.std.specs.Prelude.{◌≡◌, ◌<◌, ℕ, List, take, length, IfSome, IfNone};
 ghost use Rattle.qrp.specs.Inferences.{Inference, IsAt, IsOnlyAt};
 ghost use Rattle.qrp_check.specs.Conditions.{IsNumberOf};
 ghost use Rattle.qrp_check.specs.Premises.{ArePremises, IsPremise};

@@ -4,46 +4,42 @@ use Rattle.qbf_core.specs.Literal.{Literal}
 use Rattle.qbf_core.specs.Members.{◌∈◌}
 use Rattle.qbf_core.specs.Qbf.{Qbf}
 use Rattle.qbf_core.specs.Rules.{IsTautology}
-use Rattle.qrp_rules.specs.declared.initial_cubes.Aligned.{Aligned}
 use Rattle.qrp_rules.specs.declared.initial_cubes.Watch.{Watch}
+use Rattle.qrp_rules.specs.declared.initial_cubes.Watches.{Watches}
 use Rattle.qrp_rules.specs.declared.initial_cubes.InitialCubes.{InitialCubes}
+use Rattle.qrp_rules.specs.Seen.{Has}
 
 -- the clause at place i is among those that are watched by l
-pub record IsWatchedBy (watches : List Watch) (l : Literal) (i : ℕ) : Type 0 where
+pub record IsWatchedBy (lists : List Watch) (l : Literal) (i : ℕ) : Type 0 where
   pub place : ℕ
   pub watch : Watch
-  pub here : slice_get watches place ≡ Some watch
+  pub here : slice_get lists place ≡ Some watch
   pub by : watch.lit ≡ l
   pub listed : Contains watch.clauses.items i
 
--- all that was watched still is
-abbrev pub KeepsWatches : List Watch → List Watch → Type 0
-KeepsWatches old new = (l : Literal) (i : ℕ) → IsWatchedBy old l i → IsWatchedBy new l i
+-- the cube is the same, and all that was watched still is
+pub record KeepsWatches (old new : Watches) : Type 0 where
+  pub cube : new.cube ≡ old.cube
+  pub watched : (l : Literal) (i : ℕ) → IsWatchedBy old.lists.items l i → IsWatchedBy new.lists.items l i
 
 -- the clause at place i, if there is one, needs no literal, or is watched by one that it holds
 abbrev pub IsWatched : Qbf → List Watch → ℕ → Type 0
-IsWatched f watches i =
+IsWatched f lists i =
     (clause : List Literal) → slice_get f.clauses i ≡ Some clause
-    → IsTautology clause ⊎ ((l : Literal) × (l ∈ clause) × IsWatchedBy watches l i)
+    → IsTautology clause ⊎ ((l : Literal) × (l ∈ clause) × IsWatchedBy lists l i)
 
 -- the same, by one that the cube holds too
-abbrev pub IsMet : Qbf → List Literal → List Watch → ℕ → Type 0
-IsMet f cube watches i =
+abbrev pub IsMet : Qbf → Watches → ℕ → Type 0
+IsMet f watches i =
     (clause : List Literal) → slice_get f.clauses i ≡ Some clause
-    → IsTautology clause ⊎ ((l : Literal) × (l ∈ clause) × (l ∈ cube) × IsWatchedBy watches l i)
+    → IsTautology clause ⊎ ((l : Literal) × (l ∈ clause) × Has watches.cube l × IsWatchedBy watches.lists.items l i)
 
--- the clause at place i, if there is one, needs no literal, is watched still, or is met
-abbrev pub IsHeld : Qbf → List Literal → List Watch → List Watch → ℕ → Type 0
-IsHeld f cube left watches i =
-    (clause : List Literal) → slice_get f.clauses i ≡ Some clause
-    → IsTautology clause
-    ⊎ (((l : Literal) × (l ∈ clause) × IsWatchedBy left l i) ⊎ ((l : Literal) × (l ∈ clause) × (l ∈ cube) × IsWatchedBy watches l i))
-
--- lists for a cube: what was watched is, by these lists or those put aside, and no list of another literal has a clause
-pub record IsAligned (cube : List Literal) (from : List Watch) (aligned : Aligned) : Type 0 where
-  pub kept : (l : Literal) (i : ℕ) → IsWatchedBy from l i → IsWatchedBy aligned.aside.items l i ⊎ IsWatchedBy aligned.watches.items l i
-  pub lits : (l : Literal) (i : ℕ) → IsWatchedBy aligned.watches.items l i → l ∈ cube
+-- what was watched is, by lists that were put aside or those of literals of the cube
+abbrev pub IsParted : List Watch → List Watch → Watches → Type 0
+IsParted from aside watches =
+    (l : Literal) (i : ℕ) → IsWatchedBy from l i
+    → IsWatchedBy aside l i ⊎ (Has watches.cube l × IsWatchedBy watches.lists.items l i)
 
 -- where watches are kept, each clause is watched
 abbrev pub IsWatching : Qbf → InitialCubes → Type 0
-IsWatching f cubes = IfSome cubes.watches (λ watches. (i : ℕ) → IsWatched f watches.items i)
+IsWatching f cubes = IfSome cubes.watches (λ watches. (i : ℕ) → IsWatched f watches.lists.items i)

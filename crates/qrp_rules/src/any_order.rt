@@ -35,7 +35,7 @@ fn insert_each(seen: &mut SeenLits, lits: &[Lit]) -> bool
 
 /// Makes a set that of the literals of a list, or returns `false` if there is no room for one of
 /// them.
-fn set_to(seen: &mut SeenLits, lits: &[Lit]) -> bool
+pub(crate) fn set_to(seen: &mut SeenLits, lits: &[Lit]) -> bool
     ensures { IsTrue result → (l : Literal) → Has seen.new l ↔ l ∈ lits.now }
 {
     seen.clear();

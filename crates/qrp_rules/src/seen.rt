@@ -9,7 +9,7 @@ use std::alloc::{AllocError, Global};
 use std::marker::Model;
 
 /// The number of a literal: those of a variable are neighbours.
-fn code(lit: Lit) -> usize
+pub(crate) fn code(lit: Lit) -> usize
     ensures { result ≡ code lit }
 {
     let sign = if lit.is_negative() { 1 } else { 0 };
@@ -57,6 +57,11 @@ impl SeenLits {
             self.stamps = vec![in alloc; 0; width]?;
         }
         Ok(())
+    }
+
+    /// How many numbers of literals there is room for.
+    pub(crate) fn room(&self) -> usize {
+        self.stamps.len()
     }
 
     /// Takes all literals out. Once in 2^32 times it takes time for each one that there is room for.

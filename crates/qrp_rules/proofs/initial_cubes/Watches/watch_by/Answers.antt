@@ -1,0 +1,45 @@
+use Rattle.std.proofs.Common.{◌≡◌, ◌∙◌, refl, sym, subst, ap, Contains, List}
+use Rattle.std.proofs.lemmas.Option.{get_or_from_slice_get}
+use Rattle.qrp_rules.specs.Watches.{IsWatchedBy}
+use Rattle.qrp_rules.specs.declared.initial_cubes.Watch.{Watch}
+use Rattle.qrp_rules.proofs.WatchedClauses.{added_watches, written_keeps, on_ok, only_one, pushed_or_not, written_watches}
+use Rattle.qrp_rules.proofs.initial_cubes.Watches.watch_by.Goals as goal
+
+pub returns-in-Some-clause-kept : goal.returns-in-Some-clause-kept
+returns-in-Some-clause-kept c =
+    let w : Watch = c.in-Some.ensures.0 in
+    let same : c.index_mut.result.now ≡ w =
+    c.index_mut.ensures.value
+    ∙ get_or_from_slice_get c.args.self.now.lists.items c.in-Some.position w c.index_mut.result.now c.in-Some.ensures.1 in
+    record {
+      cube = refl;
+      watched = written_keeps c.args.self.now.lists.items c.in-Some.position w c.add.new.watch c.in-Some.ensures.1
+          (c.add.ensures.lit ∙ ap (λ (z : Watch). z.lit) same)
+          (λ i h. c.add.ensures.kept i (subst (λ (z : Watch). Contains z.clauses.items i) (sym same) h));
+    }
+
+pub returns-in-Some-clause-added : goal.returns-in-Some-clause-added
+returns-in-Some-clause-added c =
+    let w : Watch = c.in-Some.ensures.0 in
+    let same : c.index_mut.result.now ≡ w =
+    c.index_mut.ensures.value
+    ∙ get_or_from_slice_get c.args.self.now.lists.items c.in-Some.position w c.index_mut.result.now c.in-Some.ensures.1 in
+    on_ok c.add.result c.add.ensures.added
+    (written_watches c.args.self.now.lists.items c.in-Some.position w c.add.new.watch c.args.lit c.args.clause c.in-Some.ensures.1
+    (c.add.ensures.lit ∙ ap (λ (z : Watch). z.lit) same ∙ c.in-Some.ensures.2))
+
+pub returns-in_ok-clauses-in-None-clause-kept : goal.returns-in_ok-clauses-in-None-clause-kept
+returns-in_ok-clauses-in-None-clause-kept c =
+    let new : Watch = record { lit = c.args.lit; clauses = c.in_ok-clauses-in-None.clauses } in
+    record {
+      cube = c.push_list.ensures.cube;
+      watched = λ l i h. pushed_or_not c.push_list.result c.args.self.now.lists.items c.push_list.new.self.lists.items new
+          c.push_list.ensures.lists c.push_list.ensures.err l i h;
+    }
+
+pub returns-in_ok-clauses-in-None-clause-added : goal.returns-in_ok-clauses-in-None-clause-added
+returns-in_ok-clauses-in-None-clause-added c =
+    let new : Watch = record { lit = c.args.lit; clauses = c.in_ok-clauses-in-None.clauses } in
+    on_ok c.push_list.result c.push_list.ensures.lists
+    (λ e. subst (λ (ws : List Watch). IsWatchedBy ws c.args.lit c.args.clause) (sym e)
+    (added_watches c.args.self.now.lists.items new c.args.lit c.args.clause refl (only_one c.args.clause _ (c.in_ok-clauses-in-None.ensures.items_if_clones_equal (λ y e. e)))))
