@@ -7,7 +7,7 @@ use Rattle.std.specs.Str.Parse.{digits_value, AllDigits}
 pub record AreDigits (bytes : List ℕ) (from end value : ℕ) : Type 0 where
   pub order : from ≤ end
   pub within : end ≤ length bytes
-  pub few : end ≤ from + 19
+  pub few : end ≤ from + 20
   pub digits : AllDigits 10 (take (end - from) (drop from bytes))
   pub value_is : value ≡ digits_value 10 (take (end - from) (drop from bytes))
   pub stops : is_ascii_digit (slice_index bytes end) ≡ false

@@ -1,22 +1,32 @@
 //! The decimal digits that stand at a place of some bytes.
 
-ghost use Rattle.std.specs.Prelude.{◌≡◌, ◌+◌, ◌-◌, ◌≤◌, ◌<◌, length, take, drop, slice_index};
-ghost use Rattle.std.specs.Prelude.{false, IfSome};
+ghost use Rattle.std.specs.Prelude.{◌≡◌, ◌+◌, ◌-◌, ◌*◌, ◌^◌, ◌≤◌, ◌<◌, length, take, drop, slice_index};
+ghost use Rattle.std.specs.Prelude.{true, false, IfSome};
 ghost use Rattle.std.specs.Char.{is_ascii_digit};
 ghost use Rattle.std.specs.Str.Parse.{digits_value, AllDigits};
 ghost use Rattle.decimal.specs.Digits.{AreDigits};
 
 use crate::word::short;
 
-/// At most this many digits are read, so that their value fits.
-const MOST: usize = 19;
+/// At most this many digits are read: more than these, but for leading zeros, do not fit.
+const MOST: usize = 20;
+
+/// Whether a number has 64 bits with one digit more.
+#[inline(always)]
+fn fits(value: u64, digit: u64) -> bool
+    requires { digit ≤ 9 }
+    ensures yes { result ≡ true → value * 10 + digit < 2 ^ 64 }
+    ensures no { result ≡ false → 2 ^ 64 ≤ value * 10 + digit }
+{
+    value < 1844674407370955161 || (value == 1844674407370955161 && digit <= 5)
+}
 
 /// The same as `digits`, by a loop.
 #[cold]
 #[inline(never)]
 fn by_digit(bytes: &[u8], from: usize) -> (u64, usize)
     requires { from ≤ length bytes.now }
-    ensures within { (from ≤ result.1) × (result.1 ≤ length bytes.now) × (result.1 ≤ from + 19) }
+    ensures within { (from ≤ result.1) × (result.1 ≤ length bytes.now) × (result.1 ≤ from + 20) }
     ensures digits { AllDigits 10 (take (result.1 - from) (drop from bytes.now)) }
     ensures value { result.0 ≡ digits_value 10 (take (result.1 - from) (drop from bytes.now)) }
     ensures longest { result.1 < from + 19 → result.1 < length bytes.now
@@ -26,7 +36,11 @@ fn by_digit(bytes: &[u8], from: usize) -> (u64, usize)
     let mut value: u64 = 0;
     let mut i = 0;
     while i < MOST && i < rest.len() && rest[i].is_ascii_digit() {
-        value = value * 10 + u64::from(rest[i] - b'0');
+        let digit = u64::from(rest[i] - b'0');
+        if !fits(value, digit) {
+            break;
+        }
+        value = value * 10 + digit;
         i += 1;
     }
     (value, from + i)
@@ -53,15 +67,15 @@ fn by_word(bytes: &[u8], from: usize) -> Option<(u64, usize)>
     Some((value, end))
 }
 
-/// The value of the decimal digits from the place `from` on, at most 19 of them, and the place
-/// after them: `(0, from)` where there is none. The place is at most the length.
+/// The value of the decimal digits from the place `from` on, at most 20 of them and as far as
+/// it has 64 bits, and the place after them: `(0, from)` where there is none. The place is at most the length.
 ///
 /// Where they stand among the first eight bytes, it takes these as one word, whose place does not
 /// depend on `from`.
 #[inline(always)]
 pub fn digits(bytes: &[u8], from: usize) -> (u64, usize)
     requires { from ≤ length bytes.now }
-    ensures within { (from ≤ result.1) × (result.1 ≤ length bytes.now) × (result.1 ≤ from + 19) }
+    ensures within { (from ≤ result.1) × (result.1 ≤ length bytes.now) × (result.1 ≤ from + 20) }
     ensures digits { AllDigits 10 (take (result.1 - from) (drop from bytes.now)) }
     ensures value { result.0 ≡ digits_value 10 (take (result.1 - from) (drop from bytes.now)) }
     ensures longest { result.1 < from + 19 → result.1 < length bytes.now

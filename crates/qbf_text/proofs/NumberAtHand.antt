@@ -6,8 +6,6 @@ use Rattle.std.specs.Str.Parse.{digits_value, AllDigits}
 use Rattle.std.specs.Char.{is_ascii_digit}
 use Rattle.std.specs.Str.{all_ascii_digits}
 use Rattle.std.proofs.lemmas.Bool.{eqb-true, cases_Bool}
-use Rattle.std.proofs.lemmas.List.{length-take}
-use Rattle.std.proofs.lemmas.Str.Parse.{digits_value_short}
 use Rattle.std.proofs.Math.Seq.{take-suc}
 use Rattle.std.proofs.lemmas.Bool.Decides.{nat_tests}
 use Rattle.qbf_text.specs.declared.run.Digits.TheVariants.{Value}
@@ -27,11 +25,6 @@ value_of ds h small =
 
 one_more : (xs : List ℕ) (n : ℕ) → n < length xs → take (n + 1) xs ≡ take n xs ++ get_or xs n 0 ∷ []
 one_more xs n h = let more : n + 1 ≡ suc n = omega arith in ap (λ k. take k xs) more ∙ take-suc xs n 0 h
-
--- at most 19 digits fit
-fits_64 : (ds : List ℕ) → AllDigits 10 ds → length ds ≤ 19 → digits_value 10 ds < 2 ^ 64
-fits_64 ds h few = let short : digits_value 10 ds < 10 ^ 19 = rw (own.same ds h) at (digits_value_short own ds 19 (own.from ds h) few) in
-    omega arith
 
 first_digit : (d : ℕ) (ds : List ℕ) → AllDigits 10 (d ∷ ds) → is_ascii_digit d ≡ true
 first_digit d ds h = and_left (is_ascii_digit d) (all_ascii_digits ds) (own.from (d ∷ ds) h)
@@ -83,12 +76,12 @@ minus bs n within all small nonzero sep =
     }
 
 module _ (bytes : List ℕ) (negative : Bool) (start value end : ℕ) (sign : negative ≡ begins_with_minus bytes) (after : start ≤ end)
-    (few : end ≤ start + 19)
+    (fits : value < 2 ^ 64)
     (all : AllDigits 10 (take (end - start) (drop start bytes))) (is : value ≡ digits_value 10 (take (end - start) (drop start bytes)))
     (some : end ≡ start → ⊥) (within : end < length bytes) (nonzero : (negative && nat_eq value 0) ≡ false)
     (sep : is_separator (get_or bytes end 0) ≡ true) where
   small : digits_value 10 (take (end - start) (drop start bytes)) < 2 ^ 64
-  small = fits_64 (take (end - start) (drop start bytes)) all (omega (arith, length-take (end - start) (drop start bytes)))
+  small = subst (λ v. v < 2 ^ 64) is fits
 
   -- what the reader of digits found, where there is no minus
   pub found_plain : negative ≡ false → start ≡ 0 → BeginsWithNumber bytes negative value (end + 1) (nat_eq (get_or bytes end 0) 10)

@@ -53,7 +53,7 @@ fn zero(ends_line: bool) -> Found
     }
 }
 
-/// The same as `number_in_front`, with any number of digits up to 19.
+/// The same as `number_in_front`, with any number of digits up to 20 that has 64 bits.
 #[inline(always)]
 fn signed_number(bytes: &[u8]) -> Option<Found>
     ensures { IfSome result (λ f. BeginsWithNumber bytes.now f.negative f.value f.len f.ends_line) }
@@ -78,7 +78,7 @@ fn signed_number(bytes: &[u8]) -> Option<Found>
 
 /// The number that the bytes begin with, if a separator follows it.
 ///
-/// It is None for what is not as usual too: a number of more than 19 digits. The zero that ends a
+/// It is None for what is not as usual too: a number of more than 20 digits. The zero that ends a
 /// list is the most frequent number, so it is looked for first.
 #[inline(always)]
 pub fn number_in_front(bytes: &[u8]) -> Option<Found>

@@ -1,4 +1,4 @@
-use Rattle.std.proofs.Common.{sym, ◌∙◌}
+use Rattle.std.proofs.Common.{◌<◌, ◌^◌, sym, ◌∙◌}
 use Rattle.qbf_text.proofs.NumberAtHand.{found}
 use Rattle.qbf_text.proofs.hand.signed_number.Goals as goal
 
@@ -7,5 +7,6 @@ returns c =
     let d = c.digits-value.ensures in
     let nonzero = sym c.is_minus_zero.ensures ∙ c.if-is_minus_zero.false in
     let sep = sym c.is_separator.ensures ∙ c.if-not-is_separator.false in
-    found _ _ _ _ _ c.begins_with_minus-negative.ensures d.within.0 d.within.2 d.digits d.value c.if-end-start.false c.if-end-bytes.false
+    let fits : c.digits-value.result.0 < 2 ^ 64 = search in
+    found _ _ _ _ _ c.begins_with_minus-negative.ensures d.within.0 fits d.digits d.value c.if-end-start.false c.if-end-bytes.false
     nonzero sep c.from-start.ensures
