@@ -266,8 +266,8 @@ static void *by_thread(void *wrong) {
     return NULL;
 }
 
-/* Structs that no call wrote have the empty line, and what comes after it stays: zeros, and each struct of a case with one field changed
-   such that qrp_verify never writes it. */
+/* Structs that tell nothing have the empty line, and what comes after it stays: zeros, and each struct of a case with one field changed to
+   what it never is beside the others. */
 static void other_structs(void) {
     struct qrp_verdict v, changed;
     bool is = true;
@@ -288,7 +288,7 @@ static void other_structs(void) {
             is &= qrp_verdict_line(&changed, line, sizeof line) == 0 && !*line && qrp_fault_text(&changed, line, sizeof line) == 0;
             for (size_t k = 1; k < sizeof line; k++) is &= line[k] == 'x';
         }
-    settle(is, "structs that no call wrote", &examples[0]);
+    settle(is, "structs that tell nothing", &examples[0]);
     settle(qrp_version() == QRP_VERSION, "the version", &examples[0]);
 }
 
