@@ -86,8 +86,8 @@ int32_t qrp_verify(const void *formula, size_t formula_length, const void *trace
  * as it was, in either case and whatever is in the verdict. So a call with a room of 0 returns how much room is needed: one byte more
  * than the length. */
 
-/* Writes the line of a verdict, as the program prints it, with its line end. The line is empty if no call wrote the verdict, that is
- * for each struct that qrp_verify never writes, such as one of zeros. It takes no memory, so it also works after QRP_NO_MEMORY. */
+/* Writes the line of a verdict, as the program prints it, with its line end. The line is empty if the fields are not, all of them, those
+ * of a verified verdict or of a fault, as in a struct of zeros. It takes no memory, so it also works after QRP_NO_MEMORY. */
 size_t qrp_verdict_line(const struct qrp_verdict *verdict, char *buffer, size_t room);
 
 /* Writes what the fault of a verdict means: one sentence, always the same for the same fault. It is empty if there is no fault. It

@@ -48,7 +48,8 @@ def cases(traces, work):
     both = f"{false} (lazy): VERIFIED false\n{false} (traditional): VERIFIED false\n"
     yield "both modes", (*depqbf, "--learning", "both", false), 0, both
     yield "the other mode", (*depqbf, "--learning=traditional", true), 0, f"{true}: VERIFIED true\n"
-    yield "another answer", ("--solver", solvers["liar"], false), 1, "VERIFIED false, but the solver answers true: its trace proves the other"
+    other = "VERIFIED false, but the solver answers true: its trace proves the other answer"
+    yield "another answer", ("--solver", solvers["liar"], false), 1, other
     yield "no answer", ("--solver", solvers["silent"], false), 1, "but the solver has no answer"
     yield "a trace that is cut off", ("--solver", solvers["cut"], false), 1, "So the solver's answer, false, is not verified."
     yield "too slow", ("--solver", solvers["slow"], "--timeout", "0.2", false), 1, "given up after 0.2 seconds"

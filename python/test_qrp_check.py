@@ -72,7 +72,8 @@ def numbers(trimmed):
 def is_answered(example):
     """Whether each call of the module answers this case as the list says."""
     texts = (example.formula, example.trace, example.any_pivot)
-    if not is_verdict(qrp_check.verify(*texts), example) or not is_verdict(qrp_check.verify_files(*example.files, example.any_pivot), example):
+    by_name = qrp_check.verify_files(*example.files, example.any_pivot)
+    if not is_verdict(qrp_check.verify(*texts), example) or not is_verdict(by_name, example):
         return False
     trimmed = text_or_verdict(qrp_check.trim, *texts)
     core = text_or_verdict(qrp_check.core, *texts)

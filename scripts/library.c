@@ -75,7 +75,8 @@ static void line_of(const struct qrp_verdict *v, char *line) {
 }
 
 /* Makes a call with these texts, and returns the status in the struct. */
-static int made(enum call call, const struct example *of, const uint8_t *formula, const uint8_t *trace, struct qrp_verdict *v, struct written *w) {
+static int made(enum call call, const struct example *of, const uint8_t *formula, const uint8_t *trace, struct qrp_verdict *v,
+                struct written *w) {
     size_t f = of->formula.length, t = of->trace.length;
     memset(v, 0xff, sizeof *v);
     switch (call) {
@@ -119,7 +120,8 @@ static bool is_done(enum call call, int status, const struct example *of, const 
 
 /* Whether a call that got no memory says so and writes nothing. */
 static bool is_refused(enum call call, int status, const struct qrp_verdict *v, const struct written *w) {
-    return is_answer(status, v, QRP_NO_MEMORY, "NO MEMORY\n") && (call == VERIFY || w->returned == 0) && (call == CORE || call == VERIFY || !*w->text);
+    return is_answer(status, v, QRP_NO_MEMORY, "NO MEMORY\n") && (call == VERIFY || w->returned == 0)
+        && (call == CORE || call == VERIFY || !*w->text);
 }
 
 static struct written room_of(size_t room) {
@@ -175,7 +177,8 @@ static void each_room(const struct example *of, const struct qrp_verdict *v) {
         for (size_t room = 0; room <= lengths[k] + 2; room++) {
             memset(pages.bytes, 'x', pages.length);
             char *at = (char *)pages.bytes + pages.length - room;
-            is &= (k ? qrp_fault_text(v, at, room) : qrp_verdict_line(v, at, room)) == lengths[k] && is_kept(&pages, room, texts[k], lengths[k]);
+            size_t length = k ? qrp_fault_text(v, at, room) : qrp_verdict_line(v, at, room);
+            is &= length == lengths[k] && is_kept(&pages, room, texts[k], length);
         }
     unguard(pages, true, 0);
     settle(is && *lengths < QRP_LINE_ROOM && requests == before, "the line and the meaning in each room, without memory", of);
@@ -263,8 +266,8 @@ static void *by_thread(void *wrong) {
     return NULL;
 }
 
-/* Structs that no call wrote have the empty line, and what comes after it stays: zeros, and each struct of a case with one field changed
-   such that qrp_verify never writes it. */
+/* Structs that tell nothing have the empty line, and what comes after it stays: zeros, and each struct of a case with one field changed to
+   what it never is beside the others. */
 static void other_structs(void) {
     struct qrp_verdict v, changed;
     bool is = true;
@@ -285,7 +288,7 @@ static void other_structs(void) {
             is &= qrp_verdict_line(&changed, line, sizeof line) == 0 && !*line && qrp_fault_text(&changed, line, sizeof line) == 0;
             for (size_t k = 1; k < sizeof line; k++) is &= line[k] == 'x';
         }
-    settle(is, "structs that no call wrote", &examples[0]);
+    settle(is, "structs that tell nothing", &examples[0]);
     settle(qrp_version() == QRP_VERSION, "the version", &examples[0]);
 }
 
@@ -313,7 +316,7 @@ static struct text bytes_of(const char *name) {
     return copy;
 }
 
-/* The numbers of the steps in the text of a trimmed trace: the first words of its lines between the header, with the sets, and the result. */
+/* The numbers of the steps in the text of a trimmed trace: the first words of its lines that begin with a digit. */
 static void read_core(struct example *of) {
     char *text = __real_malloc(of->trimmed.length + 1), *line, *next;
     memcpy(text, of->trimmed.bytes, of->trimmed.length);
