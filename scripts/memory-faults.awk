@@ -26,7 +26,7 @@ BEGIN {
     size("qrp_check/src/marks.rt", "count")
     size("qrp_rules/src/clause_index.rt", "formula.clauses()")
     size("qrp_rules/src/initial_cubes.rt", "cube.room()")
-    size("qrp_rules/src/initial_cubes.rt", "1")
+    size("qrp_rules/src/initial_cubes.rt", "self.lists.len()")
     size("qrp_rules/src/seen.rt", "width")
     size("step_index/src/listed.rt", "index + 1")
     size("step_index/src/listed.rt", "1")

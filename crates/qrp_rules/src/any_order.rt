@@ -33,8 +33,7 @@ fn insert_each(seen: &mut SeenLits, lits: &[Lit]) -> bool
     true
 }
 
-/// Makes a set that of the literals of a list, or returns `false` if there is no room for one of
-/// them.
+/// Makes a set that of the literals of a list, or returns `false` if there is no room for them.
 pub(crate) fn set_to(seen: &mut SeenLits, lits: &[Lit]) -> bool
     ensures { IsTrue result → (l : Literal) → Has seen.new l ↔ l ∈ lits.now }
 {

@@ -85,8 +85,7 @@ impl Watches {
     {
         let index = code(list.lit);
         if index < self.positions.len() {
-            let position = self.lists.len().min(u32::MAX as usize);
-            self.positions[index] = position as u32;
+            self.positions[index] = self.lists.len().min(u32::MAX as usize) as u32;
         }
         self.lists.push(list)?;
         Ok(())
@@ -100,7 +99,8 @@ impl Watches {
         match self.position(lit) {
             Some(position) => add(&mut self.lists[position], clause),
             None => {
-                let clauses = vec![in alloc; clause; 1]?;
+                let mut clauses = Vec::new(alloc);
+                clauses.push(clause)?;
                 self.push_list(Watch { lit, clauses })
             }
         }
@@ -168,7 +168,8 @@ impl Watches {
         ensures parted { IfOk result (λ aside. IsParted self.old.lists.items aside.items self.new) }
     {
         let mut aside = Vec::new(alloc);
-        let mut left = mem::replace(&mut self.lists, Vec::new(alloc));
+        let room = Vec::with_capacity(alloc, self.lists.len())?;
+        let mut left = mem::replace(&mut self.lists, room);
         while let Some(list) = left.pop() {
             if self.cube.contains(list.lit) {
                 self.push_list(list)?;

@@ -3,8 +3,8 @@ use Rattle.qrp_rules.specs.declared.initial_cubes.Watch.{Watch}
 use Rattle.qrp_rules.proofs.WatchedClauses.{IsPartedTo, parted_aside, parted_kept}
 use Rattle.qrp_rules.proofs.initial_cubes.Watches.put_aside.Goals as goal
 
-pub loop-list-preserved-in-Continue-1 : goal.loop-list-preserved-in-Continue-1
-loop-list-preserved-in-Continue-1 c =
+pub loop-list-preserved-in-Continue-branch-2 : goal.loop-list-preserved-in-Continue-branch-2
+loop-list-preserved-in-Continue-branch-2 c =
     let from : List Watch = c.args.self.now.lists.items in
     let rest : List Watch = c.pop.new.self.items in
     let aside : List Watch = c.loop-list.aside.items in

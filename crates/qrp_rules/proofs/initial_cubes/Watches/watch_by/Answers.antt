@@ -28,18 +28,18 @@ returns-in-Some-clause-added c =
     (written_watches c.args.self.now.lists.items c.in-Some.position w c.add.new.watch c.args.lit c.args.clause c.in-Some.ensures.1
     (c.add.ensures.lit ∙ ap (λ (z : Watch). z.lit) same ∙ c.in-Some.ensures.2))
 
-pub returns-in_ok-clauses-in-None-clause-kept : goal.returns-in_ok-clauses-in-None-clause-kept
-returns-in_ok-clauses-in-None-clause-kept c =
-    let new : Watch = record { lit = c.args.lit; clauses = c.in_ok-clauses-in-None.clauses } in
+pub returns-in_ok-push-in-None-clause-kept : goal.returns-in_ok-push-in-None-clause-kept
+returns-in_ok-push-in-None-clause-kept c =
+    let new : Watch = record { lit = c.args.lit; clauses = c.push.new.self } in
     record {
       cube = c.push_list.ensures.cube;
       watched = λ l i h. pushed_or_not c.push_list.result c.args.self.now.lists.items c.push_list.new.self.lists.items new
           c.push_list.ensures.lists c.push_list.ensures.err l i h;
     }
 
-pub returns-in_ok-clauses-in-None-clause-added : goal.returns-in_ok-clauses-in-None-clause-added
-returns-in_ok-clauses-in-None-clause-added c =
-    let new : Watch = record { lit = c.args.lit; clauses = c.in_ok-clauses-in-None.clauses } in
+pub returns-in_ok-push-in-None-clause-added : goal.returns-in_ok-push-in-None-clause-added
+returns-in_ok-push-in-None-clause-added c =
+    let new : Watch = record { lit = c.args.lit; clauses = c.push.new.self } in
     on_ok c.push_list.result c.push_list.ensures.lists
     (λ e. subst (λ (ws : List Watch). IsWatchedBy ws c.args.lit c.args.clause) (sym e)
-    (added_watches c.args.self.now.lists.items new c.args.lit c.args.clause refl (only_one c.args.clause _ (c.in_ok-clauses-in-None.ensures.items_if_clones_equal (λ y e. e)))))
+    (added_watches c.args.self.now.lists.items new c.args.lit c.args.clause refl (only_one c.args.clause _ (rw c.new-clauses.ensures.items at c.in_ok-push-in-None.ensures.items))))

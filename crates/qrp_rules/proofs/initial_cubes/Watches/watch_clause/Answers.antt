@@ -1,4 +1,4 @@
-use Rattle.std.proofs.Common.{◌≡◌, List, Bool, sym, subst}
+use Rattle.std.proofs.Common.{List, Bool, sym, subst}
 use Rattle.qbf_core.proofs.Members.{in_at}
 use Rattle.qrp_rules.specs.Seen.{Has}
 use Rattle.qrp_rules.proofs.WatchedClauses.{met_by}
