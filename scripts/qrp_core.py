@@ -1,9 +1,28 @@
 """Finds the steps that a proof needs: the last one without literals, and those below it. A part of scripts/explain and the scripts beside it."""
 
 import operator
+import re
 from array import array
 from itertools import islice, repeat
 from operator import itemgetter
+
+LEADING_ZERO = re.compile(rb" 0[0-9]")
+
+
+def is_needed(trace, number):
+    """Whether the proof needs the step with this number: the last step without literals is that step, or depends on it."""
+    wanted, dependent, needed = b"%d" % number, set(), False
+    for _, texts in trace.pieces():
+        if LEADING_ZERO.search(b"\n".join(texts)):
+            texts = [b" ".join(b"%d" % int(word) for word in text.split()) for text in texts]
+        split = list(map(bytes.partition, texts, repeat(b" 0 ")))
+        for (head, _, _), antecedents in zip(split, map(bytes.split, map(itemgetter(2), split))):
+            name, is_longer, _ = head.partition(b" ")
+            if name == wanted or not dependent.isdisjoint(antecedents):
+                dependent.add(name)
+            if not is_longer:
+                needed = name in dependent
+    return needed
 
 
 class Core:
@@ -62,7 +81,3 @@ class Core:
                     needed[below] = 1
             place = needed.rfind(1, 0, place)
         return needed
-
-    def needs(self, number):
-        place = self.find(number)
-        return place < len(self.numbers) and bool(self.needed[place])

@@ -11,7 +11,7 @@ import sys
 import tempfile
 from pathlib import Path
 
-from qrp_core import Core
+from qrp_core import Core, is_needed
 from qrp_formula import Formula
 from qrp_rules import SIDES, judge
 from qrp_steps import Trace
@@ -70,6 +70,12 @@ def first_fault(formula, trace, any_pivot):
     return None
 
 
+def is_core_found(trace):
+    """Whether it is found of each step alone whether the proof needs it, as it is of all together."""
+    needed = Core(trace).needed
+    return all(is_needed(trace, step.number) == bool(needed[place]) for place, step in enumerate(trace.steps()))
+
+
 def check(program, formula, trace, *flags):
     return subprocess.run([program, "check", *flags, formula, trace], capture_output=True, text=True, check=False).stdout.strip()
 
@@ -83,6 +89,7 @@ def try_rows(program, rows):
             continue
         flags = [flag] if flag else []
         expect(f"{flag} {line}, the first fault", agrees(program, formula, trace, flags, Kept(formula)) == (True, line), row)
+        expect(f"{flag} {line}, the needed steps", is_core_found(read_trace(trace)), row)
         if line.startswith("VERIFIED "):
             continue
         number, fault = re.fullmatch(r"REFUSED step (\d+) (S\d+)", line).groups()

@@ -86,7 +86,14 @@ fn verifies_proofs(rt: HostRuntime) -> Result<(), Fail> {
     verifies(&rt, alloc, FALSE_FORMULA, REFUTATION, false, &all)?;
     verifies(&rt, alloc, TRUE_FORMULA, PROOF_OF_TRUTH, true, &all)?;
     let resolved = b"p qrp 1 3\n1 1 0 0\n2 -1 0 0\n3 0 1 2 0\nr sat\n";
-    verifies(&rt, alloc, b"p cnf 1 0\na 1 0\n", resolved, true, &[0, 1, 2])
+    verifies(
+        &rt,
+        alloc,
+        b"p cnf 1 0\na 1 0\n",
+        resolved,
+        true,
+        &[0, 1, 2],
+    )
 }
 
 /// Sends a step without literals that follows from an earlier one.

@@ -349,7 +349,7 @@ const REFUSED: [Refused; 7] = [
     (b"p qrp x 0\nr sat\n", 8, (TraceFault::P2, 1)),
     (b"p qrp 0 0\nsat r\n", 14, (TraceFault::P3, 2)),
     (b"p qrp 0 0\n7 x 0\n", 14, (TraceFault::P3, 2)),
-    (b"p qrp 0 0\ne 0 0\nr sat\n", 14, (TraceFault::P4, 2)),
+    (b"p qrp 0 0\ne 0 0\nr sat\n", 16, (TraceFault::P4, 2)),
     (b"p qrp 0 0\n7 0 0\n7 0 0\n", 18, (TraceFault::P5, 3)),
     (b"p qrp 0 0\n7 0 1 2 3 0\n", 20, (TraceFault::P6, 2)),
     (b"p qrp 0 0\nr cnf behind it", 16, (TraceFault::P8, 2)),
