@@ -33,7 +33,7 @@ INSTALL_FILES = PREFIX='$(PREFIX)' LIBDIR='$(LIBDIR)' MANDIR='$(MANDIR)' DESTDIR
 all: $(PROGRAM)
 
 $(PROGRAM): $(SOURCES)
-	@echo 'proves and builds the program: some ten minutes on four processors, from nothing'
+	@echo 'proves and builds the program: some fifteen minutes on four processors, from nothing'
 	RT=$(RT) scripts/prove qrp_cmd
 	mkdir -p bin
 	cp crates/qrp_cmd/out/qrp_cmd $(PROGRAM)
@@ -51,7 +51,7 @@ demo: all
 
 # Every crate and its tests are proved, and all programs are built.
 $(PROVED): $(SOURCES)
-	@echo 'proves the crates and their tests: some twenty minutes on four processors, from nothing'
+	@echo 'proves the crates and their tests: some twenty-five minutes on four processors, from nothing'
 	RT=$(RT) scripts/prove --tests
 	$(MAKE) --no-print-directory proved-before
 

@@ -149,6 +149,36 @@ fn the_trace_is_not_pulled_for_format(rt: HostRuntime) -> Result<(), Fail> {
     Ok(())
 }
 
+/// A check pulls so many bytes of a trace, one by one, and says this line. The next pull would fail.
+fn check_pulls(
+    rt: &impl Abort,
+    alloc: Global,
+    trace: &[u8],
+    pulls: u64,
+    line: &[u8],
+) -> Result<(), Fail> {
+    let job = Job::Check(Rules::plain());
+    let fail_at = pulls.saturating_add(1);
+    let ran = run_on(alloc, job, (TWO_CLAUSES, 0), (trace, fail_at), 1)?;
+    is_same(rt, ran.out.bytes(), line, &pulls);
+    is_same(rt, ran.pulls, pulls, &line);
+    Ok(())
+}
+
+#[test]
+fn no_more_of_a_trace_is_pulled_than_is_looked_at(rt: HostRuntime) -> Result<(), Fail> {
+    let rows: [(&[u8], u64, &[u8]); 3] = [
+        // The byte after the wrong token, and the one after the result word, are the last.
+        (b"p qrp 0 0\n7 x 0\n", 14, b"REFUSED trace P3 line 2\n"),
+        (b"p qrp 0 0\nr cnf more", 16, b"REFUSED trace P8 line 2\n"),
+        (REFUTATION, 82, b"VERIFIED false\n"),
+    ];
+    for (trace, pulls, line) in rows {
+        check_pulls(&rt, rt.alloc(), trace, pulls, line)?;
+    }
+    Ok(())
+}
+
 /// A check says this line with this status, if these pulls of the formula and the trace fail.
 fn check_says(
     rt: &impl Abort,
