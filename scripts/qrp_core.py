@@ -13,6 +13,8 @@ def is_needed(trace, number):
     """Whether the proof needs the step with this number: the last step without literals is that step, or depends on it."""
     wanted, dependent, needed = b"%d" % number, set(), False
     for _, texts in trace.pieces():
+        if not dependent and not any(map(bytes.startswith, texts, repeat(wanted + b" "))):
+            continue
         if LEADING_ZERO.search(b"\n".join(texts)):
             texts = [b" ".join(b"%d" % int(word) for word in text.split()) for text in texts]
         split = list(map(bytes.partition, texts, repeat(b" 0 ")))
