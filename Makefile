@@ -51,7 +51,7 @@ demo: all
 
 # Every crate and its tests are proved, and all programs are built.
 $(PROVED): $(SOURCES)
-	@echo 'proves the crates and their tests: some twenty-five minutes on four processors, from nothing'
+	@echo 'proves the crates and their tests: from nothing this takes longer than the fifteen minutes of the program'
 	RT=$(RT) scripts/prove --tests
 	$(MAKE) --no-print-directory proved-before
 
