@@ -1,29 +1,30 @@
 """Finds the steps that a proof needs: the last one without literals, and those below it. A part of scripts/explain and the scripts beside it."""
 
 import operator
-import re
 from array import array
-from itertools import islice, repeat
-from operator import itemgetter
+from itertools import islice
 
-LEADING_ZERO = re.compile(rb" 0[0-9]")
+from qrp_steps import lists_of, numbers_of
 
 
 def is_needed(trace, number):
     """Whether the proof needs the step with this number: the last step without literals is that step, or depends on it."""
     wanted, dependent, needed = b"%d" % number, set(), False
-    for _, texts in trace.pieces():
-        if not dependent and not any(map(bytes.startswith, texts, repeat(wanted + b" "))):
+    for _, block in trace.blocks():
+        if not dependent and b"\n%b " % wanted not in b"\n" + block:
             continue
-        if LEADING_ZERO.search(b"\n".join(texts)):
-            texts = [b" ".join(b"%d" % int(word) for word in text.split()) for text in texts]
-        split = list(map(bytes.partition, texts, repeat(b" 0 ")))
-        for (head, _, _), antecedents in zip(split, map(bytes.split, map(itemgetter(2), split))):
-            name, is_longer, _ = head.partition(b" ")
-            if name == wanted or not dependent.isdisjoint(antecedents):
-                dependent.add(name)
-            if not is_longer:
-                needed = name in dependent
+        heads, tails = lists_of(block)
+        if not dependent:
+            place = [head.partition(b" ")[0] for head in heads].index(b"\n" + wanted)
+            dependent.add(wanted)
+            needed = b" " not in heads[place]
+            del heads[: place + 1], tails[: place + 1]
+        for head, tail in zip(heads, tails):
+            depends = not dependent.isdisjoint(tail.split())
+            if depends:
+                dependent.add(head[1:].partition(b" ")[0])
+            if b" " not in head:
+                needed = depends
     return needed
 
 
@@ -33,26 +34,22 @@ class Core:
     def __init__(self, trace):
         self.numbers = array("Q")
         self.antecedents = array("Q"), array("Q")  # 0 where there is none
-        self.lengths = array("L")  # how many literals each step has
         self.goal = None
-        for _, texts in trace.pieces():
-            self.take(texts)
+        for _, block in trace.blocks():
+            self.take(*lists_of(block))
         self.find = self.finder()
         self.marks = None
 
-    def take(self, texts):
+    def take(self, heads, tails):
         """Adds these steps."""
-        split = list(map(bytes.partition, texts, repeat(b" 0 ")))
         begun = len(self.numbers)
-        heads = list(map(itemgetter(0), split))
-        self.numbers.extend(map(int, map(itemgetter(0), map(bytes.partition, heads, repeat(b" ")))))
-        named = list(map(bytes.split, map(itemgetter(2), split)))
-        self.antecedents[0].extend(map(int, map(itemgetter(0), named)))
-        self.antecedents[1].extend([int(words[1]) if len(words) > 1 else 0 for words in named])
-        lengths = array("L", map(bytes.count, heads, repeat(b" ")))
-        self.lengths.extend(lengths)
-        if 0 in lengths:
-            self.goal = begun + max(place for place, length in enumerate(lengths) if not length)
+        self.numbers.extend(numbers_of(heads))
+        named = list(map(bytes.split, tails))
+        for place, antecedents in enumerate(self.antecedents):
+            antecedents.extend([int(words[place]) if len(words) > place else 0 for words in named])
+        empty = [place for place, head in enumerate(heads) if b" " not in head]
+        if empty:
+            self.goal = begun + empty[-1]
 
     def finder(self):
         """What gives the place of the step with a number: one that is none where there is no such step."""

@@ -3,11 +3,14 @@
 All faults of docs/FORMATS.md are found, in the lines that are not known to be right.
 """
 
+import re
 from collections import namedtuple
+from operator import neg
 
-from qrp_words import ALL, GREATEST, GREATEST_VARIABLE, Fault, Words, value
+from qrp_words import ALL, GREATEST, GREATEST_VARIABLE, Fault, Words, are_whole, value
 
-SET_BYTES, CLAUSE_BYTES = frozenset(b"ae"), frozenset(b"-123456789")
+SET_BYTES = frozenset(b"ae")
+ODD_BEGIN = re.compile(rb"\n[^-1-9]")  # of a line that begins with no clause
 EXISTS, FOR_ALL = "exists", "for all"
 QUANTIFIERS = {b"e": EXISTS, b"a": FOR_ALL}
 ADJECTIVES = {EXISTS: "existential", FOR_ALL: "universal"}
@@ -20,7 +23,13 @@ Clause = namedtuple("Clause", "number line literals clean")
 
 
 def is_clean(literals):
-    return not any(-literal in literals for literal in literals)
+    """Whether no literal of the set has its negation in it."""
+    return literals.isdisjoint(map(neg, literals))
+
+
+def are_clauses(block):
+    """Whether each line of a block is a clause, with single blanks and without leading zeros."""
+    return are_whole(block, ODD_BEGIN, 0)
 
 
 class Formula:
@@ -31,7 +40,8 @@ class Formula:
         words = Words(data, b"c", good)
         self.variables, self.count = words.header(b"cnf", GREATEST_VARIABLE, "F2", "F7")
         self.header_line, self.header_end = words.line, words.place()
-        self.places = {}
+        self.sets = []  # those that are not empty: the place of each, and its variables as text
+        self.placed, self.unplaced = {}, 0  # the places of the variables, and the first set of which they are not there
         self.block, self.last = 0, None
         while self.read_set(words):
             pass
@@ -42,7 +52,7 @@ class Formula:
         """Reads a quantifier set, if there is one."""
         text = words.whole_line(SET_BYTES)
         if text:
-            self.bind(text[:1], map(int, text[1:-1].split()), words.line)
+            self.bind(text[:1], text[2:-2], words.line)
             return True
         word = words.next()
         if word not in QUANTIFIERS:
@@ -59,15 +69,24 @@ class Formula:
                 raise Fault("F4", words, number=number, variables=self.variables, header=self.header_line)
             if number in self.places:
                 raise Fault("F5", words, number=number, place=self.places[number])
-            self.bind(word, [number], words.line)
+            self.bind(word, b"%d" % number, words.line)
         return True
 
     def bind(self, letter, variables, line):
-        variables = list(variables)
+        """Takes a set, with the text of its variables."""
         if variables:
             # Neighbouring sets of one quantifier are one block, and empty sets are none.
             self.block, self.last = self.block + (letter != self.last), letter
-            self.places.update(dict.fromkeys(variables, Place(QUANTIFIERS[letter], self.block, line)))
+            self.sets.append((Place(QUANTIFIERS[letter], self.block, line), variables))
+
+    @property
+    def places(self):
+        """Where each bound variable is bound."""
+        if self.unplaced < len(self.sets):
+            for place, variables in self.sets[self.unplaced :]:
+                self.placed.update(dict.fromkeys(map(int, variables.split()), place))
+            self.unplaced = len(self.sets)
+        return self.placed
 
     def place(self, literal):
         return self.places.get(abs(literal), UNBOUND)
@@ -83,7 +102,7 @@ class Formula:
         """The clauses in file order, some at a time: number and line of the first, and the text of each, on lines of their own."""
         words, number = self.words.again(), 1
         while True:
-            texts = words.whole_lines(CLAUSE_BYTES, 0)
+            texts = words.block(are_clauses).split(b"\n")[:-1]
             if texts:
                 yield number, words.line - len(texts) + 1, texts
                 number += len(texts)

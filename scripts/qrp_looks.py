@@ -16,12 +16,12 @@ MAGIC = [
     (b"#QCIR", "It is a formula in QCIR, which has no clauses: turn it into QDIMACS."),
     (b"aig ", "It is a circuit in AIGER: turn it into QDIMACS."),
     (b"aag ", "It is a circuit in AIGER: turn it into QDIMACS."),
-    (b"<", "It looks like a page of the web, not the file that it was to give."),
+    (b"<", "It looks like a web page, not the file that was to be downloaded."),
 ]
 HEADER = re.compile(rb"^[ \t]*p[ \t]+(cnf|qrp|bqrp)\b[^\r\n]*", re.MULTILINE)
 STEP = re.compile(rb"[ae]( \d+)* 0\s*|\d+( -?[1-9]\d*)* 0( \d+)* 0\s*|r \w+\s*")
 PROOF = re.compile(rb"(d )?-?[1-9]\d*( -?[1-9]\d*)* 0\s*|(d )?0\s*")
-OTHER_FORM = "a proof of {} (clauses to add, `d` for those to delete): that is a proof for SAT, not a trace in QRP."
+OTHER_FORM = "a proof in {} (clauses to add, `d` for those to delete): that is a proof for SAT, not a trace in QRP."
 
 
 def looks(data, wanted):

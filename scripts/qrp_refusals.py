@@ -61,7 +61,7 @@ def likely_cause(fault, data):
 
 def is_cut(fault, data):
     """Whether the text ends in the middle of the word that is refused, as it seems."""
-    return fault.name in ("F3", "P3", "P8") and fault.at is not None and data.endswith(word_of(fault)) and data.endswith(fault.text)
+    return fault.name in ("F3", "P3", "P5", "P8") and fault.at is not None and data.endswith(word_of(fault)) and data.endswith(fault.text)
 
 
 def explain_text(kind, text_fault, data):
@@ -155,8 +155,11 @@ def bound_twice(fault, _data):
     return [f"Variable {fault.known['number']} is bound already, as {ADJECTIVES[place.quantifier]}, in line {place.line}."]
 
 
-def free_variable(fault, data):
-    return [f"Variable {fault.known['number']} is in no quantifier set, so it is free."]
+def free_variable(fault, _data):
+    sentences = [f"Variable {fault.known['number']} is in no quantifier set, so it is free."]
+    if WORD.match(fault.text.lstrip())[0] in (b"a", b"e"):
+        sentences.append("Its line begins with a quantifier set, which an earlier 0 closes: is that 0 one too many?")
+    return sentences
 
 
 def cut_off(fault, data):
@@ -202,7 +205,10 @@ def clause_ends(data):
 
 
 def number_twice(fault, _data):
-    return [f"Step {fault.known['number']} is in line {fault.known['earlier']} already. Each step has a number of its own."]
+    sentences = [f"Step {fault.known['number']} is in line {fault.known['earlier']} already. Each step has a number of its own."]
+    if fault.at != 0:
+        sentences.append("It stands within a line, after a 0 that ends the step before it: is that 0 one too many?")
+    return sentences
 
 
 def third_antecedent(fault, _data):

@@ -188,7 +188,7 @@ def resolvent(formula, side, any_pivot, parents, literals):
         if l in in_resolvent and in_parent:
             notes[l] = "left out, not reducible"
             reasons.append(f"{l} is left out, and not reducible in the resolvent: {in_resolvent[l]}.")
-            reasons.append(f"Nor is it in {in_parent[0]}: {in_parent[1]}.")
+            reasons.append(f"Nor is it reducible in {in_parent[0]}: {in_parent[1]}.")
         else:
             notes[l] = f"left out, reducible in the {'parents' if l in in_resolvent else 'resolvent'}"
     if reasons:

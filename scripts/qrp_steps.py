@@ -4,16 +4,40 @@ All faults of docs/FORMATS.md are found, in the lines that are not known to be r
 lines of text, and taken apart when they are looked at.
 """
 
+import re
 from collections import namedtuple
-from itertools import repeat
 
 from qrp_formula import QUANTIFIERS, SET_BYTES
-from qrp_words import ALL, GREATEST, GREATEST_VARIABLE, Fault, Words, value
+from qrp_words import ALL, GREATEST, GREATEST_VARIABLE, Fault, Words, are_whole, value
 
-STEP_BYTES = frozenset(b"123456789")
+ODD_BEGIN = re.compile(rb"\n[^1-9]")  # of a line that begins with no step
+HEAD = re.compile(rb"\n(\d+)")
 
 # A variable that a quantifier set of the trace names.
 SetVariable = namedtuple("SetVariable", "variable quantifier line")
+
+
+def are_steps(block):
+    """Whether each line of a block is a step, with single blanks and without leading zeros."""
+    return are_whole(block, ODD_BEGIN, 1)
+
+
+def are_numbers(block):
+    """Whether a block has only numbers, and each that begins with 0 is 0 and comes after a blank."""
+    if block.translate(None, b"0123456789- \n") or block[:1] == b"0" or b"\n0" in block:
+        return False
+    return block.count(b" 0") == block.count(b" 0 ") + block.count(b" 0\n")
+
+
+def lists_of(block):
+    """The lists of the steps of such a block: the number and the literals of each after a line end, and its antecedents each after a blank."""
+    lists = (b"\n" + block).split(b" 0")
+    return lists[:-1:2], lists[1::2]
+
+
+def numbers_of(heads):
+    """The numbers of steps, from their first lists."""
+    return map(int, HEAD.findall(b"".join(heads)))
 
 
 class Step(namedtuple("Step", "line text")):
@@ -70,17 +94,22 @@ class Trace:
     def with_numbers(self, numbers, last=ALL):
         """The steps with one of these numbers, in file order, up to this line."""
         starts = tuple(b"%d " % number for number in numbers)
-        for line, texts in self.pieces(last):
-            if any(map(bytes.startswith, texts, repeat(starts))):
-                yield from (Step(line + place, text) for place, text in enumerate(texts) if text.startswith(starts))
+        for line, block in self.blocks(last):
+            if block.startswith(starts) or any(b"\n" + start in block for start in starts):
+                yield from (Step(line + place, text) for place, text in enumerate(block.split(b"\n")) if text.startswith(starts))
 
-    def pieces(self, last=ALL):
-        """The steps in file order, some at a time, up to this line: the line of the first, and the text of each, on lines of their own."""
+    def pieces(self):
+        """The steps in file order, some at a time: the line of the first, and the text of each, on lines of their own."""
+        for line, block in self.blocks():
+            yield line, block.split(b"\n")[:-1]
+
+    def blocks(self, last=ALL):
+        """The same up to this line, as one text: each step on a line, with single blanks and zeros."""
         words, seen = self.words.again(), {}
         while words.line < last or words.at < len(words.words):
-            texts = words.whole_lines(STEP_BYTES, 1)
-            if texts:
-                yield words.line - len(texts) + 1, texts
+            block = words.block(are_steps)
+            if block:
+                yield words.line - block.count(b"\n") + 1, block
                 continue
             word, line = words.next(), words.line
             if line > last:
@@ -88,7 +117,14 @@ class Trace:
             if word == b"r":
                 self.read_result(words)
                 return
-            yield line, [self.read_step(words, word, seen)]
+            yield line, self.read_step(words, word, seen) + b"\n"
+
+    def count_steps(self):
+        """How many steps there are, in a text that is right: 0 closes two lists of each."""
+        words, zeros = self.words.again(), 0
+        while (block := words.block(are_numbers)) or (word := words.next()) not in (b"r", None):
+            zeros += block.count(b" 0") if block else not word.strip(b"0")
+        return zeros // 2
 
     def read_result(self, words):
         word = words.next()

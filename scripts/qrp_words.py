@@ -4,9 +4,9 @@ A part of scripts/explain, scripts/draw-proof and the scripts beside them. Nothi
 """
 
 import copy
+import mmap
+import os
 import re
-from itertools import repeat
-from operator import itemgetter
 
 GREATEST = 2**64 - 1  # of the numbers of steps
 GREATEST_VARIABLE = 2**31 - 1
@@ -14,9 +14,9 @@ ALL = float("inf")  # as a number of lines: all of them
 
 WORD = re.compile(rb"[^ \t\r\n]+")
 NUMBER = re.compile(rb"-?[0-9]+")
-# Lines are looked at in blocks of so many bytes. What makes the zeros of a block hard to count.
+# Lines are looked at in blocks of so many bytes, and of those of the last one to its end. What makes the words of a block hard to count.
 BLOCK = 1 << 18
-UNUSUAL = (b"\t", b"\r", b" 00", b"-00")
+UNUSUAL = (b"\t", b"\r", b"-0", b"  ")
 
 
 class Fault(Exception):
@@ -39,11 +39,21 @@ def value(word):
     return -magnitude or word  # a minus before zero is no number
 
 
-def are_whole(block, lines, first, zeros):
-    """Whether each line of a block begins with one of these bytes, and has so many zeros and one at its end."""
-    if any(part in block for part in UNUSUAL) or not all(map(bytes.endswith, lines, repeat(b" 0"))):
+def are_whole(block, odd, zeros):
+    """Whether no line of a block has an odd begin, and each has so many zeros and one at its end; with single blanks and zeros."""
+    lines = block.count(b"\n")
+    if (block.count(b" 0\n"), block.count(b" 0 "), block.count(b" 0")) != (lines, zeros * lines, (zeros + 1) * lines):
         return False
-    return first.issuperset(map(itemgetter(0), lines)) and set(map(bytes.count, lines, repeat(b" 0 "))) == {zeros}
+    if any(part in block for part in UNUSUAL) or odd.search(b"\n" + block, 0, len(block)):
+        return False
+    # The first of the two zeros of a step is in the line of the second one.
+    return zeros == 0 or b"\n" not in b"".join(block.split(b" 0")[1::2])
+
+
+def read(path):
+    """The bytes of a file, of which only those are in memory that are looked at."""
+    with open(path, "rb") as file:
+        return mmap.mmap(file.fileno(), 0, access=mmap.ACCESS_READ) if os.path.getsize(path) else b""
 
 
 class Words:
@@ -55,7 +65,7 @@ class Words:
         self.good = good
         self.line, self.start, self.text = 0, 0, b""  # the line that is read, where it starts, and its text
         self.words, self.at = [], 0  # its words, and how many of them are taken
-        self.whole_blocks = set()  # where blocks of whole lines start, as far as they were looked at
+        self.right_blocks = set()  # where the blocks start that were found to be so
         self.word_by_word = 0  # up to here the text is read word by word
 
     def again(self):
@@ -72,27 +82,28 @@ class Words:
         self.words, self.at = [], 0
         return self.text
 
-    def whole_lines(self, first, zeros):
-        """The next lines without their line ends, if they are known to be right and each holds one whole list or step: it begins with
-        one of these bytes, and has so many zeros before the one that ends it. No lines where that is not so of all in the next block."""
+    def block(self, are_right):
+        """The next lines, if they are known to be right, and are so as this function says of a block; else nothing."""
         if self.at < len(self.words) or self.line >= self.good:
-            return []
+            return b""
         start = self.start + len(self.text)
         if start < self.word_by_word:
-            return []
-        block = self.data[start : self.data.rfind(b"\n", start, start + BLOCK) + 1]
-        lines = block.split(b"\n")[:-1]
-        if self.line + len(lines) > self.good:
-            lines = lines[: self.good - self.line]
-        if not lines or start not in self.whole_blocks and not are_whole(block, lines, first, zeros):
-            self.word_by_word = start + len(block)
-            return []
-        self.whole_blocks.add(start)
-        self.line += len(lines)
-        self.text = lines[-1] + b"\n"
-        self.start = start + sum(map(len, lines)) + len(lines) - len(self.text)
+            return b""
+        end = self.data.rfind(b"\n", start, start + BLOCK) + 1 or self.data.find(b"\n", start + BLOCK) + 1
+        block = self.data[start:end]
+        count = block.count(b"\n")
+        if self.line + count > self.good:
+            count = self.good - self.line
+            block = b"".join(line + b"\n" for line in block.split(b"\n")[:count])
+        if not block or (are_right, start) not in self.right_blocks and not are_right(block):
+            self.word_by_word = end
+            return b""
+        self.right_blocks.add((are_right, start))
+        self.line += count
+        self.text = block[block.rfind(b"\n", 0, -1) + 1 :]
+        self.start = start + len(block) - len(self.text)
         self.words, self.at = [], 0
-        return lines
+        return block
 
     def split(self):
         words = WORD.findall(self.text)

@@ -229,6 +229,20 @@ def try_drawings(program):
             expect(f"{picture}: the edges", sorted(pair for pair in titles if pair[1]) == sorted(edges))
 
 
+def try_blanks(program):
+    """Blanks more than one, leading zeros and lines that hold half a step change nothing of what is drawn and said, of more than one block."""
+    formula, steps = ROOT / "examples" / "two_clauses.qdimacs", "".join(f"{number} 1 2 0 0\n" for number in range(6, 30000))
+    text = (ROOT / "examples" / "two_clauses.qrp").read_text().replace("r unsat", f"{steps}r unsat")
+    with tempfile.TemporaryDirectory() as folder:
+        trace, other = Path(folder) / "trace", Path(folder) / "other"
+        trace.write_text(text)
+        for name, changed in ("blanks", text.replace(" ", "  ")), ("zeros", re.sub(r" (-?)([1-9])", r" \g<1>00\2", text)), ("lines", text.replace(" 0 ", "\n0 ")):
+            other.write_text(changed)
+            for words in [DRAW], [EXPLAIN]:
+                wanted, found = (run(*words, formula, path, program=program) for path in (trace, other))
+                expect(f"{words}: {name}", changed != text and found.stdout == wanted.stdout and found.returncode == 0 == wanted.returncode, found)
+
+
 def try_words(program):
     """Command lines that are wrong end with status 2, and a text that is no trace with 1."""
     formula, trace = ROOT / "examples" / "two_clauses.qdimacs", ROOT / "examples" / "two_clauses.qrp"
@@ -254,6 +268,7 @@ def main():
     expect("six proofs to damage", len(small + few) == 6, small + few)
     try_damages(program, small + few)
     try_drawings(program)
+    try_blanks(program)
     try_words(program)
     print(f"{passed} passed, {failed} failed")
     return 1 if failed or not passed else 0

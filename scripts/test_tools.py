@@ -123,6 +123,19 @@ def try_stats(program, formula, trace):
     expect(f"proof-stats {trace.name}", wrote.returncode == 0 and figures == [str(figure) for figure in wanted.values()], wrote)
 
 
+def write_chain(folder, last, factor):
+    """A formula and its proof: 1, from each variable the next one, and not the last; with the numbers of the steps times a factor."""
+    variables = range(1, last)
+    clauses = ["1 0", *(f"-{v} {v + 1} 0" for v in variables), f"-{last} 0"]
+    steps = [([1, 0], []), *(([-v, v + 1, 0], []) for v in variables), ([-last, 0], [])]
+    steps += [([v + 1, 0], [last + v if v > 1 else 1, v + 1]) for v in variables] + [([0], [2 * last, last + 1])]
+    lines = [" ".join(map(str, [n * factor, *literals, *(a * factor for a in named), 0])) for n, (literals, named) in enumerate(steps, 1)]
+    formula, trace = Path(folder) / "chain.qdimacs", Path(folder) / f"chain_{factor}.qrp"
+    formula.write_text("\n".join([f"p cnf {last} {last + 1}", " ".join(map(str, ["e", *variables, last, 0])), *clauses, ""]))
+    trace.write_text("\n".join(["p qrp 0 0", *lines, "r unsat", ""]))
+    return formula, trace
+
+
 def try_refusals(program):
     formula, trace = pair("kbkf3.trad")
     other, proof = pair("adder2.lazy")
@@ -144,6 +157,10 @@ def main():
         for name in FALSE:
             try_used(program, *pair(name), folder)
         try_odd_layout(program, folder)
+        for factor in 1, 10**13:
+            formula, trace = write_chain(folder, 20000, factor)
+            try_used(program, formula, trace, folder)
+            try_stats(program, formula, trace)
     for name in FALSE + TRUE:
         try_stats(program, *pair(name))
     try_refusals(program)

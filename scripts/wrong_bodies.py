@@ -148,14 +148,17 @@ def functions(crate_name, file, text):
         if found.end() < len(plain):
             blocks.append((found.start(), end_of_block(plain, found.end()), owner_of(found[0])))
     inside = file[len("src/") : -len(".rt")].split("/")
-    path = [crate_name, *([] if inside in (["lib"], ["main"]) else inside)]
+    here = [] if inside in (["lib"], ["main"]) else inside
+    # The methods of a type stand, for the prover, in the module of the type.
+    imported = {name: module.split("::") for module, name in re.findall(r"(?m)^use crate::([a-z_:]+)::([A-Z]\w*);", plain)}
     heads = list(re.finditer(r"\bfn\s+(\w+)", plain))
     found = []
     for at, head in enumerate(heads):
         owner = [name for start, end, name in blocks if start <= head.start() < end]
         end = heads[at + 1].start() if at + 1 < len(heads) else len(plain)
         end = min([end, *[stop for start, stop, _ in blocks if start <= head.start() < stop]])
-        found.append(("::".join([*path, *owner, head[1]]), head.start(), end))
+        path = [crate_name, *(imported.get(owner[0], here) if owner else here), *owner, head[1]]
+        found.append(("::".join(path), head.start(), end))
     return found
 
 

@@ -1,2 +1,2 @@
 pub mod BufferPart
-pub mod PairDigits
+pub mod Fronts

@@ -1,8 +1,6 @@
 -- What is read of a text is what it spells, or the fault that stands in it.
 use Rattle.std.proofs.Common.{◌≡◌, ℕ, Bool, true, false, List, [], ◌∷◌, Option, Some, None, IfSome, Result, Ok, Err, ap, sym}
 use Rattle.std.proofs.Common.{◌∙◌, option_map}
-use Rattle.qbf_text.specs.declared.grammar.ReadError.{ReadError}
-use Rattle.qbf_text.specs.declared.grammar.ReadError.TheVariants as error
 use Rattle.qbf_text.specs.declared.token.Comments.{Comments}
 use Rattle.qbf_text.specs.declared.token.Token.{Token}
 use Rattle.qbf_text.specs.Answering as answering
@@ -61,22 +59,3 @@ module _ {P A F : Type 0} {row : P → Token → Row P (Unit {0}) F} {answer : R
       → Gives outside (Ok a) (option_map (λ bytes. read (tokens format bytes)) remaining)
   whole_given a whole None h = tt
   whole_given a whole (Some bytes) h = same (tokens format bytes) ∙ ap answer h.1 ∙ whole h.0
-
-  -- and so is the fault
-  pub fault_given : (device memory : F) → outside device ≡ true → outside memory ≡ true → (e : ReadError F) (remaining : Option (List ℕ))
-      → IfSome remaining (λ bytes. taking.Answers {A = Unit {0}} (read_from row place (tokens format bytes)) next (Err e))
-      → Gives outside (Err (fault_of device memory e)) (option_map (λ bytes. read (tokens format bytes)) remaining)
-  fault_given device memory d m error.Device remaining h = rw d tt
-  fault_given device memory d m error.Memory remaining h = rw m tt
-  fault_given device memory d m (error.Text f line) remaining h = unless (outside f) (by remaining h)
-    where
-      unless : (b : Bool) {X : Type 0} → X → Unless b X
-      unless true x = tt
-      unless false x = x
-
-      by : (remaining : Option (List ℕ))
-          → IfSome remaining
-          (λ bytes. taking.Answers {A = Unit {0}} (read_from row place (tokens format bytes)) next (Err (error.Text f line)))
-          → IfSome (option_map (λ bytes. read (tokens format bytes)) remaining) (λ r. r ≡ Err (f, line))
-      by None h = tt
-      by (Some bytes) h = same (tokens format bytes) ∙ ap answer h ∙ is.fault f line

@@ -1,7 +1,6 @@
 -- What is left after a number that stands whole among the bytes at hand.
 use Rattle.std.proofs.Common.{◌≡◌, ℕ, ◌+◌, ◌^◌, ◌<◌, Bool, true, false, ◌||◌, ◌==◌, List, [], ◌∷◌, ◌++◌, Option, Some, None, take, drop}
 use Rattle.std.proofs.Common.{refl, sym, subst, ap, ◌∙◌, arith, append_assoc}
-use Rattle.std.specs.Prelude.{⊤}
 use Rattle.std.specs.Char.{is_ascii_digit}
 use Rattle.std.specs.Io.KnownBytes.{Consumes}
 use Rattle.std.proofs.lemmas.Bool.{eqb-true}
@@ -13,9 +12,8 @@ use Rattle.qbf_text.specs.declared.token.Token.TheVariants.{Number}
 use Rattle.qbf_text.specs.Ahead.{ahead}
 use Rattle.qbf_text.specs.Tokens.{kind, is_comment_byte, is_line_end, is_blank, counted}
 use Rattle.qbf_text.specs.Runs.{begins_number}
-use Rattle.qbf_text.specs.Left.{is_separator, IsUnbroken, tokens_left, known_left, Gives}
+use Rattle.qbf_text.specs.Left.{is_separator, IsUnbroken, tokens_left}
 use Rattle.qbf_text.specs.Hand.{BeginsWithNumber}
-use Rattle.qbf_text.proofs.KnownLeft.{always, gives_by}
 use Rattle.qbf_text.proofs.ByteByByte.{left_run, left_line_end, left_blank, IsToken, tokens_left-counted}
 
 -- what begins as a number does is no comment
@@ -65,13 +63,6 @@ module _ (f : Comments) (begun : Bool) (n : ℕ) (pending : List ℕ) (negative 
       ∙ ap (λ ts. (Number negative value, n) ∷ ts) (ap (λ b. tokens_left f true n (b ∷ rest)) line_end ∙ left_line_end f true n rest
       ∙ tokens_left-counted f false (n + 1) (counted (n + 1)) rest (omega arith))
 
-  pub gives_ending : ends ≡ true → Gives (known_left f begun n (ahead pending rem))
-      (known_left f false (counted (n + 1)) (ahead (drop len pending) rem)) ((Number negative value, n) ∷ [])
-  gives_ending e =
-      gives_by f begun false n (counted (n + 1)) (ahead pending rem) (ahead (drop len pending) rem) (h.run ++ h.behind ∷ [])
-      ((Number negative value, n) ∷ []) (λ _. ⊤) number_taken (always (ahead (drop len pending) rem))
-      (λ rest _. spelled_ending e rest)
-
   -- it is a blank
   pub spelled_blanked : ends ≡ false → (rest : List ℕ)
       → tokens_left f begun n ((h.run ++ h.behind ∷ []) ++ rest) ≡ (Number negative value, n) ∷ tokens_left f true n rest
@@ -81,10 +72,3 @@ module _ (f : Comments) (begun : Bool) (n : ℕ) (pending : List ℕ) (negative 
       ∙ ap (λ k. (k, counted n) ∷ tokens_left f true n (h.behind ∷ rest)) (sym h.is)
       ∙ ap (λ m. (Number negative value, m) ∷ tokens_left f true n (h.behind ∷ rest)) same
       ∙ ap (λ ts. (Number negative value, n) ∷ ts) (left_blank f true n h.behind rest blank)
-
-  pub gives_blanked : ends ≡ false → Gives (known_left f begun n (ahead pending rem)) (known_left f true n (ahead (drop len pending) rem))
-      ((Number negative value, n) ∷ [])
-  gives_blanked e =
-      gives_by f begun true n n (ahead pending rem) (ahead (drop len pending) rem) (h.run ++ h.behind ∷ [])
-      ((Number negative value, n) ∷ []) (λ _. ⊤) number_taken (always (ahead (drop len pending) rem))
-      (λ rest _. spelled_blanked e rest)

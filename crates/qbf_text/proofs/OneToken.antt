@@ -12,15 +12,15 @@ use Rattle.qbf_text.specs.declared.scanner.State.{State}
 use Rattle.qbf_text.specs.declared.scanner.State.TheVariants.{Open, Ended, Failed}
 
 -- what was to be read, where that is known, is what is still to be read
-abbrev pub Leads : {P A F : Type 0} → Option (Read P A F) → Option (Read P A F) → Type 0
+abbrev pub Leads : {R : Type 0} → Option R → Option R → Type 0
 Leads None rest = Unit {0}
 Leads (Some r) rest = rest ≡ Some r
 
-pub leads_same : {P A F : Type 0} (whole : Option (Read P A F)) → Leads whole whole
+pub leads_same : {R : Type 0} (whole : Option R) → Leads whole whole
 leads_same None = tt
 leads_same (Some r) = refl
 
-pub leads_then : {P A F : Type 0} (whole before after : Option (Read P A F)) → Leads whole before → before ≡ after → Leads whole after
+pub leads_then : {R : Type 0} (whole before after : Option R) → Leads whole before → before ≡ after → Leads whole after
 leads_then whole before after leads same = subst (Leads whole) same leads
 
 module _ {P A F : Type 0} (row : P → Token → Row P A F) where
@@ -91,8 +91,3 @@ unfailed old new before after open_ ready ended = by_state old.state refl
     by_state Open e = (ready (open_, λ h. absurd (let x : Open ≡ Ended = sym e ∙ h in cc))).0
     by_state Ended e = rw (ended e) open_
     by_state Failed e = absurd (open_ e)
-
--- what is known to hold with a value holds with some value
-pub some_with : {X Y : Type 0} (P : X → Y → Type 0) (o : Option X) (y : Y) → IfSome o (λ x. P x y) → IfSome o (λ x. (z : Y) × P x z)
-some_with P None y h = tt
-some_with P (Some x) y h = (y, h)

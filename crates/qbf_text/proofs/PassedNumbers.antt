@@ -10,10 +10,13 @@ use Rattle.qbf_text.specs.Ahead.{ahead}
 use Rattle.qbf_text.specs.Hand.{BeginsWithNumber}
 use Rattle.qbf_text.specs.Left.{tokens_left, known_left}
 use Rattle.qbf_text.specs.Lined.{Lined}
-use Rattle.qbf_text.specs.Passing.{tokens_from_cursor, behind, cursor, moved, LeadOn, Passes, PassesNumber, SoFar}
-use Rattle.qbf_text.specs.Reading.{Reading, IsOpen, left}
+use Rattle.qbf_text.specs.Passing.{tokens_from_cursor, behind, cursor, moved, LeadOn, Passes, PassesNumber, PassesAll, SoFar}
+use Rattle.qbf_text.specs.Passing.{ReadsAtHand}
+use Rattle.qbf_text.specs.Reading.{Reading, GivesNext, IsOpen, left}
 use Rattle.qbf_text.specs.Rows.{Row, Goes, read_from, reads_from}
-use Rattle.qbf_text.specs.Stopping.{IfKnown, tokens_next}
+use Rattle.qbf_text.specs.Stopping.{IfKnown, ScannerTakes, tokens_next}
+use Rattle.qbf_text.specs.Tokens.{counted}
+use Rattle.qbf_text.proofs.ByteByByte.{left_nothing}
 use Rattle.qbf_text.proofs.LeftAfterNumber.{spelled_ending, spelled_blanked}
 use Rattle.qbf_text.proofs.OneToken.{after, read-one}
 
@@ -57,7 +60,10 @@ module _ (bytes : List ℕ) (here : Cursor) (negative : Bool) (value len : ℕ) 
   -- a number in front of the bytes from the cursor on is passed
   pub passes_number : here.at ≤ length bytes → PassesNumber bytes here (behind here len ends) (Number negative value)
   passes_number within = record {
-    front = h.run ++ h.behind ∷ [];
+    word = h.run;
+    behind = h.behind;
+    unbroken = h.unbroken;
+    separates = h.separates;
     no_end = refl;
     further = rw (at_behind ends) (omega (arith, some));
     within = rw (at_behind ends) (omega (arith, within, h.within, length-drop here.at bytes));
@@ -99,7 +105,7 @@ module _ (bytes : List ℕ) where
   one_number : (mid there : Cursor) (token : Token) → PassesNumber bytes mid there token
       → Passes (λ ts. ts ≡ (token, mid.line) ∷ []) bytes mid there
   one_number mid there token t = record {
-    front = t.front;
+    front = t.word ++ t.behind ∷ [];
     given = (token, mid.line) ∷ [];
     forward = omega (arith, t.further);
     within = t.within;
@@ -115,19 +121,6 @@ module _ (bytes : List ℕ) where
   passes_one Are Both here mid there token both s t =
       passes_then Are (λ us. us ≡ (token, mid.line) ∷ []) Both here mid there
       (λ ts us are is. subst (λ l. Both (ts ++ l)) (sym is) (both ts are)) s (one_number mid there token t)
-
-  -- the same tokens in other words
-  pub passes_as : (Are Also : List Lined → Type 0) (here there : Cursor) → ((ts : List Lined) → Are ts → Also ts)
-      → Passes Are bytes here there → Passes Also bytes here there
-  passes_as Are Also here there also s = record {
-    front = s.front;
-    given = s.given;
-    forward = s.forward;
-    within = s.within;
-    taken = s.taken;
-    spelled = s.spelled;
-    are = also s.given s.are;
-  }
 
 -- ---- tokens that lead on
 
@@ -155,6 +148,20 @@ module _ {P A F : Type 0} (row : P → Token → Row P A F) (first mid last : P)
         → Passes (LeadOn row mid last) bytes between there → Passes (LeadOn row first last) bytes here there
     passes_further between =
         passes_then bytes (LeadOn row first mid) (LeadOn row mid last) (LeadOn row first last) here between there lead_on_then
+
+    pub passes_all : (between : Cursor) (answer : Option A) → Passes (LeadOn row first mid) bytes here between
+        → PassesAll row mid last bytes between there answer → PassesAll row first last bytes here there answer
+    passes_all between None s t = passes_further between s t
+    passes_all between (Some a) s t = record {
+      last = t.last;
+      token = t.token;
+      here = t.here;
+      leads =
+          passes_then bytes (LeadOn row first mid) (LeadOn row mid t.last) (LeadOn row first t.last) here between t.here
+          (λ ts us on more vs. ap (read_from row first) (append_assoc ts us vs) ∙ on (us ++ vs) ∙ more vs) s t.leads;
+      passes = t.passes;
+      ends = t.ends;
+    }
 
 -- ---- a scanner that goes to where a grammar came
 
@@ -186,3 +193,48 @@ module _ {P A F : Type 0} (row : P → Token → Row P A F) (first place : P) (r
       → reads_from row first (left r remaining) ≡ reads_from row place (left (moved r here) remaining)
   unfolding left
   handed_leads open_ remaining = rw open_ (known remaining)
+
+-- ---- the last token, in the bytes at hand
+
+taken_at_hand : (r : Reading) (here to : Cursor) (token : Token) → PassesNumber r.pending here to token → (remaining : Option (List ℕ))
+    → ScannerTakes (moved r here) remaining (moved r to) remaining (token, here.line)
+taken_at_hand r here to token p None = tt
+taken_at_hand r here to token p (Some rest) = record {
+  skipped = [];
+  word = p.word;
+  behind = p.behind ∷ [];
+  line = counted here.line;
+  taken = ap (λ l. l ++ rest) p.taken ∙ append_assoc (p.word ++ p.behind ∷ []) (drop to.at r.pending) rest;
+  nothing = left_nothing r.comments here.begun here.line;
+  unbroken = p.unbroken;
+  separates = p.separates;
+  spelled = λ more _. p.spelled r.comments more;
+}
+
+given_at_hand : (r : Reading) (here to : Cursor) (token : Token) → PassesNumber r.pending here to token → IsOpen r
+    → (remaining : Option (List ℕ)) → GivesNext (left (moved r here) remaining) (left (moved r to) remaining) (token, here.line)
+unfolding left
+given_at_hand r here to token p open_ None = rw open_ tt
+given_at_hand r here to token p open_ (Some rest) = rw (open_, p.no_end) (
+    ap (λ l. tokens_left r.comments here.begun here.line l)
+    (ap (λ l. l ++ rest) p.taken ∙ append_assoc (p.word ++ p.behind ∷ []) (drop to.at r.pending) rest)
+    ∙ p.spelled r.comments (drop to.at r.pending ++ rest))
+
+-- what a grammar took is read
+pub handed : {P A F : Type 0} (row : P → Token → Row P A F) (first next : P) (answer : Option A) (r : Reading) (to : Cursor) → IsOpen r
+    → length (drop to.at r.pending) ≤ 4096 → PassesAll row first next r.pending (cursor r) to answer → (remaining : Option (List ℕ))
+    → ReadsAtHand row first next r (moved r to) remaining answer
+handed row first next None r to open_ few p remaining =
+    (handed_so_far row first next r to p remaining, handed_leads row first next r to p open_ remaining)
+handed row first next (Some a) r to open_ few p remaining = record {
+  last = p.last;
+  token = (p.token, p.here.line);
+  mid = moved r p.here;
+  leads = (handed_so_far row first p.last r p.here p.leads remaining, handed_leads row first p.last r p.here p.leads open_ remaining);
+  gives = given_at_hand r p.here to p.token p.passes open_ remaining;
+  takes = taken_at_hand r p.here to p.token p.passes remaining;
+  ends = p.ends;
+  no_end = p.passes.no_end;
+  less = omega (arith, length-drop to.at r.pending, p.passes.further, p.passes.within);
+  few = few;
+}

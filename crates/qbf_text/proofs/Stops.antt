@@ -15,11 +15,11 @@ use Rattle.qbf_text.specs.Lined.{Lined}
 use Rattle.qbf_text.specs.Rows.{Row, Goes, Ends, Whole, Read, read_from}
 use Rattle.qbf_text.specs.Rows as rows
 use Rattle.qbf_text.specs.Stopping.{IfKnown, BeginsAs, Skips, TakesToken, tokens_at, PlaceSkips, PlaceTakes}
-use Rattle.qbf_text.specs.Stopping.{FindsToken, FindsNone, StopsBehind}
+use Rattle.qbf_text.specs.Stopping.{FindsToken, StopsBehind}
 use Rattle.qbf_text.specs.Passing.{SoFar}
 use Rattle.qbf_text.specs.Tokens.{kind, is_blank, is_line_end, is_comment_byte, counted}
 use Rattle.qbf_text.proofs.OneToken.{after, read-one}
-use Rattle.qbf_text.proofs.KnownLeft.{always, Gives-trans}
+use Rattle.qbf_text.proofs.KnownLeft.{always}
 use Rattle.qbf_text.proofs.ByteByByte.{left_nothing, left_line_end, left_blank, left_comment, left_run, IsToken, tokens_left-counted}
 use Rattle.qbf_text.proofs.LeftAfterNumber.{number_taken, spelled_ending, spelled_blanked}
 
@@ -41,11 +41,11 @@ known_by P R (Some x) (Some y) bs p r f = subst (λ z. P z y) (sym p) (f y r)
 
 -- ---- what may follow
 
-begins_more : (taken new rest : List ℕ) → BeginsAs new rest → BeginsAs (taken ++ new) (taken ++ rest)
+pub begins_more : (taken new rest : List ℕ) → BeginsAs new rest → BeginsAs (taken ++ new) (taken ++ rest)
 begins_more [] new rest h = h
 begins_more (b ∷ bs) new rest h = refl
 
-begins_skipped : (a b c new : List ℕ) → BeginsAs (a ++ b ++ c ++ new) a
+pub begins_skipped : (a b c new : List ℕ) → BeginsAs (a ++ b ++ c ++ new) a
 begins_skipped [] b c new = tt
 begins_skipped (x ∷ xs) b c new = refl
 
@@ -61,14 +61,10 @@ ends_line (c ∷ cs) (b ∷ bs) h e = rw e h
 
 -- ---- bytes with no token
 
-pub skips_nothing : (here : List ℕ → List Lined) (x : List ℕ) → Skips here here x x
+pub skips_nothing : {R : Type 0} (here : List ℕ → R) (x : List ℕ) → Skips here here x x
 skips_nothing here x = record { skipped = []; taken = refl; spelled = λ rest _. refl }
 
-pub skips_none : (here : List ℕ → List Lined) (a : Option (List ℕ)) → IfKnown (Skips here here) a a
-skips_none here None = tt
-skips_none here (Some x) = skips_nothing here x
-
-pub skips_more : (here mid there : List ℕ → List Lined) (x y z : List ℕ) → Skips here mid x y → Skips mid there y z → Skips here there x z
+pub skips_more : {R : Type 0} (here mid there : List ℕ → R) (x y z : List ℕ) → Skips here mid x y → Skips mid there y z → Skips here there x z
 skips_more here mid there x y z s t = record {
   skipped = s.skipped ++ t.skipped;
   taken = s.taken ∙ ap (λ l. s.skipped ++ l) t.taken ∙ sym (append_assoc s.skipped t.skipped z);
@@ -78,7 +74,7 @@ skips_more here mid there x y z s t = record {
       ∙ t.spelled rest h;
 }
 
-regroup : (a b c d : List ℕ) → a ++ b ++ c ++ d ≡ a ++ (b ++ c ++ d)
+pub regroup : (a b c d : List ℕ) → a ++ b ++ c ++ d ≡ a ++ (b ++ c ++ d)
 regroup a b c d = ap (λ l. l ++ d) (append_assoc a b c) ∙ append_assoc a (b ++ c) d
 
 -- no token, and then one
@@ -188,7 +184,7 @@ module _ (f : Comments) (begun : Bool) (n : ℕ) (pending : List ℕ) (negative 
 
 -- ---- from place to place
 
-pub known_skips : (here mid there : List ℕ → List Lined) (a b c : Option (List ℕ)) → IfKnown (Skips here mid) a b
+pub known_skips : {R : Type 0} (here mid there : List ℕ → R) (a b c : Option (List ℕ)) → IfKnown (Skips here mid) a b
     → IfKnown (Skips mid there) b c → IfKnown (Skips here there) a c
 known_skips here mid there a b c s t = known_trans _ _ _ (skips_more here mid there) a b c s t
 
@@ -206,21 +202,13 @@ place_takes_behind p q r a b c token s t =
     known_trans _ _ _ (takes_behind (tokens_at p) (tokens_at q) (tokens_at r) token) (ahead p.window a) (ahead q.window b)
     (ahead r.window c) s t
 
--- what is passed by and passed by again is passed by
-pub none_more : {p q r : Place} {a b c : Option (List ℕ)} → FindsNone p a q b → FindsNone q b r c → FindsNone p a r c
-none_more {p} {q} {r} {a} {b} {c} s t =
-    record { gives = Gives-trans _ _ _ [] s.gives t.gives; skips = place_skips_more p q r a b c s.skips t.skips }
-
 -- a token behind it is found
-pub found_token : {p q r : Place} {a b c : Option (List ℕ)} {token : Lined} → FindsNone p a q b → FindsToken q b r c token
+pub found_token : {p q r : Place} {a b c : Option (List ℕ)} {token : Lined} → PlaceSkips p a q b → FindsToken q b r c token
     → FindsToken p a r c token
-found_token {p} {q} {r} {a} {b} {c} {token} s t = record {
-  gives = Gives-trans _ _ _ _ s.gives t.gives;
-  takes = place_takes_behind p q r a b c token s.skips t.takes;
-  no_end = t.no_end;
-}
+found_token {p} {q} {r} {a} {b} {c} {token} s t =
+    record { takes = place_takes_behind p q r a b c token s t.takes; no_end = t.no_end }
 
-pub found_behind : (p q r : Place) (found : Option Lined) → ((rem : Option (List ℕ)) → FindsNone p rem q rem)
+pub found_behind : (p q r : Place) (found : Option Lined) → ((rem : Option (List ℕ)) → PlaceSkips p rem q rem)
     → IfSome found (λ token. (rem : Option (List ℕ)) → FindsToken q rem r rem token)
     → IfSome found (λ token. (rem : Option (List ℕ)) → FindsToken p rem r rem token)
 found_behind p q r None s t = tt

@@ -1,5 +1,5 @@
 -- Tokens with their lines.
-use Rattle.std.specs.Prelude.{◌≡◌, ◌≢◌, ℕ, List, [], ◌∷◌, map, Option, Some, None}
+use Rattle.std.specs.Prelude.{◌≡◌, ◌≢◌, ℕ, List, [], ◌∷◌, map, Option}
 use Rattle.qbf_text.specs.declared.token.Token.{Token}
 use Rattle.qbf_text.specs.declared.token.Token.TheVariants as token
 
@@ -20,13 +20,3 @@ EndsOnce (t ∷ u ∷ ts) = (t.0 ≢ token.End) × EndsOnce (u ∷ ts)
 -- the tokens that are left, where the source tells its bytes
 abbrev pub Known : Type 0
 Known = Option (List Lined)
-
--- with a token put on the front
-abbrev pub put_on : Token → ℕ → Known → Known
-put_on t line None = None
-put_on t line (Some ts) = Some ((t, line) ∷ ts)
-
--- how much a token uses up of what can still come
-abbrev pub weight : Token → ℕ
-weight token.End = 0
-weight t = 1

@@ -1,13 +1,14 @@
 -- What was passed of the bytes at hand: tokens that stand there whole, whatever bytes follow.
-use Rattle.std.specs.Prelude.{◌≡◌, ℕ, ◌+◌, ◌<◌, ◌≤◌, Bool, true, false, List, ◌∷◌, ◌++◌, drop, length}
+use Rattle.std.specs.Prelude.{◌≡◌, ℕ, ◌+◌, ◌<◌, ◌≤◌, Bool, true, false, List, [], ◌∷◌, ◌++◌, drop, length, Option, Some, None}
+use Rattle.qbf_text.specs.Ahead.{ahead}
 use Rattle.qbf_text.specs.declared.hand.Cursor.{Cursor}
 use Rattle.qbf_text.specs.declared.token.Comments.{Comments}
 use Rattle.qbf_text.specs.declared.token.Token.{Token}
-use Rattle.qbf_text.specs.Left.{tokens_left, is_end}
+use Rattle.qbf_text.specs.Left.{tokens_left, is_end, is_separator, IsUnbroken}
 use Rattle.qbf_text.specs.Lined.{Lined}
-use Rattle.qbf_text.specs.Reading.{Reading}
-use Rattle.qbf_text.specs.Rows.{Row, read_from}
-use Rattle.qbf_text.specs.Stopping.{BeginsAs}
+use Rattle.qbf_text.specs.Reading.{Reading, GivesNext, left}
+use Rattle.qbf_text.specs.Rows.{Row, Ends, read_from, reads_from}
+use Rattle.qbf_text.specs.Stopping.{BeginsAs, IfKnown, ScannerTakes, tokens_next}
 use Rattle.qbf_text.specs.Tokens.{counted}
 
 -- the cursor behind a number and its separator, which take so many bytes
@@ -29,12 +30,15 @@ tokens_from_cursor format here = tokens_left format here.begun here.line
 
 -- one token stands between two cursors, whatever bytes follow
 pub record PassesNumber (bytes : List ℕ) (here next : Cursor) (token : Token) : Type 0 where
-  pub front : List ℕ
+  pub word : List ℕ
+  pub behind : ℕ
+  pub unbroken : IsUnbroken word
+  pub separates : is_separator behind ≡ true
   pub no_end : is_end token ≡ false
   pub further : here.at < next.at
   pub within : next.at ≤ length bytes
-  pub taken : drop here.at bytes ≡ front ++ drop next.at bytes
-  pub spelled : (format : Comments) (rest : List ℕ) → tokens_from_cursor format here (front ++ rest)
+  pub taken : drop here.at bytes ≡ (word ++ behind ∷ []) ++ drop next.at bytes
+  pub spelled : (format : Comments) (rest : List ℕ) → tokens_from_cursor format here ((word ++ behind ∷ []) ++ rest)
       ≡ (token, here.line) ∷ tokens_from_cursor format next rest
 
 -- the tokens between two cursors are as this says, whatever bytes follow
@@ -52,6 +56,21 @@ pub record Passes (Are : List Lined → Type 0) (bytes : List ℕ) (here next : 
 abbrev pub LeadOn : {P A F : Type 0} → (P → Token → Row P A F) → P → P → List Lined → Type 0
 LeadOn row first place given = (ts : List Lined) → read_from row first (given ++ ts) ≡ read_from row place ts
 
+-- tokens lead from one place to another, and there one token more ends what is read
+pub record PassesLast {P A F : Type 0} (row : P → Token → Row P A F) (first next : P) (answer : A) (bytes : List ℕ) (from to : Cursor)
+    : Type 0 where
+  pub last : P
+  pub token : Token
+  pub here : Cursor
+  pub leads : Passes (LeadOn row first last) bytes from here
+  pub passes : PassesNumber bytes here to token
+  pub ends : row last token ≡ Ends answer next
+
+-- what a grammar took from the bytes at hand, and what it read, if it is complete
+abbrev pub PassesAll : {P A F : Type 0} → (P → Token → Row P A F) → (first next : P) → List ℕ → (from to : Cursor) → Option A → Type 0
+PassesAll row first next bytes from to None = Passes (LeadOn row first next) bytes from to
+PassesAll row first next bytes from to (Some answer) = PassesLast row first next answer bytes from to
+
 -- what was read so far: the tokens of the bytes that were taken lead from the first place to this one
 pub record SoFar {P A F : Type 0} (row : P → Token → Row P A F) (first place : P) (here there : List ℕ → List Lined)
     (old new : List ℕ) : Type 0 where
@@ -60,3 +79,29 @@ pub record SoFar {P A F : Type 0} (row : P → Token → Row P A F) (first place
   pub taken : old ≡ front ++ new
   pub spelled : (rest : List ℕ) → BeginsAs new rest → here (front ++ rest) ≡ given ++ there rest
   pub leads : (ts : List Lined) → read_from row first (given ++ ts) ≡ read_from row place ts
+
+-- between two places of a scanner the tokens lead from one place of the text to another
+abbrev pub LeadsOver : {P A F : Type 0} → (P → Token → Row P A F) → (first next : P) → (r s : Reading) → Option (List ℕ) → Type 0
+LeadsOver row first next r s remaining =
+    IfKnown (SoFar row first next (tokens_next r) (tokens_next s)) (ahead r.pending remaining) (ahead s.pending remaining)
+    × (reads_from row first (left r remaining) ≡ reads_from row next (left s remaining))
+
+-- and then one token more ends what is read
+pub record ReadsLast {P A F : Type 0} (row : P → Token → Row P A F) (first next : P) (answer : A) (r s : Reading)
+    (remaining : Option (List ℕ)) : Type 0 where
+  pub last : P
+  pub token : Lined
+  pub mid : Reading
+  pub leads : LeadsOver row first last r mid remaining
+  pub gives : GivesNext (left mid remaining) (left s remaining) token
+  pub takes : ScannerTakes mid remaining s remaining token
+  pub ends : row last token.0 ≡ Ends answer next
+  pub no_end : is_end token.0 ≡ false
+  pub less : length s.pending < length r.pending
+  pub few : length s.pending ≤ 4096
+
+-- the same of a scanner
+abbrev pub ReadsAtHand : {P A F : Type 0} → (P → Token → Row P A F) → (first next : P) → (r s : Reading) → Option (List ℕ) → Option A
+    → Type 0
+ReadsAtHand row first next r s remaining None = LeadsOver row first next r s remaining
+ReadsAtHand row first next r s remaining (Some answer) = ReadsLast row first next answer r s remaining

@@ -6,7 +6,7 @@ use Rattle.qbf_text.specs.declared.token.Token.{Token}
 use Rattle.qbf_text.specs.declared.token.Token.TheVariants.{End}
 use Rattle.qbf_text.specs.Ahead.{ahead}
 use Rattle.std.specs.Io.KnownBytes.{IsAtEnd}
-use Rattle.qbf_text.specs.Left.{is_separator, is_end, tokens_left, IsUnbroken, Gives}
+use Rattle.qbf_text.specs.Left.{is_separator, is_end, tokens_left, IsUnbroken}
 use Rattle.qbf_text.specs.Places.{left_at}
 use Rattle.qbf_text.specs.Lined.{Lined}
 use Rattle.qbf_text.specs.Reading.{Reading}
@@ -30,9 +30,9 @@ IsAtMostASeparator [] = ⊤
 IsAtMostASeparator (b ∷ []) = is_separator b ≡ true
 IsAtMostASeparator (b ∷ c ∷ cs) = ⊥
 
--- The bytes that were taken have no token: whether the text goes on as it does or ends there, it has the tokens of the rest.
--- `here` says what tokens bytes have before, and `there` what they have behind.
-pub record Skips (here there : List ℕ → List Lined) (old new : List ℕ) : Type 0 where
+-- Bytes were taken: whether the text goes on as it does or ends there, `there` says of the rest what `here` says of it and these. Where
+-- these two say what tokens bytes have, the bytes taken have none.
+pub record Skips {R : Type 0} (here there : List ℕ → R) (old new : List ℕ) : Type 0 where
   pub skipped : List ℕ
   pub taken : old ≡ skipped ++ new
   pub spelled : (rest : List ℕ) → BeginsAs new rest → here (skipped ++ rest) ≡ there rest
@@ -66,20 +66,14 @@ abbrev pub PlaceTakes : Place → Option (List ℕ) → Place → Option (List �
 PlaceTakes p before q after token =
     IfKnown (TakesToken (tokens_at p) (tokens_at q) token) (ahead p.window before) (ahead q.window after)
 
--- one token was given and taken, and it is not End
+-- one token was taken, and it is not End
 pub record FindsToken (p : Place) (before : Option (List ℕ)) (q : Place) (after : Option (List ℕ)) (token : Lined) : Type 0 where
-  pub gives : Gives (left_at p before) (left_at q after) (token ∷ [])
   pub takes : PlaceTakes p before q after token
   pub no_end : is_end token.0 ≡ false
 
--- none was given, and what was taken has none
-pub record FindsNone (p : Place) (before : Option (List ℕ)) (q : Place) (after : Option (List ℕ)) : Type 0 where
-  pub gives : Gives (left_at p before) (left_at q after) []
-  pub skips : PlaceSkips p before q after
-
--- none was given, and End alone is left
+-- no token was taken, and End alone is left
 pub record FindsEnd (p : Place) (before : Option (List ℕ)) (q : Place) (after : Option (List ℕ)) : Type 0 where
-  pub gives : Gives (left_at p before) (left_at q after) []
+  pub skips : PlaceSkips p before q after
   pub left : IfSome (left_at q after) (λ left. left ≡ (End, q.line) ∷ [])
   pub at_end : IsAtEnd after
 

@@ -9,8 +9,8 @@ ghost use Rattle.qbf_text.specs.Rows.{Row, read_from, reads_from};
 ghost use Rattle.qbf_text.specs.Taking.{Takes, StaysOpen, Reads, Answers, Counts, Follows};
 ghost use Rattle.qbf_text.specs.Tokens.{tokens};
 ghost use Rattle.qbf_text.specs.Ahead.{ahead};
-ghost use Rattle.qbf_text.specs.Passing.{LeadOn, Passes, SoFar};
-ghost use Rattle.qbf_text.specs.Stopping.{tokens_next, IfKnown, Stops};
+ghost use Rattle.qbf_text.specs.Passing.{PassesAll, ReadsAtHand};
+ghost use Rattle.qbf_text.specs.Stopping.{tokens_next, Stops};
 
 use crate::hand::Cursor;
 use crate::scanner::{ScanFault, Scanner};
@@ -102,6 +102,9 @@ impl<F: Copy> ReadError<F> {
     }
 }
 
+/// How far a grammar came among the bytes at hand, and what was read, if it is complete.
+pub type Handed<T> = (Cursor, Option<T>);
+
 /// A text by its rows: what each place makes of each token.
 ///
 /// It is handed one token after the other, and keeps what it makes of them.
@@ -127,15 +130,16 @@ pub trait Grammar {
     /// What this keeps so.
     ghost kept: { Self → Kept };
 
-    /// Takes numbers from the bytes at hand, as far as they stand there whole and lead on. It may take
-    /// none: each token that it leaves is handed to `take`.
+    /// Takes numbers from the bytes at hand, as far as they stand there whole, until it is complete,
+    /// and returns then what was read. It may take none: each token that it leaves is handed to
+    /// `take`.
     ///
     /// # Errors
     /// Out of memory.
-    fn take_hand(&mut self, bytes: &[u8], from: Cursor) -> Result<Cursor, AllocError>
+    fn take_hand(&mut self, bytes: &[u8], from: Cursor) -> Result<Handed<Self::Output>, AllocError>
         requires { from.at ≤ length bytes.now }
-        ensures passes { IfOk result
-            (λ to. Passes (LeadOn row_of (place self.old) (place self.new)) bytes.now from to) }
+        ensures passes { IfOk result (λ r.
+            PassesAll row_of (place self.old) (place self.new) bytes.now from r.0 r.1) }
         ensures kept { kept self.new ≡ kept self.old };
 
     /// Takes the next token. After the end of the text it does not go on.
@@ -145,25 +149,24 @@ pub trait Grammar {
         ensures kept { kept self.new ≡ kept self.old };
 }
 
-/// Lets a grammar take numbers from the bytes at hand.
+/// Lets a grammar take numbers from the bytes at hand; what was read, if it is complete.
 #[inline(always)]
-fn hand_over<G: Grammar>(grammar: &mut G, scanner: &mut Scanner) -> Result<(), AllocError>
-    ensures so_far { OnOk result ((remaining : Option (List ℕ)) → IfKnown (SoFar G.row_of
-        (G.place grammar.old) (G.place grammar.new) (tokens_next scanner.old) (tokens_next scanner.new))
-        (ahead scanner.old.pending remaining) (ahead scanner.new.pending remaining)) }
-    ensures leads { OnOk result ((remaining : Option (List ℕ)) →
-        reads_from G.row_of (G.place grammar.old) (left scanner.old remaining)
-        ≡ reads_from G.row_of (G.place grammar.new) (left scanner.new remaining)) }
+fn hand_over<G: Grammar>(
+    grammar: &mut G,
+    scanner: &mut Scanner,
+) -> Result<Option<G::Output>, AllocError>
+    ensures reads { IfOk result (λ answer. (remaining : Option (List ℕ)) → ReadsAtHand G.row_of
+        (G.place grammar.old) (G.place grammar.new) scanner.old scanner.new remaining answer) }
     ensures state { scanner.new.state ≡ scanner.old.state }
     ensures no_more { length scanner.new.pending ≤ length scanner.old.pending }
     ensures kept { G.kept grammar.new ≡ G.kept grammar.old }
 {
     if !scanner.is_open() {
-        return Ok(());
+        return Ok(None);
     }
-    let here = grammar.take_hand(scanner.hand(), scanner.cursor())?;
+    let (here, answer) = grammar.take_hand(scanner.hand(), scanner.cursor())?;
     scanner.go_to(here);
-    Ok(())
+    Ok(answer)
 }
 
 /// Hands on token after token until the grammar is complete.
@@ -201,7 +204,11 @@ pub fn read_by<G: Grammar, S: Source>(
         ≤ length scanner.old.pending + S.bound source.old) }
 {
     'tokens: loop {
-        hand_over(grammar, scanner)?;
+        let handed = hand_over(grammar, scanner)?;
+        match handed {
+            Some(output) => return Ok(output),
+            None => {}
+        }
         let (token, line) = scanner.next_token(source)?;
         match grammar.take(token) {
             Ok(Taken::More) => {}
@@ -227,12 +234,6 @@ pub fn read_text<G: Grammar, S: Source>(
     // The last token was taken by some row; after End no byte remains.
     ensures follows { Follows G.row_of (G.place grammar.new) (S.bound source.new < S.bound source.old)
         (IsAtEnd (S.remaining source.new)) result }
-    // Behind the last token, unless that is End, no byte is taken but a separator, and at most
-    // 4,096 bytes are held and lost.
-    ensures stops { (held : List ℕ) × (there : List ℕ → List Lined)
-        × Stops G.row_of (G.place grammar.old) (G.place grammar.new)
-        (tokens comments) there (S.remaining source.old) (ahead held (S.remaining source.new))
-        (length held ≤ 4096) result }
     ensures kept { G.kept grammar.new ≡ G.kept grammar.old }
     ensures counts { Counts (S.failures source.old) (S.failures source.new) result }
 {

@@ -8,7 +8,7 @@ ghost use Rattle.qbf_text.specs.Ahead.{ahead, first_of};
 ghost use Rattle.qbf_text.specs.Pulling.{HasPulled};
 ghost use Rattle.qbf_text.specs.Tokens.{kind};
 ghost use Rattle.qbf_text.specs.Left.{is_separator, IsUnbroken, IsWithinLine, EndsRun, EndsLine};
-ghost use Rattle.qbf_text.specs.Left.{Gives, is_end};
+ghost use Rattle.qbf_text.specs.Left.{is_end};
 
 use crate::hand::Cursor;
 use crate::run::{Numeral, Run, Spelling, begins_number};
@@ -90,7 +90,7 @@ struct Place {
 }
 
 impl Place {
-    ghost use Rattle.qbf_text.specs.Stopping.{FindsToken, FindsNone, FindsEnd};
+    ghost use Rattle.qbf_text.specs.Stopping.{FindsToken, FindsEnd, PlaceSkips};
     ghost use Rattle.qbf_text.specs.declared.token.Token.TheVariants.{End};
 
     /// The next token and its line, if it is a number that was pulled whole with the separator
@@ -124,7 +124,7 @@ impl Place {
         requires next { Some byte ≡ first_of self.old.window }
         requires separates { is_separator byte ≡ true }
         ensures none { (remaining : Option (List ℕ))
-            → FindsNone self.old remaining self.new remaining }
+            → PlaceSkips self.old remaining self.new remaining }
         ensures less { length self.new.window < length self.old.window }
         ensures line { self.new.line < 2 ^ 64 }
     {
@@ -140,7 +140,7 @@ impl Place {
     /// Goes past the separators that were pulled.
     fn skip_separators(&mut self)
         ensures none { (remaining : Option (List ℕ))
-            → FindsNone self.old remaining self.new remaining }
+            → PlaceSkips self.old remaining self.new remaining }
         ensures no_more { length self.new.window ≤ length self.old.window }
     {
         while let Some(byte) = self.window.first() {
@@ -161,7 +161,7 @@ impl Place {
         ensures less { IfSome result (λ _. (length self.new.window < length self.old.window)
             × (length self.new.window ≤ 4096)) }
         ensures none { IfNone result ((remaining : Option (List ℕ)) →
-            FindsNone self.old remaining self.new remaining) }
+            PlaceSkips self.old remaining self.new remaining) }
         ensures no_more { length self.new.window ≤ length self.old.window }
     {
         self.skip_separators();
@@ -176,7 +176,7 @@ impl Place {
         ensures less { IfSome result (λ _. (length self.new.window < length self.old.window)
             × (length self.new.window ≤ 4096)) }
         ensures none { IfNone result ((remaining : Option (List ℕ)) →
-            FindsNone self.old remaining self.new remaining) }
+            PlaceSkips self.old remaining self.new remaining) }
         ensures no_more { length self.new.window ≤ length self.old.window }
     {
         match self.number() {
@@ -321,7 +321,8 @@ impl Scanner {
     #[inline(always)]
     pub fn go_to(&mut self, here: Cursor)
         requires { here.at ≤ length self.old.pending }
-        ensures { self.new ≡ moved self.old here }
+        ensures to { self.new ≡ moved self.old here }
+        ensures few { length self.new.pending ≤ 4096 }
     {
         self.place.window.skip(here.at);
         self.place.line = here.line;

@@ -111,6 +111,9 @@ fn take_member(parts: &mut Parts, quantifier: Quantifier, token: Token) -> Next
     match member(FAULTS, parts.max_var, token)? {
         Some(var) => bind(parts, quantifier, var),
         None => {
+            if parts.prefix.widen().is_err() {
+                return Err(Stop::Memory);
+            }
             parts.full = is_full(&parts.prefix, parts.max_var);
             Ok(At::Between)
         }
@@ -341,14 +344,18 @@ impl Grammar for FormulaGrammar {
     ghost kept = { λ _. tt };
 
     #[inline(always)]
-    fn take_hand(&mut self, bytes: &[u8], from: Cursor) -> Result<Cursor, AllocError> {
+    fn take_hand(
+        &mut self,
+        bytes: &[u8],
+        from: Cursor,
+    ) -> Result<(Cursor, Option<()>), AllocError> {
         match self.at {
             At::Clause => {
                 let (at, to) = take_clauses(&mut self.parts, bytes, from)?;
                 self.at = at;
-                Ok(to)
+                Ok((to, None))
             }
-            _ => Ok(from),
+            _ => Ok((from, None)),
         }
     }
 

@@ -2,12 +2,10 @@
 use Rattle.std.proofs.Common.{◌≡◌, ◌<◌, ◌≤◌, ◌^◌, ℕ, zero, suc, List, [], ◌∷◌, ◌++◌, length, slice_get, Some, refl, ap, subst, sym, ◌∙◌, arith}
 use Rattle.std.proofs.lemmas.List.{length-append, length-map, map-append}
 use Rattle.std.specs.List.{AllByRecursion}
-use Rattle.qbf_core.specs.Blocks.{Block}
 use Rattle.qbf_core.specs.Literal.{Literal}
 use Rattle.qbf_core.proofs.PrefixLaws.{AllByRecursion-push}
 use Rattle.step_index.specs.Numbers.{AreStepNumbers}
-use Rattle.qrp.specs.declared.item.Header.{Header}
-use Rattle.qrp.specs.Flat.{numbered, IsFlat}
+use Rattle.qrp.specs.Flat.{Kept, numbered, IsFlat}
 use Rattle.qrp.specs.Inferences.{Inference, IsAt, IsInference, numbers}
 
 -- the parts of the step at a place
@@ -47,10 +45,16 @@ numbered_more (n ∷ ns) (l ∷ lits) (a ∷ ants) s e f =
 abbrev AntsFit : Inference → Type 0
 AntsFit s = AllByRecursion (λ n. n < 2 ^ 64) s.ants
 
-pub flat_pushed : {h : Header} {sets : List Block} {ns : List ℕ} {lits : List (List Literal)} {ants : List (List ℕ)}
-    (s : Inference) → IsFlat h sets ns lits ants → AreStepNumbers (ns ++ s.number ∷ []) → IsInference s → AntsFit s
-    → IsFlat h sets (ns ++ s.number ∷ []) (lits ++ s.lits ∷ []) (ants ++ s.ants ∷ [])
-flat_pushed {ns = ns} {lits = lits} {ants = ants} s f are is fit =
+pub flat_pushed : (k : Kept) (s : Inference) → IsFlat k → AreStepNumbers (k.numbers ++ s.number ∷ []) → IsInference s → AntsFit s
+    → IsFlat (record k {
+      numbers = k.numbers ++ s.number ∷ [];
+      lits = k.lits ++ s.lits ∷ [];
+      ants = k.ants ++ s.ants ∷ [];
+    })
+flat_pushed k s f are is fit =
+    let ns = k.numbers in
+    let lits = k.lits in
+    let ants = k.ants in
     let steps = numbered ns lits ants in
     let more = numbered_more ns lits ants s f.lits_counted f.ants_counted in
     let same : numbers (numbered (ns ++ s.number ∷ []) (lits ++ s.lits ∷ []) (ants ++ s.ants ∷ [])) ≡ ns ++ s.number ∷ [] =

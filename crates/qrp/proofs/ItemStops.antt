@@ -19,7 +19,7 @@ use Rattle.qrp.proofs.RowsReadTheItem.{gives, given_of}
 use Rattle.qrp.proofs.AcceptedTokens.{Answer, end_row}
 
 -- no place takes End
-refused : (p : Giving) → item_row p token.End ≡ rows.Fails P7
+pub refused : (p : Giving) → item_row p token.End ≡ rows.Fails P7
 refused (Takes p) = ap as_given (end_row p)
 refused (Gives i p) = refl
 refused (Whole o) = refl
@@ -60,5 +60,5 @@ item_stops p first next here there i ns before after few begins is s =
 pub next_stops : (stage : Stage) (g : Giver) (here : List ℕ → List Lined) (before after : Option (List ℕ)) (few : Type 0) (answer : Answer)
     → (stage ≡ AtHeader) ⊎ (stage ≡ AtLists) → Stands stage g
     → ((p : Place) → g.giving ≡ Takes p → StopsBehind p here before after few answer)
-    → StopsBehind (place_next stage g.numbers) here before after few answer
+    → StopsBehind (place_next stage g.kept.numbers) here before after few answer
 next_stops stage g here before after few answer open_ stands h = search rules

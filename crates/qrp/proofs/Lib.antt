@@ -6,10 +6,7 @@ pub mod CanonicalTextIsRead
 pub mod ReadIsSpelled
 pub mod WrittenParts
 pub mod Flats
-pub mod RowsReadTheTrace
+pub mod ReadItemByItem
 pub mod RowsReadTheItem
-pub mod StopsBehind
 pub mod ItemStops
 pub mod ReadingLaws
-pub mod GoingOn
-pub mod StepAfterStep

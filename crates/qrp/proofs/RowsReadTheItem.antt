@@ -89,8 +89,8 @@ fault_given p known next rest (error.Text f line) h = unless f line (known_items
 -- what a reader that is not done has left
 pub next_given : (stage : Stage) (before g : Giver) (known after_ : Known) (answer : Answer) → (stage ≡ AtHeader) ⊎ (stage ≡ AtLists)
     → Stands stage before
-    → ((p : Place) → before.giving ≡ Takes p → GivesItem (known_items p known) g.numbers after_ answer)
-    → GivesNextItem (left_behind stage before.numbers known) (left_behind (stage_after answer) g.numbers after_) answer
+    → ((p : Place) → before.giving ≡ Takes p → GivesItem (known_items p known) g.kept.numbers after_ answer)
+    → GivesNextItem (left_behind stage before.kept.numbers known) (left_behind (stage_after answer) g.kept.numbers after_) answer
 next_given stage before g known after_ answer open_ stands h = search rules
 
 -- a fault is given for good

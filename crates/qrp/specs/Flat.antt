@@ -1,11 +1,17 @@
 -- Steps whose literals and antecedents lie in flat buffers.
-use Rattle.std.specs.Prelude.{◌≡◌, ℕ, List, [], ◌∷◌, length}
+use Rattle.std.specs.Prelude.{◌≡◌, ℕ, List, [], ◌∷◌, ◌++◌, length}
 use Rattle.qbf_core.specs.Blocks.{Block}
+use Rattle.qbf_core.specs.Lists.{Growing}
 use Rattle.qbf_core.specs.Literal.{Literal}
 use Rattle.qrp.specs.declared.item.Header.{Header}
+use Rattle.qrp.specs.declared.item.Item.{Item}
+use Rattle.qrp.specs.declared.item.Item.TheVariants as item
 use Rattle.qrp.specs.declared.item.Outcome.TheVariants.{Sat}
-use Rattle.qrp.specs.Derivations.{IsWellFormed}
+use Rattle.qrp.specs.declared.parts.Parts.{Parts}
+use Rattle.qrp.specs.declared.places.Part.{Part}
+use Rattle.qrp.specs.Derivations.{Derivation, IsWellFormed}
 use Rattle.qrp.specs.Inferences.{Inference, numbers}
+use Rattle.qrp.specs.Places.{item_of, numbers_behind}
 
 -- the steps of these numbers, literals and antecedents
 abbrev pub numbered : List ℕ → List (List Literal) → List (List ℕ) → List Inference
@@ -14,9 +20,52 @@ numbered (n ∷ ns) [] ants = []
 numbered (n ∷ ns) (l ∷ lits) [] = []
 numbered (n ∷ ns) (l ∷ lits) (a ∷ ants) = record { number = n; lits = l; ants = a } ∷ numbered ns lits ants
 
+-- what is whole of a trace
+pub record Kept : Type 0 where
+  pub header : Header
+  pub sets : List Block
+  pub numbers : List ℕ
+  pub lits : List (List Literal)
+  pub ants : List (List ℕ)
+
+-- nothing yet
+abbrev pub nothing_kept : Kept
+nothing_kept = record { header = record { vars = 0; steps = 0 }; sets = []; numbers = []; lits = []; ants = [] }
+
+-- the trace that is made of it
+abbrev pub made : Kept → Derivation
+made k = record { header = k.header; sets = k.sets; steps = numbered k.numbers k.lits k.ants; result = Sat }
+
 -- each step has its number, its literals and its antecedents, and the whole is well formed, which no result changes
-pub record IsFlat (header : Header) (sets : List Block) (index : List ℕ) (lits : List (List Literal)) (ants : List (List ℕ)) : Type 0 where
-  pub well_formed : IsWellFormed (record { header = header; sets = sets; steps = numbered index lits ants; result = Sat })
-  pub same : index ≡ numbers (numbered index lits ants)
-  pub lits_counted : length lits ≡ length index
-  pub ants_counted : length ants ≡ length index
+pub record IsFlat (k : Kept) : Type 0 where
+  pub well_formed : IsWellFormed (made k)
+  pub same : k.numbers ≡ numbers (made k).steps
+  pub lits_counted : length k.lits ≡ length k.numbers
+  pub ants_counted : length k.ants ≡ length k.numbers
+
+-- what is whole of these parts
+abbrev pub kept_of : Parts → Kept
+kept_of p = record {
+  header = p.header;
+  sets = p.sets.items;
+  numbers = p.begun.index;
+  lits = p.begun.lits.whole;
+  ants = p.begun.ants.whole;
+}
+
+-- a list that grew is whole, and an empty one is begun
+abbrev pub closed : {X : Type 0} → Growing X → Growing X
+closed g = record { whole = g.whole ++ g.begun ∷ []; begun = [] }
+
+-- a trace with one more item
+abbrev pub with_item : Derivation → Item → Derivation
+with_item d (item.Header h) = record d { header = h }
+with_item d (item.Set s) = record d { sets = d.sets ++ s ∷ [] }
+with_item d (item.Step s) = record d { steps = d.steps ++ s ∷ [] }
+with_item d (item.Result o) = record d { result = o }
+
+-- a part that was begun is whole
+pub record ClosesPart (old new : Parts) (p : Part) : Type 0 where
+  pub made : made (kept_of new) ≡ with_item (made (kept_of old)) (item_of old.begun p)
+  pub numbers : new.begun.index ≡ numbers_behind old.begun p
+  pub flat : IsFlat (kept_of new)

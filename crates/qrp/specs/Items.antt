@@ -1,6 +1,7 @@
 -- The parts of a trace, given one after the other: the rows of the places with what is given.
-use Rattle.std.specs.Prelude.{◌≡◌, ◌≢◌, ◌<◌, Option, ◌+◌, ◌-◌, ◌^◌, ℕ, false, List, length, Result, Ok, IfOk, OnOk, IfErr, ⊤}
-use Rattle.qbf_spelling.specs.Words.{Lined, Known, Token}
+use Rattle.std.specs.Prelude.{◌≡◌, ◌≢◌, ◌<◌, Option, Some, None, ◌+◌, ◌-◌, ◌^◌, ℕ, Bool, true, false, List, [], ◌∷◌, ◌++◌, length, Result, Ok}
+use Rattle.std.specs.Prelude.{IfOk, OnOk, IfErr, ⊤}
+use Rattle.qbf_spelling.specs.Words.{Lined, Literal, Known, Token}
 use Rattle.qbf_text.specs.Stopping.{IfKnown}
 use Rattle.qbf_text.specs.Reading.{Reading, HasFailed}
 use Rattle.qbf_text.specs.Rows as rows
@@ -14,11 +15,11 @@ use Rattle.qrp.specs.declared.places.At.TheVariants as at
 use Rattle.qrp.specs.declared.places.Begun.{Begun}
 use Rattle.qrp.specs.declared.reader.Stage.{Stage}
 use Rattle.qrp.specs.declared.reader.Stage.TheVariants.{AtHeader, AtLists, HasResult, HasFault}
+use Rattle.qrp.specs.Flat.{Kept, made, with_item}
 use Rattle.qrp.specs.Given.{left_behind, is_last, numbers_with, stage_after, GivesNextItem, IsProper, StandsOnLine, StopsBehindPart}
 use Rattle.qrp.specs.Parts.{KnownItems}
-pub use Rattle.qrp.specs.Places.{IsBegun}
 use Rattle.qrp.specs.Places.{place, item_of, numbers_behind}
-use Rattle.qrp.specs.Reading.{Fault, Place, AtP, Between, Row, Goes, Closes, Ends, Fails, row}
+use Rattle.qrp.specs.Reading.{Fault, Place, AtP, Between, InLits, InAnts, Row, Goes, Closes, Ends, Fails, row}
 
 -- What stands next.
 pub data Giving : Type 0 where
@@ -29,9 +30,9 @@ pub data Giving : Type 0 where
   -- behind the result
   Whole : Outcome → Giving
 
--- the numbers of the steps that were given, and what stands next
+-- what is kept of the parts that were given, and what stands next
 pub record Giver : Type 0 where
-  pub numbers : List ℕ
+  pub kept : Kept
   pub giving : Giving
 
 abbrev pub GivingRow : Type 0
@@ -56,6 +57,16 @@ giving_at b (at.Behind p) = Gives (item_of b p) (Between (numbers_behind b p))
 giving_at b (at.Whole o) = Whole o
 giving_at b here = Takes (place b here)
 
+-- after literals, and the zero after them if that was taken
+abbrev pub lits_place : List ℕ → ℕ → List Literal → Bool → Place
+lits_place ns n ls true = InAnts ns n ls []
+lits_place ns n ls false = InLits ns n ls
+
+-- after antecedents, and the zero after them if that was taken
+abbrev pub after_ants : List ℕ → ℕ → List Literal → List ℕ → Option (Unit {0}) → Giving
+after_ants ns n ls ants None = Takes (InAnts ns n ls ants)
+after_ants ns n ls ants (Some u) = Gives (item.Step (record { number = n; lits = ls; ants = ants })) (Between (ns ++ n ∷ []))
+
 -- an item is complete
 abbrev pub IsGiven : Giving → Type 0
 IsGiven (Takes p) = ⊥
@@ -67,15 +78,24 @@ abbrev pub giving : Item → List ℕ → Giving
 giving (item.Result o) ns = Whole o
 giving i ns = Gives i (Between ns)
 
--- behind this item stand its number, if it is a step, and the next token, if it is not the last
-pub record IsNextAfter (i : Item) (old new : Giver) : Type 0 where
-  pub numbers : new.numbers ≡ numbers_with old.numbers (Ok i)
-  pub giving : is_last (Ok i) ≡ false → new.giving ≡ Takes (Between new.numbers)
+-- the item that was complete was given, and is as the grammar asks; after it its number is kept, if it is a step, and the next token is
+-- taken, if it is not the last
+pub record GivesPart (i : Item) (old new : Giver) : Type 0 where
+  pub item : old.giving ≡ giving i (numbers_with old.kept.numbers (Ok i))
+  pub proper : IsProper old.kept.numbers i
+  pub numbers : new.kept.numbers ≡ numbers_with old.kept.numbers (Ok i)
+  pub giving : is_last (Ok i) ≡ false → new.giving ≡ Takes (Between new.kept.numbers)
+
+-- the item that was complete was kept after the others, or it is the result
+abbrev pub Keeps : Giver → Giver → Option Outcome → Type 0
+Keeps old new None = (i : Item) × (is_last (Ok i) ≡ false) × (old.giving ≡ Gives i (Between new.kept.numbers))
+    × (made new.kept ≡ with_item (made old.kept) i) × (new.giving ≡ Takes (Between new.kept.numbers))
+Keeps old new (Some o) = (old.giving ≡ Whole o) × (new.kept ≡ old.kept)
 
 -- a reader that is so far takes a token here
 abbrev pub Stands : Stage → Giver → Type 0
 Stands AtHeader g = g.giving ≡ Takes AtP
-Stands AtLists g = g.giving ≡ Takes (Between g.numbers)
+Stands AtLists g = g.giving ≡ Takes (Between g.kept.numbers)
 Stands (HasResult o) g = ⊤
 Stands (HasFault f line) g = ⊤
 
@@ -87,8 +107,8 @@ GivesItem before ns after answer = GivesNextItem before (left_behind (stage_afte
 
 -- the item is as the grammar asks, its number is behind the others, and the next token stands where it is to be taken
 pub record IsItem (old new : Giver) (answer : Result Item Fault) : Type 0 where
-  pub proper : IfOk answer (λ i. IsProper old.numbers i)
-  pub numbers : new.numbers ≡ numbers_with old.numbers answer
+  pub proper : IfOk answer (λ i. IsProper old.kept.numbers i)
+  pub numbers : new.kept.numbers ≡ numbers_with old.kept.numbers answer
   pub stands : Stands (stage_after answer) new
 
 -- what was done with the devices: the scanner did not fail with an item, and behind each but the last less can still come; the count

@@ -9,6 +9,5 @@ pub mod Given
 pub mod Answers
 pub mod Texts
 pub mod Flat
-pub mod Making
 pub mod Places
 pub mod Items

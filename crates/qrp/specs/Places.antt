@@ -1,9 +1,6 @@
 -- Where a token stands while a trace is read: what the lists that are begun say of its place.
-use Rattle.std.specs.Prelude.{◌≡◌, ◌⊎◌, ◌<◌, ◌≤◌, ◌^◌, ℕ, Bool, true, false, List, [], ◌∷◌, ◌++◌, length, None, Result, Ok, Err, ⊤}
-use Rattle.qbf_spelling.specs.Words.{AllByRecursion, IsVariable, Literal, Lined, Token}
-use Rattle.qbf_text.specs.declared.hand.Cursor.{Cursor}
-use Rattle.qbf_text.specs.declared.hand.Passed.{Passed}
-use Rattle.qbf_text.specs.Passing.{PassesNumber}
+use Rattle.std.specs.Prelude.{◌≡◌, ◌<◌, ◌≤◌, ◌^◌, ℕ, false, List, [], ◌∷◌, ◌++◌, length, Result, Ok, Err, ⊤}
+use Rattle.qbf_spelling.specs.Words.{AllByRecursion, IsVariable, Token}
 use Rattle.std.specs.declared.alloc.AllocError.{AllocError}
 use Rattle.qbf_text.specs.declared.grammar.Stop.{Stop}
 use Rattle.qbf_text.specs.declared.grammar.Stop.TheVariants as stop
@@ -19,7 +16,7 @@ use Rattle.qrp.specs.declared.places.Part.{Part}
 use Rattle.qrp.specs.declared.places.Part.TheVariants as part
 use Rattle.qrp.specs.Inferences.{IsLiteral, IsNumber}
 use Rattle.qrp.specs.Reading.{Place, Row, Goes, Closes, Ends, Fails, InHeader, Between, InSet, InLits, InAnts, AtResult}
-use Rattle.qrp.specs.Reading.{row, antecedent, has_room}
+use Rattle.qrp.specs.Reading.{row}
 use Rattle.step_index.specs.Numbers.{is_used}
 
 -- the place of a token, where one is taken
@@ -108,28 +105,7 @@ abbrev pub Leads : At → Begun → Begun → Result At (Stop TraceFault) → Ty
 Leads here old new (Ok next) = Stays old new × IsBegun next new
 Leads here old new (Err e) = Stays old new × (IsBegun here old → IsBegun here new)
 
--- in the lists of the step with this number
-abbrev pub IsInStep : ℕ → At → Type 0
-IsInStep n here = (here ≡ at.Lits n) ⊎ (here ≡ at.Ants n)
-
--- ---- tokens that complete nothing
-
--- each of the tokens leads on, and all lead from one place to another
-abbrev pub GoOn : Place → Place → List Lined → Type 0
-GoOn first last [] = last ≡ first
-GoOn first last (t ∷ ts) = (next : Place) × (row first t.0 ≡ Goes next) × GoOn next last ts
-
--- after literals, and the zero after them if that was taken
-abbrev pub lits_place : List ℕ → ℕ → List Literal → Bool → Place
-lits_place ns n ls true = InAnts ns n ls []
-lits_place ns n ls false = InLits ns n ls
-
--- behind these antecedents a token completes the step
-pub record EndsStep (ants bytes : List ℕ) (here : Cursor) (end : Passed) : Type 0 where
-  pub passes : PassesNumber bytes here end.next end.token
-  pub closes : antecedent (has_room ants) end.token ≡ Ok None
-
--- the lists of a step are begun at the place that is left; if memory was refused, at the place before
-abbrev pub Settles : ℕ → Begun → Begun → Result Reached AllocError → Type 0
-Settles n old new (Ok r) = Stays old new × IsBegun r.at new × IsInStep n r.at
-Settles n old new (Err e) = Stays old new × IsBegun (at.Lits n) new
+-- at the place in a step that was reached, where whole lists stay; if memory was refused, at the place before
+abbrev pub Settles : At → Begun → Begun → Result Reached AllocError → Type 0
+Settles here old new (Ok r) = Stays old new × IsBegun r.at new
+Settles here old new (Err e) = Stays old new × IsBegun here new

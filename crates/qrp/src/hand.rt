@@ -1,20 +1,20 @@
-//! The lists of a step, as far as they stand whole among the bytes at hand.
+//! Steps, as far as they stand whole among the bytes at hand.
 
-ghost use Rattle.std.specs.Prelude.{◌≡◌, ℕ, ◌≤◌, List, length, IfOk, IfSome};
+ghost use Rattle.std.specs.Prelude.{◌≡◌, ℕ, ◌≤◌, List, length, IfOk};
 ghost use Rattle.std.specs.List.{AllByRecursion};
 ghost use Rattle.qbf_core.specs.Literal.{Literal};
-ghost use Rattle.qbf_text.specs.Passing.{Passes};
+ghost use Rattle.qbf_text.specs.Passing.{LeadOn, Passes, PassesAll};
 ghost use Rattle.qrp.specs.declared.places.At.TheVariants as at;
 ghost use Rattle.qrp.specs.Inferences.{IsLiteral};
-ghost use Rattle.qrp.specs.Places.{place, AreAntecedents, EndsStep, GoOn, IsBegun, Settles};
-ghost use Rattle.qrp.specs.Places.{lits_place};
+ghost use Rattle.qrp.specs.Items.{Takes, item_row, giving_at, lits_place, after_ants};
+ghost use Rattle.qrp.specs.Places.{AreAntecedents, IsBegun, Settles};
 ghost use Rattle.qrp.specs.Reading.{InAnts, InLits};
 
-use crate::places::{At, Begun, has_room};
+use crate::places::{At, Begun, Part, has_room, take_opening};
 use crate::tokens::{FAULTS, LAST_VARIABLE, antecedent};
 use qbf_core::{GrowingLists, Lit};
 use qbf_spelling::literal;
-use qbf_text::{Cursor, Passed};
+use qbf_text::Cursor;
 use std::alloc::AllocError;
 
 /// Takes literals, and the zero after them; `false` if that was not taken.
@@ -28,8 +28,9 @@ fn take_literals(
     from: Cursor,
 ) -> Result<(Cursor, bool), AllocError>
     requires { from.at ≤ length bytes.now }
-    ensures passes { IfOk result (λ r. (ns : List ℕ) (n : ℕ) → Passes
-        (GoOn (InLits ns n lits.old.begun) (lits_place ns n lits.new.begun r.1)) bytes.now from r.0) }
+    ensures passes { IfOk result (λ r. (ns : List ℕ) (n : ℕ) → Passes (LeadOn item_row
+        (Takes (InLits ns n lits.old.begun)) (Takes (lits_place ns n lits.new.begun r.1)))
+        bytes.now from r.0) }
     ensures in_range { AllByRecursion IsLiteral lits.old.begun
         → AllByRecursion IsLiteral lits.new.begun }
     ensures whole { lits.new.whole ≡ lits.old.whole }
@@ -46,7 +47,8 @@ fn take_literals(
     Ok((here, false))
 }
 
-/// Takes antecedents, and not the zero after them, which is returned if it stands there.
+/// Takes antecedents, and the zero after them, which completes the step; `None` if that was not
+/// taken.
 ///
 /// # Errors
 /// Out of memory.
@@ -55,12 +57,11 @@ fn take_antecedents(
     ants: &mut GrowingLists<u64>,
     bytes: &[u8],
     from: Cursor,
-) -> Result<(Cursor, Option<Passed>), AllocError>
+) -> Result<(Cursor, Option<()>), AllocError>
     requires { from.at ≤ length bytes.now }
-    ensures passes { IfOk result (λ r. (ns : List ℕ) (n : ℕ) (ls : List Literal) → Passes
-        (GoOn (InAnts ns n ls ants.old.begun) (InAnts ns n ls ants.new.begun)) bytes.now from r.0) }
-    ensures end { IfOk result
-        (λ r. IfSome r.1 (λ end. EndsStep ants.new.begun bytes.now r.0 end)) }
+    ensures passes { IfOk result (λ r. (ns : List ℕ) (n : ℕ) (ls : List Literal) →
+        PassesAll item_row (Takes (InAnts ns n ls ants.old.begun))
+        (after_ants ns n ls ants.new.begun r.1) bytes.now from r.0 r.1) }
     ensures sound { AreAntecedents ants.old.begun → AreAntecedents ants.new.begun }
     ensures whole { ants.new.whole ≡ ants.old.whole }
 {
@@ -68,7 +69,7 @@ fn take_antecedents(
     'antecedents: while let Some(passed) = here.number(bytes) {
         match antecedent(has_room(ants), passed.token) {
             Ok(Some(ant)) => ants.push(ant)?,
-            Ok(None) => return Ok((here, Some(passed))),
+            Ok(None) => return Ok((passed.next, Some(()))),
             Err(_) => break,
         }
         here = passed.next;
@@ -76,15 +77,15 @@ fn take_antecedents(
     Ok((here, None))
 }
 
-/// How far the lists of a step were taken.
+/// How far a step was taken.
 #[derive(Clone, Copy)]
 pub struct Reached {
     /// Where the next token stands.
     pub at: At,
     /// The place of its bytes.
     pub here: Cursor,
-    /// The zero that completes the step, if it stands there whole.
-    pub end: Option<Passed>,
+    /// Whether the step is complete.
+    pub done: Option<()>,
 }
 
 /// Takes the rest of the literals of the step with this number, and then its antecedents.
@@ -92,7 +93,7 @@ pub struct Reached {
 /// # Errors
 /// Out of memory. The place is that before the call then.
 #[inline(always)]
-pub fn take_lists(
+fn take_lists(
     begun: &mut Begun,
     number: u64,
     bytes: &[u8],
@@ -100,25 +101,83 @@ pub fn take_lists(
 ) -> Result<Reached, AllocError>
     requires within { from.at ≤ length bytes.now }
     requires sound { IsBegun (at.Lits number) begun.old }
-    ensures passes { IfOk result (λ r. Passes
-        (GoOn (place begun.old (at.Lits number)) (place begun.new r.at)) bytes.now from r.here) }
-    ensures end { IfOk result (λ r. IfSome r.end (λ end.
-        (r.at ≡ at.Ants number) × EndsStep begun.new.ants.begun bytes.now r.here end)) }
-    ensures sound { Settles number begun.old begun.new result }
+    ensures passes { IfOk result (λ r. PassesAll item_row (giving_at begun.old (at.Lits number))
+        (giving_at begun.new r.at) bytes.now from r.here r.done) }
+    ensures sound { Settles (at.Lits number) begun.old begun.new result }
 {
     let (here, closed) = take_literals(&mut begun.lits, bytes, from)?;
     if !closed {
         return Ok(Reached {
             at: At::Lits(number),
             here,
-            end: None,
+            done: None,
         });
     }
     begun.ants.begin();
-    let (here, end) = take_antecedents(&mut begun.ants, bytes, here)?;
-    Ok(Reached {
-        at: At::Ants(number),
-        here,
-        end,
-    })
+    let (here, done) = take_antecedents(&mut begun.ants, bytes, here)?;
+    match done {
+        Some(()) => Ok(Reached {
+            at: At::Behind(Part::Step(number)),
+            here,
+            done: Some(()),
+        }),
+        None => Ok(Reached {
+            at: At::Ants(number),
+            here,
+            done: None,
+        }),
+    }
+}
+
+/// Takes the number of a step, and then its lists.
+///
+/// # Errors
+/// Out of memory.
+#[inline(always)]
+fn take_step(begun: &mut Begun, bytes: &[u8], from: Cursor) -> Result<Reached, AllocError>
+    requires within { from.at ≤ length bytes.now }
+    ensures passes { IfOk result (λ r. PassesAll item_row (giving_at begun.old at.Between)
+        (giving_at begun.new r.at) bytes.now from r.here r.done) }
+    ensures sound { Settles at.Between begun.old begun.new result }
+{
+    let none = Reached {
+        at: At::Between,
+        here: from,
+        done: None,
+    };
+    let Some(passed) = from.number(bytes) else {
+        return Ok(none);
+    };
+    match take_opening(begun, passed.token) {
+        Ok(At::Lits(number)) => take_lists(begun, number, bytes, passed.next),
+        _ => Ok(none),
+    }
+}
+
+/// Takes a step that begins here or has begun, if its number or its literals stand next.
+///
+/// # Errors
+/// Out of memory. The place is that before the call then.
+#[inline(always)]
+pub fn take_at_hand(
+    here: At,
+    begun: &mut Begun,
+    bytes: &[u8],
+    from: Cursor,
+) -> Result<Reached, AllocError>
+    requires within { from.at ≤ length bytes.now }
+    requires sound { IsBegun here begun.old }
+    ensures passes { IfOk result (λ r. PassesAll item_row (giving_at begun.old here)
+        (giving_at begun.new r.at) bytes.now from r.here r.done) }
+    ensures sound { Settles here begun.old begun.new result }
+{
+    match here {
+        At::Between => take_step(begun, bytes, from),
+        At::Lits(number) => take_lists(begun, number, bytes, from),
+        at => Ok(Reached {
+            at,
+            here: from,
+            done: None,
+        }),
+    }
 }

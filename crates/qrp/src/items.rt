@@ -1,16 +1,17 @@
 //! The parts of a trace, given one after the other.
 
-ghost use Rattle.std.specs.Prelude.{◌≡◌, Ok, [], IfOk, OnOk, OnErr};
-ghost use Rattle.qrp.specs.Given.{numbers_with, IsProper};
+ghost use Rattle.std.specs.Prelude.{◌≡◌, IfOk, OnOk, OnErr};
+ghost use Rattle.qrp.specs.Flat.{kept_of, nothing_kept, IsFlat};
 ghost use Rattle.qrp.specs.Items as items;
-ghost use Rattle.qrp.specs.Items.{giving, IsGiven, IsNextAfter};
+ghost use Rattle.qrp.specs.Items.{IsGiven, GivesPart, Keeps};
 ghost use Rattle.qrp.specs.declared.places.Part.TheVariants as part;
 ghost use Rattle.qrp.specs.Places.{item_of, numbers_behind, IsComplete};
 ghost use Rattle.qrp.specs.Reading.{AtP};
 
 use crate::fault::TraceFault;
-use crate::hand::take_lists;
-use crate::item::{Item, QuantSet, Step};
+use crate::hand::take_at_hand;
+use crate::item::{Item, Outcome, QuantSet, Step};
+use crate::parts::{Parts, close};
 use crate::places::{At, Begun, Part, take_at};
 use qbf_text::{Cursor, Grammar, Stop, Taken, Token};
 use std::alloc::{AllocError, Global};
@@ -51,49 +52,50 @@ fn take_part(begun: &mut Begun, alloc: Global, part: Part) -> Result<Item, Alloc
 
 /// A trace of which one part is given after the other.
 ///
-/// Contracts see the numbers of the steps that were given, and what stands next.
+/// Contracts see what is kept of the parts that were given, and what stands next.
 #[derive(Drop)]
 pub struct ItemGrammar {
     at: At,
-    begun: Begun,
+    parts: Parts,
 }
 
 impl Model for ItemGrammar {
-    ghost use Rattle.qrp.specs.Items.{Giver, giving_at, IsBegun};
+    ghost use Rattle.qrp.specs.Flat.{kept_of};
+    ghost use Rattle.qrp.specs.Items.{Giver, giving_at};
+    ghost use Rattle.qrp.specs.Places.{IsBegun};
 
     ghost Value = { Giver };
 
-    ghost view = { λ g. record { numbers = g.begun.index; giving = giving_at g.begun g.at } };
+    ghost view = { λ g.
+        record { kept = kept_of g.parts; giving = giving_at g.parts.begun g.at } };
 
-    ghost invariant = { λ g. IsBegun g.at g.begun };
+    ghost invariant = { λ g. IsBegun g.at g.parts.begun };
 }
 
 impl ItemGrammar {
     /// At the beginning of a trace. It takes no memory.
     pub fn new(alloc: Global) -> ItemGrammar
-        ensures { result ≡ record { numbers = []; giving = items.Takes AtP } }
+        ensures begins { result ≡ record { kept = nothing_kept; giving = items.Takes AtP } }
+        ensures flat { IsFlat result.kept }
     {
         ItemGrammar {
             at: At::Header,
-            begun: Begun::new(alloc),
+            parts: Parts::new(alloc),
         }
     }
 
-    /// The item that is complete.
+    /// The item that is complete, of which the number alone is kept if it is a step.
     ///
     /// # Errors
     /// Out of memory. Nothing is changed then.
     pub fn give(&mut self, alloc: Global) -> Result<Item, AllocError>
         requires { IsGiven self.old.giving }
-        ensures item { IfOk result
-            (λ i. self.old.giving ≡ giving i (numbers_with self.old.numbers (Ok i))) }
-        ensures proper { IfOk result (λ i. IsProper self.old.numbers i) }
-        ensures next { IfOk result (λ i. IsNextAfter i self.old self.new) }
+        ensures gives { IfOk result (λ i. GivesPart i self.old self.new) }
         ensures err { OnErr result (self.new ≡ self.old) }
     {
         match self.at {
             At::Behind(part) => {
-                let item = take_part(&mut self.begun, alloc, part)?;
+                let item = take_part(&mut self.parts.begun, alloc, part)?;
                 self.at = At::Between;
                 Ok(item)
             }
@@ -102,16 +104,46 @@ impl ItemGrammar {
         }
     }
 
+    /// Keeps the item that is complete after the others; the result, where it is that.
+    ///
+    /// # Errors
+    /// Out of memory.
+    #[inline(always)]
+    pub fn keep(&mut self) -> Result<Option<Outcome>, AllocError>
+        requires made { IsFlat self.old.kept }
+        requires given { IsGiven self.old.giving }
+        ensures keeps { IfOk result (λ o. Keeps self.old self.new o) }
+        ensures made { OnOk result (IsFlat self.new.kept) }
+    {
+        match mem::replace(&mut self.at, At::Between) {
+            At::Behind(part) => {
+                close(&mut self.parts, part)?;
+                Ok(None)
+            }
+            At::Whole(outcome) => Ok(Some(outcome)),
+            _ => unreachable!(),
+        }
+    }
+
+    /// What was kept. It takes no memory.
+    pub fn into_parts(self) -> Parts
+        ensures { kept_of result ≡ self.kept }
+    {
+        self.parts
+    }
+
     /// The numbers of the steps that were given. It takes no memory.
     pub fn into_index(self) -> StepIndex
-        ensures { result ≡ self.numbers }
+        ensures { result ≡ self.kept.numbers }
     {
-        self.begun.index
+        let parts = self.parts;
+        let begun = parts.begun;
+        begun.index
     }
 }
 
 impl Grammar for ItemGrammar {
-    ghost use Rattle.std.specs.Prelude.{ℕ, List};
+    ghost use Rattle.qrp.specs.Flat.{Kept};
     ghost use Rattle.qrp.specs.Items.{Giving, item_row};
 
     type Output = ();
@@ -124,25 +156,24 @@ impl Grammar for ItemGrammar {
 
     ghost row_of = { item_row };
 
-    ghost Kept = { List ℕ };
+    ghost Kept = { Kept };
 
-    ghost kept = { λ g. g.numbers };
+    ghost kept = { λ g. g.kept };
 
     #[inline(always)]
-    fn take_hand(&mut self, bytes: &[u8], from: Cursor) -> Result<Cursor, AllocError> {
-        match self.at {
-            At::Lits(number) => {
-                let reached = take_lists(&mut self.begun, number, bytes, from)?;
-                self.at = reached.at;
-                Ok(reached.here)
-            }
-            _ => Ok(from),
-        }
+    fn take_hand(
+        &mut self,
+        bytes: &[u8],
+        from: Cursor,
+    ) -> Result<(Cursor, Option<()>), AllocError> {
+        let reached = take_at_hand(self.at, &mut self.parts.begun, bytes, from)?;
+        self.at = reached.at;
+        Ok((reached.here, reached.done))
     }
 
     #[inline(always)]
     fn take(&mut self, token: Token) -> Result<Taken<()>, Stop<TraceFault>> {
-        self.at = take_at(self.at, &mut self.begun, token)?;
+        self.at = take_at(self.at, &mut self.parts.begun, token)?;
         match self.at {
             At::Behind(_) | At::Whole(_) => Ok(Taken::Done(())),
             _ => Ok(Taken::More),

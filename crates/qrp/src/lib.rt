@@ -3,7 +3,6 @@
 #![tactic(auto)]
 
 mod fault;
-mod grammar;
 mod hand;
 mod item;
 mod items;
@@ -11,7 +10,6 @@ mod laws;
 mod parts;
 mod places;
 mod reader;
-mod step_after_step;
 mod steps;
 mod tokens;
 mod trace;

@@ -5,11 +5,9 @@ ghost use Rattle.std.specs.Prelude.{OnOk, OnErr};
 ghost use Rattle.std.specs.List.{AllByRecursion};
 ghost use Rattle.qbf_core.specs.Blocks.{IsVariable};
 ghost use Rattle.qbf_spelling.specs.declared.header.HeaderAt.TheVariants as header;
-ghost use Rattle.qbf_text.specs.Rows.{Goes};
 ghost use Rattle.qrp.specs.Inferences.{IsLiteral};
-ghost use Rattle.qrp.specs.Making.{Making, row_with, closed, made, IsMade};
-ghost use Rattle.qrp.specs.Places.{row_of, IsComplete, Stays};
-ghost use Rattle.qrp.specs.Reading.{Between, nothing};
+ghost use Rattle.qrp.specs.Flat.{closed, kept_of, nothing_kept, ClosesPart, IsFlat};
+ghost use Rattle.qrp.specs.Places.{IsComplete, Stays};
 ghost use Rattle.step_index.specs.Numbers.{is_used, AreStepNumbers};
 
 use crate::item::{Header, QuantSet};
@@ -33,9 +31,8 @@ pub struct Parts {
 impl Parts {
     /// Nothing yet. It takes no memory.
     pub fn new(alloc: Global) -> Parts
-        ensures sound { IsMade result }
-        ensures made { made result ≡ nothing }
-        ensures index { result.begun.index ≡ [] }
+        ensures sound { IsFlat (kept_of result) }
+        ensures kept { kept_of result ≡ nothing_kept }
         ensures header { result.begun.header ≡ header.P }
     {
         Parts {
@@ -51,12 +48,12 @@ impl Parts {
     /// # Errors
     /// Out of memory. What is whole is as it was then.
     pub fn push_set(&mut self, quantifier: Quantifier, vars: &[Var]) -> Result<(), AllocError>
-        requires { IsMade self.old }
-        ensures pushed { OnOk result (made self.new ≡ record (made self.old) {
+        requires { IsFlat (kept_of self.old) }
+        ensures pushed { OnOk result (kept_of self.new ≡ record (kept_of self.old) {
           sets = self.old.sets.items ++ record { quantifier = quantifier; vars = vars.now } ∷ [];
         }) }
-        ensures err { OnErr result (made self.new ≡ made self.old) }
-        ensures sound { IsMade self.new }
+        ensures err { OnErr result (kept_of self.new ≡ kept_of self.old) }
+        ensures sound { IsFlat (kept_of self.new) }
     {
         begin_set(&mut self.begun.vars, vars)?;
         close_set(&mut self.sets, &mut self.begun.vars, self.alloc, quantifier)
@@ -144,10 +141,10 @@ fn begin_antecedents(lists: &mut GrowingLists<u64>, ants: &[u64]) -> Result<(), 
 
 /// Begins the lists of a step in place of those that are begun.
 pub fn begin_step(begun: &mut Begun, lits: &[Lit], ants: &[u64]) -> Result<(), AllocError>
-    ensures lits { OnOk result (begun.new.lits.begun ≡ lits.now) }
-    ensures ants { OnOk result (begun.new.ants.begun ≡ ants.now) }
-    ensures in_range { OnOk result (AllByRecursion IsLiteral lits.now) }
-    ensures fit { OnOk result (AllByRecursion (λ n. n < 2 ^ 64) ants.now) }
+    ensures lits { OnOk result
+        ((begun.new.lits.begun ≡ lits.now) × AllByRecursion IsLiteral lits.now) }
+    ensures ants { OnOk result
+        ((begun.new.ants.begun ≡ ants.now) × AllByRecursion (λ n. n < 2 ^ 64) ants.now) }
     ensures stays { Stays begun.old begun.new }
 {
     begin_literals(&mut begun.lits, lits)?;
@@ -166,8 +163,8 @@ fn close_antecedents(
     number: u64,
 ) -> Result<(), AllocError>
     requires { is_used number index.old ≡ false }
-    ensures ants { OnOk result (ants.new ≡ closed ants.old) }
-    ensures index { OnOk result (index.new ≡ index.old ++ number ∷ []) }
+    ensures closed { OnOk result
+        ((ants.new ≡ closed ants.old) × (index.new ≡ index.old ++ number ∷ [])) }
     ensures sound { OnOk result (AreStepNumbers index.new) }
     ensures err { OnErr result ((ants.new.whole ≡ ants.old.whole) × (index.new ≡ index.old)) }
 {
@@ -214,13 +211,10 @@ fn close_step(begun: &mut Begun, number: u64) -> Result<(), AllocError>
 /// Out of memory. What is whole is as it was then.
 #[inline(always)]
 pub fn close(parts: &mut Parts, part: Part) -> Result<(), AllocError>
-    requires made { IsMade parts.old }
+    requires made { IsFlat (kept_of parts.old) }
     requires complete { IsComplete part parts.old.begun }
-    ensures row { OnOk result (
-        row_with (made parts.old) (row_of parts.old.begun part)
-        ≡ Goes (Making (made parts.new) (Between parts.new.begun.index))) }
-    ensures sound { IsMade parts.new }
-    ensures err { OnErr result (made parts.new ≡ made parts.old) }
+    ensures closed { OnOk result (ClosesPart parts.old parts.new part) }
+    ensures err { OnErr result (kept_of parts.new ≡ kept_of parts.old) }
 {
     match part {
         Part::Header(header) => {

@@ -51,11 +51,11 @@ fn read_item<S: Source>(
     source: &mut S,
 ) -> Result<Item, Fault>
     requires ready { ¬ HasFailed scanner.old }
-    ensures gives { (p : Place) → grammar.old.giving ≡ Takes p →
+    ensures reads { (p : Place) → grammar.old.giving ≡ Takes p →
         GivesItem (known_items p (left scanner.old (S.remaining source.old)))
-        grammar.new.numbers (left scanner.new (S.remaining source.new)) result }
-    ensures stops { (p : Place) → grammar.old.giving ≡ Takes p →
-        StopsBehind p (tokens_next scanner.old) (ahead scanner.old.pending (S.remaining source.old))
+        grammar.new.kept.numbers (left scanner.new (S.remaining source.new)) result
+        × StopsBehind p (tokens_next scanner.old)
+        (ahead scanner.old.pending (S.remaining source.old))
         (ahead scanner.new.pending (S.remaining source.new))
         (length scanner.new.pending ≤ 4096) result }
     ensures item { IsItem grammar.old grammar.new result }
@@ -90,11 +90,11 @@ impl Model for TraceReader {
     ghost Value = { Position };
 
     ghost view = { λ r.
-        record { scanner = r.scanner; numbers = r.grammar.numbers; stage = r.stage } };
+        record { scanner = r.scanner; numbers = r.grammar.kept.numbers; stage = r.stage } };
 
     ghost invariant = { λ r. Stands r.stage r.grammar
         × IsInStage r.stage
-        (record { scanner = r.scanner; numbers = r.grammar.numbers; stage = r.stage }) };
+        (record { scanner = r.scanner; numbers = r.grammar.kept.numbers; stage = r.stage }) };
 }
 
 impl TraceReader {

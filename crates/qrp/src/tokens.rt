@@ -1,7 +1,6 @@
 //! What one token says at its place in a trace.
 
-ghost use Rattle.std.specs.Prelude.{◌≡◌, ◌<◌, ◌^◌, true, IfOk, OnOk, IfSome};
-ghost use Rattle.qbf_text.specs.Lined.{weight};
+ghost use Rattle.std.specs.Prelude.{◌≡◌, ◌<◌, ◌^◌, true, IfOk, IfSome};
 ghost use Rattle.qrp.specs.Inferences.{IsNumber};
 ghost use Rattle.qrp.specs.Reading.{antecedent, opened, outcome_of};
 
@@ -40,8 +39,7 @@ pub enum Opening {
 
 /// What a token begins between lists: no set, once a step was begun.
 pub fn opened(begun: bool, token: Token) -> Result<Opening, TraceFault>
-    ensures says { result ≡ opened begun token }
-    ensures some { OnOk result (weight token ≡ 1) }
+    ensures { result ≡ opened begun token }
 {
     match token {
         Token::Word(Word::A) if !begun => Ok(Opening::Set(Quantifier::All)),

@@ -5,32 +5,19 @@
 ghost use Rattle.std.specs.Prelude.{◌≡◌, ◌≤◌, ◌+◌, [], pos, drop, Result};
 ghost use Rattle.qrp_check.specs.declared.verdict.Verified.{Verified};
 ghost use Rattle.qrp_check.specs.declared.verdict.Fault.{Fault};
-ghost use Rattle.qrp_c.specs.Buffers.{IsWritten};
-ghost use Rattle.qrp_c.specs.Meanings.{fault_meaning};
-ghost use Rattle.qrp_c.specs.Told.{IsTold, TellsSome, TellsFault, NamesVariable, told_fault};
-ghost use Rattle.qrp_c.specs.Told.{answer_line};
-ghost use Rattle.qrp_c.specs.Texts.{IsTrimAnswered, IsCoreAnswered, IsFormatAnswered};
-ghost use Rattle.qrp_c.specs.Verdicts.{Headline, IsAnswered};
+ghost use Rattle.qrp_report.specs.Meanings.{fault_meaning};
+ghost use Rattle.qrp_report.specs.OfFaults.{NamesVariable};
+ghost use Rattle.qrp_memory.specs.Buffers.{IsWritten};
+ghost use Rattle.qrp_memory.specs.Told.{IsTold, TellsSome, TellsFault, told_fault, answer_line};
+ghost use Rattle.qrp_memory.specs.Texts.{IsTrimAnswered, IsCoreAnswered, IsFormatAnswered};
+ghost use Rattle.qrp_memory.specs.Verdicts.{Headline, IsAnswered};
 
-mod buffer;
-mod formatting;
-mod line;
-mod lines;
-mod meaning;
-mod reading;
-mod telling;
-mod trimming;
-mod verdict;
-
-use buffer::{put_numbers, put_text};
-use formatting::format_lent;
-use lines::{line, meaning_of};
-use qbf_text::SliceSource;
-use qrp_check::{Fault, Rules, verify};
+use qrp_check::{Fault, Rules};
+use qrp_memory::{
+    QrpVerdict, format_lent, line_of, list_core, meaning_of, put_numbers, put_text, tell_fault,
+    tell_nothing, tell_truth, trim_lent, verify_lent,
+};
 use std::alloc::Global;
-use telling::{tell, tell_fault, tell_nothing, tell_truth};
-use trimming::{list_core, trim_lent};
-pub use verdict::QrpVerdict;
 
 /// Whether the trace in these bytes proves its result of the formula in those, as `verify` returns
 /// it.
@@ -51,11 +38,7 @@ pub extern "C" fn qrp_verify(
     ensures verdict { IsAnswered (record { any_pivot = any_pivot }) formula.now trace.now out.new }
     ensures status { result ≡ pos out.new.status }
 {
-    let mut formula_source = SliceSource::new(formula);
-    let mut trace_source = SliceSource::new(trace);
-    let rules = Rules { any_pivot };
-    let answer = verify(alloc, &mut formula_source, &mut trace_source, rules);
-    let verdict = tell(&answer);
+    let verdict = verify_lent(alloc, formula, trace, Rules { any_pivot });
     *out = verdict;
     i32::from(verdict.status)
 }
@@ -76,7 +59,7 @@ pub extern "C" fn qrp_verdict_line(verdict: &QrpVerdict, buffer: &mut [u8]) -> u
     // Of any struct.
     ensures kept { drop (1 + result) buffer.new ≡ drop (1 + result) buffer.old }
 {
-    put_text(buffer, line(verdict).as_slice())
+    put_text(buffer, line_of(verdict).as_slice())
 }
 
 /// What the fault of a verdict means, in one sentence, with a zero after it.

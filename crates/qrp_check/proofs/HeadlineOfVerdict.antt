@@ -24,6 +24,7 @@ use Rattle.qrp_rules.specs.declared.rules.Rules.{Rules}
 use Rattle.qrp_check.specs.declared.verdict.Verified.{Verified}
 use Rattle.qrp_check.specs.declared.verdict.Fault.{Fault}
 use Rattle.qrp_check.specs.declared.verdict.Fault.TheVariants as fault
+use Rattle.qrp_check.specs.Core.{ListsCore}
 use Rattle.qrp_check.specs.Proof.{side_of, IsProof, ResultHolds}
 use Rattle.qrp_check.specs.Verdict.{is_sat, IsVerdict, IsVerdictUnless}
 use Rattle.qrp_check.specs.Headline.{Spell, IsShown, Headline}
@@ -46,17 +47,18 @@ formula_read formula trace f d spelled = formulas_complete.spelled_is_read (toke
 trace_read : (formula trace : List ℕ) (f : Qbf) (d : Derivation) → Spell formula trace f d → read_trace trace ≡ Ok d
 trace_read formula trace f d spelled = traces_complete.spelled_is_read (tokens Qrp trace) d spelled.trace_spelled
 
--- what was read and proved, behind an answer that is Verified
-record Found (rules : Rules) (formula trace : List ℕ) (v : Verified) : Type 0 where
+-- what was read and proved, where Verified is returned
+pub record Found (rules : Rules) (formula trace : List ℕ) (v : Verified) : Type 0 where
   pub f : Qbf
   pub d : Derivation
   pub reads_formula : read_formula formula ≡ Ok f
   pub reads_trace : read_trace trace ≡ Ok d
   pub proves : IsProof rules f d
+  pub lists : ListsCore d.steps v.core.items
   pub claim : v.truth ≡ is_sat d.result
   pub truth : IsTrue v.truth ↔ IsTrueFormula f
 
-found : (rules : Rules) (formula trace : List ℕ) (v : Verified) (r : Result Qbf (FormulaFault × ℕ)) (s : Result Derivation (TraceFault × ℕ))
+pub found : (rules : Rules) (formula trace : List ℕ) (v : Verified) (r : Result Qbf (FormulaFault × ℕ)) (s : Result Derivation (TraceFault × ℕ))
     → read_formula formula ≡ r → read_trace trace ≡ s → IsVerdict rules r (Some s) (Ok v) → Found rules formula trace v
 found rules formula trace v (Err e) s reads_formula reads_trace h = absurd (cc h)
 found rules formula trace v (Ok f) (Err e) reads_formula reads_trace h = absurd (cc h)
@@ -66,6 +68,7 @@ found rules formula trace v (Ok f) (Ok d) reads_formula reads_trace (proves, lis
   reads_formula = reads_formula;
   reads_trace = reads_trace;
   proves = proves;
+  lists = lists;
   claim = claim;
   truth = truth;
 }

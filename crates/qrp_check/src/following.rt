@@ -62,7 +62,7 @@ pub(crate) fn follow_core<S: Side, T: Steps>(
     let mut state = CheckState {
         uses,
         seen: SeenLits::new(context.alloc),
-        initial: InitialSteps::new(),
+        initial: InitialSteps::new(context.alloc),
     };
     for place in 0..trace.len() {
         if marks[place] {

@@ -1,54 +1,66 @@
 //! The check of a trace against a formula, both from their bytes.
 
-ghost use Rattle.std.specs.Prelude.{◌≡◌, ◌-◌, ◌^◌, ◌<◌, ◌↔◌, ℕ, List, Option, Ok, IfErr, IfSome};
-ghost use Rattle.qrp.specs.Answers.{reads_bytes};
+ghost use Rattle.std.specs.Prelude.{◌≡◌, ◌-◌, ◌^◌, ◌<◌, ◌↔◌, length, OnOk, IfOk, IfErr, IfSome};
+ghost use Rattle.std.specs.List.{AllByRecursion};
+ghost use Rattle.qbf_text.specs.Stopping.{IfKnown};
+ghost use Rattle.qrp_check.specs.Checked.{IsChecked, IsCheckedOf, WasReadFrom};
+ghost use Rattle.qrp_check.specs.Checked.{call_of, verdict_of};
 ghost use Rattle.qrp_check.specs.Headline.{Headline};
 ghost use Rattle.qrp_check.specs.Verdict.{IsVerdictUnless, IsFormulaDevice, IsTraceDevice};
-ghost use Rattle.qrp_check.specs.Verdict.{IsVerdictOf};
 ghost use Rattle.qrp_check.specs.Verdict.{IsFormulaFault, StandsOnLine, WasRead, StopsBehindTrace};
-ghost use Rattle.qbf_text.specs.Stopping.{IfKnown};
 
 use crate::checking::check;
 use crate::verdict::{Fault, Verified};
 use qbf_core::Formula;
 use qbf_text::Source;
 use qdimacs::read_formula;
-use qrp::{FlatTrace, read_flat};
+use qrp::{Trace, read_trace};
 use qrp_rules::Rules;
 use std::alloc::Global;
 
-/// Whether a trace that was read proves its result of a formula.
-fn check_read(
-    alloc: Global,
-    formula: &Formula,
-    trace: &FlatTrace,
-    rules: Rules,
-) -> Result<Verified, Fault>
-    ensures verdict { (bytes : Option (List ℕ))
-        → IfSome (reads_bytes bytes) (λ read. read ≡ Ok trace.now)
-        → IsVerdictOf rules formula.now bytes result }
-    ensures read { WasRead result }
-{
-    let verified = check(alloc, formula, trace, trace.sets(), trace.result(), rules)?;
-    Ok(verified)
-}
-
-/// Whether a trace proves its result of a formula that was read, with the trace's fault first.
-fn verify_trace<B: Source>(
+/// The trace that was read, and what the check of it on a formula that was read says.
+fn find_proof_of<B: Source>(
     alloc: Global,
     formula: &Formula,
     trace: &mut B,
     rules: Rules,
-) -> Result<Verified, Fault>
-    ensures verdict { IsVerdictOf rules formula.now (B.remaining trace.old) result }
-    ensures failed { B.failures trace.old < 2 ^ 64 - 1 →
-        (IsTraceDevice result ↔ (B.failures trace.old < B.failures trace.new)) }
-    ensures lines { IfErr result StandsOnLine }
-    ensures stops { WasRead result
+) -> Result<(Trace, Verified), Fault>
+    ensures checked { IsCheckedOf rules formula.now (call_of B.Source trace.old trace.new)
+        (verdict_of result) }
+    ensures reads { IfOk result (λ r. WasReadFrom (B.remaining trace.old) r.0) }
+    ensures within { IfOk result (λ r.
+        AllByRecursion (λ i. i < length r.0.steps) r.1.core.items) }
+    ensures stops { WasRead (verdict_of result)
         → IfKnown StopsBehindTrace (B.remaining trace.old) (B.remaining trace.new) }
 {
-    let read = read_flat(alloc, trace)?;
-    check_read(alloc, formula, &read, rules)
+    let whole = read_trace(alloc, trace)?;
+    let verified = check(alloc, formula, &whole, whole.sets(), whole.result(), rules)?;
+    Ok((whole, verified))
+}
+
+/// The trace that was read, and what the check of it on a formula says: its truth, and the steps
+/// that its goal needs. The formula is read before the trace.
+///
+/// # Errors
+/// As of `verify`.
+pub fn find_proof<A: Source, B: Source>(
+    alloc: Global,
+    formula: &mut A,
+    trace: &mut B,
+    rules: Rules,
+) -> Result<(Trace, Verified), Fault>
+    ensures checked { IsChecked rules (call_of A.Source formula.old formula.new)
+        (call_of B.Source trace.old trace.new) (verdict_of result) }
+    ensures works { OnOk result ((A.failures formula.new ≡ A.failures formula.old)
+        × (B.failures trace.new ≡ B.failures trace.old)) }
+    ensures reads { IfOk result (λ r. WasReadFrom (B.remaining trace.old) r.0) }
+    ensures within { IfOk result (λ r.
+        AllByRecursion (λ i. i < length r.0.steps) r.1.core.items) }
+    ensures stops { WasRead (verdict_of result)
+        → IfKnown StopsBehindTrace (B.remaining trace.old) (B.remaining trace.new) }
+{
+    let read = read_formula(alloc, formula)?;
+    find_proof_of(alloc, &read, trace, rules)
 }
 
 /// Whether a trace (QRP) proves its result of a formula (QDIMACS 1.1), both from their bytes.
@@ -84,6 +96,6 @@ pub fn verify<A: Source, B: Source>(
         → IfKnown StopsBehindTrace (B.remaining trace.old) (B.remaining trace.new) }
     ensures not_pulled { IsFormulaFault result → trace.new ≡ trace.old }
 {
-    let read = read_formula(alloc, formula)?;
-    verify_trace(alloc, &read, trace, rules)
+    let (_, verified) = find_proof(alloc, formula, trace, rules)?;
+    Ok(verified)
 }

@@ -1,4 +1,3 @@
 pub mod ProgramReport
 pub mod WordByWord
 pub mod SentTexts
-pub mod TrimmedOutput

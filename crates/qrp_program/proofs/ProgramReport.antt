@@ -7,12 +7,13 @@ use Rattle.qrp_program.specs.declared.job.Job.TheVariants as job
 use Rattle.qrp_rules.specs.declared.rules.Rules.{Rules}
 use Rattle.qrp_check.specs.declared.verdict.Verified.{Verified}
 use Rattle.qrp_check.specs.declared.verdict.Fault.{Fault}
-use Rattle.qrp_program.specs.Output.{IsOutput, IsChecked, Reading, Report}
+use Rattle.qrp_program.specs.Output.{IsOutput, Report}
+use Rattle.qrp_check.specs.Checked.{SourceCall, IsChecked}
 use Rattle.qrp_program.specs.Program.{read, word, IsOnBoth}
 
 -- a source that failed never before, of which nothing is told of where it is
-abbrev pub from : Option (List ℕ) → ℕ → ℕ → Type 0 → Reading
-from told before after unpulled = record { told = told; before = before; after = after; unpulled = unpulled }
+abbrev pub from : Option (List ℕ) → ℕ → ℕ → Type 0 → SourceCall
+from bytes before after unpulled = record { bytes = bytes; before = before; after = after; unpulled = unpulled }
 
 module _ (f t : Option (List ℕ)) (m n : ℕ) (p q : Type 0) where
   checked : (rules : Rules) (answer : Result Verified Fault) → IsChecked rules (from f 0 m p) (from t 0 n q) answer

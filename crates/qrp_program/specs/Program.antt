@@ -6,7 +6,8 @@ use Rattle.qrp_program.specs.declared.start.Start.TheVariants as start
 use Rattle.qrp_program.specs.declared.unopened.Unopened.{Unopened}
 use Rattle.qrp_program.specs.declared.unopened.Unopened.TheVariants.{NoFile, NoMemory}
 use Rattle.qrp_program.specs.Lines.{start_line, start_status}
-use Rattle.qrp_program.specs.Output.{Sink, Errors, Report, Reading, IsOutput, refusals}
+use Rattle.qrp_program.specs.Output.{Sink, Errors, Report, IsOutput, refusals}
+use Rattle.qrp_check.specs.Checked.{SourceCall}
 use Rattle.qrp_program.specs.Words.{Request, IsRow}
 
 -- a line that ends the program before its job begins; the status stays where the line does not go out
@@ -29,8 +30,8 @@ IsOnFile opens sink no_file path says r =
     ⊎ ((told : Option (List ℕ)) × opens path (Ok told) × says told)
 
 -- an opened file with these bytes, that failed this often
-abbrev pub read : Option (List ℕ) → ℕ → Reading
-read told failures = record { told = told; before = 0; after = failures; unpulled = Unit {0} }
+abbrev pub read : Option (List ℕ) → ℕ → SourceCall
+read bytes failures = record { bytes = bytes; before = 0; after = failures; unpulled = Unit {0} }
 
 -- the report of a job on an opened formula and an opened trace
 abbrev pub IsOnBoth : Job → Option (List ℕ) → Option (List ℕ) → Report → Type 0

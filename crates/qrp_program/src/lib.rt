@@ -12,7 +12,7 @@ mod words;
 pub use answering::program;
 pub use job::Job;
 pub use open::{LIMIT, Open};
-pub use running::{Status, checked, run};
+pub use running::{Status, run};
 pub use start::Start;
 pub use unopened::Unopened;
 pub use words::request;

@@ -1,7 +1,6 @@
 //! A job from its sources to its sinks.
 
-ghost use Rattle.std.specs.Prelude.{◌≡◌, ◌⊎◌, ◌↔◌, ◌<◌, ◌-◌, ◌^◌, ℕ, Result, Err, IfOk, IfErr};
-ghost use Rattle.std.specs.Prelude.{OnOk, IfSome, length};
+ghost use Rattle.std.specs.Prelude.{◌≡◌, ◌⊎◌, ◌<◌, ℕ, Result, length};
 ghost use Rattle.std.specs.List.{AllByRecursion};
 ghost use Rattle.std.specs.Io.KnownBytes.{Keeps};
 ghost use Rattle.qbf_core.specs.Qbf.{Qbf};
@@ -9,25 +8,24 @@ ghost use Rattle.qdimacs.specs.declared.fault.FormulaFault.{FormulaFault};
 ghost use Rattle.qdimacs.specs.Grammar.{text};
 ghost use Rattle.qrp.specs.Derivations.{Derivation};
 ghost use Rattle.qrp.specs.Grammar.{text as trace_text};
+ghost use Rattle.qrp_check.specs.Checked.{IsChecked, call_of};
 ghost use Rattle.qrp_check.specs.Trim.{trimmed};
-ghost use Rattle.qrp_check.specs.Verdict.{IsVerdictUnless, IsFormulaDevice, IsTraceDevice};
-ghost use Rattle.qrp_check.specs.Verdict.{IsVerdictOf, IsFormulaFault, StandsOnLine};
 ghost use Rattle.qrp_check.specs.declared.verdict.Verified.{Verified};
 ghost use Rattle.qrp_check.specs.declared.verdict.Fault.{Fault};
-ghost use Rattle.qrp_report.specs.Lines.{fault_line, fault_status, verdict_line};
+ghost use Rattle.qrp_report.specs.Lines.{fault_line, verdict_line};
+ghost use Rattle.qrp_report.specs.Refusals.{fault_status};
+ghost use Rattle.qrp_report.specs.Results.{HasFailed, IsFormulaRead, IsTrimmed};
 ghost use Rattle.qrp_program.specs.declared.job.Job.TheVariants.{Format};
-ghost use Rattle.qrp_program.specs.Output.{Report, IsOutput, IsFormulaRead, IsChecked, IsTrimmed};
-ghost use Rattle.qrp_program.specs.Output.{IsTrimmedFrom, IsTrimmedOf, trim_report, format_report};
-ghost use Rattle.qrp_program.specs.Output.{check_report};
-ghost use Rattle.qrp_program.specs.Output.{reading_of, HasFailed, IsSent, IsReported};
+ghost use Rattle.qrp_program.specs.Output.{Report, IsOutput, IsSent, IsReported};
+ghost use Rattle.qrp_program.specs.Output.{trim_report, format_report, check_report};
 
 use crate::job::Job;
 use qbf_core::Formula;
 use qbf_text::{Sink, Source};
 use qdimacs::{read_formula, write_formula};
-use qrp::{Trace, read_trace, write_steps_at};
-use qrp_check::{Fault, Rules, Verified, check, verify};
-use qrp_report::{fault_status, put_fault, put_verdict};
+use qrp::{Trace, write_steps_at};
+use qrp_check::{Fault, Rules, Verified, find_proof, verify};
+use qrp_report::{Refusal, put_refusal, put_verdict};
 use std::alloc::Global;
 
 /// The status of the program: 0 done, 1 the proof is refused, 2 a text is refused, 3 a device
@@ -65,8 +63,9 @@ fn send_fault<S: Sink>(sink: &mut S, fault: &Fault) -> Status
     ensures { IsSent S.Sink sink.old sink.new (fault_line fault.now)
         (fault_status fault.now) 3 result }
 {
-    match put_fault(sink, fault) {
-        Ok(()) => end_text(sink, fault_status(fault)),
+    let refusal = Refusal::of(fault);
+    match put_refusal(sink, &refusal) {
+        Ok(()) => end_text(sink, refusal.status()),
         Err(_) => DEVICE_FAILED,
     }
 }
@@ -90,8 +89,8 @@ fn format_job<F: Source, O: Sink, E: Sink>(
 ) -> Status
     ensures { (r : Report)
         × ((reading : Result Qbf (FormulaFault × ℕ))
-        × IsFormulaRead (F.remaining formula.old) (F.failures formula.old)
-        (F.failures formula.new) reading × (r ≡ format_report reading))
+        × IsFormulaRead (call_of F.Source formula.old formula.new) reading
+        × (r ≡ format_report reading))
         × IsReported O.Sink out.old out.new E.Sink err.old err.new r result }
 {
     match read_formula(alloc, formula) {
@@ -109,8 +108,8 @@ fn check_job<F: Source, T: Source, O: Sink>(
     out: &mut O,
 ) -> Status
     ensures { (answer : Result Verified Fault)
-        × IsChecked rules (reading_of F.Source formula.old formula.new)
-        (reading_of T.Source trace.old trace.new) answer
+        × IsChecked rules (call_of F.Source formula.old formula.new)
+        (call_of T.Source trace.old trace.new) answer
         × IsSent O.Sink out.old out.new (check_report rules answer).text
         (check_report rules answer).status (check_report rules answer).failed result }
 {
@@ -118,61 +117,6 @@ fn check_job<F: Source, T: Source, O: Sink>(
         Ok(verified) => send_verdict(out, verified.truth),
         Err(fault) => send_fault(out, &fault),
     }
-}
-
-/// The trace that was read, and what the check of it on a formula says: the steps that its goal
-/// needs.
-fn checked_trace<T: Source>(
-    alloc: Global,
-    rules: Rules,
-    formula: &Formula,
-    trace: &mut T,
-) -> Result<(Trace, Verified), Fault>
-    ensures refused { IfErr result
-        (λ e. IsVerdictOf rules formula.now (T.remaining trace.old) (Err e)) }
-    ensures trimmed { IfOk result (λ r. IsTrimmedOf rules formula.now (T.remaining trace.old)
-        (trimmed r.0 r.1.core.items)) }
-    ensures within { IfOk result (λ r.
-        AllByRecursion (λ i. i < length r.0.steps) r.1.core.items) }
-    ensures failed { IfErr result (λ e. T.failures trace.old < 2 ^ 64 - 1 →
-        (IsTraceDevice (Err e) ↔ (T.failures trace.old < T.failures trace.new))) }
-    ensures lines { IfErr result StandsOnLine }
-    ensures works { OnOk result (T.failures trace.new ≡ T.failures trace.old) }
-{
-    let whole = read_trace(alloc, trace)?;
-    let verified = check(alloc, formula, &whole, whole.sets(), whole.result(), rules)?;
-    Ok((whole, verified))
-}
-
-/// The trace that was read, and what the check of it on a formula says: the steps that its goal
-/// needs. The formula is read before the trace.
-///
-/// # Errors
-/// As of `verify`.
-pub fn checked<F: Source, T: Source>(
-    alloc: Global,
-    rules: Rules,
-    formula: &mut F,
-    trace: &mut T,
-) -> Result<(Trace, Verified), Fault>
-    ensures refused { IfErr result
-        (λ e. IsVerdictUnless rules (F.remaining formula.old) (T.remaining trace.old) (Err e)) }
-    ensures trimmed { IfOk result (λ r. IfSome (F.remaining formula.old)
-        (λ a. IfSome (T.remaining trace.old)
-        (λ b. IsTrimmedFrom rules a b (trimmed r.0 r.1.core.items)))) }
-    ensures within { IfOk result (λ r.
-        AllByRecursion (λ i. i < length r.0.steps) r.1.core.items) }
-    ensures formula_failed { IfErr result (λ e. F.failures formula.old < 2 ^ 64 - 1 →
-        (IsFormulaDevice (Err e) ↔ (F.failures formula.old < F.failures formula.new))) }
-    ensures trace_failed { IfErr result (λ e. T.failures trace.old < 2 ^ 64 - 1 →
-        (IsTraceDevice (Err e) ↔ (T.failures trace.old < T.failures trace.new))) }
-    ensures lines { IfErr result StandsOnLine }
-    ensures formula_works { OnOk result (F.failures formula.new ≡ F.failures formula.old) }
-    ensures trace_works { OnOk result (T.failures trace.new ≡ T.failures trace.old) }
-    ensures not_pulled { IfErr result (λ e. IsFormulaFault (Err e) → trace.new ≡ trace.old) }
-{
-    let read = read_formula(alloc, formula)?;
-    checked_trace(alloc, rules, &read, trace)
 }
 
 /// Sends the canonical text of a trace without the steps outside the core.
@@ -197,12 +141,12 @@ fn trim_job<F: Source, T: Source, O: Sink, E: Sink>(
     err: &mut E,
 ) -> Status
     ensures { (answer : Result Derivation Fault)
-        × IsTrimmed rules (reading_of F.Source formula.old formula.new)
-        (reading_of T.Source trace.old trace.new) answer
+        × IsTrimmed rules (call_of F.Source formula.old formula.new)
+        (call_of T.Source trace.old trace.new) answer
         × IsReported O.Sink out.old out.new E.Sink err.old err.new
         (trim_report rules answer) result }
 {
-    match checked(alloc, rules, formula, trace) {
+    match find_proof(alloc, formula, trace, rules) {
         Ok((whole, verified)) => send_trimmed(&whole, &verified, out),
         Err(fault) => send_fault(err, &fault),
     }
@@ -227,8 +171,8 @@ pub fn run<F: Source, T: Source, O: Sink, E: Sink>(
 ) -> Status
     ensures report { (r : Report)
         × IsOutput job
-        (reading_of F.Source formula.old formula.new)
-        (reading_of T.Source trace.old trace.new) r
+        (call_of F.Source formula.old formula.new)
+        (call_of T.Source trace.old trace.new) r
         × IsReported O.Sink out.old out.new E.Sink err.old err.new r result }
     ensures not_pulled { job ≡ Format → trace.new ≡ trace.old }
 {

@@ -1,2 +1,3 @@
 pub mod LineParts
-pub mod RefusalLines
+pub mod ResultsOfBytes
+pub mod FaultsByNumbers

@@ -1,7 +1,11 @@
-//! The lines and the statuses of verdicts and refusals.
+//! The lines, the statuses and the meanings of verdicts and refusals.
 #![tactic(auto)]
 
 mod lines;
-mod names;
+mod meaning;
+mod of_fault;
+mod refusal;
 
-pub use lines::{fault_status, put_fault, put_verdict};
+pub use lines::{put_refusal, put_verdict};
+pub use of_fault::is_of_fault;
+pub use refusal::Refusal;

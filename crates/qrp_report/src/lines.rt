@@ -1,16 +1,13 @@
-//! The lines of the program, written part by part.
+//! The lines of verdicts and refusals, written part by part.
 
-ghost use Rattle.std.specs.Prelude.{◌≡◌, ◌++◌, decimal};
+ghost use Rattle.std.specs.Prelude.{◌≡◌};
 ghost use Rattle.qbf_text.specs.Written.{IsPut};
-ghost use Rattle.qrp_report.specs.Lines.{formula_line, trace_line, check_line, fault_line};
-ghost use Rattle.qrp_report.specs.Lines.{fault_status, line, verdict_line, part_text, parts_text};
+ghost use Rattle.qrp_report.specs.Lines.{part_text, parts_text, refused_line, text_line};
+ghost use Rattle.qrp_report.specs.Lines.{set_line, step_line, check_line, refusal_line};
+ghost use Rattle.qrp_report.specs.Lines.{verdict_line};
 
-use crate::names::{formula_fault_name, rule_fault_name, trace_fault_name};
-use qbf_core::Var;
+use crate::refusal::Refusal;
 use qbf_text::{Sink, SinkFault, put_bytes, put_number};
-use qdimacs::FormulaFault;
-use qrp::TraceFault;
-use qrp_check::{CheckFault, Fault};
 
 /// A part of a line.
 #[derive(Clone, Copy)]
@@ -37,103 +34,99 @@ fn put_parts<S: Sink>(sink: &mut S, parts: &[Part]) -> Result<(), SinkFault>
     Ok(())
 }
 
-fn put_formula_fault<S: Sink>(sink: &mut S, fault: FormulaFault, line: u64) -> Result<(), SinkFault>
-    ensures { IsPut S.written S.failures sink.old sink.new (formula_line fault line) result }
-{
-    match fault {
-        FormulaFault::F1 => put_parts(sink, &[Part::Text("DEVICE formula\n")]),
-        FormulaFault::F9 => put_parts(sink, &[Part::Text("NO MEMORY\n")]),
-        _ => put_parts(
-            sink,
-            &[
-                Part::Text("REFUSED formula "),
-                Part::Text(formula_fault_name(fault)),
-                Part::Text(" line "),
-                Part::Number(line),
-                Part::Text("\n"),
-            ],
-        ),
-    }
-}
-
-fn put_trace_fault<S: Sink>(sink: &mut S, fault: TraceFault, line: u64) -> Result<(), SinkFault>
-    ensures { IsPut S.written S.failures sink.old sink.new (trace_line fault line) result }
-{
-    match fault {
-        TraceFault::P1 => put_parts(sink, &[Part::Text("DEVICE trace\n")]),
-        TraceFault::P9 => put_parts(sink, &[Part::Text("NO MEMORY\n")]),
-        _ => put_parts(
-            sink,
-            &[
-                Part::Text("REFUSED trace "),
-                Part::Text(trace_fault_name(fault)),
-                Part::Text(" line "),
-                Part::Number(line),
-                Part::Text("\n"),
-            ],
-        ),
-    }
-}
-
-/// Sends the line that ends in the variable of a faulty quantifier set.
-fn put_set_fault<S: Sink>(sink: &mut S, beginning: &'static str, var: Var) -> Result<(), SinkFault>
+/// Sends the line of a text that is refused, from its beginning on.
+fn put_refused_line<S: Sink>(
+    sink: &mut S,
+    beginning: &'static str,
+    refusal: &Refusal,
+) -> Result<(), SinkFault>
     ensures { IsPut S.written S.failures sink.old sink.new
-        (beginning.now ++ line (decimal var)) result }
+        (refused_line beginning.now refusal.now) result }
 {
     put_parts(
         sink,
         &[
             Part::Text(beginning),
-            Part::Number(u64::from(var.number())),
+            Part::Number(u64::from(refusal.number)),
+            Part::Text(" line "),
+            Part::Number(refusal.position),
             Part::Text("\n"),
         ],
     )
 }
 
-fn put_check_fault<S: Sink>(sink: &mut S, fault: CheckFault) -> Result<(), SinkFault>
-    ensures { IsPut S.written S.failures sink.old sink.new (check_line fault) result }
+/// Sends the line for a fault of a text: `device` where its source failed, and where the text is
+/// refused the line with this beginning.
+fn put_text_line<S: Sink>(
+    sink: &mut S,
+    device: &'static str,
+    beginning: &'static str,
+    refusal: &Refusal,
+) -> Result<(), SinkFault>
+    ensures { IsPut S.written S.failures sink.old sink.new
+        (text_line device.now beginning.now refusal.now) result }
 {
-    match fault {
-        CheckFault::C1(var) => put_set_fault(sink, "REFUSED set C1 variable ", var),
-        CheckFault::C2(var) => put_set_fault(sink, "REFUSED set C2 variable ", var),
-        CheckFault::C3(var) => put_set_fault(sink, "REFUSED set C3 variable ", var),
-        CheckFault::C4 => put_parts(sink, &[Part::Text("REFUSED trace C4\n")]),
-        CheckFault::C5 => put_parts(sink, &[Part::Text("NO MEMORY\n")]),
-        CheckFault::C6(number, fault) => put_parts(
-            sink,
-            &[
-                Part::Text("REFUSED step "),
-                Part::Number(number),
-                Part::Text(" "),
-                Part::Text(rule_fault_name(fault)),
-                Part::Text("\n"),
-            ],
-        ),
+    if refusal.number == 1 {
+        return put_parts(sink, &[Part::Text(device), Part::Text("\n")]);
+    }
+    if refusal.number == 9 {
+        return put_bytes(sink, b"NO MEMORY\n");
+    }
+    put_refused_line(sink, beginning, refusal)
+}
+
+/// Sends the line that ends in the variable of a faulty quantifier set.
+fn put_set_line<S: Sink>(sink: &mut S, refusal: &Refusal) -> Result<(), SinkFault>
+    ensures { IsPut S.written S.failures sink.old sink.new (set_line refusal.now) result }
+{
+    put_parts(
+        sink,
+        &[
+            Part::Text("REFUSED set C"),
+            Part::Number(u64::from(refusal.number)),
+            Part::Text(" variable "),
+            Part::Number(refusal.position),
+            Part::Text("\n"),
+        ],
+    )
+}
+
+/// Sends the line for a step.
+fn put_step_line<S: Sink>(sink: &mut S, refusal: &Refusal) -> Result<(), SinkFault>
+    ensures { IsPut S.written S.failures sink.old sink.new (step_line refusal.now) result }
+{
+    put_parts(
+        sink,
+        &[
+            Part::Text("REFUSED step "),
+            Part::Number(refusal.position),
+            Part::Text(" S"),
+            Part::Number(u64::from(refusal.rule)),
+            Part::Text("\n"),
+        ],
+    )
+}
+
+/// Sends the line for a fault of a check.
+fn put_check_line<S: Sink>(sink: &mut S, refusal: &Refusal) -> Result<(), SinkFault>
+    ensures { IsPut S.written S.failures sink.old sink.new (check_line refusal.now) result }
+{
+    match refusal.number {
+        4 => put_bytes(sink, b"REFUSED trace C4\n"),
+        5 => put_bytes(sink, b"NO MEMORY\n"),
+        6 => put_step_line(sink, refusal),
+        _ => put_set_line(sink, refusal),
     }
 }
 
-/// Sends the line for a fault.
-pub fn put_fault<S: Sink>(sink: &mut S, fault: &Fault) -> Result<(), SinkFault>
-    ensures { IsPut S.written S.failures sink.old sink.new (fault_line fault.now) result }
+/// Sends the line for a refusal.
+pub fn put_refusal<S: Sink>(sink: &mut S, refusal: &Refusal) -> Result<(), SinkFault>
+    ensures { IsPut S.written S.failures sink.old sink.new (refusal_line refusal.now) result }
 {
-    match *fault {
-        Fault::Formula(fault, line) => put_formula_fault(sink, fault, line),
-        Fault::Trace(fault, line) => put_trace_fault(sink, fault, line),
-        Fault::Check(fault) => put_check_fault(sink, fault),
-    }
-}
-
-/// The status for a fault.
-pub fn fault_status(fault: &Fault) -> u8
-    ensures { result ≡ fault_status fault.now }
-{
-    match *fault {
-        Fault::Formula(FormulaFault::F1, _) | Fault::Trace(TraceFault::P1, _) => 3,
-        Fault::Formula(FormulaFault::F9, _)
-        | Fault::Trace(TraceFault::P9, _)
-        | Fault::Check(CheckFault::C5) => 4,
-        Fault::Formula(_, _) | Fault::Trace(_, _) => 2,
-        Fault::Check(_) => 1,
+    match refusal.letter {
+        b'F' => put_text_line(sink, "DEVICE formula", "REFUSED formula F", refusal),
+        b'P' => put_text_line(sink, "DEVICE trace", "REFUSED trace P", refusal),
+        _ => put_check_line(sink, refusal),
     }
 }
 

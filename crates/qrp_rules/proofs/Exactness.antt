@@ -1,6 +1,7 @@
 -- Steps that are written exactly as they follow, in any order: what the walk over them tells.
-use Rattle.std.proofs.Common.{◌≡◌, ◌<◌, ◌≤◌, ◌+◌, ℕ, List, ◌∷◌, ◌++◌, ◌⊎◌, ◌↔◌, Bool, length, get_or, take, drop, slice_get, Some}
+use Rattle.std.proofs.Common.{◌≡◌, ◌<◌, ◌≤◌, ◌+◌, ℕ, List, ◌∷◌, ◌++◌, ◌⊎◌, ◌↔◌, Bool, Result, Ok, Err, length, get_or, take, drop, slice_get, Some}
 use Rattle.std.proofs.Common.{sym, ap, subst, ◌∙◌, inl, inr, arith}
+use Rattle.std.specs.Prelude.{IfOk, IsTrue}
 use Rattle.std.proofs.lemmas.Bool.{cases_eq}
 use Rattle.std.proofs.lemmas.List.{take-append-drop}
 use Rattle.qbf_core.specs.Literal.{Literal, negated, positive, negative}
@@ -11,7 +12,7 @@ use Rattle.qbf_core.specs.Sets.{HasMembersOf}
 use Rattle.qbf_core.proofs.Inferences.{in_append, append_left, append_right, in_without, from_without}
 use Rattle.qbf_core.proofs.Members.{in_take_all, in_take_more, negated_differs, negated_twice}
 use Rattle.qbf_core.proofs.Order.{take_more_in, take_within}
-use Rattle.qrp_rules.specs.declared.reduct.Reducible.{Reducible}
+use Rattle.qrp_rules.specs.declared.walks.Reducible.{Reducible}
 use Rattle.qrp_rules.specs.declared.rules.Rules.{Rules}
 use Rattle.qrp_rules.specs.Conditions.{AllHold, AllowsPivot, resolvent_conditions}
 use Rattle.qrp_rules.specs.Exact.{IsApart, IsMergeSoFar, IsNext, IsResolvedAt}
@@ -139,19 +140,6 @@ module _ (a b to : List Literal) (x : Literal) (is : IsResolvedAt a b to x) (cle
 pub clean_within : (from to : List Literal) → IsClean from → to ⊆ from → IsClean to
 clean_within from to clean sub l h k = clean l (sub l h) (sub (negated l) k)
 
--- one literal more, of another variable than those so far
-pub clean_more : (xs : List Literal) (i : ℕ) (x : Literal) → i < length xs → x ≡ get_or xs i x → IsApart (take i xs) x.var
-    → IsClean (take i xs) → IsClean (take (i + 1) xs)
-clean_more xs i x less e out clean l h k =
-    let var_of : Literal → ℕ = λ z. z.var in
-    elim (in_take_more xs i x l less e h) [
-      | inl p ↦ elim (in_take_more xs i x (negated l) less e k) [ inl q ↦ clean l p q | inr f ↦ out l p (ap var_of f) ]
-      | inr f ↦ elim (in_take_more xs i x (negated l) less e k) [
-        | inl q ↦ out (negated l) q (ap var_of f)
-        | inr g ↦ negated_differs l (g ∙ sym f)
-      ]
-    ]
-
 -- one literal more, whose negation is none of those so far
 pub clean_with : (xs : List Literal) (i : ℕ) (x : Literal) → i < length xs → x ≡ get_or xs i x → (negated x ∈ take i xs → ⊥)
     → IsClean (take i xs) → IsClean (take (i + 1) xs)
@@ -168,6 +156,11 @@ clean_with xs i x less e out clean l h k = elim (in_take_more xs i x l less e h)
   where
     negation : Literal → Literal
     negation z = negated z
+
+-- what follows where a test succeeds and holds
+pub ok_then : {E P Q : Type 0} (r : Result Bool E) → IfOk r (λ t. IsTrue t → P) → (P → Q) → IfOk r (λ t. IsTrue t → Q)
+ok_then (Ok t) holds then = λ is. then (holds is)
+ok_then (Err e) holds then = tt
 
 pub apart_more : (xs : List Literal) (i v : ℕ) (x : Literal) → i < length xs → x ≡ get_or xs i x → (x.var ≡ v → ⊥)
     → IsApart (take i xs) v → IsApart (take (i + 1) xs) v

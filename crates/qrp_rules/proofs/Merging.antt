@@ -6,17 +6,14 @@ use Rattle.std.proofs.lemmas.Bool.Decides.{eqb_tells}
 use Rattle.qbf_core.specs.Literal.{Literal}
 use Rattle.qbf_core.specs.Members.{◌∈◌, ◌⊆◌}
 use Rattle.qbf_core.specs.Blocks.{Block, AreBound, IsBound}
-use Rattle.qbf_core.specs.Rules.{Clauses, IsInitial, resolvent}
-use Rattle.qbf_core.specs.Qbf.{Qbf, IsWellFormed}
-use Rattle.qbf_core.specs.Sets.{HasMembersOf, IsOrdered}
-use Rattle.qbf_core.proofs.Bound.{all_in, bound_each, in_all}
+use Rattle.qbf_core.specs.Rules.{resolvent}
+use Rattle.qbf_core.proofs.Bound.{bound_each, in_all}
 use Rattle.qbf_core.proofs.Inferences.{in_append, from_without}
 use Rattle.qbf_core.proofs.Members.{in_take_all, in_take_more}
-use Rattle.qbf_core.proofs.Order.{clean_from_same, take_more_in, take_within}
+use Rattle.qbf_core.proofs.Order.{take_more_in, take_within}
 use Rattle.qbf_core.specs.declared.quantifier.Quantifier.{Quantifier}
 use Rattle.qrp_rules.specs.Walks.{StandsAfter}
 use Rattle.qrp_rules.specs.Exact.{IsNext}
-use Rattle.qrp_rules.proofs.ReductsByMembers.{got_in}
 
 -- ---- one literal more
 
@@ -109,15 +106,3 @@ pub rest_each : (blocks : List Block) (q : Quantifier) (block : Option ℕ) (fro
     → (l : Literal) → l ∈ from → (l ∈ to) ⊎ StandsAfter blocks q block l.var
 rest_each blocks q block from to i k long u l h =
     elim (u.each l (in_take_all from i l long h)) [ inl w ↦ inl (take_within to k l w) | inr s ↦ inr s ]
-
--- ---- a step as it is written
-
-pub copy_initial : (f : Qbf) (clause lits : List Literal) (i : ℕ) → slice_get f.clauses i ≡ Some clause → IsOrdered lits
-    → HasMembersOf lits clause → IsInitial Clauses f lits
-copy_initial f clause lits i here o same =
-    (clause, got_in f.clauses i clause here, clean_from_same lits clause o same, record { within = same.0; each = λ l h. inl (same.1 l h) })
-
-pub copy_bound : (f : Qbf) (clause lits : List Literal) (i : ℕ) → IsWellFormed f → slice_get f.clauses i ≡ Some clause
-    → HasMembersOf lits clause → AreBound f.blocks lits
-copy_bound f clause lits i formed here same =
-    bound_within f.blocks clause lits (all_in (AreBound f.blocks) f.clauses formed.closed clause (got_in f.clauses i clause here)) same.0

@@ -1,19 +1,22 @@
--- Clauses that are watched, while lists are written to, added and put aside.
-use Rattle.std.proofs.Common.{◌≡◌, ◌≢◌, ◌<◌, ◌+◌, ℕ, zero, suc, List, [], ◌∷◌, ◌⊎◌, ◌++◌, length, get_or, slice_get, Some, Contains}
-use Rattle.std.proofs.Common.{Bool, true, Option, None, Result, Ok, Err, refl, sym, ap, subst, ◌∙◌, inl, inr, arith}
+-- Clauses that are watched, while lists are written to, added and taken out.
+use Rattle.std.proofs.Common.{◌⊎◌, ◌≡◌, ◌≢◌, ◌<◌, ◌+◌, ◌-◌, ℕ, zero, suc, List, [], ◌∷◌, ◌++◌, length, get_or, slice_get, Some, Contains}
+use Rattle.std.proofs.Common.{Bool, true, false, Result, Ok, Err, refl, sym, ap, subst, ◌∙◌, inl, inr, arith, take}
 use Rattle.std.proofs.Math.ListN.{set}
-use Rattle.std.specs.Prelude.{⊤, IfSome, OnOk, OnErr, is_some}
+use Rattle.std.specs.Prelude.{⊤, IfOk, IsTrue, OnOk, OnErr}
+use Rattle.std.specs.List.{swap_remove}
 use Rattle.std.proofs.lemmas.Bool.{cases_eq}
+use Rattle.std.proofs.lemmas.List.{length-set}
 use Rattle.std.proofs.lemmas.Option.{slice_get_within}
 use Rattle.qbf_core.specs.Literal.{Literal}
 use Rattle.qbf_core.specs.Members.{◌∈◌}
 use Rattle.qbf_core.specs.Qbf.{Qbf}
-use Rattle.qbf_core.specs.Rules.{Cubes, IsInitial, IsTautology}
+use Rattle.qbf_core.specs.Rules.{Side, Clauses, Cubes, IsInitial, IsTautology, reduced_quantifier}
+use Rattle.qbf_core.specs.declared.quantifier.Quantifier.TheVariants.{Exists}
+use Rattle.qrp_rules.specs.Conditions.{AllHold, initial_condition}
 use Rattle.qrp_rules.specs.Seen.{Has}
-use Rattle.qrp_rules.specs.Watches.{IsMet, IsParted, IsWatched, IsWatchedBy, KeepsWatches}
-use Rattle.qbf_core.proofs.PushedItems.{pushed_cases, pushed_new, pushed_old}
+use Rattle.qrp_rules.specs.Watches.{IsMet, IsTakenOut, IsWatched, IsWatchedBy, IsWatchedIf, KeepsWatches}
+use Rattle.qbf_core.proofs.PushedItems.{pushed_new, pushed_old}
 use Rattle.qrp_rules.specs.declared.initial_cubes.Watch.{Watch}
-use Rattle.qrp_rules.specs.declared.initial_cubes.Watches.{Watches}
 
 written_here : {A : Type 0} (xs : List A) (k : ℕ) (y : A) → k < length xs → slice_get (set xs k y) k ≡ Some y
 written_here [] k y less = absurd (omega arith)
@@ -29,210 +32,217 @@ written_elsewhere (x ∷ xs) (suc k) (suc j) y ne = written_elsewhere xs k j y (
 
 -- a list is written over by one of the same literal that has its clauses too
 pub written_keeps : (lists : List Watch) (k : ℕ) (was new : Watch) → slice_get lists k ≡ Some was → new.lit ≡ was.lit
-    → ((i : ℕ) → Contains was.clauses.items i → Contains new.clauses.items i) → (l : Literal) (i : ℕ) → IsWatchedBy lists l i
-    → IsWatchedBy (set lists k new) l i
-written_keeps lists k was new at lit kept l i w = elim (cases_eq w.place k) [
-  | inl e ↦
-      let both : Some was ≡ Some w.watch = sym at ∙ subst (λ (j : ℕ). slice_get lists j ≡ Some w.watch) e w.here in
-      let same : was ≡ w.watch = cc both in
-      record {
-        place = k;
-        watch = new;
-        here = written_here lists k new (slice_get_within lists k was at);
-        by = lit ∙ ap (λ (z : Watch). z.lit) same ∙ w.by;
-        listed = kept i (subst (λ (z : Watch). Contains z.clauses.items i) (sym same) w.listed);
-      }
-  | inr ne ↦ record {
-    place = w.place;
-    watch = w.watch;
-    here = written_elsewhere lists k w.place new ne ∙ w.here;
-    by = w.by;
-    listed = w.listed;
-  }
-]
+    → ((i : ℕ) → Contains was.clauses.items i → Contains new.clauses.items i) → KeepsWatches lists (set lists k new)
+written_keeps lists k was new at lit kept = record {
+  watched = λ j l i w. elim (cases_eq j k) [
+    | inl e ↦
+        let both : Some was ≡ Some w.watch = sym at ∙ subst (λ (n : ℕ). slice_get lists n ≡ Some w.watch) e w.here in
+        let same : was ≡ w.watch = cc both in
+        subst (λ (n : ℕ). IsWatchedBy (set lists k new) n l i) (sym e) (record {
+          watch = new;
+          here = written_here lists k new (slice_get_within lists k was at);
+          by = lit ∙ ap (λ (z : Watch). z.lit) same ∙ w.by;
+          listed = kept i (subst (λ (z : Watch). Contains z.clauses.items i) (sym same) w.listed);
+        })
+    | inr ne ↦ record { watch = w.watch; here = written_elsewhere lists k j new ne ∙ w.here; by = w.by; listed = w.listed }
+  ];
+  longer = let same : length (set lists k new) ≡ length lists = length-set lists k new in omega arith;
+}
 
 -- what the new list has is watched by its literal
 pub written_watches : (lists : List Watch) (k : ℕ) (was new : Watch) (l : Literal) (i : ℕ) → slice_get lists k ≡ Some was → new.lit ≡ l
-    → Contains new.clauses.items i → IsWatchedBy (set lists k new) l i
+    → Contains new.clauses.items i → (j : ℕ) × IsWatchedBy (set lists k new) j l i
 written_watches lists k was new l i at lit listed =
-    record { place = k; watch = new; here = written_here lists k new (slice_get_within lists k was at); by = lit; listed = listed }
+    (k, record { watch = new; here = written_here lists k new (slice_get_within lists k was at); by = lit; listed = listed })
 
--- a list is added
-pub added_keeps : (lists : List Watch) (new : Watch) (l : Literal) (i : ℕ) → IsWatchedBy lists l i → IsWatchedBy (lists ++ new ∷ []) l i
-added_keeps lists new l i w =
-    record { place = w.place; watch = w.watch; here = pushed_old lists new w.place w.watch w.here; by = w.by; listed = w.listed }
+longer_by_one : {A : Type 0} (xs : List A) (x : A) → length (xs ++ x ∷ []) ≡ length xs + 1
+longer_by_one [] x = refl
+longer_by_one (y ∷ xs) x = let e : length (xs ++ x ∷ []) ≡ length xs + 1 = longer_by_one xs x in omega arith
+
+-- a list is added, or none
+pub pushed_or_not : {E : Type 0} (r : Result ⊤ E) (old lists : List Watch) (new : Watch) → OnOk r (lists ≡ old ++ new ∷ [])
+    → OnErr r (lists ≡ old) → KeepsWatches old lists
+pushed_or_not (Ok u) old lists new ok err = subst (λ (ws : List Watch). KeepsWatches old ws) (sym ok) (record {
+  watched = λ k l i w. record { watch = w.watch; here = pushed_old old new k w.watch w.here; by = w.by; listed = w.listed };
+  longer = let e : length (old ++ new ∷ []) ≡ length old + 1 = longer_by_one old new in omega arith;
+})
+pushed_or_not (Err e) old lists new ok err = subst (λ (ws : List Watch). KeepsWatches old ws) (sym err) (record {
+  watched = λ k l i w. w;
+  longer = omega arith;
+})
 
 pub added_watches : (lists : List Watch) (new : Watch) (l : Literal) (i : ℕ) → new.lit ≡ l → Contains new.clauses.items i
-    → IsWatchedBy (lists ++ new ∷ []) l i
-added_watches lists new l i lit listed =
-    record { place = length lists; watch = new; here = pushed_new lists new; by = lit; listed = listed }
+    → (k : ℕ) × IsWatchedBy (lists ++ new ∷ []) k l i
+added_watches lists new l i lit listed = (length lists, record { watch = new; here = pushed_new lists new; by = lit; listed = listed })
 
-pub pushed_or_not : {E : Type 0} (r : Result ⊤ E) (old lists : List Watch) (new : Watch) → OnOk r (lists ≡ old ++ new ∷ [])
-    → OnErr r (lists ≡ old) → (l : Literal) (i : ℕ) → IsWatchedBy old l i → IsWatchedBy lists l i
-pushed_or_not (Ok u) old lists new ok err l i w = subst (λ (ws : List Watch). IsWatchedBy ws l i) (sym ok) (added_keeps old new l i w)
-pushed_or_not (Err e) old lists new ok err l i w = subst (λ (ws : List Watch). IsWatchedBy ws l i) (sym err) w
-
-pub only_one : (i : ℕ) (xs : List ℕ) → xs ≡ i ∷ [] → Contains xs i
-only_one i xs e = subst (λ (ys : List ℕ). Contains ys i) (sym e) (0, omega arith, refl)
+pub last_one : (i : ℕ) (xs ys : List ℕ) → ys ≡ xs ++ i ∷ [] → Contains ys i
+last_one i xs ys e = subst (λ (zs : List ℕ). Contains zs i) (sym e) (at_end xs)
+  where
+    at_end : (xs : List ℕ) → Contains (xs ++ i ∷ []) i
+    at_end [] = (0, omega arith, refl)
+    at_end (x ∷ xs) = let w = at_end xs in (suc w.0, (let less : w.0 < length (xs ++ i ∷ []) = w.1 in omega arith), w.2)
 
 -- what follows where a call succeeds follows from what it says
 pub on_ok : {A E P Q : Type 0} (r : Result A E) → OnOk r P → (P → Q) → OnOk r Q
 on_ok (Ok a) holds then = then holds
 on_ok (Err e) holds then = tt
 
--- the last list is taken
-taken_cases : (lists rest : List Watch) (last : Watch) → lists ≡ rest ++ last ∷ [] → (l : Literal) (i : ℕ) → IsWatchedBy lists l i
-    → IsWatchedBy rest l i ⊎ ((last.lit ≡ l) × Contains last.clauses.items i)
-taken_cases lists rest last split l i w =
-    elim (pushed_cases rest last w.place w.watch (subst (λ (xs : List Watch). slice_get xs w.place ≡ Some w.watch) split w.here)) [
-      | inl older ↦ inl (record { place = w.place; watch = w.watch; here = older; by = w.by; listed = w.listed })
-      | inr (e, same) ↦
-          inr (ap (λ (z : Watch). z.lit) (sym same) ∙ w.by, subst (λ (z : Watch). Contains z.clauses.items i) same w.listed)
+taken_front : {A : Type 0} (xs : List A) (m k : ℕ) → k < m → slice_get (take m xs) k ≡ slice_get xs k
+taken_front xs zero k less = absurd (omega arith)
+taken_front [] (suc m) k less = refl
+taken_front (x ∷ xs) (suc m) zero less = refl
+taken_front (x ∷ xs) (suc m) (suc k) less = taken_front xs m k (omega arith)
+
+got : {A : Type 0} (xs : List A) (k : ℕ) (a d : A) → slice_get xs k ≡ Some a → get_or xs k d ≡ a
+got [] k a d h = cc h
+got (x ∷ xs) zero a d h = cc h
+got (x ∷ xs) (suc k) a d h = got xs k a d h
+
+-- an item is taken out, and the last one comes in its place: another item comes before that place only from before it
+swapped : {A : Type 0} (xs : List A) (n k : ℕ) (d a : A) → n < length xs → slice_get xs k ≡ Some a → k ≢ n
+    → (j : ℕ) × (slice_get (swap_remove xs n d) j ≡ Some a) × (k < suc n → j < n)
+swapped {A} xs n k d a inside at ne =
+    let last : A = get_or xs (length xs - 1) d in
+    let within : k < length xs = slice_get_within xs k a at in
+    elim (cases_eq k (length xs - 1)) [
+      | inl e ↦ (
+        n,
+        taken_front (set xs n last) (length xs - 1) n (omega (arith, e, ne, inside, within))
+            ∙ written_here xs n last inside
+            ∙ ap Some (got xs (length xs - 1) a d (subst (λ (m : ℕ). slice_get xs m ≡ Some a) e at)),
+        (λ less. absurd (omega (arith, e, ne, inside, within, less))),
+      )
+      | inr other ↦ (
+        k,
+        taken_front (set xs n last) (length xs - 1) k (omega (arith, other, within)) ∙ written_elsewhere xs n k last ne ∙ at,
+        (λ less. omega (arith, less, ne)),
+      )
     ]
 
-pub nothing_watched : (lists : List Watch) (l : Literal) (i : ℕ) → length lists ≡ 0 → IsWatchedBy lists l i → ⊥
-nothing_watched lists l i none w = let inside = slice_get_within lists w.place w.watch w.here in omega (arith, inside, none)
-
-pub met_keeps : (f : Qbf) (old new : Watches) (i : ℕ) → KeepsWatches old new → IsMet f old i → IsMet f new i
-met_keeps f old new i kept met = λ clause at. elim (met clause at) [
-  | inl t ↦ inl t
-  | inr w ↦ inr (w.0, w.1, subst (λ (s : List Bool). Has s w.0) (sym kept.cube) w.2, kept.watched w.0 i w.3)
+pub taken_out : (lists new : List Watch) (n : ℕ) (watch : Watch) → n < length lists → watch ≡ get_or lists n watch
+    → new ≡ swap_remove lists n watch → IsTakenOut lists n watch.clauses.items new
+taken_out lists new n watch inside is items k l i w = elim (cases_eq k n) [
+  | inl e ↦
+      let same : watch ≡ w.watch = is ∙ got lists n w.watch watch (subst (λ (m : ℕ). slice_get lists m ≡ Some w.watch) e w.here) in
+      inl (subst (λ (z : Watch). Contains z.clauses.items i) (sym same) w.listed)
+  | inr ne ↦
+      let s = swapped lists n k watch w.watch inside w.here ne in
+      inr (
+        s.0,
+        record { watch = w.watch; here = subst (λ (ws : List Watch). slice_get ws s.0 ≡ Some w.watch) (sym items) s.1; by = w.by; listed = w.listed },
+        s.2,
+      )
 ]
 
--- a clause that a literal of it watches, which the cube holds
-pub met_by : (f : Qbf) (watches : Watches) (i : ℕ) (clause : List Literal) (l : Literal) → slice_get f.clauses i ≡ Some clause
-    → l ∈ clause → Has watches.cube l → IsWatchedBy watches.lists.items l i → IsMet f watches i
-met_by f watches i clause l at held in_cube by = λ other there.
+pub met_keeps : (n : ℕ) (f : Qbf) (seen : List Bool) (old new : List Watch) (i : ℕ) → KeepsWatches old new → IsMet n f seen old i
+    → IsMet n f seen new i
+met_keeps n f seen old new i kept met = λ clause at. elim (met clause at) [
+  | inl t ↦ inl t
+  | inr w ↦ inr (w.0, w.1, w.2, kept.watched w.2 w.0 i w.3, w.4)
+]
+
+-- a clause that a literal of it watches, which was seen
+pub met_by : (f : Qbf) (seen : List Bool) (lists : List Watch) (i : ℕ) (clause : List Literal) (l : Literal) → slice_get f.clauses i ≡ Some clause
+    → l ∈ clause → Has seen l → (k : ℕ) × IsWatchedBy lists k l i → IsMet 0 f seen lists i
+met_by f seen lists i clause l at held has by = λ other there.
     let both : Some clause ≡ Some other = sym at ∙ there in
     let same : clause ≡ other = cc both in
-    inr (l, subst (λ (z : List Literal). l ∈ z) same held, in_cube, by)
+    inr (l, subst (λ (z : List Literal). l ∈ z) same held, by.0, by.1, inr has)
 
--- a clause that nothing can make false
-pub met_always : (f : Qbf) (watches : Watches) (i : ℕ) (clause : List Literal) → slice_get f.clauses i ≡ Some clause
-    → IsTautology clause → IsMet f watches i
-met_always f watches i clause at always = λ other there.
-    let both : Some clause ≡ Some other = sym at ∙ there in
-    let same : clause ≡ other = cc both in
-    inl (subst (λ (z : List Literal). IsTautology z) same always)
+-- one more clause of the formula is looked at
+pub met_next : (f : Qbf) (seen : List Bool) (old new : List Watch) (n : ℕ) → KeepsWatches old new → IsMet 0 f seen new n
+    → ((i : ℕ) → i < n → IsMet 0 f seen old i) → (i : ℕ)
+    → i < n + 1 → IsMet 0 f seen new i
+met_next f seen old new n kept here before i less = elim (cases_eq i n) [
+  | inl e ↦ subst (λ (j : ℕ). IsMet 0 f seen new j) (sym e) here
+  | inr ne ↦ met_keeps 0 f seen old new i kept (before i (omega (arith, less, ne)))
+]
 
--- what stands at a place is the same, whatever is read past the end
-pub same_at : {A : Type 0} (xs : List A) (k : ℕ) (d e : A) → k < length xs → get_or xs k d ≡ get_or xs k e
-same_at [] k d e less = absurd (omega arith)
-same_at (x ∷ xs) zero d e less = refl
-same_at (x ∷ xs) (suc k) d e less = same_at xs k d e (omega arith)
+-- the last of some clauses is taken
+popped : (rest : List ℕ) (last i : ℕ) → Contains (rest ++ last ∷ []) i → Contains rest i ⊎ (i ≡ last)
+popped [] last i (zero, less, e) = inr (sym e)
+popped [] last i (suc k, less, e) = absurd (omega (arith, less))
+popped (x ∷ rest) last i (zero, less, e) = inl (0, omega arith, e)
+popped (x ∷ rest) last i (suc k, less, e) =
+    elim (popped rest last i (k, omega (arith, less), e)) [ inl w ↦ inl (suc w.0, omega (arith, w.1), w.2) | inr s ↦ inr s ]
+
+-- the clause at place i, if there is one, is still to be watched, or is met
+abbrev pub IsPending : ℕ → Qbf → List Bool → List ℕ → List Watch → ℕ → Type 0
+IsPending n f seen left lists i =
+    (clause : List Literal) → slice_get f.clauses i ≡ Some clause
+    → Contains left i ⊎ (IsTautology clause ⊎ ((l : Literal) × (l ∈ clause) × (k : ℕ) × IsWatchedBy lists k l i × ((k < n) ⊎ Has seen l)))
+
+-- a list was taken out
+pub pending_taken : (n : ℕ) (f : Qbf) (seen : List Bool) (old new : List Watch) (taken : List ℕ) → IsTakenOut old n taken new → (i : ℕ)
+    → IsMet (n + 1) f seen old i → IsPending n f seen taken new i
+pending_taken n f seen old new taken out i was = λ clause at. elim (was clause at) [
+  | inl t ↦ inr (inl t)
+  | inr w ↦ elim (out w.2 w.0 i w.3) [
+    | inl h ↦ inl h
+    | inr j ↦ inr (inr (w.0, w.1, j.0, j.1, elim w.4 [ inl less ↦ inl (j.2 (omega (arith, less))) | inr has ↦ inr has ]))
+  ]
+]
+
+-- one clause of it is met
+pub pending_met : (n : ℕ) (f : Qbf) (seen : List Bool) (left rest : List ℕ) (last : ℕ) (old new : List Watch) → left ≡ rest ++ last ∷ []
+    → KeepsWatches old new → IsMet 0 f seen new last → (i : ℕ) → IsPending n f seen left old i → IsPending n f seen rest new i
+pending_met n f seen left rest last old new split kept met i was = λ clause at. elim (was clause at) [
+  | inl h ↦ elim (popped rest last i (subst (λ (xs : List ℕ). Contains xs i) split h)) [
+    | inl older ↦ inl older
+    | inr e ↦ elim (met clause (subst (λ (m : ℕ). slice_get f.clauses m ≡ Some clause) e at)) [
+      | inl t ↦ inr (inl t)
+      | inr w ↦ inr (inr (
+        w.0,
+        w.1,
+        w.2,
+        subst (λ (m : ℕ). IsWatchedBy new w.2 w.0 m) (sym e) w.3,
+        elim w.4 [ inl none ↦ absurd (omega (arith, none)) | inr has ↦ inr has ],
+      ))
+    ]
+  ]
+  | inr (inl t) ↦ inr (inl t)
+  | inr (inr w) ↦ inr (inr (w.0, w.1, w.2, kept.watched w.2 w.0 i w.3, w.4))
+]
+
+-- at last none is left
+pub pending_done : (n : ℕ) (f : Qbf) (seen : List Bool) (left : List ℕ) (lists : List Watch) → length left ≡ 0 → (i : ℕ)
+    → IsPending n f seen left lists i → IsMet n f seen lists i
+pending_done n f seen left lists none i was = λ clause at. elim (was clause at) [
+  | inl h ↦ absurd (omega (arith, none, h.1))
+  | inr m ↦ m
+]
+
+-- what was watched by any literals
+pub watched_before : (f : Qbf) (seen : List Bool) (lists : List Watch) (n : ℕ) → n ≡ length lists → ((i : ℕ) → IsWatched f lists i)
+    → (i : ℕ) → IsMet n f seen lists i
+watched_before f seen lists n e all i clause at = elim (all i clause at) [
+  | inl t ↦ inl t
+  | inr w ↦ inr (w.0, w.1, w.2, w.3, inl (let less : w.2 < length lists = slice_get_within lists w.2 w.3.watch w.3.here in omega (arith, e)))
+]
 
 place_in : (xs : List (List Literal)) (c : List Literal) → c ∈ xs → (i : ℕ) × (slice_get xs i ≡ Some c)
 place_in [] c h = absurd h
 place_in (x ∷ xs) c (inl e) = (0, ap Some (sym e))
 place_in (x ∷ xs) c (inr h) = let w = place_in xs c h in (suc w.0, w.1)
 
--- where each clause is met, the cube is an initial one
-all_met : (f : Qbf) (cube : List Literal) (watches : Watches) → ((l : Literal) → Has watches.cube l → l ∈ cube)
-    → ((i : ℕ) → IsMet f watches i) → IsInitial Cubes f cube
-all_met f cube watches within met = λ clause h.
+-- where each clause is met, the cube of which the literals were seen is an initial one
+pub all_met : (f : Qbf) (cube : List Literal) (seen : List Bool) (lists : List Watch) → ((l : Literal) → Has seen l → l ∈ cube)
+    → ((i : ℕ) → IsMet 0 f seen lists i) → IsInitial Cubes f cube
+all_met f cube seen lists within met = λ clause h.
     let at = place_in f.clauses clause h in
-    elim (met at.0 clause at.1) [ inl t ↦ inl t | inr w ↦ inr (w.0, w.1, within w.0 w.2) ]
+    elim (met at.0 clause at.1) [
+      | inl t ↦ inl t
+      | inr w ↦ inr (w.0, w.1, elim w.4 [ inl none ↦ absurd (omega (arith, none)) | inr has ↦ within w.0 has ])
+    ]
 
--- and each is watched, whatever the cube
-all_watched : (f : Qbf) (watches : Watches) → ((i : ℕ) → IsMet f watches i) → (i : ℕ) → IsWatched f watches.lists.items i
-all_watched f watches met i clause at = elim (met i clause at) [ inl t ↦ inl t | inr w ↦ inr (w.0, w.1, w.3) ]
+-- and each is watched
+pub all_watched : (f : Qbf) (seen : List Bool) (lists : List Watch) (t : Bool) → (IsTrue t → (i : ℕ) → IsMet 0 f seen lists i) → IsWatchedIf t f lists
+all_watched f seen lists true met = λ i clause at. elim (met refl i clause at) [ inl t ↦ inl t | inr w ↦ inr (w.0, w.1, w.2, w.3) ]
+all_watched f seen lists false met = tt
 
--- each clause is met, and the literals that were seen are those of the cube
-abbrev pub MeetsAll : Qbf → List Literal → Watches → Type 0
-MeetsAll f cube watches = ((i : ℕ) → IsMet f watches i) × ((l : Literal) → Has watches.cube l → l ∈ cube)
-
-pub found_initial : (f : Qbf) (cube : List Literal) (found : Option Watches) → IfSome found (MeetsAll f cube) → is_some found ≡ true
-    → IsInitial Cubes f cube
-found_initial f cube (Some watches) met some = all_met f cube watches met.1 met.0
-found_initial f cube None met some = absurd (cc some)
-
-pub found_watched : (f : Qbf) (cube : List Literal) (found : Option Watches) → IfSome found (MeetsAll f cube)
-    → IfSome found (λ watches. (i : ℕ) → IsWatched f watches.lists.items i)
-found_watched f cube (Some watches) met = all_watched f watches met.0
-found_watched f cube None met = tt
-
--- so far: what was watched is left, was put aside, or is watched by a literal of the cube
-abbrev pub IsPartedTo : List Watch → List Watch → List Watch → List Bool → List Watch → Type 0
-IsPartedTo from left aside cube lists =
-    (l : Literal) (i : ℕ) → IsWatchedBy from l i
-    → IsWatchedBy left l i ⊎ (IsWatchedBy aside l i ⊎ (Has cube l × IsWatchedBy lists l i))
-
--- a list that stays
-pub parted_kept : (from left rest aside : List Watch) (cube : List Bool) (lists : List Watch) (last : Watch) → left ≡ rest ++ last ∷ []
-    → Has cube last.lit → IsPartedTo from left aside cube lists → IsPartedTo from rest aside cube (lists ++ last ∷ [])
-parted_kept from left rest aside cube lists last split held is l i w = elim (is l i w) [
-  | inl h ↦ elim (taken_cases left rest last split l i h) [
-    | inl older ↦ inl older
-    | inr (lit, listed) ↦ inr (inr (subst (λ (m : Literal). Has cube m) lit held, added_watches lists last l i lit listed))
-  ]
-  | inr (inl h) ↦ inr (inl h)
-  | inr (inr h) ↦ inr (inr (h.0, added_keeps lists last l i h.1))
-]
-
--- a list that is put aside
-pub parted_aside : (from left rest aside : List Watch) (cube : List Bool) (lists : List Watch) (last : Watch) → left ≡ rest ++ last ∷ []
-    → IsPartedTo from left aside cube lists → IsPartedTo from rest (aside ++ last ∷ []) cube lists
-parted_aside from left rest aside cube lists last split is l i w = elim (is l i w) [
-  | inl h ↦ elim (taken_cases left rest last split l i h) [
-    | inl older ↦ inl older
-    | inr (lit, listed) ↦ inr (inl (added_watches aside last l i lit listed))
-  ]
-  | inr (inl h) ↦ inr (inl (added_keeps aside last l i h))
-  | inr (inr h) ↦ inr (inr h)
-]
-
--- the clause at place i, if there is one, is watched by a list that was put aside, or is met
-abbrev pub IsHeld : Qbf → List Watch → Watches → ℕ → Type 0
-IsHeld f aside watches i =
-    (clause : List Literal) → slice_get f.clauses i ≡ Some clause
-    → ((l : Literal) × IsWatchedBy aside l i) ⊎ IsMet f watches i
-
-pub held_parted : (f : Qbf) (from aside : List Watch) (watches : Watches) → IsParted from aside watches
-    → ((i : ℕ) → IsWatched f from i)
-    → (i : ℕ) → IsHeld f aside watches i
-held_parted f from aside watches is all i clause at = elim (all i clause at) [
-  | inl t ↦ inr (met_always f watches i clause at t)
-  | inr w ↦ elim (is w.0 i w.2) [
-    | inl h ↦ inl (w.0, h)
-    | inr h ↦ inr (met_by f watches i clause w.0 at w.1 h.0 h.1)
-  ]
-]
-
--- the clauses of the last list are met
-pub held_taken : (f : Qbf) (aside rest : List Watch) (last : Watch) (old new : Watches) → aside ≡ rest ++ last ∷ []
-    → KeepsWatches old new
-    → ((i : ℕ) → Contains last.clauses.items i → IsMet f new i)
-    → ((i : ℕ) → IsHeld f aside old i) → (i : ℕ) → IsHeld f rest new i
-held_taken f aside rest last old new split kept met all i clause at = elim (all i clause at) [
-  | inl w ↦ elim (taken_cases aside rest last split w.0 i w.1) [
-    | inl older ↦ inl (w.0, older)
-    | inr h ↦ inr (met i h.1)
-  ]
-  | inr m ↦ inr (met_keeps f old new i kept m)
-]
-
--- at last nothing is left
-pub held_last : (f : Qbf) (aside : List Watch) (watches : Watches) → length aside ≡ 0 → ((i : ℕ) → IsHeld f aside watches i)
-    → (i : ℕ) → IsMet f watches i
-held_last f aside watches none all i clause at = elim (all i clause at) [
-  | inl w ↦ absurd (nothing_watched aside w.0 i none w.1)
-  | inr m ↦ m clause at
-]
-
--- one more place of a list is looked at
-pub met_more : (f : Qbf) (old new : Watches) (clauses : List ℕ) (n : ℕ) → KeepsWatches old new
-    → ((i : ℕ) → get_or clauses n i ≡ i → IsMet f new i)
-    → ((i k : ℕ) → k < n → get_or clauses k i ≡ i → IsMet f old i)
-    → (i k : ℕ) → k < n + 1 → get_or clauses k i ≡ i → IsMet f new i
-met_more f old new clauses n kept here before i k less is = elim (cases_eq k n) [
-  | inl e ↦ here i (subst (λ (j : ℕ). get_or clauses j i ≡ i) e is)
-  | inr ne ↦ met_keeps f old new i kept (before i k (omega (arith, less, ne)) is)
-]
-
--- one more clause of the formula is looked at
-pub met_next : (f : Qbf) (old new : Watches) (n : ℕ) → KeepsWatches old new → IsMet f new n → ((i : ℕ) → i < n → IsMet f old i) → (i : ℕ)
-    → i < n + 1 → IsMet f new i
-met_next f old new n kept here before i less = elim (cases_eq i n) [
-  | inl e ↦ subst (λ (j : ℕ). IsMet f new j) (sym e) here
-  | inr ne ↦ met_keeps f old new i kept (before i (omega (arith, less, ne)))
-]
+-- what is an initial cube is an initial step of the side whose existential literals are reduced
+pub initial_cube : {E : Type 0} (side : Side) (f : Qbf) (lits : List Literal) (r : Result Bool E) → reduced_quantifier side ≡ Exists
+    → IfOk r (λ t. IsTrue t → IsInitial Cubes f lits) → IfOk r (λ t. IsTrue t → AllHold (initial_condition side f lits ∷ []))
+initial_cube Clauses f lits r e h = absurd (cc e)
+initial_cube Cubes f lits (Ok t) e h = λ is. (h is, tt)
+initial_cube Cubes f lits (Err x) e h = tt

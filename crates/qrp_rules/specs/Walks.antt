@@ -6,7 +6,7 @@ use Rattle.qbf_core.specs.Members.{◌∈◌}
 use Rattle.qbf_core.specs.Blocks.{Block, Binds, block_in}
 use Rattle.qbf_core.specs.Rules.{Side, Clashes, IsOnlyClash, IsReducible, resolvent}
 use Rattle.qrp_rules.specs.Conditions.{IsReducibleInParents}
-use Rattle.qrp_rules.specs.declared.reduct.Reducible.{Reducible}
+use Rattle.qrp_rules.specs.declared.walks.Reducible.{Reducible}
 use Rattle.qrp_rules.specs.declared.resolvent.Clash.{Clash}
 use Rattle.qrp_rules.specs.declared.resolvent.Clash.TheVariants.{Nothing, One, More}
 

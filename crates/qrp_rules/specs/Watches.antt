@@ -1,45 +1,48 @@
 -- How the clauses of a formula are watched while initial cubes are looked at.
-use Rattle.std.specs.Prelude.{◌≡◌, ℕ, List, ◌⊎◌, Contains, Some, slice_get, IfSome}
+use Rattle.std.specs.Prelude.{◌≡◌, ℕ, suc, ◌<◌, ◌≤◌, Bool, List, ◌⊎◌, Contains, Some, slice_get, length, true, false}
 use Rattle.qbf_core.specs.Literal.{Literal}
 use Rattle.qbf_core.specs.Members.{◌∈◌}
 use Rattle.qbf_core.specs.Qbf.{Qbf}
 use Rattle.qbf_core.specs.Rules.{IsTautology}
 use Rattle.qrp_rules.specs.declared.initial_cubes.Watch.{Watch}
-use Rattle.qrp_rules.specs.declared.initial_cubes.Watches.{Watches}
 use Rattle.qrp_rules.specs.declared.initial_cubes.InitialCubes.{InitialCubes}
 use Rattle.qrp_rules.specs.Seen.{Has}
 
--- the clause at place i is among those that are watched by l
-pub record IsWatchedBy (lists : List Watch) (l : Literal) (i : ℕ) : Type 0 where
-  pub place : ℕ
+-- the clause at place i is among those that l watches, whose list is at position k
+pub record IsWatchedBy (lists : List Watch) (k : ℕ) (l : Literal) (i : ℕ) : Type 0 where
   pub watch : Watch
-  pub here : slice_get lists place ≡ Some watch
+  pub here : slice_get lists k ≡ Some watch
   pub by : watch.lit ≡ l
   pub listed : Contains watch.clauses.items i
 
--- the cube is the same, and all that was watched still is
-pub record KeepsWatches (old new : Watches) : Type 0 where
-  pub cube : new.cube ≡ old.cube
-  pub watched : (l : Literal) (i : ℕ) → IsWatchedBy old.lists.items l i → IsWatchedBy new.lists.items l i
+-- all that was watched still is, by the same lists
+pub record KeepsWatches (old new : List Watch) : Type 0 where
+  pub watched : (k : ℕ) (l : Literal) (i : ℕ) → IsWatchedBy old k l i → IsWatchedBy new k l i
+  pub longer : length old ≤ length new
 
 -- the clause at place i, if there is one, needs no literal, or is watched by one that it holds
 abbrev pub IsWatched : Qbf → List Watch → ℕ → Type 0
 IsWatched f lists i =
     (clause : List Literal) → slice_get f.clauses i ≡ Some clause
-    → IsTautology clause ⊎ ((l : Literal) × (l ∈ clause) × IsWatchedBy lists l i)
+    → IsTautology clause ⊎ ((l : Literal) × (l ∈ clause) × (k : ℕ) × IsWatchedBy lists k l i)
 
--- the same, by one that the cube holds too
-abbrev pub IsMet : Qbf → Watches → ℕ → Type 0
-IsMet f watches i =
+-- the same, where only the lists before position n may be those of literals that were not seen
+abbrev pub IsMet : ℕ → Qbf → List Bool → List Watch → ℕ → Type 0
+IsMet n f seen lists i =
     (clause : List Literal) → slice_get f.clauses i ≡ Some clause
-    → IsTautology clause ⊎ ((l : Literal) × (l ∈ clause) × Has watches.cube l × IsWatchedBy watches.lists.items l i)
+    → IsTautology clause ⊎ ((l : Literal) × (l ∈ clause) × (k : ℕ) × IsWatchedBy lists k l i × ((k < n) ⊎ Has seen l))
 
--- what was watched is, by lists that were put aside or those of literals of the cube
-abbrev pub IsParted : List Watch → List Watch → Watches → Type 0
-IsParted from aside watches =
-    (l : Literal) (i : ℕ) → IsWatchedBy from l i
-    → IsWatchedBy aside l i ⊎ (Has watches.cube l × IsWatchedBy watches.lists.items l i)
+-- what was watched is, but for the clauses that were taken: those of the list at position n, where no list from before it comes
+abbrev pub IsTakenOut : List Watch → ℕ → List ℕ → List Watch → Type 0
+IsTakenOut old n taken new =
+    (k : ℕ) (l : Literal) (i : ℕ) → IsWatchedBy old k l i
+    → Contains taken i ⊎ ((j : ℕ) × IsWatchedBy new j l i × (k < suc n → j < n))
 
--- where watches are kept, each clause is watched
+-- each clause is watched, if that is said
+abbrev pub IsWatchedIf : Bool → Qbf → List Watch → Type 0
+IsWatchedIf true f lists = (i : ℕ) → IsWatched f lists i
+IsWatchedIf false f lists = Unit {0}
+
+-- each clause is watched, where that is noted
 abbrev pub IsWatching : Qbf → InitialCubes → Type 0
-IsWatching f cubes = IfSome cubes.watches (λ watches. (i : ℕ) → IsWatched f watches.lists.items i)
+IsWatching f cubes = IsWatchedIf cubes.is_watching f cubes.lists.items

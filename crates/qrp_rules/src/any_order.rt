@@ -11,35 +11,14 @@ ghost use Rattle.qrp_rules.specs.Exact.{IsResolvedAt};
 ghost use Rattle.qrp_rules.specs.Seen.{Has};
 ghost use Rattle.qrp_rules.specs.Walks.{Accounts, MayLack};
 
-use crate::exact::{exact_pivot, is_clean_without, is_ordered_without};
-use crate::reduct::{Reducible, may_lack};
+use crate::exact::{exact_pivot, is_apart};
 use crate::resolvent::{is_pivot, reducible_in_parents};
 use crate::rules::Rules;
-use crate::seen::SeenLits;
+use crate::seen::{SeenLits, insert_each, is_clean, set_to};
 use crate::side::Side;
+use crate::walks::{Reducible, may_lack};
 use qbf_core::{Lit, Prefix, Var};
 use std::alloc::{AllocError, Global};
-
-/// Puts the literals of a list into a set, or returns `false` if there is no room for one of them.
-fn insert_each(seen: &mut SeenLits, lits: &[Lit]) -> bool
-    ensures { IsTrue result → (l : Literal)
-        → Has seen.new l ↔ (Has seen.old l ⊎ (l ∈ lits.now)) }
-{
-    for lit in lits {
-        if !seen.insert(*lit) {
-            return false;
-        }
-    }
-    true
-}
-
-/// Makes a set that of the literals of a list, or returns `false` if there is no room for them.
-pub(crate) fn set_to(seen: &mut SeenLits, lits: &[Lit]) -> bool
-    ensures { IsTrue result → (l : Literal) → Has seen.new l ↔ l ∈ lits.now }
-{
-    seen.clear();
-    insert_each(seen, lits)
-}
 
 /// Whether a variable is the one that was found, if one was.
 fn agrees(found: Option<Var>, var: Var) -> bool
@@ -143,8 +122,7 @@ fn leaves_out_reducible<S: Side>(
         && are_seen_or_left_out(seen, prefix, Some(in_b), aside, b)
 }
 
-/// Whether a list follows from two others that are clean and bound, by the literals that were seen
-/// alone. `false` says nothing.
+/// Whether a list follows from two others that are clean and bound. `false` says nothing.
 fn resolves<S: Side>(
     seen: &mut SeenLits,
     prefix: &Prefix,
@@ -162,8 +140,7 @@ fn resolves<S: Side>(
     is_pivot::<S>(prefix, pivot, rules) && leaves_out_reducible::<S>(seen, prefix, a, b, to, pivot)
 }
 
-/// The pivot of two lists, if a third is their resolvent as a walk over them finds it, and the
-/// rules allow it.
+/// The pivot of two lists, if a walk finds a third to be their resolvent and the rules allow it.
 fn allowed_pivot<S: Side>(
     prefix: &Prefix,
     a: &[Lit],
@@ -212,9 +189,8 @@ pub fn is_resolvent<S: Side>(
         seen.make_room(alloc, prefix)?;
         return Ok(resolves::<S>(seen, prefix, a, b, to, rules));
     };
-    if is_ordered_without(to, pivot.var()) {
-        return Ok(true);
+    if !is_apart(to, pivot.var()) {
+        return Ok(false);
     }
-    seen.make_room(alloc, prefix)?;
-    Ok(is_clean_without(seen, to, pivot.var()))
+    is_clean(alloc, seen, prefix, to)
 }

@@ -12,10 +12,11 @@ ghost use Rattle.qrp_rules.specs.Conditions.{IsAnswer, initial_condition};
 ghost use Rattle.qrp_rules.specs.Index.{HasReductAt, IsIndex, IsIndexed, IsReducedForm, hash_with};
 ghost use Rattle.qrp_rules.specs.Index.{hash_from};
 
-use crate::exact::is_copy;
-use crate::fault::RuleFault;
+use crate::blocks::{innermost, stands_after};
+use crate::exact::is_exact_reduct_by;
+use crate::fault::{Holds, Judgement, RuleFault};
 use crate::initial::has_reduct;
-use crate::reduct::{innermost, stands_after};
+use crate::seen::{SeenLits, is_clean};
 use crate::written::is_ordered;
 use qbf_core::{Formula, Lit, LitSet, Prefix, Quantifier, SetFault};
 use std::alloc::{AllocError, Global};
@@ -68,12 +69,7 @@ fn clause_hash(alloc: Global, prefix: &Prefix, clause: &[Lit]) -> Result<Option<
 }
 
 /// Whether the clause at a place, if there is one, is clean and has the set as a reduct.
-fn has_reduct_at(
-    alloc: Global,
-    formula: &Formula,
-    place: usize,
-    set: &[Lit],
-) -> Result<bool, AllocError>
+fn has_reduct_at(alloc: Global, formula: &Formula, place: usize, set: &[Lit]) -> Holds
     requires { IsOrdered set.now }
     ensures { IfOk result (λ t. IsTrue t ↔ HasReductAt formula.now set.now place) }
 {
@@ -102,6 +98,9 @@ fn hashed_clauses(alloc: Global, formula: &Formula) -> Result<Vec<IndexEntry>, A
     }
     Ok(filed)
 }
+
+/// The place of a clause that was looked for, unless an allocation fails.
+type Found = Result<Option<usize>, AllocError>;
 
 /// The clean clauses of a formula, found by their hashes.
 #[derive(Drop)]
@@ -136,14 +135,8 @@ impl ClauseIndex {
         &self.filed[first..]
     }
 
-    /// The place of a clean clause that has the set as a reduct. Only clauses with its hash are
-    /// tried.
-    fn find(
-        &self,
-        alloc: Global,
-        formula: &Formula,
-        set: &[Lit],
-    ) -> Result<Option<usize>, AllocError>
+    /// The place of a clean clause with the set as a reduct. Only those with its hash are tried.
+    fn find(&self, alloc: Global, formula: &Formula, set: &[Lit]) -> Found
         requires index { IsIndex formula.now self.now.filed.items }
         requires sorted { IsNonDecreasingBy hash_of self.now.filed.items }
         requires ordered { IsOrdered set.now }
@@ -168,8 +161,7 @@ impl ClauseIndex {
 /// How the initial clauses of a trace are found in the formula.
 #[derive(Drop)]
 pub(crate) struct InitialClauses {
-    /// The place after the clause that was found last: solvers write initial steps in the order of
-    /// the clauses.
+    /// The place after the clause that was found last: solvers mostly write them in their order.
     next: usize,
     /// Made when a clause is first not found there.
     index: Option<ClauseIndex>,
@@ -186,34 +178,42 @@ impl InitialClauses {
         }
     }
 
-    /// Whether the literals are, as they are written, the clause after the one that was found last,
-    /// and in order.
-    ///
-    /// `false` says nothing.
-    pub(crate) fn is_next(&mut self, formula: &Formula, lits: &[Lit]) -> bool
-        requires { IsIndexed formula.now self.old }
-        ensures initial { IsTrue result → IsInitial Clauses formula.now lits.now }
-        ensures clean { IsTrue result → IsClean lits.now }
-        ensures bound { IsTrue result → AreBound formula.now.blocks lits.now }
-        ensures kept { IsIndexed formula.now self.new }
-    {
-        if self.next >= formula.clauses() {
-            return false;
-        }
-        if !is_ordered(lits) || !is_copy(formula.clause(self.next), lits) {
-            return false;
-        }
-        self.next = self.next.saturating_add(1);
-        true
-    }
-
-    /// The place of a clean clause that has the set as a reduct, by the index.
-    fn find(
+    /// Whether literals are, as they are written, a reduct of the clause after the one that was found
+    /// last, clean and bound. `false` says nothing.
+    pub(crate) fn is_next(
         &mut self,
         alloc: Global,
         formula: &Formula,
-        set: &[Lit],
-    ) -> Result<Option<usize>, AllocError>
+        seen: &mut SeenLits,
+        lits: &[Lit],
+    ) -> Holds
+        requires { IsIndexed formula.now self.old }
+        ensures initial { IfOk result (λ t. IsTrue t → IsInitial Clauses formula.now lits.now) }
+        ensures clean { IfOk result (λ t. IsTrue t → IsClean lits.now) }
+        ensures bound { IfOk result (λ t. IsTrue t → AreBound formula.now.blocks lits.now) }
+        ensures kept { OnOk result (IsIndexed formula.now self.new) }
+    {
+        if self.next >= formula.clauses() {
+            return Ok(false);
+        }
+        let prefix = formula.prefix();
+        let clause = formula.clause(self.next);
+        // Most other clauses differ in the first literal already.
+        if clause.first() != lits.first() {
+            return Ok(false);
+        }
+        if !is_clean(alloc, seen, prefix, clause)? {
+            return Ok(false);
+        }
+        if !is_exact_reduct_by(prefix, Quantifier::All, Quantifier::Exists, clause, lits) {
+            return Ok(false);
+        }
+        self.next = self.next.saturating_add(1);
+        Ok(true)
+    }
+
+    /// The place of a clean clause that has the set as a reduct, by the index.
+    fn find(&mut self, alloc: Global, formula: &Formula, set: &[Lit]) -> Found
         requires indexed { IsIndexed formula.now self.old }
         requires ordered { IsOrdered set.now }
         ensures some { IfOk result (λ found. IfSome found (HasReductAt formula.now set.now)) }
@@ -231,15 +231,7 @@ impl InitialClauses {
     }
 
     /// Why the set is no initial clause, or `None` where it is one.
-    ///
-    /// # Errors
-    /// If an allocation fails.
-    pub(crate) fn fault(
-        &mut self,
-        alloc: Global,
-        formula: &Formula,
-        set: &[Lit],
-    ) -> Result<Option<RuleFault>, AllocError>
+    pub(crate) fn fault(&mut self, alloc: Global, formula: &Formula, set: &[Lit]) -> Judgement
         requires indexed { IsIndexed formula.now self.old }
         requires ordered { IsOrdered set.now }
         ensures fault { IfOk result

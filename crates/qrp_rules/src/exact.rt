@@ -5,15 +5,13 @@ ghost use Rattle.std.specs.Prelude.{◌≡◌, ◌⊎◌, ◌↔◌, IsTrue, IfS
 ghost use Rattle.qbf_core.specs.Literal.{Literal};
 ghost use Rattle.qbf_core.specs.Members.{◌∈◌, ◌⊆◌};
 ghost use Rattle.qbf_core.specs.Blocks.{AreBound};
-ghost use Rattle.qbf_core.specs.Rules.{IsClean};
+ghost use Rattle.qbf_core.specs.Rules.{Side, IsClean, reduced_quantifier, deciding_quantifier};
 ghost use Rattle.qbf_core.specs.Sets.{HasMembersOf};
 ghost use Rattle.qrp_rules.specs.Conditions.{AllHold, reduct_conditions};
 ghost use Rattle.qrp_rules.specs.Exact.{IsApart, IsMerged, IsNext, IsResolvedAt};
 ghost use Rattle.qrp_rules.specs.Walks.{StandsAfter};
 
-use crate::reduct::{innermost, stands_after};
-use crate::seen::SeenLits;
-use crate::side::Side;
+use crate::blocks::{innermost, stands_after};
 use qbf_core::{Lit, Prefix, Quantifier, Var};
 
 /// The position after the literal where a list has it at this position, and else the same position.
@@ -84,7 +82,7 @@ fn is_merge(a: &[Lit], b: &[Lit], to: &[Lit]) -> bool
 }
 
 /// Whether two lists hold the same literals in the same order.
-pub(crate) fn is_copy(from: &[Lit], to: &[Lit]) -> bool
+fn is_copy(from: &[Lit], to: &[Lit]) -> bool
     ensures { IsTrue result → HasMembersOf to.now from.now }
 {
     is_merge(from, &[], to)
@@ -109,33 +107,12 @@ pub(crate) fn exact_pivot(a: &[Lit], b: &[Lit], to: &[Lit]) -> Option<Lit>
     Some(pivot)
 }
 
-/// Whether literals are in the order of their variables, no variable twice, and none is this one.
-pub(crate) fn is_ordered_without(lits: &[Lit], var: Var) -> bool
-    ensures clean { IsTrue result → IsClean lits.now }
-    ensures apart { IsTrue result → IsApart lits.now var }
+/// Whether no literal has this variable.
+pub(crate) fn is_apart(lits: &[Lit], var: Var) -> bool
+    ensures { IsTrue result → IsApart lits.now var }
 {
-    let mut last = 0;
     for lit in lits {
-        let number = lit.var().number();
-        if number <= last || number == var.number() {
-            return false;
-        }
-        last = number;
-    }
-    true
-}
-
-/// Whether literals are clean, and none has this variable. `false` says nothing.
-pub(crate) fn is_clean_without(seen: &mut SeenLits, lits: &[Lit], var: Var) -> bool
-    ensures clean { IsTrue result → IsClean lits.now }
-    ensures apart { IsTrue result → IsApart lits.now var }
-{
-    seen.clear();
-    for lit in lits {
-        if lit.var().number() == var.number() || seen.contains(lit.negated()) {
-            return false;
-        }
-        if !seen.insert(*lit) {
+        if lit.var().number() == var.number() {
             return false;
         }
     }
@@ -165,14 +142,20 @@ fn is_reduct_as_written(
     in_to == to.len()
 }
 
-/// Whether a list is, as it is written, a clean and bound one without some reducible literals.
-///
-/// `false` says nothing. It takes no memory.
-pub fn is_exact_reduct<S: Side>(prefix: &Prefix, from: &[Lit], to: &[Lit]) -> bool
+/// Whether a list is, as it is written, a clean and bound one without some reducible literals, for
+/// a side with these quantifiers. `false` says nothing.
+pub(crate) fn is_exact_reduct_by(
+    prefix: &Prefix,
+    reduced: Quantifier,
+    deciding: Quantifier,
+    from: &[Lit],
+    to: &[Lit],
+) -> bool
     requires clean { IsClean from.now }
     requires bound { AreBound prefix.now from.now }
-    ensures follows { IsTrue result
-        → AllHold (reduct_conditions S.side prefix.now from.now to.now) }
+    ensures follows { IsTrue result → (side : Side)
+        → reduced ≡ reduced_quantifier side → deciding ≡ deciding_quantifier side
+        → AllHold (reduct_conditions side prefix.now from.now to.now) }
     ensures clean { IsTrue result → IsClean to.now }
     ensures bound { IsTrue result → AreBound prefix.now to.now }
 {
@@ -180,6 +163,6 @@ pub fn is_exact_reduct<S: Side>(prefix: &Prefix, from: &[Lit], to: &[Lit]) -> bo
     if from.len() == to.len() {
         return is_copy(from, to);
     }
-    let block = innermost(prefix, S::DECIDING, None, from);
-    is_reduct_as_written(prefix, S::REDUCED, block, from, to)
+    let block = innermost(prefix, deciding, None, from);
+    is_reduct_as_written(prefix, reduced, block, from, to)
 }

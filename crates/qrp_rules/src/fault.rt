@@ -1,10 +1,18 @@
 //! Why a step does not follow.
 
+use std::alloc::AllocError;
+
+/// Whether something holds, unless an allocation fails.
+pub(crate) type Holds = Result<bool, AllocError>;
+
+/// Why a step does not follow, or `None` where it does, unless an allocation fails.
+pub type Judgement = Result<Option<RuleFault>, AllocError>;
+
 /// Why a step does not follow; the names in the order in which they are looked at.
 #[derive(Clone, Copy, Debug, PartialEq, Eq)]
 pub enum RuleFault {
     /// The step holds a clashing pair.
-    S1,
+    S1 = 1,
     /// The step holds an unbound variable.
     S2,
     /// An antecedent is not the number of an earlier step.

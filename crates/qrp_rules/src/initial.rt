@@ -1,6 +1,6 @@
 //! Whether a set is an initial clause or an initial cube of a formula.
 
-ghost use Rattle.std.specs.Prelude.{◌↔◌, [], ◌∷◌, ◌⊎◌, IsTrue, IfOk};
+ghost use Rattle.std.specs.Prelude.{◌↔◌, [], ◌∷◌, IsTrue, IfOk};
 ghost use Rattle.qbf_core.specs.Literal.{Literal};
 ghost use Rattle.qbf_core.specs.Members.{◌∈◌};
 ghost use Rattle.qbf_core.specs.Blocks.{AreBound};
@@ -8,8 +8,8 @@ ghost use Rattle.qbf_core.specs.Rules.{Clauses, Cubes, IsClean, IsReduct, IsTaut
 ghost use Rattle.qbf_core.specs.Sets.{IsOrdered};
 ghost use Rattle.qrp_rules.specs.Conditions.{IsAnswer, initial_condition};
 
-use crate::fault::RuleFault;
-use crate::reduct::ordered_reduct_fault_by;
+use crate::fault::{Holds, RuleFault};
+use crate::walks::ordered_reduct_fault_by;
 use crate::written::is_ordered;
 use qbf_core::{Formula, Lit, LitSet, Prefix, Quantifier, SetFault, is_member};
 use std::alloc::{AllocError, Global};
@@ -24,12 +24,7 @@ fn has_ordered_reduct(prefix: &Prefix, clause: &[Lit], set: &[Lit]) -> bool
 }
 
 /// Whether a clause as written is clean and has the set as a reduct.
-pub(crate) fn has_reduct(
-    alloc: Global,
-    prefix: &Prefix,
-    clause: &[Lit],
-    set: &[Lit],
-) -> Result<bool, AllocError>
+pub(crate) fn has_reduct(alloc: Global, prefix: &Prefix, clause: &[Lit], set: &[Lit]) -> Holds
     requires bound { AreBound prefix.now clause.now }
     requires ordered { IsOrdered set.now }
     ensures { IfOk result
@@ -90,22 +85,17 @@ pub(crate) fn is_tautology(clause: &[Lit]) -> bool
     false
 }
 
-/// Whether the set makes a clause true, or nothing can make it false.
-fn meets(set: &[Lit], clause: &[Lit]) -> bool
-    requires { IsOrdered set.now }
-    ensures { IsTrue result
-        ↔ (IsTautology clause.now ⊎ ((l : Literal) × (l ∈ clause.now) × (l ∈ set.now))) }
-{
-    shares(clause, set) || is_tautology(clause)
-}
-
 /// Why the set is no initial cube.
 pub(crate) fn initial_cube_fault(formula: &Formula, set: &[Lit]) -> Option<RuleFault>
     requires { IsOrdered set.now }
     ensures { IsAnswer (initial_condition Cubes formula.now set.now ∷ []) result }
 {
     for i in 0..formula.clauses() {
-        if !meets(set, formula.clause(i)) {
+        let clause = formula.clause(i);
+        if shares(clause, set) {
+            continue;
+        }
+        if !is_tautology(clause) {
             return Some(RuleFault::S5);
         }
     }

@@ -1,25 +1,24 @@
 //! Initial cubes: each clause of the formula is watched by one of its literals, and looked at again
 //! only where a cube lacks that literal.
 
-ghost use Rattle.std.specs.Prelude.{◌≡◌, ℕ, [], ◌∷◌, ◌++◌, Some, Contains, IsTrue, IfOk};
-ghost use Rattle.std.specs.Prelude.{IfSome, OnErr, OnOk, slice_get};
+ghost use Rattle.std.specs.Prelude.{◌≡◌, ℕ, ◌+◌, ◌<◌, ◌≤◌, [], ◌∷◌, ◌++◌, length, Contains};
+ghost use Rattle.std.specs.Prelude.{Some, IsTrue, IfOk, IfSome, OnErr, OnOk, slice_get};
 ghost use Rattle.qbf_core.specs.Literal.{Literal};
 ghost use Rattle.qbf_core.specs.Members.{◌∈◌};
+ghost use Rattle.qbf_core.specs.Blocks.{AreBound};
 ghost use Rattle.qbf_core.specs.Qbf.{Qbf};
-ghost use Rattle.qbf_core.specs.Rules.{Cubes};
-ghost use Rattle.qbf_core.specs.Sets.{IsOrdered};
-ghost use Rattle.qrp_rules.specs.Conditions.{IsAnswer, initial_condition};
+ghost use Rattle.qbf_core.specs.Rules.{Cubes, IsClean, IsInitial};
 ghost use Rattle.qrp_rules.specs.Seen.{Has};
-ghost use Rattle.qrp_rules.specs.Watches.{IsMet, IsParted, IsWatched, IsWatchedBy, IsWatching};
+ghost use Rattle.qrp_rules.specs.declared.initial_cubes.Watch.{Watch};
+ghost use Rattle.qrp_rules.specs.Watches.{IsMet, IsTakenOut, IsWatched, IsWatchedBy, IsWatching};
 ghost use Rattle.qrp_rules.specs.Watches.{KeepsWatches};
 
-use crate::any_order::set_to;
-use crate::fault::RuleFault;
-use crate::initial::{initial_cube_fault, is_tautology};
-use crate::seen::{SeenLits, code};
-use qbf_core::{Formula, Lit, Prefix};
+use crate::fault::Holds;
+use crate::initial::is_tautology;
+use crate::seen::{SeenLits, code, set_if_clean};
+use crate::written::are_bound;
+use qbf_core::{Formula, Lit};
 use std::alloc::{AllocError, Global};
-use std::mem;
 
 /// Clauses that hold a literal.
 #[derive(Drop)]
@@ -40,28 +39,33 @@ fn add(watch: &mut Watch, clause: usize) -> Result<(), AllocError>
     Ok(())
 }
 
-/// The clauses of a formula, each watched by one of its literals that a cube holds.
+/// How the initial cubes of a trace are compared with the formula: each clause is watched by one of
+/// its literals that the last cube held.
 #[derive(Drop)]
-struct Watches {
-    /// The literals of the cube.
-    cube: SeenLits,
+pub(crate) struct InitialCubes {
+    alloc: Global,
+    /// Whether each clause is watched.
+    is_watching: bool,
     /// The literals that watch clauses, with these.
     lists: Vec<Watch>,
     /// By the number of each literal where its list may be: the list is compared with the literal.
     positions: Vec<u32>,
+    /// Emptied lists, which are used again.
+    spare: Vec<Vec<usize>>,
 }
 
-impl Watches {
-    /// No cube, and no clause is watched.
-    fn new(alloc: Global, prefix: &Prefix) -> Result<Watches, AllocError> {
-        let mut cube = SeenLits::new(alloc);
-        cube.make_room(alloc, prefix)?;
-        let positions = vec![in alloc; 0; cube.room()]?;
-        Ok(Watches {
-            cube,
+impl InitialCubes {
+    /// Nothing is watched, and no memory taken.
+    pub(crate) fn new(alloc: Global) -> InitialCubes
+        ensures { (f : Qbf) → IsWatching f result }
+    {
+        InitialCubes {
+            alloc,
+            is_watching: false,
             lists: Vec::new(alloc),
-            positions,
-        })
+            positions: Vec::new(alloc),
+            spare: Vec::new(alloc),
+        }
     }
 
     /// Where the list of a literal is, or `None` if it has none.
@@ -77,185 +81,179 @@ impl Watches {
         }
     }
 
+    /// The literal of the list at a position.
+    fn literal(&self, position: usize) -> Lit
+        requires { position < length self.now.lists.items }
+        ensures { (w : Watch) × (slice_get self.now.lists.items position ≡ Some w)
+            × (w.lit ≡ result) }
+    {
+        self.lists[position].lit
+    }
+
+    /// Notes where the list of a literal is.
+    fn set_position(&mut self, lit: Lit, position: usize)
+        ensures { self.new.lists ≡ self.old.lists }
+    {
+        let index = code(lit);
+        if index < self.positions.len() {
+            self.positions[index] = position.min(u32::MAX as usize) as u32;
+        }
+    }
+
     /// Adds the list of a literal that has none.
     fn push_list(&mut self, list: Watch) -> Result<(), AllocError>
-        ensures cube { self.new.cube ≡ self.old.cube }
         ensures lists { OnOk result (self.new.lists.items ≡ self.old.lists.items ++ list ∷ []) }
         ensures err { OnErr result (self.new.lists.items ≡ self.old.lists.items) }
     {
-        let index = code(list.lit);
-        if index < self.positions.len() {
-            self.positions[index] = self.lists.len().min(u32::MAX as usize) as u32;
-        }
+        let position = self.lists.len();
+        self.set_position(list.lit, position);
         self.lists.push(list)?;
         Ok(())
     }
 
+    /// Takes out the list at a position, where the last one comes then.
+    fn take_list(&mut self, position: usize) -> Vec<usize>
+        requires { position < length self.old.lists.items }
+        ensures taken { IsTakenOut self.old.lists.items position result.items
+            self.new.lists.items }
+        ensures len { length self.new.lists.items + 1 ≡ length self.old.lists.items }
+    {
+        let list = self.lists.swap_remove(position);
+        if position < self.lists.len() {
+            let moved = self.literal(position);
+            self.set_position(moved, position);
+        }
+        list.clauses
+    }
+
+    /// A list of no clauses, if none is spared.
+    fn spare_list(&mut self) -> Vec<usize>
+        ensures { self.new.lists ≡ self.old.lists }
+    {
+        match self.spare.pop() {
+            Some(list) => list,
+            None => Vec::new(self.alloc),
+        }
+    }
+
     /// Watches a clause by a literal.
-    fn watch_by(&mut self, alloc: Global, lit: Lit, clause: usize) -> Result<(), AllocError>
-        ensures kept { KeepsWatches self.old self.new }
-        ensures added { OnOk result (IsWatchedBy self.new.lists.items lit clause) }
+    fn watch_by(&mut self, lit: Lit, clause: usize) -> Result<(), AllocError>
+        ensures kept { KeepsWatches self.old.lists.items self.new.lists.items }
+        ensures added { OnOk result ((k : ℕ) × IsWatchedBy self.new.lists.items k lit clause) }
     {
         match self.position(lit) {
             Some(position) => add(&mut self.lists[position], clause),
             None => {
-                let mut clauses = Vec::new(alloc);
+                let mut clauses = self.spare_list();
                 clauses.push(clause)?;
                 self.push_list(Watch { lit, clauses })
             }
         }
     }
 
-    /// Watches a clause by one of its literals that the cube holds. `false` says that it has none,
-    /// and is no tautology.
-    fn watch_clause(
-        &mut self,
-        alloc: Global,
-        formula: &Formula,
-        clause: usize,
-    ) -> Result<bool, AllocError>
-        ensures kept { KeepsWatches self.old self.new }
-        ensures met { IfOk result (λ is. IsTrue is → IsMet formula.now self.new clause) }
+    /// Watches a clause by a literal that was seen. `false` if it needs one and has none.
+    fn watch_clause(&mut self, formula: &Formula, seen: &SeenLits, clause: usize) -> Holds
+        ensures kept { KeepsWatches self.old.lists.items self.new.lists.items }
+        ensures met { IfOk result
+            (λ is. IsTrue is → IsMet 0 formula.now seen.now self.new.lists.items clause) }
     {
         if clause >= formula.clauses() {
             return Ok(false);
         }
         let lits = formula.clause(clause);
         for lit in lits {
-            if self.cube.contains(*lit) {
-                self.watch_by(alloc, *lit, clause)?;
+            if seen.contains(*lit) {
+                self.watch_by(*lit, clause)?;
                 return Ok(true);
             }
         }
         Ok(is_tautology(lits))
     }
 
-    /// Watches each of these clauses.
-    fn watch_each(
-        &mut self,
-        alloc: Global,
-        formula: &Formula,
-        clauses: &[usize],
-    ) -> Result<bool, AllocError>
-        ensures kept { KeepsWatches self.old self.new }
-        ensures met { IfOk result (λ is. IsTrue is → (i : ℕ) → Contains clauses.now i
-            → IsMet formula.now self.new i) }
-    {
-        for clause in clauses {
-            if !self.watch_clause(alloc, formula, *clause)? {
-                return Ok(false);
-            }
-        }
-        Ok(true)
-    }
-
     /// Watches each clause of the formula.
-    fn watch_all(&mut self, alloc: Global, formula: &Formula) -> Result<bool, AllocError>
-        ensures cube { self.new.cube ≡ self.old.cube }
-        ensures met { IfOk result (λ is. IsTrue is → (i : ℕ) → IsMet formula.now self.new i) }
+    fn watch_all(&mut self, formula: &Formula, seen: &SeenLits) -> Holds
+        ensures { IfOk result (λ is. IsTrue is
+            → (i : ℕ) → IsMet 0 formula.now seen.now self.new.lists.items i) }
     {
-        for clause in 0..formula.clauses() {
-            if !self.watch_clause(alloc, formula, clause)? {
+        for place in 0..formula.clauses() {
+            if !self.watch_clause(formula, seen, place)? {
                 return Ok(false);
             }
         }
         Ok(true)
     }
 
-    /// Takes out the lists of the literals that the cube does not hold.
-    fn put_aside(&mut self, alloc: Global) -> Result<Vec<Watch>, AllocError>
-        ensures cube { self.new.cube ≡ self.old.cube }
-        ensures parted { IfOk result (λ aside. IsParted self.old.lists.items aside.items self.new) }
+    /// Takes out the list at a position, and watches its clauses by literals that were seen.
+    fn move_clauses(&mut self, formula: &Formula, seen: &SeenLits, position: usize) -> Holds
+        requires { position < length self.old.lists.items }
+        ensures met { IfOk result (λ is. IsTrue is → (i : ℕ)
+            → IsMet (position + 1) formula.now seen.now self.old.lists.items i
+            → IsMet position formula.now seen.now self.new.lists.items i) }
+        ensures len { IfOk result (λ _. position ≤ length self.new.lists.items) }
     {
-        let mut aside = Vec::new(alloc);
-        let room = Vec::with_capacity(alloc, self.lists.len())?;
-        let mut left = mem::replace(&mut self.lists, room);
-        while let Some(list) = left.pop() {
-            if self.cube.contains(list.lit) {
-                self.push_list(list)?;
-            } else {
-                aside.push(list)?;
+        let mut clauses = self.take_list(position);
+        while let Some(clause) = clauses.pop() {
+            if !self.watch_clause(formula, seen, clause)? {
+                return Ok(false);
             }
         }
-        Ok(aside)
+        self.spare.push(clauses)?;
+        Ok(true)
     }
 
-    /// Watches each clause by a literal of the cube, as they are watched by those of another.
-    fn renew(&mut self, alloc: Global, formula: &Formula) -> Result<bool, AllocError>
+    /// Watches each clause by a literal that was seen, as they are watched by any.
+    fn renew(&mut self, formula: &Formula, seen: &SeenLits) -> Holds
         requires { (i : ℕ) → IsWatched formula.now self.old.lists.items i }
-        ensures cube { self.new.cube ≡ self.old.cube }
-        ensures met { IfOk result (λ is. IsTrue is → (i : ℕ) → IsMet formula.now self.new i) }
+        ensures { IfOk result (λ is. IsTrue is
+            → (i : ℕ) → IsMet 0 formula.now seen.now self.new.lists.items i) }
     {
-        let mut aside = self.put_aside(alloc)?;
-        while let Some(list) = aside.pop() {
-            if !self.watch_each(alloc, formula, &list.clauses)? {
+        for position in (0..self.lists.len()).rev() {
+            if seen.contains(self.literal(position)) {
+                continue;
+            }
+            if !self.move_clauses(formula, seen, position)? {
                 return Ok(false);
             }
         }
         Ok(true)
     }
-}
 
-/// Watches of the clauses by the literals of a cube, as they are watched by those of another, if
-/// there was one. `None` if a clause has none, or there is no room for the cube.
-fn watches_for(
-    alloc: Global,
-    formula: &Formula,
-    cube: &[Lit],
-    from: Option<Watches>,
-) -> Result<Option<Watches>, AllocError>
-    requires { IfSome from (λ from. (i : ℕ) → IsWatched formula.now from.lists.items i) }
-    ensures { IfOk result (λ found. IfSome found (λ watches. ((i : ℕ) → IsMet formula.now watches i)
-        × ((l : Literal) → Has watches.cube l → l ∈ cube.now))) }
-{
-    match from {
-        Some(mut watches) => {
-            let is_met = set_to(&mut watches.cube, cube) && watches.renew(alloc, formula)?;
-            if is_met { Ok(Some(watches)) } else { Ok(None) }
-        }
-        None => {
-            let mut watches = Watches::new(alloc, formula.prefix())?;
-            let is_met = set_to(&mut watches.cube, cube) && watches.watch_all(alloc, formula)?;
-            if is_met { Ok(Some(watches)) } else { Ok(None) }
-        }
-    }
-}
-
-/// How the initial cubes of a trace are compared with the formula.
-#[derive(Drop)]
-pub(crate) struct InitialCubes {
-    /// The clauses as the cube that was found last watches them.
-    watches: Option<Watches>,
-}
-
-impl InitialCubes {
-    /// Nothing is watched, and no memory taken.
-    pub(crate) fn new() -> InitialCubes
-        ensures { (f : Qbf) → IsWatching f result }
+    /// Watches each clause by a literal that was seen. `false` says that one has none.
+    fn watch(&mut self, formula: &Formula, seen: &SeenLits) -> Holds
+        requires { IsWatching formula.now self.old }
+        ensures { IfOk result (λ is. IsTrue is
+            → (i : ℕ) → IsMet 0 formula.now seen.now self.new.lists.items i) }
     {
-        InitialCubes { watches: None }
+        if self.is_watching {
+            return self.renew(formula, seen);
+        }
+        if self.positions.is_empty() {
+            self.positions = vec![in self.alloc; 0; seen.room()]?;
+        }
+        self.watch_all(formula, seen)
     }
 
-    /// Why the set is no initial cube, or `None` where it is one.
-    ///
-    /// # Errors
-    /// If an allocation fails.
-    pub(crate) fn fault(
+    /// Whether literals are an initial cube, clean and bound. `false` says nothing.
+    pub(crate) fn is_initial(
         &mut self,
-        alloc: Global,
         formula: &Formula,
-        set: &[Lit],
-    ) -> Result<Option<RuleFault>, AllocError>
-        requires watching { IsWatching formula.now self.old }
-        requires ordered { IsOrdered set.now }
-        ensures fault { IfOk result
-            (λ fault. IsAnswer (initial_condition Cubes formula.now set.now ∷ []) fault) }
-        ensures kept { IsWatching formula.now self.new }
+        seen: &mut SeenLits,
+        lits: &[Lit],
+    ) -> Holds
+        requires { IsWatching formula.now self.old }
+        ensures initial { IfOk result (λ t. IsTrue t → IsInitial Cubes formula.now lits.now) }
+        ensures clean { IfOk result (λ t. IsTrue t → IsClean lits.now) }
+        ensures bound { IfOk result (λ t. IsTrue t → AreBound formula.now.blocks lits.now) }
+        ensures kept { OnOk result (IsWatching formula.now self.new) }
     {
-        self.watches = watches_for(alloc, formula, set, self.watches.take())?;
-        if self.watches.is_some() {
-            return Ok(None);
+        seen.make_room(self.alloc, formula.prefix())?;
+        if !are_bound(formula.prefix(), lits) {
+            return Ok(false);
         }
-        Ok(initial_cube_fault(formula, set))
+        if !set_if_clean(seen, lits) {
+            return Ok(false);
+        }
+        self.is_watching = self.watch(formula, seen)?;
+        Ok(self.is_watching)
     }
 }

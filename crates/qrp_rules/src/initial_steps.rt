@@ -9,8 +9,10 @@ ghost use Rattle.qrp_rules.specs.Conditions.{AllHold, IsAnswer, initial_conditio
 ghost use Rattle.qrp_rules.specs.Initial.{AreKnown};
 
 use crate::clause_index::InitialClauses;
-use crate::fault::RuleFault;
+use crate::fault::Judgement;
+use crate::initial::initial_cube_fault;
 use crate::initial_cubes::InitialCubes;
+use crate::seen::SeenLits;
 use crate::side::Side;
 use qbf_core::{Formula, Lit, Quantifier};
 use std::alloc::{AllocError, Global};
@@ -25,30 +27,39 @@ pub struct InitialSteps {
 
 impl InitialSteps {
     /// Nothing is known of the formula, and no memory taken.
-    pub fn new() -> InitialSteps
+    pub fn new(alloc: Global) -> InitialSteps
         ensures { (f : Qbf) → AreKnown f result }
     {
         InitialSteps {
             clauses: InitialClauses::new(),
-            cubes: InitialCubes::new(),
+            cubes: InitialCubes::new(alloc),
         }
     }
 
-    /// Whether the literals are, as they are written, the clause after the one that was found last,
-    /// and in order.
+    /// Whether literals are, as they are written, those of an initial step, clean and bound: a
+    /// reduct of the clause after the one that was found last, or an initial cube.
     ///
     /// `false` says nothing.
-    pub fn is_next<S: Side>(&mut self, formula: &Formula, lits: &[Lit]) -> bool
+    ///
+    /// # Errors
+    /// If an allocation fails.
+    pub fn is_initial<S: Side>(
+        &mut self,
+        alloc: Global,
+        formula: &Formula,
+        seen: &mut SeenLits,
+        lits: &[Lit],
+    ) -> Result<bool, AllocError>
         requires { AreKnown formula.now self.old }
-        ensures follows { IsTrue result
-            → AllHold (initial_condition S.side formula.now lits.now ∷ []) }
-        ensures clean { IsTrue result → IsClean lits.now }
-        ensures bound { IsTrue result → AreBound formula.now.blocks lits.now }
-        ensures known { AreKnown formula.now self.new }
+        ensures follows { IfOk result (λ t. IsTrue t
+            → AllHold (initial_condition S.side formula.now lits.now ∷ [])) }
+        ensures clean { IfOk result (λ t. IsTrue t → IsClean lits.now) }
+        ensures bound { IfOk result (λ t. IsTrue t → AreBound formula.now.blocks lits.now) }
+        ensures known { OnOk result (AreKnown formula.now self.new) }
     {
         match S::REDUCED {
-            Quantifier::All => self.clauses.is_next(formula, lits),
-            Quantifier::Exists => false,
+            Quantifier::All => self.clauses.is_next(alloc, formula, seen, lits),
+            Quantifier::Exists => self.cubes.is_initial(formula, seen, lits),
         }
     }
 
@@ -57,12 +68,7 @@ impl InitialSteps {
     ///
     /// # Errors
     /// If an allocation fails.
-    pub fn fault<S: Side>(
-        &mut self,
-        alloc: Global,
-        formula: &Formula,
-        set: &[Lit],
-    ) -> Result<Option<RuleFault>, AllocError>
+    pub fn fault<S: Side>(&mut self, alloc: Global, formula: &Formula, set: &[Lit]) -> Judgement
         requires known { AreKnown formula.now self.old }
         requires ordered { IsOrdered set.now }
         ensures fault { IfOk result
@@ -71,7 +77,7 @@ impl InitialSteps {
     {
         match S::REDUCED {
             Quantifier::All => self.clauses.fault(alloc, formula, set),
-            Quantifier::Exists => self.cubes.fault(alloc, formula, set),
+            Quantifier::Exists => Ok(initial_cube_fault(formula, set)),
         }
     }
 }

@@ -2,6 +2,7 @@
 #![tactic(auto)]
 
 mod any_order;
+mod blocks;
 mod clause_index;
 mod exact;
 mod fault;
@@ -17,10 +18,10 @@ mod walks;
 mod written;
 
 pub use any_order::is_resolvent;
-pub use exact::is_exact_reduct;
-pub use fault::RuleFault;
+pub use blocks::is_bound_by;
+pub use fault::{Judgement, RuleFault};
 pub use initial_steps::InitialSteps;
-pub use reduct::{is_bound_by, is_reduct, ordered_reduct_fault, reduct_fault};
+pub use reduct::{is_exact_reduct, is_reduct, ordered_reduct_fault, reduct_fault};
 pub use resolvent::{ordered_resolvent_fault, resolvent_fault};
 pub use rules::Rules;
 pub use seen::SeenLits;

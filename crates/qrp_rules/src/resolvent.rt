@@ -10,11 +10,11 @@ ghost use Rattle.qrp_rules.specs.Conditions.{AllHold, AllowsPivot, IsAnswer, res
 ghost use Rattle.qrp_rules.specs.Unreduced.{unreduced_conditions};
 ghost use Rattle.qrp_rules.specs.Walks.{Accounts, Covers, IsClashOf};
 
+use crate::blocks::{block_if, inner, innermost, is_bound_by, outer};
 use crate::fault::RuleFault;
-use crate::reduct::{Reducible, block_if, inner, innermost, is_bound_by, is_covered, outer};
 use crate::rules::Rules;
 use crate::side::Side;
-use crate::walks::advance_to;
+use crate::walks::{Reducible, advance_to, is_covered};
 use qbf_core::{Lit, LitSet, Prefix, Var};
 
 /// The variables in which two sets clash.
@@ -109,8 +109,7 @@ pub(crate) fn reducible_in_parents<S: Side>(
     (in_a, in_b)
 }
 
-/// Whether each literal of the resolvent is in the step, or reducible in the resolvent or in each
-/// antecedent with it.
+/// Whether each literal of the resolvent is in the step, or reducible there or in its antecedents.
 ///
 /// Each antecedent is walked over once, with its own outer block, and a literal that both hold is
 /// looked at in both walks.

@@ -1,9 +1,13 @@
 //! Literals that were met since the last time that all were forgotten.
 
-ghost use Rattle.std.specs.Prelude.{◌≡◌, ◌↔◌, ◌⊎◌, IsTrue};
+ghost use Rattle.std.specs.Prelude.{◌≡◌, ◌↔◌, ◌⊎◌, IsTrue, IfOk};
 ghost use Rattle.qbf_core.specs.Literal.{Literal};
+ghost use Rattle.qbf_core.specs.Members.{◌∈◌};
+ghost use Rattle.qbf_core.specs.Rules.{IsClean};
 ghost use Rattle.qrp_rules.specs.Seen.{Has, code};
 
+use crate::fault::Holds;
+use crate::written::is_ordered;
 use qbf_core::{Lit, Prefix};
 use std::alloc::{AllocError, Global};
 use std::marker::Model;
@@ -16,8 +20,7 @@ pub(crate) fn code(lit: Lit) -> usize
     2 * lit.var().number() as usize + sign
 }
 
-/// A set of literals that is emptied by one step, whatever it holds. Contracts see which literals
-/// it has.
+/// A set of literals that is emptied by one step. Contracts see which literals it has.
 #[derive(Drop)]
 pub struct SeenLits {
     /// When each literal was met, by its number.
@@ -98,4 +101,53 @@ impl SeenLits {
         self.stamps[place] = self.stamp;
         true
     }
+}
+
+/// Puts the literals of a list into a set, or returns `false` if there is no room for one of them.
+pub(crate) fn insert_each(seen: &mut SeenLits, lits: &[Lit]) -> bool
+    ensures { IsTrue result → (l : Literal)
+        → Has seen.new l ↔ (Has seen.old l ⊎ (l ∈ lits.now)) }
+{
+    for lit in lits {
+        if !seen.insert(*lit) {
+            return false;
+        }
+    }
+    true
+}
+
+/// Makes a set that of the literals of a list, or returns `false` if there is no room for them.
+pub(crate) fn set_to(seen: &mut SeenLits, lits: &[Lit]) -> bool
+    ensures { IsTrue result → (l : Literal) → Has seen.new l ↔ l ∈ lits.now }
+{
+    seen.clear();
+    insert_each(seen, lits)
+}
+
+/// The same, where the literals are clean. `false` says nothing.
+pub(crate) fn set_if_clean(seen: &mut SeenLits, lits: &[Lit]) -> bool
+    ensures clean { IsTrue result → IsClean lits.now }
+    ensures members { IsTrue result → (l : Literal) → Has seen.new l ↔ l ∈ lits.now }
+{
+    seen.clear();
+    for lit in lits {
+        if seen.contains(lit.negated()) {
+            return false;
+        }
+        if !seen.insert(*lit) {
+            return false;
+        }
+    }
+    true
+}
+
+/// Whether literals are clean. `false` says nothing.
+pub(crate) fn is_clean(alloc: Global, seen: &mut SeenLits, prefix: &Prefix, lits: &[Lit]) -> Holds
+    ensures { IfOk result (λ t. IsTrue t → IsClean lits.now) }
+{
+    if is_ordered(lits) {
+        return Ok(true);
+    }
+    seen.make_room(alloc, prefix)?;
+    Ok(set_if_clean(seen, lits))
 }

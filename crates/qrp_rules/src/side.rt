@@ -9,10 +9,10 @@ ghost use Rattle.qbf_core.specs.Rules.{deciding_quantifier};
 ghost use Rattle.qrp_rules.specs.Conditions.{IsAnswer, initial_condition};
 
 use crate::clause_index::InitialClauses;
-use crate::fault::RuleFault;
+use crate::fault::Judgement;
 use crate::initial::initial_cube_fault;
 use qbf_core::{Formula, LitSet, Quantifier};
-use std::alloc::{AllocError, Global};
+use std::alloc::Global;
 
 /// What the steps of a proof are: clauses, by Q-resolution (Kleine Büning, Karpinski, Flögel 1995),
 /// or cubes, by term resolution (Giunchiglia, Narizzano, Tacchella 2006).
@@ -39,11 +39,7 @@ pub trait Side {
     ///
     /// # Errors
     /// If an allocation fails; never on cubes, which take no memory.
-    fn initial_fault(
-        alloc: Global,
-        formula: &Formula,
-        set: &LitSet,
-    ) -> Result<Option<RuleFault>, AllocError>
+    fn initial_fault(alloc: Global, formula: &Formula, set: &LitSet) -> Judgement
         requires { AreBound formula.now.blocks set.now }
         ensures { IfOk result
             (λ fault. IsAnswer (initial_condition side formula.now set.now ∷ []) fault) };
@@ -69,11 +65,7 @@ impl Side for Clauses {
 
     const DECIDING: Quantifier = Quantifier::Exists;
 
-    fn initial_fault(
-        alloc: Global,
-        formula: &Formula,
-        set: &LitSet,
-    ) -> Result<Option<RuleFault>, AllocError> {
+    fn initial_fault(alloc: Global, formula: &Formula, set: &LitSet) -> Judgement {
         InitialClauses::new().fault(alloc, formula, set.as_slice())
     }
 
@@ -98,11 +90,7 @@ impl Side for Cubes {
 
     const DECIDING: Quantifier = Quantifier::All;
 
-    fn initial_fault(
-        _alloc: Global,
-        formula: &Formula,
-        set: &LitSet,
-    ) -> Result<Option<RuleFault>, AllocError>
+    fn initial_fault(_alloc: Global, formula: &Formula, set: &LitSet) -> Judgement
         ensures answer { IfOk result (λ fault.
             IsAnswer (initial_condition Rattle.qbf_core.specs.Rules.Cubes formula.now set.now ∷ [])
             fault) }

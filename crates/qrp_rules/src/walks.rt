@@ -1,11 +1,16 @@
-//! One walk over two ordered sets of literals.
+//! Walks over two ordered sets of literals: whether one covers the other, and is a reduct of it.
 
-ghost use Rattle.std.specs.Prelude.{◌≤◌, ◌↔◌, IsTrue};
+ghost use Rattle.std.specs.Prelude.{◌≡◌, ◌≤◌, ◌↔◌, ◌⊎◌, IsTrue};
 ghost use Rattle.qbf_core.specs.Literal.{Literal};
 ghost use Rattle.qbf_core.specs.Members.{◌∈◌, ◌⊆◌};
+ghost use Rattle.qbf_core.specs.Rules.{Side, reduced_quantifier, deciding_quantifier};
 ghost use Rattle.qbf_core.specs.Sets.{IsOrdered};
+ghost use Rattle.qrp_rules.specs.Conditions.{IsAnswer, reduct_conditions};
+ghost use Rattle.qrp_rules.specs.Walks.{MayLack};
 
-use qbf_core::{Lit, Var};
+use crate::blocks::{innermost, is_pivot_number, stands_after};
+use crate::fault::RuleFault;
+use qbf_core::{Lit, Prefix, Quantifier, Var};
 
 /// What is left of an ordered list from a variable on.
 fn skip_to(lits: &[Lit], var: Var) -> &[Lit]
@@ -25,8 +30,7 @@ fn skip_to(lits: &[Lit], var: Var) -> &[Lit]
     rest
 }
 
-/// Whether an ordered list, whose variables are no earlier than that of the literal, begins with
-/// it.
+/// Whether an ordered list, with no variable before that of the literal, begins with it.
 fn begins(lits: &[Lit], lit: Lit) -> bool
     requires ordered { IsOrdered lits.now }
     requires later { (m : Literal) → m ∈ lits.now → lit.var ≤ m.var }
@@ -38,8 +42,7 @@ fn begins(lits: &[Lit], lit: Lit) -> bool
     }
 }
 
-/// What is left of an ordered list from the variable of a literal on, and whether the literal is in
-/// it.
+/// What is left of an ordered list from the variable of a literal on, and whether it has that one.
 pub(crate) fn advance_to(lits: &[Lit], lit: Lit) -> (&[Lit], bool)
     requires { IsOrdered lits.now }
     ensures ordered { IsOrdered result.0.now }
@@ -49,4 +52,82 @@ pub(crate) fn advance_to(lits: &[Lit], lit: Lit) -> (&[Lit], bool)
 {
     let rest = skip_to(lits, lit.var());
     (rest, begins(rest, lit))
+}
+
+/// What a reduction may take out: literals of a quantifier after a block, or all if there is none.
+#[derive(Clone, Copy)]
+pub(crate) struct Reducible {
+    pub quantifier: Quantifier,
+    pub block: Option<usize>,
+}
+
+/// Whether a literal of the variable may be missing: of the pivot, or one that reduction takes out.
+pub(crate) fn may_lack(
+    prefix: &Prefix,
+    reducible: Option<Reducible>,
+    pivot: Option<u32>,
+    var: Var,
+) -> bool
+    ensures { IsTrue result ↔ MayLack prefix.now reducible pivot var }
+{
+    match reducible {
+        _ if is_pivot_number(pivot, var) => true,
+        Some(after) => stands_after(prefix, after.quantifier, after.block, var),
+        None => false,
+    }
+}
+
+/// Whether each literal of one ordered list is in the other, or may be missing there.
+pub(crate) fn is_covered(
+    prefix: &Prefix,
+    reducible: Option<Reducible>,
+    pivot: Option<u32>,
+    from: &[Lit],
+    to: &[Lit],
+) -> bool
+    requires from { IsOrdered from.now }
+    requires to { IsOrdered to.now }
+    ensures { IsTrue result ↔ ((l : Literal) → l ∈ from.now
+        → (l ∈ to.now) ⊎ MayLack prefix.now reducible pivot l.var) }
+{
+    let mut rest = to;
+    for lit in from {
+        let (others, kept) = advance_to(rest, *lit);
+        if !kept && !may_lack(prefix, reducible, pivot, lit.var()) {
+            return false;
+        }
+        rest = others;
+    }
+    true
+}
+
+/// Why one ordered list is no reduct of the other, for a side with these quantifiers.
+pub(crate) fn ordered_reduct_fault_by(
+    prefix: &Prefix,
+    reduced: Quantifier,
+    deciding: Quantifier,
+    from: &[Lit],
+    to: &[Lit],
+) -> Option<RuleFault>
+    requires from { IsOrdered from.now }
+    requires to { IsOrdered to.now }
+    ensures { (side : Side)
+        → reduced ≡ reduced_quantifier side → deciding ≡ deciding_quantifier side
+        → IsAnswer (reduct_conditions side prefix.now from.now to.now) result }
+{
+    if !is_covered(prefix, None, None, to, from) {
+        return Some(RuleFault::S6);
+    }
+    // Nothing is left out, so no block matters.
+    if from.len() <= to.len() {
+        return None;
+    }
+    let reducible = Some(Reducible {
+        quantifier: reduced,
+        block: innermost(prefix, deciding, None, from),
+    });
+    if !is_covered(prefix, reducible, None, from, to) {
+        return Some(RuleFault::S7);
+    }
+    None
 }

@@ -29,7 +29,7 @@ pub(crate) fn is_ordered(lits: &[Lit]) -> bool
 }
 
 /// Whether the variable of each literal is bound.
-fn are_bound(prefix: &Prefix, lits: &[Lit]) -> bool
+pub(crate) fn are_bound(prefix: &Prefix, lits: &[Lit]) -> bool
     ensures { IsTrue result ↔ AreBound prefix.now lits.now }
 {
     for lit in lits {
@@ -38,13 +38,6 @@ fn are_bound(prefix: &Prefix, lits: &[Lit]) -> bool
         }
     }
     true
-}
-
-/// Whether literals are a set over the prefix, in order, as they are written.
-fn is_set(prefix: &Prefix, lits: &[Lit]) -> bool
-    ensures { IsTrue result ↔ (IsOrdered lits.now × AreBound prefix.now lits.now) }
-{
-    is_ordered(lits) && are_bound(prefix, lits)
 }
 
 /// The set of the literals where they are not in order as written, or `None` where they are such a
@@ -65,7 +58,7 @@ pub fn set_unless_ordered(
     ensures unbound { IsErrOf result SetFault.E2
         → (l : Literal) × (l ∈ lits.now) × (IsBound prefix.now l.var → ⊥) }
 {
-    if is_set(prefix, lits) {
+    if is_ordered(lits) && are_bound(prefix, lits) {
         return Ok(None);
     }
     match LitSet::from_slice(alloc, lits, prefix) {

@@ -1,6 +1,6 @@
 use Rattle.std.proofs.Common.{◌∙◌, refl, ap, Ok, Err}
-use Rattle.qrp_c.specs.Told.{told_truth}
-use Rattle.qrp_c.proofs.GivenTexts.{listed}
+use Rattle.qrp_memory.specs.Told.{told_truth}
+use Rattle.qrp_memory.proofs.GivenTexts.{listed}
 use Rattle.qrp_c.proofs.qrp_core.Goals as goal
 
 pub returns-in-Ok : goal.returns-in-Ok

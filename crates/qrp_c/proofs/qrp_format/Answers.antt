@@ -1,6 +1,6 @@
 use Rattle.std.proofs.Common.{◌≡◌, refl, [], Ok, Err}
 use Rattle.qdimacs.specs.Grammar.{text}
-use Rattle.qrp_c.proofs.GivenTexts.{written}
+use Rattle.qrp_memory.proofs.GivenTexts.{written}
 use Rattle.qrp_c.proofs.qrp_format.Goals as goal
 
 pub returns-in-Ok : goal.returns-in-Ok

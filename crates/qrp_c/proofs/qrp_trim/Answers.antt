@@ -1,7 +1,7 @@
 use Rattle.std.proofs.Common.{◌≡◌, ◌∙◌, refl, ap, [], Ok, Err}
 use Rattle.qrp.specs.Grammar.{text}
-use Rattle.qrp_c.specs.Told.{told_truth}
-use Rattle.qrp_c.proofs.GivenTexts.{written}
+use Rattle.qrp_memory.specs.Told.{told_truth}
+use Rattle.qrp_memory.proofs.GivenTexts.{written}
 use Rattle.qrp_c.proofs.qrp_trim.Goals as goal
 
 pub returns-in-Ok : goal.returns-in-Ok

@@ -11,12 +11,3 @@ write_digits-start-requires c = (
   omega (arith, c.digit_count.ensures),
   omega (arith, c.requires, c.digit_count.ensures, length-decimal-le 20 c.args.n (omega arith) (omega arith) (omega arith)),
 )
-
-pub put_behind-requires : goal.put_behind-requires
-put_behind-requires c = omega (
-  arith,
-  c.requires,
-  c.if-at-gt0.true,
-  c.digit_count.ensures,
-  length-decimal-le 20 c.args.n (omega arith) (omega arith) (omega arith),
-)

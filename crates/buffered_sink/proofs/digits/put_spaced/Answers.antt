@@ -1,8 +1,7 @@
-use Rattle.std.proofs.Common.{◌+◌, ◌-◌, ◌∙◌, length, set, arith}
-use Rattle.std.specs.Fmt.{decimal}
+use Rattle.std.proofs.Common.{◌+◌, ◌-◌, ◌∙◌, set, arith}
 use Rattle.std.proofs.lemmas.List.{take-set, take-set-le}
 use Rattle.std.proofs.lemmas.Fmt.{length-decimal-le}
-use Rattle.buffered_sink.proofs.PairDigits.{at_most_one, shorter}
+use Rattle.buffered_sink.proofs.Fronts.{at_most_one, shorter}
 use Rattle.buffered_sink.proofs.digits.put_spaced.Goals as goal
 
 pub overflow_add-end : goal.overflow_add-end
@@ -15,8 +14,8 @@ overflow_add-end c = omega (
   length-decimal-le 20 c.args.n (omega arith) (omega arith) (omega arith),
 )
 
-pub put_pairs-requires : goal.put_pairs-requires
-put_pairs-requires c = omega (
+pub write_digits-start-requires : goal.write_digits-start-requires
+write_digits-start-requires c = omega (
   arith,
   c.requires,
   c.from.ensures,
@@ -38,7 +37,8 @@ pub returns-clause-before : goal.returns-clause-before
 returns-clause-before c =
     let at = c.args.at in
     let start = at + 1 + c.from.result in
-    let put = c.put_pairs.new.bytes in
+    let put = c.write_digits-start.new.buf in
+    let first = c.write_digits-start.result in
     take-set (set put (start - 1) _) at _ ∙ take-set-le at put (start - 1) _ (omega arith)
-    ∙ shorter at (start + c.digit_count.result - length (decimal c.args.n) - 1) put c.args.bytes.now
-    (omega (arith, c.digit_count.ensures)) c.put_pairs.ensures.before
+    ∙ shorter at first put c.args.bytes.now
+    (omega (arith, c.digit_count.ensures, c.write_digits-start.ensures.start)) c.write_digits-start.ensures.before

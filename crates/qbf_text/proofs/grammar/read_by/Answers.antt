@@ -1,4 +1,4 @@
-use Rattle.std.proofs.Common.{arith, refl, ◌∙◌}
+use Rattle.std.proofs.Common.{◌≡◌, true, false, arith, refl, sym, ◌∙◌}
 use Rattle.qbf_text.specs.Ahead.{ahead}
 use Rattle.qbf_text.specs.Reading.{left}
 use Rattle.qbf_text.specs.Rows.{reads_from}
@@ -25,14 +25,15 @@ tokens-preserved g c =
     let first = g.G.Grammar.place c.args.grammar.now in
     let at_hand = g.S.Source.remaining c.tokens.source in
     let whole = reads_from row first (left c.args.scanner.now (g.S.Source.remaining c.args.source.now)) in
-    let h = c.in_ok-hand_over.ensures in
+    let h = c.in_ok-handed.ensures in
     let s = c.hand_over.new.scanner in
+    let none = rw c.in-None.is at h.reads at_hand in
     let so_far = leads_then whole (reads_from row (g.G.Grammar.place c.tokens.grammar) (left c.tokens.scanner at_hand))
-    (reads_from row (g.G.Grammar.place c.hand_over.new.grammar) (left s at_hand)) c.tokens.invariant.so_far (h.leads at_hand) in
+    (reads_from row (g.G.Grammar.place c.hand_over.new.grammar) (left s at_hand)) c.tokens.invariant.so_far none.1 in
     let read = known_so_far row first (g.G.Grammar.place c.tokens.grammar) (g.G.Grammar.place c.hand_over.new.grammar)
     (tokens_next c.args.scanner.now) (tokens_next c.tokens.scanner) (tokens_next s)
     (ahead c.args.scanner.now.pending (g.S.Source.remaining c.args.source.now)) (ahead c.tokens.scanner.pending at_hand)
-    (ahead s.pending at_hand) c.tokens.invariant.stops (h.so_far at_hand) in
+    (ahead s.pending at_hand) c.tokens.invariant.stops none.0 in
     let ready = same_state c.tokens.scanner s h.state c.tokens.invariant.ready in
     record {
       so_far = goes row _ _ whole _ _ _ so_far c.in_ok-token.ensures.token
@@ -52,20 +53,22 @@ pub returns-in-Ok-Done-clause-reads : goal.returns-in-Ok-Done-clause-reads
 returns-in-Ok-Done-clause-reads g c =
     let row = g.G.Grammar.row_of in
     let at_hand = g.S.Source.remaining c.tokens.source in
+    let none = rw c.in-None.is at c.in_ok-handed.ensures.reads at_hand in
     let whole = reads_from row (g.G.Grammar.place c.args.grammar.now) (left c.args.scanner.now (g.S.Source.remaining c.args.source.now)) in
     let so_far = leads_then whole (reads_from row (g.G.Grammar.place c.tokens.grammar) (left c.tokens.scanner at_hand))
     (reads_from row (g.G.Grammar.place c.hand_over.new.grammar) (left c.hand_over.new.scanner at_hand)) c.tokens.invariant.so_far
-    (c.in_ok-hand_over.ensures.leads at_hand) in
+    none.1 in
     ends row _ _ _ whole _ _ _ so_far c.in_ok-token.ensures.token (rw c.in-Ok-Done.field-0-is at c.in-Ok-Done.ensures.row)
 
 pub returns-in-Err-Text-clause-reads : goal.returns-in-Err-Text-clause-reads
 returns-in-Err-Text-clause-reads g c =
     let row = g.G.Grammar.row_of in
     let at_hand = g.S.Source.remaining c.tokens.source in
+    let none = rw c.in-None.is at c.in_ok-handed.ensures.reads at_hand in
     let whole = reads_from row (g.G.Grammar.place c.args.grammar.now) (left c.args.scanner.now (g.S.Source.remaining c.args.source.now)) in
     let so_far = leads_then whole (reads_from row (g.G.Grammar.place c.tokens.grammar) (left c.tokens.scanner at_hand))
     (reads_from row (g.G.Grammar.place c.hand_over.new.grammar) (left c.hand_over.new.scanner at_hand)) c.tokens.invariant.so_far
-    (c.in_ok-hand_over.ensures.leads at_hand) in
+    none.1 in
     stops row _ _ whole _ _ (c.in_ok-token.token, c.in_ok-token.line) so_far c.in_ok-token.ensures.token
     (rw c.in-Err-Text.field-0-is at c.in-Err-Text.ensures.row)
 
@@ -74,13 +77,14 @@ returns-in-Ok-Done-clause-stops g c =
     let row = g.G.Grammar.row_of in
     let first = g.G.Grammar.place c.args.grammar.now in
     let at_hand = g.S.Source.remaining c.tokens.source in
+    let none = rw c.in-None.is at c.in_ok-handed.ensures.reads at_hand in
     let h = c.hand_over.new in
     let ends_so = rw c.in-Ok-Done.field-0-is at c.in-Ok-Done.ensures.row in
     let s = c.next_token.new.self in
     let read = known_so_far row first (g.G.Grammar.place c.tokens.grammar) (g.G.Grammar.place h.grammar)
     (tokens_next c.args.scanner.now) (tokens_next c.tokens.scanner) (tokens_next h.scanner)
     (ahead c.args.scanner.now.pending (g.S.Source.remaining c.args.source.now)) (ahead c.tokens.scanner.pending at_hand)
-    (ahead h.scanner.pending at_hand) c.tokens.invariant.stops (c.in_ok-hand_over.ensures.so_far at_hand) in (
+    (ahead h.scanner.pending at_hand) c.tokens.invariant.stops none.0 in (
       g.G.Grammar.place h.grammar,
       c.in_ok-token.token,
       ends_so,
@@ -90,5 +94,46 @@ returns-in-Ok-Done-clause-stops g c =
             (tokens_next s) (c.in_ok-token.token, c.in_ok-token.line) _ _ _
             ends_so open_ read (c.in_ok-token.ensures.takes open_),
         c.in_ok-token.ensures.few open_,
+      ),
+    )
+
+pub returns-in-Some-clause-reads : goal.returns-in-Some-clause-reads
+returns-in-Some-clause-reads g c =
+    let row = g.G.Grammar.row_of in
+    let at_hand = g.S.Source.remaining c.tokens.source in
+    let last = rw c.in-Some.is at c.in_ok-handed.ensures.reads at_hand in
+    let whole = reads_from row (g.G.Grammar.place c.args.grammar.now) (left c.args.scanner.now (g.S.Source.remaining c.args.source.now)) in
+    let so_far = leads_then whole (reads_from row (g.G.Grammar.place c.tokens.grammar) (left c.tokens.scanner at_hand))
+    (reads_from row last.last (left last.mid at_hand)) c.tokens.invariant.so_far last.leads.1 in
+    ends row _ _ _ whole _ _ _ so_far last.gives last.ends
+
+pub returns-in-Some-clause-follows : goal.returns-in-Some-clause-follows
+returns-in-Some-clause-follows g c =
+    let last = rw c.in-Some.is at c.in_ok-handed.ensures.reads (g.S.Source.remaining c.tokens.source) in (
+      last.last,
+      last.token.0,
+      last.ends,
+      λ open_. omega (arith, last.less, c.tokens.invariant.bound),
+      λ end. absurd (let never : false ≡ true = sym last.no_end ∙ end in cc never),
+    )
+
+pub returns-in-Some-clause-stops : goal.returns-in-Some-clause-stops
+returns-in-Some-clause-stops g c =
+    let row = g.G.Grammar.row_of in
+    let first = g.G.Grammar.place c.args.grammar.now in
+    let at_hand = g.S.Source.remaining c.tokens.source in
+    let h = c.hand_over.new in
+    let last = rw c.in-Some.is at c.in_ok-handed.ensures.reads at_hand in
+    let read = known_so_far row first (g.G.Grammar.place c.tokens.grammar) last.last
+    (tokens_next c.args.scanner.now) (tokens_next c.tokens.scanner) (tokens_next last.mid)
+    (ahead c.args.scanner.now.pending (g.S.Source.remaining c.args.source.now)) (ahead c.tokens.scanner.pending at_hand)
+    (ahead last.mid.pending at_hand) c.tokens.invariant.stops last.leads.0 in (
+      last.last,
+      last.token.0,
+      last.ends,
+      λ open_. (
+        stops_behind row first last.last (g.G.Grammar.place h.grammar) c.in-Some.output (tokens_next c.args.scanner.now)
+            (tokens_next last.mid) (tokens_next h.scanner) last.token _ _ _ last.ends open_ read last.takes,
+        last.few,
       ),
     )

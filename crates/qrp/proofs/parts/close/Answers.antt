@@ -1,26 +1,21 @@
 use Rattle.std.proofs.Common.{refl, ◌∷◌, ◌++◌, []}
 use Rattle.step_index.specs.Numbers.{AreStepNumbers}
+use Rattle.qrp.specs.Flat.{kept_of}
 use Rattle.qrp.specs.Inferences.{Inference}
 use Rattle.qrp.proofs.Flats.{numbered_more, flat_pushed}
 use Rattle.qrp.proofs.parts.close.Goals as goal
 
-pub returns-in_ok-close_step-in-Step-clause-row : goal.returns-in_ok-close_step-in-Step-clause-row
-returns-in_ok-close_step-in-Step-clause-row c =
+pub returns-in_ok-close_step-in-Step-clause-closed : goal.returns-in_ok-close_step-in-Step-clause-closed
+returns-in_ok-close_step-in-Step-clause-closed c =
     let b = c.args.parts.now.begun in
     let step : Inference = record { number = c.in-Step.number; lits = b.lits.begun; ants = b.ants.begun } in
     let made = c.requires.made in
-    rw (
-      c.in-Step.is,
-      c.in_ok-close_step-in-Step.ensures.closed,
-      numbered_more b.index b.lits.whole b.ants.whole step made.lits_counted made.ants_counted,
-    ) refl
-
-pub returns-in_ok-close_step-in-Step-clause-sound : goal.returns-in_ok-close_step-in-Step-clause-sound
-returns-in_ok-close_step-in-Step-clause-sound c =
-    let b = c.args.parts.now.begun in
-    let step : Inference = record { number = c.in-Step.number; lits = b.lits.begun; ants = b.ants.begun } in
     let k = rw c.in-Step.is at c.requires.complete in
     let are : AreStepNumbers (b.index ++ step.number ∷ []) =
     rw c.in_ok-close_step-in-Step.ensures.closed at c.in_ok-close_step-in-Step.ensures.sound in
-    rw c.in_ok-close_step-in-Step.ensures.closed (flat_pushed step c.requires.made are
-    (record { number = k.0.0; lits = k.1; ants = k.2.numbers; few = k.2.few }) k.2.fit)
+    rw (c.in-Step.is, c.in_ok-close_step-in-Step.ensures.closed) (record {
+      made = rw (numbered_more b.index b.lits.whole b.ants.whole step made.lits_counted made.ants_counted) refl;
+      numbers = refl;
+      flat = flat_pushed (kept_of c.args.parts.now) step made are
+          (record { number = k.0.0; lits = k.1; ants = k.2.numbers; few = k.2.few }) k.2.fit;
+    })

@@ -1,27 +1,91 @@
-use Rattle.std.proofs.Common.{Ok, Err, refl}
-use Rattle.qbf_spelling.proofs.Words.{Qrp}
-use Rattle.qbf_text.proofs.Answered.{whole_given, fault_given}
-use Rattle.qrp.specs.Answers.{is_outside}
-use Rattle.qrp.proofs.RowsReadTheTrace.{answers_as_read}
+use Rattle.std.proofs.Common.{◌≤◌, length, Ok, Err, refl, subst, ◌∙◌, ap}
+use Rattle.qbf_spelling.proofs.Words.{ahead, left, tokens_next}
+use Rattle.qbf_text.specs.Rows.{reads_from}
+use Rattle.qbf_text.specs.Taking.{Reads}
+use Rattle.qrp.specs.Answers.{reads_bytes}
+use Rattle.qrp.specs.declared.item.Item.TheVariants as item
+use Rattle.qrp.specs.Flat.{Kept, made, with_item}
+use Rattle.qrp.specs.Items.{Giving, item_row}
+use Rattle.qrp.specs.Reading.{AtP, Between}
 use Rattle.qrp.proofs.ReadingLaws.{given_answers}
-use Rattle.qrp.proofs.StopsBehind.{stops_behind_result}
+use Rattle.qrp.proofs.ReadItemByItem.{leads_first, skips_first, leads_item, skips_item, leads_result, stops_behind_result, leads_fault}
 use Rattle.qrp.proofs.trace.read_trace.Goals as goal
 
-pub returns-in-Ok-clause-exact : goal.returns-in-Ok-clause-exact
-returns-in-Ok-clause-exact g c =
-    whole_given is_outside answers_as_read Qrp _ _ c.new-grammar.ensures _ (λ more. rw c.into_trace.ensures refl) _ c.in-Ok.ensures.reads
+pub items-init : goal.items-init
+items-init g c =
+    let remaining = g.S.Source.remaining c.args.source.now in
+    let s = c.new-scanner.ensures in
+    rw c.new-grammar.ensures.begins (record {
+      reads = (AtP, refl, leads_first c.new-scanner.result s.left remaining, skips_first c.new-scanner.result s.pending s.next remaining);
+      flat = rw c.new-grammar.ensures.begins at c.new-grammar.ensures.flat;
+      ready = s.open.1;
+      works = refl;
+    })
 
-pub returns-in-Ok-clause-stops : goal.returns-in-Ok-clause-stops
-returns-in-Ok-clause-stops g c =
-    stops_behind_result _ _ _ _ (g.S.Source.remaining c.read_text.new.source) c.new-grammar.ensures c.into_trace.ensures c.in-Ok.ensures.stops
+pub items-preserved : goal.items-preserved
+items-preserved g c =
+    let whole = g.S.Source.remaining c.args.source.now in
+    let before = g.S.Source.remaining c.items.source in
+    let after = g.S.Source.remaining c.read_by.new.source in
+    let d = made c.items.grammar.kept in
+    let p = c.items.invariant.reads.0 in
+    let begins = c.items.invariant.reads.1 in
+    let next = c.read_by.new.grammar.giving in
+    let h = c.in-Ok.ensures in
+    let s = c.read_by.new.scanner in
+    let keeps = rw (c.in-Ok-None.field-0-is, h.kept) at c.in-Ok-None.ensures.keeps in
+    let q = Between c.keep.new.self.kept.numbers in
+    record {
+      reads = (
+        q,
+        keeps.4,
+        rw keeps.3 (leads_item d p next (reads_bytes whole) keeps.0 q (left c.items.scanner before) (left s after) keeps.1 keeps.2
+            c.items.invariant.reads.2 (rw begins at h.reads)),
+        rw keeps.3 (skips_item d p c.items.grammar.giving next (tokens_next c.items.scanner) (tokens_next s) begins whole
+            (ahead c.items.scanner.pending before) (ahead s.pending after) (length s.pending ≤ 4096) h.stops c.items.invariant.reads.3
+            keeps.0 q keeps.1 keeps.2),
+      );
+      flat = c.in-Ok-None.ensures.made;
+      ready = h.ready;
+      works = h.counts ∙ c.items.invariant.works;
+    }
+
+pub returns-in-Ok-Some-clause-exact : goal.returns-in-Ok-Some-clause-exact
+returns-in-Ok-Some-clause-exact g c =
+    let h = c.in-Ok.ensures in
+    let keeps = rw c.in-Ok-Some.field-0-is at c.in-Ok-Some.ensures.keeps in
+    let same = c.whole.ensures ∙ ap (λ (k : Kept). with_item (made k) (item.Result c.in-Ok-Some.outcome))
+    (c.into_parts.ensures ∙ keeps.1 ∙ h.kept) in
+    rw same (
+    leads_result (made c.items.grammar.kept) c.items.invariant.reads.0 c.read_by.new.grammar.giving
+    (reads_bytes (g.S.Source.remaining c.args.source.now)) c.in-Ok-Some.outcome
+    (left c.items.scanner (g.S.Source.remaining c.items.source)) (left c.read_by.new.scanner (g.S.Source.remaining c.read_by.new.source))
+    keeps.0 c.items.invariant.reads.2 (rw c.items.invariant.reads.1 at h.reads))
+
+pub returns-in-Ok-Some-clause-reads : goal.returns-in-Ok-Some-clause-reads
+returns-in-Ok-Some-clause-reads g c = given_answers _ (Ok c.whole.result) (returns-in-Ok-Some-clause-exact g c)
+
+pub returns-in-Ok-Some-clause-stops : goal.returns-in-Ok-Some-clause-stops
+returns-in-Ok-Some-clause-stops g c =
+    let h = c.in-Ok.ensures in
+    let keeps = rw c.in-Ok-Some.field-0-is at c.in-Ok-Some.ensures.keeps in
+    let same = c.whole.ensures ∙ ap (λ (k : Kept). with_item (made k) (item.Result c.in-Ok-Some.outcome))
+    (c.into_parts.ensures ∙ keeps.1 ∙ h.kept) in
+    rw same (
+    stops_behind_result (made c.items.grammar.kept) c.items.invariant.reads.0 c.items.grammar.giving c.read_by.new.grammar.giving
+    c.in-Ok-Some.outcome (tokens_next c.items.scanner) (tokens_next c.read_by.new.scanner) c.items.invariant.reads.1 keeps.0
+    (g.S.Source.remaining c.args.source.now) (ahead c.items.scanner.pending (g.S.Source.remaining c.items.source))
+    (g.S.Source.remaining c.read_by.new.source) c.read_by.new.scanner.pending h.stops c.items.invariant.reads.3)
 
 pub returns-in-Err-clause-exact : goal.returns-in-Err-clause-exact
-returns-in-Err-clause-exact g c = rw c.fault.ensures
-    (fault_given is_outside answers_as_read Qrp _ c.read_text.new.grammar c.new-grammar.ensures _ _ refl refl
-    c.in-Err.error _ c.in-Err.ensures.reads)
-
-pub returns-in-Ok-clause-reads : goal.returns-in-Ok-clause-reads
-returns-in-Ok-clause-reads g c = given_answers _ (Ok c.into_trace.result) (returns-in-Ok-clause-exact g c)
+returns-in-Err-clause-exact g c =
+    let known = left c.items.scanner (g.S.Source.remaining c.items.source) in
+    let rest = left c.read_by.new.scanner (g.S.Source.remaining c.read_by.new.source) in
+    rw c.fault.ensures (
+    leads_fault (made c.items.grammar.kept) c.items.invariant.reads.0 c.read_by.new.grammar.giving
+    (reads_bytes (g.S.Source.remaining c.args.source.now)) known rest c.in-Err.error c.items.invariant.reads.2
+    (subst (λ (q : Giving). Reads (reads_from item_row q known) c.read_by.new.grammar.giving rest (Err c.in-Err.error))
+    c.items.invariant.reads.1 c.in-Err.ensures.reads))
 
 pub returns-in-Err-clause-reads : goal.returns-in-Err-clause-reads
 returns-in-Err-clause-reads g c = given_answers _ (Err c.fault.result) (returns-in-Err-clause-exact g c)

@@ -1,4 +1,5 @@
-use Rattle.qrp_rules.specs.Conditions.{AllHold, resolvent_conditions}
+use Rattle.std.proofs.Common.{[], ◌∷◌}
+use Rattle.qrp_rules.specs.Conditions.{AllHold, initial_condition, resolvent_conditions}
 use Rattle.qbf_core.specs.Blocks.{AreBound}
 use Rattle.qbf_core.specs.Rules.{IsClean}
 use Rattle.qrp_check.proofs.CoreStep.{ok_all}
@@ -9,7 +10,9 @@ is_resolvent-requires-clause-clean_b g c = (rw c.in-Two.is at c.requires.fit).1.
 
 pub returns-in-Initial-clause-follows : goal.returns-in-Initial-clause-follows
 returns-in-Initial-clause-follows g c =
-    rw c.in-Initial.is (λ t. (c.is_next.ensures.clean t, (c.is_next.ensures.bound t, c.is_next.ensures.follows t)))
+    rw c.in-Initial.is (ok_all c.is_initial.result (IsClean c.args.lits.now) (AreBound c.args.context.formula.now.blocks c.args.lits.now)
+    (AllHold (initial_condition g.S.Side.side c.args.context.formula.now c.args.lits.now ∷ []))
+    c.is_initial.ensures.clean c.is_initial.ensures.bound c.is_initial.ensures.follows)
 
 pub returns-in-One-clause-follows : goal.returns-in-One-clause-follows
 returns-in-One-clause-follows g c = rw c.in-One.is (λ t. (

@@ -1,12 +1,13 @@
 use Rattle.std.proofs.Common.{refl, Ok, Err}
-use Rattle.qrp_program.proofs.SentTexts.{formula_read, formula_refused}
+use Rattle.qrp_check.specs.Checked.{call_of}
+use Rattle.qrp_report.proofs.ResultsOfBytes.{formula_read, formula_refused}
 use Rattle.qrp_program.specs.Output.{format_report}
 use Rattle.qrp_program.proofs.running.format_job.Goals as goal
 
 pub returns-in-Ok : goal.returns-in-Ok
 returns-in-Ok g c = (
   format_report (Ok c.in-Ok.read),
-  (Ok c.in-Ok.read, formula_read _ _ _ c.in-Ok.read c.in-Ok.ensures.exact c.in-Ok.ensures.works, refl),
+  (Ok c.in-Ok.read, formula_read (call_of g.F.Source c.args.formula.now c.read_formula.new.source) c.in-Ok.read c.in-Ok.ensures.exact c.in-Ok.ensures.works, refl),
   (c.send_formula.ensures, refl),
 )
 

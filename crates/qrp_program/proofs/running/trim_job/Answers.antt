@@ -1,23 +1,16 @@
 use Rattle.std.proofs.Common.{refl, Ok, Err}
+use Rattle.qrp_check.specs.Checked.{call_of}
 use Rattle.qrp_check.specs.Trim.{trimmed}
+use Rattle.qrp_report.proofs.ResultsOfBytes.{trims}
 use Rattle.qrp_program.proofs.running.trim_job.Goals as goal
 
 pub returns-in-Ok : goal.returns-in-Ok
 returns-in-Ok g c = (
   Ok (trimmed c.in-Ok.whole c.in-Ok.verified.core.items),
-  (c.in-Ok.ensures.trimmed, c.in-Ok.ensures.formula_works, c.in-Ok.ensures.trace_works),
+  trims c.args.rules (call_of g.F.Source c.args.formula.now c.find_proof.new.formula) (call_of g.T.Source c.args.trace.now c.find_proof.new.trace)
+      c.in-Ok.whole c.in-Ok.verified c.in-Ok.ensures.checked c.in-Ok.ensures.works c.in-Ok.ensures.reads,
   (c.send_trimmed.ensures, refl),
 )
 
 pub returns-in-Err : goal.returns-in-Err
-returns-in-Err g c = (
-  Err c.in-Err.fault,
-  record {
-    verdict = c.in-Err.ensures.refused;
-    formula_failed = c.in-Err.ensures.formula_failed;
-    trace_failed = c.in-Err.ensures.trace_failed;
-    lines = c.in-Err.ensures.lines;
-    not_pulled = c.in-Err.ensures.not_pulled;
-  },
-  (c.send_fault.ensures, refl),
-)
+returns-in-Err g c = (Err c.in-Err.fault, c.in-Err.ensures.checked, (c.send_fault.ensures, refl))

@@ -1,4 +1,4 @@
-use Rattle.std.proofs.Common.{arith, refl, sym, subst, inl, inr, List, ◌⊎◌}
+use Rattle.std.proofs.Common.{arith, refl, sym, subst, inl, inr, List, ◌⊎◌, ◌∙◌}
 use Rattle.std.proofs.lemmas.Bool.{false≢true}
 use Rattle.qbf_core.specs.Literal.{Literal}
 use Rattle.qbf_core.specs.Members.{◌∈◌}
@@ -7,15 +7,28 @@ use Rattle.qbf_core.proofs.Members.{in_take_all}
 use Rattle.qrp_rules.proofs.ReductsByMembers.{got_in, got_more}
 use Rattle.qrp_rules.proofs.initial.initial_cube_fault.Goals as goal
 
-pub returns-then-not-meets : goal.returns-then-not-meets
-returns-then-not-meets c =
-    inl ((λ all. false≢true (c.if-not-meets.ensures.1 (all c.clause.result.now (got_in _ c.loop-i.i _ c.clause.ensures)))), refl)
+pub returns-then-not-is_tautology : goal.returns-then-not-is_tautology
+returns-then-not-is_tautology c =
+    inl (
+      (λ all. elim (all c.clause-clause.result.now (got_in _ c.loop-i.i _ c.clause-clause.ensures)) [
+        | inl t ↦ false≢true (sym c.if-not-is_tautology.true ∙ c.is_tautology.ensures.1 t)
+        | inr w ↦ false≢true (sym c.if-shares.false ∙ c.shares.ensures.1 w)
+      ]),
+      refl,
+    )
 
 pub loop-i-preserved : goal.loop-i-preserved
-loop-i-preserved c = λ k h. elim (got_more _ c.loop-i.i c.clause.result.now k c.clause.ensures h) [
+loop-i-preserved c = λ k h. elim (got_more _ c.loop-i.i c.clause-clause.result.now k c.clause-clause.ensures h) [
   | inl before ↦ c.loop-i.invariant k before
   | inr e ↦ subst (λ (z : List Literal). IsTautology z ⊎ ((m : Literal) × (m ∈ z) × (m ∈ c.args.set.now))) (sym e)
-      (c.if-not-meets.ensures.0 refl)
+      (inl (c.is_tautology.ensures.0 c.if-not-is_tautology.false))
+]
+
+pub loop-i-preserved-then-shares : goal.loop-i-preserved-then-shares
+loop-i-preserved-then-shares c = λ k h. elim (got_more _ c.loop-i.i c.clause-clause.result.now k c.clause-clause.ensures h) [
+  | inl before ↦ c.loop-i.invariant k before
+  | inr e ↦ subst (λ (z : List Literal). IsTautology z ⊎ ((m : Literal) × (m ∈ z) × (m ∈ c.args.set.now))) (sym e)
+      (inr (c.shares.ensures.0 c.if-shares.true))
 ]
 
 pub returns : goal.returns

@@ -1,5 +1,4 @@
 use Rattle.std.proofs.Common.{◌^◌, ◌<◌, refl}
-use Rattle.qbf_text.proofs.LeftAfterNumber.{gives_ending, gives_blanked}
 use Rattle.qbf_text.proofs.Stops.{takes_ending, takes_blanked}
 use Rattle.qbf_text.proofs.scanner.Place.number.Goals as goal
 
@@ -8,7 +7,6 @@ returns-then-found-clause-found c remaining =
     let s = c.args.self.now in
     let small : s.line < 2 ^ 64 = search in
     rw (c.if-found.true, c.skip.ensures.rest, c.saturating_add-self.ensures) (record {
-      gives = gives_ending s.comments s.begun s.line s.window _ _ _ _ c.in-Some.ensures small remaining c.if-found.true;
       takes = takes_ending s.comments s.begun s.line s.window _ _ _ _ c.in-Some.ensures small remaining c.if-found.true;
       no_end = refl;
     })
@@ -18,7 +16,6 @@ returns-else-found-clause-found c remaining =
     let s = c.args.self.now in
     let small : s.line < 2 ^ 64 = search in
     rw (c.if-found.false, c.skip.ensures.rest) (record {
-      gives = gives_blanked s.comments s.begun s.line s.window _ _ _ _ c.in-Some.ensures small remaining c.if-found.false;
       takes = takes_blanked s.comments s.begun s.line s.window _ _ _ _ c.in-Some.ensures small remaining c.if-found.false;
       no_end = refl;
     })

@@ -1,6 +1,6 @@
 use Rattle.std.proofs.KnownBytes.{Consumes-nil}
 use Rattle.qbf_text.specs.Ahead.{ahead}
-use Rattle.qbf_text.proofs.KnownLeft.{took_at, gives_blank, gives_line_end, no_line_end_at}
+use Rattle.qbf_text.proofs.KnownLeft.{took_at, no_line_end_at}
 use Rattle.qbf_text.proofs.LeftAfterNumber.{or_blank}
 use Rattle.qbf_text.proofs.Stops.{skips_line_end, skips_blank}
 use Rattle.qbf_text.specs.Tokens.{is_blank, is_line_end}
@@ -11,10 +11,7 @@ returns-then-byte-eq10-clause-none c remaining =
     let s = c.args.self.now in
     let took =
     took_at (ahead s.window remaining) s.window _ remaining c.args.byte c.advance.ensures.rest (Consumes-nil _) c.requires.next in
-    rw c.saturating_add-self.ensures (record {
-      gives = gives_line_end s.comments s.begun s.line c.args.byte _ _ took c.if-byte-eq10.true;
-      skips = skips_line_end s.comments s.begun s.line c.args.byte _ _ took c.if-byte-eq10.true;
-    })
+    rw c.saturating_add-self.ensures (skips_line_end s.comments s.begun s.line c.args.byte _ _ took c.if-byte-eq10.true)
 
 pub returns-else-byte-eq10-clause-none : goal.returns-else-byte-eq10-clause-none
 returns-else-byte-eq10-clause-none c remaining =
@@ -23,7 +20,4 @@ returns-else-byte-eq10-clause-none c remaining =
     took_at (ahead s.window remaining) s.window _ remaining c.args.byte c.advance.ensures.rest (Consumes-nil _) c.requires.next in
     let blank = or_blank (is_blank c.args.byte) (is_line_end c.args.byte) (no_line_end_at c.args.byte c.if-byte-eq10.false)
     c.requires.separates in
-    record {
-      gives = gives_blank s.comments s.begun s.line c.args.byte _ _ took blank;
-      skips = skips_blank s.comments s.begun s.line c.args.byte _ _ took blank;
-    }
+    skips_blank s.comments s.begun s.line c.args.byte _ _ took blank

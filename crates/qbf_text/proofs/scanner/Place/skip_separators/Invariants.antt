@@ -1,10 +1,10 @@
 use Rattle.std.proofs.Common.{ℕ, ◌≤◌, List, Option, length}
-use Rattle.qbf_text.specs.Stopping.{FindsNone}
+use Rattle.qbf_text.specs.Stopping.{PlaceSkips}
 use Rattle.qbf_text.proofs.scanner.Place.skip_separators.Given as goal
 
 abbrev pub invariant-loop-byte : goal.invariant-loop-byte
 invariant-loop-byte l = record {
-  none : (remaining : Option (List ℕ)) → FindsNone l.fn.self remaining l.self remaining;
+  none : (remaining : Option (List ℕ)) → PlaceSkips l.fn.self remaining l.self remaining;
   no_more : length l.self.window ≤ length l.fn.self.window;
 }
 

@@ -1,18 +1,14 @@
-use Rattle.qbf_core.proofs.Order.{clean_from_same}
-use Rattle.qrp_rules.proofs.Merging.{copy_bound, copy_initial}
-use Rattle.qrp_rules.proofs.MembersDecide.{same_self}
+use Rattle.std.proofs.Common.{refl}
+use Rattle.qbf_core.specs.Rules.{Clauses}
+use Rattle.qrp_rules.proofs.ReducedForms.{found_initial}
 use Rattle.qrp_rules.proofs.clause_index.InitialClauses.is_next.Goals as goal
 
 pub returns-clause-initial : goal.returns-clause-initial
-returns-clause-initial c = λ _.
-    copy_initial c.args.formula.now c.clause.result.now c.args.lits.now _ c.clause.ensures
-    (c.is_ordered.ensures.0 c.if-not-is_ordered.false) (c.is_copy.ensures c.if-not-is_copy.false)
-
-pub returns-clause-bound : goal.returns-clause-bound
-returns-clause-bound c = λ _.
-    copy_bound c.args.formula.now c.clause.result.now c.args.lits.now _ c.clauses.ensures.sound c.clause.ensures
-    (c.is_copy.ensures c.if-not-is_copy.false)
-
-pub returns-clause-clean : goal.returns-clause-clean
-returns-clause-clean c = λ _.
-    clean_from_same c.args.lits.now c.args.lits.now (c.is_ordered.ensures.0 c.if-not-is_ordered.false) (same_self c.args.lits.now)
+returns-clause-initial c = λ t.
+    let follows = c.is_exact_reduct_by.ensures.follows c.if-not-is_exact_reduct_by.false Clauses refl refl in
+    found_initial c.args.formula.now c.args.lits.now _ (record {
+      clause = c.clause-clause.result.now;
+      here = c.clause-clause.ensures;
+      clean = c.in_ok-is_clean.ensures c.if-not-branch.false;
+      reduct = record { within = follows.0; each = rw c.prefix-prefix.ensures.value at follows.1.0 };
+    })

@@ -1,0 +1,10 @@
+-- The front of a list, and a sign as a number.
+use Rattle.std.proofs.Common.{◌≡◌, ℕ, ◌≤◌, List, take, sym, ap, ◌∙◌, arith, take-take, Bool, true, false}
+use mir.Val.{bool_byte}
+
+pub shorter : (i n : ℕ) (xs ys : List ℕ) → i ≤ n → take n xs ≡ take n ys → take i xs ≡ take i ys
+shorter i n xs ys less same = sym (take-take i n xs less) ∙ ap (take i) same ∙ take-take i n ys less
+
+pub at_most_one : (negative : Bool) → bool_byte negative ≤ 1
+at_most_one true = omega arith
+at_most_one false = omega arith

@@ -1,0 +1,11 @@
+use Rattle.std.proofs.Common.{arith}
+use Rattle.qbf_core.proofs.formula.Formula.new.Goals as goal
+
+pub whole-requires : goal.whole-requires
+whole-requires c = record {
+  prefix = c.len.ensures.sound;
+  numbers = c.requires.number;
+  top = c.requires.top;
+  closed = rw c.new.ensures tt;
+  count = rw c.new.ensures (omega arith);
+}

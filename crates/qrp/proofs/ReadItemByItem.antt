@@ -1,0 +1,193 @@
+-- A trace is read item by item, and each item is put after the others.
+use Rattle.std.proofs.Common.{◌≡◌, ◌≤◌, ℕ, Bool, true, false, List, [], ◌∷◌, ◌++◌, length, Option, Some, None, IfSome, Result, Ok, Err, refl, ap}
+use Rattle.std.proofs.Common.{sym, ◌∙◌, option_map, append_assoc, append-nil}
+use Rattle.qbf_spelling.proofs.Words
+use Words.{Qrp, Lined, ahead, left, tokens, tokens_next, read_from}
+use Rattle.qbf_text.specs.declared.grammar.ReadError.{ReadError}
+use Rattle.qbf_text.specs.declared.grammar.ReadError.TheVariants as error
+use Rattle.qbf_text.specs.Answering.{Unless, fault_of}
+use Rattle.qbf_text.specs.Lined.{Known}
+use Rattle.qbf_text.specs.Reading.{Reading}
+use Rattle.qbf_text.specs.Rows.{reads_from}
+use Rattle.qbf_text.specs.Rows as rows
+use Rattle.qbf_text.specs.Stopping as text
+use Rattle.qbf_text.specs.Stopping.{IfKnown, Skips, Stops}
+use Rattle.qbf_text.specs.Taking.{Leaves, Reads}
+use Rattle.qbf_text.proofs.OneToken.{Leads}
+use Rattle.qbf_text.proofs.Stops.{begins_more, begins_skipped, regroup, known_skips}
+use Rattle.qbf_text.proofs.StopsAtTokens.{if_known, taken_no_end, unread_fault}
+use Rattle.qrp.specs.declared.fault.TraceFault.{TraceFault}
+use Rattle.qrp.specs.declared.fault.TraceFault.TheVariants.{P1, P9}
+use Rattle.qrp.specs.declared.item.Item.{Item}
+use Rattle.qrp.specs.declared.item.Item.TheVariants as item
+use Rattle.qrp.specs.declared.item.Outcome.{Outcome}
+use Rattle.qrp.specs.Answers.{is_outside, reads_bytes, Gives, StopsBehindResult}
+use Rattle.qrp.specs.Derivations.{Derivation}
+use Rattle.qrp.specs.Flat.{with_item}
+use Rattle.qrp.specs.Given.{is_last}
+use Rattle.qrp.specs.Items as items
+use Rattle.qrp.specs.Items.{Giving, Takes, item_row}
+use Rattle.qrp.specs.Parts.{known_items}
+use Rattle.qrp.specs.Reading.{Fault, Place, AtP, items_from, gathered, nothing, read_trace}
+use Rattle.qrp.proofs.AcceptedTokens.{Answer}
+use Rattle.qrp.proofs.ItemStops.{refused}
+use Rattle.qrp.proofs.RowsReadTheItem.{gives, given_of}
+
+-- what is made of the items that are left to give, after a trace that was made of those before
+abbrev pub gathered_known : Derivation → Place → Known → Option (Result Derivation Fault)
+gathered_known d p known = option_map (gathered d) (known_items p known)
+
+-- the same of bytes
+abbrev pub gathered_of : Derivation → Place → (List ℕ → List Lined) → List ℕ → Result Derivation Fault
+gathered_of d p here bytes = gathered d (items_from p (here bytes))
+
+gather_one : (d : Derivation) (i : Item) (more : List Answer) → is_last (Ok i) ≡ false
+    → gathered d (Ok i ∷ more) ≡ gathered (with_item d i) more
+unfolding gathered
+gather_one d (item.Header h) more e = refl
+gather_one d (item.Set s) more e = refl
+gather_one d (item.Step s) more e = refl
+gather_one d (item.Result o) more e = absurd (cc e)
+
+module _ (d : Derivation) (p : Place) (next : Giving) (ts us : List Lined) where
+  item_gathered : (i : Item) (q : Place) → is_last (Ok i) ≡ false → next ≡ items.Gives i q
+      → read_from item_row (Takes p) ts ≡ rows.Whole tt next us
+      → gathered d (items_from p ts) ≡ gathered (with_item d i) (items_from q us)
+  item_gathered i q more is e =
+      ap (gathered d) (gives ts p ∙ ap given_of (rw is at e)) ∙ gather_one d i (items_from q us) more
+
+  result_gathered : (o : Outcome) → next ≡ items.Whole o → read_from item_row (Takes p) ts ≡ rows.Whole tt next us
+      → gathered d (items_from p ts) ≡ Ok (record d { result = o })
+  unfolding gathered
+  result_gathered o is e = ap (gathered d) (gives ts p ∙ ap given_of (rw is at e))
+
+fault_gathered : (d : Derivation) (p : Place) (ts : List Lined) (f : TraceFault) (line : ℕ)
+    → read_from item_row (Takes p) ts ≡ rows.Fault f line → gathered d (items_from p ts) ≡ Err (f, line)
+unfolding gathered
+fault_gathered d p ts f line e = ap (gathered d) (gives ts p ∙ ap given_of e)
+
+-- ---- what was to be read is what is still to be read
+
+pub leads_first : (s : Reading) → ((bytes : List ℕ) → left s (Some bytes) ≡ Some (tokens Qrp bytes)) → (remaining : Option (List ℕ))
+    → Leads (reads_bytes remaining) (gathered_known nothing AtP (left s remaining))
+leads_first s begins None = tt
+leads_first s begins (Some bytes) = rw (begins bytes) refl
+
+module _ (d : Derivation) (p : Place) (next : Giving) where
+  pub leads_item : (whole : Option (Result Derivation Fault)) (i : Item) (q : Place) (known rest : Known) → is_last (Ok i) ≡ false
+      → next ≡ items.Gives i q → Leads whole (gathered_known d p known) → Leaves (reads_from item_row (Takes p) known) tt next rest
+      → Leads whole (gathered_known (with_item d i) q rest)
+  leads_item None i q known rest more is so_far leaves = tt
+  leads_item (Some r) i q None rest more is so_far leaves = absurd (cc so_far)
+  leads_item (Some r) i q (Some ts) None more is so_far leaves = absurd leaves
+  leads_item (Some r) i q (Some ts) (Some us) more is so_far leaves =
+      ap (λ x. Some x) (sym (item_gathered d p next ts us i q more is leaves)) ∙ so_far
+
+  pub leads_result : (whole : Option (Result Derivation Fault)) (o : Outcome) (known rest : Known) → next ≡ items.Whole o
+      → Leads whole (gathered_known d p known) → Leaves (reads_from item_row (Takes p) known) tt next rest
+      → Gives (Ok (record d { result = o })) whole
+  leads_result None o known rest is so_far leaves = tt
+  leads_result (Some r) o None rest is so_far leaves = absurd (cc so_far)
+  leads_result (Some r) o (Some ts) None is so_far leaves = absurd leaves
+  leads_result (Some r) o (Some ts) (Some us) is so_far leaves =
+      let e : gathered d (items_from p ts) ≡ r = cc so_far in
+      sym e ∙ result_gathered d p next ts us o is leaves
+
+  unless : (b : Bool) {X : Type 0} → X → Unless b X
+  unless true x = tt
+  unless false x = x
+
+  fault_read : (whole : Option (Result Derivation Fault)) (known : Known) (f : TraceFault) (line : ℕ) → Leads whole (gathered_known d p known)
+      → IfSome (reads_from item_row (Takes p) known) (λ r. r ≡ rows.Fault f line) → IfSome whole (λ r. r ≡ Err (f, line))
+  fault_read None known f line so_far h = tt
+  fault_read (Some r) None f line so_far h = absurd (cc so_far)
+  fault_read (Some r) (Some ts) f line so_far h =
+      let e : gathered d (items_from p ts) ≡ r = cc so_far in
+      sym e ∙ fault_gathered d p ts f line h
+
+  pub leads_fault : (whole : Option (Result Derivation Fault)) (known rest : Known) (e : ReadError TraceFault)
+      → Leads whole (gathered_known d p known) → Reads (reads_from item_row (Takes p) known) next rest (Err e)
+      → Gives (Err (fault_of P1 P9 e)) whole
+  leads_fault whole known rest error.Device so_far h = tt
+  leads_fault whole known rest error.Memory so_far h = tt
+  leads_fault whole known rest (error.Text f line) so_far h = unless (is_outside f) (fault_read whole known f line so_far h)
+
+-- ---- what was taken of the bytes
+
+pub skips_first : (s : Reading) → s.pending ≡ [] → ((bytes : List ℕ) → tokens_next s bytes ≡ tokens Qrp bytes)
+    → (remaining : Option (List ℕ)) → IfKnown (Skips read_trace (gathered_of nothing AtP (tokens_next s))) remaining (ahead s.pending remaining)
+skips_first s none begins None = tt
+skips_first s none begins (Some bytes) = rw none (record {
+  skipped = [];
+  taken = refl;
+  spelled = λ rest _. ap (λ ts. gathered nothing (items_from AtP ts)) (sym (begins rest));
+})
+
+module _ (d : Derivation) (p : Place) (first next : Giving) (here there : List ℕ → List Lined) (begins : first ≡ Takes p)
+    (whole before after : Option (List ℕ)) (few : Type 0)
+    (stops : Stops item_row first next here there before after few (Ok tt))
+    (so_far : IfKnown (Skips read_trace (gathered_of d p here)) whole before) where
+  known : IfKnown (text.StopsBehind item_row (Takes p) next tt here there) before after × few
+  known = rw begins at stops.3 (taken_no_end item_row refused stops.0 next stops.1 tt stops.2)
+
+  pub skips_item : (i : Item) (q : Place) → is_last (Ok i) ≡ false → next ≡ items.Gives i q
+      → IfKnown (Skips read_trace (gathered_of (with_item d i) q there)) whole after
+  skips_item i q more is =
+      known_skips read_trace (gathered_of d p here) (gathered_of (with_item d i) q there) whole before after so_far
+      (if_known (λ x y s. record {
+        skipped = s.before ++ s.word ++ s.behind;
+        taken = s.taken;
+        spelled = λ rest h.
+            item_gathered d p next (here (s.before ++ s.word ++ s.behind ++ rest)) (there rest) i q more is (s.whole rest h);
+      }) before after known.0)
+
+-- the bytes held are those after the result word
+module _ (d : Derivation) (p : Place) (next : Giving) (o : Outcome) (here there : List ℕ → List Lined) (is : next ≡ items.Whole o)
+    (bytes old held rest : List ℕ) where
+  result_stops : Skips read_trace (gathered_of d p here) bytes old
+      → text.StopsBehind item_row (Takes p) next tt here there old (held ++ rest) → length held ≤ 4096
+      → StopsBehindResult (record d { result = o }) bytes rest
+  unfolding gathered
+  result_stops t s few =
+      let front = s.before ++ s.word ++ s.behind in
+      let same = regroup t.skipped s.before s.word s.behind in
+      record {
+        before = t.skipped ++ s.before;
+        word = s.word;
+        behind = s.behind;
+        held = held;
+        consumed =
+            t.taken
+            ∙ ap (λ l. t.skipped ++ l) s.taken
+            ∙ sym (append_assoc t.skipped front (held ++ rest))
+            ∙ ap (λ l. l ++ (held ++ rest)) (sym same)
+            ∙ sym (append_assoc (t.skipped ++ s.before ++ s.word ++ s.behind) held rest);
+        unbroken = s.unbroken;
+        separates = s.separates;
+        few = few;
+        missing = (
+          s.line,
+          t.spelled s.before (rw s.taken (begins_skipped s.before s.word s.behind (held ++ rest)))
+              ∙ ap (gathered d) (gives (here s.before) p ∙ ap given_of (unread_fault item_row refused s)),
+        );
+        whole =
+            ap read_trace (same ∙ ap (λ l. t.skipped ++ l) (sym (append-nil front)))
+            ∙ t.spelled (front ++ []) (rw s.taken (begins_more front (held ++ rest) [] tt))
+            ∙ result_gathered d p next (here (front ++ [])) (there []) o is (s.whole [] tt);
+      }
+
+pub stops_behind_result : (d : Derivation) (p : Place) (first next : Giving) (o : Outcome) (here there : List ℕ → List Lined)
+    → first ≡ Takes p → next ≡ items.Whole o → (whole before after : Option (List ℕ)) (held : List ℕ)
+    → Stops item_row first next here there before (ahead held after) (length held ≤ 4096) (Ok tt)
+    → IfKnown (Skips read_trace (gathered_of d p here)) whole before → IfKnown (StopsBehindResult (record d { result = o })) whole after
+stops_behind_result d p first next o here there begins is whole before after held stops so_far =
+    let k = known d p first next here there begins whole before (ahead held after) (length held ≤ 4096) stops so_far in
+    by whole before after so_far k.0 k.1
+  where
+    by : (whole before after : Option (List ℕ)) → IfKnown (Skips read_trace (gathered_of d p here)) whole before
+        → IfKnown (text.StopsBehind item_row (Takes p) next tt here there) before (ahead held after) → length held ≤ 4096
+        → IfKnown (StopsBehindResult (record d { result = o })) whole after
+    by None before after t s few = tt
+    by (Some x) None after t s few = absurd t
+    by (Some x) (Some y) None t s few = absurd s
+    by (Some x) (Some y) (Some z) t s few = result_stops d p next o here there is x y held z t s few

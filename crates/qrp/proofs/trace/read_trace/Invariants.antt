@@ -1,0 +1,26 @@
+use Rattle.std.proofs.Common.{◌≡◌, ◌+◌, length}
+use Rattle.qbf_spelling.proofs.Words.{ahead, left, tokens_next}
+use Rattle.qbf_text.specs.Reading.{HasFailed}
+use Rattle.qbf_text.specs.Stopping.{IfKnown, Skips}
+use Rattle.qbf_text.proofs.OneToken.{Leads}
+use Rattle.qrp.specs.Answers.{reads_bytes}
+use Rattle.qrp.specs.Flat.{made, IsFlat}
+use Rattle.qrp.specs.Items.{Takes}
+use Rattle.qrp.specs.Reading.{Place, read_trace}
+use Rattle.qrp.proofs.ReadItemByItem.{gathered_known, gathered_of}
+use Rattle.qrp.proofs.trace.read_trace.Given as goal
+
+abbrev pub invariant-items : goal.invariant-items
+invariant-items g l = record {
+  reads : (p : Place) × (l.grammar.giving ≡ Takes p)
+      × Leads (reads_bytes (g.S.Source.remaining l.fn.source))
+      (gathered_known (made l.grammar.kept) p (left l.scanner (g.S.Source.remaining l.source)))
+      × IfKnown (Skips read_trace (gathered_of (made l.grammar.kept) p (tokens_next l.scanner))) (g.S.Source.remaining l.fn.source)
+      (ahead l.scanner.pending (g.S.Source.remaining l.source));
+  flat : IsFlat l.grammar.kept;
+  ready : ¬ HasFailed l.scanner;
+  works : g.S.Source.failures l.source ≡ g.S.Source.failures l.fn.source;
+}
+
+abbrev pub decreases-items : goal.decreases-items
+decreases-items g l = length l.scanner.pending + g.S.Source.bound l.source

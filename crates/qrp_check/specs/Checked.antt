@@ -1,0 +1,46 @@
+-- What the check of a formula and a trace at their sources returns, and what it leaves of these.
+use Rattle.std.specs.Prelude.{◌≡◌, ◌↔◌, ℕ, ◌-◌, ◌^◌, ◌<◌, List, Option, IfSome, IfErr, OnOk, Result, Ok, Err}
+use Rattle.qbf_core.specs.Qbf.{Qbf}
+use Rattle.qbf_text.specs.declared.source.Source as source
+use Rattle.qrp.specs.Answers.{reads_bytes}
+use Rattle.qrp.specs.Derivations.{Derivation, IsWellFormed}
+use Rattle.qrp_rules.specs.declared.rules.Rules.{Rules}
+use Rattle.qrp_check.specs.declared.verdict.Verified.{Verified}
+use Rattle.qrp_check.specs.declared.verdict.Fault.{Fault}
+use Rattle.qrp_check.specs.Verdict.{IsVerdictOf, IsVerdictUnless, IsFormulaDevice, IsTraceDevice, IsFormulaFault, StandsOnLine}
+
+-- what a call does with a source: its bytes, where they are known, its count of failures before and after, and that it was not pulled
+pub record SourceCall : Type 1 where
+  pub bytes : Option (List ℕ)
+  pub before : ℕ
+  pub after : ℕ
+  pub unpulled : Type 0
+
+-- the same of a source that went from `old` to `new`
+abbrev pub call_of : {S : Type 0} → source.Ghosts S → S → S → SourceCall
+call_of s old new = record { bytes = s.remaining old; before = s.failures old; after = s.failures new; unpulled = new ≡ old }
+
+-- the verdict alone, of a trace and its verdict
+abbrev pub verdict_of : Result (Derivation × Verified) Fault → Result Verified Fault
+verdict_of (Ok r) = Ok r.1
+verdict_of (Err e) = Err e
+
+-- a trace that was read is well formed, and what these bytes read as, where they are known
+abbrev pub WasReadFrom : Option (List ℕ) → Derivation → Type 0
+WasReadFrom bytes d = IsWellFormed d × IfSome (reads_bytes bytes) (λ read. read ≡ Ok d)
+
+-- What the check of two texts by these rules returns: the verdict on their bytes, or that a source failed, exactly where it did, or
+-- that an allocation failed; the latter two on line 0. With a fault of the formula the trace was not pulled.
+pub record IsChecked (rules : Rules) (formula trace : SourceCall) (answer : Result Verified Fault) : Type 0 where
+  pub verdict : IsVerdictUnless rules formula.bytes trace.bytes answer
+  pub formula_failed : formula.before < 2 ^ 64 - 1 → IsFormulaDevice answer ↔ (formula.before < formula.after)
+  pub trace_failed : trace.before < 2 ^ 64 - 1 → IsTraceDevice answer ↔ (trace.before < trace.after)
+  pub lines : IfErr answer StandsOnLine
+  pub not_pulled : IsFormulaFault answer → trace.unpulled
+
+-- the same of the check of a trace against a formula that was read
+pub record IsCheckedOf (rules : Rules) (f : Qbf) (trace : SourceCall) (answer : Result Verified Fault) : Type 0 where
+  pub verdict : IsVerdictOf rules f trace.bytes answer
+  pub failed : trace.before < 2 ^ 64 - 1 → IsTraceDevice answer ↔ (trace.before < trace.after)
+  pub lines : IfErr answer StandsOnLine
+  pub works : OnOk answer (trace.after ≡ trace.before)

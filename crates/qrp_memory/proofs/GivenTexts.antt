@@ -1,0 +1,56 @@
+-- What a caller gets, from what was put into its buffers.
+use Rattle.std.proofs.Common.{◌≡◌, Bool, Option, Some, Ok, Err, refl, ℕ, ◌+◌, ◌<◌, ◌≤◌, List, [], ◌∷◌, ◌++◌, length, take, drop, get_or, ap, ◌∙◌, subst, sym}
+use Rattle.std.proofs.lemmas.List.{map-append}
+use Rattle.std.proofs.lemmas.Option.{slice_get-get_or}
+use Rattle.std.specs.List.{AllByRecursion}
+use Rattle.qbf_core.proofs.DistinctNumbers.{all_at}
+use Rattle.qrp.specs.Derivations.{steps_at}
+use Rattle.qrp.specs.Inferences.{Inference, IsAt, numbers}
+use Rattle.qrp_check.proofs.StepsAt.{next_at}
+use Rattle.std.specs.Prelude.{Result}
+use Rattle.qrp_check.specs.declared.verdict.Fault.{Fault}
+use Rattle.qrp_check.specs.declared.verdict.Verified.{Verified}
+use Rattle.qrp_report.specs.declared.refusal.Refusal.{Refusal}
+use Rattle.qrp_report.specs.Lines.{refusal_line}
+use Rattle.qrp_report.specs.OfFaults.{IsOfFault}
+use Rattle.qrp_report.specs.Refusals.{refusal_of}
+use Rattle.qrp_memory.specs.declared.verdict.QrpVerdict.{QrpVerdict}
+use Rattle.qrp_memory.specs.Told.{IsTold, told_truth, told_refusal, answer_line}
+use Rattle.qrp_memory.specs.Buffers.{IsWritten, IsListed}
+
+-- a text that was put is the one that it is equal to
+pub written : (put text old new : List ℕ) (returned : ℕ) → put ≡ text → returned ≡ length put
+    → (length put < length old → new ≡ put ++ 0 ∷ drop (1 + length put) old) → (length old ≤ length put → new ≡ old)
+    → IsWritten text old new returned
+written put text old new returned is long fits kept = subst (λ (t : List ℕ). IsWritten t old new returned) is (long, fits, kept)
+
+-- so are numbers
+pub listed : (put ns old new : List ℕ) (returned : ℕ) → put ≡ ns → returned ≡ length put
+    → (length put ≤ length old → new ≡ put ++ drop (length put) old) → (length old < length put → new ≡ old)
+    → IsListed ns old new returned
+listed put ns old new returned is long fits kept = subst (λ (t : List ℕ). IsListed t old new returned) is (long, fits, kept)
+
+-- the numbers so far, and that of the step at the next place
+pub next_number : (steps : List Inference) (places : List ℕ) (k n : ℕ) (sofar : List ℕ)
+    → AllByRecursion (λ i. i < length steps) places → k < length places
+    → ((s : Inference) → IsAt steps (get_or places k 0) s → n ≡ s.number) → sofar ≡ numbers (steps_at steps (take k places))
+    → sofar ++ n ∷ [] ≡ numbers (steps_at steps (take (k + 1) places))
+next_number steps places k n sofar within less value is =
+    let place : ℕ = get_or places k 0 in
+    let step : Inference = get_or steps place (record { number = 0; lits = []; ants = [] }) in
+    let inside = all_at (λ i. i < length steps) places k place within (slice_get-get_or places k 0 less) in
+    let here : IsAt steps place step = slice_get-get_or steps place _ inside in
+    let number_of : Inference → ℕ = λ s. s.number in
+    ap (λ ns. ns ++ n ∷ []) is
+    ∙ ap (λ m. numbers (steps_at steps (take k places)) ++ m ∷ []) (value step here)
+    ∙ sym (map-append number_of (steps_at steps (take k places)) (step ∷ []))
+    ∙ ap numbers (sym (next_at steps places k step less here))
+
+-- the line of a refusal that a struct tells is that of its result
+pub told_line : (answer : Result Verified Fault) (v : QrpVerdict) (r : Refusal) (truth : Option Bool) → IsTold answer v
+    → ((b : Bool) → v ≡ told_truth b → truth ≡ Some b) → ((b : Bool) → truth ≡ Some b → ⊥)
+    → ((s : Refusal) → IsOfFault s → v ≡ told_refusal s → Some r ≡ Some s) → refusal_line r ≡ answer_line answer
+told_line (Ok w) v r truth (is, names) held none only = absurd (none w.truth (held w.truth is))
+told_line (Err e) v r truth (is, names) held none only =
+    let same : r ≡ refusal_of e = cc (only (refusal_of e) (e, names, refl) is) in
+    ap refusal_line same

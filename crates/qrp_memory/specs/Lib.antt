@@ -1,0 +1,4 @@
+pub mod Buffers
+pub mod Texts
+pub mod Told
+pub mod Verdicts

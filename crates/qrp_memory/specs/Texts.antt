@@ -1,0 +1,75 @@
+-- What a caller in C gets of a formula or a trace that is written, and of a core. The bytes are in memory, so only an allocation can
+-- fail.
+use Rattle.std.specs.Prelude.{◌≡◌, ℕ, List, [], Some, IfErr, Result, Ok, Err}
+use Rattle.qbf_core.specs.Qbf.{Qbf}
+use Rattle.qdimacs.specs.declared.fault.FormulaFault.{FormulaFault}
+use Rattle.qdimacs.specs.Grammar as formulas
+use Rattle.qrp.specs.Derivations.{Derivation}
+use Rattle.qrp.specs.Grammar as traces
+use Rattle.qrp.specs.Inferences.{numbers}
+use Rattle.qrp_rules.specs.declared.rules.Rules.{Rules}
+use Rattle.qrp_check.specs.declared.verdict.Fault.{Fault}
+use Rattle.qrp_check.specs.declared.verdict.Fault.TheVariants as fault
+use Rattle.qrp_check.specs.Verdict.{is_sat}
+use Rattle.qrp_check.specs.Checked.{SourceCall}
+use Rattle.qrp_report.specs.OfFaults.{NamesVariable}
+use Rattle.qrp_report.specs.Results.{IsTrimmed, IsFormulaRead}
+use Rattle.qrp_memory.specs.declared.verdict.QrpVerdict.{QrpVerdict}
+use Rattle.qrp_memory.specs.Buffers.{IsWritten, IsListed}
+use Rattle.qrp_memory.specs.Told.{told_fault, told_truth}
+
+-- bytes that are lent
+abbrev pub lent : List ℕ → SourceCall
+lent bytes = record { bytes = Some bytes; before = 0; after = 0; unpulled = Unit {0} }
+
+-- what is told of a trimmed trace, or of what was refused
+abbrev pub told_trace : Result Derivation Fault → QrpVerdict
+told_trace (Ok t) = told_truth (is_sat t.result)
+told_trace (Err e) = told_fault e
+
+-- the text of a trimmed trace
+abbrev pub trace_text : Result Derivation Fault → List ℕ
+trace_text (Ok t) = traces.text t
+trace_text (Err e) = []
+
+-- the numbers of its steps
+abbrev pub step_numbers : Result Derivation Fault → List ℕ
+step_numbers (Ok t) = numbers t.steps
+step_numbers (Err e) = []
+
+-- What is told is the truth that a proof shows, or the fault as for a check; the buffer holds the text of the trimmed trace.
+pub record IsTrimAnswered (rules : Rules) (formula trace old new : List ℕ) (out : QrpVerdict) (returned : ℕ) : Type 0 where
+  pub answer : Result Derivation Fault
+  pub trimmed : IsTrimmed rules (lent formula) (lent trace) answer
+  pub told : out ≡ told_trace answer
+  pub named : IfErr answer NamesVariable
+  pub written : IsWritten (trace_text answer) old new returned
+
+-- The same with the numbers of the trimmed trace's steps: they are those of the core.
+pub record IsCoreAnswered (rules : Rules) (formula trace old new : List ℕ) (out : QrpVerdict) (returned : ℕ) : Type 0 where
+  pub answer : Result Derivation Fault
+  pub trimmed : IsTrimmed rules (lent formula) (lent trace) answer
+  pub told : out ≡ told_trace answer
+  pub named : IfErr answer NamesVariable
+  pub listed : IsListed (step_numbers answer) old new returned
+
+-- what is told where nothing was verified or refused: all zeros
+abbrev pub told_nothing : QrpVerdict
+told_nothing = record { place = 0; status = 0; truth = 0; letter = 0; number = 0; rule = 0 }
+
+-- what is told of a formula's text
+abbrev pub told_formula : Result Qbf (FormulaFault × ℕ) → QrpVerdict
+told_formula (Ok f) = told_nothing
+told_formula (Err e) = told_fault (fault.Formula e.0 e.1)
+
+-- the canonical text of a formula that was read
+abbrev pub formula_text : Result Qbf (FormulaFault × ℕ) → List ℕ
+formula_text (Ok f) = formulas.text f
+formula_text (Err e) = []
+
+-- What is told is nothing or the formula's fault; the buffer holds the canonical text of the formula.
+pub record IsFormatAnswered (formula old new : List ℕ) (out : QrpVerdict) (returned : ℕ) : Type 0 where
+  pub answer : Result Qbf (FormulaFault × ℕ)
+  pub reads : IsFormulaRead (lent formula) answer
+  pub told : out ≡ told_formula answer
+  pub written : IsWritten (formula_text answer) old new returned

@@ -1,0 +1,17 @@
+//! What the library for C does, on texts in memory: checks, trims and formats them, and tells what
+//! comes of it in a struct and in buffers.
+#![tactic(auto)]
+
+mod buffer;
+mod formatting;
+mod line;
+mod lines;
+mod proving;
+mod verdict;
+
+pub use buffer::{put_numbers, put_text};
+pub use formatting::format_lent;
+pub use line::Line;
+pub use lines::{line_of, meaning_of};
+pub use proving::{list_core, trim_lent, verify_lent};
+pub use verdict::{QrpVerdict, tell_fault, tell_nothing, tell_truth};

@@ -1,0 +1,6 @@
+use Rattle.std.proofs.Common.{take}
+use Rattle.qrp_rules.specs.Walks.{IsInnermost}
+use Rattle.qrp_rules.proofs.blocks.innermost.Given as goal
+
+abbrev pub invariant-loop-lit : goal.invariant-loop-lit
+invariant-loop-lit l = IsInnermost l.prefix l.quantifier l.pivot (take l.lit-index l.lits) l.found

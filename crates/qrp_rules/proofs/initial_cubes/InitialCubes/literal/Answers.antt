@@ -1,0 +1,6 @@
+use Rattle.std.proofs.Common.{refl}
+use Rattle.std.proofs.lemmas.Option.{slice_get_read}
+use Rattle.qrp_rules.proofs.initial_cubes.InitialCubes.literal.Goals as goal
+
+pub returns : goal.returns
+returns c = (c.index.result.now, slice_get_read c.args.self.now.lists.items _ c.args.position c.index.result.now refl c.requires c.index.ensures, refl)

@@ -1,0 +1,12 @@
+use Rattle.std.proofs.Common.{take, drop, ◌⊎◌}
+use Rattle.qbf_core.specs.Literal.{Literal}
+use Rattle.qbf_core.specs.Members.{◌∈◌}
+use Rattle.qrp_rules.proofs.Cursors.{Reaches, HasVar}
+use Rattle.qrp_rules.specs.Walks.{MayLack}
+use Rattle.qrp_rules.proofs.walks.is_covered.Given as goal
+
+abbrev pub invariant-loop-lit : goal.invariant-loop-lit
+invariant-loop-lit l = record {
+  reach : Reaches l.to l.rest (HasVar (drop l.lit-index l.from));
+  done : (m : Literal) → m ∈ take l.lit-index l.from → (m ∈ l.to) ⊎ MayLack l.prefix l.reducible l.pivot m.var;
+}

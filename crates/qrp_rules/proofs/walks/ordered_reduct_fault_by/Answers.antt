@@ -1,0 +1,46 @@
+use Rattle.std.proofs.Common.{◌⊎◌, refl, inl, inr, arith, List}
+use Rattle.std.proofs.lemmas.Bool.{false≢true}
+use Rattle.qbf_core.specs.Literal.{Literal}
+use Rattle.qbf_core.specs.Members.{◌∈◌, ◌⊆◌}
+use Rattle.qrp_rules.proofs.Reducing.{each_reducible, each_accounted}
+use Rattle.qrp_rules.proofs.OrderedLists.{ordered_whole}
+use Rattle.qrp_rules.proofs.walks.ordered_reduct_fault_by.Goals as goal
+
+-- a set of which nothing may be missing is a subset
+subset : (part whole : List Literal) → ((l : Literal) → l ∈ part → (l ∈ whole) ⊎ ⊥) → part ⊆ whole
+subset part whole kept = λ l h. elim (kept l h) [ inl k ↦ k | inr n ↦ absurd n ]
+
+pub returns-then-not-is_covered : goal.returns-then-not-is_covered
+returns-then-not-is_covered c = λ side er ed. inl ((λ all. false≢true (c.if-not-is_covered.ensures.1 (λ l h. inl (all l h)))), refl)
+
+pub returns-then-not-is_covered-2 : goal.returns-then-not-is_covered-2
+returns-then-not-is_covered-2 c = λ side er ed.
+    inr (
+      subset c.args.to.now c.args.from.now (c.if-not-is_covered.ensures.0 refl),
+      inl (
+        (λ all. false≢true (c.if-not-is_covered-2.ensures.1 (each_accounted side c.args.prefix.now c.args.reduced c.args.deciding
+            c.innermost.result er ed c.args.from.now c.args.to.now c.innermost.ensures all))),
+        refl,
+      ),
+    )
+
+pub returns-then-from-to : goal.returns-then-from-to
+returns-then-from-to c = λ side er ed.
+    let within = subset c.args.to.now c.args.from.now (c.if-not-is_covered.ensures.0 refl) in (
+      within,
+      (
+        (λ l h. inl
+            (ordered_whole c.args.to.now c.args.from.now c.requires.to c.requires.from within (omega (arith, c.if-from-to.true)) l h)),
+        tt,
+      ),
+    )
+
+pub returns : goal.returns
+returns c = λ side er ed. (
+  subset c.args.to.now c.args.from.now (c.if-not-is_covered.ensures.0 refl),
+  (
+    each_reducible side c.args.prefix.now c.args.reduced c.args.deciding c.innermost.result er ed c.args.from.now c.args.to.now
+        c.innermost.ensures (c.if-not-is_covered-2.ensures.0 refl),
+    tt,
+  ),
+)

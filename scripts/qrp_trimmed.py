@@ -1,0 +1,34 @@
+"""Reads traces as 'qrp_cmd trim' writes them: a step is a line, with single blanks and without leading zeros. A part of scripts/proof-stats
+and scripts/used-clauses.
+
+Such a trace may be large: it is read in blocks of lines, and only one of them is in memory.
+"""
+
+from itertools import compress, repeat
+from operator import itemgetter, not_
+
+from qrp_steps import lists_of
+from qrp_words import BLOCK
+
+
+def trimmed_steps(path):
+    """The lists of the steps in file order, some at a time, as qrp_steps.lists_of gives them."""
+    with open(path, "rb") as file:
+        line = file.readline()
+        while line[:1] in (b"p", b"a", b"e"):
+            line = file.readline()
+        while line[:1] not in (b"r", b""):
+            yield lists_of(b"".join([line, file.read(BLOCK), file.readline()]))
+            line = file.readline()
+
+
+def literals_of_initial(heads, tails):
+    """The literals of each of these steps that has no antecedents, as text."""
+    return map(itemgetter(2), map(bytes.partition, compress(heads, map(not_, tails)), repeat(b" ")))
+
+
+def result(path):
+    """The result word."""
+    with open(path, "rb") as file:
+        file.seek(-len(b"r unsat\n"), 2)
+        return file.read().split()[-1].decode()
