@@ -3,7 +3,8 @@
 A part of scripts/explain. Each function returns sentences.
 """
 
-from itertools import repeat
+from io import BytesIO
+from itertools import islice, repeat
 from operator import itemgetter
 
 from qrp_formula import ADJECTIVES, UNBOUND
@@ -85,7 +86,21 @@ def explain_text(kind, text_fault, data):
     seen = looks(data, "cnf" if kind == "formula" else "qrp")
     if is_cut(text_fault, data):
         sentences.append("The text ends with this word and has no line end: it seems to be cut.")
+    elif text_fault.name in ("P3", "P4", "P5", "P6"):
+        sentences += odd_zeros(text_fault, data)
     return sentences + ([seen] if seen else [])
+
+
+def odd_zeros(fault, data):
+    """Whether the line of a trace, or the one before it, has one 0 too few or too many for a set or for a step."""
+    first = max(0, fault.line - 2)
+    for number, line in enumerate(islice(BytesIO(data), first, fault.line), first + 1):
+        what, *words = line.split() or [b""]
+        zeros, wanted = sum(1 for word in words if not word.strip(b"0")), 2 if what.isdigit() else 1
+        if (what.isdigit() or what in (b"a", b"e")) and abs(zeros - wanted) == 1:
+            kind, which = ("step", "set")[wanted == 1], "missing" if zeros < wanted else "one too many"
+            return [f"Line {number} has {counted(zeros, 'zero')} where a {kind} has {wanted}: is a 0 {which}?"]
+    return []
 
 
 def wrong_header(fault, _data):
@@ -113,8 +128,6 @@ def wrong_word(fault, _data):
     sentences = [f"'{shown(word)}' is not allowed {BETWEEN.get(inside, f'in {inside}, a list of numbers that 0 closes.')}"]
     if word in (b"a", b"e") and fault.at == 0:
         sentences.append(f"Quantifier sets come before all {'clauses' if fault.name == 'F3' else 'steps'}, and 0 closes each list: is a 0 missing?")
-    elif word == b"r" and fault.name == "P3" and inside != "between steps":
-        sentences.append("0 closes each list, and a step has two: is a 0 missing?")
     elif fault.at == 0 and word in FIRST_WORDS:
         sentences.append(FIRST_WORDS[word])
     elif word[:1] in (b"+", b"-") and word[1:].isdigit():
@@ -205,17 +218,11 @@ def clause_ends(data):
 
 
 def number_twice(fault, _data):
-    sentences = [f"Step {fault.known['number']} is in line {fault.known['earlier']} already. Each step has a number of its own."]
-    if fault.at != 0:
-        sentences.append("It stands within a line, after a 0 that ends the step before it: is that 0 one too many?")
-    return sentences
+    return [f"Step {fault.known['number']} is in line {fault.known['earlier']} already. Each step has a number of its own."]
 
 
 def third_antecedent(fault, _data):
-    sentences = [f"'{shown(word_of(fault))}' would be the third of {fault.known['inside']}: a step has two at most."]
-    if fault.at == 0:
-        sentences.append("It begins a line: is the 0 missing that ends the step before it?")
-    return sentences
+    return [f"'{shown(word_of(fault))}' would be the third of {fault.known['inside']}: a step has two at most."]
 
 
 def wrong_result(fault, data):
