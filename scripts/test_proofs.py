@@ -35,39 +35,44 @@ impl Pair {
     pub fn left(&self) -> u64 {
         self.0
     }
+
+    pub fn made(fault: Fault) -> Pair {
+        Pair::from((fault, 0))
+    }
 }
 """
 LOW = "pub fn first(a: u64) -> u64 {\n    a\n}\n"
 
-# What a check says of a body: by the text of the changed source.
+# What a check says of each function: by its text.
 RT = r"""#!/usr/bin/env python3
-import sys, time, pathlib
+import re, sys, time, pathlib
 verb, here = sys.argv[1], pathlib.Path.cwd()
-text = "".join(p.read_text() for p in sorted(here.glob("src/*.rt")))
+texts = {p: p.read_text() for p in sorted(here.glob("src/*.rt"))}
 log = pathlib.Path(__file__).with_name("log")
 log.open("a").write(" ".join(sys.argv[1:]) + "\n")
-if "slow" in text:
+if any("slow" in text for text in texts.values()):
     time.sleep(60)
 if verb == "lib":
-    if "unproved" in text:
+    if any("unproved" in text for text in texts.values()):
         print("error: not this"), sys.exit(1)
     (here / "out/rlib").mkdir(parents=True, exist_ok=True)
     sys.exit(0)
-answers = here / "proofs/sum/Answers.antt"
-said = []
-if "a - b" in text:
-    said.append("fn one::sum: no proof: expected answers in ./proofs/sum/Answers.antt; `search` did not prove `returns`")
-if "a * b" in text and answers.exists() and "fits" in answers.read_text():
-    said.append("./proofs/sum/Answers.antt:4:3: error: `returns`: the two types differ\nfn one::sum: not proved")
-elif "a * b" in text:
-    said.append("fn one::sum: no proof: expected answers in ./proofs/sum/Answers.antt; `search` did not prove `returns`")
-if "b + a" in text:
-    said.append("fn one::sum: no proof: it calls `one::low::first`, which is not proved")
-if "a.0" in text:
-    said.append("fn one::low::first: no proof: expected answers in ./proofs/low/first/Answers.antt; `search` did not prove `returns`")
-    said.append("fn one::sum: no proof: it calls `one::low::first`, which is not proved")
-if "@" in text:
-    said.append("src/lib.rt:6:1: error: expected an expression")
+said, calls_first = [], []
+for file, text in texts.items():
+    module = [] if file.stem == "lib" else [file.stem]
+    for name, body in re.findall(r"\bfn (\w+)(.*?)(?=\bfn \w|\Z)", text, re.S):
+        path, folder = "::".join(["one", *module, name]), "/".join(["proofs", *module, name])
+        answers = here / folder / "Answers.antt"
+        refused = f"fn {path}: no proof: expected answers in ./{folder}/Answers.antt; `search` did not prove `returns`"
+        waits = f"fn {path}: no proof: it calls `one::low::first`, which is not proved"
+        if "a * b" in body and answers.exists() and "fits" in answers.read_text():
+            said.append(f"./{folder}/Answers.antt:4:3: error: `returns`: the two types differ\nfn {path}: not proved")
+        elif "a - b" in body or "a * b" in body or "a.0" in body:
+            said.append(refused)
+        elif "b + a" in body:
+            said.append(waits)
+        elif "@" in body:
+            said.append("src/lib.rt:6:1: error: expected an expression")
 print("\n".join(said))
 sys.exit(1 if said else 0)
 """
@@ -130,7 +135,7 @@ def is_bad(text, why):
 
 def names_are_those_of_the_prover():
     found = [path for path, _, _ in wrong_bodies.functions("one", "src/lib.rt", SOURCE)]
-    return found == ["one::sum", "one::most", "one::PairFromTuple2FaultU64::from", "one::Pair::left"]
+    return found == ["one::sum", "one::most", "one::PairFromTuple2FaultU64::from", "one::Pair::left", "one::Pair::made"]
 
 
 def edits_that_cannot_be_tried():
@@ -144,16 +149,57 @@ def edits_that_cannot_be_tried():
     ])
 
 
-def callers_and_callees_are_apart():
+def bodies_of_their_own_go_together():
     with Repository(EDITS) as repository:
-        told = repository.run("--list")
-        return told.returncode == 0 and len(told.stdout.splitlines()) == 3
+        return repository.run("--list").stdout == "one 1: first_is_a_field sum_is_a_difference sum_is_a_product\n"
 
 
-def apart_functions_go_together():
-    most = "file: src/lib.rt\nold: pub fn most(a: u64) -> u64 {\nnew: pub fn most(a: u64) -> u64 { let a = 2 * a;\n"
-    with Repository({"most_is_twice": most, "sum_is_a_difference": EDITS["sum_is_a_difference"]}) as repository:
-        return repository.run("--list").stdout == "one 1: most_is_twice sum_is_a_difference\n"
+def a_method_of_a_trait_is_apart_from_its_callers():
+    edits = {
+        "made_of_one": "file: src/lib.rt\nold: (fault, 0)\nnew: (fault, 1)\n",
+        "second_is_one": "file: src/lib.rt\nold: given.1, 0\nnew: given.1, 1\n",
+        "sum_is_a_difference": EDITS["sum_is_a_difference"],
+    }
+    with Repository(edits) as repository:
+        return repository.run("--list").stdout == "one 1: second_is_one sum_is_a_difference\none 2: made_of_one\n"
+
+
+def a_copy_has_the_contract_and_the_proofs():
+    with Repository({"one": EDITS["sum_is_a_product"]}) as repository:
+        crate = repository.root / "crates/one"
+        answers = crate / "proofs/sum/Answers.antt"
+        answers.write_text("use Rattle.one.proofs.sum.Goals as goal\nuse Rattle.one.proofs.summary.{low}\nuse Rattle.two.proofs.sum.{b}\n")
+        edit = read_edit(crate / "must-fail/one.edit", crate)
+        wrong_bodies.find_functions(edit, "one", crate)
+        wrong_bodies.make_copy(edit, 7, "one", crate)
+        wrong_bodies.copy_proofs([edit], "one", crate)
+        whole = "/// A sum; not `fn sum` of anything else.\npub fn sum(a: u64, b: u64) -> u64 {\n    low::first(a) + b\n}\n"
+        copy = "\n/// A sum; not `fn sum` of anything else.\npub fn sum_wrong_7(a: u64, b: u64) -> u64 {\n    a * b\n}\n"
+        text = (crate / "proofs/sum_wrong_7/Answers.antt").read_text()
+        return all([
+            wrong_bodies.together([edit], crate) == {"src/lib.rt": SOURCE.replace(whole, whole + copy)},
+            text == answers.read_text().replace("Rattle.one.proofs.sum.Goals", "Rattle.one.proofs.sum_wrong_7.Goals"),
+            edit.paths() == {"one::sum_wrong_7"},
+        ])
+
+
+def what_is_no_copy():
+    """Wrong bodies that change a contract, a method of a trait, a function that calls itself, or two functions."""
+    edits = {
+        "contract": "file: src/lib.rt\nold: mod low;\nnew: mod high;\n",
+        "method": "file: src/lib.rt\nold: given.1, 0\nnew: given.1, 1\n",
+        "itself": "file: src/lib.rt\nold: low::first(a) + b\nnew: sum(a, b)\n",
+        "both": "file: src/lib.rt\nold: low::first(a) + b\nnew: a - b\nold: self.0\nnew: self.1\n",
+    }
+    with Repository(edits) as repository:
+        crate = repository.root / "crates/one"
+        for name in edits:
+            edit = read_edit(crate / f"must-fail/{name}.edit", crate)
+            wrong_bodies.find_functions(edit, "one", crate)
+            wrong_bodies.make_copy(edit, 1, "one", crate)
+            if edit.copy:
+                return False
+    return True
 
 
 def each_is_refused_by_its_own_function():
@@ -271,8 +317,10 @@ def answers_are_taken_out():
 TESTS = [
     names_are_those_of_the_prover,
     edits_that_cannot_be_tried,
-    callers_and_callees_are_apart,
-    apart_functions_go_together,
+    bodies_of_their_own_go_together,
+    a_method_of_a_trait_is_apart_from_its_callers,
+    a_copy_has_the_contract_and_the_proofs,
+    what_is_no_copy,
     each_is_refused_by_its_own_function,
     bodies_that_are_not_refused,
     what_is_wrong_is_said,

@@ -5,11 +5,24 @@ file as the pairs before it left it.
 """
 
 import re
+import shutil
 from dataclasses import dataclass, field
+from pathlib import Path
 
 
 class BadEdit(Exception):
     """Why an edit cannot be tried."""
+
+
+@dataclass
+class Copy:
+    """A wrong body as a function of its own, after the function that it is a body of and with its contract."""
+
+    of: str
+    path: str
+    file: str
+    place: int
+    text: str
 
 
 @dataclass
@@ -20,6 +33,11 @@ class Edit:
     files: dict
     functions: set = field(default_factory=set)
     added: set = field(default_factory=set)
+    copy: Copy | None = None
+
+    def paths(self):
+        """The functions that a check has to refuse for it."""
+        return {self.copy.path} if self.copy else self.functions | self.added
 
 
 def read_edit(path, crate):
@@ -137,14 +155,20 @@ def owner_of(head):
         return type_name(rest)
     of_trait, of_type = rest.split(" for ", 1)
     given = [it for it in apart(arguments(of_trait)) if type_name(it) not in generics]
-    return type_name(of_type) + type_name(of_trait) + "".join(map(given_name, given))
+    name = type_name(of_type)
+    # a primitive type, too, is written with a capital
+    return name[:1].upper() + name[1:] + type_name(of_trait) + "".join(map(given_name, given))
+
+
+# The head of an `impl` or a trait.
+BLOCK = re.compile(r"(?m)^(?:unsafe )?(?:impl\b|(?:pub(?:\([a-z]+\))? )?trait\b)[^{]*")
 
 
 def functions(crate_name, file, text):
     """The functions of a source file: (path as the prover has it, where its text begins and ends)."""
     plain = blanked(text)
     blocks = []
-    for found in re.finditer(r"(?m)^(?:unsafe )?(?:impl\b|(?:pub(?:\([a-z]+\))? )?trait\b)[^{]*", plain):
+    for found in BLOCK.finditer(plain):
         if found.end() < len(plain):
             blocks.append((found.start(), end_of_block(plain, found.end()), owner_of(found[0])))
     inside = file[len("src/") : -len(".rt")].split("/")
@@ -177,7 +201,62 @@ def find_functions(edit, crate_name, crate):
         edit.added |= set(after) - set(before)
 
 
+# ---- wrong bodies as functions of their own
+
+
+def make_copy(edit, number, crate_name, crate):
+    """Notes how the edit can be tried as a function of its own, which nothing calls: so it goes with all others in one check. It cannot
+    if it changes more than the body of one function, or if that is `main`, calls itself, or is a method of a trait."""
+    if len(edit.functions) != 1 or edit.added or len(edit.files) != 1:
+        return
+    (path,), ((file, text),) = edit.functions, edit.files.items()
+    before, name = read_source(crate, file), path.rsplit("::", 1)[1]
+    old, new = (lines_of(path, functions(crate_name, file, it), it) for it in (before, text))
+    if not old or not new or name == "main" or is_of_trait(before, old[2]):
+        return
+    (start, end, _), (first, last, place) = old, new
+    is_all = before[:start] == text[:first] and before[end:] == text[last:]
+    body = text[first:place] + re.sub(rf"\bfn {name}\b", f"fn {name}_wrong_{number}", text[place:last], count=1)
+    if is_all and not re.search(rf"(?<![.:\w]){name}\(|\b[Ss]elf(?:\.|::){name}\(|#\[cycle", body):
+        edit.copy = Copy(path, f"{path}_wrong_{number}", file, end, f"\n\n{body}")
+
+
+def lines_of(path, found, text):
+    """Where the lines of a function begin and end, with its attributes and comments, and where its `fn` stands; None if it is not one."""
+    places = [start for it, start, _ in found if it == path]
+    if len(places) != 1:
+        return None
+    line = text.rfind("\n", 0, places[0]) + 1
+    indent = re.match(" *", text[line:])[0]
+    close = text.find(f"\n{indent}}}\n", line)
+    above = re.search(rf"(?:^{indent}(?:#\[|///).*\n)*\Z", text[:line], re.M)
+    return (above.start(), close + len(f"\n{indent}}}"), places[0]) if close >= 0 else None
+
+
+def is_of_trait(text, place):
+    """Whether the function at this place is a method that a trait has or asks for."""
+    plain = blanked(text)
+    heads = [it for it in BLOCK.finditer(plain) if it.end() < len(plain) and it.start() <= place < end_of_block(plain, it.end())]
+    return any("trait" in it[0].split() or " for " in it[0].split(" where ")[0] for it in heads)
+
+
+def copy_proofs(edits, crate_name, crate):
+    """Gives the copies of functions the stored proofs of these, in the crate's folder."""
+    for copy in (edit.copy for edit in edits if edit.copy):
+        source, target = (crate / "proofs" / Path(*it.split("::")[1:]) for it in (copy.of, copy.path))
+        if source.is_dir():
+            shutil.copytree(source, target)
+        old, new = (it.split("::", 1)[1].replace("::", ".") for it in (copy.of, copy.path))
+        for file in sorted(target.rglob("*.antt")) if source.is_dir() else []:
+            own = rf"(\bRattle\.{crate_name}\.(?:proofs|specs\.contracts)\.){re.escape(old)}(?![\w-])"
+            file.write_text(re.sub(own, rf"\g<1>{new}", file.read_text(encoding="utf-8")), encoding="utf-8")
+
+
 # ---- which edits go together
+
+# The most that go together, and the most of one function: so many that loading the crate hardly counts, and so few that the processors are
+# all used, also where a function takes long.
+MOST, MOST_OF_ONE = 12, 3
 
 # Methods of std that some types of ours have too: a call of one is taken for std's, but on `self`.
 OF_STD = {"push", "pop", "len", "get", "insert", "contains", "first", "last", "position", "is_empty", "new", "find", "take", "clone"}
@@ -230,8 +309,8 @@ def reached(graph):
 def rounds(edits, reach):
     """The edits in groups: no function that an edit of a group changes calls one that another edit of it changes."""
     groups = []
-    for edit in sorted(edits, key=lambda it: (len(it.functions) == 1, it.name)):
-        group = next((group for group in groups if all(are_apart(edit, other, reach) for other in group)), None)
+    for edit in sorted(edits, key=lambda it: (len(it.functions) == 1, it.copy is not None, it.name)):
+        group = next((group for group in groups if has_room(group, edit) and all(are_apart(edit, other, reach) for other in group)), None)
         if group is None:
             groups.append([edit])
         else:
@@ -239,18 +318,26 @@ def rounds(edits, reach):
     return groups
 
 
+def has_room(group, edit):
+    return len(group) < MOST and sum(edit.functions == other.functions for other in group) < MOST_OF_ONE
+
+
 def are_apart(one, other, reach):
     """Whether each of two edits is refused or not whatever the other does."""
     if any(len(it.functions) != 1 or it.added for it in (one, other)):
         return False
     (a,), (b,) = one.functions, other.functions
-    return a != b and a not in reach.get(b, ()) and b not in reach.get(a, ())
+    is_called = lambda edit, path, by: edit.copy is None and path in reach.get(by, ())
+    return (a != b or one.copy or other.copy) and not is_called(one, a, b) and not is_called(other, b, a)
 
 
 def together(edits, crate):
     """The files of the crate with all of these edits, which change no place twice."""
     changes = {}
     for edit in edits:
+        if edit.copy:
+            changes.setdefault(edit.copy.file, []).append((edit.copy.place, edit.copy.place, edit.copy.text))
+            continue
         for file, text in edit.files.items():
             changes.setdefault(file, []).append(change(read_source(crate, file), text))
     files = {}
