@@ -4,7 +4,7 @@ use Rattle.qbf_core.specs.Lists.{Growing}
 use Rattle.qbf_text.specs.declared.grammar.Stop.{Stop}
 use Rattle.qbf_text.specs.declared.grammar.Stop.TheVariants as stop
 
--- what a token says is handed on, unless memory was refused
+-- what a token says is handed on, unless an allocation failed
 abbrev pub IsSaid : {X F : Type 0} → Result (Option X) F → Result (Option X) (Stop F) → Type 0
 IsSaid said (Ok o) = said ≡ Ok o
 IsSaid said (Err stop.Memory) = ⊤

@@ -54,7 +54,7 @@ header_number form t = Err (header_fault form.faults t)
 
 -- ---- the whole
 
--- what is done behind a token that says something
+-- what is done after a token that says something
 abbrev pub behind : {X F : Type 0} → (X → HeaderMove) → Result X F → Result HeaderMove F
 behind next (Ok x) = Ok (next x)
 behind next (Err f) = Err f
@@ -80,7 +80,7 @@ IsUpTo top Format = ⊤
 IsUpTo top First = ⊤
 IsUpTo top (Second n) = n ≤ top
 
--- and so are those behind a token
+-- and so are those after a token
 abbrev pub LeadsUpTo : ℕ → HeaderMove → Type 0
 LeadsUpTo top (Goes next) = IsUpTo top next
 LeadsUpTo top (Ends first second) = (first ≤ top) × (second ≤ top)

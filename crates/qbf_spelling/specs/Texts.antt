@@ -6,11 +6,11 @@ use Rattle.qbf_core.specs.Blocks.{Block}
 use Rattle.qbf_text.specs.Canonical.{spaced, spelled}
 use Rattle.qbf_spelling.specs.Spelling.{literal, letter}
 
--- a literal behind a blank
+-- a literal after a blank
 abbrev pub literal_text : Literal → List ℕ
 literal_text l = 32 ∷ spelled (literal l)
 
--- a zero behind a blank, and the line end
+-- a zero after a blank, and the line end
 abbrev pub closing : List ℕ
 closing = 32 ∷ 48 ∷ 10 ∷ []
 

@@ -5,10 +5,10 @@ ghost use Rattle.qbf_spelling.specs.Growing.{IsSaid, IsGrown};
 use qbf_core::GrowingLists;
 use qbf_text::Stop;
 
-/// Adds the item that a token says to the list that is begun, and hands on what it says.
+/// Adds the item that a token says to the list that is begun, and returns it.
 ///
 /// # Errors
-/// The fault that the token is, or want of memory. Nothing is changed then.
+/// The fault that the token is, or out of memory. Nothing is changed then.
 #[inline(always)]
 pub fn grow<T: Copy + Drop, F: Drop>(
     list: &mut GrowingLists<T>,

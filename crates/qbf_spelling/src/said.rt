@@ -16,7 +16,7 @@ pub struct Faults<F> {
     pub stray: F,
     /// A number out of range.
     pub range: F,
-    /// A zero behind a minus, where a literal is wanted.
+    /// `-0` where a literal is expected.
     pub minus_zero: F,
     /// The end of the text.
     pub end: F,

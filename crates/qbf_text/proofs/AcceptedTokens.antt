@@ -34,7 +34,7 @@ module _ {P A F : Type 0} {row : P → Token → Row P A F} where
   leads_then Stays m = m
   leads_then (Passes e l) m = Passes e (leads_then l m)
 
-  -- what is read behind them
+  -- what is read after them
   pub leads_reads : {p q : P} {ts : List Token} → Leads row p ts q → (before : List Lined) → unlined before ≡ ts → (rest : List Lined)
       → read_from row p (before ++ rest) ≡ read_from row q rest
   leads_reads Stays [] e rest = refl

@@ -13,12 +13,6 @@ use Rattle.qbf_text.specs.Left.{rest_tokens, left_from, tokens_left, is_separato
 
 -- ---- the number of a line
 
-counted_next : (n : ℕ) → counted (counted n + 1) ≡ counted (n + 1)
-counted_next n = omega arith
-
-counted_more : (n k : ℕ) → counted (counted n + k) ≡ counted (n + k)
-counted_more n k = omega arith
-
 pub line_counted : (f : Comments) (n m : ℕ) (line : List ℕ) → counted n ≡ counted m → line_tokens f n line ≡ line_tokens f m line
 line_counted f n m line e = rw e refl
 
@@ -82,9 +76,6 @@ left_all f bytes = rw (left_from_start f 1 (slice_split is_line_end bytes)) refl
 
 blank_no_line_end : (b : ℕ) → is_blank b ≡ true → is_line_end b ≡ false
 blank_no_line_end b h = grind (arith, nat_tests)
-
-runs_blank : (b : ℕ) (rest : List ℕ) → is_blank b ≡ true → runs (b ∷ rest) ≡ runs rest
-runs_blank b rest h = rw h refl
 
 rest_blank : (f : Comments) (begun : Bool) (n b : ℕ) (rest : List ℕ) → is_blank b ≡ true
     → rest_tokens f begun n (b ∷ rest) ≡ rest_tokens f begun n rest
@@ -192,7 +183,7 @@ runs_run : (b : ℕ) (bs rest : List ℕ) → IsUnbroken (b ∷ bs) → IsOpen r
 runs_run b bs [] h open_rest = rw (split_run (b ∷ bs) [] h, append-nil (b ∷ bs)) refl
 runs_run b bs (c ∷ cs) h open_rest = rw (split_run (b ∷ bs) (c ∷ cs) h, open_rest, append-nil (b ∷ bs)) refl
 
--- the run stands behind another token of its line, or does not begin a comment line
+-- the run stands after another token of its line, or does not begin a comment line
 abbrev pub IsToken : Comments → Bool → List ℕ → Type 0
 IsToken f begun [] = ⊥
 IsToken f true (b ∷ bs) = ⊤
@@ -213,7 +204,7 @@ open_blank : (b : ℕ) (lines : List (List ℕ)) → is_blank b ≡ true
 open_blank b [] h = (b ∷ [], [], refl, h)
 open_blank b (line ∷ lines) h = (b ∷ line, lines, refl, h)
 
-or_cases : (x y : Bool) → y ≡ false → (x || y) ≡ true → x ≡ true
+pub or_cases : (x y : Bool) → y ≡ false → (x || y) ≡ true → x ≡ true
 or_cases true y e h = refl
 or_cases false y e h = absurd (cc)
 

@@ -1,5 +1,5 @@
 -- The tokens of a canonical text.
-use Rattle.std.proofs.Common.{◌≡◌, ℕ, ◌+◌, Bool, true, false, map, arith, List, [], ◌∷◌, ◌++◌, refl, sym, ap, ◌∙◌, append_assoc}
+use Rattle.std.proofs.Common.{rules, ◌≡◌, ℕ, ◌+◌, Bool, true, false, map, arith, List, [], ◌∷◌, ◌++◌, refl, sym, ap, ◌∙◌, append_assoc}
 use Rattle.std.specs.Prelude.{decimal}
 use Rattle.std.specs.List.{flat_map, AllByRecursion}
 use Rattle.std.proofs.lemmas.Fmt.{digits_decimal, decimal_nonempty}
@@ -20,76 +20,37 @@ use Rattle.qbf_text.proofs.Spelled.{own, digits_unbroken, token_digits, kind_dec
 
 kind_word : (w : Word) → kind (letters w) ≡ token.Word w
 kind_word word.P = refl
-kind_word word.Cnf = refl
-kind_word word.Qrp = refl
-kind_word word.A = refl
-kind_word word.E = refl
-kind_word word.R = refl
-kind_word word.Sat = refl
-kind_word word.Unsat = refl
+kind_word w = refl
 
 word_unbroken : (w : Word) → IsUnbroken (letters w)
-word_unbroken word.P = (refl, tt)
-word_unbroken word.Cnf = (refl, (refl, (refl, tt)))
-word_unbroken word.Qrp = (refl, (refl, (refl, tt)))
-word_unbroken word.A = (refl, tt)
-word_unbroken word.E = (refl, tt)
-word_unbroken word.R = (refl, tt)
-word_unbroken word.Sat = (refl, (refl, (refl, tt)))
-word_unbroken word.Unsat = (refl, (refl, (refl, (refl, (refl, tt)))))
+word_unbroken w = search rules
 
 pub kind_spelled : (t : Token) → IsPlain t → kind (spelled t) ≡ t
 kind_spelled (token.Word w) h = kind_word w
 kind_spelled (token.Number false n) h = kind_decimal n h
 kind_spelled (token.Number true n) h = kind_minus n h.0 h.1
-kind_spelled token.Big h = absurd h
-kind_spelled token.Bad h = absurd h
-kind_spelled token.End h = absurd h
+kind_spelled t h = absurd h
 
 spelled_unbroken : (t : Token) → IsPlain t → IsUnbroken (spelled t)
 spelled_unbroken (token.Word w) h = word_unbroken w
 spelled_unbroken (token.Number false n) h = digits_unbroken (decimal n) (digits_decimal own n h)
 spelled_unbroken (token.Number true n) h = (refl, digits_unbroken (decimal n) (digits_decimal own n h.1))
-spelled_unbroken token.Big h = absurd h
-spelled_unbroken token.Bad h = absurd h
-spelled_unbroken token.End h = absurd h
+spelled_unbroken t h = absurd h
 
--- behind another token of its line each token is one
+-- after another token of its line each token is one
 word_behind : (f : Comments) (w : Word) → IsToken f true (letters w)
 word_behind f word.P = tt
-word_behind f word.Cnf = tt
-word_behind f word.Qrp = tt
-word_behind f word.A = tt
-word_behind f word.E = tt
-word_behind f word.R = tt
-word_behind f word.Sat = tt
-word_behind f word.Unsat = tt
+word_behind f w = tt
 
 behind : (f : Comments) (t : Token) → IsPlain t → IsToken f true (spelled t)
 behind f (token.Word w) h = word_behind f w
 behind f (token.Number false n) h = token_digits f true (decimal n) (decimal_nonempty n h) (digits_decimal own n h)
 behind f (token.Number true n) h = tt
-behind f token.Big h = absurd h
-behind f token.Bad h = absurd h
-behind f token.End h = absurd h
+behind f t h = absurd h
 
 -- at the beginning of a line the others are
 word_first : (f : Comments) (w : Word) → IsOpening (token.Word w) → IsToken f false (letters w)
-word_first f word.Cnf o = absurd o
-word_first Qdimacs word.P o = refl
-word_first Qdimacs word.Qrp o = refl
-word_first Qdimacs word.A o = refl
-word_first Qdimacs word.E o = refl
-word_first Qdimacs word.R o = refl
-word_first Qdimacs word.Sat o = refl
-word_first Qdimacs word.Unsat o = refl
-word_first Qrp word.P o = refl
-word_first Qrp word.Qrp o = refl
-word_first Qrp word.A o = refl
-word_first Qrp word.E o = refl
-word_first Qrp word.R o = refl
-word_first Qrp word.Sat o = refl
-word_first Qrp word.Unsat o = refl
+word_first f w h = search rules
 
 minus_first : (f : Comments) (ds : List ℕ) → IsToken f false (45 ∷ ds)
 minus_first Qdimacs ds = refl
@@ -99,9 +60,7 @@ first : (f : Comments) (t : Token) → IsOpening t → IsPlain t → IsToken f f
 first f (token.Word w) o h = word_first f w o
 first f (token.Number false n) o h = token_digits f false (decimal n) (decimal_nonempty n h) (digits_decimal own n h)
 first f (token.Number true n) o h = minus_first f (decimal n)
-first f token.Big o h = absurd h
-first f token.Bad o h = absurd h
-first f token.End o h = absurd h
+first f t o h = absurd h
 
 -- a token that is written before a separator or the end is the next
 left_token : (f : Comments) (begun : Bool) (n : ℕ) (t : Token) (rest : List ℕ) → IsPlain t → IsToken f begun (spelled t) → EndsRun rest

@@ -1,7 +1,6 @@
 -- One more digit.
-use Rattle.std.proofs.Common.{◌≡◌, ℕ, ◌+◌, ◌-◌, ◌*◌, ◌^◌, ◌<◌, ◌≤◌, Bool, true, false, not, ◌&&◌, List, [], ◌∷◌, ◌++◌, refl, sym, ◌∙◌}
-use Rattle.std.proofs.Common.{arith, inl, inr}
-use Rattle.std.proofs.lemmas.Bool.{cases_lt}
+use Rattle.std.proofs.Common.{rules, ◌≡◌, ℕ, ◌+◌, ◌-◌, ◌*◌, ◌^◌, ◌<◌, ◌≤◌, Bool, true, false, not, ◌&&◌, List, [], ◌∷◌, ◌++◌, refl, sym, ◌∙◌}
+use Rattle.std.proofs.Common.{arith}
 use Rattle.std.specs.Prelude.{nat_lt, if◌then◌else◌}
 use Rattle.std.specs.Str.{all_ascii_digits}
 use Rattle.std.specs.Char.{is_ascii_digit}
@@ -45,23 +44,14 @@ pub digits-push : (ds : List ℕ) (b : ℕ)
     → digits_of (ds ++ b ∷ []) ≡ pack (all_ascii_digits ds && is_ascii_digit b) (10 * magnitude ds + (b - 48))
 digits-push ds b = rw (all-push, magnitude-push) refl
 
-pack_other : (m : ℕ) → pack false m ≡ Other
-pack_other m = refl
-
 value_is : (all : Bool) (m n : ℕ) → Value n ≡ pack all m → (all ≡ true) × (n ≡ m)
-value_is false m n e = absurd (cc)
-value_is true m n e =
-    elim (cases_lt m (2 ^ 64)) [ inl h ↦ (refl, let p = pack_small m h in cc) | inr h ↦ let p = pack_large m h in absurd (cc) ]
+value_is all m n h = search rules
 
 big_is : (all : Bool) (m : ℕ) → Big ≡ pack all m → (all ≡ true) × (2 ^ 64 ≤ m)
-big_is false m e = absurd (cc)
-big_is true m e =
-    elim (cases_lt m (2 ^ 64)) [ inl h ↦ let p = pack_small m h in absurd (cc) | inr h ↦ (refl, h) ]
+big_is all m h = search rules
 
 other_is : (all : Bool) (m : ℕ) → Other ≡ pack all m → all ≡ false
-other_is false m e = refl
-other_is true m e =
-    elim (cases_lt m (2 ^ 64)) [ inl h ↦ let p = pack_small m h in absurd (cc) | inr h ↦ let p = pack_large m h in absurd (cc) ]
+other_is all m h = search rules
 
 -- what the kept digits say of all of them
 pub known_value : (ds : List ℕ) (n : ℕ) → Value n ≡ digits_of ds → (all_ascii_digits ds ≡ true) × (n ≡ magnitude ds)

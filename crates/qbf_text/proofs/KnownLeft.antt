@@ -1,31 +1,24 @@
 -- What is left where the bytes ahead may be unknown.
-use Rattle.std.proofs.Common.{◌≡◌, ℕ, ◌^◌, ◌<◌, Bool, true, false, cond, ◌==◌, List, [], ◌∷◌, Option, Some, None, IfSome, drop}
-use Rattle.std.proofs.Common.{refl, ap, ◌∙◌, arith}
+use Rattle.std.proofs.Common.{rules, ◌≡◌, ℕ, Bool, true, false, List, [], ◌∷◌, Option, Some, None, IfSome, drop}
+use Rattle.std.proofs.Common.{refl, arith}
 use Rattle.std.specs.Prelude.{⊤, unwrap_or}
-use Rattle.std.specs.Io.KnownBytes.{Consumes, IsAtEnd}
+use Rattle.std.specs.Io.KnownBytes.{Consumes}
 use Rattle.std.proofs.KnownBytes.{Consumes-nil}
 use Rattle.std.proofs.lemmas.Bool.Decides.{nat_tests}
 use Rattle.qbf_text.specs.declared.token.Comments.{Comments}
 use Rattle.qbf_text.specs.declared.token.Word.{Word}
-use Rattle.qbf_text.specs.declared.token.Token.TheVariants as kinds
 use Rattle.qbf_text.specs.declared.run.Digits.{Digits}
-use Rattle.qbf_text.specs.declared.run.Digits.TheVariants.{Value, Big, Other}
 use Rattle.qbf_text.specs.Ahead.{ahead, first_of}
-use Rattle.qbf_text.specs.Tokens.{is_line_end, is_blank, is_comment_byte, kind, word, word_or_bad, counted}
+use Rattle.qbf_text.specs.Tokens.{is_line_end, is_comment_byte, kind, word, word_or_bad}
 use Rattle.qbf_text.specs.Runs.{digits_of, begins_with_minus, after_minus, begins_number}
-use Rattle.qbf_text.specs.Left.{is_separator, tokens_left, known_left, is_end}
+use Rattle.qbf_text.specs.Left.{is_end}
 use Rattle.qbf_text.proofs.KindKept.{numeral_kept, number_is, no_number}
-use Rattle.qbf_text.proofs.ByteByByte.{left_nothing, IsToken}
+use Rattle.qbf_text.proofs.ByteByByte.{IsToken}
 use Rattle.qbf_text.proofs.BytesAhead.{taken_more}
 
 pub always : (t : Option (List ℕ)) → IfSome t (λ _. ⊤)
 always None = tt
 always (Some x) = tt
-
--- the byte that was peeked is taken
-pub took : (t : Option (List ℕ)) (pending : List ℕ) (rem : Option (List ℕ)) (b : ℕ) → Consumes t (ahead pending rem) []
-    → Some b ≡ first_of pending → Consumes t (ahead (drop 1 pending) rem) (b ∷ [])
-took t pending rem b p h = taken_more t t pending rem [] b (Consumes-nil t) p h
 
 -- ---- no run is End
 
@@ -33,17 +26,9 @@ word_no_end : (w : Option Word) → is_end (word_or_bad w) ≡ false
 word_no_end None = refl
 word_no_end (Some w) = refl
 
-zero_no_end : (zero : Bool) (n : ℕ) (w : Option Word)
-    → is_end (unwrap_or (cond zero None (Some (kinds.Number true n))) (word_or_bad w)) ≡ false
-zero_no_end true n w = word_no_end w
-zero_no_end false n w = refl
-
 kept_no_end : (negative : Bool) (digits : Digits) (w : Option Word)
     → is_end (unwrap_or (numeral_kept negative digits) (word_or_bad w)) ≡ false
-kept_no_end negative Other w = word_no_end w
-kept_no_end negative Big w = refl
-kept_no_end false (Value n) w = refl
-kept_no_end true (Value n) w = zero_no_end (n == 0) n w
+kept_no_end negative digits w = search rules
 
 pub kind_no_end : (run : List ℕ) → is_end (kind run) ≡ false
 kind_no_end run = by (begins_number run) refl
@@ -54,10 +39,10 @@ kind_no_end run = by (begins_number run) refl
 
 -- ---- in the words of the loop
 
--- the byte that was peeked is behind
+-- the byte that was peeked is taken
 pub took_at : (t : Option (List ℕ)) (pending after : List ℕ) (rem : Option (List ℕ)) (b : ℕ) → after ≡ drop 1 pending
     → Consumes t (ahead pending rem) [] → Some b ≡ first_of pending → Consumes t (ahead after rem) (b ∷ [])
-took_at t pending after rem b e p h = rw e (took t pending rem b p h)
+took_at t pending after rem b e p h = rw e (taken_more t t pending rem [] b (Consumes-nil t) p h)
 
 pub no_line_end_at : (b : ℕ) → (b ≡ 10 → ⊥) → is_line_end b ≡ false
 no_line_end_at b h = grind (arith, nat_tests)

@@ -1,40 +1,18 @@
 -- What is left after a number that stands whole among the bytes at hand.
-use Rattle.std.proofs.Common.{◌≡◌, ℕ, ◌+◌, ◌^◌, ◌<◌, Bool, true, false, ◌||◌, ◌==◌, List, [], ◌∷◌, ◌++◌, Option, Some, None, take, drop}
-use Rattle.std.proofs.Common.{refl, sym, subst, ap, ◌∙◌, arith, append_assoc}
-use Rattle.std.specs.Char.{is_ascii_digit}
-use Rattle.std.specs.Io.KnownBytes.{Consumes}
+use Rattle.std.proofs.Common.{rules, ◌≡◌, ℕ, ◌+◌, ◌^◌, ◌<◌, Bool, true, false, List, [], ◌∷◌, ◌++◌, sym, ap, ◌∙◌}
+use Rattle.std.proofs.Common.{arith, append_assoc}
 use Rattle.std.proofs.lemmas.Bool.{eqb-true}
-use Rattle.std.proofs.lemmas.Bool.Decides.{nat_tests}
-use Rattle.std.proofs.lemmas.List.{take-append-drop}
 use Rattle.qbf_text.specs.declared.token.Comments.{Comments}
-use Rattle.qbf_text.specs.declared.token.Comments.TheVariants.{Qdimacs, Qrp}
 use Rattle.qbf_text.specs.declared.token.Token.TheVariants.{Number}
-use Rattle.qbf_text.specs.Ahead.{ahead}
-use Rattle.qbf_text.specs.Tokens.{kind, is_comment_byte, is_line_end, is_blank, counted}
+use Rattle.qbf_text.specs.Tokens.{kind, is_line_end, is_blank, counted}
 use Rattle.qbf_text.specs.Runs.{begins_number}
 use Rattle.qbf_text.specs.Left.{is_separator, IsUnbroken, tokens_left}
-use Rattle.qbf_text.specs.Hand.{BeginsWithNumber}
-use Rattle.qbf_text.proofs.ByteByByte.{left_run, left_line_end, left_blank, IsToken, tokens_left-counted}
+use Rattle.qbf_text.specs.Passing.{BeginsWithNumber}
+use Rattle.qbf_text.proofs.ByteByByte.{left_run, left_line_end, left_blank, or_cases, IsToken, tokens_left-counted}
 
 -- what begins as a number does is no comment
-no_comment : (f : Comments) (b : ℕ) → (b == 45 || is_ascii_digit b) ≡ true → is_comment_byte f b ≡ false
-no_comment Qdimacs b h = grind (arith, nat_tests)
-no_comment Qrp b h = grind (arith, nat_tests)
-
 number_token : (f : Comments) (begun : Bool) (run : List ℕ) → begins_number run ≡ true → IsToken f begun run
-number_token f begun [] h = absurd cc
-number_token f true (b ∷ bs) h = tt
-number_token f false (b ∷ bs) h = no_comment f b h
-
--- the front of what was pulled is taken
-taken_front : (n : ℕ) (pending : List ℕ) (rem : Option (List ℕ))
-    → Consumes (ahead pending rem) (ahead (drop n pending) rem) (take n pending)
-taken_front n pending None = tt
-taken_front n pending (Some r) = ap (λ x. x ++ r) (sym (take-append-drop n pending)) ∙ append_assoc (take n pending) (drop n pending) r
-
-pub or_blank : (x y : Bool) → y ≡ false → (x || y) ≡ true → x ≡ true
-or_blank true y e h = refl
-or_blank false y e h = absurd cc
+number_token f begun run h = search rules
 
 -- a run and a separator
 left_number : (f : Comments) (begun : Bool) (n : ℕ) (run : List ℕ) (behind : ℕ) (rest : List ℕ) → begins_number run ≡ true → IsUnbroken run
@@ -45,10 +23,7 @@ left_number f begun n run behind rest begins unbroken sep =
     ∙ left_run f begun n run (behind ∷ rest) unbroken sep (number_token f begun run begins)
 
 module _ (f : Comments) (begun : Bool) (n : ℕ) (pending : List ℕ) (negative : Bool) (value len : ℕ) (ends : Bool)
-    (h : BeginsWithNumber pending negative value len ends) (small : n < 2 ^ 64) (rem : Option (List ℕ)) where
-  pub number_taken : Consumes (ahead pending rem) (ahead (drop len pending) rem) (h.run ++ h.behind ∷ [])
-  number_taken = subst (Consumes (ahead pending rem) (ahead (drop len pending) rem)) h.front (taken_front len pending rem)
-
+    (h : BeginsWithNumber pending negative value len ends) (small : n < 2 ^ 64) where
   same : counted n ≡ n
   same = omega arith
 
@@ -67,7 +42,7 @@ module _ (f : Comments) (begun : Bool) (n : ℕ) (pending : List ℕ) (negative 
   pub spelled_blanked : ends ≡ false → (rest : List ℕ)
       → tokens_left f begun n ((h.run ++ h.behind ∷ []) ++ rest) ≡ (Number negative value, n) ∷ tokens_left f true n rest
   spelled_blanked e rest =
-      let blank : is_blank h.behind ≡ true = or_blank (is_blank h.behind) (is_line_end h.behind) (sym h.ends ∙ e) h.separates in
+      let blank : is_blank h.behind ≡ true = or_cases (is_blank h.behind) (is_line_end h.behind) (sym h.ends ∙ e) h.separates in
       left_number f begun n h.run h.behind rest h.begins h.unbroken h.separates
       ∙ ap (λ k. (k, counted n) ∷ tokens_left f true n (h.behind ∷ rest)) (sym h.is)
       ∙ ap (λ m. (Number negative value, m) ∷ tokens_left f true n (h.behind ∷ rest)) same

@@ -12,7 +12,7 @@ use Rattle.qbf_text.specs.declared.run.Digits.TheVariants.{Value}
 use Rattle.qbf_text.specs.Tokens.{magnitude, is_line_end}
 use Rattle.qbf_text.specs.Runs.{digits_of, begins_number, begins_with_minus, after_minus}
 use Rattle.qbf_text.specs.Left.{is_separator}
-use Rattle.qbf_text.specs.Hand.{BeginsWithNumber}
+use Rattle.qbf_text.specs.Passing.{BeginsWithNumber}
 use Rattle.qbf_text.proofs.DigitByDigit.{pack_small}
 use Rattle.qbf_text.proofs.KindKept.{kind_number}
 use Rattle.qbf_text.proofs.Spelled.{own, and_left, digit_no_minus, digits_unbroken}
@@ -56,7 +56,7 @@ plain b bs (suc n) within all some small sep =
       ends = refl;
     }
 
--- digits behind a minus
+-- digits after a minus
 minus : (bs : List ℕ) (n : ℕ) → suc n < length (45 ∷ bs) → AllDigits 10 (take n bs) → digits_value 10 (take n bs) < 2 ^ 64
     → (true && nat_eq (digits_value 10 (take n bs)) 0) ≡ false
     → is_separator (get_or (45 ∷ bs) (suc n) 0) ≡ true
@@ -98,7 +98,7 @@ module _ (bytes : List ℕ) (negative : Bool) (start value end : ℕ) (sign : ne
           (plain b bs end (subst (λ l. end < length l) e within) (subst (AllDigits 10) same all) (omega (arith, front, some))
           (subst (λ l. digits_value 10 l < 2 ^ 64) same small) (subst (λ l. is_separator (get_or l end 0) ≡ true) e sep))
 
-  -- and behind one
+  -- and after one
   pub found_minus : negative ≡ true → start ≡ 1 → BeginsWithNumber bytes negative value (end + 1) (nat_eq (get_or bytes end 0) 10)
   found_minus here front = by bytes end refl refl
     where

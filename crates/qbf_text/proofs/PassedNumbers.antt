@@ -7,14 +7,13 @@ use Rattle.qbf_text.specs.declared.token.Comments.{Comments}
 use Rattle.qbf_text.specs.declared.token.Token.{Token}
 use Rattle.qbf_text.specs.declared.token.Token.TheVariants.{Number}
 use Rattle.qbf_text.specs.Ahead.{ahead}
-use Rattle.qbf_text.specs.Hand.{BeginsWithNumber}
 use Rattle.qbf_text.specs.Left.{tokens_left, known_left}
 use Rattle.qbf_text.specs.Lined.{Lined}
-use Rattle.qbf_text.specs.Passing.{tokens_from_cursor, behind, cursor, moved, LeadOn, Passes, PassesNumber, PassesAll, SoFar}
+use Rattle.qbf_text.specs.Passing.{BeginsWithNumber, tokens_from_cursor, behind, cursor, moved, LeadOn, Passes, PassesNumber, PassesAll, SoFar}
 use Rattle.qbf_text.specs.Passing.{ReadsAtHand}
 use Rattle.qbf_text.specs.Reading.{Reading, GivesNext, IsOpen, left}
 use Rattle.qbf_text.specs.Rows.{Row, Goes, read_from, reads_from}
-use Rattle.qbf_text.specs.Stopping.{IfKnown, ScannerTakes, tokens_next}
+use Rattle.qbf_text.specs.Stopping.{IfKnown, TakesToken, tokens_next}
 use Rattle.qbf_text.specs.Tokens.{counted}
 use Rattle.qbf_text.proofs.ByteByByte.{left_nothing}
 use Rattle.qbf_text.proofs.LeftAfterNumber.{spelled_ending, spelled_blanked}
@@ -24,7 +23,7 @@ use Rattle.qbf_text.proofs.OneToken.{after, read-one}
 pub all_behind : (at : ℕ) (bytes : List ℕ) → take (length bytes - at) (drop at bytes) ≡ drop at bytes
 all_behind at bytes = take_all (length bytes - at) (drop at bytes) (omega (arith, length-drop at bytes))
 
--- the bytes from a number on are its run, the separator and the bytes behind
+-- the bytes from a number on are its run, the separator and the bytes after
 split : (bytes : List ℕ) (at len : ℕ) (front : List ℕ) → take len (drop at bytes) ≡ front
     → drop at bytes ≡ front ++ drop (at + len) bytes
 split bytes at len front is =
@@ -42,9 +41,9 @@ module _ (bytes : List ℕ) (here : Cursor) (negative : Bool) (value len : ℕ) 
       → tokens_from_cursor format here ((h.run ++ h.behind ∷ []) ++ rest)
       ≡ (Number negative value, here.line) ∷ tokens_from_cursor format (behind here len ends_line) rest
   spelled true e format rest =
-      spelled_ending format here.begun here.line (drop here.at bytes) negative value len ends h small None (sym e) rest
+      spelled_ending format here.begun here.line (drop here.at bytes) negative value len ends h small (sym e) rest
   spelled false e format rest =
-      spelled_blanked format here.begun here.line (drop here.at bytes) negative value len ends h small None (sym e) rest
+      spelled_blanked format here.begun here.line (drop here.at bytes) negative value len ends h small (sym e) rest
 
   at_behind : (ends_line : Bool) → (behind here len ends_line).at ≡ here.at + len
   at_behind true = refl
@@ -194,21 +193,23 @@ module _ {P A F : Type 0} (row : P → Token → Row P A F) (first place : P) (r
   unfolding left
   handed_leads open_ remaining = rw open_ (known remaining)
 
--- ---- the last token, in the bytes at hand
+-- ---- a number in the bytes at hand
 
-taken_at_hand : (r : Reading) (here to : Cursor) (token : Token) → PassesNumber r.pending here to token → (remaining : Option (List ℕ))
-    → ScannerTakes (moved r here) remaining (moved r to) remaining (token, here.line)
-taken_at_hand r here to token p None = tt
-taken_at_hand r here to token p (Some rest) = record {
+pub taken_number : (format : Comments) (bytes : List ℕ) (here to : Cursor) (token : Token) → PassesNumber bytes here to token
+    → (remaining : Option (List ℕ))
+    → IfKnown (TakesToken (tokens_from_cursor format here) (tokens_from_cursor format to) (token, here.line))
+    (ahead (drop here.at bytes) remaining) (ahead (drop to.at bytes) remaining)
+taken_number format bytes here to token p None = tt
+taken_number format bytes here to token p (Some rest) = record {
   skipped = [];
   word = p.word;
   behind = p.behind ∷ [];
   line = counted here.line;
-  taken = ap (λ l. l ++ rest) p.taken ∙ append_assoc (p.word ++ p.behind ∷ []) (drop to.at r.pending) rest;
-  nothing = left_nothing r.comments here.begun here.line;
+  taken = ap (λ l. l ++ rest) p.taken ∙ append_assoc (p.word ++ p.behind ∷ []) (drop to.at bytes) rest;
+  nothing = left_nothing format here.begun here.line;
   unbroken = p.unbroken;
   separates = p.separates;
-  spelled = λ more _. p.spelled r.comments more;
+  spelled = λ more _. p.spelled format more;
 }
 
 given_at_hand : (r : Reading) (here to : Cursor) (token : Token) → PassesNumber r.pending here to token → IsOpen r
@@ -232,7 +233,7 @@ handed row first next (Some a) r to open_ few p remaining = record {
   mid = moved r p.here;
   leads = (handed_so_far row first p.last r p.here p.leads remaining, handed_leads row first p.last r p.here p.leads open_ remaining);
   gives = given_at_hand r p.here to p.token p.passes open_ remaining;
-  takes = taken_at_hand r p.here to p.token p.passes remaining;
+  takes = taken_number r.comments r.pending p.here to p.token p.passes remaining;
   ends = p.ends;
   no_end = p.passes.no_end;
   less = omega (arith, length-drop to.at r.pending, p.passes.further, p.passes.within);

@@ -1,43 +1,37 @@
 -- What is taken ends with a token and at most one separator.
-use Rattle.std.proofs.Common.{◌≡◌, ℕ, ◌+◌, ◌^◌, ◌<◌, Bool, true, false, List, [], ◌∷◌, ◌++◌, Option, Some, None, IfSome, drop, refl, sym}
-use Rattle.std.proofs.Common.{subst, ap, ◌∙◌, arith, append_assoc, append-nil}
+use Rattle.std.proofs.Common.{rules, ◌≡◌, ℕ, ◌+◌, ◌^◌, ◌<◌, Bool, true, false, List, [], ◌∷◌, ◌++◌, Option, Some, None, IfSome, refl, sym}
+use Rattle.std.proofs.Common.{ap, ◌∙◌, arith, append_assoc, append-nil}
 use Rattle.std.specs.Prelude.{⊤}
 use Rattle.std.specs.Io.KnownBytes.{Consumes}
 use Rattle.std.proofs.KnownBytes.{Consumes-trans}
 use Rattle.qbf_text.specs.declared.scanner.Place.{Place}
 use Rattle.qbf_text.specs.declared.token.Comments.{Comments}
 use Rattle.qbf_text.specs.declared.token.Token.{Token}
-use Rattle.qbf_text.specs.declared.token.Token.TheVariants.{End, Number}
+use Rattle.qbf_text.specs.declared.token.Token.TheVariants.{End}
 use Rattle.qbf_text.specs.Ahead.{ahead}
-use Rattle.qbf_text.specs.Hand.{BeginsWithNumber}
-use Rattle.qbf_text.specs.Left.{is_separator, is_end, tokens_left, IsUnbroken, IsWithinLine, EndsRun, EndsLine}
+use Rattle.qbf_text.specs.Left.{is_separator, is_end, tokens_left, IsUnbroken, IsWithinLine, EndsRun, EndsLine, known_left}
 use Rattle.qbf_text.specs.Lined.{Lined}
-use Rattle.qbf_text.specs.Rows.{Row, Goes, Ends, Whole, Read, read_from}
+use Rattle.qbf_text.specs.Rows.{Row, Goes, Ends, Whole, Read, read_from, Fails, Fault}
 use Rattle.qbf_text.specs.Rows as rows
-use Rattle.qbf_text.specs.Stopping.{IfKnown, BeginsAs, Skips, TakesToken, tokens_at, PlaceSkips, PlaceTakes}
-use Rattle.qbf_text.specs.Stopping.{FindsToken, StopsBehind}
+use Rattle.qbf_text.specs.Stopping.{IfKnown, BeginsAs, Skips, TakesToken, tokens_at, PlaceSkips, PlaceTakes, FindsToken, StopsBehind}
 use Rattle.qbf_text.specs.Passing.{SoFar}
 use Rattle.qbf_text.specs.Tokens.{kind, is_blank, is_line_end, is_comment_byte, counted}
 use Rattle.qbf_text.proofs.OneToken.{after, read-one}
 use Rattle.qbf_text.proofs.KnownLeft.{always}
 use Rattle.qbf_text.proofs.ByteByByte.{left_nothing, left_line_end, left_blank, left_comment, left_run, IsToken, tokens_left-counted}
-use Rattle.qbf_text.proofs.LeftAfterNumber.{number_taken, spelled_ending, spelled_blanked}
+use Rattle.qbf_text.specs.declared.token.Token.TheVariants as token
+use Rattle.qbf_text.specs.Reading.{GivesNext}
 
 -- ---- known bytes
 
 pub known_trans : (P Q R : List ℕ → List ℕ → Type 0) → ((x y z : List ℕ) → P x y → Q y z → R x z) → (a b c : Option (List ℕ))
     → IfKnown P a b → IfKnown Q b c → IfKnown R a c
-known_trans P Q R f None b c p q = tt
-known_trans P Q R f (Some x) None c p q = absurd p
-known_trans P Q R f (Some x) (Some y) None p q = absurd q
-known_trans P Q R f (Some x) (Some y) (Some z) p q = f x y z p q
+known_trans P Q R h a b c k e = search rules
 
 -- what holds of the bytes that were consumed and any rest holds where they are known
 pub known_by : (P : List ℕ → List ℕ → Type 0) (R : List ℕ → Type 0) (a b : Option (List ℕ)) (bs : List ℕ) → Consumes a b bs → IfSome b R
     → ((rest : List ℕ) → R rest → P (bs ++ rest) rest) → IfKnown P a b
-known_by P R None b bs p r f = tt
-known_by P R (Some x) None bs p r f = absurd p
-known_by P R (Some x) (Some y) bs p r f = subst (λ z. P z y) (sym p) (f y r)
+known_by P R a b bs h k e = search rules
 
 -- ---- what may follow
 
@@ -50,14 +44,10 @@ begins_skipped [] b c new = tt
 begins_skipped (x ∷ xs) b c new = refl
 
 ends_run : (new rest : List ℕ) → EndsRun new → BeginsAs new rest → EndsRun rest
-ends_run new [] h e = tt
-ends_run [] (b ∷ bs) h e = absurd e
-ends_run (c ∷ cs) (b ∷ bs) h e = rw e h
+ends_run new rest h k = search rules
 
 ends_line : (new rest : List ℕ) → EndsLine new → BeginsAs new rest → EndsLine rest
-ends_line new [] h e = tt
-ends_line [] (b ∷ bs) h e = absurd e
-ends_line (c ∷ cs) (b ∷ bs) h e = rw e h
+ends_line new rest h k = search rules
 
 -- ---- bytes with no token
 
@@ -153,35 +143,6 @@ module _ (f : Comments) (begun : Bool) (n : ℕ) where
             (sep, unbroken) (ends_run new rest ends h) token ∙ ap (λ m. (kind (b ∷ more), m) ∷ tokens_left f true n rest) same;
       })
 
--- a number that stands whole among the bytes at hand, and the separator behind it
-module _ (f : Comments) (begun : Bool) (n : ℕ) (pending : List ℕ) (negative : Bool) (value len : ℕ) (ends : Bool)
-    (h : BeginsWithNumber pending negative value len ends) (small : n < 2 ^ 64) (rem : Option (List ℕ)) where
-  takes_number : (there : List ℕ → List Lined)
-      → ((rest : List ℕ) → tokens_left f begun n ((h.run ++ h.behind ∷ []) ++ rest) ≡ (Number negative value, n) ∷ there rest)
-      → IfKnown (TakesToken (tokens_left f begun n) there (Number negative value, n)) (ahead pending rem) (ahead (drop len pending) rem)
-  takes_number there e =
-      known_by _ (λ _. ⊤) (ahead pending rem) (ahead (drop len pending) rem) (h.run ++ h.behind ∷ [])
-      (number_taken f begun n pending negative value len ends h small rem) (always (ahead (drop len pending) rem)) (λ new _. record {
-        skipped = [];
-        word = h.run;
-        behind = h.behind ∷ [];
-        line = counted n;
-        taken = refl;
-        nothing = left_nothing f begun n;
-        unbroken = h.unbroken;
-        separates = h.separates;
-        spelled = λ rest _. e rest;
-      })
-
-  pub takes_ending : ends ≡ true → IfKnown (TakesToken (tokens_left f begun n) (tokens_left f false (counted (n + 1)))
-      (Number negative value, n)) (ahead pending rem) (ahead (drop len pending) rem)
-  takes_ending e =
-      takes_number (tokens_left f false (counted (n + 1))) (spelled_ending f begun n pending negative value len ends h small rem e)
-
-  pub takes_blanked : ends ≡ false → IfKnown (TakesToken (tokens_left f begun n) (tokens_left f true n) (Number negative value, n))
-      (ahead pending rem) (ahead (drop len pending) rem)
-  takes_blanked e = takes_number (tokens_left f true n) (spelled_blanked f begun n pending negative value len ends h small rem e)
-
 -- ---- from place to place
 
 pub known_skips : {R : Type 0} (here mid there : List ℕ → R) (a b c : Option (List ℕ)) → IfKnown (Skips here mid) a b
@@ -202,17 +163,11 @@ place_takes_behind p q r a b c token s t =
     known_trans _ _ _ (takes_behind (tokens_at p) (tokens_at q) (tokens_at r) token) (ahead p.window a) (ahead q.window b)
     (ahead r.window c) s t
 
--- a token behind it is found
+-- a token after it is found
 pub found_token : {p q r : Place} {a b c : Option (List ℕ)} {token : Lined} → PlaceSkips p a q b → FindsToken q b r c token
     → FindsToken p a r c token
 found_token {p} {q} {r} {a} {b} {c} {token} s t =
     record { takes = place_takes_behind p q r a b c token s t.takes; no_end = t.no_end }
-
-pub found_behind : (p q r : Place) (found : Option Lined) → ((rem : Option (List ℕ)) → PlaceSkips p rem q rem)
-    → IfSome found (λ token. (rem : Option (List ℕ)) → FindsToken q rem r rem token)
-    → IfSome found (λ token. (rem : Option (List ℕ)) → FindsToken p rem r rem token)
-found_behind p q r None s t = tt
-found_behind p q r (Some token) s t = λ rem. found_token (s rem) (t rem)
 
 -- ---- token after token
 
@@ -306,3 +261,31 @@ module _ {P A F : Type 0} (row : P → Token → Row P A F) (first : P) where
       → IfKnown (StopsBehind row first next answer here there) a c
   stops_behind last next answer here mid there token a b c e no_end =
       known_trans _ _ _ (λ x y z. stops_one last next answer here mid there token x y z e no_end) a b c
+
+-- what holds of known bytes, in other words
+pub if_known : {P Q : List ℕ → List ℕ → Type 0} → ((x y : List ℕ) → P x y → Q x y) → (before after : Option (List ℕ))
+    → IfKnown P before after → IfKnown Q before after
+if_known h before after k = search rules
+
+module _ {P A F : Type 0} (row : P → Token → Row P A F) {fault : F} (refused : (p : P) → row p token.End ≡ Fails fault) where
+  pub taken_no_end : (p next : P) (t : Token) (a : A) → row p t ≡ Ends a next → is_end t ≡ false
+  taken_no_end p next token.End a e = absurd (let x : Fails fault ≡ Ends a next = sym (refused p) ∙ e in cc)
+  taken_no_end p next t a e = refl
+
+  -- without the last run there is the fault of the end
+  pub unread_fault : {first next : P} {a : A} {here there : List ℕ → List Lined} {old new : List ℕ}
+      → (s : StopsBehind row first next a here there old new)
+      → read_from row first (here s.before) ≡ Fault fault s.line
+  unread_fault s = s.unread ∙ read-one row s.last (token.End, s.line) []
+      ∙ ap (λ (r : Row P A F). after row r (token.End, s.line) []) (refused s.last)
+
+module _ (f : Comments) (begun : Bool) (n : ℕ) (f' : Comments) (begun' : Bool) (n' : ℕ) where
+  pub next_taken : (token : Lined) (t t' : Option (List ℕ))
+      → IfKnown (TakesToken (tokens_left f begun n) (tokens_left f' begun' n') token) t t' → is_end token.0 ≡ false
+      → GivesNext (known_left f begun n t) (known_left f' begun' n' t') token
+  next_taken token t t' h k = search rules
+
+  pub next_ended : (line : ℕ) (t t' : Option (List ℕ)) → IfKnown (Skips (tokens_left f begun n) (tokens_left f' begun' n')) t t'
+      → IfSome (known_left f' begun' n' t') (λ left. left ≡ (End, line) ∷ [])
+      → GivesNext (known_left f begun n t) (Some ((End, line) ∷ [])) (End, line)
+  next_ended line t t' h k = search rules

@@ -1,4 +1,4 @@
--- What a call answers that reads a whole text, in any format: what the text spells, or its first fault and the line of that.
+-- What a call returns that reads a whole text, in any format: what the text spells, or its first fault and the line of that.
 use Rattle.std.specs.Prelude.{◌≡◌, ℕ, Bool, true, false, List, ◌∷◌, ◌++◌, Option, IfSome, Result, Ok, Err}
 use Rattle.qbf_text.specs.declared.grammar.ReadError.{ReadError}
 use Rattle.qbf_text.specs.declared.grammar.ReadError.TheVariants as error
@@ -34,7 +34,7 @@ abbrev pub Answers : {A F : Type 0} → (F → Bool) → (List Token → A → T
 Answers outside Spelled Stands ts (Ok a) = Spelled (unlined ts) a
 Answers outside Spelled Stands ts (Err e) = Unless (outside e.0) (Stands ts e.0 e.1)
 
--- The answer is what was to be read, as far as that is known, unless the source failed or memory ran out.
+-- The result is what was to be read, as far as that is known, unless the source failed or memory ran out.
 abbrev pub Gives : {A F : Type 0} → (F → Bool) → Result A (F × ℕ) → Option (Result A (F × ℕ)) → Type 0
 Gives outside (Ok a) whole = IfSome whole (λ r. r ≡ Ok a)
 Gives outside (Err e) whole = Unless (outside e.0) (IfSome whole (λ r. r ≡ Err (e.0, e.1)))

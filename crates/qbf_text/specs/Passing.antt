@@ -1,17 +1,32 @@
 -- What was passed of the bytes at hand: tokens that stand there whole, whatever bytes follow.
-use Rattle.std.specs.Prelude.{◌≡◌, ℕ, ◌+◌, ◌<◌, ◌≤◌, Bool, true, false, List, [], ◌∷◌, ◌++◌, drop, length, Option, Some, None}
+use Rattle.std.specs.Prelude.{◌≡◌, ℕ, ◌+◌, ◌<◌, ◌≤◌, Bool, true, false, List, [], ◌∷◌, ◌++◌, take, drop, length, Option, Some}
+use Rattle.std.specs.Prelude.{None}
 use Rattle.qbf_text.specs.Ahead.{ahead}
 use Rattle.qbf_text.specs.declared.hand.Cursor.{Cursor}
 use Rattle.qbf_text.specs.declared.token.Comments.{Comments}
 use Rattle.qbf_text.specs.declared.token.Token.{Token}
+use Rattle.qbf_text.specs.declared.token.Token.TheVariants.{Number}
 use Rattle.qbf_text.specs.Left.{tokens_left, is_end, is_separator, IsUnbroken}
 use Rattle.qbf_text.specs.Lined.{Lined}
 use Rattle.qbf_text.specs.Reading.{Reading, GivesNext, left}
 use Rattle.qbf_text.specs.Rows.{Row, Ends, read_from, reads_from}
 use Rattle.qbf_text.specs.Stopping.{BeginsAs, IfKnown, ScannerTakes, tokens_next}
-use Rattle.qbf_text.specs.Tokens.{counted}
+use Rattle.qbf_text.specs.Runs.{begins_number}
+use Rattle.qbf_text.specs.Tokens.{counted, kind, is_line_end}
 
--- the cursor behind a number and its separator, which take so many bytes
+-- the first `len` bytes are a run that is this number, and the separator after it, which ends the line or not
+pub record BeginsWithNumber (bytes : List ℕ) (negative : Bool) (value len : ℕ) (ends_line : Bool) : Type 0 where
+  pub run : List ℕ
+  pub behind : ℕ
+  pub within : len ≤ length bytes
+  pub front : take len bytes ≡ run ++ behind ∷ []
+  pub begins : begins_number run ≡ true
+  pub unbroken : IsUnbroken run
+  pub is : Number negative value ≡ kind run
+  pub separates : is_separator behind ≡ true
+  pub ends : ends_line ≡ is_line_end behind
+
+-- the cursor after a number and its separator, which take so many bytes
 abbrev pub behind : Cursor → ℕ → Bool → Cursor
 behind here len true = record { at = here.at + len; line = counted (here.line + 1); begun = false }
 behind here len false = record { at = here.at + len; line = here.line; begun = true }

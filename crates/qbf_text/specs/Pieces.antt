@@ -55,7 +55,7 @@ abbrev pub within : Option ℕ → ℕ → ℕ
 within None n = n
 within (Some room) n = min room n
 
--- the room behind n bytes
+-- the room after n bytes
 abbrev pub room_after : Option ℕ → ℕ → Option ℕ
 room_after None n = None
 room_after (Some room) n = Some (room - n)
@@ -76,6 +76,6 @@ room_failed s = record s { room = None; failures = one_more s.failures }
 abbrev pub finish_failed : Store → Store
 finish_failed s = record s { failures = one_more s.failures }
 
--- after a refused growth, with memory for so many
+-- after a failed growth, with memory for so many
 abbrev pub refused : Store → ℕ → Store
 refused s capacity = record s { failures = one_more s.failures; capacity = capacity }

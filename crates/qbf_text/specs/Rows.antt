@@ -12,7 +12,7 @@ pub data Row (P A F : Type 0) : Type 0 where
 
 -- What is read from a place on.
 pub data Read (P A F : Type 0) : Type 0 where
-  -- the answer, the place after it and the tokens that are left
+  -- the result, the place after it and the tokens that are left
   Whole : A → P → List Lined → Read P A F
   -- the first fault and its line
   Fault : F → ℕ → Read P A F
@@ -34,7 +34,7 @@ read_from row place (t ∷ ts) =
       | Fails fault ↦ Fault fault t.1
     ]
 
--- The same, where the tokens are told.
+-- The same, where the tokens are known.
 abbrev pub reads_from : {P A F : Type 0} → (P → Token → Row P A F) → P → Known → Option (Read P A F)
 reads_from row place None = None
 reads_from row place (Some ts) = Some (read_from row place ts)

@@ -1,4 +1,4 @@
--- Where reading stops: behind a token, and at most one separator.
+-- Where reading stops: after a token, and at most one separator.
 use Rattle.std.specs.Prelude.{◌≡◌, ℕ, false, true, List, [], ◌∷◌, ◌++◌, Option, Some, None, IfSome, Result, Ok, Err, ⊤}
 use Rattle.qbf_text.specs.declared.grammar.ReadError.{ReadError}
 use Rattle.qbf_text.specs.declared.scanner.Place.{Place}
@@ -6,8 +6,7 @@ use Rattle.qbf_text.specs.declared.token.Token.{Token}
 use Rattle.qbf_text.specs.declared.token.Token.TheVariants.{End}
 use Rattle.qbf_text.specs.Ahead.{ahead}
 use Rattle.std.specs.Io.KnownBytes.{IsAtEnd}
-use Rattle.qbf_text.specs.Left.{is_separator, is_end, tokens_left, IsUnbroken}
-use Rattle.qbf_text.specs.Places.{left_at}
+use Rattle.qbf_text.specs.Left.{is_separator, is_end, tokens_left, known_left, IsUnbroken}
 use Rattle.qbf_text.specs.Lined.{Lined}
 use Rattle.qbf_text.specs.Reading.{Reading}
 use Rattle.qbf_text.specs.Rows.{Row, Ends, Whole, read_from}
@@ -53,6 +52,10 @@ pub record TakesToken (here there : List ℕ → List Lined) (token : Lined) (ol
 abbrev pub tokens_at : Place → List ℕ → List Lined
 tokens_at p = tokens_left p.comments p.begun p.line
 
+-- the tokens that are left there, where the bytes are known
+abbrev pub left_at : Place → Option (List ℕ) → Option (List Lined)
+left_at p remaining = known_left p.comments p.begun p.line (ahead p.window remaining)
+
 -- the tokens of bytes that a scanner meets next
 abbrev pub tokens_next : Reading → List ℕ → List Lined
 tokens_next r = tokens_left r.comments r.begun r.line
@@ -82,9 +85,9 @@ abbrev pub ScannerTakes : Reading → Option (List ℕ) → Reading → Option (
 ScannerTakes r before s after token =
     IfKnown (TakesToken (tokens_next r) (tokens_next s) token) (ahead r.pending before) (ahead s.pending after)
 
--- Of the bytes before, no more was taken than what spells the answer: the run of the last token is needed, since without it the
--- last place is not left, and behind it at most one separator was taken. `here` says what tokens bytes have before, and `there` what
--- they have behind.
+-- Of the bytes before, no more was taken than what spells the result: the run of the last token is needed, since without it the
+-- last place is not left, and after it at most one separator was taken. `here` says what tokens bytes have before, and `there` what
+-- they have afterwards.
 pub record StopsBehind {P A F : Type 0} (row : P → Token → Row P A F) (first next : P) (answer : A) (here there : List ℕ → List Lined)
     (old new : List ℕ) : Type 0 where
   pub before : List ℕ
@@ -100,10 +103,10 @@ pub record StopsBehind {P A F : Type 0} (row : P → Token → Row P A F) (first
   pub no_end : is_end token ≡ false
   -- the bytes before that run lead to the last place
   pub unread : read_from row first (here before) ≡ read_from row last ((End, line) ∷ [])
-  -- with it they give the answer, whether the text goes on as it does or ends there
+  -- with it they give the result, whether the text goes on as it does or ends there
   pub whole : (rest : List ℕ) → BeginsAs new rest → read_from row first (here (before ++ word ++ behind ++ rest)) ≡ Whole answer next (there rest)
 
--- where some row takes a token that is not End, nothing is taken behind it but a separator, and this holds too
+-- where some row takes a token that is not End, nothing is taken after it but a separator, and this holds too
 abbrev pub Stops : {P A F : Type 0} → (P → Token → Row P A F) → P → P → (here there : List ℕ → List Lined) → Option (List ℕ)
     → Option (List ℕ) → Type 0 → Result A (ReadError F) → Type 0
 Stops {P = P} row first next here there before after few (Ok a) = (place : P) × (token : Token) × (row place token ≡ Ends a next)

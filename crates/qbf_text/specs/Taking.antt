@@ -1,4 +1,4 @@
--- What the calls that read by rows answer.
+-- What the calls that read by rows return.
 use Rattle.std.specs.Prelude.{◌≡◌, ◌-◌, ◌^◌, ◌<◌, ℕ, List, true, false, Option, Some, None, IfSome, Result, Ok, Err, ⊤}
 use Rattle.qbf_text.specs.declared.token.Token.{Token}
 use Rattle.qbf_text.specs.Lined.{Lined, Known}
@@ -11,7 +11,7 @@ use Rattle.qbf_text.specs.declared.grammar.Stop.TheVariants as stop
 use Rattle.qbf_text.specs.declared.grammar.ReadError.{ReadError}
 use Rattle.qbf_text.specs.declared.grammar.ReadError.TheVariants as error
 
--- a token was taken as its row says, unless memory was refused
+-- a token was taken as its row says, unless an allocation failed
 abbrev pub Takes : {P A F : Type 0} → Row P A F → P → Result (Taken A) (Stop F) → Type 0
 Takes r next (Ok taken.More) = r ≡ Goes next
 Takes r next (Ok (taken.Done a)) = r ≡ Ends a next
@@ -30,7 +30,7 @@ Leaves None a next rest = ⊤
 Leaves (Some r) a next None = ⊥
 Leaves (Some r) a next (Some ts) = r ≡ Whole a next ts
 
--- the answer is what was to be read, unless the source failed or memory was refused
+-- the result is what was to be read, unless the source failed or an allocation failed
 abbrev pub Reads : {P A F : Type 0} → Option (Read P A F) → P → Known → Result A (ReadError F) → Type 0
 Reads whole next rest (Ok a) = Leaves whole a next rest
 Reads whole next rest (Err error.Device) = ⊤
@@ -44,14 +44,14 @@ Counts old new (Err error.Device) = old < 2 ^ 64 - 1 → old < new
 Counts old new (Err error.Memory) = new ≡ old
 Counts old new (Err (error.Text f line)) = new ≡ old
 
--- the same of told tokens
+-- the same of known tokens
 abbrev pub Answers : {P A F : Type 0} → Read P A F → P → Result A (ReadError F) → Type 0
 Answers whole next (Ok a) = (rest : List Lined) × (whole ≡ Whole a next rest)
 Answers whole next (Err error.Device) = ⊤
 Answers whole next (Err error.Memory) = ⊤
 Answers whole next (Err (error.Text f line)) = whole ≡ Fault f line
 
--- what is answered is what a row says of the last token, unless the source failed or memory was refused; what holds if that
+-- what is returned is what a row says of the last token, unless the source failed or an allocation failed; what holds if that
 -- token is not End, and what holds if it is
 abbrev pub Follows : {P A F : Type 0} → (P → Token → Row P A F) → P → Type 0 → Type 0 → Result A (ReadError F) → Type 0
 Follows {P = P} row next open_ ended (Ok a) =

@@ -189,7 +189,7 @@ pub fn read_by<G: Grammar, S: Source>(
         (length scanner.new.pending + S.bound source.new
         < length scanner.old.pending + S.bound source.old)
         (IsReady scanner.old (S.remaining source.old) → IsAtEnd (S.remaining source.new)) result }
-    // Behind the last token, unless that is End, no byte is taken but a separator, and at most
+    // After the last token, unless that is End, no byte is taken but a separator, and at most
     // 4,096 bytes are held.
     ensures stops { Stops G.row_of (G.place grammar.old) (G.place grammar.new)
         (tokens_next scanner.old) (tokens_next scanner.new)

@@ -3,8 +3,7 @@
 ghost use Rattle.std.specs.Prelude.{◌≡◌, ◌+◌, ◌^◌, ◌<◌, ◌≤◌, ◌&&◌, false, nat_eq, length};
 ghost use Rattle.std.specs.Prelude.{IfSome};
 ghost use Rattle.qbf_text.specs.Runs.{begins_with_minus};
-ghost use Rattle.qbf_text.specs.Hand.{BeginsWithNumber};
-ghost use Rattle.qbf_text.specs.Passing.{PassesNumber};
+ghost use Rattle.qbf_text.specs.Passing.{BeginsWithNumber, PassesNumber};
 
 use crate::separators::is_separator;
 use crate::token::Token;
@@ -78,8 +77,8 @@ fn signed_number(bytes: &[u8]) -> Option<Found>
 
 /// The number that the bytes begin with, if a separator follows it.
 ///
-/// It is None for what is not as usual too: a number of more than 20 digits. The zero that ends a
-/// list is the most frequent number, so it is looked for first.
+/// Also None for more than 20 digits. The zero that ends a list is the most frequent number, so it
+/// is looked for first.
 #[inline(always)]
 pub fn number_in_front(bytes: &[u8]) -> Option<Found>
     ensures { IfSome result (λ f. BeginsWithNumber bytes.now f.negative f.value f.len f.ends_line) }
@@ -107,14 +106,14 @@ pub struct Cursor {
 pub struct Passed {
     /// The number.
     pub token: Token,
-    /// After the separator behind it.
+    /// The cursor after the separator that follows it.
     pub next: Cursor,
 }
 
 impl Cursor {
     ghost use Rattle.qbf_text.specs.Passing.{behind};
 
-    /// The cursor behind a number and its separator, which take so many bytes.
+    /// The cursor after a number and its separator, which take so many bytes.
     #[inline(always)]
     fn behind(self, len: usize, ends_line: bool) -> Cursor
         requires { self.at + len < 2 ^ 64 }
@@ -134,7 +133,7 @@ impl Cursor {
 
     /// The number that stands next and whole among the bytes at hand.
     ///
-    /// It is None for what is not as usual too: the slow way takes that.
+    /// Also None for a number that is not as usual: the slow way takes that.
     #[inline(always)]
     pub fn number(self, bytes: &[u8]) -> Option<Passed>
         requires { self.at ≤ length bytes.now }

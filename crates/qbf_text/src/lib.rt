@@ -19,5 +19,5 @@ pub use pieces::{PieceSink, PieceSource};
 pub use scanner::{ScanFault, Scanner};
 pub use sink::{Sink, SinkFault, ToWrite, VecSink, put_byte, put_bytes, put_number};
 pub use source::{FromRead, SliceSource, Source, SourceFault};
-pub use spelling::{put_all_spaced, put_signed, put_spaced, put_spaced_signed};
+pub use spelling::{put_signed, put_spaced, put_spaced_signed};
 pub use token::{Comments, Token, Word};

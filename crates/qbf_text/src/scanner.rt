@@ -1,8 +1,8 @@
 //! Texts as tokens with their lines, read from a source.
 
 ghost use Rattle.std.specs.Prelude.{Option, ◌≡◌, ℕ, ◌+◌, ◌-◌, ◌^◌, ◌<◌, ◌≤◌, Some, List, [], ◌∷◌};
-ghost use Rattle.std.specs.Prelude.{length, IfSome, IfNone, false, true, IsOk, IsErr, IfOk, OnOk};
-ghost use Rattle.std.specs.Prelude.{OnErr};
+ghost use Rattle.std.specs.Prelude.{length, drop, IfSome, IfNone, false, true, IsOk, IsErr, IfOk};
+ghost use Rattle.std.specs.Prelude.{OnOk, OnErr};
 ghost use Rattle.std.specs.Io.KnownBytes.{Consumes, IsAtEnd};
 ghost use Rattle.qbf_text.specs.Ahead.{ahead, first_of};
 ghost use Rattle.qbf_text.specs.Pulling.{HasPulled};
@@ -93,6 +93,35 @@ impl Place {
     ghost use Rattle.qbf_text.specs.Stopping.{FindsToken, FindsEnd, PlaceSkips};
     ghost use Rattle.qbf_text.specs.declared.token.Token.TheVariants.{End};
 
+    /// The cursor at the first of the bytes that were pulled.
+    #[inline(always)]
+    fn cursor(&self) -> Cursor
+        ensures { result ≡ record { at = 0; line = self.now.line; begun = self.now.begun } }
+    {
+        Cursor {
+            at: 0,
+            line: self.line,
+            begun: self.begun,
+        }
+    }
+
+    /// Goes to a cursor among the bytes that were pulled.
+    #[inline(always)]
+    fn go_to(&mut self, here: Cursor)
+        requires { here.at ≤ length self.old.window }
+        ensures to { self.new ≡ record self.old {
+          line = here.line;
+          begun = here.begun;
+          window = drop here.at self.old.window;
+        } }
+        ensures shorter { length self.new.window + here.at ≡ length self.old.window }
+        ensures few { length self.new.window ≤ 4096 }
+    {
+        self.window.skip(here.at);
+        self.line = here.line;
+        self.begun = here.begun;
+    }
+
     /// The next token and its line, if it is a number that was pulled whole with the separator
     /// after it: both are taken then, and else nothing is.
     #[inline(always)]
@@ -103,20 +132,12 @@ impl Place {
             × (length self.new.window ≤ 4096)) }
         ensures none { IfNone result (self.new ≡ self.old) }
     {
-        let Some(found) = self.window.number() else {
+        let line = self.line;
+        let Some(passed) = self.cursor().number(self.window.bytes()) else {
             return None;
         };
-        let line = self.line;
-        self.window.skip(found.len);
-        self.begun = !found.ends_line;
-        if found.ends_line {
-            self.line = line.saturating_add(1);
-        }
-        let token = Token::Number {
-            negative: found.negative,
-            value: found.value,
-        };
-        Some((token, line))
+        self.go_to(passed.next);
+        Some((passed.token, line))
     }
 
     /// Goes past a separator, the next byte of those that were pulled.
@@ -151,48 +172,13 @@ impl Place {
         }
     }
 
-    /// The same as `number`, after the separators that were pulled: these are taken if there is no
-    /// number too.
+    /// The next token and its line, or None at the end.
     #[cold]
     #[inline(never)]
-    fn number_behind(&mut self) -> Option<(Token, u64)>
-        ensures found { IfSome result (λ token. (remaining : Option (List ℕ)) →
-            FindsToken self.old remaining self.new remaining token) }
-        ensures less { IfSome result (λ _. (length self.new.window < length self.old.window)
-            × (length self.new.window ≤ 4096)) }
-        ensures none { IfNone result ((remaining : Option (List ℕ)) →
-            PlaceSkips self.old remaining self.new remaining) }
-        ensures no_more { length self.new.window ≤ length self.old.window }
-    {
-        self.skip_separators();
-        self.number()
-    }
-
-    /// The next token and its line, if it is a number that was pulled whole.
-    #[inline(always)]
-    fn at_hand(&mut self) -> Option<(Token, u64)>
-        ensures found { IfSome result (λ token. (remaining : Option (List ℕ)) →
-            FindsToken self.old remaining self.new remaining token) }
-        ensures less { IfSome result (λ _. (length self.new.window < length self.old.window)
-            × (length self.new.window ≤ 4096)) }
-        ensures none { IfNone result ((remaining : Option (List ℕ)) →
-            PlaceSkips self.old remaining self.new remaining) }
-        ensures no_more { length self.new.window ≤ length self.old.window }
-    {
-        match self.number() {
-            Some(token) => Some(token),
-            None => self.number_behind(),
-        }
-    }
-
-    /// The next token, or None at the end.
-    #[cold]
-    #[inline(never)]
-    fn scan<S: Source>(&mut self, source: &mut S) -> Result<Option<Token>, SourceFault>
+    fn scan<S: Source>(&mut self, source: &mut S) -> Result<Option<(Token, u64)>, SourceFault>
         // The source is read no further than after the token.
         ensures found { IfOk result (λ found. IfSome found (λ token.
-            FindsToken self.old (S.remaining source.old) self.new (S.remaining source.new)
-            (token, self.new.line))) }
+            FindsToken self.old (S.remaining source.old) self.new (S.remaining source.new) token)) }
         ensures less { IfOk result (λ found. IfSome found (λ _.
             length self.new.window + S.bound source.new
             < length self.old.window + S.bound source.old)) }
@@ -201,6 +187,10 @@ impl Place {
         ensures pulled { HasPulled S.bound S.failures self.old.window self.new.window
             source.old source.new result }
     {
+        self.skip_separators();
+        if let Some(token) = self.number() {
+            return Ok(Some(token));
+        }
         // The proof reads here that the number has 64 bits.
         let _line = self.line;
         while let Some(byte) = self.window.peek(source)? {
@@ -213,7 +203,7 @@ impl Place {
                 self.window.advance();
                 let token = read_run(byte, &mut self.window, source)?;
                 self.begun = true;
-                return Ok(Some(token));
+                return Ok(Some((token, self.line)));
             }
         }
         Ok(None)
@@ -310,11 +300,7 @@ impl Scanner {
     pub fn cursor(&self) -> Cursor
         ensures { result ≡ cursor self.now }
     {
-        Cursor {
-            at: 0,
-            line: self.place.line,
-            begun: self.place.begun,
-        }
+        self.place.cursor()
     }
 
     /// Goes to a place among the bytes at hand.
@@ -324,9 +310,7 @@ impl Scanner {
         ensures to { self.new ≡ moved self.old here }
         ensures few { length self.new.pending ≤ 4096 }
     {
-        self.place.window.skip(here.at);
-        self.place.line = here.line;
-        self.place.begun = here.begun;
+        self.place.go_to(here);
     }
 
     /// The next token and its line.
@@ -335,6 +319,7 @@ impl Scanner {
     /// stands on the line after the last byte 10. After End every call returns the same End and
     /// pulls nothing.
     ///
+    /// # Errors
     /// X1 where the source failed. Every later call returns X1 and pulls nothing.
     #[tactic(auto, unfolding(crate::specs::Reading::left))]
     #[inline(always)]
@@ -376,11 +361,11 @@ impl Scanner {
             State::Ended => return Ok((Token::End, self.place.line)),
             State::Open => {}
         }
-        if let Some(token) = self.place.at_hand() {
+        if let Some(token) = self.place.number() {
             return Ok(token);
         }
         match self.place.scan(source) {
-            Ok(Some(token)) => Ok((token, self.place.line)),
+            Ok(Some(token)) => Ok(token),
             Ok(None) => {
                 self.state = State::Ended;
                 Ok((Token::End, self.place.line))

@@ -1,7 +1,6 @@
 //! Numbers as texts have them, on their way to a sink.
 
 ghost use Rattle.std.specs.Prelude.{◌∷◌, decimal};
-ghost use Rattle.std.specs.List.{flat_map};
 ghost use Rattle.qbf_text.specs.Canonical.{spaced, spelled};
 ghost use Rattle.qbf_text.specs.Written.{IsPut};
 ghost use Rattle.qbf_text.specs.declared.token.Token.TheVariants.{Number};
@@ -10,6 +9,7 @@ use crate::sink::{Sink, SinkFault, put_byte, put_number};
 
 /// Sends a number after a blank.
 ///
+/// # Errors
 /// A `SinkFault` where the sink failed. What went out is a beginning of these bytes then.
 #[inline(always)]
 pub fn put_spaced<S: Sink>(sink: &mut S, n: u64) -> Result<(), SinkFault>
@@ -18,21 +18,9 @@ pub fn put_spaced<S: Sink>(sink: &mut S, n: u64) -> Result<(), SinkFault>
     sink.push_spaced(false, n)
 }
 
-/// Sends numbers, each after a blank.
-///
-/// A `SinkFault` where the sink failed. What went out is a beginning of these bytes then.
-#[inline(always)]
-pub fn put_all_spaced<S: Sink>(sink: &mut S, numbers: &[u64]) -> Result<(), SinkFault>
-    ensures { IsPut S.written S.failures sink.old sink.new (flat_map spaced numbers.now) result }
-{
-    for number in numbers {
-        put_spaced(sink, *number)?;
-    }
-    Ok(())
-}
-
 /// Sends a number after a blank, directly after a minus if it is negative.
 ///
+/// # Errors
 /// A `SinkFault` where the sink failed. What went out is a beginning of these bytes then.
 #[inline(always)]
 pub fn put_spaced_signed<S: Sink>(sink: &mut S, negative: bool, n: u64) -> Result<(), SinkFault>
@@ -53,6 +41,7 @@ fn put_minus<S: Sink>(sink: &mut S, n: u64) -> Result<(), SinkFault>
 
 /// Sends a number, directly after a minus if it is negative.
 ///
+/// # Errors
 /// A `SinkFault` where the sink failed. What went out is a beginning of these bytes then.
 #[inline(always)]
 pub fn put_signed<S: Sink>(sink: &mut S, negative: bool, n: u64) -> Result<(), SinkFault>

@@ -159,13 +159,11 @@ between_step ts h ps cs t next b e = elim (between_goes h ps cs t next e) [
 
 -- an accepted token leads to a place that the tokens spell
 step : (ts : List Token) (p next : Place) (t : Token) → Spells ts p → row p t ≡ Goes next → Spells (ts ++ t ∷ []) next
-step ts (InHeader place.P) next t b e = search rules
-step ts (InHeader place.Format) next t b e = search rules
-step ts (InHeader place.First) next t b e = search rules
 step ts (InHeader (place.Second v)) next t b e =
     let k = count_is v t next e in
     let none = none_so_far (record { max_var = v; count = k.0 }) b.1 k.2 in
     subst (Spells (ts ++ t ∷ [])) k.3 ([], (λ i. b.0 i ++ k.1 i ∷ []), refl, none)
+step ts (InHeader here) next t b e = search rules
 step ts (Between h ps cs) next t b e = between_step ts h ps cs t next b e
 step ts (InSet h ps q) next t b e = set_step ts h ps q t next b e
 step ts (Whole f) next t b e = absurd b
@@ -201,7 +199,7 @@ whole_formula ts h ps cs b all =
       };
     }
 
--- reading ends behind whole lists, at the end
+-- reading ends after whole lists, at the end
 record IsLast (p : Place) (t : Token) (next : Place) : Type 0 where
   h : Heading
   ps : Pairs

@@ -1,16 +1,71 @@
--- The laws of reading.
-use Rattle.qbf_spelling.proofs.Words.{Qdimacs, tokens}
-use Rattle.std.proofs.Common.{ℕ, List, Option, IfSome}
+-- The laws of reading, and the canonical text that is read again.
+use Rattle.std.proofs.Common.{◌≡◌, ℕ, true, List, [], ◌∷◌, ◌++◌, length, map, refl, ap, ◌∙◌, arith, append_assoc, Option, IfSome}
+use Rattle.qbf_spelling.proofs.Words
+use Words.{flat_map-append, flat_map-map, flat_map, AllByRecursion, Quantifier, Literal, Block, pairs, variables, is_bound, IsVariable, Qbf}
+use Words.{Qdimacs, Token, tokens, literal, set}
+use Words.token
+use Rattle.qbf_core.specs.Blocks.{AreBound}
+use Rattle.qbf_core.specs.Qbf.{IsWellFormed}
+use Rattle.qbf_text.specs.Canonical.{IsPlain, IsLine}
+use Rattle.qbf_text.proofs.CanonicalTokens.{joined, tokens-lines_text, all_appended, all_mapped, all_of, closed_plain}
+use Rattle.qbf_spelling.proofs.CanonicalLines.{literals_plain, set_written}
+use Rattle.qdimacs.specs.Grammar.{header, clause, spelling, lines, text, IsFormula}
+use Rattle.qdimacs.specs.Laws.{ReadsText}
+use Rattle.qdimacs.proofs.SpelledIsRead.{bound_one, spelled_is_read, read_once}
+use Rattle.qdimacs.specs.Reading.{Pairs, Answer, Gives, reads_bytes, is_outside, read}
 use Rattle.qbf_text.proofs.Answered.{answered_bytes}
 use Rattle.qbf_text.proofs.TokensEndOnce.{tokens-EndsOnce}
-use Rattle.qdimacs.specs.Faults.{Answers, IsFault}
-use Rattle.qdimacs.specs.Grammar.{IsFormula}
+use Rattle.qdimacs.specs.Faults.{Answers, IsFault, Reads}
 use Rattle.qbf_text.specs.Answering.{BytesRead}
-use Rattle.qdimacs.specs.Faults.{Reads}
-use Rattle.qdimacs.specs.Reading.{Answer, Gives, reads_bytes, is_outside, read}
 use Rattle.qdimacs.proofs.ReadIsSpelled.{read_explained}
-use Rattle.qdimacs.proofs.SpelledIsRead.{read_once}
-use Rattle.qdimacs.proofs.CanonicalTextIsRead.{text_is_read}
+
+-- ---- the lines can be written
+
+front : (P : ℕ → Type 0) (q : Quantifier) (vs : List ℕ) (ps : Pairs)
+    → AllByRecursion P (variables (map (λ v. (q, v)) vs ++ ps)) → AllByRecursion P vs × AllByRecursion P (variables ps)
+front P q [] ps h = (tt, h)
+front P q (v ∷ vs) ps h = let k = front P q vs ps h.1 in ((h.0, k.0), k.1)
+
+sets_lines : (bs : List Block) → AllByRecursion IsVariable (variables (pairs bs)) → AllByRecursion IsLine (map set bs)
+sets_lines [] h = tt
+sets_lines (b ∷ bs) h =
+    let k = front IsVariable b.quantifier b.vars (pairs bs) h in (set_written b k.0, sets_lines bs k.1)
+
+numbers_line : (ls : List Literal) → AllByRecursion IsPlain (clause ls) → IsLine (clause ls)
+numbers_line [] h = (tt, h)
+numbers_line (l ∷ ls) h = (tt, h)
+
+clause_line : (bs : List Block) → AllByRecursion IsVariable (variables (pairs bs)) → (ls : List Literal) → AreBound bs ls
+    → IsLine (clause ls)
+clause_line bs within ls h = numbers_line ls (closed_plain (map literal ls) (literals_plain ls
+    (all_of (λ l. is_bound l.var (pairs bs) ≡ true) (λ l. IsVariable l.var)
+    (λ l is. bound_one IsVariable l.var (pairs bs) is within) ls h)))
+
+lines_written : (f : Qbf) → IsWellFormed f → AllByRecursion IsLine (lines f)
+lines_written f w = (
+  (tt, (tt, (tt, (omega (arith, w.numbers), (omega (arith, w.count), tt))))),
+  all_appended IsLine (map set f.blocks) (map clause f.clauses) (sets_lines f.blocks w.prefix.within)
+      (all_mapped (AreBound f.blocks) IsLine clause (clause_line f.blocks w.prefix.within) f.clauses w.closed),
+)
+
+-- ---- the tokens of the lines
+
+joined_lines : (f : Qbf) → joined (lines f) ++ token.End ∷ [] ≡ spelling f f.blocks
+joined_lines f =
+    let h = header f.max_var (length f.clauses) in
+    let parts : joined (map set f.blocks ++ map clause f.clauses) ≡ flat_map set f.blocks ++ flat_map clause f.clauses =
+    simp (flat_map-append, flat_map-map) in
+    ap (λ (k : List Token). (h ++ k) ++ token.End ∷ []) parts ∙ simp append_assoc
+
+-- What is written is read again.
+pub text_is_read : ReadsText
+text_is_read f w =
+    spelled_is_read (tokens Qdimacs (text f)) f (record {
+      sets = f.blocks;
+      spelled = tokens-lines_text Qdimacs (lines f) (lines_written f w) ∙ joined_lines f;
+      bound = refl;
+      well_formed = w;
+    })
 
 pub bytes_read : BytesRead Reads read Qdimacs
 bytes_read bytes = read_explained (tokens Qdimacs bytes) (tokens-EndsOnce Qdimacs bytes)

@@ -1,22 +1,129 @@
--- What tokens spell is read, and a fault that stands is found.
-use Rattle.std.proofs.Common.{◌≡◌, ℕ, ◌≤◌, List, [], ◌∷◌, ◌++◌, length, map, Ok, Err, refl, ap, sym, subst, ◌∙◌, arith}
+-- What tokens spell is read, and a fault that stands is found: accepted tokens, and the place that they lead to.
+use Rattle.std.proofs.Common.{rules, ◌≡◌, ◌∙◌, ◌≢◌, ℕ, ◌<◌, ◌≤◌, ◌+◌, Bool, true, false, List, [], ◌∷◌, ◌++◌, length, map, refl, arith}
+use Rattle.std.proofs.Common.{append_assoc, Ok, Err, ap, sym, subst}
 use Rattle.qbf_spelling.proofs.Words
-use Words.{flat_map, AllByRecursion, Block, pairs, blocks_of, Qbf, Token, Lined, set, unlined, read-one}
+use Words.{map-append, length-append, flat_map, AllByRecursion, Quantifier, Literal, Block, pairs, is_bound, blocks_of, variables, Token}
+use Words.{number, literal, letter, set, Ends, Qbf, Lined, unlined, read-one}
 use Words.token
-use Rattle.qbf_core.proofs.BlockLaws.{blocks_of-pairs}
-use Rattle.qbf_text.proofs.AcceptedTokens.{split_at, Leads, Stays, Passes, leads_then, leads_reads}
+use Words.word
+use Rattle.std.proofs.lemmas.List.{append-nil}
+use Rattle.qbf_core.specs.Blocks.{pairs_of_block}
+use Rattle.qbf_core.proofs.DistinctNumbers.{middle, front_all, front_distinct, new_number}
+use Rattle.qdimacs.proofs.AllVariablesBound.{is_bound_variables}
+use Rattle.qbf_text.proofs.AcceptedTokens.{Leads, Stays, Passes, leads_then, split_at, leads_reads}
 use Rattle.qbf_spelling.specs.declared.header.HeaderAt.TheVariants as place
-use Rattle.qbf_text.specs.Answering.{ReadsOnce}
-use Rattle.qdimacs.specs.Faults.{Reads}
-use Rattle.qdimacs.specs.declared.fault.FormulaFault.{FormulaFault}
+use Rattle.qdimacs.specs.Faults.{AreGood, Reads, Spells, IsFault}
 use Rattle.qdimacs.specs.Grammar.{header, clause, IsFormula}
-use Rattle.qdimacs.specs.Faults.{AreGood, Spells, IsFault}
-use Rattle.qdimacs.specs.Reading.{Heading, Place, AtP, InHeader, Between, InSet, InClause, Whole}
-use Rattle.qdimacs.specs.Reading.{Row, row, read, answer_of}
+use Rattle.qbf_text.specs.Rows.{Goes}
+use Rattle.qdimacs.specs.Reading.{Heading, Place, AtP, InHeader, Between, InSet, InClause, Whole, row, Pairs, Clauses, AreFrom, Row, read}
+use Rattle.qdimacs.specs.Reading.{answer_of}
+use Rattle.qbf_core.proofs.BlockLaws.{blocks_of-pairs}
+use Rattle.qbf_text.specs.Answering.{ReadsOnce}
+use Rattle.qdimacs.specs.declared.fault.FormulaFault.{FormulaFault}
 use Rattle.qbf_text.proofs.OneToken.{after}
-use Rattle.qdimacs.proofs.AcceptedTokens.{leads_vars, leads_header, leads_sets, leads_begun_set, leads_clauses, leads_begun_clause, end_row}
-use Rattle.qdimacs.proofs.AcceptedTokens.{good_front}
-use Rattle.qdimacs.specs.Reading.{Pairs, Clauses, AreFrom}
+
+-- ---- the header
+
+-- at the number of clauses
+pub leads_vars : (v : ℕ) → v ≤ 2147483647 → Leads row AtP (token.Word word.P ∷ token.Word word.Cnf ∷ number v ∷ []) (InHeader (place.Second v))
+leads_vars v lv = Passes refl (Passes refl (Passes (search rules) Stays))
+
+pub leads_header : (h : Heading) → h.max_var ≤ 2147483647 → h.count ≤ 2147483647
+    → Leads row AtP (header h.max_var h.count) (Between h [] [])
+leads_header h lv lc = leads_then (leads_vars h.max_var lv) (Passes (search rules) Stays)
+
+-- ---- variables
+
+-- what holds of each variable holds of a bound one
+pub bound_one : (P : ℕ → Type 0) (v : ℕ) (ps : Pairs) → is_bound v ps ≡ true → AllByRecursion P (variables ps) → P v
+bound_one P v [] e h = absurd cc
+bound_one P v (y ∷ ps) e h = let rest = bound_one P v ps in search rules
+
+pub good_front : (max_var : ℕ) (xs ys : Pairs) → AreGood max_var (xs ++ ys) → AreGood max_var xs
+good_front max_var xs ys good = record {
+  distinct = front_distinct (variables xs) (variables ys) (rw map-append at good.distinct);
+  within = front_all (λ v. (1 ≤ v) × (v ≤ max_var)) (variables xs) (variables ys) (rw map-append at good.within);
+}
+
+-- ---- a set
+
+variable_row : (h : Heading) (ps : Pairs) (q : Quantifier) (v : ℕ) → 1 ≤ v → v ≤ h.max_var → is_bound v ps ≡ false
+    → row (InSet h ps q) (number v) ≡ Goes (InSet h (ps ++ (q, v) ∷ []) q)
+variable_row h ps q v low high fresh = search rules
+
+letter_row : (h : Heading) (ps : Pairs) (q : Quantifier) → row (Between h ps []) (letter q) ≡ Goes (InSet h ps q)
+letter_row h ps q = search rules
+
+leads_variables : (h : Heading) (ps : Pairs) (q : Quantifier) (vs : List ℕ) → AreGood h.max_var (ps ++ map (λ v. (q, v)) vs)
+    → Leads row (InSet h ps q) (map number vs) (InSet h (ps ++ map (λ v. (q, v)) vs) q)
+leads_variables h ps q [] good = rw append-nil Stays
+leads_variables h ps q (v ∷ vs) good =
+    let more = variables (map (λ w. (q, w)) vs) in
+    let bounds = middle (λ w. (1 ≤ w) × (w ≤ h.max_var)) (variables ps) more v (rw map-append at good.within) in
+    let fresh = is_bound_variables v ps ∙ new_number (variables ps) more v (rw map-append at good.distinct) in
+    Passes (variable_row h ps q v bounds.0 bounds.1 fresh)
+    (rw append_assoc at (leads_variables h (ps ++ (q, v) ∷ []) q vs (rw append_assoc good)))
+
+-- a set that is not closed
+pub leads_begun_set : (h : Heading) (ps : Pairs) (q : Quantifier) (vs : List ℕ)
+    → AreGood h.max_var (ps ++ map (λ v. (q, v)) vs)
+    → Leads row (Between h ps []) (letter q ∷ map number vs) (InSet h (ps ++ map (λ v. (q, v)) vs) q)
+leads_begun_set h ps q vs good = Passes (letter_row h ps q) (leads_variables h ps q vs good)
+
+pub leads_sets : (h : Heading) (ps : Pairs) (sets : List Block) → AreGood h.max_var (ps ++ pairs sets)
+    → Leads row (Between h ps []) (flat_map set sets) (Between h (ps ++ pairs sets) [])
+leads_sets h ps [] good = rw append-nil Stays
+leads_sets h ps (s ∷ sets) good =
+    let next = ps ++ pairs_of_block s in
+    let all : AreGood h.max_var (next ++ pairs sets) = rw append_assoc good in
+    rw (← append_assoc ps (pairs_of_block s) (pairs sets)) (leads_then
+    (leads_then (leads_begun_set h ps s.quantifier s.vars (good_front h.max_var next (pairs sets) all))
+    (Passes refl Stays)) (leads_sets h next sets all))
+
+-- ---- a clause
+
+module _ (h : Heading) (ps : Pairs) (good : AreGood h.max_var ps) where
+  literal_row : (cs : Clauses) (ls : List Literal) (v : ℕ) (negative : Bool) → 1 ≤ v → v ≤ h.max_var → is_bound v ps ≡ true
+      → row (InClause h ps cs ls) (token.Number negative v) ≡ Goes (InClause h ps cs (ls ++ record { var = v; negative = negative } ∷ []))
+  literal_row cs ls v negative low high bound = search rules
+
+  -- the literals of a clause that is not closed
+  leads_literals : (cs : Clauses) (ls xs : List Literal) → AreFrom ps xs
+      → Leads row (InClause h ps cs ls) (map literal xs) (InClause h ps cs (ls ++ xs))
+  leads_literals cs ls [] bound = rw append-nil Stays
+  leads_literals cs ls (l ∷ xs) bound =
+      let bounds = bound_one (λ w. (1 ≤ w) × (w ≤ h.max_var)) l.var ps bound.0 good.within in
+      Passes (literal_row cs ls l.var l.negative bounds.0 bounds.1 bound.0)
+      (rw append_assoc at (leads_literals cs (ls ++ l ∷ []) xs bound.1))
+
+  first_row : (cs : Clauses) (negative : Bool) (n : ℕ) → length cs < h.count
+      → row (Between h ps cs) (token.Number negative n) ≡ row (InClause h ps cs []) (token.Number negative n)
+  first_row cs negative n more = search rules
+
+  begins : {cs : Clauses} {negative : Bool} {n : ℕ} {ts : List Token} {q : Place} → length cs < h.count
+      → Leads row (InClause h ps cs []) (token.Number negative n ∷ ts) q → Leads row (Between h ps cs) (token.Number negative n ∷ ts) q
+  begins {cs} {negative} {n} more (Passes e l) = Passes (first_row cs negative n more ∙ e) l
+
+  pub leads_begun_clause : (cs : Clauses) (ls : List Literal) → AreFrom ps ls → ls ≢ []
+      → length cs < h.count → Leads row (Between h ps cs) (map literal ls) (InClause h ps cs ls)
+  leads_begun_clause cs [] bound some more = absurd (some refl)
+  leads_begun_clause cs (l ∷ ls) bound some more = begins more (leads_literals cs [] (l ∷ ls) bound)
+
+  leads_clause : (cs : Clauses) (c : List Literal) → AreFrom ps c → length cs < h.count
+      → Leads row (Between h ps cs) (clause c) (Between h ps (cs ++ c ∷ []))
+  leads_clause cs [] bound more = begins more (Passes refl Stays)
+  leads_clause cs (l ∷ ls) bound more = begins more (leads_then (leads_literals cs [] (l ∷ ls) bound) (Passes refl Stays))
+
+  pub leads_clauses : (cs xs : Clauses) → AllByRecursion (AreFrom ps) xs
+      → length cs + length xs ≤ h.count → Leads row (Between h ps cs) (flat_map clause xs) (Between h ps (cs ++ xs))
+  leads_clauses cs [] bound few = rw append-nil Stays
+  leads_clauses cs (c ∷ xs) bound few = leads_then (leads_clause cs c bound.0 (omega arith))
+      (rw append_assoc at (leads_clauses (cs ++ c ∷ []) xs bound.1 (omega (arith, length-append cs (c ∷ [])))))
+
+-- the end, once all clauses are there
+pub end_row : (h : Heading) (ps : Pairs) (cs : Clauses) → h.count ≤ length cs
+    → row (Between h ps cs) token.End ≡ Ends tt (Whole (record { max_var = h.max_var; blocks = blocks_of ps; clauses = cs }))
+end_row h ps cs all = search rules
 
 -- whole sets and whole clauses
 leads_lists : (h : Heading) (sets : List Block) (cs : Clauses) → h.max_var ≤ 2147483647 → h.count ≤ 2147483647

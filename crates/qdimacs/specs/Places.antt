@@ -35,7 +35,7 @@ abbrev pub row_to : Parts → At → Row
 row_to p at.Whole = Ends tt (stands p at.Whole)
 row_to p next = Goes (stands p next)
 
--- the next place is that of the row, unless memory was refused
+-- the next place is that of the row, unless an allocation failed
 abbrev pub Moves : Row → Parts → Result At (Stop FormulaFault) → Type 0
 Moves r p (Ok next) = r ≡ row_to p next
 Moves r p (Err stop.Memory) = ⊤

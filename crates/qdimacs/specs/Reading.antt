@@ -54,7 +54,7 @@ pub data Place : Type 0 where
   InSet : Heading → Pairs → Quantifier → Place
   -- in a clause that has begun with these literals
   InClause : Heading → Pairs → Clauses → List Literal → Place
-  -- behind the end
+  -- after the end
   Whole : Qbf → Place
 
 -- What the row of a place makes of a token.
@@ -159,7 +159,7 @@ abbrev pub IsWhole : Place → Type 0
 IsWhole (Whole f) = Unit {0}
 IsWhole place = ⊥
 
--- what is read behind the last token
+-- what is read after the last token
 abbrev pub answer_at : Place → Answer
 answer_at (Whole f) = Ok f
 answer_at place = Err (F7, 0)
@@ -186,7 +186,7 @@ read ts = read_from AtP ts
 abbrev pub read_formula : List ℕ → Answer
 read_formula bytes = read (text.tokens Qdimacs bytes)
 
--- where the bytes are told
+-- where the bytes are known
 abbrev pub reads_bytes : Option (List ℕ) → Option (Answer)
 reads_bytes bytes = option_map read_formula bytes
 
@@ -196,6 +196,6 @@ is_outside F1 = true
 is_outside F9 = true
 is_outside f = false
 
--- The answer is what was to be read, unless the source failed or memory ran out.
+-- The result is what was to be read, unless the source failed or memory ran out.
 abbrev pub Gives : Answer → Option (Answer) → Type 0
 Gives answer whole = answering.Gives is_outside answer whole

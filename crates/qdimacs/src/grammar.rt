@@ -1,4 +1,4 @@
-//! A formula that is made while its tokens are taken.
+//! Builds a formula from its tokens.
 
 ghost use Rattle.std.specs.Prelude.{◌≡◌, ◌≤◌, true, length, IfOk};
 ghost use Rattle.std.specs.List.{AllByRecursion};
@@ -31,7 +31,7 @@ enum At {
     Set(Quantifier),
     /// In a clause.
     Clause,
-    /// Behind the end.
+    /// After the end.
     Whole,
 }
 
@@ -151,7 +151,7 @@ fn opened(parts: &Parts, token: Token) -> Option<Quantifier>
     quantifier(token)
 }
 
-/// Whether the header tells of more clauses.
+/// Whether the header counts more clauses.
 #[inline(always)]
 fn has_more(parts: &Parts) -> bool
     ensures { result ≡ has_more (heading parts.now) parts.now.clauses.whole }
@@ -196,7 +196,7 @@ fn take_at(here: At, parts: &mut Parts, token: Token) -> Next
 
 // ---- clauses in the bytes at hand
 
-/// The next place with the cursor before its token, or that memory was refused.
+/// The next place with the cursor before its token, or that an allocation failed.
 type Reached = Result<(At, Cursor), AllocError>;
 
 /// Takes the rest of a clause from the bytes at hand.

@@ -22,6 +22,7 @@ use std::alloc::Global;
 /// clauses may be empty, repeat literals or hold both literals of a variable, and comment lines may
 /// stand anywhere. Against it, free variables are refused.
 ///
+/// # Errors
 /// F1 exactly where the source failed, F9 only if an allocation failed, else F2 to F8 as they are
 /// listed.
 pub fn read_formula<S: Source>(alloc: Global, source: &mut S) -> Result<Formula, Fault>

@@ -1,7 +1,7 @@
 //! The canonical text of a formula.
 
 ghost use Rattle.std.specs.Prelude.{Ok, ◌≡◌, [], ◌∷◌, ◌++◌, None};
-ghost use Rattle.qbf_core.specs.Blocks.{pairs, is_quantifier};
+ghost use Rattle.qbf_core.specs.Blocks.{pairs};
 ghost use Rattle.qbf_text.specs.Written.{IsPut};
 ghost use Rattle.qbf_text.specs.Canonical.{line_text};
 ghost use Rattle.qbf_spelling.specs.Texts.{closing};
@@ -10,7 +10,7 @@ ghost use Rattle.qdimacs.specs.Reading.{read_formula};
 ghost use Rattle.qdimacs.specs.Texts.{opening, prefix_rest, clauses_text};
 
 use qbf_core::{Formula, Lit, Prefix, Quantifier};
-use qbf_spelling::{put_header, put_letter, put_literals};
+use qbf_spelling::{put_each, put_header, put_letter};
 use qbf_text::{Sink, SinkFault, put_bytes, put_signed, put_spaced};
 
 /// A clause that is not empty.
@@ -20,7 +20,7 @@ fn put_nonempty<K: Sink>(sink: &mut K, first: Lit, rest: &[Lit]) -> Result<(), S
         (line_text (clause (first ∷ rest.now))) result }
 {
     put_signed(sink, first.is_negative(), u64::from(first.var().number()))?;
-    put_literals(sink, rest)?;
+    put_each(sink, rest)?;
     put_bytes(sink, b" 0\n")
 }
 
@@ -36,16 +36,6 @@ fn put_clause<K: Sink>(sink: &mut K, lits: &[Lit]) -> Result<(), SinkFault>
     }
 }
 
-/// Whether two quantifiers are one.
-fn is_same(a: Quantifier, b: Quantifier) -> bool
-    ensures { result ≡ is_quantifier a b }
-{
-    match (a, b) {
-        (Quantifier::All, Quantifier::All) | (Quantifier::Exists, Quantifier::Exists) => true,
-        _ => false,
-    }
-}
-
 /// What stands before a variable with this quantifier.
 fn put_opening<K: Sink>(
     sink: &mut K,
@@ -56,7 +46,7 @@ fn put_opening<K: Sink>(
 {
     match last {
         None => put_letter(sink, quantifier),
-        Some(open) if is_same(open, quantifier) => Ok(()),
+        Some(open) if open == quantifier => Ok(()),
         Some(_) => put_next(sink, quantifier),
     }
 }
@@ -112,8 +102,9 @@ fn put_clauses<K: Sink>(sink: &mut K, formula: &Formula) -> Result<(), SinkFault
 /// literals as kept. Parts of a line are separated by one blank, numbers are decimal without
 /// leading zeros, and each line ends with byte 10. Reading the text gives the formula.
 ///
+/// # Errors
 /// A `SinkFault` where the sink failed. What went out is a beginning of the text then.
-#[tactic(auto, using(crate::proofs::CanonicalTextIsRead::text_is_read))]
+#[tactic(auto, using(crate::proofs::ReadingLaws::text_is_read))]
 pub fn write_formula<K: Sink>(formula: &Formula, sink: &mut K) -> Result<(), SinkFault>
     ensures put { IsPut K.written K.failures sink.old sink.new (text formula.now) result }
     // The text is read as the formula.

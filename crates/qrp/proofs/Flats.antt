@@ -11,13 +11,11 @@ use Rattle.qrp.specs.Inferences.{Inference, IsAt, IsInference, numbers}
 -- the parts of the step at a place
 pub numbered_at : (ns : List ℕ) (lits : List (List Literal)) (ants : List (List ℕ)) (i : ℕ) (s : Inference)
     → IsAt (numbered ns lits ants) i s → (slice_get lits i ≡ Some s.lits) × (slice_get ants i ≡ Some s.ants)
-numbered_at [] lits ants i s h = absurd (cc h)
-numbered_at (n ∷ ns) [] ants i s h = absurd (cc h)
-numbered_at (n ∷ ns) (l ∷ lits) [] i s h = absurd (cc h)
 numbered_at (n ∷ ns) (l ∷ lits) (a ∷ ants) zero s h =
     let e : record { number = n; lits = l; ants = a } ≡ s = cc h in
     (ap (λ (x : Inference). Some x.lits) e, ap (λ (x : Inference). Some x.ants) e)
 numbered_at (n ∷ ns) (l ∷ lits) (a ∷ ants) (suc i) s h = numbered_at ns lits ants i s h
+numbered_at ns lits ants i s h = absurd (cc h)
 
 -- a step in flat buffers has few antecedents
 pub few_at : (ns : List ℕ) (lits : List (List Literal)) (ants : List (List ℕ)) (i : ℕ) (a : List ℕ) → length lits ≡ length ns

@@ -1,8 +1,6 @@
 mod WorkedRows
 pub mod Positions
-pub mod AcceptedTokens
 pub mod SpelledIsRead
-pub mod CanonicalTextIsRead
 pub mod ReadIsSpelled
 pub mod WrittenParts
 pub mod Flats

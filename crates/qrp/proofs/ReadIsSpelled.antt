@@ -21,12 +21,12 @@ use Rattle.qrp.specs.Faults.{AreLists, Spells, Reads}
 use Rattle.qrp.specs.Reading.{Place, AtP, InHeader, Between, InSet, InLits, InAnts, AtResult, Row, Goes, Closes, Ends}
 use Rattle.qrp.specs.Reading.{Fails, row, read}
 use Rattle.step_index.specs.Numbers.{is_used}
-use Rattle.qrp.proofs.AcceptedTokens.{end_row}
+use Rattle.qrp.proofs.SpelledIsRead.{end_row}
 use Rattle.qrp.proofs.SpelledIsRead.{read_once}
 
 -- ---- lists that grow
 
--- a token behind a begun list
+-- a token after a begun list
 pushed : {ts begun : List Token} {ns : List ℕ} (t : Token) → AreLists ts begun ns → AreLists (ts ++ t ∷ []) (begun ++ t ∷ []) ns
 pushed t a = record {
   header = a.header;
@@ -114,9 +114,6 @@ result_ends p t o e = search rules
 -- an accepted token leads to a place that the tokens spell
 goes : (ts : List Token) (p next : Place) (t : Token) → Spells ts p → IsTo (row p t) next → Spells (ts ++ t ∷ []) next
 unfolding IsDistinct
-goes ts (InHeader place.P) next t s e = search rules
-goes ts (InHeader place.Format) next t s e = search rules
-goes ts (InHeader place.First) next t s e = search rules
 goes ts (InHeader (place.Second v)) next t s e =
     let k = header_goes v t next e in
     rw (k.2, k.1, s) (record {
@@ -127,6 +124,7 @@ goes ts (InHeader (place.Second v)) next t s e =
       numbered = refl;
       grammatical = record { variables = tt; inferences = tt; distinct = tt };
     })
+goes ts (InHeader here) next t s e = search rules
 goes ts (Between ns) next t s e = elim (list_begins ns t next e) [
   | inl k ↦ rw (k.3, k.2) (pushed (letter k.0) (rw k.1 at s), tt)
   | inr (inl k) ↦ rw (k.4, k.3) (pushed (number k.0) s, k.1, k.2, tt)

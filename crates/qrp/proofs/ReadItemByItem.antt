@@ -15,7 +15,7 @@ use Rattle.qbf_text.specs.Stopping.{IfKnown, Skips, Stops}
 use Rattle.qbf_text.specs.Taking.{Leaves, Reads}
 use Rattle.qbf_text.proofs.OneToken.{Leads}
 use Rattle.qbf_text.proofs.Stops.{begins_more, begins_skipped, regroup, known_skips}
-use Rattle.qbf_text.proofs.StopsAtTokens.{if_known, taken_no_end, unread_fault}
+use Rattle.qbf_text.proofs.Stops.{if_known, taken_no_end, unread_fault}
 use Rattle.qrp.specs.declared.fault.TraceFault.{TraceFault}
 use Rattle.qrp.specs.declared.fault.TraceFault.TheVariants.{P1, P9}
 use Rattle.qrp.specs.declared.item.Item.{Item}
@@ -24,12 +24,11 @@ use Rattle.qrp.specs.declared.item.Outcome.{Outcome}
 use Rattle.qrp.specs.Answers.{is_outside, reads_bytes, Gives, StopsBehindResult}
 use Rattle.qrp.specs.Derivations.{Derivation}
 use Rattle.qrp.specs.Flat.{with_item}
-use Rattle.qrp.specs.Given.{is_last}
+use Rattle.qrp.specs.Given.{known_items, is_last}
 use Rattle.qrp.specs.Items as items
 use Rattle.qrp.specs.Items.{Giving, Takes, item_row}
-use Rattle.qrp.specs.Parts.{known_items}
 use Rattle.qrp.specs.Reading.{Fault, Place, AtP, items_from, gathered, nothing, read_trace}
-use Rattle.qrp.proofs.AcceptedTokens.{Answer}
+use Rattle.qrp.proofs.SpelledIsRead.{Answer}
 use Rattle.qrp.proofs.ItemStops.{refused}
 use Rattle.qrp.proofs.RowsReadTheItem.{gives, given_of}
 
@@ -44,10 +43,8 @@ gathered_of d p here bytes = gathered d (items_from p (here bytes))
 gather_one : (d : Derivation) (i : Item) (more : List Answer) → is_last (Ok i) ≡ false
     → gathered d (Ok i ∷ more) ≡ gathered (with_item d i) more
 unfolding gathered
-gather_one d (item.Header h) more e = refl
-gather_one d (item.Set s) more e = refl
-gather_one d (item.Step s) more e = refl
 gather_one d (item.Result o) more e = absurd (cc e)
+gather_one d i more e = refl
 
 module _ (d : Derivation) (p : Place) (next : Giving) (ts us : List Lined) where
   item_gathered : (i : Item) (q : Place) → is_last (Ok i) ≡ false → next ≡ items.Gives i q
@@ -108,9 +105,8 @@ module _ (d : Derivation) (p : Place) (next : Giving) where
   pub leads_fault : (whole : Option (Result Derivation Fault)) (known rest : Known) (e : ReadError TraceFault)
       → Leads whole (gathered_known d p known) → Reads (reads_from item_row (Takes p) known) next rest (Err e)
       → Gives (Err (fault_of P1 P9 e)) whole
-  leads_fault whole known rest error.Device so_far h = tt
-  leads_fault whole known rest error.Memory so_far h = tt
   leads_fault whole known rest (error.Text f line) so_far h = unless (is_outside f) (fault_read whole known f line so_far h)
+  leads_fault whole known rest e so_far h = tt
 
 -- ---- what was taken of the bytes
 

@@ -1,18 +1,76 @@
--- The laws of reading.
-use Rattle.qbf_spelling.proofs.Words.{Qrp, tokens}
-use Rattle.std.proofs.Common.{ℕ, List, Option, IfSome, Result}
+-- The laws of reading, and the canonical text that is read again.
+use Rattle.std.proofs.Common.{rules, append-nil, ◌≡◌, ◌<◌, ◌^◌, List, [], ◌∷◌, ◌++◌, map, Ok, ap, sym, ◌∙◌, arith, append_assoc, ℕ, Option}
+use Rattle.std.proofs.Common.{IfSome, Result}
+use Rattle.qbf_spelling.proofs.Words
+use Words.{flat_map-append, map-append, flat_map-map, flat_map, AllByRecursion, IsVariable, Qrp, Token, tokens, number, literal, set}
+use Words.token
+use Rattle.qbf_text.specs.Canonical.{IsPlain, IsLine}
+use Rattle.qbf_text.proofs.CanonicalTokens.{joined, tokens-lines_text, all_appended, all_mapped, closed_plain}
+use Rattle.qrp.specs.declared.item.Outcome.{Outcome}
+use Rattle.qrp.specs.declared.item.Item.TheVariants as item
+use Rattle.qrp.specs.Inferences.{Inference, IsInference, numbers}
+use Rattle.qrp.specs.Derivations.{Derivation, IsWellFormed}
+use Rattle.qbf_spelling.proofs.CanonicalLines.{literals_plain, set_written}
+use Rattle.qrp.specs.Grammar.{header, step, result, lists, lines, text, IsTrace}
+use Rattle.qrp.specs.Laws.{ReadsText, ItemsOfTrace}
+use Rattle.qrp.proofs.SpelledIsRead.{spelled_is_read, spelled_items, read_once, fault_items}
 use Rattle.qbf_text.proofs.Answered.{answered_bytes}
 use Rattle.qbf_text.proofs.TokensEndOnce.{tokens-EndsOnce}
 use Rattle.qrp.specs.Answers.{Answers, Gives, reads_bytes, is_outside}
-use Rattle.qrp.specs.Derivations.{Derivation}
-use Rattle.qrp.specs.Faults.{IsFault}
-use Rattle.qrp.specs.Grammar.{IsTrace}
+use Rattle.qrp.specs.Faults.{IsFault, Reads}
 use Rattle.qbf_text.specs.Answering.{BytesRead}
-use Rattle.qrp.specs.Faults.{Reads}
 use Rattle.qrp.specs.Reading.{Fault, read}
 use Rattle.qrp.proofs.ReadIsSpelled.{read_explained}
-use Rattle.qrp.proofs.SpelledIsRead.{read_once, fault_items}
-use Rattle.qrp.proofs.CanonicalTextIsRead.{text_is_read, trace_items}
+
+steps_lines : (steps : List Inference) → AllByRecursion IsInference steps → AllByRecursion (λ n. n < 2 ^ 64) (numbers steps)
+    → AllByRecursion (λ s. AllByRecursion (λ n. n < 2 ^ 64) s.ants) steps → AllByRecursion IsLine (map step steps)
+steps_lines [] h small ants = tt
+steps_lines (s ∷ steps) h small ants = (
+  (
+    tt,
+    (
+      small.0,
+      all_appended IsPlain (map literal s.lits) (number 0 ∷ (map number s.ants ++ number 0 ∷ []))
+          (literals_plain s.lits h.0.lits)
+          (omega arith, closed_plain (map number s.ants) (all_mapped (λ n. n < 2 ^ 64) IsPlain number (λ n is. is) s.ants ants.0)),
+    ),
+  ),
+  steps_lines steps h.1 small.1 ants.1,
+)
+
+result_line : (o : Outcome) → IsLine (result o)
+result_line o = search rules
+
+lines_written : (d : Derivation) → IsWellFormed d → AllByRecursion IsLine (lines d)
+lines_written d w = (
+  (tt, (tt, (tt, (w.fits.vars, (w.fits.steps, tt))))),
+  all_appended IsLine (map set d.sets ++ map step d.steps) (result d.result ∷ [])
+      (all_appended IsLine (map set d.sets) (map step d.steps)
+      (all_mapped (λ s. AllByRecursion IsVariable s.vars) IsLine set set_written d.sets w.grammatical.variables)
+      (steps_lines d.steps w.grammatical.inferences w.fits.numbers_fit w.fits.ants_fit))
+      (result_line d.result, tt),
+)
+
+joined_lines : (d : Derivation) → joined (lines d) ++ token.End ∷ [] ≡ lists d.header d.sets d.steps ++ result d.result ++ token.End ∷ []
+joined_lines d =
+    let parts : joined (map set d.sets ++ map step d.steps ++ result d.result ∷ [])
+    ≡ flat_map set d.sets ++ (flat_map step d.steps ++ result d.result) = simp (append-nil, flat_map-append, flat_map-map, append_assoc) in
+    ap (λ (k : List Token). (header d.header ++ k) ++ token.End ∷ []) parts ∙ simp append_assoc
+
+-- What is written is read again.
+pub text_is_read : ReadsText
+text_is_read d w =
+    spelled_is_read (tokens Qrp (text d)) d (record {
+      rest = token.End ∷ [];
+      spelled = tokens-lines_text Qrp (lines d) (lines_written d w) ∙ joined_lines d;
+      grammatical = w.grammatical;
+    })
+
+-- The items of a trace are its parts in order.
+pub trace_items : ItemsOfTrace
+trace_items ts d is =
+    let front = map item.Set d.sets ++ map item.Step d.steps in
+    spelled_items ts d is ∙ sym (map-append Ok (item.Header d.header ∷ front) (item.Result d.result ∷ []))
 
 pub bytes_read : BytesRead Reads read Qrp
 bytes_read bytes = read_explained (tokens Qrp bytes) (tokens-EndsOnce Qrp bytes)

@@ -15,15 +15,14 @@ use Rattle.qrp.specs.declared.fault.TraceFault.{TraceFault}
 use Rattle.qrp.specs.declared.fault.TraceFault.TheVariants.{P1, P7, P9}
 use Rattle.qrp.specs.declared.item.Item.{Item}
 use Rattle.qrp.specs.declared.item.Item.TheVariants as item
-use Rattle.qrp.specs.Given.{GivesAnswer, GivesUnless, GivesNextItem, left_behind, stage_after}
+use Rattle.qrp.specs.Given.{KnownItems, known_items, GivesAnswer, GivesUnless, GivesNextItem, left_behind, stage_after}
 use Rattle.qrp.specs.declared.reader.Stage.{Stage}
 use Rattle.qrp.specs.declared.reader.Stage.TheVariants.{AtHeader, AtLists}
 use Rattle.qrp.specs.Items.{Giving, Takes, Gives, Whole, Giver, item_row, as_given, giving, Stands, GivesItem}
 use Rattle.qbf_text.specs.Answering.{fault_of}
-use Rattle.qrp.specs.Parts.{KnownItems, known_items}
 use Rattle.qrp.specs.Reading.{Place, Row}
 use Rattle.qrp.specs.Reading.{row, items_from}
-use Rattle.qrp.proofs.AcceptedTokens.{Answer, after, items-one, end_row}
+use Rattle.qrp.proofs.SpelledIsRead.{Answer, after, items-one, end_row}
 
 -- the items that are left to give where reading by rows answers this
 abbrev pub given_of : Read Giving (Unit {0}) TraceFault → List Answer
@@ -55,7 +54,7 @@ pub gives : (ts : List Lined) → More ts
 gives [] = gives_none
 gives (t ∷ ts) = λ p. items-one p t ts ∙ by_token t.0 t.1 ts (gives ts) p ∙ ap given_of (sym (read-one item_row (Takes p) t ts))
 
--- ---- what a call answers that reads so
+-- ---- what a call returns that reads so
 
 pub item_given : (p : Place) (known : Known) (next : Giving) (rest : Known) (i : Item) (ns : List ℕ)
     → Leaves (reads_from item_row (Takes p) known) tt next rest → next ≡ giving i ns
@@ -82,9 +81,8 @@ fault_left p (Some ts) f line h =
 pub fault_given : (p : Place) (known : Known) (next : Giving) (rest : Known) (e : ReadError TraceFault)
     → Reads (reads_from item_row (Takes p) known) next rest (Err e)
     → GivesUnless (fault_of P1 P9 e).0 (known_items p known) (Some (Err (fault_of P1 P9 e) ∷ [])) (Err (fault_of P1 P9 e))
-fault_given p known next rest error.Device h = refl
-fault_given p known next rest error.Memory h = refl
 fault_given p known next rest (error.Text f line) h = unless f line (known_items p known) (fault_left p known f line h)
+fault_given p known next rest e h = refl
 
 -- what a reader that is not done has left
 pub next_given : (stage : Stage) (before g : Giver) (known after_ : Known) (answer : Answer) → (stage ≡ AtHeader) ⊎ (stage ≡ AtLists)

@@ -41,7 +41,7 @@ abbrev rows : List (List ℕ × Result Derivation Fault)
 rows = (codes "p qrp 1\ne 1 0\n", Err (P2, 2))
     ∷ (codes "p qrp 0 0\n", Err (P7, 2))
     ∷ (codes "p qrp 0 0\ne 0 0\nr sat\n", Err (P4, 2))
-    -- a set behind a step
+    -- a set after a step
     ∷ (codes "p qrp 0 0\n1 0 0\na 1 0\nr sat\n", Err (P3, 3))
     -- no word of the result, and a wrong one
     ∷ (codes "p qrp 0 0\n1 0 0\nr\n", Err (P7, 4))
@@ -57,9 +57,9 @@ rows = (codes "p qrp 1\ne 1 0\n", Err (P2, 2))
     -- three antecedents
     ∷ (trace_a (codes "4 -1 0 2 0\n5 0 3 4 1 0\nr unsat\n"), Err (P6, 8))
     ∷ (trace_a (codes "4 -1 0 2 0\n5 0 3 4 0\nr maybe\n"), Err (P8, 9))
-    -- nothing is read behind the result
+    -- nothing is read after the result
     ∷ (trace_a (codes "4 -1 0 2 0\n5 0 3 4 0\nr unsat %$\n"), Ok (value_a 5))
-    -- cut in the last step, with no line end behind it
+    -- cut in the last step, with no line end after it
     ∷ (trace_a (codes "4 -1 0 2 0\n5 0 3"), Err (P7, 8))
     ∷ []
 

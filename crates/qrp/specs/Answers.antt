@@ -1,4 +1,4 @@
--- What the calls answer that read a whole trace.
+-- What the calls return that read a whole trace.
 use Rattle.std.specs.Prelude.{◌≡◌, ◌≤◌, ℕ, List, ◌++◌, length, Bool, true, false, Option, option_map, Result, Ok, Err}
 use Rattle.qbf_spelling.specs.Words.{Lined}
 use Rattle.qbf_text.specs.Answering as answering
@@ -21,11 +21,11 @@ is_outside P1 = true
 is_outside P9 = true
 is_outside f = false
 
--- the answer is what was read, unless the source failed or memory ran out
+-- the result is what was read, unless the source failed or memory ran out
 abbrev pub Gives : Result Derivation Fault → Option (Result Derivation Fault) → Type 0
 Gives answer whole = answering.Gives is_outside answer whole
 
--- the answer is the trace that the tokens spell, or the fault that stands in them, unless the source failed or memory ran out
+-- the result is the trace that the tokens spell, or the fault that stands in them, unless the source failed or memory ran out
 abbrev pub Answers : List Lined → Result Derivation Fault → Type 0
 Answers ts answer = answering.Answers is_outside IsTrace IsFault ts answer
 

@@ -16,8 +16,7 @@ use Rattle.qrp.specs.declared.places.Begun.{Begun}
 use Rattle.qrp.specs.declared.reader.Stage.{Stage}
 use Rattle.qrp.specs.declared.reader.Stage.TheVariants.{AtHeader, AtLists, HasResult, HasFault}
 use Rattle.qrp.specs.Flat.{Kept, made, with_item}
-use Rattle.qrp.specs.Given.{left_behind, is_last, numbers_with, stage_after, GivesNextItem, IsProper, StandsOnLine, StopsBehindPart}
-use Rattle.qrp.specs.Parts.{KnownItems}
+use Rattle.qrp.specs.Given.{KnownItems, left_behind, is_last, numbers_with, stage_after, GivesNextItem, IsProper, StandsOnLine, StopsBehindPart}
 use Rattle.qrp.specs.Places.{place, item_of, numbers_behind}
 use Rattle.qrp.specs.Reading.{Fault, Place, AtP, Between, InLits, InAnts, Row, Goes, Closes, Ends, Fails, row}
 
@@ -27,7 +26,7 @@ pub data Giving : Type 0 where
   Takes : Place → Giving
   -- this part is complete, and the next token stands there
   Gives : Item → Place → Giving
-  -- behind the result
+  -- after the result
   Whole : Outcome → Giving
 
 -- what is kept of the parts that were given, and what stands next
@@ -73,7 +72,7 @@ IsGiven (Takes p) = ⊥
 IsGiven (Gives i p) = ⊤
 IsGiven (Whole o) = ⊤
 
--- what stands next where this item is complete, with the numbers behind it
+-- what stands next where this item is complete, with the numbers after it
 abbrev pub giving : Item → List ℕ → Giving
 giving (item.Result o) ns = Whole o
 giving i ns = Gives i (Between ns)
@@ -99,19 +98,19 @@ Stands AtLists g = g.giving ≡ Takes (Between g.kept.numbers)
 Stands (HasResult o) g = ⊤
 Stands (HasFault f line) g = ⊤
 
--- ---- what reading an item answers
+-- ---- what reading an item returns
 
--- what was left from a place on is the answer and what is left now, behind steps with these numbers; the last answer stays
+-- what was left from a place on is the result and what is left now, after steps with these numbers; the last result stays
 abbrev pub GivesItem : KnownItems → List ℕ → Known → Result Item Fault → Type 0
 GivesItem before ns after answer = GivesNextItem before (left_behind (stage_after answer) ns after) answer
 
--- the item is as the grammar asks, its number is behind the others, and the next token stands where it is to be taken
+-- the item is as the grammar asks, its number is after the others, and the next token stands where it is to be taken
 pub record IsItem (old new : Giver) (answer : Result Item Fault) : Type 0 where
   pub proper : IfOk answer (λ i. IsProper old.kept.numbers i)
   pub numbers : new.kept.numbers ≡ numbers_with old.kept.numbers answer
   pub stands : Stands (stage_after answer) new
 
--- what was done with the devices: the scanner did not fail with an item, and behind each but the last less can still come; the count
+-- what was done with the devices: the scanner did not fail with an item, and after each but the last less can still come; the count
 -- of failures rose exactly where the source failed; a fault of source or memory stands on line 0
 pub record IsDriven (scanner : Reading) (before bound old new : ℕ) (answer : Result Item Fault) : Type 0 where
   pub ready : OnOk answer (¬ HasFailed scanner)

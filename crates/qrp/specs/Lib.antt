@@ -4,7 +4,6 @@ pub mod Grammar
 pub mod Reading
 pub mod Faults
 pub mod Laws
-pub mod Parts
 pub mod Given
 pub mod Answers
 pub mod Texts

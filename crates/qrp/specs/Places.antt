@@ -42,7 +42,7 @@ item_of b (part.Header h) = item.Header h
 item_of b (part.Set q) = item.Set (record { quantifier = q; vars = b.vars.items })
 item_of b (part.Step n) = item.Step (record { number = n; lits = b.lits.begun; ants = b.ants.begun })
 
--- the numbers of the steps behind it
+-- the numbers of the steps after it
 abbrev pub numbers_behind : Begun → Part → List ℕ
 numbers_behind b (part.Step n) = b.index ++ n ∷ []
 numbers_behind b (part.Header h) = []
@@ -52,7 +52,7 @@ numbers_behind b (part.Set q) = []
 abbrev pub row_of : Begun → Part → Row
 row_of b p = Closes (item_of b p) (Between (numbers_behind b p))
 
--- a token leads where its row says, unless memory was refused
+-- a token leads where its row says, unless an allocation failed
 abbrev pub Moves : Row → Begun → Result At (Stop TraceFault) → Type 0
 Moves r b (Ok (at.Behind p)) = r ≡ row_of b p
 Moves r b (Ok (at.Whole o)) = r ≡ Ends o
@@ -68,7 +68,7 @@ pub record Stays (old new : Begun) : Type 0 where
 
 -- ---- what holds of what is begun
 
--- a number of a step that may come behind steps with these numbers
+-- a number of a step that may come after steps with these numbers
 abbrev pub IsNew : ℕ → List ℕ → Type 0
 IsNew n ns = IsNumber n × (is_used n ns ≡ false)
 
@@ -78,7 +78,7 @@ pub record AreAntecedents (ants : List ℕ) : Type 0 where
   pub fit : AllByRecursion (λ n. n < 2 ^ 64) ants
   pub few : length ants ≤ 2
 
--- behind a part
+-- after a part
 abbrev pub IsComplete : Part → Begun → Type 0
 IsComplete (part.Header h) b = (b.index ≡ []) × (h.vars < 2 ^ 64) × (h.steps < 2 ^ 64)
 IsComplete (part.Set q) b = (b.index ≡ []) × AllByRecursion IsVariable b.vars.items
@@ -95,7 +95,7 @@ IsBegun at.Result b = ⊤
 IsBegun (at.Behind p) b = IsComplete p b
 IsBegun (at.Whole o) b = ⊤
 
--- the same, but nothing behind a part, where no token is taken
+-- the same, but nothing after a part, where no token is taken
 abbrev pub IsAt : At → Begun → Type 0
 IsAt (at.Behind p) b = ⊤
 IsAt here b = IsBegun here b
@@ -105,7 +105,7 @@ abbrev pub Leads : At → Begun → Begun → Result At (Stop TraceFault) → Ty
 Leads here old new (Ok next) = Stays old new × IsBegun next new
 Leads here old new (Err e) = Stays old new × (IsBegun here old → IsBegun here new)
 
--- at the place in a step that was reached, where whole lists stay; if memory was refused, at the place before
+-- at the place in a step that was reached, where whole lists stay; if an allocation failed, at the place before
 abbrev pub Settles : At → Begun → Begun → Result Reached AllocError → Type 0
 Settles here old new (Ok r) = Stays old new × IsBegun r.at new
 Settles here old new (Err e) = Stays old new × IsBegun here new

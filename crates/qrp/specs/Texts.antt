@@ -5,11 +5,11 @@ use Rattle.qbf_text.specs.Canonical.{spaced}
 use Rattle.qrp.specs.Inferences.{Inference}
 use Rattle.qbf_spelling.specs.Texts.{literal_text, closing, set_text}
 
--- numbers, each behind a blank
+-- numbers, each after a blank
 abbrev pub spaced_numbers : List ℕ → List ℕ
 spaced_numbers ns = flat_map spaced ns
 
--- a zero behind a blank
+-- a zero after a blank
 abbrev pub zero_text : List ℕ
 zero_text = 32 ∷ 48 ∷ []
 

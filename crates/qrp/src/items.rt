@@ -19,7 +19,7 @@ use std::marker::Model;
 use std::mem;
 use step_index::StepIndex;
 
-/// Takes a step out of the lists that are begun. Its own have just their room.
+/// Takes a step out of the lists that are begun. The copies are allocated in exactly their size.
 fn take_step(begun: &mut Begun, alloc: Global, number: u64) -> Result<Step, AllocError>
     requires { IsComplete (part.Step number) begun.old }
     ensures step { IfOk result (λ s. s

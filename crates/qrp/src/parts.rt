@@ -62,7 +62,7 @@ impl Parts {
 
 // ---- sets
 
-/// Adds a variable, which is in range, to the list that is begun.
+/// Appends a variable. A function of its own, so that the prover sees its range.
 #[inline(always)]
 fn push_variable(begun: &mut Vec<Var>, var: Var) -> Result<(), AllocError>
     ensures pushed { OnOk result (begun.new.items ≡ begun.old.items ++ var ∷ []) }
@@ -102,7 +102,7 @@ fn close_set(
 
 // ---- steps
 
-/// Adds a literal, which has a variable, to the list that is begun.
+/// Appends a literal. A function of its own, so that the prover sees its range.
 #[inline(always)]
 fn push_literal(lists: &mut GrowingLists<Lit>, lit: Lit) -> Result<(), AllocError>
     ensures pushed { OnOk result (lists.new

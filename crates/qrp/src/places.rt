@@ -32,9 +32,9 @@ pub enum At {
     Ants(u64),
     /// After `r`.
     Result,
-    /// Behind a part that is complete, where no token is taken until it was given.
+    /// After a complete part. No token is accepted until it was handed out.
     Behind(Part),
-    /// Behind this result, where no token is taken.
+    /// After this result, where no token is accepted.
     Whole(Outcome),
 }
 

@@ -8,10 +8,9 @@ ghost use Rattle.qrp.specs.declared.fault.TraceFault.TheVariants.{P1, P9};
 ghost use Rattle.qbf_text.specs.Ahead.{ahead};
 ghost use Rattle.qbf_text.specs.Reading.{left, HasFailed};
 ghost use Rattle.qbf_text.specs.Stopping.{tokens_next};
-ghost use Rattle.qrp.specs.Given.{items_left, is_last, stage_after, numbers_with};
+ghost use Rattle.qrp.specs.Given.{known_items, items_left, is_last, stage_after, numbers_with};
 ghost use Rattle.qrp.specs.Given.{GivesNextItem, IsDone, IsProper, StopsBehindItem};
 ghost use Rattle.qrp.specs.Items.{Takes, StopsBehind, GivesItem, IsItem, IsDriven};
-ghost use Rattle.qrp.specs.Parts.{known_items};
 ghost use Rattle.qrp.specs.Reading.{Place, items};
 
 use crate::fault::{Fault, TraceFault};
@@ -117,6 +116,7 @@ impl TraceReader {
     /// The next item: the header, then each set, each step and the result, each when it is
     /// complete. Each call is lent the same source.
     ///
+    /// # Errors
     /// An error is the first fault and its line, counted from 1; P1 (the source failed) and P9 (out
     /// of memory) stand on line 0. After the result every call gives the result, after a fault that
     /// fault, and then nothing is pulled.

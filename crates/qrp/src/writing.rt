@@ -8,23 +8,24 @@ ghost use Rattle.qrp.specs.Derivations.{steps_at, with_steps_at};
 ghost use Rattle.qrp.specs.Grammar.{result as result_line, text};
 ghost use Rattle.qrp.specs.Inferences.{Inference, IsAt};
 ghost use Rattle.qrp.specs.Reading.{read_trace};
-ghost use Rattle.qrp.specs.Texts.{step_text, sets_text, steps_text};
+ghost use Rattle.qbf_spelling.specs.Texts.{set_text};
+ghost use Rattle.qrp.specs.Texts.{step_text, steps_text};
 
 use crate::item::{Outcome, QuantSet};
 use crate::steps::Steps;
 use crate::trace::Trace;
-use qbf_spelling::{put_header, put_literals, put_set};
-use qbf_text::{Sink, SinkFault, put_all_spaced, put_bytes, put_number};
+use qbf_spelling::{Put, put_each, put_header, put_set};
+use qbf_text::{Sink, SinkFault, put_bytes, put_number};
 
 // ---- sets
 
-fn put_sets<K: Sink>(sink: &mut K, sets: &[QuantSet]) -> Result<(), SinkFault>
-    ensures { IsPut K.written K.failures sink.old sink.new (sets_text sets.now) result }
-{
-    for set in sets {
-        put_set(sink, set.quantifier, &set.vars)?;
+/// The line of a set.
+impl Put for QuantSet {
+    ghost text = { set_text };
+
+    fn put<K: Sink>(&self, sink: &mut K) -> Result<(), SinkFault> {
+        put_set(sink, self.quantifier, &self.vars)
     }
-    Ok(())
 }
 
 // ---- a step
@@ -36,9 +37,9 @@ fn put_step<K: Sink>(sink: &mut K, trace: &Trace, place: usize) -> Result<(), Si
         → IsPut K.written K.failures sink.old sink.new (step_text step) result }
 {
     put_number(sink, trace.number(place))?;
-    put_literals(sink, trace.lits(place))?;
+    put_each(sink, trace.lits(place))?;
     put_bytes(sink, b" 0")?;
-    put_all_spaced(sink, trace.ants(place))?;
+    put_each(sink, trace.ants(place))?;
     put_bytes(sink, b" 0\n")
 }
 
@@ -81,8 +82,9 @@ fn put_result<K: Sink>(sink: &mut K, outcome: Outcome) -> Result<(), SinkFault>
 /// result. Parts of a line are separated by one blank, numbers are decimal without leading zeros,
 /// and each line ends with byte 10. Reading the text gives the trace.
 ///
+/// # Errors
 /// A `SinkFault` where the sink failed. What went out is a beginning of the text then.
-#[tactic(auto, using(crate::proofs::CanonicalTextIsRead::text_is_read))]
+#[tactic(auto, using(crate::proofs::ReadingLaws::text_is_read))]
 pub fn write_trace<K: Sink>(trace: &Trace, sink: &mut K) -> Result<(), SinkFault>
     ensures put { IsPut K.written K.failures sink.old sink.new (text trace.now) result }
     // Reading the text gives the trace.
@@ -90,7 +92,7 @@ pub fn write_trace<K: Sink>(trace: &Trace, sink: &mut K) -> Result<(), SinkFault
 {
     let header = trace.header();
     put_header(sink, b"p qrp", header.vars, header.steps)?;
-    put_sets(sink, trace.sets())?;
+    put_each(sink, trace.sets())?;
     put_steps(sink, trace)?;
     put_result(sink, trace.result())
 }
@@ -102,6 +104,7 @@ pub fn write_trace<K: Sink>(trace: &Trace, sink: &mut K) -> Result<(), SinkFault
 /// places. Each place is below the number of steps, and a place that is named twice is written
 /// twice.
 ///
+/// # Errors
 /// A `SinkFault` where the sink failed. What went out is a beginning of the text then.
 pub fn write_steps_at<K: Sink>(
     trace: &Trace,
@@ -113,7 +116,7 @@ pub fn write_steps_at<K: Sink>(
         (text (with_steps_at trace.now places.now)) result }
 {
     put_header(sink, b"p qrp", trace.header().vars, places.len() as u64)?;
-    put_sets(sink, trace.sets())?;
+    put_each(sink, trace.sets())?;
     put_steps_at(sink, trace, places)?;
     put_result(sink, trace.result())
 }

@@ -4,7 +4,7 @@ use Rattle.qbf_text.proofs.PassedNumbers.{passes_none, passes_on}
 use Rattle.qdimacs.specs.declared.grammar.At.TheVariants as at
 use Rattle.qdimacs.specs.Places.{stands}
 use Rattle.qdimacs.specs.Reading.{row}
-use Rattle.qdimacs.proofs.ClausesAtHand.{clauses_further, between_goes, clause_begins}
+use Rattle.qdimacs.proofs.FormulaParts.{clauses_further, leads_on, clause_begins}
 use Rattle.qdimacs.proofs.grammar.take_clauses.Goals as goal
 
 pub clauses-init : goal.clauses-init
@@ -54,7 +54,8 @@ returns-in-Ok c =
     record {
       passes = passes_on row (stands c.args.parts.now at.Clause) (stands c.take_literals.new.parts at.Between)
           (stands c.take_opening.new.parts c.in-Ok.at) c.args.bytes.now c.args.from c.in-Some.passed.next c.in_ok-at.next token
-          (between_goes c.take_literals.new.parts c.take_opening.new.parts c.in-Ok.at token c.in-Some.ensures.no_end c.in-Ok.ensures.row)
+          (leads_on (stands c.take_literals.new.parts at.Between) c.take_opening.new.parts c.in-Ok.at token c.in-Some.ensures.no_end
+          c.in-Ok.ensures.row)
           so_far c.in-Some.ensures;
       sound = c.in-Ok.ensures.sound;
     }

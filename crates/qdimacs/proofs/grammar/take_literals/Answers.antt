@@ -4,7 +4,7 @@ use Rattle.qbf_text.proofs.PassedNumbers.{passes_none, passes_on}
 use Rattle.qdimacs.specs.declared.grammar.At.TheVariants as at
 use Rattle.qdimacs.specs.Places.{stands}
 use Rattle.qdimacs.specs.Reading.{row}
-use Rattle.qdimacs.proofs.ClausesAtHand.{clause_goes}
+use Rattle.qdimacs.proofs.FormulaParts.{leads_on}
 use Rattle.qdimacs.proofs.grammar.take_literals.Goals as goal
 
 pub literals-init : goal.literals-init
@@ -19,7 +19,8 @@ literals-init c =
 pub returns-in-Ok : goal.returns-in-Ok
 returns-in-Ok c =
     let token = c.in-Some.passed.token in
-    let goes = clause_goes c.literals.parts c.take_literal.new.parts c.in-Ok.next token c.in-Ok.ensures.row in
+    let goes = leads_on (stands c.literals.parts at.Clause) c.take_literal.new.parts c.in-Ok.next token c.in-Some.ensures.no_end
+    c.in-Ok.ensures.row in
     record {
       passes = passes_on row (stands c.args.parts.now at.Clause) (stands c.literals.parts at.Clause)
           (stands c.take_literal.new.parts c.in-Ok.next) c.args.bytes.now c.args.from c.in-Some.passed.next c.literals.here token goes

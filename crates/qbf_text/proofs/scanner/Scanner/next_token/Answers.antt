@@ -1,7 +1,5 @@
 use Rattle.qbf_text.specs.Reading.{left}
-use Rattle.qbf_text.specs.Stopping.{tokens_at}
-use Rattle.qbf_text.proofs.GivesOfTakes.{next_taken, next_ended}
-use Rattle.qbf_text.proofs.Stops.{known_takes, place_skips_more, place_takes_behind}
+use Rattle.qbf_text.proofs.Stops.{next_taken, next_ended}
 use Rattle.qbf_text.proofs.scanner.Scanner.next_token.Goals as goal
 
 pub returns-in-Ok-Some-clause-token : goal.returns-in-Ok-Some-clause-token
@@ -9,29 +7,22 @@ unfolding left
 returns-in-Ok-Some-clause-token g c =
     let p = c.self.inside.place in
     let q = c.scan.new.self in
-    let skipped = c.in_default.ensures.none (g.S.Source.remaining c.args.source.now) in
-    let found = rw c.in-Ok-Some.field-0-is at c.in-Ok-Some.ensures.found in
+    let found = rw (c.in-Ok-Some.field-0-is, c.in_default.ensures.none) at c.in-Ok-Some.ensures.found in
     rw (← c.self.view_is, c.in-Open.is)
-    (next_taken p.comments p.begun p.line q.comments q.begun q.line (c.in-Ok-Some.token, q.line) _ _
-    (place_takes_behind p c.at_hand.new.self q _ _ _ (c.in-Ok-Some.token, q.line) skipped found.takes) found.no_end)
+    (next_taken p.comments p.begun p.line q.comments q.begun q.line c.in-Ok-Some.token _ _ found.takes found.no_end)
 
 pub returns-in-Ok-None-clause-token : goal.returns-in-Ok-None-clause-token
 unfolding left
 returns-in-Ok-None-clause-token g c =
     let p = c.self.inside.place in
     let q = c.scan.new.self in
-    let skipped = c.in_default.ensures.none (g.S.Source.remaining c.args.source.now) in
-    let ended = rw c.in-Ok-None.field-0-is at c.in-Ok-None.ensures.none in
+    let ended = rw (c.in-Ok-None.field-0-is, c.in_default.ensures.none) at c.in-Ok-None.ensures.none in
     rw (← c.self.view_is, c.in-Open.is)
-    (next_ended p.comments p.begun p.line q.comments q.begun q.line q.line _ _
-    (place_skips_more p c.at_hand.new.self q _ _ _ skipped ended.skips) ended.left)
+    (next_ended p.comments p.begun p.line q.comments q.begun q.line q.line _ _ ended.skips ended.left)
 
 pub returns-in-Ok-Some-clause-takes : goal.returns-in-Ok-Some-clause-takes
 returns-in-Ok-Some-clause-takes g c _ = rw (← c.self.view_is)
-    (known_takes (tokens_at c.self.inside.place) (tokens_at c.at_hand.new.self) (tokens_at c.scan.new.self)
-    (c.in-Ok-Some.token, c.scan.new.self.line) _ _ _
-    (c.in_default.ensures.none (g.S.Source.remaining c.args.source.now))
-    (rw c.in-Ok-Some.field-0-is at c.in-Ok-Some.ensures.found).takes)
+    (rw (c.in-Ok-Some.field-0-is, c.in_default.ensures.none) at c.in-Ok-Some.ensures.found).takes
 
 pub returns-in-Some-clause-end : goal.returns-in-Some-clause-end
 returns-in-Some-clause-end g c ended =
