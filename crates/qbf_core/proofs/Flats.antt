@@ -1,33 +1,18 @@
 -- Lists in one buffer.
 use Rattle.std.proofs.Common.{◌≡◌, ◌≤◌, ◌<◌, ◌-◌, ℕ, zero, suc, List, [], ◌∷◌, ◌++◌, length, take, drop, slice_get, slice_range}
 use Rattle.std.proofs.Common.{Option, Some, refl, sym, ap, ◌∙◌, arith, length-append, length-drop}
-use Rattle.std.proofs.lemmas.List.{drop-append-le, take-append-le, take-append-drop, length-take-le}
+use Rattle.std.proofs.lemmas.List.{drop-append-le, take-append-le, take-append-drop, take_all, length-take-le}
 use Rattle.std.proofs.Math.Seq.{drop-append_seam}
 use Rattle.std.specs.Option.{unwrap_or}
 use Rattle.qbf_core.specs.Lists.{parts, Reaches, start_of, end_of}
 
 -- ---- ranges of a buffer that grows
 
-take_whole : {X : Type 0} (xs : List X) → take (length xs) xs ≡ xs
-take_whole [] = refl
-take_whole (x ∷ xs) = ap (λ (ys : List _). x ∷ ys) (take_whole xs)
-
 range_before : {X : Type 0} (xs more : List X) (a b : ℕ) → a ≤ b → b ≤ length xs → slice_range (xs ++ more) a b ≡ slice_range xs a b
 range_before xs more a b h k =
     let m : a ≤ length xs = omega arith in
     let n : b - a ≤ length (drop a xs) = omega (arith, length-drop a xs) in
     rw (drop-append-le a xs more m) (take-append-le (b - a) (drop a xs) more n)
-
-range_end : {X : Type 0} (xs more : List X) → slice_range (xs ++ more) (length xs) (length (xs ++ more)) ≡ more
-range_end xs more =
-    let n : length (xs ++ more) - length xs ≡ length more = omega (arith, length-append xs more) in
-    rw (drop-append_seam xs more, n) (take_whole more)
-
-range_less : {X : Type 0} (xs : List X) (m a b : ℕ) → a ≤ b → b ≤ m → m ≤ length xs → slice_range (take m xs) a b ≡ slice_range xs a b
-range_less xs m a b h k le =
-    let whole : take m xs ++ drop m xs ≡ xs = take-append-drop m xs in
-    let n : b ≤ length (take m xs) = rw (length-take-le m xs le) k in
-    sym (range_before (take m xs) (drop m xs) a b h n) ∙ ap (λ (ys : List _). slice_range ys a b) whole
 
 -- ---- one more part
 
@@ -39,15 +24,30 @@ reach_more : (from : ℕ) (es : List ℕ) (n m : ℕ) → n ≤ m → Reaches fr
 reach_more from [] n m h r = (omega (arith, h, r), refl)
 reach_more from (e ∷ es) n m h r = (r.0, reach_more e es n m h r.1)
 
+pub grown_parts : {X : Type 0} (xs more : List X) (from : ℕ) (es : List ℕ) (n : ℕ) → Reaches from es n → n ≤ length xs
+    → parts (xs ++ more) from es ≡ parts xs from es
+grown_parts xs more from [] n r le = refl
+grown_parts xs more from (e ∷ es) n r le =
+    let m = reach_le e es n r.1 in
+    let x : slice_range (xs ++ more) from e ≡ slice_range xs from e = range_before xs more from e r.0 (omega (arith, m, le)) in
+    let rest = grown_parts xs more e es n r.1 le in
+    (λ i. x i ∷ rest i)
+
+-- the rest from a place on is the range up to the end
+range_rest : {X : Type 0} (xs : List X) (n : ℕ) → slice_range xs n (length xs) ≡ drop n xs
+range_rest xs n = rw (← length-drop n xs) (take_all (length (drop n xs)) (drop n xs) (omega arith))
+
+pub closed_parts : {X : Type 0} (xs : List X) (from : ℕ) (es : List ℕ) (n : ℕ) → Reaches from es n
+    → parts xs from (es ++ length xs ∷ []) ≡ parts xs from es ++ drop n xs ∷ []
+closed_parts xs from [] n r = ap (λ (c : List _). c ∷ []) (rw r (range_rest xs n))
+closed_parts xs from (e ∷ es) n r = ap (λ (cs : List (List _)). slice_range xs from e ∷ cs) (closed_parts xs e es n r.1)
+
 more_parts : {X : Type 0} (lits more : List X) (from : ℕ) (es : List ℕ) → Reaches from es (length lits)
     → parts (lits ++ more) from (es ++ length (lits ++ more) ∷ []) ≡ parts lits from es ++ more ∷ []
-more_parts lits more from [] r =
-    let x : slice_range (lits ++ more) from (length (lits ++ more)) ≡ more = rw r (range_end lits more) in
-    ap (λ (c : List _). c ∷ []) x
-more_parts lits more from (e ∷ es) r =
-    let x = range_before lits more from e r.0 (reach_le e es (length lits) r.1) in
-    let rest = more_parts lits more e es r.1 in
-    (λ i. x i ∷ rest i)
+more_parts lits more from es r =
+    let old = grown_parts lits more from es (length lits) r (omega arith) in
+    let new : drop (length lits) (lits ++ more) ≡ more = drop-append_seam lits more in
+    closed_parts (lits ++ more) from es (length lits) r ∙ (λ i. old i ++ new i ∷ [])
 
 pub parts_pushed : {X : Type 0} (lits lits' more : List X) (es es' : List ℕ) (n : ℕ) → lits' ≡ lits ++ more → n ≡ length lits'
     → es' ≡ es ++ n ∷ []
@@ -120,12 +120,9 @@ fewer_parts xs from (e ∷ es) (suc k) = ap (λ (ls : List (List _)). slice_rang
 
 pub kept_parts : {X : Type 0} (xs : List X) (m from : ℕ) (es : List ℕ) (n : ℕ) → Reaches from es n → n ≤ m → m ≤ length xs
     → parts (take m xs) from es ≡ parts xs from es
-kept_parts xs m from [] n r h le = refl
-kept_parts xs m from (e ∷ es) n r h le =
-    let k = reach_le e es n r.1 in
-    let x : slice_range (take m xs) from e ≡ slice_range xs from e = range_less xs m from e r.0 (omega (arith, k, h)) le in
-    let rest = kept_parts xs m e es n r.1 h le in
-    (λ i. x i ∷ rest i)
+kept_parts xs m from es n r h le =
+    sym (grown_parts (take m xs) (drop m xs) from es n r (omega (arith, h, length-take-le m xs le)))
+    ∙ ap (λ (ys : List _). parts ys from es) (take-append-drop m xs)
 
 pub parts_popped : {X : Type 0} (xs xs' : List X) (es es' : List ℕ) (n : ℕ) → xs' ≡ take (end_of 0 es') xs → es' ≡ take n es
     → Reaches 0 es (length xs) → parts xs' 0 es' ≡ take n (parts xs 0 es)
@@ -160,24 +157,6 @@ pub last_is : (es : List ℕ) (n e : ℕ) → n ≡ length es → slice_get es (
 last_is es n e len h = sym (ap (λ (o : Option ℕ). unwrap_or o 0) (rw len at h)) ∙ last_kept es
 
 -- ---- lists that grow
-
-pub grown_parts : {X : Type 0} (xs more : List X) (from : ℕ) (es : List ℕ) (n : ℕ) → Reaches from es n → n ≤ length xs
-    → parts (xs ++ more) from es ≡ parts xs from es
-grown_parts xs more from [] n r le = refl
-grown_parts xs more from (e ∷ es) n r le =
-    let m = reach_le e es n r.1 in
-    let x : slice_range (xs ++ more) from e ≡ slice_range xs from e = range_before xs more from e r.0 (omega (arith, m, le)) in
-    let rest = grown_parts xs more e es n r.1 le in
-    (λ i. x i ∷ rest i)
-
--- the rest from a place on is the range up to the end
-range_rest : {X : Type 0} (xs : List X) (n : ℕ) → slice_range xs n (length xs) ≡ drop n xs
-range_rest xs n = rw (← length-drop n xs) (take_whole (drop n xs))
-
-pub closed_parts : {X : Type 0} (xs : List X) (from : ℕ) (es : List ℕ) (n : ℕ) → Reaches from es n
-    → parts xs from (es ++ length xs ∷ []) ≡ parts xs from es ++ drop n xs ∷ []
-closed_parts xs from [] n r = ap (λ (c : List _). c ∷ []) (rw r (range_rest xs n))
-closed_parts xs from (e ∷ es) n r = ap (λ (cs : List (List _)). slice_range xs from e ∷ cs) (closed_parts xs e es n r.1)
 
 pub closed_reach : (es : List ℕ) (n m : ℕ) → n ≤ m → Reaches 0 es n → Reaches 0 (es ++ m ∷ []) m
 closed_reach es n m h r = reach_more 0 es n m h r

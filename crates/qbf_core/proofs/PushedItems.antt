@@ -1,5 +1,5 @@
--- What stands at a place after one more item came at the end.
-use Rattle.std.proofs.Common.{◌≡◌, ℕ, zero, suc, ◌⊎◌, List, [], ◌∷◌, ◌++◌, Some, inl, inr, refl, ap, length, slice_get}
+-- What stands at a place after one more item came at the end, or one was written.
+use Rattle.std.proofs.Common.{◌≡◌, ℕ, zero, suc, ◌⊎◌, List, [], ◌∷◌, ◌++◌, Some, inl, inr, refl, ap, length, slice_get, set, ◌<◌, arith}
 
 pub pushed_cases : {A : Type 0} (xs : List A) (x : A) (k : ℕ) (a : A) → slice_get (xs ++ x ∷ []) k ≡ Some a
     → (slice_get xs k ≡ Some a) ⊎ ((k ≡ length xs) × (a ≡ x))
@@ -16,3 +16,16 @@ pushed_old (y ∷ xs) x (suc k) a h = pushed_old xs x k a h
 pub pushed_new : {A : Type 0} (xs : List A) (x : A) → slice_get (xs ++ x ∷ []) (length xs) ≡ Some x
 pushed_new [] x = refl
 pushed_new (y ∷ xs) x = pushed_new xs x
+
+-- what stands at a place after an item was written
+pub written_here : {A : Type 0} (xs : List A) (k : ℕ) (y : A) → k < length xs → slice_get (set xs k y) k ≡ Some y
+written_here [] k y less = absurd (omega arith)
+written_here (x ∷ xs) zero y less = refl
+written_here (x ∷ xs) (suc k) y less = written_here xs k y (omega arith)
+
+pub written_elsewhere : {A : Type 0} (xs : List A) (k j : ℕ) (y : A) → (j ≡ k → ⊥) → slice_get (set xs k y) j ≡ slice_get xs j
+written_elsewhere [] k j y ne = refl
+written_elsewhere (x ∷ xs) zero zero y ne = absurd (ne refl)
+written_elsewhere (x ∷ xs) zero (suc j) y ne = refl
+written_elsewhere (x ∷ xs) (suc k) zero y ne = refl
+written_elsewhere (x ∷ xs) (suc k) (suc j) y ne = written_elsewhere xs k j y (λ e. ne (ap suc e))

@@ -11,6 +11,7 @@ use Rattle.qbf_core.specs.Blocks.{IsVariable}
 use Rattle.qbf_core.specs.Places.{IsTable, IsBeyond, IsTold}
 use Rattle.std.proofs.Common.{length-append}
 use Rattle.std.proofs.lemmas.Bool.{cases_eq}
+use Rattle.qbf_core.proofs.PushedItems.{pushed_cases}
 
 -- a list after all of it was lent as a slice
 pub written_back : {X : Type 0} (n : ℕ) (new old : List X) → n ≡ length old → length new ≡ length old
@@ -27,14 +28,6 @@ set_cases (y ∷ xs) zero (suc n) x o e = inr (λ d. absurd (omega (arith, d)), 
 set_cases (y ∷ xs) (suc i) zero x o e = inr (λ d. absurd (omega (arith, d)), e)
 set_cases (y ∷ xs) (suc i) (suc n) x o e =
     elim (set_cases xs i n x o e) [ inl h ↦ inl (ap suc h.0, h.1) | inr h ↦ inr (λ d. h.0 (omega (arith, d)), h.1) ]
-
--- what stands at a place after a push
-push_cases : {X : Type 0} (xs : List X) (n : ℕ) (x o : X) → slice_get (xs ++ x ∷ []) n ≡ Some o
-    → ((n ≡ length xs) × (o ≡ x)) ⊎ (slice_get xs n ≡ Some o)
-push_cases [] zero x o e = inl (refl, cc)
-push_cases [] (suc n) x o e = absurd cc
-push_cases (y ∷ xs) zero x o e = inr e
-push_cases (y ∷ xs) (suc n) x o e = elim (push_cases xs n x o e) [ inl h ↦ inl (ap suc h.0, h.1) | inr h ↦ inr h ]
 
 lookup_new : (v : ℕ) (p : Place) (es : List (ℕ × Place)) → lookup (nat_eq v) es ≡ None → lookup (nat_eq v) (es ++ (v, p) ∷ []) ≡ Some p
 lookup_new v p [] none = rw (eq-eqb v v refl) refl
@@ -60,16 +53,10 @@ lookup_outside n (e ∷ es) h out = rw (ne_eqb n e.0 (λ same. out (subst IsVari
 module _ (table : List (Option Place)) (es : List (ℕ × Place)) (is : IsTable table es) where
   -- one more entry, of the next number
   pub table_pushed : (slot : Option Place) → slot ≡ lookup (nat_eq (length table)) es → IsTable (table ++ slot ∷ []) es
-  table_pushed slot here = λ n o e. elim (push_cases table n slot o e) [
-    | inl h ↦ h.1 ∙ (here ∙ ap (λ m. lookup (nat_eq m) es) (sym h.0))
-    | inr h ↦ is n o h
+  table_pushed slot here = λ n o e. elim (pushed_cases table slot n o e) [
+    | inl h ↦ is n o h
+    | inr h ↦ h.1 ∙ (here ∙ ap (λ m. lookup (nat_eq m) es) (sym h.0))
   ]
-
-  -- or as before, where it is refused
-  pub table_grown : (given : Bool) (slot : Option Place) → slot ≡ lookup (nat_eq (length table)) es
-      → IsTable (if given then table ++ slot ∷ [] else table) es
-  table_grown true slot here = table_pushed slot here
-  table_grown false slot here = is
 
   -- a new variable that the table reaches
   pub table_noted : (v : ℕ) (p : Place) → lookup (nat_eq v) es ≡ None → IsTable (slice_set table v (Some p)) (es ++ (v, p) ∷ [])

@@ -6,9 +6,10 @@ use Rattle.qbf_core.specs.Members.{◌∈◌, ◌⊆◌}
 use Rattle.qbf_core.specs.Rules.{Side, Clauses, Cubes, IsClean, IsReduct, IsInitial, Clashes, resolvent}
 use Rattle.qbf_core.specs.Blocks.{IsBound, AreBound}
 use Rattle.qbf_core.specs.Qbf.{Qbf, IsClosed}
-use Rattle.qbf_core.proofs.Inferences.{append_left, append_right, resolvent_holds}
+use Rattle.qbf_core.proofs.Inferences.{resolvent_holds}
 use Rattle.qbf_core.proofs.TruthLaws.{implied_clause, reduct_clause, initial_cube, resolvent_cube, reduct_cube}
 use Rattle.qrp_check.specs.Laws.{IsTrueWithSets}
+use Rattle.qbf_core.proofs.Members.{append_left, append_right}
 
 -- each set is clean and over the prefix
 abbrev pub AreGood : Qbf → List (List Literal) → Type 0

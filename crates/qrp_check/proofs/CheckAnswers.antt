@@ -1,5 +1,5 @@
 -- What a check answers, from what is told of the core.
-use Rattle.std.proofs.Common.{◌≡◌, ◌≢◌, ◌↔◌, true, false, List, refl, sym, subst, IsTrue}
+use Rattle.std.proofs.Common.{◌≡◌, ◌≢◌, ◌↔◌, Bool, true, false, List, refl, sym, subst, IsTrue}
 use Rattle.std.specs.Prelude.{Result, Ok, Err, OnOk, IfOk, IfErr}
 use Rattle.qbf_core.specs.Blocks.{Block}
 use Rattle.qbf_core.specs.Qbf.{Qbf, IsClosed, IsWellFormed}
@@ -50,21 +50,13 @@ pub refuses : (rules : Rules) (f : Qbf) (sets : List Block) (steps : List Infere
 refuses rules f sets steps outcome side (Ok v) is agree fault = tt
 refuses rules f sets steps outcome side (Err e) is agree fault = core_fault rules f sets steps outcome side e is agree fault
 
-pub shows_false : (rules : Rules) (f : Qbf) (sets : List Block) (steps : List Inference) (outcome : Outcome)
-    (r : Result Verified CheckFault) → side_of outcome ≡ Clauses
-    → IsClosed f → OnOk r (Proves rules f sets steps outcome) → IfOk r (λ v. v.truth ≡ false)
+pub shows : (rules : Rules) (f : Qbf) (sets : List Block) (steps : List Inference) (outcome : Outcome) (side : Side) (truth : Bool)
+    (r : Result Verified CheckFault) → side_of outcome ≡ side → (ResultHolds side f → IsTrue truth ↔ IsTrueFormula f)
+    → IsClosed f → OnOk r (Proves rules f sets steps outcome) → IfOk r (λ v. v.truth ≡ truth)
     → IfOk r (λ v. IsTrue v.truth ↔ IsTrueFormula f)
-shows_false rules f sets steps outcome (Ok v) is closed shown claim =
-    rw claim (claims_false f (subst (λ (s : Side). ResultHolds s f) is (soundness rules f sets steps outcome closed shown)))
-shows_false rules f sets steps outcome (Err e) is closed shown claim = tt
-
-pub shows_true : (rules : Rules) (f : Qbf) (sets : List Block) (steps : List Inference) (outcome : Outcome) (r : Result Verified CheckFault)
-    → side_of outcome ≡ Cubes
-    → IsClosed f → OnOk r (Proves rules f sets steps outcome) → IfOk r (λ v. v.truth ≡ true)
-    → IfOk r (λ v. IsTrue v.truth ↔ IsTrueFormula f)
-shows_true rules f sets steps outcome (Ok v) is closed shown claim =
-    rw claim (claims_true f (subst (λ (s : Side). ResultHolds s f) is (soundness rules f sets steps outcome closed shown)))
-shows_true rules f sets steps outcome (Err e) is closed shown claim = tt
+shows rules f sets steps outcome side truth (Ok v) is claims closed shown claim =
+    rw claim (claims (subst (λ (s : Side). ResultHolds s f) is (soundness rules f sets steps outcome closed shown)))
+shows rules f sets steps outcome side truth (Err e) is claims closed shown claim = tt
 
 pub closed_of : (f : Qbf) → IsWellFormed f → IsClosed f
 closed_of f formed = record { distinct = formed.prefix.distinct; bound = formed.closed }

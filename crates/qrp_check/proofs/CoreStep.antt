@@ -22,17 +22,13 @@ use Rattle.qrp_check.specs.Premises.{written_conditions}
 use Rattle.qrp_check.specs.declared.premises.Premises.{Premises}
 use Rattle.qrp_check.specs.declared.premises.Premises.TheVariants.{Initial, One, Two}
 use Rattle.qrp_check.proofs.Marking.{core_within}
-use Rattle.qrp_check.proofs.StepFaults.{in_take, named}
-use Rattle.qrp_check.proofs.StepPlaces.{at_place, one_at}
+use Rattle.qrp_check.proofs.StepFaults.{named}
+use Rattle.qrp_check.proofs.StepPlaces.{one_at}
 use Rattle.qrp_rules.proofs.MembersDecide.{initial_answer, reduct_answer, resolvent_answer, same_self}
+use Rattle.qrp_rules.proofs.FirstFailures.{answer_after}
+use Rattle.qbf_core.proofs.Members.{at_place, in_take, take_in}
 
 -- ---- earlier steps
-
-in_taken : (steps : List Inference) (place j : ℕ) (s : Inference) → j < place → IsAt steps j s → s ∈ take place steps
-in_taken [] place j s less here = cc here
-in_taken (t ∷ steps) zero j s less here = absurd (omega (arith, less))
-in_taken (t ∷ steps) (suc place) zero s less here = inl (let e : Some t ≡ Some s = here in cc e)
-in_taken (t ∷ steps) (suc place) (suc j) s less here = inr (in_taken steps place j s (omega (arith, less)) here)
 
 -- the answer of a look-up by number
 abbrev pub IsOnly : List Inference → ℕ → Option ℕ → Type 0
@@ -74,7 +70,7 @@ pub premise_of : (steps : List Inference) (place index number : ℕ) (lits : Lis
     → (below : Inference) × IsAt steps index below × (below.number ≡ number) → IsOnlyAt steps index number
     → ((step : Inference) → IsAt steps index step → lits ≡ step.lits) → IsPremise (take place steps) number lits
 premise_of steps place index number lits less (below, here, is) only given =
-    let own : IsNumberOf (take place steps) number = (below, in_taken steps place index below less here, is) in
+    let own : IsNumberOf (take place steps) number = (below, take_in steps place index below less here, is) in
     let s = named (take place steps) number own in
     let w = in_take steps place s.0 s.1 in
     let at : IsAt steps index s.0 = subst (λ (k : ℕ). IsAt steps k s.0) (only w.0 s.0 w.2 s.2) w.2 in
@@ -104,11 +100,6 @@ module _ (rules : Rules) (side : Side) (f : Qbf) (steps : List Inference) (place
   )
 
 -- ---- the conditions of a step
-
-pub answer_after : (name : RuleFault) (holds : Type 0) (conditions : List (Condition RuleFault)) (answer : Option RuleFault) → holds
-    → IsAnswer conditions answer → IsAnswer ((name, holds) ∷ conditions) answer
-answer_after name holds conditions None h all = (h, all)
-answer_after name holds conditions (Some fault) h first = inr (h, first)
 
 with_earlier : (p q earlier : Type 0) (rest : List (Condition RuleFault)) (answer : Option RuleFault) → earlier
     → IsAnswer ((S1, p) ∷ (S2, q) ∷ rest) answer → IsAnswer ((S1, p) ∷ (S2, q) ∷ (S3, earlier) ∷ rest) answer
@@ -209,11 +200,6 @@ pub not_earlier : (before : List Inference) (ants numbers : List ℕ) (n : ℕ) 
 not_earlier before ants numbers n e h not all = not (all n (subst (λ (ns : List ℕ). n ∈ ns) (sym e) h))
 
 -- ---- lists of antecedents
-
-pub few_at : (steps : List Inference) (i : ℕ) (s : Inference) → AllByRecursion HasFewAntecedents steps → IsAt steps i s → length s.ants ≤ 2
-few_at [] i s all here = cc here
-few_at (t ∷ steps) zero s all here = let e : Some t ≡ Some s = here in let same : t ≡ s = cc e in subst HasFewAntecedents same all.0
-few_at (t ∷ steps) (suc i) s all here = few_at steps i s all.1 here
 
 pub one_listed : (xs : List ℕ) (d : ℕ) → 1 ≤ length xs → length xs < 2 → xs ≡ get_or xs 0 d ∷ []
 one_listed [] d some less = absurd (omega (arith, some))

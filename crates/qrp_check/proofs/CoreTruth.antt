@@ -6,7 +6,6 @@ use Rattle.qbf_core.specs.Rules.{Side, Clauses, Cubes, IsClean, IsInitial}
 use Rattle.qbf_core.specs.Blocks.{AreBound}
 use Rattle.qbf_core.specs.Qbf.{Qbf, IsClosed}
 use Rattle.qbf_core.specs.Truth.{IsTrueFormula}
-use Rattle.qbf_core.proofs.Inferences.{in_append, append_left, append_right}
 use Rattle.qbf_core.proofs.TruthLaws.{fewer_clauses, fewer_cubes, beside_none}
 use Rattle.qrp.specs.Inferences.{IsAt, Inference}
 use Rattle.qrp_rules.specs.declared.rules.Rules.{Rules}
@@ -17,7 +16,8 @@ use Rattle.qrp_rules.specs.Conditions.{AllHold, initial_condition}
 use Rattle.qrp_check.specs.Laws.{IsTrueWithSets, AreOfCore, CoreKeepsTheTruth}
 use Rattle.qrp_check.proofs.AddedSets.{AreGood, Grown, one_grown, grown_on, initial_grows, reduct_grows}
 use Rattle.qrp_check.proofs.ParentsReduced.{resolved_grown}
-use Rattle.qrp_check.proofs.StepFaults.{in_take, named}
+use Rattle.qrp_check.proofs.StepFaults.{named}
+use Rattle.qbf_core.proofs.Members.{in_append, append_left, append_right, in_take}
 
 initial_of : (side : Side) (f : Qbf) (lits : List Literal) → (initial_condition side f lits).1 → IsInitial side f lits
 initial_of Clauses f lits h = h

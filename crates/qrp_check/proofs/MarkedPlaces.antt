@@ -5,9 +5,6 @@ use Rattle.std.specs.Prelude.{slice_get}
 use Rattle.std.proofs.lemmas.Option.{slice_get_within, slice_get-get_or, get_or_from_slice_get}
 use Rattle.std.proofs.lemmas.Bool.{cases_eq}
 use Rattle.qrp_check.specs.Marks.{IsMarked, ListsMarked}
-use Rattle.qrp_check.specs.Core.{IsInCore, ListsCore}
-use Rattle.qrp.specs.Inferences.{Inference}
-use Rattle.qrp_check.proofs.Marking.{core_within}
 use Rattle.qbf_core.proofs.PushedItems.{pushed_cases, pushed_old, pushed_new}
 
 -- what was read says whether the place is marked
@@ -56,12 +53,4 @@ listing_push marks i places is listing = record {
     | inl e ↦ (length places, subst (λ x. slice_get (places ++ i ∷ []) (length places) ≡ Some x) (sym e) (pushed_new places i))
     | inr ne ↦ (let w = listing.full a (omega arith) h in (w.0, pushed_old places i w.0 a w.1))
   ];
-}
-
-pub listing_done : (steps : List Inference) (marks : List Bool) (i : ℕ) (places : List ℕ) → length steps ≤ i
-    → ((j : ℕ) → IsMarked marks j ↔ IsInCore steps j) → ListsMarked marks i places → ListsCore steps places
-listing_done steps marks i places all core listing = record {
-  rises = listing.rises;
-  sound = λ k a h. (core a).0 (listing.sound k a h).1;
-  full = λ a h. listing.full a (let less : a < length steps = core_within steps a h in omega arith) ((core a).1 h);
 }

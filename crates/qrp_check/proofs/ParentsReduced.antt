@@ -5,12 +5,13 @@ use Rattle.qbf_core.specs.Literal.{Literal, positive, negative}
 use Rattle.qbf_core.specs.Members.{◌∈◌, ◌⊆◌}
 use Rattle.qbf_core.specs.Rules.{IsClean, Side, IsReducible, IsReduct, Clashes, IsOnlyClash, resolvent}
 use Rattle.qbf_core.specs.Blocks.{Block, IsBound, AreBound}
-use Rattle.qbf_core.proofs.Bound.{bound_each, in_all}
+use Rattle.qbf_core.proofs.Bound.{bound_each, in_all, bound_within}
 use Rattle.qbf_core.specs.Qbf.{Qbf, IsClosed}
 use Rattle.qrp_rules.specs.Conditions.{IsReducibleInParents}
-use Rattle.qbf_core.proofs.Members.{in_or_not}
-use Rattle.qbf_core.proofs.Inferences.{in_append, append_left, append_right, in_without, from_without, resolvent_clean}
+use Rattle.qbf_core.proofs.Members.{in_or_not, in_append, append_left, append_right}
+use Rattle.qbf_core.proofs.Inferences.{in_without, from_without, resolvent_clean, resolvent_bound}
 use Rattle.qrp_check.proofs.AddedSets.{AreGood, Grown, one_grown, grown_on, reduct_grows, resolvent_grows}
+use Rattle.qbf_core.proofs.Order.{clean_within}
 
 -- what is taken out of a resolvent is reducible in it, or in each parent that has it
 pub record Resolved (side : Side) (f : Qbf) (a b lits : List Literal) : Type 0 where
@@ -48,12 +49,6 @@ pick P Q (x ∷ all) choose = by_choice (choose x (inl refl)) (pick P Q all (λ 
 reducible_fewer : (side : Side) (blocks : List Block) (all some : List Literal) (l : Literal) → some ⊆ all → IsReducible side blocks all l
     → IsReducible side blocks some l
 reducible_fewer side blocks all some l within red = (red.0, λ m h. red.1 m (within m h))
-
-clean_fewer : (all some : List Literal) → some ⊆ all → IsClean all → IsClean some
-clean_fewer all some within clean l h k = clean l (within l h) (within _ k)
-
-bound_fewer : (blocks : List Block) (all some : List Literal) → some ⊆ all → AreBound blocks all → AreBound blocks some
-bound_fewer blocks all some within bound = in_all (λ l. IsBound blocks l.var) some (λ l h. bound_each blocks all bound l (within l h))
 
 module _ (side : Side) (f : Qbf) (a b lits : List Literal) (resolved : Resolved side f a b lits) where
   -- what is kept of a parent before the resolution, and what is taken out of it
@@ -153,10 +148,10 @@ module _ (side : Side) (f : Qbf) (a b lits : List Literal) (resolved : Resolved 
   resolved_grown sets closed good in_a in_b clean bound =
       let of_a = good a in_a in
       let of_b = good b in_b in
-      let clean_a = clean_fewer a picked_a.some picked_a.within of_a.0 in
-      let clean_b = clean_fewer b picked_b.some picked_b.within of_b.0 in
-      let bound_a = bound_fewer f.blocks a picked_a.some picked_a.within of_a.1 in
-      let bound_b = bound_fewer f.blocks b picked_b.some picked_b.within of_b.1 in
+      let clean_a = clean_within a picked_a.some of_a.0 picked_a.within in
+      let clean_b = clean_within b picked_b.some of_b.0 picked_b.within in
+      let bound_a = bound_within f.blocks a picked_a.some of_a.1 picked_a.within in
+      let bound_b = bound_within f.blocks b picked_b.some of_b.1 picked_b.within in
       grown_on side f sets picked_a.some lits
       (one_grown side f sets picked_a.some (reduct_grows side f sets a picked_a.some closed good in_a reduct_a) good clean_a bound_a)
       (λ one good_1 more_1 here_a.
@@ -166,11 +161,6 @@ module _ (side : Side) (f : Qbf) (a b lits : List Literal) (resolved : Resolved 
       grown_on side f two rest lits
       (one_grown side f two rest (resolvent_grows side f two picked_a.some picked_b.some resolved.pivot closed good_2
       (more_2 picked_a.some here_a) here_b clash.clashes (pivot_bound of_a.1)) good_2
-      (resolvent_clean picked_a.some picked_b.some resolved.pivot clean_a clean_b clash) (rest_bound of_a.1 of_b.1))
+      (resolvent_clean picked_a.some picked_b.some resolved.pivot clean_a clean_b clash) (resolvent_bound f.blocks a b rest resolved.pivot of_a.1 of_b.1 rest_within))
       (λ three good_3 more_3 here. one_grown side f three lits
       (reduct_grows side f three rest lits closed good_3 here reduct) good_3 clean bound)))
-    where
-      rest_bound : AreBound f.blocks a → AreBound f.blocks b → AreBound f.blocks rest
-      rest_bound bound_a bound_b = in_all (λ l. IsBound f.blocks l.var) rest (λ l h.
-          let w = from_without resolved.pivot (a ++ b) l (rest_within l h) in
-          elim (in_append a b l w.0) [ inl k ↦ bound_each f.blocks a bound_a l k | inr k ↦ bound_each f.blocks b bound_b l k ])

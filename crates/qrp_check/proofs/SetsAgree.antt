@@ -1,7 +1,8 @@
 -- How far the sets of a trace agree: one pair more, and one list of pairs more.
 use Rattle.std.proofs.Common.{◌≡◌, ◌≤◌, ◌<◌, ◌+◌, ℕ, zero, suc, List, [], ◌∷◌, ◌++◌, ◌⊎◌, inl, inr, refl, sym, ap, subst, ◌∙◌, arith}
 use Rattle.std.proofs.Common.{length, get_or, take, drop, slice_get, Some}
-use Rattle.std.proofs.lemmas.List.{append_assoc}
+use Rattle.std.proofs.lemmas.List.{append_assoc, append-nil, map-append, map_more, take_more, take-append-drop}
+use Rattle.std.proofs.lemmas.List.Concat.{flat_map-append}
 use Rattle.qbf_core.specs.declared.quantifier.Quantifier.{Quantifier}
 use Rattle.qbf_core.specs.Blocks.{Block, Binds, IsBound, block_in, pairs, pairs_of_block}
 use Rattle.qbf_core.proofs.Bound.{binds_in, in_bound}
@@ -111,15 +112,11 @@ fails_early blocks highest n q v binds at less = fails_one blocks highest (q, v)
     ))
 
 -- no pair
-append_nil : {A : Type 0} (xs : List A) → xs ++ [] ≡ xs
-append_nil [] = refl
-append_nil (x ∷ xs) = ap (λ ys. x ∷ ys) (append_nil xs)
-
 pub passed_none : (blocks : List Block) → IsPassed blocks [] 0
 passed_none blocks = record { agree = λ i r e. absurd (cc e); low = λ k. ((λ le p h. absurd h), (λ all. omega arith)) }
 
 pub passes_none : (blocks : List Block) (highest : ℕ) → Passes blocks highest [] highest
-passes_none blocks highest before passed = subst (λ ps. IsPassed blocks ps highest) (sym (append_nil before)) passed
+passes_none blocks highest before passed = subst (λ ps. IsPassed blocks ps highest) (sym (append-nil before)) passed
 
 -- one list of pairs more
 pub passes_more : (blocks : List Block) (highest n m : ℕ) (ps qs : List (Quantifier × ℕ)) → Passes blocks highest ps n
@@ -134,10 +131,7 @@ fails_more blocks highest n ps qs more fault first second before rest passed =
     subst (λ rs. IsPairFault blocks rs fault) (assoc before ps qs more rest) (second (before ++ ps) (more ++ rest) (first before passed))
   where
     assoc : {A : Type 0} (xs ys zs us vs : List A) → (xs ++ ys) ++ (zs ++ (us ++ vs)) ≡ xs ++ (((ys ++ zs) ++ us) ++ vs)
-    assoc [] [] [] us vs = refl
-    assoc [] [] (z ∷ zs) us vs = ap (λ ws. z ∷ ws) (assoc [] [] zs us vs)
-    assoc [] (y ∷ ys) zs us vs = ap (λ ws. y ∷ ws) (assoc [] ys zs us vs)
-    assoc (x ∷ xs) ys zs us vs = ap (λ ws. x ∷ ws) (assoc xs ys zs us vs)
+    assoc xs ys zs us vs = simp append_assoc
 
 -- of nothing before, and nothing behind
 pub agrees_by_passes : (blocks : List Block) (ps : List (Quantifier × ℕ)) (n : ℕ) → Passes blocks 0 ps n → PairsAgree blocks ps
@@ -145,7 +139,7 @@ agrees_by_passes blocks ps n passes = (passes [] (passed_none blocks)).agree
 
 pub fault_by_fails : (blocks : List Block) (ps : List (Quantifier × ℕ)) (fault : CheckFault) → FailsIn blocks 0 ps fault
     → IsPairFault blocks ps fault
-fault_by_fails blocks ps fault fails = subst (λ rs. IsPairFault blocks rs fault) (append_nil ps) (fails [] [] (passed_none blocks))
+fault_by_fails blocks ps fault fails = subst (λ rs. IsPairFault blocks rs fault) (append-nil ps) (fails [] [] (passed_none blocks))
 
 -- one variable more of a set
 abbrev pub under : Quantifier → List ℕ → List (Quantifier × ℕ)
@@ -153,45 +147,27 @@ under q vs = pairs_of_block (record { quantifier = q; vars = vs })
 
 pub under_next : (q : Quantifier) (vs : List ℕ) (i v : ℕ) → i < length vs → v ≡ get_or vs i v
     → under q (take (i + 1) vs) ≡ under q (take i vs) ++ (q, v) ∷ []
-under_next q [] i v less e = absurd (omega arith)
-under_next q (w ∷ vs) zero v less e = ap (λ (n : ℕ). (q, n) ∷ []) (sym e)
-under_next q (w ∷ vs) (suc i) v less e =
-    let shift : suc (i + 1) ≡ suc i + 1 = omega arith in
-    subst (λ n. under q (take n (w ∷ vs)) ≡ (q, w) ∷ (under q (take i vs) ++ (q, v) ∷ [])) shift
-    (ap (λ ps. (q, w) ∷ ps) (under_next q vs i v (omega arith) e))
+under_next q vs i v less e = map_more (λ (w : ℕ). (q, w)) vs i v less ∙ ap (λ (w : ℕ). under q (take i vs) ++ (q, w) ∷ []) (sym e)
 
 pub under_rest : (q : Quantifier) (vs : List ℕ) (i v : ℕ) → i < length vs → v ≡ get_or vs i v
     → (under q (take i vs) ++ (q, v) ∷ []) ++ under q (drop (i + 1) vs) ≡ under q vs
-under_rest q [] i v less e = absurd (omega arith)
-under_rest q (w ∷ vs) zero v less e = ap (λ (n : ℕ). (q, n) ∷ under q vs) e
-under_rest q (w ∷ vs) (suc i) v less e =
-    let shift : suc (i + 1) ≡ suc i + 1 = omega arith in
-    subst (λ n. (q, w) ∷ ((under q (take i vs) ++ (q, v) ∷ []) ++ under q (drop n (w ∷ vs))) ≡ (q, w) ∷ under q vs) shift
-    (ap (λ ps. (q, w) ∷ ps) (under_rest q vs i v (omega arith) e))
+under_rest q vs i v less e =
+    ap (λ (ps : List (Quantifier × ℕ)). ps ++ under q (drop (i + 1) vs)) (sym (under_next q vs i v less e))
+    ∙ sym (map-append (λ (w : ℕ). (q, w)) (take (i + 1) vs) (drop (i + 1) vs))
+    ∙ ap (under q) (take-append-drop (i + 1) vs)
 
 -- one set more
 pub sets_next : (sets : List Block) (i : ℕ) (s : Block) → i < length sets → s ≡ get_or sets i s
     → pairs (take (i + 1) sets) ≡ pairs (take i sets) ++ pairs_of_block s
-sets_next [] i s less e = absurd (omega arith)
-sets_next (t ∷ sets) zero s less e =
-    subst (λ (x : Block). pairs_of_block t ++ [] ≡ pairs_of_block x) (sym e) (append_nil (pairs_of_block t))
-sets_next (t ∷ sets) (suc i) s less e =
-    let shift : suc (i + 1) ≡ suc i + 1 = omega arith in
-    subst (λ n. pairs (take n (t ∷ sets)) ≡ (pairs_of_block t ++ pairs (take i sets)) ++ pairs_of_block s) shift
-    (ap (λ ps. pairs_of_block t ++ ps) (sets_next sets i s (omega arith) e)
-    ∙ sym (append_assoc (pairs_of_block t) (pairs (take i sets)) (pairs_of_block s)))
+sets_next sets i s less e =
+    let last : Block = get_or sets i s in
+    ap pairs (take_more sets i s less)
+    ∙ flat_map-append pairs_of_block (take i sets) (last ∷ [])
+    ∙ ap (λ (ps : List (Quantifier × ℕ)). pairs (take i sets) ++ ps) (append-nil (pairs_of_block last) ∙ ap pairs_of_block (sym e))
 
 pub sets_rest : (sets : List Block) (i : ℕ) (s : Block) → i < length sets → s ≡ get_or sets i s
     → (pairs (take i sets) ++ pairs_of_block s) ++ pairs (drop (i + 1) sets) ≡ pairs sets
-sets_rest [] i s less e = absurd (omega arith)
-sets_rest (t ∷ sets) zero s less e = ap (λ (x : Block). pairs_of_block x ++ pairs sets) e
-sets_rest (t ∷ sets) (suc i) s less e =
-    let shift : suc (i + 1) ≡ suc i + 1 = omega arith in
-    let ts : List (Quantifier × ℕ) = pairs_of_block t in
-    let inner : List (Quantifier × ℕ) = pairs (take i sets) in
-    let own : List (Quantifier × ℕ) = pairs_of_block s in
-    subst (λ n. ((ts ++ inner) ++ own) ++ pairs (drop n (t ∷ sets)) ≡ ts ++ pairs sets) shift
-    (
-    ap (λ ps. ps ++ pairs (drop (i + 1) sets)) (append_assoc ts inner own)
-    ∙ (append_assoc ts (inner ++ own) (pairs (drop (i + 1) sets)) ∙ ap (λ ps. ts ++ ps) (sets_rest sets i s (omega arith) e))
-    )
+sets_rest sets i s less e =
+    ap (λ (ps : List (Quantifier × ℕ)). ps ++ pairs (drop (i + 1) sets)) (sym (sets_next sets i s less e))
+    ∙ sym (flat_map-append pairs_of_block (take (i + 1) sets) (drop (i + 1) sets))
+    ∙ ap pairs (take-append-drop (i + 1) sets)

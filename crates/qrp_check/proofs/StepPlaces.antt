@@ -6,17 +6,7 @@ use Rattle.std.proofs.Math.Dec.{eqb-suc-zero}
 use Rattle.std.proofs.lemmas.Bool.{false≢true, cases_eq}
 use Rattle.qrp.specs.Inferences.{Inference, IsAt}
 use Rattle.qrp_check.specs.Core.{IsGoal}
-
--- a place within a list has an element
-pub at_place : {A : Type 0} (xs : List A) (i : ℕ) → i < length xs → (x : A) × (slice_get xs i ≡ Some x)
-at_place [] i less = absurd (omega (arith, less))
-at_place (x ∷ xs) zero less = (x, refl)
-at_place (x ∷ xs) (suc i) less = at_place xs i (omega (arith, less))
-
-pub within_place : {A : Type 0} (xs : List A) (i : ℕ) (x : A) → slice_get xs i ≡ Some x → i < length xs
-within_place [] i x here = cc here
-within_place (y ∷ xs) zero x here = omega arith
-within_place (y ∷ xs) (suc i) x here = let less : i < length xs = within_place xs i x here in omega (arith, less)
+use Rattle.qbf_core.proofs.Members.{at_place}
 
 pub one_at : {A : Type 0} (xs : List A) (i : ℕ) (x y : A) → slice_get xs i ≡ Some x → slice_get xs i ≡ Some y → x ≡ y
 one_at xs i x y p q = let e : Some x ≡ Some y = sym p ∙ q in cc e
@@ -45,5 +35,3 @@ later_step steps i p is full later j step here empty = elim (cases_eq j p) [
   | inl e ↦ absurd (full step (subst (λ (k : ℕ). IsAt steps k step) e here) empty)
   | inr ne ↦ (let less : j < i = later j step here empty in omega (arith, less, is, ne))
 ]
-
--- ---- a list with one more

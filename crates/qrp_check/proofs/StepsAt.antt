@@ -8,7 +8,7 @@ use Rattle.std.proofs.lemmas.Bool.{ne_eqb}
 use Rattle.std.proofs.lemmas.List.{take_more}
 use Rattle.std.proofs.lemmas.List.Elements.{filter_map-append}
 use Rattle.std.proofs.lemmas.List.Kept.{AllPairs-from_increasing}
-use Rattle.std.proofs.lemmas.Option.{slice_get_cases, slice_get-get_or}
+use Rattle.std.proofs.lemmas.Option.{slice_get_cases, slice_get-get_or, get_or_from_slice_get}
 use Rattle.qbf_core.specs.Members.{◌∈◌}
 use Rattle.qbf_core.proofs.DistinctNumbers.{all_at}
 use Rattle.qrp.specs.Inferences.{Inference, IsAt, numbers}
@@ -19,6 +19,7 @@ use Rattle.qrp.specs.Derivations.{steps_at}
 use Rattle.qrp_check.specs.declared.fault.CheckFault.{CheckFault}
 use Rattle.qrp_check.specs.declared.verdict.Verified.{Verified}
 use Rattle.qrp_check.proofs.Marking.{core_within}
+use Rattle.qbf_core.proofs.Members.{in_take}
 
 -- ---- lists by places
 
@@ -26,19 +27,12 @@ all_of_each : {X : Type 0} (P : X → Type 0) (xs : List X) → ((k : ℕ) (x : 
 all_of_each P [] each = tt
 all_of_each P (x ∷ xs) each = (each 0 x refl, all_of_each P xs (λ k y here. each (suc k) y here))
 
-in_front : (xs : List ℕ) (k x : ℕ) → x ∈ take k xs → (j : ℕ) × (j < k) × (get_or xs j 0 ≡ x)
-in_front [] zero x h = absurd h
-in_front [] (suc k) x h = absurd h
-in_front (y ∷ xs) zero x h = absurd h
-in_front (y ∷ xs) (suc k) x (inl e) = (0, omega arith, sym e)
-in_front (y ∷ xs) (suc k) x (inr h) = let w = in_front xs k x h in (suc w.0, (let less : w.0 < k = w.1 in omega (arith, less)), w.2)
-
 -- what rises is not met again
 not_before : (xs : List ℕ) (k : ℕ) → IsStrictlyIncreasing xs → k < length xs → get_or xs k 0 ∈ take k xs → ⊥
 not_before xs k rises less h =
-    let w = in_front xs k (get_or xs k 0) h in
+    let w = in_take xs k (get_or xs k 0) h in
     let below : get_or xs w.0 0 < get_or xs k 0 = AllPairs-from_increasing xs rises w.0 k 0 w.1 less in
-    omega (arith, below, w.2)
+    omega (arith, below, get_or_from_slice_get xs w.0 (get_or xs k 0) 0 w.2)
 
 -- ---- the places of a core
 

@@ -7,7 +7,7 @@ use Rattle.qbf_core.specs.Members.{◌∈◌}
 use Rattle.qrp.specs.Inferences.{Inference, IsInference, numbers}
 use Rattle.qrp.specs.Derivations.{Derivation, IsWellFormed, steps_at}
 use Rattle.qrp.proofs.Positions.{HasOwnNumbers, own_numbers}
-use Rattle.qrp.proofs.CanonicalTextIsRead.{text_is_read}
+use Rattle.qrp.proofs.ReadingLaws.{text_is_read}
 use Rattle.qrp_check.specs.Core.{ListsCore}
 use Rattle.qrp_check.specs.Laws.{TrimmedTextProves}
 use Rattle.qrp_check.specs.Trim.{trimmed}
@@ -16,19 +16,15 @@ use Rattle.qrp.proofs.WrittenParts.{length_at}
 use Rattle.qrp_check.proofs.StepsAt.{core_inside, each_at, numbers_at, others_at}
 use Rattle.qrp_check.proofs.TrimKeeps.{trimming_keeps}
 use Rattle.qrp_check.proofs.TrimAgain.{trimmed_is_fixed}
+use Rattle.qbf_core.proofs.Members.{in_got}
 
 -- places that rise, by those that stand in order
 abbrev Rises : List ℕ → Type 0
 Rises places = (k l i j : ℕ) → slice_get places k ≡ Some i → slice_get places l ≡ Some j → k < l → i < j
 
-place_in : (places : List ℕ) (i : ℕ) → i ∈ places → (k : ℕ) × (slice_get places k ≡ Some i)
-place_in [] i h = absurd h
-place_in (p ∷ places) i (inl e) = (0, ap (λ x. Some x) (sym e))
-place_in (p ∷ places) i (inr h) = let w = place_in places i h in (suc w.0, w.1)
-
 head_out : (p : ℕ) (places : List ℕ) → Rises (p ∷ places) → p ∈ places → ⊥
 head_out p places rises h =
-    let w = place_in places p h in
+    let w = in_got places p h in
     let worse : p < p = rises 0 (suc w.0) p p refl w.1 (omega arith) in
     omega (arith, worse)
 

@@ -1,7 +1,7 @@
--- The headline, over the bytes and the grammar of their tokens: for all formula and trace bytes, `verify` answers Verified exactly where
+-- The headline, over the bytes and the grammar of their tokens: for all formula and trace bytes, `verify` returns Verified exactly where
 -- the bytes spell a closed prenex formula and a trace whose sets agree with it and whose last empty step, with all steps below that
--- one, follows by the rules; and whenever it answers Verified, that formula is false if the trace says `r unsat` and true if it
--- says `r sat`. Want of memory and failed devices are aside.
+-- one, follows by the rules; and whenever it returns Verified, that formula is false if the trace says `r unsat` and true if it
+-- says `r sat`. This holds unless an allocation or a device failed.
 use Rattle.std.specs.Prelude.{◌≡◌, ◌↔◌, ◌⊎◌, ℕ, IsTrue, List, IsOk, IfOk, Result}
 use Rattle.qbf_core.specs.Qbf.{Qbf}
 use Rattle.qbf_core.specs.Truth.{IsTrueFormula}
@@ -29,7 +29,7 @@ pub record IsShown (rules : Rules) (formula trace : List ℕ) : Type 0 where
   pub spelled : Spell formula trace f d
   pub proves : IsProof rules f d
 
--- The answer is Verified only where the bytes show it, and wherever they do, but for want of memory and failed devices. And then
+-- The result is Verified only where the bytes show it, and wherever they do, unless an allocation or a device failed. And then
 -- the formula is false if the trace says `r unsat` and true if it says `r sat`, and `truth` says which.
 pub record Headline (rules : Rules) (formula trace : List ℕ) (answer : Result Verified Fault) : Type 0 where
   pub only : IsOk answer → IsShown rules formula trace

@@ -5,25 +5,25 @@ use Rattle.qbf_core.specs.Literal.{Literal, negated, positive, negative}
 use Rattle.qbf_core.specs.Members.{◌∈◌}
 use Rattle.qbf_core.specs.Rules.{Clashes, IsOnlyClash}
 use Rattle.qbf_core.specs.Sets.{IsOrdered}
-use Rattle.qbf_core.proofs.Members.{in_at, lit_is, in_take_more, in_take_all}
-use Rattle.qbf_core.proofs.Order.{take_more_in, take_within}
+use Rattle.qbf_core.proofs.Members.{in_at, in_take_more, in_take_all, take_more_in, take_within}
+use Rattle.qbf_core.proofs.Order.{clash_here}
 
 -- the one variable of the clash so far, if there is one
 abbrev pub IsClashSoFar : List Literal → List Literal → Option ℕ → Type 0
 IsClashSoFar a b None = (x : ℕ) → Clashes a b x → ⊥
 IsClashSoFar a b (Some x) = IsOnlyClash a b x
 
-pub take_below : (xs : List Literal) (i : ℕ) (x m : Literal) → IsOrdered xs → i < length xs → x ≡ get_or xs i x → m ∈ take i xs
+pub taken_below : (xs : List Literal) (i : ℕ) (x m : Literal) → IsOrdered xs → i < length xs → x ≡ get_or xs i x → m ∈ take i xs
     → m.var < x.var
-take_below [] i x m o less e h = absurd (omega arith)
-take_below (y ∷ xs) zero x m o less e h = absurd h
-take_below (y ∷ xs) (suc i) x m o less e (inl f) =
+taken_below [] i x m o less e h = absurd (omega arith)
+taken_below (y ∷ xs) zero x m o less e h = absurd h
+taken_below (y ∷ xs) (suc i) x m o less e (inl f) =
     let inside : i < length xs = omega arith in
     let lt : y.var < x.var = o.0 x (in_at xs i x inside e) in
     let var_of : Literal → ℕ = λ z. z.var in
     let s : m.var ≡ y.var = ap var_of f in
     omega arith
-take_below (y ∷ xs) (suc i) x m o less e (inr h) = take_below xs i x m o.1 (omega arith) e h
+taken_below (y ∷ xs) (suc i) x m o less e (inr h) = taken_below xs i x m o.1 (omega arith) e h
 
 -- the clash with one more literal
 pub clash_cases : (a b : List Literal) (i v : ℕ) (x : Literal) → i < length a → x ≡ get_or a i x → Clashes (take (i + 1) a) b v
@@ -41,14 +41,6 @@ clash_cases a b i v x less e (inr (p, q)) = elim (in_take_more a i x (negative v
     (let var_of : Literal → ℕ = λ z. z.var in ap var_of f),
     (let neg : Literal → Literal = λ z. negated z in subst (λ (z : Literal). z ∈ b) (ap neg f) q),
   )
-]
-
-pub clash_here : (a b : List Literal) (x : Literal) → x ∈ a → negated x ∈ b → Clashes a b x.var
-clash_here a b x h k = elim (lit_is x x.var refl) [
-  | inl e ↦ (let neg : Literal → Literal = λ z. negated z in
-      inl (subst (λ (z : Literal). z ∈ a) e h, subst (λ (z : Literal). z ∈ b) (ap neg e) k))
-  | inr e ↦ (let neg : Literal → Literal = λ z. negated z in
-      inr (subst (λ (z : Literal). z ∈ a) e h, subst (λ (z : Literal). z ∈ b) (ap neg e) k))
 ]
 
 pub clash_wider : (a a' b : List Literal) (v : ℕ) → ((l : Literal) → l ∈ a → l ∈ a') → Clashes a b v → Clashes a' b v
@@ -85,7 +77,7 @@ pub clash_second : (a b : List Literal) (i y : ℕ) (x : Literal) → IsOrdered 
     → (v : ℕ) × (w : ℕ) × Clashes a b v × Clashes a b w × (v ≡ w → ⊥)
 clash_second a b i y x o less e h one =
     let l = clash_var (take i a) b y one.clashes in
-    let lt : l.0.var < x.var = take_below a i x l.0 o less e l.1 in
+    let lt : l.0.var < x.var = taken_below a i x l.0 o less e l.1 in
     let is : l.0.var ≡ y = l.2 in (
       y,
       x.var,

@@ -2,11 +2,11 @@
 use Rattle.std.proofs.Common.{◌≡◌, ◌<◌, ◌≤◌, ◌+◌, ℕ, suc, zero, List, [], ◌∷◌, length, get_or, drop, Bool, eqb, ◌&&◌, ◌↔◌, IsTrue}
 use Rattle.std.proofs.Common.{slice_get, Some, true, refl, sym, ap, subst, ◌∙◌, inl, inr, arith}
 use mathlib.Core.Bool.{beq}
-use Rattle.std.specs.List.{IsFirstAndRest}
 use Rattle.qbf_core.specs.Literal.{Literal}
 use Rattle.qbf_core.specs.Members.{◌∈◌, ◌⊆◌}
 use Rattle.qbf_core.specs.Sets.{IsOrdered}
 use Rattle.qbf_core.proofs.Members.{lit_test, lit_test_same}
+use Rattle.std.proofs.lemmas.List.{drop_more}
 
 -- v is the variable of a literal of the list
 abbrev pub HasVar : List Literal → ℕ → Type 0
@@ -18,34 +18,22 @@ pub record Reaches (whole rest : List Literal) (coming : ℕ → Type 0) : Type 
   pub within : rest ⊆ whole
   pub kept : (v : ℕ) (m : Literal) → coming v → v ≤ m.var → m ∈ whole → m ∈ rest
 
--- members of what is left behind a place
-pub in_drop : (xs : List Literal) (i : ℕ) (x : Literal) → i < length xs → x ≡ get_or xs i x → x ∈ drop i xs
-in_drop [] i x less e = absurd (omega arith)
-in_drop (y ∷ xs) zero x less e = inl e
-in_drop (y ∷ xs) (suc i) x less e = in_drop xs i x (omega arith) e
+-- what is left of a list from a place on
+in_drop : (xs : List Literal) (i : ℕ) (x : Literal) → i < length xs → x ≡ get_or xs i x → x ∈ drop i xs
+in_drop xs i x less e = subst (λ (ys : List Literal). x ∈ ys) (sym (drop_more xs i x less)) (inl e)
 
-pub drop_in : (xs : List Literal) (i : ℕ) (x : Literal) → x ∈ drop i xs → x ∈ xs
-drop_in [] zero x h = h
-drop_in [] (suc i) x h = h
-drop_in (y ∷ xs) zero x h = h
-drop_in (y ∷ xs) (suc i) x h = inr (drop_in xs i x h)
+drop_back : (xs : List Literal) (i : ℕ) (x : Literal) → i < length xs → x ∈ drop (i + 1) xs → x ∈ drop i xs
+drop_back xs i x less h = subst (λ (ys : List Literal). x ∈ ys) (sym (drop_more xs i x less)) (inr h)
 
-pub drop_back : (xs : List Literal) (i : ℕ) (x : Literal) → x ∈ drop (i + 1) xs → x ∈ drop i xs
-drop_back [] zero x h = h
-drop_back [] (suc i) x h = let shift : suc i + 1 ≡ suc (i + 1) = omega arith in subst (λ n. x ∈ drop n []) shift h
-drop_back (y ∷ xs) zero x h = inr h
-drop_back (y ∷ xs) (suc i) x h =
-    let shift : suc i + 1 ≡ suc (i + 1) = omega arith in
-    drop_back xs i x (subst (λ n. x ∈ drop n (y ∷ xs)) shift h)
+ordered_drop : (xs : List Literal) (i : ℕ) → IsOrdered xs → IsOrdered (drop i xs)
+ordered_drop xs zero o = o
+ordered_drop [] (suc i) o = tt
+ordered_drop (y ∷ xs) (suc i) o = ordered_drop xs i o.1
 
-pub drop_later : (xs : List Literal) (i : ℕ) (x l : Literal) → IsOrdered xs → i < length xs → x ≡ get_or xs i x → l ∈ drop (i + 1) xs
+drop_later : (xs : List Literal) (i : ℕ) (x l : Literal) → IsOrdered xs → i < length xs → x ≡ get_or xs i x → l ∈ drop (i + 1) xs
     → x.var < l.var
-drop_later [] i x l o less e h = absurd (omega arith)
-drop_later (y ∷ xs) zero x l o less e h = let var_of : Literal → ℕ = λ z. z.var in let s : x.var ≡ y.var = ap var_of e in
-    let lt : y.var < l.var = o.0 l h in omega arith
-drop_later (y ∷ xs) (suc i) x l o less e h =
-    let shift : suc i + 1 ≡ suc (i + 1) = omega arith in
-    drop_later xs i x l o.1 (omega arith) e (subst (λ n. l ∈ drop n (y ∷ xs)) shift h)
+drop_later xs i x l o less e h = subst (λ (z : Literal). z.var < l.var) (sym e)
+    ((subst IsOrdered (drop_more xs i x less) (ordered_drop xs i o)).0 l h)
 
 -- a list that is walked beside another: at the start, and behind one more literal
 pub reach_start : (whole part : List Literal) → IsOrdered whole → Reaches whole whole (HasVar part)
@@ -61,7 +49,7 @@ reach_more whole rest rest' part i v x o less e r o' within is kept = record {
   kept = λ n m l le h.
       let lt : x.var < l.0.var = drop_later part i x l.0 o less e l.1 in
       let same : l.0.var ≡ n = l.2 in
-      let k : m ∈ rest = r.kept n m (l.0, drop_back part i l.0 l.1, l.2) le h in
+      let k : m ∈ rest = r.kept n m (l.0, drop_back part i l.0 less l.1, l.2) le h in
       kept m k (omega arith);
 }
 
@@ -71,9 +59,6 @@ pub reach_in : (whole rest part : List Literal) (i : ℕ) (x y : Literal) → i 
 reach_in whole rest part i x y less e r is h = r.kept x.var y (x, in_drop part i x less e, refl) (omega arith) h
 
 -- the first of an ordered list
-pub first_rest : (xs : List Literal) (first : Literal) (others : List Literal) → IsFirstAndRest xs first others → xs ≡ first ∷ others
-first_rest xs first others h = h.0
-
 pub first_least : (first : Literal) (others : List Literal) (v : ℕ) (m : Literal) → v ≤ first.var → IsOrdered (first ∷ others)
     → m ∈ (first ∷ others) → v ≤ m.var
 first_least first others v m le o (inl e) = let var_of : Literal → ℕ = λ z. z.var in let s : m.var ≡ first.var = ap var_of e in omega arith

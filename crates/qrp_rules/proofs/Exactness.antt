@@ -1,28 +1,26 @@
 -- Steps that are written exactly as they follow, in any order: what the walk over them tells.
-use Rattle.std.proofs.Common.{◌≡◌, ◌<◌, ◌≤◌, ◌+◌, ℕ, List, ◌∷◌, ◌++◌, ◌⊎◌, ◌↔◌, Bool, Result, Ok, Err, length, get_or, take, drop, slice_get, Some}
+use Rattle.std.proofs.Common.{◌≡◌, ◌<◌, ◌≤◌, ◌+◌, ℕ, List, ◌∷◌, ◌++◌, ◌⊎◌, ◌↔◌, Bool, Result, Ok, Err, length, get_or, take, drop, slice_get, Some, None, Option, refl}
 use Rattle.std.proofs.Common.{sym, ap, subst, ◌∙◌, inl, inr, arith}
 use Rattle.std.specs.Prelude.{IfOk, IsTrue}
 use Rattle.std.proofs.lemmas.Bool.{cases_eq}
-use Rattle.std.proofs.lemmas.List.{take-append-drop}
+use Rattle.std.proofs.lemmas.List.{take-append-drop, take_all}
 use Rattle.qbf_core.specs.Literal.{Literal, negated, positive, negative}
 use Rattle.qbf_core.specs.Members.{◌∈◌, ◌⊆◌}
 use Rattle.qbf_core.specs.Blocks.{Block, AreBound}
 use Rattle.qbf_core.specs.Rules.{Side, Clashes, IsClean, IsOnlyClash, resolvent}
 use Rattle.qbf_core.specs.Sets.{HasMembersOf}
-use Rattle.qbf_core.proofs.Inferences.{in_append, append_left, append_right, in_without, from_without}
-use Rattle.qbf_core.proofs.Members.{in_take_all, in_take_more, negated_differs, negated_twice}
-use Rattle.qbf_core.proofs.Order.{take_more_in, take_within}
+use Rattle.qbf_core.proofs.Inferences.{in_without, from_without, resolvent_clean, resolvent_bound}
+use Rattle.qbf_core.proofs.Members.{in_take_all, in_take_more, negated_differs, negated_twice, in_append, append_left, append_right, take_more_in, take_within, drop_within, got_in}
 use Rattle.qrp_rules.specs.declared.walks.Reducible.{Reducible}
 use Rattle.qrp_rules.specs.declared.rules.Rules.{Rules}
 use Rattle.qrp_rules.specs.Conditions.{AllHold, AllowsPivot, resolvent_conditions}
 use Rattle.qrp_rules.specs.Exact.{IsApart, IsMergeSoFar, IsNext, IsResolvedAt}
 use Rattle.qrp_rules.specs.Seen.{Has}
 use Rattle.qrp_rules.specs.Walks.{Covers, MayLack}
-use Rattle.qrp_rules.proofs.Clashing.{clash_here}
-use Rattle.qrp_rules.proofs.OrderedLists.{taken_whole}
-use Rattle.qrp_rules.proofs.ReductsByMembers.{got_in}
-use Rattle.qrp_rules.proofs.Merging.{got, in_pass, pass_in, pass_inside, pass_takes, resolvent_bound, split_at}
-use Rattle.qrp_rules.proofs.ResolventRows.{all_hold}
+use Rattle.qrp_rules.proofs.Merging.{in_pass, pass_in, pass_inside, pass_takes, split_at}
+use Rattle.qrp_rules.proofs.ResolventRows.{at_pivot}
+use Rattle.qbf_core.proofs.Order.{clash_here, clean_within}
+use Rattle.std.proofs.lemmas.Option.{slice_get_read}
 
 -- ---- one literal more
 
@@ -62,9 +60,6 @@ merge_right a b to i j k e u l h = take_within to k l (u.right l (in_take_all b 
 in_parts : (xs : List Literal) (n : ℕ) (l : Literal) → l ∈ xs → (l ∈ take n xs) ⊎ (l ∈ drop n xs)
 in_parts xs n l h = in_append (take n xs) (drop n xs) l (subst (λ (zs : List Literal). l ∈ zs) (sym (take-append-drop n xs)) h)
 
-rest_within : (xs : List Literal) (n : ℕ) (l : Literal) → l ∈ drop n xs → l ∈ xs
-rest_within xs n l h = subst (λ (zs : List Literal). l ∈ zs) (take-append-drop n xs) (append_right (take n xs) (drop n xs) l h)
-
 in_around : (xs : List Literal) (i : ℕ) (x l : Literal) → slice_get xs i ≡ Some x → l ∈ xs
     → (l ≡ x) ⊎ ((l ∈ take i xs) ⊎ (l ∈ drop (i + 1) xs))
 in_around xs i x l at h =
@@ -79,16 +74,16 @@ pub resolved_at : (a b to s t u : List Literal) (i j k : ℕ) (x y : Literal) �
     → s ≡ drop (i + 1) a → t ≡ drop (j + 1) b → u ≡ drop k to → IsMergeSoFar a b to i j k
     → ((l : Literal) → l ∈ u → (l ∈ s) ⊎ (l ∈ t)) → s ⊆ u → t ⊆ u → IsResolvedAt a b to x
 resolved_at a b to s t u i j k x y in_a at_a in_b at_b opposite es et eu so_far from left right =
-    let here_a : slice_get a i ≡ Some x = got a i x in_a at_a in
-    let here_b : slice_get b j ≡ Some y = got b j y in_b at_b in
+    let here_a : slice_get a i ≡ Some x = slice_get_read a (length a) i x refl in_a at_a in
+    let here_b : slice_get b j ≡ Some y = slice_get_read b (length b) j y refl in_b at_b in
     record {
       in_a = got_in a i x here_a;
       in_b = subst (λ (z : Literal). z ∈ b) opposite (got_in b j y here_b);
       from = λ l h. elim (in_parts to k l h) [
         | inl p ↦ elim (so_far.from l p) [ inl q ↦ inl (take_within a i l q) | inr q ↦ inr (take_within b j l q) ]
         | inr p ↦ elim (from l (subst (λ (zs : List Literal). l ∈ zs) (sym eu) p)) [
-          | inl q ↦ inl (rest_within a (i + 1) l (subst (λ (zs : List Literal). l ∈ zs) es q))
-          | inr q ↦ inr (rest_within b (j + 1) l (subst (λ (zs : List Literal). l ∈ zs) et q))
+          | inl q ↦ inl (drop_within a (i + 1) l (subst (λ (zs : List Literal). l ∈ zs) es q))
+          | inr q ↦ inr (drop_within b (j + 1) l (subst (λ (zs : List Literal). l ∈ zs) et q))
         ]
       ];
       left = λ l h. elim (in_around a i x l here_a h) [
@@ -104,7 +99,7 @@ resolved_at a b to s t u i j k x y in_a at_a in_b at_b opposite es et eu so_far 
     }
   where
     behind : (l : Literal) → l ∈ u → l ∈ to
-    behind l h = rest_within to k l (subst (λ (zs : List Literal). l ∈ zs) eu h)
+    behind l h = drop_within to k l (subst (λ (zs : List Literal). l ∈ zs) eu h)
 
 -- ---- what a step without the pivot, and without a clashing pair, tells
 
@@ -137,9 +132,6 @@ module _ (a b to : List Literal) (x : Literal) (is : IsResolvedAt a b to x) (cle
 
 -- ---- no clashing pair
 
-pub clean_within : (from to : List Literal) → IsClean from → to ⊆ from → IsClean to
-clean_within from to clean sub l h k = clean l (sub l h) (sub (negated l) k)
-
 -- one literal more, whose negation is none of those so far
 pub clean_with : (xs : List Literal) (i : ℕ) (x : Literal) → i < length xs → x ≡ get_or xs i x → (negated x ∈ take i xs → ⊥)
     → IsClean (take i xs) → IsClean (take (i + 1) xs)
@@ -157,51 +149,26 @@ clean_with xs i x less e out clean l h k = elim (in_take_more xs i x l less e h)
     negation : Literal → Literal
     negation z = negated z
 
--- what follows where a test succeeds and holds
-pub ok_then : {E P Q : Type 0} (r : Result Bool E) → IfOk r (λ t. IsTrue t → P) → (P → Q) → IfOk r (λ t. IsTrue t → Q)
-ok_then (Ok t) holds then = λ is. then (holds is)
-ok_then (Err e) holds then = tt
-
-pub apart_more : (xs : List Literal) (i v : ℕ) (x : Literal) → i < length xs → x ≡ get_or xs i x → (x.var ≡ v → ⊥)
-    → IsApart (take i xs) v → IsApart (take (i + 1) xs) v
-apart_more xs i v x less e ne out l h is = elim (in_take_more xs i x l less e h) [
-  | inl p ↦ out l p is
-  | inr f ↦ ne (let var_of : Literal → ℕ = λ z. z.var in sym (ap var_of f) ∙ is)
-]
-
 pub clean_all : (xs : List Literal) (i : ℕ) → length xs ≤ i → IsClean (take i xs) → IsClean xs
-clean_all xs i long clean = subst IsClean (taken_whole xs i long) clean
-
-pub apart_all : (xs : List Literal) (i v : ℕ) → length xs ≤ i → IsApart (take i xs) v → IsApart xs v
-apart_all xs i v long out l h = out l (in_take_all xs i l long h)
+clean_all xs i long clean = subst IsClean (take_all i xs long) clean
 
 -- ---- what any step with two antecedents tells that follows
 
 within_resolvent : (rules : Rules) (side : Side) (blocks : List Block) (a b to : List Literal)
-    → AllHold (resolvent_conditions rules side blocks a b to) → (x : ℕ) × (((v : ℕ) → Clashes a b v → v ≡ x) × (to ⊆ resolvent a b x))
-within_resolvent rules side blocks a b to all = (all.0.0, ((λ v c. all.1.0 v all.0.0 c all.0.1), all.1.1.1.0 all.0.0 all.0.1))
+    → AllHold (resolvent_conditions rules side blocks a b to) → (x : ℕ) × IsOnlyClash a b x × (to ⊆ resolvent a b x)
+within_resolvent rules side blocks a b to all =
+    (all.0.0, record { clashes = all.0.1; only = λ v c. all.1.0 v all.0.0 c all.0.1 }, all.1.1.1.0 all.0.0 all.0.1)
 
 pub followed_clean : (rules : Rules) (side : Side) (blocks : List Block) (a b to : List Literal)
     → AllHold (resolvent_conditions rules side blocks a b to) → IsClean a → IsClean b → IsClean to
-followed_clean rules side blocks a b to all clean_a clean_b l h k =
+followed_clean rules side blocks a b to all clean_a clean_b =
     let w = within_resolvent rules side blocks a b to all in
-    let p = from_without w.0 (a ++ b) l (w.1.1 l h) in
-    let q = from_without w.0 (a ++ b) (negated l) (w.1.1 (negated l) k) in
-    elim (in_append a b l p.0) [
-      | inl l_a ↦ elim (in_append a b (negated l) q.0) [
-        | inl n_a ↦ clean_a l l_a n_a
-        | inr n_b ↦ p.1 (w.1.0 l.var (clash_here a b l l_a n_b))
-      ]
-      | inr l_b ↦ elim (in_append a b (negated l) q.0) [
-        | inl n_a ↦ p.1 (w.1.0 l.var (clash_here a b (negated l) n_a (subst (λ (z : Literal). z ∈ b) (sym (negated_twice l)) l_b)))
-        | inr n_b ↦ clean_b l l_b n_b
-      ]
-    ]
+    clean_within (resolvent a b w.0) to (resolvent_clean a b w.0 clean_a clean_b w.1) w.2
 
 pub followed_bound : (rules : Rules) (side : Side) (blocks : List Block) (a b to : List Literal)
     → AllHold (resolvent_conditions rules side blocks a b to) → AreBound blocks a → AreBound blocks b → AreBound blocks to
 followed_bound rules side blocks a b to all bound_a bound_b =
-    let w = within_resolvent rules side blocks a b to all in resolvent_bound blocks a b to w.0 bound_a bound_b w.1.1
+    let w = within_resolvent rules side blocks a b to all in resolvent_bound blocks a b to w.0 bound_a bound_b w.2
 
 -- a step that is exact follows
 pub exact_follows : (rules : Rules) (side : Side) (blocks : List Block) (a b to : List Literal) (x : Literal)
@@ -209,7 +176,8 @@ pub exact_follows : (rules : Rules) (side : Side) (blocks : List Block) (a b to 
     → AllHold (resolvent_conditions rules side blocks a b to)
 exact_follows rules side blocks a b to x is allowed clean apart =
     let same = resolved_members a b to x is clean apart in
-    all_hold rules side blocks a b to x.var (resolved_clash a b to x is clean apart) allowed same.0 (λ l h. inl (same.1 l h))
+    at_pivot rules side blocks a b to x.var None (resolved_clash a b to x is clean apart)
+    (allowed, (same.0, ((λ l h. inl (same.1 l h)), tt)))
 
 -- ---- by the literals that were seen
 
@@ -233,21 +201,7 @@ seen_within a b to s t x of_b of_both all l h =
       | inr k ↦ append_left a b l k
     ]) w.1
 
-pub seen_covers : (blocks : List Block) (after : Reducible) (from to : List Literal) (s : List Bool) (n x : ℕ) → n ≡ x
-    → ((l : Literal) → Has s l ↔ l ∈ to)
-    → ((l : Literal) → l ∈ from → Has s l ⊎ MayLack blocks (Some after) (Some n) l.var) → Covers blocks after x from to
-seen_covers blocks after from to s n x same of_to all l h = elim (all l h) [
-  | inl k ↦ inl ((of_to l).0 k)
-  | inr k ↦ inr (subst (λ (m : ℕ). MayLack blocks (Some after) (Some m) l.var) same k)
-]
-
--- by the number of the pivot
-pub covers_pivot : (blocks : List Block) (after : Reducible) (from to : List Literal) (n x : ℕ) → n ≡ x
-    → ((l : Literal) → l ∈ from → (l ∈ to) ⊎ MayLack blocks (Some after) (Some n) l.var) → Covers blocks after x from to
-covers_pivot blocks after from to n x same all =
-    subst (λ (m : ℕ). (l : Literal) → l ∈ from → (l ∈ to) ⊎ MayLack blocks (Some after) (Some m) l.var) same all
-
-pub pivot_covers : (blocks : List Block) (after : Reducible) (from to : List Literal) (n x : ℕ) → n ≡ x → Covers blocks after x from to
-    → (l : Literal) → l ∈ from → (l ∈ to) ⊎ MayLack blocks (Some after) (Some n) l.var
-pivot_covers blocks after from to n x same all =
-    subst (λ (m : ℕ). (l : Literal) → l ∈ from → (l ∈ to) ⊎ MayLack blocks (Some after) (Some m) l.var) (sym same) all
+pub seen_covers : (blocks : List Block) (reducible : Option Reducible) (pivot : Option ℕ) (from to : List Literal) (s : List Bool)
+    → ((l : Literal) → Has s l ↔ l ∈ to) → ((l : Literal) → l ∈ from → Has s l ⊎ MayLack blocks reducible pivot l.var)
+    → Covers blocks reducible pivot from to
+seen_covers blocks reducible pivot from to s of_to all l h = elim (all l h) [ inl k ↦ inl ((of_to l).0 k) | inr k ↦ inr k ]

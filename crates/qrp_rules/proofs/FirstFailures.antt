@@ -1,6 +1,6 @@
 -- The first condition that fails: one at most, and none where all hold.
-use Rattle.std.proofs.Common.{◌≡◌, List, [], ◌∷◌, inl, inr, sym, ◌∙◌}
-use Rattle.qrp_rules.specs.Conditions.{Condition, AllHold, IsFirstFailure}
+use Rattle.std.proofs.Common.{◌≡◌, List, [], ◌∷◌, Option, Some, None, inl, inr, sym, ◌∙◌}
+use Rattle.qrp_rules.specs.Conditions.{Condition, AllHold, IsAnswer, IsFirstFailure}
 
 pub no_fault : {Fault : Type 0} (rows : List (Condition Fault)) (fault : Fault) → AllHold rows → IsFirstFailure rows fault → ⊥
 no_fault [] fault all fails = fails
@@ -13,3 +13,9 @@ one_fault ((name, holds) ∷ rows) a b (inl (out, is)) (inl (_, also)) = is ∙ 
 one_fault ((name, holds) ∷ rows) a b (inr (h, later)) (inr (_, other)) = one_fault rows a b later other
 one_fault ((name, holds) ∷ rows) a b (inl (out, is)) (inr (h, other)) = absurd (out h)
 one_fault ((name, holds) ∷ rows) a b (inr (h, later)) (inl (out, is)) = absurd (out h)
+
+-- one more condition in front, which holds
+pub answer_after : {Fault : Type 0} (name : Fault) (holds : Type 0) (rows : List (Condition Fault)) (answer : Option Fault) → holds
+    → IsAnswer rows answer → IsAnswer ((name, holds) ∷ rows) answer
+answer_after name holds rows None h all = (h, all)
+answer_after name holds rows (Some fault) h first = inr (h, first)

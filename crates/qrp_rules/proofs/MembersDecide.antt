@@ -6,37 +6,38 @@ use Rattle.qbf_core.specs.Blocks.{Block}
 use Rattle.qbf_core.specs.Qbf.{Qbf}
 use Rattle.qbf_core.specs.Rules.{Side, Clauses, Cubes, IsReducible, IsReduct, Clashes, resolvent, IsInitial}
 use Rattle.qbf_core.specs.Sets.{HasMembersOf}
-use Rattle.qbf_core.proofs.Inferences.{in_append, append_left, append_right, in_without, from_without}
+use Rattle.qbf_core.proofs.Inferences.{in_without, from_without}
 use Rattle.qrp_rules.specs.declared.fault.RuleFault.{RuleFault}
 use Rattle.qrp_rules.specs.declared.rules.Rules.{Rules}
 use Rattle.qrp_rules.specs.Conditions.{Condition, AllHold, IsFirstFailure, IsAnswer, IsReducibleInParents, reduct_conditions}
 use Rattle.qrp_rules.specs.Conditions.{resolvent_conditions, initial_condition}
+use Rattle.qbf_core.proofs.Members.{in_append, append_left, append_right}
 
--- the same names, and conditions that hold together
-abbrev pub SameConditions : List (Condition RuleFault) → List (Condition RuleFault) → Type 0
-SameConditions [] [] = Unit {0}
-SameConditions [] (r ∷ rs) = ⊥
-SameConditions (q ∷ qs) [] = ⊥
-SameConditions ((n, p) ∷ qs) ((m, r) ∷ rs) = (n ≡ m) × (p → r) × (r → p) × SameConditions qs rs
+-- the same names, and each condition of the one list follows from that of the other
+abbrev pub AreImplied : List (Condition RuleFault) → List (Condition RuleFault) → Type 0
+AreImplied [] [] = Unit {0}
+AreImplied [] (r ∷ rs) = ⊥
+AreImplied (q ∷ qs) [] = ⊥
+AreImplied ((n, p) ∷ qs) ((m, r) ∷ rs) = (n ≡ m) × (p → r) × AreImplied qs rs
 
-pub same_hold : (qs rs : List (Condition RuleFault)) → SameConditions qs rs → AllHold qs → AllHold rs
+same_hold : (qs rs : List (Condition RuleFault)) → AreImplied qs rs → AllHold qs → AllHold rs
 same_hold [] [] s all = tt
 same_hold [] (r ∷ rs) s all = absurd s
 same_hold (q ∷ qs) [] s all = absurd s
-same_hold ((n, p) ∷ qs) ((m, r) ∷ rs) s all = (s.1 all.0, same_hold qs rs s.3 all.1)
+same_hold ((n, p) ∷ qs) ((m, r) ∷ rs) s all = (s.1 all.0, same_hold qs rs s.2 all.1)
 
-pub same_fails : (qs rs : List (Condition RuleFault)) (fault : RuleFault) → SameConditions qs rs → IsFirstFailure qs fault
+same_fails : (qs rs : List (Condition RuleFault)) (fault : RuleFault) → AreImplied qs rs → AreImplied rs qs → IsFirstFailure qs fault
     → IsFirstFailure rs fault
-same_fails [] [] fault s f = f
-same_fails [] (r ∷ rs) fault s f = absurd s
-same_fails (q ∷ qs) [] fault s f = absurd s
-same_fails ((n, p) ∷ qs) ((m, r) ∷ rs) fault s (inl (out, is)) = inl ((λ h. out (s.2 h)), is ∙ s.0)
-same_fails ((n, p) ∷ qs) ((m, r) ∷ rs) fault s (inr (h, later)) = inr (s.1 h, same_fails qs rs fault s.3 later)
+same_fails [] [] fault s b f = f
+same_fails [] (r ∷ rs) fault s b f = absurd s
+same_fails (q ∷ qs) [] fault s b f = absurd s
+same_fails ((n, p) ∷ qs) ((m, r) ∷ rs) fault s b (inl (out, is)) = inl ((λ h. out (b.1 h)), is ∙ s.0)
+same_fails ((n, p) ∷ qs) ((m, r) ∷ rs) fault s b (inr (h, later)) = inr (s.1 h, same_fails qs rs fault s.2 b.2 later)
 
-pub same_answer : (qs rs : List (Condition RuleFault)) (answer : Option RuleFault) → SameConditions qs rs → IsAnswer qs answer
-    → IsAnswer rs answer
-same_answer qs rs None s all = same_hold qs rs s all
-same_answer qs rs (Some fault) s fails = same_fails qs rs fault s fails
+pub same_answer : (qs rs : List (Condition RuleFault)) (answer : Option RuleFault) → AreImplied qs rs → AreImplied rs qs
+    → IsAnswer qs answer → IsAnswer rs answer
+same_answer qs rs None s b all = same_hold qs rs s all
+same_answer qs rs (Some fault) s b fails = same_fails qs rs fault s b fails
 
 pub same_self : (a : List Literal) → HasMembersOf a a
 same_self a = ((λ l h. h), (λ l h. h))
@@ -69,14 +70,15 @@ each_same : (side : Side) (blocks : List Block) (a a' to to' : List Literal) →
 each_same side blocks a a' to to' s t all l h =
     elim (all l (s.1 l h)) [ inl k ↦ inl (t.0 l k) | inr red ↦ inr (same_reducible side blocks a a' l s red) ]
 
-pub reduct_same : (side : Side) (blocks : List Block) (a a' to to' : List Literal) → HasMembersOf a a' → HasMembersOf to to'
-    → SameConditions (reduct_conditions side blocks a to) (reduct_conditions side blocks a' to')
-reduct_same side blocks a a' to to' s t = (
-  refl,
-  (λ w l h. s.0 l (w l (t.1 l h))),
-  (λ w l h. s.1 l (w l (t.0 l h))),
-  (refl, each_same side blocks a a' to to' s t, each_same side blocks a' a to' to (same_back a a' s) (same_back to to' t), tt),
-)
+reduct_implied : (side : Side) (blocks : List Block) (a a' to to' : List Literal) → HasMembersOf a a' → HasMembersOf to to'
+    → AreImplied (reduct_conditions side blocks a to) (reduct_conditions side blocks a' to')
+reduct_implied side blocks a a' to to' s t =
+    (refl, (λ w l h. s.0 l (w l (t.1 l h))), (refl, each_same side blocks a a' to to' s t, tt))
+
+pub reduct_members : (side : Side) (blocks : List Block) (a a' to to' : List Literal) → HasMembersOf a a' → HasMembersOf to to'
+    → IsReduct side blocks a to → IsReduct side blocks a' to'
+reduct_members side blocks a a' to to' s t r =
+    record { within = λ l h. s.0 l (r.within l (t.1 l h)); each = each_same side blocks a a' to to' s t r.each }
 
 -- two antecedents
 within_same : (a a' b b' to to' : List Literal) → HasMembersOf a a' → HasMembersOf b b' → HasMembersOf to to'
@@ -100,66 +102,50 @@ accounts_same side blocks a a' b b' to to' s t u w x c l h =
           ((λ i. same_reducible side blocks a a' l s (both.0 (s.1 l i))), (λ i. same_reducible side blocks b b' l t (both.1 (t.1 l i)))))
     ]
 
-pub resolvent_same : (rules : Rules) (side : Side) (blocks : List Block) (a a' b b' to to' : List Literal) → HasMembersOf a a'
+resolvent_implied : (rules : Rules) (side : Side) (blocks : List Block) (a a' b b' to to' : List Literal) → HasMembersOf a a'
     → HasMembersOf b b' → HasMembersOf to to'
-    → SameConditions (resolvent_conditions rules side blocks a b to) (resolvent_conditions rules side blocks a' b' to')
-resolvent_same rules side blocks a a' b b' to to' s t u =
-    let s' = same_back a a' s in
-    let t' = same_back b b' t in
-    let u' = same_back to to' u in (
-      refl,
-      (λ h. (h.0, same_clashes a a' b b' h.0 s t h.1)),
-      (λ h. (h.0, same_clashes a' a b' b h.0 s' t' h.1)),
-      (
-        refl,
-        (λ h x y p q. h x y (same_clashes a' a b' b x s' t' p) (same_clashes a' a b' b y s' t' q)),
-        (λ h x y p q. h x y (same_clashes a a' b b' x s t p) (same_clashes a a' b b' y s t q)),
-        (
-          refl,
-          (λ h x p. h x (same_clashes a' a b' b x s' t' p)),
-          (λ h x p. h x (same_clashes a a' b b' x s t p)),
-          (
-            refl,
-            within_same a a' b b' to to' s t u,
-            within_same a' a b' b to' to s' t' u',
-            (refl, accounts_same side blocks a a' b b' to to' s t u, accounts_same side blocks a' a b' b to' to s' t' u', tt),
-          ),
-        ),
-      ),
-    )
+    → AreImplied (resolvent_conditions rules side blocks a b to) (resolvent_conditions rules side blocks a' b' to')
+resolvent_implied rules side blocks a a' b b' to to' s t u = (
+  refl,
+  (λ h. (h.0, same_clashes a a' b b' h.0 s t h.1)),
+  (
+    refl,
+    (λ h x y p q. h x y (back x p) (back y q)),
+    (refl, (λ h x p. h x (back x p)), (refl, within_same a a' b b' to to' s t u, (refl, accounts_same side blocks a a' b b' to to' s t u, tt))),
+  ),
+)
+  where
+    back : (x : ℕ) → Clashes a' b' x → Clashes a b x
+    back x = same_clashes a' a b' b x (same_back a a' s) (same_back b b' t)
 
 -- no antecedent
-reduct_to : (side : Side) (blocks : List Block) (from to to' : List Literal) → HasMembersOf to to' → IsReduct side blocks from to
-    → IsReduct side blocks from to'
-reduct_to side blocks from to to' t r = record {
-  within = λ l h. r.within l (t.1 l h);
-  each = λ l h. elim (r.each l h) [ inl k ↦ inl (t.0 l k) | inr red ↦ inr red ];
-}
-
 initial_to : (side : Side) (f : Qbf) (to to' : List Literal) → HasMembersOf to to' → IsInitial side f to → IsInitial side f to'
-initial_to Clauses f to to' t (clause, h, clean, r) = (clause, h, clean, reduct_to Clauses f.blocks clause to to' t r)
+initial_to Clauses f to to' t (clause, h, clean, r) = (clause, h, clean, reduct_members Clauses f.blocks clause clause to to' (same_self clause) t r)
 initial_to Cubes f to to' t all = λ clause h. elim (all clause h) [ inl k ↦ inl k | inr (l, i, j) ↦ inr (l, i, t.0 l j) ]
 
-pub initial_same : (side : Side) (f : Qbf) (to to' : List Literal) → HasMembersOf to to'
-    → SameConditions (initial_condition side f to ∷ []) (initial_condition side f to' ∷ [])
-initial_same Clauses f to to' t = (refl, initial_to Clauses f to to' t, initial_to Clauses f to' to (same_back to to' t), tt)
-initial_same Cubes f to to' t = (refl, initial_to Cubes f to to' t, initial_to Cubes f to' to (same_back to to' t), tt)
+initial_implied : (side : Side) (f : Qbf) (to to' : List Literal) → HasMembersOf to to'
+    → AreImplied (initial_condition side f to ∷ []) (initial_condition side f to' ∷ [])
+initial_implied Clauses f to to' t = (refl, initial_to Clauses f to to' t, tt)
+initial_implied Cubes f to to' t = (refl, initial_to Cubes f to to' t, tt)
 
 -- the answers of the tests, of the set of a list in its place
 pub reduct_answer : (side : Side) (blocks : List Block) (a a' to to' : List Literal) (answer : Option RuleFault) → HasMembersOf a a'
     → HasMembersOf to to'
     → IsAnswer (reduct_conditions side blocks a to) answer → IsAnswer (reduct_conditions side blocks a' to') answer
 reduct_answer side blocks a a' to to' answer s t =
-    same_answer (reduct_conditions side blocks a to) (reduct_conditions side blocks a' to') answer (reduct_same side blocks a a' to to' s t)
+    same_answer (reduct_conditions side blocks a to) (reduct_conditions side blocks a' to') answer
+    (reduct_implied side blocks a a' to to' s t) (reduct_implied side blocks a' a to' to (same_back a a' s) (same_back to to' t))
 
 pub resolvent_answer : (rules : Rules) (side : Side) (blocks : List Block) (a a' b b' to to' : List Literal) (answer : Option RuleFault)
     → HasMembersOf a a' → HasMembersOf b b' → HasMembersOf to to'
     → IsAnswer (resolvent_conditions rules side blocks a b to) answer → IsAnswer (resolvent_conditions rules side blocks a' b' to') answer
 resolvent_answer rules side blocks a a' b b' to to' answer s t u =
     same_answer (resolvent_conditions rules side blocks a b to) (resolvent_conditions rules side blocks a' b' to') answer
-    (resolvent_same rules side blocks a a' b b' to to' s t u)
+    (resolvent_implied rules side blocks a a' b b' to to' s t u)
+    (resolvent_implied rules side blocks a' a b' b to' to (same_back a a' s) (same_back b b' t) (same_back to to' u))
 
 pub initial_answer : (side : Side) (f : Qbf) (to to' : List Literal) (answer : Option RuleFault) → HasMembersOf to to'
     → IsAnswer (initial_condition side f to ∷ []) answer → IsAnswer (initial_condition side f to' ∷ []) answer
 initial_answer side f to to' answer t =
-    same_answer (initial_condition side f to ∷ []) (initial_condition side f to' ∷ []) answer (initial_same side f to to' t)
+    same_answer (initial_condition side f to ∷ []) (initial_condition side f to' ∷ []) answer
+    (initial_implied side f to to' t) (initial_implied side f to' to (same_back to to' t))

@@ -16,13 +16,13 @@ use Rattle.qbf_core.specs.Blocks.{Block, Binds}
 use Rattle.qbf_core.specs.Qbf.{Qbf}
 use Rattle.qbf_core.specs.Rules.{Side, Clauses, Cubes, IsClean, IsReducible, IsReduct, IsInitial, reduced_quantifier, deciding_quantifier}
 use Rattle.qbf_core.specs.Sets.{IsOrdered, HasMembersOf}
-use Rattle.qbf_core.proofs.Members.{in_at, in_push}
+use Rattle.qbf_core.proofs.Members.{in_at, in_push, got_in, push_in, in_got}
 use Rattle.qbf_core.proofs.Order.{ordered_push}
 use Rattle.qrp_rules.specs.Walks.{IsInnermost, StandsAfter}
 use Rattle.qrp_rules.specs.Index.{IsReducedForm, HasReductAt, IsIndex, IsIndexBelow, hash_with, hash_from, hash_of}
 use Rattle.qrp_rules.specs.declared.clause_index.IndexEntry.{IndexEntry}
-use Rattle.qrp_rules.proofs.ReductsByMembers.{got_in}
-use Rattle.qrp_rules.proofs.Reducing.{reducible_after, after_reducible}
+use Rattle.qrp_rules.proofs.Reducing.{reducible_after}
+use Rattle.std.proofs.lemmas.Option.{slice_get_within}
 
 -- two ordered lists with the same members are the same
 pub ordered_same : (xs ys : List Literal) → IsOrdered xs → IsOrdered ys → xs ⊆ ys → ys ⊆ xs → xs ≡ ys
@@ -90,11 +90,7 @@ form_once side blocks lits a b f g = ordered_same a b f.ordered g.ordered
 -- a list has the form of each list with its members
 pub form_same : (side : Side) (blocks : List Block) (a b form : List Literal) → HasMembersOf a b → IsReducedForm side blocks a form
     → IsReducedForm side blocks b form
-form_same side blocks a b form same f = record {
-  ordered = f.ordered;
-  within = λ l h. let w = f.within l h in (same.0 l w.0, λ red. w.1 (red.0, λ m k d. red.1 m (same.0 m k) d));
-  whole = λ l h out. f.whole l (same.1 l h) (λ red. out (red.0, λ m k d. red.1 m (same.1 m k) d));
-}
+form_same side blocks a b form same = form_of_reduct side blocks a b form (record { within = same.1; each = λ l h. inl (same.0 l h) })
 
 -- the hash of the literals seen so far that do not stand after the block
 pub record Numbered (blocks : List Block) (block : Option ℕ) (seen : List Literal) (hash : ℕ) : Type 0 where
@@ -103,9 +99,6 @@ pub record Numbered (blocks : List Block) (block : Option ℕ) (seen : List Lite
   pub ordered : IsOrdered form
   pub within : (l : Literal) → l ∈ form → (l ∈ seen) × (StandsAfter blocks All block l.var → ⊥)
   pub whole : (l : Literal) → l ∈ seen → (StandsAfter blocks All block l.var → ⊥) → l ∈ form
-
-pub numbered_start : (blocks : List Block) (block : Option ℕ) → Numbered blocks block [] 0
-numbered_start blocks block = record { form = []; numbered = refl; ordered = tt; within = λ l h. absurd h; whole = λ l h out. h }
 
 pub numbered_skip : (blocks : List Block) (block : Option ℕ) (xs zs : List Literal) (x : Literal) (hash : ℕ)
     → ((m : Literal) → m ∈ zs → (m ∈ xs) ⊎ (m ≡ x)) → ((m : Literal) → (m ∈ xs) ⊎ (m ≡ x) → m ∈ zs)
@@ -124,13 +117,6 @@ numbered_skip blocks block xs zs x hash cases wider out n = record {
 number_push : (n : ℕ) (xs : List Literal) (x : Literal) → hash_from n (xs ++ x ∷ []) ≡ hash_with (hash_from n xs) x
 number_push n [] x = refl
 number_push n (y ∷ xs) x = number_push (hash_with n y) xs x
-
-push_in : (xs : List Literal) (x m : Literal) → (m ∈ xs) ⊎ (m ≡ x) → m ∈ (xs ++ x ∷ [])
-push_in [] x m (inl h) = absurd h
-push_in [] x m (inr e) = inl e
-push_in (y ∷ xs) x m (inl (inl e)) = inl e
-push_in (y ∷ xs) x m (inl (inr h)) = inr (push_in xs x m (inl h))
-push_in (y ∷ xs) x m (inr e) = inr (push_in xs x m (inr e))
 
 pub numbered_push : (blocks : List Block) (block : Option ℕ) (xs zs : List Literal) (x : Literal) (hash hash' : ℕ)
     → ((m : Literal) → m ∈ zs → (m ∈ xs) ⊎ (m ≡ x)) → ((m : Literal) → (m ∈ xs) ⊎ (m ≡ x) → m ∈ zs)
@@ -156,29 +142,11 @@ numbered_done blocks block lits seen hash same is n = (
   record {
     ordered = n.ordered;
     within = λ l h. let w = n.within l h in
-        (same.0 l w.0, λ red. w.1 (after_reducible Clauses blocks All Exists lits block l refl refl is red));
-    whole = λ l h out. n.whole l (same.1 l h) (λ stands. out (reducible_after Clauses blocks All Exists lits block l refl refl is stands));
+        (same.0 l w.0, λ red. w.1 ((reducible_after Clauses blocks All Exists lits block refl refl is l).1 red));
+    whole = λ l h out. n.whole l (same.1 l h) (λ stands. out ((reducible_after Clauses blocks All Exists lits block refl refl is l).0 stands));
   },
   n.numbered,
 )
-
--- what stands before a place of an ordered list is below it
-pub taken_below : (xs : List Literal) (i : ℕ) (x l : Literal) → IsOrdered xs → i < length xs → x ≡ get_or xs i x → l ∈ take i xs
-    → l.var < x.var
-taken_below [] zero x l o less e h = absurd h
-taken_below [] (suc i) x l o less e h = absurd h
-taken_below (y ∷ xs) zero x l o less e h = absurd h
-taken_below (y ∷ xs) (suc i) x l o less e (inl k) =
-    let inside : i < length xs = omega arith in
-    let lt : y.var < x.var = o.0 x (in_at xs i x inside e) in
-    subst (λ (z : Literal). z.var < x.var) (sym k) lt
-taken_below (y ∷ xs) (suc i) x l o less e (inr h) = taken_below xs i x l o.1 (omega arith) e h
-
--- a member has a place
-pub in_got : {A : Type 0} (xs : List A) (x : A) → x ∈ xs → (i : ℕ) × (slice_get xs i ≡ Some x)
-in_got [] x h = absurd h
-in_got (y ∷ xs) x (inl e) = (0, ap Some (sym e))
-in_got (y ∷ xs) x (inr h) = let w = in_got xs x h in (suc w.0, w.1)
 
 -- a test of the clause at a place
 pub reduct_at : (f : Qbf) (blocks : List Block) (set clause : List Literal) (i : ℕ) (t : Bool) → blocks ≡ f.blocks
@@ -305,9 +273,4 @@ above_from rest hash j x sorted inside less k d le within =
 -- no clause is left out
 pub filed_all : (f : Qbf) (index : List IndexEntry) (n : ℕ) → length f.clauses ≤ n → IsIndexBelow f index n → IsIndex f index
 filed_all f index n all before k i c less got clean =
-    before i c (let inside : i < length f.clauses = got_inside f.clauses i c got in omega arith) got clean
-  where
-    got_inside : {A : Type 0} (xs : List A) (i : ℕ) (x : A) → slice_get xs i ≡ Some x → i < length xs
-    got_inside [] i x e = cc e
-    got_inside (y ∷ xs) zero x e = omega arith
-    got_inside (y ∷ xs) (suc i) x e = let h : i < length xs = got_inside xs i x e in omega arith
+    before i c (let inside : i < length f.clauses = slice_get_within f.clauses i c got in omega arith) got clean

@@ -7,11 +7,12 @@ use Rattle.qbf_core.specs.Members.{◌∈◌}
 use Rattle.qbf_core.specs.Blocks.{Block, Binds, block_in, pairs}
 use Rattle.qbf_core.proofs.Bound.{binds_in, in_bound, block_found}
 use Rattle.qbf_core.specs.Rules.{Side, reduced_quantifier, deciding_quantifier, Clashes, IsReducible, resolvent}
-use Rattle.qbf_core.proofs.Members.{in_or_not}
-use Rattle.qbf_core.proofs.Inferences.{in_append, append_left, append_right, in_without, from_without}
+use Rattle.qbf_core.proofs.Members.{in_or_not, in_append, append_left, append_right}
+use Rattle.qbf_core.proofs.Inferences.{in_without, from_without}
 use Rattle.qrp_rules.specs.Conditions.{IsReducibleInParents}
 use Rattle.qrp_rules.proofs.Clashing.{clash_var, clash_var_right}
-use Rattle.qrp_rules.specs.Walks.{Accounts, IsAfter, IsHeldBefore, IsInnermost, IsPivotNumber, StandsAfter}
+use Rattle.qrp_rules.specs.declared.walks.Reducible.{Reducible}
+use Rattle.qrp_rules.specs.Walks.{Accounts, Covers, IsAfter, IsHeldBefore, IsInnermost, IsThePivot, StandsAfter}
 
 -- what a quantifier binds has a block
 pub binds_block : (blocks : List Block) (q : Quantifier) (v : ℕ) → Binds blocks q v → block_in v blocks ≡ None → ⊥
@@ -58,72 +59,54 @@ innermost_resolvent blocks q a b x in_a in_b whole is_a is_b both k = (
   )),
 )
 
--- a literal is reducible exactly where it stands after the innermost block
+-- a literal stands after the innermost block exactly where it is reducible
 pub reducible_after : (side : Side) (blocks : List Block) (reduced deciding : Quantifier) (lits : List Literal) (block : Option ℕ)
-    (l : Literal)
     → reduced ≡ reduced_quantifier side → deciding ≡ deciding_quantifier side → IsInnermost blocks deciding None lits block
-    → StandsAfter blocks reduced block l.var → IsReducible side blocks lits l
-reducible_after side blocks reduced deciding lits block l er ed is stands = (
-  subst (λ q. Binds blocks q l.var) er stands.0,
-  λ m h binds i k ei ek. (is k).0 (stands.1 k ek) m h (λ none. none) (subst (λ q. Binds blocks q m.var) (sym ed) binds) i ei,
+    → (l : Literal) → StandsAfter blocks reduced block l.var ↔ IsReducible side blocks lits l
+reducible_after side blocks reduced deciding lits block er ed is l = (
+  (λ stands. (
+    subst (λ q. Binds blocks q l.var) er stands.0,
+    λ m h binds i k ei ek. (is k).0 (stands.1 k ek) m h (λ none. none) (subst (λ q. Binds blocks q m.var) (sym ed) binds) i ei,
+  )),
+  (λ red. (
+    subst (λ q. Binds blocks q l.var) (sym er) red.0,
+    λ k ek. (is k).1 (λ m h _ binds i ei. red.1 m h (subst (λ q. Binds blocks q m.var) ed binds) i k ei ek),
+  )),
 )
 
-pub after_reducible : (side : Side) (blocks : List Block) (reduced deciding : Quantifier) (lits : List Literal) (block : Option ℕ)
-    (l : Literal)
-    → reduced ≡ reduced_quantifier side → deciding ≡ deciding_quantifier side → IsInnermost blocks deciding None lits block
-    → IsReducible side blocks lits l → StandsAfter blocks reduced block l.var
-after_reducible side blocks reduced deciding lits block l er ed is red = (
-  subst (λ q. Binds blocks q l.var) (sym er) red.0,
-  λ k ek. (is k).1 (λ m h _ binds i ei. red.1 m h (subst (λ q. Binds blocks q m.var) ed binds) i k ei ek),
-)
-
--- what may be left out, after a block
-abbrev pub IsAccounted : List Block → Quantifier → Option ℕ → Option ℕ → List Literal → Literal → Type 0
-IsAccounted blocks reduced block pivot to l = (l ∈ to) ⊎ (IsPivotNumber pivot l.var ⊎ StandsAfter blocks reduced block l.var)
-
-module _ (side : Side) (blocks : List Block) (reduced deciding : Quantifier) (block : Option ℕ) (er : reduced ≡ reduced_quantifier side)
-    (ed : deciding ≡ deciding_quantifier side) where
-  pub each_reducible : (from to : List Literal) → IsInnermost blocks deciding None from block
-      → ((l : Literal) → l ∈ from → IsAccounted blocks reduced block None to l)
-      → (l : Literal) → l ∈ from → (l ∈ to) ⊎ IsReducible side blocks from l
-  each_reducible from to is all l h = elim (all l h) [
-    | inl k ↦ inl k
-    | inr (inl none) ↦ absurd none
-    | inr (inr stands) ↦ inr (reducible_after side blocks reduced deciding from block l er ed is stands)
-  ]
-
-  pub each_accounted : (from to : List Literal) → IsInnermost blocks deciding None from block
-      → ((l : Literal) → l ∈ from → (l ∈ to) ⊎ IsReducible side blocks from l)
-      → (l : Literal) → l ∈ from → IsAccounted blocks reduced block None to l
-  each_accounted from to is all l h = elim (all l h) [
-    | inl k ↦ inl k
-    | inr red ↦ inr (inr (after_reducible side blocks reduced deciding from block l er ed is red))
-  ]
+-- so what may be left out is reducible, where there is no pivot
+pub each_reducible : (side : Side) (blocks : List Block) (after : Reducible) (deciding : Quantifier) (from to : List Literal)
+    → after.quantifier ≡ reduced_quantifier side → deciding ≡ deciding_quantifier side → IsInnermost blocks deciding None from after.block
+    → Covers blocks (Some after) None from to ↔ ((l : Literal) → l ∈ from → (l ∈ to) ⊎ IsReducible side blocks from l)
+each_reducible side blocks after deciding from to er ed is =
+    let same = reducible_after side blocks after.quantifier deciding from after.block er ed is in (
+      (λ all l h. elim (all l h) [ inl k ↦ inl k | inr (inl none) ↦ absurd none | inr (inr stands) ↦ inr ((same l).0 stands) ]),
+      (λ all l h. elim (all l h) [ inl k ↦ inl k | inr red ↦ inr (inr ((same l).1 red)) ]),
+    )
 
 -- a variable stands after the outer one of two blocks exactly where it stands after one of them
 stands_outer : (blocks : List Block) (q : Quantifier) (one other both : Option ℕ) (v : ℕ)
     → ((k : ℕ) → IsAfter both k ↔ (IsAfter one k ⊎ IsAfter other k))
-    → StandsAfter blocks q one v ⊎ StandsAfter blocks q other v → StandsAfter blocks q both v
-stands_outer blocks q one other both v outer (inl stands) = (stands.0, λ k e. (outer k).1 (inl (stands.1 k e)))
-stands_outer blocks q one other both v outer (inr stands) = (stands.0, λ k e. (outer k).1 (inr (stands.1 k e)))
-
-stands_one : (blocks : List Block) (q : Quantifier) (one other both : Option ℕ) (v : ℕ)
-    → ((k : ℕ) → IsAfter both k ↔ (IsAfter one k ⊎ IsAfter other k))
-    → StandsAfter blocks q both v → StandsAfter blocks q one v ⊎ StandsAfter blocks q other v
-stands_one blocks q one other both v outer stands = at_block (block_in v blocks) refl
+    → StandsAfter blocks q both v ↔ (StandsAfter blocks q one v ⊎ StandsAfter blocks q other v)
+stands_outer blocks q one other both v outer = ((λ stands. at_block stands (block_in v blocks) refl), by_one)
   where
-    same : (k j : ℕ) → block_in v blocks ≡ Some k → block_in v blocks ≡ Some j → k ≡ j
-    same k j e f = let g : Some k ≡ Some j = sym e ∙ f in cc g
+    by_one : StandsAfter blocks q one v ⊎ StandsAfter blocks q other v → StandsAfter blocks q both v
+    by_one (inl stands) = (stands.0, λ k e. (outer k).1 (inl (stands.1 k e)))
+    by_one (inr stands) = (stands.0, λ k e. (outer k).1 (inr (stands.1 k e)))
 
-    at_block : (found : Option ℕ) → block_in v blocks ≡ found → StandsAfter blocks q one v ⊎ StandsAfter blocks q other v
-    at_block None e = absurd (binds_block blocks q v stands.0 e)
-    at_block (Some k) e = elim ((outer k).0 (stands.1 k e)) [
-      | inl h ↦ inl (stands.0, λ j f. subst (IsAfter one) (same k j e f) h)
-      | inr h ↦ inr (stands.0, λ j f. subst (IsAfter other) (same k j e f) h)
+    at_one : (block : Option ℕ) (k : ℕ) → block_in v blocks ≡ Some k → IsAfter block k → (j : ℕ) → block_in v blocks ≡ Some j → IsAfter block j
+    at_one block k e h j f = let both : Some k ≡ Some j = sym e ∙ f in let same : k ≡ j = cc both in subst (IsAfter block) same h
+
+    at_block : StandsAfter blocks q both v → (found : Option ℕ) → block_in v blocks ≡ found
+        → StandsAfter blocks q one v ⊎ StandsAfter blocks q other v
+    at_block stands None e = absurd (binds_block blocks q v stands.0 e)
+    at_block stands (Some k) e = elim ((outer k).0 (stands.1 k e)) [
+      | inl h ↦ inl (stands.0, at_one one k e h)
+      | inr h ↦ inr (stands.0, at_one other k e h)
     ]
 
 -- the innermost block of a whole list, by that without one variable of it
-pub innermost_whole : (blocks : List Block) (q : Quantifier) (lits : List Literal) (x : ℕ) (beside own whole : Option ℕ)
+innermost_whole : (blocks : List Block) (q : Quantifier) (lits : List Literal) (x : ℕ) (beside own whole : Option ℕ)
     → (l : Literal) × (l ∈ lits) × (l.var ≡ x) → IsInnermost blocks q (Some x) lits beside
     → ((k : ℕ) → IsAfter own k ↔ IsHeldBefore blocks q None x k)
     → ((k : ℕ) → IsAfter whole k ↔ (IsAfter beside k × IsAfter own k)) → IsInnermost blocks q None lits whole
@@ -139,137 +122,94 @@ innermost_whole blocks q lits x beside own whole (m, h, is) is_beside is_own bot
   )),
 )
 
--- a literal may be left out of an antecedent after the outer one of two blocks: the innermost of the resolvent, and that of the antecedent
-module _ (side : Side) (blocks : List Block) (reduced deciding : Quantifier) (er : reduced ≡ reduced_quantifier side)
-    (ed : deciding ≡ deciding_quantifier side)
-    (a b to : List Literal) (x : ℕ) (whole : Option ℕ) (is_whole : IsInnermost blocks deciding None (resolvent a b x) whole) where
-  -- the literal is in `to`, or reducible in the resolvent
-  abbrev IsSettled : Literal → Type 0
-  IsSettled l = (l ∈ to) ⊎ IsReducible side blocks (resolvent a b x) l
+-- the blocks that are found of an antecedent: beside the pivot, its own, and the outer one of that and of the resolvent's
+pub record FoundBlocks (blocks : List Block) (deciding : Quantifier) (from : List Literal) (x : ℕ)
+    (beside of_pivot own whole both : Option ℕ) : Type 0 where
+  pub is_beside : IsInnermost blocks deciding (Some x) from beside
+  pub is_of_pivot : (k : ℕ) → IsAfter of_pivot k ↔ IsHeldBefore blocks deciding None x k
+  pub is_own : (k : ℕ) → IsAfter own k ↔ (IsAfter beside k × IsAfter of_pivot k)
+  pub is_both : (k : ℕ) → IsAfter both k ↔ (IsAfter whole k ⊎ IsAfter own k)
 
-  parent_accounted : (from : List Literal) (own both : Option ℕ) → IsInnermost blocks deciding None from own
-      → ((k : ℕ) → IsAfter both k ↔ (IsAfter whole k ⊎ IsAfter own k)) → (l : Literal) → l ∈ from
-      → ((l.var ≡ x → ⊥) → (l ∈ to) ⊎ (IsReducible side blocks (resolvent a b x) l ⊎ IsReducible side blocks from l))
-      → IsAccounted blocks reduced both (Some x) to l
-  parent_accounted from own both is_own outer l h why = elim (cases_eq l.var x) [
+-- what may be left out of the antecedents is reducible in the resolvent or in them
+module _ (side : Side) (blocks : List Block) (reduced deciding : Quantifier) (er : reduced ≡ reduced_quantifier side)
+    (ed : deciding ≡ deciding_quantifier side) (a b to : List Literal) (x : ℕ) where
+  abbrev Red : List Literal → Literal → Type 0
+  Red from l = IsReducible side blocks from l
+
+  -- one antecedent, after its block
+  abbrev IsCovered : List Literal → Option ℕ → Type 0
+  IsCovered from block = Covers blocks (Some (record { quantifier = reduced; block = block })) (Some x) from to
+
+  abbrev IsSplit : List Literal → Option ℕ → Type 0
+  IsSplit from block = (l : Literal) → StandsAfter blocks reduced block l.var ↔ (Red (resolvent a b x) l ⊎ Red from l)
+
+  split : (from : List Literal) (beside of_pivot own whole both : Option ℕ) → IsInnermost blocks deciding None (resolvent a b x) whole
+      → FoundBlocks blocks deciding from x beside of_pivot own whole both → (m : Literal) × (m ∈ from) × (m.var ≡ x) → IsSplit from both
+  split from beside of_pivot own whole both is_whole found pivot l =
+      let outer = stands_outer blocks reduced whole own both l.var found.is_both in
+      let of_whole = reducible_after side blocks reduced deciding (resolvent a b x) whole er ed is_whole l in
+      let of_own = reducible_after side blocks reduced deciding from own er ed
+      (innermost_whole blocks deciding from x beside of_pivot own pivot found.is_beside found.is_of_pivot found.is_own) l in (
+        (λ stands. elim (outer.0 stands) [ inl s ↦ inl (of_whole.0 s) | inr s ↦ inr (of_own.0 s) ]),
+        (λ red. outer.1 (elim red [ inl r ↦ inl (of_whole.1 r) | inr r ↦ inr (of_own.1 r) ])),
+      )
+
+  covered : (from : List Literal) (block : Option ℕ) → IsSplit from block → ((l : Literal) → l ∈ from → l ∈ (a ++ b))
+      → ((l : Literal) → l ∈ from → IsReducibleInParents side blocks a b l → Red from l) → Accounts side blocks a b to x → IsCovered from block
+  covered from block is within parent all l h = elim (cases_eq l.var x) [
     | inl e ↦ inr (inl e)
-    | inr ne ↦ elim (why ne) [
+    | inr ne ↦ elim (all l (in_without x (a ++ b) l (within l h) ne)) [
       | inl k ↦ inl k
-      | inr (inl red) ↦ inr (inr (stands_outer blocks reduced whole own both l.var outer
-          (inl (after_reducible side blocks reduced deciding (resolvent a b x) whole l er ed is_whole red))))
-      | inr (inr red) ↦ inr (inr (stands_outer blocks reduced whole own both l.var outer
-          (inr (after_reducible side blocks reduced deciding from own l er ed is_own red))))
+      | inr (inl red) ↦ inr (inr ((is l).1 (inl red)))
+      | inr (inr both) ↦ inr (inr ((is l).1 (inr (parent l h both))))
     ]
   ]
 
-  parent_settled : (from : List Literal) (own both : Option ℕ) → IsInnermost blocks deciding None from own
-      → ((k : ℕ) → IsAfter both k ↔ (IsAfter whole k ⊎ IsAfter own k)) → (l : Literal) → (l.var ≡ x → ⊥)
-      → IsAccounted blocks reduced both (Some x) to l → IsSettled l ⊎ IsReducible side blocks from l
-  parent_settled from own both is_own outer l ne (inl k) = inl (inl k)
-  parent_settled from own both is_own outer l ne (inr (inl e)) = absurd (ne e)
-  parent_settled from own both is_own outer l ne (inr (inr stands)) = elim (stands_one blocks reduced whole own both l.var outer stands) [
-    | inl s ↦ inl (inr (reducible_after side blocks reduced deciding (resolvent a b x) whole l er ed is_whole s))
-    | inr s ↦ inr (reducible_after side blocks reduced deciding from own l er ed is_own s)
+  -- a literal of the resolvent is kept or reducible there, or reducible in the antecedent if that has it
+  one_accounts : (from : List Literal) (block : Option ℕ) → IsSplit from block → IsCovered from block → (l : Literal) → (l.var ≡ x → ⊥)
+      → ((l ∈ to) ⊎ Red (resolvent a b x) l) ⊎ (l ∈ from → Red from l)
+  one_accounts from block is all l ne = elim (in_or_not l from) [
+    | inr out ↦ inr (λ h. absurd (out h))
+    | inl h ↦ elim (all l h) [
+      | inl k ↦ inl (inl k)
+      | inr (inl e) ↦ absurd (ne e)
+      | inr (inr stands) ↦ elim ((is l).0 stands) [ inl red ↦ inl (inr red) | inr red ↦ inr (λ _. red) ]
+    ]
   ]
 
-  module _ (own_a own_b in_a in_b : Option ℕ) (is_a : IsInnermost blocks deciding None a own_a)
-      (is_b : IsInnermost blocks deciding None b own_b)
-      (outer_a : (k : ℕ) → IsAfter in_a k ↔ (IsAfter whole k ⊎ IsAfter own_a k))
-      (outer_b : (k : ℕ) → IsAfter in_b k ↔ (IsAfter whole k ⊎ IsAfter own_b k)) where
-    left_accounted : Accounts side blocks a b to x → (l : Literal) → l ∈ a → IsAccounted blocks reduced in_a (Some x) to l
-    left_accounted all l h =
-        parent_accounted a own_a in_a is_a outer_a l h (λ ne. elim (all l (in_without x (a ++ b) l (append_left a b l h) ne)) [
-          | inl k ↦ inl k
-          | inr (inl red) ↦ inr (inl red)
-          | inr (inr both) ↦ inr (inr (both.0 h))
-        ])
+  pub parents_account : (beside_a beside_b of_pivot own_a own_b whole in_a in_b : Option ℕ) → Clashes a b x
+      → ((k : ℕ) → IsAfter whole k ↔ (IsAfter beside_a k × IsAfter beside_b k))
+      → FoundBlocks blocks deciding a x beside_a of_pivot own_a whole in_a → FoundBlocks blocks deciding b x beside_b of_pivot own_b whole in_b
+      → Accounts side blocks a b to x ↔ (IsCovered a in_a × IsCovered b in_b)
+  parents_account beside_a beside_b of_pivot own_a own_b whole in_a in_b clash both found_a found_b = (
+    (λ all. (
+      covered a in_a split_a (append_left a b) (λ l h both. both.0 h) all,
+      covered b in_b split_b (append_right a b) (λ l h both. both.1 h) all,
+    )),
+    (λ each l h. let ne = (from_without x (a ++ b) l h).1 in elim (one_accounts a in_a split_a each.0 l ne) [
+      | inl done ↦ kept l done
+      | inr red_a ↦ elim (one_accounts b in_b split_b each.1 l ne) [ inl done ↦ kept l done | inr red_b ↦ inr (inr (red_a, red_b)) ]
+    ]),
+  )
+    where
+      is_whole : IsInnermost blocks deciding None (resolvent a b x) whole
+      is_whole = innermost_resolvent blocks deciding a b x beside_a beside_b whole found_a.is_beside found_b.is_beside both
 
-    right_accounted : Accounts side blocks a b to x → (l : Literal) → l ∈ b → IsAccounted blocks reduced in_b (Some x) to l
-    right_accounted all l h =
-        parent_accounted b own_b in_b is_b outer_b l h (λ ne. elim (all l (in_without x (a ++ b) l (append_right a b l h) ne)) [
-          | inl k ↦ inl k
-          | inr (inl red) ↦ inr (inl red)
-          | inr (inr both) ↦ inr (inr (both.1 h))
-        ])
+      split_a : IsSplit a in_a
+      split_a = split a beside_a of_pivot own_a whole in_a is_whole found_a (clash_var a b x clash)
 
-    settled : (l : Literal) → IsSettled l
-        → (l ∈ to) ⊎ (IsReducible side blocks (resolvent a b x) l ⊎ IsReducibleInParents side blocks a b l)
-    settled l (inl k) = inl k
-    settled l (inr red) = inr (inl red)
+      split_b : IsSplit b in_b
+      split_b = split b beside_b of_pivot own_b whole in_b is_whole found_b (clash_var_right a b x clash)
 
-    both_account : ((l : Literal) → l ∈ a → IsAccounted blocks reduced in_a (Some x) to l)
-        → ((l : Literal) → l ∈ b → IsAccounted blocks reduced in_b (Some x) to l)
-        → Accounts side blocks a b to x
-    both_account left right l h = by_parents (in_or_not l a) (in_or_not l b)
-      where
-        w : (l ∈ (a ++ b)) × (l.var ≡ x → ⊥)
-        w = from_without x (a ++ b) l h
-
-        of_a : l ∈ a → IsSettled l ⊎ IsReducible side blocks a l
-        of_a i = parent_settled a own_a in_a is_a outer_a l w.1 (left l i)
-
-        of_b : l ∈ b → IsSettled l ⊎ IsReducible side blocks b l
-        of_b i = parent_settled b own_b in_b is_b outer_b l w.1 (right l i)
-
-        by_parents : (l ∈ a) ⊎ (l ∈ a → ⊥) → (l ∈ b) ⊎ (l ∈ b → ⊥)
-            → (l ∈ to) ⊎ (IsReducible side blocks (resolvent a b x) l ⊎ IsReducibleInParents side blocks a b l)
-        by_parents (inl i) (inl j) = elim (of_a i) [
-          | inl s ↦ settled l s
-          | inr red_a ↦ elim (of_b j) [ inl s ↦ settled l s | inr red_b ↦ inr (inr ((λ _. red_a), (λ _. red_b))) ]
-        ]
-        by_parents (inl i) (inr out) = elim (of_a i) [ inl s ↦ settled l s | inr red ↦ inr (inr ((λ _. red), (λ j. absurd (out j)))) ]
-        by_parents (inr out) (inl j) = elim (of_b j) [ inl s ↦ settled l s | inr red ↦ inr (inr ((λ i. absurd (out i)), (λ _. red))) ]
-        by_parents (inr out_a) (inr out_b) = absurd (elim (in_append a b l w.0) [ inl i ↦ out_a i | inr j ↦ out_b j ])
-
-    pub parents_told : Accounts side blocks a b to x
-        ↔ (((l : Literal) → l ∈ a → IsAccounted blocks reduced in_a (Some x) to l)
-        × ((l : Literal) → l ∈ b → IsAccounted blocks reduced in_b (Some x) to l))
-    parents_told = ((λ all. (left_accounted all, right_accounted all)), (λ each. both_account each.0 each.1))
-
--- the innermost blocks that the test of a step with two antecedents finds: beside the pivot, of the pivot, and what it makes of them
-pub record FoundBlocks (blocks : List Block) (deciding : Quantifier) (a b : List Literal) (x n : ℕ)
-    (beside_a beside_b of_pivot own_a own_b whole in_a in_b : Option ℕ) : Type 0 where
-  pub same : n ≡ x
-  pub clash : Clashes a b x
-  pub is_beside_a : IsInnermost blocks deciding (Some n) a beside_a
-  pub is_beside_b : IsInnermost blocks deciding (Some n) b beside_b
-  pub is_of_pivot : (k : ℕ) → IsAfter of_pivot k ↔ IsHeldBefore blocks deciding None x k
-  pub is_own_a : (k : ℕ) → IsAfter own_a k ↔ (IsAfter beside_a k × IsAfter of_pivot k)
-  pub is_own_b : (k : ℕ) → IsAfter own_b k ↔ (IsAfter beside_b k × IsAfter of_pivot k)
-  pub is_whole : (k : ℕ) → IsAfter whole k ↔ (IsAfter beside_a k × IsAfter beside_b k)
-  pub is_in_a : (k : ℕ) → IsAfter in_a k ↔ (IsAfter whole k ⊎ IsAfter own_a k)
-  pub is_in_b : (k : ℕ) → IsAfter in_b k ↔ (IsAfter whole k ⊎ IsAfter own_b k)
-
--- the test of a resolvent is that of both antecedents
-pub resolvent_told : (side : Side) (blocks : List Block) (reduced deciding : Quantifier) → reduced ≡ reduced_quantifier side
-    → deciding ≡ deciding_quantifier side
-    → (a b to : List Literal) (x n : ℕ) (beside_a beside_b of_pivot own_a own_b whole in_a in_b : Option ℕ)
-    → FoundBlocks blocks deciding a b x n beside_a beside_b of_pivot own_a own_b whole in_a in_b
-    → Accounts side blocks a b to x
-    ↔ (((l : Literal) → l ∈ a → IsAccounted blocks reduced in_a (Some n) to l)
-    × ((l : Literal) → l ∈ b → IsAccounted blocks reduced in_b (Some n) to l))
-resolvent_told side blocks reduced deciding er ed a b to x n beside_a beside_b of_pivot own_a own_b whole in_a in_b found =
-    let clash : Clashes a b n = subst (Clashes a b) (sym found.same) found.clash in
-    let of_n : (k : ℕ) → IsAfter of_pivot k ↔ IsHeldBefore blocks deciding None n k =
-    subst (λ (y : ℕ). (k : ℕ) → IsAfter of_pivot k ↔ IsHeldBefore blocks deciding None y k) (sym found.same) found.is_of_pivot in
-    subst (λ (y : ℕ). Accounts side blocks a b to y
-    ↔ (((l : Literal) → l ∈ a → IsAccounted blocks reduced in_a (Some n) to l)
-    × ((l : Literal) → l ∈ b → IsAccounted blocks reduced in_b (Some n) to l))) found.same
-    (parents_told side blocks reduced deciding er ed a b to n whole
-    (innermost_resolvent blocks deciding a b n beside_a beside_b whole found.is_beside_a found.is_beside_b found.is_whole)
-    own_a own_b in_a in_b
-    (innermost_whole blocks deciding a n beside_a of_pivot own_a (clash_var a b n clash) found.is_beside_a of_n found.is_own_a)
-    (innermost_whole blocks deciding b n beside_b of_pivot own_b (clash_var_right a b n clash) found.is_beside_b of_n found.is_own_b)
-    found.is_in_a found.is_in_b)
+      kept : (l : Literal) → (l ∈ to) ⊎ Red (resolvent a b x) l
+          → (l ∈ to) ⊎ (Red (resolvent a b x) l ⊎ IsReducibleInParents side blocks a b l)
+      kept l (inl k) = inl k
+      kept l (inr red) = inr (inl red)
 
 -- where nothing but the pivot is left out of either antecedent, nothing is left out of their resolvent
-pub resolvent_kept : (side : Side) (blocks : List Block) (a b to : List Literal) (x n : ℕ) → n ≡ x
-    → ((l : Literal) → l ∈ a → (l ∈ to) ⊎ IsPivotNumber (Some n) l.var) → ((l : Literal) → l ∈ b → (l ∈ to) ⊎ IsPivotNumber (Some n) l.var)
-    → Accounts side blocks a b to x
-resolvent_kept side blocks a b to x n same in_a in_b l h =
+pub resolvent_kept : (side : Side) (blocks : List Block) (a b to : List Literal) (x : ℕ) → Covers blocks None (Some x) a to
+    → Covers blocks None (Some x) b to → Accounts side blocks a b to x
+resolvent_kept side blocks a b to x in_a in_b l h =
     let w = from_without x (a ++ b) l h in
-    let kept : (l ∈ to) ⊎ IsPivotNumber (Some n) l.var = elim (in_append a b l w.0) [ inl i ↦ in_a l i | inr i ↦ in_b l i ] in
-    elim kept [
-      | inl k ↦ inl k
-      | inr pivot ↦ absurd (w.1 (pivot ∙ same))
-    ]
+    let kept : (l ∈ to) ⊎ IsThePivot (Some x) l.var = elim (in_append a b l w.0) [ inl i ↦ in_a l i | inr i ↦ in_b l i ] in
+    elim kept [ inl k ↦ inl k | inr pivot ↦ absurd (w.1 pivot) ]

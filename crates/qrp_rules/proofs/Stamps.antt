@@ -1,8 +1,7 @@
 -- Numbers with the stamp of a time.
 use Rattle.std.proofs.Common.{◌≡◌, ◌<◌, ◌≤◌, ◌+◌, ◌*◌, ◌⊎◌, ℕ, zero, suc, Bool, true, false, nat_eq, List, [], ◌∷◌, length, get_or, if◌then◌else◌}
 use Rattle.std.proofs.Common.{refl, sym, subst, ◌∙◌, inl, inr, arith}
-use Rattle.std.proofs.lemmas.Bool.{cases_eq}
-use Rattle.std.proofs.lemmas.Bool.Decides.{eqb_tells}
+use Rattle.std.proofs.lemmas.Bool.{cases_eq, eqb-true, eq-eqb}
 use Rattle.std.proofs.Math.ListN.{replicate, set}
 use Rattle.std.proofs.lemmas.List.{get_or-set_same, get_or-set_other, length-set}
 use Rattle.qbf_core.specs.Literal.{Literal}
@@ -13,20 +12,14 @@ use Rattle.qrp_rules.specs.Seen.{AreUpTo, code, stamped}
 abbrev pub Holds : List Bool → ℕ → Type 0
 Holds s n = get_or s n false ≡ true
 
-same_number : (m n : ℕ) → nat_eq m n ≡ true → m ≡ n
-same_number m n t = elim (eqb_tells m n) [ inl (_, e) ↦ e | inr (f, _) ↦ absurd (let h = rw f at t in cc h) ]
-
-number_same : (m n : ℕ) → m ≡ n → nat_eq m n ≡ true
-number_same m n e = elim (eqb_tells m n) [ inl (t, _) ↦ t | inr (_, ne) ↦ absurd (ne e) ]
-
 pub stamp_of : (xs : List ℕ) (now n : ℕ) → Holds (stamped xs now) n → (n < length xs) × (get_or xs n 0 ≡ now)
 stamp_of [] now n h = cc h
-stamp_of (x ∷ xs) now zero h = (omega arith, same_number x now h)
+stamp_of (x ∷ xs) now zero h = (omega arith, eqb-true x now h)
 stamp_of (x ∷ xs) now (suc n) h = let w = stamp_of xs now n h in ((let less : n < length xs = w.0 in omega arith), w.1)
 
 pub of_stamp : (xs : List ℕ) (now n : ℕ) → n < length xs → get_or xs n 0 ≡ now → Holds (stamped xs now) n
 of_stamp [] now n less e = absurd (omega arith)
-of_stamp (x ∷ xs) now zero less e = number_same x now e
+of_stamp (x ∷ xs) now zero less e = eq-eqb x now e
 of_stamp (x ∷ xs) now (suc n) less e = of_stamp xs now n (omega arith) e
 
 -- no number has the stamp of a time to come
@@ -35,10 +28,6 @@ none_later xs last now n upto later h =
     let is : get_or xs n 0 ≡ now = (stamp_of xs now n h).1 in
     let le : get_or xs n 0 ≤ last = upto n in
     omega arith
-
-pub length_stamped : (xs : List ℕ) (now : ℕ) → length (stamped xs now) ≡ length xs
-length_stamped [] now = refl
-length_stamped (x ∷ xs) now = let e : length (stamped xs now) ≡ length xs = length_stamped xs now in omega arith
 
 pub zeros_upto : (xs : List ℕ) (k : ℕ) → xs ≡ replicate k 0 → AreUpTo xs 0
 zeros_upto xs k e n = rw e (zero_at k n)

@@ -5,8 +5,8 @@ use Rattle.std.proofs.Math.ListN.{set}
 use Rattle.std.specs.Prelude.{⊤, IfOk, IsTrue, OnOk, OnErr}
 use Rattle.std.specs.List.{swap_remove}
 use Rattle.std.proofs.lemmas.Bool.{cases_eq}
-use Rattle.std.proofs.lemmas.List.{length-set}
-use Rattle.std.proofs.lemmas.Option.{slice_get_within}
+use Rattle.std.proofs.lemmas.List.{length-set, length_push}
+use Rattle.std.proofs.lemmas.Option.{slice_get_within, get_or_from_slice_get}
 use Rattle.qbf_core.specs.Literal.{Literal}
 use Rattle.qbf_core.specs.Members.{◌∈◌}
 use Rattle.qbf_core.specs.Qbf.{Qbf}
@@ -15,20 +15,10 @@ use Rattle.qbf_core.specs.declared.quantifier.Quantifier.TheVariants.{Exists}
 use Rattle.qrp_rules.specs.Conditions.{AllHold, initial_condition}
 use Rattle.qrp_rules.specs.Seen.{Has}
 use Rattle.qrp_rules.specs.Watches.{IsMet, IsTakenOut, IsWatched, IsWatchedBy, IsWatchedIf, KeepsWatches}
-use Rattle.qbf_core.proofs.PushedItems.{pushed_new, pushed_old}
+use Rattle.qbf_core.proofs.PushedItems.{pushed_new, pushed_old, written_here, written_elsewhere}
 use Rattle.qrp_rules.specs.declared.initial_cubes.Watch.{Watch}
-
-written_here : {A : Type 0} (xs : List A) (k : ℕ) (y : A) → k < length xs → slice_get (set xs k y) k ≡ Some y
-written_here [] k y less = absurd (omega arith)
-written_here (x ∷ xs) zero y less = refl
-written_here (x ∷ xs) (suc k) y less = written_here xs k y (omega arith)
-
-written_elsewhere : {A : Type 0} (xs : List A) (k j : ℕ) (y : A) → j ≢ k → slice_get (set xs k y) j ≡ slice_get xs j
-written_elsewhere [] k j y ne = refl
-written_elsewhere (x ∷ xs) zero zero y ne = absurd (ne refl)
-written_elsewhere (x ∷ xs) zero (suc j) y ne = refl
-written_elsewhere (x ∷ xs) (suc k) zero y ne = refl
-written_elsewhere (x ∷ xs) (suc k) (suc j) y ne = written_elsewhere xs k j y (λ e. ne (ap suc e))
+use Rattle.qbf_core.proofs.Members.{in_got}
+use Rattle.std.proofs.lemmas.List.Elements.{Contains-push, Contains-push_cases}
 
 -- a list is written over by one of the same literal that has its clauses too
 pub written_keeps : (lists : List Watch) (k : ℕ) (was new : Watch) → slice_get lists k ≡ Some was → new.lit ≡ was.lit
@@ -55,16 +45,12 @@ pub written_watches : (lists : List Watch) (k : ℕ) (was new : Watch) (l : Lite
 written_watches lists k was new l i at lit listed =
     (k, record { watch = new; here = written_here lists k new (slice_get_within lists k was at); by = lit; listed = listed })
 
-longer_by_one : {A : Type 0} (xs : List A) (x : A) → length (xs ++ x ∷ []) ≡ length xs + 1
-longer_by_one [] x = refl
-longer_by_one (y ∷ xs) x = let e : length (xs ++ x ∷ []) ≡ length xs + 1 = longer_by_one xs x in omega arith
-
 -- a list is added, or none
 pub pushed_or_not : {E : Type 0} (r : Result ⊤ E) (old lists : List Watch) (new : Watch) → OnOk r (lists ≡ old ++ new ∷ [])
     → OnErr r (lists ≡ old) → KeepsWatches old lists
 pushed_or_not (Ok u) old lists new ok err = subst (λ (ws : List Watch). KeepsWatches old ws) (sym ok) (record {
   watched = λ k l i w. record { watch = w.watch; here = pushed_old old new k w.watch w.here; by = w.by; listed = w.listed };
-  longer = let e : length (old ++ new ∷ []) ≡ length old + 1 = longer_by_one old new in omega arith;
+  longer = let e : length (old ++ new ∷ []) ≡ length old + 1 = length_push old new in omega arith;
 })
 pushed_or_not (Err e) old lists new ok err = subst (λ (ws : List Watch). KeepsWatches old ws) (sym err) (record {
   watched = λ k l i w. w;
@@ -76,27 +62,13 @@ pub added_watches : (lists : List Watch) (new : Watch) (l : Literal) (i : ℕ) �
 added_watches lists new l i lit listed = (length lists, record { watch = new; here = pushed_new lists new; by = lit; listed = listed })
 
 pub last_one : (i : ℕ) (xs ys : List ℕ) → ys ≡ xs ++ i ∷ [] → Contains ys i
-last_one i xs ys e = subst (λ (zs : List ℕ). Contains zs i) (sym e) (at_end xs)
-  where
-    at_end : (xs : List ℕ) → Contains (xs ++ i ∷ []) i
-    at_end [] = (0, omega arith, refl)
-    at_end (x ∷ xs) = let w = at_end xs in (suc w.0, (let less : w.0 < length (xs ++ i ∷ []) = w.1 in omega arith), w.2)
-
--- what follows where a call succeeds follows from what it says
-pub on_ok : {A E P Q : Type 0} (r : Result A E) → OnOk r P → (P → Q) → OnOk r Q
-on_ok (Ok a) holds then = then holds
-on_ok (Err e) holds then = tt
+last_one i xs ys e = subst (λ (zs : List ℕ). Contains zs i) (sym e) (Contains-push xs i)
 
 taken_front : {A : Type 0} (xs : List A) (m k : ℕ) → k < m → slice_get (take m xs) k ≡ slice_get xs k
 taken_front xs zero k less = absurd (omega arith)
 taken_front [] (suc m) k less = refl
 taken_front (x ∷ xs) (suc m) zero less = refl
 taken_front (x ∷ xs) (suc m) (suc k) less = taken_front xs m k (omega arith)
-
-got : {A : Type 0} (xs : List A) (k : ℕ) (a d : A) → slice_get xs k ≡ Some a → get_or xs k d ≡ a
-got [] k a d h = cc h
-got (x ∷ xs) zero a d h = cc h
-got (x ∷ xs) (suc k) a d h = got xs k a d h
 
 -- an item is taken out, and the last one comes in its place: another item comes before that place only from before it
 swapped : {A : Type 0} (xs : List A) (n k : ℕ) (d a : A) → n < length xs → slice_get xs k ≡ Some a → k ≢ n
@@ -109,7 +81,7 @@ swapped {A} xs n k d a inside at ne =
         n,
         taken_front (set xs n last) (length xs - 1) n (omega (arith, e, ne, inside, within))
             ∙ written_here xs n last inside
-            ∙ ap Some (got xs (length xs - 1) a d (subst (λ (m : ℕ). slice_get xs m ≡ Some a) e at)),
+            ∙ ap Some (get_or_from_slice_get xs (length xs - 1) a d (subst (λ (m : ℕ). slice_get xs m ≡ Some a) e at)),
         (λ less. absurd (omega (arith, e, ne, inside, within, less))),
       )
       | inr other ↦ (
@@ -123,7 +95,7 @@ pub taken_out : (lists new : List Watch) (n : ℕ) (watch : Watch) → n < lengt
     → new ≡ swap_remove lists n watch → IsTakenOut lists n watch.clauses.items new
 taken_out lists new n watch inside is items k l i w = elim (cases_eq k n) [
   | inl e ↦
-      let same : watch ≡ w.watch = is ∙ got lists n w.watch watch (subst (λ (m : ℕ). slice_get lists m ≡ Some w.watch) e w.here) in
+      let same : watch ≡ w.watch = is ∙ get_or_from_slice_get lists n w.watch watch (subst (λ (m : ℕ). slice_get lists m ≡ Some w.watch) e w.here) in
       inl (subst (λ (z : Watch). Contains z.clauses.items i) (sym same) w.listed)
   | inr ne ↦
       let s = swapped lists n k watch w.watch inside w.here ne in
@@ -158,14 +130,6 @@ met_next f seen old new n kept here before i less = elim (cases_eq i n) [
   | inr ne ↦ met_keeps 0 f seen old new i kept (before i (omega (arith, less, ne)))
 ]
 
--- the last of some clauses is taken
-popped : (rest : List ℕ) (last i : ℕ) → Contains (rest ++ last ∷ []) i → Contains rest i ⊎ (i ≡ last)
-popped [] last i (zero, less, e) = inr (sym e)
-popped [] last i (suc k, less, e) = absurd (omega (arith, less))
-popped (x ∷ rest) last i (zero, less, e) = inl (0, omega arith, e)
-popped (x ∷ rest) last i (suc k, less, e) =
-    elim (popped rest last i (k, omega (arith, less), e)) [ inl w ↦ inl (suc w.0, omega (arith, w.1), w.2) | inr s ↦ inr s ]
-
 -- the clause at place i, if there is one, is still to be watched, or is met
 abbrev pub IsPending : ℕ → Qbf → List Bool → List ℕ → List Watch → ℕ → Type 0
 IsPending n f seen left lists i =
@@ -187,15 +151,15 @@ pending_taken n f seen old new taken out i was = λ clause at. elim (was clause 
 pub pending_met : (n : ℕ) (f : Qbf) (seen : List Bool) (left rest : List ℕ) (last : ℕ) (old new : List Watch) → left ≡ rest ++ last ∷ []
     → KeepsWatches old new → IsMet 0 f seen new last → (i : ℕ) → IsPending n f seen left old i → IsPending n f seen rest new i
 pending_met n f seen left rest last old new split kept met i was = λ clause at. elim (was clause at) [
-  | inl h ↦ elim (popped rest last i (subst (λ (xs : List ℕ). Contains xs i) split h)) [
+  | inl h ↦ elim (Contains-push_cases rest last i (subst (λ (xs : List ℕ). Contains xs i) split h)) [
     | inl older ↦ inl older
-    | inr e ↦ elim (met clause (subst (λ (m : ℕ). slice_get f.clauses m ≡ Some clause) e at)) [
+    | inr e ↦ elim (met clause (subst (λ (m : ℕ). slice_get f.clauses m ≡ Some clause) (sym e) at)) [
       | inl t ↦ inr (inl t)
       | inr w ↦ inr (inr (
         w.0,
         w.1,
         w.2,
-        subst (λ (m : ℕ). IsWatchedBy new w.2 w.0 m) (sym e) w.3,
+        subst (λ (m : ℕ). IsWatchedBy new w.2 w.0 m) e w.3,
         elim w.4 [ inl none ↦ absurd (omega (arith, none)) | inr has ↦ inr has ],
       ))
     ]
@@ -220,16 +184,11 @@ watched_before f seen lists n e all i clause at = elim (all i clause at) [
   | inr w ↦ inr (w.0, w.1, w.2, w.3, inl (let less : w.2 < length lists = slice_get_within lists w.2 w.3.watch w.3.here in omega (arith, e)))
 ]
 
-place_in : (xs : List (List Literal)) (c : List Literal) → c ∈ xs → (i : ℕ) × (slice_get xs i ≡ Some c)
-place_in [] c h = absurd h
-place_in (x ∷ xs) c (inl e) = (0, ap Some (sym e))
-place_in (x ∷ xs) c (inr h) = let w = place_in xs c h in (suc w.0, w.1)
-
 -- where each clause is met, the cube of which the literals were seen is an initial one
 pub all_met : (f : Qbf) (cube : List Literal) (seen : List Bool) (lists : List Watch) → ((l : Literal) → Has seen l → l ∈ cube)
     → ((i : ℕ) → IsMet 0 f seen lists i) → IsInitial Cubes f cube
 all_met f cube seen lists within met = λ clause h.
-    let at = place_in f.clauses clause h in
+    let at = in_got f.clauses clause h in
     elim (met at.0 clause at.1) [
       | inl t ↦ inl t
       | inr w ↦ inr (w.0, w.1, elim w.4 [ inl none ↦ absurd (omega (arith, none)) | inr has ↦ within w.0 has ])

@@ -27,7 +27,7 @@ IsFirstFailure [] fault = ⊥
 IsFirstFailure ((name, holds) ∷ conditions) fault =
     ((holds → ⊥) × (fault ≡ name)) ⊎ (holds × IsFirstFailure conditions fault)
 
--- what a test of conditions answers: nothing where all hold, and else the first that fails
+-- what a test of conditions returns: nothing where all hold, and else the first that fails
 abbrev pub IsAnswer : {Fault : Type 0} → List (Condition Fault) → Option Fault → Type 0
 IsAnswer conditions None = AllHold conditions
 IsAnswer conditions (Some fault) = IsFirstFailure conditions fault

@@ -17,9 +17,9 @@ IsClashOf a b (One x) = IsOnlyClash a b x
 IsClashOf a b More = (x : ℕ) × (y : ℕ) × Clashes a b x × Clashes a b y × (x ≡ y → ⊥)
 
 -- v is the pivot, if there is one
-abbrev pub IsPivotNumber : Option ℕ → ℕ → Type 0
-IsPivotNumber None v = ⊥
-IsPivotNumber (Some x) v = v ≡ x
+abbrev pub IsThePivot : Option ℕ → ℕ → Type 0
+IsThePivot None v = ⊥
+IsThePivot (Some x) v = v ≡ x
 
 -- the place k is after the block, if there is one
 abbrev pub IsAfter : Option ℕ → ℕ → Type 0
@@ -29,7 +29,7 @@ IsAfter (Some block) k = block < k
 -- the block of v is before k, where v has the quantifier q and is not left aside
 abbrev pub IsHeldBefore : List Block → Quantifier → Option ℕ → ℕ → ℕ → Type 0
 IsHeldBefore blocks q pivot v k =
-    (IsPivotNumber pivot v → ⊥) → Binds blocks q v → (i : ℕ) → block_in v blocks ≡ Some i → i < k
+    (IsThePivot pivot v → ⊥) → Binds blocks q v → (i : ℕ) → block_in v blocks ≡ Some i → i < k
 
 -- the innermost block of these literals: what is after it is after the block of each
 abbrev pub IsInnermost : List Block → Quantifier → Option ℕ → List Literal → Option ℕ → Type 0
@@ -42,12 +42,12 @@ StandsAfter blocks q block v = Binds blocks q v × ((k : ℕ) → block_in v blo
 
 -- a literal of v may be missing: v is left aside, or a reduction may take the literal out
 abbrev pub MayLack : List Block → Option Reducible → Option ℕ → ℕ → Type 0
-MayLack blocks None pivot v = IsPivotNumber pivot v
-MayLack blocks (Some after) pivot v = IsPivotNumber pivot v ⊎ StandsAfter blocks after.quantifier after.block v
+MayLack blocks None pivot v = IsThePivot pivot v
+MayLack blocks (Some after) pivot v = IsThePivot pivot v ⊎ StandsAfter blocks after.quantifier after.block v
 
--- each literal of `from` is in `to`, or of the pivot, or a reduction may take it out
-abbrev pub Covers : List Block → Reducible → ℕ → List Literal → List Literal → Type 0
-Covers blocks after pivot from to = (l : Literal) → l ∈ from → (l ∈ to) ⊎ MayLack blocks (Some after) (Some pivot) l.var
+-- each literal of `from` is in `to`, or may be missing there
+abbrev pub Covers : List Block → Option Reducible → Option ℕ → List Literal → List Literal → Type 0
+Covers blocks reducible pivot from to = (l : Literal) → l ∈ from → (l ∈ to) ⊎ MayLack blocks reducible pivot l.var
 
 -- each literal of the resolvent is in `to`, or reducible in the resolvent or in the antecedents
 abbrev pub Accounts : Side → List Block → List Literal → List Literal → List Literal → ℕ → Type 0

@@ -54,12 +54,7 @@ fn are_seen_without(seen: &SeenLits, lits: &[Lit], var: Var) -> bool
     ensures { IsTrue result → (l : Literal) → l ∈ lits.now
         → Has seen.now l × (l.var ≡ var → ⊥) }
 {
-    for lit in lits {
-        if lit.var().number() == var.number() || !seen.contains(*lit) {
-            return false;
-        }
-    }
-    true
+    lits.iter().all(|lit| lit.var().number() != var.number() && seen.contains(*lit))
 }
 
 /// The variable in which two lists clash, if it is one alone, and a third has none but literals of
@@ -92,12 +87,7 @@ fn are_seen_or_left_out(
     ensures { IsTrue result → (l : Literal) → l ∈ lits.now
         → Has seen.now l ⊎ MayLack prefix.now reducible pivot l.var }
 {
-    for lit in lits {
-        if !seen.contains(*lit) && !may_lack(prefix, reducible, pivot, lit.var()) {
-            return false;
-        }
-    }
-    true
+    lits.iter().all(|lit| seen.contains(*lit) || may_lack(prefix, reducible, pivot, lit.var()))
 }
 
 /// Whether what a list leaves out of the resolvent of two others may be left out, where they clash

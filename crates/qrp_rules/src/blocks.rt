@@ -2,14 +2,14 @@
 
 ghost use Rattle.std.specs.Prelude.{◌↔◌, ℕ, ◌⊎◌, IsTrue};
 ghost use Rattle.qbf_core.specs.Blocks.{Binds};
-ghost use Rattle.qrp_rules.specs.Walks.{IsAfter, IsHeldBefore, IsInnermost, IsPivotNumber};
+ghost use Rattle.qrp_rules.specs.Walks.{IsAfter, IsHeldBefore, IsInnermost, IsThePivot};
 ghost use Rattle.qrp_rules.specs.Walks.{StandsAfter};
 
 use qbf_core::{Lit, Prefix, Quantifier, Var};
 
 /// Whether a variable is the pivot, where the number of one is given.
-pub(crate) fn is_pivot_number(pivot: Option<u32>, var: Var) -> bool
-    ensures { IsTrue result ↔ IsPivotNumber pivot var }
+pub(crate) fn is_the_pivot(pivot: Option<u32>, var: Var) -> bool
+    ensures { IsTrue result ↔ IsThePivot pivot var }
 {
     match pivot {
         Some(number) => var.number() == number,
@@ -34,7 +34,7 @@ pub(crate) fn block_if(
 ) -> Option<usize>
     ensures { (k : ℕ) → IsAfter result k ↔ IsHeldBefore prefix.now quantifier pivot var k }
 {
-    if is_pivot_number(pivot, var) {
+    if is_the_pivot(pivot, var) {
         return None;
     }
     prefix.block_bound_by(quantifier, var)

@@ -21,8 +21,8 @@ use crate::written::is_ordered;
 use qbf_core::{Formula, Lit, LitSet, Prefix, Quantifier, SetFault};
 use std::alloc::{AllocError, Global};
 
-/// Odd, so that multiplying by it loses nothing of a number of 64 bits.
-const FACTOR: u64 = 1099511628211;
+/// The prime of the FNV hash of 64 bits. It is odd, so that multiplying by it loses nothing.
+const FNV_PRIME: u64 = 1099511628211;
 
 /// A hash with one literal more.
 fn hash_with(hash: u64, lit: Lit) -> u64
@@ -30,7 +30,7 @@ fn hash_with(hash: u64, lit: Lit) -> u64
 {
     let sign = if lit.is_negative() { 1 } else { 0 };
     let code = 2 * u64::from(lit.var().number()) + sign;
-    hash.wrapping_mul(FACTOR).wrapping_add(code)
+    hash.wrapping_mul(FNV_PRIME).wrapping_add(code)
 }
 
 /// The hash of the literals of a clause that are not reducible in it.

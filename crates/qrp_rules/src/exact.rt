@@ -111,12 +111,7 @@ pub(crate) fn exact_pivot(a: &[Lit], b: &[Lit], to: &[Lit]) -> Option<Lit>
 pub(crate) fn is_apart(lits: &[Lit], var: Var) -> bool
     ensures { IsTrue result → IsApart lits.now var }
 {
-    for lit in lits {
-        if lit.var().number() == var.number() {
-            return false;
-        }
-    }
-    true
+    lits.iter().all(|lit| lit.var().number() != var.number())
 }
 
 /// Whether a list is what is left of another without some literals of a quantifier after a block.

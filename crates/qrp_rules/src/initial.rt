@@ -53,36 +53,21 @@ fn shares(clause: &[Lit], set: &[Lit]) -> bool
     requires { IsOrdered set.now }
     ensures { IsTrue result ↔ ((l : Literal) × (l ∈ clause.now) × (l ∈ set.now)) }
 {
-    for lit in clause {
-        if is_member(set, *lit) {
-            return true;
-        }
-    }
-    false
+    clause.iter().any(|lit| is_member(set, *lit))
 }
 
 /// Whether a clause as written has a literal.
 fn is_among(clause: &[Lit], lit: Lit) -> bool
     ensures { IsTrue result ↔ lit ∈ clause.now }
 {
-    for other in clause {
-        if *other == lit {
-            return true;
-        }
-    }
-    false
+    clause.contains(&lit)
 }
 
 /// Whether a clause as written holds a variable with both signs.
 pub(crate) fn is_tautology(clause: &[Lit]) -> bool
     ensures { IsTrue result ↔ IsTautology clause.now }
 {
-    for lit in clause {
-        if is_among(clause, lit.negated()) {
-            return true;
-        }
-    }
-    false
+    clause.iter().any(|lit| is_among(clause, lit.negated()))
 }
 
 /// Why the set is no initial cube.

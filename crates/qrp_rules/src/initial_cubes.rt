@@ -16,8 +16,7 @@ ghost use Rattle.qrp_rules.specs.Watches.{KeepsWatches};
 use crate::fault::Holds;
 use crate::initial::is_tautology;
 use crate::seen::{SeenLits, code, set_if_clean};
-use crate::written::are_bound;
-use qbf_core::{Formula, Lit};
+use qbf_core::{Formula, Lit, are_bound};
 use std::alloc::{AllocError, Global};
 
 /// Clauses that hold a literal.

@@ -1,6 +1,6 @@
 //! Whether a set is a reduct of the resolvent of two others.
 
-ghost use Rattle.std.specs.Prelude.{◌≡◌, ◌↔◌, ◌⊎◌, IsTrue, List, None};
+ghost use Rattle.std.specs.Prelude.{◌≡◌, ◌↔◌, ◌⊎◌, IsTrue, List, None, Some};
 ghost use Rattle.qbf_core.specs.Literal.{Literal};
 ghost use Rattle.qbf_core.specs.Members.{◌⊆◌};
 ghost use Rattle.qbf_core.specs.Blocks.{AreBound};
@@ -89,7 +89,8 @@ pub(crate) fn reducible_in_parents<S: Side>(
 ) -> (Reducible, Reducible)
     requires { Clashes a.now b.now pivot }
     ensures { (to : List Literal) → Accounts S.side prefix.now a.now b.now to pivot
-        ↔ (Covers prefix.now result.0 pivot a.now to × Covers prefix.now result.1 pivot b.now to) }
+        ↔ (Covers prefix.now (Some result.0) (Some pivot) a.now to
+        × Covers prefix.now (Some result.1) (Some pivot) b.now to) }
 {
     let reduced = S::REDUCED;
     let deciding = S::DECIDING;

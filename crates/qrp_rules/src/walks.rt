@@ -6,9 +6,9 @@ ghost use Rattle.qbf_core.specs.Members.{◌∈◌, ◌⊆◌};
 ghost use Rattle.qbf_core.specs.Rules.{Side, reduced_quantifier, deciding_quantifier};
 ghost use Rattle.qbf_core.specs.Sets.{IsOrdered};
 ghost use Rattle.qrp_rules.specs.Conditions.{IsAnswer, reduct_conditions};
-ghost use Rattle.qrp_rules.specs.Walks.{MayLack};
+ghost use Rattle.qrp_rules.specs.Walks.{Covers, MayLack};
 
-use crate::blocks::{innermost, is_pivot_number, stands_after};
+use crate::blocks::{innermost, is_the_pivot, stands_after};
 use crate::fault::RuleFault;
 use qbf_core::{Lit, Prefix, Quantifier, Var};
 
@@ -71,7 +71,7 @@ pub(crate) fn may_lack(
     ensures { IsTrue result ↔ MayLack prefix.now reducible pivot var }
 {
     match reducible {
-        _ if is_pivot_number(pivot, var) => true,
+        _ if is_the_pivot(pivot, var) => true,
         Some(after) => stands_after(prefix, after.quantifier, after.block, var),
         None => false,
     }
@@ -87,8 +87,7 @@ pub(crate) fn is_covered(
 ) -> bool
     requires from { IsOrdered from.now }
     requires to { IsOrdered to.now }
-    ensures { IsTrue result ↔ ((l : Literal) → l ∈ from.now
-        → (l ∈ to.now) ⊎ MayLack prefix.now reducible pivot l.var) }
+    ensures { IsTrue result ↔ Covers prefix.now reducible pivot from.now to.now }
 {
     let mut rest = to;
     for lit in from {

@@ -10,7 +10,7 @@ ghost use Rattle.qbf_core.specs.Rules.{IsClean, IsTautology};
 ghost use Rattle.qbf_core.specs.Sets.{HasMembersOf, IsOrdered};
 ghost use Rattle.qrp_rules.specs.Written.{set_or_written};
 
-use qbf_core::{Lit, LitSet, Prefix, SetFault};
+use qbf_core::{Lit, LitSet, Prefix, SetFault, are_bound};
 use std::alloc::Global;
 
 /// Whether literals stand in the order of their variables, and no variable twice.
@@ -24,18 +24,6 @@ pub(crate) fn is_ordered(lits: &[Lit]) -> bool
             return false;
         }
         last = number;
-    }
-    true
-}
-
-/// Whether the variable of each literal is bound.
-pub(crate) fn are_bound(prefix: &Prefix, lits: &[Lit]) -> bool
-    ensures { IsTrue result ↔ AreBound prefix.now lits.now }
-{
-    for lit in lits {
-        if !prefix.is_bound(lit.var()) {
-            return false;
-        }
     }
     true
 }

@@ -1,7 +1,7 @@
-use Rattle.std.proofs.Common.{ap}
+use Rattle.std.proofs.Common.{ap, true, false}
 use Rattle.qbf_core.specs.Rules.{Clauses, Cubes}
 use Rattle.qrp_check.specs.Proof.{side_of}
-use Rattle.qrp_check.proofs.CheckAnswers.{proves, refuses, shows_false, shows_true, closed_of}
+use Rattle.qrp_check.proofs.CheckAnswers.{proves, refuses, shows, claims_false, claims_true, closed_of}
 use Rattle.qrp_check.proofs.StepsAt.{answer_rises, answer_inside}
 use Rattle.qrp_check.proofs.checking.check.Goals as goal
 
@@ -17,8 +17,8 @@ returns-in-Unsat-clause-proves g c =
 
 pub returns-in-Unsat-clause-truth : goal.returns-in-Unsat-clause-truth
 returns-in-Unsat-clause-truth g c =
-    shows_false c.args.rules c.args.formula.now c.args.sets.now (g.T.Steps.steps c.args.trace.now) c.args.outcome c.check_core.result
-    (ap side_of c.in-Unsat.is)
+    shows c.args.rules c.args.formula.now c.args.sets.now (g.T.Steps.steps c.args.trace.now) c.args.outcome Clauses false c.check_core.result
+    (ap side_of c.in-Unsat.is) (claims_false c.args.formula.now)
     (closed_of c.args.formula.now c.prefix.ensures.sound) (returns-in-Unsat-clause-proves g c) c.check_core.ensures.claim
 
 pub returns-in-Unsat-clause-refused : goal.returns-in-Unsat-clause-refused
@@ -35,8 +35,8 @@ returns-in-Sat-clause-proves g c =
 
 pub returns-in-Sat-clause-truth : goal.returns-in-Sat-clause-truth
 returns-in-Sat-clause-truth g c =
-    shows_true c.args.rules c.args.formula.now c.args.sets.now (g.T.Steps.steps c.args.trace.now) c.args.outcome c.check_core-in-Sat.result
-    (ap side_of c.in-Sat.is)
+    shows c.args.rules c.args.formula.now c.args.sets.now (g.T.Steps.steps c.args.trace.now) c.args.outcome Cubes true
+    c.check_core-in-Sat.result (ap side_of c.in-Sat.is) (claims_true c.args.formula.now)
     (closed_of c.args.formula.now c.prefix.ensures.sound) (returns-in-Sat-clause-proves g c) c.check_core-in-Sat.ensures.claim
 
 pub returns-in-Sat-clause-refused : goal.returns-in-Sat-clause-refused

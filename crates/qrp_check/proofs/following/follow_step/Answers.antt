@@ -4,9 +4,9 @@ use Rattle.qrp.specs.Inferences.{Inference}
 use Rattle.qrp_check.specs.Conditions.{StepFollows}
 use Rattle.qrp_check.specs.Core.{IsInCore}
 use Rattle.qrp_check.proofs.CoreStep.{found_answer, premises_fit}
-use Rattle.qrp_check.proofs.StepPlaces.{at_place}
 use Rattle.qrp_check.proofs.Marking.{core_within}
 use Rattle.qrp_check.proofs.following.follow_step.Goals as goal
+use Rattle.qbf_core.proofs.Members.{at_place}
 
 pub find_premises-found-requires : goal.find_premises-found-requires
 find_premises-found-requires g c = core_within (g.T.Steps.steps c.args.trace.now) c.args.place c.requires.core

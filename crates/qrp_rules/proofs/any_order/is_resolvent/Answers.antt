@@ -1,5 +1,8 @@
-use Rattle.qrp_rules.proofs.Exactness.{exact_follows, followed_bound, followed_clean, ok_then}
+use Rattle.qrp_rules.proofs.Exactness.{exact_follows, followed_bound, followed_clean}
 use Rattle.qrp_rules.proofs.any_order.is_resolvent.Goals as goal
+use Rattle.std.proofs.lemmas.Result.{IfOk-weaker}
+use Rattle.std.specs.Prelude.{IsTrue}
+use Rattle.qbf_core.specs.Rules.{IsClean}
 
 pub returns-in_default-clause-clean : goal.returns-in_default-clause-clean
 returns-in_default-clause-clean g c = λ t.
@@ -12,13 +15,13 @@ returns-in_default-clause-bound g c = λ t.
     c.requires.bound_a c.requires.bound_b
 
 pub returns-clause-follows : goal.returns-clause-follows
-returns-clause-follows g c = ok_then c.is_clean.result c.is_clean.ensures (λ clean.
+returns-clause-follows g c = IfOk-weaker c.is_clean.result (λ t. IsTrue t → IsClean c.args.to.now) _ (λ t clean is.
     exact_follows c.args.rules g.S.Side.side c.args.prefix.now c.args.a.now c.args.b.now c.args.to.now c.in-Some.pivot
-    c.in-Some.ensures.resolved c.in-Some.ensures.allowed clean (rw c.var.ensures at c.is_apart.ensures c.if-not-is_apart.false))
+    c.in-Some.ensures.resolved c.in-Some.ensures.allowed (clean is) (rw c.var.ensures at c.is_apart.ensures c.if-not-is_apart.false)) c.is_clean.ensures
 
 pub returns-clause-bound : goal.returns-clause-bound
-returns-clause-bound g c = ok_then c.is_clean.result c.is_clean.ensures (λ clean.
+returns-clause-bound g c = IfOk-weaker c.is_clean.result (λ t. IsTrue t → IsClean c.args.to.now) _ (λ t clean is.
     followed_bound c.args.rules g.S.Side.side c.args.prefix.now c.args.a.now c.args.b.now c.args.to.now
     (exact_follows c.args.rules g.S.Side.side c.args.prefix.now c.args.a.now c.args.b.now c.args.to.now c.in-Some.pivot
-    c.in-Some.ensures.resolved c.in-Some.ensures.allowed clean (rw c.var.ensures at c.is_apart.ensures c.if-not-is_apart.false))
-    c.requires.bound_a c.requires.bound_b)
+    c.in-Some.ensures.resolved c.in-Some.ensures.allowed (clean is) (rw c.var.ensures at c.is_apart.ensures c.if-not-is_apart.false))
+    c.requires.bound_a c.requires.bound_b) c.is_clean.ensures

@@ -1,7 +1,6 @@
 use Rattle.std.proofs.Common.{ℕ, ◌+◌, ◌↔◌, take, subst}
 use Rattle.qbf_core.specs.Literal.{Literal}
-use Rattle.qbf_core.proofs.Members.{in_take_more, in_take_all}
-use Rattle.qbf_core.proofs.Order.{take_more_in, take_within}
+use Rattle.qbf_core.proofs.Members.{in_take_more, in_take_all, take_more_in, take_within}
 use Rattle.qrp_rules.specs.Walks.{IsAfter, IsHeldBefore}
 use Rattle.qrp_rules.proofs.Reducing.{innermost_more, innermost_same}
 use Rattle.qrp_rules.proofs.blocks.innermost.Goals as goal

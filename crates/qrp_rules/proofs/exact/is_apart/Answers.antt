@@ -1,10 +1,11 @@
-use Rattle.std.proofs.Common.{sym, ◌∙◌}
-use Rattle.qrp_rules.proofs.Exactness.{apart_all, apart_more}
+use Rattle.std.proofs.Common.{◌≡◌, rules, tests}
+use Rattle.std.proofs.lemmas.Bool.{MatchBool-at_true}
+use Rattle.std.proofs.lemmas.Iterator.{cases_from_all, YieldsList-from_slice}
+use Rattle.qbf_core.specs.Literal.{Literal}
+use Rattle.qbf_core.proofs.Members.{each_within}
 use Rattle.qrp_rules.proofs.exact.is_apart.Goals as goal
 
-pub loop-lit-preserved : goal.loop-lit-preserved
-loop-lit-preserved c = apart_more c.args.lits.now c.loop-lit.lit-index c.args.var c.lit-item.result c.loop-lit-test.true c.lit-item.is
-    (λ e. c.if-number.false (c.number.ensures.value ∙ c.var.ensures ∙ e ∙ sym c.number-in-loop-lit.ensures.value)) c.loop-lit.invariant
-
 pub returns : goal.returns
-returns c = λ t. apart_all c.args.lits.now c.loop-lit.lit-index c.args.var c.loop-lit-test.false c.loop-lit.invariant
+returns c = λ t. each_within (λ (l : Literal). l.var ≡ c.args.var → ⊥) c.args.lits.now
+    (MatchBool-at_true _ _ t (cases_from_all _ _ _ (λ (l : Literal). l.var ≡ c.args.var → ⊥) (λ _. Unit {0}) c.all.ensures.ran
+    (YieldsList-from_slice c.args.lits.now cc) (λ x q k. search (rules, tests)) (λ x q k. tt)))

@@ -1,8 +1,8 @@
 use Rattle.std.proofs.Common.{inl, inr}
-use Rattle.qrp_rules.proofs.Exactness.{clean_within}
-use Rattle.qrp_rules.proofs.Merging.{bound_within}
 use Rattle.qrp_rules.proofs.Reducing.{reducible_after}
 use Rattle.qrp_rules.proofs.exact.is_exact_reduct_by.Goals as goal
+use Rattle.qbf_core.proofs.Order.{clean_within}
+use Rattle.qbf_core.proofs.Bound.{bound_within}
 
 pub returns-then-from-to-clause-follows : goal.returns-then-from-to-clause-follows
 returns-then-from-to-clause-follows c = λ t side _ _.
@@ -20,8 +20,8 @@ returns-clause-follows c = λ t side reduces decides. (
     (λ l h. elim (c.is_reduct_as_written.ensures.each t l h) [
       | inl k ↦ inl k
       | inr stands ↦ inr
-          (reducible_after side c.args.prefix.now c.args.reduced c.args.deciding c.args.from.now c.innermost-block.result l
-          reduces decides c.innermost-block.ensures stands)
+          ((reducible_after side c.args.prefix.now c.args.reduced c.args.deciding c.args.from.now c.innermost-block.result
+          reduces decides c.innermost-block.ensures l).0 stands)
     ]),
     tt,
   ),

@@ -1,9 +1,10 @@
 use Rattle.std.proofs.Common.{ℕ, refl, subst, arith}
 use Rattle.qrp_rules.specs.Walks.{StandsAfter}
-use Rattle.qrp_rules.proofs.Merging.{rest_each, rest_more, rest_within, same_number}
+use Rattle.qrp_rules.proofs.Merging.{rest_each, rest_more, rest_within}
 use Rattle.qrp_rules.proofs.exact.is_reduct_as_written.Goals as goal
 use Rattle.qrp_rules.proofs.exact.is_reduct_as_written.Goals.{else-next-in_to-via-then-next-in_to+else-not-stands_after}
 use Rattle.qrp_rules.proofs.exact.is_reduct_as_written.Goals.{else-next-in_to-via-else-next-in_to}
+use Rattle.std.proofs.lemmas.Bool.{eqb-true}
 
 pub loop-lit-init : goal.loop-lit-init
 loop-lit-init c = record { inside = omega arith; within = λ m h. absurd h; each = λ m h. absurd h }
@@ -24,7 +25,7 @@ loop-lit-preserved c =
 pub returns-clause-within : goal.returns-clause-within
 returns-clause-within c = λ t.
     rest_within c.args.prefix.now c.args.quantifier c.args.block c.args.from.now c.args.to.now c.loop-lit.lit-index c.loop-lit.in_to
-    (same_number c.loop-lit.in_to _ t) c.loop-lit.invariant
+    (eqb-true c.loop-lit.in_to _ t) c.loop-lit.invariant
 
 pub returns-clause-each : goal.returns-clause-each
 returns-clause-each c = λ t.

@@ -3,9 +3,10 @@ use Rattle.std.proofs.lemmas.Bool.{false≢true}
 use Rattle.qbf_core.specs.Rules.{Clauses}
 use Rattle.qbf_core.proofs.Bound.{bound_each}
 use Rattle.qbf_core.proofs.Order.{clean_from_same}
-use Rattle.qrp_rules.proofs.MembersDecide.{same_self}
-use Rattle.qrp_rules.proofs.ReductsByMembers.{got_in, not_clean, reduct_from}
+use Rattle.qrp_rules.proofs.MembersDecide.{same_self, reduct_members}
+use Rattle.qrp_rules.proofs.ReductsByMembers.{not_clean}
 use Rattle.qrp_rules.proofs.initial.has_reduct.Goals as goal
+use Rattle.qbf_core.proofs.Members.{got_in}
 
 pub returns-then-not-is_among : goal.returns-then-not-is_among
 returns-then-not-is_among c = (
@@ -28,10 +29,11 @@ returns-in-Ok c =
     let told = rw c.as_slice.ensures.value at c.has_ordered_reduct-in-Ok.ensures in (
       (λ t. (
         c.in-Ok.ensures.fit.0,
-        reduct_from Clauses c.args.prefix.now c.in-Ok.from c.args.clause.now c.args.set.now c.in-Ok.ensures.members (told.0 t),
+        reduct_members Clauses c.args.prefix.now c.in-Ok.from c.args.clause.now c.args.set.now c.args.set.now c.in-Ok.ensures.members
+            (same_self c.args.set.now) (told.0 t),
       )),
-      (λ h. told.1 (reduct_from Clauses c.args.prefix.now c.args.clause.now c.in-Ok.from c.args.set.now
-          (c.in-Ok.ensures.members.1, c.in-Ok.ensures.members.0) h.1)),
+      (λ h. told.1 (reduct_members Clauses c.args.prefix.now c.args.clause.now c.in-Ok.from c.args.set.now c.args.set.now
+          (c.in-Ok.ensures.members.1, c.in-Ok.ensures.members.0) (same_self c.args.set.now) h.1)),
     )
 
 pub returns-in-Err-E1 : goal.returns-in-Err-E1

@@ -3,9 +3,9 @@ use Rattle.std.proofs.lemmas.Bool.{false≢true}
 use Rattle.qbf_core.specs.Literal.{Literal}
 use Rattle.qbf_core.specs.Members.{◌∈◌}
 use Rattle.qbf_core.specs.Rules.{IsTautology}
-use Rattle.qbf_core.proofs.Members.{in_take_all}
-use Rattle.qrp_rules.proofs.ReductsByMembers.{got_in, got_more}
+use Rattle.qbf_core.proofs.Members.{in_take_all, got_in}
 use Rattle.qrp_rules.proofs.initial.initial_cube_fault.Goals as goal
+use Rattle.qrp_rules.proofs.ReductsByMembers.{each_got}
 
 pub returns-then-not-is_tautology : goal.returns-then-not-is_tautology
 returns-then-not-is_tautology c =
@@ -18,18 +18,12 @@ returns-then-not-is_tautology c =
     )
 
 pub loop-i-preserved : goal.loop-i-preserved
-loop-i-preserved c = λ k h. elim (got_more _ c.loop-i.i c.clause-clause.result.now k c.clause-clause.ensures h) [
-  | inl before ↦ c.loop-i.invariant k before
-  | inr e ↦ subst (λ (z : List Literal). IsTautology z ⊎ ((m : Literal) × (m ∈ z) × (m ∈ c.args.set.now))) (sym e)
-      (inl (c.is_tautology.ensures.0 c.if-not-is_tautology.false))
-]
+loop-i-preserved c = each_got (λ (z : List Literal). IsTautology z ⊎ ((m : Literal) × (m ∈ z) × (m ∈ c.args.set.now))) _ c.loop-i.i
+    c.clause-clause.result.now c.clause-clause.ensures (inl (c.is_tautology.ensures.0 c.if-not-is_tautology.false)) c.loop-i.invariant
 
 pub loop-i-preserved-then-shares : goal.loop-i-preserved-then-shares
-loop-i-preserved-then-shares c = λ k h. elim (got_more _ c.loop-i.i c.clause-clause.result.now k c.clause-clause.ensures h) [
-  | inl before ↦ c.loop-i.invariant k before
-  | inr e ↦ subst (λ (z : List Literal). IsTautology z ⊎ ((m : Literal) × (m ∈ z) × (m ∈ c.args.set.now))) (sym e)
-      (inr (c.shares.ensures.0 c.if-shares.true))
-]
+loop-i-preserved-then-shares c = each_got (λ (z : List Literal). IsTautology z ⊎ ((m : Literal) × (m ∈ z) × (m ∈ c.args.set.now))) _
+    c.loop-i.i c.clause-clause.result.now c.clause-clause.ensures (inr (c.shares.ensures.0 c.if-shares.true)) c.loop-i.invariant
 
 pub returns : goal.returns
 returns c = ((λ k h. c.loop-i.invariant k (in_take_all c.args.formula.now.clauses c.loop-i.i k (omega arith) h)), tt)

@@ -4,8 +4,8 @@ use Rattle.qbf_core.specs.Literal.{Literal}
 use Rattle.qbf_core.specs.Members.{◌∈◌}
 use Rattle.qbf_core.specs.Rules.{resolvent}
 use Rattle.qrp_rules.proofs.Cursors.{Reaches, HasVar}
-use Rattle.qbf_core.proofs.Members.{in_at, in_take_more, in_take_all}
-use Rattle.qbf_core.proofs.Inferences.{in_append, append_left, append_right, in_without, from_without}
+use Rattle.qbf_core.proofs.Members.{in_at, in_take_all, in_append, append_left, append_right, each_more}
+use Rattle.qbf_core.proofs.Inferences.{in_without, from_without}
 use Rattle.qrp_rules.proofs.Cursors.{reach_start, reach_more, reach_in}
 use Rattle.qrp_rules.proofs.resolvent.is_within.Goals as goal
 
@@ -48,15 +48,13 @@ loop-lit-preserved c =
     record {
       left = left';
       right = right';
-      done = λ l h. elim (in_take_more c.args.to.now i x l c.loop-lit-test.true c.lit-item.is h) [
-        | inl k ↦ c.loop-lit.invariant.done l k
-        | inr e ↦ subst (λ (z : Literal). z ∈ resolvent c.args.a.now c.args.b.now c.args.pivot) (sym e) (
-            let t = c.if-not-is_resolved.ensures.0 refl in
-            in_without c.args.pivot (c.args.a.now ++ c.args.b.now) x (elim t.0 [
-              | inl k ↦ append_left c.args.a.now c.args.b.now x (c.loop-lit.invariant.left.within x (c.advance_to-in_a.ensures.found.0 k))
-              | inr k ↦ append_right c.args.a.now c.args.b.now x (c.loop-lit.invariant.right.within x (c.advance_to-in_b.ensures.found.0 k))
-            ]) (λ e. t.1 (c.var.ensures ∙ e)))
-      ];
+      done = each_more (λ (z : Literal). z ∈ resolvent c.args.a.now c.args.b.now c.args.pivot) c.args.to.now i x c.loop-lit-test.true
+          c.lit-item.is (
+          let t = c.if-not-is_resolved.ensures.0 refl in
+          in_without c.args.pivot (c.args.a.now ++ c.args.b.now) x (elim t.0 [
+            | inl k ↦ append_left c.args.a.now c.args.b.now x (c.loop-lit.invariant.left.within x (c.advance_to-in_a.ensures.found.0 k))
+            | inr k ↦ append_right c.args.a.now c.args.b.now x (c.loop-lit.invariant.right.within x (c.advance_to-in_b.ensures.found.0 k))
+          ]) (λ e. t.1 (c.var.ensures ∙ e))) c.loop-lit.invariant.done;
     }
 
 pub returns : goal.returns

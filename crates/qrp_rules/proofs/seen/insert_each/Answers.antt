@@ -1,7 +1,6 @@
 use Rattle.std.proofs.Common.{ℕ, inl, inr}
 use Rattle.qbf_core.specs.Literal.{Literal}
-use Rattle.qbf_core.proofs.Members.{in_take_more}
-use Rattle.qbf_core.proofs.Order.{take_more_in}
+use Rattle.qbf_core.proofs.Members.{in_take_more, take_more_in}
 use Rattle.qrp_rules.proofs.seen.insert_each.Goals as goal
 
 pub loop-lit-preserved : goal.loop-lit-preserved

@@ -2,7 +2,7 @@ use Rattle.std.proofs.Common.{ℕ, ◌⊎◌, refl, sym, subst, inl, inr, ◌∙
 use Rattle.std.proofs.lemmas.Bool.{false≢true}
 use Rattle.qbf_core.specs.Literal.{Literal}
 use Rattle.qbf_core.specs.Members.{◌∈◌}
-use Rattle.qbf_core.proofs.Members.{in_at, in_take_more, in_take_all}
+use Rattle.qbf_core.proofs.Members.{in_at, in_take_all, each_more}
 use Rattle.qrp_rules.specs.Walks.{MayLack}
 use Rattle.qrp_rules.proofs.Cursors.{reach_start, reach_more, reach_in}
 use Rattle.qrp_rules.proofs.walks.is_covered.Goals as goal
@@ -38,10 +38,8 @@ loop-lit-preserved c =
     record {
       reach = reach_more c.args.to.now c.loop-lit.rest.now _ c.args.from.now i x.var x c.requires.from c.loop-lit-test.true c.lit-item.is
           c.loop-lit.invariant.reach c.advance_to-kept.ensures.ordered c.advance_to-kept.ensures.within refl c.advance_to-kept.ensures.kept;
-      done = λ m h. elim (in_take_more c.args.from.now i x m c.loop-lit-test.true c.lit-item.is h) [
-        | inl k ↦ c.loop-lit.invariant.done m k
-        | inr e ↦ subst (λ (z : Literal). (z ∈ c.args.to.now) ⊎ MayLack c.args.prefix.now c.args.reducible c.args.pivot z.var) (sym e) is
-      ];
+      done = each_more (λ (z : Literal). (z ∈ c.args.to.now) ⊎ MayLack c.args.prefix.now c.args.reducible c.args.pivot z.var)
+          c.args.from.now i x c.loop-lit-test.true c.lit-item.is is c.loop-lit.invariant.done;
     }
 
 pub returns : goal.returns

@@ -2,7 +2,7 @@ use Rattle.std.proofs.Common.{◌⊎◌, refl, inl, inr, arith, List}
 use Rattle.std.proofs.lemmas.Bool.{false≢true}
 use Rattle.qbf_core.specs.Literal.{Literal}
 use Rattle.qbf_core.specs.Members.{◌∈◌, ◌⊆◌}
-use Rattle.qrp_rules.proofs.Reducing.{each_reducible, each_accounted}
+use Rattle.qrp_rules.proofs.Reducing.{each_reducible}
 use Rattle.qrp_rules.proofs.OrderedLists.{ordered_whole}
 use Rattle.qrp_rules.proofs.walks.ordered_reduct_fault_by.Goals as goal
 
@@ -18,8 +18,9 @@ returns-then-not-is_covered-2 c = λ side er ed.
     inr (
       subset c.args.to.now c.args.from.now (c.if-not-is_covered.ensures.0 refl),
       inl (
-        (λ all. false≢true (c.if-not-is_covered-2.ensures.1 (each_accounted side c.args.prefix.now c.args.reduced c.args.deciding
-            c.innermost.result er ed c.args.from.now c.args.to.now c.innermost.ensures all))),
+        (λ all. false≢true (c.if-not-is_covered-2.ensures.1 ((each_reducible side c.args.prefix.now
+            (record { quantifier = c.args.reduced; block = c.innermost.result }) c.args.deciding c.args.from.now c.args.to.now er ed
+            c.innermost.ensures).1 all))),
         refl,
       ),
     )
@@ -39,8 +40,8 @@ pub returns : goal.returns
 returns c = λ side er ed. (
   subset c.args.to.now c.args.from.now (c.if-not-is_covered.ensures.0 refl),
   (
-    each_reducible side c.args.prefix.now c.args.reduced c.args.deciding c.innermost.result er ed c.args.from.now c.args.to.now
-        c.innermost.ensures (c.if-not-is_covered-2.ensures.0 refl),
+    (each_reducible side c.args.prefix.now (record { quantifier = c.args.reduced; block = c.innermost.result }) c.args.deciding
+        c.args.from.now c.args.to.now er ed c.innermost.ensures).0 (c.if-not-is_covered-2.ensures.0 refl),
     tt,
   ),
 )

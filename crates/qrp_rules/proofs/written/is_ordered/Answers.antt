@@ -2,11 +2,11 @@ use Rattle.std.proofs.Common.{◌≡◌, ◌<◌, ◌≤◌, ℕ, refl, sym, ap,
 use Rattle.std.proofs.lemmas.Bool.{false≢true}
 use Rattle.qbf_core.specs.Literal.{Literal}
 use Rattle.qbf_core.specs.Sets.{IsOrdered}
-use Rattle.qbf_core.proofs.Members.{in_take_more}
-use Rattle.qbf_core.proofs.Order.{take_more_in}
-use Rattle.qrp_rules.proofs.ReducedForms.{taken_below}
-use Rattle.qrp_rules.proofs.OrderedLists.{ordered_taken, taken_whole}
+use Rattle.qbf_core.proofs.Members.{in_take_more, take_more_in}
+use Rattle.qrp_rules.proofs.OrderedLists.{ordered_taken}
 use Rattle.qrp_rules.proofs.written.is_ordered.Goals as goal
+use Rattle.std.proofs.lemmas.List.{take_all}
+use Rattle.qrp_rules.proofs.Clashing.{taken_below}
 
 pub loop-lit-init : goal.loop-lit-init
 loop-lit-init c = record { ordered = tt; below = λ m h. absurd h; reached = inl refl }
@@ -46,4 +46,4 @@ loop-lit-preserved c =
 
 pub returns : goal.returns
 returns c =
-    (λ _. subst IsOrdered (taken_whole c.args.lits.now c.loop-lit.lit-index c.loop-lit-test.false) c.loop-lit.invariant.ordered, λ _. refl)
+    (λ _. subst IsOrdered (take_all c.loop-lit.lit-index c.args.lits.now c.loop-lit-test.false) c.loop-lit.invariant.ordered, λ _. refl)

@@ -1,8 +1,0 @@
-use Rattle.std.proofs.Common.{take, ◌≡◌}
-use Rattle.qbf_core.specs.Literal.{Literal}
-use Rattle.qbf_core.specs.Members.{◌∈◌}
-use Rattle.qrp_rules.specs.Seen.{Has}
-use Rattle.qrp_rules.proofs.any_order.are_seen_without.Given as goal
-
-abbrev pub invariant-loop-lit : goal.invariant-loop-lit
-invariant-loop-lit l = (m : Literal) → m ∈ take l.lit-index l.lits → Has l.seen m × (m.var ≡ l.var → ⊥)

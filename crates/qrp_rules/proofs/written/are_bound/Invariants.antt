@@ -1,8 +1,0 @@
-use Rattle.std.proofs.Common.{take}
-use Rattle.qbf_core.specs.Literal.{Literal}
-use Rattle.qbf_core.specs.Members.{◌∈◌}
-use Rattle.qbf_core.specs.Blocks.{IsBound}
-use Rattle.qrp_rules.proofs.written.are_bound.Given as goal
-
-abbrev pub invariant-loop-lit : goal.invariant-loop-lit
-invariant-loop-lit l = (m : Literal) → m ∈ take l.lit-index l.lits → IsBound l.prefix m.var
