@@ -1,5 +1,7 @@
--- The front of a list, and a sign as a number.
-use Rattle.std.proofs.Common.{◌≡◌, ℕ, ◌≤◌, List, take, sym, ap, ◌∙◌, arith, take-take, Bool, true, false}
+-- The front of a list, a sign as a number, and how many digits a number has.
+use Rattle.std.proofs.Common.{◌≡◌, ℕ, ◌≤◌, ◌<◌, ◌^◌, List, length, take, sym, ap, ◌∙◌, arith, take-take, Bool, true, false}
+use Rattle.std.proofs.lemmas.Fmt.{length-decimal-le}
+use Rattle.std.specs.Fmt.{decimal}
 use mir.Val.{bool_byte}
 
 pub shorter : (i n : ℕ) (xs ys : List ℕ) → i ≤ n → take n xs ≡ take n ys → take i xs ≡ take i ys
@@ -8,3 +10,6 @@ shorter i n xs ys less same = sym (take-take i n xs less) ∙ ap (take i) same �
 pub at_most_one : (negative : Bool) → bool_byte negative ≤ 1
 at_most_one true = omega arith
 at_most_one false = omega arith
+
+pub few_digits : (n : ℕ) → n < 2 ^ 64 → length (decimal n) ≤ 20
+few_digits n small = length-decimal-le 20 n (omega arith) (omega (arith, small)) small

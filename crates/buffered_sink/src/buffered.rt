@@ -18,18 +18,18 @@ const ROOM: usize = 8192;
 /// How many digits a number has at most.
 const LONGEST: usize = 20;
 
-/// How many bytes a number takes at most behind a blank and a minus.
+/// How many bytes a number takes at most after a blank and a minus.
 const LONGEST_SPACED: usize = LONGEST + 2;
 
 /// The bytes that are held back.
 #[derive(Drop)]
-struct Held {
+struct Buffer {
     bytes: [u8; ROOM],
     start: usize,
     end: usize,
 }
 
-impl Model for Held {
+impl Model for Buffer {
     ghost Value = { List ℕ };
 
     ghost view = { λ h. take (h.end - h.start) (drop h.start h.bytes) };
@@ -37,12 +37,12 @@ impl Model for Held {
     ghost invariant = { λ h. (h.start ≤ h.end) × (h.end ≤ 8192) };
 }
 
-impl Held {
+impl Buffer {
     /// No bytes.
-    fn new() -> Held
+    fn new() -> Buffer
         ensures { result ≡ [] }
     {
-        Held {
+        Buffer {
             bytes: [0; ROOM],
             start: 0,
             end: 0,
@@ -93,7 +93,7 @@ impl Held {
         true
     }
 
-    /// Adds a number behind a blank, directly after a minus if it is negative, where there is room
+    /// Adds a number after a blank, directly after a minus if it is negative, where there is room
     /// for any number, and returns whether there was.
     #[inline(always)]
     fn append_spaced(&mut self, negative: bool, n: u64) -> bool
@@ -108,7 +108,7 @@ impl Held {
         true
     }
 
-    /// Holds a number back, behind a blank, where nothing is held.
+    /// Holds a number back, after a blank, where nothing is held.
     fn begin_with_spaced(&mut self, negative: bool, n: u64)
         requires { self.old ≡ [] }
         ensures { self.new ≡ 32 ∷ spelled (Number negative n) }
@@ -151,7 +151,7 @@ impl Held {
 #[derive(Drop)]
 pub struct Buffered<S> {
     sink: S,
-    held: Held,
+    buffer: Buffer,
 }
 
 impl<S: Sink> Buffered<S> {
@@ -162,23 +162,23 @@ impl<S: Sink> Buffered<S> {
     {
         Buffered {
             sink,
-            held: Held::new(),
+            buffer: Buffer::new(),
         }
     }
 
     /// Sends on what is held back.
-    fn send_on(&mut self) -> Result<(), SinkFault>
+    fn flush_buffer(&mut self) -> Result<(), SinkFault>
         ensures bytes { Keeps (⟦<Buffered<S> as Sink>⟧.written self.old)
             (⟦<Buffered<S> as Sink>⟧.written self.new) }
         ensures ok { OnOk result (S.failures self.new.sink ≡ S.failures self.old.sink) }
         ensures err { OnErr result (S.failures self.old.sink < 2 ^ 64 - 1
             → S.failures self.old.sink < S.failures self.new.sink) }
         ensures stays { S.failures self.old.sink ≤ S.failures self.new.sink }
-        ensures empty { OnOk result (self.new.held ≡ []) }
+        ensures empty { OnOk result (self.new.buffer ≡ []) }
     {
-        while !self.held.as_slice().is_empty() {
-            let n = self.sink.push(self.held.as_slice())?;
-            self.held.advance(n);
+        while !self.buffer.as_slice().is_empty() {
+            let n = self.sink.push(self.buffer.as_slice())?;
+            self.buffer.advance(n);
         }
         Ok(())
     }
@@ -187,7 +187,7 @@ impl<S: Sink> Buffered<S> {
     /// be some.
     #[cold]
     #[inline(never)]
-    fn push_behind(&mut self, bytes: &[u8]) -> Result<usize, SinkFault>
+    fn flush_then_push(&mut self, bytes: &[u8]) -> Result<usize, SinkFault>
         requires { 0 < length bytes.now }
         ensures some { IfOk result (λ n. 0 < n) }
         ensures fits { IfOk result (λ n. n ≤ length bytes.now) }
@@ -198,88 +198,88 @@ impl<S: Sink> Buffered<S> {
             → S.failures self.old.sink < S.failures self.new.sink) }
         ensures stays { S.failures self.old.sink ≤ S.failures self.new.sink }
     {
-        self.send_on()?;
-        Ok(self.held.append_some(bytes))
+        self.flush_buffer()?;
+        Ok(self.buffer.append_some(bytes))
     }
 
     /// Sends on what is held back, and then the bytes.
     #[cold]
     #[inline(never)]
-    fn push_all_behind(&mut self, bytes: &[u8]) -> Result<(), SinkFault>
+    fn flush_then_push_all(&mut self, bytes: &[u8]) -> Result<(), SinkFault>
         ensures { IsPut (⟦<Buffered<S> as Sink>⟧.written)
             (⟦<Buffered<S> as Sink>⟧.failures) self.old self.new bytes.now result }
     {
-        self.send_on()?;
+        self.flush_buffer()?;
         self.sink.push_all(bytes)
     }
 
     /// Sends on what is held back, and then holds the digits of a number back.
     #[cold]
     #[inline(never)]
-    fn push_number_behind(&mut self, n: u64) -> Result<(), SinkFault>
+    fn flush_then_push_number(&mut self, n: u64) -> Result<(), SinkFault>
         ensures { IsPut (⟦<Buffered<S> as Sink>⟧.written)
             (⟦<Buffered<S> as Sink>⟧.failures) self.old self.new (decimal n) result }
     {
-        self.send_on()?;
-        self.held.begin_with(n);
+        self.flush_buffer()?;
+        self.buffer.begin_with(n);
         Ok(())
     }
 
-    /// Sends on what is held back, and then holds a number back, behind a blank.
+    /// Sends on what is held back, and then holds a number back, after a blank.
     #[cold]
     #[inline(never)]
-    fn push_spaced_behind(&mut self, negative: bool, n: u64) -> Result<(), SinkFault>
+    fn flush_then_push_spaced(&mut self, negative: bool, n: u64) -> Result<(), SinkFault>
         ensures { IsPut (⟦<Buffered<S> as Sink>⟧.written) (⟦<Buffered<S> as Sink>⟧.failures)
             self.old self.new (32 ∷ spelled (Number negative n)) result }
     {
-        self.send_on()?;
-        self.held.begin_with_spaced(negative, n);
+        self.flush_buffer()?;
+        self.buffer.begin_with_spaced(negative, n);
         Ok(())
     }
 }
 
 impl<S: Sink> Sink for Buffered<S> {
-    ghost written = { λ b. append_known (S.written b.sink) b.held };
+    ghost written = { λ b. append_known (S.written b.sink) b.buffer };
 
     ghost failures = { λ b. S.failures b.sink };
 
-    ghost finished = { λ b. (b.held ≡ []) × S.finished b.sink };
+    ghost finished = { λ b. (b.buffer ≡ []) × S.finished b.sink };
 
     #[inline(always)]
     fn push(&mut self, bytes: &[u8]) -> Result<usize, SinkFault> {
-        if self.held.append(bytes) {
+        if self.buffer.append(bytes) {
             return Ok(bytes.len());
         }
-        self.push_behind(bytes)
+        self.flush_then_push(bytes)
     }
 
     #[inline(always)]
     fn push_all(&mut self, bytes: &[u8]) -> Result<(), SinkFault> {
-        if bytes.is_empty() || self.held.append(bytes) {
+        if bytes.is_empty() || self.buffer.append(bytes) {
             return Ok(());
         }
-        self.push_all_behind(bytes)
+        self.flush_then_push_all(bytes)
     }
 
     #[inline(always)]
     fn push_number(&mut self, n: u64) -> Result<(), SinkFault> {
-        if self.held.append_number(n) {
+        if self.buffer.append_number(n) {
             return Ok(());
         }
-        self.push_number_behind(n)
+        self.flush_then_push_number(n)
     }
 
     #[inline(always)]
     fn push_spaced(&mut self, negative: bool, n: u64) -> Result<(), SinkFault> {
-        if self.held.append_spaced(negative, n) {
+        if self.buffer.append_spaced(negative, n) {
             Ok(())
         } else {
-            self.push_spaced_behind(negative, n)
+            self.flush_then_push_spaced(negative, n)
         }
     }
 
     fn finish(&mut self) -> Result<(), SinkFault> {
-        self.send_on()?;
+        self.flush_buffer()?;
         self.sink.finish()
     }
 }

@@ -14,15 +14,26 @@ use std::alloc::Global;
 use std::process::Abort;
 use std::test::Fail;
 
-const FALSE_FORMULA: &[u8] = b"p cnf 2 2\ne 1 0\na 2 0\n1 2 0\n-1 2 0\n";
+/// A formula and a trace.
+type Texts<'a> = (&'a [u8], &'a [u8]);
 
-const REFUTATION: &[u8] =
-    b"p qrp 2 5\ne 1 0\na 2 0\n1 1 2 0 0\n2 -1 2 0 0\n3 1 0 1 0\n4 -1 0 2 0\n5 0 3 4 0\nr unsat\n";
+/// A false formula and its refutation.
+const FALSE: Texts<'static> = (
+    b"p cnf 2 2\ne 1 0\na 2 0\n1 2 0\n-1 2 0\n",
+    b"p qrp 2 5\ne 1 0\na 2 0\n1 1 2 0 0\n2 -1 2 0 0\n3 1 0 1 0\n4 -1 0 2 0\n5 0 3 4 0\nr unsat\n",
+);
 
-const TRUE_FORMULA: &[u8] = b"p cnf 2 2\na 1 0\ne 2 0\n1 -2 0\n-1 2 0\n";
+/// A true formula and its proof.
+const TRUE: Texts<'static> = (
+    b"p cnf 2 2\na 1 0\ne 2 0\n1 -2 0\n-1 2 0\n",
+    b"p qrp 2 5\n1 1 2 0 0\n2 -1 -2 0 0\n3 1 0 1 0\n4 -1 0 2 0\n5 0 3 4 0\nr sat\n",
+);
 
-const PROOF_OF_TRUTH: &[u8] =
-    b"p qrp 2 5\n1 1 2 0 0\n2 -1 -2 0 0\n3 1 0 1 0\n4 -1 0 2 0\n5 0 3 4 0\nr sat\n";
+/// A formula without a clause, and a proof by its universal variable.
+const RESOLVED: Texts<'static> = (
+    b"p cnf 1 0\na 1 0\n",
+    b"p qrp 1 3\n1 1 0 0\n2 -1 0 0\n3 0 1 2 0\nr sat\n",
+);
 
 /// A clause without literals.
 const EMPTY_CLAUSE: &[u8] = b"p cnf 0 1\n0\n";
@@ -41,59 +52,46 @@ fn trace_of(alloc: Global, text: &[u8]) -> Result<Trace, Fail> {
 fn checked(
     alloc: Global,
     rules: Rules,
-    formula: &[u8],
-    trace: &[u8],
+    texts: Texts<'_>,
 ) -> Result<Result<Verified, CheckFault>, Fail> {
-    let formula = formula_of(alloc, formula)?;
-    let trace = trace_of(alloc, trace)?;
+    let formula = formula_of(alloc, texts.0)?;
+    let trace = trace_of(alloc, texts.1)?;
     Ok(check(alloc, &formula, &trace, trace.sets(), trace.result(), rules))
 }
 
 /// The result for the same bytes.
-fn verified(alloc: Global, rules: Rules, formula: &[u8], trace: &[u8]) -> Result<Verified, Fault> {
-    let mut source = SliceSource::new(formula);
-    verify(alloc, &mut source, &mut SliceSource::new(trace), rules)
+fn verified(alloc: Global, rules: Rules, texts: Texts<'_>) -> Result<Verified, Fault> {
+    let mut source = SliceSource::new(texts.0);
+    verify(alloc, &mut source, &mut SliceSource::new(texts.1), rules)
 }
 
-/// Compares what was found with a truth and the places of a core.
-fn expect(rt: &impl Abort, found: &Verified, truth: bool, core: &[usize]) {
+/// Compares what was found with a truth and the positions of a core.
+fn assert_found(rt: &impl Abort, found: &Verified, truth: bool, core: &[usize]) {
     assert_eq!(rt; found.truth, truth);
     assert_eq!(rt; found.core.as_slice(), core);
 }
 
 /// Checks the trace of a text, and verifies the same bytes, by both rules.
-fn verifies(
-    rt: &impl Abort,
-    alloc: Global,
-    formula: &[u8],
-    trace: &[u8],
+fn assert_verified(
+    rt: &(impl Abort + AllocGlobal),
+    texts: Texts<'_>,
     truth: bool,
     core: &[usize],
 ) -> Result<(), Fail> {
     for rules in [Rules::plain(), Rules::any_pivot()] {
-        let found = checked(alloc, rules, formula, trace)??;
-        expect(rt, &found, truth, core);
-        let found = verified(alloc, rules, formula, trace)?;
-        expect(rt, &found, truth, core);
+        let found = checked(rt.alloc(), rules, texts)??;
+        assert_found(rt, &found, truth, core);
+        let found = verified(rt.alloc(), rules, texts)?;
+        assert_found(rt, &found, truth, core);
     }
     Ok(())
 }
 
 #[test]
 fn verifies_proofs(rt: HostRuntime) -> Result<(), Fail> {
-    let alloc = rt.alloc();
-    let all = [0usize, 1, 2, 3, 4];
-    verifies(&rt, alloc, FALSE_FORMULA, REFUTATION, false, &all)?;
-    verifies(&rt, alloc, TRUE_FORMULA, PROOF_OF_TRUTH, true, &all)?;
-    let resolved = b"p qrp 1 3\n1 1 0 0\n2 -1 0 0\n3 0 1 2 0\nr sat\n";
-    verifies(
-        &rt,
-        alloc,
-        b"p cnf 1 0\na 1 0\n",
-        resolved,
-        true,
-        &[0, 1, 2],
-    )
+    assert_verified(&rt, FALSE, false, &[0, 1, 2, 3, 4])?;
+    assert_verified(&rt, TRUE, true, &[0, 1, 2, 3, 4])?;
+    assert_verified(&rt, RESOLVED, true, &[0, 1, 2])
 }
 
 /// Sends a step without literals that follows from an earlier one.
@@ -124,17 +122,16 @@ fn chain(alloc: Global, back: u64) -> Result<VecSink, Fail>
 
 #[test]
 fn follows_a_long_chain(rt: HostRuntime) -> Result<(), Fail> {
-    let alloc = rt.alloc();
     for back in [1u64, 2, 7] {
-        let mut core = Vec::new(alloc);
-        for place in 0..10_000usize {
-            // The last step is at the place 9,999.
-            if (9_999 - place as u64) % back == 0 {
-                core.push(place)?;
+        let mut core = Vec::new(rt.alloc());
+        for position in 0..10_000usize {
+            // The last step is at the position 9,999.
+            if (9_999 - position as u64) % back == 0 {
+                core.push(position)?;
             }
         }
-        let text = chain(alloc, back)?;
-        verifies(&rt, alloc, EMPTY_CLAUSE, text.bytes(), false, &core)?;
+        let text = chain(rt.alloc(), back)?;
+        assert_verified(&rt, (EMPTY_CLAUSE, text.bytes()), false, &core)?;
     }
     Ok(())
 }
@@ -156,38 +153,36 @@ fn trim_on(alloc: Global, rules: Rules, formula: &Formula, whole: &Trace) -> Res
 }
 
 /// The same of two texts.
-fn trimmed(alloc: Global, rules: Rules, formula: &[u8], trace: &[u8]) -> Result<Trace, Fail> {
-    let formula = formula_of(alloc, formula)?;
-    let whole = trace_of(alloc, trace)?;
+fn trimmed(alloc: Global, rules: Rules, texts: Texts<'_>) -> Result<Trace, Fail> {
+    let formula = formula_of(alloc, texts.0)?;
+    let whole = trace_of(alloc, texts.1)?;
     trim_on(alloc, rules, &formula, &whole)
 }
 
 #[test]
 fn keeps_what_the_goal_needs(rt: HostRuntime) -> Result<(), Fail> {
-    let alloc = rt.alloc();
     for rules in [Rules::plain(), Rules::any_pivot()] {
-        let left = trimmed(alloc, rules, FALSE_FORMULA, REFUTATION)?;
-        let mut sink = VecSink::new(alloc, 0)?;
+        let left = trimmed(rt.alloc(), rules, FALSE)?;
+        let mut sink = VecSink::new(rt.alloc(), 0)?;
         assert!(&rt; write_trace(&left, &mut sink).is_ok());
-        assert_eq!(&rt; sink.bytes(), REFUTATION);
+        assert_eq!(&rt; sink.bytes(), FALSE.1);
     }
     Ok(())
 }
 
 /// The trace has the 5,000 steps of even numbers.
-fn is_halved(rt: &impl Abort, left: &Trace) {
+fn assert_halved(rt: &impl Abort, left: &Trace) {
     assert_eq!(rt; left.header().steps, 5_000);
     assert_eq!(rt; left.len(), 5_000);
-    for place in 0..left.len() {
-        assert_eq!(rt; left.number(place), 2 * place as u64 + 2);
+    for position in 0..left.len() {
+        assert_eq!(rt; left.number(position), 2 * position as u64 + 2);
     }
 }
 
 #[test]
 fn leaves_out_every_other_step(rt: HostRuntime) -> Result<(), Fail> {
-    let alloc = rt.alloc();
-    let text = chain(alloc, 2)?;
-    let left = trimmed(alloc, Rules::plain(), EMPTY_CLAUSE, text.bytes())?;
-    is_halved(&rt, &left);
+    let text = chain(rt.alloc(), 2)?;
+    let left = trimmed(rt.alloc(), Rules::plain(), (EMPTY_CLAUSE, text.bytes()))?;
+    assert_halved(&rt, &left);
     Ok(())
 }

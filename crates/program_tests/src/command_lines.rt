@@ -1,6 +1,6 @@
-//! Which command lines ask for a job.
+//! Which command lines ask for a job. Others are words of scripts/parts/words.
 
-use crate::runs::is_same;
+use crate::runs::assert_same;
 use qrp_check::Rules;
 use qrp_program::{Job, request};
 use std::alloc::{AllocError, Global};
@@ -17,71 +17,41 @@ pub fn given(alloc: Global, words: &[&str]) -> Result<Vec<String>, AllocError> {
 
 #[test]
 fn rows_of_the_usage(rt: HostRuntime) -> Result<(), Fail> {
-    let check = Job::Check(Rules::plain());
-    let trim = Job::Trim(Rules::plain());
-    let rows: [(&[&str], Job, usize, Option<usize>); 6] = [
-        (&["format", "-x"], Job::Format, 1, None),
-        (&["format", "--qu"], Job::Format, 1, None),
-        (&["check", "check", "t"], check, 1, Some(2)),
-        (&["trim", "f", "t"], trim, 1, Some(2)),
+    let (check, trim) = (Job::Check(Rules::plain()), Job::Trim(Rules::plain()));
+    let (check_qu, trim_qu) = (
+        Job::Check(Rules::any_pivot()),
+        Job::Trim(Rules::any_pivot()),
+    );
+    let rows: [(&[&str], Option<(Job, usize, Option<usize>)>); 15] = [
+        (&["format", "-x"], Some((Job::Format, 1, None))),
+        (&["format", "--qu"], Some((Job::Format, 1, None))),
+        (&["check", "check", "t"], Some((check, 1, Some(2)))),
+        (&["trim", "f", "t"], Some((trim, 1, Some(2)))),
         // Of three arguments none is the flag.
-        (&["check", "f", "--qu"], check, 1, Some(2)),
-        (&["check", "--qu", "t"], check, 1, Some(2)),
+        (&["check", "f", "--qu"], Some((check, 1, Some(2)))),
+        (&["check", "--qu", "t"], Some((check, 1, Some(2)))),
+        (&["check", "--qu", "f", "t"], Some((check_qu, 2, Some(3)))),
+        (&["check", "f", "t", "--qu"], Some((check_qu, 1, Some(2)))),
+        (
+            &["check", "--qu", "--qu", "--qu"],
+            Some((check_qu, 2, Some(3))),
+        ),
+        (
+            &["check", "--qu", "f", "--qu"],
+            Some((check_qu, 2, Some(3))),
+        ),
+        (
+            &["check", "f", "--qu", "--qu"],
+            Some((check_qu, 1, Some(2))),
+        ),
+        (&["trim", "--qu", "f", "t"], Some((trim_qu, 2, Some(3)))),
+        (&["trim", "f", "t", "--qu"], Some((trim_qu, 1, Some(2)))),
+        (&["check", "f", "--qu", "t"], None),
+        (&["--qu", "check", "f", "t"], None),
     ];
-    for (row, job, formula, trace) in rows {
+    for (row, wanted) in rows {
         let words = given(rt.alloc(), row)?;
-        is_same(&rt, request(&words), Some((job, formula, trace)), &row);
-    }
-    Ok(())
-}
-
-#[test]
-fn rows_with_the_flag(rt: HostRuntime) -> Result<(), Fail> {
-    let check = Job::Check(Rules::any_pivot());
-    let trim = Job::Trim(Rules::any_pivot());
-    let rows: [(&[&str], Job, usize, usize); 7] = [
-        (&["check", "--qu", "f", "t"], check, 2, 3),
-        (&["check", "f", "t", "--qu"], check, 1, 2),
-        (&["check", "--qu", "--qu", "--qu"], check, 2, 3),
-        (&["check", "--qu", "f", "--qu"], check, 2, 3),
-        (&["check", "f", "--qu", "--qu"], check, 1, 2),
-        (&["trim", "--qu", "f", "t"], trim, 2, 3),
-        (&["trim", "f", "t", "--qu"], trim, 1, 2),
-    ];
-    for (row, job, formula, trace) in rows {
-        let words = given(rt.alloc(), row)?;
-        is_same(
-            &rt,
-            request(&words),
-            Some((job, formula, Some(trace))),
-            &row,
-        );
-    }
-    Ok(())
-}
-
-#[test]
-fn other_words(rt: HostRuntime) -> Result<(), Fail> {
-    let rows: [&[&str]; 15] = [
-        &[],
-        &["format"],
-        &["format", "f", "t"],
-        &["format", "--qu", "f"],
-        &["format", "f", "--qu"],
-        &["Format", "f"],
-        &["check"],
-        &["check", "f"],
-        &["check", "f", "--qu", "t"],
-        &["check", "f", "t", "--QU"],
-        &["check", "f", "t", "u"],
-        &["check", "--qu", "f", "t", "--qu"],
-        &["--qu", "check", "f", "t"],
-        &["trim", "f"],
-        &["trim", "f", "--qu", "t"],
-    ];
-    for row in rows {
-        let words = given(rt.alloc(), row)?;
-        is_same(&rt, request(&words), None, &row);
+        assert_same(&rt, request(&words), wanted, &row);
     }
     Ok(())
 }

@@ -9,7 +9,3 @@ mod command_lines;
 mod programs;
 #[cfg(test)]
 mod runs;
-#[cfg(test)]
-mod sets;
-#[cfg(test)]
-mod unpulled;

@@ -4,11 +4,10 @@ ghost use Rattle.std.specs.Prelude.{◌≡◌, ◌≢◌, ◌⊎◌, Some, Ok, E
 ghost use Rattle.qrp_program.specs.declared.unopened.Unopened.{Unopened};
 
 use crate::command_lines::given;
-use crate::runs::{is_same, sinks};
+use crate::runs::{assert_same, sinks};
 use qbf_text::{FromRead, PieceSink, VecSink};
 use qrp_program::{LIMIT, Open, Start, Status, Unopened, program};
 use std::alloc::Global;
-use std::process::Abort;
 use std::test::Fail;
 
 /// Two files in memory: `f` is a formula and `t` a trace. An allocation fails for `m`, and no other
@@ -47,157 +46,86 @@ const FORMULA: &[u8] = b"p cnf 2 3\na 1 0\ne 2 0\n1 2 0\n-1 2 0\n-2 0\n";
 const TRACE: &[u8] =
     b"p qrp 2 5\n1 1 2 0 0\n2 -1 2 0 0\n3 -2 0 0\n4 2 0 1 2 0\n5 0 4 3 0\nr unsat\n";
 
+const FILES: Shelf<'static> = Shelf {
+    formula: FORMULA,
+    trace: TRACE,
+};
+
 /// What the program writes on these arguments, and its status.
-fn answer_to(
-    alloc: Global,
-    files: &Shelf<'_>,
-    words: &[&str],
-) -> Result<(VecSink, VecSink, Status), Fail> {
+fn answer_to(alloc: Global, words: &[&str]) -> Result<(VecSink, VecSink, Status), Fail> {
     let (mut out, mut err) = sinks(alloc)?;
     let words = given(alloc, words)?;
-    let status = program(alloc, files, Ok(words), &mut out, &mut err);
+    let status = program(alloc, &FILES, Ok(words), &mut out, &mut err);
     Ok((out, err, status))
-}
-
-/// Checks what the program writes on these arguments over this formula and the trace.
-fn expect<R: Abort + AllocGlobal>(
-    rt: &R,
-    formula: &[u8],
-    words: &[&str],
-    wanted: (&[u8], &[u8], Status),
-) -> Result<(), Fail> {
-    let files = Shelf {
-        formula,
-        trace: TRACE,
-    };
-    let (out, err, status) = answer_to(rt.alloc(), &files, words)?;
-    is_same(rt, (out.bytes(), err.bytes(), status), wanted, &words);
-    Ok(())
 }
 
 /// Words of a command line, what goes to the two sinks, and the status.
 type Answer = (
     &'static [&'static str],
-    (&'static [u8], &'static [u8], Status),
+    &'static [u8],
+    &'static [u8],
+    Status,
 );
 
 const REFUSED: &[u8] = b"REFUSED step 4 S10\n";
 
 const VERIFIED: &[u8] = b"VERIFIED false\n";
 
-const NO_FORMULA: &[u8] = b"REFUSED formula F2 line 1\n";
-
-const COMMANDS_AND_FLAGS: &[Answer] = &[
-    (&["format", "f"], (FORMULA, b"", 0)),
-    (&["check", "f", "t"], (REFUSED, b"", 1)),
-    (&["check", "--qu", "f", "t"], (VERIFIED, b"", 0)),
-    (&["check", "f", "t", "--qu"], (VERIFIED, b"", 0)),
-    (&["trim", "f", "t"], (b"", REFUSED, 1)),
-    (&["trim", "--qu", "f", "t"], (TRACE, b"", 0)),
-    (&["trim", "f", "t", "--qu"], (TRACE, b"", 0)),
-    // The trace is no formula.
-    (&["check", "t", "f"], (NO_FORMULA, b"", 2)),
-    (&["trim", "t", "f"], (b"", NO_FORMULA, 2)),
-    (&["format", "t"], (b"", NO_FORMULA, 2)),
-];
-
-/// Checks what the program writes on each of these command lines.
-fn expect_all<R: Abort + AllocGlobal>(
-    rt: &R,
-    formula: &[u8],
-    answers: &[Answer],
-) -> Result<(), Fail> {
-    for (words, wanted) in answers {
-        expect(rt, formula, words, *wanted)?;
-    }
-    Ok(())
-}
-
-#[test]
-fn commands_and_flags(rt: HostRuntime) -> Result<(), Fail> {
-    expect_all(&rt, FORMULA, COMMANDS_AND_FLAGS)
-}
-
-const NO_FORMULA_FILE: &[u8] = b"DEVICE formula\n";
-
-const NO_TRACE_FILE: &[u8] = b"DEVICE trace\n";
-
-/// The formula has no text: a fault of it is reported only where the trace is there.
-const MISSING_TRACES: &[Answer] = &[
-    (
-        &["check", "f", "t"],
-        (b"REFUSED formula F7 line 1\n", b"", 2),
-    ),
-    (&["check", "f", "x"], (NO_TRACE_FILE, b"", 3)),
-    (&["trim", "f", "x"], (b"", NO_TRACE_FILE, 3)),
-];
-
-const MISSING_FORMULAS: &[Answer] = &[
-    (&["check", "x", "t"], (NO_FORMULA_FILE, b"", 3)),
-    (&["check", "x", "y"], (NO_FORMULA_FILE, b"", 3)),
-    (&["trim", "x", "t"], (b"", NO_FORMULA_FILE, 3)),
-    (&["trim", "x", "--qu"], (b"", NO_FORMULA_FILE, 3)),
-    (&["format", "x"], (b"", NO_FORMULA_FILE, 3)),
-];
-
-#[test]
-fn missing_files(rt: HostRuntime) -> Result<(), Fail> {
-    expect_all(&rt, b"", MISSING_TRACES)?;
-    expect_all(&rt, FORMULA, MISSING_FORMULAS)
-}
-
 const NO_MEMORY: &[u8] = b"NO MEMORY\n";
 
-const REFUSED_MEMORY: &[Answer] = &[
-    (&["check", "m", "x"], (NO_MEMORY, b"", 4)),
-    (&["check", "f", "m"], (NO_MEMORY, b"", 4)),
-    (&["trim", "m", "x"], (b"", NO_MEMORY, 4)),
-    (&["trim", "f", "m"], (b"", NO_MEMORY, 4)),
-    (&["format", "m"], (b"", NO_MEMORY, 4)),
+const NO_FILE: &[u8] = b"DEVICE trace\n";
+
+const ANSWERS: &[Answer] = &[
+    (&["format", "f"], FORMULA, b"", 0),
+    (&["check", "f", "t"], REFUSED, b"", 1),
+    (&["check", "--qu", "f", "t"], VERIFIED, b"", 0),
+    (&["check", "f", "t", "--qu"], VERIFIED, b"", 0),
+    (&["trim", "f", "t"], b"", REFUSED, 1),
+    (&["trim", "--qu", "f", "t"], TRACE, b"", 0),
+    (&["trim", "f", "t", "--qu"], TRACE, b"", 0),
+    (&["check", "f", "x"], NO_FILE, b"", 3),
+    (&["trim", "f", "x"], b"", NO_FILE, 3),
+    // An allocation fails while a file is opened.
+    (&["check", "m", "x"], NO_MEMORY, b"", 4),
+    (&["check", "f", "m"], NO_MEMORY, b"", 4),
+    (&["trim", "m", "x"], b"", NO_MEMORY, 4),
+    (&["trim", "f", "m"], b"", NO_MEMORY, 4),
+    (&["format", "m"], b"", NO_MEMORY, 4),
+    (&["x", "f", "t"], b"", b"USAGE\n", 5),
 ];
 
 #[test]
-fn files_that_memory_is_refused_for(rt: HostRuntime) -> Result<(), Fail> {
-    expect_all(&rt, FORMULA, REFUSED_MEMORY)
-}
-
-#[test]
-fn other_words(rt: HostRuntime) -> Result<(), Fail> {
-    let rows: [&[&str]; 5] = [
-        &[],
-        &["check", "f"],
-        &["format", "f", "--qu"],
-        &["trim", "f", "t", "qu"],
-        &["x", "f", "t"],
-    ];
-    for words in rows {
-        expect(&rt, FORMULA, words, (b"", b"USAGE\n", 5))?;
+fn answers_to_command_lines(rt: HostRuntime) -> Result<(), Fail> {
+    for (words, to_out, to_err, wanted) in ANSWERS {
+        let (out, err, status) = answer_to(rt.alloc(), words)?;
+        assert_same(
+            &rt,
+            (out.bytes(), err.bytes(), status),
+            (*to_out, *to_err, *wanted),
+            words,
+        );
     }
     Ok(())
 }
 
 /// Runs the program with an error sink of this room, where the arguments were not read.
 fn no_words(alloc: Global, start: Start, room: Option<u64>) -> Result<(PieceSink, Status), Fail> {
-    let files = Shelf {
-        formula: FORMULA,
-        trace: TRACE,
-    };
     let mut out = VecSink::new(alloc, 0)?;
     let mut err = PieceSink::new(alloc, 4, room, false, 0)?;
-    let status = program(alloc, &files, Err(start), &mut out, &mut err);
+    let status = program(alloc, &FILES, Err(start), &mut out, &mut err);
     Ok((err, status))
 }
 
 #[test]
 fn words_that_are_not_got(rt: HostRuntime) -> Result<(), Fail> {
     let rows: [(Start, Option<u64>, &[u8], Status); 2] = [
-        (Start::NoMemory, None, b"NO MEMORY\n", 4),
+        (Start::NoMemory, None, NO_MEMORY, 4),
         // The status stays where the line does not go out.
         (Start::Usage, Some(3), b"USA", 5),
     ];
     for (start, room, line, wanted) in rows {
         let (err, status) = no_words(rt.alloc(), start, room)?;
-        is_same(&rt, (err.bytes(), status), (line, wanted), &start);
+        assert_same(&rt, (err.bytes(), status), (line, wanted), &start);
     }
     Ok(())
 }

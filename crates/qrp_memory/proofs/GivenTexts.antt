@@ -1,4 +1,4 @@
--- What a caller gets, from what was put into its buffers.
+-- The numbers of the steps at some places, and the line of what was told.
 use Rattle.std.proofs.Common.{◌≡◌, Bool, Option, Some, Ok, Err, refl, ℕ, ◌+◌, ◌<◌, ◌≤◌, List, [], ◌∷◌, ◌++◌, length, take, drop, get_or, ap, ◌∙◌, subst, sym}
 use Rattle.std.proofs.lemmas.List.{map-append}
 use Rattle.std.proofs.lemmas.Option.{slice_get-get_or}
@@ -16,19 +16,6 @@ use Rattle.qrp_report.specs.OfFaults.{IsOfFault}
 use Rattle.qrp_report.specs.Refusals.{refusal_of}
 use Rattle.qrp_memory.specs.declared.verdict.QrpVerdict.{QrpVerdict}
 use Rattle.qrp_memory.specs.Told.{IsTold, told_truth, told_refusal, answer_line}
-use Rattle.qrp_memory.specs.Buffers.{IsWritten, IsListed}
-
--- a text that was put is the one that it is equal to
-pub written : (put text old new : List ℕ) (returned : ℕ) → put ≡ text → returned ≡ length put
-    → (length put < length old → new ≡ put ++ 0 ∷ drop (1 + length put) old) → (length old ≤ length put → new ≡ old)
-    → IsWritten text old new returned
-written put text old new returned is long fits kept = subst (λ (t : List ℕ). IsWritten t old new returned) is (long, fits, kept)
-
--- so are numbers
-pub listed : (put ns old new : List ℕ) (returned : ℕ) → put ≡ ns → returned ≡ length put
-    → (length put ≤ length old → new ≡ put ++ drop (length put) old) → (length old < length put → new ≡ old)
-    → IsListed ns old new returned
-listed put ns old new returned is long fits kept = subst (λ (t : List ℕ). IsListed t old new returned) is (long, fits, kept)
 
 -- the numbers so far, and that of the step at the next place
 pub next_number : (steps : List Inference) (places : List ℕ) (k n : ℕ) (sofar : List ℕ)

@@ -1,35 +1,28 @@
 -- From the headline over an answer to the headline over what is told of it.
-use Rattle.std.proofs.Common.{◌≡◌, ◌↔◌, ℕ, nat_eq, Bool, true, false, IsTrue, List, inl, inr, refl, ap}
+use Rattle.std.proofs.Common.{◌≡◌, ◌↔◌, ℕ, Bool, true, false, IsTrue, List, inl, inr, refl, ap}
 use Rattle.std.specs.Prelude.{◌⊎◌, if◌then◌else◌, Result, Ok, Err, IsOk}
 use Rattle.qbf_core.specs.Truth.{IsTrueFormula}
 use Rattle.qrp_rules.specs.declared.rules.Rules.{Rules}
 use Rattle.qrp_check.specs.declared.verdict.Verified.{Verified}
+use Rattle.qdimacs.specs.declared.fault.FormulaFault.TheVariants.{F1}
+use Rattle.qrp.specs.declared.fault.TraceFault.TheVariants.{P1}
+use Rattle.qrp_check.specs.declared.fault.CheckFault.TheVariants.{C4}
 use Rattle.qrp_check.specs.declared.verdict.Fault.{Fault}
 use Rattle.qrp_check.specs.declared.verdict.Fault.TheVariants as fault
 use Rattle.qrp_check.specs.Verdict.{IsWantOfMemory, IsFormulaDevice, IsTraceDevice}
 use Rattle.qrp_check.specs.Headline as over_answers
-use Rattle.qrp_report.specs.Refusals.{refusal_of}
 use Rattle.qrp_memory.specs.Told.{told, told_fault}
 use Rattle.qrp_memory.specs.Verdicts.{Headline}
 
--- a status, by what is tested
-abbrev tested : Bool → Bool → Bool → Bool → ℕ
-tested a b c d = if a then (if b then 4 else 1) else (if c then 3 else (if d then 4 else 2))
-
-none_is_zero : (a b c d : Bool) → tested a b c d ≡ 0 → ⊥
-none_is_zero true true c d is = cc is
-none_is_zero true false c d is = cc is
-none_is_zero false b true d is = cc is
-none_is_zero false b false true is = cc is
-none_is_zero false b false false is = cc is
-
 not_zero : (e : Fault) → (told_fault e).status ≡ 0 → ⊥
-not_zero e is = let r = refusal_of e in none_is_zero (nat_eq r.letter 67) (nat_eq r.number 5) (nat_eq r.number 1) (nat_eq r.number 9) is
+not_zero (fault.Formula F1 line) is = cc is
+not_zero (fault.Trace P1 line) is = cc is
+not_zero (fault.Check C4) is = cc is
+not_zero other is = cc is
 
 want_is_four : (e : Fault) → IsWantOfMemory (Err e) → (told_fault e).status ≡ 4
 want_is_four (fault.Formula e line) is = rw is refl
-want_is_four (fault.Trace e line) is = rw is refl
-want_is_four (fault.Check c) is = rw is refl
+want_is_four other is = rw is refl
 
 -- the number that tells a truth
 abbrev truth_number : Bool → ℕ

@@ -9,7 +9,7 @@ use Rattle.qbf_text.specs.Written.{AppendsFront, IsPut}
 use Rattle.qrp_check.specs.declared.verdict.Verified.{Verified}
 use Rattle.qrp_check.specs.declared.verdict.Fault.{Fault}
 use Rattle.qrp_report.specs.declared.refusal.Refusal.{Refusal}
-use Rattle.qrp_report.specs.Lines.{refused_line, text_line, set_line, step_line, check_line, refusal_line, verdict_line}
+use Rattle.qrp_report.specs.Lines.{line, numbers_line, text_line, check_line, refusal_line, verdict_line}
 use Rattle.qrp_report.specs.OfFaults.{IsOfFault, NamesVariable}
 use Rattle.qrp_report.specs.Refusals.{refusal_of}
 use Rattle.qrp_memory.specs.Told.{told, answer_line}
@@ -29,41 +29,30 @@ few_digits n low = length-decimal-le 2 n (omega arith) (omega (arith, low)) (ome
 one_digit : (n : ℕ) → n ≤ 9 → length (decimal n) ≤ 1
 one_digit n low = length-decimal-le 1 n (omega arith) (omega (arith, low)) (omega (arith, low))
 
-refused_short : (beginning : List ℕ) (r : Refusal) → length beginning ≤ 17 → r.number ≤ 9 → r.position < 2 ^ 64
-    → length (refused_line beginning r) < 47
-refused_short beginning r short low small =
-    let one = one_digit r.number low in
-    let most = digits r.position small in
-    grind (arith, common_steps, short, one, most)
+numbers_short : (first second : List ℕ) (a b : ℕ) → length first + length (decimal a) + length second + length (decimal b) < 46
+    → length (numbers_line first a second b) < 47
+numbers_short first second a b short = grind (arith, common_steps, short)
 
-text_short : (device beginning : List ℕ) (r : Refusal) → length device ≤ 14 → length beginning ≤ 17 → r.number ≤ 9 → r.position < 2 ^ 64
+text_short : (device beginning : List ℕ) (r : Refusal) → length device < 47 → length beginning ≤ 17 → r.number ≤ 9 → r.position < 2 ^ 64
     → length (text_line device beginning r) < 47
 text_short device beginning r short_device short low small =
-    chosen (nat_eq r.number 1) _ _ (grind (arith, common_steps, short_device))
-    (chosen (nat_eq r.number 9) _ _ (omega arith) (refused_short beginning r short low small))
-
-set_short : (r : Refusal) → r.number ≤ 9 → r.position < 2 ^ 64 → length (set_line r) < 47
-set_short r low small =
-    let one = one_digit r.number low in
-    let most = digits r.position small in
-    grind (arith, common_steps, one, most)
-
-step_short : (r : Refusal) → r.rule ≤ 12 → r.position < 2 ^ 64 → length (step_line r) < 47
-step_short r low small =
-    let two = few_digits r.rule low in
-    let most = digits r.position small in
-    grind (arith, common_steps, two, most)
+    chosen (nat_eq r.number 1) _ _ short_device
+    (chosen (nat_eq r.number 9) _ _ (omega arith)
+    (numbers_short beginning (codes " line ") r.number r.position (omega (arith, short, one_digit r.number low, digits r.position small))))
 
 check_short : (r : Refusal) → r.number ≤ 9 → r.rule ≤ 12 → r.position < 2 ^ 64 → length (check_line r) < 47
 check_short r low rule small =
+    let most = digits r.position small in
     chosen (nat_eq r.number 4) _ _ (omega arith)
     (chosen (nat_eq r.number 5) _ _ (omega arith)
-    (chosen (nat_eq r.number 6) _ _ (step_short r rule small) (set_short r low small)))
+    (chosen (nat_eq r.number 6) _ _
+    (numbers_short (codes "REFUSED step ") (codes " S") r.position r.rule (omega (arith, most, few_digits r.rule rule)))
+    (numbers_short (codes "REFUSED set C") (codes " variable ") r.number r.position (omega (arith, most, one_digit r.number low)))))
 
 by_numbers : (r : Refusal) → r.number ≤ 9 → r.rule ≤ 12 → r.position < 2 ^ 64 → length (refusal_line r) < 47
 by_numbers r low rule small =
-    chosen (nat_eq r.letter 70) _ _ (text_short (codes "DEVICE formula") (codes "REFUSED formula F") r (omega arith) (omega arith) low small)
-    (chosen (nat_eq r.letter 80) _ _ (text_short (codes "DEVICE trace") (codes "REFUSED trace P") r (omega arith) (omega arith) low small)
+    chosen (nat_eq r.letter 70) _ _ (text_short (line (codes "DEVICE formula")) (codes "REFUSED formula F") r (omega arith) (omega arith) low small)
+    (chosen (nat_eq r.letter 80) _ _ (text_short (line (codes "DEVICE trace")) (codes "REFUSED trace P") r (omega arith) (omega arith) low small)
     (check_short r low rule small))
 
 numbers_low : (r : Refusal) → HasNumbers r → (r.number ≤ 9) × (r.rule ≤ 12)

@@ -22,7 +22,7 @@ use Rattle.qrp_memory.specs.Told.{told_fault, told_truth}
 abbrev pub lent : List ℕ → SourceCall
 lent bytes = record { bytes = Some bytes; before = 0; after = 0; unpulled = Unit {0} }
 
--- what is told of a trimmed trace, or of what was refused
+-- the struct for a trimmed trace, or for what was refused
 abbrev pub told_trace : Result Derivation Fault → QrpVerdict
 told_trace (Ok t) = told_truth (is_sat t.result)
 told_trace (Err e) = told_fault e
@@ -37,7 +37,7 @@ abbrev pub step_numbers : Result Derivation Fault → List ℕ
 step_numbers (Ok t) = numbers t.steps
 step_numbers (Err e) = []
 
--- What is told is the truth that a proof shows, or the fault as for a check; the buffer holds the text of the trimmed trace.
+-- The struct has the truth that a proof shows, or the fault as for a check; the buffer holds the text of the trimmed trace.
 pub record IsTrimAnswered (rules : Rules) (formula trace old new : List ℕ) (out : QrpVerdict) (returned : ℕ) : Type 0 where
   pub answer : Result Derivation Fault
   pub trimmed : IsTrimmed rules (lent formula) (lent trace) answer
@@ -53,11 +53,11 @@ pub record IsCoreAnswered (rules : Rules) (formula trace old new : List ℕ) (ou
   pub named : IfErr answer NamesVariable
   pub listed : IsListed (step_numbers answer) old new returned
 
--- what is told where nothing was verified or refused: all zeros
+-- the struct where nothing was verified or refused: all zeros
 abbrev pub told_nothing : QrpVerdict
 told_nothing = record { place = 0; status = 0; truth = 0; letter = 0; number = 0; rule = 0 }
 
--- what is told of a formula's text
+-- the struct for a formula's text
 abbrev pub told_formula : Result Qbf (FormulaFault × ℕ) → QrpVerdict
 told_formula (Ok f) = told_nothing
 told_formula (Err e) = told_fault (fault.Formula e.0 e.1)
@@ -67,7 +67,7 @@ abbrev pub formula_text : Result Qbf (FormulaFault × ℕ) → List ℕ
 formula_text (Ok f) = formulas.text f
 formula_text (Err e) = []
 
--- What is told is nothing or the formula's fault; the buffer holds the canonical text of the formula.
+-- The struct has zeros or the formula's fault; the buffer holds the canonical text of the formula.
 pub record IsFormatAnswered (formula old new : List ℕ) (out : QrpVerdict) (returned : ℕ) : Type 0 where
   pub answer : Result Qbf (FormulaFault × ℕ)
   pub reads : IsFormulaRead (lent formula) answer

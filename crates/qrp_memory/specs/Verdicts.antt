@@ -1,5 +1,4 @@
--- What a caller in C may take from a verdict on the bytes that it lends. These are told whole and no device stands behind them, so
--- want of memory alone is aside.
+-- What a caller in C may take from a verdict on the bytes that it lends. They are in memory, so only an allocation can fail.
 use Rattle.std.specs.Prelude.{◌≡◌, ◌↔◌, ◌⊎◌, ℕ, if◌then◌else◌, List, Some, IfErr, Result}
 use Rattle.qbf_core.specs.Qbf.{Qbf}
 use Rattle.qbf_core.specs.Truth.{IsTrueFormula}
@@ -15,7 +14,7 @@ use Rattle.qrp_check.specs.Headline.{Spell, IsShown}
 use Rattle.qrp_memory.specs.declared.verdict.QrpVerdict.{QrpVerdict}
 use Rattle.qrp_memory.specs.Told.{IsTold}
 
--- The headline: status 0 only where the bytes show it, and wherever they do, but for want of memory, 4. And then the formula is false
+-- The headline: status 0 only where the bytes show it, and wherever they do, unless an allocation failed, 4. And then the formula is false
 -- if the trace says `r unsat` and true if it says `r sat`, and `truth` is 1 exactly where it is true.
 pub record Headline (rules : Rules) (formula trace : List ℕ) (out : QrpVerdict) : Type 0 where
   pub only : out.status ≡ 0 → IsShown rules formula trace
@@ -23,7 +22,7 @@ pub record Headline (rules : Rules) (formula trace : List ℕ) (out : QrpVerdict
   pub truth : out.status ≡ 0 → (f : Qbf) (d : Derivation) → Spell formula trace f d
       → ResultHolds (side_of d.result) f × (out.truth ≡ (if is_sat d.result then 1 else 0)) × (out.truth ≡ 1 ↔ IsTrueFormula f)
 
--- Each field is what is told of an answer: of the verdict on these bytes, or of want of memory, on line 0, and never of a failed device.
+-- The struct is that of a result: of the verdict on these bytes, or of out of memory, on line 0, and never of a failed device.
 pub record IsAnswered (rules : Rules) (formula trace : List ℕ) (out : QrpVerdict) : Type 0 where
   pub answer : Result Verified Fault
   pub verdict : IsVerdict rules (read_formula formula) (Some (read_trace trace)) answer ⊎ IsWantOfMemory answer

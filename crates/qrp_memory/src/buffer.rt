@@ -1,16 +1,14 @@
 //! A text in a caller's buffer.
 
-ghost use Rattle.std.specs.Prelude.{◌≡◌, ◌<◌, ◌≤◌, ◌+◌, ◌∷◌, ◌++◌, length, drop};
+ghost use Rattle.std.specs.Prelude.{◌≡◌, ◌+◌, drop};
+ghost use Rattle.qrp_memory.specs.Buffers.{IsWritten, IsListed};
 
 /// Puts a text at the front of the buffer, with a zero after it, if there is room for both. Else
 /// all of the buffer stays as it was. What comes after the zero stays in either case.
 ///
 /// Returns the length of the text.
 pub fn put_text(buffer: &mut [u8], text: &[u8]) -> usize
-    ensures length { result ≡ length text.now }
-    ensures written { length text.now < length buffer.old
-        → buffer.new ≡ text.now ++ 0 ∷ drop (1 + length text.now) buffer.old }
-    ensures unwritten { length buffer.old ≤ length text.now → buffer.new ≡ buffer.old }
+    ensures written { IsWritten text.now buffer.old buffer.new result }
     ensures kept { drop (1 + result) buffer.new ≡ drop (1 + result) buffer.old }
 {
     let n = text.len();
@@ -26,10 +24,7 @@ pub fn put_text(buffer: &mut [u8], text: &[u8]) -> usize
 ///
 /// Returns how many numbers they are.
 pub fn put_numbers(list: &mut [u64], numbers: &[u64]) -> usize
-    ensures length { result ≡ length numbers.now }
-    ensures written { length numbers.now ≤ length list.old
-        → list.new ≡ numbers.now ++ drop (length numbers.now) list.old }
-    ensures unwritten { length list.old < length numbers.now → list.new ≡ list.old }
+    ensures { IsListed numbers.now list.old list.new result }
 {
     let n = numbers.len();
     if n <= list.len() {

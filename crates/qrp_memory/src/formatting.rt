@@ -25,7 +25,10 @@ fn formula_text(alloc: Global, formula: &Formula) -> Result<VecSink, AllocError>
     }
 }
 
-/// The canonical text of the formula in these bytes, or the first fault with its line.
+/// The canonical text of the formula in these bytes.
+///
+/// # Errors
+/// The first fault of the text with its line, or F9 if an allocation fails.
 pub fn format_lent(alloc: Global, formula: &[u8]) -> Result<VecSink, (FormulaFault, u64)>
     ensures ok { IfOk result (λ s. (f : Qbf) × IsFormulaRead (lent formula.now) (Ok f)
         × (s.bytes ≡ text f)) }

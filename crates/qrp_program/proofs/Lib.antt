@@ -1,3 +1,2 @@
 pub mod ProgramReport
 pub mod WordByWord
-pub mod SentTexts

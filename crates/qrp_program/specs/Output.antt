@@ -23,7 +23,7 @@ use Rattle.qrp_report.specs.Results.{HasFailed, IsFormulaRead, IsTrimmed}
 pub data Sink : Type 0 where
   Out Errors : Sink
 
--- what is to be said: a text, the sink that it goes to, the status, and the status where that sink fails
+-- what is to be written: a text, the sink that it goes to, the status, and the status where that sink fails
 pub record Report : Type 0 where
   pub sink : Sink
   pub text : List ℕ
@@ -69,21 +69,21 @@ IsOutput (job.Trim rules) formula trace r =
     (answer : Result Derivation Fault) × IsTrimmed rules formula trace answer × (r ≡ trim_report rules answer)
 
 -- A text is to go out to a sink, which went from `old` to `new`: all of the text went out, nothing of it is held back, and the
--- answer is the status; or the sink failed, a beginning of the text went out, and the answer is the one for that.
+-- status is returned; or the sink failed, a beginning of the text went out, and the status for that is returned.
 abbrev pub IsSent : {S : Type 0} → Ghosts S → S → S → List ℕ → ℕ → ℕ → ℕ → Type 0
-IsSent sink old new text status failed answer =
-    (Appends (sink.written old) (sink.written new) text × (sink.failures new ≡ sink.failures old) × sink.finished new × (answer ≡ status))
-    ⊎ (AppendsFront (sink.written old) (sink.written new) text × HasFailed (sink.failures old) (sink.failures new) × (answer ≡ failed))
+IsSent sink old new text status failed returned =
+    (Appends (sink.written old) (sink.written new) text × (sink.failures new ≡ sink.failures old) × sink.finished new × (returned ≡ status))
+    ⊎ (AppendsFront (sink.written old) (sink.written new) text × HasFailed (sink.failures old) (sink.failures new) × (returned ≡ failed))
 
 -- what holds where a report goes to this sink
 abbrev pub IsOn : Sink → Type 0 → Type 0 → Type 0
 IsOn Out on_out on_errors = on_out
 IsOn Errors on_out on_errors = on_errors
 
--- The report went out to its sink and the status is the answer; the other sink, of the two that went from `out` to `out2` and from
+-- The report went out to its sink and the status is returned; the other sink, of the two that went from `out` to `out2` and from
 -- `errors` to `errors2`, is as it was.
 abbrev pub IsReported : {O E : Type 0} → Ghosts O → O → O → Ghosts E → E → E → Report → ℕ → Type 0
-IsReported o out out2 e errors errors2 r answer =
+IsReported o out out2 e errors errors2 r returned =
     IsOn r.sink
-    (IsSent o out out2 r.text r.status r.failed answer × (errors2 ≡ errors))
-    (IsSent e errors errors2 r.text r.status r.failed answer × (out2 ≡ out))
+    (IsSent o out out2 r.text r.status r.failed returned × (errors2 ≡ errors))
+    (IsSent e errors errors2 r.text r.status r.failed returned × (out2 ≡ out))

@@ -1,4 +1,4 @@
--- What the whole program reports on the words behind its name.
+-- What the whole program reports on the words after its name.
 use Rattle.std.specs.Prelude.{◌≡◌, ℕ, List, [], ◌⊎◌, Option, Some, None, Result, Ok, Err, get_or}
 use Rattle.qrp_program.specs.declared.job.Job.{Job}
 use Rattle.qrp_program.specs.declared.start.Start.{Start}
@@ -19,7 +19,7 @@ abbrev pub not_opened : Start → Unopened → Start
 not_opened no_file NoFile = no_file
 not_opened no_file NoMemory = start.NoMemory
 
--- what opening a path may answer: the bytes of the file, where they are known, or why it is not opened
+-- what opening a path may return: the bytes of the file, where they are known, or why it is not opened
 abbrev pub Opens : Type 1
 Opens = List ℕ → Result (Option (List ℕ)) Unopened → Type 0
 
@@ -27,7 +27,7 @@ Opens = List ℕ → Result (Option (List ℕ)) Unopened → Type 0
 abbrev pub IsOnFile : Opens → Sink → Start → List ℕ → (Option (List ℕ) → Type 0) → Report → Type 0
 IsOnFile opens sink no_file path says r =
     ((e : Unopened) × opens path (Err e) × (r ≡ start_report sink (not_opened no_file e)))
-    ⊎ ((told : Option (List ℕ)) × opens path (Ok told) × says told)
+    ⊎ ((bytes : Option (List ℕ)) × opens path (Ok bytes) × says bytes)
 
 -- an opened file with these bytes, that failed this often
 abbrev pub read : Option (List ℕ) → ℕ → SourceCall

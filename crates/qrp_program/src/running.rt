@@ -1,30 +1,23 @@
 //! A job from its sources to its sinks.
 
-ghost use Rattle.std.specs.Prelude.{◌≡◌, ◌⊎◌, ◌<◌, ℕ, Result, length};
+ghost use Rattle.std.specs.Prelude.{◌≡◌, ◌<◌, List, ℕ, length};
 ghost use Rattle.std.specs.List.{AllByRecursion};
-ghost use Rattle.std.specs.Io.KnownBytes.{Keeps};
-ghost use Rattle.qbf_core.specs.Qbf.{Qbf};
-ghost use Rattle.qdimacs.specs.declared.fault.FormulaFault.{FormulaFault};
+ghost use Rattle.qbf_text.specs.Written.{IsPut};
 ghost use Rattle.qdimacs.specs.Grammar.{text};
-ghost use Rattle.qrp.specs.Derivations.{Derivation};
 ghost use Rattle.qrp.specs.Grammar.{text as trace_text};
-ghost use Rattle.qrp_check.specs.Checked.{IsChecked, call_of};
+ghost use Rattle.qrp_check.specs.Checked.{call_of};
 ghost use Rattle.qrp_check.specs.Trim.{trimmed};
-ghost use Rattle.qrp_check.specs.declared.verdict.Verified.{Verified};
-ghost use Rattle.qrp_check.specs.declared.verdict.Fault.{Fault};
 ghost use Rattle.qrp_report.specs.Lines.{fault_line, verdict_line};
 ghost use Rattle.qrp_report.specs.Refusals.{fault_status};
-ghost use Rattle.qrp_report.specs.Results.{HasFailed, IsFormulaRead, IsTrimmed};
 ghost use Rattle.qrp_program.specs.declared.job.Job.TheVariants.{Format};
 ghost use Rattle.qrp_program.specs.Output.{Report, IsOutput, IsSent, IsReported};
-ghost use Rattle.qrp_program.specs.Output.{trim_report, format_report, check_report};
 
 use crate::job::Job;
 use qbf_core::Formula;
-use qbf_text::{Sink, Source};
+use qbf_text::{Sink, SinkFault, Source};
 use qdimacs::{read_formula, write_formula};
 use qrp::{Trace, write_steps_at};
-use qrp_check::{Fault, Rules, Verified, find_proof, verify};
+use qrp_check::{Fault, Verified, find_proof, verify};
 use qrp_report::{Refusal, put_refusal, put_verdict};
 use std::alloc::Global;
 
@@ -35,27 +28,27 @@ pub type Status = u8;
 /// The status where a device failed.
 const DEVICE_FAILED: Status = 3;
 
-/// Ends what was sent to a sink.
-fn end_text<S: Sink>(sink: &mut S, status: Status) -> Status
-    ensures bytes { Keeps (S.written sink.old) (S.written sink.new) }
-    ensures status { ((S.failures sink.new ≡ S.failures sink.old) × S.finished sink.new
-        × (result ≡ status))
-        ⊎ (HasFailed (S.failures sink.old) (S.failures sink.new) × (result ≡ 3)) }
+/// Finishes a sink if the text that was to go out to it did, and returns the status.
+fn finish_sent<S: Sink>(sink: &mut S, sent: Result<(), SinkFault>, status: Status) -> Status
+    ensures { (before : S) (text : List ℕ)
+        → IsPut S.written S.failures before sink.old text sent
+        → IsSent S.Sink before sink.new text status 3 result }
 {
-    match sink.finish() {
-        Ok(()) => status,
+    match sent {
+        Ok(()) => match sink.finish() {
+            Ok(()) => status,
+            Err(_) => DEVICE_FAILED,
+        },
         Err(_) => DEVICE_FAILED,
     }
 }
 
 /// Sends the canonical text of a formula.
-fn send_formula<S: Sink>(formula: &Formula, sink: &mut S) -> Status
+fn send_formula<S: Sink>(sink: &mut S, formula: &Formula) -> Status
     ensures { IsSent S.Sink sink.old sink.new (text formula.now) 0 3 result }
 {
-    match write_formula(formula, sink) {
-        Ok(()) => end_text(sink, 0),
-        Err(_) => DEVICE_FAILED,
-    }
+    let sent = write_formula(formula, sink);
+    finish_sent(sink, sent, 0)
 }
 
 /// Sends the line for a fault.
@@ -64,92 +57,26 @@ fn send_fault<S: Sink>(sink: &mut S, fault: &Fault) -> Status
         (fault_status fault.now) 3 result }
 {
     let refusal = Refusal::of(fault);
-    match put_refusal(sink, &refusal) {
-        Ok(()) => end_text(sink, refusal.status()),
-        Err(_) => DEVICE_FAILED,
-    }
+    let sent = put_refusal(sink, &refusal);
+    finish_sent(sink, sent, refusal.status())
 }
 
 /// Sends the line of a verdict.
 fn send_verdict<S: Sink>(sink: &mut S, truth: bool) -> Status
     ensures { IsSent S.Sink sink.old sink.new (verdict_line truth) 0 3 result }
 {
-    match put_verdict(sink, truth) {
-        Ok(()) => end_text(sink, 0),
-        Err(_) => DEVICE_FAILED,
-    }
-}
-
-/// Writes the canonical text of the formula to `out`, or its refusal to `err`.
-fn format_job<F: Source, O: Sink, E: Sink>(
-    alloc: Global,
-    formula: &mut F,
-    out: &mut O,
-    err: &mut E,
-) -> Status
-    ensures { (r : Report)
-        × ((reading : Result Qbf (FormulaFault × ℕ))
-        × IsFormulaRead (call_of F.Source formula.old formula.new) reading
-        × (r ≡ format_report reading))
-        × IsReported O.Sink out.old out.new E.Sink err.old err.new r result }
-{
-    match read_formula(alloc, formula) {
-        Ok(read) => send_formula(&read, out),
-        Err((fault, line)) => send_fault(err, &Fault::Formula(fault, line)),
-    }
-}
-
-/// Writes the verdict on the trace, or its refusal, to `out`.
-fn check_job<F: Source, T: Source, O: Sink>(
-    alloc: Global,
-    rules: Rules,
-    formula: &mut F,
-    trace: &mut T,
-    out: &mut O,
-) -> Status
-    ensures { (answer : Result Verified Fault)
-        × IsChecked rules (call_of F.Source formula.old formula.new)
-        (call_of T.Source trace.old trace.new) answer
-        × IsSent O.Sink out.old out.new (check_report rules answer).text
-        (check_report rules answer).status (check_report rules answer).failed result }
-{
-    match verify(alloc, formula, trace, rules) {
-        Ok(verified) => send_verdict(out, verified.truth),
-        Err(fault) => send_fault(out, &fault),
-    }
+    let sent = put_verdict(sink, truth);
+    finish_sent(sink, sent, 0)
 }
 
 /// Sends the canonical text of a trace without the steps outside the core.
-fn send_trimmed<S: Sink>(trace: &Trace, verified: &Verified, sink: &mut S) -> Status
+fn send_trimmed<S: Sink>(sink: &mut S, trace: &Trace, verified: &Verified) -> Status
     requires { AllByRecursion (λ i. i < length trace.now.steps) verified.now.core.items }
     ensures { IsSent S.Sink sink.old sink.new
         (trace_text (trimmed trace.now verified.now.core.items)) 0 3 result }
 {
-    match write_steps_at(trace, &verified.core, sink) {
-        Ok(()) => end_text(sink, 0),
-        Err(_) => DEVICE_FAILED,
-    }
-}
-
-/// Writes the trimmed trace to `out`, or its refusal to `err`.
-fn trim_job<F: Source, T: Source, O: Sink, E: Sink>(
-    alloc: Global,
-    rules: Rules,
-    formula: &mut F,
-    trace: &mut T,
-    out: &mut O,
-    err: &mut E,
-) -> Status
-    ensures { (answer : Result Derivation Fault)
-        × IsTrimmed rules (call_of F.Source formula.old formula.new)
-        (call_of T.Source trace.old trace.new) answer
-        × IsReported O.Sink out.old out.new E.Sink err.old err.new
-        (trim_report rules answer) result }
-{
-    match find_proof(alloc, formula, trace, rules) {
-        Ok((whole, verified)) => send_trimmed(&whole, &verified, out),
-        Err(fault) => send_fault(err, &fault),
-    }
+    let sent = write_steps_at(trace, &verified.core, sink);
+    finish_sent(sink, sent, 0)
 }
 
 /// Does a job: reads the formula and, where the job asks for it, the trace, and writes the report
@@ -177,8 +104,17 @@ pub fn run<F: Source, T: Source, O: Sink, E: Sink>(
     ensures not_pulled { job ≡ Format → trace.new ≡ trace.old }
 {
     match job {
-        Job::Check(rules) => check_job(alloc, rules, formula, trace, out),
-        Job::Trim(rules) => trim_job(alloc, rules, formula, trace, out, err),
-        Job::Format => format_job(alloc, formula, out, err),
+        Job::Check(rules) => match verify(alloc, formula, trace, rules) {
+            Ok(verified) => send_verdict(out, verified.truth),
+            Err(fault) => send_fault(out, &fault),
+        },
+        Job::Trim(rules) => match find_proof(alloc, formula, trace, rules) {
+            Ok((whole, verified)) => send_trimmed(out, &whole, &verified),
+            Err(fault) => send_fault(err, &fault),
+        },
+        Job::Format => match read_formula(alloc, formula) {
+            Ok(read) => send_formula(out, &read),
+            Err((fault, line)) => send_fault(err, &Fault::Formula(fault, line)),
+        },
     }
 }

@@ -1,5 +1,6 @@
 -- The fault of a refusal, by its numbers.
-use Rattle.std.proofs.Common.{◌≡◌, ◌⊎◌, ℕ, zero, suc, ◌≤◌, inl, inr, refl, arith, sym, subst}
+use Rattle.std.proofs.Common.{◌≡◌, ◌∙◌, ◌⊎◌, ℕ, zero, suc, ◌+◌, ◌<◌, ◌≤◌, List, [], ◌∷◌, map, length, inl, inr, refl, arith, sym, subst}
+use Rattle.std.proofs.lemmas.Bool.{cases_eq}
 use Rattle.qdimacs.specs.declared.fault.FormulaFault.{FormulaFault}
 use Rattle.qdimacs.specs.declared.fault.FormulaFault.TheVariants.{F1, F2, F3, F4, F5, F6, F7, F8, F9}
 use Rattle.qrp.specs.declared.fault.TraceFault.{TraceFault}
@@ -9,107 +10,60 @@ use Rattle.qrp_rules.specs.declared.fault.RuleFault.TheVariants.{S1, S2, S3, S4,
 use Rattle.qrp_check.specs.declared.fault.CheckFault.TheVariants.{C1, C2, C3, C4, C5, C6}
 use Rattle.qrp_check.specs.declared.verdict.Fault.{Fault}
 use Rattle.qrp_check.specs.declared.verdict.Fault.TheVariants as fault
+use Rattle.step_index.specs.Numbers.{count_from}
 use Rattle.qrp_report.specs.declared.refusal.Refusal.{Refusal}
 use Rattle.qrp_report.specs.OfFaults.{NamesVariable, IsOfFault, IsOfText, IsOfSet, IsOfWhole, IsOfStep}
 use Rattle.qrp_report.specs.Refusals.{formula_number, trace_number, rule_number, refusal, refusal_of}
 
+-- the value of each number, where the numbers of all values are counted from the first
+value_of : {A : Type 0} (number : A → ℕ) (all : List A) (first n : ℕ) → map number all ≡ count_from first (length all)
+    → first ≤ n → n < first + length all → (e : A) × (number e ≡ n)
+value_of number [] first n counted low high = absurd (omega (arith, low, high))
+value_of number (e ∷ all) first n counted low high =
+    let head : number e ≡ first = cc counted in
+    let rest : map number all ≡ count_from (suc first) (length all) = cc counted in
+    elim (cases_eq n first) [
+      | inl same ↦ (e, head ∙ sym same)
+      | inr other ↦ value_of number all (suc first) n rest (omega (arith, low, other)) (omega (arith, high))
+    ]
+
 formula_of : (n : ℕ) → 1 ≤ n → n ≤ 9 → (e : FormulaFault) × (formula_number e ≡ n)
-formula_of zero low high = absurd (omega (arith, low))
-formula_of (suc zero) low high = (F1, refl)
-formula_of (suc (suc zero)) low high = (F2, refl)
-formula_of (suc (suc (suc zero))) low high = (F3, refl)
-formula_of (suc (suc (suc (suc zero)))) low high = (F4, refl)
-formula_of (suc (suc (suc (suc (suc zero))))) low high = (F5, refl)
-formula_of (suc (suc (suc (suc (suc (suc zero)))))) low high = (F6, refl)
-formula_of (suc (suc (suc (suc (suc (suc (suc zero))))))) low high = (F7, refl)
-formula_of (suc (suc (suc (suc (suc (suc (suc (suc zero)))))))) low high = (F8, refl)
-formula_of (suc (suc (suc (suc (suc (suc (suc (suc (suc zero))))))))) low high = (F9, refl)
-formula_of (suc (suc (suc (suc (suc (suc (suc (suc (suc (suc n)))))))))) low high = absurd (omega (arith, high))
+formula_of n low high =
+    value_of formula_number (F1 ∷ F2 ∷ F3 ∷ F4 ∷ F5 ∷ F6 ∷ F7 ∷ F8 ∷ F9 ∷ []) 1 n refl low (omega (arith, high))
 
 trace_of : (n : ℕ) → 1 ≤ n → n ≤ 9 → (e : TraceFault) × (trace_number e ≡ n)
-trace_of zero low high = absurd (omega (arith, low))
-trace_of (suc zero) low high = (P1, refl)
-trace_of (suc (suc zero)) low high = (P2, refl)
-trace_of (suc (suc (suc zero))) low high = (P3, refl)
-trace_of (suc (suc (suc (suc zero)))) low high = (P4, refl)
-trace_of (suc (suc (suc (suc (suc zero))))) low high = (P5, refl)
-trace_of (suc (suc (suc (suc (suc (suc zero)))))) low high = (P6, refl)
-trace_of (suc (suc (suc (suc (suc (suc (suc zero))))))) low high = (P7, refl)
-trace_of (suc (suc (suc (suc (suc (suc (suc (suc zero)))))))) low high = (P8, refl)
-trace_of (suc (suc (suc (suc (suc (suc (suc (suc (suc zero))))))))) low high = (P9, refl)
-trace_of (suc (suc (suc (suc (suc (suc (suc (suc (suc (suc n)))))))))) low high = absurd (omega (arith, high))
+trace_of n low high = value_of trace_number (P1 ∷ P2 ∷ P3 ∷ P4 ∷ P5 ∷ P6 ∷ P7 ∷ P8 ∷ P9 ∷ []) 1 n refl low (omega (arith, high))
 
 rule_of : (n : ℕ) → 1 ≤ n → n ≤ 12 → (e : RuleFault) × (rule_number e ≡ n)
-rule_of zero low high = absurd (omega (arith, low))
-rule_of (suc zero) low high = (S1, refl)
-rule_of (suc (suc zero)) low high = (S2, refl)
-rule_of (suc (suc (suc zero))) low high = (S3, refl)
-rule_of (suc (suc (suc (suc zero)))) low high = (S4, refl)
-rule_of (suc (suc (suc (suc (suc zero))))) low high = (S5, refl)
-rule_of (suc (suc (suc (suc (suc (suc zero)))))) low high = (S6, refl)
-rule_of (suc (suc (suc (suc (suc (suc (suc zero))))))) low high = (S7, refl)
-rule_of (suc (suc (suc (suc (suc (suc (suc (suc zero)))))))) low high = (S8, refl)
-rule_of (suc (suc (suc (suc (suc (suc (suc (suc (suc zero))))))))) low high = (S9, refl)
-rule_of (suc (suc (suc (suc (suc (suc (suc (suc (suc (suc zero)))))))))) low high = (S10, refl)
-rule_of (suc (suc (suc (suc (suc (suc (suc (suc (suc (suc (suc zero))))))))))) low high = (S11, refl)
-rule_of (suc (suc (suc (suc (suc (suc (suc (suc (suc (suc (suc (suc zero)))))))))))) low high = (S12, refl)
-rule_of (suc (suc (suc (suc (suc (suc (suc (suc (suc (suc (suc (suc (suc n))))))))))))) low high = absurd (omega (arith, high))
+rule_of n low high =
+    value_of rule_number (S1 ∷ S2 ∷ S3 ∷ S4 ∷ S5 ∷ S6 ∷ S7 ∷ S8 ∷ S9 ∷ S10 ∷ S11 ∷ S12 ∷ []) 1 n refl low (omega (arith, high))
 
 formula_in : (e : FormulaFault) → (1 ≤ formula_number e) × (formula_number e ≤ 9)
 formula_in F1 = (omega arith, omega arith)
-formula_in F2 = (omega arith, omega arith)
-formula_in F3 = (omega arith, omega arith)
-formula_in F4 = (omega arith, omega arith)
-formula_in F5 = (omega arith, omega arith)
-formula_in F6 = (omega arith, omega arith)
-formula_in F7 = (omega arith, omega arith)
-formula_in F8 = (omega arith, omega arith)
-formula_in F9 = (omega arith, omega arith)
+formula_in other = (omega arith, omega arith)
 
 trace_in : (e : TraceFault) → (1 ≤ trace_number e) × (trace_number e ≤ 9)
 trace_in P1 = (omega arith, omega arith)
-trace_in P2 = (omega arith, omega arith)
-trace_in P3 = (omega arith, omega arith)
-trace_in P4 = (omega arith, omega arith)
-trace_in P5 = (omega arith, omega arith)
-trace_in P6 = (omega arith, omega arith)
-trace_in P7 = (omega arith, omega arith)
-trace_in P8 = (omega arith, omega arith)
-trace_in P9 = (omega arith, omega arith)
+trace_in other = (omega arith, omega arith)
 
 rule_in : (e : RuleFault) → (1 ≤ rule_number e) × (rule_number e ≤ 12)
 rule_in S1 = (omega arith, omega arith)
-rule_in S2 = (omega arith, omega arith)
-rule_in S3 = (omega arith, omega arith)
-rule_in S4 = (omega arith, omega arith)
-rule_in S5 = (omega arith, omega arith)
-rule_in S6 = (omega arith, omega arith)
-rule_in S7 = (omega arith, omega arith)
-rule_in S8 = (omega arith, omega arith)
-rule_in S9 = (omega arith, omega arith)
-rule_in S10 = (omega arith, omega arith)
-rule_in S11 = (omega arith, omega arith)
-rule_in S12 = (omega arith, omega arith)
+rule_in other = (omega arith, omega arith)
 
 of_text : (r : Refusal) → IsOfText r → IsOfFault r
 of_text r (inl is, low, high, none) = let w = formula_of r.number low high in (fault.Formula w.0 r.position, tt, rw (is, none, w.1) refl)
 of_text r (inr is, low, high, none) = let w = trace_of r.number low high in (fault.Trace w.0 r.position, tt, rw (is, none, w.1) refl)
 
 of_set : (l n s p : ℕ) → IsOfSet (refusal l n s p) → IsOfFault (refusal l n s p)
-of_set l zero s p (is, low, high, none, least, most) = absurd (omega (arith, low))
 of_set l (suc zero) s p (is, low, high, none, least, most) = (fault.Check (C1 p), (least, most), rw (is, none) refl)
 of_set l (suc (suc zero)) s p (is, low, high, none, least, most) = (fault.Check (C2 p), (least, most), rw (is, none) refl)
 of_set l (suc (suc (suc zero))) s p (is, low, high, none, least, most) = (fault.Check (C3 p), (least, most), rw (is, none) refl)
-of_set l (suc (suc (suc (suc n)))) s p (is, low, high, none, least, most) = absurd (omega (arith, high))
+of_set l n s p (is, low, high, none, least, most) = absurd (omega (arith, low, high))
 
 of_whole : (l n s p : ℕ) → IsOfWhole (refusal l n s p) → IsOfFault (refusal l n s p)
 of_whole l (suc (suc (suc (suc zero)))) s p (is, low, high, none, no_place) = (fault.Check C4, tt, rw (is, none, no_place) refl)
 of_whole l (suc (suc (suc (suc (suc zero))))) s p (is, low, high, none, no_place) = (fault.Check C5, tt, rw (is, none, no_place) refl)
-of_whole l (suc (suc (suc (suc (suc (suc n)))))) s p (is, low, high, none, no_place) = absurd (omega (arith, high))
-of_whole l (suc (suc (suc zero))) s p (is, low, high, none, no_place) = absurd (omega (arith, low))
-of_whole l (suc (suc zero)) s p (is, low, high, none, no_place) = absurd (omega (arith, low))
-of_whole l (suc zero) s p (is, low, high, none, no_place) = absurd (omega (arith, low))
-of_whole l zero s p (is, low, high, none, no_place) = absurd (omega (arith, low))
+of_whole l n s p (is, low, high, none, no_place) = absurd (omega (arith, low, high))
 
 of_step : (r : Refusal) → IsOfStep r → IsOfFault r
 of_step r (is, six, low, high) = let w = rule_of r.rule low high in (fault.Check (C6 r.position w.0), tt, rw (is, six, w.1) refl)
@@ -127,12 +81,10 @@ fault_of r (inr (inr (inr is))) = of_step r is
 numbers_of : (e : Fault) → NamesVariable e → HasNumbers (refusal_of e)
 numbers_of (fault.Formula e n) names = let w = formula_in e in inl (inl refl, w.0, w.1, refl)
 numbers_of (fault.Trace e n) names = let w = trace_in e in inl (inr refl, w.0, w.1, refl)
-numbers_of (fault.Check (C1 v)) names = inr (inl (refl, omega arith, omega arith, refl, names.0, names.1))
-numbers_of (fault.Check (C2 v)) names = inr (inl (refl, omega arith, omega arith, refl, names.0, names.1))
-numbers_of (fault.Check (C3 v)) names = inr (inl (refl, omega arith, omega arith, refl, names.0, names.1))
 numbers_of (fault.Check C4) names = inr (inr (inl (refl, omega arith, omega arith, refl, refl)))
 numbers_of (fault.Check C5) names = inr (inr (inl (refl, omega arith, omega arith, refl, refl)))
 numbers_of (fault.Check (C6 n s)) names = let w = rule_in s in inr (inr (inr (refl, refl, w.0, w.1)))
+numbers_of (fault.Check other) names = inr (inl (refl, omega arith, omega arith, refl, names.0, names.1))
 
 pub has_numbers : (r : Refusal) → IsOfFault r → HasNumbers r
 has_numbers r (e, names, is) = subst HasNumbers (sym is) (numbers_of e names)

@@ -1,3 +1,3 @@
-pub mod LineParts
 pub mod ResultsOfBytes
 pub mod FaultsByNumbers
+mod WorkedLines

@@ -3,7 +3,7 @@ use Rattle.std.proofs.Common.{◌≡◌, ◌≢◌, ℕ, List, Option, Some, Non
 use Rattle.std.specs.Prelude.{Result, Ok, Err, IfSome, IfOk}
 use Rattle.qbf_core.specs.Qbf.{Qbf}
 use Rattle.qdimacs.specs.declared.fault.FormulaFault.{FormulaFault}
-use Rattle.qdimacs.specs.declared.fault.FormulaFault.TheVariants.{F1, F2, F3, F4, F5, F6, F7, F8, F9}
+use Rattle.qdimacs.specs.declared.fault.FormulaFault.TheVariants.{F1, F9}
 use Rattle.qdimacs.specs.Reading.{Gives, reads_bytes, read_formula}
 use Rattle.qrp.specs.Derivations.{Derivation, IsWellFormed}
 use Rattle.qrp.specs.Reading.{read_trace}
@@ -37,13 +37,7 @@ pub formula_refused : (bytes : Option (List ℕ)) (before after : ℕ) (e : Form
     → IsFormulaRefused bytes before after e n
 formula_refused bytes before after F1 n s failed kept one nine = (one refl, failed refl)
 formula_refused bytes before after F9 n s failed kept one nine = (nine refl, kept (λ e. cc e))
-formula_refused bytes before after F2 n s failed kept one nine = (stopped bytes F2 n s, kept (λ e. cc e))
-formula_refused bytes before after F3 n s failed kept one nine = (stopped bytes F3 n s, kept (λ e. cc e))
-formula_refused bytes before after F4 n s failed kept one nine = (stopped bytes F4 n s, kept (λ e. cc e))
-formula_refused bytes before after F5 n s failed kept one nine = (stopped bytes F5 n s, kept (λ e. cc e))
-formula_refused bytes before after F6 n s failed kept one nine = (stopped bytes F6 n s, kept (λ e. cc e))
-formula_refused bytes before after F7 n s failed kept one nine = (stopped bytes F7 n s, kept (λ e. cc e))
-formula_refused bytes before after F8 n s failed kept one nine = (stopped bytes F8 n s, kept (λ e. cc e))
+formula_refused bytes before after e n s failed kept one nine = (stopped bytes e n s, kept (λ is. cc is))
 
 trimmed_of : (rules : Rules) (a b : List ℕ) (d : Derivation) (v : Verified) → IsVerdict rules (read_formula a) (Some (read_trace b)) (Ok v)
     → IsWellFormed d → read_trace b ≡ Ok d → IsTrimmedFrom rules a b (trimmed d v.core.items)

@@ -1,3 +1,5 @@
+//! What comes out of a buffer, and of one whose sink fails.
+
 use super::*;
 use qbf_text::{PieceSink, put_byte, put_bytes};
 use std::alloc::Global;
@@ -6,7 +8,7 @@ use std::process::Abort;
 use std::test::Fail;
 
 /// Compares what was found with what is wanted there.
-fn is_same<T: Copy + PartialEq + Debug>(rt: &impl Abort, found: T, wanted: T, what: &str) {
+fn assert_same<T: Copy + PartialEq + Debug>(rt: &impl Abort, found: T, wanted: T, what: &str) {
     assert_eq!(rt; found, wanted, "{what}");
 }
 
@@ -38,12 +40,12 @@ fn twice(alloc: Global, bytes: &[u8]) -> Result<Vec<u8>, Fail> {
 }
 
 /// Puts at once what was put before, and then all has come through.
-fn come_through(rt: &impl Abort, sink: &mut Buffered<PieceSink>, sent: &[u8], all: &[u8]) {
+fn assert_come_through(rt: &impl Abort, sink: &mut Buffered<PieceSink>, sent: &[u8], all: &[u8]) {
     // The last bytes are held back.
     assert!(rt; sink.sink.bytes().len() < sent.len());
     // More bytes at once than the buffer has room for are sent on.
     assert!(rt; put_bytes(sink, sent).is_ok());
-    is_same(rt, sink.sink.bytes().len(), all.len(), "bytes at once");
+    assert_same(rt, sink.sink.bytes().len(), all.len(), "bytes at once");
     assert!(rt; sink.finish().is_ok());
     assert!(rt; sink.sink.bytes() == all);
 }
@@ -53,22 +55,22 @@ fn bytes_come_through(rt: HostRuntime) -> Result<(), Fail> {
     let mut sink = buffered(rt.alloc(), None)?;
     let sent = put_each(&rt, rt.alloc(), &mut sink)?;
     let all = twice(rt.alloc(), &sent)?;
-    come_through(&rt, &mut sink, &sent, &all);
+    assert_come_through(&rt, &mut sink, &sent, &all);
     Ok(())
 }
 
 /// What is held back goes to a sink that takes three bytes of it.
-fn fails_behind_three(rt: &impl Abort, sink: &mut Buffered<PieceSink>) {
+fn assert_fails_after_three(rt: &impl Abort, sink: &mut Buffered<PieceSink>) {
     assert!(rt; put_bytes(sink, b"VERIFIED").is_ok());
-    is_same(rt, sink.sink.bytes().len(), 0, "bytes held back");
+    assert_same(rt, sink.sink.bytes().len(), 0, "bytes held back");
     assert!(rt; sink.finish().is_err());
-    is_same(rt, sink.sink.bytes(), b"VER", "the end");
+    assert_same(rt, sink.sink.bytes(), b"VER", "the end");
 }
 
 #[test]
 fn a_failure_keeps_the_rest(rt: HostRuntime) -> Result<(), Fail> {
     let mut sink = buffered(rt.alloc(), Some(3))?;
-    fails_behind_three(&rt, &mut sink);
+    assert_fails_after_three(&rt, &mut sink);
     // The sink works again from then on.
     assert!(rt; sink.finish().is_ok());
     assert_eq!(rt; sink.sink.bytes(), b"VERIFIED".as_slice());

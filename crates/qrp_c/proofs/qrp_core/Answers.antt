@@ -1,6 +1,6 @@
-use Rattle.std.proofs.Common.{◌∙◌, refl, ap, Ok, Err}
+use Rattle.std.proofs.Common.{◌∙◌, refl, ap, subst, Ok, Err, List, ℕ}
 use Rattle.qrp_memory.specs.Told.{told_truth}
-use Rattle.qrp_memory.proofs.GivenTexts.{listed}
+use Rattle.qrp_memory.specs.Buffers.{IsListed}
 use Rattle.qrp_c.proofs.qrp_core.Goals as goal
 
 pub returns-in-Ok : goal.returns-in-Ok
@@ -11,8 +11,7 @@ returns-in-Ok c =
       trimmed = (found.1, refl, refl);
       told = c.tell_truth.ensures ∙ ap told_truth found.2;
       named = tt;
-      listed = listed _ _ _ _ _ (c.deref.ensures.value ∙ found.3) c.put_numbers.ensures.length c.put_numbers.ensures.written
-          c.put_numbers.ensures.unwritten;
+      listed = subst (λ (ns : List ℕ). IsListed ns c.args.steps.now c.put_numbers.new.list c.put_numbers.result) (c.deref.ensures.value ∙ found.3) c.put_numbers.ensures;
     }
 
 pub returns-in-Err : goal.returns-in-Err

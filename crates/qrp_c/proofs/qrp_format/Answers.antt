@@ -1,6 +1,6 @@
-use Rattle.std.proofs.Common.{◌≡◌, refl, [], Ok, Err}
+use Rattle.std.proofs.Common.{◌≡◌, subst, Ok, Err, List, ℕ}
 use Rattle.qdimacs.specs.Grammar.{text}
-use Rattle.qrp_memory.proofs.GivenTexts.{written}
+use Rattle.qrp_memory.specs.Buffers.{IsWritten}
 use Rattle.qrp_c.proofs.qrp_format.Goals as goal
 
 pub returns-in-Ok : goal.returns-in-Ok
@@ -11,7 +11,7 @@ returns-in-Ok c =
       answer = Ok found.0;
       reads = found.1;
       told = c.tell_nothing.ensures;
-      written = written _ _ _ _ _ is c.put_text.ensures.length c.put_text.ensures.written c.put_text.ensures.unwritten;
+      written = subst (λ (t : List ℕ). IsWritten t c.args.buffer.now c.put_text.new.buffer c.put_text.result) is c.put_text.ensures.written;
     }
 
 pub returns-in-Err : goal.returns-in-Err
@@ -20,6 +20,5 @@ returns-in-Err c =
       answer = Err (c.in-Err.fault, c.in-Err.line);
       reads = c.in-Err.ensures.err;
       told = c.tell_fault.ensures.told;
-      written = written [] [] _ _ _ refl c.put_text-in-Err.ensures.length c.put_text-in-Err.ensures.written
-          c.put_text-in-Err.ensures.unwritten;
+      written = c.put_text-in-Err.ensures.written;
     }

@@ -1,7 +1,7 @@
-use Rattle.std.proofs.Common.{◌≡◌, ◌∙◌, refl, ap, [], Ok, Err}
+use Rattle.std.proofs.Common.{◌≡◌, ◌∙◌, refl, ap, subst, Ok, Err, List, ℕ}
 use Rattle.qrp.specs.Grammar.{text}
 use Rattle.qrp_memory.specs.Told.{told_truth}
-use Rattle.qrp_memory.proofs.GivenTexts.{written}
+use Rattle.qrp_memory.specs.Buffers.{IsWritten}
 use Rattle.qrp_c.proofs.qrp_trim.Goals as goal
 
 pub returns-in-Ok : goal.returns-in-Ok
@@ -13,7 +13,7 @@ returns-in-Ok c =
       trimmed = (found.1, refl, refl);
       told = c.tell_truth.ensures ∙ ap told_truth found.2;
       named = tt;
-      written = written _ _ _ _ _ is c.put_text.ensures.length c.put_text.ensures.written c.put_text.ensures.unwritten;
+      written = subst (λ (t : List ℕ). IsWritten t c.args.buffer.now c.put_text.new.buffer c.put_text.result) is c.put_text.ensures.written;
     }
 
 pub returns-in-Err : goal.returns-in-Err
@@ -23,6 +23,5 @@ returns-in-Err c =
       trimmed = c.in-Err.ensures.err;
       told = c.tell_fault.ensures.told;
       named = c.tell_fault.ensures.named;
-      written = written [] [] _ _ _ refl c.put_text-in-Err.ensures.length c.put_text-in-Err.ensures.written
-          c.put_text-in-Err.ensures.unwritten;
+      written = c.put_text-in-Err.ensures.written;
     }

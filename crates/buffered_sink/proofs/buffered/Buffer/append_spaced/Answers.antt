@@ -2,7 +2,7 @@ use Rattle.std.proofs.Common.{◌∙◌, ◌≤◌, ◌∷◌, ◌++◌, List, �
 use Rattle.qbf_text.specs.Canonical.{spelled}
 use Rattle.qbf_text.specs.declared.token.Token.TheVariants.{Number}
 use Rattle.buffered_sink.proofs.BufferPart.{part, part_put}
-use Rattle.buffered_sink.proofs.buffered.Held.append_spaced.Goals as goal
+use Rattle.buffered_sink.proofs.buffered.Buffer.append_spaced.Goals as goal
 
 pub returns-clause-all : goal.returns-clause-all
 returns-clause-all c = λ _.

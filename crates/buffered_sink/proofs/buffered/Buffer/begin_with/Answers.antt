@@ -1,7 +1,7 @@
 use Rattle.std.proofs.Common.{◌∙◌, ap, arith}
 use Rattle.std.specs.Fmt.{decimal}
 use Rattle.buffered_sink.proofs.BufferPart.{part, part_put}
-use Rattle.buffered_sink.proofs.buffered.Held.begin_with.Goals as goal
+use Rattle.buffered_sink.proofs.buffered.Buffer.begin_with.Goals as goal
 
 pub returns : goal.returns
 returns c =

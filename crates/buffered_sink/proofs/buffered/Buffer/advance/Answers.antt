@@ -1,6 +1,6 @@
 use Rattle.std.proofs.Common.{◌≤◌, length}
 use Rattle.buffered_sink.proofs.BufferPart.{part, part_advance}
-use Rattle.buffered_sink.proofs.buffered.Held.advance.Goals as goal
+use Rattle.buffered_sink.proofs.buffered.Buffer.advance.Goals as goal
 
 pub returns : goal.returns
 returns c =

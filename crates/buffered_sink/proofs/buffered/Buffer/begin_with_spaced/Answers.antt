@@ -2,7 +2,7 @@ use Rattle.std.proofs.Common.{◌∙◌, ◌∷◌, List, ℕ, ap, arith}
 use Rattle.qbf_text.specs.Canonical.{spelled}
 use Rattle.qbf_text.specs.declared.token.Token.TheVariants.{Number}
 use Rattle.buffered_sink.proofs.BufferPart.{part, part_put}
-use Rattle.buffered_sink.proofs.buffered.Held.begin_with_spaced.Goals as goal
+use Rattle.buffered_sink.proofs.buffered.Buffer.begin_with_spaced.Goals as goal
 
 pub returns : goal.returns
 returns c =

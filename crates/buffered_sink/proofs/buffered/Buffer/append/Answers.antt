@@ -1,6 +1,6 @@
 use Rattle.std.proofs.Common.{◌≡◌, ◌∙◌, ◌≤◌, ◌++◌, List, ℕ, length, ap, arith}
 use Rattle.buffered_sink.proofs.BufferPart.{part_append}
-use Rattle.buffered_sink.proofs.buffered.Held.append.Goals as goal
+use Rattle.buffered_sink.proofs.buffered.Buffer.append.Goals as goal
 
 pub returns-clause-all : goal.returns-clause-all
 returns-clause-all c = λ _.

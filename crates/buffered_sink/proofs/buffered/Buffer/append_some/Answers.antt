@@ -1,8 +1,8 @@
 use Rattle.std.proofs.Common.{◌≡◌, ◌≤◌, ◌∙◌, ◌++◌, List, ℕ, length, take, ap, arith}
 use Rattle.std.proofs.lemmas.Grind.{common_steps}
 use Rattle.buffered_sink.proofs.BufferPart.{part, part_append, part_none}
-use Rattle.buffered_sink.proofs.buffered.Held.append_some.Goals as goal
-use Rattle.buffered_sink.proofs.buffered.Held.append_some.Goals.{then-self, else-self}
+use Rattle.buffered_sink.proofs.buffered.Buffer.append_some.Goals as goal
+use Rattle.buffered_sink.proofs.buffered.Buffer.append_some.Goals.{then-self, else-self}
 
 pub returns-clause-bytes : goal.returns-clause-bytes
 returns-clause-bytes c =

@@ -1,7 +1,7 @@
 use Rattle.std.proofs.Common.{◌∙◌, ◌≤◌, ◌++◌, List, ℕ, length, ap, arith}
 use Rattle.std.specs.Fmt.{decimal}
 use Rattle.buffered_sink.proofs.BufferPart.{part, part_put}
-use Rattle.buffered_sink.proofs.buffered.Held.append_number.Goals as goal
+use Rattle.buffered_sink.proofs.buffered.Buffer.append_number.Goals as goal
 
 pub returns-clause-all : goal.returns-clause-all
 returns-clause-all c = λ _.

@@ -1,4 +1,0 @@
-use Rattle.qrp_report.proofs.lines.put_step_line.Goals as goal
-
-pub returns : goal.returns
-returns g c = rw (← c.from.ensures) c.put_parts.ensures
