@@ -5,61 +5,52 @@ ghost use Rattle.std.specs.Prelude.{◌<◌};
 use qbf_core::Formula;
 use qbf_text::{PieceSink, PieceSource, SinkFault};
 use qdimacs::*;
-use std::alloc::Global;
 use std::process::Abort;
 use std::test::Fail;
 
 const FORMULA: &[u8] = b"p cnf 2 2\ne 1 0\na 2 0\n1 2 0\n-1 2 0\n";
 
-/// The pull of this number fails, and is the last.
-fn fails_at(rt: &impl Abort, alloc: Global, fail_at: u64) {
-    let mut source = PieceSource::new(FORMULA, 1, fail_at);
-    match read_formula(alloc, &mut source) {
-        Ok(_) => panic!(rt; "no fault at pull {fail_at}"),
-        Err(answer) => assert_eq!(rt; answer, (FormulaFault::F1, 0), "at pull {fail_at}"),
+/// The formula of this text, which is pulled byte by byte, has this fault after so many pulls. The
+/// pull with the number `fail_at` fails.
+fn assert_refused(
+    rt: &(impl Abort + AllocGlobal),
+    text: &[u8],
+    fail_at: u64,
+    wanted: (u64, (FormulaFault, u64)),
+) {
+    let mut source = PieceSource::new(text, 1, fail_at);
+    match read_formula(rt.alloc(), &mut source) {
+        Ok(_) => panic!(rt; "no fault {wanted:?}"),
+        Err(fault) => assert_eq!(rt; (source.pulls(), fault), wanted),
     }
-    assert_eq!(rt; source.pulls(), fail_at);
 }
 
 #[test]
 fn says_that_a_source_failed(rt: HostRuntime) {
     for fail_at in 1..=36 {
-        fails_at(&rt, rt.alloc(), fail_at);
+        assert_refused(&rt, FORMULA, fail_at, (fail_at, (FormulaFault::F1, 0)));
     }
     let mut source = PieceSource::new(FORMULA, 1, 37);
     assert!(rt; read_formula(rt.alloc(), &mut source).is_ok());
 }
 
-/// The formula of this source has this fault.
-fn is_refused(rt: &impl Abort, alloc: Global, source: &mut PieceSource<'_>, fault: FormulaFault) {
-    match read_formula(alloc, source) {
-        Ok(_) => panic!(rt; "no fault {fault:?}"),
-        Err(answer) => assert_eq!(rt; answer.0, fault),
-    }
-}
-
 #[test]
-fn pulls_nothing_behind_a_fault(rt: HostRuntime) {
+fn pulls_nothing_after_a_fault(rt: HostRuntime) {
     // The byte after the wrong token is the last one that is looked at: the next pull would fail.
-    for (text, looked_at, fault) in [
-        (
-            b"p cnf 1 1\ne 1 0\n1 x 0\n".as_slice(),
-            20,
-            FormulaFault::F3,
-        ),
-        (b"p cnf 1 1\ne 1 0\n2 0\n", 18, FormulaFault::F4),
-        (b"p cnf 1 0\ne 1 0\n1 0\n", 18, FormulaFault::F8),
-    ] {
-        let mut source = PieceSource::new(text, 1, looked_at + 1);
-        is_refused(&rt, rt.alloc(), &mut source, fault);
-        assert_eq!(&rt; source.pulls(), looked_at);
+    let rows: [(&[u8], u64, (FormulaFault, u64)); 3] = [
+        (b"p cnf 1 1\ne 1 0\n1 x 0\n", 20, (FormulaFault::F3, 3)),
+        (b"p cnf 1 1\ne 1 0\n2 0\n", 18, (FormulaFault::F4, 3)),
+        (b"p cnf 1 0\ne 1 0\n1 0\n", 18, (FormulaFault::F8, 3)),
+    ];
+    for (text, looked_at, fault) in rows {
+        let fail_at = looked_at.saturating_add(1);
+        assert_refused(&rt, text, fail_at, (looked_at, fault));
     }
 }
 
 /// A sink with this room takes a beginning of the formula.
-fn writes_up_to(
-    rt: &impl Abort,
-    alloc: Global,
+fn assert_cut(
+    rt: &(impl Abort + AllocGlobal),
     formula: &Formula,
     piece: usize,
     room: u64,
@@ -67,7 +58,7 @@ fn writes_up_to(
     requires piece { 0 < piece }
     requires room { room < 35 }
 {
-    let mut sink = PieceSink::new(alloc, piece, Some(room), false, 0)?;
+    let mut sink = PieceSink::new(rt.alloc(), piece, Some(room), false, 0)?;
     assert_eq!(rt; write_formula(formula, &mut sink), Err(SinkFault));
     assert_eq!(rt;
         sink.bytes(),
@@ -92,7 +83,7 @@ fn writes_a_beginning(rt: HostRuntime) -> Result<(), Fail> {
     let formula = read_formula(rt.alloc(), &mut PieceSource::new(FORMULA, 4096, 0))?;
     for piece in [1, 4096] {
         for room in 0..35 {
-            writes_up_to(&rt, rt.alloc(), &formula, piece, room)?;
+            assert_cut(&rt, &formula, piece, room)?;
         }
     }
     Ok(())

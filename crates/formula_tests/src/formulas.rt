@@ -1,4 +1,6 @@
-ghost use Rattle.std.specs.Prelude.{◌≡◌, ◌<◌, ◌∷◌, [], ◌++◌, length, IfOk, OnOk};
+//! Values, prefixes, formulas, sets and lists through the public calls of `qbf_core`.
+
+ghost use Rattle.std.specs.Prelude.{◌≡◌, ◌<◌, ◌∷◌, [], ◌++◌, length, IfOk};
 ghost use Rattle.qbf_core.specs.Blocks.{AreBound, pairs};
 ghost use Rattle.qbf_core.specs.declared.quantifier.Quantifier.TheVariants.{All};
 
@@ -23,12 +25,12 @@ fn variables_and_literals(rt: HostRuntime) {
     assert!(rt; Var::new(2147483648).is_none());
     let last = variable(&rt, 2147483647);
     assert_eq!(rt; last.number(), 2147483647);
-    is_turned(&rt, last);
+    assert_literals(&rt, last);
     assert!(rt; Lit::new(variable(&rt, 1), true) != Lit::new(variable(&rt, 1), false));
 }
 
 /// The literals of a variable after the first.
-fn is_turned(rt: &impl Abort, last: Var) {
+fn assert_literals(rt: &impl Abort, last: Var) {
     let lit = Lit::new(last, true);
     assert!(rt; lit.var() == last);
     assert!(rt; lit.is_negative());
@@ -47,10 +49,8 @@ fn variables_up_to_a_last_one(rt: HostRuntime) {
     assert!(rt; Var::up_to(0, 1).is_none());
 }
 
-#[test]
-fn a_new_prefix(rt: HostRuntime) {
-    assert_eq!(rt; Prefix::new(rt.alloc()).blocks(), 0);
-}
+/// Variables out of order, one of them the greatest.
+const FAR: &[u32] = &[1, 2147483647, 5];
 
 /// Quantifiers that alternate, so that each place is its own block.
 fn quantifier_at(place: usize) -> Quantifier {
@@ -64,6 +64,7 @@ fn quantifier_at(place: usize) -> Quantifier {
 /// The prefix that binds these variables in turn.
 fn bound_in_turn(rt: &impl Abort, alloc: Global, numbers: &[u32]) -> Result<Prefix, Fail> {
     let mut prefix = Prefix::new(alloc);
+    assert_eq!(rt; prefix.blocks(), 0);
     for (place, number) in numbers.iter().enumerate() {
         prefix.push(quantifier_at(place), variable(rt, *number))?;
     }
@@ -78,7 +79,7 @@ fn exists_then_all(rt: &impl Abort, alloc: Global) -> Result<Prefix, Fail> {
 }
 
 /// The prefix has three variables in two blocks, the last of them this one.
-fn ends_with(rt: &impl Abort, prefix: &Prefix, last: Var) {
+fn assert_ends_with(rt: &impl Abort, prefix: &Prefix, last: Var) {
     assert_eq!(rt; prefix.len(), 3);
     assert_eq!(rt; prefix.blocks(), 2);
     assert!(rt; prefix.pair(2) == (Quantifier::All, last));
@@ -88,12 +89,12 @@ fn ends_with(rt: &impl Abort, prefix: &Prefix, last: Var) {
 fn prefixes(rt: HostRuntime) -> Result<(), Fail> {
     let mut prefix = exists_then_all(&rt, rt.alloc())?;
     assert!(rt; prefix.push(Quantifier::Exists, variable(&rt, 2)) == Err(PrefixFault::B1));
-    ends_with(&rt, &prefix, variable(&rt, 1));
+    assert_ends_with(&rt, &prefix, variable(&rt, 1));
     Ok(())
 }
 
 /// What is told of variables that are bound.
-fn finds_bound(rt: &impl Abort, prefix: &Prefix) {
+fn assert_bound(rt: &impl Abort, prefix: &Prefix) {
     let two = variable(rt, 2);
     assert!(rt; prefix.quantifier(variable(rt, 7)) == Some(Quantifier::Exists));
     assert!(rt; prefix.block(variable(rt, 1)) == Some(1));
@@ -103,7 +104,7 @@ fn finds_bound(rt: &impl Abort, prefix: &Prefix) {
 }
 
 /// What is told of a variable that is not bound.
-fn finds_nothing(rt: &impl Abort, prefix: &Prefix, unbound: Var) {
+fn assert_unbound(rt: &impl Abort, prefix: &Prefix, unbound: Var) {
     assert!(rt; prefix.quantifier(unbound).is_none());
     assert!(rt; prefix.block(unbound).is_none());
     assert!(rt; prefix.block_bound_by(Quantifier::All, unbound).is_none());
@@ -113,13 +114,13 @@ fn finds_nothing(rt: &impl Abort, prefix: &Prefix, unbound: Var) {
 #[test]
 fn variables_of_a_prefix(rt: HostRuntime) -> Result<(), Fail> {
     let prefix = exists_then_all(&rt, rt.alloc())?;
-    finds_bound(&rt, &prefix);
-    finds_nothing(&rt, &prefix, variable(&rt, 3));
+    assert_bound(&rt, &prefix);
+    assert_unbound(&rt, &prefix, variable(&rt, 3));
     Ok(())
 }
 
 /// Each variable is found at its place, and not bound again.
-fn find_each(rt: &impl Abort, prefix: &mut Prefix, numbers: &[u32]) {
+fn assert_each_found(rt: &impl Abort, prefix: &mut Prefix, numbers: &[u32]) {
     for (place, number) in numbers.iter().enumerate() {
         let var = variable(rt, *number);
         assert!(rt; prefix.is_bound(var));
@@ -130,68 +131,34 @@ fn find_each(rt: &impl Abort, prefix: &mut Prefix, numbers: &[u32]) {
 }
 
 #[test]
-fn prefixes_in_falling_order(rt: HostRuntime) -> Result<(), Fail> {
-    let numbers = [9, 8, 7, 6, 5, 4, 3, 2, 1];
-    let mut prefix = bound_in_turn(&rt, rt.alloc(), &numbers)?;
-    find_each(&rt, &mut prefix, &numbers);
-    assert_eq!(rt; prefix.len(), 9);
-    assert!(rt; !prefix.is_bound(variable(&rt, 10)));
+fn prefixes_in_any_order(rt: HostRuntime) -> Result<(), Fail> {
+    let rows: [(&[u32], &[u32]); 2] = [
+        (&[9, 8, 7, 6, 5, 4, 3, 2, 1], &[10]),
+        (FAR, &[4, 2147483646]),
+    ];
+    for (numbers, unbound) in rows {
+        let mut prefix = bound_in_turn(&rt, rt.alloc(), numbers)?;
+        assert_each_found(&rt, &mut prefix, numbers);
+        assert_eq!(rt; prefix.len(), numbers.len());
+        for number in unbound {
+            assert!(rt; !prefix.is_bound(variable(&rt, *number)));
+        }
+    }
     Ok(())
 }
 
-#[test]
-fn prefixes_of_sparse_variables(rt: HostRuntime) -> Result<(), Fail> {
-    let numbers = [1, 2147483647, 5];
-    let mut prefix = bound_in_turn(&rt, rt.alloc(), &numbers)?;
-    find_each(&rt, &mut prefix, &numbers);
-    assert_eq!(rt; prefix.len(), 3);
-    assert!(rt; !prefix.is_bound(variable(&rt, 4)));
-    assert!(rt; !prefix.is_bound(variable(&rt, 2147483646)));
-    Ok(())
-}
-
-/// The prefix of one variable.
+/// The prefix of one variable, at the second try if an allocation fails.
 fn one_variable(alloc: Global, quantifier: Quantifier, var: Var) -> Result<Prefix, Fail>
     ensures { IfOk result (λ prefix. pairs prefix ≡ (quantifier, var) ∷ []) }
 {
     let mut prefix = Prefix::new(alloc);
-    prefix.push(quantifier, var)?;
-    Ok(prefix)
-}
-
-/// The formula of one universal variable and no clause, whose header allows five variables.
-fn no_clause(alloc: Global, one: Var) -> Result<Formula, Fail>
-    requires { one ≡ 1 }
-    ensures { IfOk result (λ formula. (pairs formula.blocks ≡ (All, one) ∷ [])
-        × (formula.clauses ≡ [])) }
-{
-    Ok(Formula::new(alloc, 5, one_variable(alloc, Quantifier::All, one)?))
-}
-
-/// That formula with a clause which has this literal twice.
-fn twice_in_a_clause(rt: &impl Abort, alloc: Global, lit: Lit) -> Result<Formula, Fail>
-    requires { lit.var ≡ 1 }
-{
-    let mut formula = no_clause(alloc, lit.var())?;
-    let clause = Vec::from_slice(alloc, &[lit, lit])?;
-    assert!(rt; formula.push_clause(clause).is_ok());
-    Ok(formula)
-}
-
-/// The formula has one clause, of these literals.
-fn has_one_clause(rt: &impl Abort, formula: &Formula, lits: &[Lit]) {
-    assert_eq!(rt; formula.clauses(), 1);
-    assert!(rt; formula.clause(0) == lits);
-}
-
-#[test]
-fn formulas(rt: HostRuntime) -> Result<(), Fail> {
-    let lit = Lit::new(variable(&rt, 1), true);
-    let formula = twice_in_a_clause(&rt, rt.alloc(), lit)?;
-    assert_eq!(rt; formula.max_var(), 5);
-    assert_eq!(rt; formula.prefix().len(), 1);
-    has_one_clause(&rt, &formula, &[lit, lit]);
-    Ok(())
+    match prefix.push(quantifier, var) {
+        Ok(()) => Ok(prefix),
+        Err(_) => {
+            prefix.push(quantifier, var)?;
+            Ok(prefix)
+        }
+    }
 }
 
 /// The list of one literal. Its negation is in a list that is only begun.
@@ -220,118 +187,99 @@ fn formulas_made_whole(rt: HostRuntime) -> Result<(), Fail> {
     let one = variable(&rt, 1);
     let lit = Lit::new(one, false);
     let formula = whole(&rt, rt.alloc(), one, lit)?;
-    has_one_clause(&rt, &formula, &[lit]);
+    assert_eq!(rt; formula.clauses(), 1);
+    assert!(rt; formula.clause(0) == [lit].as_slice());
     Ok(())
 }
 
-/// The prefix of an existential and, in it, a universal variable.
-fn two_blocks(alloc: Global, outer: Var, inner: Var) -> Result<Prefix, Fail> {
-    let mut prefix = Prefix::new(alloc);
-    prefix.push(Quantifier::Exists, outer)?;
-    prefix.push(Quantifier::All, inner)?;
-    Ok(prefix)
+/// The literal of a number, as QDIMACS writes it.
+fn literal(rt: &impl Abort, number: i32) -> Lit {
+    Lit::new(variable(rt, number.unsigned_abs()), number < 0)
 }
 
-/// The set holds this literal, and not its negation.
-fn has_with_sign(rt: &impl Abort, set: &LitSet, lit: Lit) {
-    assert!(rt; set.contains(lit));
-    assert!(rt; !set.contains(lit.negated()));
+/// The literals of these numbers.
+fn literals(rt: &impl Abort, alloc: Global, numbers: &[i32]) -> Result<Vec<Lit>, Fail> {
+    let mut lits = Vec::new(alloc);
+    for number in numbers {
+        lits.push(literal(rt, *number))?;
+    }
+    Ok(lits)
 }
 
-/// The same, and so says the search of its literals.
-fn is_told_with_sign(rt: &impl Abort, set: &LitSet, lit: Lit) {
-    has_with_sign(rt, set, lit);
-    assert!(rt; is_member(set.as_slice(), lit));
-    assert!(rt; !is_member(set.as_slice(), lit.negated()));
+/// Variables that are bound in turn, literals, and why they are no set; else the set in order, and
+/// literals that are not in it.
+type SetRow = (
+    &'static [u32],
+    &'static [i32],
+    Option<SetFault>,
+    &'static [i32],
+    &'static [i32],
+);
+
+const SETS: [SetRow; 7] = [
+    (&[1, 2], &[-2, 1, -2], None, &[1, -2], &[3]),
+    (&[1, 2], &[], None, &[], &[1]),
+    (&[1, 2], &[3, 1, -1], Some(SetFault::E1), &[], &[]),
+    (&[1, 2], &[3, 1], Some(SetFault::E2), &[], &[]),
+    // With gaps.
+    (
+        &[3, 4, 9, 12],
+        &[12, -4, -9],
+        None,
+        &[-4, -9, 12],
+        &[-3, -6, 13],
+    ),
+    // With far variables.
+    (
+        FAR,
+        &[-2147483647, 5, -1, 5],
+        None,
+        &[-1, 5, -2147483647],
+        &[4],
+    ),
+    (FAR, &[-2147483647, 5, -1, -5], Some(SetFault::E1), &[], &[]),
+];
+
+/// The set has these literals, by either look-up, and neither their negations nor those others.
+fn assert_set(rt: &impl Abort, set: &LitSet, wanted: &[Lit], absent: &[i32]) {
+    assert!(rt; set.as_slice() == wanted);
+    for lit in wanted {
+        assert!(rt; set.contains(*lit));
+        assert!(rt; is_member(set.as_slice(), *lit));
+        assert!(rt; !set.contains(lit.negated()));
+        assert!(rt; !is_member(set.as_slice(), lit.negated()));
+    }
+    for number in absent {
+        assert!(rt; !set.contains(literal(rt, *number)));
+    }
+}
+
+/// The set of these literals over the prefix, or its fault, is as the row says.
+fn assert_row(rt: &(impl Abort + AllocGlobal), prefix: &Prefix, row: &SetRow) -> Result<(), Fail> {
+    let (_, numbers, fault, wanted, absent) = *row;
+    let lits = literals(rt, rt.alloc(), numbers)?;
+    let wanted = literals(rt, rt.alloc(), wanted)?;
+    match LitSet::from_slice(rt.alloc(), &lits, prefix) {
+        Ok(set) => {
+            assert!(rt; fault.is_none());
+            assert_set(rt, &set, &wanted, absent);
+        }
+        Err(found) => assert!(rt; fault == Some(found)),
+    }
+    Ok(())
 }
 
 #[test]
 fn sets(rt: HostRuntime) -> Result<(), Fail> {
-    let alloc = rt.alloc();
-    let one = variable(&rt, 1);
-    let two = variable(&rt, 2);
-    let three = variable(&rt, 3);
-    let prefix = two_blocks(alloc, one, two)?;
-    let lits = [
-        Lit::new(two, true),
-        Lit::new(one, false),
-        Lit::new(two, true),
-    ];
-    let set = LitSet::from_slice(alloc, &lits, &prefix)?;
-    assert!(rt; set.as_slice() == [Lit::new(one, false), Lit::new(two, true)].as_slice());
-    is_told_with_sign(&rt, &set, Lit::new(two, true));
-    assert!(rt; !set.contains(Lit::new(three, false)));
-    Ok(())
-}
-
-#[test]
-fn sets_of_nothing(rt: HostRuntime) -> Result<(), Fail> {
-    let prefix = two_blocks(rt.alloc(), variable(&rt, 1), variable(&rt, 2))?;
-    let empty = LitSet::from_slice(rt.alloc(), &[], &prefix)?;
-    assert!(rt; empty.as_slice().is_empty());
-    Ok(())
-}
-
-/// Whether the literals are no set, by this fault.
-fn is_no_set(alloc: Global, prefix: &Prefix, lits: &[Lit], fault: SetFault) -> bool {
-    matches!(LitSet::from_slice(alloc, lits, prefix), Err(found) if found == fault)
-}
-
-#[test]
-fn literals_that_are_no_set(rt: HostRuntime) -> Result<(), Fail> {
-    let alloc = rt.alloc();
-    let one = variable(&rt, 1);
-    let three = variable(&rt, 3);
-    let prefix = two_blocks(alloc, one, variable(&rt, 2))?;
-    let clash = [
-        Lit::new(three, false),
-        Lit::new(one, false),
-        Lit::new(one, true),
-    ];
-    assert!(rt; is_no_set(alloc, &prefix, &clash, SetFault::E1));
-    let unbound = [Lit::new(three, false), Lit::new(one, false)];
-    assert!(rt; is_no_set(alloc, &prefix, &unbound, SetFault::E2));
-    Ok(())
-}
-
-/// The set of 12, -4 and -9 holds 12, and no literal of a variable between or behind its own.
-fn has_gaps(rt: &impl Abort, set: &LitSet) {
-    assert!(rt; set.contains(Lit::new(variable(rt, 12), false)));
-    assert!(rt; !set.contains(Lit::new(variable(rt, 3), true)));
-    assert!(rt; !set.contains(Lit::new(variable(rt, 6), true)));
-    assert!(rt; !set.contains(Lit::new(variable(rt, 13), false)));
-}
-
-#[test]
-fn sets_with_gaps(rt: HostRuntime) -> Result<(), Fail> {
-    let numbers = [3, 4, 9, 12];
-    let prefix = bound_in_turn(&rt, rt.alloc(), &numbers)?;
-    let four = Lit::new(variable(&rt, 4), true);
-    let nine = Lit::new(variable(&rt, 9), true);
-    let twelve = Lit::new(variable(&rt, 12), false);
-    let set = LitSet::from_slice(rt.alloc(), &[twelve, four, nine], &prefix)?;
-    has_with_sign(&rt, &set, four);
-    has_with_sign(&rt, &set, nine);
-    has_gaps(&rt, &set);
-    Ok(())
-}
-
-#[test]
-fn sets_of_far_variables(rt: HostRuntime) -> Result<(), Fail> {
-    let numbers = [1, 2147483647, 5];
-    let prefix = bound_in_turn(&rt, rt.alloc(), &numbers)?;
-    let one = Lit::new(variable(&rt, 1), true);
-    let five = Lit::new(variable(&rt, 5), false);
-    let last = Lit::new(variable(&rt, 2147483647), true);
-    let set = LitSet::from_slice(rt.alloc(), &[last, five, one, five], &prefix)?;
-    assert!(rt; set.as_slice() == [one, five, last].as_slice());
-    let clash = [last, five, one, five.negated()];
-    assert!(rt; is_no_set(rt.alloc(), &prefix, &clash, SetFault::E1));
+    for row in SETS {
+        let prefix = bound_in_turn(&rt, rt.alloc(), row.0)?;
+        assert_row(&rt, &prefix, &row)?;
+    }
     Ok(())
 }
 
 /// The lists of 7 and 9, of nothing, and of 4.
-fn are_three_lists(rt: &impl Abort, lists: &Lists<u64>) {
+fn assert_three_lists(rt: &impl Abort, lists: &Lists<u64>) {
     assert_eq!(rt; lists.len(), 3);
     assert!(rt; lists.get(0) == [7, 9].as_slice());
     assert!(rt; lists.get(1).is_empty());
@@ -339,7 +287,7 @@ fn are_three_lists(rt: &impl Abort, lists: &Lists<u64>) {
 }
 
 /// The lists of 7 and 9, and of 5.
-fn are_two_lists(rt: &impl Abort, lists: &Lists<u64>) {
+fn assert_two_lists(rt: &impl Abort, lists: &Lists<u64>) {
     assert_eq!(rt; lists.len(), 2);
     assert!(rt; lists.get(0) == [7, 9].as_slice());
     assert!(rt; lists.get(1) == [5].as_slice());
@@ -359,12 +307,12 @@ fn three_lists(rt: &impl Abort, alloc: Global) -> Result<Lists<u64>, Fail> {
 #[test]
 fn lists(rt: HostRuntime) -> Result<(), Fail> {
     let mut lists = three_lists(&rt, rt.alloc())?;
-    are_three_lists(&rt, &lists);
+    assert_three_lists(&rt, &lists);
     lists.pop();
     lists.pop();
     assert_eq!(rt; lists.len(), 1);
     lists.push(&[5])?;
-    are_two_lists(&rt, &lists);
+    assert_two_lists(&rt, &lists);
     Ok(())
 }
 
@@ -402,7 +350,7 @@ fn growing_lists(rt: HostRuntime) -> Result<(), Fail> {
     let growing = grown_lists(&rt, rt.alloc())?;
     assert_eq!(rt; growing.begun_len(), 1);
     assert_eq!(rt; growing.whole_len(), 3);
-    are_three_lists(&rt, &growing.into_lists());
+    assert_three_lists(&rt, &growing.into_lists());
     Ok(())
 }
 
@@ -452,7 +400,7 @@ fn binds_again_after_a_refusal(rt: HostRuntime) {
             variable(&rt, *number),
         );
     }
-    find_each(&rt, &mut prefix, &numbers);
+    assert_each_found(&rt, &mut prefix, &numbers);
     assert_eq!(rt; prefix.len(), 11);
 }
 
@@ -480,36 +428,6 @@ fn push_again(rt: &impl Abort, formula: &mut Formula, clause: Vec<Lit>)
     }
 }
 
-/// The prefix of one variable, at the second try if an allocation fails.
-fn one_block(alloc: Global, var: Var) -> Result<Prefix, Fail>
-    ensures { IfOk result (λ prefix. pairs prefix ≡ (All, var) ∷ []) }
-{
-    let mut prefix = Prefix::new(alloc);
-    match prefix.push(Quantifier::All, var) {
-        Ok(()) => Ok(prefix),
-        Err(_) => {
-            prefix.push(Quantifier::All, var)?;
-            Ok(prefix)
-        }
-    }
-}
-
-/// Adds these literals as a clause, at the second try if an allocation fails.
-fn add_again(
-    rt: &impl Abort,
-    alloc: Global,
-    formula: &mut Formula,
-    lits: &[Lit],
-) -> Result<(), Fail>
-    requires bound { AreBound formula.old.blocks lits.now }
-    requires few { length formula.old.clauses < 2147483647 }
-    ensures { OnOk result (formula.new
-        ≡ record formula.old { clauses = formula.old.clauses ++ lits.now ∷ [] }) }
-{
-    push_again(rt, formula, clause_of(alloc, lits)?);
-    Ok(())
-}
-
 /// Adds three clauses to a formula of one universal variable, each at the second try if an
 /// allocation fails.
 fn add_three_again(
@@ -523,22 +441,29 @@ fn add_three_again(
     requires empty { formula.old.clauses ≡ [] }
 {
     let (positive, negative) = (Lit::new(one, false), Lit::new(one, true));
-    add_again(rt, alloc, formula, &[positive, negative, positive])?;
-    add_again(rt, alloc, formula, &[])?;
-    add_again(rt, alloc, formula, &[negative; 5])
+    push_again(
+        rt,
+        formula,
+        clause_of(alloc, &[positive, negative, positive])?,
+    );
+    push_again(rt, formula, clause_of(alloc, &[])?);
+    push_again(rt, formula, clause_of(alloc, &[negative; 5])?);
+    Ok(())
 }
 
 /// A formula of one universal variable with three clauses, which are added at the second try if
-/// an allocation fails.
+/// an allocation fails. Its header allows five variables.
 fn three_clauses(rt: &impl Abort, alloc: Global) -> Result<Formula, Fail> {
     let one = variable(rt, 1);
-    let mut formula = Formula::new(alloc, 1, one_block(alloc, one)?);
+    let mut formula = Formula::new(alloc, 5, one_variable(alloc, Quantifier::All, one)?);
     add_three_again(rt, alloc, &mut formula, one)?;
     Ok(formula)
 }
 
 /// The formula has the clauses that were added.
-fn are_three_clauses(rt: &impl Abort, formula: &Formula, positive: Lit, negative: Lit) {
+fn assert_three_clauses(rt: &impl Abort, formula: &Formula, positive: Lit, negative: Lit) {
+    assert_eq!(rt; formula.max_var(), 5);
+    assert_eq!(rt; formula.prefix().len(), 1);
     assert_eq!(rt; formula.clauses(), 3);
     assert!(rt; formula.clause(0) == [positive, negative, positive].as_slice());
     assert!(rt; formula.clause(1).is_empty());
@@ -550,6 +475,6 @@ fn adds_clauses_again_after_a_refusal(rt: HostRuntime) -> Result<(), Fail> {
     let one = variable(&rt, 1);
     let (positive, negative) = (Lit::new(one, false), Lit::new(one, true));
     let formula = three_clauses(&rt, rt.alloc())?;
-    are_three_clauses(&rt, &formula, positive, negative);
+    assert_three_clauses(&rt, &formula, positive, negative);
     Ok(())
 }

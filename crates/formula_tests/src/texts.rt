@@ -7,31 +7,45 @@ use std::alloc::Global;
 use std::process::Abort;
 use std::test::Fail;
 
-/// A number without `-`.
-fn number(value: u64) -> Token {
-    Token::Number {
-        negative: false,
-        value,
-    }
+/// The end on the first line.
+const END: (Token, u64) = (Token::End, 1);
+
+/// A token that is none of a format, on the first line.
+const BAD: (Token, u64) = (Token::Bad, 1);
+
+/// A number without `-` on the first line.
+fn number(value: u64) -> (Token, u64) {
+    on_line(value, 1)
 }
 
-/// Scans a text in pieces of several sizes, and compares each token and its line.
-fn scans(rt: &impl Abort, comments: Comments, text: &[u8], wanted: &[(Token, u64)]) {
-    for piece in [1, 2, 3, 4096] {
-        let mut source = PieceSource::new(text, piece, 0);
-        let mut scanner = Scanner::new(comments);
-        for token in wanted {
-            let answer = scanner.next_token(&mut source);
-            assert_eq!(rt; answer, Ok(*token), "in pieces of {piece}");
-            if token.0 == Token::End {
-                stays(rt, &mut scanner, &mut source, answer);
+/// A number without `-` on a line.
+fn on_line(value: u64, line: u64) -> (Token, u64) {
+    let token = Token::Number {
+        negative: false,
+        value,
+    };
+    (token, line)
+}
+
+/// Scans texts in pieces of several sizes, and compares each token and its line.
+fn assert_scanned(rt: &impl Abort, comments: Comments, rows: &[(&[u8], &[(Token, u64)])]) {
+    for (text, wanted) in rows {
+        for piece in [1, 2, 3, 4096] {
+            let mut source = PieceSource::new(text, piece, 0);
+            let mut scanner = Scanner::new(comments);
+            for token in *wanted {
+                let answer = scanner.next_token(&mut source);
+                assert_eq!(rt; answer, Ok(*token), "in pieces of {piece}");
+                if token.0 == Token::End {
+                    assert_same_again(rt, &mut scanner, &mut source, answer);
+                }
             }
         }
     }
 }
 
 /// What was returned last is returned for good, and nothing is pulled.
-fn stays(
+fn assert_same_again(
     rt: &impl Abort,
     scanner: &mut Scanner,
     source: &mut PieceSource<'_>,
@@ -53,96 +67,52 @@ fn with_zeros(alloc: Global, front: &[u8], back: &[u8]) -> Result<Vec<u8>, Fail>
 }
 
 #[test]
-fn scans_worked_texts(rt: HostRuntime) {
+fn scans_formulas(rt: HostRuntime) {
     let minus_two = Token::Number {
         negative: true,
         value: 2,
     };
-    scans(&rt, Comments::Qdimacs, b"", &[(Token::End, 1)]);
-    scans(&rt, Comments::Qdimacs, b"\n", &[(Token::End, 2)]);
-    scans(
-        &rt,
-        Comments::Qdimacs,
-        b"1 -2 0",
-        &[
-            (number(1), 1),
-            (minus_two, 1),
-            (number(0), 1),
-            (Token::End, 1),
-        ],
-    );
-    scans(
-        &rt,
-        Comments::Qdimacs,
-        b"18446744073709551615 18446744073709551616",
-        &[
-            (number(18446744073709551615), 1),
-            (Token::Big, 1),
-            (Token::End, 1),
-        ],
-    );
-    let signs = [
-        (Token::Bad, 1),
-        (number(0), 1),
-        (Token::Bad, 1),
-        (number(7), 1),
-        (Token::End, 1),
+    let (cnf, big) = ((Token::Word(Word::Cnf), 1), (Token::Big, 1));
+    let last = number(18446744073709551615);
+    let rows: [(&[u8], &[(Token, u64)]); 9] = [
+        (b"", &[END]),
+        (b"\n", &[(Token::End, 2)]),
+        (b"1 -2 0", &[number(1), (minus_two, 1), number(0), END]),
+        (
+            b"18446744073709551615 18446744073709551616",
+            &[last, big, END],
+        ),
+        (b"-0 0 +3 007", &[BAD, number(0), BAD, number(7), END]),
+        (b"1\r\nc 2\n3", &[number(1), on_line(3, 3), (Token::End, 3)]),
+        (b"# x\n4", &[BAD, BAD, on_line(4, 2), (Token::End, 2)]),
+        (b"cnfcnf cnf", &[END]),
+        (b" 1 cnfcnf cnf", &[number(1), BAD, cnf, END]),
     ];
-    scans(&rt, Comments::Qdimacs, b"-0 0 +3 007", &signs);
+    assert_scanned(&rt, Comments::Qdimacs, &rows);
 }
 
 #[test]
-fn scans_comments_and_words(rt: HostRuntime) {
-    let crlf = [(number(1), 1), (number(3), 3), (Token::End, 3)];
-    let hash = [
-        (Token::Bad, 1),
-        (Token::Bad, 1),
-        (number(4), 2),
-        (Token::End, 2),
+fn scans_traces(rt: HostRuntime) {
+    let unsat = Token::Word(Word::Unsat);
+    let rows: [(&[u8], &[(Token, u64)]); 2] = [
+        (b"# x\n4", &[on_line(4, 2), (Token::End, 2)]),
+        (b"r UnSat", &[(Token::Word(Word::R), 1), (unsat, 1), END]),
     ];
-    let words = [
-        (Token::Word(Word::R), 1),
-        (Token::Word(Word::Unsat), 1),
-        (Token::End, 1),
-    ];
-    let runs = [
-        (number(1), 1),
-        (Token::Bad, 1),
-        (Token::Word(Word::Cnf), 1),
-        (Token::End, 1),
-    ];
-    scans(&rt, Comments::Qdimacs, b"1\r\nc 2\n3", &crlf);
-    scans(&rt, Comments::Qdimacs, b"# x\n4", &hash);
-    scans(&rt, Comments::Qrp, b"# x\n4", &hash[2..]);
-    scans(&rt, Comments::Qrp, b"r UnSat", &words);
-    scans(&rt, Comments::Qdimacs, b"cnfcnf cnf", &[(Token::End, 1)]);
-    scans(&rt, Comments::Qdimacs, b" 1 cnfcnf cnf", &runs);
+    assert_scanned(&rt, Comments::Qrp, &rows);
 }
 
 #[test]
 fn scans_long_tokens(rt: HostRuntime) -> Result<(), Fail> {
     let alloc = rt.alloc();
     let seven = with_zeros(alloc, b"", b"7")?;
-    scans(
-        &rt,
-        Comments::Qdimacs,
-        &seven,
-        &[(number(7), 1), (Token::End, 1)],
-    );
     let minus = with_zeros(alloc, b"-", b"")?;
-    scans(
-        &rt,
-        Comments::Qdimacs,
-        &minus,
-        &[(Token::Bad, 1), (Token::End, 1)],
-    );
     let one = with_zeros(alloc, b"1", b"")?;
-    scans(
-        &rt,
-        Comments::Qdimacs,
-        &one,
-        &[(Token::Big, 1), (Token::End, 1)],
-    );
+    let rows: [(&[u8], &[(Token, u64)]); 3] = [
+        (&seven, &[number(7), END]),
+        (&minus, &[BAD, END]),
+        (&one, &[(Token::Big, 1), END]),
+    ];
+    assert_scanned(&rt, Comments::Qdimacs, &rows);
     Ok(())
 }
 
@@ -160,7 +130,7 @@ fn fails_for_good(rt: HostRuntime) {
         }
         assert_eq!(rt; answer, Err(ScanFault), "at pull {fail_at}");
         assert_eq!(rt; source.pulls(), fail_at);
-        stays(&rt, &mut scanner, &mut source, answer);
+        assert_same_again(&rt, &mut scanner, &mut source, answer);
     }
 }
 
@@ -178,34 +148,33 @@ fn puts_numbers(rt: HostRuntime) -> Result<(), Fail> {
 }
 
 /// A sink with so much room takes a beginning of a text and fails.
-fn takes_a_beginning(rt: &impl Abort, sink: &mut PieceSink, text: &[u8], room: u64) {
+fn assert_beginning(rt: &impl Abort, sink: &mut PieceSink, text: &[u8], room: u64) {
     assert_eq!(rt; put_bytes(sink, text), Err(SinkFault));
     assert!(rt; text.starts_with(sink.bytes()), "with room {room}");
     assert_eq!(rt; sink.bytes().len() as u64, room);
 }
 
 /// A sink with less room than the text takes a beginning of it and fails, and works again.
-fn puts_a_beginning(
-    rt: &impl Abort,
-    alloc: Global,
+fn assert_put_up_to(
+    rt: &(impl Abort + AllocGlobal),
     text: &[u8],
     piece: usize,
     room: u64,
 ) -> Result<(), Fail>
     requires { 0 < piece }
 {
-    let mut sink = PieceSink::new(alloc, piece, Some(room), true, 0)?;
-    takes_a_beginning(rt, &mut sink, text, room);
+    let mut sink = PieceSink::new(rt.alloc(), piece, Some(room), true, 0)?;
+    assert_beginning(rt, &mut sink, text, room);
     assert_eq!(rt; sink.push(b"-1"), Ok(piece.min(2)));
     assert_eq!(rt; sink.finish(), Err(SinkFault));
     Ok(())
 }
 
 /// A sink with room for the text takes all of it.
-fn puts_all(rt: &impl Abort, alloc: Global, text: &[u8], piece: usize) -> Result<(), Fail>
+fn assert_put(rt: &(impl Abort + AllocGlobal), text: &[u8], piece: usize) -> Result<(), Fail>
     requires { 0 < piece }
 {
-    let mut sink = PieceSink::new(alloc, piece, Some(10), false, 10)?;
+    let mut sink = PieceSink::new(rt.alloc(), piece, Some(10), false, 10)?;
     put_bytes(&mut sink, text)?;
     sink.finish()?;
     assert_eq!(rt; sink.bytes(), text);
@@ -217,9 +186,9 @@ fn puts_pieces_within_room(rt: HostRuntime) -> Result<(), Fail> {
     let text = b"p cnf 2 2\n";
     for piece in [1, 4096] {
         for room in 0..10 {
-            puts_a_beginning(&rt, rt.alloc(), text, piece, room)?;
+            assert_put_up_to(&rt, text, piece, room)?;
         }
-        puts_all(&rt, rt.alloc(), text, piece)?;
+        assert_put(&rt, text, piece)?;
     }
     Ok(())
 }
@@ -229,12 +198,12 @@ fn pulls_no_more_than_the_limit(rt: HostRuntime) {
     let text = b"12 3";
     let mut scanner = Scanner::new(Comments::Qrp);
     let mut source = FromRead::new(text.as_slice(), 5);
-    for token in [number(12), number(3), Token::End] {
-        assert_eq!(rt; scanner.next_token(&mut source), Ok((token, 1)));
+    for token in [number(12), number(3), END] {
+        assert_eq!(rt; scanner.next_token(&mut source), Ok(token));
     }
     let mut scanner = Scanner::new(Comments::Qrp);
     let mut source = FromRead::new(text.as_slice(), 4);
-    assert_eq!(rt; scanner.next_token(&mut source), Ok((number(12), 1)));
+    assert_eq!(rt; scanner.next_token(&mut source), Ok(number(12)));
     assert_eq!(rt; scanner.next_token(&mut source), Err(ScanFault));
 }
 
@@ -257,12 +226,8 @@ fn sends_to_a_writer(rt: HostRuntime) -> Result<(), Fail> {
 fn scans_a_slice(rt: HostRuntime) {
     let mut source = SliceSource::new(b"r sat");
     let mut scanner = Scanner::new(Comments::Qrp);
-    assert_eq!(rt;
-        scanner.next_token(&mut source),
-        Ok((Token::Word(Word::R), 1))
-    );
-    assert_eq!(rt;
-        scanner.next_token(&mut source),
-        Ok((Token::Word(Word::Sat), 1))
-    );
+    for word in [Word::R, Word::Sat] {
+        let token = scanner.next_token(&mut source);
+        assert_eq!(rt; token, Ok((Token::Word(word), 1)));
+    }
 }
