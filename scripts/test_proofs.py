@@ -57,7 +57,7 @@ if verb == "lib":
         print("error: not this"), sys.exit(1)
     (here / "out/rlib").mkdir(parents=True, exist_ok=True)
     sys.exit(0)
-said, calls_first = [], []
+said = []
 for file, text in texts.items():
     module = [] if file.stem == "lib" else [file.stem]
     for name, body in re.findall(r"\bfn (\w+)(.*?)(?=\bfn \w|\Z)", text, re.S):
