@@ -18,7 +18,7 @@ use Rattle.decimal.proofs.Moved.{bytes_from}
 digit_small : (b : ℕ) → b < 256 → is_ascii_digit b ≡ true → digit_value b < 10
 digit_small b fits digit = ltb-true _ _ (sym (agree_below_at is_ascii_digit (λ x. is_small (digit_value x)) 256 b refl fits) ∙ digit)
 
-all_front : (n : ℕ) (bs : List ℕ) → Bytes bs → n ≡ prefix_len is_ascii_digit bs → AllDigits 10 (take n bs)
+all_front : (n : ℕ) (bs : List ℕ) → Bytes bs → n ≤ prefix_len is_ascii_digit bs → AllDigits 10 (take n bs)
 all_front zero bs h e = tt
 all_front (suc n) [] h e = absurd (omega arith)
 all_front (suc n) (b ∷ bs) h e =
@@ -48,11 +48,9 @@ front_fits xs fits room i =
       | inr high ↦ subst (λ b. b < 256) (sym (get_or_past (take 8 xs) i 0 (omega (arith, length-take-le 8 xs room)))) (omega arith)
     ]
 
--- digits from a place on in the first eight bytes, read as one word, and a byte after them there
-module _ (bytes e : List ℕ) (from w n v : ℕ) (fits : (i : ℕ) → get_or bytes i 0 < 256) (chunk : IsFirstChunk bytes e 8)
-    (read : w ≡ from_le_bytes w64 e) (range : w < 2 ^ 64)
-    (run : n ≡ prefix_len is_ascii_digit (to_le_bytes w64 (w / 2 ^ (8 * from)))) (few : from + n < 8)
-    (value : v ≡ digits_value 10 (take n (to_le_bytes w64 (w / 2 ^ (8 * from))))) where
+-- n bytes from a place on among the first eight, read as one word
+module _ (bytes e : List ℕ) (from w n : ℕ) (fits : (i : ℕ) → get_or bytes i 0 < 256) (chunk : IsFirstChunk bytes e 8)
+    (read : w ≡ from_le_bytes w64 e) (range : w < 2 ^ 64) (few : from + n ≤ 8) where
   abbrev eight : List ℕ
   eight = take 8 bytes
 
@@ -74,36 +72,40 @@ module _ (bytes e : List ℕ) (from w n v : ℕ) (fits : (i : ℕ) → get_or by
   rest : drop from eight ≡ take (8 - from) (drop from bytes)
   rest = let parts : 8 ≡ from + (8 - from) = omega arith in ap (λ k. drop from (take k bytes)) parts ∙ drop-take from (8 - from) bytes
 
-  front : take n shifted ≡ take n (drop from bytes)
+  pub front : take n shifted ≡ take n (drop from bytes)
   front =
       ap (take n) moved
       ∙ front_of n (drop from eight) (replicate from 0) (omega (arith, left))
       ∙ ap (take n) rest
       ∙ take-take n (8 - from) (drop from bytes) (omega arith)
 
-  stop : is_ascii_digit (get_or shifted n 0) ≡ false
-  stop =
-      let small : n < 8 = omega arith in
-      subst (λ k. is_ascii_digit (get_or shifted k 0) ≡ false) (sym run)
-      (prefix_len_stops is_ascii_digit shifted 0 (subst (λ k. k < 8) run small))
+  pub all_read : n ≤ prefix_len is_ascii_digit shifted → AllDigits 10 (take n (drop from bytes))
+  all_read run = subst (AllDigits 10) front (all_front n shifted (bytes_fit (w / 2 ^ (8 * from))) run)
 
-  there : get_or shifted n 0 ≡ get_or bytes (from + n) 0
-  there =
-      ap (λ l. get_or l n 0) moved
-      ∙ byte_of n (drop from eight) (replicate from 0) (omega (arith, left))
-      ∙ get_or-drop from eight n 0
-      ∙ get_or-take 8 bytes (from + n) 0 few
+  -- as many digits as there are, and a byte after them there
+  module _ (v : ℕ) (run : n ≡ prefix_len is_ascii_digit shifted) (fewer : from + n < 8) (value : v ≡ digits_value 10 (take n shifted)) where
+    stop : is_ascii_digit (get_or shifted n 0) ≡ false
+    stop =
+        let small : n < 8 = omega arith in
+        subst (λ k. is_ascii_digit (get_or shifted k 0) ≡ false) (sym run)
+        (prefix_len_stops is_ascii_digit shifted 0 (subst (λ k. k < 8) run small))
 
-  back : from + n - from ≡ n
-  back = omega arith
+    there : get_or shifted n 0 ≡ get_or bytes (from + n) 0
+    there =
+        ap (λ l. get_or l n 0) moved
+        ∙ byte_of n (drop from eight) (replicate from 0) (omega (arith, left))
+        ∙ get_or-drop from eight n 0
+        ∙ get_or-take 8 bytes (from + n) 0 fewer
 
-  pub read_as_word : AreDigits bytes from (from + n) v
-  read_as_word = record {
-    order = omega arith;
-    within = omega (arith, chunk.enough);
-    few = omega arith;
-    digits = subst (λ k. AllDigits 10 (take k (drop from bytes))) (sym back)
-        (subst (AllDigits 10) front (all_front n shifted (bytes_fit (w / 2 ^ (8 * from))) run));
-    value_is = value ∙ ap (digits_value 10) front ∙ ap (λ k. digits_value 10 (take k (drop from bytes))) (sym back);
-    stops = subst (λ b. is_ascii_digit b ≡ false) there stop;
-  }
+    back : from + n - from ≡ n
+    back = omega arith
+
+    pub read_as_word : AreDigits bytes from (from + n) v
+    read_as_word = record {
+      order = omega arith;
+      within = omega (arith, chunk.enough);
+      few = omega arith;
+      digits = subst (λ k. AllDigits 10 (take k (drop from bytes))) (sym back) (all_read (omega (arith, run)));
+      value_is = value ∙ ap (digits_value 10) front ∙ ap (λ k. digits_value 10 (take k (drop from bytes))) (sym back);
+      stops = subst (λ b. is_ascii_digit b ≡ false) there stop;
+    }

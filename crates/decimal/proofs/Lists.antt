@@ -1,11 +1,11 @@
 -- A word by its list of bytes: `^`, `<<`, and the digits at its front.
-use Rattle.std.proofs.Common.{ℕ, zero, suc, ◌≡◌, ◌+◌, ◌*◌, ◌%◌, ◌^◌, ◌<◌, true, cond, eqb, List, [], ◌∷◌, ◌++◌, map, take, replicate}
+use Rattle.std.proofs.Common.{ℕ, zero, suc, ◌≡◌, ◌+◌, ◌*◌, ◌%◌, ◌^◌, ◌<◌, ◌≤◌, true, cond, eqb, List, [], ◌∷◌, ◌++◌, map, take, replicate}
 use Rattle.std.proofs.Common.{length, arith, bit_xor, refl, sym, ap, ap₂, ◌∙◌, inl, inr}
 use Rattle.std.specs.List.{prefix_len}
 use Rattle.std.specs.Char.{is_ascii_digit, digit_value}
 use Rattle.std.specs.Int.{w64, to_le_bytes, from_le_bytes}
 use Rattle.std.specs.Int.Digits.{number_from_digits, number_from_digits_after, AllBelowBase}
-use Rattle.std.proofs.lemmas.Bool.{agree_below_at, eqb-true, ltb-true, cond-true, cond-false, cases_Bool}
+use Rattle.std.proofs.lemmas.Bool.{agree_below_at, eqb-true, ltb-true, lt-ltb, cond-true, cond-false, cases_Bool}
 use Rattle.std.proofs.lemmas.Nat.{xor_block, xor_lt, pow-add, mod_low, shl_below, from_le_bytes-to_le_bytes_8, mod_below}
 use Rattle.std.proofs.lemmas.Int.Digits.{number_after_append}
 use Rattle.decimal.specs.Word.{word}
@@ -61,8 +61,8 @@ pub turned_run : (bs : List ℕ) → Bytes bs → prefix_len is_small (map turne
 turned_run [] h = refl
 turned_run (b ∷ bs) h = ap₂ (λ t k. cond t (1 + k) 0) (turned_small b h.0) (turned_run bs h.1)
 
--- ---- the front of n digits
-pub front : (n : ℕ) (bs : List ℕ) → Bytes bs → n ≡ prefix_len is_ascii_digit bs
+-- ---- a front of n digits
+pub front : (n : ℕ) (bs : List ℕ) → Bytes bs → n ≤ prefix_len is_ascii_digit bs
     → (take n (map turned bs) ≡ map digit_value (take n bs)) × AllBelowBase 10 (take n (map turned bs))
 front zero bs h e = (refl, tt)
 front (suc n) [] h e = absurd (omega arith)
@@ -77,6 +77,19 @@ front (suc n) (b ∷ bs) h e =
           let p : prefix_len is_ascii_digit (b ∷ bs) ≡ 0 = cond-false _ _ _ other in
           absurd (omega (arith, e, p))
     ]
+
+-- bytes that `^` makes digits of are ASCII digits
+pub turned_digits : (n : ℕ) (bs : List ℕ) → Bytes bs → n ≤ length bs → AllBelowBase 10 (take n (map turned bs)) → n ≤ prefix_len is_ascii_digit bs
+turned_digits zero bs h few below = omega arith
+turned_digits (suc n) [] h few below = absurd (omega (arith, few))
+turned_digits (suc n) (b ∷ bs) h few below =
+    let digit : is_ascii_digit b ≡ true = sym (turned_small b h.0) ∙ lt-ltb (turned b) 10 below.0 in
+    let p : prefix_len is_ascii_digit (b ∷ bs) ≡ 1 + prefix_len is_ascii_digit bs = cond-true _ _ _ digit in
+    omega (arith, p, turned_digits n bs h.1 (omega (arith, few)) below.1)
+
+pub after_zeros : (z : ℕ) (ds : List ℕ) → AllBelowBase 10 (replicate z 0 ++ ds) → AllBelowBase 10 ds
+after_zeros zero ds h = h
+after_zeros (suc z) ds h = after_zeros z ds h.1
 
 -- ---- zeros before the digits
 pub zeros_value : (z : ℕ) → number_from_digits_after 10 0 (replicate z 0) ≡ 0

@@ -3,6 +3,7 @@ use Rattle.std.proofs.Common.{ℕ, zero, suc, ◌≡◌, ◌+◌, ◌*◌, ◌/�
 use Rattle.std.proofs.Common.{arith, bit_and, bit_or, refl, sym, ap, ◌∙◌, inl, inr}
 use lib.Count.{count_trailing_zeros, under}
 use Rattle.std.specs.List.{prefix_len}
+use Rattle.std.specs.Int.Digits.{AllBelowBase}
 use Rattle.std.proofs.lemmas.Bool.{agree_below_at, eqb-true, cond-true, cond-false, cases_lt, lt-ltb, le-ltb}
 use Rattle.std.proofs.lemmas.Nat.{and_block, or_block, mod-pow-add, or_of_8}
 use Rattle.decimal.specs.Word.{word}
@@ -103,6 +104,18 @@ more_large : (n t b : ℕ) → b < 256 → 10 ≤ b → marks (suc n) (t * 256 +
 more_large n t b fits large =
     let mark : byte_mark b ≡ 128 = low_mark b fits ∙ cond-false _ _ _ (le-ltb b 10 large) in
     omega (arith, more n t b fits, mark)
+
+-- where no byte is marked, each is below ten
+pub no_mark : (bs : List ℕ) → Bytes bs → marks (length bs) (word bs) ≡ 0 → AllBelowBase 10 bs
+unfolding word
+no_mark [] h e = tt
+no_mark (b ∷ bs) h e =
+    let n = length bs in
+    let t = word bs in
+    elim (cases_lt b 10) [
+      | inl small ↦ (small, no_mark bs h.1 (omega (arith, e, more_small n t b small)))
+      | inr large ↦ absurd (omega (arith, e, more_large n t b h.0 large))
+    ]
 
 -- the place of the first mark
 pub first_mark : (bs : List ℕ) → Bytes bs

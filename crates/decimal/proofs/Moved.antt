@@ -15,6 +15,7 @@ use Rattle.std.proofs.lemmas.Int.Digits.{digits_value_is}
 use Rattle.decimal.specs.Word.{word}
 use Rattle.decimal.proofs.Masks.{splat, wide, Bytes, marks, first_mark}
 use Rattle.decimal.proofs.Lists.{wide_is, word_lt, word_append, word_zeros, turned, xored, turned_bytes, turned_run, front, zeros_before}
+use Rattle.decimal.proofs.Lists.{turned_digits, after_zeros}
 use Rattle.decimal.proofs.Lists.{zeros_below, shifted, word_bytes, bytes_fit}
 
 pub turned_word : (w : ℕ) → w < 2 ^ 64 → bit_xor w (splat 48 8) ≡ word (map turned (to_le_bytes w64 w))
@@ -107,7 +108,7 @@ moved n ts few long h =
     word_append (replicate z 0) xs ∙ ap₂ (λ k l. word xs * 2 ^ k + l) wide_z (word_zeros z) ∙ omega arith in
     ap (λ k. k * 2 ^ (64 - 8 * n) % 2 ^ 64) split ∙ out ∙ sym back
 
-module _ (w n : ℕ) (fits : w < 2 ^ 64) (run : n ≡ prefix_len is_ascii_digit (to_le_bytes w64 w)) (few : n ≤ 8) where
+module _ (w n : ℕ) (fits : w < 2 ^ 64) (few : n ≤ 8) where
   pub bytes_moved : to_le_bytes w64 (bit_xor w (splat 48 8) * 2 ^ (64 - 8 * n) % 2 ^ 64)
       ≡ replicate (8 - n) 0 ++ take n (map turned (to_le_bytes w64 w))
   bytes_moved =
@@ -123,12 +124,19 @@ module _ (w n : ℕ) (fits : w < 2 ^ 64) (run : n ≡ prefix_len is_ascii_digit 
       same_bytes (to_le_bytes w64 s) (replicate (8 - n) 0 ++ take n ts) (bytes_fit s) (zeros_bytes (8 - n) _ (take_bytes n ts tb))
       (sym long) (word_bytes s small ∙ is)
 
-  pub moved_below : AllBelowBase 10 (to_le_bytes w64 (bit_xor w (splat 48 8) * 2 ^ (64 - 8 * n) % 2 ^ 64))
-  moved_below = subst (AllBelowBase 10) (sym bytes_moved) (zeros_below (8 - n) _ (front n (to_le_bytes w64 w) (bytes_fit w) run).1)
+  -- digits that were moved were digits
+  pub digits_moved : AllBelowBase 10 (to_le_bytes w64 (bit_xor w (splat 48 8) * 2 ^ (64 - 8 * n) % 2 ^ 64))
+      → n ≤ prefix_len is_ascii_digit (to_le_bytes w64 w)
+  digits_moved below =
+      turned_digits n (to_le_bytes w64 w) (bytes_fit w) few (after_zeros (8 - n) _ (subst (AllBelowBase 10) bytes_moved below))
 
-  pub moved_value : number_from_digits 10 (to_le_bytes w64 (bit_xor w (splat 48 8) * 2 ^ (64 - 8 * n) % 2 ^ 64))
-      ≡ digits_value 10 (take n (to_le_bytes w64 w))
-  moved_value =
-      let bs = to_le_bytes w64 w in
-      ap (number_from_digits 10) bytes_moved ∙ zeros_before (8 - n) (take n (map turned bs))
-      ∙ ap (number_from_digits 10) (front n bs (bytes_fit w) run).0 ∙ sym (digits_value_is 10 (take n bs))
+  module _ (run : n ≤ prefix_len is_ascii_digit (to_le_bytes w64 w)) where
+    pub moved_below : AllBelowBase 10 (to_le_bytes w64 (bit_xor w (splat 48 8) * 2 ^ (64 - 8 * n) % 2 ^ 64))
+    moved_below = subst (AllBelowBase 10) (sym bytes_moved) (zeros_below (8 - n) _ (front n (to_le_bytes w64 w) (bytes_fit w) run).1)
+
+    pub moved_value : number_from_digits 10 (to_le_bytes w64 (bit_xor w (splat 48 8) * 2 ^ (64 - 8 * n) % 2 ^ 64))
+        ≡ digits_value 10 (take n (to_le_bytes w64 w))
+    moved_value =
+        let bs = to_le_bytes w64 w in
+        ap (number_from_digits 10) bytes_moved ∙ zeros_before (8 - n) (take n (map turned bs))
+        ∙ ap (number_from_digits 10) (front n bs (bytes_fit w) run).0 ∙ sym (digits_value_is 10 (take n bs))

@@ -4,4 +4,4 @@
 mod number;
 mod word;
 
-pub use number::digits;
+pub use number::{digits, number_between};

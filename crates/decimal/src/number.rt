@@ -6,7 +6,7 @@ ghost use Rattle.std.specs.Char.{is_ascii_digit};
 ghost use Rattle.std.specs.Str.Parse.{digits_value, AllDigits};
 ghost use Rattle.decimal.specs.Digits.{AreDigits};
 
-use crate::word::short;
+use crate::word::{of_len, short};
 
 /// At most this many digits are read: more than these, but for leading zeros, do not fit.
 const MOST: usize = 20;
@@ -65,6 +65,27 @@ fn by_word(bytes: &[u8], from: usize) -> Option<(u64, usize)>
         return None;
     }
     Some((value, end))
+}
+
+/// The number that is written from one place to another before it among the first eight bytes, or
+/// `None` if one of the bytes there is no decimal digit, or not all eight are there.
+///
+/// It looks at no byte after these, so that the next place does not wait for what stands here.
+#[inline(always)]
+pub fn number_between(bytes: &[u8], from: usize, end: usize) -> Option<u64>
+    requires { (from < end) × (end ≤ 8) }
+    ensures within { IfSome result (λ _. 8 ≤ length bytes.now) }
+    ensures digits { IfSome result (λ _. AllDigits 10 (take (end - from) (drop from bytes.now))) }
+    ensures value { IfSome result
+        (λ v. v ≡ digits_value 10 (take (end - from) (drop from bytes.now))) }
+{
+    let Some(eight) = bytes.first_chunk::<8>() else {
+        return None;
+    };
+    of_len(
+        u64::from_le_bytes(*eight) >> (8 * from),
+        (end - from) as u32,
+    )
 }
 
 /// The value of the decimal digits from the place `from` on, at most 20 of them and as far as

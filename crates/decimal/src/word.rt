@@ -1,6 +1,6 @@
 //! Decimal digits in a machine word of eight bytes, the first of them the lowest.
 
-ghost use Rattle.std.specs.Prelude.{◌⊎◌, MatchOption, ◌≡◌, ◌<◌, take};
+ghost use Rattle.std.specs.Prelude.{◌⊎◌, MatchOption, IfSome, ◌≡◌, ◌<◌, ◌≤◌, true, take};
 ghost use Rattle.std.specs.Char.{is_ascii_digit};
 ghost use Rattle.std.specs.List.{prefix_len};
 ghost use Rattle.std.specs.Int.{w64, to_le_bytes};
@@ -38,6 +38,29 @@ fn eight_digits(digits: u64) -> u64
     let odd = (pairs & FIRST_OF_FOUR).wrapping_mul(0x000F424000000064);
     let even = ((pairs >> 16) & FIRST_OF_FOUR).wrapping_mul(0x0000271000000001);
     odd.wrapping_add(even) >> 32
+}
+
+/// Whether each of the word's bytes is below ten, so that the addition marks none.
+#[inline(always)]
+fn are_digits(word: u64) -> bool
+    ensures { result ≡ true → AllBelowBase 10 (to_le_bytes w64 word) }
+{
+    (word.wrapping_add(0x7676767676767676) | word) & 0x8080808080808080 == 0
+}
+
+/// The decimal number of `len` digits that the word's bytes begin with, from the lowest on, or
+/// `None` if one of them is no digit.
+#[inline(always)]
+pub fn of_len(word: u64, len: u32) -> Option<u64>
+    requires { (0 < len) × (len ≤ 8) }
+    ensures { IfSome result (λ v. (len ≤ prefix_len is_ascii_digit (to_le_bytes w64 word))
+        × (v ≡ digits_value 10 (take len (to_le_bytes w64 word)))) }
+{
+    let digits = (word ^ ZEROS) << (64 - 8 * len);
+    if !are_digits(digits) {
+        return None;
+    }
+    Some(eight_digits(digits))
 }
 
 /// The decimal number that the word's bytes begin with, from the lowest on, and how many digits it

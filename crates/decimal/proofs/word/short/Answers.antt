@@ -8,11 +8,11 @@ between n few some other = (omega arith, omega arith)
 pub eight_digits-requires : goal.eight_digits-requires
 eight_digits-requires c =
     let len = c.digit_run-len in
-    moved_below c.args.word len.result c.ranges.word.fits len.ensures (at_most c.args.word len.result len.ensures)
+    moved_below c.args.word len.result c.ranges.word.fits (at_most c.args.word len.result len.ensures) (omega (arith, len.ensures))
 
 pub returns : goal.returns
 returns c =
     let len = c.digit_run-len in
     let few = at_most c.args.word len.result len.ensures in
     let inside = between len.result few c.if-len-eq0.false c.if-len-eq8.false in
-    (len.ensures, inside.0, inside.1, c.eight_digits.ensures ∙ moved_value c.args.word len.result c.ranges.word.fits len.ensures few)
+    (len.ensures, inside.0, inside.1, c.eight_digits.ensures ∙ moved_value c.args.word len.result c.ranges.word.fits few (omega (arith, len.ensures)))
