@@ -3,6 +3,7 @@ use Rattle.std.proofs.Common.{◌≡◌, ℕ, ◌+◌, ◌^◌, ◌<◌, ◌≤�
 use Rattle.std.proofs.Common.{subst, take, ◌-◌, zero, suc, append_assoc, arith, Option, Some, None, ◌⊎◌, inl, inr, length-drop, length-append}
 use Rattle.std.proofs.lemmas.List.{take-append-drop, drop-drop, take_all}
 use Rattle.qbf_text.specs.declared.hand.Cursor.{Cursor}
+use Rattle.qbf_text.specs.declared.hand.LikelyEnds.{LikelyEnds}
 use Rattle.qbf_text.specs.declared.token.Comments.{Comments}
 use Rattle.qbf_text.specs.declared.token.Token.{Token}
 use Rattle.qbf_text.specs.declared.token.Token.TheVariants.{Number}
@@ -35,17 +36,17 @@ zero_or : (n : ℕ) → (n ≡ 0) ⊎ (0 < n)
 zero_or zero = inl refl
 zero_or (suc n) = inr (omega arith)
 
-module _ (bytes : List ℕ) (here : Cursor) (negative : Bool) (value len : ℕ) (ends : Bool)
+module _ (bytes : List ℕ) (here : Cursor) (likely : LikelyEnds) (negative : Bool) (value len : ℕ) (ends : Bool)
     (h : BeginsWithNumber (drop here.at bytes) negative value len ends) (small : here.line < 2 ^ 64) where
   spelled : (ends_line : Bool) → ends_line ≡ ends → (format : Comments) (rest : List ℕ)
       → tokens_from_cursor format here ((h.run ++ h.behind ∷ []) ++ rest)
-      ≡ (Number negative value, here.line) ∷ tokens_from_cursor format (behind here len ends_line) rest
+      ≡ (Number negative value, here.line) ∷ tokens_from_cursor format (behind here likely len ends_line) rest
   spelled true e format rest =
       spelled_ending format here.begun here.line (drop here.at bytes) negative value len ends h small (sym e) rest
   spelled false e format rest =
       spelled_blanked format here.begun here.line (drop here.at bytes) negative value len ends h small (sym e) rest
 
-  at_behind : (ends_line : Bool) → (behind here len ends_line).at ≡ here.at + len
+  at_behind : (ends_line : Bool) → (behind here likely len ends_line).at ≡ here.at + len
   at_behind true = refl
   at_behind false = refl
 
@@ -57,7 +58,7 @@ module _ (bytes : List ℕ) (here : Cursor) (negative : Bool) (value len : ℕ) 
   ]
 
   -- a number in front of the bytes from the cursor on is passed
-  pub passes_number : here.at ≤ length bytes → PassesNumber bytes here (behind here len ends) (Number negative value)
+  pub passes_number : here.at ≤ length bytes → PassesNumber bytes here (behind here likely len ends) (Number negative value)
   passes_number within = record {
     word = h.run;
     behind = h.behind;

@@ -3,6 +3,7 @@ use Rattle.std.specs.Prelude.{◌≡◌, ℕ, ◌+◌, ◌<◌, ◌≤◌, Bool,
 use Rattle.std.specs.Prelude.{None}
 use Rattle.qbf_text.specs.Ahead.{ahead}
 use Rattle.qbf_text.specs.declared.hand.Cursor.{Cursor}
+use Rattle.qbf_text.specs.declared.hand.LikelyEnds.{LikelyEnds}
 use Rattle.qbf_text.specs.declared.token.Comments.{Comments}
 use Rattle.qbf_text.specs.declared.token.Token.{Token}
 use Rattle.qbf_text.specs.declared.token.Token.TheVariants.{Number}
@@ -27,13 +28,17 @@ pub record BeginsWithNumber (bytes : List ℕ) (negative : Bool) (value len : �
   pub ends : ends_line ≡ is_line_end behind
 
 -- the cursor after a number and its separator, which take so many bytes
-abbrev pub behind : Cursor → ℕ → Bool → Cursor
-behind here len true = record { at = here.at + len; line = counted (here.line + 1); begun = false }
-behind here len false = record { at = here.at + len; line = here.line; begun = true }
+abbrev pub behind : Cursor → LikelyEnds → ℕ → Bool → Cursor
+behind here ends len true = record { at = here.at + len; line = counted (here.line + 1); begun = false; ends = ends }
+behind here ends len false = record { at = here.at + len; line = here.line; begun = true; ends = ends }
+
+-- no byte was looked at for where numbers end: the first are those after this place and 64 more
+abbrev pub nothing_known : LikelyEnds
+nothing_known = record { block = 18446744073709551552; marks = 0 }
 
 -- where the first of the bytes at hand stands
 abbrev pub cursor : Reading → Cursor
-cursor r = record { at = 0; line = r.line; begun = r.begun }
+cursor r = record { at = 0; line = r.line; begun = r.begun; ends = nothing_known }
 
 -- a scanner that went to a cursor
 abbrev pub moved : Reading → Cursor → Reading

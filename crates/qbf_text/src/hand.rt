@@ -1,4 +1,7 @@
 //! Numbers that stand whole among the bytes at hand.
+//!
+//! They are taken in two ways: any number by its bytes alone, and the usual ones by where they seem
+//! to end, which is looked up for 64 bytes at once: so the next one need not wait for the last.
 
 ghost use Rattle.std.specs.Prelude.{◌≡◌, ◌+◌, ◌^◌, ◌<◌, ◌≤◌, ◌&&◌, false, nat_eq, length};
 ghost use Rattle.std.specs.Prelude.{IfSome};
@@ -7,7 +10,8 @@ ghost use Rattle.qbf_text.specs.Passing.{BeginsWithNumber, PassesNumber};
 
 use crate::separators::is_separator;
 use crate::token::Token;
-use decimal::digits;
+use decimal::{digits, number_between};
+use std::simd::prelude::*;
 
 /// A number, and the separator after it.
 #[derive(Clone, Copy)]
@@ -90,6 +94,100 @@ pub fn number_in_front(bytes: &[u8]) -> Option<Found>
     }
 }
 
+/// The number that the bytes begin with, if it has at most eight bytes, a blank follows it at the
+/// place `end`, and it is not 0.
+#[inline(always)]
+fn number_before(bytes: &[u8], end: usize) -> Option<Found>
+    ensures { IfSome result (λ f. BeginsWithNumber bytes.now f.negative f.value f.len f.ends_line) }
+{
+    let negative = begins_with_minus(bytes);
+    let start = usize::from(negative);
+    if end <= start || end > 8 || bytes.len() <= 8 {
+        return None;
+    }
+    let value = number_between(bytes, start, end)?;
+    if value == 0 || bytes[end] != b' ' {
+        return None;
+    }
+    Some(Found {
+        negative,
+        value,
+        len: end + 1,
+        ends_line: false,
+    })
+}
+
+/// How many bytes are looked at together for where numbers end.
+const BLOCK: usize = 64;
+
+/// A bit for each of the first 64 bytes, the lowest for the first, whether it is at most a blank, as
+/// separators are.
+#[inline(always)]
+fn marks_of(block: &[u8]) -> u64
+    requires { 64 ≤ length block.now }
+{
+    u8x64::from_slice(block)
+        .simd_le(u8x64::splat(b' '))
+        .to_bitmask()
+}
+
+/// Where the next numbers seem to end among the bytes at hand. A number is taken only if it does end
+/// there, so that no contract says anything of this.
+#[derive(Clone, Copy)]
+pub struct LikelyEnds {
+    /// The place of the 64 bytes that were looked at last.
+    pub block: usize,
+    /// A bit for each of them at which a number seems to end, but for those that were passed.
+    pub marks: u64,
+}
+
+impl LikelyEnds {
+    ghost use Rattle.qbf_text.specs.Passing.{nothing_known};
+
+    /// None, where nothing was looked at yet.
+    fn nothing_known() -> LikelyEnds
+        ensures { result ≡ nothing_known }
+    {
+        LikelyEnds {
+            block: usize::MAX - 63,
+            marks: 0,
+        }
+    }
+
+    /// Those of the bytes from a place on, as many as are looked at together.
+    #[inline(always)]
+    fn look(bytes: &[u8], from: usize) -> LikelyEnds {
+        let len = bytes.len();
+        if from >= len || len < BLOCK {
+            return LikelyEnds {
+                block: from,
+                marks: 0,
+            };
+        }
+        let block = from.min(len - BLOCK);
+        LikelyEnds {
+            block,
+            marks: marks_of(&bytes[block..]) & (u64::MAX << (from - block).min(63)),
+        }
+    }
+
+    /// The first of them, and those after it. It is any place where none is known.
+    #[inline(always)]
+    fn next(self, bytes: &[u8]) -> (usize, LikelyEnds) {
+        let ends = if self.marks == 0 {
+            LikelyEnds::look(bytes, self.block.wrapping_add(BLOCK))
+        } else {
+            self
+        };
+        let first = ends.marks.trailing_zeros() as usize;
+        let rest = LikelyEnds {
+            block: ends.block,
+            marks: ends.marks & ends.marks.wrapping_sub(1),
+        };
+        (ends.block.wrapping_add(first), rest)
+    }
+}
+
 /// A place among the bytes at hand, held by value.
 #[derive(Clone, Copy)]
 pub struct Cursor {
@@ -99,6 +197,8 @@ pub struct Cursor {
     pub line: u64,
     /// Whether a token stands before it on its line.
     pub begun: bool,
+    /// Where the next numbers seem to end.
+    pub ends: LikelyEnds,
 }
 
 /// A number that was passed, and where the next token stands.
@@ -111,46 +211,89 @@ pub struct Passed {
 }
 
 impl Cursor {
-    ghost use Rattle.qbf_text.specs.Passing.{behind};
+    ghost use Rattle.std.specs.Prelude.{List, ℕ, drop};
+    ghost use Rattle.qbf_text.specs.Passing.{behind, nothing_known};
+    ghost use Rattle.qbf_text.specs.declared.token.Token.TheVariants.{Number};
 
-    /// The cursor after a number and its separator, which take so many bytes.
+    /// The cursor at the first of the bytes.
     #[inline(always)]
-    fn behind(self, len: usize, ends_line: bool) -> Cursor
-        requires { self.at + len < 2 ^ 64 }
-        ensures { result ≡ behind self len ends_line }
+    pub fn new(line: u64, begun: bool) -> Cursor
+        ensures { result ≡ record { at = 0; line = line; begun = begun; ends = nothing_known } }
     {
-        let line = self.line;
         Cursor {
-            at: self.at + len,
-            line: if ends_line {
-                line.saturating_add(1)
-            } else {
-                line
-            },
-            begun: !ends_line,
+            at: 0,
+            line,
+            begun,
+            ends: LikelyEnds::nothing_known(),
         }
     }
 
-    /// The number that stands next and whole among the bytes at hand.
+    /// What a number that was found at the cursor leads to.
+    #[inline(always)]
+    fn passed(self, found: Found, ends: LikelyEnds) -> Passed
+        requires { self.at + found.len < 2 ^ 64 }
+        ensures token { result.token ≡ Number found.negative found.value }
+        ensures next { result.next ≡ behind self ends found.len found.ends_line }
+    {
+        let line = self.line;
+        Passed {
+            token: Token::Number {
+                negative: found.negative,
+                value: found.value,
+            },
+            next: Cursor {
+                at: self.at + found.len,
+                line: if found.ends_line {
+                    line.saturating_add(1)
+                } else {
+                    line
+                },
+                begun: !found.ends_line,
+                ends,
+            },
+        }
+    }
+
+    /// The number that stands next and whole among the bytes at hand, if it is a usual one: of at
+    /// most eight bytes with its minus, not 0, and with a blank after it.
     ///
-    /// Also None for a number that is not as usual: the slow way takes that.
+    /// Also None where it is not known where it ends.
+    #[inline(always)]
+    pub fn usual_number(self, bytes: &[u8]) -> Option<Passed>
+        requires { self.at ≤ length bytes.now }
+        ensures { IfSome result (λ p. PassesNumber bytes.now self p.next p.token) }
+    {
+        let (end, ends) = self.ends.next(bytes);
+        let at = self.at;
+        let Some(found) = number_before(&bytes[at..], end.wrapping_sub(at)) else {
+            return None;
+        };
+        Some(self.passed(found, ends))
+    }
+
+    /// The same for any number of at most 20 digits that has 64 bits.
+    #[inline(always)]
+    pub fn any_number(self, bytes: &[u8]) -> Option<Passed>
+        requires { self.at ≤ length bytes.now }
+        ensures { IfSome result (λ p. PassesNumber bytes.now self p.next p.token) }
+    {
+        let (_, ends) = self.ends.next(bytes);
+        let Some(found) = number_in_front(&bytes[self.at..]) else {
+            return None;
+        };
+        Some(self.passed(found, ends))
+    }
+
+    /// The number that stands next and whole among the bytes at hand: as a usual one is looked for,
+    /// and then as any.
     #[inline(always)]
     pub fn number(self, bytes: &[u8]) -> Option<Passed>
         requires { self.at ≤ length bytes.now }
         ensures { IfSome result (λ p. PassesNumber bytes.now self p.next p.token) }
     {
-        let Some(found) = number_in_front(&bytes[self.at..]) else {
-            return None;
-        };
-        // The proof reads here that the number has 64 bits.
-        let _line = self.line;
-        let token = Token::Number {
-            negative: found.negative,
-            value: found.value,
-        };
-        Some(Passed {
-            token,
-            next: self.behind(found.len, found.ends_line),
-        })
+        match self.usual_number(bytes) {
+            Some(passed) => Some(passed),
+            None => self.any_number(bytes),
+        }
     }
 }

@@ -90,19 +90,21 @@ struct Place {
 }
 
 impl Place {
+    ghost use Rattle.qbf_text.specs.Passing.{nothing_known};
     ghost use Rattle.qbf_text.specs.Stopping.{FindsToken, FindsEnd, PlaceSkips};
     ghost use Rattle.qbf_text.specs.declared.token.Token.TheVariants.{End};
 
     /// The cursor at the first of the bytes that were pulled.
     #[inline(always)]
     fn cursor(&self) -> Cursor
-        ensures { result ≡ record { at = 0; line = self.now.line; begun = self.now.begun } }
+        ensures { result ≡ record {
+          at = 0;
+          line = self.now.line;
+          begun = self.now.begun;
+          ends = nothing_known;
+        } }
     {
-        Cursor {
-            at: 0,
-            line: self.line,
-            begun: self.begun,
-        }
+        Cursor::new(self.line, self.begun)
     }
 
     /// Goes to a cursor among the bytes that were pulled.

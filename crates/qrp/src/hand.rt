@@ -17,6 +17,35 @@ use qbf_spelling::literal;
 use qbf_text::Cursor;
 use std::alloc::AllocError;
 
+/// Takes literals, as long as they are written as usual.
+///
+/// # Errors
+/// Out of memory.
+#[inline(always)]
+fn take_usual(
+    lits: &mut GrowingLists<Lit>,
+    bytes: &[u8],
+    from: Cursor,
+) -> Result<Cursor, AllocError>
+    requires { from.at ≤ length bytes.now }
+    ensures passes { IfOk result (λ r. (ns : List ℕ) (n : ℕ) → Passes (LeadOn item_row
+        (Takes (InLits ns n lits.old.begun)) (Takes (InLits ns n lits.new.begun)))
+        bytes.now from r) }
+    ensures in_range { AllByRecursion IsLiteral lits.old.begun
+        → AllByRecursion IsLiteral lits.new.begun }
+    ensures whole { lits.new.whole ≡ lits.old.whole }
+{
+    let mut here = from;
+    'literals: while let Some(passed) = here.usual_number(bytes) {
+        match literal(FAULTS, LAST_VARIABLE, passed.token) {
+            Ok(Some(lit)) => lits.push(lit)?,
+            _ => break,
+        }
+        here = passed.next;
+    }
+    Ok(here)
+}
+
 /// Takes literals, and the zero after them; `false` if that was not taken.
 ///
 /// # Errors
@@ -35,16 +64,14 @@ fn take_literals(
         → AllByRecursion IsLiteral lits.new.begun }
     ensures whole { lits.new.whole ≡ lits.old.whole }
 {
-    let mut here = from;
-    'literals: while let Some(passed) = here.number(bytes) {
-        match literal(FAULTS, LAST_VARIABLE, passed.token) {
-            Ok(Some(lit)) => lits.push(lit)?,
-            Ok(None) => return Ok((passed.next, true)),
-            Err(_) => break,
-        }
-        here = passed.next;
+    let here = take_usual(lits, bytes, from)?;
+    let Some(passed) = here.any_number(bytes) else {
+        return Ok((here, false));
+    };
+    match literal(FAULTS, LAST_VARIABLE, passed.token) {
+        Ok(None) => Ok((passed.next, true)),
+        _ => Ok((here, false)),
     }
-    Ok((here, false))
 }
 
 /// Takes antecedents, and the zero after them, which completes the step; `None` if that was not

@@ -36,3 +36,9 @@ returns-in_default-take_opening c =
       passes = rw stays.index (passes_none c.args.bytes.now (LeadOn item_row here here) c.args.from c.requires.within (λ ts. refl));
       sound = (stays, tt);
     }
+
+pub returns-in_default-take_opening-2-clause-passes : goal.returns-in_default-take_opening-2-clause-passes
+returns-in_default-take_opening-2-clause-passes c =
+    let stays = (rw c.in_default-take_opening.is at c.take_opening.ensures.sound).0 in
+    let here = giving_at c.args.begun.now at.Between in
+    rw stays.index (passes_none c.args.bytes.now (LeadOn item_row here here) c.args.from c.requires.within (λ ts. refl))

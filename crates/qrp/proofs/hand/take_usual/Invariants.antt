@@ -4,7 +4,7 @@ use Rattle.qbf_text.specs.Passing.{LeadOn, Passes}
 use Rattle.qrp.specs.Inferences.{IsLiteral}
 use Rattle.qrp.specs.Items.{Takes, item_row}
 use Rattle.qrp.specs.Reading.{InLits}
-use Rattle.qrp.proofs.hand.take_literals.Given as goal
+use Rattle.qrp.proofs.hand.take_usual.Given as goal
 
 abbrev pub invariant-literals : goal.invariant-literals
 invariant-literals l = record {
