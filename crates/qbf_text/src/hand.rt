@@ -94,15 +94,18 @@ pub fn number_in_front(bytes: &[u8]) -> Option<Found>
     }
 }
 
-/// The number that the bytes begin with, if it has at most eight bytes, a blank follows it at the
-/// place `end`, and it is not 0.
+/// The number that the bytes begin with, if it has at most seven digits, a blank follows it at the
+/// place `end`, and it does not begin with 0.
 #[inline(always)]
 fn number_before(bytes: &[u8], end: usize) -> Option<Found>
     ensures { IfSome result (λ f. BeginsWithNumber bytes.now f.negative f.value f.len f.ends_line) }
 {
+    if bytes.len() <= 8 || bytes[0] == b'0' {
+        return None;
+    }
     let negative = begins_with_minus(bytes);
     let start = usize::from(negative);
-    if end <= start || end > 8 || bytes.len() <= 8 {
+    if end.wrapping_sub(start + 1) > 6 {
         return None;
     }
     let value = number_between(bytes, start, end)?;
@@ -155,7 +158,7 @@ impl LikelyEnds {
     }
 
     /// Those of the bytes from a place on, as many as are looked at together.
-    #[inline(always)]
+    #[inline(never)]
     fn look(bytes: &[u8], from: usize) -> LikelyEnds {
         let len = bytes.len();
         if from >= len || len < BLOCK {
@@ -255,7 +258,7 @@ impl Cursor {
     }
 
     /// The number that stands next and whole among the bytes at hand, if it is a usual one: of at
-    /// most eight bytes with its minus, not 0, and with a blank after it.
+    /// most seven digits, not 0, and with a blank after it.
     ///
     /// Also None where it is not known where it ends.
     #[inline(always)]

@@ -135,7 +135,7 @@ impl Place {
         ensures none { IfNone result (self.new ≡ self.old) }
     {
         let line = self.line;
-        let Some(passed) = self.cursor().number(self.window.bytes()) else {
+        let Some(passed) = self.cursor().any_number(self.window.bytes()) else {
             return None;
         };
         self.go_to(passed.next);
