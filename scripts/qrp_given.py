@@ -17,7 +17,7 @@ from qrp_formula import EXISTS, FOR_ALL
 def with_negations(texts):
     """The literals of some variables."""
     text = b"".join(b" " + text for text in texts)
-    return frozenset(chain(text.split(), text.replace(b" ", b" -").split()))
+    return frozenset((text + text.replace(b" ", b" -")).split())
 
 
 class Given:
@@ -140,28 +140,28 @@ class Reducts:
 
     def take(self, texts, keys):
         """Of each clause whether it gives steps, which are taken out."""
-        pairs = []  # of places of clauses and steps that have their existential literals
-        for place, steps in enumerate(map(self.near.get, keys)):
-            if isinstance(steps, bytes):
-                pairs.append((place, steps))
-            elif steps:
-                marks = [b"", *self.universal.intersection(texts[place].split())]
-                pairs += ((place, step) for mark in marks for step in steps.get(mark, ()) if step in self.left)
         given = bytearray(len(texts))
-        for place, step in compress(pairs, self.are_given([texts[place] for place, _ in pairs], [step for _, step in pairs])):
-            if step in self.left:
-                self.left.remove(step)
-                given[place] = 1
+        for place, steps in enumerate(map(self.near.get, keys)):
+            if steps is not None:
+                for step in [steps] if isinstance(steps, bytes) else self.marked(steps, texts[place]):
+                    if step in self.left and self.is_given(texts[place], step):
+                        self.left.remove(step)
+                        given[place] = 1
         return given
 
-    def are_given(self, texts, steps):
-        """Of each clause whether the step beside it is the clause or a reduct of it."""
-        clauses, kept = list(map(frozenset, map(bytes.split, texts))), list(map(bytes.split, steps))
-        variables = map(set, map(bytes.split, b"\n".join(texts).replace(b"-", b"").split(b"\n")))
-        are_clean = map(eq, map(len, variables), map(len, clauses))
-        lacking = map(frozenset.difference, clauses, kept)
-        for clause, is_clean, out, has_all in zip(clauses, are_clean, lacking, map(frozenset.issuperset, clauses, kept)):
-            yield has_all and (not out or is_clean and (out <= self.innermost or self.are_reducible(clause, out)))
+    def marked(self, steps, text):
+        """Of several steps those that have no universal literal, or as the rarest one that of a clause."""
+        marks = self.universal.intersection(text.split())
+        return [step for mark in [b"", *marks] for step in steps.get(mark, ())]
+
+    def is_given(self, text, step):
+        """Whether a step is a clause or a reduct of it."""
+        clause, kept = frozenset(text.split()), step.split()
+        if not clause.issuperset(kept):
+            return False
+        out = clause.difference(kept)
+        is_clean = not out or len(set(text.replace(b"-", b"").split())) == len(clause)
+        return is_clean and (out <= self.innermost or self.are_reducible(clause, out))
 
     def are_reducible(self, clause, out):
         """Whether these literals of a clause are universal, and in blocks after those of all of its existential ones."""
