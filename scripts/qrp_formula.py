@@ -3,14 +3,13 @@
 All faults of docs/FORMATS.md are found, in the lines that are not known to be right.
 """
 
-import re
 from collections import namedtuple
 from operator import neg
 
 from qrp_words import ALL, GREATEST, GREATEST_VARIABLE, Fault, Words, are_whole, value
 
 SET_BYTES = frozenset(b"ae")
-ODD_BEGIN = re.compile(rb"\n[^-1-9]")  # of a line that begins with no clause
+COMMENT_BYTES = b"c"
 EXISTS, FOR_ALL = "exists", "for all"
 QUANTIFIERS = {b"e": EXISTS, b"a": FOR_ALL}
 ADJECTIVES = {EXISTS: "existential", FOR_ALL: "universal"}
@@ -29,7 +28,7 @@ def is_clean(literals):
 
 def are_clauses(block):
     """Whether each line of a block is a clause, with single blanks and without leading zeros."""
-    return are_whole(block, ODD_BEGIN, 0)
+    return are_whole(block, COMMENT_BYTES, 0)
 
 
 class Formula:
@@ -37,7 +36,7 @@ class Formula:
 
     def __init__(self, data, good=ALL):
         self.data = data
-        words = Words(data, b"c", good)
+        words = Words(data, COMMENT_BYTES, good)
         self.variables, self.count = words.header(b"cnf", GREATEST_VARIABLE, "F2", "F7")
         self.header_line, self.header_end = words.line, words.place()
         self.sets = []  # those that are not empty: the place of each, and its variables as text
@@ -95,14 +94,14 @@ class Formula:
         """Each clause in file order."""
         for number, line, texts in self.pieces():
             for place, text in enumerate(texts):
-                literals = frozenset(map(int, text[:-1].split()))
+                literals = frozenset(map(int, text.split()))
                 yield Clause(number + place, line + place, literals, is_clean(literals))
 
     def pieces(self):
-        """The clauses in file order, some at a time: number and line of the first, and the text of each, on lines of their own."""
+        """The clauses in file order, some at a time: number and line of the first, and the texts of their literals, on lines of their own."""
         words, number = self.words.again(), 1
         while True:
-            texts = words.block(are_clauses).split(b"\n")[:-1]
+            texts = words.block(are_clauses).split(b" 0\n")[:-1]
             if texts:
                 yield number, words.line - len(texts) + 1, texts
                 number += len(texts)
@@ -113,7 +112,7 @@ class Formula:
             self.refuse_start(words, word, number)
             words.back()
             line = words.line
-            yield number, line, [b" ".join(b"%d" % literal for literal in [*self.literals(words, number), 0])]
+            yield number, line, [b" ".join(b"%d" % literal for literal in self.literals(words, number))]
             number += 1
 
     def refuse_start(self, words, word, number):
@@ -137,7 +136,7 @@ class Formula:
                 raise Fault("F3", words, inside=f"clause {clause}", begun=begun)
             if abs(literal) > self.variables:
                 raise Fault("F4", words, number=literal, variables=self.variables, header=self.header_line)
-            if abs(literal) not in self.places:
+            if words.line > words.good and abs(literal) not in self.places:
                 raise Fault("F6", words, number=abs(literal))
             found.append(literal)
         return found

@@ -4,14 +4,17 @@ All faults of docs/FORMATS.md are found, in the lines that are not known to be r
 lines of text, and taken apart when they are looked at.
 """
 
+import json
 import re
 from collections import namedtuple
 
 from qrp_formula import QUANTIFIERS, SET_BYTES
-from qrp_words import ALL, GREATEST, GREATEST_VARIABLE, Fault, Words, are_whole, value
+from qrp_words import ALL, BLOCK, GREATEST, GREATEST_VARIABLE, Fault, Words, are_whole, value
 
-ODD_BEGIN = re.compile(rb"\n[^1-9]")  # of a line that begins with no step
 HEAD = re.compile(rb"\n(\d+)")
+COMMENT_BYTES = b"c#"
+ODD_PARTS = (b"c", b"#", b"r", b"\t", b"\r", b"\n0")  # what makes the zeros of a block hard to count: comments, the result, other blanks
+COMMAS = bytes.maketrans(b" \n", b",,")
 
 # A variable that a quantifier set of the trace names.
 SetVariable = namedtuple("SetVariable", "variable quantifier line")
@@ -19,20 +22,24 @@ SetVariable = namedtuple("SetVariable", "variable quantifier line")
 
 def are_steps(block):
     """Whether each line of a block is a step, with single blanks and without leading zeros."""
-    return are_whole(block, ODD_BEGIN, 1)
+    return are_whole(block, COMMENT_BYTES, 1)
 
 
-def are_numbers(block):
-    """Whether a block has only numbers, and each that begins with 0 is 0 and comes after a blank."""
-    if block.translate(None, b"0123456789- \n") or block[:1] == b"0" or b"\n0" in block:
-        return False
-    return block.count(b" 0") == block.count(b" 0 ") + block.count(b" 0\n")
+def words_of(block):
+    """The words of some lines without those of comments."""
+    lines = map(bytes.split, block.split(b"\n"))
+    return [word for line in lines if line and line[0][0] not in COMMENT_BYTES for word in line]
 
 
 def lists_of(block):
     """The lists of the steps of such a block: the number and the literals of each after a line end, and its antecedents each after a blank."""
     lists = (b"\n" + block).split(b" 0")
     return lists[:-1:2], lists[1::2]
+
+
+def integers(text):
+    """The numbers of a text that has a blank or a line end between them."""
+    return json.loads(b"[%b]" % text.strip().translate(COMMAS))
 
 
 def numbers_of(heads):
@@ -62,8 +69,8 @@ class Trace:
     """A trace, of the bytes of its text: its header and its sets are read at once, and its steps each time that they are asked for."""
 
     def __init__(self, data, good=ALL):
-        self.result = None
-        words = Words(data, b"c#", good)
+        self.data, self.result = data, None
+        words = Words(data, COMMENT_BYTES, good)
         words.header(b"qrp", GREATEST, "P2", "P7")
         self.sets = []
         while self.read_set(words):
@@ -121,10 +128,17 @@ class Trace:
 
     def count_steps(self):
         """How many steps there are, in a text that is right: 0 closes two lists of each."""
-        words, zeros = self.words.again(), 0
-        while (block := words.block(are_numbers)) or (word := words.next()) not in (b"r", None):
-            zeros += block.count(b" 0") if block else not word.strip(b"0")
-        return zeros // 2
+        words, place, zeros = self.words.words[self.words.at :], self.words.start + len(self.words.text), 0
+        while b"r" not in words:
+            zeros += sum(not word.strip(b"0") for word in words)
+            block = self.data[place : self.data.find(b"\n", place + BLOCK) + 1 or len(self.data)]
+            place += len(block)
+            count = block.count(b" 0")
+            if count != block.count(b" 0 ") + block.count(b" 0\n") or block[:1] == b"0" or any(part in block for part in ODD_PARTS):
+                words = words_of(block)
+            else:
+                words, zeros = [], zeros + count
+        return (zeros + sum(not word.strip(b"0") for word in words[: words.index(b"r")])) // 2
 
     def read_result(self, words):
         word = words.next()

@@ -17,6 +17,7 @@ NUMBER = re.compile(rb"-?[0-9]+")
 # Lines are looked at in blocks of so many bytes, and of those of the last one to its end. What makes the words of a block hard to count.
 BLOCK = 1 << 18
 UNUSUAL = (b"\t", b"\r", b"-0", b"  ")
+BLANKS = bytes.maketrans(b"\n", b" ")
 
 
 class Fault(Exception):
@@ -39,15 +40,15 @@ def value(word):
     return -magnitude or word  # a minus before zero is no number
 
 
-def are_whole(block, odd, zeros):
-    """Whether no line of a block has an odd begin, and each has so many zeros and one at its end; with single blanks and zeros."""
-    lines = block.count(b"\n")
-    if (block.count(b" 0\n"), block.count(b" 0 "), block.count(b" 0")) != (lines, zeros * lines, (zeros + 1) * lines):
+def are_whole(block, comment_bytes, zeros):
+    """Whether each line of a block that is known to be right has so many zeros and one at its end; with single blanks and zeros."""
+    lines, words = block.count(b"\n"), (b"\n" + block).translate(BLANKS, b"-")
+    if (block.count(b" 0\n"), words.count(b" 0")) != (lines, (zeros + 1) * lines):
         return False
-    if any(part in block for part in UNUSUAL) or odd.search(b"\n" + block, 0, len(block)):
+    if b"  " in words or any(byte in block for byte in comment_bytes + b"\t\rr"):  # r begins the result
         return False
     # The first of the two zeros of a step is in the line of the second one.
-    return zeros == 0 or b"\n" not in b"".join(block.split(b" 0")[1::2])
+    return zeros == 0 or (block.count(b" 0 ") == lines and b"\n" not in b"".join(block.split(b" 0")[1::2]))
 
 
 def read(path):

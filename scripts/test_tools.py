@@ -2,11 +2,16 @@
 
 import json
 import os
+import random
 import re
 import subprocess
 import sys
 import tempfile
+import unittest.mock
 from pathlib import Path
+
+from qrp_formula import EXISTS, Formula
+from qrp_given import Given
 
 ROOT = Path(__file__).resolve().parent.parent
 TRACES = ROOT / "tests" / "traces"
@@ -87,6 +92,61 @@ def try_odd_layout(program, folder):
     expect("used-clauses, reducts of clauses, and a pipe", wrote.returncode == 0 and clauses_of(wrote.stdout)[1:] == ["1 2 0", "-1 2 0"], wrote)
 
 
+def random_pair(dice):
+    """A formula with some clauses, and steps that come from some of them: as they are, in another order, or reduced; and some that do not."""
+    variables = dice.sample(range(1, 8), 7)
+    sets = [(dice.choice("ae"), variables[start : start + 2]) for start in range(0, 7, 2)]
+    clauses = [[dice.choice([-1, 1]) * v for v in dice.choices(variables, k=dice.randint(1, 5))] for _ in range(dice.choice([3, 20, 100]))]
+    steps = dice.sample(clauses, dice.choice([1, len(clauses) // 3, len(clauses)]))
+    if dice.random() < 0.7:
+        steps = [dice.sample(step, dice.randint((len(step) + 1) // 2, len(step))) for step in steps]
+    lines = [f"p cnf 7 {len(clauses)}", *(" ".join(map(str, [letter, *names, 0])) for letter, names in sets)]
+    lines += [" ".join(map(str, [*clause, 0])).replace(" ", dice.choice([" "] * 50 + ["  "])) for clause in clauses]
+    return "\n".join([*lines, ""]).encode(), [" ".join(map(str, step)).encode() for step in steps]
+
+
+def given_plainly(formula, steps):
+    """The numbers of the clauses that give steps which none before gave, found step by step."""
+    left, numbers = {step: frozenset(map(int, step.split())) for step in steps}, []
+    for number, _, clause, clean in formula.clauses():
+        last = max((formula.place(l).block for l in clause if formula.place(l).quantifier == EXISTS), default=0)
+        needed = {l for l in clause if formula.place(l).block <= last} if clean else clause
+        found = [step for step, literals in left.items() if needed <= literals <= clause]
+        numbers += [number] if found else []
+        left = {step: literals for step, literals in left.items() if step not in found}
+    return numbers
+
+
+def try_given(cases):
+    """Which clauses give steps is found as one by one, whether the clauses are read at once or some at a time."""
+    dice, found = random.Random(1), []
+    for block in [1 << 18] * cases + [60] * cases:
+        data, steps = random_pair(dice)
+        with unittest.mock.patch("qrp_words.BLOCK", block):
+            given = [number for numbers, _, _ in Given(Formula(data), iter(steps)).clauses() for number in numbers]
+        found.append(len(given))
+        expect(f"clauses that give steps {len(found)}", given == given_plainly(Formula(data), steps), (data, steps, given))
+    expect("some cases have many such clauses", sum(count > 9 for count in found) > cases // 2, found)
+
+
+def try_odd_traces(program, folder):
+    """The steps of a trace in another layout are counted as those of the same trace."""
+    formula, trace = pair("kbkf3.lazy")
+    text, odd, last = trace.read_text(), Path(folder) / "odd_trace", len("r unsat\n")
+    steps = stats_of(program, formula, trace)["steps"]
+    for name, other in (
+        ("comments", text.replace("\n", "\nc 0 0\n# r 0\n", 40)),
+        ("blanks", text.replace(" 0 0\n", " 0 0 \n").replace(" 0\n", "\t0\r\n")),
+        ("zeros", text.replace(" 0", " 00")),
+        ("on one line", text[:-last].replace(" 0\n", " 0 ") + text[-last:]),
+        ("two lines", text.replace(" 0 ", "\n0 ")),
+        ("more after the result", text + "1 2 0 0\n" * 9),
+    ):
+        odd.write_text(other)
+        wrote = run("proof-stats", "--json", formula, odd, program=program)
+        expect(f"proof-stats, {name}", wrote.returncode == 0 and json.loads(wrote.stdout)["steps"] == steps, (wrote, steps))
+
+
 def stats_of(program, formula, trace):
     """The figures, computed plainly from what trim prints."""
     lines = [line.split() for line in ask(program, "trim", formula, trace).splitlines()]
@@ -157,10 +217,12 @@ def main():
         for name in FALSE:
             try_used(program, *pair(name), folder)
         try_odd_layout(program, folder)
+        try_odd_traces(program, folder)
         for factor in 1, 10**13:
             formula, trace = write_chain(folder, 20000, factor)
             try_used(program, formula, trace, folder)
             try_stats(program, formula, trace)
+    try_given(300)
     for name in FALSE + TRUE:
         try_stats(program, *pair(name))
     try_refusals(program)
