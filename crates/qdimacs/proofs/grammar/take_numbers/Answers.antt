@@ -21,7 +21,8 @@ numbers-preserved c =
     let token = c.in-Some.passed.token in
     record {
       passes = passes_on row (stands c.args.parts.now c.args.at) here (stands c.take_at.new.parts c.in-Ok.next) c.args.bytes.now c.args.from
-          c.in-Some.passed.next c.numbers.here token (leads_on here c.take_at.new.parts c.in-Ok.next token c.in-Some.ensures.no_end c.in-Ok.ensures.row)
+          c.in-Some.passed.next c.numbers.here token
+          (leads_on here c.take_at.new.parts c.in-Ok.next token c.in-Some.ensures.no_end c.in-Ok.ensures.row)
           c.numbers.invariant.passes c.in-Some.ensures;
       sound = c.in-Ok.ensures.sound;
       within = c.in-Some.ensures.within;

@@ -7,6 +7,6 @@ abbrev pub HasPlace : List ℕ → List (ℕ × ℕ) → ℕ → ℕ → Type 0
 HasPlace table far n i = (get_or table n 0 ≡ suc i) ⊎ (lookup (nat_eq n) far ≡ Some i)
 
 -- what the table or the map has of a number is a place of it, and one of them has a place of each number
-pub record IsListed (table : List ℕ) (far : List (ℕ × ℕ)) (numbers : List ℕ) : Type 0 where
+pub record AreFound (table : List ℕ) (far : List (ℕ × ℕ)) (numbers : List ℕ) : Type 0 where
   pub sound : (n i : ℕ) → HasPlace table far n i → slice_get numbers i ≡ Some n
   pub full : (n i : ℕ) → slice_get numbers i ≡ Some n → (j : ℕ) × HasPlace table far n j

@@ -19,7 +19,7 @@ const REACH_OF_EACH: usize = 16;
 ///
 /// Contracts see the list of the numbers.
 #[derive(Drop)]
-pub(crate) struct Listed {
+pub(crate) struct SparseNumbers {
     /// The numbers in their order.
     numbers: Vec<u64>,
     /// The greatest of them, or 0 if there is none.
@@ -31,16 +31,16 @@ pub(crate) struct Listed {
     far: IndexMap<u64, usize>,
 }
 
-impl Model for Listed {
+impl Model for SparseNumbers {
     ghost use Rattle.std.specs.Prelude.{ℕ, List, ◌≤◌};
     ghost use Rattle.std.specs.List.{AllByRecursion};
-    ghost use Rattle.step_index.specs.Listed.{IsListed};
+    ghost use Rattle.step_index.specs.Sparse.{AreFound};
 
     ghost Value = { List ℕ };
 
     ghost view = { λ s. s.numbers.items };
 
-    ghost invariant = { λ s. IsListed s.table.items s.far.entries s.numbers.items
+    ghost invariant = { λ s. AreFound s.table.items s.far.entries s.numbers.items
         × AllByRecursion (λ n. n ≤ s.greatest) s.numbers.items };
 }
 
@@ -78,12 +78,12 @@ fn reach(table: &mut Vec<u32>, index: usize) -> Result<(), AllocError>
     table.resize(index + 1, 0)
 }
 
-impl Listed {
+impl SparseNumbers {
     /// No numbers. It takes no memory.
-    pub(crate) fn new(alloc: Global) -> Listed
+    pub(crate) fn new(alloc: Global) -> SparseNumbers
         ensures { result ≡ [] }
     {
-        Listed {
+        SparseNumbers {
             numbers: Vec::new(alloc),
             greatest: 0,
             table: Vec::new(alloc),

@@ -6,18 +6,18 @@ use Rattle.qbf_core.proofs.PrefixLaws.{AllByRecursion-push}
 use Rattle.std.specs.Map.{lookup}
 use Rattle.std.proofs.lemmas.Bool.{cases_eq, eq-eqb, ne_eqb}
 use Rattle.std.proofs.lemmas.List.{get_or-set_same, get_or-set_other}
-use Rattle.step_index.specs.Listed.{IsListed}
+use Rattle.step_index.specs.Sparse.{AreFound}
 use Rattle.qbf_core.proofs.PushedItems.{pushed_cases, pushed_old, pushed_new}
 
 -- the table was made longer
-pub listed_grown : (table grown : List ℕ) (far : List (ℕ × ℕ)) (numbers : List ℕ) → ((n : ℕ) → get_or grown n 0 ≡ get_or table n 0)
-    → IsListed table far numbers → IsListed grown far numbers
-listed_grown table grown far numbers same listed = record {
+pub sparse_grown : (table grown : List ℕ) (far : List (ℕ × ℕ)) (numbers : List ℕ) → ((n : ℕ) → get_or grown n 0 ≡ get_or table n 0)
+    → AreFound table far numbers → AreFound grown far numbers
+sparse_grown table grown far numbers same sparse = record {
   sound = λ n i has. elim has [
-    | inl e ↦ listed.sound n i (inl (sym (same n) ∙ e))
-    | inr e ↦ listed.sound n i (inr e)
+    | inl e ↦ sparse.sound n i (inl (sym (same n) ∙ e))
+    | inr e ↦ sparse.sound n i (inr e)
   ];
-  full = λ n i here. let w = listed.full n i here in elim w.1 [
+  full = λ n i here. let w = sparse.full n i here in elim w.1 [
     | inl e ↦ (w.0, inl (same n ∙ e))
     | inr e ↦ (w.0, inr e)
   ];
@@ -38,9 +38,9 @@ below_raised ns m g top is h = AllByRecursion-push (λ n. n ≤ top) ns m (below
 -- what is at an old place is still there
 module _ (numbers : List ℕ) (m : ℕ) where
   -- the table has the new place
-  pub listed_near : (table : List ℕ) (far : List (ℕ × ℕ)) (v : ℕ) → m < length table → v ≡ suc (length numbers)
-      → IsListed table far numbers → IsListed (set table m v) far (numbers ++ m ∷ [])
-  listed_near table far v within is listed = record {
+  pub sparse_near : (table : List ℕ) (far : List (ℕ × ℕ)) (v : ℕ) → m < length table → v ≡ suc (length numbers)
+      → AreFound table far numbers → AreFound (set table m v) far (numbers ++ m ∷ [])
+  sparse_near table far v within is sparse = record {
     sound = λ n i has. elim has [
       | inl e ↦ elim (cases_eq n m) [
         | inl same ↦
@@ -49,9 +49,9 @@ module _ (numbers : List ℕ) (m : ℕ) where
             let place : i ≡ length numbers = omega (arith, value) in
             subst (λ (k : ℕ). slice_get (numbers ++ m ∷ []) k ≡ Some n) (sym place)
             (pushed_new numbers m ∙ ap (λ (k : ℕ). Some k) (sym same))
-        | inr other ↦ pushed_old numbers m i n (listed.sound n i (inl (sym (get_or-set_other table m n v 0 other) ∙ e)))
+        | inr other ↦ pushed_old numbers m i n (sparse.sound n i (inl (sym (get_or-set_other table m n v 0 other) ∙ e)))
       ]
-      | inr e ↦ pushed_old numbers m i n (listed.sound n i (inr e))
+      | inr e ↦ pushed_old numbers m i n (sparse.sound n i (inr e))
     ];
     full = λ n i here. elim (cases_eq n m) [
       | inl same ↦ (
@@ -59,7 +59,7 @@ module _ (numbers : List ℕ) (m : ℕ) where
         inl (ap (λ (k : ℕ). get_or (set table m v) k 0) same ∙ get_or-set_same table m v 0 within ∙ is),
       )
       | inr other ↦ elim (pushed_cases numbers m i n here) [
-        | inl old ↦ let w = listed.full n i old in elim w.1 [
+        | inl old ↦ let w = sparse.full n i old in elim w.1 [
           | inl e ↦ (w.0, inl (get_or-set_other table m n v 0 other ∙ e))
           | inr e ↦ (w.0, inr e)
         ]
@@ -69,25 +69,25 @@ module _ (numbers : List ℕ) (m : ℕ) where
   }
 
   -- the map has the new place
-  pub listed_far : (table : List ℕ) (far more : List (ℕ × ℕ)) (place : ℕ) → place ≡ length numbers
+  pub sparse_far : (table : List ℕ) (far more : List (ℕ × ℕ)) (place : ℕ) → place ≡ length numbers
       → ((n : ℕ) → lookup (nat_eq n) more ≡ cond (nat_eq m n) (Some place) (lookup (nat_eq n) far))
-      → IsListed table far numbers → IsListed table more (numbers ++ m ∷ [])
-  listed_far table far more place is updates listed = record {
+      → AreFound table far numbers → AreFound table more (numbers ++ m ∷ [])
+  sparse_far table far more place is updates sparse = record {
     sound = λ n i has. elim has [
-      | inl e ↦ pushed_old numbers m i n (listed.sound n i (inl e))
+      | inl e ↦ pushed_old numbers m i n (sparse.sound n i (inl e))
       | inr e ↦ elim (cases_eq n m) [
         | inl same ↦
             let value : Some place ≡ Some i = sym (found n same) ∙ e in
             let there : i ≡ length numbers = (let f : place ≡ i = cc value in sym f ∙ is) in
             subst (λ (k : ℕ). slice_get (numbers ++ m ∷ []) k ≡ Some n) (sym there)
             (pushed_new numbers m ∙ ap (λ (k : ℕ). Some k) (sym same))
-        | inr other ↦ pushed_old numbers m i n (listed.sound n i (inr (sym (kept n other) ∙ e)))
+        | inr other ↦ pushed_old numbers m i n (sparse.sound n i (inr (sym (kept n other) ∙ e)))
       ]
     ];
     full = λ n i here. elim (cases_eq n m) [
       | inl same ↦ (place, inr (found n same))
       | inr other ↦ elim (pushed_cases numbers m i n here) [
-        | inl old ↦ let w = listed.full n i old in elim w.1 [
+        | inl old ↦ let w = sparse.full n i old in elim w.1 [
           | inl e ↦ (w.0, inl e)
           | inr e ↦ (w.0, inr (kept n other ∙ e))
         ]
