@@ -202,6 +202,7 @@ fn take_at(here: At, parts: &mut Parts, token: Token) -> Next
 /// # Errors
 /// Out of memory.
 #[inline(always)]
+#[tactic(auto, using(crate::proofs::FormulaParts::numbers_lead_on))]
 fn take_numbers(
     at: At,
     parts: &mut Parts,
