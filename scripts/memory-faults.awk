@@ -27,8 +27,8 @@ BEGIN {
     size("qrp_rules/src/clause_index.rt", "formula.clauses()")
     size("qrp_rules/src/initial_cubes.rt", "seen.room()")
     size("qrp_rules/src/seen.rt", "width")
-    size("step_index/src/listed.rt", "index + 1")
-    size("step_index/src/listed.rt", "1")
+    size("step_index/src/sparse.rt", "index + 1")
+    size("step_index/src/sparse.rt", "1")
 }
 
 # A size that a file asks for once.

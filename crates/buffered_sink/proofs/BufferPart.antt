@@ -1,5 +1,5 @@
 -- The part of a buffer from start to end, and what it holds back of a sink's bytes.
-use Rattle.std.proofs.Common.{◌≡◌, ℕ, ◌+◌, ◌-◌, ◌≤◌, List, ◌++◌, Option, Some, None, length, take, drop, sym, ap, ◌∙◌, arith, append_assoc}
+use Rattle.std.proofs.Common.{◌≡◌, ℕ, ◌+◌, ◌-◌, ◌≤◌, List, ◌++◌, Option, length, take, drop, sym, ap, ◌∙◌, arith}
 use Rattle.std.proofs.lemmas.Grind.{common_steps}
 use Rattle.std.proofs.lemmas.List.{drop-take, drop-drop, drop-append-le}
 use Rattle.std.proofs.lemmas.Slice.{take-put_mid}
@@ -24,13 +24,7 @@ part_advance bytes start end n order h =
 -- more bytes behind
 pub part_append : (bytes more : List ℕ) (start end room k : ℕ) → start ≤ end → end ≤ length bytes → length more ≡ k
     → part (put_mid end room bytes more) start (end + k) ≡ part bytes start end ++ more
-part_append bytes more start end room k order inside long =
-    let whole = put_mid end room bytes more in
-    let short : start ≤ length (take end bytes) = grind (arith, common_steps) in
-    sym (part_from whole start (end + k - start) (end + k) (omega arith))
-    ∙ ap (drop start) (take-put_mid end room bytes more (end + k) (omega (arith, long)) inside)
-    ∙ drop-append-le start (take end bytes) more short
-    ∙ ap (λ xs. xs ++ more) (part_from bytes start (end - start) end (omega arith))
+part_append bytes more start end room k order inside long = grind (arith, common_steps, part_from, take-put_mid)
 
 -- digits put from the end on, whatever stands behind them
 pub part_put : (old new ds rest : List ℕ) (start at : ℕ) → start ≤ at → at ≤ length old → take at new ≡ take at old
@@ -48,9 +42,7 @@ part_put old new ds rest start at order inside before written =
 -- a sink took the front of what was held back
 pub known_sent : (a b : Option (List ℕ)) (held : List ℕ) (n : ℕ) → Appends a b (take n held)
     → Keeps (append_known a held) (append_known b (drop n held))
-known_sent None b held n p = tt
-known_sent (Some x) None held n p = absurd p
-known_sent (Some x) (Some y) held n p = rw p (append_assoc x (take n held) (drop n held) ∙ ap (λ xs. x ++ xs) (grind (arith, common_steps)))
+known_sent a b held n p = grind (arith, common_steps)
 
 -- nothing is held back
 pub part_none : (bytes : List ℕ) (start end : ℕ) → start ≡ end → part bytes 0 0 ≡ part bytes start end

@@ -56,6 +56,7 @@ impl Buffer {
     }
 
     /// Lets go of the first bytes.
+    #[tactic(auto, using(crate::proofs::BufferPart::part, crate::proofs::BufferPart::part_advance))]
     fn advance(&mut self, n: usize)
         requires { n ≤ length self.old }
         ensures { self.new ≡ drop n self.old }
@@ -65,6 +66,7 @@ impl Buffer {
 
     /// Adds the bytes where there is room for all of them, and returns whether there was.
     #[inline(always)]
+    #[tactic(auto, using(crate::proofs::BufferPart::part_append))]
     fn append(&mut self, bytes: &[u8]) -> bool
         ensures all { result ≡ true → self.new ≡ self.old ++ bytes.now }
         ensures none { result ≡ false → self.new ≡ self.old }
@@ -81,6 +83,7 @@ impl Buffer {
     /// Adds the digits of a number where there is room for any number, and returns whether there
     /// was.
     #[inline(always)]
+    #[tactic(auto, using(crate::proofs::BufferPart::part_put))]
     fn append_number(&mut self, n: u64) -> bool
         ensures all { result ≡ true → self.new ≡ self.old ++ decimal n }
         ensures none { result ≡ false → self.new ≡ self.old }
@@ -119,6 +122,7 @@ impl Buffer {
     }
 
     /// Holds the digits of a number back where nothing is held.
+    #[tactic(auto, using(crate::proofs::BufferPart::part))]
     fn begin_with(&mut self, n: u64)
         requires { self.old ≡ [] }
         ensures { self.new ≡ decimal n }
@@ -129,6 +133,7 @@ impl Buffer {
     }
 
     /// Adds bytes from the front, as far as there is room, and returns how many.
+    #[tactic(auto, using(crate::proofs::BufferPart::part, crate::proofs::BufferPart::part_none, crate::proofs::BufferPart::part_append,))]
     fn append_some(&mut self, bytes: &[u8]) -> usize
         ensures fits { result ≤ length bytes.now }
         ensures some { self.old ≡ [] → 0 < length bytes.now → 0 < result }

@@ -1,8 +1,9 @@
 -- Distinct numbers, one after the other.
+use Rattle.std.proofs.Common.{arith}
+use Rattle.std.proofs.lemmas.Grind.{common_steps}
 use Rattle.std.proofs.Common.{rules, ◌≡◌, ℕ, zero, suc, false, List, [], ◌∷◌, ◌++◌, Some, refl, ap, subst, slice_get, nat_eq}
 use Rattle.std.specs.Cmp.{nat_eq_equiv}
 use Rattle.std.specs.List.{AllByRecursion, IsDistinct, list_any}
-use Rattle.std.proofs.lemmas.Bool.{eqb-false}
 use Rattle.std.proofs.lemmas.Map.Keys.{IsDistinct-head, IsDistinct-tail, IsDistinct-push}
 
 pub middle : {X : Type 0} (P : X → Type 0) (xs more : List X) (x : X) → AllByRecursion P (xs ++ x ∷ more) → P x
@@ -37,13 +38,11 @@ all_at P (y ∷ xs) (suc i) x h e = all_at P xs i x h.1 e
 
 -- the first number does not stand later again
 first_once : (m : ℕ) (ns : List ℕ) (i n : ℕ) → IsDistinct nat_eq (m ∷ ns) → Some m ≡ Some n → slice_get ns i ≡ Some n → ⊥
-first_once m ns i n d same e =
-    eqb-false m n (all_at (λ k. nat_eq m k ≡ false) ns i n (IsDistinct-head nat_eq m ns d) e) (cc same)
+first_once m ns i n d same e = grind (arith, common_steps, all_at, IsDistinct-head)
 
 -- no number stands at two places
 pub one_place : (ns : List ℕ) → IsDistinct nat_eq ns → (i j n : ℕ) → slice_get ns i ≡ Some n → slice_get ns j ≡ Some n → i ≡ j
 one_place [] d i j n h k = absurd (cc h)
-one_place (m ∷ ns) d zero zero n h k = refl
-one_place (m ∷ ns) d zero (suc j) n h k = absurd (first_once m ns j n d h k)
+one_place (m ∷ ns) d zero j n h k = grind (arith, common_steps, first_once)
 one_place (m ∷ ns) d (suc i) zero n h k = absurd (first_once m ns i n d k h)
 one_place (m ∷ ns) d (suc i) (suc j) n h k = ap suc (one_place ns (IsDistinct-tail nat_eq m ns d) i j n h k)

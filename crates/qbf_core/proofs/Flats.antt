@@ -1,18 +1,15 @@
 -- Lists in one buffer.
+use Rattle.std.proofs.lemmas.List.{drop_all}
+use Rattle.std.proofs.Common.{rules}
+use Rattle.std.proofs.lemmas.Grind.{common_steps}
 use Rattle.std.proofs.Common.{◌≡◌, ◌≤◌, ◌<◌, ◌-◌, ℕ, zero, suc, List, [], ◌∷◌, ◌++◌, length, take, drop, slice_get, slice_range}
-use Rattle.std.proofs.Common.{Option, Some, refl, sym, ap, ◌∙◌, arith, length-append, length-drop}
-use Rattle.std.proofs.lemmas.List.{drop-append-le, take-append-le, take-append-drop, take_all, length-take-le}
+use Rattle.std.proofs.Common.{Option, Some, refl, sym, ap, ◌∙◌, arith}
+use Rattle.std.proofs.lemmas.List.{drop-append-le, take-append-drop, length-take-le}
 use Rattle.std.proofs.Math.Seq.{drop-append_seam}
 use Rattle.std.specs.Option.{unwrap_or}
 use Rattle.qbf_core.specs.Lists.{parts, Reaches, start_of, end_of}
 
 -- ---- ranges of a buffer that grows
-
-range_before : {X : Type 0} (xs more : List X) (a b : ℕ) → a ≤ b → b ≤ length xs → slice_range (xs ++ more) a b ≡ slice_range xs a b
-range_before xs more a b h k =
-    let m : a ≤ length xs = omega arith in
-    let n : b - a ≤ length (drop a xs) = omega (arith, length-drop a xs) in
-    rw (drop-append-le a xs more m) (take-append-le (b - a) (drop a xs) more n)
 
 -- ---- one more part
 
@@ -27,19 +24,11 @@ reach_more from (e ∷ es) n m h r = (r.0, reach_more e es n m h r.1)
 pub grown_parts : {X : Type 0} (xs more : List X) (from : ℕ) (es : List ℕ) (n : ℕ) → Reaches from es n → n ≤ length xs
     → parts (xs ++ more) from es ≡ parts xs from es
 grown_parts xs more from [] n r le = refl
-grown_parts xs more from (e ∷ es) n r le =
-    let m = reach_le e es n r.1 in
-    let x : slice_range (xs ++ more) from e ≡ slice_range xs from e = range_before xs more from e r.0 (omega (arith, m, le)) in
-    let rest = grown_parts xs more e es n r.1 le in
-    (λ i. x i ∷ rest i)
-
--- the rest from a place on is the range up to the end
-range_rest : {X : Type 0} (xs : List X) (n : ℕ) → slice_range xs n (length xs) ≡ drop n xs
-range_rest xs n = rw (← length-drop n xs) (take_all (length (drop n xs)) (drop n xs) (omega arith))
+grown_parts xs more from (e ∷ es) n r le = grind (arith, common_steps, reach_le, grown_parts xs more e es n r.1 le)
 
 pub closed_parts : {X : Type 0} (xs : List X) (from : ℕ) (es : List ℕ) (n : ℕ) → Reaches from es n
     → parts xs from (es ++ length xs ∷ []) ≡ parts xs from es ++ drop n xs ∷ []
-closed_parts xs from [] n r = ap (λ (c : List _). c ∷ []) (rw r (range_rest xs n))
+closed_parts xs from [] n r = grind (arith, common_steps)
 closed_parts xs from (e ∷ es) n r = ap (λ (cs : List (List _)). slice_range xs from e ∷ cs) (closed_parts xs e es n r.1)
 
 more_parts : {X : Type 0} (lits more : List X) (from : ℕ) (es : List ℕ) → Reaches from es (length lits)
@@ -57,8 +46,7 @@ parts_pushed lits lits' more es es' n a p e r = rw (e, p, a) (more_parts lits mo
 pub parts_reach : {X : Type 0} (lits lits' more : List X) (es es' : List ℕ) (n : ℕ) → lits' ≡ lits ++ more → n ≡ length lits'
     → es' ≡ es ++ n ∷ []
     → Reaches 0 es (length lits) → Reaches 0 es' (length lits')
-parts_reach lits lits' more es es' n a p e r =
-    rw (e, p, a) (reach_more 0 es (length lits) (length (lits ++ more)) (omega (arith, length-append lits more)) r)
+parts_reach lits lits' more es es' n a p e r = grind (arith, common_steps, reach_more)
 
 -- ---- the part at a place
 
@@ -72,8 +60,7 @@ start_found from (x ∷ es) zero e h = cc h
 start_found from (x ∷ es) (suc i) e h = start_found x es i e h
 
 pub start_after : (es : List ℕ) (i e : ℕ) → (i ≡ 0 → ⊥) → slice_get es (i - 1) ≡ Some e → e ≡ start_of 0 es i
-start_after es zero e some h = absurd (some refl)
-start_after es (suc i) e some h = let k : suc i - 1 ≡ i = omega arith in sym (start_found 0 es i e (rw k at h))
+start_after es i e some h = grind (arith, common_steps, start_found)
 
 pub part_at : {X : Type 0} (lits : List X) (from : ℕ) (es : List ℕ) (i e : ℕ) → slice_get es i ≡ Some e
     → slice_get (parts lits from es) i ≡ Some (slice_range lits (start_of from es i) e)
@@ -83,10 +70,7 @@ part_at lits from (x ∷ es) (suc i) e h = part_at lits x es i e h
 
 pub within_at : (from : ℕ) (es : List ℕ) (i n e : ℕ) → slice_get es i ≡ Some e → Reaches from es n → (start_of from es i ≤ e) × (e ≤ n)
 within_at from [] i n e h r = absurd (cc h)
-within_at from (x ∷ es) zero n e h r =
-    let same : x ≡ e = cc h in
-    let m = reach_le x es n r.1 in
-    rw (← same) (r.0, m)
+within_at from (x ∷ es) zero n e h r = grind (arith, common_steps, reach_le)
 within_at from (x ∷ es) (suc i) n e h r = within_at x es i n e h r.1
 
 -- a place among the parts is one among their ends
@@ -97,24 +81,17 @@ part_place xs es whole i is less = omega (arith, ap length is, same_count xs 0 e
 -- ---- without the last parts
 
 end_within : (from : ℕ) (es : List ℕ) (n k : ℕ) → Reaches from es n → (from ≤ end_of from (take k es)) × (end_of from (take k es) ≤ n)
-end_within from [] n zero r = (omega arith, omega (arith, r))
-end_within from [] n (suc k) r = (omega arith, omega (arith, r))
+end_within from [] n k r = grind (arith, common_steps)
 end_within from (e ∷ es) n zero r = (omega arith, reach_le from (e ∷ es) n r)
-end_within from (e ∷ es) n (suc k) r =
-    let m = end_within e es n k r.1 in
-    let x = r.0 in
-    let y = m.0 in
-    (omega arith, m.1)
+end_within from (e ∷ es) n (suc k) r = omega (arith, end_within e es n k r.1)
 
 reach_less : (from : ℕ) (es : List ℕ) (n k : ℕ) → Reaches from es n → Reaches from (take k es) (end_of from (take k es))
-reach_less from [] n zero r = refl
-reach_less from [] n (suc k) r = refl
+reach_less from [] n k r = grind (arith, common_steps)
 reach_less from (e ∷ es) n zero r = refl
 reach_less from (e ∷ es) n (suc k) r = (r.0, reach_less e es n k r.1)
 
 pub fewer_parts : {X : Type 0} (xs : List X) (from : ℕ) (es : List ℕ) (k : ℕ) → parts xs from (take k es) ≡ take k (parts xs from es)
-fewer_parts xs from [] zero = refl
-fewer_parts xs from [] (suc k) = refl
+fewer_parts xs from [] k = grind (arith, common_steps)
 fewer_parts xs from (e ∷ es) zero = refl
 fewer_parts xs from (e ∷ es) (suc k) = ap (λ (ls : List (List _)). slice_range xs from e ∷ ls) (fewer_parts xs e es k)
 
@@ -126,24 +103,16 @@ kept_parts xs m from es n r h le =
 
 pub parts_popped : {X : Type 0} (xs xs' : List X) (es es' : List ℕ) (n : ℕ) → xs' ≡ take (end_of 0 es') xs → es' ≡ take n es
     → Reaches 0 es (length xs) → parts xs' 0 es' ≡ take n (parts xs 0 es)
-parts_popped xs xs' es es' n a e r =
-    let end : ℕ = end_of 0 (take n es) in
-    let same = kept_parts xs end 0 (take n es) end (reach_less 0 es (length xs) n r) (omega arith) (end_within 0 es (length xs) n r).1 in
-    rw (a, e) (same ∙ fewer_parts xs 0 es n)
+parts_popped xs xs' es es' n a e r = grind (arith, common_steps, kept_parts, reach_less, fewer_parts)
 
 pub popped_reach : {X : Type 0} (xs xs' : List X) (es es' : List ℕ) (n : ℕ) → xs' ≡ take (end_of 0 es') xs → es' ≡ take n es
     → Reaches 0 es (length xs) → Reaches 0 es' (length xs')
-popped_reach xs xs' es es' n a e r =
-    let m : length (take (end_of 0 (take n es)) xs) ≡ end_of 0 (take n es) =
-    length-take-le (end_of 0 (take n es)) xs (end_within 0 es (length xs) n r).1 in
-    rw (a, e, m) (reach_less 0 es (length xs) n r)
+popped_reach xs xs' es es' n a e r = search (rules, length-take-le, end_within, reach_less)
 
 -- so many ends reach to the last of them, which is in the buffer
 pub fewer_reach : (es es' : List ℕ) (start m k end : ℕ) → es' ≡ take k es → end ≡ end_of 0 es' → Reaches 0 es start → start ≤ m
     → Reaches 0 es' end × (end ≤ m)
-fewer_reach es es' start m k end e is r le =
-    let last = (end_within 0 es start k r).1 in
-    rw (is, e) (reach_less 0 es start k r, omega (arith, last, le))
+fewer_reach es es' start m k end e is r le = grind (arith, common_steps, end_within, reach_less)
 
 last_of : (e : ℕ) (es : List ℕ) (d : ℕ) → unwrap_or (slice_get (e ∷ es) (length es)) d ≡ end_of e es
 last_of e [] d = refl
@@ -162,9 +131,12 @@ pub closed_reach : (es : List ℕ) (n m : ℕ) → n ≤ m → Reaches 0 es n �
 closed_reach es n m h r = reach_more 0 es n m h r
 
 pub drop_kept : {X : Type 0} (xs : List X) (n : ℕ) → drop n (take n xs) ≡ []
-drop_kept xs zero = refl
-drop_kept [] (suc n) = refl
-drop_kept (x ∷ xs) (suc n) = drop_kept xs n
+drop_kept xs n = grind (arith, common_steps)
 
 pub drop_grown : {X : Type 0} (xs more : List X) (n : ℕ) → n ≤ length xs → drop n (xs ++ more) ≡ drop n xs ++ more
 drop_grown xs more n h = drop-append-le n xs more h
+
+-- what holds after the last list is taken away, and after one is whole
+pub ruleset popped = (parts_popped, popped_reach, same_count)
+
+pub ruleset closed = (closed_parts, closed_reach, drop_all)

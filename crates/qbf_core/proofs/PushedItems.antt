@@ -1,10 +1,10 @@
 -- What stands at a place after one more item came at the end, or one was written.
+use Rattle.std.proofs.lemmas.Grind.{common_steps}
 use Rattle.std.proofs.Common.{◌≡◌, ℕ, zero, suc, ◌⊎◌, List, [], ◌∷◌, ◌++◌, Some, inl, inr, refl, ap, length, slice_get, set, ◌<◌, arith}
 
 pub pushed_cases : {A : Type 0} (xs : List A) (x : A) (k : ℕ) (a : A) → slice_get (xs ++ x ∷ []) k ≡ Some a
     → (slice_get xs k ≡ Some a) ⊎ ((k ≡ length xs) × (a ≡ x))
-pushed_cases [] x zero a h = inr (refl, cc h)
-pushed_cases [] x (suc k) a h = cc h
+pushed_cases [] x k a h = grind (arith, common_steps)
 pushed_cases (y ∷ xs) x zero a h = inl h
 pushed_cases (y ∷ xs) x (suc k) a h = elim (pushed_cases xs x k a h) [ inl g ↦ inl g | inr (e, f) ↦ inr (ap suc e, f) ]
 
@@ -25,7 +25,6 @@ written_here (x ∷ xs) (suc k) y less = written_here xs k y (omega arith)
 
 pub written_elsewhere : {A : Type 0} (xs : List A) (k j : ℕ) (y : A) → (j ≡ k → ⊥) → slice_get (set xs k y) j ≡ slice_get xs j
 written_elsewhere [] k j y ne = refl
-written_elsewhere (x ∷ xs) zero zero y ne = absurd (ne refl)
-written_elsewhere (x ∷ xs) zero (suc j) y ne = refl
+written_elsewhere (x ∷ xs) zero j y ne = grind (arith, common_steps)
 written_elsewhere (x ∷ xs) (suc k) zero y ne = refl
 written_elsewhere (x ∷ xs) (suc k) (suc j) y ne = written_elsewhere xs k j y (λ e. ne (ap suc e))

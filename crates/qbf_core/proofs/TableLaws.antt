@@ -1,43 +1,33 @@
 -- The table of a prefix, beside its entries.
+use Rattle.std.proofs.lemmas.Grind.{common_steps}
 use Rattle.std.proofs.Common.{◌≡◌, ℕ, zero, suc, ◌≤◌, ◌<◌, Bool, true, false, cond, if◌then◌else◌, List, [], ◌∷◌, ◌++◌, length, Option}
 use Rattle.std.proofs.Common.{Some, None, ◌⊎◌, inl, inr, refl, ap, sym, subst, ◌∙◌, arith, slice_get, slice_set, get_or, take, drop, nat_eq}
 use Rattle.std.specs.Map.{lookup, keys_of}
 use Rattle.std.specs.List.{AllByRecursion, IsDistinct}
-use Rattle.std.proofs.Math.Seq.{take-append_seam}
 use Rattle.std.proofs.lemmas.Bool.{eq-eqb, ne_eqb}
 use Rattle.std.proofs.lemmas.Option.{slice_get_within, slice_get_read}
 use Rattle.qbf_core.specs.declared.prefix.Place.{Place}
 use Rattle.qbf_core.specs.Blocks.{IsVariable}
 use Rattle.qbf_core.specs.Places.{IsTable, IsBeyond, IsTold}
 use Rattle.std.proofs.Common.{length-append}
-use Rattle.std.proofs.lemmas.Bool.{cases_eq}
 use Rattle.qbf_core.proofs.PushedItems.{pushed_cases}
 
 -- a list after all of it was lent as a slice
 pub written_back : {X : Type 0} (n : ℕ) (new old : List X) → n ≡ length old → length new ≡ length old
     → take n (new ++ drop (length new) old) ≡ new
-written_back n new old e f =
-    subst (λ m. take m (new ++ drop (length new) old) ≡ new) (f ∙ sym e) (take-append_seam new (drop (length new) old))
+written_back n new old e f = grind (arith, common_steps)
 
 -- what stands at a place after a write
 set_cases : {X : Type 0} (xs : List X) (i n : ℕ) (x o : X) → slice_get (slice_set xs i x) n ≡ Some o
     → ((n ≡ i) × (o ≡ x)) ⊎ ((n ≡ i → ⊥) × (slice_get xs n ≡ Some o))
 set_cases [] i n x o e = absurd cc
-set_cases (y ∷ xs) zero zero x o e = inl (refl, cc)
-set_cases (y ∷ xs) zero (suc n) x o e = inr (λ d. absurd (omega (arith, d)), e)
+set_cases (y ∷ xs) zero n x o e = grind (arith, common_steps)
 set_cases (y ∷ xs) (suc i) zero x o e = inr (λ d. absurd (omega (arith, d)), e)
-set_cases (y ∷ xs) (suc i) (suc n) x o e =
-    elim (set_cases xs i n x o e) [ inl h ↦ inl (ap suc h.0, h.1) | inr h ↦ inr (λ d. h.0 (omega (arith, d)), h.1) ]
+set_cases (y ∷ xs) (suc i) (suc n) x o e = grind (arith, common_steps, set_cases xs i n x o e)
 
 lookup_new : (v : ℕ) (p : Place) (es : List (ℕ × Place)) → lookup (nat_eq v) es ≡ None → lookup (nat_eq v) (es ++ (v, p) ∷ []) ≡ Some p
 lookup_new v p [] none = rw (eq-eqb v v refl) refl
-lookup_new v p (e ∷ es) none = by (nat_eq v e.0) (lookup_new v p es) none
-  where
-    by : (t : Bool) → (lookup (nat_eq v) es ≡ None → lookup (nat_eq v) (es ++ (v, p) ∷ []) ≡ Some p)
-        → cond t (Some e.1) (lookup (nat_eq v) es) ≡ None
-        → cond t (Some e.1) (lookup (nat_eq v) (es ++ (v, p) ∷ [])) ≡ Some p
-    by true more none = absurd cc
-    by false more none = more none
+lookup_new v p (e ∷ es) none = grind (arith, common_steps, lookup_new v p es)
 
 lookup_other : (n v : ℕ) (p : Place) (es : List (ℕ × Place)) → nat_eq n v ≡ false
     → lookup (nat_eq n) (es ++ (v, p) ∷ []) ≡ lookup (nat_eq n) es
@@ -91,17 +81,12 @@ told_grown table far false slot here es told = told
 -- a new variable that the table reaches, and one that it does not reach
 pub beyond_noted : (reached : ℕ) (far es : List (ℕ × Place)) (v : ℕ) (p : Place) → v < reached
     → IsBeyond reached far es → IsBeyond reached far (es ++ (v, p) ∷ [])
-beyond_noted reached far es v p less told n long =
-    told n long ∙ sym (lookup_other n v p es (ne_eqb n v (λ same. omega (arith, same, less, long))))
+beyond_noted reached far es v p less told n long = grind (arith, common_steps, lookup_other)
 
 pub beyond_added : (reached : ℕ) (far es : List (ℕ × Place)) (v : ℕ) (p : Place) → lookup (nat_eq v) far ≡ None
     → lookup (nat_eq v) es ≡ None
     → IsBeyond reached far es → IsBeyond reached (far ++ (v, p) ∷ []) (es ++ (v, p) ∷ [])
-beyond_added reached far es v p out none told n long = elim (cases_eq n v) [
-  | inl e ↦ subst (λ (m : ℕ). lookup (nat_eq m) (far ++ (v, p) ∷ []) ≡ lookup (nat_eq m) (es ++ (v, p) ∷ [])) (sym e)
-      (lookup_new v p far out ∙ sym (lookup_new v p es none))
-  | inr ne ↦ lookup_other n v p far (ne_eqb n v ne) ∙ (told n long ∙ sym (lookup_other n v p es (ne_eqb n v ne)))
-]
+beyond_added reached far es v p out none told n long = grind (arith, common_steps, lookup_new, lookup_other, ne_eqb)
 
 -- a new variable keeps them distinct
 pub distinct_push : (es : List (ℕ × Place)) (v : ℕ) (p : Place) → lookup (nat_eq v) es ≡ None → IsDistinct nat_eq (keys_of es)

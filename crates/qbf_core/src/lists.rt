@@ -4,7 +4,7 @@ ghost use Rattle.std.specs.Prelude.{◌≡◌, ◌≤◌, ◌<◌, List, [], ◌
 ghost use Rattle.std.specs.Prelude.{slice_range, ◌-◌, Some, OnOk, OnErr};
 ghost use Rattle.qbf_core.specs.Lists.{parts, start_of, LieWithin};
 
-use crate::ends::Ends;
+use crate::offsets::Offsets;
 use std::alloc::{AllocError, Global};
 use std::marker::Model;
 
@@ -13,7 +13,7 @@ use std::marker::Model;
 pub struct Lists<T> {
     items: Vec<T>,
     /// Where each list ends. It begins where the one before ends.
-    ends: Ends,
+    ends: Offsets,
 }
 
 impl<T> Model for Lists<T> {
@@ -29,7 +29,7 @@ impl<T> Model for Lists<T> {
 
 /// Where the list at place `i` begins.
 #[inline(always)]
-fn start(ends: &Ends, i: usize) -> usize
+fn start(ends: &Offsets, i: usize) -> usize
     requires { i < length ends.now }
     ensures { result ≡ start_of 0 ends.now i }
 {
@@ -50,7 +50,8 @@ fn part<T>(buffer: &[T], from: usize, to: usize) -> &[T]
 
 /// The list at place `i` of those that lie in a buffer and end at these places.
 #[inline(always)]
-fn list_at<'a, T>(buffer: &'a [T], ends: &Ends, i: usize) -> &'a [T]
+#[tactic(auto, using(crate::proofs::Flats::within_at, crate::proofs::Flats::part_at))]
+fn list_at<'a, T>(buffer: &'a [T], ends: &Offsets, i: usize) -> &'a [T]
     requires place { i < length ends.now }
     requires within { LieWithin ends.now (length buffer.now) }
     ensures { slice_get (parts buffer.now 0 ends.now) i ≡ Some result.now }
@@ -65,11 +66,12 @@ impl<T: Copy + Drop> Lists<T> {
     {
         Lists {
             items: Vec::new(alloc),
-            ends: Ends::new(alloc),
+            ends: Offsets::new(alloc),
         }
     }
 
     /// How many lists there are.
+    #[tactic(auto, using(crate::proofs::Flats::same_count))]
     pub fn len(&self) -> usize
         ensures { result ≡ length self.now }
     {
@@ -88,6 +90,7 @@ impl<T: Copy + Drop> Lists<T> {
     ///
     /// # Errors
     /// Out of memory. Nothing is changed then.
+    #[tactic(auto, using(crate::proofs::Flats::parts_reach, crate::proofs::Flats::parts_pushed))]
     pub fn push(&mut self, list: &[T]) -> Result<(), AllocError>
         ensures pushed { OnOk result (self.new ≡ self.old ++ list.now ∷ []) }
         ensures err { OnErr result (self.new ≡ self.old) }
@@ -104,6 +107,7 @@ impl<T: Copy + Drop> Lists<T> {
     }
 
     /// Takes the last list away, if there is one.
+    #[tactic(auto, using(crate::proofs::Flats::popped))]
     pub fn pop(&mut self)
         ensures { self.new ≡ take (length self.old - 1) self.old }
     {
@@ -119,7 +123,7 @@ impl<T: Copy + Drop> Lists<T> {
 pub struct GrowingLists<T> {
     items: Vec<T>,
     /// Where each whole list ends.
-    ends: Ends,
+    ends: Offsets,
     /// Where the last whole list ends, and the list that is begun begins.
     start: usize,
 }
@@ -143,13 +147,14 @@ impl<T: Copy + Drop> GrowingLists<T> {
     {
         GrowingLists {
             items: Vec::new(alloc),
-            ends: Ends::new(alloc),
+            ends: Offsets::new(alloc),
             start: 0,
         }
     }
 
     /// How many whole lists there are.
     #[inline(always)]
+    #[tactic(auto, using(crate::proofs::Flats::same_count))]
     pub fn whole_len(&self) -> usize
         ensures { result ≡ length self.now.whole }
     {
@@ -184,6 +189,7 @@ impl<T: Copy + Drop> GrowingLists<T> {
 
     /// Begins an empty list in place of the one that is begun.
     #[inline(always)]
+    #[tactic(auto, using(crate::proofs::Flats::kept_parts, crate::proofs::Flats::drop_kept))]
     pub fn begin(&mut self)
         ensures { self.new ≡ record self.old { begun = [] } }
     {
@@ -195,6 +201,7 @@ impl<T: Copy + Drop> GrowingLists<T> {
     /// # Errors
     /// Out of memory. Nothing is changed then.
     #[inline(always)]
+    #[tactic(auto, using(crate::proofs::Flats::grown_parts, crate::proofs::Flats::drop_grown))]
     pub fn push(&mut self, item: T) -> Result<(), AllocError>
         ensures pushed { OnOk result
             (self.new ≡ record self.old { begun = self.old.begun ++ item ∷ [] }) }
@@ -209,6 +216,7 @@ impl<T: Copy + Drop> GrowingLists<T> {
     /// # Errors
     /// Out of memory. Nothing is changed then.
     #[inline(always)]
+    #[tactic(auto, using(crate::proofs::Flats::closed))]
     pub fn close(&mut self) -> Result<(), AllocError>
         ensures closed { OnOk result
             (self.new ≡ record { whole = self.old.whole ++ self.old.begun ∷ []; begun = [] }) }
@@ -234,6 +242,7 @@ impl<T: Copy + Drop> GrowingLists<T> {
     }
 
     /// The whole lists, where they lie. It takes no memory.
+    #[tactic(auto, using(crate::proofs::Flats::kept_parts))]
     pub fn into_lists(self) -> Lists<T>
         ensures { result ≡ self.whole }
     {

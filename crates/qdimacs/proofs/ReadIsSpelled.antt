@@ -1,9 +1,10 @@
 -- What is read is spelled, and a fault that is found stands.
+use Rattle.std.proofs.lemmas.Grind.{common_steps}
 use Rattle.std.proofs.Common.{rules, inl, inr, ◌⊎◌, ◌≡◌, ◌≢◌, ℕ, ◌<◌, ◌≤◌, true, false, List, [], ◌∷◌, ◌++◌, length, map, Ok, Err, refl, ap}
-use Rattle.std.proofs.Common.{sym, subst, ◌∙◌, arith, append_assoc, nat_eq}
+use Rattle.std.proofs.Common.{sym, subst, ◌∙◌, arith, append_assoc}
 use Rattle.qbf_spelling.proofs.Words
-use Words.{map-append, length-append, flat_map, AllByRecursion, IsDistinct, Quantifier, Literal, Block, pairs, is_bound, blocks_of}
-use Words.{variables, AllByRecursion-push, Token, Lined, number, literal, letter, set, unlined, Ends}
+use Words.{map-append, flat_map, IsDistinct, Quantifier, Literal, Block, pairs, is_bound, blocks_of}
+use Words.{AllByRecursion-push, Token, Lined, number, literal, letter, set, unlined, Ends}
 use Words.token
 use Rattle.std.proofs.lemmas.List.{append-nil}
 use Rattle.qbf_core.specs.Blocks.{pairs_of_block}
@@ -44,26 +45,11 @@ none_so_far h lv lc = search rules
 
 more_variables : (h : Heading) (ps : Pairs) (q : Quantifier) (v : ℕ) → IsSoFar h ps [] → 1 ≤ v → v ≤ h.max_var
     → is_bound v ps ≡ false → IsSoFar h (ps ++ (q, v) ∷ []) []
-more_variables h ps q v s low high fresh = record {
-  max_var = s.max_var;
-  count = s.count;
-  closed = tt;
-  few = s.few;
-  good = record {
-    distinct = rw map-append (push_distinct (variables ps) v s.good.distinct (sym (is_bound_variables v ps) ∙ fresh));
-    within = rw map-append (AllByRecursion-push (λ w. (1 ≤ w) × (w ≤ h.max_var)) (variables ps) v s.good.within (low, high));
-  };
-}
+more_variables h ps q v s low high fresh = grind (arith, common_steps, push_distinct, is_bound_variables)
 
 more_clauses : (h : Heading) (ps : Pairs) (cs : Clauses) (ls : List Literal) → IsSoFar h ps cs
     → AreFrom ps ls → length cs < h.count → IsSoFar h ps (cs ++ ls ∷ [])
-more_clauses h ps cs ls s bound more = record {
-  max_var = s.max_var;
-  count = s.count;
-  good = s.good;
-  closed = AllByRecursion-push (AreFrom ps) cs ls s.closed bound;
-  few = omega (arith, length-append cs (ls ∷ []));
-}
+more_clauses h ps cs ls s bound more = grind (arith, common_steps)
 
 -- ---- one token more
 
@@ -71,8 +57,7 @@ abbrev front : Heading → List Block → Clauses → List Token
 front h sets cs = header h.max_var h.count ++ flat_map set sets ++ flat_map clause cs
 
 some_pushed : {X : Type 0} (xs : List X) (x : X) → (xs ++ x ∷ []) ≢ []
-some_pushed [] x e = cc
-some_pushed (y ∷ xs) x e = cc
+some_pushed xs x e = grind (arith, common_steps)
 
 -- a clause that is begun, or about to be
 record IsBegun (ts : List Token) (h : Heading) (ps : Pairs) (cs : Clauses) (ls : List Literal) : Type 0 where
@@ -140,23 +125,6 @@ between_goes : (h : Heading) (ps : Pairs) (cs : Clauses) (t : Token) (next : Pla
     ⊎ ((length cs < h.count) × (clause_row h ps cs [] (bound_literal h.max_var ps t) ≡ Goes next))
 between_goes h ps cs t next e = search rules
 
-between_step : (ts : List Token) (h : Heading) (ps : Pairs) (cs : Clauses) (t : Token) (next : Place)
-    → Spells ts (Between h ps cs) → row (Between h ps cs) t ≡ Goes next → Spells (ts ++ t ∷ []) next
-between_step ts h ps cs t next b e = elim (between_goes h ps cs t next e) [
-  | inl k ↦
-      let c : Spells ts (Between h ps []) = rw k.1 at b in
-      rw (k.3, k.2, c.1) (
-        c.0,
-        [],
-        ap (λ (x : List Token). x ++ letter k.0 ∷ []) (append-nil (header h.max_var h.count ++ flat_map set c.0)),
-        append-nil (pairs c.0) ∙ c.2,
-        c.3,
-      )
-  | inr k ↦
-      clause_step t next
-      (record { sets = b.0; spelled = b.1 ∙ sym (append-nil (front h b.0 cs)); bound = b.2; so_far = b.3; free = tt; more = k.0 }) k.1
-]
-
 -- an accepted token leads to a place that the tokens spell
 step : (ts : List Token) (p next : Place) (t : Token) → Spells ts p → row p t ≡ Goes next → Spells (ts ++ t ∷ []) next
 step ts (InHeader (place.Second v)) next t b e =
@@ -164,40 +132,15 @@ step ts (InHeader (place.Second v)) next t b e =
     let none = none_so_far (record { max_var = v; count = k.0 }) b.1 k.2 in
     subst (Spells (ts ++ t ∷ [])) k.3 ([], (λ i. b.0 i ++ k.1 i ∷ []), refl, none)
 step ts (InHeader here) next t b e = search rules
-step ts (Between h ps cs) next t b e = between_step ts h ps cs t next b e
+step ts (Between h ps cs) next t b e = grind (arith, common_steps)
 step ts (InSet h ps q) next t b e = set_step ts h ps q t next b e
-step ts (Whole f) next t b e = absurd b
-step ts (InClause h ps cs ls) next t b e =
-    clause_step t next (record { sets = b.0; spelled = b.1; bound = b.2; so_far = b.3; free = b.4; more = b.6 }) e
+step ts p next t b e = grind (arith, common_steps)
 
 -- ---- the end
 
 whole_formula : (ts : List Token) (h : Heading) (ps : Pairs) (cs : Clauses) → Spells ts (Between h ps cs)
     → h.count ≡ length cs → IsFormula (ts ++ token.End ∷ []) (record { max_var = h.max_var; blocks = blocks_of ps; clauses = cs })
-whole_formula ts h ps cs b all =
-    let are : pairs (blocks_of ps) ≡ ps = pairs-blocks_of ps in
-    let s = b.3 in
-    record {
-      sets = b.0;
-      spelled = (λ i. b.1 i ++ token.End ∷ [])
-          ∙ ap (λ (n : ℕ). header h.max_var n ++ flat_map set b.0 ++ flat_map clause cs ++ token.End ∷ []) all;
-      bound = b.2 ∙ sym are;
-      well_formed = record {
-        prefix = record {
-          alternates = Alternates-blocks_of ps;
-          distinct = subst (λ (x : Pairs). IsDistinct nat_eq (variables x)) (sym are) s.good.distinct;
-          within = subst (λ (x : Pairs). AllByRecursion (λ v. (1 ≤ v) × (v ≤ 2147483647)) (variables x))
-              (sym are) (all_of (λ v. (1 ≤ v) × (v ≤ h.max_var)) (λ v. (1 ≤ v) × (v ≤ 2147483647))
-              (λ v is. (is.0, omega (arith, is.1, s.max_var))) (variables ps) s.good.within);
-        };
-        numbers = s.max_var;
-        top = subst (λ (x : Pairs). AllByRecursion (λ v. v ≤ h.max_var) (variables x)) (sym are)
-            (all_of (λ v. (1 ≤ v) × (v ≤ h.max_var)) (λ v. v ≤ h.max_var) (λ v is. is.1) (variables ps) s.good.within);
-        closed =
-            subst (λ (x : Pairs). AllByRecursion (AllByRecursion (λ l. is_bound l.var x ≡ true)) cs) (sym are) s.closed;
-        count = omega (arith, s.count);
-      };
-    }
+whole_formula ts h ps cs b all = grind (arith, common_steps, pairs-blocks_of, Alternates-blocks_of, all_of)
 
 -- reading ends after whole lists, at the end
 record IsLast (p : Place) (t : Token) (next : Place) : Type 0 where

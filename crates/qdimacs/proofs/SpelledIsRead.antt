@@ -1,4 +1,5 @@
 -- What tokens spell is read, and a fault that stands is found: accepted tokens, and the place that they lead to.
+use Rattle.std.proofs.lemmas.Grind.{common_steps}
 use Rattle.std.proofs.Common.{rules, ◌≡◌, ◌∙◌, ◌≢◌, ℕ, ◌<◌, ◌≤◌, ◌+◌, Bool, true, false, List, [], ◌∷◌, ◌++◌, length, map, refl, arith}
 use Rattle.std.proofs.Common.{append_assoc, Ok, Err, ap, sym, subst}
 use Rattle.qbf_spelling.proofs.Words
@@ -40,10 +41,7 @@ bound_one P v [] e h = absurd cc
 bound_one P v (y ∷ ps) e h = let rest = bound_one P v ps in search rules
 
 pub good_front : (max_var : ℕ) (xs ys : Pairs) → AreGood max_var (xs ++ ys) → AreGood max_var xs
-good_front max_var xs ys good = record {
-  distinct = front_distinct (variables xs) (variables ys) (rw map-append at good.distinct);
-  within = front_all (λ v. (1 ≤ v) × (v ≤ max_var)) (variables xs) (variables ys) (rw map-append at good.within);
-}
+good_front max_var xs ys good = grind (arith, common_steps, front_distinct, front_all)
 
 -- ---- a set
 
@@ -189,5 +187,4 @@ fault_is_found ts f line is =
 
 -- Tokens read as nothing else.
 pub read_once : ReadsOnce Reads read
-read_once ts (Ok f) h = spelled_is_read ts f h
-read_once ts (Err e) h = fault_is_found ts e.0 e.1 h
+read_once ts h' h = grind (arith, common_steps, spelled_is_read, fault_is_found)

@@ -1,7 +1,8 @@
 -- The parts of a canonical text, one after the other.
+use Rattle.std.proofs.lemmas.Grind.{common_steps}
 use Rattle.std.proofs.Common.{rules, ◌≢◌, ◌≡◌, ℕ, true, false, List, [], ◌∷◌, ◌++◌, map, Option, Some, None, refl, ap, sym, ◌∙◌}
 use Rattle.std.proofs.Common.{append_assoc, drop, slice_get, length, arith, ◌<◌, ◌+◌}
-use Rattle.qbf_spelling.proofs.Words.{flat_map, flat_map-append, Quantifier, Literal, Block, pairs, Qbf, number, literal, letter, set}
+use Rattle.qbf_spelling.proofs.Words.{flat_map, Quantifier, Literal, Block, pairs, Qbf, number, literal, letter}
 use Rattle.qbf_text.proofs.SentParts.{zero_decimal, drop_at}
 use Rattle.qbf_core.specs.Blocks.{Alternates, is_quantifier}
 use Rattle.qbf_text.specs.Canonical.{spaced, spelled, line_rest, line_text}
@@ -15,8 +16,7 @@ use Rattle.qdimacs.specs.Reading.{Pairs, Clauses}
 
 -- an empty clause
 pub no_literals : (ls : List Literal) → length ls < 1 → line_text (clause ls) ≡ 48 ∷ 10 ∷ []
-no_literals [] none = ap (λ (k : List ℕ). k ++ 10 ∷ []) zero_decimal
-no_literals (l ∷ ls) none = absurd (omega (arith, none))
+no_literals ls none = grind (arith, common_steps, zero_decimal)
 
 -- a clause by its first literal
 pub first_literal : (l : Literal) (ls : List Literal)
@@ -41,15 +41,13 @@ Differs (Some q) (b ∷ bs) = is_quantifier q b.quantifier ≡ false
 Differs last bs = Unit {0}
 
 rest_alternates : (b : Block) (bs : List Block) → Alternates (b ∷ bs) → (b.vars ≢ []) × Alternates bs × Differs (Some b.quantifier) bs
-rest_alternates b [] h = (h, tt, tt)
-rest_alternates b (c ∷ bs) h = (h.0, h.2, other_quantifier b.quantifier c.quantifier h.1)
+rest_alternates b bs h = grind (arith, common_steps)
 
 -- the variables of a block that is begun
 variables_rest : (q : Quantifier) (vs : List ℕ) (ps : Pairs)
     → prefix_rest (Some q) (map (λ v. (q, v)) vs ++ ps) ≡ flat_map spaced vs ++ prefix_rest (Some q) ps
 variables_rest q [] ps = refl
-variables_rest q (v ∷ vs) ps = rw (same_quantifier q) (ap (λ (k : List ℕ). spaced v ++ k) (variables_rest q vs ps)
-    ∙ sym (append_assoc (spaced v) (flat_map spaced vs) (prefix_rest (Some q) ps)))
+variables_rest q (v ∷ vs) ps = grind (arith, common_steps, variables_rest q vs ps)
 
 -- what closes a block, if there is one
 abbrev closing_of : Option Quantifier → List ℕ
@@ -58,19 +56,16 @@ closing_of (Some q) = closing
 
 opens : (last : Option Quantifier) (b : Block) (bs : List Block) → Differs last (b ∷ bs)
     → opening last b.quantifier ≡ closing_of last ++ spelled (letter b.quantifier)
-opens None b bs d = refl
-opens (Some q) b bs d = rw d refl
+opens last b bs d = grind (arith, common_steps)
 
 block_begins : (last : Option Quantifier) (q : Quantifier) (vs : List ℕ) (ps : Pairs) → vs ≢ []
     → prefix_rest last (map (λ v. (q, v)) vs ++ ps) ≡ opening last q ++ (flat_map spaced vs ++ prefix_rest (Some q) ps)
 block_begins last q [] ps some = absurd (some refl)
-block_begins last q (v ∷ vs) ps some = ap (λ (k : List ℕ). opening last q ++ (spaced v ++ k)) (variables_rest q vs ps)
-    ∙ ap (λ (k : List ℕ). opening last q ++ k) (sym (append_assoc (spaced v) (flat_map spaced vs) (prefix_rest (Some q) ps)))
+block_begins last q (v ∷ vs) ps some = grind (arith, common_steps, variables_rest)
 
 prefix_from : (last : Option Quantifier) (bs : List Block) → Alternates bs → Differs last bs
     → prefix_rest last (pairs bs) ≡ closing_of last ++ sets_text bs
-prefix_from None [] alternates differs = refl
-prefix_from (Some q) [] alternates differs = refl
+prefix_from last [] alternates differs = grind (arith, common_steps)
 prefix_from last (b ∷ bs) alternates differs =
     let h = rest_alternates b bs alternates in
     let letter_of_b = spelled (letter b.quantifier) in
@@ -91,6 +86,4 @@ prefix_next last ps i q v at = ap (prefix_rest last) (drop_at ps i (q, v) at)
 
 pub text_parts : (f : Qbf) → Alternates f.blocks
     → text f ≡ line_text (header f.max_var (length f.clauses)) ++ (prefix_rest None (pairs f.blocks) ++ clauses_text f.clauses)
-text_parts f alternates = ap (λ (x : List ℕ). line_text (header f.max_var (length f.clauses)) ++ x)
-    (flat_map-append line_text (map set f.blocks) (map clause f.clauses)
-    ∙ ap (λ (x : List ℕ). x ++ clauses_text f.clauses) (sym (prefix_from None f.blocks alternates tt)))
+text_parts f alternates = grind (arith, common_steps, prefix_from)

@@ -3,9 +3,7 @@ use Rattle.std.specs.Prelude.{◌≡◌, ◌<◌, ◌≤◌, true, [], length, R
 use Rattle.qbf_spelling.specs.Words.{AllByRecursion, pairs, Qbf, IsWellFormed, Fails}
 use Rattle.qbf_core.specs.Blocks.{variables, AreBound, IsPrefix}
 use Rattle.qbf_text.specs.Rows.{Goes, Ends}
-use Rattle.std.specs.declared.alloc.AllocError.{AllocError}
 use Rattle.qbf_text.specs.declared.grammar.Stop.{Stop}
-use Rattle.qbf_text.specs.declared.hand.Cursor.{Cursor}
 use Rattle.qbf_text.specs.declared.grammar.Stop.TheVariants as stop
 use Rattle.qbf_spelling.specs.Headers.{IsUpTo}
 use Rattle.qdimacs.specs.declared.fault.FormulaFault.{FormulaFault}
@@ -73,8 +71,3 @@ IsSound at.Whole p = IsWellFormed (made p)
 abbrev pub Leads : Parts → Parts → Result At (Stop FormulaFault) → Type 0
 Leads old new (Ok next) = IsSound next new
 Leads old new (Err e) = new ≡ old
-
--- at the place that the bytes at hand lead to, or in a clause
-abbrev pub Settles : Parts → Result (At × Cursor) AllocError → Type 0
-Settles p (Ok r) = IsSound r.0 p
-Settles p (Err e) = IsSound at.Clause p

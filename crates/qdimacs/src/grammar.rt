@@ -8,7 +8,7 @@ ghost use Rattle.qbf_text.specs.Passing.{LeadOn, Passes};
 ghost use Rattle.qbf_spelling.specs.declared.header.HeaderAt.TheVariants as header;
 ghost use Rattle.qdimacs.specs.declared.grammar.At.TheVariants as at;
 ghost use Rattle.qdimacs.specs.declared.grammar.Parts.{Parts};
-ghost use Rattle.qdimacs.specs.Places.{made, heading, stands, Moves, Leads, Settles, IsSound};
+ghost use Rattle.qdimacs.specs.Places.{made, heading, stands, Moves, Leads, IsSound};
 ghost use Rattle.qdimacs.specs.Reading.{AtP, Whole, IsFull, IsWhole, begun_set, has_more, row};
 ghost use Rattle.qdimacs.specs.Reading.{bind_row};
 
@@ -194,67 +194,38 @@ fn take_at(here: At, parts: &mut Parts, token: Token) -> Next
     }
 }
 
-// ---- clauses in the bytes at hand
+// ---- numbers in the bytes at hand
 
-/// The next place with the cursor before its token, or that an allocation failed.
-type Reached = Result<(At, Cursor), AllocError>;
-
-/// Takes the rest of a clause from the bytes at hand.
+/// Takes numbers from the bytes at hand, as far as they stand there whole and are no fault. Returns
+/// where the next token stands, with the cursor before it.
 ///
 /// # Errors
-/// Out of memory. What holds in a clause holds then.
+/// Out of memory.
 #[inline(always)]
-fn take_literals(parts: &mut Parts, bytes: &[u8], from: Cursor) -> Reached
+#[tactic(auto, using(crate::proofs::FormulaParts::numbers_lead_on))]
+fn take_numbers(
+    at: At,
+    parts: &mut Parts,
+    bytes: &[u8],
+    from: Cursor,
+) -> (At, Result<Cursor, AllocError>)
     requires within { from.at ≤ length bytes.now }
-    requires sound { IsSound at.Clause parts.old }
-    ensures passes { IfOk result (λ r. Passes
-        (LeadOn row (stands parts.old at.Clause) (stands parts.new r.0)) bytes.now from r.1) }
-    ensures sound { Settles parts.new result }
+    requires sound { IsSound at parts.old }
+    ensures passes { IfOk result.1 (λ to. Passes
+        (LeadOn row (stands parts.old at) (stands parts.new result.0)) bytes.now from to) }
+    ensures sound { IsSound result.0 parts.new }
 {
+    let mut place = at;
     let mut here = from;
-    'literals: while let Some(passed) = here.number(bytes) {
-        match take_literal(parts, passed.token) {
-            Ok(At::Clause) => {}
-            Ok(next) => return Ok((next, passed.next)),
-            Err(Stop::Memory) => return Err(AllocError),
+    'numbers: while let Some(passed) = here.number(bytes) {
+        match take_at(place, parts, passed.token) {
+            Ok(next) => place = next,
+            Err(Stop::Memory) => return (place, Err(AllocError)),
             Err(Stop::Text(_)) => break,
         }
         here = passed.next;
     }
-    Ok((At::Clause, here))
-}
-
-/// Takes the rest of a clause from the bytes at hand, and then clause after clause.
-///
-/// # Errors
-/// Out of memory. What holds in a clause holds then.
-#[inline(always)]
-fn take_clauses(parts: &mut Parts, bytes: &[u8], from: Cursor) -> Reached
-    requires within { from.at ≤ length bytes.now }
-    requires sound { IsSound at.Clause parts.old }
-    ensures passes { IfOk result (λ r. Passes
-        (LeadOn row (stands parts.old at.Clause) (stands parts.new r.0)) bytes.now from r.1) }
-    ensures sound { Settles parts.new result }
-{
-    let mut here = from;
-    'clauses: loop {
-        let (at, next) = take_literals(parts, bytes, here)?;
-        let At::Between = at else {
-            return Ok((at, next));
-        };
-        if !has_more(parts) {
-            return Ok((At::Between, next));
-        }
-        let Some(passed) = next.number(bytes) else {
-            return Ok((At::Between, next));
-        };
-        match take_opening(parts, passed.token) {
-            Ok(At::Clause) => here = passed.next,
-            Ok(at) => return Ok((at, passed.next)),
-            Err(Stop::Memory) => return Err(AllocError),
-            Err(Stop::Text(_)) => return Ok((At::Between, next)),
-        }
-    }
+    (place, Ok(here))
 }
 
 impl Parts {
@@ -349,14 +320,9 @@ impl Grammar for FormulaGrammar {
         bytes: &[u8],
         from: Cursor,
     ) -> Result<(Cursor, Option<()>), AllocError> {
-        match self.at {
-            At::Clause => {
-                let (at, to) = take_clauses(&mut self.parts, bytes, from)?;
-                self.at = at;
-                Ok((to, None))
-            }
-            _ => Ok((from, None)),
-        }
+        let (at, reached) = take_numbers(self.at, &mut self.parts, bytes, from);
+        self.at = at;
+        Ok((reached?, None))
     }
 
     #[inline(always)]

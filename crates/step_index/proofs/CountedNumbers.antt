@@ -1,12 +1,12 @@
--- Numbers that are counted from a first one, with others behind them.
+-- Numbers that are counted from a first one, with others after them.
+use Rattle.std.proofs.lemmas.Grind.{common_steps}
 use Rattle.std.proofs.Common.{rules, ◌≡◌, ◌<◌, ◌≤◌, ◌+◌, ◌-◌, ◌^◌, ◌⊎◌, ℕ, zero, suc, true, false, List, [], ◌∷◌, ◌++◌, length}
 use Rattle.std.proofs.Common.{slice_get, nat_eq, Option, None, Some, IfSome, IfNone, refl, sym, ap, ◌∙◌, inl, inr, arith}
 use Rattle.std.specs.Option.{is_some}
 use Rattle.std.proofs.lemmas.Bool.{cases_lt, eq-eqb}
 use Rattle.std.proofs.lemmas.Bool.Decides.{eqb_tells}
-use Rattle.std.proofs.lemmas.List.{append-nil, length-append}
+use Rattle.std.proofs.lemmas.List.{append-nil}
 use Rattle.std.proofs.lemmas.Map.Keys.{any_passes_from_place}
-use Rattle.qbf_core.proofs.PrefixLaws.{AllByRecursion-push}
 use Rattle.step_index.specs.Numbers.{is_used, count_from, AreStepNumbers}
 use Rattle.qbf_core.proofs.DistinctNumbers.{push_distinct, all_at}
 use Rattle.std.specs.List.{AllByRecursion}
@@ -17,30 +17,21 @@ count_length f (suc n) ks = (let rest = count_length (suc f) n ks in omega (arit
 
 count_more : (f n : ℕ) → count_from f (n + 1) ≡ count_from f n ++ (f + n) ∷ []
 count_more f zero = (let e : f ≡ f + 0 = omega arith in ap (λ (m : ℕ). m ∷ []) e)
-count_more f (suc n) =
-    let shift : suc n + 1 ≡ suc (n + 1) = omega arith in
-    let e : suc f + n ≡ f + suc n = omega arith in
-    ap (count_from f) shift ∙ ap (λ (ns : List ℕ). f ∷ ns) (count_more (suc f) n ∙ ap (λ (m : ℕ). count_from (suc f) n ++ m ∷ []) e)
+count_more f (suc n) = grind (arith, common_steps, count_more (suc f) n)
 
 -- ---- what stands at a place
 
 pub front_at : (f n : ℕ) (ks : List ℕ) (i : ℕ) → i < n → slice_get (count_from f n ++ ks) i ≡ Some (f + i)
 front_at f zero ks i less = absurd (omega (arith, less))
 front_at f (suc n) ks zero less = (let e : f ≡ f + 0 = omega arith in ap (λ (m : ℕ). Some m) e)
-front_at f (suc n) ks (suc i) less =
-    let e : suc f + i ≡ f + suc i = omega arith in
-    front_at (suc f) n ks i (omega (arith, less)) ∙ ap (λ (m : ℕ). Some m) e
+front_at f (suc n) ks (suc i) less = grind (arith, common_steps, front_at (suc f) n ks i (omega (arith, less)))
 
 pub behind_at : (f n : ℕ) (ks : List ℕ) (i : ℕ) → slice_get (count_from f n ++ ks) (n + i) ≡ slice_get ks i
 behind_at f zero ks i = (let e : 0 + i ≡ i = omega arith in ap (slice_get ks) e)
-behind_at f (suc n) ks i =
-    let e : suc n + i ≡ suc (n + i) = omega arith in
-    ap (slice_get (count_from f (suc n) ++ ks)) e ∙ behind_at (suc f) n ks i
+behind_at f (suc n) ks i = grind (arith, common_steps, behind_at (suc f) n ks i)
 
 pub late_at : (f n : ℕ) (ks : List ℕ) (i : ℕ) → n ≤ i → slice_get (count_from f n ++ ks) i ≡ slice_get ks (i - n)
-late_at f n ks i late =
-    let e : i ≡ n + (i - n) = omega (arith, late) in
-    ap (slice_get (count_from f n ++ ks)) e ∙ behind_at f n ks (i - n)
+late_at f n ks i late = grind (arith, common_steps, behind_at)
 
 -- ---- whether a number is there
 
@@ -65,10 +56,9 @@ found_used f n ks m (Some i) h t = used_at (count_from f n ++ ks) i m (front_at 
 
 pub unfound_used : (f n : ℕ) (ks : List ℕ) (m : ℕ) (o : Option ℕ) → IfNone o (NotCounted f n m) → is_some o ≡ false
     → is_used m (count_from f n ++ ks) ≡ is_used m ks
-unfound_used f n ks m None out t = unused_front f n ks m out
-unfound_used f n ks m (Some i) out t = cc t
+unfound_used f n ks m o out t = grind (arith, common_steps, unused_front)
 
--- a number that is not counted and not listed has no place
+-- a number that is not counted and not sparse has no place
 pub none_there : (f n : ℕ) (ks : List ℕ) (m : ℕ) → NotCounted f n m → ((i : ℕ) → slice_get ks i ≡ Some m → ⊥)
     → (i : ℕ) → slice_get (count_from f n ++ ks) i ≡ Some m → ⊥
 none_there f n ks m out none i here = elim (cases_lt i n) [
@@ -76,9 +66,9 @@ none_there f n ks m out none i here = elim (cases_lt i n) [
   | inr late ↦ none (i - n) (sym (late_at f n ks i late) ∙ here)
 ]
 
--- a listed number stands behind those that are counted
-pub listed_at : (f n : ℕ) (ks : List ℕ) (m i : ℕ) → slice_get ks i ≡ Some m → slice_get (count_from f n ++ ks) (n + i) ≡ Some m
-listed_at f n ks m i e = behind_at f n ks i ∙ e
+-- a sparse number stands after those that are counted
+pub sparse_at : (f n : ℕ) (ks : List ℕ) (m i : ℕ) → slice_get ks i ≡ Some m → slice_get (count_from f n ++ ks) (n + i) ≡ Some m
+sparse_at f n ks m i e = behind_at f n ks i ∙ e
 
 unused_none : (ks : List ℕ) (m : ℕ) → ((i : ℕ) → slice_get ks i ≡ Some m → ⊥) → is_used m ks ≡ false
 unused_none [] m none = refl
@@ -89,32 +79,21 @@ unused_none (k ∷ ks) m none =
 
 -- a number above all of them
 pub unused_above : (ks : List ℕ) (m top : ℕ) → AllByRecursion (λ n. n ≤ top) ks → top < m → is_used m ks ≡ false
-unused_above ks m top below above = unused_none ks m (λ i here.
-    let least : m ≤ top = all_at (λ (n : ℕ). n ≤ top) ks i m below here in omega (arith, least, above))
+unused_above ks m top below above = grind (arith, common_steps, unused_none, all_at)
 
--- what a look-up finds says whether the number is listed
-pub listed_used : (ks : List ℕ) (m : ℕ) (o : Option ℕ) → IfSome o (λ i. slice_get ks i ≡ Some m)
+-- what a look-up finds says whether the number is sparse
+pub sparse_used : (ks : List ℕ) (m : ℕ) (o : Option ℕ) → IfSome o (λ i. slice_get ks i ≡ Some m)
     → IfNone o ((i : ℕ) → slice_get ks i ≡ Some m → ⊥) → is_some o ≡ is_used m ks
-listed_used ks m None some none = sym (unused_none ks m none)
-listed_used ks m (Some i) some none = sym (used_at ks i m some)
+sparse_used ks m None some none = sym (unused_none ks m none)
+sparse_used ks m (Some i) some none = sym (used_at ks i m some)
 
 -- ---- one more number
 
 pub numbers_pushed : (ns : List ℕ) (m : ℕ) → AreStepNumbers ns → is_used m ns ≡ false → m < 2 ^ 64 → length ns + 1 < 2 ^ 64
     → AreStepNumbers (ns ++ m ∷ [])
-numbers_pushed ns m are new fit few = record {
-  distinct = push_distinct ns m are.distinct new;
-  fit = AllByRecursion-push (λ n. n < 2 ^ 64) ns m are.fit fit;
-  count = omega (arith, few, length-append ns (m ∷ []));
-}
+numbers_pushed ns m are new fit few = grind (arith, common_steps, push_distinct)
 
 -- of numbers that are all counted
 pub counted_pushed : (f n m : ℕ) (ks : List ℕ) → length ks ≡ 0 → (n ≡ 0) ⊎ (f + n ≡ m) → (g : ℕ) → (n ≡ 0 → g ≡ m) → ((n ≡ 0 → ⊥) → g ≡ f)
     → count_from g (n + 1) ++ ks ≡ (count_from f n ++ ks) ++ m ∷ []
-counted_pushed f n m (k ∷ ks) none next g first later = absurd (omega (arith, none))
-counted_pushed f zero m [] none next g first later = ap (λ (k : ℕ). k ∷ []) (first refl)
-counted_pushed f (suc n) m [] none next g first later =
-    let same : g ≡ f = later (λ e. cc e) in
-    let e : f + suc n ≡ m = elim next [ inl z ↦ absurd (cc z) | inr e ↦ e ] in
-    append-nil (count_from g (suc n + 1)) ∙ ap (λ (h : ℕ). count_from h (suc n + 1)) same ∙ count_more f (suc n)
-    ∙ ap (λ (k : ℕ). count_from f (suc n) ++ k ∷ []) e ∙ ap (λ (ns : List ℕ). ns ++ m ∷ []) (sym (append-nil (count_from f (suc n))))
+counted_pushed f n m ks none next g first later = grind (arith, common_steps, append-nil, count_more)

@@ -1,2 +1,2 @@
-pub mod ListedNumbers
+pub mod SparseNumbers
 pub mod CountedNumbers

@@ -18,6 +18,6 @@ count_from first zero = []
 count_from first (suc n) = first ∷ count_from (suc first) n
 
 -- step numbers of which the first ones are counted from the first of all
-pub record AreIndexed (first count : ℕ) (listed : List ℕ) : Type 0 where
-  pub numbers : AreStepNumbers (count_from first count ++ listed)
+pub record AreIndexed (first count : ℕ) (sparse : List ℕ) : Type 0 where
+  pub numbers : AreStepNumbers (count_from first count ++ sparse)
   pub few : count ≤ 2 ^ 63

@@ -5,7 +5,7 @@ ghost use Rattle.std.specs.Prelude.{nat_eq, slice_get, Some, IfSome, IfNone, IsT
 ghost use Rattle.std.specs.List.{AllByRecursion, IsDistinct};
 ghost use Rattle.step_index.specs.Numbers.{is_used, AreStepNumbers};
 
-use crate::listed::Listed;
+use crate::sparse::SparseNumbers;
 use std::alloc::{AllocError, Global};
 use std::marker::Model;
 
@@ -43,7 +43,7 @@ pub struct StepIndex {
     /// else is kept of them.
     counted: usize,
     /// The numbers of the steps after those.
-    listed: Listed,
+    sparse: SparseNumbers,
 }
 
 impl Model for StepIndex {
@@ -52,9 +52,9 @@ impl Model for StepIndex {
 
     ghost Value = { List ℕ };
 
-    ghost view = { λ s. count_from s.first s.counted ++ s.listed };
+    ghost view = { λ s. count_from s.first s.counted ++ s.sparse };
 
-    ghost invariant = { λ s. AreIndexed s.first s.counted s.listed };
+    ghost invariant = { λ s. AreIndexed s.first s.counted s.sparse };
 }
 
 impl StepIndex {
@@ -65,17 +65,18 @@ impl StepIndex {
         StepIndex {
             first: 0,
             counted: 0,
-            listed: Listed::new(alloc),
+            sparse: SparseNumbers::new(alloc),
         }
     }
 
     /// How many steps there are.
+    #[tactic(auto, using(crate::proofs::CountedNumbers::count_length))]
     pub fn len(&self) -> usize
         ensures len { result ≡ length self.now }
         ensures distinct { IsDistinct nat_eq self.now }
         ensures fit { AllByRecursion (λ n. n < 2 ^ 64) self.now }
     {
-        self.counted + self.listed.len()
+        self.counted + self.sparse.len()
     }
 
     /// The number of the step at place `i`, counted from 0; `i` is below `len()`.
@@ -86,7 +87,7 @@ impl StepIndex {
         if i < self.counted {
             return self.first + i as u64;
         }
-        self.listed.number(i - self.counted)
+        self.sparse.number(i - self.counted)
     }
 
     /// The place of the step with this number: `Some(i)` exactly where `number(i)` is it.
@@ -97,7 +98,7 @@ impl StepIndex {
         if let Some(i) = place_of(self.first, self.counted, number) {
             return Some(i);
         }
-        let i = self.listed.position(number)?;
+        let i = self.sparse.position(number)?;
         Some(self.counted + i)
     }
 
@@ -108,7 +109,7 @@ impl StepIndex {
         if place_of(self.first, self.counted, number).is_some() {
             return true;
         }
-        self.listed.contains(number)
+        self.sparse.contains(number)
     }
 
     /// Adds the number of one more step, which no step so far has.
@@ -121,14 +122,14 @@ impl StepIndex {
         ensures sound { AreStepNumbers self.new }
         ensures err { OnErr result (self.new ≡ self.old) }
     {
-        if self.listed.len() == 0 && continues(self.first, self.counted, number) {
+        if self.sparse.len() == 0 && continues(self.first, self.counted, number) {
             if self.counted == 0 {
                 self.first = number;
             }
             self.counted += 1;
             return Ok(());
         }
-        self.listed.push(number)?;
+        self.sparse.push(number)?;
         Ok(())
     }
 }

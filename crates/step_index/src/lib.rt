@@ -2,6 +2,6 @@
 #![tactic(auto)]
 
 mod index;
-mod listed;
+mod sparse;
 
 pub use index::StepIndex;

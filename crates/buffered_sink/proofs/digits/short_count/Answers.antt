@@ -1,3 +1,4 @@
+use Rattle.std.proofs.lemmas.Grind.{common_steps}
 use Rattle.std.proofs.Common.{◌/◌, sym, arith}
 use Rattle.itoa.proofs.Decimal.{length_one, length_two, length_pair}
 use Rattle.buffered_sink.proofs.digits.short_count.Goals as goal
@@ -12,5 +13,4 @@ pub returns-then-n-lt1000 : goal.returns-then-n-lt1000
 returns-then-n-lt1000 c = omega (arith, length_pair c.args.n c.if-n-lt100.false (omega arith), length_one (c.args.n / 100) (omega arith))
 
 pub returns-else-n-lt1000 : goal.returns-else-n-lt1000
-returns-else-n-lt1000 c =
-    omega (arith, length_pair c.args.n c.if-n-lt100.false (omega arith), length_two (c.args.n / 100) (omega arith) (omega arith))
+returns-else-n-lt1000 c = grind (arith, common_steps, length_pair, length_two)

@@ -1,10 +1,17 @@
-use Rattle.std.proofs.Common.{rules, ◌≡◌, length, ◌∙◌, ap, nat_eq}
-use Rattle.std.specs.Map.{lookup}
+use Rattle.std.proofs.Common.{arith}
+use Rattle.std.proofs.lemmas.Grind.{common_steps}
 use Rattle.qbf_core.proofs.TableLaws.{told_grown}
 use Rattle.qbf_core.proofs.prefix.grow_direct.Goals as goal
 
-pub returns : goal.returns
-returns c =
-    let long : c.len-next.result ≡ length c.args.direct.now.items = search rules in
-    rw c.push.ensures.items (told_grown c.args.direct.now.items c.args.far.now.entries _ c.place_of_number.result
-    (c.place_of_number.ensures ∙ ap (λ n. lookup (nat_eq n) c.args.far.now.entries) long))
+pub returns-in_err-push : goal.returns-in_err-push
+returns-in_err-push c = rw c.push.ensures.items (λ es told.
+    told_grown c.loop-next.direct.items c.args.far.now.entries _ c.place_of_number.result
+    (rw (← c.loop-next.invariant.next) c.place_of_number.ensures) es (c.loop-next.invariant.told es told))
+
+pub loop-next-preserved : goal.loop-next-preserved
+loop-next-preserved c = record {
+  next = grind (arith, common_steps, c.loop-next.invariant.next);
+  told = rw c.push.ensures.items (λ es told.
+      told_grown c.loop-next.direct.items c.args.far.now.entries _ c.place_of_number.result
+      (rw (← c.loop-next.invariant.next) c.place_of_number.ensures) es (c.loop-next.invariant.told es told));
+}

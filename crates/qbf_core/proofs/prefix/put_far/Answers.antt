@@ -1,3 +1,4 @@
+use Rattle.std.proofs.lemmas.Grind.{common_steps}
 use Rattle.std.proofs.Common.{◌≡◌, ◌∙◌, None, sym, ap, subst, arith, is_some, nat_eq}
 use Rattle.std.specs.Map.{lookup}
 use Rattle.qbf_core.specs.Blocks.{IsVariable}
@@ -6,9 +7,7 @@ use Rattle.qbf_core.proofs.TableLaws.{beyond_noted, beyond_added}
 use Rattle.qbf_core.proofs.prefix.put_far.Goals as goal
 
 pub returns-then-reached-number-clause-kept : goal.returns-then-reached-number-clause-kept
-returns-then-reached-number-clause-kept c = λ es told none.
-    beyond_noted c.args.reached c.args.far.now.entries es c.args.var c.args.place
-    (omega (arith, c.if-reached-number.true, c.number.ensures.value)) told
+returns-then-reached-number-clause-kept c = grind (arith, common_steps, beyond_noted)
 
 pub returns-clause-kept : goal.returns-clause-kept
 returns-clause-kept c = λ es told none.

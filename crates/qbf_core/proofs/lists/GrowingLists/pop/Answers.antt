@@ -1,4 +1,5 @@
-use Rattle.std.proofs.Common.{[], ◌∙◌, List, ap}
+use Rattle.std.proofs.Common.{arith}
+use Rattle.std.proofs.lemmas.Grind.{common_steps}
 use Rattle.qbf_core.proofs.Flats.{fewer_parts, fewer_reach, same_count}
 use Rattle.qbf_core.proofs.lists.GrowingLists.pop.Goals as goal
 
@@ -9,8 +10,4 @@ invariant_of-self g c =
     fewer_reach inside.ends _ inside.start _ _ _ c.pop.ensures c.last-start.ensures r.0 r.1
 
 pub returns : goal.returns
-returns g c =
-    let inside = c.self.inside in
-    let fewer = fewer_parts inside.items.items 0 inside.ends in
-    rw (← c.self.view_is, same_count inside.items.items 0 inside.ends)
-    (c.begin.ensures ∙ rw c.pop.ensures (ap (λ (ls : List (List _)). record { whole = ls; begun = [] }) (fewer _)))
+returns g c = grind (arith, common_steps, fewer_parts, same_count)

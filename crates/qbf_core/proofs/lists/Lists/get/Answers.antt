@@ -1,14 +1,9 @@
-use Rattle.std.proofs.Common.{◌∙◌, ◌≤◌, List, ap, arith, length, slice_get, sym}
+use Rattle.std.proofs.Common.{◌∙◌, List, ap, slice_get, sym}
 use Rattle.qbf_core.proofs.Flats.{part_place}
 use Rattle.qbf_core.proofs.lists.Lists.get.Goals as goal
 
 pub list_at-requires-clause-place : goal.list_at-requires-clause-place
 list_at-requires-clause-place g c = part_place c.self.inside.items.items c.self.inside.ends _ c.args.i c.self.view_is c.requires
-
-pub list_at-requires-clause-within : goal.list_at-requires-clause-within
-list_at-requires-clause-within g c =
-    let all : length c.self.inside.items.items ≤ length c.self.inside.items.items = omega arith in
-    rw c.deref.ensures.value (_, c.self.invariant, all)
 
 pub returns : goal.returns
 returns g c =

@@ -1,15 +1,14 @@
-use Rattle.std.proofs.Common.{nat_eq, ℕ, Some, ap, ◌∙◌, ◌++◌, ◌+◌, arith}
+use Rattle.std.proofs.lemmas.Grind.{common_steps}
+use Rattle.std.proofs.Common.{nat_eq, ℕ, Some, ap, ◌++◌, ◌+◌, arith}
 use Rattle.std.specs.List.{IsDistinct}
 use Rattle.std.proofs.lemmas.Option.{slice_get_within}
 use Rattle.step_index.specs.Numbers.{count_from}
 use Rattle.qbf_core.proofs.DistinctNumbers.{one_place}
-use Rattle.step_index.proofs.CountedNumbers.{front_at, listed_at, none_there}
+use Rattle.step_index.proofs.CountedNumbers.{front_at, sparse_at, none_there}
 use Rattle.step_index.proofs.index.StepIndex.position.Goals as goal
 
 pub returns-in-Some-clause-found : goal.returns-in-Some-clause-found
-returns-in-Some-clause-found c = rw (← c.self.view_is) (
-    front_at c.self.inside.first c.self.inside.counted c.self.inside.listed c.in-Some.i c.in-Some.ensures.some.0
-    ∙ ap (λ (k : ℕ). Some k) c.in-Some.ensures.some.1)
+returns-in-Some-clause-found c = grind (arith, common_steps, front_at)
 
 pub returns-in-Some-clause-only : goal.returns-in-Some-clause-only
 returns-in-Some-clause-only c = λ i here.
@@ -18,21 +17,17 @@ returns-in-Some-clause-only c = λ i here.
     (one_place c.args.self.now distinct c.in-Some.i i c.args.number (returns-in-Some-clause-found c) here)
 
 pub returns-in_err-i-clause-only : goal.returns-in_err-i-clause-only
-returns-in_err-i-clause-only c = λ i here.
-    absurd (none_there c.self.inside.first c.self.inside.counted c.self.inside.listed c.args.number c.in_default.ensures.none
-    c.in_err-i.ensures.none i (rw (← c.self.view_is) at here))
+returns-in_err-i-clause-only c = grind (arith, common_steps, none_there)
 
 pub overflow_add-result : goal.overflow_add-result
 overflow_add-result c =
-    let within = slice_get_within (count_from c.self.inside.first c.self.inside.counted ++ c.self.inside.listed)
-    (c.self.inside.counted + c.in_ok-i.i) c.args.number (listed_at c.self.inside.first c.self.inside.counted c.self.inside.listed
+    let within = slice_get_within (count_from c.self.inside.first c.self.inside.counted ++ c.self.inside.sparse)
+    (c.self.inside.counted + c.in_ok-i.i) c.args.number (sparse_at c.self.inside.first c.self.inside.counted c.self.inside.sparse
     c.args.number c.in_ok-i.i c.in_ok-i.ensures.some) in
     omega (arith, within, c.self.invariant.numbers.count)
 
 pub returns-clause-found : goal.returns-clause-found
-returns-clause-found c = rw (← c.self.view_is) (
-    listed_at c.self.inside.first c.self.inside.counted c.self.inside.listed c.args.number c.in_ok-i.i
-    c.in_ok-i.ensures.some)
+returns-clause-found c = grind (arith, common_steps, sparse_at)
 
 pub returns-clause-only : goal.returns-clause-only
 returns-clause-only c = λ i here.

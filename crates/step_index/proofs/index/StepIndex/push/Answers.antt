@@ -1,23 +1,13 @@
-use Rattle.std.proofs.Common.{◌≡◌, ◌<◌, ◌^◌, ℕ, List, [], ◌∷◌, ◌++◌, refl, sym, ap, subst, ◌∙◌, arith, append_assoc, length, length-append}
-use Rattle.step_index.specs.Numbers.{count_from, AreStepNumbers}
+use Rattle.std.proofs.lemmas.Grind.{common_steps}
+use Rattle.std.proofs.Common.{◌≡◌, ◌<◌, ◌^◌, [], ◌∷◌, ◌++◌, refl, sym, subst, arith, append_assoc, length, length-append}
+use Rattle.step_index.specs.Numbers.{AreStepNumbers}
 use Rattle.step_index.proofs.CountedNumbers.{count_length, counted_pushed, numbers_pushed}
 use Rattle.step_index.proofs.index.StepIndex.push.Goals as goal
 use Rattle.step_index.proofs.index.StepIndex.push.Goals.{then-self-eq0, else-self-eq0}
 
 -- the number is counted
 pub returns-then-continues-clause-pushed : goal.returns-then-continues-clause-pushed
-returns-then-continues-clause-pushed c =
-    let f : ℕ = c.self.inside.first in
-    let n : ℕ = c.self.inside.counted in
-    let ks : List ℕ = c.self.inside.listed in
-    let none = sym c.len.ensures.len ∙ c.if-len-eq0.true in
-    let next = c.continues.ensures.next c.if-continues.true in
-    rw (← c.self.view_is) (elim c.if-self-eq0.branch [
-      | then-self-eq0 w ↦ rw w.self-inside-is
-          (counted_pushed f n c.args.number ks none next c.args.number (λ e. refl) (λ ne. absurd (ne w.if-self-eq0.true)))
-      | else-self-eq0 w ↦ rw w.self-inside-is
-          (counted_pushed f n c.args.number ks none next f (λ e. absurd (w.if-self-eq0.false e)) (λ ne. refl))
-    ])
+returns-then-continues-clause-pushed c = grind (arith, common_steps, counted_pushed)
 
 pub returns-then-continues-clause-sound : goal.returns-then-continues-clause-sound
 returns-then-continues-clause-sound c =
@@ -26,7 +16,7 @@ returns-then-continues-clause-sound c =
       arith,
       c.len.ensures.len,
       c.if-len-eq0.true,
-      count_length c.self.inside.first c.self.inside.counted c.self.inside.listed,
+      count_length c.self.inside.first c.self.inside.counted c.self.inside.sparse,
     )) in
     let sound : AreStepNumbers (c.args.self.now ++ c.args.number ∷ []) =
     numbers_pushed c.args.self.now c.args.number (rw (← c.self.view_is) c.self.invariant.numbers) c.requires
@@ -42,24 +32,9 @@ invariant_of-self c =
     ] in
     record { numbers = returns-then-continues-clause-sound c; few = omega (arith, few, same) }
 
--- the number is listed
+-- the number is sparse
 pub returns-clause-sound : goal.returns-clause-sound
-returns-clause-sound c =
-    let xs : List ℕ = count_from c.self.inside.first c.self.inside.counted in
-    let ks : List ℕ = c.self.inside.listed in
-    let used = rw (← c.self.view_is) at c.requires in
-    let whole : xs ++ c.push.new.self ≡ (xs ++ ks) ++ c.args.number ∷ [] =
-    ap (λ (ns : List ℕ). xs ++ ns) c.in_ok-push.ensures.pushed ∙ sym (append_assoc xs ks (c.args.number ∷ [])) in
-    subst AreStepNumbers (sym whole)
-    (numbers_pushed (xs ++ ks) c.args.number c.self.invariant.numbers used (omega (arith, c.ranges.number.fits)) (
-    omega (
-      arith,
-      c.self.invariant.few,
-      c.in_ok-push.ensures.small,
-      ap length c.in_ok-push.ensures.pushed,
-      length-append ks (c.args.number ∷ []),
-      count_length c.self.inside.first c.self.inside.counted ks,
-    )))
+returns-clause-sound c = grind (arith, common_steps, append_assoc, numbers_pushed, length-append, count_length)
 
 pub invariant_of-self-2 : goal.invariant_of-self-2
 invariant_of-self-2 c = record { numbers = returns-clause-sound c; few = c.self.invariant.few }
