@@ -56,8 +56,7 @@ fn zero(ends_line: bool) -> Found
     }
 }
 
-/// The number that the bytes begin with, of at most 20 digits and with 64 bits, if a separator
-/// follows it.
+/// The same as `number_in_front`, with any number of digits up to 20 that has 64 bits.
 #[inline(always)]
 fn signed_number(bytes: &[u8]) -> Option<Found>
     ensures { IfSome result (λ f. BeginsWithNumber bytes.now f.negative f.value f.len f.ends_line) }
@@ -80,15 +79,18 @@ fn signed_number(bytes: &[u8]) -> Option<Found>
     })
 }
 
-/// The zero of one digit that the bytes begin with, if a blank or the end of the line follows it.
+/// The number that the bytes begin with, if a separator follows it.
+///
+/// Also None for more than 20 digits. The zero that ends a list is the most frequent number, so it
+/// is looked for first.
 #[inline(always)]
-fn zero_in_front(bytes: &[u8]) -> Option<Found>
+pub fn number_in_front(bytes: &[u8]) -> Option<Found>
     ensures { IfSome result (λ f. BeginsWithNumber bytes.now f.negative f.value f.len f.ends_line) }
 {
     match bytes {
         [b'0', b' ', ..] => Some(zero(false)),
         [b'0', b'\n', ..] => Some(zero(true)),
-        _ => None,
+        _ => signed_number(bytes),
     }
 }
 
@@ -145,13 +147,12 @@ pub struct LikelyEnds {
 impl LikelyEnds {
     ghost use Rattle.qbf_text.specs.Passing.{nothing_known};
 
-    /// None yet of those from a place on.
-    #[inline(always)]
-    fn none_from(at: usize) -> LikelyEnds
-        ensures { at ≡ 0 → result ≡ nothing_known }
+    /// None, where nothing was looked at yet.
+    fn nothing_known() -> LikelyEnds
+        ensures { result ≡ nothing_known }
     {
         LikelyEnds {
-            block: at.wrapping_sub(BLOCK),
+            block: usize::MAX - 63,
             marks: 0,
         }
     }
@@ -226,7 +227,7 @@ impl Cursor {
             at: 0,
             line,
             begun,
-            ends: LikelyEnds::none_from(0),
+            ends: LikelyEnds::nothing_known(),
         }
     }
 
@@ -273,54 +274,29 @@ impl Cursor {
         Some(self.passed(found, ends))
     }
 
-    /// The same for the zero that ends a list.
-    #[inline(always)]
-    pub fn zero(self, bytes: &[u8]) -> Option<Passed>
-        requires { self.at ≤ length bytes.now }
-        ensures { IfSome result (λ p. PassesNumber bytes.now self p.next p.token) }
-    {
-        let Some(found) = zero_in_front(&bytes[self.at..]) else {
-            return None;
-        };
-        let (_, ends) = self.ends.next(bytes);
-        Some(self.passed(found, ends))
-    }
-
-    /// The same for any number of at most 20 digits that has 64 bits, by its bytes alone.
+    /// The same for any number of at most 20 digits that has 64 bits.
     #[inline(always)]
     pub fn any_number(self, bytes: &[u8]) -> Option<Passed>
         requires { self.at ≤ length bytes.now }
         ensures { IfSome result (λ p. PassesNumber bytes.now self p.next p.token) }
     {
-        let Some(found) = signed_number(&bytes[self.at..]) else {
+        let (_, ends) = self.ends.next(bytes);
+        let Some(found) = number_in_front(&bytes[self.at..]) else {
             return None;
         };
-        let ends = LikelyEnds::none_from(self.at.wrapping_add(found.len));
         Some(self.passed(found, ends))
     }
 
-    /// The same, which is rare where a usual number or a zero was looked for first.
-    #[cold]
-    #[inline(never)]
-    fn other_number(self, bytes: &[u8]) -> Option<Passed>
-        requires { self.at ≤ length bytes.now }
-        ensures { IfSome result (λ p. PassesNumber bytes.now self p.next p.token) }
-    {
-        self.any_number(bytes)
-    }
-
-    /// The number that stands next and whole among the bytes at hand.
+    /// The number that stands next and whole among the bytes at hand: as a usual one is looked for,
+    /// and then as any.
     #[inline(always)]
     pub fn number(self, bytes: &[u8]) -> Option<Passed>
         requires { self.at ≤ length bytes.now }
         ensures { IfSome result (λ p. PassesNumber bytes.now self p.next p.token) }
     {
-        if let Some(passed) = self.usual_number(bytes) {
-            return Some(passed);
-        }
-        match self.zero(bytes) {
+        match self.usual_number(bytes) {
             Some(passed) => Some(passed),
-            None => self.other_number(bytes),
+            None => self.any_number(bytes),
         }
     }
 }

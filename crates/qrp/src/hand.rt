@@ -65,7 +65,7 @@ fn take_literals(
     ensures whole { lits.new.whole ≡ lits.old.whole }
 {
     let here = take_usual(lits, bytes, from)?;
-    let Some(passed) = here.zero(bytes) else {
+    let Some(passed) = here.any_number(bytes) else {
         return Ok((here, false));
     };
     match literal(FAULTS, LAST_VARIABLE, passed.token) {

@@ -4,8 +4,8 @@ use Rattle.qrp.specs.Items.{Takes, as_given, item_row}
 use Rattle.qrp.specs.Reading.{InLits, InAnts, lits_row}
 use Rattle.qrp.proofs.hand.take_literals.Goals as goal
 
-pub zero-requires : goal.zero-requires
-zero-requires c = (c.in_ok-here.ensures.passes [] 0).within
+pub any_number-requires : goal.any_number-requires
+any_number-requires c = (c.in_ok-here.ensures.passes [] 0).within
 
 pub returns-in-Ok-None-clause-passes : goal.returns-in-Ok-None-clause-passes
 returns-in-Ok-None-clause-passes c = λ ns n.
