@@ -158,6 +158,7 @@ pub(crate) fn is_exact_reduct_by(
     if from.len() == to.len() {
         return is_copy(from, to);
     }
-    let block = innermost(prefix, deciding, None, from);
+    // What is left out has the other quantifier, so the literals that are kept say the block.
+    let block = innermost(prefix, deciding, None, to);
     is_reduct_as_written(prefix, reduced, block, from, to)
 }

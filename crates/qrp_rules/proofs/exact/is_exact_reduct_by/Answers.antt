@@ -1,5 +1,5 @@
 use Rattle.std.proofs.Common.{inl, inr}
-use Rattle.qrp_rules.proofs.Reducing.{reducible_after}
+use Rattle.qrp_rules.proofs.Reducing.{reducible_after, reducible_wider}
 use Rattle.qrp_rules.proofs.exact.is_exact_reduct_by.Goals as goal
 use Rattle.qbf_core.proofs.Order.{clean_within}
 use Rattle.qbf_core.proofs.Bound.{bound_within}
@@ -20,8 +20,10 @@ returns-clause-follows c = λ t side reduces decides. (
     (λ l h. elim (c.is_reduct_as_written.ensures.each t l h) [
       | inl k ↦ inl k
       | inr stands ↦ inr
-          ((reducible_after side c.args.prefix.now c.args.reduced c.args.deciding c.args.from.now c.innermost-block.result
-          reduces decides c.innermost-block.ensures l).0 stands)
+          (reducible_wider side c.args.prefix.now c.args.reduced c.innermost-block.result c.args.from.now c.args.to.now reduces
+          (c.is_reduct_as_written.ensures.each t) l
+          ((reducible_after side c.args.prefix.now c.args.reduced c.args.deciding c.args.to.now c.innermost-block.result
+          reduces decides c.innermost-block.ensures l).0 stands))
     ]),
     tt,
   ),
