@@ -57,7 +57,7 @@ merge_right a b to i j k e u l h = take_within to k l (u.right l (in_take_all b 
 
 -- ---- two walks, before and behind the pivot
 
-in_parts : (xs : List Literal) (n : ℕ) (l : Literal) → l ∈ xs → (l ∈ take n xs) ⊎ (l ∈ drop n xs)
+pub in_parts : (xs : List Literal) (n : ℕ) (l : Literal) → l ∈ xs → (l ∈ take n xs) ⊎ (l ∈ drop n xs)
 in_parts xs n l h = in_append (take n xs) (drop n xs) l (subst (λ (zs : List Literal). l ∈ zs) (sym (take-append-drop n xs)) h)
 
 in_around : (xs : List Literal) (i : ℕ) (x l : Literal) → slice_get xs i ≡ Some x → l ∈ xs
@@ -72,7 +72,8 @@ in_around xs i x l at h =
 pub resolved_at : (a b to s t u : List Literal) (i j k : ℕ) (x y : Literal) → i < length a → x ≡ get_or a i x
     → j < length b → y ≡ get_or b j y → y ≡ negated x
     → s ≡ drop (i + 1) a → t ≡ drop (j + 1) b → u ≡ drop k to → IsMergeSoFar a b to i j k
-    → ((l : Literal) → l ∈ u → (l ∈ s) ⊎ (l ∈ t)) → s ⊆ u → t ⊆ u → IsResolvedAt a b to x
+    → ((l : Literal) → l ∈ u → (l ∈ s) ⊎ (l ∈ t)) → ((l : Literal) → l ∈ s → (l ∈ take k to) ⊎ (l ∈ u))
+    → ((l : Literal) → l ∈ t → (l ∈ take k to) ⊎ (l ∈ u)) → IsResolvedAt a b to x
 resolved_at a b to s t u i j k x y in_a at_a in_b at_b opposite es et eu so_far from left right =
     let here_a : slice_get a i ≡ Some x = slice_get_read a (length a) i x refl in_a at_a in
     let here_b : slice_get b j ≡ Some y = slice_get_read b (length b) j y refl in_b at_b in
@@ -89,17 +90,18 @@ resolved_at a b to s t u i j k x y in_a at_a in_b at_b opposite es et eu so_far 
       left = λ l h. elim (in_around a i x l here_a h) [
         | inl e ↦ inl e
         | inr (inl p) ↦ inr (take_within to k l (so_far.left l p))
-        | inr (inr p) ↦ inr (behind l (left l (subst (λ (zs : List Literal). l ∈ zs) (sym es) p)))
+        | inr (inr p) ↦ inr (found l (left l (subst (λ (zs : List Literal). l ∈ zs) (sym es) p)))
       ];
       right = λ l h. elim (in_around b j y l here_b h) [
         | inl e ↦ inl (e ∙ opposite)
         | inr (inl p) ↦ inr (take_within to k l (so_far.right l p))
-        | inr (inr p) ↦ inr (behind l (right l (subst (λ (zs : List Literal). l ∈ zs) (sym et) p)))
+        | inr (inr p) ↦ inr (found l (right l (subst (λ (zs : List Literal). l ∈ zs) (sym et) p)))
       ];
     }
   where
-    behind : (l : Literal) → l ∈ u → l ∈ to
-    behind l h = drop_within to k l (subst (λ (zs : List Literal). l ∈ zs) eu h)
+    found : (l : Literal) → (l ∈ take k to) ⊎ (l ∈ u) → l ∈ to
+    found l (inl h) = take_within to k l h
+    found l (inr h) = drop_within to k l (subst (λ (zs : List Literal). l ∈ zs) eu h)
 
 -- ---- what a step without the pivot, and without a clashing pair, tells
 

@@ -88,10 +88,35 @@ fn is_copy(from: &[Lit], to: &[Lit]) -> bool
     is_merge(from, &[], to)
 }
 
+/// What is left of a list after the literals at its beginning that another one has in this order.
+fn rest_after<'a>(lits: &'a [Lit], found: &[Lit]) -> &'a [Lit]
+    ensures within { result.now ⊆ lits.now }
+    ensures rest { (l : Literal) → l ∈ lits.now → (l ∈ found.now) ⊎ (l ∈ result.now) }
+{
+    let mut position = 0;
+    for lit in found {
+        position = advance_if_equal(lits, position, *lit);
+    }
+    &lits[position..]
+}
+
+/// The same, where a literal of the two may have been found before.
+fn is_merge_after(found: &[Lit], a: &[Lit], b: &[Lit], to: &[Lit]) -> bool
+    ensures from { IsTrue result → (l : Literal) → l ∈ to.now → (l ∈ a.now) ⊎ (l ∈ b.now) }
+    ensures left { IsTrue result → (l : Literal) → l ∈ a.now → (l ∈ found.now) ⊎ (l ∈ to.now) }
+    ensures right { IsTrue result → (l : Literal) → l ∈ b.now → (l ∈ found.now) ⊎ (l ∈ to.now) }
+{
+    if is_merge(a, b, to) {
+        return true;
+    }
+    // Where the pivot comes sooner in one list, what both have was found in the other alone.
+    is_merge(rest_after(a, found), rest_after(b, found), to)
+}
+
 /// A literal of the one list whose negation is in the other, if a third list has just the other
 /// literals of both.
 ///
-/// `None` says nothing. Each literal is looked at once.
+/// `None` says nothing. Each literal is looked at once, and those after the pivot at most twice.
 pub(crate) fn exact_pivot(a: &[Lit], b: &[Lit], to: &[Lit]) -> Option<Lit>
     ensures { IfSome result (λ x. IsResolvedAt a.now b.now to.now x) }
 {
@@ -101,7 +126,13 @@ pub(crate) fn exact_pivot(a: &[Lit], b: &[Lit], to: &[Lit]) -> Option<Lit>
     if opposite != pivot.negated() {
         return None;
     }
-    if !is_merge(&a[before.a + 1..], &b[before.b + 1..], &to[before.to..]) {
+    let found = &to[..before.to];
+    if !is_merge_after(
+        found,
+        &a[before.a + 1..],
+        &b[before.b + 1..],
+        &to[before.to..],
+    ) {
         return None;
     }
     Some(pivot)

@@ -14,5 +14,5 @@ returns c =
     (take_rest c.args.a.now (c.merge_prefix-before.result.a + 1)) (take_rest c.args.b.now (c.merge_prefix-before.result.b + 1))
     (take_rest c.args.to.now c.merge_prefix-before.result.to)
     c.merge_prefix-before.ensures.merge
-    (c.is_merge.ensures.from c.if-not-is_merge.false) (c.is_merge.ensures.left c.if-not-is_merge.false)
-    (c.is_merge.ensures.right c.if-not-is_merge.false)
+    (c.is_merge_after.ensures.from c.if-not-is_merge_after.false) (c.is_merge_after.ensures.left c.if-not-is_merge_after.false)
+    (c.is_merge_after.ensures.right c.if-not-is_merge_after.false)
