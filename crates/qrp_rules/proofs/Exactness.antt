@@ -1,7 +1,6 @@
 -- Steps that are written exactly as they follow, in any order: what the walk over them tells.
-use Rattle.std.proofs.Common.{◌≡◌, ◌<◌, ◌≤◌, ◌+◌, ℕ, List, ◌∷◌, ◌++◌, ◌⊎◌, ◌↔◌, Bool, Result, Ok, Err, length, get_or, take, drop, slice_get, Some, None, Option, refl}
+use Rattle.std.proofs.Common.{◌≡◌, ◌<◌, ◌≤◌, ◌+◌, ℕ, List, ◌∷◌, ◌++◌, ◌⊎◌, ◌↔◌, Bool, length, get_or, take, drop, slice_get, Some, None, Option, refl}
 use Rattle.std.proofs.Common.{sym, ap, subst, ◌∙◌, inl, inr, arith}
-use Rattle.std.specs.Prelude.{IfOk, IsTrue}
 use Rattle.std.proofs.lemmas.Bool.{cases_eq}
 use Rattle.std.proofs.lemmas.List.{take-append-drop, take_all}
 use Rattle.qbf_core.specs.Literal.{Literal, negated, positive, negative}

@@ -7,16 +7,18 @@ ghost use Rattle.qbf_core.specs.Members.{◌∈◌, ◌⊆◌};
 ghost use Rattle.qbf_core.specs.Blocks.{AreBound};
 ghost use Rattle.qbf_core.specs.Rules.{Clashes, IsClean, IsOnlyClash, resolvent};
 ghost use Rattle.qrp_rules.specs.Conditions.{AllHold, AllowsPivot, resolvent_conditions};
-ghost use Rattle.qrp_rules.specs.Exact.{IsResolvedAt};
+ghost use Rattle.qrp_rules.specs.Exact.{IsApart, IsResolvedAt};
 ghost use Rattle.qrp_rules.specs.Seen.{Has};
 ghost use Rattle.qrp_rules.specs.Walks.{Accounts, MayLack};
 
 use crate::exact::{exact_pivot, is_apart};
+use crate::fault::Holds;
 use crate::resolvent::{is_pivot, reducible_in_parents};
 use crate::rules::Rules;
-use crate::seen::{SeenLits, insert_each, is_clean, set_to};
+use crate::seen::{SeenLits, insert_each, set_to};
 use crate::side::Side;
 use crate::walks::{Reducible, may_lack};
+use crate::written::is_ordered;
 use qbf_core::{Lit, Prefix, Var};
 use std::alloc::{AllocError, Global};
 
@@ -149,6 +151,23 @@ fn allowed_pivot<S: Side>(
     }
 }
 
+/// Whether literals are clean, and none has this variable. `false` says nothing.
+fn is_clean_without(
+    alloc: Global,
+    seen: &mut SeenLits,
+    prefix: &Prefix,
+    lits: &[Lit],
+    var: Var,
+) -> Holds
+    ensures { IfOk result (λ t. IsTrue t → IsClean lits.now × IsApart lits.now var) }
+{
+    if is_ordered(lits) {
+        return Ok(is_apart(lits, var));
+    }
+    seen.make_room(alloc, prefix)?;
+    Ok(seen.are_distinct(lits, var))
+}
+
 /// Whether a list follows from two others, which are clean and bound, by resolution: as
 /// `resolvent_fault`, of literals as they are written.
 ///
@@ -179,8 +198,5 @@ pub fn is_resolvent<S: Side>(
         seen.make_room(alloc, prefix)?;
         return Ok(resolves::<S>(seen, prefix, a, b, to, rules));
     };
-    if !is_apart(to, pivot.var()) {
-        return Ok(false);
-    }
-    is_clean(alloc, seen, prefix, to)
+    is_clean_without(alloc, seen, prefix, to, pivot.var())
 }

@@ -127,12 +127,8 @@ pub(crate) fn exact_pivot(a: &[Lit], b: &[Lit], to: &[Lit]) -> Option<Lit>
         return None;
     }
     let found = &to[..before.to];
-    if !is_merge_after(
-        found,
-        &a[before.a + 1..],
-        &b[before.b + 1..],
-        &to[before.to..],
-    ) {
+    let rest = &to[before.to..];
+    if !is_merge_after(found, &a[before.a + 1..], &b[before.b + 1..], rest) {
         return None;
     }
     Some(pivot)

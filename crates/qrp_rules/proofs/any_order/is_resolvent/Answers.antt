@@ -1,8 +1,6 @@
 use Rattle.qrp_rules.proofs.Exactness.{exact_follows, followed_bound, followed_clean}
 use Rattle.qrp_rules.proofs.any_order.is_resolvent.Goals as goal
 use Rattle.std.proofs.lemmas.Result.{IfOk-weaker}
-use Rattle.std.specs.Prelude.{IsTrue}
-use Rattle.qbf_core.specs.Rules.{IsClean}
 
 pub returns-in_default-clause-clean : goal.returns-in_default-clause-clean
 returns-in_default-clause-clean g c = λ t.
@@ -15,13 +13,16 @@ returns-in_default-clause-bound g c = λ t.
     c.requires.bound_a c.requires.bound_b
 
 pub returns-clause-follows : goal.returns-clause-follows
-returns-clause-follows g c = IfOk-weaker c.is_clean.result (λ t. IsTrue t → IsClean c.args.to.now) _ (λ t clean is.
+returns-clause-follows g c = IfOk-weaker c.is_clean_without.result _ _ (λ t clean is.
     exact_follows c.args.rules g.S.Side.side c.args.prefix.now c.args.a.now c.args.b.now c.args.to.now c.in-Some.pivot
-    c.in-Some.ensures.resolved c.in-Some.ensures.allowed (clean is) (rw c.var.ensures at c.is_apart.ensures c.if-not-is_apart.false)) c.is_clean.ensures
+    c.in-Some.ensures.resolved c.in-Some.ensures.allowed (clean is).0 (rw c.var.ensures at (clean is).1)) c.is_clean_without.ensures
+
+pub returns-clause-clean : goal.returns-clause-clean
+returns-clause-clean g c = IfOk-weaker c.is_clean_without.result _ _ (λ t clean is. (clean is).0) c.is_clean_without.ensures
 
 pub returns-clause-bound : goal.returns-clause-bound
-returns-clause-bound g c = IfOk-weaker c.is_clean.result (λ t. IsTrue t → IsClean c.args.to.now) _ (λ t clean is.
+returns-clause-bound g c = IfOk-weaker c.is_clean_without.result _ _ (λ t clean is.
     followed_bound c.args.rules g.S.Side.side c.args.prefix.now c.args.a.now c.args.b.now c.args.to.now
     (exact_follows c.args.rules g.S.Side.side c.args.prefix.now c.args.a.now c.args.b.now c.args.to.now c.in-Some.pivot
-    c.in-Some.ensures.resolved c.in-Some.ensures.allowed (clean is) (rw c.var.ensures at c.is_apart.ensures c.if-not-is_apart.false))
-    c.requires.bound_a c.requires.bound_b) c.is_clean.ensures
+    c.in-Some.ensures.resolved c.in-Some.ensures.allowed (clean is).0 (rw c.var.ensures at (clean is).1))
+    c.requires.bound_a c.requires.bound_b) c.is_clean_without.ensures

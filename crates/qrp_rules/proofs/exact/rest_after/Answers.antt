@@ -1,6 +1,5 @@
-use Rattle.std.proofs.Common.{subst, sym, inl, inr, arith}
+use Rattle.std.proofs.Common.{subst, sym, inl, inr}
 use Rattle.std.proofs.lemmas.List.{take_rest}
-use Rattle.qbf_core.specs.Literal.{Literal}
 use Rattle.qbf_core.specs.Members.{◌∈◌}
 use Rattle.qbf_core.proofs.Members.{drop_within, take_more_in, take_within}
 use Rattle.qrp_rules.proofs.Exactness.{in_parts}
