@@ -147,28 +147,7 @@ fn stamp_vars(stamps: &mut [u32], stamp: u32, lits: &[Lit], other: Var) -> bool
     true
 }
 
-/// Puts the literals of a list into a set, or returns `false` if there is no room for one of them.
-pub(crate) fn insert_each(seen: &mut SeenLits, lits: &[Lit]) -> bool
-    ensures { IsTrue result → (l : Literal)
-        → Has seen.new l ↔ (Has seen.old l ⊎ (l ∈ lits.now)) }
-{
-    for lit in lits {
-        if !seen.insert(*lit) {
-            return false;
-        }
-    }
-    true
-}
-
-/// Makes a set that of the literals of a list, or returns `false` if there is no room for them.
-pub(crate) fn set_to(seen: &mut SeenLits, lits: &[Lit]) -> bool
-    ensures { IsTrue result → (l : Literal) → Has seen.new l ↔ l ∈ lits.now }
-{
-    seen.clear();
-    insert_each(seen, lits)
-}
-
-/// The same, where the literals are clean. `false` says nothing.
+/// Makes a set that of the literals of a list, where they are clean. `false` says nothing.
 pub(crate) fn set_if_clean(seen: &mut SeenLits, lits: &[Lit]) -> bool
     ensures clean { IsTrue result → IsClean lits.now }
     ensures members { IsTrue result → (l : Literal) → Has seen.new l ↔ l ∈ lits.now }

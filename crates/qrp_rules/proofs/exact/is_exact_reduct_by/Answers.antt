@@ -4,15 +4,6 @@ use Rattle.qrp_rules.proofs.exact.is_exact_reduct_by.Goals as goal
 use Rattle.qbf_core.proofs.Order.{clean_within}
 use Rattle.qbf_core.proofs.Bound.{bound_within}
 
-pub returns-then-from-to-clause-follows : goal.returns-then-from-to-clause-follows
-returns-then-from-to-clause-follows c = λ t side _ _.
-    let same = c.is_copy.ensures t in
-    (same.0, ((λ l h. inl (same.1 l h)), tt))
-
-pub returns-then-from-to-clause-bound : goal.returns-then-from-to-clause-bound
-returns-then-from-to-clause-bound c =
-    λ t. bound_within c.args.prefix.now c.args.from.now c.args.to.now c.requires.bound (c.is_copy.ensures t).0
-
 pub returns-clause-follows : goal.returns-clause-follows
 returns-clause-follows c = λ t side reduces decides. (
   c.is_reduct_as_written.ensures.within t,
@@ -31,9 +22,6 @@ returns-clause-follows c = λ t side reduces decides. (
 
 pub returns-clause-bound : goal.returns-clause-bound
 returns-clause-bound c = λ t. bound_within c.args.prefix.now c.args.from.now c.args.to.now c.requires.bound (c.is_reduct_as_written.ensures.within t)
-
-pub returns-then-from-to-clause-clean : goal.returns-then-from-to-clause-clean
-returns-then-from-to-clause-clean c = λ t. clean_within c.args.from.now c.args.to.now c.requires.clean (c.is_copy.ensures t).0
 
 pub returns-clause-clean : goal.returns-clause-clean
 returns-clause-clean c = λ t. clean_within c.args.from.now c.args.to.now c.requires.clean (c.is_reduct_as_written.ensures.within t)
