@@ -1,5 +1,6 @@
 -- Steps that are written exactly as they follow, in any order: what the walk over them tells.
-use Rattle.std.proofs.Common.{IsTrue, ◌≡◌, ◌<◌, ◌≤◌, ◌+◌, ℕ, List, [], ◌∷◌, ◌++◌, ◌⊎◌, ◌↔◌, Bool, length, get_or, take, drop, slice_get, Some, None, refl}
+use Rattle.std.proofs.Common.{IsTrue, ◌≡◌, ◌<◌, ◌≤◌, ◌+◌, ℕ, List, [], ◌∷◌, ◌++◌, ◌⊎◌, ◌↔◌, Bool, length, get_or, take, drop, slice_get}
+use Rattle.std.proofs.Common.{Some, None, refl}
 use Rattle.std.proofs.Common.{sym, ap, subst, ◌∙◌, inl, inr, arith}
 use Rattle.std.proofs.lemmas.Bool.{cases_eq}
 use Rattle.std.proofs.lemmas.List.{take-append-drop, take_all}
@@ -8,7 +9,8 @@ use Rattle.qbf_core.specs.Members.{◌∈◌, ◌⊆◌}
 use Rattle.qbf_core.specs.Blocks.{Block, AreBound}
 use Rattle.qbf_core.specs.Rules.{Side, Clashes, IsClean, IsOnlyClash, IsReducible, resolvent}
 use Rattle.qbf_core.proofs.Inferences.{in_without, from_without, resolvent_clean, resolvent_bound}
-use Rattle.qbf_core.proofs.Members.{in_take_all, in_take_more, negated_differs, negated_twice, in_append, append_left, append_right, take_more_in, take_within, drop_within, got_in}
+use Rattle.qbf_core.proofs.Members.{in_take_all, in_take_more, negated_differs, negated_twice, in_append}
+use Rattle.qbf_core.proofs.Members.{append_left, append_right, take_more_in, take_within, drop_within, got_in}
 use Rattle.qrp_rules.specs.declared.rules.Rules.{Rules}
 use Rattle.qrp_rules.specs.Conditions.{AllHold, AllowsPivot, resolvent_conditions}
 use Rattle.qrp_rules.specs.Exact.{IsApart, IsMergeBut, IsMergeSoFar, IsNext, IsPutBy, IsResolvedBut}
@@ -57,7 +59,10 @@ in_around xs i x l at h =
 pub merge_but : (a b to s t : List Literal) (i j k : ℕ) → k ≡ length to → s ≡ drop i a → t ≡ drop j b → IsMergeSoFar a b to i j k
     → IsMergeBut a b to s t
 merge_but a b to s t i j k e es et u = record {
-  from = λ l h. elim (u.from l (in_take_all to k l (omega arith) h)) [ inl q ↦ inl (take_within a i l q) | inr q ↦ inr (take_within b j l q) ];
+  from = λ l h. elim (u.from l (in_take_all to k l (omega arith) h)) [
+    | inl q ↦ inl (take_within a i l q)
+    | inr q ↦ inr (take_within b j l q)
+  ];
   left = λ l h. elim (in_parts a i l h) [
     | inl q ↦ inl (take_within to k l (u.left l q))
     | inr q ↦ inr (subst (λ (zs : List Literal). l ∈ zs) (sym es) q)
@@ -148,7 +153,8 @@ module _ (rules : Rules) (side : Side) (blocks : List Block) (a b to rest_a rest
   ]
 
   pub left_follows : AllowsPivot rules side blocks x.var
-      → (((l : Literal) → l ∈ resolvent a b x.var → (l ∈ to) ⊎ May l) → (l : Literal) → May l → IsReducible side blocks (resolvent a b x.var) l)
+      → (((l : Literal) → l ∈ resolvent a b x.var → (l ∈ to) ⊎ May l) → (l : Literal) → May l
+      → IsReducible side blocks (resolvent a b x.var) l)
       → AllHold (resolvent_conditions rules side blocks a b to)
   left_follows allowed may = at_pivot rules side blocks a b to x.var None
       (record {

@@ -91,8 +91,8 @@ fn rests_of_merge<'a>(a: &'a [Lit], b: &'a [Lit], to: &[Lit]) -> Option<(&'a [Li
     Some((&a[cursors.a..], &b[cursors.b..]))
 }
 
-/// A literal of the one of two lists whose negation is in the other, and what is left of both behind
-/// the literals that a third list has from them.
+/// A literal of the one of two lists whose negation is in the other, and what is left of both
+/// behind the literals that a third list has from them.
 #[derive(Clone, Copy)]
 pub(crate) struct Rests<'a> {
     pub pivot: Lit,
@@ -102,8 +102,8 @@ pub(crate) struct Rests<'a> {
 
 /// What is left of two lists of which a third has literals in their order.
 ///
-/// `None` says nothing. Where the third one has just the literals that are not the pivot, nothing is
-/// left. Each literal is looked at once.
+/// `None` says nothing. Where the third one has just the literals that are not the pivot, nothing
+/// is left. Each literal is looked at once.
 pub(crate) fn find_rests<'a>(a: &'a [Lit], b: &'a [Lit], to: &[Lit]) -> Option<Rests<'a>>
     ensures { IfSome result (λ rests. IsResolvedBut a.now b.now to.now rests.a.now rests.b.now
         rests.pivot) }

@@ -8,9 +8,11 @@ pub loop-lit-preserved : goal.loop-lit-preserved
 loop-lit-preserved c =
     let i : ℕ = c.loop-lit.lit-index in
     let x : Literal = c.lit-item.result in
-    let was : get_or c.loop-lit.stamps x.var 0 ≡ c.args.stamp → ⊥ = rw c.var.ensures at c.stamp_var-in-loop-lit.ensures.new c.if-not-stamp_var-2.false in
+    let was : get_or c.loop-lit.stamps x.var 0 ≡ c.args.stamp → ⊥ =
+    rw c.var.ensures at c.stamp_var-in-loop-lit.ensures.new c.if-not-stamp_var-2.false in
     record {
-      clean = clean_with c.args.lits.now i x c.loop-lit-test.true c.lit-item.is (λ h. was (c.loop-lit.invariant.stamped _ h)) c.loop-lit.invariant.clean;
+      clean = clean_with c.args.lits.now i x c.loop-lit-test.true c.lit-item.is
+          (λ h. was (c.loop-lit.invariant.stamped _ h)) c.loop-lit.invariant.clean;
       apart = λ m h same. elim (in_take_more c.args.lits.now i x m c.loop-lit-test.true c.lit-item.is h) [
         | inl k ↦ c.loop-lit.invariant.apart m k same
         | inr e ↦ was (subst (λ v. get_or c.loop-lit.stamps v 0 ≡ c.args.stamp)
