@@ -1,22 +1,20 @@
 -- Steps that are written exactly as they follow, in any order: what the walk over them tells.
-use Rattle.std.proofs.Common.{◌≡◌, ◌<◌, ◌≤◌, ◌+◌, ℕ, List, ◌∷◌, ◌++◌, ◌⊎◌, ◌↔◌, Bool, Result, Ok, Err, length, get_or, take, drop, slice_get, Some, None, Option, refl}
+use Rattle.std.proofs.Common.{IsTrue, ◌≡◌, ◌<◌, ◌≤◌, ◌+◌, ℕ, List, [], ◌∷◌, ◌++◌, ◌⊎◌, ◌↔◌, Bool, length, get_or, take, drop, slice_get}
+use Rattle.std.proofs.Common.{Some, None, refl}
 use Rattle.std.proofs.Common.{sym, ap, subst, ◌∙◌, inl, inr, arith}
-use Rattle.std.specs.Prelude.{IfOk, IsTrue}
 use Rattle.std.proofs.lemmas.Bool.{cases_eq}
 use Rattle.std.proofs.lemmas.List.{take-append-drop, take_all}
 use Rattle.qbf_core.specs.Literal.{Literal, negated, positive, negative}
 use Rattle.qbf_core.specs.Members.{◌∈◌, ◌⊆◌}
 use Rattle.qbf_core.specs.Blocks.{Block, AreBound}
-use Rattle.qbf_core.specs.Rules.{Side, Clashes, IsClean, IsOnlyClash, resolvent}
-use Rattle.qbf_core.specs.Sets.{HasMembersOf}
+use Rattle.qbf_core.specs.Rules.{Side, Clashes, IsClean, IsOnlyClash, IsReducible, resolvent}
 use Rattle.qbf_core.proofs.Inferences.{in_without, from_without, resolvent_clean, resolvent_bound}
-use Rattle.qbf_core.proofs.Members.{in_take_all, in_take_more, negated_differs, negated_twice, in_append, append_left, append_right, take_more_in, take_within, drop_within, got_in}
-use Rattle.qrp_rules.specs.declared.walks.Reducible.{Reducible}
+use Rattle.qbf_core.proofs.Members.{in_take_all, in_take_more, negated_differs, negated_twice, in_append}
+use Rattle.qbf_core.proofs.Members.{append_left, append_right, take_more_in, take_within, drop_within, got_in}
 use Rattle.qrp_rules.specs.declared.rules.Rules.{Rules}
 use Rattle.qrp_rules.specs.Conditions.{AllHold, AllowsPivot, resolvent_conditions}
-use Rattle.qrp_rules.specs.Exact.{IsApart, IsMergeSoFar, IsNext, IsResolvedAt}
+use Rattle.qrp_rules.specs.Exact.{IsApart, IsMergeBut, IsMergeSoFar, IsNext, IsPutBy, IsResolvedBut}
 use Rattle.qrp_rules.specs.Seen.{Has}
-use Rattle.qrp_rules.specs.Walks.{Covers, MayLack}
 use Rattle.qrp_rules.proofs.Merging.{in_pass, pass_in, pass_inside, pass_takes, split_at}
 use Rattle.qrp_rules.proofs.ResolventRows.{at_pivot}
 use Rattle.qbf_core.proofs.Order.{clash_here, clean_within}
@@ -43,21 +41,9 @@ merge_more a b to i j k i' j' x less e p q moved u = record {
       | inr ne ↦ inl (pass_takes a i i' x p ne)
     ]
 
--- all three to their ends
-pub merge_from : (a b to : List Literal) (i j k : ℕ) → k ≡ length to → IsMergeSoFar a b to i j k → (l : Literal) → l ∈ to
-    → (l ∈ a) ⊎ (l ∈ b)
-merge_from a b to i j k e u l h =
-    elim (u.from l (in_take_all to k l (omega arith) h)) [ inl q ↦ inl (take_within a i l q) | inr q ↦ inr (take_within b j l q) ]
-
-pub merge_left : (a b to : List Literal) (i j k : ℕ) → i ≡ length a → IsMergeSoFar a b to i j k → a ⊆ to
-merge_left a b to i j k e u l h = take_within to k l (u.left l (in_take_all a i l (omega arith) h))
-
-pub merge_right : (a b to : List Literal) (i j k : ℕ) → j ≡ length b → IsMergeSoFar a b to i j k → b ⊆ to
-merge_right a b to i j k e u l h = take_within to k l (u.right l (in_take_all b j l (omega arith) h))
-
 -- ---- two walks, before and behind the pivot
 
-in_parts : (xs : List Literal) (n : ℕ) (l : Literal) → l ∈ xs → (l ∈ take n xs) ⊎ (l ∈ drop n xs)
+pub in_parts : (xs : List Literal) (n : ℕ) (l : Literal) → l ∈ xs → (l ∈ take n xs) ⊎ (l ∈ drop n xs)
 in_parts xs n l h = in_append (take n xs) (drop n xs) l (subst (λ (zs : List Literal). l ∈ zs) (sym (take-append-drop n xs)) h)
 
 in_around : (xs : List Literal) (i : ℕ) (x l : Literal) → slice_get xs i ≡ Some x → l ∈ xs
@@ -69,11 +55,29 @@ in_around xs i x l at h =
       | inr (inr k) ↦ inr (inr k)
     ]
 
-pub resolved_at : (a b to s t u : List Literal) (i j k : ℕ) (x y : Literal) → i < length a → x ≡ get_or a i x
+-- one walk to the end of `to`
+pub merge_but : (a b to s t : List Literal) (i j k : ℕ) → k ≡ length to → s ≡ drop i a → t ≡ drop j b → IsMergeSoFar a b to i j k
+    → IsMergeBut a b to s t
+merge_but a b to s t i j k e es et u = record {
+  from = λ l h. elim (u.from l (in_take_all to k l (omega arith) h)) [
+    | inl q ↦ inl (take_within a i l q)
+    | inr q ↦ inr (take_within b j l q)
+  ];
+  left = λ l h. elim (in_parts a i l h) [
+    | inl q ↦ inl (take_within to k l (u.left l q))
+    | inr q ↦ inr (subst (λ (zs : List Literal). l ∈ zs) (sym es) q)
+  ];
+  right = λ l h. elim (in_parts b j l h) [
+    | inl q ↦ inl (take_within to k l (u.right l q))
+    | inr q ↦ inr (subst (λ (zs : List Literal). l ∈ zs) (sym et) q)
+  ];
+}
+
+pub resolved_at : (a b to s t u rest_a rest_b : List Literal) (i j k : ℕ) (x y : Literal) → i < length a → x ≡ get_or a i x
     → j < length b → y ≡ get_or b j y → y ≡ negated x
     → s ≡ drop (i + 1) a → t ≡ drop (j + 1) b → u ≡ drop k to → IsMergeSoFar a b to i j k
-    → ((l : Literal) → l ∈ u → (l ∈ s) ⊎ (l ∈ t)) → s ⊆ u → t ⊆ u → IsResolvedAt a b to x
-resolved_at a b to s t u i j k x y in_a at_a in_b at_b opposite es et eu so_far from left right =
+    → IsMergeBut s t u rest_a rest_b → IsResolvedBut a b to rest_a rest_b x
+resolved_at a b to s t u rest_a rest_b i j k x y in_a at_a in_b at_b opposite es et eu so_far rests =
     let here_a : slice_get a i ≡ Some x = slice_get_read a (length a) i x refl in_a at_a in
     let here_b : slice_get b j ≡ Some y = slice_get_read b (length b) j y refl in_b at_b in
     record {
@@ -81,54 +85,89 @@ resolved_at a b to s t u i j k x y in_a at_a in_b at_b opposite es et eu so_far 
       in_b = subst (λ (z : Literal). z ∈ b) opposite (got_in b j y here_b);
       from = λ l h. elim (in_parts to k l h) [
         | inl p ↦ elim (so_far.from l p) [ inl q ↦ inl (take_within a i l q) | inr q ↦ inr (take_within b j l q) ]
-        | inr p ↦ elim (from l (subst (λ (zs : List Literal). l ∈ zs) (sym eu) p)) [
+        | inr p ↦ elim (rests.from l (subst (λ (zs : List Literal). l ∈ zs) (sym eu) p)) [
           | inl q ↦ inl (drop_within a (i + 1) l (subst (λ (zs : List Literal). l ∈ zs) es q))
           | inr q ↦ inr (drop_within b (j + 1) l (subst (λ (zs : List Literal). l ∈ zs) et q))
         ]
       ];
       left = λ l h. elim (in_around a i x l here_a h) [
-        | inl e ↦ inl e
-        | inr (inl p) ↦ inr (take_within to k l (so_far.left l p))
-        | inr (inr p) ↦ inr (behind l (left l (subst (λ (zs : List Literal). l ∈ zs) (sym es) p)))
+        | inl e ↦ inl (ap var_of e)
+        | inr (inl p) ↦ inr (inl (take_within to k l (so_far.left l p)))
+        | inr (inr p) ↦ inr (behind l rest_a (rests.left l (subst (λ (zs : List Literal). l ∈ zs) (sym es) p)))
       ];
       right = λ l h. elim (in_around b j y l here_b h) [
-        | inl e ↦ inl (e ∙ opposite)
-        | inr (inl p) ↦ inr (take_within to k l (so_far.right l p))
-        | inr (inr p) ↦ inr (behind l (right l (subst (λ (zs : List Literal). l ∈ zs) (sym et) p)))
+        | inl e ↦ inl (ap var_of (e ∙ opposite))
+        | inr (inl p) ↦ inr (inl (take_within to k l (so_far.right l p)))
+        | inr (inr p) ↦ inr (behind l rest_b (rests.right l (subst (λ (zs : List Literal). l ∈ zs) (sym et) p)))
       ];
     }
   where
-    behind : (l : Literal) → l ∈ u → l ∈ to
-    behind l h = drop_within to k l (subst (λ (zs : List Literal). l ∈ zs) eu h)
+    var_of : Literal → ℕ
+    var_of z = z.var
 
--- ---- what a step without the pivot, and without a clashing pair, tells
+    behind : (l : Literal) (rest : List Literal) → (l ∈ u) ⊎ (l ∈ rest) → (l ∈ to) ⊎ (l ∈ rest)
+    behind l rest (inl h) = inl (drop_within to k l (subst (λ (zs : List Literal). l ∈ zs) eu h))
+    behind l rest (inr h) = inr h
 
-module _ (a b to : List Literal) (x : Literal) (is : IsResolvedAt a b to x) (clean : IsClean to) (apart : IsApart to x.var) where
-  left_over : (l : Literal) → l ∈ a → (l.var ≡ x.var → ⊥) → l ∈ to
-  left_over l h ne = elim (is.left l h) [ inl e ↦ absurd (ne (let var_of : Literal → ℕ = λ z. z.var in ap var_of e)) | inr k ↦ k ]
+-- the pivot among what is left
+pub resolved_behind : (a b to s t : List Literal) (i j k : ℕ) (x : Literal) → k ≡ length to → s ≡ drop i a → t ≡ drop j b
+    → IsMergeSoFar a b to i j k → (x ∈ s) × (negated x ∈ t) → IsResolvedBut a b to s t x
+resolved_behind a b to s t i j k x e es et so_far (in_s, in_t) =
+    let rests = merge_but a b to s t i j k e es et so_far in record {
+      in_a = drop_within a i x (subst (λ (zs : List Literal). x ∈ zs) es in_s);
+      in_b = drop_within b j (negated x) (subst (λ (zs : List Literal). negated x ∈ zs) et in_t);
+      from = rests.from;
+      left = λ l h. inr (rests.left l h);
+      right = λ l h. inr (rests.right l h);
+    }
 
-  right_over : (l : Literal) → l ∈ b → (l.var ≡ x.var → ⊥) → l ∈ to
-  right_over l h ne = elim (is.right l h) [ inl e ↦ absurd (ne (let var_of : Literal → ℕ = λ z. z.var in ap var_of e)) | inr k ↦ k ]
+-- ---- what a step without the pivot tells, if a set without a clash has it and what is left
+
+module _ (rules : Rules) (side : Side) (blocks : List Block) (a b to rest_a rest_b : List Literal) (x : Literal)
+    (is : IsResolvedBut a b to rest_a rest_b x) (apart : IsApart to x.var) (In May : Literal → Type 0)
+    (clean : (l : Literal) → In l → In (negated l) → ⊥) (of_to : (l : Literal) → l ∈ to → In l)
+    (of_a : (l : Literal) → l ∈ rest_a → (l.var ≡ x.var) ⊎ In l) (of_b : (l : Literal) → l ∈ rest_b → (l.var ≡ x.var) ⊎ In l)
+    (only : (l : Literal) → In l → (l ∈ to) ⊎ May l) where
+  left_over : (l : Literal) → l ∈ a → (l.var ≡ x.var → ⊥) → In l
+  left_over l h ne = elim (is.left l h) [
+    | inl e ↦ absurd (ne e)
+    | inr (inl k) ↦ of_to l k
+    | inr (inr k) ↦ elim (of_a l k) [ inl e ↦ absurd (ne e) | inr q ↦ q ]
+  ]
+
+  right_over : (l : Literal) → l ∈ b → (l.var ≡ x.var → ⊥) → In l
+  right_over l h ne = elim (is.right l h) [
+    | inl e ↦ absurd (ne e)
+    | inr (inl k) ↦ of_to l k
+    | inr (inr k) ↦ elim (of_b l k) [ inl e ↦ absurd (ne e) | inr q ↦ q ]
+  ]
 
   no_other : (v : ℕ) → (v ≡ x.var → ⊥) → Clashes a b v → ⊥
   no_other v ne (inl (h, k)) = clean (positive v) (left_over (positive v) h ne) (right_over (negative v) k ne)
   no_other v ne (inr (h, k)) = clean (negative v) (left_over (negative v) h ne) (right_over (positive v) k ne)
 
-  pub resolved_clash : IsOnlyClash a b x.var
-  resolved_clash = record {
-    clashes = clash_here a b x is.in_a is.in_b;
-    only = λ v c. elim (cases_eq v x.var) [ inl e ↦ e | inr ne ↦ absurd (no_other v ne c) ];
-  }
+  each : (l : Literal) → l ∈ resolvent a b x.var → (l ∈ to) ⊎ May l
+  each l h = let w = from_without x.var (a ++ b) l h in elim (in_append a b l w.0) [
+    | inl k ↦ only l (left_over l k w.1)
+    | inr k ↦ only l (right_over l k w.1)
+  ]
 
-  pub resolved_members : HasMembersOf to (resolvent a b x.var)
-  resolved_members = (
-    (λ l h. in_without x.var (a ++ b) l
-        (elim (is.from l h) [ inl k ↦ append_left a b l k | inr k ↦ append_right a b l k ]) (apart l h)),
-    (λ l h. let w = from_without x.var (a ++ b) l h in elim (in_append a b l w.0) [
-      | inl k ↦ left_over l k w.1
-      | inr k ↦ right_over l k w.1
-    ]),
-  )
+  pub left_follows : AllowsPivot rules side blocks x.var
+      → (((l : Literal) → l ∈ resolvent a b x.var → (l ∈ to) ⊎ May l) → (l : Literal) → May l
+      → IsReducible side blocks (resolvent a b x.var) l)
+      → AllHold (resolvent_conditions rules side blocks a b to)
+  left_follows allowed may = at_pivot rules side blocks a b to x.var None
+      (record {
+        clashes = clash_here a b x is.in_a is.in_b;
+        only = λ v c. elim (cases_eq v x.var) [ inl e ↦ e | inr ne ↦ absurd (no_other v ne c) ];
+      }) (
+        allowed,
+        (
+          (λ l h. in_without x.var (a ++ b) l
+              (elim (is.from l h) [ inl k ↦ append_left a b l k | inr k ↦ append_right a b l k ]) (apart l h)),
+          ((λ l h. elim (each l h) [ inl k ↦ inl k | inr m ↦ inr (inl (may each l m)) ]), tt),
+        ),
+      )
 
 -- ---- no clashing pair
 
@@ -170,38 +209,44 @@ pub followed_bound : (rules : Rules) (side : Side) (blocks : List Block) (a b to
 followed_bound rules side blocks a b to all bound_a bound_b =
     let w = within_resolvent rules side blocks a b to all in resolvent_bound blocks a b to w.0 bound_a bound_b w.2
 
--- a step that is exact follows
-pub exact_follows : (rules : Rules) (side : Side) (blocks : List Block) (a b to : List Literal) (x : Literal)
-    → IsResolvedAt a b to x → AllowsPivot rules side blocks x.var → IsClean to → IsApart to x.var
-    → AllHold (resolvent_conditions rules side blocks a b to)
-exact_follows rules side blocks a b to x is allowed clean apart =
-    let same = resolved_members a b to x is clean apart in
-    at_pivot rules side blocks a b to x.var None (resolved_clash a b to x is clean apart)
-    (allowed, (same.0, ((λ l h. inl (same.1 l h)), tt)))
+-- a step that leaves nothing follows
+none_in : (xs : List Literal) → length xs ≡ 0 → (l : Literal) → l ∈ xs → ⊥
+none_in [] e l h = h
+none_in (x ∷ xs) e l h = cc e
 
--- ---- by the literals that were seen
+pub exact_follows : (rules : Rules) (side : Side) (blocks : List Block) (a b to rest_a rest_b : List Literal) (x : Literal)
+    → IsResolvedBut a b to rest_a rest_b x → AllowsPivot rules side blocks x.var → length rest_a ≡ 0 → length rest_b ≡ 0 → IsClean to
+    → IsApart to x.var → AllHold (resolvent_conditions rules side blocks a b to)
+exact_follows rules side blocks a b to rest_a rest_b x is allowed none_a none_b clean apart =
+    left_follows rules side blocks a b to rest_a rest_b x is apart (λ l. l ∈ to) (λ _. ⊥) clean (λ l h. h)
+    (λ l h. absurd (none_in rest_a none_a l h)) (λ l h. absurd (none_in rest_b none_b l h)) (λ l h. inl h) allowed
+    (λ all l none. absurd none)
 
-pub only_clash : (a b : List Literal) (s : List Bool) (x : ℕ) → ((l : Literal) → Has s l ↔ l ∈ b)
-    → (l : Literal) × (l ∈ a) × (l.var ≡ x) × Has s (negated l) → ((l : Literal) → l ∈ a → Has s (negated l) → l.var ≡ x)
-    → IsOnlyClash a b x
-only_clash a b s x of_b (l, h, is, has) only = record {
-  clashes = subst (Clashes a b) is (clash_here a b l h ((of_b (negated l)).0 has));
-  only = λ v c. elim c [
-    | inl p ↦ only (positive v) p.0 ((of_b (negative v)).1 p.1)
-    | inr p ↦ only (negative v) p.0 ((of_b (positive v)).1 p.1)
+-- ---- a set of literals that grows
+
+pub put_one : (s t : List Bool) (x : Literal) (May : Literal → Type 0) (ok : Bool)
+    → ((l : Literal) → Has t l ↔ (Has s l ⊎ ((l ≡ x) × IsTrue ok))) → (Has s (negated x) → ⊥) → May x → IsPutBy s t May
+put_one s t x May ok is out may = record {
+  kept = λ l h. (is l).1 (inl h);
+  only = λ l h. elim ((is l).0 h) [ inl k ↦ inl k | inr e ↦ inr (subst May (sym e.0) may) ];
+  clean = λ none l h k. elim ((is l).0 h) [
+    | inl p ↦ elim ((is (negated l)).0 k) [
+      | inl q ↦ none l p q
+      | inr f ↦ out (subst (Has s) (sym (negated_twice l) ∙ ap negation f.0) p)
+    ]
+    | inr e ↦ elim ((is (negated l)).0 k) [
+      | inl q ↦ out (subst (Has s) (ap negation e.0) q)
+      | inr f ↦ negated_differs l (f.0 ∙ sym e.0)
+    ]
   ];
 }
+  where
+    negation : Literal → Literal
+    negation z = negated z
 
-pub seen_within : (a b to : List Literal) (s t : List Bool) (x : ℕ) → ((l : Literal) → Has s l ↔ l ∈ b)
-    → ((l : Literal) → Has t l ↔ (Has s l ⊎ (l ∈ a))) → ((l : Literal) → l ∈ to → Has t l × (l.var ≡ x → ⊥)) → to ⊆ resolvent a b x
-seen_within a b to s t x of_b of_both all l h =
-    let w = all l h in
-    in_without x (a ++ b) l (elim ((of_both l).0 w.0) [
-      | inl k ↦ append_right a b l ((of_b l).0 k)
-      | inr k ↦ append_left a b l k
-    ]) w.1
-
-pub seen_covers : (blocks : List Block) (reducible : Option Reducible) (pivot : Option ℕ) (from to : List Literal) (s : List Bool)
-    → ((l : Literal) → Has s l ↔ l ∈ to) → ((l : Literal) → l ∈ from → Has s l ⊎ MayLack blocks reducible pivot l.var)
-    → Covers blocks reducible pivot from to
-seen_covers blocks reducible pivot from to s of_to all l h = elim (all l h) [ inl k ↦ inl ((of_to l).0 k) | inr k ↦ inr k ]
+pub put_then : (r s t : List Bool) (May : Literal → Type 0) → IsPutBy r s May → IsPutBy s t May → IsPutBy r t May
+put_then r s t May p q = record {
+  kept = λ l h. q.kept l (p.kept l h);
+  only = λ l h. elim (q.only l h) [ inl k ↦ p.only l k | inr m ↦ inr m ];
+  clean = λ none. q.clean (p.clean none);
+}

@@ -1,5 +1,5 @@
 -- Fully reduced forms: a reduct has that of the list it is made from.
-use Rattle.std.proofs.Common.{◌≡◌, ◌<◌, ◌≤◌, ◌+◌, ◌↔◌, ℕ, zero, suc, List, [], ◌∷◌, ◌++◌, ◌⊎◌, length, get_or, take, slice_get, Option}
+use Rattle.std.proofs.Common.{◌≡◌, ◌<◌, ◌≤◌, ◌+◌, ◌↔◌, ℕ, suc, List, [], ◌∷◌, ◌++◌, ◌⊎◌, length, get_or, take, slice_get, Option}
 use Rattle.std.proofs.Common.{Some, None, Contains, Bool, IsTrue, refl, sym, ap, subst, ◌∙◌, inl, inr, arith}
 use Rattle.std.proofs.lemmas.Bool.{cases_lt}
 use Rattle.std.proofs.lemmas.List.Elements.{Contains-append_left, Contains-push}
@@ -16,7 +16,7 @@ use Rattle.qbf_core.specs.Blocks.{Block, Binds}
 use Rattle.qbf_core.specs.Qbf.{Qbf}
 use Rattle.qbf_core.specs.Rules.{Side, Clauses, Cubes, IsClean, IsReducible, IsReduct, IsInitial, reduced_quantifier, deciding_quantifier}
 use Rattle.qbf_core.specs.Sets.{IsOrdered, HasMembersOf}
-use Rattle.qbf_core.proofs.Members.{in_at, in_push, got_in, push_in, in_got}
+use Rattle.qbf_core.proofs.Members.{in_push, got_in, push_in, in_got}
 use Rattle.qbf_core.proofs.Order.{ordered_push}
 use Rattle.qrp_rules.specs.Walks.{IsInnermost, StandsAfter}
 use Rattle.qrp_rules.specs.Index.{IsReducedForm, HasReductAt, IsIndex, IsIndexBelow, hash_with, hash_from, hash_of}

@@ -6,7 +6,7 @@ use Rattle.qbf_core.specs.Literal.{Literal}
 use Rattle.qbf_core.specs.Members.{◌∈◌}
 use Rattle.qbf_core.specs.Blocks.{Block, Binds, block_in, pairs}
 use Rattle.qbf_core.proofs.Bound.{binds_in, in_bound, block_found}
-use Rattle.qbf_core.specs.Rules.{Side, reduced_quantifier, deciding_quantifier, Clashes, IsReducible, resolvent}
+use Rattle.qbf_core.specs.Rules.{Side, Clauses, Cubes, reduced_quantifier, deciding_quantifier, Clashes, IsReducible, resolvent}
 use Rattle.qbf_core.proofs.Members.{in_or_not, in_append, append_left, append_right}
 use Rattle.qbf_core.proofs.Inferences.{in_without, from_without}
 use Rattle.qrp_rules.specs.Conditions.{IsReducibleInParents}
@@ -72,6 +72,22 @@ reducible_after side blocks reduced deciding lits block er ed is l = (
     subst (λ q. Binds blocks q l.var) (sym er) red.0,
     λ k ek. (is k).1 (λ m h _ binds i ei. red.1 m h (subst (λ q. Binds blocks q m.var) ed binds) i k ei ek),
   )),
+)
+
+-- what is reducible in a list is so with more literals that have the reduced quantifier
+quantifiers_differ : (side : Side) → Some (reduced_quantifier side) ≡ Some (deciding_quantifier side) → ⊥
+quantifiers_differ Clauses e = cc e
+quantifiers_differ Cubes e = cc e
+
+pub reducible_wider : (side : Side) (blocks : List Block) (q : Quantifier) (block : Option ℕ) (from to : List Literal)
+    → q ≡ reduced_quantifier side → ((l : Literal) → l ∈ from → (l ∈ to) ⊎ StandsAfter blocks q block l.var)
+    → (l : Literal) → IsReducible side blocks to l → IsReducible side blocks from l
+reducible_wider side blocks q block from to er each l red = (
+  red.0,
+  λ m h binds. elim (each m h) [
+    | inl k ↦ red.1 m k binds
+    | inr stands ↦ absurd (quantifiers_differ side (sym (subst (λ r. Binds blocks r m.var) er stands.0) ∙ binds))
+  ],
 )
 
 -- so what may be left out is reducible, where there is no pivot

@@ -1,13 +1,12 @@
 -- Initial steps: reducts by their members, and clauses by their places.
-use Rattle.std.proofs.Common.{◌≡◌, ◌+◌, ◌↔◌, IsTrue, Bool, true, false, not, ℕ, zero, suc, List, [], ◌∷◌, ◌⊎◌, inl, inr, refl, subst, ◌∙◌, sym}
-use Rattle.std.proofs.Common.{arith, slice_get, Option, Some, None, take}
+use Rattle.std.proofs.Common.{◌≡◌, ◌+◌, ◌↔◌, IsTrue, Bool, true, false, not, ℕ, List, refl, sym}
+use Rattle.std.proofs.Common.{slice_get, Option, Some, None, take}
 use Rattle.std.proofs.lemmas.Bool.{false≢true}
 use Rattle.std.specs.Option.{is_some}
 use Rattle.qbf_core.specs.Members.{◌∈◌}
 use Rattle.qbf_core.specs.Literal.{Literal, positive}
 use Rattle.qbf_core.specs.Blocks.{Block}
 use Rattle.qbf_core.specs.Rules.{Side, IsClean, IsTautology, IsReduct}
-use Rattle.qbf_core.specs.Sets.{HasMembersOf}
 use Rattle.qrp_rules.specs.declared.fault.RuleFault.{RuleFault}
 use Rattle.qrp_rules.specs.Conditions.{IsAnswer, reduct_conditions}
 use Rattle.qrp_rules.proofs.FirstFailures.{no_fault}

@@ -1,8 +1,9 @@
 -- What walks find over steps that are written exactly as they follow, whatever the order of their literals.
-use Rattle.std.specs.Prelude.{◌≡◌, ℕ, ◌+◌, ◌≤◌, ◌⊎◌, List, Some, take, length, slice_get}
+use Rattle.std.specs.Prelude.{◌≡◌, ℕ, ◌+◌, ◌≤◌, ◌⊎◌, List, Bool, Some, take, length, slice_get}
 use Rattle.qbf_core.specs.Literal.{Literal, negated}
 use Rattle.qbf_core.specs.Members.{◌∈◌, ◌⊆◌}
 use Rattle.qrp_rules.specs.declared.exact.Cursors.{Cursors}
+use Rattle.qrp_rules.specs.Seen.{Has}
 
 -- the position after a literal that stands at a position, or the position itself
 abbrev pub IsNext : List Literal → ℕ → Literal → ℕ → Type 0
@@ -21,13 +22,25 @@ pub record IsMerged (a b to : List Literal) (cursors : Cursors) : Type 0 where
   pub in_to : cursors.to ≤ length to
   pub merge : IsMergeSoFar a b to cursors.a cursors.b cursors.to
 
--- x is in a and its negation in b, and `to` has just the other literals of both, and perhaps these two
-pub record IsResolvedAt (a b to : List Literal) (x : Literal) : Type 0 where
+-- each literal of `to` is in a or b, and each of a and b is in `to` or in what is left
+pub record IsMergeBut (a b to rest_a rest_b : List Literal) : Type 0 where
+  pub from : (l : Literal) → l ∈ to → (l ∈ a) ⊎ (l ∈ b)
+  pub left : (l : Literal) → l ∈ a → (l ∈ to) ⊎ (l ∈ rest_a)
+  pub right : (l : Literal) → l ∈ b → (l ∈ to) ⊎ (l ∈ rest_b)
+
+-- the same, but for a literal x of a, whose negation is in b
+pub record IsResolvedBut (a b to rest_a rest_b : List Literal) (x : Literal) : Type 0 where
   pub in_a : x ∈ a
   pub in_b : negated x ∈ b
   pub from : (l : Literal) → l ∈ to → (l ∈ a) ⊎ (l ∈ b)
-  pub left : (l : Literal) → l ∈ a → (l ≡ x) ⊎ (l ∈ to)
-  pub right : (l : Literal) → l ∈ b → (l ≡ negated x) ⊎ (l ∈ to)
+  pub left : (l : Literal) → l ∈ a → (l.var ≡ x.var) ⊎ ((l ∈ to) ⊎ (l ∈ rest_a))
+  pub right : (l : Literal) → l ∈ b → (l.var ≡ x.var) ⊎ ((l ∈ to) ⊎ (l ∈ rest_b))
+
+-- a set only grows, by literals of which this holds, and no clash comes
+pub record IsPutBy (old new : List Bool) (May : Literal → Type 0) : Type 0 where
+  pub kept : (l : Literal) → Has old l → Has new l
+  pub only : (l : Literal) → Has new l → Has old l ⊎ May l
+  pub clean : ((l : Literal) → Has old l → Has old (negated l) → ⊥) → (l : Literal) → Has new l → Has new (negated l) → ⊥
 
 -- no literal has the variable v
 abbrev pub IsApart : List Literal → ℕ → Type 0

@@ -2,16 +2,16 @@
 //! decides, and few or none are looked up.
 
 ghost use Rattle.std.specs.Prelude.{◌≡◌, ◌⊎◌, ◌↔◌, IsTrue, IfSome};
-ghost use Rattle.qbf_core.specs.Literal.{Literal};
+ghost use Rattle.qbf_core.specs.Literal.{Literal, negated};
 ghost use Rattle.qbf_core.specs.Members.{◌∈◌, ◌⊆◌};
 ghost use Rattle.qbf_core.specs.Blocks.{AreBound};
 ghost use Rattle.qbf_core.specs.Rules.{Side, IsClean, reduced_quantifier, deciding_quantifier};
-ghost use Rattle.qbf_core.specs.Sets.{HasMembersOf};
 ghost use Rattle.qrp_rules.specs.Conditions.{AllHold, reduct_conditions};
-ghost use Rattle.qrp_rules.specs.Exact.{IsApart, IsMerged, IsNext, IsResolvedAt};
+ghost use Rattle.qrp_rules.specs.Exact.{IsApart, IsMergeBut, IsMerged, IsNext, IsResolvedBut};
 ghost use Rattle.qrp_rules.specs.Walks.{StandsAfter};
 
 use crate::blocks::{innermost, stands_after};
+use crate::initial::is_among;
 use qbf_core::{Lit, Prefix, Quantifier, Var};
 
 /// The position after the literal where a list has it at this position, and else the same position.
@@ -68,43 +68,60 @@ fn merge_prefix(a: &[Lit], b: &[Lit], to: &[Lit]) -> Cursors
     }
 }
 
-/// Whether a list has just the members of two others that are walked beside it.
-fn is_merge(a: &[Lit], b: &[Lit], to: &[Lit]) -> bool
-    ensures from { IsTrue result → (l : Literal) → l ∈ to.now → (l ∈ a.now) ⊎ (l ∈ b.now) }
-    ensures left { IsTrue result → a.now ⊆ to.now }
-    ensures right { IsTrue result → b.now ⊆ to.now }
+/// A literal of a list whose negation is in another. Only the first ones are looked for.
+fn find_clashing(a: &[Lit], b: &[Lit]) -> Option<Lit>
+    ensures { IfSome result (λ x. (x ∈ a.now) × (negated x ∈ b.now)) }
+{
+    for lit in &a[..a.len().min(32)] {
+        if is_among(b, lit.negated()) {
+            return Some(*lit);
+        }
+    }
+    None
+}
+
+/// What is left of two lists that are walked beside a third, where all of that is in them.
+fn rests_of_merge<'a>(a: &'a [Lit], b: &'a [Lit], to: &[Lit]) -> Option<(&'a [Lit], &'a [Lit])>
+    ensures { IfSome result (λ rests. IsMergeBut a.now b.now to.now rests.0.now rests.1.now) }
 {
     let cursors = merge_prefix(a, b, to);
-    if cursors.a != a.len() || cursors.b != b.len() {
-        return false;
+    if cursors.to != to.len() {
+        return None;
     }
-    cursors.to == to.len()
+    Some((&a[cursors.a..], &b[cursors.b..]))
 }
 
-/// Whether two lists hold the same literals in the same order.
-fn is_copy(from: &[Lit], to: &[Lit]) -> bool
-    ensures { IsTrue result → HasMembersOf to.now from.now }
-{
-    is_merge(from, &[], to)
+/// A literal of the one of two lists whose negation is in the other, and what is left of both
+/// behind the literals that a third list has from them.
+#[derive(Clone, Copy)]
+pub(crate) struct Rests<'a> {
+    pub pivot: Lit,
+    pub a: &'a [Lit],
+    pub b: &'a [Lit],
 }
 
-/// A literal of the one list whose negation is in the other, if a third list has just the other
-/// literals of both.
+/// What is left of two lists of which a third has literals in their order.
 ///
-/// `None` says nothing. Each literal is looked at once.
-pub(crate) fn exact_pivot(a: &[Lit], b: &[Lit], to: &[Lit]) -> Option<Lit>
-    ensures { IfSome result (λ x. IsResolvedAt a.now b.now to.now x) }
+/// `None` says nothing. Where the third one has just the literals that are not the pivot, nothing
+/// is left. Each literal is looked at once.
+pub(crate) fn find_rests<'a>(a: &'a [Lit], b: &'a [Lit], to: &[Lit]) -> Option<Rests<'a>>
+    ensures { IfSome result (λ rests. IsResolvedBut a.now b.now to.now rests.a.now rests.b.now
+        rests.pivot) }
 {
     let before = merge_prefix(a, b, to);
     let pivot = *a.get(before.a)?;
     let opposite = *b.get(before.b)?;
-    if opposite != pivot.negated() {
+    let rest = &to[before.to..];
+    if opposite == pivot.negated() {
+        let (a, b) = rests_of_merge(&a[before.a + 1..], &b[before.b + 1..], rest)?;
+        return Some(Rests { pivot, a, b });
+    }
+    if before.to != to.len() {
         return None;
     }
-    if !is_merge(&a[before.a + 1..], &b[before.b + 1..], &to[before.to..]) {
-        return None;
-    }
-    Some(pivot)
+    let (a, b) = (&a[before.a..], &b[before.b..]);
+    let pivot = find_clashing(a, b)?;
+    Some(Rests { pivot, a, b })
 }
 
 /// Whether no literal has this variable.
@@ -154,10 +171,7 @@ pub(crate) fn is_exact_reduct_by(
     ensures clean { IsTrue result → IsClean to.now }
     ensures bound { IsTrue result → AreBound prefix.now to.now }
 {
-    // Nothing is left out, so no block matters.
-    if from.len() == to.len() {
-        return is_copy(from, to);
-    }
-    let block = innermost(prefix, deciding, None, from);
+    // What is left out has the other quantifier, so the literals that are kept say the block.
+    let block = innermost(prefix, deciding, None, to);
     is_reduct_as_written(prefix, reduced, block, from, to)
 }

@@ -57,7 +57,7 @@ fn shares(clause: &[Lit], set: &[Lit]) -> bool
 }
 
 /// Whether a clause as written has a literal.
-fn is_among(clause: &[Lit], lit: Lit) -> bool
+pub(crate) fn is_among(clause: &[Lit], lit: Lit) -> bool
     ensures { IsTrue result ↔ lit ∈ clause.now }
 {
     clause.contains(&lit)

@@ -1,14 +1,15 @@
 //! Literals that were met since the last time that all were forgotten.
 
-ghost use Rattle.std.specs.Prelude.{◌≡◌, ◌↔◌, ◌⊎◌, IsTrue, IfOk};
+ghost use Rattle.std.specs.Prelude.{◌≡◌, ◌≢◌, ◌↔◌, ℕ, ◌⊎◌, IsTrue, IfOk, get_or};
 ghost use Rattle.qbf_core.specs.Literal.{Literal};
 ghost use Rattle.qbf_core.specs.Members.{◌∈◌};
 ghost use Rattle.qbf_core.specs.Rules.{IsClean};
-ghost use Rattle.qrp_rules.specs.Seen.{Has, code};
+ghost use Rattle.qrp_rules.specs.Exact.{IsApart};
+ghost use Rattle.qrp_rules.specs.Seen.{AreUpTo, Has, code};
 
 use crate::fault::Holds;
 use crate::written::is_ordered;
-use qbf_core::{Lit, Prefix};
+use qbf_core::{Lit, Prefix, Var};
 use std::alloc::{AllocError, Global};
 use std::marker::Model;
 
@@ -101,30 +102,52 @@ impl SeenLits {
         self.stamps[place] = self.stamp;
         true
     }
+
+    /// Whether the literals have variables of their own, other than this one. `false` says nothing,
+    /// and what is in the set then is not said.
+    pub(crate) fn are_distinct(&mut self, lits: &[Lit], other: Var) -> bool
+        ensures clean { IsTrue result → IsClean lits.now }
+        ensures apart { IsTrue result → IsApart lits.now other }
+    {
+        self.clear();
+        stamp_vars(&mut self.stamps, self.stamp, lits, other)
+    }
 }
 
-/// Puts the literals of a list into a set, or returns `false` if there is no room for one of them.
-pub(crate) fn insert_each(seen: &mut SeenLits, lits: &[Lit]) -> bool
-    ensures { IsTrue result → (l : Literal)
-        → Has seen.new l ↔ (Has seen.old l ⊎ (l ∈ lits.now)) }
+/// Gives a variable a stamp. `false` if it has that one, or there is no room for it.
+#[inline(always)]
+fn stamp_var(stamps: &mut [u32], stamp: u32, var: Var) -> bool
+    ensures new { IsTrue result → get_or stamps.old var 0 ≢ stamp }
+    ensures stamped { IsTrue result → get_or stamps.new var 0 ≡ stamp }
+    ensures kept { (n : ℕ) → get_or stamps.old n 0 ≡ stamp → get_or stamps.new n 0 ≡ stamp }
+    ensures upto { AreUpTo stamps.old stamp → AreUpTo stamps.new stamp }
 {
+    let place = var.number() as usize;
+    if place >= stamps.len() || stamps[place] == stamp {
+        return false;
+    }
+    stamps[place] = stamp;
+    true
+}
+
+/// Gives the variables of literals a stamp, and another one before. `false` if one comes twice.
+fn stamp_vars(stamps: &mut [u32], stamp: u32, lits: &[Lit], other: Var) -> bool
+    ensures clean { IsTrue result → IsClean lits.now }
+    ensures apart { IsTrue result → IsApart lits.now other }
+    ensures upto { AreUpTo stamps.old stamp → AreUpTo stamps.new stamp }
+{
+    if !stamp_var(stamps, stamp, other) {
+        return false;
+    }
     for lit in lits {
-        if !seen.insert(*lit) {
+        if !stamp_var(stamps, stamp, lit.var()) {
             return false;
         }
     }
     true
 }
 
-/// Makes a set that of the literals of a list, or returns `false` if there is no room for them.
-pub(crate) fn set_to(seen: &mut SeenLits, lits: &[Lit]) -> bool
-    ensures { IsTrue result → (l : Literal) → Has seen.new l ↔ l ∈ lits.now }
-{
-    seen.clear();
-    insert_each(seen, lits)
-}
-
-/// The same, where the literals are clean. `false` says nothing.
+/// Makes a set that of the literals of a list, where they are clean. `false` says nothing.
 pub(crate) fn set_if_clean(seen: &mut SeenLits, lits: &[Lit]) -> bool
     ensures clean { IsTrue result → IsClean lits.now }
     ensures members { IsTrue result → (l : Literal) → Has seen.new l ↔ l ∈ lits.now }

@@ -1,8 +1,18 @@
-use Rattle.std.proofs.Common.{refl, None}
-use Rattle.qrp_rules.proofs.ResolventRows.{at_pivot}
+use Rattle.std.proofs.Common.{refl, sym, ◌∙◌}
+use Rattle.std.proofs.lemmas.Bool.{eqb-true}
+use Rattle.std.proofs.lemmas.Result.{IfOk-weaker}
+use Rattle.qrp_rules.proofs.Exactness.{exact_follows}
 use Rattle.qrp_rules.proofs.any_order.resolves.Goals as goal
 
-pub returns-then-is_pivot : goal.returns-then-is_pivot
-returns-then-is_pivot g c = λ t.
-    at_pivot c.args.rules g.S.Side.side c.args.prefix.now c.args.a.now c.args.b.now c.args.to.now c.in-Some.pivot None c.in-Some.ensures.clash
-    (c.if-is_pivot.ensures.0 refl, (c.in-Some.ensures.within, (c.leaves_out_reducible.ensures t, tt)))
+pub returns-then-is_empty-2 : goal.returns-then-is_empty-2
+returns-then-is_empty-2 g c = IfOk-weaker c.is_clean_without.result _ _ (λ t both is.
+    exact_follows c.args.rules g.S.Side.side c.args.prefix.now c.args.a.now c.args.b.now c.args.to.now
+    c.in-Some.rests.a.now c.in-Some.rests.b.now
+    c.in-Some.rests.pivot c.in-Some.ensures (rw c.var-pivot.ensures at c.if-not-is_pivot.ensures.0 refl)
+    (eqb-true _ _ (sym c.is_empty.ensures ∙ c.if-is_empty.true))
+    (eqb-true _ _ (sym c.is_empty-then-is_empty.ensures ∙ c.if-is_empty-2.true))
+    (both is).0 (rw c.var-pivot.ensures at (both is).1)) c.is_clean_without.ensures
+
+pub returns : goal.returns
+returns g c = λ t. c.leaves_out_rests.ensures t c.args.rules c.args.a.now c.args.b.now c.in-Some.ensures
+    (rw c.var-pivot.ensures at c.if-not-is_pivot.ensures.0 refl)

@@ -1,17 +1,8 @@
 use Rattle.std.proofs.Common.{inl, inr}
-use Rattle.qrp_rules.proofs.Reducing.{reducible_after}
+use Rattle.qrp_rules.proofs.Reducing.{reducible_after, reducible_wider}
 use Rattle.qrp_rules.proofs.exact.is_exact_reduct_by.Goals as goal
 use Rattle.qbf_core.proofs.Order.{clean_within}
 use Rattle.qbf_core.proofs.Bound.{bound_within}
-
-pub returns-then-from-to-clause-follows : goal.returns-then-from-to-clause-follows
-returns-then-from-to-clause-follows c = λ t side _ _.
-    let same = c.is_copy.ensures t in
-    (same.0, ((λ l h. inl (same.1 l h)), tt))
-
-pub returns-then-from-to-clause-bound : goal.returns-then-from-to-clause-bound
-returns-then-from-to-clause-bound c =
-    λ t. bound_within c.args.prefix.now c.args.from.now c.args.to.now c.requires.bound (c.is_copy.ensures t).0
 
 pub returns-clause-follows : goal.returns-clause-follows
 returns-clause-follows c = λ t side reduces decides. (
@@ -20,8 +11,10 @@ returns-clause-follows c = λ t side reduces decides. (
     (λ l h. elim (c.is_reduct_as_written.ensures.each t l h) [
       | inl k ↦ inl k
       | inr stands ↦ inr
-          ((reducible_after side c.args.prefix.now c.args.reduced c.args.deciding c.args.from.now c.innermost-block.result
-          reduces decides c.innermost-block.ensures l).0 stands)
+          (reducible_wider side c.args.prefix.now c.args.reduced c.innermost-block.result c.args.from.now c.args.to.now reduces
+          (c.is_reduct_as_written.ensures.each t) l
+          ((reducible_after side c.args.prefix.now c.args.reduced c.args.deciding c.args.to.now c.innermost-block.result
+          reduces decides c.innermost-block.ensures l).0 stands))
     ]),
     tt,
   ),
@@ -29,9 +22,6 @@ returns-clause-follows c = λ t side reduces decides. (
 
 pub returns-clause-bound : goal.returns-clause-bound
 returns-clause-bound c = λ t. bound_within c.args.prefix.now c.args.from.now c.args.to.now c.requires.bound (c.is_reduct_as_written.ensures.within t)
-
-pub returns-then-from-to-clause-clean : goal.returns-then-from-to-clause-clean
-returns-then-from-to-clause-clean c = λ t. clean_within c.args.from.now c.args.to.now c.requires.clean (c.is_copy.ensures t).0
 
 pub returns-clause-clean : goal.returns-clause-clean
 returns-clause-clean c = λ t. clean_within c.args.from.now c.args.to.now c.requires.clean (c.is_reduct_as_written.ensures.within t)

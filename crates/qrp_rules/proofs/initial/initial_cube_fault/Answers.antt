@@ -1,4 +1,4 @@
-use Rattle.std.proofs.Common.{arith, refl, sym, subst, inl, inr, List, ◌⊎◌, ◌∙◌}
+use Rattle.std.proofs.Common.{arith, refl, sym, inl, inr, List, ◌⊎◌, ◌∙◌}
 use Rattle.std.proofs.lemmas.Bool.{false≢true}
 use Rattle.qbf_core.specs.Literal.{Literal}
 use Rattle.qbf_core.specs.Members.{◌∈◌}

@@ -1,4 +1,4 @@
-use Rattle.std.proofs.Common.{◌+◌, ◌∙◌, ℕ, drop, refl, sym, subst, inl, inr, ◌++◌}
+use Rattle.std.proofs.Common.{◌+◌, ◌∙◌, ℕ, drop, refl, sym, inl, inr, ◌++◌}
 use Rattle.std.proofs.lemmas.Bool.{false≢true}
 use Rattle.qbf_core.specs.Literal.{Literal}
 use Rattle.qbf_core.specs.Members.{◌∈◌}

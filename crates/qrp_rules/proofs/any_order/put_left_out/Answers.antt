@@ -1,0 +1,14 @@
+use Rattle.std.proofs.Common.{refl, subst, sym, ◌∙◌}
+use Rattle.std.proofs.lemmas.Bool.{false≢true}
+use Rattle.qrp_rules.specs.Seen.{Has}
+use Rattle.qrp_rules.specs.Walks.{StandsAfter}
+use Rattle.qrp_rules.proofs.Exactness.{put_one}
+use Rattle.qrp_rules.proofs.any_order.put_left_out.Goals as goal
+
+pub returns-clause-put : goal.returns-clause-put
+returns-clause-put c =
+    put_one c.args.seen.now c.insert.new.self c.args.lit
+    (λ l. StandsAfter c.args.prefix.now c.args.reducible.quantifier c.args.reducible.block l.var)
+    c.insert.result c.insert.ensures
+    (λ h. false≢true (sym c.if-contains-2.false ∙ c.contains-2.ensures.1 (subst (Has c.args.seen.now) (sym c.negated.ensures) h)))
+    (rw c.var-2.ensures at c.if-not-stands_after.ensures.0 refl)

@@ -1,0 +1,16 @@
+use Rattle.std.proofs.Common.{◌≡◌, get_or, take}
+use Rattle.qbf_core.specs.Literal.{Literal}
+use Rattle.qbf_core.specs.Members.{◌∈◌}
+use Rattle.qbf_core.specs.Rules.{IsClean}
+use Rattle.qrp_rules.specs.Exact.{IsApart}
+use Rattle.qrp_rules.specs.Seen.{AreUpTo}
+use Rattle.qrp_rules.proofs.seen.stamp_vars.Given as goal
+
+abbrev pub invariant-loop-lit : goal.invariant-loop-lit
+invariant-loop-lit l = record {
+  clean : IsClean (take l.lit-index l.lits);
+  apart : IsApart (take l.lit-index l.lits) l.fn.other;
+  stamped : (m : Literal) → m ∈ take l.lit-index l.lits → get_or l.stamps m.var 0 ≡ l.stamp;
+  of_other : get_or l.stamps l.fn.other 0 ≡ l.stamp;
+  upto : AreUpTo l.fn.stamps l.stamp → AreUpTo l.stamps l.stamp;
+}
