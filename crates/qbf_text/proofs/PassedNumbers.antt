@@ -1,16 +1,16 @@
 -- Numbers that are passed among the bytes at hand.
-use Rattle.std.proofs.Common.{◌≡◌, ℕ, ◌+◌, ◌^◌, ◌<◌, ◌≤◌, Bool, true, false, List, [], ◌∷◌, ◌++◌, drop, length, refl, sym, ap, ◌∙◌}
+use Rattle.std.proofs.Common.{◌≡◌, ℕ, ◌+◌, ◌^◌, ◌<◌, ◌≤◌, Bool, true, false, not, nat_eq, List, [], ◌∷◌, ◌++◌, drop, length, refl, sym, ap, ◌∙◌}
 use Rattle.std.proofs.Common.{subst, take, ◌-◌, zero, suc, append_assoc, arith, Option, Some, None, ◌⊎◌, inl, inr, length-drop, length-append}
 use Rattle.std.proofs.lemmas.List.{take-append-drop, drop-drop, take_all}
 use Rattle.qbf_text.specs.declared.hand.Cursor.{Cursor}
-use Rattle.qbf_text.specs.declared.hand.LikelyEnds.{LikelyEnds}
+use Rattle.qbf_text.specs.declared.likely_ends.LikelyEnds.{LikelyEnds}
 use Rattle.qbf_text.specs.declared.token.Comments.{Comments}
 use Rattle.qbf_text.specs.declared.token.Token.{Token}
 use Rattle.qbf_text.specs.declared.token.Token.TheVariants.{Number}
 use Rattle.qbf_text.specs.Ahead.{ahead}
 use Rattle.qbf_text.specs.Left.{tokens_left, known_left}
 use Rattle.qbf_text.specs.Lined.{Lined}
-use Rattle.qbf_text.specs.Passing.{BeginsWithNumber, tokens_from_cursor, behind, cursor, moved, LeadOn, Passes, PassesNumber, PassesAll, SoFar}
+use Rattle.qbf_text.specs.Passing.{BeginsWithNumber, tokens_from_cursor, behind, counted_if, is_begun, cursor, moved, LeadOn, Passes, PassesNumber, PassesAll, SoFar}
 use Rattle.qbf_text.specs.Passing.{ReadsAtHand}
 use Rattle.qbf_text.specs.Reading.{Reading, GivesNext, IsOpen, left}
 use Rattle.qbf_text.specs.Rows.{Row, Goes, read_from, reads_from}
@@ -42,9 +42,9 @@ module _ (bytes : List ℕ) (here : Cursor) (likely : LikelyEnds) (negative : Bo
       → tokens_from_cursor format here ((h.run ++ h.behind ∷ []) ++ rest)
       ≡ (Number negative value, here.line) ∷ tokens_from_cursor format (behind here likely len ends_line) rest
   spelled true e format rest =
-      spelled_ending format here.begun here.line (drop here.at bytes) negative value len ends h small (sym e) rest
+      spelled_ending format (is_begun here) here.line (drop here.at bytes) negative value len ends h small (sym e) rest
   spelled false e format rest =
-      spelled_blanked format here.begun here.line (drop here.at bytes) negative value len ends h small (sym e) rest
+      spelled_blanked format (is_begun here) here.line (drop here.at bytes) negative value len ends h small (sym e) rest
 
   at_behind : (ends_line : Bool) → (behind here likely len ends_line).at ≡ here.at + len
   at_behind true = refl
@@ -165,8 +165,17 @@ module _ {P A F : Type 0} (row : P → Token → Row P A F) (first mid last : P)
 
 -- ---- a scanner that goes to where a grammar came
 
-module _ {P A F : Type 0} (row : P → Token → Row P A F) (first place : P) (r : Reading) (here : Cursor)
-    (p : Passes (LeadOn row first place) r.pending (cursor r) here) where
+pub begun_counted : (b : Bool) → not (nat_eq (counted_if b) 0) ≡ b
+begun_counted true = refl
+begun_counted false = refl
+
+-- the tokens at the first of the bytes at hand
+first_tokens : (r : Reading) (ends : LikelyEnds) (bytes : List ℕ)
+    → tokens_next r bytes ≡ tokens_from_cursor r.comments (cursor r ends) bytes
+first_tokens r ends bytes = ap (λ b. tokens_left r.comments b r.line bytes) (sym (begun_counted r.begun))
+
+module _ {P A F : Type 0} (row : P → Token → Row P A F) (first place : P) (r : Reading) (ends : LikelyEnds)
+    (here : Cursor) (p : Passes (LeadOn row first place) r.pending (cursor r ends) here) where
   pub handed_so_far : (remaining : Option (List ℕ))
       → IfKnown (SoFar row first place (tokens_next r) (tokens_next (moved r here))) (ahead r.pending remaining)
       (ahead (drop here.at r.pending) remaining)
@@ -175,19 +184,21 @@ module _ {P A F : Type 0} (row : P → Token → Row P A F) (first place : P) (r
     front = p.front;
     given = p.given;
     taken = ap (λ l. l ++ rest) p.taken ∙ append_assoc p.front (drop here.at r.pending) rest;
-    spelled = λ more _. p.spelled r.comments more;
+    spelled = λ more _. first_tokens r ends (p.front ++ more) ∙ p.spelled r.comments more;
     leads = p.are;
   }
 
   known : (remaining : Option (List ℕ))
       → reads_from row first (known_left r.comments r.begun r.line (ahead r.pending remaining))
-      ≡ reads_from row place (known_left r.comments here.begun here.line (ahead (drop here.at r.pending) remaining))
+      ≡ reads_from row place (known_left r.comments (is_begun here) here.line (ahead (drop here.at r.pending) remaining))
   known None = refl
   known (Some rest) = ap (λ x. Some x) (
       ap (λ l. read_from row first (tokens_left r.comments r.begun r.line l))
       (ap (λ l. l ++ rest) p.taken ∙ append_assoc p.front (drop here.at r.pending) rest)
-      ∙ ap (read_from row first) (p.spelled r.comments (drop here.at r.pending ++ rest))
-      ∙ p.are (tokens_left r.comments here.begun here.line (drop here.at r.pending ++ rest)))
+      ∙ ap (read_from row first) (
+      first_tokens r ends (p.front ++ (drop here.at r.pending ++ rest))
+      ∙ p.spelled r.comments (drop here.at r.pending ++ rest))
+      ∙ p.are (tokens_left r.comments (is_begun here) here.line (drop here.at r.pending ++ rest)))
 
   pub handed_leads : IsOpen r → (remaining : Option (List ℕ))
       → reads_from row first (left r remaining) ≡ reads_from row place (left (moved r here) remaining)
@@ -207,7 +218,7 @@ taken_number format bytes here to token p (Some rest) = record {
   behind = p.behind ∷ [];
   line = counted here.line;
   taken = ap (λ l. l ++ rest) p.taken ∙ append_assoc (p.word ++ p.behind ∷ []) (drop to.at bytes) rest;
-  nothing = left_nothing format here.begun here.line;
+  nothing = left_nothing format (is_begun here) here.line;
   unbroken = p.unbroken;
   separates = p.separates;
   spelled = λ more _. p.spelled format more;
@@ -218,21 +229,21 @@ given_at_hand : (r : Reading) (here to : Cursor) (token : Token) → PassesNumbe
 unfolding left
 given_at_hand r here to token p open_ None = rw open_ tt
 given_at_hand r here to token p open_ (Some rest) = rw (open_, p.no_end) (
-    ap (λ l. tokens_left r.comments here.begun here.line l)
+    ap (λ l. tokens_left r.comments (is_begun here) here.line l)
     (ap (λ l. l ++ rest) p.taken ∙ append_assoc (p.word ++ p.behind ∷ []) (drop to.at r.pending) rest)
     ∙ p.spelled r.comments (drop to.at r.pending ++ rest))
 
 -- what a grammar took is read
-pub handed : {P A F : Type 0} (row : P → Token → Row P A F) (first next : P) (answer : Option A) (r : Reading) (to : Cursor) → IsOpen r
-    → length (drop to.at r.pending) ≤ 4096 → PassesAll row first next r.pending (cursor r) to answer → (remaining : Option (List ℕ))
+pub handed : {P A F : Type 0} (row : P → Token → Row P A F) (first next : P) (answer : Option A) (r : Reading) (likely : LikelyEnds) (to : Cursor)
+    → IsOpen r → length (drop to.at r.pending) ≤ 4096 → PassesAll row first next r.pending (cursor r likely) to answer → (remaining : Option (List ℕ))
     → ReadsAtHand row first next r (moved r to) remaining answer
-handed row first next None r to open_ few p remaining =
-    (handed_so_far row first next r to p remaining, handed_leads row first next r to p open_ remaining)
-handed row first next (Some a) r to open_ few p remaining = record {
+handed row first next None r likely to open_ few p remaining =
+    (handed_so_far row first next r likely to p remaining, handed_leads row first next r likely to p open_ remaining)
+handed row first next (Some a) r likely to open_ few p remaining = record {
   last = p.last;
   token = (p.token, p.here.line);
   mid = moved r p.here;
-  leads = (handed_so_far row first p.last r p.here p.leads remaining, handed_leads row first p.last r p.here p.leads open_ remaining);
+  leads = (handed_so_far row first p.last r likely p.here p.leads remaining, handed_leads row first p.last r likely p.here p.leads open_ remaining);
   gives = given_at_hand r p.here to p.token p.passes open_ remaining;
   takes = taken_number r.comments r.pending p.here to p.token p.passes remaining;
   ends = p.ends;

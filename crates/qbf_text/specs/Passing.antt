@@ -1,9 +1,9 @@
 -- What was passed of the bytes at hand: tokens that stand there whole, whatever bytes follow.
-use Rattle.std.specs.Prelude.{◌≡◌, ℕ, ◌+◌, ◌<◌, ◌≤◌, Bool, true, false, List, [], ◌∷◌, ◌++◌, take, drop, length, Option, Some}
+use Rattle.std.specs.Prelude.{◌≡◌, ℕ, ◌+◌, ◌<◌, ◌≤◌, Bool, true, false, not, nat_eq, List, [], ◌∷◌, ◌++◌, take, drop, length, Option, Some}
 use Rattle.std.specs.Prelude.{None}
 use Rattle.qbf_text.specs.Ahead.{ahead}
 use Rattle.qbf_text.specs.declared.hand.Cursor.{Cursor}
-use Rattle.qbf_text.specs.declared.hand.LikelyEnds.{LikelyEnds}
+use Rattle.qbf_text.specs.declared.likely_ends.LikelyEnds.{LikelyEnds}
 use Rattle.qbf_text.specs.declared.token.Comments.{Comments}
 use Rattle.qbf_text.specs.declared.token.Token.{Token}
 use Rattle.qbf_text.specs.declared.token.Token.TheVariants.{Number}
@@ -27,26 +27,31 @@ pub record BeginsWithNumber (bytes : List ℕ) (negative : Bool) (value len : �
   pub separates : is_separator behind ≡ true
   pub ends : ends_line ≡ is_line_end behind
 
+-- 1 where this is so
+abbrev pub counted_if : Bool → ℕ
+counted_if true = 1
+counted_if false = 0
+
+-- whether a token stands before a cursor on its line
+abbrev pub is_begun : Cursor → Bool
+is_begun here = not (nat_eq here.tokens 0)
+
 -- the cursor after a number and its separator, which take so many bytes
 abbrev pub behind : Cursor → LikelyEnds → ℕ → Bool → Cursor
-behind here ends len true = record { at = here.at + len; line = counted (here.line + 1); begun = false; ends = ends }
-behind here ends len false = record { at = here.at + len; line = here.line; begun = true; ends = ends }
-
--- no byte was looked at for where numbers end: the first are those after this place and 64 more
-abbrev pub nothing_known : LikelyEnds
-nothing_known = record { block = 18446744073709551552; marks = 0 }
+behind here ends len true = record { at = here.at + len; line = counted (here.line + 1); tokens = 0; ends = ends }
+behind here ends len false = record { at = here.at + len; line = here.line; tokens = 1; ends = ends }
 
 -- where the first of the bytes at hand stands
-abbrev pub cursor : Reading → Cursor
-cursor r = record { at = 0; line = r.line; begun = r.begun; ends = nothing_known }
+abbrev pub cursor : Reading → LikelyEnds → Cursor
+cursor r ends = record { at = 0; line = r.line; tokens = counted_if r.begun; ends = ends }
 
 -- a scanner that went to a cursor
 abbrev pub moved : Reading → Cursor → Reading
-moved r here = record r { line = here.line; begun = here.begun; pending = drop here.at r.pending }
+moved r here = record r { line = here.line; begun = is_begun here; pending = drop here.at r.pending }
 
 -- the tokens of bytes that stand at a cursor
 abbrev pub tokens_from_cursor : Comments → Cursor → List ℕ → List Lined
-tokens_from_cursor format here = tokens_left format here.begun here.line
+tokens_from_cursor format here = tokens_left format (is_begun here) here.line
 
 -- one token stands between two cursors, whatever bytes follow
 pub record PassesNumber (bytes : List ℕ) (here next : Cursor) (token : Token) : Type 0 where

@@ -1,17 +1,17 @@
 //! Numbers that stand whole among the bytes at hand.
 //!
 //! They are taken in two ways: any number by its bytes alone, and the usual ones by where they seem
-//! to end, which is looked up for 64 bytes at once: so the next one need not wait for the last.
+//! to end, which is known before: so the next one need not wait for the last.
 
 ghost use Rattle.std.specs.Prelude.{◌≡◌, ◌+◌, ◌^◌, ◌<◌, ◌≤◌, ◌&&◌, false, nat_eq, length};
 ghost use Rattle.std.specs.Prelude.{IfSome};
 ghost use Rattle.qbf_text.specs.Runs.{begins_with_minus};
 ghost use Rattle.qbf_text.specs.Passing.{BeginsWithNumber, PassesNumber};
 
+use crate::likely_ends::LikelyEnds;
 use crate::separators::is_separator;
 use crate::token::Token;
 use decimal::{digits, number_between};
-use std::simd::prelude::*;
 
 /// A number, and the separator after it.
 #[derive(Clone, Copy)]
@@ -57,7 +57,7 @@ fn zero(ends_line: bool) -> Found
 }
 
 /// The same as `number_in_front`, with any number of digits up to 20 that has 64 bits.
-#[inline(always)]
+#[inline(never)]
 fn signed_number(bytes: &[u8]) -> Option<Found>
     ensures { IfSome result (λ f. BeginsWithNumber bytes.now f.negative f.value f.len f.ends_line) }
 {
@@ -120,77 +120,6 @@ fn number_before(bytes: &[u8], end: usize) -> Option<Found>
     })
 }
 
-/// How many bytes are looked at together for where numbers end.
-const BLOCK: usize = 64;
-
-/// A bit for each of the first 64 bytes, the lowest for the first, whether it is at most a blank, as
-/// separators are.
-#[inline(always)]
-fn marks_of(block: &[u8]) -> u64
-    requires { 64 ≤ length block.now }
-{
-    u8x64::from_slice(block)
-        .simd_le(u8x64::splat(b' '))
-        .to_bitmask()
-}
-
-/// Where the next numbers seem to end among the bytes at hand. A number is taken only if it does end
-/// there, so that no contract says anything of this.
-#[derive(Clone, Copy)]
-pub struct LikelyEnds {
-    /// The place of the 64 bytes that were looked at last.
-    pub block: usize,
-    /// A bit for each of them at which a number seems to end, but for those that were passed.
-    pub marks: u64,
-}
-
-impl LikelyEnds {
-    ghost use Rattle.qbf_text.specs.Passing.{nothing_known};
-
-    /// None, where nothing was looked at yet.
-    fn nothing_known() -> LikelyEnds
-        ensures { result ≡ nothing_known }
-    {
-        LikelyEnds {
-            block: usize::MAX - 63,
-            marks: 0,
-        }
-    }
-
-    /// Those of the bytes from a place on, as many as are looked at together.
-    #[inline(never)]
-    fn look(bytes: &[u8], from: usize) -> LikelyEnds {
-        let len = bytes.len();
-        if from >= len || len < BLOCK {
-            return LikelyEnds {
-                block: from,
-                marks: 0,
-            };
-        }
-        let block = from.min(len - BLOCK);
-        LikelyEnds {
-            block,
-            marks: marks_of(&bytes[block..]) & (u64::MAX << (from - block).min(63)),
-        }
-    }
-
-    /// The first of them, and those after it. It is any place where none is known.
-    #[inline(always)]
-    fn next(self, bytes: &[u8]) -> (usize, LikelyEnds) {
-        let ends = if self.marks == 0 {
-            LikelyEnds::look(bytes, self.block.wrapping_add(BLOCK))
-        } else {
-            self
-        };
-        let first = ends.marks.trailing_zeros() as usize;
-        let rest = LikelyEnds {
-            block: ends.block,
-            marks: ends.marks & ends.marks.wrapping_sub(1),
-        };
-        (ends.block.wrapping_add(first), rest)
-    }
-}
-
 /// A place among the bytes at hand, held by value.
 #[derive(Clone, Copy)]
 pub struct Cursor {
@@ -198,8 +127,9 @@ pub struct Cursor {
     pub at: usize,
     /// Its line.
     pub line: u64,
-    /// Whether a token stands before it on its line.
-    pub begun: bool,
+    /// 1 where a token stands before it on its line, else 0. A whole word: the padding after a `bool`
+    /// would be copied too, by loads that wait for the store before them.
+    pub tokens: u64,
     /// Where the next numbers seem to end.
     pub ends: LikelyEnds,
 }
@@ -215,20 +145,33 @@ pub struct Passed {
 
 impl Cursor {
     ghost use Rattle.std.specs.Prelude.{List, ℕ, drop};
-    ghost use Rattle.qbf_text.specs.Passing.{behind, nothing_known};
+    ghost use Rattle.qbf_text.specs.Passing.{behind, counted_if, is_begun};
     ghost use Rattle.qbf_text.specs.declared.token.Token.TheVariants.{Number};
 
     /// The cursor at the first of the bytes.
     #[inline(always)]
-    pub fn new(line: u64, begun: bool) -> Cursor
-        ensures { result ≡ record { at = 0; line = line; begun = begun; ends = nothing_known } }
+    pub fn new(line: u64, begun: bool, ends: LikelyEnds) -> Cursor
+        ensures { result ≡ record {
+          at = 0;
+          line = line;
+          tokens = counted_if begun;
+          ends = ends;
+        } }
     {
         Cursor {
             at: 0,
             line,
-            begun,
-            ends: LikelyEnds::nothing_known(),
+            tokens: u64::from(begun),
+            ends,
         }
+    }
+
+    /// Whether a token stands before it on its line.
+    #[inline(always)]
+    pub fn is_begun(self) -> bool
+        ensures { result ≡ is_begun self }
+    {
+        self.tokens != 0
     }
 
     /// What a number that was found at the cursor leads to.
@@ -251,7 +194,7 @@ impl Cursor {
                 } else {
                     line
                 },
-                begun: !found.ends_line,
+                tokens: u64::from(!found.ends_line),
                 ends,
             },
         }

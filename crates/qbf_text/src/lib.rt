@@ -3,6 +3,7 @@
 
 mod grammar;
 mod hand;
+mod likely_ends;
 mod pieces;
 mod run;
 mod scanner;

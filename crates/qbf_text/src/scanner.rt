@@ -90,7 +90,7 @@ struct Place {
 }
 
 impl Place {
-    ghost use Rattle.qbf_text.specs.Passing.{nothing_known};
+    ghost use Rattle.qbf_text.specs.Passing.{counted_if, is_begun};
     ghost use Rattle.qbf_text.specs.Stopping.{FindsToken, FindsEnd, PlaceSkips};
     ghost use Rattle.qbf_text.specs.declared.token.Token.TheVariants.{End};
 
@@ -100,11 +100,11 @@ impl Place {
         ensures { result ≡ record {
           at = 0;
           line = self.now.line;
-          begun = self.now.begun;
-          ends = nothing_known;
+          tokens = counted_if self.now.begun;
+          ends = result.ends;
         } }
     {
-        Cursor::new(self.line, self.begun)
+        Cursor::new(self.line, self.begun, self.window.ends())
     }
 
     /// Goes to a cursor among the bytes that were pulled.
@@ -113,15 +113,15 @@ impl Place {
         requires { here.at ≤ length self.old.window }
         ensures to { self.new ≡ record self.old {
           line = here.line;
-          begun = here.begun;
+          begun = is_begun here;
           window = drop here.at self.old.window;
         } }
         ensures shorter { length self.new.window + here.at ≡ length self.old.window }
         ensures few { length self.new.window ≤ 4096 }
     {
-        self.window.skip(here.at);
+        self.window.go_to(here.at, here.ends);
         self.line = here.line;
-        self.begun = here.begun;
+        self.begun = here.is_begun();
     }
 
     /// The next token and its line, if it is a number that was pulled whole with the separator
@@ -300,7 +300,7 @@ impl Scanner {
     /// Where the first of the bytes at hand stands.
     #[inline(always)]
     pub fn cursor(&self) -> Cursor
-        ensures { result ≡ cursor self.now }
+        ensures { result ≡ cursor self.now result.ends }
     {
         self.place.cursor()
     }

@@ -1,13 +1,14 @@
 //! Steps, as far as they stand whole among the bytes at hand.
 
-ghost use Rattle.std.specs.Prelude.{◌≡◌, ℕ, ◌≤◌, List, length, IfOk};
+ghost use Rattle.std.specs.Prelude.{◌≡◌, ℕ, ◌≤◌, List, length, IfOk, IfSome, IfNone};
 ghost use Rattle.std.specs.List.{AllByRecursion};
 ghost use Rattle.qbf_core.specs.Literal.{Literal};
 ghost use Rattle.qbf_text.specs.Passing.{LeadOn, Passes, PassesAll};
 ghost use Rattle.qrp.specs.declared.places.At.TheVariants as at;
+ghost use Rattle.qrp.specs.declared.places.Begun.{Begun};
 ghost use Rattle.qrp.specs.Inferences.{IsLiteral};
 ghost use Rattle.qrp.specs.Items.{Takes, item_row, giving_at, lits_place, after_ants};
-ghost use Rattle.qrp.specs.Places.{AreAntecedents, IsBegun, Settles};
+ghost use Rattle.qrp.specs.Places.{AreAntecedents, IsBegun, Settles, Stays};
 ghost use Rattle.qrp.specs.Reading.{InAnts, InLits};
 
 use crate::places::{At, Begun, Part, has_room, take_opening};
@@ -156,28 +157,30 @@ fn take_lists(
     }
 }
 
-/// Takes the number of a step, and then its lists.
-///
-/// # Errors
-/// Out of memory.
+/// Takes the number of the step that begins here, or finds that of the one that has begun, and
+/// where its literals stand next. `None` if neither is so.
 #[inline(always)]
-fn take_step(begun: &mut Begun, bytes: &[u8], from: Cursor) -> Result<Reached, AllocError>
+fn open_step(here: At, begun: &mut Begun, bytes: &[u8], from: Cursor) -> Option<(u64, Cursor)>
     requires within { from.at ≤ length bytes.now }
-    ensures passes { IfOk result (λ r. PassesAll item_row (giving_at begun.old at.Between)
-        (giving_at begun.new r.at) bytes.now from r.here r.done) }
-    ensures sound { Settles at.Between begun.old begun.new result }
+    requires sound { IsBegun here begun.old }
+    ensures passes { IfSome result (λ r. Passes (LeadOn item_row (giving_at begun.old here)
+        (giving_at begun.new (at.Lits r.0))) bytes.now from r.1) }
+    ensures sound { IfSome result
+        (λ r. Stays begun.old begun.new × IsBegun (at.Lits r.0) begun.new) }
+    ensures back { IfSome result (λ r. (b : Begun) → IsBegun (at.Lits r.0) b → IsBegun here b) }
+    ensures none { IfNone result (Stays begun.old begun.new × IsBegun here begun.new
+        × (giving_at begun.new here ≡ giving_at begun.old here)) }
 {
-    let none = Reached {
-        at: At::Between,
-        here: from,
-        done: None,
-    };
-    let Some(passed) = from.number(bytes) else {
-        return Ok(none);
-    };
-    match take_opening(begun, passed.token) {
-        Ok(At::Lits(number)) => take_lists(begun, number, bytes, passed.next),
-        _ => Ok(none),
+    match here {
+        At::Between => {
+            let passed = from.number(bytes)?;
+            match take_opening(begun, passed.token) {
+                Ok(At::Lits(number)) => Some((number, passed.next)),
+                _ => None,
+            }
+        }
+        At::Lits(number) => Some((number, from)),
+        _ => None,
     }
 }
 
@@ -198,13 +201,12 @@ pub fn take_at_hand(
         (giving_at begun.new r.at) bytes.now from r.here r.done) }
     ensures sound { Settles here begun.old begun.new result }
 {
-    match here {
-        At::Between => take_step(begun, bytes, from),
-        At::Lits(number) => take_lists(begun, number, bytes, from),
-        at => Ok(Reached {
-            at,
+    let Some((number, lits)) = open_step(here, begun, bytes, from) else {
+        return Ok(Reached {
+            at: here,
             here: from,
             done: None,
-        }),
-    }
+        });
+    };
+    take_lists(begun, number, bytes, lits)
 }

@@ -18,4 +18,4 @@ returns-clause-reads g c =
     let few = rw c.go_to.ensures.to at c.go_to.ensures.few in
     rw c.go_to.ensures.to (
     handed g.G.Grammar.row_of (g.G.Grammar.place c.args.grammar.now) (g.G.Grammar.place c.take_hand.new.self) c.in_ok-here.answer
-    c.args.scanner.now c.in_ok-here.here (c.is_open.ensures c.if-not-is_open.false) few passes)
+    c.args.scanner.now _ c.in_ok-here.here (c.is_open.ensures c.if-not-is_open.false) few passes)

@@ -1,4 +1,4 @@
-use Rattle.qbf_text.proofs.PassedNumbers.{taken_number}
+use Rattle.qbf_text.proofs.PassedNumbers.{begun_counted, taken_number}
 use Rattle.qbf_text.proofs.scanner.Place.number.Goals as goal
 
 pub returns-clause-found : goal.returns-clause-found
@@ -6,6 +6,7 @@ returns-clause-found c remaining =
     let p = c.args.self.now in
     let passes = rw (c.bytes.ensures, c.cursor.ensures) at c.in-Some.ensures in
     rw c.go_to.ensures.to (record {
-      takes = taken_number p.comments p.window _ c.in-Some.passed.next c.in-Some.passed.token passes remaining;
+      takes =
+          rw (begun_counted p.begun) at (taken_number p.comments p.window _ c.in-Some.passed.next c.in-Some.passed.token passes remaining);
       no_end = passes.no_end;
     })

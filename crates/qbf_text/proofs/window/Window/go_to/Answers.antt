@@ -1,6 +1,6 @@
 use Rattle.std.proofs.Common.{◌≤◌, length}
 use Rattle.qbf_text.proofs.Windows.{part, part_skip}
-use Rattle.qbf_text.proofs.window.Window.skip.Goals as goal
+use Rattle.qbf_text.proofs.window.Window.go_to.Goals as goal
 
 pub returns-clause-rest : goal.returns-clause-rest
 returns-clause-rest c =
