@@ -119,7 +119,7 @@ impl Place {
         ensures shorter { length self.new.window + here.at ≡ length self.old.window }
         ensures few { length self.new.window ≤ 4096 }
     {
-        self.window.go_to(here.at, here.ends);
+        self.window.go_to(here.at, here.ends.after(here.at));
         self.line = here.line;
         self.begun = here.is_begun();
     }
