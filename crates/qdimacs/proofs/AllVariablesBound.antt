@@ -1,4 +1,5 @@
 -- As many bound variables as the header allows: each that it allows is bound.
+use Rattle.std.proofs.lemmas.Grind.{common_steps}
 use Rattle.std.proofs.Common.{rules, ◌≡◌, ℕ, ◌≤◌, ◌+◌, ◌||◌, Bool, true, false, List, [], ◌∷◌, length, eqb, refl, sym, ap, ◌∙◌, arith}
 use Rattle.qbf_spelling.proofs.Words.{IsDistinct, AllByRecursion, Block, pairs, variables, is_bound, IsVariable}
 use Rattle.std.specs.List.{list_any}
@@ -57,6 +58,4 @@ equal a b e = search rules
 -- as many bound variables as the header allows
 pub full : (max_var : ℕ) (bs : List Block) (n : ℕ) → IsPrefix bs → AllByRecursion (λ v. v ≤ max_var) (variables (pairs bs))
     → n ≡ length (pairs bs) → eqb n max_var ≡ true → IsFull max_var (pairs bs)
-full max_var bs n prefix top counted compared = λ v low high.
-    let count : length (variables (pairs bs)) ≡ max_var = length-map (pairs bs) (λ p. p.1) ∙ sym counted ∙ equal n max_var compared in
-    is_bound_variables v (pairs bs) ∙ each_stands max_var (variables (pairs bs)) prefix.distinct prefix.within top count v low high
+full max_var bs n prefix top counted compared = grind (arith, common_steps, length-map, equal, is_bound_variables, each_stands)

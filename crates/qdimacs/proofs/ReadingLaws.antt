@@ -1,4 +1,5 @@
 -- The laws of reading, and the canonical text that is read again.
+use Rattle.std.proofs.lemmas.Grind.{common_steps}
 use Rattle.std.proofs.Common.{◌≡◌, ℕ, true, List, [], ◌∷◌, ◌++◌, length, map, refl, ap, ◌∙◌, arith, append_assoc, Option, IfSome}
 use Rattle.qbf_spelling.proofs.Words
 use Words.{flat_map-append, flat_map-map, flat_map, AllByRecursion, Quantifier, Literal, Block, pairs, variables, is_bound, IsVariable, Qbf}
@@ -51,11 +52,7 @@ lines_written f w = (
 -- ---- the tokens of the lines
 
 joined_lines : (f : Qbf) → joined (lines f) ++ token.End ∷ [] ≡ spelling f f.blocks
-joined_lines f =
-    let h = header f.max_var (length f.clauses) in
-    let parts : joined (map set f.blocks ++ map clause f.clauses) ≡ flat_map set f.blocks ++ flat_map clause f.clauses =
-    simp (flat_map-append, flat_map-map) in
-    ap (λ (k : List Token). (h ++ k) ++ token.End ∷ []) parts ∙ simp append_assoc
+joined_lines f = grind (arith, common_steps, flat_map-append, flat_map-map, append_assoc)
 
 -- What is written is read again.
 pub text_is_read : ReadsText

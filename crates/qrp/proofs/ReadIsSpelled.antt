@@ -1,4 +1,5 @@
 -- What is read is spelled, and a fault that is found stands.
+use Rattle.std.proofs.lemmas.Grind.{common_steps}
 use Rattle.std.proofs.Common.{rules, ◌≡◌, ℕ, ◌≤◌, ◌+◌, List, [], ◌∷◌, ◌++◌, ◌⊎◌, inl, inr, length, Ok, Err, refl, ap, sym, ◌∙◌, false}
 use Rattle.std.proofs.Common.{arith, append_assoc, append-nil}
 use Rattle.qbf_spelling.proofs.Words
@@ -28,21 +29,12 @@ use Rattle.qrp.proofs.SpelledIsRead.{read_once}
 
 -- a token after a begun list
 pushed : {ts begun : List Token} {ns : List ℕ} (t : Token) → AreLists ts begun ns → AreLists (ts ++ t ∷ []) (begun ++ t ∷ []) ns
-pushed t a = record {
-  header = a.header;
-  sets = a.sets;
-  steps = a.steps;
-  spelled = rw (a.spelled, append_assoc);
-  numbered = a.numbered;
-  grammatical = a.grammatical;
-}
+pushed t a = grind (arith, common_steps, append_assoc)
 
 set_pushed : (h : Header) (sets : List Block) (s : Block) (steps : List Inference) → numbers steps ≡ []
     → lists h sets steps ++ set s ≡ lists h (sets ++ s ∷ []) steps ++ []
 set_pushed h sets s (x ∷ steps) e = absurd cc
-set_pushed h sets s [] e =
-    ap (λ (x : List Token). x ++ set s) (append-nil (header h ++ flat_map set sets)) ∙ (simp (flat_map-push, append_assoc))
-    ∙ sym (append-nil (header h ++ flat_map set (sets ++ s ∷ []))) ∙ sym (append-nil (lists h (sets ++ s ∷ []) []))
+set_pushed h sets s [] e = grind (arith, common_steps, append-nil, flat_map-push, append_assoc)
 
 set_closed : {ts : List Token} (s : Block) → AllByRecursion IsVariable s.vars → AreLists ts (set s) [] → AreLists ts [] []
 set_closed s vars a = record {
@@ -135,10 +127,7 @@ goes ts (InSet q vs) next t s e = elim (set_goes q vs t next e) [
   | inl k ↦ rw (k.1, k.0) (set_closed (record { quantifier = q; vars = vs }) s.1 (pushed (number 0) s.0))
   | inr k ↦ rw (k.3, k.2) (rw map-append (pushed (number k.0) s.0), AllByRecursion-push IsVariable vs k.0 s.1 k.1)
 ]
-goes ts (InLits ns n ls) next t s e = elim (literals_go ns n ls t next e) [
-  | inl k ↦ rw (k.1, k.0) (pushed (number 0) s.0, s.1, s.2, s.3, tt, omega arith)
-  | inr k ↦ rw (k.3, k.2) (rw map-append (pushed (literal k.0) s.0), s.1, s.2, AllByRecursion-push IsLiteral ls k.0 s.3 k.1)
-]
+goes ts (InLits ns n ls) next t s e = grind (arith, common_steps, literals_go, pushed, map-append)
 goes ts (InAnts ns n ls ants) next t s e = elim (antecedents_go ns n ls ants t next e) [
   | inl k ↦ rw (k.1, k.0) (step_closed (record { number = n; lits = ls; ants = ants })
       (record { number = s.1; lits = s.3; ants = s.4; few = s.5 }) s.2 (rw append_assoc at (pushed (number 0) s.0)))

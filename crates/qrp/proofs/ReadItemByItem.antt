@@ -1,4 +1,6 @@
 -- A trace is read item by item, and each item is put after the others.
+use Rattle.std.proofs.Common.{arith}
+use Rattle.std.proofs.lemmas.Grind.{common_steps}
 use Rattle.std.proofs.Common.{◌≡◌, ◌≤◌, ℕ, Bool, true, false, List, [], ◌∷◌, ◌++◌, length, Option, Some, None, IfSome, Result, Ok, Err, refl, ap}
 use Rattle.std.proofs.Common.{sym, ◌∙◌, option_map, append_assoc, append-nil}
 use Rattle.qbf_spelling.proofs.Words
@@ -50,8 +52,7 @@ module _ (d : Derivation) (p : Place) (next : Giving) (ts us : List Lined) where
   item_gathered : (i : Item) (q : Place) → is_last (Ok i) ≡ false → next ≡ items.Gives i q
       → read_from item_row (Takes p) ts ≡ rows.Whole tt next us
       → gathered d (items_from p ts) ≡ gathered (with_item d i) (items_from q us)
-  item_gathered i q more is e =
-      ap (gathered d) (gives ts p ∙ ap given_of (rw is at e)) ∙ gather_one d i (items_from q us) more
+  item_gathered i q more is e = grind (arith, common_steps, gives, gather_one)
 
   result_gathered : (o : Outcome) → next ≡ items.Whole o → read_from item_row (Takes p) ts ≡ rows.Whole tt next us
       → gathered d (items_from p ts) ≡ Ok (record d { result = o })
@@ -77,8 +78,7 @@ module _ (d : Derivation) (p : Place) (next : Giving) where
   leads_item None i q known rest more is so_far leaves = tt
   leads_item (Some r) i q None rest more is so_far leaves = absurd (cc so_far)
   leads_item (Some r) i q (Some ts) None more is so_far leaves = absurd leaves
-  leads_item (Some r) i q (Some ts) (Some us) more is so_far leaves =
-      ap (λ x. Some x) (sym (item_gathered d p next ts us i q more is leaves)) ∙ so_far
+  leads_item (Some r) i q (Some ts) (Some us) more is so_far leaves = grind (arith, common_steps, item_gathered)
 
   pub leads_result : (whole : Option (Result Derivation Fault)) (o : Outcome) (known rest : Known) → next ≡ items.Whole o
       → Leads whole (gathered_known d p known) → Leaves (reads_from item_row (Takes p) known) tt next rest
@@ -98,9 +98,7 @@ module _ (d : Derivation) (p : Place) (next : Giving) where
       → IfSome (reads_from item_row (Takes p) known) (λ r. r ≡ rows.Fault f line) → IfSome whole (λ r. r ≡ Err (f, line))
   fault_read None known f line so_far h = tt
   fault_read (Some r) None f line so_far h = absurd (cc so_far)
-  fault_read (Some r) (Some ts) f line so_far h =
-      let e : gathered d (items_from p ts) ≡ r = cc so_far in
-      sym e ∙ fault_gathered d p ts f line h
+  fault_read (Some r) (Some ts) f line so_far h = grind (arith, common_steps, fault_gathered)
 
   pub leads_fault : (whole : Option (Result Derivation Fault)) (known rest : Known) (e : ReadError TraceFault)
       → Leads whole (gathered_known d p known) → Reads (reads_from item_row (Takes p) known) next rest (Err e)
@@ -113,11 +111,7 @@ module _ (d : Derivation) (p : Place) (next : Giving) where
 pub skips_first : (s : Reading) → s.pending ≡ [] → ((bytes : List ℕ) → tokens_next s bytes ≡ tokens Qrp bytes)
     → (remaining : Option (List ℕ)) → IfKnown (Skips read_trace (gathered_of nothing AtP (tokens_next s))) remaining (ahead s.pending remaining)
 skips_first s none begins None = tt
-skips_first s none begins (Some bytes) = rw none (record {
-  skipped = [];
-  taken = refl;
-  spelled = λ rest _. ap (λ ts. gathered nothing (items_from AtP ts)) (sym (begins rest));
-})
+skips_first s none begins (Some bytes) = grind (arith, common_steps)
 
 module _ (d : Derivation) (p : Place) (first next : Giving) (here there : List ℕ → List Lined) (begins : first ≡ Takes p)
     (whole before after : Option (List ℕ)) (few : Type 0)

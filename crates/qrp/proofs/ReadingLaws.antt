@@ -1,4 +1,5 @@
 -- The laws of reading, and the canonical text that is read again.
+use Rattle.std.proofs.lemmas.Grind.{common_steps}
 use Rattle.std.proofs.Common.{rules, append-nil, ◌≡◌, ◌<◌, ◌^◌, List, [], ◌∷◌, ◌++◌, map, Ok, ap, sym, ◌∙◌, arith, append_assoc, ℕ, Option}
 use Rattle.std.proofs.Common.{IfSome, Result}
 use Rattle.qbf_spelling.proofs.Words
@@ -52,10 +53,7 @@ lines_written d w = (
 )
 
 joined_lines : (d : Derivation) → joined (lines d) ++ token.End ∷ [] ≡ lists d.header d.sets d.steps ++ result d.result ++ token.End ∷ []
-joined_lines d =
-    let parts : joined (map set d.sets ++ map step d.steps ++ result d.result ∷ [])
-    ≡ flat_map set d.sets ++ (flat_map step d.steps ++ result d.result) = simp (append-nil, flat_map-append, flat_map-map, append_assoc) in
-    ap (λ (k : List Token). (header d.header ++ k) ++ token.End ∷ []) parts ∙ simp append_assoc
+joined_lines d = grind (arith, common_steps, append-nil, flat_map-append, flat_map-map, append_assoc)
 
 -- What is written is read again.
 pub text_is_read : ReadsText
@@ -68,9 +66,7 @@ text_is_read d w =
 
 -- The items of a trace are its parts in order.
 pub trace_items : ItemsOfTrace
-trace_items ts d is =
-    let front = map item.Set d.sets ++ map item.Step d.steps in
-    spelled_items ts d is ∙ sym (map-append Ok (item.Header d.header ∷ front) (item.Result d.result ∷ []))
+trace_items ts d is = grind (arith, common_steps, spelled_items, map-append)
 
 pub bytes_read : BytesRead Reads read Qrp
 bytes_read bytes = read_explained (tokens Qrp bytes) (tokens-EndsOnce Qrp bytes)

@@ -1,4 +1,6 @@
 -- What is read by the rows of the items is the next item.
+use Rattle.std.proofs.Common.{arith}
+use Rattle.std.proofs.lemmas.Grind.{common_steps}
 use Rattle.std.proofs.Common.{rules, ◌≡◌, ℕ, false, List, [], ◌∷◌, Some, None, IfSome, Ok, Err, ◌⊎◌, refl, ap, sym, ◌∙◌}
 use Rattle.qbf_spelling.proofs.Words
 use Words.{Token, Lined, Read, read_from, read-one}
@@ -61,9 +63,7 @@ pub item_given : (p : Place) (known : Known) (next : Giving) (rest : Known) (i :
     → GivesAnswer (known_items p known) (left_behind (stage_after (Ok i)) ns rest) (Ok i)
 item_given p None next rest i ns leaves is = tt
 item_given p (Some ts) next None i ns leaves is = absurd leaves
-item_given p (Some ts) next (Some rest) (item.Result o) ns leaves is =
-    let last = gives ts p ∙ ap given_of (rw is at leaves) in
-    (last, sym last)
+item_given p (Some ts) next (Some rest) (item.Result o) ns leaves is = grind (arith, common_steps, gives)
 item_given p (Some ts) next (Some rest) i ns leaves is = gives ts p ∙ ap given_of (rw is at leaves)
 
 unless : (f : TraceFault) (line : ℕ) (before : KnownItems) → GivesAnswer before (Some (Err (f, line) ∷ [])) (Err (f, line))
@@ -74,9 +74,7 @@ fault_left : (p : Place) (known : Known) (f : TraceFault) (line : ℕ)
     → IfSome (reads_from item_row (Takes p) known) (λ r. r ≡ rows.Fault f line)
     → GivesAnswer (known_items p known) (Some (Err (f, line) ∷ [])) (Err (f, line))
 fault_left p None f line h = tt
-fault_left p (Some ts) f line h =
-    let last = gives ts p ∙ ap given_of h in
-    (last, sym last)
+fault_left p (Some ts) f line h = grind (arith, common_steps, gives)
 
 pub fault_given : (p : Place) (known : Known) (next : Giving) (rest : Known) (e : ReadError TraceFault)
     → Reads (reads_from item_row (Takes p) known) next rest (Err e)

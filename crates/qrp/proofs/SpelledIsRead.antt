@@ -1,4 +1,5 @@
 -- What tokens spell is read, and a fault that stands is found: accepted tokens, and the place that they lead to.
+use Rattle.std.proofs.lemmas.Grind.{common_steps}
 use Rattle.std.proofs.Common.{rules, ◌≡◌, ℕ, ◌<◌, ◌≤◌, Bool, false, List, [], ◌∷◌, ◌++◌, length, map, Result, Ok, Err, refl, ap, ◌∙◌, arith}
 use Rattle.std.proofs.Common.{append_assoc, append-nil, nat_eq}
 use Rattle.qbf_spelling.proofs.Words
@@ -37,17 +38,7 @@ after (Fails f) line rest = Err (f, line) ∷ []
 
 pub items-one : (p : Place) (t : Lined) (rest : List Lined) → items_from p (t ∷ rest) ≡ after (row p t.0) t.1 rest
 unfolding items_from
-items-one p t rest = elim (row p t.0) as (λ r. elim r [
-  | Goes next ↦ items_from next rest
-  | Closes i next ↦ Ok i ∷ items_from next rest
-  | Ends o ↦ Ok (item.Result o) ∷ []
-  | Fails f ↦ Err (f, t.1) ∷ []
-] ≡ after r t.1 rest) [
-  | Goes next ↦ refl
-  | Closes i next ↦ refl
-  | Ends o ↦ refl
-  | Fails f ↦ refl
-]
+items-one p t rest = grind (arith, common_steps)
 
 -- the tokens close these items, and lead from one place to another
 pub data Leads : Place → List Token → List Item → Place → Type 0 where
@@ -120,9 +111,7 @@ leads_literals ns n ls (x ∷ xs) h =
 
 antecedent_row : (ns : List ℕ) (n : ℕ) (ls : List Literal) (ants bs : List ℕ) (a : ℕ) → IsNumber a → length (ants ++ a ∷ bs) ≤ 2
     → row (InAnts ns n ls ants) (number a) ≡ Goes (InAnts ns n ls (ants ++ a ∷ []))
-antecedent_row ns n ls ants bs a h few =
-    let room : length ants < 2 = omega (arith, length-append ants (a ∷ bs)) in
-    search rules
+antecedent_row ns n ls ants bs a h few = grind (arith, common_steps, length-append)
 
 pub leads_antecedents : (ns : List ℕ) (n : ℕ) (ls : List Literal) (ants bs : List ℕ) → AllByRecursion IsNumber bs → length (ants ++ bs) ≤ 2
     → Leads (InAnts ns n ls ants) (map number bs) [] (InAnts ns n ls (ants ++ bs))
