@@ -12,31 +12,23 @@ use Rattle.qrp.specs.Inferences.{Inference, IsAt, IsInference, numbers}
 -- the parts of the step at a place
 pub numbered_at : (ns : List ℕ) (lits : List (List Literal)) (ants : List (List ℕ)) (i : ℕ) (s : Inference)
     → IsAt (numbered ns lits ants) i s → (slice_get lits i ≡ Some s.lits) × (slice_get ants i ≡ Some s.ants)
-numbered_at (n ∷ ns) (l ∷ lits) (a ∷ ants) zero s h = grind (arith, common_steps)
 numbered_at (n ∷ ns) (l ∷ lits) (a ∷ ants) (suc i) s h = numbered_at ns lits ants i s h
-numbered_at ns lits ants i s h = absurd (cc h)
+numbered_at ns lits ants i s h = grind (arith, common_steps)
 
 -- a step in flat buffers has few antecedents
 pub few_at : (ns : List ℕ) (lits : List (List Literal)) (ants : List (List ℕ)) (i : ℕ) (a : List ℕ) → length lits ≡ length ns
     → length ants ≡ length ns → AllByRecursion IsInference (numbered ns lits ants) → slice_get ants i ≡ Some a → length a ≤ 2
-few_at ns lits [] i a e f all h = absurd (cc h)
-few_at [] lits (b ∷ ants) i a e f all h = absurd (omega (arith, f))
-few_at (n ∷ ns) [] (b ∷ ants) i a e f all h = absurd (omega (arith, e))
-few_at (n ∷ ns) (l ∷ lits) (b ∷ ants) zero a e f all h = let same : b ≡ a = cc h in subst (λ (x : List ℕ). length x ≤ 2) same all.0.few
 few_at (n ∷ ns) (l ∷ lits) (b ∷ ants) (suc i) a e f all h = few_at ns lits ants i a (omega (arith, e)) (omega (arith, f)) all.1 h
+few_at ns lits ants i a e f all h = grind (arith, common_steps)
 
 -- ---- one more step
 
 pub numbered_more : (ns : List ℕ) (lits : List (List Literal)) (ants : List (List ℕ)) (s : Inference) → length lits ≡ length ns
     → length ants ≡ length ns
     → numbered (ns ++ s.number ∷ []) (lits ++ s.lits ∷ []) (ants ++ s.ants ∷ []) ≡ numbered ns lits ants ++ s ∷ []
-numbered_more [] [] [] s e f = refl
-numbered_more [] [] (a ∷ ants) s e f = absurd (omega (arith, f))
-numbered_more [] (l ∷ lits) ants s e f = absurd (omega (arith, e))
-numbered_more (n ∷ ns) [] ants s e f = absurd (omega (arith, e))
-numbered_more (n ∷ ns) (l ∷ lits) [] s e f = absurd (omega (arith, f))
 numbered_more (n ∷ ns) (l ∷ lits) (a ∷ ants) s e f =
     grind (arith, common_steps, numbered_more ns lits ants s (omega (arith, e)) (omega (arith, f)))
+numbered_more ns lits ants s e f = grind (arith, common_steps)
 
 abbrev AntsFit : Inference → Type 0
 AntsFit s = AllByRecursion (λ n. n < 2 ^ 64) s.ants

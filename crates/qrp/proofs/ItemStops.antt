@@ -1,4 +1,6 @@
 -- Reading an item stops after its last word.
+use Rattle.std.proofs.Common.{arith}
+use Rattle.std.proofs.lemmas.Grind.{common_steps}
 use Rattle.std.proofs.Common.{rules, ◌≡◌, ℕ, List, [], ◌∷◌, ◌++◌, Option, Ok, ◌⊎◌, refl, sym, ap, append-nil, ◌∙◌}
 use Rattle.qbf_spelling.proofs.Words
 use Words.{Lined}
@@ -20,8 +22,7 @@ use Rattle.qrp.proofs.SpelledIsRead.{Answer, end_row}
 
 -- no place takes End
 pub refused : (p : Giving) → item_row p token.End ≡ rows.Fails P7
-refused (Takes p) = ap as_given (end_row p)
-refused next = refl
+refused p = grind (arith, common_steps, end_row)
 
 -- an item that is complete is given
 given_whole : (i : Item) (ns : List ℕ) (rest : List Lined)

@@ -43,11 +43,7 @@ set_closed s vars a = record {
   steps = a.steps;
   spelled = a.spelled ∙ set_pushed a.header a.sets s a.steps a.numbered;
   numbered = a.numbered;
-  grammatical = record {
-    variables = AllByRecursion-push (λ b. AllByRecursion IsVariable b.vars) a.sets s a.grammatical.variables vars;
-    inferences = a.grammatical.inferences;
-    distinct = a.grammatical.distinct;
-  };
+  grammatical = grind (arith, common_steps, a.grammatical);
 }
 
 step_closed : {ts : List Token} {ns : List ℕ} (s : Inference) → IsInference s → is_used s.number ns ≡ false → AreLists ts (step s) ns
@@ -87,10 +83,6 @@ set_goes : (q : Quantifier) (vs : List ℕ) (t : Token) (next : Place) → IsTo 
     → ((t ≡ number 0) × (next ≡ Between [])) ⊎ ((v : ℕ) × IsVariable v × (t ≡ number v) × (next ≡ InSet q (vs ++ v ∷ [])))
 set_goes q vs t next e = search rules
 
-literals_go : (ns : List ℕ) (n : ℕ) (ls : List Literal) (t : Token) (next : Place) → IsTo (row (InLits ns n ls) t) next
-    → ((t ≡ number 0) × (next ≡ InAnts ns n ls [])) ⊎ ((l : Literal) × IsLiteral l × (t ≡ literal l) × (next ≡ InLits ns n (ls ++ l ∷ [])))
-literals_go ns n ls t next e = search rules
-
 antecedents_go : (ns : List ℕ) (n : ℕ) (ls : List Literal) (ants : List ℕ) (t : Token) (next : Place)
     → IsTo (row (InAnts ns n ls ants) t) next
     → ((t ≡ number 0) × (next ≡ Between (ns ++ n ∷ [])))
@@ -127,7 +119,7 @@ goes ts (InSet q vs) next t s e = elim (set_goes q vs t next e) [
   | inl k ↦ rw (k.1, k.0) (set_closed (record { quantifier = q; vars = vs }) s.1 (pushed (number 0) s.0))
   | inr k ↦ rw (k.3, k.2) (rw map-append (pushed (number k.0) s.0), AllByRecursion-push IsVariable vs k.0 s.1 k.1)
 ]
-goes ts (InLits ns n ls) next t s e = grind (arith, common_steps, literals_go, pushed, map-append)
+goes ts (InLits ns n ls) next t s e = grind (arith, common_steps, pushed, map-append)
 goes ts (InAnts ns n ls ants) next t s e = elim (antecedents_go ns n ls ants t next e) [
   | inl k ↦ rw (k.1, k.0) (step_closed (record { number = n; lits = ls; ants = ants })
       (record { number = s.1; lits = s.3; ants = s.4; few = s.5 }) s.2 (rw append_assoc at (pushed (number 0) s.0)))

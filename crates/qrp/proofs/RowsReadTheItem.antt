@@ -39,14 +39,9 @@ given_of Cut = Err (P7, 0) ∷ []
 abbrev pub More : List Lined → Type 0
 More ts = (p : Place) → items_from p ts ≡ given_of (read_from item_row (Takes p) ts)
 
-by_row : (t : Lined) (ts : List Lined) → is_end t.0 ≡ false → More ts → (r : Row)
-    → after r t.1 ts ≡ given_of (going.after item_row (as_given r) t ts)
-by_row t ts open_ more r = search rules
-
 by_token : (t : Token) (line : ℕ) (ts : List Lined) → More ts → (p : Place)
     → after (row p t) line ts ≡ given_of (going.after item_row (as_given (row p t)) (t, line) ts)
-by_token token.End line ts more p = rw (end_row p) refl
-by_token t line ts more p = by_row (t, line) ts refl more (row p t)
+by_token t line ts more p = grind (arith, common_steps, end_row)
 
 gives_none : More []
 unfolding items_from read_from
@@ -61,10 +56,7 @@ gives (t ∷ ts) = λ p. items-one p t ts ∙ by_token t.0 t.1 ts (gives ts) p �
 pub item_given : (p : Place) (known : Known) (next : Giving) (rest : Known) (i : Item) (ns : List ℕ)
     → Leaves (reads_from item_row (Takes p) known) tt next rest → next ≡ giving i ns
     → GivesAnswer (known_items p known) (left_behind (stage_after (Ok i)) ns rest) (Ok i)
-item_given p None next rest i ns leaves is = tt
-item_given p (Some ts) next None i ns leaves is = absurd leaves
-item_given p (Some ts) next (Some rest) (item.Result o) ns leaves is = grind (arith, common_steps, gives)
-item_given p (Some ts) next (Some rest) i ns leaves is = gives ts p ∙ ap given_of (rw is at leaves)
+item_given p known next rest i ns leaves is = grind (arith, common_steps, gives)
 
 unless : (f : TraceFault) (line : ℕ) (before : KnownItems) → GivesAnswer before (Some (Err (f, line) ∷ [])) (Err (f, line))
     → GivesUnless f before (Some (Err (f, line) ∷ [])) (Err (f, line))
@@ -73,14 +65,12 @@ unless f line before h = search rules
 fault_left : (p : Place) (known : Known) (f : TraceFault) (line : ℕ)
     → IfSome (reads_from item_row (Takes p) known) (λ r. r ≡ rows.Fault f line)
     → GivesAnswer (known_items p known) (Some (Err (f, line) ∷ [])) (Err (f, line))
-fault_left p None f line h = tt
-fault_left p (Some ts) f line h = grind (arith, common_steps, gives)
+fault_left p known f line h = grind (arith, common_steps, gives)
 
 pub fault_given : (p : Place) (known : Known) (next : Giving) (rest : Known) (e : ReadError TraceFault)
     → Reads (reads_from item_row (Takes p) known) next rest (Err e)
     → GivesUnless (fault_of P1 P9 e).0 (known_items p known) (Some (Err (fault_of P1 P9 e) ∷ [])) (Err (fault_of P1 P9 e))
-fault_given p known next rest (error.Text f line) h = unless f line (known_items p known) (fault_left p known f line h)
-fault_given p known next rest e h = refl
+fault_given p known next rest e h = grind (arith, common_steps, fault_left)
 
 -- what a reader that is not done has left
 pub next_given : (stage : Stage) (before g : Giver) (known after_ : Known) (answer : Answer) → (stage ≡ AtHeader) ⊎ (stage ≡ AtLists)

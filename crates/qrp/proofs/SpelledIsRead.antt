@@ -123,8 +123,7 @@ pub number_row : (ns : List ℕ) (n : ℕ) → IsNumber n → is_used n ns ≡ f
 number_row ns n h fresh = search rules
 
 pub result_begins : (ns : List ℕ) → row (Between ns) (token.Word word.R) ≡ Goes AtResult
-result_begins [] = refl
-result_begins (n ∷ ns) = refl
+result_begins ns = grind (arith, common_steps)
 
 zero_row : (ns : List ℕ) (s : Inference)
     → row (InAnts ns s.number s.lits s.ants) (number 0) ≡ Closes (item.Step s) (Between (ns ++ s.number ∷ []))
@@ -177,8 +176,7 @@ gathered_result d o = refl
 -- ---- what is spelled is read
 
 result_row_ok : (o : Outcome) → row AtResult (result_word o) ≡ Ends o
-result_row_ok Sat = refl
-result_row_ok Unsat = refl
+result_row_ok o = grind (arith, common_steps)
 
 -- the items of a trace that is spelled
 pub spelled_items : (ts : List Lined) (d : Derivation) → IsTrace (unlined ts) d
@@ -220,10 +218,7 @@ spelled_leads ts AtResult e = leads_begun e.1 (Passes (result_begins e.0) Stays)
 before_fault : (ts : List Token) (place : Place) (s : Spells ts place) (e : Fault)
     → gathered nothing (map Ok (whole_before ts place s) ++ Err e ∷ []) ≡ Err e
 unfolding gathered
-before_fault ts (InHeader here) s e = refl
-before_fault ts (Between ns) s e = gathered_lists s.header s.sets s.steps (Err e ∷ [])
-before_fault ts AtResult s e = gathered_lists s.1.header s.1.sets s.1.steps (Err e ∷ [])
-before_fault ts place s e = gathered_lists s.0.header s.0.sets s.0.steps (Err e ∷ [])
+before_fault ts place s e = grind (arith, common_steps, gathered_lists)
 
 -- the items before a fault that stands
 pub fault_items : (ts : List Lined) (f : TraceFault) (line : ℕ) (is : IsFault ts f line)
@@ -240,5 +235,4 @@ fault_is_found ts f line is =
 
 -- Tokens read as nothing else.
 pub read_once : ReadsOnce Reads read
-read_once ts (Ok d) h = spelled_is_read ts d h
-read_once ts (Err e) h = fault_is_found ts e.0 e.1 h
+read_once ts answer h = grind (arith, common_steps, spelled_is_read, fault_is_found)
