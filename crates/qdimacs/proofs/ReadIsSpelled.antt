@@ -43,21 +43,10 @@ none_so_far : (h : Heading) → h.max_var ≤ 2147483647 → h.count ≤ 2147483
 unfolding IsDistinct
 none_so_far h lv lc = search rules
 
-more_variables : (h : Heading) (ps : Pairs) (q : Quantifier) (v : ℕ) → IsSoFar h ps [] → 1 ≤ v → v ≤ h.max_var
-    → is_bound v ps ≡ false → IsSoFar h (ps ++ (q, v) ∷ []) []
-more_variables h ps q v s low high fresh = grind (arith, common_steps, push_distinct, is_bound_variables)
-
-more_clauses : (h : Heading) (ps : Pairs) (cs : Clauses) (ls : List Literal) → IsSoFar h ps cs
-    → AreFrom ps ls → length cs < h.count → IsSoFar h ps (cs ++ ls ∷ [])
-more_clauses h ps cs ls s bound more = grind (arith, common_steps)
-
 -- ---- one token more
 
 abbrev front : Heading → List Block → Clauses → List Token
 front h sets cs = header h.max_var h.count ++ flat_map set sets ++ flat_map clause cs
-
-some_pushed : {X : Type 0} (xs : List X) (x : X) → (xs ++ x ∷ []) ≢ []
-some_pushed xs x e = grind (arith, common_steps)
 
 -- a clause that is begun, or about to be
 record IsBegun (ts : List Token) (h : Heading) (ps : Pairs) (cs : Clauses) (ls : List Literal) : Type 0 where
@@ -79,14 +68,14 @@ clause_step : {ts : List Token} {h : Heading} {ps : Pairs} {cs : Clauses} {ls : 
     (next : Place) → IsBegun ts h ps cs ls → clause_row h ps cs ls (bound_literal h.max_var ps t) ≡ Goes next → Spells (ts ++ t ∷ []) next
 clause_step {h = h} {ps = ps} {cs = cs} {ls = ls} t next b e = elim (clause_goes h ps cs ls t next e) [
   | inl k ↦ rw (k.1, k.0, b.spelled)
-      (b.sets, (simp (flat_map-push, append_assoc)), b.bound, more_clauses h ps cs ls b.so_far b.free b.more)
+      (b.sets, (simp (flat_map-push, append_assoc)), b.bound, grind (arith, common_steps))
   | inr k ↦ rw (k.3, k.1, b.spelled) (
     b.sets,
     rw (map-append, append_assoc (front h b.sets cs) (map literal ls) (literal k.0 ∷ [])),
     b.bound,
     b.so_far,
     AllByRecursion-push (λ x. is_bound x.var ps ≡ true) ls k.0 b.free k.2,
-    some_pushed ls k.0,
+    (λ e. grind (arith, common_steps)),
     b.more,
   )
 ]
@@ -114,7 +103,7 @@ set_step ts h ps q t next b e = elim (set_goes h ps q t next e) [
     b.1 ++ k.0 ∷ [],
     (simp (map-append, append_assoc)),
     rw (← b.3) (simp (map-append, append_assoc)),
-    more_variables h ps q k.0 b.4 k.2 k.3 k.4,
+    grind (arith, common_steps, push_distinct, is_bound_variables),
   )
 ]
 
