@@ -89,9 +89,6 @@ antecedents_go : (ns : List ℕ) (n : ℕ) (ls : List Literal) (ants : List ℕ)
     ⊎ ((a : ℕ) × IsNumber a × (length ants + 1 ≤ 2) × (t ≡ number a) × (next ≡ InAnts ns n ls (ants ++ a ∷ [])))
 antecedents_go ns n ls ants t next e = search rules
 
-result_goes : (t : Token) (next : Place) → IsTo (row AtResult t) next → ⊥
-result_goes t next e = search rules
-
 result_ends : (p : Place) (t : Token) (o : Outcome) → row p t ≡ Ends o → (p ≡ AtResult) × (t ≡ result_word o)
 result_ends p t o e = search rules
 
@@ -114,7 +111,7 @@ goes ts (Between ns) next t s e = elim (list_begins ns t next e) [
   | inr (inl k) ↦ rw (k.4, k.3) (pushed (number k.0) s, k.1, k.2, tt)
   | inr (inr k) ↦ rw (k.1, k.0) (ns, pushed (token.Word word.R) s)
 ]
-goes ts AtResult next t s e = absurd (result_goes t next e)
+goes ts AtResult next t s e = search rules
 goes ts (InSet q vs) next t s e = elim (set_goes q vs t next e) [
   | inl k ↦ rw (k.1, k.0) (set_closed (record { quantifier = q; vars = vs }) s.1 (pushed (number 0) s.0))
   | inr k ↦ rw (k.3, k.2) (rw map-append (pushed (number k.0) s.0), AllByRecursion-push IsVariable vs k.0 s.1 k.1)

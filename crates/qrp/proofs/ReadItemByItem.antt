@@ -155,7 +155,4 @@ stops_behind_result d p first next o here there begins is whole before after hel
     by : (whole before after : Option (List ℕ)) → IfKnown (Skips read_trace (gathered_of d p here)) whole before
         → IfKnown (text.StopsBehind item_row (Takes p) next tt here there) before (ahead held after) → length held ≤ 4096
         → IfKnown (StopsBehindResult (record d { result = o })) whole after
-    by None before after t s few = tt
-    by (Some x) None after t s few = absurd t
-    by (Some x) (Some y) None t s few = absurd s
-    by (Some x) (Some y) (Some z) t s few = result_stops d p next o here there is x y held z t s few
+    by whole before after t s few = grind (arith, common_steps, result_stops)

@@ -80,34 +80,24 @@ end_row p = search rules
 
 -- ---- a set
 
-variable_row : (q : Quantifier) (vs : List ℕ) (v : ℕ) → IsVariable v → row (InSet q vs) (number v) ≡ Goes (InSet q (vs ++ v ∷ []))
-variable_row q vs v h = search rules
-
 pub leads_variables : (q : Quantifier) (vs ws : List ℕ) → AllByRecursion IsVariable ws
     → Leads (InSet q vs) (map number ws) [] (InSet q (vs ++ ws))
 leads_variables q vs [] h = rw append-nil Stays
-leads_variables q vs (w ∷ ws) h = Passes (variable_row q vs w h.0) (rw append_assoc at (leads_variables q (vs ++ w ∷ []) ws h.1))
-
-pub letter_row : (q : Quantifier) → row (Between []) (letter q) ≡ Goes (InSet q [])
-letter_row q = search rules
+leads_variables q vs (w ∷ ws) h = Passes (search rules) (rw append_assoc at (leads_variables q (vs ++ w ∷ []) ws h.1))
 
 leads_sets : (sets : List Block) → AllByRecursion (λ s. AllByRecursion IsVariable s.vars) sets
     → Leads (Between []) (flat_map set sets) (map item.Set sets) (Between [])
 leads_sets [] h = Stays
-leads_sets (s ∷ sets) h = leads_then (Passes (letter_row s.quantifier)
+leads_sets (s ∷ sets) h = leads_then (Passes (search rules)
     (leads_then (leads_variables s.quantifier [] s.vars h.0) (Completes refl Stays))) (leads_sets sets h.1)
 
 -- ---- a step
-
-literal_row : (ns : List ℕ) (n : ℕ) (ls : List Literal) (v : ℕ) (negative : Bool) → IsVariable v
-    → row (InLits ns n ls) (token.Number negative v) ≡ Goes (InLits ns n (ls ++ record { var = v; negative = negative } ∷ []))
-literal_row ns n ls v negative h = search rules
 
 pub leads_literals : (ns : List ℕ) (n : ℕ) (ls xs : List Literal) → AllByRecursion IsLiteral xs
     → Leads (InLits ns n ls) (map literal xs) [] (InLits ns n (ls ++ xs))
 leads_literals ns n ls [] h = rw append-nil Stays
 leads_literals ns n ls (x ∷ xs) h =
-    Passes (literal_row ns n ls x.var x.negative h.0) (rw append_assoc at (leads_literals ns n (ls ++ x ∷ []) xs h.1))
+    Passes (search rules) (rw append_assoc at (leads_literals ns n (ls ++ x ∷ []) xs h.1))
 
 antecedent_row : (ns : List ℕ) (n : ℕ) (ls : List Literal) (ants bs : List ℕ) (a : ℕ) → IsNumber a → length (ants ++ a ∷ bs) ≤ 2
     → row (InAnts ns n ls ants) (number a) ≡ Goes (InAnts ns n ls (ants ++ a ∷ []))
@@ -119,21 +109,11 @@ leads_antecedents ns n ls ants [] h few = rw append-nil Stays
 leads_antecedents ns n ls ants (b ∷ bs) h few = Passes (antecedent_row ns n ls ants bs b h.0 few)
     (rw append_assoc at (leads_antecedents ns n ls (ants ++ b ∷ []) bs h.1 (rw append_assoc few)))
 
-pub number_row : (ns : List ℕ) (n : ℕ) → IsNumber n → is_used n ns ≡ false → row (Between ns) (number n) ≡ Goes (InLits ns n [])
-number_row ns n h fresh = search rules
-
-pub result_begins : (ns : List ℕ) → row (Between ns) (token.Word word.R) ≡ Goes AtResult
-result_begins ns = grind (arith, common_steps)
-
-zero_row : (ns : List ℕ) (s : Inference)
-    → row (InAnts ns s.number s.lits s.ants) (number 0) ≡ Closes (item.Step s) (Between (ns ++ s.number ∷ []))
-zero_row ns s = search rules
-
 leads_step : (ns : List ℕ) (s : Inference) → IsInference s → is_used s.number ns ≡ false
     → Leads (Between ns) (step s) (item.Step s ∷ []) (Between (ns ++ s.number ∷ []))
-leads_step ns s h fresh = Passes (number_row ns s.number h.number fresh)
+leads_step ns s h fresh = Passes (search rules)
     (leads_then (leads_literals ns s.number [] s.lits h.lits) (Passes refl
-    (leads_then (leads_antecedents ns s.number s.lits [] s.ants h.ants h.few) (Completes (zero_row ns s) Stays))))
+    (leads_then (leads_antecedents ns s.number s.lits [] s.ants h.ants h.few) (Completes (search rules) Stays))))
 
 leads_steps : (ns : List ℕ) (steps : List Inference) → AllByRecursion IsInference steps → IsDistinct nat_eq (ns ++ numbers steps)
     → Leads (Between ns) (flat_map step steps) (map item.Step steps) (Between (ns ++ numbers steps))
@@ -185,7 +165,7 @@ spelled_items ts d is =
     let k = split_at ts (lists d.header d.sets d.steps ++ token.Word word.R ∷ []) (result_word d.result) is.rest
     (is.spelled ∙ simp append_assoc) in
     ap items k.3
-    ∙ leads_gives (leads_on (leads_lists d.header d.sets d.steps is.grammatical) (Passes (result_begins (numbers d.steps)) Stays)) k.0 k.4
+    ∙ leads_gives (leads_on (leads_lists d.header d.sets d.steps is.grammatical) (Passes (search rules) Stays)) k.0 k.4
     ((result_word d.result, k.1) ∷ k.2)
     ∙ ap (λ (x : List Answer). map Ok (items_of_lists d.header d.sets d.steps) ++ x)
     (items-one AtResult (result_word d.result, k.1) k.2 ∙ ap (λ (x : Row). after x k.1 k.2) (result_row_ok d.result))
@@ -209,11 +189,11 @@ spelled_leads ts (InHeader place.Format) e = rw e (Passes refl Stays)
 spelled_leads ts (InHeader place.First) e = rw e (Passes refl (Passes refl Stays))
 spelled_leads ts (InHeader (place.Second v)) e = rw e (Passes refl (Passes refl (Passes refl Stays)))
 spelled_leads ts (Between ns) e = leads_begun e Stays
-spelled_leads ts (InSet q vs) e = leads_begun e.0 (Passes (letter_row q) (leads_variables q [] vs e.1))
-spelled_leads ts (InLits ns n ls) e = leads_begun e.0 (Passes (number_row ns n e.1 e.2) (leads_literals ns n [] ls e.3))
-spelled_leads ts (InAnts ns n ls ants) e = leads_begun e.0 (Passes (number_row ns n e.1 e.2)
+spelled_leads ts (InSet q vs) e = leads_begun e.0 (Passes (search rules) (leads_variables q [] vs e.1))
+spelled_leads ts (InLits ns n ls) e = leads_begun e.0 (Passes (search rules) (leads_literals ns n [] ls e.3))
+spelled_leads ts (InAnts ns n ls ants) e = leads_begun e.0 (Passes (search rules)
     (leads_on (leads_literals ns n [] ls e.3) (Passes refl (leads_antecedents ns n ls [] ants e.4 e.5))))
-spelled_leads ts AtResult e = leads_begun e.1 (Passes (result_begins e.0) Stays)
+spelled_leads ts AtResult e = leads_begun e.1 (Passes (search rules) Stays)
 
 before_fault : (ts : List Token) (place : Place) (s : Spells ts place) (e : Fault)
     → gathered nothing (map Ok (whole_before ts place s) ++ Err e ∷ []) ≡ Err e
