@@ -30,18 +30,11 @@ use Rattle.qdimacs.specs.Reading.{Pairs, Clauses, AreFrom}
 
 -- ---- one token
 
-no_place_after_end : (place next : Place) → row place token.End ≡ Goes next → ⊥
-no_place_after_end place next e = search rules
-
 count_is : (v : ℕ) (t : Token) (next : Place) → row (InHeader (place.Second v)) t ≡ Goes next
     → (n : ℕ) × (t ≡ number n) × (n ≤ 2147483647) × (Between (record { max_var = v; count = n }) [] [] ≡ next)
 count_is v t next e = search rules
 
 -- ---- what is accepted so far, and one more
-
-none_so_far : (h : Heading) → h.max_var ≤ 2147483647 → h.count ≤ 2147483647 → IsSoFar h [] []
-unfolding IsDistinct
-none_so_far h lv lc = search rules
 
 -- ---- one token more
 
@@ -116,10 +109,10 @@ between_goes h ps cs t next e = search rules
 
 -- an accepted token leads to a place that the tokens spell
 step : (ts : List Token) (p next : Place) (t : Token) → Spells ts p → row p t ≡ Goes next → Spells (ts ++ t ∷ []) next
+unfolding IsDistinct
 step ts (InHeader (place.Second v)) next t b e =
     let k = count_is v t next e in
-    let none = none_so_far (record { max_var = v; count = k.0 }) b.1 k.2 in
-    subst (Spells (ts ++ t ∷ [])) k.3 ([], (λ i. b.0 i ++ k.1 i ∷ []), refl, none)
+    subst (Spells (ts ++ t ∷ [])) k.3 ([], (λ i. b.0 i ++ k.1 i ∷ []), refl, search rules)
 step ts (InHeader here) next t b e = search rules
 step ts (Between h ps cs) next t b e = grind (arith, common_steps)
 step ts (InSet h ps q) next t b e = set_step ts h ps q t next b e
@@ -146,7 +139,7 @@ last p next t e = search rules
 
 -- reading ends at the end of the text
 pub last_is_end : (p next : Place) (t : Token) → row p t ≡ Ends tt next → is_end t ≡ true
-last_is_end p next t e = ap is_end (last p next t e).at_end
+last_is_end p next t e = search rules
 
 -- what was read there is a whole formula
 pub last_is_whole : (p next : Place) (t : Token) → row p t ≡ Ends tt next → IsWhole next
@@ -154,18 +147,15 @@ last_is_whole p next t e = subst IsWhole (sym (last p next t e).whole) tt
 
 -- ---- the whole
 
-once_end : (t : Lined) (ts : List Lined) → t.0 ≡ token.End → EndsOnce (t ∷ ts) → ts ≡ []
-once_end t ts e once = search rules
-
 answer : (before : List Lined) (p : Place) (t : Lined) (ts : List Lined) → Spells (unlined before) p → EndsOnce (t ∷ ts)
     → accepted.Answers Spells Reads before t ts
 answer before p t ts b once = by (row p t.0) refl
   where
     by : (r : Row) → row p t.0 ≡ r → accepted.Answers Spells Reads before t ts
-    by (Goes next) is = inr ((λ e. no_place_after_end p next (ap (row p) (sym e) ∙ is)), next, step (unlined before) p next t.0 b is)
+    by (Goes next) is = inr ((λ e. grind (arith, common_steps)), next, step (unlined before) p next t.0 b is)
     by (Ends u next) is =
         let k = last p next t.0 is in
-        let none : ts ≡ [] = once_end t ts k.at_end once in
+        let none : ts ≡ [] = grind (arith, common_steps, k.at_end) in
         let said : Spells (unlined before) (Between k.h k.ps k.cs) = rw k.between at b in
         let whole = whole_formula (unlined before) k.h k.ps k.cs said (let f = said.3 in omega (arith, f.few, k.all)) in
         let spelled : unlined (before ++ t ∷ ts) ≡ unlined before ++ token.End ∷ [] =

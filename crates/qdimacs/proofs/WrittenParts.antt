@@ -29,12 +29,6 @@ clauses_next cs i c at = ap clauses_text (drop_at cs i c at)
 
 -- ---- a prefix
 
-same_quantifier : (q : Quantifier) → is_quantifier q q ≡ true
-same_quantifier q = search rules
-
-other_quantifier : (q r : Quantifier) → q ≢ r → is_quantifier q r ≡ false
-other_quantifier q r n = search rules
-
 -- the blocks go on with another quantifier
 abbrev Differs : Option Quantifier → List Block → Type 0
 Differs (Some q) (b ∷ bs) = is_quantifier q b.quantifier ≡ false
