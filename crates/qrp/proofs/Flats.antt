@@ -1,13 +1,10 @@
 -- Steps in flat buffers.
-use Rattle.std.proofs.lemmas.Grind.{common_steps}
-use Rattle.std.proofs.Common.{◌≡◌, ◌<◌, ◌≤◌, ◌^◌, ℕ, zero, suc, List, [], ◌∷◌, ◌++◌, length, slice_get, Some, refl, ap, subst, sym, ◌∙◌, arith}
+use Rattle.qrp.proofs.Words.{common_steps, ◌≡◌, ◌<◌, ◌≤◌, ◌^◌, ℕ, zero, suc, List, [], ◌∷◌, ◌++◌, length, slice_get, Some, refl, ap, subst}
+use Rattle.qrp.proofs.Words.{sym, ◌∙◌, arith, AreStepNumbers, Kept, numbered, IsFlat, Inference, IsAt, IsInference, numbers}
 use Rattle.std.proofs.lemmas.List.{length-append, length-map, map-append}
 use Rattle.std.specs.List.{AllByRecursion}
 use Rattle.qbf_core.specs.Literal.{Literal}
 use Rattle.qbf_core.proofs.PrefixLaws.{AllByRecursion-push}
-use Rattle.step_index.specs.Numbers.{AreStepNumbers}
-use Rattle.qrp.specs.Flat.{Kept, numbered, IsFlat}
-use Rattle.qrp.specs.Inferences.{Inference, IsAt, IsInference, numbers}
 
 -- the parts of the step at a place
 pub numbered_at : (ns : List ℕ) (lits : List (List Literal)) (ants : List (List ℕ)) (i : ℕ) (s : Inference)

@@ -1,27 +1,17 @@
 -- What is read is spelled, and a fault that is found stands.
-use Rattle.std.proofs.lemmas.Grind.{common_steps}
-use Rattle.std.proofs.Common.{rules, ◌≡◌, ℕ, ◌≤◌, ◌+◌, List, [], ◌∷◌, ◌++◌, ◌⊎◌, inl, inr, length, Ok, Err, refl, ap, sym, ◌∙◌, false}
-use Rattle.std.proofs.Common.{arith, append_assoc, append-nil}
-use Rattle.qbf_spelling.proofs.Words
-use Words.{map-append, length-append, flat_map, AllByRecursion, IsDistinct, Quantifier, Literal, Block, IsVariable, AllByRecursion-push}
-use Words.{Token, Lined, unlined, number, literal, letter, set}
-use Words.token
-use Words.word
-use Rattle.qbf_text.specs.Lined.{EndsOnce}
-use Rattle.qbf_core.proofs.DistinctNumbers.{push_distinct}
-use Rattle.qbf_text.proofs.AcceptedTokens.{Answers, flat_map-push}
+use Rattle.qrp.proofs.Words.{common_steps, rules, ◌≡◌, ℕ, ◌≤◌, ◌+◌, List, [], ◌∷◌, ◌++◌, ◌⊎◌, inl, inr, length, Ok, Err, refl, ap, sym, ◌∙◌}
+use Rattle.qrp.proofs.Words.{false, arith, append_assoc, append-nil, map-append, length-append, flat_map, AllByRecursion, Quantifier}
+use Rattle.qrp.proofs.Words.{Literal, Block, IsVariable, AllByRecursion-push, Token, Lined, unlined, number, literal, letter, set, EndsOnce}
+use Rattle.qrp.proofs.Words.{push_distinct, flat_map-push, Header, Outcome, Inference, IsInference, IsLiteral, IsNumber, numbers}
+use Rattle.qrp.proofs.Words.{Derivation, header, step, result_word, lists, ReadsAsRead, explained, is_used}
+use Rattle.qbf_spelling.proofs.Words.{IsDistinct}
+use Rattle.qbf_spelling.proofs.Words.token
+use Rattle.qbf_spelling.proofs.Words.word
+use Rattle.qbf_text.proofs.AcceptedTokens.{Answers}
 use Rattle.qbf_spelling.specs.declared.header.HeaderAt.TheVariants as place
-use Rattle.qrp.specs.declared.item.Header.{Header}
-use Rattle.qrp.specs.declared.item.Outcome.{Outcome}
-use Rattle.qrp.specs.Inferences.{Inference, IsInference, IsLiteral, IsNumber, numbers}
-use Rattle.qrp.specs.Derivations.{Derivation}
-use Rattle.qrp.specs.Grammar.{header, step, result_word, lists}
-use Rattle.qbf_text.specs.Answering.{ReadsAsRead}
-use Rattle.qbf_text.proofs.Answered.{explained}
 use Rattle.qrp.specs.Faults.{AreLists, Spells, Reads}
 use Rattle.qrp.specs.Reading.{Place, AtP, InHeader, Between, InSet, InLits, InAnts, AtResult, Row, Goes, Closes, Ends}
 use Rattle.qrp.specs.Reading.{Fails, row, read}
-use Rattle.step_index.specs.Numbers.{is_used}
 use Rattle.qrp.proofs.SpelledIsRead.{end_row}
 use Rattle.qrp.proofs.SpelledIsRead.{read_once}
 

@@ -1,34 +1,18 @@
 -- A trace is read item by item, and each item is put after the others.
-use Rattle.std.proofs.Common.{arith}
-use Rattle.std.proofs.lemmas.Grind.{common_steps}
-use Rattle.std.proofs.Common.{◌≡◌, ◌≤◌, ℕ, Bool, true, false, List, [], ◌∷◌, ◌++◌, length, Option, Some, None, IfSome, Result, Ok, Err, refl, ap}
-use Rattle.std.proofs.Common.{sym, ◌∙◌, option_map, append_assoc, append-nil}
-use Rattle.qbf_spelling.proofs.Words
-use Words.{Qrp, Lined, ahead, left, tokens, tokens_next, read_from}
-use Rattle.qbf_text.specs.declared.grammar.ReadError.{ReadError}
+use Rattle.qrp.proofs.Words.{arith, common_steps, ◌≡◌, ◌≤◌, ℕ, Bool, true, false, List, [], ◌∷◌, ◌++◌, length, Option, Some, None, IfSome}
+use Rattle.qrp.proofs.Words.{Result, Ok, Err, refl, ap, sym, ◌∙◌, append_assoc, append-nil, Qrp, Lined, ahead, left, tokens, tokens_next}
+use Rattle.qrp.proofs.Words.{ReadError, Unless, fault_of, Known, Reading, reads_from, IfKnown, Skips, Stops, Leaves, Reads, Leads}
+use Rattle.qrp.proofs.Words.{TraceFault, P1, P9, Item, Outcome, is_outside, reads_bytes, Gives, StopsBehindResult, Derivation, with_item}
+use Rattle.qrp.proofs.Words.{known_items, is_last, Giving, Takes, item_row}
+use Rattle.std.proofs.Common.{option_map}
+use Rattle.qbf_spelling.proofs.Words.{read_from}
 use Rattle.qbf_text.specs.declared.grammar.ReadError.TheVariants as error
-use Rattle.qbf_text.specs.Answering.{Unless, fault_of}
-use Rattle.qbf_text.specs.Lined.{Known}
-use Rattle.qbf_text.specs.Reading.{Reading}
-use Rattle.qbf_text.specs.Rows.{reads_from}
 use Rattle.qbf_text.specs.Rows as rows
 use Rattle.qbf_text.specs.Stopping as text
-use Rattle.qbf_text.specs.Stopping.{IfKnown, Skips, Stops}
-use Rattle.qbf_text.specs.Taking.{Leaves, Reads}
-use Rattle.qbf_text.proofs.OneToken.{Leads}
 use Rattle.qbf_text.proofs.Stops.{begins_more, begins_skipped, regroup, known_skips}
 use Rattle.qbf_text.proofs.Stops.{if_known, taken_no_end, unread_fault}
-use Rattle.qrp.specs.declared.fault.TraceFault.{TraceFault}
-use Rattle.qrp.specs.declared.fault.TraceFault.TheVariants.{P1, P9}
-use Rattle.qrp.specs.declared.item.Item.{Item}
 use Rattle.qrp.specs.declared.item.Item.TheVariants as item
-use Rattle.qrp.specs.declared.item.Outcome.{Outcome}
-use Rattle.qrp.specs.Answers.{is_outside, reads_bytes, Gives, StopsBehindResult}
-use Rattle.qrp.specs.Derivations.{Derivation}
-use Rattle.qrp.specs.Flat.{with_item}
-use Rattle.qrp.specs.Given.{known_items, is_last}
 use Rattle.qrp.specs.Items as items
-use Rattle.qrp.specs.Items.{Giving, Takes, item_row}
 use Rattle.qrp.specs.Reading.{Fault, Place, AtP, items_from, gathered, nothing, read_trace}
 use Rattle.qrp.proofs.SpelledIsRead.{Answer}
 use Rattle.qrp.proofs.ItemStops.{refused}

@@ -1,25 +1,14 @@
 -- The laws of reading, and the canonical text that is read again.
-use Rattle.std.proofs.lemmas.Grind.{common_steps}
-use Rattle.std.proofs.Common.{rules, append-nil, ◌≡◌, ◌<◌, ◌^◌, List, [], ◌∷◌, ◌++◌, map, Ok, ap, sym, ◌∙◌, arith, append_assoc, ℕ, Option}
-use Rattle.std.proofs.Common.{IfSome, Result}
-use Rattle.qbf_spelling.proofs.Words
-use Words.{flat_map-append, map-append, flat_map-map, flat_map, AllByRecursion, IsVariable, Qrp, Token, tokens, number, literal, set}
-use Words.token
-use Rattle.qbf_text.specs.Canonical.{IsPlain, IsLine}
-use Rattle.qbf_text.proofs.CanonicalTokens.{joined, tokens-lines_text, all_appended, all_mapped, closed_plain}
-use Rattle.qrp.specs.declared.item.Outcome.{Outcome}
+use Rattle.qrp.proofs.Words.{common_steps, rules, append-nil, ◌≡◌, ◌<◌, ◌^◌, List, [], ◌∷◌, ◌++◌, map, Ok, ap, sym, ◌∙◌, arith}
+use Rattle.qrp.proofs.Words.{append_assoc, ℕ, Option, IfSome, Result, flat_map-append, map-append, flat_map-map, flat_map, AllByRecursion}
+use Rattle.qrp.proofs.Words.{IsVariable, Qrp, Token, tokens, number, literal, set, IsPlain, IsLine, joined, tokens-lines_text, all_appended}
+use Rattle.qrp.proofs.Words.{all_mapped, closed_plain, Outcome, Inference, IsInference, numbers, Derivation, IsWellFormed, literals_plain}
+use Rattle.qrp.proofs.Words.{set_written, header, step, result, lists, lines, text, IsTrace, ReadsText, ItemsOfTrace, answered_bytes}
+use Rattle.qrp.proofs.Words.{tokens-EndsOnce, Answers, Gives, reads_bytes, is_outside, BytesRead}
+use Rattle.qbf_spelling.proofs.Words.token
 use Rattle.qrp.specs.declared.item.Item.TheVariants as item
-use Rattle.qrp.specs.Inferences.{Inference, IsInference, numbers}
-use Rattle.qrp.specs.Derivations.{Derivation, IsWellFormed}
-use Rattle.qbf_spelling.proofs.CanonicalLines.{literals_plain, set_written}
-use Rattle.qrp.specs.Grammar.{header, step, result, lists, lines, text, IsTrace}
-use Rattle.qrp.specs.Laws.{ReadsText, ItemsOfTrace}
 use Rattle.qrp.proofs.SpelledIsRead.{spelled_is_read, spelled_items, read_once, fault_items}
-use Rattle.qbf_text.proofs.Answered.{answered_bytes}
-use Rattle.qbf_text.proofs.TokensEndOnce.{tokens-EndsOnce}
-use Rattle.qrp.specs.Answers.{Answers, Gives, reads_bytes, is_outside}
 use Rattle.qrp.specs.Faults.{IsFault, Reads}
-use Rattle.qbf_text.specs.Answering.{BytesRead}
 use Rattle.qrp.specs.Reading.{Fault, read}
 use Rattle.qrp.proofs.ReadIsSpelled.{read_explained}
 

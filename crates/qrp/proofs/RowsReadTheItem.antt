@@ -1,27 +1,15 @@
 -- What is read by the rows of the items is the next item.
-use Rattle.std.proofs.Common.{arith}
-use Rattle.std.proofs.lemmas.Grind.{common_steps}
-use Rattle.std.proofs.Common.{rules, ◌≡◌, ℕ, false, List, [], ◌∷◌, Some, None, IfSome, Ok, Err, ◌⊎◌, refl, ap, sym, ◌∙◌}
-use Rattle.qbf_spelling.proofs.Words
-use Words.{Token, Lined, Read, read_from, read-one}
-use Words.token
-use Rattle.qbf_text.specs.declared.grammar.ReadError.{ReadError}
+use Rattle.qrp.proofs.Words.{arith, common_steps, rules, ◌≡◌, ℕ, false, List, [], ◌∷◌, Some, None, IfSome, Ok, Err, ◌⊎◌, refl, ap, sym, ◌∙◌}
+use Rattle.qrp.proofs.Words.{Token, Lined, Read, read-one, ReadError, is_end, Known, Cut, behind, reads_from, Leaves, Reads, TraceFault, P1}
+use Rattle.qrp.proofs.Words.{P7, P9, Item, KnownItems, known_items, GivesAnswer, GivesUnless, GivesNextItem, left_behind, stage_after}
+use Rattle.qrp.proofs.Words.{Stage, AtHeader, AtLists, Giving, Takes, Whole, Giver, item_row, as_given, giving, Stands, GivesItem, fault_of}
+use Rattle.qbf_spelling.proofs.Words.{read_from}
+use Rattle.qbf_spelling.proofs.Words.token
 use Rattle.qbf_text.specs.declared.grammar.ReadError.TheVariants as error
-use Rattle.qbf_text.specs.Left.{is_end}
-use Rattle.qbf_text.specs.Lined.{Known}
-use Rattle.qbf_text.specs.Rows.{Cut, behind, reads_from}
 use Rattle.qbf_text.specs.Rows as rows
-use Rattle.qbf_text.specs.Taking.{Leaves, Reads}
 use Rattle.qbf_text.proofs.OneToken as going
-use Rattle.qrp.specs.declared.fault.TraceFault.{TraceFault}
-use Rattle.qrp.specs.declared.fault.TraceFault.TheVariants.{P1, P7, P9}
-use Rattle.qrp.specs.declared.item.Item.{Item}
 use Rattle.qrp.specs.declared.item.Item.TheVariants as item
-use Rattle.qrp.specs.Given.{KnownItems, known_items, GivesAnswer, GivesUnless, GivesNextItem, left_behind, stage_after}
-use Rattle.qrp.specs.declared.reader.Stage.{Stage}
-use Rattle.qrp.specs.declared.reader.Stage.TheVariants.{AtHeader, AtLists}
-use Rattle.qrp.specs.Items.{Giving, Takes, Gives, Whole, Giver, item_row, as_given, giving, Stands, GivesItem}
-use Rattle.qbf_text.specs.Answering.{fault_of}
+use Rattle.qrp.specs.Items.{Gives}
 use Rattle.qrp.specs.Reading.{Place, Row}
 use Rattle.qrp.specs.Reading.{row, items_from}
 use Rattle.qrp.proofs.SpelledIsRead.{Answer, after, items-one, end_row}

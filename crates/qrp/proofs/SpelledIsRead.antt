@@ -1,30 +1,17 @@
 -- What tokens spell is read, and a fault that stands is found: accepted tokens, and the place that they lead to.
-use Rattle.std.proofs.lemmas.Grind.{common_steps}
-use Rattle.std.proofs.Common.{rules, ◌≡◌, ℕ, ◌<◌, ◌≤◌, Bool, false, List, [], ◌∷◌, ◌++◌, length, map, Result, Ok, Err, refl, ap, ◌∙◌, arith}
-use Rattle.std.proofs.Common.{append_assoc, append-nil, nat_eq}
-use Rattle.qbf_spelling.proofs.Words
-use Words.{length-append, flat_map, AllByRecursion, IsDistinct, Quantifier, Literal, Block, IsVariable, Token, Lined, unlined, number}
-use Words.{literal, letter, set}
-use Words.token
-use Words.word
-use Rattle.qbf_core.proofs.DistinctNumbers.{new_number}
-use Rattle.qrp.specs.declared.fault.TraceFault.TheVariants.{P7}
-use Rattle.qrp.specs.declared.item.Header.{Header}
-use Rattle.qrp.specs.declared.item.Item.{Item}
+use Rattle.qrp.proofs.Words.{common_steps, rules, ◌≡◌, ℕ, ◌<◌, ◌≤◌, Bool, false, List, [], ◌∷◌, ◌++◌, length, map, Result, Ok, Err, refl}
+use Rattle.qrp.proofs.Words.{ap, ◌∙◌, arith, append_assoc, append-nil, nat_eq, length-append, flat_map, AllByRecursion, Quantifier, Literal}
+use Rattle.qrp.proofs.Words.{Block, IsVariable, Token, Lined, unlined, number, literal, letter, set, new_number, P7, Header, Item}
+use Rattle.qrp.proofs.Words.{Inference, IsInference, IsLiteral, IsNumber, numbers, AreGrammatical, items_of_lists, Derivation, step, lists}
+use Rattle.qrp.proofs.Words.{result_word, IsTrace, is_used, split_at, TraceFault, Outcome, Sat, Unsat, ReadsOnce}
+use Rattle.qbf_spelling.proofs.Words.{IsDistinct}
+use Rattle.qbf_spelling.proofs.Words.token
+use Rattle.qbf_spelling.proofs.Words.word
 use Rattle.qrp.specs.declared.item.Item.TheVariants as item
-use Rattle.qrp.specs.Inferences.{Inference, IsInference, IsLiteral, IsNumber, numbers}
-use Rattle.qrp.specs.Derivations.{AreGrammatical, items_of_lists, Derivation}
-use Rattle.qrp.specs.Grammar.{step, lists, result_word, IsTrace}
 use Rattle.qrp.specs.Reading.{Fault, Place, AtP, Between, InSet, InLits, InAnts, AtResult, Row, Goes, Closes, Ends, Fails, row, items_from}
 use Rattle.qrp.specs.Reading.{InHeader, items, gathered, nothing, read}
-use Rattle.step_index.specs.Numbers.{is_used}
-use Rattle.qbf_text.proofs.AcceptedTokens.{split_at}
 use Rattle.qbf_spelling.specs.declared.header.HeaderAt.TheVariants as place
-use Rattle.qrp.specs.declared.fault.TraceFault.{TraceFault}
-use Rattle.qrp.specs.declared.item.Outcome.{Outcome}
-use Rattle.qrp.specs.declared.item.Outcome.TheVariants.{Sat, Unsat}
 use Rattle.qrp.specs.Faults.{AreLists, Spells, IsFault, whole_before, Reads}
-use Rattle.qbf_text.specs.Answering.{ReadsOnce}
 
 abbrev pub Answer : Type 0
 Answer = Result Item Fault

@@ -1,19 +1,10 @@
 -- The parts of a canonical text, one after the other.
-use Rattle.std.proofs.lemmas.Grind.{common_steps}
-use Rattle.std.proofs.Common.{◌≡◌, ℕ, List, [], ◌∷◌, ◌++◌, map, refl, ap, sym, ◌∙◌, append_assoc, append-nil, drop, get_or, length, zero}
-use Rattle.std.proofs.Common.{suc, inl, inr, arith, ◌<◌, ◌+◌, add-one}
+use Rattle.qrp.proofs.Words.{common_steps, ◌≡◌, ℕ, List, [], ◌∷◌, ◌++◌, map, refl, ap, sym, ◌∙◌, append_assoc, append-nil, drop, get_or}
+use Rattle.qrp.proofs.Words.{length, zero, suc, inl, inr, arith, ◌<◌, ◌+◌, add-one, AllByRecursion, flat_map, flat_map-append, flat_map-map}
+use Rattle.qrp.proofs.Words.{number, literal, set, line_rest-map, zero_rest, part_at, slice_get_cases, line_text, lines_text, Header}
+use Rattle.qrp.proofs.Words.{Inference, IsAt, Derivation, steps_at, with_steps_at, literal_text, closed_numbers, set_line, step, header}
+use Rattle.qrp.proofs.Words.{result, text, zero_text, step_text, sets_text, steps_text}
 use Rattle.std.specs.Prelude.{decimal}
-use Rattle.qbf_spelling.proofs.Words.{AllByRecursion, flat_map, flat_map-append, flat_map-map, number, literal, set}
-use Rattle.qbf_text.proofs.SentParts.{line_rest-map, zero_rest, part_at}
-use Rattle.std.proofs.lemmas.Option.{slice_get_cases}
-use Rattle.qbf_text.specs.Canonical.{line_text, lines_text}
-use Rattle.qrp.specs.declared.item.Header.{Header}
-use Rattle.qrp.specs.Inferences.{Inference, IsAt}
-use Rattle.qrp.specs.Derivations.{Derivation, steps_at, with_steps_at}
-use Rattle.qbf_spelling.specs.Texts.{literal_text}
-use Rattle.qbf_spelling.proofs.WrittenParts.{closed_numbers, set_line}
-use Rattle.qrp.specs.Grammar.{step, header, result, text}
-use Rattle.qrp.specs.Texts.{zero_text, step_text, sets_text, steps_text}
 
 -- ---- lists
 
