@@ -1,14 +1,8 @@
 -- As many bound variables as the header allows: each that it allows is bound.
-use Rattle.std.proofs.lemmas.Grind.{common_steps}
-use Rattle.std.proofs.Common.{rules, ◌≡◌, ℕ, ◌≤◌, ◌+◌, ◌||◌, Bool, true, false, List, [], ◌∷◌, length, eqb, refl, sym, ap, ◌∙◌, arith}
-use Rattle.qbf_spelling.proofs.Words.{IsDistinct, AllByRecursion, Block, pairs, variables, is_bound, IsVariable}
-use Rattle.std.specs.List.{list_any}
-use Rattle.std.proofs.lemmas.List.{length-map}
-use Rattle.std.proofs.lemmas.Map.Keys.{IsDistinct-cons}
-use Rattle.std.proofs.lemmas.Map.Steps.{length-le_from_distinct_below}
-use Rattle.qbf_core.specs.Blocks.{IsPrefix}
-use Rattle.qdimacs.specs.Reading.{IsFull}
-use Rattle.qdimacs.specs.Reading.{Pairs}
+use Rattle.qdimacs.proofs.Words.{common_steps, rules, ◌≡◌, ℕ, ◌≤◌, ◌+◌, ◌||◌, Bool, true, false, List, [], ◌∷◌, length, eqb, refl, ap}
+use Rattle.qdimacs.proofs.Words.{arith, AllByRecursion, Block, pairs, variables, is_bound, IsVariable, list_any, length-map}
+use Rattle.qdimacs.proofs.Words.{IsDistinct-cons, length-le_from_distinct_below, IsPrefix, IsFull, Pairs}
+use Rattle.qbf_spelling.proofs.Words.{IsDistinct}
 
 -- ---- numbers that are in no list
 

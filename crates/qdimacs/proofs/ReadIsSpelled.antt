@@ -1,32 +1,18 @@
 -- What is read is spelled, and a fault that is found stands.
-use Rattle.std.proofs.lemmas.Grind.{common_steps}
-use Rattle.std.proofs.Common.{rules, inl, inr, ◌⊎◌, ◌≡◌, ◌≢◌, ℕ, ◌<◌, ◌≤◌, true, false, List, [], ◌∷◌, ◌++◌, length, map, Ok, Err, refl, ap}
-use Rattle.std.proofs.Common.{sym, subst, ◌∙◌, arith, append_assoc}
-use Rattle.qbf_spelling.proofs.Words
-use Words.{map-append, flat_map, IsDistinct, Quantifier, Literal, Block, pairs, is_bound, blocks_of}
-use Words.{AllByRecursion-push, Token, Lined, number, literal, letter, set, unlined, Ends}
-use Words.token
-use Rattle.std.proofs.lemmas.List.{append-nil}
-use Rattle.qbf_core.specs.Blocks.{pairs_of_block}
-use Rattle.qbf_core.proofs.BlockLaws.{pairs-blocks_of, Alternates-blocks_of}
+use Rattle.qdimacs.proofs.Words.{common_steps, rules, inl, inr, ◌⊎◌, ◌≡◌, ℕ, ◌<◌, ◌≤◌, true, false, List, [], ◌∷◌, ◌++◌, length, map}
+use Rattle.qdimacs.proofs.Words.{Ok, Err, refl, sym, subst, ◌∙◌, arith, append_assoc, map-append, flat_map, Quantifier, Literal, Block}
+use Rattle.qdimacs.proofs.Words.{pairs, is_bound, blocks_of, AllByRecursion-push, Token, Lined, number, literal, letter, set, unlined, Ends}
+use Rattle.qdimacs.proofs.Words.{append-nil, pairs_of_block, pairs-blocks_of, Alternates-blocks_of, is_end, push_distinct}
+use Rattle.qdimacs.proofs.Words.{flat_map-push, member, header, clause, IsFormula, ReadsAsRead, all_of, explained, AnswersAsRead, Reads}
+use Rattle.qdimacs.proofs.Words.{IsSoFar, Spells, Goes, Fails, Heading, Place, AtP, InHeader, Between, InSet, InClause, Whole, Row, row}
+use Rattle.qdimacs.proofs.Words.{faults, set_row, bound_literal, clause_row, read, IsWhole, answer_of, Pairs, Clauses, AreFrom}
+use Rattle.qbf_spelling.proofs.Words.{IsDistinct}
+use Rattle.qbf_spelling.proofs.Words.token
 use Rattle.qbf_text.specs.Lined.{EndsOnce}
-use Rattle.qbf_text.specs.Left.{is_end}
-use Rattle.qbf_core.proofs.DistinctNumbers.{push_distinct}
 use Rattle.qdimacs.proofs.AllVariablesBound.{is_bound_variables}
-use Rattle.qbf_text.proofs.AcceptedTokens.{each_is_answered, flat_map-push}
 use Rattle.qbf_text.proofs.AcceptedTokens as accepted
 use Rattle.qdimacs.proofs.SpelledIsRead.{read_once}
 use Rattle.qbf_spelling.specs.declared.header.HeaderAt.TheVariants as place
-use Rattle.qbf_spelling.specs.Said.{member}
-use Rattle.qdimacs.specs.Grammar.{header, clause, IsFormula}
-use Rattle.qbf_text.specs.Answering.{ReadsAsRead}
-use Rattle.qbf_text.proofs.CanonicalTokens.{all_of}
-use Rattle.qbf_text.proofs.Answered.{explained, AnswersAsRead}
-use Rattle.qdimacs.specs.Faults.{Reads, IsSoFar, Spells}
-use Rattle.qbf_text.specs.Rows.{Goes, Fails}
-use Rattle.qdimacs.specs.Reading.{Heading, Place, AtP, InHeader, Between, InSet, InClause, Whole, Row, row}
-use Rattle.qdimacs.specs.Reading.{faults, set_row, bound_literal, clause_row, read, IsWhole, answer_of}
-use Rattle.qdimacs.specs.Reading.{Pairs, Clauses, AreFrom}
 
 -- ---- one token
 

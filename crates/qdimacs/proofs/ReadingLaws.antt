@@ -1,23 +1,12 @@
 -- The laws of reading, and the canonical text that is read again.
-use Rattle.std.proofs.lemmas.Grind.{common_steps}
-use Rattle.std.proofs.Common.{◌≡◌, ℕ, true, List, [], ◌∷◌, ◌++◌, length, map, refl, ap, ◌∙◌, arith, append_assoc, Option, IfSome}
-use Rattle.qbf_spelling.proofs.Words
-use Words.{flat_map-append, flat_map-map, flat_map, AllByRecursion, Quantifier, Literal, Block, pairs, variables, is_bound, IsVariable, Qbf}
-use Words.{Qdimacs, Token, tokens, literal, set}
-use Words.token
-use Rattle.qbf_core.specs.Blocks.{AreBound}
-use Rattle.qbf_core.specs.Qbf.{IsWellFormed}
-use Rattle.qbf_text.specs.Canonical.{IsPlain, IsLine}
-use Rattle.qbf_text.proofs.CanonicalTokens.{joined, tokens-lines_text, all_appended, all_mapped, all_of, closed_plain}
-use Rattle.qbf_spelling.proofs.CanonicalLines.{literals_plain, set_written}
-use Rattle.qdimacs.specs.Grammar.{header, clause, spelling, lines, text, IsFormula}
-use Rattle.qdimacs.specs.Laws.{ReadsText}
+use Rattle.qdimacs.proofs.Words.{common_steps, ◌≡◌, ℕ, true, List, [], ◌∷◌, ◌++◌, map, refl, ◌∙◌, arith, append_assoc, Option}
+use Rattle.qdimacs.proofs.Words.{IfSome, flat_map-append, flat_map-map, AllByRecursion, Quantifier, Literal, Block, pairs}
+use Rattle.qdimacs.proofs.Words.{variables, is_bound, IsVariable, Qbf, Qdimacs, tokens, literal, set, AreBound, IsWellFormed}
+use Rattle.qdimacs.proofs.Words.{IsPlain, IsLine, joined, tokens-lines_text, all_appended, all_mapped, all_of, closed_plain, literals_plain}
+use Rattle.qdimacs.proofs.Words.{set_written, clause, spelling, lines, text, IsFormula, ReadsText, Pairs, Answer, Gives}
+use Rattle.qdimacs.proofs.Words.{reads_bytes, is_outside, read, answered_bytes, tokens-EndsOnce, Answers, IsFault, Reads, BytesRead}
+use Rattle.qbf_spelling.proofs.Words.token
 use Rattle.qdimacs.proofs.SpelledIsRead.{bound_one, spelled_is_read, read_once}
-use Rattle.qdimacs.specs.Reading.{Pairs, Answer, Gives, reads_bytes, is_outside, read}
-use Rattle.qbf_text.proofs.Answered.{answered_bytes}
-use Rattle.qbf_text.proofs.TokensEndOnce.{tokens-EndsOnce}
-use Rattle.qdimacs.specs.Faults.{Answers, IsFault, Reads}
-use Rattle.qbf_text.specs.Answering.{BytesRead}
 use Rattle.qdimacs.proofs.ReadIsSpelled.{read_explained}
 
 -- ---- the lines can be written

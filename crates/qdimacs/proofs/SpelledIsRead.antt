@@ -1,27 +1,16 @@
 -- What tokens spell is read, and a fault that stands is found: accepted tokens, and the place that they lead to.
-use Rattle.std.proofs.lemmas.Grind.{common_steps}
-use Rattle.std.proofs.Common.{rules, ◌≡◌, ◌∙◌, ◌≢◌, ℕ, ◌<◌, ◌≤◌, ◌+◌, Bool, true, false, List, [], ◌∷◌, ◌++◌, length, map, refl, arith}
-use Rattle.std.proofs.Common.{append_assoc, Ok, Err, ap, sym, subst}
-use Rattle.qbf_spelling.proofs.Words
-use Words.{map-append, length-append, flat_map, AllByRecursion, Quantifier, Literal, Block, pairs, is_bound, blocks_of, variables, Token}
-use Words.{number, literal, letter, set, Ends, Qbf, Lined, unlined, read-one}
-use Words.token
-use Words.word
-use Rattle.std.proofs.lemmas.List.{append-nil}
-use Rattle.qbf_core.specs.Blocks.{pairs_of_block}
-use Rattle.qbf_core.proofs.DistinctNumbers.{middle, front_all, front_distinct, new_number}
+use Rattle.qdimacs.proofs.Words.{common_steps, rules, ◌≡◌, ◌∙◌, ◌≢◌, ℕ, ◌<◌, ◌≤◌, ◌+◌, Bool, true, List, [], ◌∷◌, ◌++◌, length, map}
+use Rattle.qdimacs.proofs.Words.{refl, arith, append_assoc, Ok, Err, ap, sym, subst, map-append, length-append, flat_map, AllByRecursion}
+use Rattle.qdimacs.proofs.Words.{Quantifier, Literal, Block, pairs, is_bound, blocks_of, variables, Token, number, literal, letter, set}
+use Rattle.qdimacs.proofs.Words.{Ends, Qbf, Lined, unlined, read-one, append-nil, pairs_of_block, middle, front_all, front_distinct}
+use Rattle.qdimacs.proofs.Words.{new_number, Leads, Stays, leads_then, split_at, leads_reads, AreGood, Reads, Spells, IsFault, header}
+use Rattle.qdimacs.proofs.Words.{clause, IsFormula, Heading, Place, AtP, InHeader, Between, InSet, InClause, Whole, row, Pairs}
+use Rattle.qdimacs.proofs.Words.{Clauses, AreFrom, Row, read, answer_of, blocks_of-pairs, ReadsOnce, FormulaFault, after}
+use Rattle.qbf_spelling.proofs.Words.token
+use Rattle.qbf_spelling.proofs.Words.word
 use Rattle.qdimacs.proofs.AllVariablesBound.{is_bound_variables}
-use Rattle.qbf_text.proofs.AcceptedTokens.{Leads, Stays, Passes, leads_then, split_at, leads_reads}
+use Rattle.qbf_text.proofs.AcceptedTokens.{Passes}
 use Rattle.qbf_spelling.specs.declared.header.HeaderAt.TheVariants as place
-use Rattle.qdimacs.specs.Faults.{AreGood, Reads, Spells, IsFault}
-use Rattle.qdimacs.specs.Grammar.{header, clause, IsFormula}
-use Rattle.qbf_text.specs.Rows.{Goes}
-use Rattle.qdimacs.specs.Reading.{Heading, Place, AtP, InHeader, Between, InSet, InClause, Whole, row, Pairs, Clauses, AreFrom, Row, read}
-use Rattle.qdimacs.specs.Reading.{answer_of}
-use Rattle.qbf_core.proofs.BlockLaws.{blocks_of-pairs}
-use Rattle.qbf_text.specs.Answering.{ReadsOnce}
-use Rattle.qdimacs.specs.declared.fault.FormulaFault.{FormulaFault}
-use Rattle.qbf_text.proofs.OneToken.{after}
 
 -- ---- the header
 

@@ -1,10 +1,9 @@
 -- Steps in flat buffers.
-use Rattle.qrp.proofs.Words.{common_steps, ◌≡◌, ◌<◌, ◌≤◌, ◌^◌, ℕ, zero, suc, List, [], ◌∷◌, ◌++◌, length, slice_get, Some, refl, ap, subst}
-use Rattle.qrp.proofs.Words.{sym, ◌∙◌, arith, AreStepNumbers, Kept, numbered, IsFlat, Inference, IsAt, IsInference, numbers}
+use Rattle.qrp.proofs.Words.{common_steps, ◌≡◌, ◌<◌, ◌≤◌, ◌^◌, ℕ, suc, List, [], ◌∷◌, ◌++◌, length, slice_get, Some, arith, AreStepNumbers}
+use Rattle.qrp.proofs.Words.{Kept, numbered, IsFlat, Inference, IsAt, IsInference}
 use Rattle.std.proofs.lemmas.List.{length-append, length-map, map-append}
 use Rattle.std.specs.List.{AllByRecursion}
 use Rattle.qbf_core.specs.Literal.{Literal}
-use Rattle.qbf_core.proofs.PrefixLaws.{AllByRecursion-push}
 
 -- the parts of the step at a place
 pub numbered_at : (ns : List ℕ) (lits : List (List Literal)) (ants : List (List ℕ)) (i : ℕ) (s : Inference)

@@ -1,7 +1,7 @@
 -- Reading an item stops after its last word.
 use Rattle.qrp.proofs.Words.{arith, common_steps, rules, ◌≡◌, ℕ, List, [], ◌∷◌, ◌++◌, Option, Ok, ◌⊎◌, refl, sym, ap, append-nil, ◌∙◌}
 use Rattle.qrp.proofs.Words.{Lined, IfKnown, Stops, P7, Item, Stage, AtHeader, AtLists, StopsBehindPart, place_next, Giving, Takes, Giver}
-use Rattle.qrp.proofs.Words.{item_row, as_given, giving, Stands, StopsBehind}
+use Rattle.qrp.proofs.Words.{item_row, giving, Stands, StopsBehind}
 use Rattle.qbf_spelling.proofs.Words.token
 use Rattle.qbf_text.specs.Rows as rows
 use Rattle.qbf_text.specs.Stopping as text

@@ -1,19 +1,17 @@
 -- What is read is spelled, and a fault that is found stands.
-use Rattle.qrp.proofs.Words.{common_steps, rules, ◌≡◌, ℕ, ◌≤◌, ◌+◌, List, [], ◌∷◌, ◌++◌, ◌⊎◌, inl, inr, length, Ok, Err, refl, ap, sym, ◌∙◌}
-use Rattle.qrp.proofs.Words.{false, arith, append_assoc, append-nil, map-append, length-append, flat_map, AllByRecursion, Quantifier}
-use Rattle.qrp.proofs.Words.{Literal, Block, IsVariable, AllByRecursion-push, Token, Lined, unlined, number, literal, letter, set, EndsOnce}
-use Rattle.qrp.proofs.Words.{push_distinct, flat_map-push, Header, Outcome, Inference, IsInference, IsLiteral, IsNumber, numbers}
-use Rattle.qrp.proofs.Words.{Derivation, header, step, result_word, lists, ReadsAsRead, explained, is_used}
+use Rattle.qrp.proofs.Words.{common_steps, rules, ◌≡◌, ℕ, ◌≤◌, ◌+◌, List, [], ◌∷◌, ◌++◌, ◌⊎◌, inl, inr, length, Ok, Err, refl, sym, ◌∙◌}
+use Rattle.qrp.proofs.Words.{false, arith, append_assoc, append-nil, map-append, length-append, AllByRecursion, Quantifier, Literal, Block}
+use Rattle.qrp.proofs.Words.{IsVariable, AllByRecursion-push, Token, Lined, unlined, number, letter, set, EndsOnce, push_distinct}
+use Rattle.qrp.proofs.Words.{flat_map-push, Header, Outcome, Inference, IsInference, IsNumber, numbers, Derivation, step, result_word}
+use Rattle.qrp.proofs.Words.{lists, ReadsAsRead, explained, is_used}
 use Rattle.qbf_spelling.proofs.Words.{IsDistinct}
 use Rattle.qbf_spelling.proofs.Words.token
 use Rattle.qbf_spelling.proofs.Words.word
 use Rattle.qbf_text.proofs.AcceptedTokens.{Answers}
 use Rattle.qbf_spelling.specs.declared.header.HeaderAt.TheVariants as place
 use Rattle.qrp.specs.Faults.{AreLists, Spells, Reads}
-use Rattle.qrp.specs.Reading.{Place, AtP, InHeader, Between, InSet, InLits, InAnts, AtResult, Row, Goes, Closes, Ends}
-use Rattle.qrp.specs.Reading.{Fails, row, read}
-use Rattle.qrp.proofs.SpelledIsRead.{end_row}
-use Rattle.qrp.proofs.SpelledIsRead.{read_once}
+use Rattle.qrp.specs.Reading.{Place, AtP, InHeader, Between, InSet, InLits, InAnts, AtResult, Row, Goes, Closes, Ends, Fails, row, read}
+use Rattle.qrp.proofs.SpelledIsRead.{end_row, read_once}
 
 -- ---- lists that grow
 

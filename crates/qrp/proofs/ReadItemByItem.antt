@@ -1,20 +1,17 @@
 -- A trace is read item by item, and each item is put after the others.
-use Rattle.qrp.proofs.Words.{arith, common_steps, ◌≡◌, ◌≤◌, ℕ, Bool, true, false, List, [], ◌∷◌, ◌++◌, length, Option, Some, None, IfSome}
-use Rattle.qrp.proofs.Words.{Result, Ok, Err, refl, ap, sym, ◌∙◌, append_assoc, append-nil, Qrp, Lined, ahead, left, tokens, tokens_next}
-use Rattle.qrp.proofs.Words.{ReadError, Unless, fault_of, Known, Reading, reads_from, IfKnown, Skips, Stops, Leaves, Reads, Leads}
-use Rattle.qrp.proofs.Words.{TraceFault, P1, P9, Item, Outcome, is_outside, reads_bytes, Gives, StopsBehindResult, Derivation, with_item}
-use Rattle.qrp.proofs.Words.{known_items, is_last, Giving, Takes, item_row}
+use Rattle.qrp.proofs.Words.{arith, common_steps, ◌≡◌, ◌≤◌, ℕ, Bool, false, List, [], ◌++◌, length, Option, Some, IfSome, Result, Ok, Err}
+use Rattle.qrp.proofs.Words.{ap, sym, ◌∙◌, append_assoc, append-nil, Qrp, Lined, ahead, left, tokens, tokens_next, ReadError, Unless}
+use Rattle.qrp.proofs.Words.{fault_of, Known, Reading, reads_from, IfKnown, Skips, Stops, Leaves, Reads, Leads, TraceFault, P1, P9, Item}
+use Rattle.qrp.proofs.Words.{Outcome, is_outside, reads_bytes, Gives, StopsBehindResult, Derivation, with_item, known_items, is_last}
+use Rattle.qrp.proofs.Words.{Giving, Takes, item_row}
 use Rattle.std.proofs.Common.{option_map}
 use Rattle.qbf_spelling.proofs.Words.{read_from}
 use Rattle.qbf_text.specs.declared.grammar.ReadError.TheVariants as error
 use Rattle.qbf_text.specs.Rows as rows
 use Rattle.qbf_text.specs.Stopping as text
-use Rattle.qbf_text.proofs.Stops.{begins_more, begins_skipped, regroup, known_skips}
-use Rattle.qbf_text.proofs.Stops.{if_known, taken_no_end, unread_fault}
-use Rattle.qrp.specs.declared.item.Item.TheVariants as item
+use Rattle.qbf_text.proofs.Stops.{begins_more, begins_skipped, regroup, known_skips, if_known, taken_no_end, unread_fault}
 use Rattle.qrp.specs.Items as items
 use Rattle.qrp.specs.Reading.{Fault, Place, AtP, items_from, gathered, nothing, read_trace}
-use Rattle.qrp.proofs.SpelledIsRead.{Answer}
 use Rattle.qrp.proofs.ItemStops.{refused}
 use Rattle.qrp.proofs.RowsReadTheItem.{gives, given_of}
 

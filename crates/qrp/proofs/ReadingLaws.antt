@@ -1,12 +1,11 @@
 -- The laws of reading, and the canonical text that is read again.
-use Rattle.qrp.proofs.Words.{common_steps, rules, append-nil, ◌≡◌, ◌<◌, ◌^◌, List, [], ◌∷◌, ◌++◌, map, Ok, ap, sym, ◌∙◌, arith}
-use Rattle.qrp.proofs.Words.{append_assoc, ℕ, Option, IfSome, Result, flat_map-append, map-append, flat_map-map, flat_map, AllByRecursion}
-use Rattle.qrp.proofs.Words.{IsVariable, Qrp, Token, tokens, number, literal, set, IsPlain, IsLine, joined, tokens-lines_text, all_appended}
-use Rattle.qrp.proofs.Words.{all_mapped, closed_plain, Outcome, Inference, IsInference, numbers, Derivation, IsWellFormed, literals_plain}
-use Rattle.qrp.proofs.Words.{set_written, header, step, result, lists, lines, text, IsTrace, ReadsText, ItemsOfTrace, answered_bytes}
-use Rattle.qrp.proofs.Words.{tokens-EndsOnce, Answers, Gives, reads_bytes, is_outside, BytesRead}
+use Rattle.qrp.proofs.Words.{common_steps, rules, append-nil, ◌≡◌, ◌<◌, ◌^◌, List, [], ◌∷◌, ◌++◌, map, ◌∙◌, arith, append_assoc, ℕ, Option}
+use Rattle.qrp.proofs.Words.{IfSome, Result, flat_map-append, map-append, flat_map-map, AllByRecursion, IsVariable, Qrp, tokens, number}
+use Rattle.qrp.proofs.Words.{literal, set, IsPlain, IsLine, joined, tokens-lines_text, all_appended, all_mapped, closed_plain, Outcome}
+use Rattle.qrp.proofs.Words.{Inference, IsInference, numbers, Derivation, IsWellFormed, literals_plain, set_written, step, result, lists}
+use Rattle.qrp.proofs.Words.{lines, text, IsTrace, ReadsText, ItemsOfTrace, answered_bytes, tokens-EndsOnce, Answers, Gives, reads_bytes}
+use Rattle.qrp.proofs.Words.{is_outside, BytesRead}
 use Rattle.qbf_spelling.proofs.Words.token
-use Rattle.qrp.specs.declared.item.Item.TheVariants as item
 use Rattle.qrp.proofs.SpelledIsRead.{spelled_is_read, spelled_items, read_once, fault_items}
 use Rattle.qrp.specs.Faults.{IsFault, Reads}
 use Rattle.qrp.specs.Reading.{Fault, read}

@@ -1,17 +1,14 @@
 -- What is read by the rows of the items is the next item.
-use Rattle.qrp.proofs.Words.{arith, common_steps, rules, ◌≡◌, ℕ, false, List, [], ◌∷◌, Some, None, IfSome, Ok, Err, ◌⊎◌, refl, ap, sym, ◌∙◌}
-use Rattle.qrp.proofs.Words.{Token, Lined, Read, read-one, ReadError, is_end, Known, Cut, behind, reads_from, Leaves, Reads, TraceFault, P1}
-use Rattle.qrp.proofs.Words.{P7, P9, Item, KnownItems, known_items, GivesAnswer, GivesUnless, GivesNextItem, left_behind, stage_after}
-use Rattle.qrp.proofs.Words.{Stage, AtHeader, AtLists, Giving, Takes, Whole, Giver, item_row, as_given, giving, Stands, GivesItem, fault_of}
+use Rattle.qrp.proofs.Words.{arith, common_steps, rules, ◌≡◌, ℕ, List, [], ◌∷◌, Some, IfSome, Ok, Err, ◌⊎◌, refl, ap, sym, ◌∙◌, Token}
+use Rattle.qrp.proofs.Words.{Lined, Read, read-one, ReadError, Known, Cut, reads_from, Leaves, Reads, TraceFault, P1, P7, P9, Item}
+use Rattle.qrp.proofs.Words.{KnownItems, known_items, GivesAnswer, GivesUnless, GivesNextItem, left_behind, stage_after, Stage, AtHeader}
+use Rattle.qrp.proofs.Words.{AtLists, Giving, Takes, Whole, Giver, item_row, as_given, giving, Stands, GivesItem, fault_of}
 use Rattle.qbf_spelling.proofs.Words.{read_from}
-use Rattle.qbf_spelling.proofs.Words.token
-use Rattle.qbf_text.specs.declared.grammar.ReadError.TheVariants as error
 use Rattle.qbf_text.specs.Rows as rows
 use Rattle.qbf_text.proofs.OneToken as going
 use Rattle.qrp.specs.declared.item.Item.TheVariants as item
 use Rattle.qrp.specs.Items.{Gives}
-use Rattle.qrp.specs.Reading.{Place, Row}
-use Rattle.qrp.specs.Reading.{row, items_from}
+use Rattle.qrp.specs.Reading.{Place, row, items_from}
 use Rattle.qrp.proofs.SpelledIsRead.{Answer, after, items-one, end_row}
 
 -- the items that are left to give where reading by rows answers this

@@ -1,9 +1,9 @@
 -- What tokens spell is read, and a fault that stands is found: accepted tokens, and the place that they lead to.
-use Rattle.qrp.proofs.Words.{common_steps, rules, ◌≡◌, ℕ, ◌<◌, ◌≤◌, Bool, false, List, [], ◌∷◌, ◌++◌, length, map, Result, Ok, Err, refl}
-use Rattle.qrp.proofs.Words.{ap, ◌∙◌, arith, append_assoc, append-nil, nat_eq, length-append, flat_map, AllByRecursion, Quantifier, Literal}
-use Rattle.qrp.proofs.Words.{Block, IsVariable, Token, Lined, unlined, number, literal, letter, set, new_number, P7, Header, Item}
-use Rattle.qrp.proofs.Words.{Inference, IsInference, IsLiteral, IsNumber, numbers, AreGrammatical, items_of_lists, Derivation, step, lists}
-use Rattle.qrp.proofs.Words.{result_word, IsTrace, is_used, split_at, TraceFault, Outcome, Sat, Unsat, ReadsOnce}
+use Rattle.qrp.proofs.Words.{common_steps, rules, ◌≡◌, ℕ, ◌≤◌, false, List, [], ◌∷◌, ◌++◌, length, map, Result, Ok, Err, refl, ap, ◌∙◌}
+use Rattle.qrp.proofs.Words.{arith, append_assoc, append-nil, nat_eq, length-append, flat_map, AllByRecursion, Quantifier, Literal, Block}
+use Rattle.qrp.proofs.Words.{IsVariable, Token, Lined, unlined, number, literal, set, new_number, P7, Header, Item, Inference, IsInference}
+use Rattle.qrp.proofs.Words.{IsLiteral, IsNumber, numbers, AreGrammatical, items_of_lists, Derivation, step, lists, result_word, IsTrace}
+use Rattle.qrp.proofs.Words.{is_used, split_at, TraceFault, Outcome, Sat, ReadsOnce}
 use Rattle.qbf_spelling.proofs.Words.{IsDistinct}
 use Rattle.qbf_spelling.proofs.Words.token
 use Rattle.qbf_spelling.proofs.Words.word

@@ -1,10 +1,8 @@
 -- The parts of a canonical text, one after the other.
-use Rattle.qrp.proofs.Words.{common_steps, ◌≡◌, ℕ, List, [], ◌∷◌, ◌++◌, map, refl, ap, sym, ◌∙◌, append_assoc, append-nil, drop, get_or}
-use Rattle.qrp.proofs.Words.{length, zero, suc, inl, inr, arith, ◌<◌, ◌+◌, add-one, AllByRecursion, flat_map, flat_map-append, flat_map-map}
-use Rattle.qrp.proofs.Words.{number, literal, set, line_rest-map, zero_rest, part_at, slice_get_cases, line_text, lines_text, Header}
-use Rattle.qrp.proofs.Words.{Inference, IsAt, Derivation, steps_at, with_steps_at, literal_text, closed_numbers, set_line, step, header}
-use Rattle.qrp.proofs.Words.{result, text, zero_text, step_text, sets_text, steps_text}
-use Rattle.std.specs.Prelude.{decimal}
+use Rattle.qrp.proofs.Words.{common_steps, ◌≡◌, ℕ, List, [], ◌∷◌, ◌++◌, refl, sym, ◌∙◌, append_assoc, append-nil, drop, get_or, length}
+use Rattle.qrp.proofs.Words.{zero, suc, inl, inr, arith, ◌<◌, ◌+◌, add-one, AllByRecursion, flat_map-append, flat_map-map, line_rest-map}
+use Rattle.qrp.proofs.Words.{zero_rest, part_at, slice_get_cases, line_text, Header, Inference, IsAt, Derivation, steps_at, with_steps_at}
+use Rattle.qrp.proofs.Words.{closed_numbers, set_line, step, header, result, text, step_text, sets_text, steps_text}
 
 -- ---- lists
 
