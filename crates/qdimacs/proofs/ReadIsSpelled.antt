@@ -1,11 +1,11 @@
 -- What is read is spelled, and a fault that is found stands.
-use Rattle.qdimacs.proofs.Words.{common_steps, rules, inl, inr, ◌⊎◌, ◌≡◌, ℕ, ◌<◌, ◌≤◌, true, false, List, [], ◌∷◌, ◌++◌, length, map}
-use Rattle.qdimacs.proofs.Words.{Ok, Err, refl, sym, subst, ◌∙◌, arith, append_assoc, map-append, flat_map, Quantifier, Literal, Block}
-use Rattle.qdimacs.proofs.Words.{pairs, is_bound, blocks_of, AllByRecursion-push, Token, Lined, number, literal, letter, set, unlined, Ends}
-use Rattle.qdimacs.proofs.Words.{append-nil, pairs_of_block, pairs-blocks_of, Alternates-blocks_of, is_end, push_distinct}
-use Rattle.qdimacs.proofs.Words.{flat_map-push, member, header, clause, IsFormula, ReadsAsRead, all_of, explained, AnswersAsRead, Reads}
-use Rattle.qdimacs.proofs.Words.{IsSoFar, Spells, Goes, Fails, Heading, Place, AtP, InHeader, Between, InSet, InClause, Whole, Row, row}
-use Rattle.qdimacs.proofs.Words.{faults, set_row, bound_literal, clause_row, read, IsWhole, answer_of, Pairs, Clauses, AreFrom}
+use Rattle.qdimacs.proofs.Words.{common_steps, rules, inl, inr, ◌⊎◌, ◌≡◌, ℕ, ◌<◌, ◌≤◌, true, false, List, [], ◌∷◌, ◌++◌, length, map, Ok}
+use Rattle.qdimacs.proofs.Words.{Err, refl, sym, subst, ◌∙◌, arith, append_assoc, map-append, flat_map, Quantifier, Literal, Block, pairs}
+use Rattle.qdimacs.proofs.Words.{is_bound, blocks_of, AllByRecursion-push, Token, Lined, number, literal, letter, set, unlined, Ends}
+use Rattle.qdimacs.proofs.Words.{append-nil, pairs_of_block, pairs-blocks_of, Alternates-blocks_of, is_end, push_distinct, flat_map-push}
+use Rattle.qdimacs.proofs.Words.{member, header, clause, IsFormula, ReadsAsRead, all_of, explained, AnswersAsRead, Reads, IsSoFar, Spells}
+use Rattle.qdimacs.proofs.Words.{Goes, Fails, Heading, Place, AtP, InHeader, Between, InSet, InClause, Whole, Row, row, faults, set_row}
+use Rattle.qdimacs.proofs.Words.{bound_literal, clause_row, read, IsWhole, answer_of, Pairs, Clauses, AreFrom}
 use Rattle.qbf_spelling.proofs.Words.{IsDistinct}
 use Rattle.qbf_spelling.proofs.Words.token
 use Rattle.qbf_text.specs.Lined.{EndsOnce}

@@ -1,10 +1,10 @@
 -- The laws of reading, and the canonical text that is read again.
-use Rattle.qdimacs.proofs.Words.{common_steps, ◌≡◌, ℕ, true, List, [], ◌∷◌, ◌++◌, map, refl, ◌∙◌, arith, append_assoc, Option}
-use Rattle.qdimacs.proofs.Words.{IfSome, flat_map-append, flat_map-map, AllByRecursion, Quantifier, Literal, Block, pairs}
-use Rattle.qdimacs.proofs.Words.{variables, is_bound, IsVariable, Qbf, Qdimacs, tokens, literal, set, AreBound, IsWellFormed}
-use Rattle.qdimacs.proofs.Words.{IsPlain, IsLine, joined, tokens-lines_text, all_appended, all_mapped, all_of, closed_plain, literals_plain}
-use Rattle.qdimacs.proofs.Words.{set_written, clause, spelling, lines, text, IsFormula, ReadsText, Pairs, Answer, Gives}
-use Rattle.qdimacs.proofs.Words.{reads_bytes, is_outside, read, answered_bytes, tokens-EndsOnce, Answers, IsFault, Reads, BytesRead}
+use Rattle.qdimacs.proofs.Words.{common_steps, ◌≡◌, ℕ, true, List, [], ◌∷◌, ◌++◌, map, refl, ◌∙◌, arith, append_assoc, Option, IfSome}
+use Rattle.qdimacs.proofs.Words.{flat_map-append, flat_map-map, AllByRecursion, Quantifier, Literal, Block, pairs, variables, is_bound}
+use Rattle.qdimacs.proofs.Words.{IsVariable, Qbf, Qdimacs, tokens, literal, set, AreBound, IsWellFormed, IsPlain, IsLine, joined}
+use Rattle.qdimacs.proofs.Words.{tokens-lines_text, all_appended, all_mapped, all_of, closed_plain, literals_plain, set_written, clause}
+use Rattle.qdimacs.proofs.Words.{spelling, lines, text, IsFormula, ReadsText, Pairs, Answer, Gives, reads_bytes, is_outside, read}
+use Rattle.qdimacs.proofs.Words.{answered_bytes, tokens-EndsOnce, Answers, IsFault, Reads, BytesRead}
 use Rattle.qbf_spelling.proofs.Words.token
 use Rattle.qdimacs.proofs.SpelledIsRead.{bound_one, spelled_is_read, read_once}
 use Rattle.qdimacs.proofs.ReadIsSpelled.{read_explained}

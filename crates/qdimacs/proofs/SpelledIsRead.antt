@@ -1,11 +1,11 @@
 -- What tokens spell is read, and a fault that stands is found: accepted tokens, and the place that they lead to.
-use Rattle.qdimacs.proofs.Words.{common_steps, rules, ◌≡◌, ◌∙◌, ◌≢◌, ℕ, ◌<◌, ◌≤◌, ◌+◌, Bool, true, List, [], ◌∷◌, ◌++◌, length, map}
-use Rattle.qdimacs.proofs.Words.{refl, arith, append_assoc, Ok, Err, ap, sym, subst, map-append, length-append, flat_map, AllByRecursion}
+use Rattle.qdimacs.proofs.Words.{common_steps, rules, ◌≡◌, ◌∙◌, ◌≢◌, ℕ, ◌<◌, ◌≤◌, ◌+◌, Bool, true, List, [], ◌∷◌, ◌++◌, length, map, refl}
+use Rattle.qdimacs.proofs.Words.{arith, append_assoc, Ok, Err, ap, sym, subst, map-append, length-append, flat_map, AllByRecursion}
 use Rattle.qdimacs.proofs.Words.{Quantifier, Literal, Block, pairs, is_bound, blocks_of, variables, Token, number, literal, letter, set}
 use Rattle.qdimacs.proofs.Words.{Ends, Qbf, Lined, unlined, read-one, append-nil, pairs_of_block, middle, front_all, front_distinct}
 use Rattle.qdimacs.proofs.Words.{new_number, Leads, Stays, leads_then, split_at, leads_reads, AreGood, Reads, Spells, IsFault, header}
-use Rattle.qdimacs.proofs.Words.{clause, IsFormula, Heading, Place, AtP, InHeader, Between, InSet, InClause, Whole, row, Pairs}
-use Rattle.qdimacs.proofs.Words.{Clauses, AreFrom, Row, read, answer_of, blocks_of-pairs, ReadsOnce, FormulaFault, after}
+use Rattle.qdimacs.proofs.Words.{clause, IsFormula, Heading, Place, AtP, InHeader, Between, InSet, InClause, Whole, row, Pairs, Clauses}
+use Rattle.qdimacs.proofs.Words.{AreFrom, Row, read, answer_of, blocks_of-pairs, ReadsOnce, FormulaFault, after}
 use Rattle.qbf_spelling.proofs.Words.token
 use Rattle.qbf_spelling.proofs.Words.word
 use Rattle.qdimacs.proofs.AllVariablesBound.{is_bound_variables}

@@ -12,7 +12,7 @@ pub use Rattle.qbf_spelling.proofs.Worked.{all, exists}
 pub use Rattle.qbf_spelling.proofs.WrittenParts.{closed_literals, closed_numbers}
 pub use Rattle.qbf_spelling.specs.Said.{member}
 pub use Rattle.qbf_spelling.specs.Texts.{closing, literal_text}
-pub use Rattle.qbf_text.proofs.AcceptedTokens.{Leads, Stays, each_is_answered, flat_map-push, leads_reads, leads_then, split_at}
+pub use Rattle.qbf_text.proofs.AcceptedTokens.{Leads, Stays, flat_map-push, leads_reads, leads_then, split_at}
 pub use Rattle.qbf_text.proofs.Answered.{AnswersAsRead, answered_bytes, explained, whole_given}
 pub use Rattle.qbf_text.proofs.CanonicalTokens.{all_appended, all_mapped, all_of, closed_plain, joined, tokens-lines_text}
 pub use Rattle.qbf_text.proofs.OneToken.{after}

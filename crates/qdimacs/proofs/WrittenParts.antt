@@ -1,7 +1,7 @@
 -- The parts of a canonical text, one after the other.
-use Rattle.qdimacs.proofs.Words.{common_steps, ◌≢◌, ◌≡◌, ℕ, false, List, [], ◌∷◌, ◌++◌, map, Option, Some, None, refl, ap, sym}
-use Rattle.qdimacs.proofs.Words.{◌∙◌, append_assoc, drop, slice_get, length, arith, ◌<◌, ◌+◌, flat_map, Quantifier, Literal, Block, pairs}
-use Rattle.qdimacs.proofs.Words.{Qbf, number, literal, letter, zero_decimal, drop_at, Alternates, is_quantifier, spaced, spelled, line_rest}
+use Rattle.qdimacs.proofs.Words.{common_steps, ◌≢◌, ◌≡◌, ℕ, false, List, [], ◌∷◌, ◌++◌, map, Option, Some, None, refl, ap, sym, ◌∙◌}
+use Rattle.qdimacs.proofs.Words.{append_assoc, drop, slice_get, length, arith, ◌<◌, ◌+◌, flat_map, Quantifier, Literal, Block, pairs, Qbf}
+use Rattle.qdimacs.proofs.Words.{number, literal, letter, zero_decimal, drop_at, Alternates, is_quantifier, spaced, spelled, line_rest}
 use Rattle.qdimacs.proofs.Words.{line_text, literal_text, closing, closed_numbers, closed_literals, clause, header, text, opening}
 use Rattle.qdimacs.proofs.Words.{prefix_rest, sets_text, clauses_text, Pairs, Clauses}
 
