@@ -1,7 +1,7 @@
 -- What is read by the rows of the items is the next item.
 use Rattle.qrp.proofs.Words.{arith, common_steps, rules, ◌≡◌, ℕ, List, [], ◌∷◌, Some, IfSome, Ok, Err, ◌⊎◌, refl, ap, sym, ◌∙◌, Token}
 use Rattle.qrp.proofs.Words.{Lined, Read, read-one, ReadError, Known, Cut, reads_from, Leaves, Reads, TraceFault, P1, P7, P9, Item}
-use Rattle.qrp.proofs.Words.{KnownItems, known_items, GivesAnswer, GivesUnless, GivesNextItem, left_behind, stage_after, Stage, AtHeader}
+use Rattle.qrp.proofs.Words.{known_items, GivesAnswer, GivesUnless, GivesNextItem, left_behind, stage_after, Stage, AtHeader}
 use Rattle.qrp.proofs.Words.{AtLists, Giving, Takes, Whole, Giver, item_row, as_given, giving, Stands, GivesItem, fault_of}
 use Rattle.qbf_spelling.proofs.Words.{read_from}
 use Rattle.qbf_text.specs.Rows as rows
@@ -28,12 +28,9 @@ by_token : (t : Token) (line : ℕ) (ts : List Lined) → More ts → (p : Place
     → after (row p t) line ts ≡ given_of (going.after item_row (as_given (row p t)) (t, line) ts)
 by_token t line ts more p = grind (arith, common_steps, end_row)
 
-gives_none : More []
-unfolding items_from read_from
-gives_none p = refl
-
 pub gives : (ts : List Lined) → More ts
-gives [] = gives_none
+unfolding items_from read_from
+gives [] = λ p. refl
 gives (t ∷ ts) = λ p. items-one p t ts ∙ by_token t.0 t.1 ts (gives ts) p ∙ ap given_of (sym (read-one item_row (Takes p) t ts))
 
 -- ---- what a call returns that reads so
@@ -42,10 +39,6 @@ pub item_given : (p : Place) (known : Known) (next : Giving) (rest : Known) (i :
     → Leaves (reads_from item_row (Takes p) known) tt next rest → next ≡ giving i ns
     → GivesAnswer (known_items p known) (left_behind (stage_after (Ok i)) ns rest) (Ok i)
 item_given p known next rest i ns leaves is = grind (arith, common_steps, gives)
-
-unless : (f : TraceFault) (line : ℕ) (before : KnownItems) → GivesAnswer before (Some (Err (f, line) ∷ [])) (Err (f, line))
-    → GivesUnless f before (Some (Err (f, line) ∷ [])) (Err (f, line))
-unless f line before h = search rules
 
 fault_left : (p : Place) (known : Known) (f : TraceFault) (line : ℕ)
     → IfSome (reads_from item_row (Takes p) known) (λ r. r ≡ rows.Fault f line)
@@ -66,4 +59,4 @@ next_given stage before g known after_ answer open_ stands h = search rules
 
 -- a fault is given for good
 pub given_again : (f : TraceFault) (line : ℕ) → GivesUnless f (Some (Err (f, line) ∷ [])) (Some (Err (f, line) ∷ [])) (Err (f, line))
-given_again f line = unless f line (Some (Err (f, line) ∷ [])) (refl, refl)
+given_again f line = search rules
