@@ -1,14 +1,11 @@
 -- The lines of a canonical text can be written.
-use Rattle.std.proofs.Common.{rules, ℕ, Bool, List, [], ◌∷◌, ◌++◌, map, arith}
+use Rattle.std.proofs.Common.{rules, List, map, arith}
 use Rattle.std.specs.List.{AllByRecursion}
-use Rattle.qbf_core.specs.declared.quantifier.Quantifier.{Quantifier}
 use Rattle.qbf_core.specs.Literal.{Literal}
 use Rattle.qbf_core.specs.Blocks.{Block, IsVariable}
-use Rattle.qbf_text.specs.declared.token.Token.{Token}
-use Rattle.qbf_text.specs.declared.token.Token.TheVariants as token
 use Rattle.qbf_text.specs.Canonical.{IsPlain, IsLine}
 use Rattle.qbf_text.proofs.CanonicalTokens.{all_mapped, closed_plain}
-use Rattle.qbf_spelling.specs.Spelling.{number, literal, letter, set}
+use Rattle.qbf_spelling.specs.Spelling.{number, literal, set}
 
 -- literals of variables
 pub literals_plain : (ls : List Literal) → AllByRecursion (λ l. IsVariable l.var) ls → AllByRecursion IsPlain (map literal ls)
