@@ -1,30 +1,18 @@
 -- The lines of a canonical text can be written.
-use Rattle.std.proofs.Common.{rules, ℕ, Bool, List, [], ◌∷◌, ◌++◌, map, arith}
+use Rattle.std.proofs.Common.{rules, List, map, arith}
 use Rattle.std.specs.List.{AllByRecursion}
-use Rattle.qbf_core.specs.declared.quantifier.Quantifier.{Quantifier}
 use Rattle.qbf_core.specs.Literal.{Literal}
 use Rattle.qbf_core.specs.Blocks.{Block, IsVariable}
-use Rattle.qbf_text.specs.declared.token.Token.{Token}
-use Rattle.qbf_text.specs.declared.token.Token.TheVariants as token
 use Rattle.qbf_text.specs.Canonical.{IsPlain, IsLine}
 use Rattle.qbf_text.proofs.CanonicalTokens.{all_mapped, closed_plain}
-use Rattle.qbf_spelling.specs.Spelling.{number, literal, letter, set}
-
-variable_plain : (v : ℕ) → IsVariable v → IsPlain (number v)
-variable_plain v h = omega (arith, h.1)
-
-literal_plain : (v : ℕ) (negative : Bool) → IsVariable v → IsPlain (token.Number negative v)
-literal_plain v negative h = search rules
+use Rattle.qbf_spelling.specs.Spelling.{number, literal, set}
 
 -- literals of variables
 pub literals_plain : (ls : List Literal) → AllByRecursion (λ l. IsVariable l.var) ls → AllByRecursion IsPlain (map literal ls)
-literals_plain ls h =
-    all_mapped (λ l. IsVariable l.var) IsPlain literal (λ l is. literal_plain l.var l.negative is) ls h
-
-letter_line : (q : Quantifier) (ts : List Token) → AllByRecursion IsPlain ts → IsLine (letter q ∷ ts)
-letter_line q ts h = search rules
+literals_plain ls h = all_mapped (λ l. IsVariable l.var) IsPlain literal (λ l is. search rules) ls h
 
 -- a set of variables
 pub set_written : (s : Block) → AllByRecursion IsVariable s.vars → IsLine (set s)
-set_written s h = letter_line s.quantifier (map number s.vars ++ number 0 ∷ [])
-    (closed_plain (map number s.vars) (all_mapped IsVariable IsPlain number variable_plain s.vars h))
+set_written s h =
+    let closed = closed_plain (map number s.vars) (all_mapped IsVariable IsPlain number (λ v is. omega (arith, is.1)) s.vars h) in
+    search rules

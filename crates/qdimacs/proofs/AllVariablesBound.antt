@@ -1,13 +1,8 @@
 -- As many bound variables as the header allows: each that it allows is bound.
-use Rattle.std.proofs.Common.{rules, ◌≡◌, ℕ, ◌≤◌, ◌+◌, ◌||◌, Bool, true, false, List, [], ◌∷◌, length, eqb, refl, sym, ap, ◌∙◌, arith}
-use Rattle.qbf_spelling.proofs.Words.{IsDistinct, AllByRecursion, Block, pairs, variables, is_bound, IsVariable}
-use Rattle.std.specs.List.{list_any}
-use Rattle.std.proofs.lemmas.List.{length-map}
-use Rattle.std.proofs.lemmas.Map.Keys.{IsDistinct-cons}
-use Rattle.std.proofs.lemmas.Map.Steps.{length-le_from_distinct_below}
-use Rattle.qbf_core.specs.Blocks.{IsPrefix}
-use Rattle.qdimacs.specs.Reading.{IsFull}
-use Rattle.qdimacs.specs.Reading.{Pairs}
+use Rattle.qdimacs.proofs.Words.{common_steps, rules, ◌≡◌, ℕ, ◌≤◌, ◌+◌, ◌||◌, Bool, true, false, List, [], ◌∷◌, length, eqb, refl, ap}
+use Rattle.qdimacs.proofs.Words.{arith, AllByRecursion, Block, pairs, variables, is_bound, IsVariable, list_any, length-map}
+use Rattle.qdimacs.proofs.Words.{IsDistinct-cons, length-le_from_distinct_below, IsPrefix, IsFull, Pairs}
+use Rattle.qbf_spelling.proofs.Words.{IsDistinct}
 
 -- ---- numbers that are in no list
 
@@ -15,12 +10,9 @@ apart : (v : ℕ) (vs : List ℕ) → list_any (eqb v) vs ≡ false → AllByRec
 apart v [] none = tt
 apart v (w ∷ vs) none = let rest = apart v vs in search rules
 
-not_zero : (v : ℕ) → 1 ≤ v → eqb 0 v ≡ false
-not_zero v low = search rules
-
 zero_apart : (vs : List ℕ) → AllByRecursion IsVariable vs → AllByRecursion (λ w. eqb 0 w ≡ false) vs
 zero_apart [] h = tt
-zero_apart (v ∷ vs) h = (not_zero v h.0.0, zero_apart vs h.1)
+zero_apart (v ∷ vs) h = (search rules, zero_apart vs h.1)
 
 below : (n : ℕ) (vs : List ℕ) → AllByRecursion (λ v. v ≤ n) vs → (q : ℕ) → list_any (eqb q) vs ≡ true → q ≤ n
 below n [] h q e = search rules
@@ -33,7 +25,7 @@ module _ (n : ℕ) (vs : List ℕ) (distinct : IsDistinct eqb vs) (within : AllB
   -- with one that is missing, and 0, they would be too many below n + 1
   crowded : (v : ℕ) → 1 ≤ v → v ≤ n → list_any (eqb v) vs ≡ false → ⊥
   crowded v low high none =
-      let zero : AllByRecursion (λ w. eqb 0 w ≡ false) (v ∷ vs) = (not_zero v low, zero_apart vs within) in
+      let zero : AllByRecursion (λ w. eqb 0 w ≡ false) (v ∷ vs) = (search rules, zero_apart vs within) in
       let longer : IsDistinct eqb (0 ∷ v ∷ vs) =
       IsDistinct-cons eqb 0 (v ∷ vs) zero (IsDistinct-cons eqb v vs (apart v vs none) distinct) in
       let few : length (0 ∷ v ∷ vs) ≤ n + 1 = length-le_from_distinct_below (0 ∷ v ∷ vs) (n + 1) longer
@@ -41,22 +33,13 @@ module _ (n : ℕ) (vs : List ℕ) (distinct : IsDistinct eqb vs) (within : AllB
       absurd (omega (arith, few, count))
 
   pub each_stands : (v : ℕ) → 1 ≤ v → v ≤ n → list_any (eqb v) vs ≡ true
-  each_stands v low high = by (list_any (eqb v) vs) refl
-    where
-      by : (b : Bool) → list_any (eqb v) vs ≡ b → b ≡ true
-      by true e = refl
-      by false e = absurd (crowded v low high e)
+  each_stands v low high = grind (arith, common_steps, crowded)
 
 pub is_bound_variables : (v : ℕ) (ps : Pairs) → is_bound v ps ≡ list_any (eqb v) (variables ps)
 is_bound_variables v [] = refl
 is_bound_variables v (p ∷ ps) = ap (λ (b : Bool). eqb v p.1 || b) (is_bound_variables v ps)
 
-equal : (a b : ℕ) → eqb a b ≡ true → a ≡ b
-equal a b e = search rules
-
 -- as many bound variables as the header allows
 pub full : (max_var : ℕ) (bs : List Block) (n : ℕ) → IsPrefix bs → AllByRecursion (λ v. v ≤ max_var) (variables (pairs bs))
     → n ≡ length (pairs bs) → eqb n max_var ≡ true → IsFull max_var (pairs bs)
-full max_var bs n prefix top counted compared = λ v low high.
-    let count : length (variables (pairs bs)) ≡ max_var = length-map (pairs bs) (λ p. p.1) ∙ sym counted ∙ equal n max_var compared in
-    is_bound_variables v (pairs bs) ∙ each_stands max_var (variables (pairs bs)) prefix.distinct prefix.within top count v low high
+full max_var bs n prefix top counted compared = grind (arith, common_steps, length-map, is_bound_variables, each_stands)

@@ -1,17 +1,7 @@
 -- What the parts of a formula make, and where clauses in the bytes at hand lead to.
-use Rattle.std.proofs.Common.{arith}
-use Rattle.std.proofs.lemmas.Grind.{common_steps}
-use Rattle.qbf_text.proofs.PassedNumbers.{passes_none, passes_on}
-use Rattle.std.proofs.Common.{◌≡◌, Bool, false, Option, None, Result, Ok}
-use Rattle.qbf_spelling.proofs.Words.{Quantifier, Literal, Token, pairs, Ends}
-use Rattle.qbf_core.proofs.BlockLaws.{blocks_of-pairs}
-use Rattle.qbf_text.specs.Left.{is_end}
-use Rattle.qbf_text.specs.Rows.{Goes}
-use Rattle.qdimacs.specs.declared.fault.FormulaFault.{FormulaFault}
-use Rattle.qdimacs.specs.declared.grammar.At.{At}
-use Rattle.qdimacs.specs.declared.grammar.Parts.{Parts}
-use Rattle.qdimacs.specs.Places.{made, heading, stands, row_to, IsMade}
-use Rattle.qdimacs.specs.Reading.{Place, Whole, between_row, row}
+use Rattle.qdimacs.proofs.Words.{arith, common_steps, passes_none, passes_on, ◌≡◌, Bool, false, Option, None, Result, Ok, Quantifier}
+use Rattle.qdimacs.proofs.Words.{Literal, Token, pairs, Ends, blocks_of-pairs, is_end, Goes, FormulaFault, At, Parts, made, heading, stands}
+use Rattle.qdimacs.proofs.Words.{row_to, IsMade, Place, Whole, between_row, row}
 
 -- after the last clause the end makes the formula
 pub made_whole : (p : Parts) → IsMade p → (set : Option Quantifier) (mark : Result Bool FormulaFault)

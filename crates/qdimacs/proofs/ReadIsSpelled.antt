@@ -1,37 +1,20 @@
 -- What is read is spelled, and a fault that is found stands.
-use Rattle.std.proofs.lemmas.Grind.{common_steps}
-use Rattle.std.proofs.Common.{rules, inl, inr, ◌⊎◌, ◌≡◌, ◌≢◌, ℕ, ◌<◌, ◌≤◌, true, false, List, [], ◌∷◌, ◌++◌, length, map, Ok, Err, refl, ap}
-use Rattle.std.proofs.Common.{sym, subst, ◌∙◌, arith, append_assoc}
-use Rattle.qbf_spelling.proofs.Words
-use Words.{map-append, flat_map, IsDistinct, Quantifier, Literal, Block, pairs, is_bound, blocks_of}
-use Words.{AllByRecursion-push, Token, Lined, number, literal, letter, set, unlined, Ends}
-use Words.token
-use Rattle.std.proofs.lemmas.List.{append-nil}
-use Rattle.qbf_core.specs.Blocks.{pairs_of_block}
-use Rattle.qbf_core.proofs.BlockLaws.{pairs-blocks_of, Alternates-blocks_of}
+use Rattle.qdimacs.proofs.Words.{common_steps, rules, inl, inr, ◌⊎◌, ◌≡◌, ℕ, ◌<◌, ◌≤◌, true, false, List, [], ◌∷◌, ◌++◌, length, map, Ok}
+use Rattle.qdimacs.proofs.Words.{Err, refl, sym, subst, ◌∙◌, arith, append_assoc, map-append, flat_map, Quantifier, Literal, Block, pairs}
+use Rattle.qdimacs.proofs.Words.{is_bound, blocks_of, AllByRecursion-push, Token, Lined, number, literal, letter, set, unlined, Ends}
+use Rattle.qdimacs.proofs.Words.{append-nil, pairs_of_block, pairs-blocks_of, Alternates-blocks_of, is_end, push_distinct, flat_map-push}
+use Rattle.qdimacs.proofs.Words.{member, header, clause, IsFormula, ReadsAsRead, all_of, explained, AnswersAsRead, Reads, IsSoFar, Spells}
+use Rattle.qdimacs.proofs.Words.{Goes, Fails, Heading, Place, AtP, InHeader, Between, InSet, InClause, Whole, Row, row, faults, set_row}
+use Rattle.qdimacs.proofs.Words.{bound_literal, clause_row, read, IsWhole, answer_of, Pairs, Clauses, AreFrom}
+use Rattle.qbf_spelling.proofs.Words.{IsDistinct}
+use Rattle.qbf_spelling.proofs.Words.token
 use Rattle.qbf_text.specs.Lined.{EndsOnce}
-use Rattle.qbf_text.specs.Left.{is_end}
-use Rattle.qbf_core.proofs.DistinctNumbers.{push_distinct}
 use Rattle.qdimacs.proofs.AllVariablesBound.{is_bound_variables}
-use Rattle.qbf_text.proofs.AcceptedTokens.{each_is_answered, flat_map-push}
 use Rattle.qbf_text.proofs.AcceptedTokens as accepted
 use Rattle.qdimacs.proofs.SpelledIsRead.{read_once}
 use Rattle.qbf_spelling.specs.declared.header.HeaderAt.TheVariants as place
-use Rattle.qbf_spelling.specs.Said.{member}
-use Rattle.qdimacs.specs.Grammar.{header, clause, IsFormula}
-use Rattle.qbf_text.specs.Answering.{ReadsAsRead}
-use Rattle.qbf_text.proofs.CanonicalTokens.{all_of}
-use Rattle.qbf_text.proofs.Answered.{explained, AnswersAsRead}
-use Rattle.qdimacs.specs.Faults.{Reads, IsSoFar, Spells}
-use Rattle.qbf_text.specs.Rows.{Goes, Fails}
-use Rattle.qdimacs.specs.Reading.{Heading, Place, AtP, InHeader, Between, InSet, InClause, Whole, Row, row}
-use Rattle.qdimacs.specs.Reading.{faults, set_row, bound_literal, clause_row, read, IsWhole, answer_of}
-use Rattle.qdimacs.specs.Reading.{Pairs, Clauses, AreFrom}
 
 -- ---- one token
-
-no_place_after_end : (place next : Place) → row place token.End ≡ Goes next → ⊥
-no_place_after_end place next e = search rules
 
 count_is : (v : ℕ) (t : Token) (next : Place) → row (InHeader (place.Second v)) t ≡ Goes next
     → (n : ℕ) × (t ≡ number n) × (n ≤ 2147483647) × (Between (record { max_var = v; count = n }) [] [] ≡ next)
@@ -39,25 +22,10 @@ count_is v t next e = search rules
 
 -- ---- what is accepted so far, and one more
 
-none_so_far : (h : Heading) → h.max_var ≤ 2147483647 → h.count ≤ 2147483647 → IsSoFar h [] []
-unfolding IsDistinct
-none_so_far h lv lc = search rules
-
-more_variables : (h : Heading) (ps : Pairs) (q : Quantifier) (v : ℕ) → IsSoFar h ps [] → 1 ≤ v → v ≤ h.max_var
-    → is_bound v ps ≡ false → IsSoFar h (ps ++ (q, v) ∷ []) []
-more_variables h ps q v s low high fresh = grind (arith, common_steps, push_distinct, is_bound_variables)
-
-more_clauses : (h : Heading) (ps : Pairs) (cs : Clauses) (ls : List Literal) → IsSoFar h ps cs
-    → AreFrom ps ls → length cs < h.count → IsSoFar h ps (cs ++ ls ∷ [])
-more_clauses h ps cs ls s bound more = grind (arith, common_steps)
-
 -- ---- one token more
 
 abbrev front : Heading → List Block → Clauses → List Token
 front h sets cs = header h.max_var h.count ++ flat_map set sets ++ flat_map clause cs
-
-some_pushed : {X : Type 0} (xs : List X) (x : X) → (xs ++ x ∷ []) ≢ []
-some_pushed xs x e = grind (arith, common_steps)
 
 -- a clause that is begun, or about to be
 record IsBegun (ts : List Token) (h : Heading) (ps : Pairs) (cs : Clauses) (ls : List Literal) : Type 0 where
@@ -79,14 +47,14 @@ clause_step : {ts : List Token} {h : Heading} {ps : Pairs} {cs : Clauses} {ls : 
     (next : Place) → IsBegun ts h ps cs ls → clause_row h ps cs ls (bound_literal h.max_var ps t) ≡ Goes next → Spells (ts ++ t ∷ []) next
 clause_step {h = h} {ps = ps} {cs = cs} {ls = ls} t next b e = elim (clause_goes h ps cs ls t next e) [
   | inl k ↦ rw (k.1, k.0, b.spelled)
-      (b.sets, (simp (flat_map-push, append_assoc)), b.bound, more_clauses h ps cs ls b.so_far b.free b.more)
+      (b.sets, (simp (flat_map-push, append_assoc)), b.bound, grind (arith, common_steps))
   | inr k ↦ rw (k.3, k.1, b.spelled) (
     b.sets,
     rw (map-append, append_assoc (front h b.sets cs) (map literal ls) (literal k.0 ∷ [])),
     b.bound,
     b.so_far,
     AllByRecursion-push (λ x. is_bound x.var ps ≡ true) ls k.0 b.free k.2,
-    some_pushed ls k.0,
+    (λ e. grind (arith, common_steps)),
     b.more,
   )
 ]
@@ -114,7 +82,7 @@ set_step ts h ps q t next b e = elim (set_goes h ps q t next e) [
     b.1 ++ k.0 ∷ [],
     (simp (map-append, append_assoc)),
     rw (← b.3) (simp (map-append, append_assoc)),
-    more_variables h ps q k.0 b.4 k.2 k.3 k.4,
+    grind (arith, common_steps, push_distinct, is_bound_variables),
   )
 ]
 
@@ -127,10 +95,10 @@ between_goes h ps cs t next e = search rules
 
 -- an accepted token leads to a place that the tokens spell
 step : (ts : List Token) (p next : Place) (t : Token) → Spells ts p → row p t ≡ Goes next → Spells (ts ++ t ∷ []) next
+unfolding IsDistinct
 step ts (InHeader (place.Second v)) next t b e =
     let k = count_is v t next e in
-    let none = none_so_far (record { max_var = v; count = k.0 }) b.1 k.2 in
-    subst (Spells (ts ++ t ∷ [])) k.3 ([], (λ i. b.0 i ++ k.1 i ∷ []), refl, none)
+    subst (Spells (ts ++ t ∷ [])) k.3 ([], (λ i. b.0 i ++ k.1 i ∷ []), refl, search rules)
 step ts (InHeader here) next t b e = search rules
 step ts (Between h ps cs) next t b e = grind (arith, common_steps)
 step ts (InSet h ps q) next t b e = set_step ts h ps q t next b e
@@ -157,7 +125,7 @@ last p next t e = search rules
 
 -- reading ends at the end of the text
 pub last_is_end : (p next : Place) (t : Token) → row p t ≡ Ends tt next → is_end t ≡ true
-last_is_end p next t e = ap is_end (last p next t e).at_end
+last_is_end p next t e = search rules
 
 -- what was read there is a whole formula
 pub last_is_whole : (p next : Place) (t : Token) → row p t ≡ Ends tt next → IsWhole next
@@ -165,18 +133,15 @@ last_is_whole p next t e = subst IsWhole (sym (last p next t e).whole) tt
 
 -- ---- the whole
 
-once_end : (t : Lined) (ts : List Lined) → t.0 ≡ token.End → EndsOnce (t ∷ ts) → ts ≡ []
-once_end t ts e once = search rules
-
 answer : (before : List Lined) (p : Place) (t : Lined) (ts : List Lined) → Spells (unlined before) p → EndsOnce (t ∷ ts)
     → accepted.Answers Spells Reads before t ts
 answer before p t ts b once = by (row p t.0) refl
   where
     by : (r : Row) → row p t.0 ≡ r → accepted.Answers Spells Reads before t ts
-    by (Goes next) is = inr ((λ e. no_place_after_end p next (ap (row p) (sym e) ∙ is)), next, step (unlined before) p next t.0 b is)
+    by (Goes next) is = inr ((λ e. grind (arith, common_steps)), next, step (unlined before) p next t.0 b is)
     by (Ends u next) is =
         let k = last p next t.0 is in
-        let none : ts ≡ [] = once_end t ts k.at_end once in
+        let none : ts ≡ [] = grind (arith, common_steps, k.at_end) in
         let said : Spells (unlined before) (Between k.h k.ps k.cs) = rw k.between at b in
         let whole = whole_formula (unlined before) k.h k.ps k.cs said (let f = said.3 in omega (arith, f.few, k.all)) in
         let spelled : unlined (before ++ t ∷ ts) ≡ unlined before ++ token.End ∷ [] =

@@ -1,22 +1,12 @@
 -- The laws of reading, and the canonical text that is read again.
-use Rattle.std.proofs.Common.{◌≡◌, ℕ, true, List, [], ◌∷◌, ◌++◌, length, map, refl, ap, ◌∙◌, arith, append_assoc, Option, IfSome}
-use Rattle.qbf_spelling.proofs.Words
-use Words.{flat_map-append, flat_map-map, flat_map, AllByRecursion, Quantifier, Literal, Block, pairs, variables, is_bound, IsVariable, Qbf}
-use Words.{Qdimacs, Token, tokens, literal, set}
-use Words.token
-use Rattle.qbf_core.specs.Blocks.{AreBound}
-use Rattle.qbf_core.specs.Qbf.{IsWellFormed}
-use Rattle.qbf_text.specs.Canonical.{IsPlain, IsLine}
-use Rattle.qbf_text.proofs.CanonicalTokens.{joined, tokens-lines_text, all_appended, all_mapped, all_of, closed_plain}
-use Rattle.qbf_spelling.proofs.CanonicalLines.{literals_plain, set_written}
-use Rattle.qdimacs.specs.Grammar.{header, clause, spelling, lines, text, IsFormula}
-use Rattle.qdimacs.specs.Laws.{ReadsText}
+use Rattle.qdimacs.proofs.Words.{common_steps, ◌≡◌, ℕ, true, List, [], ◌∷◌, ◌++◌, map, refl, ◌∙◌, arith, append_assoc, Option, IfSome}
+use Rattle.qdimacs.proofs.Words.{flat_map-append, flat_map-map, AllByRecursion, Quantifier, Literal, Block, pairs, variables, is_bound}
+use Rattle.qdimacs.proofs.Words.{IsVariable, Qbf, Qdimacs, tokens, literal, set, AreBound, IsWellFormed, IsPlain, IsLine, joined}
+use Rattle.qdimacs.proofs.Words.{tokens-lines_text, all_appended, all_mapped, all_of, closed_plain, literals_plain, set_written, clause}
+use Rattle.qdimacs.proofs.Words.{spelling, lines, text, IsFormula, ReadsText, Pairs, Answer, Gives, reads_bytes, is_outside, read}
+use Rattle.qdimacs.proofs.Words.{answered_bytes, tokens-EndsOnce, Answers, IsFault, Reads, BytesRead}
+use Rattle.qbf_spelling.proofs.Words.token
 use Rattle.qdimacs.proofs.SpelledIsRead.{bound_one, spelled_is_read, read_once}
-use Rattle.qdimacs.specs.Reading.{Pairs, Answer, Gives, reads_bytes, is_outside, read}
-use Rattle.qbf_text.proofs.Answered.{answered_bytes}
-use Rattle.qbf_text.proofs.TokensEndOnce.{tokens-EndsOnce}
-use Rattle.qdimacs.specs.Faults.{Answers, IsFault, Reads}
-use Rattle.qbf_text.specs.Answering.{BytesRead}
 use Rattle.qdimacs.proofs.ReadIsSpelled.{read_explained}
 
 -- ---- the lines can be written
@@ -51,11 +41,7 @@ lines_written f w = (
 -- ---- the tokens of the lines
 
 joined_lines : (f : Qbf) → joined (lines f) ++ token.End ∷ [] ≡ spelling f f.blocks
-joined_lines f =
-    let h = header f.max_var (length f.clauses) in
-    let parts : joined (map set f.blocks ++ map clause f.clauses) ≡ flat_map set f.blocks ++ flat_map clause f.clauses =
-    simp (flat_map-append, flat_map-map) in
-    ap (λ (k : List Token). (h ++ k) ++ token.End ∷ []) parts ∙ simp append_assoc
+joined_lines f = grind (arith, common_steps, flat_map-append, flat_map-map, append_assoc)
 
 -- What is written is read again.
 pub text_is_read : ReadsText

@@ -1,27 +1,16 @@
 -- What tokens spell is read, and a fault that stands is found: accepted tokens, and the place that they lead to.
-use Rattle.std.proofs.lemmas.Grind.{common_steps}
-use Rattle.std.proofs.Common.{rules, ◌≡◌, ◌∙◌, ◌≢◌, ℕ, ◌<◌, ◌≤◌, ◌+◌, Bool, true, false, List, [], ◌∷◌, ◌++◌, length, map, refl, arith}
-use Rattle.std.proofs.Common.{append_assoc, Ok, Err, ap, sym, subst}
-use Rattle.qbf_spelling.proofs.Words
-use Words.{map-append, length-append, flat_map, AllByRecursion, Quantifier, Literal, Block, pairs, is_bound, blocks_of, variables, Token}
-use Words.{number, literal, letter, set, Ends, Qbf, Lined, unlined, read-one}
-use Words.token
-use Words.word
-use Rattle.std.proofs.lemmas.List.{append-nil}
-use Rattle.qbf_core.specs.Blocks.{pairs_of_block}
-use Rattle.qbf_core.proofs.DistinctNumbers.{middle, front_all, front_distinct, new_number}
+use Rattle.qdimacs.proofs.Words.{common_steps, rules, ◌≡◌, ◌∙◌, ◌≢◌, ℕ, ◌<◌, ◌≤◌, ◌+◌, Bool, true, List, [], ◌∷◌, ◌++◌, length, map, refl}
+use Rattle.qdimacs.proofs.Words.{arith, append_assoc, Ok, Err, ap, sym, subst, map-append, length-append, flat_map, AllByRecursion}
+use Rattle.qdimacs.proofs.Words.{Quantifier, Literal, Block, pairs, is_bound, blocks_of, variables, Token, number, literal, letter, set}
+use Rattle.qdimacs.proofs.Words.{Ends, Qbf, Lined, unlined, read-one, append-nil, pairs_of_block, middle, front_all, front_distinct}
+use Rattle.qdimacs.proofs.Words.{new_number, Leads, Stays, leads_then, split_at, leads_reads, AreGood, Reads, Spells, IsFault, header}
+use Rattle.qdimacs.proofs.Words.{clause, IsFormula, Heading, Place, AtP, InHeader, Between, InSet, InClause, Whole, row, Pairs, Clauses}
+use Rattle.qdimacs.proofs.Words.{AreFrom, Row, read, answer_of, blocks_of-pairs, ReadsOnce, FormulaFault, after}
+use Rattle.qbf_spelling.proofs.Words.token
+use Rattle.qbf_spelling.proofs.Words.word
 use Rattle.qdimacs.proofs.AllVariablesBound.{is_bound_variables}
-use Rattle.qbf_text.proofs.AcceptedTokens.{Leads, Stays, Passes, leads_then, split_at, leads_reads}
+use Rattle.qbf_text.proofs.AcceptedTokens.{Passes}
 use Rattle.qbf_spelling.specs.declared.header.HeaderAt.TheVariants as place
-use Rattle.qdimacs.specs.Faults.{AreGood, Reads, Spells, IsFault}
-use Rattle.qdimacs.specs.Grammar.{header, clause, IsFormula}
-use Rattle.qbf_text.specs.Rows.{Goes}
-use Rattle.qdimacs.specs.Reading.{Heading, Place, AtP, InHeader, Between, InSet, InClause, Whole, row, Pairs, Clauses, AreFrom, Row, read}
-use Rattle.qdimacs.specs.Reading.{answer_of}
-use Rattle.qbf_core.proofs.BlockLaws.{blocks_of-pairs}
-use Rattle.qbf_text.specs.Answering.{ReadsOnce}
-use Rattle.qdimacs.specs.declared.fault.FormulaFault.{FormulaFault}
-use Rattle.qbf_text.proofs.OneToken.{after}
 
 -- ---- the header
 
@@ -45,13 +34,6 @@ good_front max_var xs ys good = grind (arith, common_steps, front_distinct, fron
 
 -- ---- a set
 
-variable_row : (h : Heading) (ps : Pairs) (q : Quantifier) (v : ℕ) → 1 ≤ v → v ≤ h.max_var → is_bound v ps ≡ false
-    → row (InSet h ps q) (number v) ≡ Goes (InSet h (ps ++ (q, v) ∷ []) q)
-variable_row h ps q v low high fresh = search rules
-
-letter_row : (h : Heading) (ps : Pairs) (q : Quantifier) → row (Between h ps []) (letter q) ≡ Goes (InSet h ps q)
-letter_row h ps q = search rules
-
 leads_variables : (h : Heading) (ps : Pairs) (q : Quantifier) (vs : List ℕ) → AreGood h.max_var (ps ++ map (λ v. (q, v)) vs)
     → Leads row (InSet h ps q) (map number vs) (InSet h (ps ++ map (λ v. (q, v)) vs) q)
 leads_variables h ps q [] good = rw append-nil Stays
@@ -59,14 +41,14 @@ leads_variables h ps q (v ∷ vs) good =
     let more = variables (map (λ w. (q, w)) vs) in
     let bounds = middle (λ w. (1 ≤ w) × (w ≤ h.max_var)) (variables ps) more v (rw map-append at good.within) in
     let fresh = is_bound_variables v ps ∙ new_number (variables ps) more v (rw map-append at good.distinct) in
-    Passes (variable_row h ps q v bounds.0 bounds.1 fresh)
+    Passes (search rules)
     (rw append_assoc at (leads_variables h (ps ++ (q, v) ∷ []) q vs (rw append_assoc good)))
 
 -- a set that is not closed
 pub leads_begun_set : (h : Heading) (ps : Pairs) (q : Quantifier) (vs : List ℕ)
     → AreGood h.max_var (ps ++ map (λ v. (q, v)) vs)
     → Leads row (Between h ps []) (letter q ∷ map number vs) (InSet h (ps ++ map (λ v. (q, v)) vs) q)
-leads_begun_set h ps q vs good = Passes (letter_row h ps q) (leads_variables h ps q vs good)
+leads_begun_set h ps q vs good = Passes (search rules) (leads_variables h ps q vs good)
 
 pub leads_sets : (h : Heading) (ps : Pairs) (sets : List Block) → AreGood h.max_var (ps ++ pairs sets)
     → Leads row (Between h ps []) (flat_map set sets) (Between h (ps ++ pairs sets) [])
@@ -81,26 +63,18 @@ leads_sets h ps (s ∷ sets) good =
 -- ---- a clause
 
 module _ (h : Heading) (ps : Pairs) (good : AreGood h.max_var ps) where
-  literal_row : (cs : Clauses) (ls : List Literal) (v : ℕ) (negative : Bool) → 1 ≤ v → v ≤ h.max_var → is_bound v ps ≡ true
-      → row (InClause h ps cs ls) (token.Number negative v) ≡ Goes (InClause h ps cs (ls ++ record { var = v; negative = negative } ∷ []))
-  literal_row cs ls v negative low high bound = search rules
-
   -- the literals of a clause that is not closed
   leads_literals : (cs : Clauses) (ls xs : List Literal) → AreFrom ps xs
       → Leads row (InClause h ps cs ls) (map literal xs) (InClause h ps cs (ls ++ xs))
   leads_literals cs ls [] bound = rw append-nil Stays
   leads_literals cs ls (l ∷ xs) bound =
       let bounds = bound_one (λ w. (1 ≤ w) × (w ≤ h.max_var)) l.var ps bound.0 good.within in
-      Passes (literal_row cs ls l.var l.negative bounds.0 bounds.1 bound.0)
+      Passes (search rules)
       (rw append_assoc at (leads_literals cs (ls ++ l ∷ []) xs bound.1))
-
-  first_row : (cs : Clauses) (negative : Bool) (n : ℕ) → length cs < h.count
-      → row (Between h ps cs) (token.Number negative n) ≡ row (InClause h ps cs []) (token.Number negative n)
-  first_row cs negative n more = search rules
 
   begins : {cs : Clauses} {negative : Bool} {n : ℕ} {ts : List Token} {q : Place} → length cs < h.count
       → Leads row (InClause h ps cs []) (token.Number negative n ∷ ts) q → Leads row (Between h ps cs) (token.Number negative n ∷ ts) q
-  begins {cs} {negative} {n} more (Passes e l) = Passes (first_row cs negative n more ∙ e) l
+  begins {cs} {negative} {n} more (Passes e l) = Passes (grind (arith, common_steps)) l
 
   pub leads_begun_clause : (cs : Clauses) (ls : List Literal) → AreFrom ps ls → ls ≢ []
       → length cs < h.count → Leads row (Between h ps cs) (map literal ls) (InClause h ps cs ls)

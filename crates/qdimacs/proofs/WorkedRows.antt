@@ -1,13 +1,9 @@
 -- Worked rows of formulas.
+use Rattle.qdimacs.proofs.Words.{AllByRecursion, Qbf, exists, all, F2, F3, F4, F5, F6, F7, F8, text, read_formula, Answer}
 use Rattle.std.specs.Prelude.{codes, ◌≡◌, ℕ, List, [], ◌∷◌, Ok, Err, refl}
-use Rattle.qbf_spelling.proofs.Words.{AllByRecursion, Qbf, read_from}
+use Rattle.qbf_spelling.proofs.Words.{read_from}
 use Rattle.std.specs.Fmt.{digits}
 use Rattle.qbf_core.specs.Literal.{positive as pos, negative as neg}
-use Rattle.qbf_spelling.proofs.Worked.{exists, all}
-use Rattle.qdimacs.specs.declared.fault.FormulaFault.TheVariants.{F2, F3, F4, F5, F6, F7, F8}
-use Rattle.qdimacs.specs.Grammar.{text}
-use Rattle.qdimacs.specs.Reading.{read_formula}
-use Rattle.qdimacs.specs.Reading.{Answer}
 
 abbrev value_a : Qbf
 value_a = record { max_var = 2; blocks = exists (1 ∷ []) ∷ all (2 ∷ []) ∷ []; clauses = (pos 1 ∷ pos 2 ∷ []) ∷ (neg 1 ∷ pos 2 ∷ []) ∷ [] }

@@ -1,16 +1,9 @@
 -- The parts of a canonical text, one after the other.
-use Rattle.std.proofs.lemmas.Grind.{common_steps}
-use Rattle.std.proofs.Common.{rules, ◌≢◌, ◌≡◌, ℕ, true, false, List, [], ◌∷◌, ◌++◌, map, Option, Some, None, refl, ap, sym, ◌∙◌}
-use Rattle.std.proofs.Common.{append_assoc, drop, slice_get, length, arith, ◌<◌, ◌+◌}
-use Rattle.qbf_spelling.proofs.Words.{flat_map, Quantifier, Literal, Block, pairs, Qbf, number, literal, letter}
-use Rattle.qbf_text.proofs.SentParts.{zero_decimal, drop_at}
-use Rattle.qbf_core.specs.Blocks.{Alternates, is_quantifier}
-use Rattle.qbf_text.specs.Canonical.{spaced, spelled, line_rest, line_text}
-use Rattle.qbf_spelling.specs.Texts.{literal_text, closing}
-use Rattle.qbf_spelling.proofs.WrittenParts.{closed_numbers, closed_literals}
-use Rattle.qdimacs.specs.Grammar.{clause, header, text}
-use Rattle.qdimacs.specs.Texts.{opening, prefix_rest, sets_text, clauses_text}
-use Rattle.qdimacs.specs.Reading.{Pairs, Clauses}
+use Rattle.qdimacs.proofs.Words.{common_steps, ◌≢◌, ◌≡◌, ℕ, false, List, [], ◌∷◌, ◌++◌, map, Option, Some, None, refl, ap, sym, ◌∙◌}
+use Rattle.qdimacs.proofs.Words.{append_assoc, drop, slice_get, length, arith, ◌<◌, ◌+◌, flat_map, Quantifier, Literal, Block, pairs, Qbf}
+use Rattle.qdimacs.proofs.Words.{number, literal, letter, zero_decimal, drop_at, Alternates, is_quantifier, spaced, spelled, line_rest}
+use Rattle.qdimacs.proofs.Words.{line_text, literal_text, closing, closed_numbers, closed_literals, clause, header, text, opening}
+use Rattle.qdimacs.proofs.Words.{prefix_rest, sets_text, clauses_text, Pairs, Clauses}
 
 -- ---- a clause
 
@@ -28,12 +21,6 @@ pub clauses_next : (cs : Clauses) (i : ℕ) (c : List Literal) → slice_get cs 
 clauses_next cs i c at = ap clauses_text (drop_at cs i c at)
 
 -- ---- a prefix
-
-same_quantifier : (q : Quantifier) → is_quantifier q q ≡ true
-same_quantifier q = search rules
-
-other_quantifier : (q r : Quantifier) → q ≢ r → is_quantifier q r ≡ false
-other_quantifier q r n = search rules
 
 -- the blocks go on with another quantifier
 abbrev Differs : Option Quantifier → List Block → Type 0

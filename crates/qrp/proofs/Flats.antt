@@ -1,44 +1,30 @@
 -- Steps in flat buffers.
-use Rattle.std.proofs.Common.{◌≡◌, ◌<◌, ◌≤◌, ◌^◌, ℕ, zero, suc, List, [], ◌∷◌, ◌++◌, length, slice_get, Some, refl, ap, subst, sym, ◌∙◌, arith}
+use Rattle.qrp.proofs.Words.{common_steps, ◌≡◌, ◌<◌, ◌≤◌, ◌^◌, ℕ, suc, List, [], ◌∷◌, ◌++◌, length, slice_get, Some, arith, AreStepNumbers}
+use Rattle.qrp.proofs.Words.{Kept, numbered, IsFlat, Inference, IsAt, IsInference}
 use Rattle.std.proofs.lemmas.List.{length-append, length-map, map-append}
 use Rattle.std.specs.List.{AllByRecursion}
 use Rattle.qbf_core.specs.Literal.{Literal}
-use Rattle.qbf_core.proofs.PrefixLaws.{AllByRecursion-push}
-use Rattle.step_index.specs.Numbers.{AreStepNumbers}
-use Rattle.qrp.specs.Flat.{Kept, numbered, IsFlat}
-use Rattle.qrp.specs.Inferences.{Inference, IsAt, IsInference, numbers}
 
 -- the parts of the step at a place
 pub numbered_at : (ns : List ℕ) (lits : List (List Literal)) (ants : List (List ℕ)) (i : ℕ) (s : Inference)
     → IsAt (numbered ns lits ants) i s → (slice_get lits i ≡ Some s.lits) × (slice_get ants i ≡ Some s.ants)
-numbered_at (n ∷ ns) (l ∷ lits) (a ∷ ants) zero s h =
-    let e : record { number = n; lits = l; ants = a } ≡ s = cc h in
-    (ap (λ (x : Inference). Some x.lits) e, ap (λ (x : Inference). Some x.ants) e)
 numbered_at (n ∷ ns) (l ∷ lits) (a ∷ ants) (suc i) s h = numbered_at ns lits ants i s h
-numbered_at ns lits ants i s h = absurd (cc h)
+numbered_at ns lits ants i s h = grind (arith, common_steps)
 
 -- a step in flat buffers has few antecedents
 pub few_at : (ns : List ℕ) (lits : List (List Literal)) (ants : List (List ℕ)) (i : ℕ) (a : List ℕ) → length lits ≡ length ns
     → length ants ≡ length ns → AllByRecursion IsInference (numbered ns lits ants) → slice_get ants i ≡ Some a → length a ≤ 2
-few_at ns lits [] i a e f all h = absurd (cc h)
-few_at [] lits (b ∷ ants) i a e f all h = absurd (omega (arith, f))
-few_at (n ∷ ns) [] (b ∷ ants) i a e f all h = absurd (omega (arith, e))
-few_at (n ∷ ns) (l ∷ lits) (b ∷ ants) zero a e f all h = let same : b ≡ a = cc h in subst (λ (x : List ℕ). length x ≤ 2) same all.0.few
 few_at (n ∷ ns) (l ∷ lits) (b ∷ ants) (suc i) a e f all h = few_at ns lits ants i a (omega (arith, e)) (omega (arith, f)) all.1 h
+few_at ns lits ants i a e f all h = grind (arith, common_steps)
 
 -- ---- one more step
 
 pub numbered_more : (ns : List ℕ) (lits : List (List Literal)) (ants : List (List ℕ)) (s : Inference) → length lits ≡ length ns
     → length ants ≡ length ns
     → numbered (ns ++ s.number ∷ []) (lits ++ s.lits ∷ []) (ants ++ s.ants ∷ []) ≡ numbered ns lits ants ++ s ∷ []
-numbered_more [] [] [] s e f = refl
-numbered_more [] [] (a ∷ ants) s e f = absurd (omega (arith, f))
-numbered_more [] (l ∷ lits) ants s e f = absurd (omega (arith, e))
-numbered_more (n ∷ ns) [] ants s e f = absurd (omega (arith, e))
-numbered_more (n ∷ ns) (l ∷ lits) [] s e f = absurd (omega (arith, f))
 numbered_more (n ∷ ns) (l ∷ lits) (a ∷ ants) s e f =
-    ap (λ (steps : List Inference). record { number = n; lits = l; ants = a } ∷ steps)
-    (numbered_more ns lits ants s (omega (arith, e)) (omega (arith, f)))
+    grind (arith, common_steps, numbered_more ns lits ants s (omega (arith, e)) (omega (arith, f)))
+numbered_more ns lits ants s e f = grind (arith, common_steps)
 
 abbrev AntsFit : Inference → Type 0
 AntsFit s = AllByRecursion (λ n. n < 2 ^ 64) s.ants
@@ -49,37 +35,4 @@ pub flat_pushed : (k : Kept) (s : Inference) → IsFlat k → AreStepNumbers (k.
       lits = k.lits ++ s.lits ∷ [];
       ants = k.ants ++ s.ants ∷ [];
     })
-flat_pushed k s f are is fit =
-    let ns = k.numbers in
-    let lits = k.lits in
-    let ants = k.ants in
-    let steps = numbered ns lits ants in
-    let more = numbered_more ns lits ants s f.lits_counted f.ants_counted in
-    let same : numbers (numbered (ns ++ s.number ∷ []) (lits ++ s.lits ∷ []) (ants ++ s.ants ∷ [])) ≡ ns ++ s.number ∷ [] =
-    ap numbers more ∙ map-append (λ (x : Inference). x.number) steps (s ∷ []) ∙ ap (λ (ms : List ℕ). ms ++ s.number ∷ []) (sym f.same) in
-    let before = f.well_formed in
-    record {
-      well_formed = record {
-        grammatical = record {
-          variables = before.grammatical.variables;
-          inferences = rw more (AllByRecursion-push IsInference steps s before.grammatical.inferences is);
-          distinct = rw same are.distinct;
-        };
-        fits = record {
-          vars = before.fits.vars;
-          steps = before.fits.steps;
-          numbers_fit = rw same are.fit;
-          ants_fit = rw more (AllByRecursion-push AntsFit steps s before.fits.ants_fit fit);
-          count = omega (
-            arith,
-            are.count,
-            ap length same,
-            length-map
-                (numbered (ns ++ s.number ∷ []) (lits ++ s.lits ∷ []) (ants ++ s.ants ∷ [])) (λ (x : Inference). x.number),
-          );
-        };
-      };
-      same = sym same;
-      lits_counted = omega (arith, f.lits_counted, length-append lits (s.lits ∷ []), length-append ns (s.number ∷ []));
-      ants_counted = omega (arith, f.ants_counted, length-append ants (s.ants ∷ []), length-append ns (s.number ∷ []));
-    }
+flat_pushed k s f are is fit = grind (arith, common_steps, numbered_more, map-append, length-map, length-append)

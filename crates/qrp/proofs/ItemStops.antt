@@ -1,27 +1,19 @@
 -- Reading an item stops after its last word.
-use Rattle.std.proofs.Common.{rules, ◌≡◌, ℕ, List, [], ◌∷◌, ◌++◌, Option, Ok, ◌⊎◌, refl, sym, ap, append-nil, ◌∙◌}
-use Rattle.qbf_spelling.proofs.Words
-use Words.{Lined}
-use Words.token
+use Rattle.qrp.proofs.Words.{arith, common_steps, rules, ◌≡◌, ℕ, List, [], ◌∷◌, ◌++◌, Option, Ok, ◌⊎◌, refl, sym, ap, append-nil, ◌∙◌}
+use Rattle.qrp.proofs.Words.{Lined, IfKnown, Stops, P7, Item, Stage, AtHeader, AtLists, StopsBehindPart, place_next, Giving, Takes, Giver}
+use Rattle.qrp.proofs.Words.{item_row, giving, Stands, StopsBehind}
+use Rattle.qbf_spelling.proofs.Words.token
 use Rattle.qbf_text.specs.Rows as rows
 use Rattle.qbf_text.specs.Stopping as text
-use Rattle.qbf_text.specs.Stopping.{IfKnown, Stops}
 use Rattle.qbf_text.proofs.Stops.{if_known, taken_no_end, unread_fault}
-use Rattle.qrp.specs.declared.fault.TraceFault.TheVariants.{P7}
-use Rattle.qrp.specs.declared.item.Item.{Item}
 use Rattle.qrp.specs.declared.item.Item.TheVariants as item
-use Rattle.qrp.specs.declared.reader.Stage.{Stage}
-use Rattle.qrp.specs.declared.reader.Stage.TheVariants.{AtHeader, AtLists}
-use Rattle.qrp.specs.Given.{StopsBehindPart, place_next}
-use Rattle.qrp.specs.Items.{Giving, Takes, Giver, item_row, as_given, giving, Stands, StopsBehind}
 use Rattle.qrp.specs.Reading.{Place, Between, items_from}
 use Rattle.qrp.proofs.RowsReadTheItem.{gives, given_of}
 use Rattle.qrp.proofs.SpelledIsRead.{Answer, end_row}
 
 -- no place takes End
 pub refused : (p : Giving) → item_row p token.End ≡ rows.Fails P7
-refused (Takes p) = ap as_given (end_row p)
-refused next = refl
+refused p = grind (arith, common_steps, end_row)
 
 -- an item that is complete is given
 given_whole : (i : Item) (ns : List ℕ) (rest : List Lined)

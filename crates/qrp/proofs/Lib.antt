@@ -8,3 +8,4 @@ pub mod ReadItemByItem
 pub mod RowsReadTheItem
 pub mod ItemStops
 pub mod ReadingLaws
+pub mod Words

@@ -1,48 +1,28 @@
 -- What is read is spelled, and a fault that is found stands.
-use Rattle.std.proofs.Common.{rules, ◌≡◌, ℕ, ◌≤◌, ◌+◌, List, [], ◌∷◌, ◌++◌, ◌⊎◌, inl, inr, length, Ok, Err, refl, ap, sym, ◌∙◌, false}
-use Rattle.std.proofs.Common.{arith, append_assoc, append-nil}
-use Rattle.qbf_spelling.proofs.Words
-use Words.{map-append, length-append, flat_map, AllByRecursion, IsDistinct, Quantifier, Literal, Block, IsVariable, AllByRecursion-push}
-use Words.{Token, Lined, unlined, number, literal, letter, set}
-use Words.token
-use Words.word
-use Rattle.qbf_text.specs.Lined.{EndsOnce}
-use Rattle.qbf_core.proofs.DistinctNumbers.{push_distinct}
-use Rattle.qbf_text.proofs.AcceptedTokens.{Answers, flat_map-push}
+use Rattle.qrp.proofs.Words.{common_steps, rules, ◌≡◌, ℕ, ◌≤◌, ◌+◌, List, [], ◌∷◌, ◌++◌, ◌⊎◌, inl, inr, length, Ok, Err, refl, sym, ◌∙◌}
+use Rattle.qrp.proofs.Words.{false, arith, append_assoc, append-nil, map-append, length-append, AllByRecursion, Quantifier, Literal, Block}
+use Rattle.qrp.proofs.Words.{IsVariable, AllByRecursion-push, Token, Lined, unlined, number, letter, set, EndsOnce, push_distinct}
+use Rattle.qrp.proofs.Words.{flat_map-push, Header, Outcome, Inference, IsInference, IsNumber, numbers, Derivation, step, result_word}
+use Rattle.qrp.proofs.Words.{lists, ReadsAsRead, explained, is_used}
+use Rattle.qbf_spelling.proofs.Words.{IsDistinct}
+use Rattle.qbf_spelling.proofs.Words.token
+use Rattle.qbf_spelling.proofs.Words.word
+use Rattle.qbf_text.proofs.AcceptedTokens.{Answers}
 use Rattle.qbf_spelling.specs.declared.header.HeaderAt.TheVariants as place
-use Rattle.qrp.specs.declared.item.Header.{Header}
-use Rattle.qrp.specs.declared.item.Outcome.{Outcome}
-use Rattle.qrp.specs.Inferences.{Inference, IsInference, IsLiteral, IsNumber, numbers}
-use Rattle.qrp.specs.Derivations.{Derivation}
-use Rattle.qrp.specs.Grammar.{header, step, result_word, lists}
-use Rattle.qbf_text.specs.Answering.{ReadsAsRead}
-use Rattle.qbf_text.proofs.Answered.{explained}
 use Rattle.qrp.specs.Faults.{AreLists, Spells, Reads}
-use Rattle.qrp.specs.Reading.{Place, AtP, InHeader, Between, InSet, InLits, InAnts, AtResult, Row, Goes, Closes, Ends}
-use Rattle.qrp.specs.Reading.{Fails, row, read}
-use Rattle.step_index.specs.Numbers.{is_used}
-use Rattle.qrp.proofs.SpelledIsRead.{end_row}
-use Rattle.qrp.proofs.SpelledIsRead.{read_once}
+use Rattle.qrp.specs.Reading.{Place, AtP, InHeader, Between, InSet, InLits, InAnts, AtResult, Row, Goes, Closes, Ends, Fails, row, read}
+use Rattle.qrp.proofs.SpelledIsRead.{end_row, read_once}
 
 -- ---- lists that grow
 
 -- a token after a begun list
 pushed : {ts begun : List Token} {ns : List ℕ} (t : Token) → AreLists ts begun ns → AreLists (ts ++ t ∷ []) (begun ++ t ∷ []) ns
-pushed t a = record {
-  header = a.header;
-  sets = a.sets;
-  steps = a.steps;
-  spelled = rw (a.spelled, append_assoc);
-  numbered = a.numbered;
-  grammatical = a.grammatical;
-}
+pushed t a = grind (arith, common_steps, append_assoc)
 
 set_pushed : (h : Header) (sets : List Block) (s : Block) (steps : List Inference) → numbers steps ≡ []
     → lists h sets steps ++ set s ≡ lists h (sets ++ s ∷ []) steps ++ []
 set_pushed h sets s (x ∷ steps) e = absurd cc
-set_pushed h sets s [] e =
-    ap (λ (x : List Token). x ++ set s) (append-nil (header h ++ flat_map set sets)) ∙ (simp (flat_map-push, append_assoc))
-    ∙ sym (append-nil (header h ++ flat_map set (sets ++ s ∷ []))) ∙ sym (append-nil (lists h (sets ++ s ∷ []) []))
+set_pushed h sets s [] e = grind (arith, common_steps, append-nil, flat_map-push, append_assoc)
 
 set_closed : {ts : List Token} (s : Block) → AllByRecursion IsVariable s.vars → AreLists ts (set s) [] → AreLists ts [] []
 set_closed s vars a = record {
@@ -51,11 +31,7 @@ set_closed s vars a = record {
   steps = a.steps;
   spelled = a.spelled ∙ set_pushed a.header a.sets s a.steps a.numbered;
   numbered = a.numbered;
-  grammatical = record {
-    variables = AllByRecursion-push (λ b. AllByRecursion IsVariable b.vars) a.sets s a.grammatical.variables vars;
-    inferences = a.grammatical.inferences;
-    distinct = a.grammatical.distinct;
-  };
+  grammatical = grind (arith, common_steps, a.grammatical);
 }
 
 step_closed : {ts : List Token} {ns : List ℕ} (s : Inference) → IsInference s → is_used s.number ns ≡ false → AreLists ts (step s) ns
@@ -95,18 +71,11 @@ set_goes : (q : Quantifier) (vs : List ℕ) (t : Token) (next : Place) → IsTo 
     → ((t ≡ number 0) × (next ≡ Between [])) ⊎ ((v : ℕ) × IsVariable v × (t ≡ number v) × (next ≡ InSet q (vs ++ v ∷ [])))
 set_goes q vs t next e = search rules
 
-literals_go : (ns : List ℕ) (n : ℕ) (ls : List Literal) (t : Token) (next : Place) → IsTo (row (InLits ns n ls) t) next
-    → ((t ≡ number 0) × (next ≡ InAnts ns n ls [])) ⊎ ((l : Literal) × IsLiteral l × (t ≡ literal l) × (next ≡ InLits ns n (ls ++ l ∷ [])))
-literals_go ns n ls t next e = search rules
-
 antecedents_go : (ns : List ℕ) (n : ℕ) (ls : List Literal) (ants : List ℕ) (t : Token) (next : Place)
     → IsTo (row (InAnts ns n ls ants) t) next
     → ((t ≡ number 0) × (next ≡ Between (ns ++ n ∷ [])))
     ⊎ ((a : ℕ) × IsNumber a × (length ants + 1 ≤ 2) × (t ≡ number a) × (next ≡ InAnts ns n ls (ants ++ a ∷ [])))
 antecedents_go ns n ls ants t next e = search rules
-
-result_goes : (t : Token) (next : Place) → IsTo (row AtResult t) next → ⊥
-result_goes t next e = search rules
 
 result_ends : (p : Place) (t : Token) (o : Outcome) → row p t ≡ Ends o → (p ≡ AtResult) × (t ≡ result_word o)
 result_ends p t o e = search rules
@@ -130,15 +99,12 @@ goes ts (Between ns) next t s e = elim (list_begins ns t next e) [
   | inr (inl k) ↦ rw (k.4, k.3) (pushed (number k.0) s, k.1, k.2, tt)
   | inr (inr k) ↦ rw (k.1, k.0) (ns, pushed (token.Word word.R) s)
 ]
-goes ts AtResult next t s e = absurd (result_goes t next e)
+goes ts AtResult next t s e = search rules
 goes ts (InSet q vs) next t s e = elim (set_goes q vs t next e) [
   | inl k ↦ rw (k.1, k.0) (set_closed (record { quantifier = q; vars = vs }) s.1 (pushed (number 0) s.0))
   | inr k ↦ rw (k.3, k.2) (rw map-append (pushed (number k.0) s.0), AllByRecursion-push IsVariable vs k.0 s.1 k.1)
 ]
-goes ts (InLits ns n ls) next t s e = elim (literals_go ns n ls t next e) [
-  | inl k ↦ rw (k.1, k.0) (pushed (number 0) s.0, s.1, s.2, s.3, tt, omega arith)
-  | inr k ↦ rw (k.3, k.2) (rw map-append (pushed (literal k.0) s.0), s.1, s.2, AllByRecursion-push IsLiteral ls k.0 s.3 k.1)
-]
+goes ts (InLits ns n ls) next t s e = grind (arith, common_steps, pushed, map-append)
 goes ts (InAnts ns n ls ants) next t s e = elim (antecedents_go ns n ls ants t next e) [
   | inl k ↦ rw (k.1, k.0) (step_closed (record { number = n; lits = ls; ants = ants })
       (record { number = s.1; lits = s.3; ants = s.4; few = s.5 }) s.2 (rw append_assoc at (pushed (number 0) s.0)))

@@ -1,34 +1,17 @@
 -- A trace is read item by item, and each item is put after the others.
-use Rattle.std.proofs.Common.{◌≡◌, ◌≤◌, ℕ, Bool, true, false, List, [], ◌∷◌, ◌++◌, length, Option, Some, None, IfSome, Result, Ok, Err, refl, ap}
-use Rattle.std.proofs.Common.{sym, ◌∙◌, option_map, append_assoc, append-nil}
-use Rattle.qbf_spelling.proofs.Words
-use Words.{Qrp, Lined, ahead, left, tokens, tokens_next, read_from}
-use Rattle.qbf_text.specs.declared.grammar.ReadError.{ReadError}
+use Rattle.qrp.proofs.Words.{arith, common_steps, ◌≡◌, ◌≤◌, ℕ, Bool, false, List, [], ◌++◌, length, Option, Some, IfSome, Result, Ok, Err}
+use Rattle.qrp.proofs.Words.{ap, sym, ◌∙◌, append_assoc, append-nil, Qrp, Lined, ahead, left, tokens, tokens_next, ReadError, Unless}
+use Rattle.qrp.proofs.Words.{fault_of, Known, Reading, reads_from, IfKnown, Skips, Stops, Leaves, Reads, Leads, TraceFault, P1, P9, Item}
+use Rattle.qrp.proofs.Words.{Outcome, is_outside, reads_bytes, Gives, StopsBehindResult, Derivation, with_item, known_items, is_last}
+use Rattle.qrp.proofs.Words.{Giving, Takes, item_row}
+use Rattle.std.proofs.Common.{option_map}
+use Rattle.qbf_spelling.proofs.Words.{read_from}
 use Rattle.qbf_text.specs.declared.grammar.ReadError.TheVariants as error
-use Rattle.qbf_text.specs.Answering.{Unless, fault_of}
-use Rattle.qbf_text.specs.Lined.{Known}
-use Rattle.qbf_text.specs.Reading.{Reading}
-use Rattle.qbf_text.specs.Rows.{reads_from}
 use Rattle.qbf_text.specs.Rows as rows
 use Rattle.qbf_text.specs.Stopping as text
-use Rattle.qbf_text.specs.Stopping.{IfKnown, Skips, Stops}
-use Rattle.qbf_text.specs.Taking.{Leaves, Reads}
-use Rattle.qbf_text.proofs.OneToken.{Leads}
-use Rattle.qbf_text.proofs.Stops.{begins_more, begins_skipped, regroup, known_skips}
-use Rattle.qbf_text.proofs.Stops.{if_known, taken_no_end, unread_fault}
-use Rattle.qrp.specs.declared.fault.TraceFault.{TraceFault}
-use Rattle.qrp.specs.declared.fault.TraceFault.TheVariants.{P1, P9}
-use Rattle.qrp.specs.declared.item.Item.{Item}
-use Rattle.qrp.specs.declared.item.Item.TheVariants as item
-use Rattle.qrp.specs.declared.item.Outcome.{Outcome}
-use Rattle.qrp.specs.Answers.{is_outside, reads_bytes, Gives, StopsBehindResult}
-use Rattle.qrp.specs.Derivations.{Derivation}
-use Rattle.qrp.specs.Flat.{with_item}
-use Rattle.qrp.specs.Given.{known_items, is_last}
+use Rattle.qbf_text.proofs.Stops.{begins_more, begins_skipped, regroup, known_skips, if_known, taken_no_end, unread_fault}
 use Rattle.qrp.specs.Items as items
-use Rattle.qrp.specs.Items.{Giving, Takes, item_row}
 use Rattle.qrp.specs.Reading.{Fault, Place, AtP, items_from, gathered, nothing, read_trace}
-use Rattle.qrp.proofs.SpelledIsRead.{Answer}
 use Rattle.qrp.proofs.ItemStops.{refused}
 use Rattle.qrp.proofs.RowsReadTheItem.{gives, given_of}
 
@@ -40,67 +23,42 @@ gathered_known d p known = option_map (gathered d) (known_items p known)
 abbrev pub gathered_of : Derivation → Place → (List ℕ → List Lined) → List ℕ → Result Derivation Fault
 gathered_of d p here bytes = gathered d (items_from p (here bytes))
 
-gather_one : (d : Derivation) (i : Item) (more : List Answer) → is_last (Ok i) ≡ false
-    → gathered d (Ok i ∷ more) ≡ gathered (with_item d i) more
-unfolding gathered
-gather_one d (item.Result o) more e = absurd (cc e)
-gather_one d i more e = refl
-
 module _ (d : Derivation) (p : Place) (next : Giving) (ts us : List Lined) where
   item_gathered : (i : Item) (q : Place) → is_last (Ok i) ≡ false → next ≡ items.Gives i q
       → read_from item_row (Takes p) ts ≡ rows.Whole tt next us
       → gathered d (items_from p ts) ≡ gathered (with_item d i) (items_from q us)
-  item_gathered i q more is e =
-      ap (gathered d) (gives ts p ∙ ap given_of (rw is at e)) ∙ gather_one d i (items_from q us) more
+  unfolding gathered
+  item_gathered i q more is e = grind (arith, common_steps, gives)
 
   result_gathered : (o : Outcome) → next ≡ items.Whole o → read_from item_row (Takes p) ts ≡ rows.Whole tt next us
       → gathered d (items_from p ts) ≡ Ok (record d { result = o })
   unfolding gathered
   result_gathered o is e = ap (gathered d) (gives ts p ∙ ap given_of (rw is at e))
 
-fault_gathered : (d : Derivation) (p : Place) (ts : List Lined) (f : TraceFault) (line : ℕ)
-    → read_from item_row (Takes p) ts ≡ rows.Fault f line → gathered d (items_from p ts) ≡ Err (f, line)
-unfolding gathered
-fault_gathered d p ts f line e = ap (gathered d) (gives ts p ∙ ap given_of e)
-
 -- ---- what was to be read is what is still to be read
 
 pub leads_first : (s : Reading) → ((bytes : List ℕ) → left s (Some bytes) ≡ Some (tokens Qrp bytes)) → (remaining : Option (List ℕ))
     → Leads (reads_bytes remaining) (gathered_known nothing AtP (left s remaining))
-leads_first s begins None = tt
-leads_first s begins (Some bytes) = rw (begins bytes) refl
+leads_first s begins remaining = grind (arith, common_steps)
 
 module _ (d : Derivation) (p : Place) (next : Giving) where
   pub leads_item : (whole : Option (Result Derivation Fault)) (i : Item) (q : Place) (known rest : Known) → is_last (Ok i) ≡ false
       → next ≡ items.Gives i q → Leads whole (gathered_known d p known) → Leaves (reads_from item_row (Takes p) known) tt next rest
       → Leads whole (gathered_known (with_item d i) q rest)
-  leads_item None i q known rest more is so_far leaves = tt
-  leads_item (Some r) i q None rest more is so_far leaves = absurd (cc so_far)
-  leads_item (Some r) i q (Some ts) None more is so_far leaves = absurd leaves
-  leads_item (Some r) i q (Some ts) (Some us) more is so_far leaves =
-      ap (λ x. Some x) (sym (item_gathered d p next ts us i q more is leaves)) ∙ so_far
+  leads_item whole i q known rest more is so_far leaves = grind (arith, common_steps, item_gathered)
 
   pub leads_result : (whole : Option (Result Derivation Fault)) (o : Outcome) (known rest : Known) → next ≡ items.Whole o
       → Leads whole (gathered_known d p known) → Leaves (reads_from item_row (Takes p) known) tt next rest
       → Gives (Ok (record d { result = o })) whole
-  leads_result None o known rest is so_far leaves = tt
-  leads_result (Some r) o None rest is so_far leaves = absurd (cc so_far)
-  leads_result (Some r) o (Some ts) None is so_far leaves = absurd leaves
-  leads_result (Some r) o (Some ts) (Some us) is so_far leaves =
-      let e : gathered d (items_from p ts) ≡ r = cc so_far in
-      sym e ∙ result_gathered d p next ts us o is leaves
+  leads_result whole o known rest is so_far leaves = grind (arith, common_steps, result_gathered)
 
   unless : (b : Bool) {X : Type 0} → X → Unless b X
-  unless true x = tt
-  unless false x = x
+  unless b x = grind (arith, common_steps)
 
   fault_read : (whole : Option (Result Derivation Fault)) (known : Known) (f : TraceFault) (line : ℕ) → Leads whole (gathered_known d p known)
       → IfSome (reads_from item_row (Takes p) known) (λ r. r ≡ rows.Fault f line) → IfSome whole (λ r. r ≡ Err (f, line))
-  fault_read None known f line so_far h = tt
-  fault_read (Some r) None f line so_far h = absurd (cc so_far)
-  fault_read (Some r) (Some ts) f line so_far h =
-      let e : gathered d (items_from p ts) ≡ r = cc so_far in
-      sym e ∙ fault_gathered d p ts f line h
+  unfolding gathered
+  fault_read whole known f line so_far h = grind (arith, common_steps, gives)
 
   pub leads_fault : (whole : Option (Result Derivation Fault)) (known rest : Known) (e : ReadError TraceFault)
       → Leads whole (gathered_known d p known) → Reads (reads_from item_row (Takes p) known) next rest (Err e)
@@ -112,12 +70,7 @@ module _ (d : Derivation) (p : Place) (next : Giving) where
 
 pub skips_first : (s : Reading) → s.pending ≡ [] → ((bytes : List ℕ) → tokens_next s bytes ≡ tokens Qrp bytes)
     → (remaining : Option (List ℕ)) → IfKnown (Skips read_trace (gathered_of nothing AtP (tokens_next s))) remaining (ahead s.pending remaining)
-skips_first s none begins None = tt
-skips_first s none begins (Some bytes) = rw none (record {
-  skipped = [];
-  taken = refl;
-  spelled = λ rest _. ap (λ ts. gathered nothing (items_from AtP ts)) (sym (begins rest));
-})
+skips_first s none begins remaining = grind (arith, common_steps)
 
 module _ (d : Derivation) (p : Place) (first next : Giving) (here there : List ℕ → List Lined) (begins : first ≡ Takes p)
     (whole before after : Option (List ℕ)) (few : Type 0)
@@ -183,7 +136,4 @@ stops_behind_result d p first next o here there begins is whole before after hel
     by : (whole before after : Option (List ℕ)) → IfKnown (Skips read_trace (gathered_of d p here)) whole before
         → IfKnown (text.StopsBehind item_row (Takes p) next tt here there) before (ahead held after) → length held ≤ 4096
         → IfKnown (StopsBehindResult (record d { result = o })) whole after
-    by None before after t s few = tt
-    by (Some x) None after t s few = absurd t
-    by (Some x) (Some y) None t s few = absurd s
-    by (Some x) (Some y) (Some z) t s few = result_stops d p next o here there is x y held z t s few
+    by whole before after t s few = grind (arith, common_steps, result_stops)

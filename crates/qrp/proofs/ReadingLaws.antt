@@ -1,24 +1,13 @@
 -- The laws of reading, and the canonical text that is read again.
-use Rattle.std.proofs.Common.{rules, append-nil, ◌≡◌, ◌<◌, ◌^◌, List, [], ◌∷◌, ◌++◌, map, Ok, ap, sym, ◌∙◌, arith, append_assoc, ℕ, Option}
-use Rattle.std.proofs.Common.{IfSome, Result}
-use Rattle.qbf_spelling.proofs.Words
-use Words.{flat_map-append, map-append, flat_map-map, flat_map, AllByRecursion, IsVariable, Qrp, Token, tokens, number, literal, set}
-use Words.token
-use Rattle.qbf_text.specs.Canonical.{IsPlain, IsLine}
-use Rattle.qbf_text.proofs.CanonicalTokens.{joined, tokens-lines_text, all_appended, all_mapped, closed_plain}
-use Rattle.qrp.specs.declared.item.Outcome.{Outcome}
-use Rattle.qrp.specs.declared.item.Item.TheVariants as item
-use Rattle.qrp.specs.Inferences.{Inference, IsInference, numbers}
-use Rattle.qrp.specs.Derivations.{Derivation, IsWellFormed}
-use Rattle.qbf_spelling.proofs.CanonicalLines.{literals_plain, set_written}
-use Rattle.qrp.specs.Grammar.{header, step, result, lists, lines, text, IsTrace}
-use Rattle.qrp.specs.Laws.{ReadsText, ItemsOfTrace}
+use Rattle.qrp.proofs.Words.{common_steps, rules, append-nil, ◌≡◌, ◌<◌, ◌^◌, List, [], ◌∷◌, ◌++◌, map, ◌∙◌, arith, append_assoc, ℕ, Option}
+use Rattle.qrp.proofs.Words.{IfSome, Result, flat_map-append, map-append, flat_map-map, AllByRecursion, IsVariable, Qrp, tokens, number}
+use Rattle.qrp.proofs.Words.{literal, set, IsPlain, IsLine, joined, tokens-lines_text, all_appended, all_mapped, closed_plain, Outcome}
+use Rattle.qrp.proofs.Words.{Inference, IsInference, numbers, Derivation, IsWellFormed, literals_plain, set_written, step, result, lists}
+use Rattle.qrp.proofs.Words.{lines, text, IsTrace, ReadsText, ItemsOfTrace, answered_bytes, tokens-EndsOnce, Answers, Gives, reads_bytes}
+use Rattle.qrp.proofs.Words.{is_outside, BytesRead}
+use Rattle.qbf_spelling.proofs.Words.token
 use Rattle.qrp.proofs.SpelledIsRead.{spelled_is_read, spelled_items, read_once, fault_items}
-use Rattle.qbf_text.proofs.Answered.{answered_bytes}
-use Rattle.qbf_text.proofs.TokensEndOnce.{tokens-EndsOnce}
-use Rattle.qrp.specs.Answers.{Answers, Gives, reads_bytes, is_outside}
 use Rattle.qrp.specs.Faults.{IsFault, Reads}
-use Rattle.qbf_text.specs.Answering.{BytesRead}
 use Rattle.qrp.specs.Reading.{Fault, read}
 use Rattle.qrp.proofs.ReadIsSpelled.{read_explained}
 
@@ -52,10 +41,7 @@ lines_written d w = (
 )
 
 joined_lines : (d : Derivation) → joined (lines d) ++ token.End ∷ [] ≡ lists d.header d.sets d.steps ++ result d.result ++ token.End ∷ []
-joined_lines d =
-    let parts : joined (map set d.sets ++ map step d.steps ++ result d.result ∷ [])
-    ≡ flat_map set d.sets ++ (flat_map step d.steps ++ result d.result) = simp (append-nil, flat_map-append, flat_map-map, append_assoc) in
-    ap (λ (k : List Token). (header d.header ++ k) ++ token.End ∷ []) parts ∙ simp append_assoc
+joined_lines d = grind (arith, common_steps, append-nil, flat_map-append, flat_map-map, append_assoc)
 
 -- What is written is read again.
 pub text_is_read : ReadsText
@@ -68,9 +54,7 @@ text_is_read d w =
 
 -- The items of a trace are its parts in order.
 pub trace_items : ItemsOfTrace
-trace_items ts d is =
-    let front = map item.Set d.sets ++ map item.Step d.steps in
-    spelled_items ts d is ∙ sym (map-append Ok (item.Header d.header ∷ front) (item.Result d.result ∷ []))
+trace_items ts d is = grind (arith, common_steps, spelled_items, map-append)
 
 pub bytes_read : BytesRead Reads read Qrp
 bytes_read bytes = read_explained (tokens Qrp bytes) (tokens-EndsOnce Qrp bytes)

@@ -1,27 +1,14 @@
 -- What is read by the rows of the items is the next item.
-use Rattle.std.proofs.Common.{rules, ◌≡◌, ℕ, false, List, [], ◌∷◌, Some, None, IfSome, Ok, Err, ◌⊎◌, refl, ap, sym, ◌∙◌}
-use Rattle.qbf_spelling.proofs.Words
-use Words.{Token, Lined, Read, read_from, read-one}
-use Words.token
-use Rattle.qbf_text.specs.declared.grammar.ReadError.{ReadError}
-use Rattle.qbf_text.specs.declared.grammar.ReadError.TheVariants as error
-use Rattle.qbf_text.specs.Left.{is_end}
-use Rattle.qbf_text.specs.Lined.{Known}
-use Rattle.qbf_text.specs.Rows.{Cut, behind, reads_from}
+use Rattle.qrp.proofs.Words.{arith, common_steps, rules, ◌≡◌, ℕ, List, [], ◌∷◌, Some, IfSome, Ok, Err, ◌⊎◌, refl, ap, sym, ◌∙◌, Token}
+use Rattle.qrp.proofs.Words.{Lined, Read, read-one, ReadError, Known, Cut, reads_from, Leaves, Reads, TraceFault, P1, P7, P9, Item}
+use Rattle.qrp.proofs.Words.{known_items, GivesAnswer, GivesUnless, GivesNextItem, left_behind, stage_after, Stage, AtHeader}
+use Rattle.qrp.proofs.Words.{AtLists, Giving, Takes, Whole, Giver, item_row, as_given, giving, Stands, GivesItem, fault_of}
+use Rattle.qbf_spelling.proofs.Words.{read_from}
 use Rattle.qbf_text.specs.Rows as rows
-use Rattle.qbf_text.specs.Taking.{Leaves, Reads}
 use Rattle.qbf_text.proofs.OneToken as going
-use Rattle.qrp.specs.declared.fault.TraceFault.{TraceFault}
-use Rattle.qrp.specs.declared.fault.TraceFault.TheVariants.{P1, P7, P9}
-use Rattle.qrp.specs.declared.item.Item.{Item}
 use Rattle.qrp.specs.declared.item.Item.TheVariants as item
-use Rattle.qrp.specs.Given.{KnownItems, known_items, GivesAnswer, GivesUnless, GivesNextItem, left_behind, stage_after}
-use Rattle.qrp.specs.declared.reader.Stage.{Stage}
-use Rattle.qrp.specs.declared.reader.Stage.TheVariants.{AtHeader, AtLists}
-use Rattle.qrp.specs.Items.{Giving, Takes, Gives, Whole, Giver, item_row, as_given, giving, Stands, GivesItem}
-use Rattle.qbf_text.specs.Answering.{fault_of}
-use Rattle.qrp.specs.Reading.{Place, Row}
-use Rattle.qrp.specs.Reading.{row, items_from}
+use Rattle.qrp.specs.Items.{Gives}
+use Rattle.qrp.specs.Reading.{Place, row, items_from}
 use Rattle.qrp.proofs.SpelledIsRead.{Answer, after, items-one, end_row}
 
 -- the items that are left to give where reading by rows answers this
@@ -37,21 +24,13 @@ given_of Cut = Err (P7, 0) ∷ []
 abbrev pub More : List Lined → Type 0
 More ts = (p : Place) → items_from p ts ≡ given_of (read_from item_row (Takes p) ts)
 
-by_row : (t : Lined) (ts : List Lined) → is_end t.0 ≡ false → More ts → (r : Row)
-    → after r t.1 ts ≡ given_of (going.after item_row (as_given r) t ts)
-by_row t ts open_ more r = search rules
-
 by_token : (t : Token) (line : ℕ) (ts : List Lined) → More ts → (p : Place)
     → after (row p t) line ts ≡ given_of (going.after item_row (as_given (row p t)) (t, line) ts)
-by_token token.End line ts more p = rw (end_row p) refl
-by_token t line ts more p = by_row (t, line) ts refl more (row p t)
-
-gives_none : More []
-unfolding items_from read_from
-gives_none p = refl
+by_token t line ts more p = grind (arith, common_steps, end_row)
 
 pub gives : (ts : List Lined) → More ts
-gives [] = gives_none
+unfolding items_from read_from
+gives [] = λ p. refl
 gives (t ∷ ts) = λ p. items-one p t ts ∙ by_token t.0 t.1 ts (gives ts) p ∙ ap given_of (sym (read-one item_row (Takes p) t ts))
 
 -- ---- what a call returns that reads so
@@ -59,30 +38,17 @@ gives (t ∷ ts) = λ p. items-one p t ts ∙ by_token t.0 t.1 ts (gives ts) p �
 pub item_given : (p : Place) (known : Known) (next : Giving) (rest : Known) (i : Item) (ns : List ℕ)
     → Leaves (reads_from item_row (Takes p) known) tt next rest → next ≡ giving i ns
     → GivesAnswer (known_items p known) (left_behind (stage_after (Ok i)) ns rest) (Ok i)
-item_given p None next rest i ns leaves is = tt
-item_given p (Some ts) next None i ns leaves is = absurd leaves
-item_given p (Some ts) next (Some rest) (item.Result o) ns leaves is =
-    let last = gives ts p ∙ ap given_of (rw is at leaves) in
-    (last, sym last)
-item_given p (Some ts) next (Some rest) i ns leaves is = gives ts p ∙ ap given_of (rw is at leaves)
-
-unless : (f : TraceFault) (line : ℕ) (before : KnownItems) → GivesAnswer before (Some (Err (f, line) ∷ [])) (Err (f, line))
-    → GivesUnless f before (Some (Err (f, line) ∷ [])) (Err (f, line))
-unless f line before h = search rules
+item_given p known next rest i ns leaves is = grind (arith, common_steps, gives)
 
 fault_left : (p : Place) (known : Known) (f : TraceFault) (line : ℕ)
     → IfSome (reads_from item_row (Takes p) known) (λ r. r ≡ rows.Fault f line)
     → GivesAnswer (known_items p known) (Some (Err (f, line) ∷ [])) (Err (f, line))
-fault_left p None f line h = tt
-fault_left p (Some ts) f line h =
-    let last = gives ts p ∙ ap given_of h in
-    (last, sym last)
+fault_left p known f line h = grind (arith, common_steps, gives)
 
 pub fault_given : (p : Place) (known : Known) (next : Giving) (rest : Known) (e : ReadError TraceFault)
     → Reads (reads_from item_row (Takes p) known) next rest (Err e)
     → GivesUnless (fault_of P1 P9 e).0 (known_items p known) (Some (Err (fault_of P1 P9 e) ∷ [])) (Err (fault_of P1 P9 e))
-fault_given p known next rest (error.Text f line) h = unless f line (known_items p known) (fault_left p known f line h)
-fault_given p known next rest e h = refl
+fault_given p known next rest e h = grind (arith, common_steps, fault_left)
 
 -- what a reader that is not done has left
 pub next_given : (stage : Stage) (before g : Giver) (known after_ : Known) (answer : Answer) → (stage ≡ AtHeader) ⊎ (stage ≡ AtLists)
@@ -93,4 +59,4 @@ next_given stage before g known after_ answer open_ stands h = search rules
 
 -- a fault is given for good
 pub given_again : (f : TraceFault) (line : ℕ) → GivesUnless f (Some (Err (f, line) ∷ [])) (Some (Err (f, line) ∷ [])) (Err (f, line))
-given_again f line = unless f line (Some (Err (f, line) ∷ [])) (refl, refl)
+given_again f line = search rules

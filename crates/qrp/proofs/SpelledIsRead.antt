@@ -1,29 +1,17 @@
 -- What tokens spell is read, and a fault that stands is found: accepted tokens, and the place that they lead to.
-use Rattle.std.proofs.Common.{rules, ◌≡◌, ℕ, ◌<◌, ◌≤◌, Bool, false, List, [], ◌∷◌, ◌++◌, length, map, Result, Ok, Err, refl, ap, ◌∙◌, arith}
-use Rattle.std.proofs.Common.{append_assoc, append-nil, nat_eq}
-use Rattle.qbf_spelling.proofs.Words
-use Words.{length-append, flat_map, AllByRecursion, IsDistinct, Quantifier, Literal, Block, IsVariable, Token, Lined, unlined, number}
-use Words.{literal, letter, set}
-use Words.token
-use Words.word
-use Rattle.qbf_core.proofs.DistinctNumbers.{new_number}
-use Rattle.qrp.specs.declared.fault.TraceFault.TheVariants.{P7}
-use Rattle.qrp.specs.declared.item.Header.{Header}
-use Rattle.qrp.specs.declared.item.Item.{Item}
+use Rattle.qrp.proofs.Words.{common_steps, rules, ◌≡◌, ℕ, ◌≤◌, false, List, [], ◌∷◌, ◌++◌, length, map, Result, Ok, Err, refl, ap, ◌∙◌}
+use Rattle.qrp.proofs.Words.{arith, append_assoc, append-nil, nat_eq, length-append, flat_map, AllByRecursion, Quantifier, Literal, Block}
+use Rattle.qrp.proofs.Words.{IsVariable, Token, Lined, unlined, number, literal, set, new_number, P7, Header, Item, Inference, IsInference}
+use Rattle.qrp.proofs.Words.{IsLiteral, IsNumber, numbers, AreGrammatical, items_of_lists, Derivation, step, lists, result_word, IsTrace}
+use Rattle.qrp.proofs.Words.{is_used, split_at, TraceFault, Outcome, Sat, ReadsOnce}
+use Rattle.qbf_spelling.proofs.Words.{IsDistinct}
+use Rattle.qbf_spelling.proofs.Words.token
+use Rattle.qbf_spelling.proofs.Words.word
 use Rattle.qrp.specs.declared.item.Item.TheVariants as item
-use Rattle.qrp.specs.Inferences.{Inference, IsInference, IsLiteral, IsNumber, numbers}
-use Rattle.qrp.specs.Derivations.{AreGrammatical, items_of_lists, Derivation}
-use Rattle.qrp.specs.Grammar.{step, lists, result_word, IsTrace}
 use Rattle.qrp.specs.Reading.{Fault, Place, AtP, Between, InSet, InLits, InAnts, AtResult, Row, Goes, Closes, Ends, Fails, row, items_from}
 use Rattle.qrp.specs.Reading.{InHeader, items, gathered, nothing, read}
-use Rattle.step_index.specs.Numbers.{is_used}
-use Rattle.qbf_text.proofs.AcceptedTokens.{split_at}
 use Rattle.qbf_spelling.specs.declared.header.HeaderAt.TheVariants as place
-use Rattle.qrp.specs.declared.fault.TraceFault.{TraceFault}
-use Rattle.qrp.specs.declared.item.Outcome.{Outcome}
-use Rattle.qrp.specs.declared.item.Outcome.TheVariants.{Sat, Unsat}
 use Rattle.qrp.specs.Faults.{AreLists, Spells, IsFault, whole_before, Reads}
-use Rattle.qbf_text.specs.Answering.{ReadsOnce}
 
 abbrev pub Answer : Type 0
 Answer = Result Item Fault
@@ -37,17 +25,7 @@ after (Fails f) line rest = Err (f, line) ∷ []
 
 pub items-one : (p : Place) (t : Lined) (rest : List Lined) → items_from p (t ∷ rest) ≡ after (row p t.0) t.1 rest
 unfolding items_from
-items-one p t rest = elim (row p t.0) as (λ r. elim r [
-  | Goes next ↦ items_from next rest
-  | Closes i next ↦ Ok i ∷ items_from next rest
-  | Ends o ↦ Ok (item.Result o) ∷ []
-  | Fails f ↦ Err (f, t.1) ∷ []
-] ≡ after r t.1 rest) [
-  | Goes next ↦ refl
-  | Closes i next ↦ refl
-  | Ends o ↦ refl
-  | Fails f ↦ refl
-]
+items-one p t rest = grind (arith, common_steps)
 
 -- the tokens close these items, and lead from one place to another
 pub data Leads : Place → List Token → List Item → Place → Type 0 where
@@ -89,40 +67,28 @@ end_row p = search rules
 
 -- ---- a set
 
-variable_row : (q : Quantifier) (vs : List ℕ) (v : ℕ) → IsVariable v → row (InSet q vs) (number v) ≡ Goes (InSet q (vs ++ v ∷ []))
-variable_row q vs v h = search rules
-
 pub leads_variables : (q : Quantifier) (vs ws : List ℕ) → AllByRecursion IsVariable ws
     → Leads (InSet q vs) (map number ws) [] (InSet q (vs ++ ws))
 leads_variables q vs [] h = rw append-nil Stays
-leads_variables q vs (w ∷ ws) h = Passes (variable_row q vs w h.0) (rw append_assoc at (leads_variables q (vs ++ w ∷ []) ws h.1))
-
-pub letter_row : (q : Quantifier) → row (Between []) (letter q) ≡ Goes (InSet q [])
-letter_row q = search rules
+leads_variables q vs (w ∷ ws) h = Passes (search rules) (rw append_assoc at (leads_variables q (vs ++ w ∷ []) ws h.1))
 
 leads_sets : (sets : List Block) → AllByRecursion (λ s. AllByRecursion IsVariable s.vars) sets
     → Leads (Between []) (flat_map set sets) (map item.Set sets) (Between [])
 leads_sets [] h = Stays
-leads_sets (s ∷ sets) h = leads_then (Passes (letter_row s.quantifier)
+leads_sets (s ∷ sets) h = leads_then (Passes (search rules)
     (leads_then (leads_variables s.quantifier [] s.vars h.0) (Completes refl Stays))) (leads_sets sets h.1)
 
 -- ---- a step
-
-literal_row : (ns : List ℕ) (n : ℕ) (ls : List Literal) (v : ℕ) (negative : Bool) → IsVariable v
-    → row (InLits ns n ls) (token.Number negative v) ≡ Goes (InLits ns n (ls ++ record { var = v; negative = negative } ∷ []))
-literal_row ns n ls v negative h = search rules
 
 pub leads_literals : (ns : List ℕ) (n : ℕ) (ls xs : List Literal) → AllByRecursion IsLiteral xs
     → Leads (InLits ns n ls) (map literal xs) [] (InLits ns n (ls ++ xs))
 leads_literals ns n ls [] h = rw append-nil Stays
 leads_literals ns n ls (x ∷ xs) h =
-    Passes (literal_row ns n ls x.var x.negative h.0) (rw append_assoc at (leads_literals ns n (ls ++ x ∷ []) xs h.1))
+    Passes (search rules) (rw append_assoc at (leads_literals ns n (ls ++ x ∷ []) xs h.1))
 
 antecedent_row : (ns : List ℕ) (n : ℕ) (ls : List Literal) (ants bs : List ℕ) (a : ℕ) → IsNumber a → length (ants ++ a ∷ bs) ≤ 2
     → row (InAnts ns n ls ants) (number a) ≡ Goes (InAnts ns n ls (ants ++ a ∷ []))
-antecedent_row ns n ls ants bs a h few =
-    let room : length ants < 2 = omega (arith, length-append ants (a ∷ bs)) in
-    search rules
+antecedent_row ns n ls ants bs a h few = grind (arith, common_steps, length-append)
 
 pub leads_antecedents : (ns : List ℕ) (n : ℕ) (ls : List Literal) (ants bs : List ℕ) → AllByRecursion IsNumber bs → length (ants ++ bs) ≤ 2
     → Leads (InAnts ns n ls ants) (map number bs) [] (InAnts ns n ls (ants ++ bs))
@@ -130,22 +96,11 @@ leads_antecedents ns n ls ants [] h few = rw append-nil Stays
 leads_antecedents ns n ls ants (b ∷ bs) h few = Passes (antecedent_row ns n ls ants bs b h.0 few)
     (rw append_assoc at (leads_antecedents ns n ls (ants ++ b ∷ []) bs h.1 (rw append_assoc few)))
 
-pub number_row : (ns : List ℕ) (n : ℕ) → IsNumber n → is_used n ns ≡ false → row (Between ns) (number n) ≡ Goes (InLits ns n [])
-number_row ns n h fresh = search rules
-
-pub result_begins : (ns : List ℕ) → row (Between ns) (token.Word word.R) ≡ Goes AtResult
-result_begins [] = refl
-result_begins (n ∷ ns) = refl
-
-zero_row : (ns : List ℕ) (s : Inference)
-    → row (InAnts ns s.number s.lits s.ants) (number 0) ≡ Closes (item.Step s) (Between (ns ++ s.number ∷ []))
-zero_row ns s = search rules
-
 leads_step : (ns : List ℕ) (s : Inference) → IsInference s → is_used s.number ns ≡ false
     → Leads (Between ns) (step s) (item.Step s ∷ []) (Between (ns ++ s.number ∷ []))
-leads_step ns s h fresh = Passes (number_row ns s.number h.number fresh)
+leads_step ns s h fresh = Passes (search rules)
     (leads_then (leads_literals ns s.number [] s.lits h.lits) (Passes refl
-    (leads_then (leads_antecedents ns s.number s.lits [] s.ants h.ants h.few) (Completes (zero_row ns s) Stays))))
+    (leads_then (leads_antecedents ns s.number s.lits [] s.ants h.ants h.few) (Completes (search rules) Stays))))
 
 leads_steps : (ns : List ℕ) (steps : List Inference) → AllByRecursion IsInference steps → IsDistinct nat_eq (ns ++ numbers steps)
     → Leads (Between ns) (flat_map step steps) (map item.Step steps) (Between (ns ++ numbers steps))
@@ -188,8 +143,7 @@ gathered_result d o = refl
 -- ---- what is spelled is read
 
 result_row_ok : (o : Outcome) → row AtResult (result_word o) ≡ Ends o
-result_row_ok Sat = refl
-result_row_ok Unsat = refl
+result_row_ok o = grind (arith, common_steps)
 
 -- the items of a trace that is spelled
 pub spelled_items : (ts : List Lined) (d : Derivation) → IsTrace (unlined ts) d
@@ -198,7 +152,7 @@ spelled_items ts d is =
     let k = split_at ts (lists d.header d.sets d.steps ++ token.Word word.R ∷ []) (result_word d.result) is.rest
     (is.spelled ∙ simp append_assoc) in
     ap items k.3
-    ∙ leads_gives (leads_on (leads_lists d.header d.sets d.steps is.grammatical) (Passes (result_begins (numbers d.steps)) Stays)) k.0 k.4
+    ∙ leads_gives (leads_on (leads_lists d.header d.sets d.steps is.grammatical) (Passes (search rules) Stays)) k.0 k.4
     ((result_word d.result, k.1) ∷ k.2)
     ∙ ap (λ (x : List Answer). map Ok (items_of_lists d.header d.sets d.steps) ++ x)
     (items-one AtResult (result_word d.result, k.1) k.2 ∙ ap (λ (x : Row). after x k.1 k.2) (result_row_ok d.result))
@@ -222,19 +176,16 @@ spelled_leads ts (InHeader place.Format) e = rw e (Passes refl Stays)
 spelled_leads ts (InHeader place.First) e = rw e (Passes refl (Passes refl Stays))
 spelled_leads ts (InHeader (place.Second v)) e = rw e (Passes refl (Passes refl (Passes refl Stays)))
 spelled_leads ts (Between ns) e = leads_begun e Stays
-spelled_leads ts (InSet q vs) e = leads_begun e.0 (Passes (letter_row q) (leads_variables q [] vs e.1))
-spelled_leads ts (InLits ns n ls) e = leads_begun e.0 (Passes (number_row ns n e.1 e.2) (leads_literals ns n [] ls e.3))
-spelled_leads ts (InAnts ns n ls ants) e = leads_begun e.0 (Passes (number_row ns n e.1 e.2)
+spelled_leads ts (InSet q vs) e = leads_begun e.0 (Passes (search rules) (leads_variables q [] vs e.1))
+spelled_leads ts (InLits ns n ls) e = leads_begun e.0 (Passes (search rules) (leads_literals ns n [] ls e.3))
+spelled_leads ts (InAnts ns n ls ants) e = leads_begun e.0 (Passes (search rules)
     (leads_on (leads_literals ns n [] ls e.3) (Passes refl (leads_antecedents ns n ls [] ants e.4 e.5))))
-spelled_leads ts AtResult e = leads_begun e.1 (Passes (result_begins e.0) Stays)
+spelled_leads ts AtResult e = leads_begun e.1 (Passes (search rules) Stays)
 
 before_fault : (ts : List Token) (place : Place) (s : Spells ts place) (e : Fault)
     → gathered nothing (map Ok (whole_before ts place s) ++ Err e ∷ []) ≡ Err e
 unfolding gathered
-before_fault ts (InHeader here) s e = refl
-before_fault ts (Between ns) s e = gathered_lists s.header s.sets s.steps (Err e ∷ [])
-before_fault ts AtResult s e = gathered_lists s.1.header s.1.sets s.1.steps (Err e ∷ [])
-before_fault ts place s e = gathered_lists s.0.header s.0.sets s.0.steps (Err e ∷ [])
+before_fault ts place s e = grind (arith, common_steps, gathered_lists)
 
 -- the items before a fault that stands
 pub fault_items : (ts : List Lined) (f : TraceFault) (line : ℕ) (is : IsFault ts f line)
@@ -251,5 +202,4 @@ fault_is_found ts f line is =
 
 -- Tokens read as nothing else.
 pub read_once : ReadsOnce Reads read
-read_once ts (Ok d) h = spelled_is_read ts d h
-read_once ts (Err e) h = fault_is_found ts e.0 e.1 h
+read_once ts answer h = grind (arith, common_steps, spelled_is_read, fault_is_found)

@@ -1,14 +1,8 @@
 -- Worked rows of traces.
+use Rattle.qrp.proofs.Words.{AllByRecursion, Literal, exists, all, P2, P3, P4, P5, P6, P7, P8, Sat, Unsat, Inference, Derivation, text}
 use Rattle.std.specs.Prelude.{codes, ◌≡◌, ℕ, List, [], ◌∷◌, ◌++◌, Result, Ok, Err, refl}
-use Rattle.qbf_spelling.proofs.Words.{AllByRecursion, Literal}
 use Rattle.std.specs.Fmt.{digits}
 use Rattle.qbf_core.specs.Literal.{positive as pos, negative as neg}
-use Rattle.qbf_spelling.proofs.Worked.{exists, all}
-use Rattle.qrp.specs.declared.fault.TraceFault.TheVariants.{P2, P3, P4, P5, P6, P7, P8}
-use Rattle.qrp.specs.declared.item.Outcome.TheVariants.{Sat, Unsat}
-use Rattle.qrp.specs.Inferences.{Inference}
-use Rattle.qrp.specs.Derivations.{Derivation}
-use Rattle.qrp.specs.Grammar.{text}
 use Rattle.qrp.specs.Reading.{Fault, read_trace, items_from, gathered}
 
 abbrev inference : ℕ → List Literal → List ℕ → Inference

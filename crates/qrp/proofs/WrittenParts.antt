@@ -1,18 +1,8 @@
 -- The parts of a canonical text, one after the other.
-use Rattle.std.proofs.Common.{◌≡◌, ℕ, List, [], ◌∷◌, ◌++◌, map, refl, ap, sym, ◌∙◌, append_assoc, append-nil, drop, get_or, length, zero}
-use Rattle.std.proofs.Common.{suc, inl, inr, arith, ◌<◌, ◌+◌, add-one}
-use Rattle.std.specs.Prelude.{decimal}
-use Rattle.qbf_spelling.proofs.Words.{AllByRecursion, flat_map, flat_map-append, flat_map-map, number, literal, set}
-use Rattle.qbf_text.proofs.SentParts.{line_rest-map, zero_rest, part_at}
-use Rattle.std.proofs.lemmas.Option.{slice_get_cases}
-use Rattle.qbf_text.specs.Canonical.{line_text, lines_text}
-use Rattle.qrp.specs.declared.item.Header.{Header}
-use Rattle.qrp.specs.Inferences.{Inference, IsAt}
-use Rattle.qrp.specs.Derivations.{Derivation, steps_at, with_steps_at}
-use Rattle.qbf_spelling.specs.Texts.{literal_text}
-use Rattle.qbf_spelling.proofs.WrittenParts.{closed_numbers, set_line}
-use Rattle.qrp.specs.Grammar.{step, header, result, text}
-use Rattle.qrp.specs.Texts.{zero_text, step_text, sets_text, steps_text}
+use Rattle.qrp.proofs.Words.{common_steps, ◌≡◌, ℕ, List, [], ◌∷◌, ◌++◌, refl, sym, ◌∙◌, append_assoc, append-nil, drop, get_or, length}
+use Rattle.qrp.proofs.Words.{zero, suc, inl, inr, arith, ◌<◌, ◌+◌, add-one, AllByRecursion, flat_map-append, flat_map-map, line_rest-map}
+use Rattle.qrp.proofs.Words.{zero_rest, part_at, slice_get_cases, line_text, Header, Inference, IsAt, Derivation, steps_at, with_steps_at}
+use Rattle.qrp.proofs.Words.{closed_numbers, set_line, step, header, result, text, step_text, sets_text, steps_text}
 
 -- ---- lists
 
@@ -44,28 +34,16 @@ steps_at_next steps places k inside less = rw (add-one) (from places k inside le
 pub length_at : (steps : List Inference) (places : List ℕ) → AllByRecursion (λ i. i < length steps) places
     → length (steps_at steps places) ≡ length places
 length_at steps [] inside = refl
-length_at steps (p ∷ places) inside = elim (slice_get_cases steps p).1 [
-  | inl (s, _, is, _) ↦ rw is (ap suc (length_at steps places inside.1))
-  | inr (past, _) ↦ absurd (let less : p < length steps = inside.0 in omega (arith, less, past))
-]
+length_at steps (p ∷ places) inside = grind (arith, common_steps, slice_get_cases, length_at steps places inside.1)
 
 step_line : (s : Inference) → line_text (step s) ≡ step_text s
-step_line s =
-    ap (λ (k : List ℕ). decimal s.number ++ k)
-    (line_rest-map literal s.lits (number 0 ∷ (map number s.ants ++ number 0 ∷ []))
-    ∙ ap (λ (k : List ℕ). flat_map literal_text s.lits ++ k)
-    (zero_rest (map number s.ants ++ number 0 ∷ []) ∙ ap (λ (k : List ℕ). zero_text ++ k) (closed_numbers s.ants)))
+step_line s = grind (arith, common_steps, line_rest-map, zero_rest, closed_numbers)
 
 -- ---- the whole
 
 pub text_parts : (d : Derivation)
     → text d ≡ line_text (header d.header) ++ (sets_text d.sets ++ (steps_text d.steps ++ line_text (result d.result)))
-text_parts d =
-    let lines : lines_text (map set d.sets ++ map step d.steps ++ result d.result ∷ [])
-    ≡ flat_map (λ s. line_text (set s)) d.sets ++ (flat_map (λ s. line_text (step s)) d.steps ++ line_text (result d.result)) =
-    simp (append-nil, flat_map-append, flat_map-map, append_assoc) in
-    ap (λ (k : List ℕ). line_text (header d.header) ++ k) (lines
-    ∙ (λ i. flat_map (λ s. set_line s i) d.sets ++ (flat_map (λ s. step_line s i) d.steps ++ line_text (result d.result))))
+text_parts d = grind (arith, common_steps, append-nil, flat_map-append, flat_map-map, append_assoc, set_line, step_line)
 
 -- the same of the text with the steps at some places alone
 pub text_parts_at : (d : Derivation) (places : List ℕ) (h : Header) → AllByRecursion (λ i. i < length d.steps) places → h ≡ d.header

@@ -1,6 +1,6 @@
 -- The parts of a trace, given one after the other: the rows of the places with what is given.
-use Rattle.std.specs.Prelude.{◌≡◌, ◌≢◌, ◌<◌, Option, Some, None, ◌+◌, ◌-◌, ◌^◌, ℕ, Bool, true, false, List, [], ◌∷◌, ◌++◌, length, Result, Ok}
-use Rattle.std.specs.Prelude.{IfOk, OnOk, IfErr, ⊤}
+use Rattle.std.specs.Prelude.{◌≡◌, ◌≢◌, ◌<◌, Option, Some, None, ◌+◌, ◌-◌, ◌^◌, ℕ, Bool, true, false, List, [], ◌∷◌, ◌++◌, length, Result}
+use Rattle.std.specs.Prelude.{Ok, IfOk, OnOk, IfErr, ⊤}
 use Rattle.qbf_spelling.specs.Words.{Lined, Literal, Known, Token}
 use Rattle.qbf_text.specs.Stopping.{IfKnown}
 use Rattle.qbf_text.specs.Reading.{Reading, HasFailed}
@@ -16,7 +16,8 @@ use Rattle.qrp.specs.declared.places.Begun.{Begun}
 use Rattle.qrp.specs.declared.reader.Stage.{Stage}
 use Rattle.qrp.specs.declared.reader.Stage.TheVariants.{AtHeader, AtLists, HasResult, HasFault}
 use Rattle.qrp.specs.Flat.{Kept, made, with_item}
-use Rattle.qrp.specs.Given.{KnownItems, left_behind, is_last, numbers_with, stage_after, GivesNextItem, IsProper, StandsOnLine, StopsBehindPart}
+use Rattle.qrp.specs.Given.{KnownItems, left_behind, is_last, numbers_with, stage_after, GivesNextItem, IsProper, StandsOnLine}
+use Rattle.qrp.specs.Given.{StopsBehindPart}
 use Rattle.qrp.specs.Places.{place, item_of, numbers_behind}
 use Rattle.qrp.specs.Reading.{Fault, Place, AtP, Between, InLits, InAnts, Row, Goes, Closes, Ends, Fails, row}
 

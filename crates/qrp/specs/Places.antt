@@ -15,8 +15,7 @@ use Rattle.qrp.specs.declared.hand.Reached.{Reached}
 use Rattle.qrp.specs.declared.places.Part.{Part}
 use Rattle.qrp.specs.declared.places.Part.TheVariants as part
 use Rattle.qrp.specs.Inferences.{IsLiteral, IsNumber}
-use Rattle.qrp.specs.Reading.{Place, Row, Goes, Closes, Ends, Fails, InHeader, Between, InSet, InLits, InAnts, AtResult}
-use Rattle.qrp.specs.Reading.{row}
+use Rattle.qrp.specs.Reading.{Place, Row, Goes, Closes, Ends, Fails, InHeader, Between, InSet, InLits, InAnts, AtResult, row}
 use Rattle.step_index.specs.Numbers.{is_used}
 
 -- the place of a token, where one is taken

@@ -5,17 +5,13 @@ use Rattle.qbf_text.specs.Canonical.{spaced}
 use Rattle.qrp.specs.Inferences.{Inference}
 use Rattle.qbf_spelling.specs.Texts.{literal_text, closing, set_text}
 
--- numbers, each after a blank
-abbrev pub spaced_numbers : List ℕ → List ℕ
-spaced_numbers ns = flat_map spaced ns
-
 -- a zero after a blank
 abbrev pub zero_text : List ℕ
 zero_text = 32 ∷ 48 ∷ []
 
 -- the line of a step
 abbrev pub step_text : Inference → List ℕ
-step_text s = decimal s.number ++ (flat_map literal_text s.lits ++ (zero_text ++ (spaced_numbers s.ants ++ closing)))
+step_text s = decimal s.number ++ (flat_map literal_text s.lits ++ (zero_text ++ (flat_map spaced s.ants ++ closing)))
 
 -- the lines of sets
 abbrev pub sets_text : List Block → List ℕ

@@ -201,14 +201,6 @@ fn take_antecedent(begun: &mut Begun, number: u64, token: Token) -> Next
 
 // ---- the whole
 
-/// Takes the word of the result, which completes the trace.
-fn take_result(token: Token) -> Next
-    ensures row { (b : Begun) → Moves (row_at b at.Result token) b result }
-    ensures sound { (b : Begun) → Leads at.Result b b result }
-{
-    Ok(At::Whole(outcome_of(token)?))
-}
-
 /// The place that a token leads to. Whole lists and the numbers of whole steps stay as they are.
 #[inline(always)]
 pub fn take_at(here: At, begun: &mut Begun, token: Token) -> Next
@@ -221,7 +213,7 @@ pub fn take_at(here: At, begun: &mut Begun, token: Token) -> Next
         At::Ants(number) => take_antecedent(begun, number, token),
         At::Between => take_opening(begun, token),
         At::Set(quantifier) => take_member(begun, quantifier, token),
-        At::Result => take_result(token),
+        At::Result => Ok(At::Whole(outcome_of(token)?)),
         At::Header => take_header(begun, token),
         At::Behind(_) | At::Whole(_) => Err(Stop::Text(TraceFault::P7)),
     }

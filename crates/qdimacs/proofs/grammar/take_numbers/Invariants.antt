@@ -1,7 +1,4 @@
-use Rattle.std.proofs.Common.{◌-◌, ◌≤◌, length}
-use Rattle.qbf_text.specs.Passing.{LeadOn, Passes}
-use Rattle.qdimacs.specs.Places.{stands, IsSound}
-use Rattle.qdimacs.specs.Reading.{row}
+use Rattle.qdimacs.proofs.Words.{◌-◌, ◌≤◌, length, LeadOn, Passes, stands, IsSound, row}
 use Rattle.qdimacs.proofs.grammar.take_numbers.Given as goal
 
 abbrev pub invariant-numbers : goal.invariant-numbers

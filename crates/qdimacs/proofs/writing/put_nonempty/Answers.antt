@@ -1,4 +1,4 @@
-use Rattle.qbf_spelling.proofs.Words.{part_fails, part_then}
+use Rattle.qdimacs.proofs.Words.{part_fails, part_then}
 use Rattle.qdimacs.proofs.WrittenParts.{first_literal}
 use Rattle.qdimacs.proofs.writing.put_nonempty.Goals as goal
 

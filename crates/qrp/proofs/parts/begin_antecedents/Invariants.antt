@@ -1,5 +1,4 @@
-use Rattle.std.proofs.Common.{◌≡◌, ◌<◌, ◌^◌, take}
-use Rattle.qbf_spelling.proofs.Words.{AllByRecursion}
+use Rattle.qrp.proofs.Words.{◌≡◌, ◌<◌, ◌^◌, take, AllByRecursion}
 use Rattle.qrp.proofs.parts.begin_antecedents.Given as goal
 
 abbrev pub invariant-loop-ant : goal.invariant-loop-ant

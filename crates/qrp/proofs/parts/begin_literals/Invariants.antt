@@ -1,6 +1,4 @@
-use Rattle.std.proofs.Common.{◌≡◌, take}
-use Rattle.qbf_spelling.proofs.Words.{AllByRecursion}
-use Rattle.qrp.specs.Inferences.{IsLiteral}
+use Rattle.qrp.proofs.Words.{◌≡◌, take, AllByRecursion, IsLiteral}
 use Rattle.qrp.proofs.parts.begin_literals.Given as goal
 
 abbrev pub invariant-loop-lit : goal.invariant-loop-lit

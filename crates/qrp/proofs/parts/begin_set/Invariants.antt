@@ -1,5 +1,4 @@
-use Rattle.std.proofs.Common.{◌≡◌, take}
-use Rattle.qbf_spelling.proofs.Words.{AllByRecursion, IsVariable}
+use Rattle.qrp.proofs.Words.{◌≡◌, take, AllByRecursion, IsVariable}
 use Rattle.qrp.proofs.parts.begin_set.Given as goal
 
 abbrev pub invariant-loop-var : goal.invariant-loop-var

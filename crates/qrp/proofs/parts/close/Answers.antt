@@ -1,7 +1,4 @@
-use Rattle.std.proofs.Common.{refl, ◌∷◌, ◌++◌, []}
-use Rattle.step_index.specs.Numbers.{AreStepNumbers}
-use Rattle.qrp.specs.Flat.{kept_of}
-use Rattle.qrp.specs.Inferences.{Inference}
+use Rattle.qrp.proofs.Words.{refl, ◌∷◌, ◌++◌, [], AreStepNumbers, kept_of, Inference}
 use Rattle.qrp.proofs.Flats.{numbered_more, flat_pushed}
 use Rattle.qrp.proofs.parts.close.Goals as goal
 

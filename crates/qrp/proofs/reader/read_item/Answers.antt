@@ -1,8 +1,4 @@
-use Rattle.std.proofs.Common.{◌≤◌, length, Err, subst}
-use Rattle.qbf_spelling.proofs.Words.{left, ahead, tokens_next}
-use Rattle.qbf_text.specs.Rows.{reads_from}
-use Rattle.qbf_text.specs.Taking.{Reads}
-use Rattle.qrp.specs.Items.{Giving, item_row}
+use Rattle.qrp.proofs.Words.{◌≤◌, length, Err, subst, left, ahead, tokens_next, reads_from, Reads, Giving, item_row}
 use Rattle.qrp.proofs.RowsReadTheItem.{item_given, fault_given}
 use Rattle.qrp.proofs.ItemStops.{item_stops}
 use Rattle.qrp.proofs.reader.read_item.Goals as goal

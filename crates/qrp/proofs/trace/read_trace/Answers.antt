@@ -1,11 +1,6 @@
-use Rattle.std.proofs.Common.{◌≤◌, length, Ok, Err, refl, subst, ◌∙◌, ap}
-use Rattle.qbf_spelling.proofs.Words.{ahead, left, tokens_next}
-use Rattle.qbf_text.specs.Rows.{reads_from}
-use Rattle.qbf_text.specs.Taking.{Reads}
-use Rattle.qrp.specs.Answers.{reads_bytes}
+use Rattle.qrp.proofs.Words.{◌≤◌, length, Ok, Err, refl, subst, ◌∙◌, ap, ahead, left, tokens_next, reads_from, Reads, reads_bytes, Kept}
+use Rattle.qrp.proofs.Words.{made, with_item, Giving, item_row}
 use Rattle.qrp.specs.declared.item.Item.TheVariants as item
-use Rattle.qrp.specs.Flat.{Kept, made, with_item}
-use Rattle.qrp.specs.Items.{Giving, item_row}
 use Rattle.qrp.specs.Reading.{AtP, Between}
 use Rattle.qrp.proofs.ReadingLaws.{given_answers}
 use Rattle.qrp.proofs.ReadItemByItem.{leads_first, skips_first, leads_item, skips_item, leads_result, stops_behind_result, leads_fault}

@@ -1,11 +1,4 @@
-use Rattle.std.proofs.Common.{◌≡◌, ◌+◌, length}
-use Rattle.qbf_spelling.proofs.Words.{ahead, left, tokens_next}
-use Rattle.qbf_text.specs.Reading.{HasFailed}
-use Rattle.qbf_text.specs.Stopping.{IfKnown, Skips}
-use Rattle.qbf_text.proofs.OneToken.{Leads}
-use Rattle.qrp.specs.Answers.{reads_bytes}
-use Rattle.qrp.specs.Flat.{made, IsFlat}
-use Rattle.qrp.specs.Items.{Takes}
+use Rattle.qrp.proofs.Words.{◌≡◌, ◌+◌, length, ahead, left, tokens_next, HasFailed, IfKnown, Skips, Leads, reads_bytes, made, IsFlat, Takes}
 use Rattle.qrp.specs.Reading.{Place, read_trace}
 use Rattle.qrp.proofs.ReadItemByItem.{gathered_known, gathered_of}
 use Rattle.qrp.proofs.trace.read_trace.Given as goal

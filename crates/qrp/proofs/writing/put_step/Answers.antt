@@ -1,4 +1,4 @@
-use Rattle.qbf_spelling.proofs.Words.{part_fails, part_then}
+use Rattle.qrp.proofs.Words.{part_fails, part_then}
 use Rattle.qrp.proofs.writing.put_step.Goals as goal
 
 pub returns-in_err-put_number : goal.returns-in_err-put_number

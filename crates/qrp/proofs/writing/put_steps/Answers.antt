@@ -1,5 +1,4 @@
-use Rattle.std.proofs.Common.{arith}
-use Rattle.qbf_spelling.proofs.Words.{sent_fails, sent_part}
+use Rattle.qrp.proofs.Words.{arith, sent_fails, sent_part}
 use Rattle.qrp.proofs.WrittenParts.{steps_next}
 use Rattle.qrp.proofs.writing.put_steps.Goals as goal
 

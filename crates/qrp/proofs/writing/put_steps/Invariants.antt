@@ -1,6 +1,4 @@
-use Rattle.std.proofs.Common.{drop}
-use Rattle.qbf_spelling.proofs.Words.{flat_map, IsSent}
-use Rattle.qrp.specs.Texts.{step_text}
+use Rattle.qrp.proofs.Words.{drop, flat_map, IsSent, step_text}
 use Rattle.qrp.proofs.writing.put_steps.Given as goal
 
 abbrev pub invariant-loop-place : goal.invariant-loop-place

@@ -1,4 +1,4 @@
-use Rattle.qbf_spelling.proofs.Words.{sent_fails, sent_part}
+use Rattle.qrp.proofs.Words.{sent_fails, sent_part}
 use Rattle.qrp.proofs.WrittenParts.{steps_at_next}
 use Rattle.qrp.proofs.writing.put_steps_at.Goals as goal
 

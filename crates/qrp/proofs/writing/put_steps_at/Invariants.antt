@@ -1,7 +1,4 @@
-use Rattle.std.proofs.Common.{drop}
-use Rattle.qbf_spelling.proofs.Words.{IsSent}
-use Rattle.qrp.specs.Derivations.{steps_at}
-use Rattle.qrp.specs.Texts.{steps_text}
+use Rattle.qrp.proofs.Words.{drop, IsSent, steps_at, steps_text}
 use Rattle.qrp.proofs.writing.put_steps_at.Given as goal
 
 abbrev pub invariant-loop-place : goal.invariant-loop-place

@@ -1,4 +1,4 @@
-use Rattle.qbf_spelling.proofs.Words.{part_fails, part_then}
+use Rattle.qrp.proofs.Words.{part_fails, part_then}
 use Rattle.qrp.proofs.WrittenParts.{text_parts}
 use Rattle.qrp.proofs.writing.write_trace.Goals as goal
 

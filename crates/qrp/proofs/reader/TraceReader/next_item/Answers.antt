@@ -1,5 +1,4 @@
-use Rattle.std.proofs.Common.{◌≤◌, length, refl}
-use Rattle.qbf_spelling.proofs.Words.{ahead, tokens_next}
+use Rattle.qrp.proofs.Words.{◌≤◌, length, refl, ahead, tokens_next}
 use Rattle.qrp.proofs.ItemStops.{next_stops}
 use Rattle.qrp.specs.Given.{items_left}
 use Rattle.qrp.proofs.RowsReadTheItem.{next_given, given_again}

@@ -1,0 +1,47 @@
+-- The names that the proofs cite most, passed on from one place. Declares nothing.
+pub use Rattle.qbf_core.proofs.DistinctNumbers.{new_number, one_place, push_distinct}
+pub use Rattle.qbf_spelling.proofs.CanonicalLines.{literals_plain, set_written}
+pub use Rattle.qbf_spelling.proofs.Words.{AllByRecursion, AllByRecursion-push, Block, IsSent, IsVariable, Lined, Literal, Qrp, Quantifier}
+pub use Rattle.qbf_spelling.proofs.Words.{Read, Token, ahead, flat_map, flat_map-append, flat_map-map, left, length-append, letter, literal}
+pub use Rattle.qbf_spelling.proofs.Words.{map-append, number, part_fails, part_then, read-one, sent_fails, sent_part, set, tokens}
+pub use Rattle.qbf_spelling.proofs.Words.{tokens_next, unlined}
+pub use Rattle.qbf_spelling.proofs.Worked.{all, exists}
+pub use Rattle.qbf_spelling.proofs.WrittenParts.{closed_numbers, set_line}
+pub use Rattle.qbf_text.proofs.AcceptedTokens.{flat_map-push, split_at}
+pub use Rattle.qbf_text.proofs.Answered.{answered_bytes, explained}
+pub use Rattle.qbf_text.proofs.CanonicalTokens.{all_appended, all_mapped, closed_plain, joined, tokens-lines_text}
+pub use Rattle.qbf_text.proofs.OneToken.{Leads}
+pub use Rattle.qbf_text.proofs.SentParts.{line_rest-map, part_at, zero_rest}
+pub use Rattle.qbf_text.proofs.TokensEndOnce.{tokens-EndsOnce}
+pub use Rattle.qbf_text.specs.Answering.{BytesRead, ReadsAsRead, ReadsOnce, Unless, fault_of}
+pub use Rattle.qbf_text.specs.Canonical.{IsLine, IsPlain, line_text}
+pub use Rattle.qbf_text.specs.Lined.{EndsOnce, Known}
+pub use Rattle.qbf_text.specs.Reading.{HasFailed, Reading}
+pub use Rattle.qbf_text.specs.Rows.{Cut, reads_from}
+pub use Rattle.qbf_text.specs.Stopping.{IfKnown, Skips, Stops}
+pub use Rattle.qbf_text.specs.Taking.{Leaves, Reads}
+pub use Rattle.qbf_text.specs.declared.grammar.ReadError.{ReadError}
+pub use Rattle.qrp.specs.Answers.{Answers, Gives, StopsBehindResult, is_outside, reads_bytes}
+pub use Rattle.qrp.specs.Derivations.{AreGrammatical, Derivation, IsWellFormed, items_of_lists, steps_at, with_steps_at}
+pub use Rattle.qrp.specs.Flat.{IsFlat, Kept, kept_of, made, numbered, with_item}
+pub use Rattle.qrp.specs.Given.{GivesAnswer, GivesNextItem, GivesUnless, KnownItems, StopsBehindPart, is_last, known_items, left_behind}
+pub use Rattle.qrp.specs.Given.{place_next, stage_after}
+pub use Rattle.qrp.specs.Grammar.{IsTrace, header, lines, lists, result, result_word, step, text}
+pub use Rattle.qrp.specs.Inferences.{Inference, IsAt, IsInference, IsLiteral, IsNumber, IsOnlyAt, numbers}
+pub use Rattle.qrp.specs.Items.{Giver, GivesItem, Giving, Stands, StopsBehind, Takes, Whole, as_given, giving, item_row}
+pub use Rattle.qrp.specs.Laws.{ItemsOfTrace, ReadsText}
+pub use Rattle.qrp.specs.Texts.{sets_text, step_text, steps_text}
+pub use Rattle.qrp.specs.declared.fault.TraceFault.{TraceFault}
+pub use Rattle.qrp.specs.declared.fault.TraceFault.TheVariants.{P1, P2, P3, P4, P5, P6, P7, P8, P9}
+pub use Rattle.qrp.specs.declared.item.Header.{Header}
+pub use Rattle.qrp.specs.declared.item.Item.{Item}
+pub use Rattle.qrp.specs.declared.item.Outcome.{Outcome}
+pub use Rattle.qrp.specs.declared.item.Outcome.TheVariants.{Sat, Unsat}
+pub use Rattle.qrp.specs.declared.reader.Stage.{Stage}
+pub use Rattle.qrp.specs.declared.reader.Stage.TheVariants.{AtHeader, AtLists}
+pub use Rattle.std.proofs.Common.{Bool, Err, IfSome, List, Ok, Option, Result, Some, [], add-one, ap, append-nil, append_assoc, arith, drop}
+pub use Rattle.std.proofs.Common.{false, get_or, inl, inr, length, map, nat_eq, refl, rules, slice_get, subst, suc, sym, take, zero, ℕ}
+pub use Rattle.std.proofs.Common.{◌++◌, ◌+◌, ◌<◌, ◌^◌, ◌∙◌, ◌∷◌, ◌≡◌, ◌≤◌, ◌⊎◌}
+pub use Rattle.std.proofs.lemmas.Grind.{common_steps}
+pub use Rattle.std.proofs.lemmas.Option.{slice_get-map, slice_get_cases}
+pub use Rattle.step_index.specs.Numbers.{AreStepNumbers, is_used}
