@@ -17,9 +17,3 @@ loop-lit-preserved c =
     (λ m h. in_take_more c.args.lits.now i x m c.loop-lit-test.true c.lit-item.is h)
     (λ m h. take_more_in c.args.lits.now i x m c.loop-lit-test.true c.lit-item.is h)
     held c.inner-found.ensures c.loop-lit.invariant
-
-pub returns : goal.returns
-returns c = innermost_same c.args.prefix.now c.args.quantifier c.args.pivot c.loop-lit.found
-    (take c.loop-lit.lit-index c.args.lits.now) c.args.lits.now
-    (λ m h. in_take_all c.args.lits.now c.loop-lit.lit-index m c.loop-lit-test.false h)
-    (λ m h. take_within c.args.lits.now c.loop-lit.lit-index m h) c.loop-lit.invariant

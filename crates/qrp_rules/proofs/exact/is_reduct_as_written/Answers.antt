@@ -6,9 +6,6 @@ use Rattle.qrp_rules.proofs.exact.is_reduct_as_written.Goals.{else-next-in_to-vi
 use Rattle.qrp_rules.proofs.exact.is_reduct_as_written.Goals.{else-next-in_to-via-else-next-in_to}
 use Rattle.std.proofs.lemmas.Bool.{eqb-true}
 
-pub loop-lit-init : goal.loop-lit-init
-loop-lit-init c = record { inside = omega arith; within = λ m h. absurd h; each = λ m h. absurd h }
-
 pub loop-lit-preserved : goal.loop-lit-preserved
 loop-lit-preserved c =
     rest_more c.args.prefix.now c.args.quantifier c.args.block c.args.from.now c.args.to.now c.loop-lit.lit-index c.loop-lit.in_to
@@ -26,8 +23,3 @@ pub returns-clause-within : goal.returns-clause-within
 returns-clause-within c = λ t.
     rest_within c.args.prefix.now c.args.quantifier c.args.block c.args.from.now c.args.to.now c.loop-lit.lit-index c.loop-lit.in_to
     (eqb-true c.loop-lit.in_to _ t) c.loop-lit.invariant
-
-pub returns-clause-each : goal.returns-clause-each
-returns-clause-each c = λ t.
-    rest_each c.args.prefix.now c.args.quantifier c.args.block c.args.from.now c.args.to.now c.loop-lit.lit-index c.loop-lit.in_to
-    c.loop-lit-test.false c.loop-lit.invariant

@@ -9,9 +9,6 @@ use Rattle.qrp_rules.proofs.Clashing.{IsClashSoFar, clash_same, clash_first, cla
 use Rattle.qrp_rules.proofs.resolvent.find_clash.Goals as goal
 use Rattle.qrp_rules.proofs.resolvent.find_clash.Goals.{then-opposite+in-None, else-opposite}
 
-pub loop-lit-init : goal.loop-lit-init
-loop-lit-init c = record { reach = reach_start c.args.b.now c.args.a.now c.requires.b; clash = no_clash c.args.b.now }
-
 pub returns-in-Some : goal.returns-in-Some
 returns-in-Some c =
     let var_of : Literal → ℕ = λ z. z.var in
@@ -57,7 +54,3 @@ loop-lit-preserved c =
 pub returns-in-None-found : goal.returns-in-None-found
 returns-in-None-found c = clash_none c.args.a.now c.args.b.now c.loop-lit.lit-index c.loop-lit-test.false
     (subst (λ o. IsClashSoFar (take c.loop-lit.lit-index c.args.a.now) c.args.b.now o) c.in-None-found.is c.loop-lit.invariant.clash)
-
-pub returns-in-Some-found : goal.returns-in-Some-found
-returns-in-Some-found c = clash_one c.args.a.now c.args.b.now c.loop-lit.lit-index _ c.loop-lit-test.false
-    (subst (λ o. IsClashSoFar (take c.loop-lit.lit-index c.args.a.now) c.args.b.now o) c.in-Some-found.is c.loop-lit.invariant.clash)

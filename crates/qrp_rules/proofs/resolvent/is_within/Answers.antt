@@ -9,13 +9,6 @@ use Rattle.qbf_core.proofs.Inferences.{in_without, from_without}
 use Rattle.qrp_rules.proofs.Cursors.{reach_start, reach_more, reach_in}
 use Rattle.qrp_rules.proofs.resolvent.is_within.Goals as goal
 
-pub loop-lit-init : goal.loop-lit-init
-loop-lit-init c = record {
-  left = reach_start c.args.a.now c.args.to.now c.requires.a;
-  right = reach_start c.args.b.now c.args.to.now c.requires.b;
-  done = λ l h. absurd h;
-}
-
 pub returns-then-not-is_resolved : goal.returns-then-not-is_resolved
 returns-then-not-is_resolved c = (
   λ t. absurd (false≢true t),

@@ -8,9 +8,6 @@ use Rattle.qrp_rules.proofs.Cursors.{reach_start, reach_more, reach_in}
 use Rattle.qrp_rules.proofs.walks.is_covered.Goals as goal
 use Rattle.qrp_rules.proofs.walks.is_covered.Goals.{else-not-kept-via-then-not-kept+else-not-may_lack, else-not-kept-via-else-not-kept}
 
-pub loop-lit-init : goal.loop-lit-init
-loop-lit-init c = record { reach = reach_start c.args.to.now c.args.from.now c.requires.to; done = λ l h. absurd h }
-
 pub returns-then-not-may_lack : goal.returns-then-not-may_lack
 returns-then-not-may_lack c = (
   λ t. absurd (false≢true t),
@@ -41,6 +38,3 @@ loop-lit-preserved c =
       done = each_more (λ (z : Literal). (z ∈ c.args.to.now) ⊎ MayLack c.args.prefix.now c.args.reducible c.args.pivot z.var)
           c.args.from.now i x c.loop-lit-test.true c.lit-item.is is c.loop-lit.invariant.done;
     }
-
-pub returns : goal.returns
-returns c = (λ _ l h. c.loop-lit.invariant.done l (in_take_all c.args.from.now c.loop-lit.lit-index l c.loop-lit-test.false h), λ _. refl)

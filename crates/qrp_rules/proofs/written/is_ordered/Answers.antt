@@ -8,9 +8,6 @@ use Rattle.qrp_rules.proofs.written.is_ordered.Goals as goal
 use Rattle.std.proofs.lemmas.List.{take_all}
 use Rattle.qrp_rules.proofs.Clashing.{taken_below}
 
-pub loop-lit-init : goal.loop-lit-init
-loop-lit-init c = record { ordered = tt; below = λ m h. absurd h; reached = inl refl }
-
 pub returns-then-number-last : goal.returns-then-number-last
 returns-then-number-last c = (
   λ t. absurd (false≢true t),
@@ -43,7 +40,3 @@ loop-lit-preserved c =
       ];
       reached = inr (x, take_more_in c.args.lits.now i x x c.loop-lit-test.true c.lit-item.is (inr refl), sym is);
     }
-
-pub returns : goal.returns
-returns c =
-    (λ _. subst IsOrdered (take_all c.loop-lit.lit-index c.args.lits.now c.loop-lit-test.false) c.loop-lit.invariant.ordered, λ _. refl)
