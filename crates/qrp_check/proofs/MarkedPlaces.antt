@@ -1,6 +1,6 @@
 -- The marked places, listed from the first on.
 use Rattle.std.proofs.Common.{◌≡◌, ℕ, ◌+◌, ◌<◌, ◌≤◌, ◌↔◌, Bool, true, false, List, [], ◌∷◌, ◌++◌, inl, inr, sym, ap, ◌∙◌, subst, length}
-use Rattle.std.proofs.Common.{get_or, Some, arith}
+use Rattle.std.proofs.Common.{get_or, Some, arith, rules}
 use Rattle.std.specs.Prelude.{slice_get}
 use Rattle.std.proofs.lemmas.Option.{slice_get_within, slice_get-get_or, get_or_from_slice_get}
 use Rattle.std.proofs.lemmas.Bool.{cases_eq}
@@ -15,11 +15,7 @@ pub unmarked : (marks : List Bool) (i : ℕ) → get_or marks i false ≡ false 
 unmarked marks i clear m = let f : true ≡ false = sym (get_or_from_slice_get marks i true false m) ∙ clear in cc f
 
 pub listing_none : (marks : List Bool) → ListsMarked marks 0 []
-listing_none marks = record {
-  rises = λ k l a b h g less. cc h;
-  sound = λ k a h. cc h;
-  full = λ a less h. absurd (omega arith);
-}
+listing_none marks = search rules
 
 pub listing_skip : (marks : List Bool) (i : ℕ) (places : List ℕ) → (IsMarked marks i → ⊥) → ListsMarked marks i places
     → ListsMarked marks (i + 1) places

@@ -1,5 +1,5 @@
 -- A trimmed trace is well formed, and so its text reads as it.
-use Rattle.std.proofs.Common.{◌≡◌, ℕ, zero, suc, ◌^◌, ◌<◌, ◌≤◌, List, [], ◌∷◌, inl, inr, refl, sym, ap, length, Some, arith, nat_eq}
+use Rattle.std.proofs.Common.{◌≡◌, ℕ, zero, suc, ◌^◌, ◌<◌, ◌≤◌, List, [], ◌∷◌, inl, inr, refl, sym, ap, length, Some, arith, nat_eq, rules}
 use Rattle.std.specs.Prelude.{slice_get}
 use Rattle.std.specs.List.{AllByRecursion, IsDistinct}
 use Rattle.std.proofs.lemmas.Option.{slice_get_cases, slice_get_within}
@@ -35,13 +35,8 @@ distinct_at : (steps : List Inference) (places : List ℕ) → HasOwnNumbers ste
     → IsDistinct nat_eq (numbers (steps_at steps places))
 unfolding IsDistinct
 distinct_at steps [] own rises = tt
-distinct_at steps (p ∷ places) own rises = elim (slice_get_cases steps p).1 [
-  | inl (s, _, is, _) ↦ rw is (
-    others_at steps places p s own is (head_out p places rises),
-    distinct_at steps places own (tail_rises p places rises),
-  )
-  | inr (_, none) ↦ rw none (distinct_at steps places own (tail_rises p places rises))
-]
+distinct_at steps (p ∷ places) own rises =
+    search (rules, slice_get_cases, others_at, head_out, tail_rises, distinct_at steps places own (tail_rises p places rises))
 
 -- rising places are no fewer than one another's count
 climbs : (places : List ℕ) (k i : ℕ) → Rises places → slice_get places k ≡ Some i → k ≤ i

@@ -25,11 +25,6 @@ loop-place-preserved g c =
       })
     ]
 
-pub follow_step-requires-clause-core : goal.follow_step-requires-clause-core
-follow_step-requires-clause-core g c = (c.requires.core c.loop-place.place).0
-    (marked c.args.marks.now c.loop-place.place
-    (omega (arith, c.loop-place-test.true, c.len-place-end.ensures.len, c.requires.len)) c.if-marks-place.true)
-
 pub returns-clause-follows : goal.returns-clause-follows
 returns-clause-follows g c = λ i core. c.loop-place.invariant.follows i
     (let inside = core_within (g.T.Steps.steps c.args.trace.now) i core in

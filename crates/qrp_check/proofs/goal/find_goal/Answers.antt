@@ -3,29 +3,9 @@ use Rattle.std.proofs.lemmas.Option.{slice_get_within}
 use Rattle.qrp_check.proofs.StepPlaces.{empty_of, full_of, goal_here, later_step}
 use Rattle.qrp_check.proofs.goal.find_goal.Goals as goal
 
-pub loop-i-init : goal.loop-i-init
-loop-i-init g c = record {
-  within = omega (arith, c.len-i.ensures.len);
-  later = λ j step here empty. let less = slice_get_within (g.T.Steps.steps c.args.trace.now) j step here in
-      omega (arith, less, c.len-i.ensures.len);
-}
-
 pub returns-then-is_empty-clause-some : goal.returns-then-is_empty-clause-some
 returns-then-is_empty-clause-some g c =
     let none : c.lits.result.now ≡ [] = empty_of c.lits.result.now (sym c.is_empty.ensures ∙ c.if-is_empty.true) in
     goal_here (g.T.Steps.steps c.args.trace.now) (c.loop-i.i - 1) (omega (arith, c.loop-i-test.true, c.loop-i.invariant.within))
     (λ step here. sym (c.lits.ensures step here) ∙ none)
     (λ j step here empty. let less : j < c.loop-i.i = c.loop-i.invariant.later j step here empty in omega (arith, less))
-
-pub loop-i-preserved : goal.loop-i-preserved
-loop-i-preserved g c = record {
-  within = omega (arith, c.loop-i.invariant.within);
-  later = later_step (g.T.Steps.steps c.args.trace.now) c.loop-i.i (c.loop-i.i - 1) (omega (arith, c.loop-i-test.true))
-      (λ step here empty. full_of c.lits.result.now (sym c.is_empty.ensures ∙ c.if-is_empty.false) (c.lits.ensures step here ∙ empty))
-      c.loop-i.invariant.later;
-}
-
-pub returns-clause-none : goal.returns-clause-none
-returns-clause-none g c = λ i is.
-    let less : i < c.loop-i.i = c.loop-i.invariant.later i is.step is.here is.empty in
-    omega (arith, less, c.loop-i-test.false)

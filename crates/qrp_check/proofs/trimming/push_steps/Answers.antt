@@ -8,12 +8,6 @@ use Rattle.qbf_core.proofs.DistinctNumbers.{all_at}
 use Rattle.qrp_check.proofs.StepsAt.{fresh_at, next_at}
 use Rattle.qrp_check.proofs.trimming.push_steps.Goals as goal
 
-pub push_lists-requires-clause-number : goal.push_lists-requires-clause-number
-push_lists-requires-clause-number c =
-    let step : Inference = record { number = c.step.inside.number; lits = c.step.inside.lits.now; ants = c.step.inside.ants.now } in
-    let at : IsAt c.args.trace.now.steps _ step = rw (← c.step.view_is) at c.step_at-step.ensures in
-    (all_at IsInference c.args.trace.now.steps _ step c.requires.sound.grammatical.inferences at).number
-
 pub push_lists-requires-clause-ants : goal.push_lists-requires-clause-ants
 push_lists-requires-clause-ants c =
     let step : Inference = record { number = c.step.inside.number; lits = c.step.inside.lits.now; ants = c.step.inside.ants.now } in
@@ -37,11 +31,6 @@ push_lists-requires-clause-fresh c =
     (fresh_at steps places c.loop-place.place-index step (own_numbers steps c.requires.sound.grammatical.distinct) c.requires.rises
     c.loop-place-test.true at)
 
-pub loop-place-init : goal.loop-place-init
-loop-place-init c =
-    let with_steps : List Inference → Derivation = λ ss. record c.args.shorter.now { steps = ss } in
-    ap with_steps c.requires.empty
-
 pub loop-place-preserved : goal.loop-place-preserved
 loop-place-preserved c =
     let step : Inference = record { number = c.step.inside.number; lits = c.step.inside.lits.now; ants = c.step.inside.ants.now } in
@@ -50,9 +39,3 @@ loop-place-preserved c =
     let with_steps : List Inference → Derivation = λ ss. record c.args.shorter.now { steps = ss } in
     c.in_ok-push_lists.ensures.pushed ∙ ap one_more c.loop-place.invariant
     ∙ ap with_steps (sym (next_at c.args.trace.now.steps c.args.places.now c.loop-place.place-index step c.loop-place-test.true at))
-
-pub returns : goal.returns
-returns c =
-    let with_steps : List ℕ → Derivation = λ ps. record c.args.shorter.now { steps = steps_at c.args.trace.now.steps ps } in
-    c.loop-place.invariant
-    ∙ ap with_steps (take_all c.loop-place.place-index c.args.places.now (omega (arith, c.loop-place-test.false)))
