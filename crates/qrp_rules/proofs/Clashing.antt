@@ -1,5 +1,5 @@
 -- The variables in which two sets clash, found by a walk over one of them.
-use Rattle.std.proofs.Common.{◌≡◌, ◌<◌, ◌≤◌, ◌+◌, ℕ, suc, zero, List, [], ◌∷◌, ◌⊎◌, length, get_or, take, refl, ap, subst, inl, inr, arith}
+use Rattle.std.proofs.Common.{◌≡◌, ◌<◌, ◌≤◌, ◌+◌, ℕ, suc, zero, List, [], ◌∷◌, ◌⊎◌, length, get_or, take, refl, inl, inr, arith}
 use Rattle.std.proofs.Common.{Some, None, Option, rules}
 use Rattle.qbf_core.specs.Literal.{Literal, negated, positive, negative}
 use Rattle.qbf_core.specs.Members.{◌∈◌}
@@ -25,17 +25,11 @@ pub clash_cases : (a b : List Literal) (i v : ℕ) (x : Literal) → i < length 
     → Clashes (take i a) b v ⊎ ((v ≡ x.var) × (negated x ∈ b))
 clash_cases a b i v x less e (inl (p, q)) = elim (in_take_more a i x (positive v) less e p) [
   | inl k ↦ inl (inl (k, q))
-  | inr f ↦ inr (
-    (let var_of : Literal → ℕ = λ z. z.var in ap var_of f),
-    (let neg : Literal → Literal = λ z. negated z in subst (λ (z : Literal). z ∈ b) (ap neg f) q),
-  )
+  | inr f ↦ search rules
 ]
 clash_cases a b i v x less e (inr (p, q)) = elim (in_take_more a i x (negative v) less e p) [
   | inl k ↦ inl (inr (k, q))
-  | inr f ↦ inr (
-    (let var_of : Literal → ℕ = λ z. z.var in ap var_of f),
-    (let neg : Literal → Literal = λ z. negated z in subst (λ (z : Literal). z ∈ b) (ap neg f) q),
-  )
+  | inr f ↦ search rules
 ]
 
 pub clash_wider : (a a' b : List Literal) (v : ℕ) → ((l : Literal) → l ∈ a → l ∈ a') → Clashes a b v → Clashes a' b v

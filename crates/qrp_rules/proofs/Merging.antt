@@ -1,5 +1,5 @@
 -- Steps that are written exactly as they follow: what the walk over them tells.
-use Rattle.std.proofs.Common.{◌≡◌, ◌<◌, ◌≤◌, ◌+◌, ℕ, List, ◌∷◌, ◌++◌, ◌⊎◌, length, get_or, take, drop, slice_get, Some, rules}
+use Rattle.std.proofs.Common.{◌≡◌, ◌<◌, ◌≤◌, ◌+◌, ℕ, List, ◌∷◌, ◌++◌, ◌⊎◌, length, get_or, take, drop, slice_get, Some}
 use Rattle.std.proofs.Common.{Option, refl, sym, ap, subst, ◌∙◌, inl, inr, arith}
 use Rattle.std.proofs.lemmas.Bool.{cases_eq}
 use Rattle.qbf_core.specs.Literal.{Literal}
@@ -70,4 +70,3 @@ module _ (blocks : List Block) (q : Quantifier) (block : Option ℕ) (from to : 
 pub rest_within : (blocks : List Block) (q : Quantifier) (block : Option ℕ) (from to : List Literal) (i k : ℕ) → k ≡ length to
     → IsRestSoFar blocks q block from to i k → to ⊆ from
 rest_within blocks q block from to i k e u l h = take_within from i l (u.within l (in_take_all to k l (omega arith) h))
-

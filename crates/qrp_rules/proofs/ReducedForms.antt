@@ -42,15 +42,13 @@ ordered_same (x ∷ xs) (y ∷ ys) o p a b =
   where
     narrow : x ≡ y → xs ⊆ ys
     narrow e m h = elim (a m (inr h)) [
-      | inl k ↦ (let lt : x.var < m.var = o.0 m h in let var_of : Literal → ℕ = λ z. z.var in let s : m.var ≡ y.var = ap var_of k in
-          let t : x.var ≡ y.var = ap var_of e in absurd (omega arith))
+      | inl k ↦ search rules
       | inr k ↦ k
     ]
 
     wide : x ≡ y → ys ⊆ xs
     wide e m h = elim (b m (inr h)) [
-      | inl k ↦ (let lt : y.var < m.var = p.0 m h in let var_of : Literal → ℕ = λ z. z.var in let s : m.var ≡ x.var = ap var_of k in
-          let t : x.var ≡ y.var = ap var_of e in absurd (omega arith))
+      | inl k ↦ search rules
       | inr k ↦ k
     ]
 
@@ -105,10 +103,7 @@ numbered_push blocks block xs zs x hash hash' cases wider below is out n = recor
   form = n.form ++ x ∷ [];
   numbered = is ∙ ap (λ (k : ℕ). hash_with k x) n.numbered ∙ sym (number_push 0 n.form x);
   ordered = ordered_push n.form x n.ordered (λ m h. below m (n.within m h).0);
-  within = λ l h. elim (in_push n.form x l h) [
-    | inl k ↦ (let w = n.within l k in (wider l (inl w.0), w.1))
-    | inr e ↦ (wider l (inr e), λ stands. out (subst (λ (z : Literal). StandsAfter blocks All block z.var) e stands))
-  ];
+  within = search (rules, in_push);
   whole = λ l h in_. push_in n.form x l (elim (cases l h) [ inl k ↦ inl (n.whole l k in_) | inr e ↦ inr e ]);
 }
 
@@ -120,8 +115,7 @@ numbered_done blocks block lits seen hash same is n = (
   n.form,
   record {
     ordered = n.ordered;
-    within = λ l h. let w = n.within l h in
-        (same.0 l w.0, λ red. w.1 ((reducible_after Clauses blocks All Exists lits block refl refl is l).1 red));
+    within = search (rules, reducible_after);
     whole = λ l h out. n.whole l (same.1 l h) (λ stands. out ((reducible_after Clauses blocks All Exists lits block refl refl is l).0 stands));
   },
   n.numbered,
@@ -154,8 +148,7 @@ pub none_initial : (f : Qbf) (index : List IndexEntry) (set form : List Literal)
 none_initial f index set form hash is reduced numbered none h =
     let at = in_got f.clauses h.0 h.1 in
     let filed = is (suc at.0) at.0 h.0 (omega arith) at.1 h.2 in
-    let same : form ≡ filed.0 =
-    form_once Clauses f.blocks set form filed.0 reduced (form_of_reduct Clauses f.blocks h.0 set filed.0 h.3 filed.1) in
+    let same : form ≡ filed.0 = search (rules, form_once, form_of_reduct) in
     let e : hash ≡ hash_from 0 filed.0 = numbered ∙ ap (hash_from 0) same in
     none at.0 (subst (λ (n : ℕ). Contains index (record { hash = n; place = at.0 })) (sym e) filed.2)
     (record { clause = h.0; here = at.1; clean = h.2; reduct = h.3 })
@@ -197,11 +190,7 @@ pub in_rest : (index : List IndexEntry) (first hash : ℕ) (x : IndexEntry) → 
     → x.hash ≡ hash → Contains index x → Contains (take (length index - first) (drop first index)) x
 in_rest index first hash x within below is at =
     let late : first ≤ at.0 = elim (cases_lt at.0 first) [
-      | inl less ↦
-          let t : ltb (get_or index at.0 x).hash hash ≡ true = below at.0 x (omega arith) less in
-          let lt : (get_or index at.0 x).hash < hash = lt_of t in
-          let same : (get_or index at.0 x).hash ≡ x.hash = ap (λ (z : IndexEntry). z.hash) at.2 in
-          absurd (omega (arith, lt, same, is))
+      | inl less ↦ search (rules, lt_of)
       | inr late ↦ late
     ] in
     let inside : at.0 < length index = at.1 in

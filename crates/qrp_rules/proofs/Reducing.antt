@@ -109,8 +109,7 @@ innermost_whole : (blocks : List Block) (q : Quantifier) (lits : List Literal) (
     → ((k : ℕ) → IsAfter whole k ↔ (IsAfter beside k × IsAfter own k)) → IsInnermost blocks q None lits whole
 innermost_whole blocks q lits x beside own whole (m, h, is) is_beside is_own both k = (
   (λ after l i. λ _ binds j e. let w = (both k).0 after in elim (cases_eq l.var x) [
-    | inl same ↦ (is_own k).0 w.1 (λ none. none) (subst (Binds blocks q) same binds) j
-        (subst (λ (v : ℕ). block_in v blocks ≡ Some j) same e)
+    | inl same ↦ search rules
     | inr other ↦ (is_beside k).0 w.0 l i other binds j e
   ]),
   (λ all. (both k).1 (

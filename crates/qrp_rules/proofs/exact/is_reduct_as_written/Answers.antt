@@ -1,6 +1,5 @@
-use Rattle.std.proofs.Common.{ℕ, refl, subst, arith}
-use Rattle.qrp_rules.specs.Walks.{StandsAfter}
-use Rattle.qrp_rules.proofs.Merging.{rest_each, rest_more, rest_within}
+use Rattle.std.proofs.Common.{rules}
+use Rattle.qrp_rules.proofs.Merging.{rest_more, rest_within}
 use Rattle.qrp_rules.proofs.exact.is_reduct_as_written.Goals as goal
 use Rattle.qrp_rules.proofs.exact.is_reduct_as_written.Goals.{else-next-in_to-via-then-next-in_to+else-not-stands_after}
 use Rattle.qrp_rules.proofs.exact.is_reduct_as_written.Goals.{else-next-in_to-via-else-next-in_to}
@@ -12,9 +11,7 @@ loop-lit-preserved c =
     c.advance_if_equal-next.result c.lit-item.result
     c.loop-lit-test.true c.lit-item.is c.advance_if_equal-next.ensures
     (λ same. elim c.else-next-in_to.branch [
-      | else-next-in_to-via-then-next-in_to+else-not-stands_after w ↦
-          subst (λ (v : ℕ). StandsAfter c.args.prefix.now c.args.quantifier c.args.block v) w.var.ensures
-          (w.if-not-stands_after.ensures.0 refl)
+      | else-next-in_to-via-then-next-in_to+else-not-stands_after w ↦ search rules
       | else-next-in_to-via-else-next-in_to w ↦ absurd (w.if-next-in_to.false same)
     ])
     c.loop-lit.invariant

@@ -1,11 +1,11 @@
 use Rattle.std.proofs.lemmas.Grind.{common_steps}
-use Rattle.std.proofs.Common.{ℕ, ◌⊎◌, refl, sym, subst, inl, inr, ◌∙◌, arith}
+use Rattle.std.proofs.Common.{ℕ, ◌⊎◌, refl, subst, inl, inr, arith}
 use Rattle.std.proofs.lemmas.Bool.{false≢true}
 use Rattle.qbf_core.specs.Literal.{Literal}
 use Rattle.qbf_core.specs.Members.{◌∈◌}
-use Rattle.qbf_core.proofs.Members.{in_at, in_take_all, each_more}
+use Rattle.qbf_core.proofs.Members.{in_at, each_more}
 use Rattle.qrp_rules.specs.Walks.{MayLack}
-use Rattle.qrp_rules.proofs.Cursors.{reach_start, reach_more, reach_in}
+use Rattle.qrp_rules.proofs.Cursors.{reach_more, reach_in}
 use Rattle.qrp_rules.proofs.walks.is_covered.Goals as goal
 use Rattle.qrp_rules.proofs.walks.is_covered.Goals.{else-not-kept-via-then-not-kept+else-not-may_lack, else-not-kept-via-else-not-kept}
 

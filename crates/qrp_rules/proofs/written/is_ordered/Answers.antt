@@ -1,11 +1,9 @@
-use Rattle.std.proofs.Common.{◌≡◌, ◌<◌, ◌≤◌, ℕ, refl, sym, ap, subst, ◌∙◌, inl, inr, arith}
+use Rattle.std.proofs.Common.{◌≡◌, ◌<◌, ◌≤◌, ℕ, refl, sym, ap, ◌∙◌, inl, inr, arith}
 use Rattle.std.proofs.lemmas.Bool.{false≢true}
 use Rattle.qbf_core.specs.Literal.{Literal}
-use Rattle.qbf_core.specs.Sets.{IsOrdered}
 use Rattle.qbf_core.proofs.Members.{in_take_more, take_more_in}
 use Rattle.qrp_rules.proofs.OrderedLists.{ordered_taken}
 use Rattle.qrp_rules.proofs.written.is_ordered.Goals as goal
-use Rattle.std.proofs.lemmas.List.{take_all}
 use Rattle.qrp_rules.proofs.Clashing.{taken_below}
 
 pub returns-then-number-last : goal.returns-then-number-last
