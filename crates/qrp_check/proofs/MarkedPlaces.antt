@@ -22,10 +22,7 @@ pub listing_skip : (marks : List Bool) (i : ℕ) (places : List ℕ) → (IsMark
 listing_skip marks i places out listing = record {
   rises = listing.rises;
   sound = λ k a h. let w = listing.sound k a h in ((let less : a < i = w.0 in omega arith), w.1);
-  full = λ a less h. elim (cases_eq a i) [
-    | inl e ↦ absurd (out (subst (λ x. IsMarked marks x) e h))
-    | inr ne ↦ listing.full a (omega arith) h
-  ];
+  full = search (rules, cases_eq);
 }
 
 pub listing_push : (marks : List Bool) (i : ℕ) (places : List ℕ) → IsMarked marks i → ListsMarked marks i places
