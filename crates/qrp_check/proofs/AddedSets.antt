@@ -1,5 +1,5 @@
 -- What one step adds to a formula, as a clause to its matrix or as a cube beside it, by the laws of the rules.
-use Rattle.std.proofs.Common.{◌↔◌, ℕ, List, [], ◌∷◌, ◌++◌, inl, inr, refl, sym, subst}
+use Rattle.std.proofs.Common.{◌↔◌, ℕ, List, [], ◌∷◌, ◌++◌, inl, inr, refl, sym, subst, rules}
 use Rattle.std.specs.List.{AllByRecursion}
 use Rattle.qbf_core.specs.Literal.{Literal}
 use Rattle.qbf_core.specs.Members.{◌∈◌, ◌⊆◌}
@@ -46,8 +46,7 @@ pub reduct_grows : (side : Side) (f : Qbf) (sets : List (List Literal)) (from to
 reduct_grows Clauses f sets from to closed good here reduct =
     reduct_clause (with_clauses f sets) from to (closed_with f sets closed good) (append_left sets f.clauses from here)
     (good from here).0 reduct
-reduct_grows Cubes f sets from to closed good here reduct =
-    reduct_cube f sets from to closed here (good from here).0 (good from here).1 reduct
+reduct_grows Cubes f sets from to closed good here reduct = search (rules, reduct_cube)
 
 pub resolvent_grows : (side : Side) (f : Qbf) (sets : List (List Literal)) (a b : List Literal) (x : ℕ) → IsClosed f → AreGood f sets
     → a ∈ sets → b ∈ sets → Clashes a b x → IsBound f.blocks x → Grows side f sets (resolvent a b x)
@@ -55,8 +54,7 @@ resolvent_grows Clauses f sets a b x closed good in_a in_b clash bound =
     implied_clause (with_clauses f sets) (resolvent a b x) (closed_with f sets closed good)
     (λ s clean total holds. resolvent_holds a b s x (good a in_a).0 (good b in_b).0 clash clean
     (holds a (append_left sets f.clauses a in_a)) (holds b (append_left sets f.clauses b in_b)))
-resolvent_grows Cubes f sets a b x closed good in_a in_b clash bound =
-    resolvent_cube f sets a b x closed in_a in_b (good a in_a).0 (good b in_b).0 clash bound
+resolvent_grows Cubes f sets a b x closed good in_a in_b clash bound = search (rules, resolvent_cube)
 
 -- sets and more, with these literals among them: all are good, and the truth is the same
 pub record Grown (side : Side) (f : Qbf) (sets : List (List Literal)) (lits : List Literal) : Type 0 where
@@ -68,13 +66,7 @@ pub record Grown (side : Side) (f : Qbf) (sets : List (List Literal)) (lits : Li
 
 pub one_grown : (side : Side) (f : Qbf) (sets : List (List Literal)) (lits : List Literal) → Grows side f sets lits → AreGood f sets
     → IsClean lits → AreBound f.blocks lits → Grown side f sets lits
-one_grown side f sets lits kept good clean bound = record {
-  all = lits ∷ sets;
-  more = λ s h. inr h;
-  here = inl refl;
-  good = good_more f lits sets clean bound good;
-  kept = kept;
-}
+one_grown side f sets lits kept good clean bound = search (rules, good_more)
 
 -- on from sets that have grown
 pub grown_on : (side : Side) (f : Qbf) (sets : List (List Literal)) (a b : List Literal) → Grown side f sets a

@@ -1,5 +1,6 @@
 -- What a check answers, from what is told of the core.
-use Rattle.std.proofs.Common.{◌≡◌, ◌≢◌, ◌↔◌, Bool, true, false, List, refl, sym, subst, IsTrue}
+use Rattle.std.proofs.lemmas.Grind.{common_steps}
+use Rattle.std.proofs.Common.{◌≡◌, ◌≢◌, ◌↔◌, Bool, true, false, List, refl, sym, subst, IsTrue, arith}
 use Rattle.std.specs.Prelude.{Result, Ok, Err, OnOk, IfOk, IfErr}
 use Rattle.qbf_core.specs.Blocks.{Block}
 use Rattle.qbf_core.specs.Qbf.{Qbf, IsClosed, IsWellFormed}
@@ -25,8 +26,7 @@ core_fault rules f sets steps outcome side (C2 v) is agree none more = absurd no
 core_fault rules f sets steps outcome side (C3 v) is agree none more = absurd none
 core_fault rules f sets steps outcome side C4 is agree none more = absurd none
 core_fault rules f sets steps outcome side C5 is agree fault more = absurd (more refl)
-core_fault rules f sets steps outcome side (C6 number fault) is agree first more =
-    (agree, subst (λ (s : Side). IsCoreFault rules s f steps (C6 number fault)) (sym is) first)
+core_fault rules f sets steps outcome side (C6 number fault) is agree first more = grind (arith, common_steps)
 
 -- what a verdict claims
 pub claims_false : (f : Qbf) → ResultHolds Clauses f → IsTrue false ↔ IsTrueFormula f
@@ -40,8 +40,7 @@ claims_true f holds = ((λ t. holds), (λ is. refl))
 pub proves : (rules : Rules) (f : Qbf) (sets : List Block) (steps : List Inference) (outcome : Outcome) (side : Side)
     (r : Result Verified CheckFault) → side_of outcome ≡ side
     → SetsAgree f.blocks sets → OnOk r (Derives rules side f steps) → OnOk r (Proves rules f sets steps outcome)
-proves rules f sets steps outcome side (Ok v) is agree derives =
-    record { agree = agree; derives = subst (λ (s : Side). Derives rules s f steps) (sym is) derives }
+proves rules f sets steps outcome side (Ok v) is agree derives = grind (arith, common_steps)
 proves rules f sets steps outcome side (Err e) is agree derives = tt
 
 pub refuses : (rules : Rules) (f : Qbf) (sets : List Block) (steps : List Inference) (outcome : Outcome) (side : Side)

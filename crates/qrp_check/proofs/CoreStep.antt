@@ -1,6 +1,6 @@
 -- One step of the core: its antecedents, and its conditions.
 use Rattle.std.proofs.Common.{◌≡◌, ℕ, zero, suc, ◌<◌, ◌≤◌, List, [], ◌∷◌, Option, Some, None, inl, inr, refl, sym, ap, subst, ◌∙◌, arith}
-use Rattle.std.proofs.Common.{length, get_or, take}
+use Rattle.std.proofs.Common.{length, get_or, take, rules}
 use Rattle.std.specs.Prelude.{Bool, IfOk, IfSome, IsTrue, Result, Ok, Err}
 use Rattle.std.specs.List.{AllByRecursion}
 use Rattle.qbf_core.specs.Literal.{Literal, positive}
@@ -54,16 +54,7 @@ found_late steps place number index answer only found late (s, h, is) =
 needed : (steps : List Inference) (place index number : ℕ) → IsInCore steps place
     → ((step : Inference) → IsAt steps place step → number ∈ step.ants) → index < place
     → (below : Inference) → IsAt steps index below → below.number ≡ number → Needs steps place index
-needed steps place index number core ants less below here is =
-    let above = at_place steps place (core_within steps place core) in
-    record {
-      before = less;
-      above = above.0;
-      at_above = above.1;
-      below = below;
-      at_below = here;
-      named = subst (λ (n : ℕ). n ∈ above.0.ants) (sym is) (ants above.0 above.1);
-    }
+needed steps place index number core ants less below here is = search (rules, at_place, core_within, named)
 
 -- the literals that are lent of an earlier step are those under its number
 pub premise_of : (steps : List Inference) (place index number : ℕ) (lits : List Literal) → index < place
@@ -121,9 +112,7 @@ from_found : (rules : Rules) (side : Side) (f : Qbf) (before : List Inference) (
     (answer : Option RuleFault)
     → ArePremises before step.ants found → IsAnswer (found_conditions rules side f found step.lits) answer
     → IsAnswer (step_conditions rules side f before step) answer
-from_found rules side f before step None answer not a =
-    without_earlier (IsClean step.lits) (AreBound f.blocks step.lits) ((n : ℕ) → n ∈ step.ants → IsNumberOf before n)
-    (antecedent_conditions rules side f before step.ants step.lits) answer not a
+from_found rules side f before step None answer not a = search (rules, without_earlier)
 from_found rules side f before step (Some Initial) answer none a =
     rw none (with_earlier (IsClean step.lits) (AreBound f.blocks step.lits) ((n : ℕ) → n ∈ [] → IsNumberOf before n)
     (initial_condition side f step.lits ∷ []) answer (λ n h. absurd h) a)
@@ -158,18 +147,13 @@ premise_answer : (rules : Rules) (side : Side) (f : Qbf) (premises : Premises) (
     → HasMembersOf set lits → IsAnswer (premise_conditions rules side f premises set) answer
     → IsAnswer (premise_conditions rules side f premises lits) answer
 premise_answer rules side f Initial set lits answer same a = initial_answer side f set lits answer same a
-premise_answer rules side f (One from) set lits answer same a =
-    reduct_answer side f.blocks from.now from.now set lits answer (same_self from.now) same a
-premise_answer rules side f (Two x y) set lits answer same a =
-    resolvent_answer rules side f.blocks x.now x.now y.now y.now set lits answer (same_self x.now) (same_self y.now) same a
+premise_answer rules side f (One from) set lits answer same a = search (rules, reduct_answer, same_self)
+premise_answer rules side f (Two x y) set lits answer same a = search (rules, resolvent_answer, same_self)
 
 pub set_answer : (rules : Rules) (side : Side) (f : Qbf) (premises : Premises) (set lits : List Literal) (answer : Option RuleFault)
     → HasMembersOf set lits → IsFit f.blocks lits → IsAnswer (premise_conditions rules side f premises set) answer
     → IsAnswer (written_conditions rules side f premises lits) answer
-set_answer rules side f premises set lits answer same fit a =
-    answer_after S1 (IsClean lits) ((S2, AreBound f.blocks lits) ∷ premise_conditions rules side f premises lits) answer fit.0
-    (answer_after S2 (AreBound f.blocks lits) (premise_conditions rules side f premises lits) answer fit.1
-    (premise_answer rules side f premises set lits answer same a))
+set_answer rules side f premises set lits answer same fit a = search (rules, answer_after, premise_answer)
 
 pub not_tautology : (lits : List Literal) → IsClean lits → IsTautology lits → ⊥
 not_tautology lits clean (v, p, n) = clean (positive v) p n

@@ -1,5 +1,5 @@
 -- The core's steps are added one by one, and the truth stays.
-use Rattle.std.proofs.Common.{◌≡◌, ◌↔◌, ℕ, zero, suc, ◌<◌, List, [], ◌∷◌, ◌++◌, inl, inr, refl, sym, subst, take, arith}
+use Rattle.std.proofs.Common.{◌≡◌, ◌↔◌, ℕ, zero, suc, ◌<◌, List, [], ◌∷◌, ◌++◌, inl, inr, refl, sym, subst, take, arith, rules}
 use Rattle.qbf_core.specs.Literal.{Literal}
 use Rattle.qbf_core.specs.Members.{◌∈◌, ◌⊆◌}
 use Rattle.qbf_core.specs.Rules.{Side, Clauses, Cubes, IsClean, IsInitial}
@@ -32,8 +32,7 @@ module _ (rules : Rules) (side : Side) (f : Qbf) (steps : List Inference) (close
   by_rule : (before : List Inference) (ants : List ℕ) (lits : List Literal) → IsClean lits → AreBound f.blocks lits
       → ((m : ℕ) → m ∈ ants → CanGrow (lits_of before m))
       → AllHold (antecedent_conditions rules side f before ants lits) → CanGrow lits
-  by_rule before [] lits clean bound earlier (initial, _) sets good =
-      one_grown side f sets lits (initial_grows side f sets lits closed good (initial_of side f lits initial)) good clean bound
+  by_rule before [] lits clean bound earlier (initial, _) sets good = search (rules, one_grown, initial_grows, initial_of)
   by_rule before (m ∷ []) lits clean bound earlier (within, (each, _)) sets good =
       grown_on side f sets (lits_of before m) lits (earlier m (inl refl) sets good)
       (λ all good_all more here.
@@ -109,10 +108,7 @@ between : (side : Side) (f : Qbf) (sets all : List (List Literal)) → sets ⊆ 
     → IsTrueFormula f ↔ IsTrueWithSets side f sets
 between Clauses f sets all within kept =
     (λ t. clauses_between f sets all within (kept.0 t), λ t. clauses_between f [] sets (λ c none. absurd none) t)
-between Cubes f sets all within kept = (
-  λ t. fewer_cubes f sets [] (λ c none. absurd none) ((beside_none f).0 t),
-  λ t. (beside_none f).1 (kept.1 (fewer_cubes f all sets within t)),
-)
+between Cubes f sets all within kept = search (rules, fewer_cubes, beside_none)
 
 pub core_keeps : CoreKeepsTheTruth
 core_keeps rules side f steps sets closed derives of_core =

@@ -1,5 +1,5 @@
 -- From the verdict on what was read to the headline over the bytes.
-use Rattle.std.proofs.Common.{◌≡◌, ◌↔◌, ℕ, IsTrue, List, Option, Some, None, inl, inr, refl, subst}
+use Rattle.std.proofs.Common.{◌≡◌, ◌↔◌, ℕ, IsTrue, List, Option, Some, None, inl, inr, refl, subst, rules}
 use Rattle.std.specs.Prelude.{Result, Ok, Err, IfSome}
 use Rattle.qbf_core.specs.Qbf.{Qbf}
 use Rattle.qbf_core.specs.Truth.{IsTrueFormula}
@@ -62,29 +62,15 @@ pub found : (rules : Rules) (formula trace : List ℕ) (v : Verified) (r : Resul
     → read_formula formula ≡ r → read_trace trace ≡ s → IsVerdict rules r (Some s) (Ok v) → Found rules formula trace v
 found rules formula trace v (Err e) s reads_formula reads_trace h = absurd (cc h)
 found rules formula trace v (Ok f) (Err e) reads_formula reads_trace h = absurd (cc h)
-found rules formula trace v (Ok f) (Ok d) reads_formula reads_trace (proves, lists, claim, truth) = record {
-  f = f;
-  d = d;
-  reads_formula = reads_formula;
-  reads_trace = reads_trace;
-  proves = proves;
-  lists = lists;
-  claim = claim;
-  truth = truth;
-}
+found rules formula trace v (Ok f) (Ok d) reads_formula reads_trace (proves, lists, claim, truth) = search rules
 
 spelled_of : (rules : Rules) (formula trace : List ℕ) (v : Verified) (w : Found rules formula trace v) → Spell formula trace w.f w.d
-spelled_of rules formula trace v w = record {
-  formula_spelled = formula_spelled formula w.f w.reads_formula;
-  trace_spelled = trace_spelled trace w.d w.reads_trace;
-}
+spelled_of rules formula trace v w = search (rules, formula_spelled, trace_spelled)
 
 -- what the result of the trace says holds
 holds : (rules : Rules) (formula trace : List ℕ) (f : Qbf) (d : Derivation) → Spell formula trace f d → IsProof rules f d
     → ResultHolds (side_of d.result) f
-holds rules formula trace f d spelled proves =
-    let formed = spelled.formula_spelled.well_formed in
-    soundness rules f d.sets d.steps d.result (record { distinct = formed.prefix.distinct; bound = formed.closed }) proves
+holds rules formula trace f d spelled proves = search (rules, soundness)
 
 verified : (rules : Rules) (formula trace : List ℕ) (v : Verified) → Found rules formula trace v → Headline rules formula trace (Ok v)
 verified rules formula trace v w =

@@ -1,6 +1,6 @@
 -- The marked places, listed from the first on.
 use Rattle.std.proofs.Common.{◌≡◌, ℕ, ◌+◌, ◌<◌, ◌≤◌, ◌↔◌, Bool, true, false, List, [], ◌∷◌, ◌++◌, inl, inr, sym, ap, ◌∙◌, subst, length}
-use Rattle.std.proofs.Common.{get_or, Some, arith}
+use Rattle.std.proofs.Common.{get_or, Some, arith, rules}
 use Rattle.std.specs.Prelude.{slice_get}
 use Rattle.std.proofs.lemmas.Option.{slice_get_within, slice_get-get_or, get_or_from_slice_get}
 use Rattle.std.proofs.lemmas.Bool.{cases_eq}
@@ -15,21 +15,14 @@ pub unmarked : (marks : List Bool) (i : ℕ) → get_or marks i false ≡ false 
 unmarked marks i clear m = let f : true ≡ false = sym (get_or_from_slice_get marks i true false m) ∙ clear in cc f
 
 pub listing_none : (marks : List Bool) → ListsMarked marks 0 []
-listing_none marks = record {
-  rises = λ k l a b h g less. cc h;
-  sound = λ k a h. cc h;
-  full = λ a less h. absurd (omega arith);
-}
+listing_none marks = search rules
 
 pub listing_skip : (marks : List Bool) (i : ℕ) (places : List ℕ) → (IsMarked marks i → ⊥) → ListsMarked marks i places
     → ListsMarked marks (i + 1) places
 listing_skip marks i places out listing = record {
   rises = listing.rises;
   sound = λ k a h. let w = listing.sound k a h in ((let less : a < i = w.0 in omega arith), w.1);
-  full = λ a less h. elim (cases_eq a i) [
-    | inl e ↦ absurd (out (subst (λ x. IsMarked marks x) e h))
-    | inr ne ↦ listing.full a (omega arith) h
-  ];
+  full = search (rules, cases_eq);
 }
 
 pub listing_push : (marks : List Bool) (i : ℕ) (places : List ℕ) → IsMarked marks i → ListsMarked marks i places

@@ -1,5 +1,5 @@
 -- Parents that are reduced before they are resolved: reductions of the parents, a resolution, and a reduction of the resolvent.
-use Rattle.std.proofs.Common.{◌≡◌, ℕ, List, [], ◌∷◌, ◌++◌, ◌⊎◌, inl, inr, refl, sym, subst}
+use Rattle.std.proofs.Common.{◌≡◌, ℕ, List, [], ◌∷◌, ◌++◌, ◌⊎◌, inl, inr, refl, sym, subst, rules}
 use Rattle.std.proofs.lemmas.Bool.{cases_eq}
 use Rattle.qbf_core.specs.Literal.{Literal, positive, negative}
 use Rattle.qbf_core.specs.Members.{◌∈◌, ◌⊆◌}
@@ -77,16 +77,10 @@ module _ (side : Side) (f : Qbf) (a b lits : List Literal) (resolved : Resolved 
   picked_b = pick Stays Goes b (λ l h. choose l (append_right a b l h))
 
   reduct_a : IsReduct side f.blocks a picked_a.some
-  reduct_a = record {
-    within = picked_a.within;
-    each = λ l h. elim (picked_a.each l h) [ inl k ↦ inl k | inr goes ↦ inr (goes.2.0 h) ];
-  }
+  reduct_a = search (rules, picked_a)
 
   reduct_b : IsReduct side f.blocks b picked_b.some
-  reduct_b = record {
-    within = picked_b.within;
-    each = λ l h. elim (picked_b.each l h) [ inl k ↦ inl k | inr goes ↦ inr (goes.2.1 h) ];
-  }
+  reduct_b = search (rules, picked_b)
 
   stays_a : (l : Literal) → l ∈ a → (Goes l → ⊥) → l ∈ picked_a.some
   stays_a l h stay = elim (picked_a.each l h) [ inl k ↦ k | inr goes ↦ absurd (stay goes) ]
@@ -137,10 +131,7 @@ module _ (side : Side) (f : Qbf) (a b lits : List Literal) (resolved : Resolved 
       why l ne (inr (inr red)) = inr (reducible_fewer side f.blocks (resolvent a b resolved.pivot) rest l rest_within red)
 
   pivot_bound : AreBound f.blocks a → IsBound f.blocks resolved.pivot
-  pivot_bound bound = elim resolved.clash.clashes [
-    | inl (p, n) ↦ bound_each f.blocks a bound (positive resolved.pivot) p
-    | inr (n, p) ↦ bound_each f.blocks a bound (negative resolved.pivot) n
-  ]
+  pivot_bound bound = search (rules, bound_each)
 
   -- the reduced parents, their resolvent and what is left of it are added one after the other
   pub resolved_grown : (sets : List (List Literal)) → IsClosed f → AreGood f sets → a ∈ sets → b ∈ sets

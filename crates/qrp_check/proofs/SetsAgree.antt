@@ -1,5 +1,5 @@
 -- How far the sets of a trace agree: one pair more, and one list of pairs more.
-use Rattle.std.proofs.Common.{◌≡◌, ◌≤◌, ◌<◌, ◌+◌, ℕ, zero, suc, List, [], ◌∷◌, ◌++◌, ◌⊎◌, inl, inr, refl, sym, ap, subst, ◌∙◌, arith}
+use Rattle.std.proofs.Common.{◌≡◌, ◌≤◌, ◌<◌, ◌+◌, ℕ, zero, suc, List, [], ◌∷◌, ◌++◌, ◌⊎◌, inl, inr, refl, sym, ap, subst, ◌∙◌, arith, rules}
 use Rattle.std.proofs.Common.{length, get_or, take, drop, slice_get, Some}
 use Rattle.std.proofs.lemmas.List.{append_assoc, append-nil, map-append, map_more, take_more, take-append-drop}
 use Rattle.std.proofs.lemmas.List.Concat.{flat_map-append}
@@ -19,10 +19,7 @@ push_at : {A : Type 0} (xs : List A) (y r : A) (i : ℕ) → slice_get (xs ++ y 
 push_at [] y r zero e = inr ((let s : r ≡ y = cc e in s), refl)
 push_at [] y r (suc i) e = cc e
 push_at (x ∷ xs) y r zero e = inl (e, refl)
-push_at (x ∷ xs) y r (suc i) e = elim (push_at xs y r i e) [
-  | inl w ↦ inl (w.0, ap (λ zs. x ∷ zs) w.1)
-  | inr w ↦ inr (w.0, ap (λ zs. x ∷ zs) w.1)
-]
+push_at (x ∷ xs) y r (suc i) e = search (rules, push_at xs y r i e)
 
 here_at : {A : Type 0} (xs ys : List A) (y : A) → (slice_get (xs ++ y ∷ ys) (length xs) ≡ Some y) × (take (length xs) (xs ++ y ∷ ys) ≡ xs)
 here_at [] ys y = (refl, refl)

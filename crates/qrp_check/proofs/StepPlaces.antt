@@ -1,5 +1,5 @@
 -- Steps at their places.
-use Rattle.std.proofs.Common.{◌≡◌, ℕ, zero, suc, ◌<◌, ◌≤◌, true, false, List, [], ◌∷◌, Some, refl, sym, ◌∙◌, arith, length}
+use Rattle.std.proofs.Common.{◌≡◌, ℕ, zero, suc, ◌<◌, ◌≤◌, true, false, List, [], ◌∷◌, Some, refl, sym, ◌∙◌, arith, length, rules}
 use Rattle.std.proofs.Common.{eqb, subst, inl, inr}
 use Rattle.std.specs.Prelude.{slice_get}
 use Rattle.std.proofs.Math.Dec.{eqb-suc-zero}
@@ -31,7 +31,4 @@ pub later_step : (steps : List Inference) (i p : ℕ) → i ≡ suc p
     → ((step : Inference) → IsAt steps p step → step.lits ≡ [] → ⊥)
     → ((j : ℕ) (step : Inference) → IsAt steps j step → step.lits ≡ [] → j < i)
     → (j : ℕ) (step : Inference) → IsAt steps j step → step.lits ≡ [] → j < p
-later_step steps i p is full later j step here empty = elim (cases_eq j p) [
-  | inl e ↦ absurd (full step (subst (λ (k : ℕ). IsAt steps k step) e here) empty)
-  | inr ne ↦ (let less : j < i = later j step here empty in omega (arith, less, is, ne))
-]
+later_step steps i p is full later j step here empty = search (rules, cases_eq)

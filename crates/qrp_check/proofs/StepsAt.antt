@@ -1,5 +1,5 @@
 -- The steps at some places: what holds of them, and that rising places give steps of different numbers.
-use Rattle.std.proofs.Common.{◌≡◌, ℕ, zero, suc, ◌+◌, ◌<◌, false, ◌||◌, List, [], ◌∷◌, ◌++◌, inl, inr, refl, sym, ap, ◌∙◌, length}
+use Rattle.std.proofs.Common.{◌≡◌, ℕ, zero, suc, ◌+◌, ◌<◌, false, ◌||◌, List, [], ◌∷◌, ◌++◌, inl, inr, refl, sym, ap, ◌∙◌, length, rules}
 use Rattle.std.proofs.Common.{take, get_or, Some, arith, nat_eq}
 use Rattle.std.specs.Prelude.{slice_get, Result, Ok, Err, IfOk}
 use Rattle.std.specs.List.{AllByRecursion, cons_option}
@@ -37,9 +37,7 @@ not_before xs k rises less h =
 -- ---- the places of a core
 
 pub core_rises : (steps : List Inference) (core : List ℕ) → ListsCore steps core → IsStrictlyIncreasing core
-core_rises steps core lists = λ k less.
-    lists.rises k (k + 1) (get_or core k 0) (get_or core (k + 1) 0)
-    (slice_get-get_or core k 0 (omega (arith, less))) (slice_get-get_or core (k + 1) 0 less) (omega arith)
+core_rises steps core lists = search (rules, slice_get-get_or)
 
 pub core_inside : (steps : List Inference) (core : List ℕ) → ListsCore steps core → AllByRecursion (λ i. i < length steps) core
 core_inside steps core lists = all_of_each (λ i. i < length steps) core (λ k i here. core_within steps i (lists.sound k i here))
@@ -56,10 +54,7 @@ next_at steps places k s less here =
 pub each_at : (P : Inference → Type 0) (steps : List Inference) (places : List ℕ) → AllByRecursion P steps
     → AllByRecursion P (steps_at steps places)
 each_at P steps [] all = tt
-each_at P steps (p ∷ places) all = elim (slice_get_cases steps p).1 [
-  | inl (s, _, is, _) ↦ rw is (all_at P steps p s all is, each_at P steps places all)
-  | inr (_, none) ↦ rw none (each_at P steps places all)
-]
+each_at P steps (p ∷ places) all = search (rules, slice_get_cases, all_at, each_at P steps places all)
 
 -- ---- their numbers
 
@@ -79,13 +74,8 @@ numbers_at P steps places all = holds_number P (steps_at steps places) (each_at 
 pub others_at : (steps : List Inference) (places : List ℕ) (i : ℕ) (s : Inference) → HasOwnNumbers steps → IsAt steps i s → (i ∈ places → ⊥)
     → AllByRecursion (λ n. nat_eq s.number n ≡ false) (numbers (steps_at steps places))
 others_at steps [] i s own here out = tt
-others_at steps (p ∷ places) i s own here out = elim (slice_get_cases steps p).1 [
-  | inl (t, _, is, _) ↦ rw is (
-    ne_eqb s.number t.number (λ same. out (inl (own i p s t here is same))),
-    others_at steps places i s own here (λ h. out (inr h)),
-  )
-  | inr (_, none) ↦ rw none (others_at steps places i s own here (λ h. out (inr h)))
-]
+others_at steps (p ∷ places) i s own here out =
+    search (rules, slice_get_cases, ne_eqb, others_at steps places i s own here (λ h. out (inr h)))
 
 unused : (n : ℕ) (ns : List ℕ) → AllByRecursion (λ m. nat_eq n m ≡ false) ns → is_used n ns ≡ false
 unused n [] all = refl
@@ -94,9 +84,7 @@ unused n (m ∷ ns) all = ap (λ b. b || is_used n ns) all.0 ∙ unused n ns all
 pub fresh_at : (steps : List Inference) (core : List ℕ) (k : ℕ) (s : Inference) → HasOwnNumbers steps → IsStrictlyIncreasing core
     → k < length core
     → IsAt steps (get_or core k 0) s → is_used s.number (numbers (steps_at steps (take k core))) ≡ false
-fresh_at steps core k s own rises less here =
-    unused s.number (numbers (steps_at steps (take k core)))
-    (others_at steps (take k core) (get_or core k 0) s own here (not_before core k rises less))
+fresh_at steps core k s own rises less here = search (rules, unused, others_at, not_before)
 
 -- ---- what a check answers
 

@@ -1,5 +1,5 @@
 -- A trimmed trace is well formed, and so its text reads as it.
-use Rattle.std.proofs.Common.{◌≡◌, ℕ, zero, suc, ◌^◌, ◌<◌, ◌≤◌, List, [], ◌∷◌, inl, inr, refl, sym, ap, length, Some, arith, nat_eq}
+use Rattle.std.proofs.Common.{◌≡◌, ℕ, zero, suc, ◌^◌, ◌<◌, ◌≤◌, List, [], ◌∷◌, inl, inr, refl, sym, ap, length, Some, arith, nat_eq, rules}
 use Rattle.std.specs.Prelude.{slice_get}
 use Rattle.std.specs.List.{AllByRecursion, IsDistinct}
 use Rattle.std.proofs.lemmas.Option.{slice_get_cases, slice_get_within}
@@ -35,32 +35,21 @@ distinct_at : (steps : List Inference) (places : List ℕ) → HasOwnNumbers ste
     → IsDistinct nat_eq (numbers (steps_at steps places))
 unfolding IsDistinct
 distinct_at steps [] own rises = tt
-distinct_at steps (p ∷ places) own rises = elim (slice_get_cases steps p).1 [
-  | inl (s, _, is, _) ↦ rw is (
-    others_at steps places p s own is (head_out p places rises),
-    distinct_at steps places own (tail_rises p places rises),
-  )
-  | inr (_, none) ↦ rw none (distinct_at steps places own (tail_rises p places rises))
-]
+distinct_at steps (p ∷ places) own rises =
+    search (rules, slice_get_cases, others_at, head_out, tail_rises, distinct_at steps places own (tail_rises p places rises))
 
 -- rising places are no fewer than one another's count
 climbs : (places : List ℕ) (k i : ℕ) → Rises places → slice_get places k ≡ Some i → k ≤ i
 climbs places zero i rises here = omega arith
 climbs places (suc k) i rises here = elim (slice_get_cases places k).1 [
-  | inl (j, _, at_k, _) ↦
-      (let low : k ≤ j = climbs places k j rises at_k in
-      let less : j < i = rises k (suc k) j i at_k here (omega arith) in
-      omega (arith, low, less))
+  | inl (j, _, at_k, _) ↦ search (rules, climbs places k j rises at_k)
   | inr (past, _) ↦ absurd (let within : suc k < length places = slice_get_within places (suc k) i here in omega (arith, within, past))
 ]
 
 few_places : (n m : ℕ) (places : List ℕ) → length places ≡ m → Rises places → ((k i : ℕ) → slice_get places k ≡ Some i → i < n) → m ≤ n
 few_places n zero places count rises inside = omega arith
 few_places n (suc m) places count rises inside = elim (slice_get_cases places m).1 [
-  | inl (i, _, here, _) ↦
-      (let low : m ≤ i = climbs places m i rises here in
-      let less : i < n = inside m i here in
-      omega (arith, low, less))
+  | inl (i, _, here, _) ↦ search (rules, climbs)
   | inr (past, _) ↦ absurd (omega (arith, count, past))
 ]
 
@@ -72,18 +61,8 @@ well_formed d core formed lists =
     let all : length d.steps < 2 ^ 64 = formed.fits.count in
     let fits : length (steps_at d.steps core) < 2 ^ 64 = omega (arith, count, few, all) in
     record {
-      grammatical = record {
-        variables = formed.grammatical.variables;
-        inferences = each_at IsInference d.steps core formed.grammatical.inferences;
-        distinct = distinct_at d.steps core (own_numbers d.steps formed.grammatical.distinct) lists.rises;
-      };
-      fits = record {
-        vars = formed.fits.vars;
-        steps = fits;
-        numbers_fit = numbers_at (λ n. n < 2 ^ 64) d.steps core formed.fits.numbers_fit;
-        ants_fit = each_at (λ s. AllByRecursion (λ n. n < 2 ^ 64) s.ants) d.steps core formed.fits.ants_fit;
-        count = fits;
-      };
+      grammatical = search (rules, each_at, distinct_at, own_numbers);
+      fits = search (rules, numbers_at, each_at);
     }
 
 pub trimmed_text_proves : TrimmedTextProves

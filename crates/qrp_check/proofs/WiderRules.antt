@@ -1,5 +1,5 @@
 -- What follows by some rules follows by wider ones.
-use Rattle.std.proofs.Common.{ℕ, List, [], ◌∷◌, IsTrue, inl, inr, take}
+use Rattle.std.proofs.Common.{ℕ, List, [], ◌∷◌, IsTrue, inl, inr, take, rules}
 use Rattle.qbf_core.specs.Literal.{Literal}
 use Rattle.qbf_core.specs.Blocks.{Block}
 use Rattle.qbf_core.specs.Qbf.{Qbf}
@@ -21,11 +21,7 @@ by_antecedents rules side f before (m ∷ n ∷ more) lits all = reduced_too rul
 
 follows_too : (rules : Rules) (side : Side) (f : Qbf) (steps : List Inference) (i : ℕ) → FollowsUnreduced rules side f steps i
     → StepFollows rules side f steps i
-follows_too rules side f steps i is = record {
-  step = is.step;
-  here = is.here;
-  all = (is.clean, (is.bound, (is.numbers, by_antecedents rules side f (take i steps) is.step.ants is.step.lits is.all)));
-}
+follows_too rules side f steps i is = search (rules, by_antecedents)
 
 pub reduced_parents_keep : ReducedParentsKeep
 reduced_parents_keep rules f sets steps result proof = record {

@@ -66,6 +66,7 @@ fn push_sets(alloc: Global, trace: &mut Trace, sets: &[QuantSet]) -> Result<(), 
 }
 
 /// Adds copies of the steps at some places of a trace to another that has none.
+#[tactic(auto, using(crate::proofs::StepsAt::fresh_at, crate::proofs::StepsAt::next_at, qrp::proofs::Positions::own_numbers, qbf_core::proofs::DistinctNumbers::all_at))]
 fn push_steps(shorter: &mut Trace, trace: &Trace, places: &[usize]) -> Result<(), AllocError>
     requires sound { IsWellFormed trace.now }
     requires empty { shorter.old.steps ≡ [] }
@@ -90,6 +91,7 @@ fn push_steps(shorter: &mut Trace, trace: &Trace, places: &[usize]) -> Result<()
 ///
 /// # Errors
 /// If an allocation fails.
+#[tactic(auto, using(qrp::proofs::WrittenParts::length_at))]
 pub fn trim(alloc: Global, trace: &Trace, verified: &Verified) -> Result<Trace, AllocError>
     requires rises { IsStrictlyIncreasing verified.now.core.items }
     requires within { AllByRecursion (λ i. i < length trace.now.steps) verified.now.core.items }

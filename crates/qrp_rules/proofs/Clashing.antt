@@ -1,6 +1,6 @@
 -- The variables in which two sets clash, found by a walk over one of them.
-use Rattle.std.proofs.Common.{◌≡◌, ◌<◌, ◌≤◌, ◌+◌, ℕ, suc, zero, List, [], ◌∷◌, ◌⊎◌, length, get_or, take, refl, ap, subst, inl, inr, arith}
-use Rattle.std.proofs.Common.{Some, None, Option}
+use Rattle.std.proofs.Common.{◌≡◌, ◌<◌, ◌≤◌, ◌+◌, ℕ, suc, zero, List, [], ◌∷◌, ◌⊎◌, length, get_or, take, refl, inl, inr, arith}
+use Rattle.std.proofs.Common.{Some, None, Option, rules}
 use Rattle.qbf_core.specs.Literal.{Literal, negated, positive, negative}
 use Rattle.qbf_core.specs.Members.{◌∈◌}
 use Rattle.qbf_core.specs.Rules.{Clashes, IsOnlyClash}
@@ -17,12 +17,7 @@ pub taken_below : (xs : List Literal) (i : ℕ) (x m : Literal) → IsOrdered xs
     → m.var < x.var
 taken_below [] i x m o less e h = absurd (omega arith)
 taken_below (y ∷ xs) zero x m o less e h = absurd h
-taken_below (y ∷ xs) (suc i) x m o less e (inl f) =
-    let inside : i < length xs = omega arith in
-    let lt : y.var < x.var = o.0 x (in_at xs i x inside e) in
-    let var_of : Literal → ℕ = λ z. z.var in
-    let s : m.var ≡ y.var = ap var_of f in
-    omega arith
+taken_below (y ∷ xs) (suc i) x m o less e (inl f) = search (rules, in_at)
 taken_below (y ∷ xs) (suc i) x m o less e (inr h) = taken_below xs i x m o.1 (omega arith) e h
 
 -- the clash with one more literal
@@ -30,17 +25,11 @@ pub clash_cases : (a b : List Literal) (i v : ℕ) (x : Literal) → i < length 
     → Clashes (take i a) b v ⊎ ((v ≡ x.var) × (negated x ∈ b))
 clash_cases a b i v x less e (inl (p, q)) = elim (in_take_more a i x (positive v) less e p) [
   | inl k ↦ inl (inl (k, q))
-  | inr f ↦ inr (
-    (let var_of : Literal → ℕ = λ z. z.var in ap var_of f),
-    (let neg : Literal → Literal = λ z. negated z in subst (λ (z : Literal). z ∈ b) (ap neg f) q),
-  )
+  | inr f ↦ search rules
 ]
 clash_cases a b i v x less e (inr (p, q)) = elim (in_take_more a i x (negative v) less e p) [
   | inl k ↦ inl (inr (k, q))
-  | inr f ↦ inr (
-    (let var_of : Literal → ℕ = λ z. z.var in ap var_of f),
-    (let neg : Literal → Literal = λ z. negated z in subst (λ (z : Literal). z ∈ b) (ap neg f) q),
-  )
+  | inr f ↦ search rules
 ]
 
 pub clash_wider : (a a' b : List Literal) (v : ℕ) → ((l : Literal) → l ∈ a → l ∈ a') → Clashes a b v → Clashes a' b v
@@ -88,12 +77,6 @@ clash_second a b i y x o less e h one =
 
 pub clash_none : (a b : List Literal) (i : ℕ) → length a ≤ i → ((v : ℕ) → Clashes (take i a) b v → ⊥) → (v : ℕ) → Clashes a b v → ⊥
 clash_none a b i long none v h = none v (clash_wider a (take i a) b v (λ l k. in_take_all a i l long k) h)
-
-pub clash_one : (a b : List Literal) (i x : ℕ) → length a ≤ i → IsOnlyClash (take i a) b x → IsOnlyClash a b x
-clash_one a b i x long one = record {
-  clashes = clash_wider (take i a) a b x (λ l k. take_within a i l k) one.clashes;
-  only = λ v h. one.only v (clash_wider a (take i a) b v (λ l k. in_take_all a i l long k) h);
-}
 
 pub no_clash : (b : List Literal) (v : ℕ) → Clashes [] b v → ⊥
 no_clash b v (inl (p, q)) = p

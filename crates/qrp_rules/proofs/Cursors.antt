@@ -1,6 +1,6 @@
 -- Walks over ordered lists side by side.
-use Rattle.std.proofs.Common.{◌≡◌, ◌<◌, ◌≤◌, ◌+◌, ℕ, suc, zero, List, [], ◌∷◌, length, get_or, drop, Bool, eqb, ◌&&◌, ◌↔◌, IsTrue}
-use Rattle.std.proofs.Common.{slice_get, Some, true, refl, sym, ap, subst, ◌∙◌, inl, inr, arith}
+use Rattle.std.proofs.Common.{◌≡◌, ◌<◌, ◌≤◌, ◌+◌, ℕ, suc, zero, List, [], ◌∷◌, length, get_or, drop, Bool, eqb, ◌&&◌, ◌↔◌, IsTrue, rules}
+use Rattle.std.proofs.Common.{slice_get, Some, refl, sym, ap, subst, ◌∙◌, inl, inr, arith}
 use mathlib.Core.Bool.{beq}
 use Rattle.qbf_core.specs.Literal.{Literal}
 use Rattle.qbf_core.specs.Members.{◌∈◌, ◌⊆◌}
@@ -35,10 +35,7 @@ drop_later : (xs : List Literal) (i : ℕ) (x l : Literal) → IsOrdered xs → 
 drop_later xs i x l o less e h = subst (λ (z : Literal). z.var < l.var) (sym e)
     ((subst IsOrdered (drop_more xs i x less) (ordered_drop xs i o)).0 l h)
 
--- a list that is walked beside another: at the start, and behind one more literal
-pub reach_start : (whole part : List Literal) → IsOrdered whole → Reaches whole whole (HasVar part)
-reach_start whole part o = record { ordered = o; within = λ m h. h; kept = λ v m l le h. h }
-
+-- a list that is walked beside another, behind one more literal
 pub reach_more : (whole rest rest' part : List Literal) (i v : ℕ) (x : Literal) → IsOrdered part → i < length part → x ≡ get_or part i x
     → Reaches whole rest (HasVar (drop i part)) → IsOrdered rest' → ((m : Literal) → m ∈ rest' → m ∈ rest) → v ≡ x.var
     → ((m : Literal) → m ∈ rest → v ≤ m.var → m ∈ rest')
@@ -66,8 +63,7 @@ first_least first others v m le o (inr h) = let lt : first.var < m.var = o.0 m h
 
 pub rest_keeps : (first : Literal) (others : List Literal) (v : ℕ) (m : Literal) → first.var < v → v ≤ m.var → m ∈ (first ∷ others)
     → m ∈ others
-rest_keeps first others v m lt le (inl e) = let var_of : Literal → ℕ = λ z. z.var in let s : m.var ≡ first.var = ap var_of e in
-    absurd (omega arith)
+rest_keeps first others v m lt le (inl e) = search rules
 rest_keeps first others v m lt le (inr h) = h
 
 -- the test of the first literal of an ordered list whose variables are no earlier
@@ -78,8 +74,7 @@ first_is (x ∷ xs) l first e o later t is =
     let same : x ≡ first = cc e in (
       (λ yes. inl (sym (same ∙ lit_test first l (sym is ∙ yes)))),
       (λ h. elim h [
-        | inl k ↦ (let f : first ≡ l = sym same ∙ sym k in
-            is ∙ subst (λ (z : Literal). (eqb z.var l.var && beq z.negative l.negative) ≡ true) (sym f) (lit_test_same l))
+        | inl k ↦ search (rules, lit_test_same)
         | inr k ↦ (let lt : x.var < l.var = o.0 l k in let le : l.var ≤ x.var = later x (inl refl) in absurd (omega arith))
       ]),
     )

@@ -1,6 +1,6 @@
 -- Steps that are written exactly as they follow, in any order: what the walk over them tells.
 use Rattle.std.proofs.Common.{IsTrue, ◌≡◌, ◌<◌, ◌≤◌, ◌+◌, ℕ, List, [], ◌∷◌, ◌++◌, ◌⊎◌, ◌↔◌, Bool, length, get_or, take, drop, slice_get}
-use Rattle.std.proofs.Common.{Some, None, refl}
+use Rattle.std.proofs.Common.{Some, None, refl, rules}
 use Rattle.std.proofs.Common.{sym, ap, subst, ◌∙◌, inl, inr, arith}
 use Rattle.std.proofs.lemmas.Bool.{cases_eq}
 use Rattle.std.proofs.lemmas.List.{take-append-drop, take_all}
@@ -245,8 +245,4 @@ put_one s t x May ok is out may = record {
     negation z = negated z
 
 pub put_then : (r s t : List Bool) (May : Literal → Type 0) → IsPutBy r s May → IsPutBy s t May → IsPutBy r t May
-put_then r s t May p q = record {
-  kept = λ l h. q.kept l (p.kept l h);
-  only = λ l h. elim (q.only l h) [ inl k ↦ p.only l k | inr m ↦ inr m ];
-  clean = λ none. q.clean (p.clean none);
-}
+put_then r s t May p q = search rules

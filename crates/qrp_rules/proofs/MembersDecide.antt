@@ -1,5 +1,5 @@
 -- Rules look at members alone: lists with the same members meet the same conditions.
-use Rattle.std.proofs.Common.{◌≡◌, ℕ, List, [], ◌∷◌, ◌++◌, ◌⊎◌, Option, Some, None, inl, inr, refl, ◌∙◌}
+use Rattle.std.proofs.Common.{◌≡◌, ℕ, List, [], ◌∷◌, ◌++◌, ◌⊎◌, Option, Some, None, inl, inr, refl, ◌∙◌, rules}
 use Rattle.qbf_core.specs.Literal.{Literal, positive, negative}
 use Rattle.qbf_core.specs.Members.{◌∈◌, ◌⊆◌}
 use Rattle.qbf_core.specs.Blocks.{Block}
@@ -67,18 +67,15 @@ same_resolvent a a' b b' x s t = (resolvent_to a a' b b' x s t, resolvent_to a' 
 -- one antecedent
 each_same : (side : Side) (blocks : List Block) (a a' to to' : List Literal) → HasMembersOf a a' → HasMembersOf to to'
     → ((l : Literal) → l ∈ a → (l ∈ to) ⊎ IsReducible side blocks a l) → (l : Literal) → l ∈ a' → (l ∈ to') ⊎ IsReducible side blocks a' l
-each_same side blocks a a' to to' s t all l h =
-    elim (all l (s.1 l h)) [ inl k ↦ inl (t.0 l k) | inr red ↦ inr (same_reducible side blocks a a' l s red) ]
+each_same side blocks a a' to to' s t all l h = search (rules, same_reducible)
 
 reduct_implied : (side : Side) (blocks : List Block) (a a' to to' : List Literal) → HasMembersOf a a' → HasMembersOf to to'
     → AreImplied (reduct_conditions side blocks a to) (reduct_conditions side blocks a' to')
-reduct_implied side blocks a a' to to' s t =
-    (refl, (λ w l h. s.0 l (w l (t.1 l h))), (refl, each_same side blocks a a' to to' s t, tt))
+reduct_implied side blocks a a' to to' s t = search (rules, each_same)
 
 pub reduct_members : (side : Side) (blocks : List Block) (a a' to to' : List Literal) → HasMembersOf a a' → HasMembersOf to to'
     → IsReduct side blocks a to → IsReduct side blocks a' to'
-reduct_members side blocks a a' to to' s t r =
-    record { within = λ l h. s.0 l (r.within l (t.1 l h)); each = each_same side blocks a a' to to' s t r.each }
+reduct_members side blocks a a' to to' s t r = search (rules, each_same)
 
 -- two antecedents
 within_same : (a a' b b' to to' : List Literal) → HasMembersOf a a' → HasMembersOf b b' → HasMembersOf to to'
@@ -132,20 +129,13 @@ initial_implied Cubes f to to' t = (refl, initial_to Cubes f to to' t, tt)
 pub reduct_answer : (side : Side) (blocks : List Block) (a a' to to' : List Literal) (answer : Option RuleFault) → HasMembersOf a a'
     → HasMembersOf to to'
     → IsAnswer (reduct_conditions side blocks a to) answer → IsAnswer (reduct_conditions side blocks a' to') answer
-reduct_answer side blocks a a' to to' answer s t =
-    same_answer (reduct_conditions side blocks a to) (reduct_conditions side blocks a' to') answer
-    (reduct_implied side blocks a a' to to' s t) (reduct_implied side blocks a' a to' to (same_back a a' s) (same_back to to' t))
+reduct_answer side blocks a a' to to' answer s t = search (rules, same_answer, reduct_implied, same_back)
 
 pub resolvent_answer : (rules : Rules) (side : Side) (blocks : List Block) (a a' b b' to to' : List Literal) (answer : Option RuleFault)
     → HasMembersOf a a' → HasMembersOf b b' → HasMembersOf to to'
     → IsAnswer (resolvent_conditions rules side blocks a b to) answer → IsAnswer (resolvent_conditions rules side blocks a' b' to') answer
-resolvent_answer rules side blocks a a' b b' to to' answer s t u =
-    same_answer (resolvent_conditions rules side blocks a b to) (resolvent_conditions rules side blocks a' b' to') answer
-    (resolvent_implied rules side blocks a a' b b' to to' s t u)
-    (resolvent_implied rules side blocks a' a b' b to' to (same_back a a' s) (same_back b b' t) (same_back to to' u))
+resolvent_answer rules side blocks a a' b b' to to' answer s t u = search (rules, same_answer, resolvent_implied, same_back)
 
 pub initial_answer : (side : Side) (f : Qbf) (to to' : List Literal) (answer : Option RuleFault) → HasMembersOf to to'
     → IsAnswer (initial_condition side f to ∷ []) answer → IsAnswer (initial_condition side f to' ∷ []) answer
-initial_answer side f to to' answer t =
-    same_answer (initial_condition side f to ∷ []) (initial_condition side f to' ∷ []) answer
-    (initial_implied side f to to' t) (initial_implied side f to' to (same_back to to' t))
+initial_answer side f to to' answer t = search (rules, same_answer, initial_implied, same_back)

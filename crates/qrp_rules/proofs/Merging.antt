@@ -70,9 +70,3 @@ module _ (blocks : List Block) (q : Quantifier) (block : Option ℕ) (from to : 
 pub rest_within : (blocks : List Block) (q : Quantifier) (block : Option ℕ) (from to : List Literal) (i k : ℕ) → k ≡ length to
     → IsRestSoFar blocks q block from to i k → to ⊆ from
 rest_within blocks q block from to i k e u l h = take_within from i l (u.within l (in_take_all to k l (omega arith) h))
-
-pub rest_each : (blocks : List Block) (q : Quantifier) (block : Option ℕ) (from to : List Literal) (i k : ℕ) → length from ≤ i
-    → IsRestSoFar blocks q block from to i k
-    → (l : Literal) → l ∈ from → (l ∈ to) ⊎ StandsAfter blocks q block l.var
-rest_each blocks q block from to i k long u l h =
-    elim (u.each l (in_take_all from i l long h)) [ inl w ↦ inl (take_within to k l w) | inr s ↦ inr s ]

@@ -1,5 +1,5 @@
 -- Ordered lists: their beginnings, and their lengths.
-use Rattle.std.proofs.Common.{◌≡◌, ◌<◌, ◌≤◌, ◌+◌, ℕ, List, [], ◌∷◌, ◌++◌, length, get_or, take, refl, sym, ap, subst, ◌∙◌, inl, inr}
+use Rattle.std.proofs.Common.{◌≡◌, ◌<◌, ◌≤◌, ◌+◌, ℕ, List, [], ◌∷◌, ◌++◌, length, get_or, take, refl, sym, subst, ◌∙◌, inl, inr, rules}
 use Rattle.std.proofs.Common.{arith}
 use Rattle.qbf_core.specs.Literal.{Literal}
 use Rattle.qbf_core.specs.Members.{◌∈◌, ◌⊆◌}
@@ -11,39 +11,24 @@ use Rattle.qbf_core.proofs.Order.{ordered_push}
 pub ordered_taken : (xs : List Literal) (i : ℕ) (x : Literal) → i < length xs → x ≡ get_or xs i x → IsOrdered (take i xs)
     → ((m : Literal) → m ∈ take i xs → m.var < x.var) → IsOrdered (take (i + 1) xs)
 ordered_taken xs i x less e o below =
-    let more : take (i + 1) xs ≡ take i xs ++ x ∷ [] =
-    take_more xs i x less ∙ ap (λ (z : Literal). take i xs ++ z ∷ []) (sym e) in
+    let more : take (i + 1) xs ≡ take i xs ++ x ∷ [] = search (rules, take_more) in
     subst IsOrdered (sym more) (ordered_push (take i xs) x o below)
 
 -- an ordered list in another is no longer than that, and is all of it where it is as long
 first_out : (t f m : Literal) (ts fs : List Literal) → IsOrdered (t ∷ ts) → IsOrdered (f ∷ fs) → t ∈ fs → m ∈ (t ∷ ts) → m ∈ (f ∷ fs)
     → m ∈ fs
 first_out t f m ts fs o p h k (inr in_rest) = in_rest
-first_out t f m ts fs o p h k (inl e) =
-    let lt : f.var < t.var = p.0 t h in
-    let var_of : Literal → ℕ = λ z. z.var in
-    let same : m.var ≡ f.var = ap var_of e in
-    elim k [
-      | inl g ↦ (let is : m.var ≡ t.var = ap var_of g in absurd (omega (arith, lt, same, is)))
-      | inr g ↦ (let less : t.var < m.var = o.0 m g in absurd (omega (arith, lt, same, less)))
-    ]
+first_out t f m ts fs o p h k (inl e) = search rules
 
 rest_in : (t f : Literal) (ts fs : List Literal) → IsOrdered (t ∷ ts) → t ≡ f → (t ∷ ts) ⊆ (f ∷ fs) → ts ⊆ fs
-rest_in t f ts fs o e sub m h = elim (sub m (inr h)) [
-  | inl g ↦ (let var_of : Literal → ℕ = λ z. z.var in
-      let same : m.var ≡ t.var = ap var_of (g ∙ sym e) in
-      let less : t.var < m.var = o.0 m h in
-      absurd (omega (arith, same, less)))
-  | inr k ↦ k
-]
+rest_in t f ts fs o e sub m h = search rules
 
 ordered_shorter : (to from : List Literal) → IsOrdered to → IsOrdered from → to ⊆ from → length to ≤ length from
 ordered_shorter [] from o p sub = omega arith
 ordered_shorter (t ∷ ts) [] o p sub = absurd (sub t (inl refl))
 ordered_shorter (t ∷ ts) (f ∷ fs) o p sub = elim (sub t (inl refl)) [
   | inl e ↦ (let le : length ts ≤ length fs = ordered_shorter ts fs o.1 p.1 (rest_in t f ts fs o e sub) in omega (arith, le))
-  | inr h ↦ (let le : length (t ∷ ts) ≤ length fs = ordered_shorter (t ∷ ts) fs o p.1 (λ m k. first_out t f m ts fs o p h k (sub m k)) in
-      omega (arith, le))
+  | inr h ↦ search (rules, first_out, ordered_shorter (t ∷ ts) fs o p.1 (λ m k. first_out t f m ts fs o p h k (sub m k)))
 ]
 
 pub ordered_whole : (to from : List Literal) → IsOrdered to → IsOrdered from → to ⊆ from → length from ≤ length to → from ⊆ to

@@ -1,5 +1,5 @@
 -- Fully reduced forms: a reduct has that of the list it is made from.
-use Rattle.std.proofs.Common.{◌≡◌, ◌<◌, ◌≤◌, ◌+◌, ◌↔◌, ℕ, suc, List, [], ◌∷◌, ◌++◌, ◌⊎◌, length, get_or, take, slice_get, Option}
+use Rattle.std.proofs.Common.{◌≡◌, ◌<◌, ◌≤◌, ◌+◌, ◌↔◌, ℕ, suc, List, [], ◌∷◌, ◌++◌, ◌⊎◌, length, get_or, take, slice_get, Option, rules}
 use Rattle.std.proofs.Common.{Some, None, Contains, Bool, IsTrue, refl, sym, ap, subst, ◌∙◌, inl, inr, arith}
 use Rattle.std.proofs.lemmas.Bool.{cases_lt}
 use Rattle.std.proofs.lemmas.List.Elements.{Contains-append_left, Contains-push}
@@ -42,15 +42,13 @@ ordered_same (x ∷ xs) (y ∷ ys) o p a b =
   where
     narrow : x ≡ y → xs ⊆ ys
     narrow e m h = elim (a m (inr h)) [
-      | inl k ↦ (let lt : x.var < m.var = o.0 m h in let var_of : Literal → ℕ = λ z. z.var in let s : m.var ≡ y.var = ap var_of k in
-          let t : x.var ≡ y.var = ap var_of e in absurd (omega arith))
+      | inl k ↦ search rules
       | inr k ↦ k
     ]
 
     wide : x ≡ y → ys ⊆ xs
     wide e m h = elim (b m (inr h)) [
-      | inl k ↦ (let lt : y.var < m.var = p.0 m h in let var_of : Literal → ℕ = λ z. z.var in let s : m.var ≡ x.var = ap var_of k in
-          let t : x.var ≡ y.var = ap var_of e in absurd (omega arith))
+      | inl k ↦ search rules
       | inr k ↦ k
     ]
 
@@ -63,29 +61,17 @@ not_both Cubes blocks v r d = cc (r, d)
 -- a literal is reducible in a reduct exactly where it is in the list
 reducible_same : (side : Side) (blocks : List Block) (from to : List Literal) (l : Literal) → IsReduct side blocks from to
     → IsReducible side blocks to l → IsReducible side blocks from l
-reducible_same side blocks from to l r h = (
-  h.0,
-  λ m k d. elim (r.each m k) [ inl i ↦ h.1 m i d | inr red ↦ absurd (not_both side blocks m.var red.0 d) ],
-)
+reducible_same side blocks from to l r h = search (rules, not_both)
 
 -- a reduct has the form of the list
 pub form_of_reduct : (side : Side) (blocks : List Block) (from to form : List Literal) → IsReduct side blocks from to
     → IsReducedForm side blocks from form → IsReducedForm side blocks to form
-form_of_reduct side blocks from to form r f = record {
-  ordered = f.ordered;
-  within = λ l h.
-      let w = f.within l h in (
-        elim (r.each l w.0) [ inl i ↦ i | inr red ↦ absurd (w.1 red) ],
-        λ red. w.1 (reducible_same side blocks from to l r red),
-      );
-  whole = λ l h out. f.whole l (r.within l h) (λ red. out (red.0, λ m k d. red.1 m (r.within m k) d));
-}
+form_of_reduct side blocks from to form r f = search (rules, reducible_same)
 
 -- there is one form
 pub form_once : (side : Side) (blocks : List Block) (lits a b : List Literal) → IsReducedForm side blocks lits a
     → IsReducedForm side blocks lits b → a ≡ b
-form_once side blocks lits a b f g = ordered_same a b f.ordered g.ordered
-    (λ l h. let w = f.within l h in g.whole l w.0 w.1) (λ l h. let w = g.within l h in f.whole l w.0 w.1)
+form_once side blocks lits a b f g = search (rules, ordered_same)
 
 -- a list has the form of each list with its members
 pub form_same : (side : Side) (blocks : List Block) (a b form : List Literal) → HasMembersOf a b → IsReducedForm side blocks a form
@@ -103,16 +89,7 @@ pub record Numbered (blocks : List Block) (block : Option ℕ) (seen : List Lite
 pub numbered_skip : (blocks : List Block) (block : Option ℕ) (xs zs : List Literal) (x : Literal) (hash : ℕ)
     → ((m : Literal) → m ∈ zs → (m ∈ xs) ⊎ (m ≡ x)) → ((m : Literal) → (m ∈ xs) ⊎ (m ≡ x) → m ∈ zs)
     → StandsAfter blocks All block x.var → Numbered blocks block xs hash → Numbered blocks block zs hash
-numbered_skip blocks block xs zs x hash cases wider out n = record {
-  form = n.form;
-  numbered = n.numbered;
-  ordered = n.ordered;
-  within = λ l h. let w = n.within l h in (wider l (inl w.0), w.1);
-  whole = λ l h in_. elim (cases l h) [
-    | inl k ↦ n.whole l k in_
-    | inr e ↦ absurd (in_ (subst (λ (z : Literal). StandsAfter blocks All block z.var) (sym e) out))
-  ];
-}
+numbered_skip blocks block xs zs x hash cases wider out n = search rules
 
 number_push : (n : ℕ) (xs : List Literal) (x : Literal) → hash_from n (xs ++ x ∷ []) ≡ hash_with (hash_from n xs) x
 number_push n [] x = refl
@@ -126,10 +103,7 @@ numbered_push blocks block xs zs x hash hash' cases wider below is out n = recor
   form = n.form ++ x ∷ [];
   numbered = is ∙ ap (λ (k : ℕ). hash_with k x) n.numbered ∙ sym (number_push 0 n.form x);
   ordered = ordered_push n.form x n.ordered (λ m h. below m (n.within m h).0);
-  within = λ l h. elim (in_push n.form x l h) [
-    | inl k ↦ (let w = n.within l k in (wider l (inl w.0), w.1))
-    | inr e ↦ (wider l (inr e), λ stands. out (subst (λ (z : Literal). StandsAfter blocks All block z.var) e stands))
-  ];
+  within = search (rules, in_push);
   whole = λ l h in_. push_in n.form x l (elim (cases l h) [ inl k ↦ inl (n.whole l k in_) | inr e ↦ inr e ]);
 }
 
@@ -141,8 +115,7 @@ numbered_done blocks block lits seen hash same is n = (
   n.form,
   record {
     ordered = n.ordered;
-    within = λ l h. let w = n.within l h in
-        (same.0 l w.0, λ red. w.1 ((reducible_after Clauses blocks All Exists lits block refl refl is l).1 red));
+    within = search (rules, reducible_after);
     whole = λ l h out. n.whole l (same.1 l h) (λ stands. out ((reducible_after Clauses blocks All Exists lits block refl refl is l).0 stands));
   },
   n.numbered,
@@ -175,8 +148,7 @@ pub none_initial : (f : Qbf) (index : List IndexEntry) (set form : List Literal)
 none_initial f index set form hash is reduced numbered none h =
     let at = in_got f.clauses h.0 h.1 in
     let filed = is (suc at.0) at.0 h.0 (omega arith) at.1 h.2 in
-    let same : form ≡ filed.0 =
-    form_once Clauses f.blocks set form filed.0 reduced (form_of_reduct Clauses f.blocks h.0 set filed.0 h.3 filed.1) in
+    let same : form ≡ filed.0 = search (rules, form_once, form_of_reduct) in
     let e : hash ≡ hash_from 0 filed.0 = numbered ∙ ap (hash_from 0) same in
     none at.0 (subst (λ (n : ℕ). Contains index (record { hash = n; place = at.0 })) (sym e) filed.2)
     (record { clause = h.0; here = at.1; clean = h.2; reduct = h.3 })
@@ -204,13 +176,7 @@ filed_more f index n hash clause at told before i c less got clean = elim (cases
 
 pub unfiled : (f : Qbf) (index : List IndexEntry) (n : ℕ) (clause : List Literal)
     → slice_get f.clauses n ≡ Some clause → (IsClean clause → ⊥) → IsIndexBelow f index n → IsIndexBelow f index (n + 1)
-unfiled f index n clause at out before i c less got clean = elim (cases_lt i n) [
-  | inl earlier ↦ before i c earlier got clean
-  | inr late ↦
-      let last : i ≡ n = omega arith in
-      let same : c ≡ clause = (let q : Some c ≡ Some clause = sym got ∙ ap (slice_get f.clauses) last ∙ at in cc q) in
-      absurd (out (subst (λ (z : List Literal). IsClean z) same clean))
-]
+unfiled f index n clause at out before i c less got clean = search (rules, cases_lt)
 
 -- the same in another order
 pub filed_sorted : (f : Qbf) (index sorted : List IndexEntry) → IsPermutation index sorted → IsIndex f index → IsIndex f sorted
@@ -224,11 +190,7 @@ pub in_rest : (index : List IndexEntry) (first hash : ℕ) (x : IndexEntry) → 
     → x.hash ≡ hash → Contains index x → Contains (take (length index - first) (drop first index)) x
 in_rest index first hash x within below is at =
     let late : first ≤ at.0 = elim (cases_lt at.0 first) [
-      | inl less ↦
-          let t : ltb (get_or index at.0 x).hash hash ≡ true = below at.0 x (omega arith) less in
-          let lt : (get_or index at.0 x).hash < hash = lt_of t in
-          let same : (get_or index at.0 x).hash ≡ x.hash = ap (λ (z : IndexEntry). z.hash) at.2 in
-          absurd (omega (arith, lt, same, is))
+      | inl less ↦ search (rules, lt_of)
       | inr late ↦ late
     ] in
     let inside : at.0 < length index = at.1 in
@@ -252,15 +214,7 @@ pub none_left : (f : Qbf) (set : List Literal) (rest : List IndexEntry) (hash j 
     → ((k : ℕ) (d : IndexEntry) → k < j → HasReductAt f set (get_or rest k d).place → ⊥)
     → ((k : ℕ) (d : IndexEntry) → j ≤ k → k < length rest → hash < (get_or rest k d).hash)
     → (i : ℕ) → Contains rest (record { hash = hash; place = i }) → HasReductAt f set i → ⊥
-none_left f set rest hash j tried above i at h =
-    let e : IndexEntry = record { hash = hash; place = i } in
-    elim (cases_lt at.0 j) [
-      | inl less ↦ tried at.0 e less (subst (λ (z : IndexEntry). HasReductAt f set z.place) (sym at.2) h)
-      | inr late ↦
-          let lt : hash < (get_or rest at.0 e).hash = above at.0 e late at.1 in
-          let same : (get_or rest at.0 e).hash ≡ hash = ap (λ (z : IndexEntry). z.hash) at.2 in
-          omega (arith, lt, same)
-    ]
+none_left f set rest hash j tried above i at h = search (rules, cases_lt)
 
 pub above_from : (rest : List IndexEntry) (hash j : ℕ) (x : IndexEntry) → IsNonDecreasingBy hash_of rest → j < length rest
     → hash < (get_or rest j x).hash
@@ -272,5 +226,4 @@ above_from rest hash j x sorted inside less k d le within =
 
 -- no clause is left out
 pub filed_all : (f : Qbf) (index : List IndexEntry) (n : ℕ) → length f.clauses ≤ n → IsIndexBelow f index n → IsIndex f index
-filed_all f index n all before k i c less got clean =
-    before i c (let inside : i < length f.clauses = slice_get_within f.clauses i c got in omega arith) got clean
+filed_all f index n all before k i c less got clean = search (rules, slice_get_within)

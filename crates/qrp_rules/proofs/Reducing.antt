@@ -1,5 +1,5 @@
 -- Reducible literals by one innermost block.
-use Rattle.std.proofs.Common.{◌≡◌, ◌∙◌, ℕ, List, ◌++◌, ◌⊎◌, ◌↔◌, Option, Some, None, refl, sym, subst, inl, inr}
+use Rattle.std.proofs.Common.{◌≡◌, ◌∙◌, ℕ, List, ◌++◌, ◌⊎◌, ◌↔◌, Option, Some, None, refl, sym, subst, inl, inr, rules}
 use Rattle.std.proofs.lemmas.Bool.{cases_eq}
 use Rattle.qbf_core.specs.declared.quantifier.Quantifier.{Quantifier}
 use Rattle.qbf_core.specs.Literal.{Literal}
@@ -25,20 +25,7 @@ pub innermost_more : (blocks : List Block) (q : Quantifier) (pivot old one new :
     → ((m : Literal) → m ∈ zs → (m ∈ xs) ⊎ (m ≡ x)) → ((m : Literal) → (m ∈ xs) ⊎ (m ≡ x) → m ∈ zs)
     → ((k : ℕ) → IsAfter one k ↔ IsHeldBefore blocks q pivot x.var k) → ((k : ℕ) → IsAfter new k ↔ (IsAfter old k × IsAfter one k))
     → IsInnermost blocks q pivot xs old → IsInnermost blocks q pivot zs new
-innermost_more blocks q pivot old one new xs zs x cases wider held both is k = (
-  (λ after m h. let w = (both k).0 after in elim (cases m h) [
-    | inl i ↦ (is k).0 w.0 m i
-    | inr e ↦ subst (λ (z : Literal). IsHeldBefore blocks q pivot z.var k) (sym e) ((held k).0 w.1)
-  ]),
-  (λ all. (both k).1 ((is k).1 (λ m i. all m (wider m (inl i))), (held k).1 (all x (wider x (inr refl))))),
-)
-
--- the same members
-pub innermost_same : (blocks : List Block) (q : Quantifier) (pivot block : Option ℕ) (xs zs : List Literal)
-    → ((m : Literal) → m ∈ zs → m ∈ xs) → ((m : Literal) → m ∈ xs → m ∈ zs) → IsInnermost blocks q pivot xs block
-    → IsInnermost blocks q pivot zs block
-innermost_same blocks q pivot block xs zs narrow wider is k =
-    ((λ after m h. (is k).0 after m (narrow m h)), (λ all. (is k).1 (λ m h. all m (wider m h))))
+innermost_more blocks q pivot old one new xs zs x cases wider held both is k = search rules
 
 -- of a resolvent, by those of its antecedents without the pivot
 pub innermost_resolvent : (blocks : List Block) (q : Quantifier) (a b : List Literal) (x : ℕ) (in_a in_b whole : Option ℕ)
@@ -82,13 +69,7 @@ quantifiers_differ Cubes e = cc e
 pub reducible_wider : (side : Side) (blocks : List Block) (q : Quantifier) (block : Option ℕ) (from to : List Literal)
     → q ≡ reduced_quantifier side → ((l : Literal) → l ∈ from → (l ∈ to) ⊎ StandsAfter blocks q block l.var)
     → (l : Literal) → IsReducible side blocks to l → IsReducible side blocks from l
-reducible_wider side blocks q block from to er each l red = (
-  red.0,
-  λ m h binds. elim (each m h) [
-    | inl k ↦ red.1 m k binds
-    | inr stands ↦ absurd (quantifiers_differ side (sym (subst (λ r. Binds blocks r m.var) er stands.0) ∙ binds))
-  ],
-)
+reducible_wider side blocks q block from to er each l red = search (rules, quantifiers_differ)
 
 -- so what may be left out is reducible, where there is no pivot
 pub each_reducible : (side : Side) (blocks : List Block) (after : Reducible) (deciding : Quantifier) (from to : List Literal)
@@ -128,8 +109,7 @@ innermost_whole : (blocks : List Block) (q : Quantifier) (lits : List Literal) (
     → ((k : ℕ) → IsAfter whole k ↔ (IsAfter beside k × IsAfter own k)) → IsInnermost blocks q None lits whole
 innermost_whole blocks q lits x beside own whole (m, h, is) is_beside is_own both k = (
   (λ after l i. λ _ binds j e. let w = (both k).0 after in elim (cases_eq l.var x) [
-    | inl same ↦ (is_own k).0 w.1 (λ none. none) (subst (Binds blocks q) same binds) j
-        (subst (λ (v : ℕ). block_in v blocks ≡ Some j) same e)
+    | inl same ↦ search rules
     | inr other ↦ (is_beside k).0 w.0 l i other binds j e
   ]),
   (λ all. (both k).1 (
@@ -184,14 +164,7 @@ module _ (side : Side) (blocks : List Block) (reduced deciding : Quantifier) (er
   -- a literal of the resolvent is kept or reducible there, or reducible in the antecedent if that has it
   one_accounts : (from : List Literal) (block : Option ℕ) → IsSplit from block → IsCovered from block → (l : Literal) → (l.var ≡ x → ⊥)
       → ((l ∈ to) ⊎ Red (resolvent a b x) l) ⊎ (l ∈ from → Red from l)
-  one_accounts from block is all l ne = elim (in_or_not l from) [
-    | inr out ↦ inr (λ h. absurd (out h))
-    | inl h ↦ elim (all l h) [
-      | inl k ↦ inl (inl k)
-      | inr (inl e) ↦ absurd (ne e)
-      | inr (inr stands) ↦ elim ((is l).0 stands) [ inl red ↦ inl (inr red) | inr red ↦ inr (λ _. red) ]
-    ]
-  ]
+  one_accounts from block is all l ne = search (rules, in_or_not)
 
   pub parents_account : (beside_a beside_b of_pivot own_a own_b whole in_a in_b : Option ℕ) → Clashes a b x
       → ((k : ℕ) → IsAfter whole k ↔ (IsAfter beside_a k × IsAfter beside_b k))

@@ -1,5 +1,5 @@
 -- Initial steps: reducts by their members, and clauses by their places.
-use Rattle.std.proofs.Common.{◌≡◌, ◌+◌, ◌↔◌, IsTrue, Bool, true, false, not, ℕ, List, refl, sym}
+use Rattle.std.proofs.Common.{◌≡◌, ◌+◌, ◌↔◌, IsTrue, Bool, true, false, not, ℕ, List, refl, sym, rules}
 use Rattle.std.proofs.Common.{slice_get, Option, Some, None, take}
 use Rattle.std.proofs.lemmas.Bool.{false≢true}
 use Rattle.std.specs.Option.{is_some}
@@ -19,10 +19,7 @@ pub reduct_told : (side : Side) (blocks : List Block) (from to : List Literal) (
 reduct_told side blocks from to None true all e = ((λ _. record { within = all.0; each = all.1.0 }), (λ _. refl))
 reduct_told side blocks from to None false all e = absurd (cc e)
 reduct_told side blocks from to (Some fault) true fails e = absurd (cc e)
-reduct_told side blocks from to (Some fault) false fails e = (
-  (λ t. absurd (false≢true t)),
-  (λ r. absurd (no_fault (reduct_conditions side blocks from to) fault (r.within, (r.each, tt)) fails)),
-)
+reduct_told side blocks from to (Some fault) false fails e = search (rules, false≢true, no_fault)
 
 -- a tautology is not clean
 pub not_clean : (lits : List Literal) → IsTautology lits → IsClean lits → ⊥

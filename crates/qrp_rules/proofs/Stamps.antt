@@ -1,6 +1,6 @@
 -- Numbers with the stamp of a time.
 use Rattle.std.proofs.Common.{◌≡◌, ◌<◌, ◌≤◌, ◌+◌, ◌*◌, ◌⊎◌, ℕ, zero, suc, Bool, true, false, List, [], ◌∷◌, length, get_or, if◌then◌else◌}
-use Rattle.std.proofs.Common.{refl, sym, subst, ◌∙◌, inl, inr, arith}
+use Rattle.std.proofs.Common.{refl, sym, arith, rules}
 use Rattle.std.proofs.lemmas.Bool.{cases_eq, eqb-true, eq-eqb}
 use Rattle.std.proofs.Math.ListN.{replicate, set}
 use Rattle.std.proofs.lemmas.List.{get_or-set_same, get_or-set_other, length-set}
@@ -24,10 +24,7 @@ of_stamp (x ∷ xs) now (suc n) less e = of_stamp xs now n (omega arith) e
 
 -- no number has the stamp of a time to come
 pub none_later : (xs : List ℕ) (last now n : ℕ) → AreUpTo xs last → last < now → Holds (stamped xs now) n → ⊥
-none_later xs last now n upto later h =
-    let is : get_or xs n 0 ≡ now = (stamp_of xs now n h).1 in
-    let le : get_or xs n 0 ≤ last = upto n in
-    omega arith
+none_later xs last now n upto later h = search (rules, stamp_of)
 
 pub zeros_upto : (xs : List ℕ) (k : ℕ) → xs ≡ replicate k 0 → AreUpTo xs 0
 zeros_upto xs k e n = rw e (zero_at k n)
@@ -39,25 +36,10 @@ zeros_upto xs k e n = rw e (zero_at k n)
 
 -- one number more
 pub stamp_more : (xs : List ℕ) (i now n : ℕ) → i < length xs → Holds (stamped (set xs i now) now) n → Holds (stamped xs now) n ⊎ (n ≡ i)
-stamp_more xs i now n less h = elim (cases_eq n i) [
-  | inl e ↦ inr e
-  | inr ne ↦ (
-      let w = stamp_of (set xs i now) now n h in
-      let inside : n < length xs = let long : n < length (set xs i now) = w.0 in let same : length (set xs i now) ≡ length xs = length-set xs i now in omega arith in
-      inl (of_stamp xs now n inside (sym (get_or-set_other xs i n now 0 ne) ∙ w.1)))
-]
+stamp_more xs i now n less h = search (rules, cases_eq, stamp_of, set, length-set, of_stamp, get_or-set_other)
 
 pub more_stamp : (xs : List ℕ) (i now n : ℕ) → i < length xs → Holds (stamped xs now) n ⊎ (n ≡ i) → Holds (stamped (set xs i now) now) n
-more_stamp xs i now n less h =
-    let same : length (set xs i now) ≡ length xs = length-set xs i now in
-    elim (cases_eq n i) [
-      | inl e ↦ of_stamp (set xs i now) now n (omega arith) (subst (λ (m : ℕ). get_or (set xs i now) m 0 ≡ now) (sym e) (get_or-set_same xs i now 0 less))
-      | inr ne ↦ elim h [
-        | inl k ↦ (let w = stamp_of xs now n k in let inside : n < length xs = w.0 in
-            of_stamp (set xs i now) now n (omega arith) (get_or-set_other xs i n now 0 ne ∙ w.1))
-        | inr e ↦ absurd (ne e)
-      ]
-    ]
+more_stamp xs i now n less h = search (rules, set, length-set, cases_eq, of_stamp, get_or-set_same, stamp_of, get_or-set_other)
 
 -- literals with the same number are the same
 even_odd : (m n : ℕ) → 2 * m + 1 ≡ 2 * n + 0 → ⊥

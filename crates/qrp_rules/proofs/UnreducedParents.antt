@@ -1,5 +1,5 @@
 -- What follows from parents as they stand follows where they may be reduced.
-use Rattle.std.proofs.Common.{◌≡◌, List, Option, Some, None, inl, inr, refl}
+use Rattle.std.proofs.Common.{◌≡◌, List, Option, Some, None, inl, inr, refl, rules}
 use Rattle.qbf_core.specs.Literal.{Literal}
 use Rattle.qbf_core.specs.Blocks.{Block}
 use Rattle.qbf_core.specs.Rules.{Side}
@@ -24,5 +24,4 @@ answers_nothing conditions (Some fault) all fails = absurd (no_fault conditions 
 pub answers_as_before : (rules : Rules) (side : Side) (blocks : List Block) (a b to : List Literal) (answer : Option RuleFault)
     → IsAnswer (resolvent_conditions rules side blocks a b to) answer → AllHold (unreduced_conditions rules side blocks a b to)
     → answer ≡ None
-answers_as_before rules side blocks a b to answer is all =
-    answers_nothing (resolvent_conditions rules side blocks a b to) answer (reduced_too rules side blocks a b to all) is
+answers_as_before rules side blocks a b to answer is all = search (rules, answers_nothing, reduced_too)

@@ -1,6 +1,6 @@
 -- Clauses that are watched, while lists are written to, added and taken out.
 use Rattle.std.proofs.Common.{◌⊎◌, ◌≡◌, ◌≢◌, ◌<◌, ◌+◌, ◌-◌, ℕ, zero, suc, List, [], ◌∷◌, ◌++◌, length, get_or, slice_get, Some, Contains}
-use Rattle.std.proofs.Common.{Bool, true, false, Result, Ok, Err, refl, sym, ap, subst, ◌∙◌, inl, inr, arith, take}
+use Rattle.std.proofs.Common.{Bool, true, false, Result, Ok, Err, refl, sym, ap, subst, ◌∙◌, inl, inr, arith, take, rules}
 use Rattle.std.proofs.Math.ListN.{set}
 use Rattle.std.specs.Prelude.{⊤, IfOk, IsTrue, OnOk, OnErr}
 use Rattle.std.specs.List.{swap_remove}
@@ -52,10 +52,7 @@ pushed_or_not (Ok u) old lists new ok err = subst (λ (ws : List Watch). KeepsWa
   watched = λ k l i w. record { watch = w.watch; here = pushed_old old new k w.watch w.here; by = w.by; listed = w.listed };
   longer = let e : length (old ++ new ∷ []) ≡ length old + 1 = length_push old new in omega arith;
 })
-pushed_or_not (Err e) old lists new ok err = subst (λ (ws : List Watch). KeepsWatches old ws) (sym err) (record {
-  watched = λ k l i w. w;
-  longer = omega arith;
-})
+pushed_or_not (Err e) old lists new ok err = search rules
 
 pub added_watches : (lists : List Watch) (new : Watch) (l : Literal) (i : ℕ) → new.lit ≡ l → Contains new.clauses.items i
     → (k : ℕ) × IsWatchedBy (lists ++ new ∷ []) k l i
@@ -116,10 +113,7 @@ met_keeps n f seen old new i kept met = λ clause at. elim (met clause at) [
 -- a clause that a literal of it watches, which was seen
 pub met_by : (f : Qbf) (seen : List Bool) (lists : List Watch) (i : ℕ) (clause : List Literal) (l : Literal) → slice_get f.clauses i ≡ Some clause
     → l ∈ clause → Has seen l → (k : ℕ) × IsWatchedBy lists k l i → IsMet 0 f seen lists i
-met_by f seen lists i clause l at held has by = λ other there.
-    let both : Some clause ≡ Some other = sym at ∙ there in
-    let same : clause ≡ other = cc both in
-    inr (l, subst (λ (z : List Literal). l ∈ z) same held, by.0, by.1, inr has)
+met_by f seen lists i clause l at held has by = search rules
 
 -- one more clause of the formula is looked at
 pub met_next : (f : Qbf) (seen : List Bool) (old new : List Watch) (n : ℕ) → KeepsWatches old new → IsMet 0 f seen new n
@@ -171,28 +165,17 @@ pending_met n f seen left rest last old new split kept met i was = λ clause at.
 -- at last none is left
 pub pending_done : (n : ℕ) (f : Qbf) (seen : List Bool) (left : List ℕ) (lists : List Watch) → length left ≡ 0 → (i : ℕ)
     → IsPending n f seen left lists i → IsMet n f seen lists i
-pending_done n f seen left lists none i was = λ clause at. elim (was clause at) [
-  | inl h ↦ absurd (omega (arith, none, h.1))
-  | inr m ↦ m
-]
+pending_done n f seen left lists none i was = search rules
 
 -- what was watched by any literals
 pub watched_before : (f : Qbf) (seen : List Bool) (lists : List Watch) (n : ℕ) → n ≡ length lists → ((i : ℕ) → IsWatched f lists i)
     → (i : ℕ) → IsMet n f seen lists i
-watched_before f seen lists n e all i clause at = elim (all i clause at) [
-  | inl t ↦ inl t
-  | inr w ↦ inr (w.0, w.1, w.2, w.3, inl (let less : w.2 < length lists = slice_get_within lists w.2 w.3.watch w.3.here in omega (arith, e)))
-]
+watched_before f seen lists n e all i clause at = search (rules, slice_get_within)
 
 -- where each clause is met, the cube of which the literals were seen is an initial one
 pub all_met : (f : Qbf) (cube : List Literal) (seen : List Bool) (lists : List Watch) → ((l : Literal) → Has seen l → l ∈ cube)
     → ((i : ℕ) → IsMet 0 f seen lists i) → IsInitial Cubes f cube
-all_met f cube seen lists within met = λ clause h.
-    let at = in_got f.clauses clause h in
-    elim (met at.0 clause at.1) [
-      | inl t ↦ inl t
-      | inr w ↦ inr (w.0, w.1, elim w.4 [ inl none ↦ absurd (omega (arith, none)) | inr has ↦ within w.0 has ])
-    ]
+all_met f cube seen lists within met = search (rules, in_got)
 
 -- and each is watched
 pub all_watched : (f : Qbf) (seen : List Bool) (lists : List Watch) (t : Bool) → (IsTrue t → (i : ℕ) → IsMet 0 f seen lists i) → IsWatchedIf t f lists

@@ -69,6 +69,7 @@ fn merge_prefix(a: &[Lit], b: &[Lit], to: &[Lit]) -> Cursors
 }
 
 /// A literal of a list whose negation is in another. Only the first ones are looked for.
+#[tactic(auto, using(qbf_core::proofs::Members::take_within, qbf_core::proofs::Members::in_at))]
 fn find_clashing(a: &[Lit], b: &[Lit]) -> Option<Lit>
     ensures { IfSome result (λ x. (x ∈ a.now) × (negated x ∈ b.now)) }
 {
@@ -81,6 +82,7 @@ fn find_clashing(a: &[Lit], b: &[Lit]) -> Option<Lit>
 }
 
 /// What is left of two lists that are walked beside a third, where all of that is in them.
+#[tactic(auto, using(crate::proofs::Exactness::merge_but, std::proofs::lemmas::List::take_rest))]
 fn rests_of_merge<'a>(a: &'a [Lit], b: &'a [Lit], to: &[Lit]) -> Option<(&'a [Lit], &'a [Lit])>
     ensures { IfSome result (λ rests. IsMergeBut a.now b.now to.now rests.0.now rests.1.now) }
 {

@@ -92,6 +92,7 @@ impl SeenLits {
     }
 
     /// Puts the literal in, or returns `false` if there is no room for it.
+    #[tactic(auto, using(crate::proofs::Stamps::stamp_more, crate::proofs::Stamps::code_one, crate::proofs::Stamps::more_stamp))]
     pub(crate) fn insert(&mut self, lit: Lit) -> bool
         ensures { (l : Literal) → Has self.new l ↔ (Has self.old l ⊎ ((l ≡ lit) × IsTrue result)) }
     {

@@ -31,6 +31,7 @@ fn skip_to(lits: &[Lit], var: Var) -> &[Lit]
 }
 
 /// Whether an ordered list, with no variable before that of the literal, begins with it.
+#[tactic(auto, using(crate::proofs::Cursors::first_is))]
 fn begins(lits: &[Lit], lit: Lit) -> bool
     requires ordered { IsOrdered lits.now }
     requires later { (m : Literal) → m ∈ lits.now → lit.var ≤ m.var }

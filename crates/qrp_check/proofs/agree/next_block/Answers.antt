@@ -1,4 +1,5 @@
-use Rattle.std.proofs.Common.{refl, sym, ◌∙◌}
+use Rattle.std.proofs.lemmas.Grind.{common_steps}
+use Rattle.std.proofs.Common.{refl, sym, ◌∙◌, arith}
 use Rattle.std.proofs.lemmas.Bool.{false≢true}
 use Rattle.qrp_rules.proofs.Reducing.{binds_block}
 use Rattle.qrp_check.proofs.SetsAgree.{passes_one, fails_unbound, fails_other, fails_early}
@@ -24,5 +25,4 @@ returns-else-block-highest-clause-ok c =
     (sym c.in-Some.ensures) c.if-block-highest.false
 
 pub returns-in-None-clause-err : goal.returns-in-None-clause-err
-returns-in-None-clause-err c = λ before rest passed.
-    absurd (binds_block c.args.prefix.now c.args.quantifier c.args.var (c.if-not-is_bound_by.ensures.0 refl) (sym c.in-None.ensures))
+returns-in-None-clause-err c = λ before rest passed. grind (arith, common_steps, binds_block)

@@ -8,9 +8,6 @@ use Rattle.qrp_check.proofs.Marking.{core_within}
 use Rattle.qrp_check.proofs.following.follow_step.Goals as goal
 use Rattle.qbf_core.proofs.Members.{at_place}
 
-pub find_premises-found-requires : goal.find_premises-found-requires
-find_premises-found-requires g c = core_within (g.T.Steps.steps c.args.trace.now) c.args.place c.requires.core
-
 pub step_fault-requires-clause-fit : goal.step_fault-requires-clause-fit
 step_fault-requires-clause-fit g c =
     let steps : List Inference = g.T.Steps.steps c.args.trace.now in

@@ -16,6 +16,3 @@ loop-place-preserved c =
       | else-marks-place w ↦ subst (λ (v : Vec ℕ Global). listed v.items) (sym w.places-is) (listing_skip c.args.marks.now i
           c.loop-place.places.items (unmarked c.args.marks.now i w.if-marks-place.false) c.loop-place.invariant)
     ]
-
-pub loop-place-init : goal.loop-place-init
-loop-place-init c = subst (ListsMarked c.args.marks.now 0) (sym c.new-places.ensures.items) (listing_none c.args.marks.now)

@@ -17,6 +17,3 @@ pub returns-else-index-place-2-clause-none : goal.returns-else-index-place-2-cla
 returns-else-index-place-2-clause-none g c =
     found_late (g.T.Steps.steps c.args.trace.now) c.args.place c.args.number c.in_ok-index.index c.position.result c.position.ensures.only
     c.in_ok-index.was c.if-index-place-2.false
-
-pub returns-then-number-clause-only : goal.returns-then-number-clause-only
-returns-then-number-clause-only g c = rw c.if-number.true at c.number.ensures.only

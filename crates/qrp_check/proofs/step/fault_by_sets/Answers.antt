@@ -1,4 +1,5 @@
-use Rattle.std.proofs.Common.{Option}
+use Rattle.std.proofs.lemmas.Grind.{common_steps}
+use Rattle.std.proofs.Common.{Option, arith}
 use Rattle.std.proofs.lemmas.Result.{IfOk-weaker}
 use Rattle.qrp_rules.specs.declared.fault.RuleFault.{RuleFault}
 use Rattle.qrp_rules.specs.Conditions.{IsAnswer}
@@ -7,9 +8,7 @@ use Rattle.qrp_check.proofs.CoreStep.{not_all_bound, not_clean, set_answer}
 use Rattle.qrp_check.proofs.step.fault_by_sets.Goals as goal
 
 pub returns-in-Err-E1-clause-fault : goal.returns-in-Err-E1-clause-fault
-returns-in-Err-E1-clause-fault g c =
-    not_clean c.args.context.rules g.S.Side.side c.args.context.formula.now c.args.premises c.args.lits.now
-    (c.in-Err-E1.ensures.clash (cc c.in-Err-E1.field-0-is))
+returns-in-Err-E1-clause-fault g c = grind (arith, common_steps, not_clean)
 
 pub returns-in-Err-E2-clause-fault : goal.returns-in-Err-E2-clause-fault
 returns-in-Err-E2-clause-fault g c =

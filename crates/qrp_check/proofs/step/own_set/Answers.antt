@@ -1,3 +1,5 @@
+use Rattle.std.proofs.lemmas.Grind.{common_steps}
+use Rattle.std.proofs.Common.{arith}
 use Rattle.qrp_check.proofs.CoreStep.{not_tautology, none_unbound}
 use Rattle.qrp_check.proofs.step.own_set.Goals as goal
 
@@ -5,5 +7,4 @@ pub unreachable-requires : goal.unreachable-requires
 unreachable-requires c = not_tautology c.args.lits.now c.requires.0 (c.in-Err-E1.ensures.clash (cc c.in-Err-E1.field-0-is))
 
 pub unreachable-requires-in-Err-E2 : goal.unreachable-requires-in-Err-E2
-unreachable-requires-in-Err-E2 c =
-    none_unbound c.args.prefix.now c.args.lits.now c.requires.1 (c.in-Err-E2.ensures.unbound (cc c.in-Err-E2.field-0-is))
+unreachable-requires-in-Err-E2 c = grind (arith, common_steps, none_unbound)

@@ -1,6 +1,6 @@
 use Rattle.std.proofs.Common.{◌≡◌, ◌⊎◌, subst, sym, inl, inr}
 use Rattle.qbf_core.specs.Literal.{Literal}
-use Rattle.qbf_core.proofs.Members.{in_take_all, in_take_more}
+use Rattle.qbf_core.proofs.Members.{in_take_more}
 use Rattle.qrp_rules.specs.Seen.{Has}
 use Rattle.qrp_rules.proofs.Exactness.{put_then}
 use Rattle.qrp_rules.proofs.any_order.put_each_left_out.Goals as goal
@@ -14,9 +14,3 @@ loop-lit-preserved c = record {
         (c.put_left_out.ensures.has c.if-not-put_left_out.false)
   ];
 }
-
-pub returns-then-not-put_left_out-clause-put : goal.returns-then-not-put_left_out-clause-put
-returns-then-not-put_left_out-clause-put c = put_then _ _ _ _ c.loop-lit.invariant.put c.put_left_out.ensures.put
-
-pub returns-clause-each : goal.returns-clause-each
-returns-clause-each c = λ _ l h. c.loop-lit.invariant.each l (in_take_all c.args.lits.now c.loop-lit.lit-index l c.loop-lit-test.false h)

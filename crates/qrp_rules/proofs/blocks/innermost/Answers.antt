@@ -1,8 +1,8 @@
-use Rattle.std.proofs.Common.{ℕ, ◌+◌, ◌↔◌, take, subst}
+use Rattle.std.proofs.Common.{ℕ, ◌+◌, ◌↔◌, take, rules}
 use Rattle.qbf_core.specs.Literal.{Literal}
-use Rattle.qbf_core.proofs.Members.{in_take_more, in_take_all, take_more_in, take_within}
+use Rattle.qbf_core.proofs.Members.{in_take_more, take_more_in}
 use Rattle.qrp_rules.specs.Walks.{IsAfter, IsHeldBefore}
-use Rattle.qrp_rules.proofs.Reducing.{innermost_more, innermost_same}
+use Rattle.qrp_rules.proofs.Reducing.{innermost_more}
 use Rattle.qrp_rules.proofs.blocks.innermost.Goals as goal
 
 pub loop-lit-preserved : goal.loop-lit-preserved
@@ -10,16 +10,9 @@ loop-lit-preserved c =
     let i : ℕ = c.loop-lit.lit-index in
     let x : Literal = c.lit-item.result in
     let held : (k : ℕ) → IsAfter c.block_if.result k ↔ IsHeldBefore c.args.prefix.now c.args.quantifier c.args.pivot x.var k =
-    subst (λ (v : ℕ). (k : ℕ) → IsAfter c.block_if.result k ↔ IsHeldBefore c.args.prefix.now c.args.quantifier c.args.pivot v k)
-    c.var.ensures c.block_if.ensures in
+    search rules in
     innermost_more c.args.prefix.now c.args.quantifier c.args.pivot c.loop-lit.found c.block_if.result _ (take i c.args.lits.now)
     (take (i + 1) c.args.lits.now) x
     (λ m h. in_take_more c.args.lits.now i x m c.loop-lit-test.true c.lit-item.is h)
     (λ m h. take_more_in c.args.lits.now i x m c.loop-lit-test.true c.lit-item.is h)
     held c.inner-found.ensures c.loop-lit.invariant
-
-pub returns : goal.returns
-returns c = innermost_same c.args.prefix.now c.args.quantifier c.args.pivot c.loop-lit.found
-    (take c.loop-lit.lit-index c.args.lits.now) c.args.lits.now
-    (λ m h. in_take_all c.args.lits.now c.loop-lit.lit-index m c.loop-lit-test.false h)
-    (λ m h. take_within c.args.lits.now c.loop-lit.lit-index m h) c.loop-lit.invariant

@@ -1,13 +1,9 @@
-use Rattle.std.proofs.Common.{ℕ, refl, subst, arith}
-use Rattle.qrp_rules.specs.Walks.{StandsAfter}
-use Rattle.qrp_rules.proofs.Merging.{rest_each, rest_more, rest_within}
+use Rattle.std.proofs.Common.{rules}
+use Rattle.qrp_rules.proofs.Merging.{rest_more, rest_within}
 use Rattle.qrp_rules.proofs.exact.is_reduct_as_written.Goals as goal
 use Rattle.qrp_rules.proofs.exact.is_reduct_as_written.Goals.{else-next-in_to-via-then-next-in_to+else-not-stands_after}
 use Rattle.qrp_rules.proofs.exact.is_reduct_as_written.Goals.{else-next-in_to-via-else-next-in_to}
 use Rattle.std.proofs.lemmas.Bool.{eqb-true}
-
-pub loop-lit-init : goal.loop-lit-init
-loop-lit-init c = record { inside = omega arith; within = λ m h. absurd h; each = λ m h. absurd h }
 
 pub loop-lit-preserved : goal.loop-lit-preserved
 loop-lit-preserved c =
@@ -15,9 +11,7 @@ loop-lit-preserved c =
     c.advance_if_equal-next.result c.lit-item.result
     c.loop-lit-test.true c.lit-item.is c.advance_if_equal-next.ensures
     (λ same. elim c.else-next-in_to.branch [
-      | else-next-in_to-via-then-next-in_to+else-not-stands_after w ↦
-          subst (λ (v : ℕ). StandsAfter c.args.prefix.now c.args.quantifier c.args.block v) w.var.ensures
-          (w.if-not-stands_after.ensures.0 refl)
+      | else-next-in_to-via-then-next-in_to+else-not-stands_after w ↦ search rules
       | else-next-in_to-via-else-next-in_to w ↦ absurd (w.if-next-in_to.false same)
     ])
     c.loop-lit.invariant
@@ -26,8 +20,3 @@ pub returns-clause-within : goal.returns-clause-within
 returns-clause-within c = λ t.
     rest_within c.args.prefix.now c.args.quantifier c.args.block c.args.from.now c.args.to.now c.loop-lit.lit-index c.loop-lit.in_to
     (eqb-true c.loop-lit.in_to _ t) c.loop-lit.invariant
-
-pub returns-clause-each : goal.returns-clause-each
-returns-clause-each c = λ t.
-    rest_each c.args.prefix.now c.args.quantifier c.args.block c.args.from.now c.args.to.now c.loop-lit.lit-index c.loop-lit.in_to
-    c.loop-lit-test.false c.loop-lit.invariant

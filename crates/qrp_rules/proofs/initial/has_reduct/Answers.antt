@@ -1,4 +1,5 @@
-use Rattle.std.proofs.Common.{refl, sym}
+use Rattle.std.proofs.lemmas.Grind.{common_steps}
+use Rattle.std.proofs.Common.{sym, arith}
 use Rattle.std.proofs.lemmas.Bool.{false≢true}
 use Rattle.qbf_core.specs.Rules.{Clauses}
 use Rattle.qbf_core.proofs.Bound.{bound_each}
@@ -16,13 +17,7 @@ returns-then-not-is_among c = (
 )
 
 pub returns-then-is_ordered : goal.returns-then-is_ordered
-returns-then-is_ordered c = (
-  λ t. (
-    clean_from_same c.args.clause.now c.args.clause.now (c.if-is_ordered.ensures.0 refl) (same_self c.args.clause.now),
-    c.has_ordered_reduct.ensures.0 t,
-  ),
-  λ h. c.has_ordered_reduct.ensures.1 h.1,
-)
+returns-then-is_ordered c = grind (arith, common_steps, clean_from_same, same_self)
 
 pub returns-in-Ok : goal.returns-in-Ok
 returns-in-Ok c =
@@ -37,12 +32,7 @@ returns-in-Ok c =
     )
 
 pub returns-in-Err-E1 : goal.returns-in-Err-E1
-returns-in-Err-E1 c = (
-  λ t. absurd (false≢true t),
-  λ h. absurd (not_clean c.args.clause.now (c.in-Err-E1.ensures.clash (cc c.in-Err-E1.field-0-is)) h.0),
-)
+returns-in-Err-E1 c = grind (arith, common_steps, false≢true, not_clean)
 
 pub returns-in-Err-E2 : goal.returns-in-Err-E2
-returns-in-Err-E2 c =
-    let w = c.in-Err-E2.ensures.unbound (cc c.in-Err-E2.field-0-is) in
-    absurd (w.2 (bound_each c.args.prefix.now c.args.clause.now c.requires.bound w.0 w.1))
+returns-in-Err-E2 c = grind (arith, common_steps, bound_each)

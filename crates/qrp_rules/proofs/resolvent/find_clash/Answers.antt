@@ -1,22 +1,18 @@
-use Rattle.std.proofs.Common.{◌+◌, ℕ, take, drop, refl, sym, ap, subst, ◌∙◌}
+use Rattle.std.proofs.Common.{◌+◌, ℕ, take, drop, sym, ap, subst, rules}
 use Rattle.std.proofs.lemmas.Bool.{true≢false}
 use Rattle.qbf_core.specs.Literal.{Literal}
 use Rattle.qbf_core.specs.Literal.{negated}
 use Rattle.qbf_core.specs.Members.{◌∈◌}
 use Rattle.qbf_core.specs.Rules.{IsOnlyClash}
-use Rattle.qrp_rules.proofs.Cursors.{Reaches, HasVar, reach_start, reach_more, reach_in}
-use Rattle.qrp_rules.proofs.Clashing.{IsClashSoFar, clash_same, clash_first, clash_second, clash_none, clash_one, no_clash}
+use Rattle.qrp_rules.proofs.Cursors.{Reaches, HasVar, reach_more, reach_in}
+use Rattle.qrp_rules.proofs.Clashing.{IsClashSoFar, clash_same, clash_first, clash_second, clash_none}
 use Rattle.qrp_rules.proofs.resolvent.find_clash.Goals as goal
 use Rattle.qrp_rules.proofs.resolvent.find_clash.Goals.{then-opposite+in-None, else-opposite}
-
-pub loop-lit-init : goal.loop-lit-init
-loop-lit-init c = record { reach = reach_start c.args.b.now c.args.a.now c.requires.b; clash = no_clash c.args.b.now }
 
 pub returns-in-Some : goal.returns-in-Some
 returns-in-Some c =
     let var_of : Literal → ℕ = λ z. z.var in
-    let k : negated c.lit-item.result ∈ c.loop-lit.rest.now =
-    subst (λ (z : Literal). z ∈ c.loop-lit.rest.now) c.negated.ensures (c.advance_to-opposite.ensures.found.0 c.if-opposite.true) in
+    let k : negated c.lit-item.result ∈ c.loop-lit.rest.now = search rules in
     clash_second c.args.a.now c.args.b.now c.loop-lit.lit-index _ c.lit-item.result c.requires.a c.loop-lit-test.true c.lit-item.is
     (c.loop-lit.invariant.reach.within _ k)
     (subst (λ o. IsClashSoFar (take c.loop-lit.lit-index c.args.a.now) c.args.b.now o) c.in-Some.is c.loop-lit.invariant.clash)
@@ -41,23 +37,9 @@ loop-lit-preserved c =
                 (clash_first c.args.a.now c.args.b.now i x c.loop-lit-test.true c.lit-item.is (c.loop-lit.invariant.reach.within _ k)
                 (subst (λ o. IsClashSoFar (take i c.args.a.now) c.args.b.now o) w.in-None.is c.loop-lit.invariant.clash)));
           }
-      | else-opposite w ↦
-          let out : negated x ∈ c.args.b.now → ⊥ = λ h. (
-          let k : negated x ∈ c.loop-lit.rest.now = reach_in c.args.b.now c.loop-lit.rest.now c.args.a.now i x
-          (negated x) c.loop-lit-test.true c.lit-item.is c.loop-lit.invariant.reach refl h in
-          true≢false (sym (c.advance_to-opposite.ensures.found.1
-          (subst (λ (z : Literal). z ∈ c.loop-lit.rest.now) (sym c.negated.ensures) k)) ∙ w.if-opposite.false)) in
-          record {
-            reach = reach';
-            clash = subst (λ o. IsClashSoFar (take (i + 1) c.args.a.now) c.args.b.now o) (sym w.found-is) (clash_same c.args.a.now
-                c.args.b.now i x c.loop-lit.found c.loop-lit-test.true c.lit-item.is out c.loop-lit.invariant.clash);
-          }
+      | else-opposite w ↦ search (rules, reach_in, true≢false, clash_same)
     ]
 
 pub returns-in-None-found : goal.returns-in-None-found
 returns-in-None-found c = clash_none c.args.a.now c.args.b.now c.loop-lit.lit-index c.loop-lit-test.false
     (subst (λ o. IsClashSoFar (take c.loop-lit.lit-index c.args.a.now) c.args.b.now o) c.in-None-found.is c.loop-lit.invariant.clash)
-
-pub returns-in-Some-found : goal.returns-in-Some-found
-returns-in-Some-found c = clash_one c.args.a.now c.args.b.now c.loop-lit.lit-index _ c.loop-lit-test.false
-    (subst (λ o. IsClashSoFar (take c.loop-lit.lit-index c.args.a.now) c.args.b.now o) c.in-Some-found.is c.loop-lit.invariant.clash)

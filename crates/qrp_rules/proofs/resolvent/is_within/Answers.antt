@@ -1,4 +1,4 @@
-use Rattle.std.proofs.Common.{◌+◌, ◌∙◌, ℕ, drop, refl, sym, inl, inr, ◌++◌}
+use Rattle.std.proofs.Common.{◌+◌, ◌∙◌, ℕ, drop, refl, sym, inl, inr, ◌++◌, rules}
 use Rattle.std.proofs.lemmas.Bool.{false≢true}
 use Rattle.qbf_core.specs.Literal.{Literal}
 use Rattle.qbf_core.specs.Members.{◌∈◌}
@@ -6,15 +6,8 @@ use Rattle.qbf_core.specs.Rules.{resolvent}
 use Rattle.qrp_rules.proofs.Cursors.{Reaches, HasVar}
 use Rattle.qbf_core.proofs.Members.{in_at, in_take_all, in_append, append_left, append_right, each_more}
 use Rattle.qbf_core.proofs.Inferences.{in_without, from_without}
-use Rattle.qrp_rules.proofs.Cursors.{reach_start, reach_more, reach_in}
+use Rattle.qrp_rules.proofs.Cursors.{reach_more, reach_in}
 use Rattle.qrp_rules.proofs.resolvent.is_within.Goals as goal
-
-pub loop-lit-init : goal.loop-lit-init
-loop-lit-init c = record {
-  left = reach_start c.args.a.now c.args.to.now c.requires.a;
-  right = reach_start c.args.b.now c.args.to.now c.requires.b;
-  done = λ l h. absurd h;
-}
 
 pub returns-then-not-is_resolved : goal.returns-then-not-is_resolved
 returns-then-not-is_resolved c = (
@@ -26,10 +19,8 @@ returns-then-not-is_resolved c = (
       from_without c.args.pivot (c.args.a.now ++ c.args.b.now) x (all x (in_at c.args.to.now i x c.loop-lit-test.true c.lit-item.is)) in
       c.if-not-is_resolved.ensures.1 (
         elim (in_append c.args.a.now c.args.b.now x w.0) [
-          | inl h ↦ inl (c.advance_to-in_a.ensures.found.1 (reach_in c.args.a.now c.loop-lit.left.now c.args.to.now i x x
-              c.loop-lit-test.true c.lit-item.is c.loop-lit.invariant.left refl h))
-          | inr h ↦ inr (c.advance_to-in_b.ensures.found.1 (reach_in c.args.b.now c.loop-lit.right.now c.args.to.now i x x
-              c.loop-lit-test.true c.lit-item.is c.loop-lit.invariant.right refl h))
+          | inl h ↦ search (rules, reach_in)
+          | inr h ↦ search (rules, reach_in)
         ],
         (λ e. w.1 (sym c.var.ensures ∙ e)),
       ),

@@ -1,4 +1,4 @@
-use Rattle.std.proofs.Common.{◌≡◌, ℕ, get_or, subst, sym, ap, inl, inr, ◌∙◌}
+use Rattle.std.proofs.Common.{◌≡◌, ℕ, get_or, subst, sym, ap, inl, inr, ◌∙◌, rules}
 use Rattle.qbf_core.specs.Literal.{Literal}
 use Rattle.qbf_core.proofs.Members.{in_take_all, in_take_more}
 use Rattle.qrp_rules.proofs.Exactness.{clean_all, clean_with}
@@ -8,8 +8,7 @@ pub loop-lit-preserved : goal.loop-lit-preserved
 loop-lit-preserved c =
     let i : ℕ = c.loop-lit.lit-index in
     let x : Literal = c.lit-item.result in
-    let was : get_or c.loop-lit.stamps x.var 0 ≡ c.args.stamp → ⊥ =
-    rw c.var.ensures at c.stamp_var-in-loop-lit.ensures.new c.if-not-stamp_var-2.false in
+    let was : get_or c.loop-lit.stamps x.var 0 ≡ c.args.stamp → ⊥ = search rules in
     record {
       clean = clean_with c.args.lits.now i x c.loop-lit-test.true c.lit-item.is
           (λ h. was (c.loop-lit.invariant.stamped _ h)) c.loop-lit.invariant.clean;

@@ -1,29 +1,16 @@
-use Rattle.std.proofs.Common.{ℕ, ◌⊎◌, refl, sym, subst, inl, inr, ◌∙◌}
+use Rattle.std.proofs.lemmas.Grind.{common_steps}
+use Rattle.std.proofs.Common.{ℕ, ◌⊎◌, refl, subst, inl, inr, arith}
 use Rattle.std.proofs.lemmas.Bool.{false≢true}
 use Rattle.qbf_core.specs.Literal.{Literal}
 use Rattle.qbf_core.specs.Members.{◌∈◌}
-use Rattle.qbf_core.proofs.Members.{in_at, in_take_all, each_more}
+use Rattle.qbf_core.proofs.Members.{in_at, each_more}
 use Rattle.qrp_rules.specs.Walks.{MayLack}
-use Rattle.qrp_rules.proofs.Cursors.{reach_start, reach_more, reach_in}
+use Rattle.qrp_rules.proofs.Cursors.{reach_more, reach_in}
 use Rattle.qrp_rules.proofs.walks.is_covered.Goals as goal
 use Rattle.qrp_rules.proofs.walks.is_covered.Goals.{else-not-kept-via-then-not-kept+else-not-may_lack, else-not-kept-via-else-not-kept}
 
-pub loop-lit-init : goal.loop-lit-init
-loop-lit-init c = record { reach = reach_start c.args.to.now c.args.from.now c.requires.to; done = λ l h. absurd h }
-
 pub returns-then-not-may_lack : goal.returns-then-not-may_lack
-returns-then-not-may_lack c = (
-  λ t. absurd (false≢true t),
-  λ all.
-      let i : ℕ = c.loop-lit.lit-index in
-      let x : Literal = c.lit-item.result in
-      elim (all x (in_at c.args.from.now i x c.loop-lit-test.true c.lit-item.is)) [
-        | inl h ↦ sym c.if-not-kept.true ∙ c.advance_to-kept.ensures.found.1 (reach_in c.args.to.now c.loop-lit.rest.now c.args.from.now i x
-            x c.loop-lit-test.true c.lit-item.is c.loop-lit.invariant.reach refl h)
-        | inr k ↦ c.if-not-may_lack.ensures.1
-            (subst (λ (v : ℕ). MayLack c.args.prefix.now c.args.reducible c.args.pivot v) (sym c.var.ensures) k)
-      ],
-)
+returns-then-not-may_lack c = grind (arith, common_steps, false≢true, in_at, reach_in)
 
 pub loop-lit-preserved : goal.loop-lit-preserved
 loop-lit-preserved c =
@@ -41,6 +28,3 @@ loop-lit-preserved c =
       done = each_more (λ (z : Literal). (z ∈ c.args.to.now) ⊎ MayLack c.args.prefix.now c.args.reducible c.args.pivot z.var)
           c.args.from.now i x c.loop-lit-test.true c.lit-item.is is c.loop-lit.invariant.done;
     }
-
-pub returns : goal.returns
-returns c = (λ _ l h. c.loop-lit.invariant.done l (in_take_all c.args.from.now c.loop-lit.lit-index l c.loop-lit-test.false h), λ _. refl)

@@ -1,4 +1,4 @@
-use Rattle.std.proofs.Common.{◌≡◌, sym, subst, arith, ◌∷◌, inr}
+use Rattle.std.proofs.Common.{◌≡◌, sym, subst, arith, ◌∷◌, inr, rules}
 use Rattle.qbf_core.specs.Members.{◌∈◌}
 use Rattle.qbf_core.specs.Sets.{IsOrdered}
 use Rattle.qrp_rules.proofs.Cursors.{first_least, rest_keeps}
@@ -6,15 +6,13 @@ use Rattle.qrp_rules.proofs.walks.skip_to.Goals as goal
 
 pub returns-then-number-clause-later : goal.returns-then-number-clause-later
 returns-then-number-clause-later c =
-    let is : c.loop-first.rest.now ≡ c.in-Some.first.now ∷ c.in-Some.others.now =
-    c.in-Some.ensures.cases.0 in
+    let is : c.loop-first.rest.now ≡ c.in-Some.first.now ∷ c.in-Some.others.now = search rules in
     λ m h. first_least c.in-Some.first.now c.in-Some.others.now c.args.var m (omega arith)
     (subst IsOrdered is c.loop-first.invariant.ordered) (subst (λ xs. m ∈ xs) is h)
 
 pub loop-first-preserved : goal.loop-first-preserved
 loop-first-preserved c =
-    let is : c.loop-first.rest.now ≡ c.in-Some.first.now ∷ c.in-Some.others.now =
-    c.in-Some.ensures.cases.0 in
+    let is : c.loop-first.rest.now ≡ c.in-Some.first.now ∷ c.in-Some.others.now = search rules in
     record {
       ordered = (subst IsOrdered is c.loop-first.invariant.ordered).1;
       within = λ m h. c.loop-first.invariant.within m (subst (λ xs. m ∈ xs) (sym is) (inr h));

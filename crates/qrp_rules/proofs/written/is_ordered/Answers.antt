@@ -1,15 +1,10 @@
-use Rattle.std.proofs.Common.{◌≡◌, ◌<◌, ◌≤◌, ℕ, refl, sym, ap, subst, ◌∙◌, inl, inr, arith}
+use Rattle.std.proofs.Common.{◌≡◌, ◌<◌, ◌≤◌, ℕ, refl, sym, ap, ◌∙◌, inl, inr, arith}
 use Rattle.std.proofs.lemmas.Bool.{false≢true}
 use Rattle.qbf_core.specs.Literal.{Literal}
-use Rattle.qbf_core.specs.Sets.{IsOrdered}
 use Rattle.qbf_core.proofs.Members.{in_take_more, take_more_in}
 use Rattle.qrp_rules.proofs.OrderedLists.{ordered_taken}
 use Rattle.qrp_rules.proofs.written.is_ordered.Goals as goal
-use Rattle.std.proofs.lemmas.List.{take_all}
 use Rattle.qrp_rules.proofs.Clashing.{taken_below}
-
-pub loop-lit-init : goal.loop-lit-init
-loop-lit-init c = record { ordered = tt; below = λ m h. absurd h; reached = inl refl }
 
 pub returns-then-number-last : goal.returns-then-number-last
 returns-then-number-last c = (
@@ -43,7 +38,3 @@ loop-lit-preserved c =
       ];
       reached = inr (x, take_more_in c.args.lits.now i x x c.loop-lit-test.true c.lit-item.is (inr refl), sym is);
     }
-
-pub returns : goal.returns
-returns c =
-    (λ _. subst IsOrdered (take_all c.loop-lit.lit-index c.args.lits.now c.loop-lit-test.false) c.loop-lit.invariant.ordered, λ _. refl)
