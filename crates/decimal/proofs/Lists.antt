@@ -1,14 +1,13 @@
 -- A word by its list of bytes: `^`, `<<`, and the digits at its front.
+use Rattle.std.proofs.Common.{rules, ℕ, zero, suc, ◌≡◌, ◌+◌, ◌*◌, ◌%◌, ◌^◌, ◌<◌, ◌≤◌, true, cond, List, [], ◌∷◌, ◌++◌, map, take, replicate}
+use Rattle.std.proofs.Common.{length, arith, bit_xor, refl, sym, ap, ap₂, ◌∙◌, inl, inr, w64, ltb-true, lt-ltb, pow-add}
 use Rattle.std.proofs.lemmas.Grind.{common_steps}
-use Rattle.std.proofs.Common.{rules}
-use Rattle.std.proofs.Common.{ℕ, zero, suc, ◌≡◌, ◌+◌, ◌*◌, ◌%◌, ◌^◌, ◌<◌, ◌≤◌, true, cond, eqb, List, [], ◌∷◌, ◌++◌, map, take, replicate}
-use Rattle.std.proofs.Common.{length, arith, bit_xor, refl, sym, ap, ap₂, ◌∙◌, inl, inr}
 use Rattle.std.specs.List.{prefix_len}
 use Rattle.std.specs.Char.{is_ascii_digit, digit_value}
-use Rattle.std.specs.Int.{w64, to_le_bytes, from_le_bytes}
+use Rattle.std.specs.Int.{to_le_bytes, from_le_bytes}
 use Rattle.std.specs.Int.Digits.{number_from_digits, number_from_digits_after, AllBelowBase}
-use Rattle.std.proofs.lemmas.Bool.{agree_below_at, eqb-true, ltb-true, lt-ltb, cond-true, cond-false, cases_Bool}
-use Rattle.std.proofs.lemmas.Nat.{xor_block, xor_lt, pow-add, mod_low, shl_below, from_le_bytes-to_le_bytes_8, mod_below}
+use Rattle.std.proofs.lemmas.Bool.{agree_below_at, cond-true, cond-false, cases_Bool}
+use Rattle.std.proofs.lemmas.Nat.{xor_block, xor_lt, mod_low, shl_below, from_le_bytes-to_le_bytes_8}
 use Rattle.std.proofs.lemmas.Int.Digits.{number_after_append}
 use Rattle.decimal.specs.Word.{word}
 use Rattle.decimal.proofs.Masks.{splat, wide, Bytes, is_small}

@@ -84,8 +84,7 @@ unused_above ks m top below above = grind (arith, common_steps, unused_none, all
 -- what a look-up finds says whether the number is sparse
 pub sparse_used : (ks : List ℕ) (m : ℕ) (o : Option ℕ) → IfSome o (λ i. slice_get ks i ≡ Some m)
     → IfNone o ((i : ℕ) → slice_get ks i ≡ Some m → ⊥) → is_some o ≡ is_used m ks
-sparse_used ks m None some none = sym (unused_none ks m none)
-sparse_used ks m (Some i) some none = sym (used_at ks i m some)
+sparse_used ks m o some none = grind (arith, common_steps, unused_none, used_at)
 
 -- ---- one more number
 

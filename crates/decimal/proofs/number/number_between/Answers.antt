@@ -1,6 +1,4 @@
 use Rattle.std.proofs.Common.{rules}
-use Rattle.std.proofs.Common.{◌-◌, ◌^◌, ◌<◌, arith, ap, ◌∙◌}
-use Rattle.std.specs.Str.Parse.{digits_value}
 use Rattle.std.proofs.lemmas.Option.{IfSome_then}
 use Rattle.decimal.proofs.Chunks.{front, all_read}
 use Rattle.decimal.proofs.number.number_between.Goals as goal

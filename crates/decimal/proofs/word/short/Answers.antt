@@ -1,5 +1,5 @@
 use Rattle.std.proofs.lemmas.Grind.{common_steps}
-use Rattle.std.proofs.Common.{ℕ, ◌≡◌, ◌<◌, ◌≤◌, arith, ◌∙◌}
+use Rattle.std.proofs.Common.{ℕ, ◌≡◌, ◌<◌, ◌≤◌, arith}
 use Rattle.decimal.proofs.Moved.{at_most, moved_below, moved_value}
 use Rattle.decimal.proofs.word.short.Goals as goal
 

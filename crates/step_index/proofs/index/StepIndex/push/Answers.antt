@@ -10,18 +10,7 @@ pub returns-then-continues-clause-pushed : goal.returns-then-continues-clause-pu
 returns-then-continues-clause-pushed c = grind (arith, common_steps, counted_pushed)
 
 pub returns-then-continues-clause-sound : goal.returns-then-continues-clause-sound
-returns-then-continues-clause-sound c =
-    let few : length c.args.self.now ≡ c.self.inside.counted = rw (← c.self.view_is) (
-    omega (
-      arith,
-      c.len.ensures.len,
-      c.if-len-eq0.true,
-      count_length c.self.inside.first c.self.inside.counted c.self.inside.sparse,
-    )) in
-    let sound : AreStepNumbers (c.args.self.now ++ c.args.number ∷ []) =
-    numbers_pushed c.args.self.now c.args.number (rw (← c.self.view_is) c.self.invariant.numbers) c.requires
-    (omega (arith, c.ranges.number.fits)) (omega (arith, few, c.continues.ensures.fits c.if-continues.true)) in
-    subst AreStepNumbers (sym (returns-then-continues-clause-pushed c)) sound
+returns-then-continues-clause-sound c = grind (arith, common_steps, count_length, numbers_pushed, returns-then-continues-clause-pushed)
 
 pub invariant_of-self : goal.invariant_of-self
 invariant_of-self c =
