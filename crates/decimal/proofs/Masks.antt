@@ -1,12 +1,11 @@
 -- One mask marks the first byte of a word that is no digit.
+use Rattle.std.proofs.Common.{rules, ℕ, zero, suc, ◌≡◌, ◌+◌, ◌*◌, ◌/◌, ◌%◌, ◌^◌, ◌<◌, ◌≤◌, min, Bool, true, cond, ltb, eqb, List, [], ◌∷◌}
+use Rattle.std.proofs.Common.{length, arith, bit_and, bit_or, refl, sym, ap, ◌∙◌, inl, inr, eqb-true, lt-ltb, le-ltb}
 use Rattle.std.proofs.lemmas.Grind.{common_steps}
-use Rattle.std.proofs.Common.{rules}
-use Rattle.std.proofs.Common.{ℕ, zero, suc, ◌≡◌, ◌+◌, ◌*◌, ◌/◌, ◌%◌, ◌^◌, ◌<◌, ◌≤◌, min, Bool, true, cond, ltb, eqb, List, [], ◌∷◌, length}
-use Rattle.std.proofs.Common.{arith, bit_and, bit_or, refl, sym, ap, ◌∙◌, inl, inr}
 use lib.Count.{count_trailing_zeros}
 use Rattle.std.specs.List.{prefix_len}
 use Rattle.std.specs.Int.Digits.{AllBelowBase}
-use Rattle.std.proofs.lemmas.Bool.{agree_below_at, eqb-true, cond-true, cond-false, cases_lt, lt-ltb, le-ltb}
+use Rattle.std.proofs.lemmas.Bool.{agree_below_at, cond-true, cond-false, cases_lt}
 use Rattle.std.proofs.lemmas.Nat.{and_block, or_block, mod-pow-add, or_of_8}
 use Rattle.decimal.specs.Word.{word}
 

@@ -1,6 +1,5 @@
-use Rattle.std.proofs.Common.{rules}
-use Rattle.std.proofs.lemmas.Bool.{eqb-true}
-use Rattle.decimal.proofs.Masks.{no_mark, marks}
+use Rattle.std.proofs.Common.{rules, eqb-true}
+use Rattle.decimal.proofs.Masks.{no_mark}
 use Rattle.decimal.proofs.Lists.{word_bytes, bytes_fit}
 use Rattle.decimal.proofs.word.are_digits.Goals as goal
 

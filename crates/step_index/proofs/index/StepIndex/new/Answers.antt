@@ -1,5 +1,4 @@
 use Rattle.std.proofs.Common.{rules}
-use Rattle.std.proofs.Common.{arith}
 use Rattle.step_index.proofs.index.StepIndex.new.Goals as goal
 
 pub invariant_of-result : goal.invariant_of-result

@@ -1,6 +1,5 @@
 use Rattle.std.proofs.lemmas.Grind.{common_steps}
-use Rattle.std.proofs.Common.{◌≡◌, ◌<◌, ◌^◌, [], ◌∷◌, ◌++◌, refl, sym, subst, arith, append_assoc, length, length-append}
-use Rattle.step_index.specs.Numbers.{AreStepNumbers}
+use Rattle.std.proofs.Common.{◌≡◌, ◌<◌, ◌^◌, refl, arith, append_assoc, length-append}
 use Rattle.step_index.proofs.CountedNumbers.{count_length, counted_pushed, numbers_pushed}
 use Rattle.step_index.proofs.index.StepIndex.push.Goals as goal
 use Rattle.step_index.proofs.index.StepIndex.push.Goals.{then-self-eq0, else-self-eq0}
