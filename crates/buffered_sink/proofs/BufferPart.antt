@@ -1,10 +1,8 @@
 -- The part of a buffer from start to end, and what it holds back of a sink's bytes.
-use Rattle.std.proofs.Common.{◌≡◌, ℕ, ◌+◌, ◌-◌, ◌≤◌, List, ◌++◌, Option, length, take, drop, sym, ap, ◌∙◌, arith}
+use Rattle.std.proofs.Common.{◌≡◌, ℕ, ◌+◌, ◌-◌, ◌≤◌, List, ◌++◌, length, take, drop, sym, ap, ◌∙◌, arith, drop-drop, take-append-drop}
 use Rattle.std.proofs.lemmas.Grind.{common_steps}
-use Rattle.std.proofs.lemmas.List.{drop-take, drop-drop, drop-append-le}
+use Rattle.std.proofs.lemmas.List.{drop-take, drop-append-le}
 use Rattle.std.proofs.lemmas.Slice.{take-put_mid}
-use Rattle.std.specs.Io.KnownBytes.{append_known, Appends, Keeps}
-use Rattle.std.proofs.Math.ListN.{take-append-drop}
 use borrow.Rule.Slice.PartMut.{put_mid}
 
 abbrev pub part : List ℕ → ℕ → ℕ → List ℕ
@@ -38,11 +36,6 @@ part_put old new ds rest start at order inside before written =
     ∙ ap (drop start) front
     ∙ drop-append-le start (take at old) ds short
     ∙ ap (λ xs. xs ++ ds) (part_from old start (at - start) at (omega arith))
-
--- a sink took the front of what was held back
-pub known_sent : (a b : Option (List ℕ)) (held : List ℕ) (n : ℕ) → Appends a b (take n held)
-    → Keeps (append_known a held) (append_known b (drop n held))
-known_sent a b held n p = grind (arith, common_steps)
 
 -- nothing is held back
 pub part_none : (bytes : List ℕ) (start end : ℕ) → start ≡ end → part bytes 0 0 ≡ part bytes start end

@@ -1,8 +1,7 @@
 -- The front of a list, a sign as a number, and how many digits a number has.
+use Rattle.std.proofs.Common.{◌≡◌, ℕ, ◌≤◌, ◌<◌, ◌^◌, List, length, take, sym, ap, ◌∙◌, arith, take-take, Bool, decimal}
 use Rattle.std.proofs.lemmas.Grind.{common_steps}
-use Rattle.std.proofs.Common.{◌≡◌, ℕ, ◌≤◌, ◌<◌, ◌^◌, List, length, take, sym, ap, ◌∙◌, arith, take-take, Bool}
 use Rattle.std.proofs.lemmas.Fmt.{length-decimal-le}
-use Rattle.std.specs.Fmt.{decimal}
 use mir.Val.{bool_byte}
 
 pub shorter : (i n : ℕ) (xs ys : List ℕ) → i ≤ n → take n xs ≡ take n ys → take i xs ≡ take i ys

@@ -1,4 +1,5 @@
 -- From a word that was read from the first eight bytes back to the bytes.
+use Rattle.std.proofs.lemmas.Grind.{common_steps}
 use Rattle.std.proofs.Common.{ℕ, zero, suc, ◌≡◌, ◌+◌, ◌-◌, ◌*◌, ◌/◌, ◌^◌, ◌<◌, ◌≤◌, true, false, List, [], ◌∷◌, ◌++◌, take, drop, replicate}
 use Rattle.std.proofs.Common.{length, get_or, arith, refl, sym, ap, ◌∙◌, inl, inr, subst}
 use Rattle.std.specs.List.{prefix_len}
@@ -32,14 +33,10 @@ all_front (suc n) (b ∷ bs) h e =
     ]
 
 front_of : (n : ℕ) (xs ys : List ℕ) → n ≤ length xs → take n (xs ++ ys) ≡ take n xs
-front_of zero xs ys h = refl
-front_of (suc n) [] ys h = absurd (omega arith)
-front_of (suc n) (x ∷ xs) ys h = ap (λ l. x ∷ l) (front_of n xs ys (omega (arith, h)))
+front_of n xs ys h = grind (arith, common_steps)
 
 byte_of : (n : ℕ) (xs ys : List ℕ) → n < length xs → get_or (xs ++ ys) n 0 ≡ get_or xs n 0
-byte_of n [] ys h = absurd (omega arith)
-byte_of zero (x ∷ xs) ys h = refl
-byte_of (suc n) (x ∷ xs) ys h = byte_of n xs ys (omega (arith, h))
+byte_of n xs ys h = grind (arith, common_steps)
 
 front_fits : (xs : List ℕ) → ((i : ℕ) → get_or xs i 0 < 256) → 8 ≤ length xs → (i : ℕ) → get_or (take 8 xs) i 0 < 256
 front_fits xs fits room i =
@@ -73,11 +70,7 @@ module _ (bytes e : List ℕ) (from w n : ℕ) (fits : (i : ℕ) → get_or byte
   rest = let parts : 8 ≡ from + (8 - from) = omega arith in ap (λ k. drop from (take k bytes)) parts ∙ drop-take from (8 - from) bytes
 
   pub front : take n shifted ≡ take n (drop from bytes)
-  front =
-      ap (take n) moved
-      ∙ front_of n (drop from eight) (replicate from 0) (omega (arith, left))
-      ∙ ap (take n) rest
-      ∙ take-take n (8 - from) (drop from bytes) (omega arith)
+  front = grind (arith, common_steps, moved, front_of, left, rest, take-take)
 
   pub all_read : n ≤ prefix_len is_ascii_digit shifted → AllDigits 10 (take n (drop from bytes))
   all_read run = subst (AllDigits 10) front (all_front n shifted (bytes_fit (w / 2 ^ (8 * from))) run)
@@ -101,11 +94,4 @@ module _ (bytes e : List ℕ) (from w n : ℕ) (fits : (i : ℕ) → get_or byte
     back = omega arith
 
     pub read_as_word : AreDigits bytes from (from + n) v
-    read_as_word = record {
-      order = omega arith;
-      within = omega (arith, chunk.enough);
-      few = omega arith;
-      digits = subst (λ k. AllDigits 10 (take k (drop from bytes))) (sym back) (all_read (omega (arith, run)));
-      value_is = value ∙ ap (digits_value 10) front ∙ ap (λ k. digits_value 10 (take k (drop from bytes))) (sym back);
-      stops = subst (λ b. is_ascii_digit b ≡ false) there stop;
-    }
+    read_as_word = grind (arith, common_steps, back, all_read, front, there, stop)

@@ -1,12 +1,13 @@
 -- A word by its list of bytes: `^`, `<<`, and the digits at its front.
-use Rattle.std.proofs.Common.{ℕ, zero, suc, ◌≡◌, ◌+◌, ◌*◌, ◌%◌, ◌^◌, ◌<◌, ◌≤◌, true, cond, eqb, List, [], ◌∷◌, ◌++◌, map, take, replicate}
-use Rattle.std.proofs.Common.{length, arith, bit_xor, refl, sym, ap, ap₂, ◌∙◌, inl, inr}
+use Rattle.std.proofs.Common.{rules, ℕ, zero, suc, ◌≡◌, ◌+◌, ◌*◌, ◌%◌, ◌^◌, ◌<◌, ◌≤◌, true, cond, List, [], ◌∷◌, ◌++◌, map, take, replicate}
+use Rattle.std.proofs.Common.{length, arith, bit_xor, refl, sym, ap, ap₂, ◌∙◌, inl, inr, w64, ltb-true, lt-ltb, pow-add}
+use Rattle.std.proofs.lemmas.Grind.{common_steps}
 use Rattle.std.specs.List.{prefix_len}
 use Rattle.std.specs.Char.{is_ascii_digit, digit_value}
-use Rattle.std.specs.Int.{w64, to_le_bytes, from_le_bytes}
+use Rattle.std.specs.Int.{to_le_bytes, from_le_bytes}
 use Rattle.std.specs.Int.Digits.{number_from_digits, number_from_digits_after, AllBelowBase}
-use Rattle.std.proofs.lemmas.Bool.{agree_below_at, eqb-true, ltb-true, lt-ltb, cond-true, cond-false, cases_Bool}
-use Rattle.std.proofs.lemmas.Nat.{xor_block, xor_lt, pow-add, mod_low, shl_below, from_le_bytes-to_le_bytes_8, mod_below}
+use Rattle.std.proofs.lemmas.Bool.{agree_below_at, cond-true, cond-false, cases_Bool}
+use Rattle.std.proofs.lemmas.Nat.{xor_block, xor_lt, mod_low, shl_below, from_le_bytes-to_le_bytes_8}
 use Rattle.std.proofs.lemmas.Int.Digits.{number_after_append}
 use Rattle.decimal.specs.Word.{word}
 use Rattle.decimal.proofs.Masks.{splat, wide, Bytes, is_small}
@@ -52,10 +53,7 @@ turned_small : (b : ℕ) → b < 256 → is_small (turned b) ≡ is_ascii_digit 
 turned_small b fits = agree_below_at (λ x. is_small (turned x)) is_ascii_digit 256 b refl fits
 
 turned_value : (b : ℕ) → b < 256 → is_ascii_digit b ≡ true → turned b ≡ digit_value b
-turned_value b fits digit =
-    let all : cond (is_ascii_digit b) (eqb (turned b) (digit_value b)) true ≡ true =
-    agree_below_at (λ x. cond (is_ascii_digit x) (eqb (turned x) (digit_value x)) true) (λ _. true) 256 b refl fits in
-    eqb-true _ _ (sym (cond-true _ _ _ digit) ∙ all)
+turned_value b fits digit = grind (arith, common_steps)
 
 pub turned_run : (bs : List ℕ) → Bytes bs → prefix_len is_small (map turned bs) ≡ prefix_len is_ascii_digit bs
 turned_run [] h = refl
@@ -122,22 +120,7 @@ pub word_bytes : (w : ℕ) → w < 2 ^ 64 → word (to_le_bytes w64 w) ≡ w
 word_bytes w fits = horner _ _ _ _ _ _ _ _ ∙ from_le_bytes-to_le_bytes_8 w fits
 
 pub bytes_fit : (w : ℕ) → Bytes (to_le_bytes w64 w)
-bytes_fit w = (
-  mod_below _ 256 (omega arith),
-  (
-    mod_below _ 256 (omega arith),
-    (
-      mod_below _ 256 (omega arith),
-      (
-        mod_below _ 256 (omega arith),
-        (
-          mod_below _ 256 (omega arith),
-          (mod_below _ 256 (omega arith), (mod_below _ 256 (omega arith), (mod_below _ 256 (omega arith), tt))),
-        ),
-      ),
-    ),
-  ),
-)
+bytes_fit w = search rules
 
 pub spread : (b0 b1 b2 b3 b4 b5 b6 b7 : ℕ) → word (b0 ∷ b1 ∷ b2 ∷ b3 ∷ b4 ∷ b5 ∷ b6 ∷ b7 ∷ [])
     ≡ ((((((b7 * 256 + b6) * 256 + b5) * 256 + b4) * 256 + b3) * 256 + b2) * 256 + b1) * 256 + b0

@@ -1,26 +1,22 @@
 -- One mask marks the first byte of a word that is no digit.
-use Rattle.std.proofs.Common.{ℕ, zero, suc, ◌≡◌, ◌+◌, ◌*◌, ◌/◌, ◌%◌, ◌^◌, ◌<◌, ◌≤◌, min, Bool, true, cond, ltb, eqb, List, [], ◌∷◌, length}
-use Rattle.std.proofs.Common.{arith, bit_and, bit_or, refl, sym, ap, ◌∙◌, inl, inr}
-use lib.Count.{count_trailing_zeros, under}
+use Rattle.std.proofs.Common.{rules, ℕ, zero, suc, ◌≡◌, ◌+◌, ◌*◌, ◌/◌, ◌%◌, ◌^◌, ◌<◌, ◌≤◌, min, Bool, true, cond, ltb, eqb, List, [], ◌∷◌}
+use Rattle.std.proofs.Common.{length, arith, bit_and, bit_or, refl, sym, ap, ◌∙◌, inl, inr, eqb-true, lt-ltb, le-ltb}
+use Rattle.std.proofs.lemmas.Grind.{common_steps}
+use lib.Count.{count_trailing_zeros}
 use Rattle.std.specs.List.{prefix_len}
 use Rattle.std.specs.Int.Digits.{AllBelowBase}
-use Rattle.std.proofs.lemmas.Bool.{agree_below_at, eqb-true, cond-true, cond-false, cases_lt, lt-ltb, le-ltb}
+use Rattle.std.proofs.lemmas.Bool.{agree_below_at, cond-true, cond-false, cases_lt}
 use Rattle.std.proofs.lemmas.Nat.{and_block, or_block, mod-pow-add, or_of_8}
 use Rattle.decimal.specs.Word.{word}
 
 -- ---- zeros below a byte
 even : (k m x : ℕ) → x ≡ m * 2 → count_trailing_zeros (suc k) x ≡ suc (count_trailing_zeros k m)
 unfolding count_trailing_zeros
-even k m x e =
-    let low : x % 2 ≡ 0 = omega arith in
-    let high : x / 2 ≡ m = omega arith in
-    ap (λ d. under d (count_trailing_zeros k (x / 2))) low ∙ ap (λ y. suc (count_trailing_zeros k y)) high
+even k m x e = search rules
 
 odd : (k m x : ℕ) → x ≡ m * 2 + 1 → count_trailing_zeros (suc k) x ≡ 0
 unfolding count_trailing_zeros
-odd k m x e =
-    let low : x % 2 ≡ 1 = omega arith in
-    ap (λ d. under d (count_trailing_zeros k (x / 2))) low
+odd k m x e = search rules
 
 pub seven : (k m : ℕ) → count_trailing_zeros (k + 8) (m * 256 + 128) ≡ 7
 seven k m =
@@ -92,18 +88,11 @@ more n t b fits =
     ap (λ y. bit_and (bit_or y (t * 256 + b)) (splat 128 n * 256 + 128)) sum ∙ ap (λ y. bit_and y (splat 128 n * 256 + 128)) ors ∙ ands
 
 more_small : (n t b : ℕ) → b < 10 → marks (suc n) (t * 256 + b) ≡ marks n t * 256
-more_small n t b small =
-    let mark : byte_mark b ≡ 0 = low_mark b (omega arith) ∙ cond-true _ _ _ (lt-ltb b 10 small) in
-    let carry : (t * 256 + b + (splat 118 n * 256 + 118)) / 256 ≡ t + splat 118 n = omega arith in
-    let same : bit_and (bit_or (((t * 256 + b + (splat 118 n * 256 + 118)) / 256) % 2 ^ wide n) t) (splat 128 n) ≡ marks n t =
-    ap (λ y. bit_and (bit_or (y % 2 ^ wide n) t) (splat 128 n)) carry in
-    omega (arith, more n t b (omega arith), same, mark)
+more_small n t b small = grind (arith, common_steps, low_mark, cond-true, lt-ltb, more)
 
 more_large : (n t b : ℕ) → b < 256 → 10 ≤ b → marks (suc n) (t * 256 + b)
     ≡ bit_and (bit_or (((t * 256 + b + (splat 118 n * 256 + 118)) / 256) % 2 ^ wide n) t) (splat 128 n) * 256 + 128
-more_large n t b fits large =
-    let mark : byte_mark b ≡ 128 = low_mark b fits ∙ cond-false _ _ _ (le-ltb b 10 large) in
-    omega (arith, more n t b fits, mark)
+more_large n t b fits large = grind (arith, common_steps, low_mark, cond-false, le-ltb, more)
 
 -- where no byte is marked, each is below ten
 pub no_mark : (bs : List ℕ) → Bytes bs → marks (length bs) (word bs) ≡ 0 → AllBelowBase 10 bs

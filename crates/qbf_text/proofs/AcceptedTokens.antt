@@ -1,13 +1,12 @@
 -- Tokens that are accepted one after the other.
-use Rattle.std.proofs.Common.{◌≡◌, ◌≢◌, ℕ, List, [], ◌∷◌, ◌++◌, ◌⊎◌, inl, inr, append_assoc, append-nil, refl, ap, ◌∙◌}
+use Rattle.std.proofs.Common.{rules, ◌≡◌, ◌≢◌, ℕ, List, [], ◌∷◌, ◌++◌, ◌⊎◌, inl, inr, append_assoc, append-nil, refl, ap, ◌∙◌, flat_map}
 use Rattle.std.proofs.lemmas.Grind.{flat_map-append}
-use Rattle.std.specs.List.{flat_map}
 use Rattle.std.proofs.lemmas.List.{map-append}
 use Rattle.qbf_text.specs.declared.token.Token.{Token}
-use Rattle.qbf_text.specs.declared.token.Token.TheVariants as token
 use Rattle.qbf_text.specs.Lined.{Lined, unlined, EndsOnce}
 use Rattle.qbf_text.specs.Rows.{Row, Goes, read_from}
 use Rattle.qbf_text.proofs.OneToken.{read-one, after}
+use Rattle.qbf_text.specs.declared.token.Token.TheVariants as token
 
 pub flat_map-push : {X Y : Type 0} (f : X → List Y) (xs : List X) (x : X) → flat_map f (xs ++ x ∷ []) ≡ flat_map f xs ++ f x
 flat_map-push f xs x = flat_map-append f xs (x ∷ []) ∙ ap (λ k. flat_map f xs ++ k) (append-nil (f x))
@@ -48,8 +47,7 @@ module _ {P A F : Type 0} {row : P → Token → Row P A F} where
 -- ---- tokens that end, each of which is answered or leads on
 
 once_rest : (t : Lined) (ts : List Lined) → t.0 ≢ token.End → EndsOnce (t ∷ ts) → EndsOnce ts
-once_rest t [] n once = absurd (n once)
-once_rest t (u ∷ ts) n once = once.1
+once_rest t ts n once = search rules
 
 module _ {P R : Type 0} (Spells : List Token → P → Type 0) (Reads : List Lined → R → Type 0) where
   -- a token that is answered, or leads on

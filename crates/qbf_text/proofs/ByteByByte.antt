@@ -1,15 +1,15 @@
 -- The tokens left, byte by byte.
-use Rattle.std.proofs.Common.{◌≡◌, ℕ, ◌+◌, Bool, true, false, cond, ◌||◌, List, [], ◌∷◌, ◌++◌, map, count_by, refl, sym, ◌∙◌, arith}
-use Rattle.std.proofs.Common.{add_assoc, zero-add, add-zero, append-nil}
+use Rattle.std.proofs.Common.{rules, ◌≡◌, ℕ, ◌+◌, Bool, true, false, cond, ◌||◌, List, [], ◌∷◌, ◌++◌, map, count_by, refl, sym, ◌∙◌, arith}
+use Rattle.std.proofs.Common.{zero-add, append-nil}
+use Rattle.std.proofs.lemmas.Grind.{common_steps}
 use Rattle.std.specs.List.{slice_split, onto_first}
 use Rattle.std.specs.Prelude.{⊤}
-use Rattle.std.proofs.lemmas.Bool.Decides.{nat_tests}
 use Rattle.std.proofs.lemmas.List.Sums.{sum_by-cons}
 use Rattle.qbf_text.specs.declared.token.Comments.{Comments}
-use Rattle.qbf_text.specs.declared.token.Token.TheVariants as kinds
 use Rattle.qbf_text.specs.Tokens.{is_line_end, is_blank, is_comment_byte, is_comment_line, runs, kind, counted, line_tokens, tokens_from}
 use Rattle.qbf_text.specs.Tokens.{tokens}
 use Rattle.qbf_text.specs.Left.{rest_tokens, left_from, tokens_left, is_separator, IsUnbroken, IsWithinLine, EndsRun, EndsLine}
+use Rattle.qbf_text.specs.declared.token.Token.TheVariants as kinds
 
 -- ---- the number of a line
 
@@ -23,50 +23,29 @@ lines_counted f n m (line ∷ lines) e =
 
 rest_counted : (f : Comments) (begun : Bool) (n m : ℕ) (rest : List ℕ) → counted n ≡ counted m
     → rest_tokens f begun n rest ≡ rest_tokens f begun m rest
-rest_counted f true n m rest e = rw e refl
-rest_counted f false n m rest e = line_counted f n m rest e
+rest_counted f begun n m rest e = search rules
 
 left_counted : (f : Comments) (begun : Bool) (n m : ℕ) (lines : List (List ℕ)) → counted n ≡ counted m
     → left_from f begun n lines ≡ left_from f begun m lines
-left_counted f begun n m [] e = refl
-left_counted f begun n m (rest ∷ lines) e =
-    rw (rest_counted f begun n m rest e, lines_counted f (n + 1) (m + 1) lines (omega (arith, e))) refl
+left_counted f begun n m lines e = grind (arith, common_steps, rest_counted, lines_counted)
 
 -- the tokens left speak of the counted number alone
 pub tokens_left-counted : (f : Comments) (begun : Bool) (n m : ℕ) (bytes : List ℕ) → counted n ≡ counted m
     → tokens_left f begun n bytes ≡ tokens_left f begun m bytes
-tokens_left-counted f begun n m bytes e =
-    let k = count_by is_line_end bytes in
-    let c : counted (n + k) ≡ counted (m + k) = omega (arith, e) in
-    rw (left_counted f begun n m (slice_split is_line_end bytes) e, c) refl
+tokens_left-counted f begun n m bytes e = grind (arith, common_steps, left_counted)
 
 -- ---- the end
 
 pub left_nothing : (f : Comments) (begun : Bool) (n : ℕ) → tokens_left f begun n [] ≡ (kinds.End, counted n) ∷ []
-left_nothing f true n = rw add-zero refl
-left_nothing f false n = rw add-zero refl
+left_nothing f begun n = search rules
 
 -- ---- a line end
 
-count_line_end : (bs : List ℕ) → count_by is_line_end (10 ∷ bs) ≡ 1 + count_by is_line_end bs
-count_line_end bs = sum_by-cons (λ x. cond (is_line_end x) 1 0) 10 bs
-
-rest_nothing : (f : Comments) (begun : Bool) (n : ℕ) → rest_tokens f begun n [] ≡ []
-rest_nothing f true n = refl
-rest_nothing f false n = refl
-
 left_from_start : (f : Comments) (n : ℕ) (lines : List (List ℕ)) → left_from f false n lines ≡ tokens_from f n lines
-left_from_start f n [] = refl
-left_from_start f n (line ∷ lines) = refl
+left_from_start f n lines = search rules
 
 pub left_line_end : (f : Comments) (begun : Bool) (n : ℕ) (bs : List ℕ) → tokens_left f begun n (10 ∷ bs) ≡ tokens_left f false (n + 1) bs
-left_line_end f begun n bs =
-    rw (
-      rest_nothing f begun n,
-      left_from_start f (n + 1) (slice_split is_line_end bs),
-      count_line_end bs,
-      add_assoc n 1 (count_by is_line_end bs),
-    ) refl
+left_line_end f begun n bs = grind (arith, common_steps)
 
 -- the whole text
 pub left_all : (f : Comments) (bytes : List ℕ) → tokens_left f false 1 bytes ≡ tokens f bytes
@@ -74,27 +53,12 @@ left_all f bytes = rw (left_from_start f 1 (slice_split is_line_end bytes)) refl
 
 -- ---- a blank
 
-blank_no_line_end : (b : ℕ) → is_blank b ≡ true → is_line_end b ≡ false
-blank_no_line_end b h = grind (arith, nat_tests)
-
-rest_blank : (f : Comments) (begun : Bool) (n b : ℕ) (rest : List ℕ) → is_blank b ≡ true
-    → rest_tokens f begun n (b ∷ rest) ≡ rest_tokens f begun n rest
-rest_blank f true n b rest h = rw h refl
-rest_blank f false n b rest h = rw h refl
-
-from_blank : (f : Comments) (begun : Bool) (n b : ℕ) (lines : List (List ℕ)) → is_blank b ≡ true
-    → left_from f begun n (onto_first b lines) ≡ left_from f begun n lines
-from_blank f begun n b [] h = rw (rest_blank f begun n b [] h, rest_nothing f begun n) refl
-from_blank f begun n b (line ∷ lines) h = rw (rest_blank f begun n b line h) refl
-
 count_other : (b : ℕ) (bs : List ℕ) → is_line_end b ≡ false → count_by is_line_end (b ∷ bs) ≡ count_by is_line_end bs
 count_other b bs h = sum_by-cons (λ x. cond (is_line_end x) 1 0) b bs ∙ rw (h, zero-add) refl
 
 pub left_blank : (f : Comments) (begun : Bool) (n b : ℕ) (bs : List ℕ) → is_blank b ≡ true
     → tokens_left f begun n (b ∷ bs) ≡ tokens_left f begun n bs
-left_blank f begun n b bs h =
-    let e = blank_no_line_end b h in
-    rw (count_other b bs e, e, from_blank f begun n b (slice_split is_line_end bs) h) refl
+left_blank f begun n b bs h = search rules
 
 -- ---- a run
 
@@ -104,17 +68,11 @@ onto_front run [] = run ∷ []
 onto_front run (line ∷ lines) = (run ++ line) ∷ lines
 
 onto_front_first : (b : ℕ) (bs : List ℕ) (lines : List (List ℕ)) → onto_first b (onto_front bs lines) ≡ onto_front (b ∷ bs) lines
-onto_front_first b bs [] = refl
-onto_front_first b bs (line ∷ lines) = refl
-
-nonempty_first : (b : ℕ) (lines : List (List ℕ)) → onto_front [] (onto_first b lines) ≡ onto_first b lines
-nonempty_first b [] = refl
-nonempty_first b (line ∷ lines) = refl
+onto_front_first b bs lines = search rules
 
 nonempty_cond : (c : Bool) (b : ℕ) (lines : List (List ℕ))
     → onto_front [] (cond c ([] ∷ lines) (onto_first b lines)) ≡ cond c ([] ∷ lines) (onto_first b lines)
-nonempty_cond true b lines = refl
-nonempty_cond false b lines = nonempty_first b lines
+nonempty_cond c b lines = search rules
 
 split_nonempty : (p : ℕ → Bool) (bs : List ℕ) → onto_front [] (slice_split p bs) ≡ slice_split p bs
 split_nonempty p [] = refl
@@ -146,19 +104,15 @@ open_line (b ∷ bs) h = (slice_split is_line_end bs, rw h refl)
 pub left_comment : (f : Comments) (n c : ℕ) (bs rest : List ℕ) → is_blank c ≡ false → is_comment_byte f c ≡ true → IsWithinLine (c ∷ bs)
     → EndsLine rest
     → tokens_left f false n ((c ∷ bs) ++ rest) ≡ tokens_left f false n rest
-left_comment f n c bs rest blank comment within ends =
-    let o = open_line rest ends in
-    rw (count_front (c ∷ bs) rest within, split_front (c ∷ bs) rest within, o.1, comment_lines f n c bs o.0 blank comment) refl
+left_comment f n c bs rest blank comment within ends = grind (arith, common_steps, open_line, count_front, split_front, comment_lines)
 
 -- ---- a run
 
 or_left : (x y : Bool) → (x || y) ≡ false → x ≡ false
-or_left false y h = refl
-or_left true y h = h
+or_left x y h = search rules
 
 or_right : (x y : Bool) → (x || y) ≡ false → y ≡ false
-or_right false y h = h
-or_right true y h = absurd (cc)
+or_right x y h = search rules
 
 pub no_blank : (b : ℕ) → is_separator b ≡ false → is_blank b ≡ false
 no_blank b h = or_left (is_blank b) (is_line_end b) h
@@ -180,8 +134,7 @@ split_run [] rest h = sym (split_nonempty is_blank rest)
 split_run (b ∷ bs) rest h = rw (no_blank b h.0, split_run bs rest h.1) (onto_front_first b bs (slice_split is_blank rest))
 
 runs_run : (b : ℕ) (bs rest : List ℕ) → IsUnbroken (b ∷ bs) → IsOpen rest → runs ((b ∷ bs) ++ rest) ≡ (b ∷ bs) ∷ runs rest
-runs_run b bs [] h open_rest = rw (split_run (b ∷ bs) [] h, append-nil (b ∷ bs)) refl
-runs_run b bs (c ∷ cs) h open_rest = rw (split_run (b ∷ bs) (c ∷ cs) h, open_rest, append-nil (b ∷ bs)) refl
+runs_run b bs rest h open_rest = grind (arith, common_steps, open_rest, split_run, append-nil)
 
 -- the run stands after another token of its line, or does not begin a comment line
 abbrev pub IsToken : Comments → Bool → List ℕ → Type 0
@@ -195,9 +148,7 @@ line_no_comment f n line h = rw h refl
 
 rest_run : (f : Comments) (begun : Bool) (n b : ℕ) (bs rest : List ℕ) → IsUnbroken (b ∷ bs) → IsOpen rest → IsToken f begun (b ∷ bs)
     → rest_tokens f begun n ((b ∷ bs) ++ rest) ≡ (kind (b ∷ bs), counted n) ∷ rest_tokens f true n rest
-rest_run f true n b bs rest h o t = rw (runs_run b bs rest h o) refl
-rest_run f false n b bs rest h o t =
-    line_no_comment f n ((b ∷ bs) ++ rest) (rw (no_blank b h.0) t) ∙ rw (runs_run b bs rest h o) refl
+rest_run f begun n b bs rest h o t = grind (arith, common_steps, runs_run, line_no_comment, no_blank)
 
 open_blank : (b : ℕ) (lines : List (List ℕ)) → is_blank b ≡ true
     → (line : List ℕ) × (more : List (List ℕ)) × (onto_first b lines ≡ line ∷ more) × IsOpen line
@@ -205,8 +156,7 @@ open_blank b [] h = (b ∷ [], [], refl, h)
 open_blank b (line ∷ lines) h = (b ∷ line, lines, refl, h)
 
 pub or_cases : (x y : Bool) → y ≡ false → (x || y) ≡ true → x ≡ true
-or_cases true y e h = refl
-or_cases false y e h = absurd (cc)
+or_cases x y e h = search rules
 
 open_at : (b : ℕ) (lines : List (List ℕ)) (ends : Bool) → is_line_end b ≡ ends → is_separator b ≡ true
     → (line : List ℕ) × (more : List (List ℕ)) × (cond ends ([] ∷ lines) (onto_first b lines) ≡ line ∷ more) × IsOpen line
@@ -220,8 +170,4 @@ open_rest (b ∷ bs) h = open_at b (slice_split is_line_end bs) (is_line_end b) 
 
 pub left_run : (f : Comments) (begun : Bool) (n : ℕ) (run rest : List ℕ) → IsUnbroken run → EndsRun rest → IsToken f begun run
     → tokens_left f begun n (run ++ rest) ≡ (kind run, counted n) ∷ tokens_left f true n rest
-left_run f begun n [] rest h ends t = absurd t
-left_run f begun n (b ∷ bs) rest h ends t =
-    let o = open_rest rest ends in
-    let within = unbroken_within (b ∷ bs) h in
-    rw (count_front (b ∷ bs) rest within, split_front (b ∷ bs) rest within, o.2, rest_run f begun n b bs o.0 h o.3 t) refl
+left_run f begun n run rest h ends t = grind (arith, common_steps, open_rest, unbroken_within, count_front, split_front, rest_run)

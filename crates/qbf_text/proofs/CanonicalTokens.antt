@@ -1,12 +1,10 @@
 -- The tokens of a canonical text.
+use Rattle.std.proofs.lemmas.Grind.{common_steps}
 use Rattle.std.proofs.Common.{rules, ◌≡◌, ℕ, ◌+◌, Bool, true, false, map, arith, List, [], ◌∷◌, ◌++◌, refl, sym, ap, ◌∙◌, append_assoc}
-use Rattle.std.specs.Prelude.{decimal}
 use Rattle.std.specs.List.{flat_map, AllByRecursion}
 use Rattle.std.proofs.lemmas.Fmt.{digits_decimal, decimal_nonempty}
 use Rattle.qbf_text.specs.declared.token.Comments.{Comments}
-use Rattle.qbf_text.specs.declared.token.Comments.TheVariants.{Qdimacs, Qrp}
 use Rattle.qbf_text.specs.declared.token.Word.{Word}
-use Rattle.qbf_text.specs.declared.token.Word.TheVariants as word
 use Rattle.qbf_text.specs.declared.token.Token.{Token}
 use Rattle.qbf_text.specs.declared.token.Token.TheVariants as token
 use Rattle.qbf_text.specs.Lined.{unlined}
@@ -19,55 +17,38 @@ use Rattle.qbf_text.proofs.Spelled.{own, digits_unbroken, token_digits, kind_dec
 -- ---- one token
 
 kind_word : (w : Word) → kind (letters w) ≡ token.Word w
-kind_word word.P = refl
-kind_word w = refl
+kind_word w = search rules
 
 word_unbroken : (w : Word) → IsUnbroken (letters w)
 word_unbroken w = search rules
 
 pub kind_spelled : (t : Token) → IsPlain t → kind (spelled t) ≡ t
-kind_spelled (token.Word w) h = kind_word w
-kind_spelled (token.Number false n) h = kind_decimal n h
-kind_spelled (token.Number true n) h = kind_minus n h.0 h.1
-kind_spelled t h = absurd h
+kind_spelled t h = grind (arith, common_steps, kind_word, kind_decimal, kind_minus)
 
 spelled_unbroken : (t : Token) → IsPlain t → IsUnbroken (spelled t)
-spelled_unbroken (token.Word w) h = word_unbroken w
-spelled_unbroken (token.Number false n) h = digits_unbroken (decimal n) (digits_decimal own n h)
-spelled_unbroken (token.Number true n) h = (refl, digits_unbroken (decimal n) (digits_decimal own n h.1))
-spelled_unbroken t h = absurd h
+spelled_unbroken t h = grind (arith, common_steps, word_unbroken, digits_unbroken, digits_decimal, own)
 
 -- after another token of its line each token is one
 word_behind : (f : Comments) (w : Word) → IsToken f true (letters w)
-word_behind f word.P = tt
-word_behind f w = tt
+word_behind f w = search rules
 
 behind : (f : Comments) (t : Token) → IsPlain t → IsToken f true (spelled t)
-behind f (token.Word w) h = word_behind f w
-behind f (token.Number false n) h = token_digits f true (decimal n) (decimal_nonempty n h) (digits_decimal own n h)
-behind f (token.Number true n) h = tt
-behind f t h = absurd h
+behind f t h = grind (arith, common_steps, word_behind, token_digits, decimal_nonempty, digits_decimal, own)
 
 -- at the beginning of a line the others are
 word_first : (f : Comments) (w : Word) → IsOpening (token.Word w) → IsToken f false (letters w)
 word_first f w h = search rules
 
 minus_first : (f : Comments) (ds : List ℕ) → IsToken f false (45 ∷ ds)
-minus_first Qdimacs ds = refl
-minus_first Qrp ds = refl
+minus_first f ds = search rules
 
 first : (f : Comments) (t : Token) → IsOpening t → IsPlain t → IsToken f false (spelled t)
-first f (token.Word w) o h = word_first f w o
-first f (token.Number false n) o h = token_digits f false (decimal n) (decimal_nonempty n h) (digits_decimal own n h)
-first f (token.Number true n) o h = minus_first f (decimal n)
-first f t o h = absurd h
+first f t o h = grind (arith, common_steps, word_first, token_digits, decimal_nonempty, digits_decimal, own, minus_first)
 
 -- a token that is written before a separator or the end is the next
 left_token : (f : Comments) (begun : Bool) (n : ℕ) (t : Token) (rest : List ℕ) → IsPlain t → IsToken f begun (spelled t) → EndsRun rest
     → tokens_left f begun n (spelled t ++ rest) ≡ (t, counted n) ∷ tokens_left f true n rest
-left_token f begun n t rest plain is ends =
-    left_run f begun n (spelled t) rest (spelled_unbroken t plain) ends is
-    ∙ ap (λ k. (k, counted n) ∷ tokens_left f true n rest) (kind_spelled t plain)
+left_token f begun n t rest plain is ends = grind (arith, common_steps, left_run, spelled_unbroken, kind_spelled)
 
 -- ---- a line
 
@@ -93,8 +74,7 @@ left_line f n (t ∷ ts) rest h =
     ∙ ap (λ k. t ∷ k) (left_rest f n ts rest h.1.1)
 
 pub all_appended : {X : Type 0} (P : X → Type 0) (xs ys : List X) → AllByRecursion P xs → AllByRecursion P ys → AllByRecursion P (xs ++ ys)
-all_appended P [] ys h k = k
-all_appended P (x ∷ xs) ys h k = (h.0, all_appended P xs ys h.1 k)
+all_appended P xs ys h k = grind (arith, common_steps)
 
 pub all_mapped : {X Y : Type 0} (P : X → Type 0) (Q : Y → Type 0) (f : X → Y) → ((x : X) → P x → Q (f x)) → (xs : List X)
     → AllByRecursion P xs → AllByRecursion Q (map f xs)

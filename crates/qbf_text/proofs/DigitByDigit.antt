@@ -1,7 +1,7 @@
 -- One more digit.
-use Rattle.std.proofs.Common.{rules, ◌≡◌, ℕ, ◌+◌, ◌-◌, ◌*◌, ◌^◌, ◌<◌, ◌≤◌, Bool, true, false, not, ◌&&◌, List, [], ◌∷◌, ◌++◌, refl, sym, ◌∙◌}
-use Rattle.std.proofs.Common.{arith}
-use Rattle.std.specs.Prelude.{nat_lt, if◌then◌else◌}
+use Rattle.std.proofs.Common.{rules, ◌≡◌, ℕ, ◌+◌, ◌-◌, ◌*◌, ◌^◌, ◌<◌, ◌≤◌, Bool, true, false, not, ◌&&◌, List, [], ◌∷◌, ◌++◌, refl, sym}
+use Rattle.std.proofs.Common.{◌∙◌, arith, nat_lt, if◌then◌else◌}
+use Rattle.std.proofs.lemmas.Grind.{common_steps}
 use Rattle.std.specs.Str.{all_ascii_digits}
 use Rattle.std.specs.Char.{is_ascii_digit}
 use Rattle.std.proofs.lemmas.List.Sums.{fold-append}
@@ -12,16 +12,13 @@ use Rattle.qbf_text.specs.Tokens.{magnitude}
 use Rattle.qbf_text.specs.Runs.{digits_of}
 
 and_true : (b : Bool) → (b && true) ≡ b
-and_true true = refl
-and_true false = refl
+and_true b = search rules
 
 and_assoc : (x y z : Bool) → {w : Bool} → w ≡ (y && z) → (x && w) ≡ ((x && y) && z)
-and_assoc true y z e = e
-and_assoc false y z e = refl
+and_assoc x y z e = search rules
 
 and_false : (b : Bool) → (b && false) ≡ false
-and_false true = refl
-and_false false = refl
+and_false b = search rules
 
 pub all-push : (ds : List ℕ) (b : ℕ) → all_ascii_digits (ds ++ b ∷ []) ≡ (all_ascii_digits ds && is_ascii_digit b)
 all-push [] b = and_true (is_ascii_digit b)
@@ -69,15 +66,11 @@ push_no_digit ds b h = sym (digits-push ds b ∙ rw h (rw and_false refl))
 
 pub push_small : (ds : List ℕ) (b n : ℕ) → is_ascii_digit b ≡ true → Value n ≡ digits_of ds → 10 * n + (b - 48) < 2 ^ 64
     → Value (10 * n + (b - 48)) ≡ digits_of (ds ++ b ∷ [])
-push_small ds b n h e fits =
-    let k = known_value ds n e in
-    sym (digits-push ds b ∙ rw (k.0, h, ← k.1) (pack_small _ fits))
+push_small ds b n h e fits = grind (arith, common_steps, known_value, digits-push, pack_small)
 
 pub push_past : (ds : List ℕ) (b n : ℕ) → is_ascii_digit b ≡ true → Value n ≡ digits_of ds → 2 ^ 64 ≤ 10 * n + (b - 48)
     → Big ≡ digits_of (ds ++ b ∷ [])
-push_past ds b n h e past =
-    let k = known_value ds n e in
-    sym (digits-push ds b ∙ rw (k.0, h, ← k.1) (pack_large _ past))
+push_past ds b n h e past = grind (arith, common_steps, known_value, digits-push, pack_large)
 
 -- by the test whether a digit more fits
 pub push_taken : (ds : List ℕ) (b n d : ℕ) → is_ascii_digit b ≡ true → Value n ≡ digits_of ds → d ≡ b - 48
@@ -89,9 +82,7 @@ pub push_not_taken : (ds : List ℕ) (b n d : ℕ) → is_ascii_digit b ≡ true
 push_not_taken ds b n d h e is t = push_past ds b n h e (grind (arith, nat_tests))
 
 pub push_big : (ds : List ℕ) (b : ℕ) → is_ascii_digit b ≡ true → Big ≡ digits_of ds → Big ≡ digits_of (ds ++ b ∷ [])
-push_big ds b h e =
-    let k = known_big ds e in
-    sym (digits-push ds b ∙ rw (k.0, h) (pack_large _ (omega (arith, k.1))))
+push_big ds b h e = grind (arith, common_steps, known_big, digits-push, pack_large)
 
 pub push_other : (ds : List ℕ) (b : ℕ) → Other ≡ digits_of ds → Other ≡ digits_of (ds ++ b ∷ [])
 push_other ds b e = sym (digits-push ds b ∙ rw (known_other ds e) refl)

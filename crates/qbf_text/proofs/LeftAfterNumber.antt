@@ -1,10 +1,10 @@
 -- What is left after a number that stands whole among the bytes at hand.
-use Rattle.std.proofs.Common.{rules, ◌≡◌, ℕ, ◌+◌, ◌^◌, ◌<◌, Bool, true, false, List, [], ◌∷◌, ◌++◌, sym, ap, ◌∙◌}
-use Rattle.std.proofs.Common.{arith, append_assoc}
-use Rattle.std.proofs.lemmas.Bool.{eqb-true}
+use Rattle.std.proofs.Common.{rules, ◌≡◌, ℕ, ◌+◌, ◌^◌, ◌<◌, Bool, true, false, List, [], ◌∷◌, ◌++◌, sym, ap, ◌∙◌, arith, append_assoc}
+use Rattle.std.proofs.Common.{eqb-true}
+use Rattle.std.proofs.lemmas.Grind.{common_steps}
 use Rattle.qbf_text.specs.declared.token.Comments.{Comments}
 use Rattle.qbf_text.specs.declared.token.Token.TheVariants.{Number}
-use Rattle.qbf_text.specs.Tokens.{kind, is_line_end, is_blank, counted}
+use Rattle.qbf_text.specs.Tokens.{kind, counted}
 use Rattle.qbf_text.specs.Runs.{begins_number}
 use Rattle.qbf_text.specs.Left.{is_separator, IsUnbroken, tokens_left}
 use Rattle.qbf_text.specs.Passing.{BeginsWithNumber}
@@ -18,9 +18,7 @@ number_token f begun run h = search rules
 left_number : (f : Comments) (begun : Bool) (n : ℕ) (run : List ℕ) (behind : ℕ) (rest : List ℕ) → begins_number run ≡ true → IsUnbroken run
     → is_separator behind ≡ true
     → tokens_left f begun n ((run ++ behind ∷ []) ++ rest) ≡ (kind run, counted n) ∷ tokens_left f true n (behind ∷ rest)
-left_number f begun n run behind rest begins unbroken sep =
-    ap (tokens_left f begun n) (append_assoc run (behind ∷ []) rest)
-    ∙ left_run f begun n run (behind ∷ rest) unbroken sep (number_token f begun run begins)
+left_number f begun n run behind rest begins unbroken sep = grind (arith, common_steps, append_assoc, left_run, number_token)
 
 module _ (f : Comments) (begun : Bool) (n : ℕ) (pending : List ℕ) (negative : Bool) (value len : ℕ) (ends : Bool)
     (h : BeginsWithNumber pending negative value len ends) (small : n < 2 ^ 64) where
@@ -41,9 +39,4 @@ module _ (f : Comments) (begun : Bool) (n : ℕ) (pending : List ℕ) (negative 
   -- it is a blank
   pub spelled_blanked : ends ≡ false → (rest : List ℕ)
       → tokens_left f begun n ((h.run ++ h.behind ∷ []) ++ rest) ≡ (Number negative value, n) ∷ tokens_left f true n rest
-  spelled_blanked e rest =
-      let blank : is_blank h.behind ≡ true = or_cases (is_blank h.behind) (is_line_end h.behind) (sym h.ends ∙ e) h.separates in
-      left_number f begun n h.run h.behind rest h.begins h.unbroken h.separates
-      ∙ ap (λ k. (k, counted n) ∷ tokens_left f true n (h.behind ∷ rest)) (sym h.is)
-      ∙ ap (λ m. (Number negative value, m) ∷ tokens_left f true n (h.behind ∷ rest)) same
-      ∙ ap (λ ts. (Number negative value, n) ∷ ts) (left_blank f true n h.behind rest blank)
+  spelled_blanked e rest = grind (arith, common_steps, or_cases, left_number, same, left_blank)

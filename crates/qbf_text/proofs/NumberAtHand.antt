@@ -1,15 +1,15 @@
 -- A number that stands whole among the bytes at hand.
-use Rattle.std.proofs.Common.{◌≡◌, ℕ, zero, suc, ◌+◌, ◌-◌, ◌^◌, ◌<◌, ◌≤◌, Bool, true, false, ◌&&◌, ◌||◌, ◌==◌, nat_eq, inl, inr, List, []}
-use Rattle.std.proofs.Common.{◌∷◌, ◌++◌, take, drop, length, get_or, refl, sym, subst, ap, ◌∙◌, arith}
+use Rattle.std.proofs.Common.{rules, ◌≡◌, ℕ, zero, suc, ◌+◌, ◌-◌, ◌^◌, ◌<◌, ◌≤◌, Bool, true, false, ◌&&◌, ◌||◌, ◌==◌, nat_eq, List, [], ◌∷◌}
+use Rattle.std.proofs.Common.{◌++◌, take, drop, length, get_or, refl, sym, subst, ap, ◌∙◌, arith, eqb-true, take-suc}
+use Rattle.std.proofs.lemmas.Grind.{common_steps}
 use mir.Val.{bool_byte}
 use Rattle.std.specs.Str.Parse.{digits_value, AllDigits}
 use Rattle.std.specs.Char.{is_ascii_digit}
 use Rattle.std.specs.Str.{all_ascii_digits}
-use Rattle.std.proofs.lemmas.Bool.{eqb-true, cases_Bool}
-use Rattle.std.proofs.Math.Seq.{take-suc}
+use Rattle.std.proofs.lemmas.Bool.{cases_Bool}
 use Rattle.std.proofs.lemmas.Bool.Decides.{nat_tests}
 use Rattle.qbf_text.specs.declared.run.Digits.TheVariants.{Value}
-use Rattle.qbf_text.specs.Tokens.{magnitude, is_line_end}
+use Rattle.qbf_text.specs.Tokens.{is_line_end}
 use Rattle.qbf_text.specs.Runs.{digits_of, begins_number, begins_with_minus, after_minus}
 use Rattle.qbf_text.specs.Left.{is_separator}
 use Rattle.qbf_text.specs.Passing.{BeginsWithNumber}
@@ -19,9 +19,7 @@ use Rattle.qbf_text.proofs.Spelled.{own, and_left, digit_no_minus, digits_unbrok
 
 -- digits of at most 64 bits write their value
 value_of : (ds : List ℕ) → AllDigits 10 ds → digits_value 10 ds < 2 ^ 64 → Value (digits_value 10 ds) ≡ digits_of ds
-value_of ds h small =
-    let same : magnitude ds ≡ digits_value 10 ds = own.same ds h in
-    rw (own.from ds h, same) (sym (pack_small (digits_value 10 ds) small))
+value_of ds h small = grind (arith, common_steps, small, own, pack_small)
 
 one_more : (xs : List ℕ) (n : ℕ) → n < length xs → take (n + 1) xs ≡ take n xs ++ get_or xs n 0 ∷ []
 one_more xs n h = let more : n + 1 ≡ suc n = omega arith in ap (λ k. take k xs) more ∙ take-suc xs n 0 h
@@ -121,5 +119,4 @@ module _ (bytes : List ℕ) (negative : Bool) (start value end : ℕ) (sign : ne
 
   -- either
   pub found : start ≡ bool_byte negative → BeginsWithNumber bytes negative value (end + 1) (nat_eq (get_or bytes end 0) 10)
-  found is = elim (cases_Bool
-      negative) [ inl here ↦ found_minus here (is ∙ ap bool_byte here) | inr none ↦ found_plain none (is ∙ ap bool_byte none) ]
+  found is = search (rules, cases_Bool, found_minus, bool_byte, found_plain)

@@ -1,19 +1,17 @@
 -- Texts that go out part by part.
-use Rattle.std.proofs.Common.{◌≡◌, ℕ, ◌-◌, ◌^◌, ◌<◌, Ok, Err, List, [], ◌∷◌, ◌++◌, Option, take, drop, refl, sym, ap, subst, ◌∙◌}
-use Rattle.std.proofs.Common.{append_assoc, ◌+◌, slice_get, Some, suc, add-one, drop-cons, get_or, length}
+use Rattle.std.proofs.Common.{arith, ◌≡◌, ℕ, ◌<◌, Ok, Err, List, [], ◌∷◌, ◌++◌, Option, take, drop, refl, sym, ap, subst, ◌∙◌, append_assoc}
+use Rattle.std.proofs.Common.{◌+◌, slice_get, Some, suc, add-one, drop-cons, get_or, length, flat_map, IsErrAnd, Result, decimal, map}
+use Rattle.std.proofs.Common.{false, take-append-drop}
+use Rattle.std.proofs.lemmas.Grind.{common_steps}
 use Rattle.std.proofs.lemmas.Option.{slice_get_within, get_or_from_slice_get}
 use Rattle.std.proofs.lemmas.Result.{err_from_is_err_and}
-use Rattle.std.specs.List.{flat_map}
-use Rattle.std.specs.Result.{IsErrAnd}
-use Rattle.std.specs.Prelude.{Result, decimal, map, false}
 use Rattle.std.specs.Fmt.{digits}
 use Rattle.qbf_text.specs.declared.token.Token.{Token}
-use Rattle.qbf_text.specs.declared.token.Token.TheVariants as token
 use Rattle.qbf_text.specs.Canonical.{spelled, line_rest}
 use Rattle.qbf_text.specs.Written.{IsPut, IsSent}
-use Rattle.std.proofs.Math.ListN.{take-append-drop}
 use Rattle.std.specs.Io.KnownBytes.{Appends}
 use Rattle.std.proofs.KnownBytes.{Appends-trans}
+use Rattle.qbf_text.specs.declared.token.Token.TheVariants as token
 
 pub zero_decimal : decimal 0 ≡ 48 ∷ []
 unfolding digits
@@ -42,19 +40,12 @@ part_at f xs i x at = ap (flat_map f) (drop_at xs i x at)
 -- the rest of a list of parts, from place i on
 pub parts_next : {X : Type 0} (f : X → List ℕ) (xs : List X) (i : ℕ) (x d : X) → i < length xs → x ≡ get_or xs i d
     → flat_map f (drop i xs) ≡ f x ++ flat_map f (drop (i + 1) xs)
-parts_next {X} f xs i x d lt is =
-    let one : drop i xs ≡ x ∷ drop (i + 1) xs = rw add-one (drop-cons xs i d lt ∙ ap (λ (y : X). y ∷ drop (suc i) xs) (sym is)) in
-    ap (flat_map f) one
+parts_next f xs i x d lt is = grind (arith, common_steps)
 
 module _ {S : Type 0} {written : S → Option (List ℕ)} {failures : S → ℕ} where
   sent_step : (a b c : S) (whole rest part more : List ℕ) → IsSent written failures a b whole rest → rest ≡ part ++ more
       → Appends (written b) (written c) part → failures c ≡ failures b → IsSent written failures a c whole more
-  sent_step a b c whole rest part more s e p works = record {
-    sent = s.sent ++ part;
-    parts = s.parts ∙ ap (λ r. s.sent ++ r) e ∙ sym (append_assoc s.sent part more);
-    appended = Appends-trans (written a) (written b) (written c) s.sent part s.appended p;
-    works = works ∙ s.works;
-  }
+  sent_step a b c whole rest part more s e p works = grind (arith, common_steps, append_assoc, Appends-trans)
 
   -- one push more, of n bytes
   pub sent_more : {a b c : S} {whole rest : List ℕ} (n : ℕ) → IsSent written failures a b whole rest
@@ -65,32 +56,11 @@ module _ {S : Type 0} {written : S → Option (List ℕ)} {failures : S → ℕ}
     -- a part that fails, and with it the whole
     pub put_fails : {a b : S} {whole part : List ℕ} {e : E} {f : F} {r : Result U F} (more : List ℕ) → whole ≡ part ++ more → r ≡ Err f
         → IsPut {T = T} written failures a b part (Err e) → IsPut written failures a b whole r
-    put_fails {a} {b} {whole} more is fails p = subst (λ r. IsPut written failures a b whole r) (sym fails) (record {
-      ok = tt;
-      err = (p.err.0, p.err.1 ++ more, is ∙ ap (λ k. k ++ more) p.err.2 ∙ append_assoc p.err.0 p.err.1 more, p.err.3);
-      failures_ok = tt;
-      failures_err = p.failures_err;
-    })
+    put_fails more is fails p = grind (arith, common_steps)
 
     then_by : (a b c : S) (whole part more : List ℕ) (u : T) (r : Result U F) → whole ≡ part ++ more
         → IsPut {E = E} written failures a b part (Ok u) → IsPut written failures b c more r → IsPut written failures a c whole r
-    then_by a b c whole part more u (Ok v) is p q = record {
-      ok = subst (Appends (written a) (written c)) (sym is) (Appends-trans (written a) (written b) (written c) part more p.ok q.ok);
-      err = tt;
-      failures_ok = q.failures_ok ∙ p.failures_ok;
-      failures_err = tt;
-    }
-    then_by a b c whole part more u (Err f) is p q = record {
-      ok = tt;
-      err = (
-        part ++ q.err.0,
-        q.err.1,
-        is ∙ ap (λ k. part ++ k) q.err.2 ∙ sym (append_assoc part q.err.0 q.err.1),
-        Appends-trans (written a) (written b) (written c) part q.err.0 p.ok q.err.3,
-      );
-      failures_ok = tt;
-      failures_err = subst (λ n. n < 2 ^ 64 - 1 → n < failures c) p.failures_ok q.failures_err;
-    }
+    then_by a b c whole part more u r is p q = grind (arith, common_steps)
 
     -- a part that goes out, and then the rest
     pub put_then : {a b c : S} {whole part : List ℕ} {u : T} {r : Result U F} (more : List ℕ) → whole ≡ part ++ more
@@ -101,8 +71,7 @@ module _ {S : Type 0} {written : S → Option (List ℕ)} {failures : S → ℕ}
     -- what went out of the whole before a call that sends the rest
     pub sent_put : {a b c : S} {whole rest : List ℕ} {r : Result T E} → IsSent written failures a b whole rest
         → IsPut written failures b c rest r → IsPut written failures a c whole r
-    sent_put {r = r} s q = then_by {T = Unit {0}} {E = E} _ _ _ _ s.sent _ tt r s.parts
-        (record { ok = s.appended; err = tt; failures_ok = s.works; failures_err = tt }) q
+    sent_put = grind (arith, common_steps)
 
     -- what went out before a call that sends a part more
     pub sent_part : {a b c : S} {whole rest part : List ℕ} {u : T} (more : List ℕ) → IsSent written failures a b whole rest

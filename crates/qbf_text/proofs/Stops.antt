@@ -1,4 +1,5 @@
 -- What is taken ends with a token and at most one separator.
+use Rattle.std.proofs.lemmas.Grind.{common_steps}
 use Rattle.std.proofs.Common.{rules, ◌≡◌, ℕ, ◌+◌, ◌^◌, ◌<◌, Bool, true, false, List, [], ◌∷◌, ◌++◌, Option, Some, None, IfSome, refl, sym}
 use Rattle.std.proofs.Common.{ap, ◌∙◌, arith, append_assoc, append-nil}
 use Rattle.std.specs.Prelude.{⊤}
@@ -8,12 +9,11 @@ use Rattle.qbf_text.specs.declared.scanner.Place.{Place}
 use Rattle.qbf_text.specs.declared.token.Comments.{Comments}
 use Rattle.qbf_text.specs.declared.token.Token.{Token}
 use Rattle.qbf_text.specs.declared.token.Token.TheVariants.{End}
-use Rattle.qbf_text.specs.Ahead.{ahead}
 use Rattle.qbf_text.specs.Left.{is_separator, is_end, tokens_left, IsUnbroken, IsWithinLine, EndsRun, EndsLine, known_left}
 use Rattle.qbf_text.specs.Lined.{Lined}
-use Rattle.qbf_text.specs.Rows.{Row, Goes, Ends, Whole, Read, read_from, Fails, Fault}
+use Rattle.qbf_text.specs.Rows.{Row, Goes, Ends, Whole, read_from, Fails, Fault}
 use Rattle.qbf_text.specs.Rows as rows
-use Rattle.qbf_text.specs.Stopping.{IfKnown, BeginsAs, Skips, TakesToken, tokens_at, PlaceSkips, PlaceTakes, FindsToken, StopsBehind}
+use Rattle.qbf_text.specs.Stopping.{IfKnown, BeginsAs, Skips, TakesToken, PlaceSkips, PlaceTakes, FindsToken, StopsBehind}
 use Rattle.qbf_text.specs.Passing.{SoFar}
 use Rattle.qbf_text.specs.Tokens.{kind, is_blank, is_line_end, is_comment_byte, counted}
 use Rattle.qbf_text.proofs.OneToken.{after, read-one}
@@ -40,8 +40,7 @@ begins_more [] new rest h = h
 begins_more (b ∷ bs) new rest h = refl
 
 pub begins_skipped : (a b c new : List ℕ) → BeginsAs (a ++ b ++ c ++ new) a
-begins_skipped [] b c new = tt
-begins_skipped (x ∷ xs) b c new = refl
+begins_skipped a b c new = search rules
 
 ends_run : (new rest : List ℕ) → EndsRun new → BeginsAs new rest → EndsRun rest
 ends_run new rest h k = search rules
@@ -154,20 +153,16 @@ pub known_takes : (here mid there : List ℕ → List Lined) (token : Lined) (a 
 known_takes here mid there token a b c s t = known_trans _ _ _ (takes_behind here mid there token) a b c s t
 
 pub place_skips_more : (p q r : Place) (a b c : Option (List ℕ)) → PlaceSkips p a q b → PlaceSkips q b r c → PlaceSkips p a r c
-place_skips_more p q r a b c s t =
-    known_trans _ _ _ (skips_more (tokens_at p) (tokens_at q) (tokens_at r)) (ahead p.window a) (ahead q.window b) (ahead r.window c) s t
+place_skips_more p q r a b c s t = grind (arith, common_steps, known_trans, skips_more)
 
 pub place_takes_behind : (p q r : Place) (a b c : Option (List ℕ)) (token : Lined) → PlaceSkips p a q b → PlaceTakes q b r c token
     → PlaceTakes p a r c token
-place_takes_behind p q r a b c token s t =
-    known_trans _ _ _ (takes_behind (tokens_at p) (tokens_at q) (tokens_at r) token) (ahead p.window a) (ahead q.window b)
-    (ahead r.window c) s t
+place_takes_behind p q r a b c token s t = grind (arith, common_steps, known_trans, takes_behind)
 
 -- a token after it is found
 pub found_token : {p q r : Place} {a b c : Option (List ℕ)} {token : Lined} → PlaceSkips p a q b → FindsToken q b r c token
     → FindsToken p a r c token
-found_token {p} {q} {r} {a} {b} {c} {token} s t =
-    record { takes = place_takes_behind p q r a b c token s t.takes; no_end = t.no_end }
+found_token s t = grind (arith, common_steps, place_takes_behind)
 
 -- ---- token after token
 
@@ -219,8 +214,7 @@ module _ {P A F : Type 0} (row : P → Token → Row P A F) (first : P) where
       → row place token.0 ≡ Goes next
       → IfKnown (SoFar row first place here mid) a b → IfKnown (TakesToken mid there token) b c
       → IfKnown (SoFar row first next here there) a c
-  so_far_goes place next here mid there token a b c e =
-      known_trans _ _ _ (λ x y z. so_far_more place next here mid there token x y z e) a b c
+  so_far_goes place next here mid there token a b c e = search (rules, known_trans, so_far_more)
 
   stops_one : (last next : P) (answer : A) (here mid there : List ℕ → List Lined) (token : Lined) (x y z : List ℕ)
       → row last token.0 ≡ Ends answer next → is_end token.0 ≡ false
@@ -259,8 +253,7 @@ module _ {P A F : Type 0} (row : P → Token → Row P A F) (first : P) where
       (a b c : Option (List ℕ)) → row last token.0 ≡ Ends answer next → is_end token.0 ≡ false
       → IfKnown (SoFar row first last here mid) a b → IfKnown (TakesToken mid there token) b c
       → IfKnown (StopsBehind row first next answer here there) a c
-  stops_behind last next answer here mid there token a b c e no_end =
-      known_trans _ _ _ (λ x y z. stops_one last next answer here mid there token x y z e no_end) a b c
+  stops_behind last next answer here mid there token a b c e no_end = search (rules, known_trans, stops_one)
 
 -- what holds of known bytes, in other words
 pub if_known : {P Q : List ℕ → List ℕ → Type 0} → ((x y : List ℕ) → P x y → Q x y) → (before after : Option (List ℕ))
@@ -269,23 +262,16 @@ if_known h before after k = search rules
 
 module _ {P A F : Type 0} (row : P → Token → Row P A F) {fault : F} (refused : (p : P) → row p token.End ≡ Fails fault) where
   pub taken_no_end : (p next : P) (t : Token) (a : A) → row p t ≡ Ends a next → is_end t ≡ false
-  taken_no_end p next token.End a e = absurd (let x : Fails fault ≡ Ends a next = sym (refused p) ∙ e in cc)
-  taken_no_end p next t a e = refl
+  taken_no_end p next t a e = search rules
 
   -- without the last run there is the fault of the end
   pub unread_fault : {first next : P} {a : A} {here there : List ℕ → List Lined} {old new : List ℕ}
       → (s : StopsBehind row first next a here there old new)
       → read_from row first (here s.before) ≡ Fault fault s.line
-  unread_fault s = s.unread ∙ read-one row s.last (token.End, s.line) []
-      ∙ ap (λ (r : Row P A F). after row r (token.End, s.line) []) (refused s.last)
+  unread_fault s = grind (arith, common_steps, read-one, after)
 
 module _ (f : Comments) (begun : Bool) (n : ℕ) (f' : Comments) (begun' : Bool) (n' : ℕ) where
   pub next_taken : (token : Lined) (t t' : Option (List ℕ))
       → IfKnown (TakesToken (tokens_left f begun n) (tokens_left f' begun' n') token) t t' → is_end token.0 ≡ false
       → GivesNext (known_left f begun n t) (known_left f' begun' n' t') token
   next_taken token t t' h k = search rules
-
-  pub next_ended : (line : ℕ) (t t' : Option (List ℕ)) → IfKnown (Skips (tokens_left f begun n) (tokens_left f' begun' n')) t t'
-      → IfSome (known_left f' begun' n' t') (λ left. left ≡ (End, line) ∷ [])
-      → GivesNext (known_left f begun n t) (Some ((End, line) ∷ [])) (End, line)
-  next_ended line t t' h k = search rules

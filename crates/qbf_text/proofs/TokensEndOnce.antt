@@ -1,21 +1,19 @@
 -- The tokens of a text end once.
-use Rattle.std.proofs.Common.{◌≡◌, ◌≢◌, ℕ, ◌+◌, Bool, true, false, List, [], ◌∷◌, ◌++◌, map, refl, ap, append_assoc}
+use Rattle.std.proofs.Common.{rules, ◌≡◌, ◌≢◌, ℕ, ◌+◌, Bool, true, false, List, [], ◌∷◌, ◌++◌, map, refl, ap, append_assoc, count_by}
 use Rattle.std.specs.List.{slice_split}
-use Rattle.std.specs.Prelude.{count_by}
 use Rattle.qbf_text.specs.declared.token.Comments.{Comments}
 use Rattle.qbf_text.specs.declared.token.Token.{Token}
-use Rattle.qbf_text.specs.declared.token.Token.TheVariants as kinds
 use Rattle.qbf_text.specs.Lined.{Lined, EndsOnce}
 use Rattle.qbf_text.specs.Left.{is_end}
 use Rattle.qbf_text.specs.Tokens.{is_line_end, is_comment_line, runs, kind, counted, line_tokens, tokens_from, tokens}
 use Rattle.qbf_text.proofs.KnownLeft.{kind_no_end}
+use Rattle.qbf_text.specs.declared.token.Token.TheVariants as kinds
 
 no_end : (t : Token) → is_end t ≡ false → t ≢ kinds.End
 no_end t h e = absurd (let f : is_end t ≡ true = ap is_end e in cc)
 
 put_before : (t : Lined) (ts : List Lined) → t.0 ≢ kinds.End → EndsOnce ts → EndsOnce (t ∷ ts)
-put_before t [] n h = absurd h
-put_before t (u ∷ ts) n h = (n, h)
+put_before t ts n h = search rules
 
 runs_before : (n : ℕ) (rs : List (List ℕ)) (ts : List Lined) → EndsOnce ts → EndsOnce (map (λ run. (kind run, n)) rs ++ ts)
 runs_before n [] ts h = h

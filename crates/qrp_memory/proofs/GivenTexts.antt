@@ -1,5 +1,5 @@
 -- The numbers of the steps at some places, and the line of what was told.
-use Rattle.std.proofs.Common.{◌≡◌, Bool, Option, Some, Ok, Err, refl, ℕ, ◌+◌, ◌<◌, ◌≤◌, List, [], ◌∷◌, ◌++◌, length, take, drop, get_or, ap, ◌∙◌, subst, sym}
+use Rattle.std.proofs.Common.{rules, ◌≡◌, Bool, Option, Some, ℕ, ◌+◌, ◌<◌, List, [], ◌∷◌, ◌++◌, length, take, get_or, ap, ◌∙◌, sym, Result}
 use Rattle.std.proofs.lemmas.List.{map-append}
 use Rattle.std.proofs.lemmas.Option.{slice_get-get_or}
 use Rattle.std.specs.List.{AllByRecursion}
@@ -7,13 +7,11 @@ use Rattle.qbf_core.proofs.DistinctNumbers.{all_at}
 use Rattle.qrp.specs.Derivations.{steps_at}
 use Rattle.qrp.specs.Inferences.{Inference, IsAt, numbers}
 use Rattle.qrp_check.proofs.StepsAt.{next_at}
-use Rattle.std.specs.Prelude.{Result}
 use Rattle.qrp_check.specs.declared.verdict.Fault.{Fault}
 use Rattle.qrp_check.specs.declared.verdict.Verified.{Verified}
 use Rattle.qrp_report.specs.declared.refusal.Refusal.{Refusal}
 use Rattle.qrp_report.specs.Lines.{refusal_line}
 use Rattle.qrp_report.specs.OfFaults.{IsOfFault}
-use Rattle.qrp_report.specs.Refusals.{refusal_of}
 use Rattle.qrp_memory.specs.declared.verdict.QrpVerdict.{QrpVerdict}
 use Rattle.qrp_memory.specs.Told.{IsTold, told_truth, told_refusal, answer_line}
 
@@ -37,7 +35,4 @@ next_number steps places k n sofar within less value is =
 pub told_line : (answer : Result Verified Fault) (v : QrpVerdict) (r : Refusal) (truth : Option Bool) → IsTold answer v
     → ((b : Bool) → v ≡ told_truth b → truth ≡ Some b) → ((b : Bool) → truth ≡ Some b → ⊥)
     → ((s : Refusal) → IsOfFault s → v ≡ told_refusal s → Some r ≡ Some s) → refusal_line r ≡ answer_line answer
-told_line (Ok w) v r truth (is, names) held none only = absurd (none w.truth (held w.truth is))
-told_line (Err e) v r truth (is, names) held none only =
-    let same : r ≡ refusal_of e = cc (only (refusal_of e) (e, names, refl) is) in
-    ap refusal_line same
+told_line answer v r truth h held none only = search rules

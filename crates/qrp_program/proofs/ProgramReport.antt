@@ -1,9 +1,8 @@
 -- From a run over opened files to the report of the program.
-use Rattle.std.proofs.Common.{◌≡◌, ◌∙◌, ◌<◌, ℕ, List, [], Option, Ok, Err, subst, sym, ap, map, length, get_or}
+use Rattle.std.proofs.Common.{arith, rules, ◌≡◌, ◌∙◌, ◌<◌, ℕ, List, [], Option, sym, ap, map, length, get_or, Result}
+use Rattle.std.proofs.lemmas.Grind.{common_steps}
 use Rattle.std.proofs.lemmas.List.{get_or-map}
-use Rattle.std.specs.Prelude.{Result}
 use Rattle.qrp_program.specs.declared.job.Job.{Job}
-use Rattle.qrp_program.specs.declared.job.Job.TheVariants as job
 use Rattle.qrp_rules.specs.declared.rules.Rules.{Rules}
 use Rattle.qrp_check.specs.declared.verdict.Verified.{Verified}
 use Rattle.qrp_check.specs.declared.verdict.Fault.{Fault}
@@ -18,27 +17,15 @@ from bytes before after unpulled = record { bytes = bytes; before = before; afte
 module _ (f t : Option (List ℕ)) (m n : ℕ) (p q : Type 0) where
   checked : (rules : Rules) (answer : Result Verified Fault) → IsChecked rules (from f 0 m p) (from t 0 n q) answer
       → IsChecked rules (read f m) (read t n) answer
-  checked rules answer c = record {
-    verdict = c.verdict;
-    formula_failed = c.formula_failed;
-    trace_failed = c.trace_failed;
-    lines = c.lines;
-    not_pulled = λ _. tt;
-  }
+  checked rules answer c = search rules
 
   output : (j : Job) (r : Report) → IsOutput j (from f 0 m p) (from t 0 n q) r → IsOutput j (read f m) (read t n) r
-  output job.Format r o = o
-  output (job.Check rules) r (answer, c, is) = (answer, checked rules answer c, is)
-  output (job.Trim rules) r (Ok d, c, is) = (Ok d, c, is)
-  output (job.Trim rules) r (Err e, c, is) = (Err e, checked rules (Err e) c, is)
+  output j r o = search rules
 
   -- the report of a run over files that were just opened
   pub of_run : (j : Job) (a b : ℕ) (u : Option (List ℕ)) (r : Report) → a ≡ 0 → b ≡ 0 → u ≡ t → IsOutput j (from f a m p) (from u b n q) r
       → IsOnBoth j f t r
-  of_run j a b u r no_a no_b is o =
-      let opened = subst (λ a. IsOutput j (from f a m p) (from u b n q) r) no_a o in
-      let both = subst (λ b. IsOutput j (from f 0 m p) (from u b n q) r) no_b opened in
-      (m, n, output j r (subst (λ u. IsOutput j (from f 0 m p) (from u 0 n q) r) is both))
+  of_run j a b u r no_a no_b is o = grind (arith, common_steps, output)
 
 -- the word at a place, as it stands in a list of texts
 pub word_is : {A : Type 0} (f : A → List ℕ) (xs : List A) (i : ℕ) (x : A) (text : List ℕ) → i < length xs → x ≡ get_or xs i x → text ≡ f x

@@ -1,4 +1,5 @@
 -- The words of the command line, one by one.
+use Rattle.std.proofs.lemmas.Grind.{common_steps}
 use Rattle.std.proofs.Common.{◌≡◌, ◌∙◌, ℕ, ◌≤◌, ◌<◌, List, [], ◌∷◌, map, length, get_or, refl, sym, ap, arith}
 use Rattle.std.proofs.lemmas.List.{length-map}
 
@@ -41,6 +42,4 @@ flag_fourth f xs a b d command flag least below at_a is_a at_b not_b at_d is_d =
 
 -- three words and more are no two
 pub no_two_words : {A B : Type 0} (f : A → B) (xs : List A) (y z : B) → 3 ≤ length xs → map f xs ≡ y ∷ z ∷ [] → ⊥
-no_two_words f xs y z least is =
-    let two : length xs ≡ 2 = sym (length-map xs f) ∙ ap length is in
-    omega (arith, least, two)
+no_two_words f xs y z least is = grind (arith, common_steps, length-map)

@@ -1,4 +1,5 @@
 -- The fault of a refusal, by its numbers.
+use Rattle.std.proofs.Common.{rules}
 use Rattle.std.proofs.Common.{◌≡◌, ◌∙◌, ◌⊎◌, ℕ, zero, suc, ◌+◌, ◌<◌, ◌≤◌, List, [], ◌∷◌, map, length, inl, inr, refl, arith, sym, subst}
 use Rattle.std.proofs.lemmas.Bool.{cases_eq}
 use Rattle.qdimacs.specs.declared.fault.FormulaFault.{FormulaFault}
@@ -38,18 +39,6 @@ rule_of : (n : ℕ) → 1 ≤ n → n ≤ 12 → (e : RuleFault) × (rule_number
 rule_of n low high =
     value_of rule_number (S1 ∷ S2 ∷ S3 ∷ S4 ∷ S5 ∷ S6 ∷ S7 ∷ S8 ∷ S9 ∷ S10 ∷ S11 ∷ S12 ∷ []) 1 n refl low (omega (arith, high))
 
-formula_in : (e : FormulaFault) → (1 ≤ formula_number e) × (formula_number e ≤ 9)
-formula_in F1 = (omega arith, omega arith)
-formula_in other = (omega arith, omega arith)
-
-trace_in : (e : TraceFault) → (1 ≤ trace_number e) × (trace_number e ≤ 9)
-trace_in P1 = (omega arith, omega arith)
-trace_in other = (omega arith, omega arith)
-
-rule_in : (e : RuleFault) → (1 ≤ rule_number e) × (rule_number e ≤ 12)
-rule_in S1 = (omega arith, omega arith)
-rule_in other = (omega arith, omega arith)
-
 of_text : (r : Refusal) → IsOfText r → IsOfFault r
 of_text r (inl is, low, high, none) = let w = formula_of r.number low high in (fault.Formula w.0 r.position, tt, rw (is, none, w.1) refl)
 of_text r (inr is, low, high, none) = let w = trace_of r.number low high in (fault.Trace w.0 r.position, tt, rw (is, none, w.1) refl)
@@ -79,12 +68,7 @@ fault_of r (inr (inr (inl is))) = of_whole r.letter r.number r.rule r.position i
 fault_of r (inr (inr (inr is))) = of_step r is
 
 numbers_of : (e : Fault) → NamesVariable e → HasNumbers (refusal_of e)
-numbers_of (fault.Formula e n) names = let w = formula_in e in inl (inl refl, w.0, w.1, refl)
-numbers_of (fault.Trace e n) names = let w = trace_in e in inl (inr refl, w.0, w.1, refl)
-numbers_of (fault.Check C4) names = inr (inr (inl (refl, omega arith, omega arith, refl, refl)))
-numbers_of (fault.Check C5) names = inr (inr (inl (refl, omega arith, omega arith, refl, refl)))
-numbers_of (fault.Check (C6 n s)) names = let w = rule_in s in inr (inr (inr (refl, refl, w.0, w.1)))
-numbers_of (fault.Check other) names = inr (inl (refl, omega arith, omega arith, refl, names.0, names.1))
+numbers_of e names = search rules
 
 pub has_numbers : (r : Refusal) → IsOfFault r → HasNumbers r
 has_numbers r (e, names, is) = subst HasNumbers (sym is) (numbers_of e names)

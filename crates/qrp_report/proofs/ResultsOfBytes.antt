@@ -1,6 +1,5 @@
 -- From what was read and checked to what is reported of its bytes.
-use Rattle.std.proofs.Common.{◌≡◌, ◌≢◌, ℕ, List, Option, Some, None, inl, inr, refl, subst}
-use Rattle.std.specs.Prelude.{Result, Ok, Err, IfSome, IfOk}
+use Rattle.std.proofs.Common.{rules, ◌≡◌, ◌≢◌, ℕ, List, Option, Some, None, inl, inr, refl, subst, Result, Ok, Err, IfSome, IfOk}
 use Rattle.qbf_core.specs.Qbf.{Qbf}
 use Rattle.qdimacs.specs.declared.fault.FormulaFault.{FormulaFault}
 use Rattle.qdimacs.specs.declared.fault.FormulaFault.TheVariants.{F1, F9}
@@ -20,24 +19,16 @@ use Rattle.qrp_check.proofs.TrimText.{trimmed_text_proves}
 use Rattle.qrp_report.specs.Results.{HasFailed, IsFormulaRead, IsFormulaRefused, IsTrimmedFrom, IsTrimmed}
 
 read_as : (bytes : Option (List ℕ)) (f : Qbf) → Gives (Ok f) (reads_bytes bytes) → IfSome bytes (λ b. read_formula b ≡ Ok f)
-read_as None f g = tt
-read_as (Some b) f g = g
+read_as bytes f g = search rules
 
 pub formula_read : (formula : SourceCall) (f : Qbf) → Gives (Ok f) (reads_bytes formula.bytes) → formula.after ≡ formula.before
     → IsFormulaRead formula (Ok f)
 formula_read formula f gives works = (read_as formula.bytes f gives, works)
 
-stopped : (bytes : Option (List ℕ)) (e : FormulaFault) (n : ℕ) → IfSome (reads_bytes bytes) (λ r. r ≡ Err (e, n))
-    → IfSome bytes (λ b. read_formula b ≡ Err (e, n))
-stopped None e n s = tt
-stopped (Some b) e n s = s
-
 pub formula_refused : (bytes : Option (List ℕ)) (before after : ℕ) (e : FormulaFault) (n : ℕ) → Gives (Err (e, n)) (reads_bytes bytes)
     → (e ≡ F1 → HasFailed before after) → (e ≢ F1 → after ≡ before) → (e ≡ F1 → n ≡ 0) → (e ≡ F9 → n ≡ 0)
     → IsFormulaRefused bytes before after e n
-formula_refused bytes before after F1 n s failed kept one nine = (one refl, failed refl)
-formula_refused bytes before after F9 n s failed kept one nine = (nine refl, kept (λ e. cc e))
-formula_refused bytes before after e n s failed kept one nine = (stopped bytes e n s, kept (λ is. cc is))
+formula_refused bytes before after e n s failed kept one nine = search rules
 
 trimmed_of : (rules : Rules) (a b : List ℕ) (d : Derivation) (v : Verified) → IsVerdict rules (read_formula a) (Some (read_trace b)) (Ok v)
     → IsWellFormed d → read_trace b ≡ Ok d → IsTrimmedFrom rules a b (trimmed d v.core.items)

@@ -1,11 +1,9 @@
 -- Numbers that are counted from a first one, with others after them.
+use Rattle.std.proofs.Common.{rules, ◌≡◌, ◌<◌, ◌≤◌, ◌+◌, ◌-◌, ◌^◌, ◌⊎◌, ℕ, zero, suc, true, false, List, [], ◌∷◌, ◌++◌, length, slice_get}
+use Rattle.std.proofs.Common.{nat_eq, Option, None, Some, IfSome, IfNone, refl, sym, ap, ◌∙◌, inl, inr, arith, is_some, eq-eqb, append-nil}
 use Rattle.std.proofs.lemmas.Grind.{common_steps}
-use Rattle.std.proofs.Common.{rules, ◌≡◌, ◌<◌, ◌≤◌, ◌+◌, ◌-◌, ◌^◌, ◌⊎◌, ℕ, zero, suc, true, false, List, [], ◌∷◌, ◌++◌, length}
-use Rattle.std.proofs.Common.{slice_get, nat_eq, Option, None, Some, IfSome, IfNone, refl, sym, ap, ◌∙◌, inl, inr, arith}
-use Rattle.std.specs.Option.{is_some}
-use Rattle.std.proofs.lemmas.Bool.{cases_lt, eq-eqb}
+use Rattle.std.proofs.lemmas.Bool.{cases_lt}
 use Rattle.std.proofs.lemmas.Bool.Decides.{eqb_tells}
-use Rattle.std.proofs.lemmas.List.{append-nil}
 use Rattle.std.proofs.lemmas.Map.Keys.{any_passes_from_place}
 use Rattle.step_index.specs.Numbers.{is_used, count_from, AreStepNumbers}
 use Rattle.qbf_core.proofs.DistinctNumbers.{push_distinct, all_at}
@@ -84,8 +82,7 @@ unused_above ks m top below above = grind (arith, common_steps, unused_none, all
 -- what a look-up finds says whether the number is sparse
 pub sparse_used : (ks : List ℕ) (m : ℕ) (o : Option ℕ) → IfSome o (λ i. slice_get ks i ≡ Some m)
     → IfNone o ((i : ℕ) → slice_get ks i ≡ Some m → ⊥) → is_some o ≡ is_used m ks
-sparse_used ks m None some none = sym (unused_none ks m none)
-sparse_used ks m (Some i) some none = sym (used_at ks i m some)
+sparse_used ks m o some none = grind (arith, common_steps, unused_none, used_at)
 
 -- ---- one more number
 

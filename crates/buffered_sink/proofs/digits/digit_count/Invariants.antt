@@ -1,5 +1,4 @@
-use Rattle.std.proofs.Common.{◌≡◌, ◌+◌, length}
-use Rattle.std.specs.Fmt.{decimal}
+use Rattle.std.proofs.Common.{◌≡◌, ◌+◌, length, decimal}
 use Rattle.buffered_sink.proofs.digits.digit_count.Given as goal
 
 abbrev pub invariant-loop-left : goal.invariant-loop-left

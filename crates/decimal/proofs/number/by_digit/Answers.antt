@@ -1,3 +1,4 @@
+use Rattle.std.proofs.lemmas.Grind.{common_steps}
 use Rattle.std.proofs.Common.{false, sym, ap, subst, ◌∙◌, ℕ, List, ◌≡◌, ◌+◌, ◌-◌, ◌*◌, ◌^◌, ◌<◌, ◌≤◌, length, take, drop, get_or, arith, length-take}
 use Rattle.std.specs.Str.Parse.{digits_value, AllDigits}
 use Rattle.std.specs.Char.{digit_value, is_ascii_digit}
@@ -30,15 +31,7 @@ one_more r i within before here =
     )
 
 pub loop-i-preserved : goal.loop-i-preserved
-loop-i-preserved c =
-    let r = take (length c.args.bytes.now - c.args.from) (drop c.args.from c.args.bytes.now) in
-    let more = one_more r c.loop-i.i c.if-i-rest.true c.loop-i.invariant.digits c.if-is_ascii_digit.ensures.cases in
-    record {
-      most = omega arith;
-      within = omega arith;
-      digits = more.0;
-      value = omega (arith, more.1, c.loop-i.invariant.value, c.from-digit.ensures);
-    }
+loop-i-preserved c = grind (arith, common_steps, one_more)
 
 pub returns-clause-longest : goal.returns-clause-longest
 returns-clause-longest c = λ few within.

@@ -1,11 +1,7 @@
-use Rattle.std.proofs.Common.{ap, ◌∙◌}
-use Rattle.std.specs.Int.{w64, to_le_bytes}
-use Rattle.std.proofs.lemmas.Bool.{eqb-true}
-use Rattle.decimal.proofs.Masks.{no_mark, marks}
+use Rattle.std.proofs.Common.{rules, eqb-true}
+use Rattle.decimal.proofs.Masks.{no_mark}
 use Rattle.decimal.proofs.Lists.{word_bytes, bytes_fit}
 use Rattle.decimal.proofs.word.are_digits.Goals as goal
 
 pub returns : goal.returns
-returns c all =
-    let w = c.args.word in
-    no_mark (to_le_bytes w64 w) (bytes_fit w) (ap (marks 8) (word_bytes w c.ranges.word.fits) ∙ eqb-true _ _ all)
+returns c all = search (rules, no_mark, bytes_fit, word_bytes, eqb-true)

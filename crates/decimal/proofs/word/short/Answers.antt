@@ -1,4 +1,5 @@
-use Rattle.std.proofs.Common.{ℕ, ◌≡◌, ◌<◌, ◌≤◌, arith, ◌∙◌}
+use Rattle.std.proofs.lemmas.Grind.{common_steps}
+use Rattle.std.proofs.Common.{ℕ, ◌≡◌, ◌<◌, ◌≤◌, arith}
 use Rattle.decimal.proofs.Moved.{at_most, moved_below, moved_value}
 use Rattle.decimal.proofs.word.short.Goals as goal
 
@@ -11,8 +12,4 @@ eight_digits-requires c =
     moved_below c.args.word len.result c.ranges.word.fits (at_most c.args.word len.result len.ensures) (omega (arith, len.ensures))
 
 pub returns : goal.returns
-returns c =
-    let len = c.digit_run-len in
-    let few = at_most c.args.word len.result len.ensures in
-    let inside = between len.result few c.if-len-eq0.false c.if-len-eq8.false in
-    (len.ensures, inside.0, inside.1, c.eight_digits.ensures ∙ moved_value c.args.word len.result c.ranges.word.fits few (omega (arith, len.ensures)))
+returns c = grind (arith, common_steps, at_most, between, moved_value)

@@ -1,4 +1,5 @@
-use Rattle.std.proofs.Common.{◌≡◌, true, false, arith, refl, sym, ◌∙◌}
+use Rattle.std.proofs.lemmas.Grind.{common_steps}
+use Rattle.std.proofs.Common.{◌≡◌, true, false, arith, sym, ◌∙◌}
 use Rattle.qbf_text.specs.Ahead.{ahead}
 use Rattle.qbf_text.specs.Reading.{left}
 use Rattle.qbf_text.specs.Rows.{reads_from}
@@ -8,16 +9,7 @@ use Rattle.qbf_text.proofs.Stops.{so_far_none, known_so_far, so_far_goes, stops_
 use Rattle.qbf_text.proofs.grammar.read_by.Goals as goal
 
 pub tokens-init : goal.tokens-init
-tokens-init g c = record {
-  so_far = leads_same _;
-  stops = so_far_none g.G.Grammar.row_of (g.G.Grammar.place c.args.grammar.now) (tokens_next c.args.scanner.now)
-      (ahead c.args.scanner.now.pending (g.S.Source.remaining c.args.source.now));
-  ready = c.requires.ready;
-  remains = λ h. h;
-  kept = refl;
-  counts = refl;
-  bound = omega arith;
-}
+tokens-init g c = grind (arith, common_steps, leads_same, stops, so_far_none)
 
 pub tokens-preserved : goal.tokens-preserved
 tokens-preserved g c =

@@ -1,5 +1,4 @@
-use Rattle.std.proofs.Common.{inl, inr, refl, Some, None}
-use Rattle.std.specs.String.{string_bytes}
+use Rattle.std.proofs.Common.{inl, inr, refl, Some, None, string_bytes}
 use Rattle.qrp_program.proofs.ProgramReport.{word_is}
 use Rattle.qrp_program.specs.declared.start.Start.TheVariants.{Usage}
 use Rattle.qrp_program.specs.Output.{Errors}

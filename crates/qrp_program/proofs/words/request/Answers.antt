@@ -1,5 +1,4 @@
-use Rattle.std.proofs.Common.{◌∙◌, sym, ap, refl, List, ℕ, ◌∷◌, [], inl, inr}
-use Rattle.std.specs.String.{string_bytes}
+use Rattle.std.proofs.Common.{◌∙◌, sym, ap, refl, List, ℕ, ◌∷◌, [], inl, inr, string_bytes}
 use Rattle.qrp_program.proofs.WordByWord.{two_words, no_two_words}
 use Rattle.qrp_program.proofs.words.request.Goals as goal
 

@@ -1,11 +1,9 @@
-use Rattle.std.proofs.Common.{◌≡◌, ◌∙◌, sym, ap, List, ℕ, ◌∷◌, [], inl, inr, codes}
-use Rattle.std.proofs.lemmas.Bool.{true≢false}
-use Rattle.std.specs.String.{string_bytes}
+use Rattle.std.proofs.Common.{◌≡◌, ◌∙◌, sym, ap, List, ℕ, ◌∷◌, [], inl, inr, codes, true≢false, string_bytes}
 use Rattle.qrp_rules.specs.declared.rules.Rules.{Rules}
 use Rattle.qrp_program.specs.Words.{Texts}
 use Rattle.qrp_program.proofs.WordByWord.{three_words, first_same, flag_second, flag_fourth}
-use Rattle.qrp_program.proofs.words.texts.Goals as goal
 use Rattle.qrp_program.proofs.words.texts.Goals.{then-is_word-2+else-is_word-3, else-is_word-2}
+use Rattle.qrp_program.proofs.words.texts.Goals as goal
 
 pub returns-in-len3-clause-row : goal.returns-in-len3-clause-row
 returns-in-len3-clause-row c =

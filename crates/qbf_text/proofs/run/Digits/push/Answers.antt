@@ -1,14 +1,10 @@
-use Rattle.std.proofs.Common.{◌≡◌, true, sym, ◌∙◌}
-use Rattle.std.specs.Char.{is_ascii_digit}
+use Rattle.std.proofs.Common.{arith}
+use Rattle.std.proofs.lemmas.Grind.{common_steps}
 use Rattle.qbf_text.proofs.DigitByDigit.{push_taken, push_not_taken}
 use Rattle.qbf_text.proofs.run.Digits.push.Goals as goal
 
 pub returns-in-Value : goal.returns-in-Value
-returns-in-Value c = λ ds e.
-    let digit : is_ascii_digit c.args.byte ≡ true = sym c.is_ascii_digit.ensures.value ∙ c.if-not-is_ascii_digit.false in
-    push_taken ds c.args.byte c.in-Value.n _ digit (sym c.in-Value.is ∙ e) c.from-digit.ensures (sym c.takes.ensures ∙ c.if-takes.true)
+returns-in-Value c = grind (arith, common_steps, push_taken)
 
 pub returns-in-Value-2 : goal.returns-in-Value-2
-returns-in-Value-2 c = λ ds e.
-    let digit : is_ascii_digit c.args.byte ≡ true = sym c.is_ascii_digit.ensures.value ∙ c.if-not-is_ascii_digit.false in
-    push_not_taken ds c.args.byte c.in-Value.n _ digit (sym c.in-Value.is ∙ e) c.from-digit.ensures (sym c.takes.ensures ∙ c.if-takes.false)
+returns-in-Value-2 c = grind (arith, common_steps, push_not_taken)

@@ -1,3 +1,5 @@
+use Rattle.std.proofs.Common.{arith}
+use Rattle.std.proofs.lemmas.Grind.{common_steps}
 use Rattle.std.proofs.KnownBytes.{Consumes-nil}
 use Rattle.qbf_text.specs.Ahead.{ahead}
 use Rattle.qbf_text.proofs.KnownLeft.{took_at, no_line_end_at}
@@ -7,11 +9,7 @@ use Rattle.qbf_text.specs.Tokens.{is_blank, is_line_end}
 use Rattle.qbf_text.proofs.scanner.Place.pass_separator.Goals as goal
 
 pub returns-then-byte-eq10-clause-none : goal.returns-then-byte-eq10-clause-none
-returns-then-byte-eq10-clause-none c remaining =
-    let s = c.args.self.now in
-    let took =
-    took_at (ahead s.window remaining) s.window _ remaining c.args.byte c.advance.ensures.rest (Consumes-nil _) c.requires.next in
-    rw c.saturating_add-self.ensures (skips_line_end s.comments s.begun s.line c.args.byte _ _ took c.if-byte-eq10.true)
+returns-then-byte-eq10-clause-none c remaining = grind (arith, common_steps, took_at, Consumes-nil, skips_line_end)
 
 pub returns-else-byte-eq10-clause-none : goal.returns-else-byte-eq10-clause-none
 returns-else-byte-eq10-clause-none c remaining =

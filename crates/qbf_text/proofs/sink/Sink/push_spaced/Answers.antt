@@ -1,6 +1,7 @@
-use Rattle.std.specs.Prelude.{decimal}
+use Rattle.std.proofs.Common.{arith, decimal}
+use Rattle.std.proofs.lemmas.Grind.{common_steps}
 use Rattle.std.proofs.lemmas.Result.{err_from_is_err_and}
-use Rattle.qbf_text.proofs.SentParts.{put_fails, put_then}
+use Rattle.qbf_text.proofs.SentParts.{put_fails}
 use Rattle.qbf_text.proofs.sink.Sink.push_spaced.Goals as goal
 
 pub returns-in_err-push_all : goal.returns-in_err-push_all
@@ -10,6 +11,4 @@ returns-in_err-push_all g c =
     }
 
 pub returns : goal.returns
-returns g c = record {
-  put = put_then (decimal c.args.n) (c.front_of.ensures c.args.n) c.in_ok-push_all.ensures.put c.push_number.ensures.put;
-}
+returns g c = grind (arith, common_steps)

@@ -1,6 +1,5 @@
-use Rattle.std.proofs.Common.{arith}
+use Rattle.std.proofs.Common.{arith, sym, ◌∙◌}
 use Rattle.std.proofs.lemmas.Grind.{common_steps}
-use Rattle.std.proofs.Common.{sym, ◌∙◌}
 use Rattle.step_index.proofs.CountedNumbers.{found_used, unfound_used}
 use Rattle.step_index.proofs.index.StepIndex.contains.Goals as goal
 

@@ -1,7 +1,6 @@
-use Rattle.std.proofs.Common.{arith}
+use Rattle.std.proofs.Common.{rules}
 use Rattle.step_index.proofs.index.StepIndex.new.Goals as goal
 
 pub invariant_of-result : goal.invariant_of-result
 unfolding Rattle.std.specs.List.IsDistinct
-invariant_of-result c = rw c.new.ensures (
-    record { numbers = record { distinct = tt; fit = tt; count = omega arith }; few = omega arith })
+invariant_of-result c = search rules

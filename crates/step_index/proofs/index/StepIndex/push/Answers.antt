@@ -1,6 +1,5 @@
 use Rattle.std.proofs.lemmas.Grind.{common_steps}
-use Rattle.std.proofs.Common.{◌≡◌, ◌<◌, ◌^◌, [], ◌∷◌, ◌++◌, refl, sym, subst, arith, append_assoc, length, length-append}
-use Rattle.step_index.specs.Numbers.{AreStepNumbers}
+use Rattle.std.proofs.Common.{◌≡◌, ◌<◌, ◌^◌, refl, arith, append_assoc, length-append}
 use Rattle.step_index.proofs.CountedNumbers.{count_length, counted_pushed, numbers_pushed}
 use Rattle.step_index.proofs.index.StepIndex.push.Goals as goal
 use Rattle.step_index.proofs.index.StepIndex.push.Goals.{then-self-eq0, else-self-eq0}
@@ -10,18 +9,7 @@ pub returns-then-continues-clause-pushed : goal.returns-then-continues-clause-pu
 returns-then-continues-clause-pushed c = grind (arith, common_steps, counted_pushed)
 
 pub returns-then-continues-clause-sound : goal.returns-then-continues-clause-sound
-returns-then-continues-clause-sound c =
-    let few : length c.args.self.now ≡ c.self.inside.counted = rw (← c.self.view_is) (
-    omega (
-      arith,
-      c.len.ensures.len,
-      c.if-len-eq0.true,
-      count_length c.self.inside.first c.self.inside.counted c.self.inside.sparse,
-    )) in
-    let sound : AreStepNumbers (c.args.self.now ++ c.args.number ∷ []) =
-    numbers_pushed c.args.self.now c.args.number (rw (← c.self.view_is) c.self.invariant.numbers) c.requires
-    (omega (arith, c.ranges.number.fits)) (omega (arith, few, c.continues.ensures.fits c.if-continues.true)) in
-    subst AreStepNumbers (sym (returns-then-continues-clause-pushed c)) sound
+returns-then-continues-clause-sound c = grind (arith, common_steps, count_length, numbers_pushed, returns-then-continues-clause-pushed)
 
 pub invariant_of-self : goal.invariant_of-self
 invariant_of-self c =

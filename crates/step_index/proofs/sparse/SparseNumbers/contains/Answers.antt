@@ -1,6 +1,5 @@
-use Rattle.std.proofs.Common.{arith}
+use Rattle.std.proofs.Common.{arith, sym}
 use Rattle.std.proofs.lemmas.Grind.{common_steps}
-use Rattle.std.proofs.Common.{sym}
 use Rattle.step_index.proofs.CountedNumbers.{sparse_used, unused_above}
 use Rattle.step_index.proofs.sparse.SparseNumbers.contains.Goals as goal
 
