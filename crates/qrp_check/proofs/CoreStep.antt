@@ -1,8 +1,7 @@
 -- One step of the core: its antecedents, and its conditions.
-use Rattle.std.proofs.Common.{◌≡◌, ℕ, zero, suc, ◌<◌, ◌≤◌, List, [], ◌∷◌, Option, Some, None, inl, inr, refl, sym, ap, subst, ◌∙◌, arith}
+use Rattle.std.proofs.Common.{◌≡◌, ℕ, ◌<◌, ◌≤◌, List, [], ◌∷◌, Option, Some, None, inl, inr, refl, sym, ap, subst, ◌∙◌, arith}
 use Rattle.std.proofs.Common.{length, get_or, take, rules}
 use Rattle.std.specs.Prelude.{Bool, IfOk, IfSome, IsTrue, Result, Ok, Err}
-use Rattle.std.specs.List.{AllByRecursion}
 use Rattle.qbf_core.specs.Literal.{Literal, positive}
 use Rattle.qbf_core.specs.Members.{◌∈◌}
 use Rattle.qbf_core.specs.Blocks.{Block, AreBound, IsBound}
@@ -10,12 +9,12 @@ use Rattle.qbf_core.specs.Qbf.{Qbf}
 use Rattle.qbf_core.specs.Rules.{Side, IsClean, IsTautology}
 use Rattle.qbf_core.specs.Sets.{HasMembersOf}
 use Rattle.qbf_core.proofs.Bound.{bound_each}
-use Rattle.qrp.specs.Inferences.{Inference, IsAt, IsOnlyAt, HasFewAntecedents}
+use Rattle.qrp.specs.Inferences.{Inference, IsAt, IsOnlyAt}
 use Rattle.qrp_rules.specs.declared.fault.RuleFault.{RuleFault}
 use Rattle.qrp_rules.specs.declared.fault.RuleFault.TheVariants.{S1, S2, S3}
 use Rattle.qrp_rules.specs.Conditions.{Condition, IsAnswer, initial_condition, reduct_conditions, resolvent_conditions}
 use Rattle.qrp_rules.specs.declared.rules.Rules.{Rules}
-use Rattle.qrp_check.specs.Conditions.{IsNumberOf, StepFollows, antecedent_conditions, lits_of, step_conditions}
+use Rattle.qrp_check.specs.Conditions.{IsNumberOf, StepFollows, lits_of, step_conditions}
 use Rattle.qrp_check.specs.Core.{IsInCore, Needs, next}
 use Rattle.qrp_check.specs.Premises.{AreFit, ArePremises, IsFit, IsPremise, found_conditions, premise_conditions}
 use Rattle.qrp_check.specs.Premises.{written_conditions}

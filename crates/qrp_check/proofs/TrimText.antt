@@ -1,10 +1,10 @@
 -- A trimmed trace is well formed, and so its text reads as it.
-use Rattle.std.proofs.Common.{◌≡◌, ℕ, zero, suc, ◌^◌, ◌<◌, ◌≤◌, List, [], ◌∷◌, inl, inr, refl, sym, ap, length, Some, arith, nat_eq, rules}
+use Rattle.std.proofs.Common.{◌≡◌, ℕ, zero, suc, ◌^◌, ◌<◌, ◌≤◌, List, [], ◌∷◌, inl, inr, refl, length, Some, arith, nat_eq, rules}
 use Rattle.std.specs.Prelude.{slice_get}
-use Rattle.std.specs.List.{AllByRecursion, IsDistinct}
+use Rattle.std.specs.List.{IsDistinct}
 use Rattle.std.proofs.lemmas.Option.{slice_get_cases, slice_get_within}
 use Rattle.qbf_core.specs.Members.{◌∈◌}
-use Rattle.qrp.specs.Inferences.{Inference, IsInference, numbers}
+use Rattle.qrp.specs.Inferences.{Inference, numbers}
 use Rattle.qrp.specs.Derivations.{Derivation, IsWellFormed, steps_at}
 use Rattle.qrp.proofs.Positions.{HasOwnNumbers, own_numbers}
 use Rattle.qrp.proofs.ReadingLaws.{text_is_read}
