@@ -1,4 +1,4 @@
-use Rattle.std.proofs.Common.{arith, rules}
+use Rattle.std.proofs.Common.{arith}
 use Rattle.std.proofs.lemmas.Grind.{common_steps}
 use Rattle.qbf_text.specs.Reading.{left}
 use Rattle.qbf_text.proofs.Stops.{next_taken}
@@ -7,13 +7,6 @@ use Rattle.qbf_text.proofs.scanner.Scanner.next_token.Goals as goal
 pub returns-in-Ok-Some-clause-token : goal.returns-in-Ok-Some-clause-token
 unfolding left
 returns-in-Ok-Some-clause-token g c = grind (arith, common_steps, next_taken)
-
-pub returns-in-Ok-None-clause-token : goal.returns-in-Ok-None-clause-token
-unfolding left
-returns-in-Ok-None-clause-token g c = search rules
-
-pub returns-in-Ok-Some-clause-takes : goal.returns-in-Ok-Some-clause-takes
-returns-in-Ok-Some-clause-takes g c h = search rules
 
 pub returns-in-Some-clause-end : goal.returns-in-Some-clause-end
 returns-in-Some-clause-end g c ended =

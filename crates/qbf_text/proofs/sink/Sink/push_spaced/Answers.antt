@@ -1,5 +1,4 @@
-use Rattle.std.proofs.Common.{arith, decimal}
-use Rattle.std.proofs.lemmas.Grind.{common_steps}
+use Rattle.std.proofs.Common.{decimal}
 use Rattle.std.proofs.lemmas.Result.{err_from_is_err_and}
 use Rattle.qbf_text.proofs.SentParts.{put_fails}
 use Rattle.qbf_text.proofs.sink.Sink.push_spaced.Goals as goal
@@ -9,6 +8,3 @@ returns-in_err-push_all g c =
     let p = err_from_is_err_and c.from_residual.result c.from_residual.ensures.1 in record {
       put = put_fails (decimal c.args.n) (c.front_of.ensures c.args.n) p.1 c.in_err-push_all.ensures.put;
     }
-
-pub returns : goal.returns
-returns g c = grind (arith, common_steps)
