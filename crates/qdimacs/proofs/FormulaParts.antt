@@ -1,5 +1,5 @@
 -- What the parts of a formula make, and where clauses in the bytes at hand lead to.
-use Rattle.qdimacs.proofs.Words.{arith, common_steps, passes_none, passes_on, ◌≡◌, Bool, false, Option, None, Result, Ok, Quantifier}
+use Rattle.qdimacs.proofs.Words.{arith, common_steps, passes_none, passes_on, passes_further, ◌≡◌, Bool, false, Option, None, Result, Ok, Quantifier}
 use Rattle.qdimacs.proofs.Words.{Literal, Token, pairs, Ends, blocks_of-pairs, is_end, Goes, FormulaFault, At, Parts, made, heading, stands}
 use Rattle.qdimacs.proofs.Words.{row_to, IsMade, Place, Whole, between_row, row}
 
@@ -15,4 +15,4 @@ pub leads_on : (place : Place) (p : Parts) (next : At) (t : Token) → is_end t 
 leads_on place p next t open_ e = grind (arith, common_steps)
 
 -- one number more at hand
-pub ruleset numbers_lead_on = (leads_on, passes_none, passes_on)
+pub ruleset numbers_lead_on = (leads_on, passes_none, passes_on, passes_further)

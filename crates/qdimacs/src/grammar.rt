@@ -196,6 +196,56 @@ fn take_at(here: At, parts: &mut Parts, token: Token) -> Next
 
 // ---- numbers in the bytes at hand
 
+/// Takes the usual numbers of a clause from the bytes at hand, as far as they stand there whole and
+/// are no fault. Returns where the next token stands, with the cursor before it.
+///
+/// # Errors
+/// Out of memory.
+#[inline(always)]
+#[tactic(auto, using(crate::proofs::FormulaParts::numbers_lead_on))]
+fn take_literals(parts: &mut Parts, bytes: &[u8], from: Cursor) -> (At, Result<Cursor, AllocError>)
+    requires within { from.at ≤ length bytes.now }
+    requires sound { IsSound at.Clause parts.old }
+    ensures passes { IfOk result.1 (λ to. Passes
+        (LeadOn row (stands parts.old at.Clause) (stands parts.new result.0)) bytes.now from to) }
+    ensures sound { IsSound result.0 parts.new }
+{
+    let mut here = from;
+    'literals: while let Some(passed) = here.usual_number(bytes) {
+        match take_literal(parts, passed.token) {
+            Ok(At::Clause) => here = passed.next,
+            Ok(next) => return (next, Ok(passed.next)),
+            Err(Stop::Memory) => return (At::Clause, Err(AllocError)),
+            Err(Stop::Text(_)) => return (At::Clause, Ok(here)),
+        }
+    }
+    (At::Clause, Ok(here))
+}
+
+/// The same with the number after them, which is mostly the zero that closes the clause.
+#[inline(always)]
+#[tactic(auto, using(crate::proofs::FormulaParts::numbers_lead_on))]
+fn take_clause(parts: &mut Parts, bytes: &[u8], from: Cursor) -> (At, Result<Cursor, AllocError>)
+    requires within { from.at ≤ length bytes.now }
+    requires sound { IsSound at.Clause parts.old }
+    ensures passes { IfOk result.1 (λ to. Passes
+        (LeadOn row (stands parts.old at.Clause) (stands parts.new result.0)) bytes.now from to) }
+    ensures sound { IsSound result.0 parts.new }
+{
+    let (at, reached) = take_literals(parts, bytes, from);
+    let (At::Clause, Ok(here)) = (at, reached) else {
+        return (at, reached);
+    };
+    let Some(passed) = here.any_number(bytes) else {
+        return (at, reached);
+    };
+    match take_literal(parts, passed.token) {
+        Ok(next) => (next, Ok(passed.next)),
+        Err(Stop::Memory) => (at, Err(AllocError)),
+        Err(Stop::Text(_)) => (at, reached),
+    }
+}
+
 /// Takes numbers from the bytes at hand, as far as they stand there whole and are no fault. Returns
 /// where the next token stands, with the cursor before it.
 ///
@@ -224,6 +274,14 @@ fn take_numbers(
             Err(Stop::Text(_)) => break,
         }
         here = passed.next;
+        if let At::Clause = place {
+            let (next, reached) = take_clause(parts, bytes, here);
+            place = next;
+            match reached {
+                Ok(to) => here = to,
+                Err(refused) => return (place, Err(refused)),
+            }
+        }
     }
     (place, Ok(here))
 }

@@ -1,0 +1,13 @@
+use Rattle.qdimacs.proofs.Words.{◌-◌, ◌≤◌, length, LeadOn, Passes, stands, IsSound, row}
+use Rattle.qdimacs.specs.declared.grammar.At.TheVariants.{Clause}
+use Rattle.qdimacs.proofs.grammar.take_literals.Given as goal
+
+abbrev pub invariant-literals : goal.invariant-literals
+invariant-literals l = record {
+  passes : Passes (LeadOn row (stands l.fn.parts Clause) (stands l.parts Clause)) l.bytes l.fn.from l.here;
+  sound : IsSound Clause l.parts;
+  within : l.here.at ≤ length l.bytes;
+}
+
+abbrev pub decreases-literals : goal.decreases-literals
+decreases-literals l = length l.bytes - l.here.at
