@@ -19,7 +19,7 @@ use Rattle.decimal.proofs.Moved.{bytes_from}
 digit_small : (b : ℕ) → b < 256 → is_ascii_digit b ≡ true → digit_value b < 10
 digit_small b fits digit = ltb-true _ _ (sym (agree_below_at is_ascii_digit (λ x. is_small (digit_value x)) 256 b refl fits) ∙ digit)
 
-all_front : (n : ℕ) (bs : List ℕ) → Bytes bs → n ≤ prefix_len is_ascii_digit bs → AllDigits 10 (take n bs)
+pub all_front : (n : ℕ) (bs : List ℕ) → Bytes bs → n ≤ prefix_len is_ascii_digit bs → AllDigits 10 (take n bs)
 all_front zero bs h e = tt
 all_front (suc n) [] h e = absurd (omega arith)
 all_front (suc n) (b ∷ bs) h e =
@@ -69,10 +69,10 @@ module _ (bytes e : List ℕ) (from w n : ℕ) (fits : (i : ℕ) → get_or byte
   rest : drop from eight ≡ take (8 - from) (drop from bytes)
   rest = let parts : 8 ≡ from + (8 - from) = omega arith in ap (λ k. drop from (take k bytes)) parts ∙ drop-take from (8 - from) bytes
 
-  pub front : take n shifted ≡ take n (drop from bytes)
+  front : take n shifted ≡ take n (drop from bytes)
   front = grind (arith, common_steps, moved, front_of, left, rest, take-take)
 
-  pub all_read : n ≤ prefix_len is_ascii_digit shifted → AllDigits 10 (take n (drop from bytes))
+  all_read : n ≤ prefix_len is_ascii_digit shifted → AllDigits 10 (take n (drop from bytes))
   all_read run = subst (AllDigits 10) front (all_front n shifted (bytes_fit (w / 2 ^ (8 * from))) run)
 
   -- as many digits as there are, and a byte after them there

@@ -1,5 +1,6 @@
 -- Decimal digits among bytes.
-use Rattle.std.specs.Prelude.{ℕ, ◌≡◌, ◌≤◌, ◌-◌, ◌+◌, List, false, take, drop, length, slice_index}
+use Rattle.std.specs.Prelude.{ℕ, ◌≡◌, ◌≤◌, ◌-◌, ◌+◌, List, ◌++◌, false, take, drop, replicate, length, slice_index}
+use Rattle.std.specs.Int.{w64, to_le_bytes}
 use Rattle.std.specs.Char.{is_ascii_digit}
 use Rattle.std.specs.Str.Parse.{digits_value, AllDigits}
 
@@ -11,3 +12,8 @@ pub record AreDigits (bytes : List ℕ) (from end value : ℕ) : Type 0 where
   pub digits : AllDigits 10 (take (end - from) (drop from bytes))
   pub value_is : value ≡ digits_value 10 (take (end - from) (drop from bytes))
   pub stops : is_ascii_digit (slice_index bytes end) ≡ false
+
+-- the word of the first eight bytes, with zero digits in place of those before a place
+pub record IsWithZeros (bytes : List ℕ) (from word : ℕ) : Type 0 where
+  pub enough : 8 ≤ length bytes
+  pub bytes_are : to_le_bytes w64 word ≡ replicate from 48 ++ drop from (take 8 bytes)

@@ -4,7 +4,7 @@ ghost use Rattle.std.specs.Prelude.{◌≡◌, ◌+◌, ◌-◌, ◌*◌, ◌^�
 ghost use Rattle.std.specs.Prelude.{true, false, IfSome};
 ghost use Rattle.std.specs.Char.{is_ascii_digit};
 ghost use Rattle.std.specs.Str.Parse.{digits_value, AllDigits};
-ghost use Rattle.decimal.specs.Digits.{AreDigits};
+ghost use Rattle.decimal.specs.Digits.{AreDigits, IsWithZeros};
 
 use crate::word::{of_len, short};
 
@@ -67,25 +67,40 @@ fn by_word(bytes: &[u8], from: usize) -> Option<(u64, usize)>
     Some((value, end))
 }
 
-/// The number that is written from one place to another before it among the first eight bytes, or
-/// `None` if one of the bytes there is no decimal digit, or not all eight are there.
+/// What makes a zero digit of a minus in the lowest byte of a word.
+const MINUS_TO_ZERO: u64 = 3;
+
+/// The first eight bytes as one word, from the first of them on or with a zero digit in place of a
+/// minus there.
+#[inline(always)]
+fn without_sign(bytes: &[u8], from: usize) -> Option<u64>
+    ensures { IfSome result (IsWithZeros bytes.now from) }
+{
+    let Some(eight) = bytes.first_chunk::<8>() else {
+        return None;
+    };
+    let word = u64::from_le_bytes(*eight);
+    match from {
+        0 => Some(word),
+        1 if bytes[0] == b'-' => Some(word.wrapping_add(MINUS_TO_ZERO)),
+        _ => None,
+    }
+}
+
+/// The number that is written before a place among the first eight bytes, from the first of them on
+/// or after a minus there. `None` if one of the bytes is no decimal digit, or not all eight are there.
 ///
 /// It looks at no byte after these, so that the next place does not wait for what stands here.
 #[inline(always)]
 pub fn number_between(bytes: &[u8], from: usize, end: usize) -> Option<u64>
-    requires { (from < end) × (end ≤ 8) }
+    requires { (0 < end) × (end ≤ 8) }
     ensures within { IfSome result (λ _. 8 ≤ length bytes.now) }
     ensures digits { IfSome result (λ _. AllDigits 10 (take (end - from) (drop from bytes.now))) }
     ensures value { IfSome result
         (λ v. v ≡ digits_value 10 (take (end - from) (drop from bytes.now))) }
 {
-    let Some(eight) = bytes.first_chunk::<8>() else {
-        return None;
-    };
-    of_len(
-        u64::from_le_bytes(*eight) >> (8 * from),
-        (end - from) as u32,
-    )
+    let word = without_sign(bytes, from)?;
+    of_len(word, end as u32)
 }
 
 /// The value of the decimal digits from the place `from` on, at most 20 of them and as far as

@@ -94,7 +94,7 @@ pub fn number_in_front(bytes: &[u8]) -> Option<Found>
     }
 }
 
-/// The number that the bytes begin with, if it has at most seven digits, a blank follows it at the
+/// The number that the bytes begin with, if it takes at most eight bytes, a blank follows it at the
 /// place `end`, and it does not begin with 0.
 #[inline(always)]
 fn number_before(bytes: &[u8], end: usize) -> Option<Found>
@@ -105,7 +105,7 @@ fn number_before(bytes: &[u8], end: usize) -> Option<Found>
     }
     let negative = begins_with_minus(bytes);
     let start = usize::from(negative);
-    if end.wrapping_sub(start + 1) > 6 {
+    if end.wrapping_sub(1) > 7 {
         return None;
     }
     let value = number_between(bytes, start, end)?;
@@ -201,7 +201,7 @@ impl Cursor {
     }
 
     /// The number that stands next and whole among the bytes at hand, if it is a usual one: of at
-    /// most seven digits, not 0, and with a blank after it.
+    /// most eight bytes, not 0, and with a blank after it.
     ///
     /// Also None where it is not known where it ends.
     #[inline(always)]
