@@ -116,6 +116,7 @@ impl StepIndex {
     ///
     /// # Errors
     /// Out of memory. Nothing is changed then.
+    #[inline(always)]
     pub fn push(&mut self, number: u64) -> Result<(), AllocError>
         requires { is_used number self.old ≡ false }
         ensures pushed { OnOk result (self.new ≡ self.old ++ number ∷ []) }

@@ -132,6 +132,7 @@ impl SparseNumbers {
     }
 
     /// Adds a number at the end. An `Err` means that an allocation failed, and changes nothing.
+    #[inline(never)]
     pub(crate) fn push(&mut self, number: u64) -> Result<(), AllocError>
         ensures pushed { OnOk result (self.new ≡ self.old ++ number ∷ []) }
         ensures small { OnOk result (length self.new < 2 ^ 63) }
