@@ -1,6 +1,6 @@
 -- One step of the core: its antecedents, and its conditions.
 use Rattle.std.proofs.Common.{◌≡◌, ℕ, ◌<◌, ◌≤◌, List, [], ◌∷◌, Option, Some, None, inl, inr, refl, sym, ap, subst, ◌∙◌, arith}
-use Rattle.std.proofs.Common.{length, get_or, take, rules}
+use Rattle.std.proofs.Common.{◌+◌, length, get_or, take, rules, below_more}
 use Rattle.std.specs.Prelude.{Bool, IfOk, IfSome, IsTrue, Result, Ok, Err}
 use Rattle.qbf_core.specs.Literal.{Literal, positive}
 use Rattle.qbf_core.specs.Members.{◌∈◌}
@@ -140,6 +140,22 @@ pub found_answer : (rules : Rules) (side : Side) (f : Qbf) (before : List Infere
 found_answer rules side f before step found lits answer same are a =
     from_found rules side f before step found answer are
     (subst (λ (z : List Literal). IsAnswer (found_conditions rules side f found z) answer) same a)
+
+-- a step that follows, after those before it
+pub followed_here : (rules : Rules) (side : Side) (f : Qbf) (steps : List Inference) (place : ℕ) (found : Option Premises) (lits : List Literal)
+    → ((j : ℕ) → j < place → IsInCore steps j → StepFollows rules side f steps j)
+    → ((step : Inference) → IsAt steps place step → lits ≡ step.lits)
+    → ((step : Inference) → IsAt steps place step → ArePremises (take place steps) step.ants found)
+    → IsAnswer (found_conditions rules side f found lits) None
+    → (j : ℕ) → j < place + 1 → IsInCore steps j → StepFollows rules side f steps j
+followed_here rules side f steps place found lits before own are all =
+    below_more (λ (j : ℕ). IsInCore steps j → StepFollows rules side f steps j) place before (λ core.
+    let s = at_place steps place (core_within steps place core) in
+    record {
+      step = s.0;
+      here = s.1;
+      all = found_answer rules side f (take place steps) s.0 found lits None (own s.0 s.1) (are s.0 s.1) all;
+    })
 
 -- a set in the place of the literals
 premise_answer : (rules : Rules) (side : Side) (f : Qbf) (premises : Premises) (set lits : List Literal) (answer : Option RuleFault)

@@ -8,7 +8,7 @@ ghost use Rattle.qrp_check.specs.Marks.{IsMarked};
 
 use crate::fault::CheckFault;
 use crate::premises::find_premises;
-use crate::step::{Context, step_fault};
+use crate::step::{Context, fault_by_sets, follows_as_written};
 use crate::uses::Uses;
 use qrp::Steps;
 use qrp_rules::{InitialSteps, SeenLits, Side};
@@ -38,8 +38,13 @@ fn follow_step<S: Side, T: Steps>(
 {
     let found = find_premises(trace, place, &mut state.uses);
     let lits = trace.lits(place);
-    let fault = step_fault::<S>(context, found, &mut state.seen, &mut state.initial, lits)?;
-    match fault {
+    // Most steps follow as they are written.
+    if let Some(premises) = found {
+        if follows_as_written::<S>(context, premises, &mut state.seen, &mut state.initial, lits)? {
+            return Ok(());
+        }
+    }
+    match fault_by_sets::<S>(context, found, &mut state.initial, lits)? {
         None => Ok(()),
         Some(fault) => Err(CheckFault::C6(trace.number(place), fault)),
     }

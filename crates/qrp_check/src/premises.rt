@@ -21,6 +21,7 @@ pub(crate) enum Premises<'a> {
 }
 
 /// The place of the step with a number, if it is before a place. The hint is tried first.
+#[inline(always)]
 fn place_before<T: Steps>(
     trace: &T,
     place: usize,
@@ -44,6 +45,7 @@ fn place_before<T: Steps>(
 }
 
 /// The literals of the step with a number, if it is before a place.
+#[inline(always)]
 fn find_premise<T: Steps>(
     trace: &T,
     place: usize,
@@ -61,6 +63,7 @@ fn find_premise<T: Steps>(
 
 /// The literals of the antecedents of the step at a place, or `None` if one of them is not the
 /// number of an earlier step.
+#[inline(always)]
 pub(crate) fn find_premises<'a, T: Steps>(
     trace: &'a T,
     place: usize,

@@ -3,6 +3,7 @@ use Rattle.std.proofs.Common.{IsTrue, ◌≡◌, ◌<◌, ◌≤◌, ◌+◌, �
 use Rattle.std.proofs.Common.{Some, None, refl, rules}
 use Rattle.std.proofs.Common.{sym, ap, subst, ◌∙◌, inl, inr, arith}
 use Rattle.std.proofs.lemmas.Bool.{cases_eq}
+use Rattle.std.proofs.lemmas.Grind.{common_steps}
 use Rattle.std.proofs.lemmas.List.{take-append-drop, take_all}
 use Rattle.qbf_core.specs.Literal.{Literal, negated, positive, negative}
 use Rattle.qbf_core.specs.Members.{◌∈◌, ◌⊆◌}
@@ -120,6 +121,38 @@ resolved_behind a b to s t i j k x e es et so_far (in_s, in_t) =
       left = λ l h. inr (rests.left l h);
       right = λ l h. inr (rests.right l h);
     }
+
+-- two literals of one variable
+pub this_or_opposite : (l x : Literal) → l.var ≡ x.var → (l ≡ x) ⊎ (l ≡ negated x)
+this_or_opposite l x e = grind (arith, common_steps)
+
+-- the members of `to` are those of two lists, or of the pivot
+pub resolved_whole : (a b to : List Literal) (none one both : List Bool) (x y : Literal) → x ≡ negated y → ((l : Literal) → Has none l → ⊥)
+    → ((l : Literal) → Has one l → Has none l ⊎ (l ∈ a)) → (y ∈ b) × Has one (negated y)
+    → ((l : Literal) → Has both l → Has one l ⊎ (l ∈ b)) → ((l : Literal) → l ∈ to → (l.var ≡ x.var) ⊎ Has both l)
+    → IsResolvedBut a b to a b x
+resolved_whole a b to none one both x y is empty of_a (in_b, has) of_b each =
+    let in_a : x ∈ a = subst (λ (z : Literal). z ∈ a) (sym is) (seen_a (negated y) has) in
+    let opposite : negated x ∈ b = subst (λ (z : Literal). z ∈ b) (sym (ap negation is ∙ negated_twice y)) in_b in
+    record {
+      in_a = in_a;
+      in_b = opposite;
+      from = λ l h. elim (each l h) [
+        | inl e ↦ elim (this_or_opposite l x e) [
+          | inl same ↦ inl (subst (λ (z : Literal). z ∈ a) (sym same) in_a)
+          | inr other ↦ inr (subst (λ (z : Literal). z ∈ b) (sym other) opposite)
+        ]
+        | inr h ↦ elim (of_b l h) [ inl k ↦ inl (seen_a l k) | inr k ↦ inr k ]
+      ];
+      left = λ l h. inr (inr h);
+      right = λ l h. inr (inr h);
+    }
+  where
+    negation : Literal → Literal
+    negation z = negated z
+
+    seen_a : (l : Literal) → Has one l → l ∈ a
+    seen_a l h = elim (of_a l h) [ inl k ↦ absurd (empty l k) | inr k ↦ k ]
 
 -- ---- what a step without the pivot tells, if a set without a clash has it and what is left
 

@@ -1,7 +1,7 @@
-//! Resolvents as they are written, whatever the order of their literals: a walk finds the pivot and
-//! what is left of the antecedents, and a set of literals decides whether that may be left out.
+//! Resolvents as they are written, whatever the order of their literals: a walk or a set of literals
+//! finds the pivot and what is left of the antecedents, and a set whether that may be left out.
 
-ghost use Rattle.std.specs.Prelude.{◌≡◌, ◌⊎◌, IsTrue, IfOk, List};
+ghost use Rattle.std.specs.Prelude.{◌≡◌, ◌⊎◌, IsTrue, IfOk, IfSome, List};
 ghost use Rattle.qbf_core.specs.Literal.{Literal};
 ghost use Rattle.qbf_core.specs.Members.{◌∈◌};
 ghost use Rattle.qbf_core.specs.Blocks.{AreBound};
@@ -17,7 +17,7 @@ use crate::exact::{Rests, find_rests, is_apart};
 use crate::fault::Holds;
 use crate::resolvent::is_pivot;
 use crate::rules::Rules;
-use crate::seen::{SeenLits, set_if_clean};
+use crate::seen::{SeenLits, find_negated, put_each, set_if_clean};
 use crate::side::Side;
 use crate::walks::Reducible;
 use crate::written::is_ordered;
@@ -73,6 +73,13 @@ fn put_each_left_out(
     true
 }
 
+/// Whether each literal of a list is one of the pivot or in a set.
+fn has_each_but(seen: &SeenLits, lits: &[Lit], pivot: Var) -> bool
+    ensures { IsTrue result → (l : Literal) → l ∈ lits.now → (l.var ≡ pivot) ⊎ Has seen.now l }
+{
+    lits.iter().all(|lit| lit.var().number() == pivot.number() || seen.contains(*lit))
+}
+
 /// Whether what is left of two lists may be left out of their resolvent.
 fn leaves_out_rests<S: Side>(seen: &mut SeenLits, prefix: &Prefix, to: &[Lit], rests: Rests) -> bool
     ensures { IsTrue result → (rules : Rules) (a b : List Literal)
@@ -87,6 +94,10 @@ fn leaves_out_rests<S: Side>(seen: &mut SeenLits, prefix: &Prefix, to: &[Lit], r
     if !set_if_clean(seen, to) {
         return false;
     }
+    // Where nothing is left out, no block matters.
+    if has_each_but(seen, rests.a, pivot) && has_each_but(seen, rests.b, pivot) {
+        return true;
+    }
     // What is left out has the other quantifier, so the literals that are kept say the block.
     let block = innermost(prefix, S::DECIDING, None, to);
     let reducible = Reducible {
@@ -95,6 +106,27 @@ fn leaves_out_rests<S: Side>(seen: &mut SeenLits, prefix: &Prefix, to: &[Lit], r
     };
     put_each_left_out(seen, prefix, reducible, pivot, rests.a)
         && put_each_left_out(seen, prefix, reducible, pivot, rests.b)
+}
+
+/// Two lists, whatever their order, where a third one has no other literals, and a literal of the one
+/// whose negation is in the other. `None` says nothing.
+fn find_parents<'a>(
+    seen: &mut SeenLits,
+    a: &'a [Lit],
+    b: &'a [Lit],
+    to: &[Lit],
+) -> Option<Rests<'a>>
+    ensures { IfSome result (λ rests. IsResolvedBut a.now b.now to.now rests.a.now rests.b.now
+        rests.pivot) }
+{
+    seen.clear();
+    put_each(seen, a);
+    let pivot = find_negated(seen, b)?.negated();
+    put_each(seen, b);
+    if !has_each_but(seen, to, pivot.var()) {
+        return None;
+    }
+    Some(Rests { pivot, a, b })
 }
 
 /// Whether literals are clean, and none has this variable. `false` says nothing.
@@ -127,8 +159,15 @@ fn resolves<S: Side>(
     ensures { IfOk result (λ t. IsTrue t
         → AllHold (resolvent_conditions rules S.side prefix.now a.now b.now to.now)) }
 {
-    let Some(rests) = find_rests(a, b, to) else {
-        return Ok(false);
+    let rests = match find_rests(a, b, to) {
+        Some(rests) => rests,
+        None => {
+            seen.make_room(alloc, prefix)?;
+            let Some(rests) = find_parents(seen, a, b, to) else {
+                return Ok(false);
+            };
+            rests
+        }
     };
     let pivot = rests.pivot.var();
     if !is_pivot::<S>(prefix, pivot, rules) {

@@ -55,6 +55,7 @@ pub(crate) fn outer(a: Option<usize>, b: Option<usize>) -> Option<usize>
 }
 
 /// The innermost block of the literals that have the quantifier, where the pivot may be left aside.
+#[inline(always)]
 pub(crate) fn innermost(
     prefix: &Prefix,
     quantifier: Quantifier,

@@ -13,7 +13,7 @@ ghost use Rattle.qrp_rules.specs.Index.{HasReductAt, IsIndex, IsIndexed, IsReduc
 ghost use Rattle.qrp_rules.specs.Index.{hash_from};
 
 use crate::blocks::{innermost, stands_after};
-use crate::exact::is_exact_reduct_by;
+use crate::exact::is_exact_reduct;
 use crate::fault::{Holds, Judgement, RuleFault};
 use crate::initial::has_reduct;
 use crate::seen::{SeenLits, is_clean};
@@ -205,7 +205,7 @@ impl InitialClauses {
         if !is_clean(alloc, seen, prefix, clause)? {
             return Ok(false);
         }
-        if !is_exact_reduct_by(prefix, Quantifier::All, Quantifier::Exists, clause, lits) {
+        if !is_exact_reduct(prefix, Quantifier::All, Quantifier::Exists, clause, lits) {
             return Ok(false);
         }
         self.next = self.next.saturating_add(1);

@@ -157,8 +157,11 @@ fn is_reduct_as_written(
 }
 
 /// Whether a list is, as it is written, a clean and bound one without some reducible literals, for
-/// a side with these quantifiers. `false` says nothing.
-pub(crate) fn is_exact_reduct_by(
+/// a side with these quantifiers.
+///
+/// `false` says nothing. It takes no memory.
+#[inline(always)]
+pub fn is_exact_reduct(
     prefix: &Prefix,
     reduced: Quantifier,
     deciding: Quantifier,
@@ -173,6 +176,10 @@ pub(crate) fn is_exact_reduct_by(
     ensures clean { IsTrue result → IsClean to.now }
     ensures bound { IsTrue result → AreBound prefix.now to.now }
 {
+    // Where nothing is left out, no block matters.
+    if from == to {
+        return true;
+    }
     // What is left out has the other quantifier, so the literals that are kept say the block.
     let block = innermost(prefix, deciding, None, to);
     is_reduct_as_written(prefix, reduced, block, from, to)

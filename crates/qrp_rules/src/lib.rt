@@ -19,9 +19,10 @@ mod written;
 
 pub use any_order::is_resolvent;
 pub use blocks::is_bound_by;
+pub use exact::is_exact_reduct;
 pub use fault::{Judgement, RuleFault};
 pub use initial_steps::InitialSteps;
-pub use reduct::{is_exact_reduct, is_reduct, ordered_reduct_fault, reduct_fault};
+pub use reduct::{is_reduct, ordered_reduct_fault, reduct_fault};
 pub use resolvent::{ordered_resolvent_fault, resolvent_fault};
 pub use rules::Rules;
 pub use seen::SeenLits;

@@ -2,11 +2,10 @@
 
 ghost use Rattle.std.specs.Prelude.{◌↔◌, IsTrue};
 ghost use Rattle.qbf_core.specs.Blocks.{AreBound};
-ghost use Rattle.qbf_core.specs.Rules.{IsClean, IsReduct};
+ghost use Rattle.qbf_core.specs.Rules.{IsReduct};
 ghost use Rattle.qbf_core.specs.Sets.{IsOrdered};
-ghost use Rattle.qrp_rules.specs.Conditions.{AllHold, IsAnswer, reduct_conditions};
+ghost use Rattle.qrp_rules.specs.Conditions.{IsAnswer, reduct_conditions};
 
-use crate::exact::is_exact_reduct_by;
 use crate::fault::RuleFault;
 use crate::side::Side;
 use crate::walks::ordered_reduct_fault_by;
@@ -45,18 +44,4 @@ pub fn is_reduct<S: Side>(prefix: &Prefix, from: &LitSet, to: &LitSet) -> bool
     ensures { IsTrue result ↔ IsReduct S.side prefix.now from.now to.now }
 {
     reduct_fault::<S>(prefix, from, to).is_none()
-}
-
-/// Whether a list is, as it is written, a clean and bound one without some reducible literals.
-///
-/// `false` says nothing. It takes no memory.
-pub fn is_exact_reduct<S: Side>(prefix: &Prefix, from: &[Lit], to: &[Lit]) -> bool
-    requires clean { IsClean from.now }
-    requires bound { AreBound prefix.now from.now }
-    ensures follows { IsTrue result
-        → AllHold (reduct_conditions S.side prefix.now from.now to.now) }
-    ensures clean { IsTrue result → IsClean to.now }
-    ensures bound { IsTrue result → AreBound prefix.now to.now }
-{
-    is_exact_reduct_by(prefix, S::REDUCED, S::DECIDING, from, to)
 }

@@ -1,7 +1,7 @@
 //! Literals that were met since the last time that all were forgotten.
 
-ghost use Rattle.std.specs.Prelude.{◌≡◌, ◌≢◌, ◌↔◌, ℕ, ◌⊎◌, IsTrue, IfOk, get_or};
-ghost use Rattle.qbf_core.specs.Literal.{Literal};
+ghost use Rattle.std.specs.Prelude.{◌≡◌, ◌≢◌, ◌↔◌, ℕ, ◌⊎◌, IsTrue, IfOk, IfSome, get_or};
+ghost use Rattle.qbf_core.specs.Literal.{Literal, negated};
 ghost use Rattle.qbf_core.specs.Members.{◌∈◌};
 ghost use Rattle.qbf_core.specs.Rules.{IsClean};
 ghost use Rattle.qrp_rules.specs.Exact.{IsApart};
@@ -163,6 +163,29 @@ pub(crate) fn set_if_clean(seen: &mut SeenLits, lits: &[Lit]) -> bool
         }
     }
     true
+}
+
+/// Puts in each literal of a list for which there is room.
+#[tactic(auto, using(qbf_core::proofs::Members::take_within))]
+pub(crate) fn put_each(seen: &mut SeenLits, lits: &[Lit])
+    ensures { (l : Literal) → Has seen.new l → Has seen.old l ⊎ (l ∈ lits.now) }
+{
+    for lit in lits {
+        seen.insert(*lit);
+    }
+}
+
+/// A literal of a list whose negation is in a set.
+#[tactic(auto, using(qbf_core::proofs::Members::in_at))]
+pub(crate) fn find_negated(seen: &SeenLits, lits: &[Lit]) -> Option<Lit>
+    ensures { IfSome result (λ x. (x ∈ lits.now) × Has seen.now (negated x)) }
+{
+    for other in lits {
+        if seen.contains(other.negated()) {
+            return Some(*other);
+        }
+    }
+    None
 }
 
 /// Whether literals are clean. `false` says nothing.

@@ -1,4 +1,4 @@
-use Rattle.std.proofs.Common.{[], ◌∷◌}
+use Rattle.std.proofs.Common.{[], ◌∷◌, ◌∙◌}
 use Rattle.qrp_rules.specs.Conditions.{AllHold, initial_condition, resolvent_conditions}
 use Rattle.qbf_core.specs.Blocks.{AreBound}
 use Rattle.qbf_core.specs.Rules.{IsClean}
@@ -17,7 +17,11 @@ returns-in-Initial-clause-follows g c =
 pub returns-in-One-clause-follows : goal.returns-in-One-clause-follows
 returns-in-One-clause-follows g c = rw c.in-One.is (λ t. (
   c.is_exact_reduct.ensures.clean t,
-  (rw c.prefix-prefix.ensures.value at c.is_exact_reduct.ensures.bound t, rw c.prefix-prefix.ensures.value at c.is_exact_reduct.ensures.follows t),
+  (
+    rw c.prefix-prefix.ensures.value at c.is_exact_reduct.ensures.bound t,
+    rw c.prefix-prefix.ensures.value at c.is_exact_reduct.ensures.follows t g.S.Side.side (c.REDUCED.ensures ∙ g.met.S.Side.reduces)
+        (c.DECIDING.ensures ∙ g.met.S.Side.decides),
+  ),
 ))
 
 pub returns-in-Two-clause-follows : goal.returns-in-Two-clause-follows
