@@ -216,12 +216,12 @@ impl<T: Copy + Drop> GrowingLists<T> {
     /// # Errors
     /// Out of memory. Nothing is changed then.
     #[tactic(auto, using(crate::proofs::Flats::grown_parts, crate::proofs::Flats::drop_grown))]
-    pub fn extend(&mut self, list: &[T]) -> Result<(), AllocError>
+    pub fn extend(&mut self, more: &[T]) -> Result<(), AllocError>
         ensures extended { OnOk result
-            (self.new ≡ record self.old { begun = self.old.begun ++ list.now }) }
+            (self.new ≡ record self.old { begun = self.old.begun ++ more.now }) }
         ensures err { OnErr result (self.new ≡ self.old) }
     {
-        self.items.extend_from_slice(list)?;
+        self.items.extend_from_slice(more)?;
         Ok(())
     }
 
