@@ -1,6 +1,6 @@
 -- Reading an item stops after its last word.
-use Rattle.qrp.proofs.Words.{arith, common_steps, rules, ◌≡◌, ℕ, List, [], ◌∷◌, ◌++◌, Option, Ok, ◌⊎◌, refl, sym, ap, append-nil, ◌∙◌}
-use Rattle.qrp.proofs.Words.{Lined, IfKnown, Stops, P7, Item, Stage, AtHeader, AtLists, StopsBehindPart, place_next, Giver}
+use Rattle.qrp.proofs.Words.{rules, ◌≡◌, ℕ, List, [], ◌∷◌, ◌++◌, Option, Ok, ◌⊎◌, refl, sym, ap, append-nil, ◌∙◌}
+use Rattle.qrp.proofs.Words.{Lined, IfKnown, Stops, Item, Stage, AtHeader, AtLists, StopsBehindPart, place_next, Giver}
 use Rattle.qrp.proofs.Words.{Stands, StopsBehind}
 use Rattle.qbf_text.specs.Rows as rows
 use Rattle.qbf_text.specs.Stopping as text

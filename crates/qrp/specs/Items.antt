@@ -4,7 +4,6 @@ use Rattle.std.specs.Prelude.{Ok, IfOk, OnOk, IfErr, ⊤}
 use Rattle.qbf_spelling.specs.Words.{Lined, Literal, Known}
 use Rattle.qbf_text.specs.Stopping.{IfKnown}
 use Rattle.qbf_text.specs.Reading.{Reading, HasFailed}
-use Rattle.qrp.specs.declared.fault.TraceFault.{TraceFault}
 use Rattle.qrp.specs.declared.fault.TraceFault.TheVariants.{P1}
 use Rattle.qrp.specs.declared.item.Item.{Item}
 use Rattle.qrp.specs.declared.item.Item.TheVariants as item

@@ -1,9 +1,8 @@
 //! What a trace is made of, part by part, whether it is read or pushed to.
 
-ghost use Rattle.std.specs.Prelude.{◌≡◌, ◌<◌, ◌≤◌, ◌^◌, false, [], ◌∷◌, ◌++◌, length};
+ghost use Rattle.std.specs.Prelude.{◌≡◌, ◌<◌, ◌^◌, false, [], ◌∷◌, ◌++◌};
 ghost use Rattle.std.specs.Prelude.{OnOk, OnErr};
 ghost use Rattle.std.specs.List.{AllByRecursion};
-ghost use Rattle.qbf_core.specs.Blocks.{IsVariable};
 ghost use Rattle.qbf_spelling.specs.declared.header.HeaderAt.TheVariants as header;
 ghost use Rattle.qrp.specs.Inferences.{IsLiteral};
 ghost use Rattle.qrp.specs.Flat.{closed, kept_of, nothing_kept, ClosesPart, IsFlat};
@@ -12,7 +11,7 @@ ghost use Rattle.step_index.specs.Numbers.{is_used, AreStepNumbers};
 
 use crate::item::{Header, QuantSet};
 use crate::places::{Begun, Part};
-use qbf_core::{GrowingLists, Lit, Quantifier, Var, see_all};
+use qbf_core::{GrowingLists, Lit, see_all};
 use std::alloc::{AllocError, Global};
 use std::mem;
 use step_index::StepIndex;
@@ -42,42 +41,6 @@ impl Parts {
             begun: Begun::new(alloc),
         }
     }
-
-    /// Adds a set with these variables after the others.
-    ///
-    /// # Errors
-    /// Out of memory. What is whole is as it was then.
-    pub fn push_set(&mut self, quantifier: Quantifier, vars: &[Var]) -> Result<(), AllocError>
-        requires { IsFlat (kept_of self.old) }
-        ensures pushed { OnOk result (kept_of self.new ≡ record (kept_of self.old) {
-          sets = self.old.sets.items ++ record { quantifier = quantifier; vars = vars.now } ∷ [];
-        }) }
-        ensures err { OnErr result (kept_of self.new ≡ kept_of self.old) }
-        ensures sound { IsFlat (kept_of self.new) }
-    {
-        see_all(vars);
-        let vars = Vec::from_slice(self.alloc, vars)?;
-        self.sets.push(QuantSet { quantifier, vars })?;
-        Ok(())
-    }
-}
-
-// ---- sets
-
-/// Puts the set that is begun after the others.
-fn close_set(
-    sets: &mut Vec<QuantSet>,
-    vars: &mut Vec<Var>,
-    alloc: Global,
-    quantifier: Quantifier,
-) -> Result<(), AllocError>
-    ensures closed { OnOk result (sets.new.items
-        ≡ sets.old.items ++ record { quantifier = quantifier; vars = vars.old.items } ∷ []) }
-    ensures err { OnErr result (sets.new.items ≡ sets.old.items) }
-{
-    let vars = mem::replace(vars, Vec::new(alloc));
-    sets.push(QuantSet { quantifier, vars })?;
-    Ok(())
 }
 
 // ---- steps
@@ -167,12 +130,11 @@ pub fn close(parts: &mut Parts, part: Part) -> Result<(), AllocError>
             parts.header = header;
             Ok(())
         }
-        Part::Set(quantifier) => close_set(
-            &mut parts.sets,
-            &mut parts.begun.vars,
-            parts.alloc,
-            quantifier,
-        ),
+        Part::Set(quantifier) => {
+            let vars = mem::replace(&mut parts.begun.vars, Vec::new(parts.alloc));
+            parts.sets.push(QuantSet { quantifier, vars })?;
+            Ok(())
+        }
         Part::Step(number) => {
             close_step(&mut parts.begun, number)?;
             Ok(())

@@ -6,7 +6,7 @@ ghost use Rattle.qrp.specs.declared.places.At.TheVariants as at;
 ghost use Rattle.qrp.specs.declared.places.Begun.{Begun};
 ghost use Rattle.qrp.specs.Inferences.{IsNumber};
 ghost use Rattle.qrp.specs.Places.{place, Moves, Leads, IsBegun};
-ghost use Rattle.qrp.specs.Reading.{has_room, has_steps, row, step_row};
+ghost use Rattle.qrp.specs.Reading.{has_room, row, step_row};
 
 use crate::fault::TraceFault;
 use crate::item::{Header, Outcome};
@@ -104,13 +104,6 @@ fn take_header(begun: &mut Begun, token: Token) -> Next
 
 // ---- between lists
 
-/// Whether a step was read.
-fn has_steps(index: &StepIndex) -> bool
-    ensures { result ≡ has_steps index.now }
-{
-    index.len() != 0
-}
-
 /// Begins a step, if its number is new.
 #[inline(always)]
 fn open_step(begun: &mut Begun, number: u64) -> Next
@@ -131,8 +124,7 @@ pub fn take_opening(begun: &mut Begun, token: Token) -> Next
     ensures row { Moves (row (place begun.old at.Between) token) begun.new result }
     ensures sound { Leads at.Between begun.old begun.new result }
 {
-    let has_steps = has_steps(&begun.index);
-    match opened(has_steps, token)? {
+    match opened(begun.index.len() != 0, token)? {
         Opening::Set(quantifier) => {
             begun.vars.clear();
             Ok(At::Set(quantifier))
