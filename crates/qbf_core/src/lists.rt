@@ -211,6 +211,20 @@ impl<T: Copy + Drop> GrowingLists<T> {
         Ok(())
     }
 
+    /// Adds these items at the end of the list that is begun.
+    ///
+    /// # Errors
+    /// Out of memory. Nothing is changed then.
+    #[tactic(auto, using(crate::proofs::Flats::grown_parts, crate::proofs::Flats::drop_grown))]
+    pub fn extend(&mut self, more: &[T]) -> Result<(), AllocError>
+        ensures extended { OnOk result
+            (self.new ≡ record self.old { begun = self.old.begun ++ more.now }) }
+        ensures err { OnErr result (self.new ≡ self.old) }
+    {
+        self.items.extend_from_slice(more)?;
+        Ok(())
+    }
+
     /// The list that is begun is whole, and an empty one is begun after it.
     ///
     /// # Errors

@@ -10,4 +10,4 @@ mod writing;
 pub use growing::grow;
 pub use header::{HeaderAt, HeaderForm, HeaderMove, header_move};
 pub use said::{Faults, literal, member, quantifier};
-pub use writing::{Put, put_each, put_header, put_letter, put_set};
+pub use writing::{Bare, Bytes, HeaderLine, Put};

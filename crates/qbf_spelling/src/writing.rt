@@ -4,43 +4,14 @@ ghost use Rattle.std.specs.Prelude.{ℕ, List, [], ◌∷◌, ◌++◌};
 ghost use Rattle.std.specs.List.{flat_map};
 ghost use Rattle.qbf_text.specs.Canonical.{spaced, spelled};
 ghost use Rattle.qbf_text.specs.Written.{IsPut};
+ghost use Rattle.qbf_text.specs.declared.token.Token.TheVariants.{Number};
 ghost use Rattle.qbf_spelling.specs.Spelling.{letter};
-ghost use Rattle.qbf_spelling.specs.Texts.{literal_text, set_text};
+ghost use Rattle.qbf_spelling.specs.Texts.{literal_text};
 
 use qbf_core::{Lit, Quantifier, Var};
-use qbf_text::{Sink, SinkFault, put_byte, put_bytes, put_spaced, put_spaced_signed};
+use qbf_text::{Sink, SinkFault, put_byte, put_bytes, put_signed, put_spaced, put_spaced_signed};
 
-/// The line of a header: what stands in front, and two numbers.
-///
-/// # Errors
-/// A `SinkFault` where the sink failed. What went out is a beginning of the line then.
-pub fn put_header<K: Sink>(
-    sink: &mut K,
-    front: &[u8],
-    first: u64,
-    second: u64,
-) -> Result<(), SinkFault>
-    ensures { IsPut K.written K.failures sink.old sink.new
-        (front.now ++ (spaced first ++ (spaced second ++ 10 ∷ []))) result }
-{
-    put_bytes(sink, front)?;
-    put_spaced(sink, first)?;
-    put_spaced(sink, second)?;
-    put_byte(sink, b'\n')
-}
-
-/// The letter of a quantifier.
-///
-/// # Errors
-/// A `SinkFault` where the sink failed. Nothing went out then.
-#[tactic(auto, using(crate::proofs::WrittenParts::letter_text))]
-pub fn put_letter<K: Sink>(sink: &mut K, quantifier: Quantifier) -> Result<(), SinkFault>
-    ensures { IsPut K.written K.failures sink.old sink.new (spelled (letter quantifier)) result }
-{
-    put_byte(sink, quantifier.letter())
-}
-
-/// What has a text of its own, as a part of a line or a line.
+/// What has a text of its own: a part of a line, a line, or several.
 pub trait Put {
     /// Its text.
     ghost text: { Self → List ℕ };
@@ -83,29 +54,75 @@ impl Put for u64 {
     }
 }
 
-/// The texts of items, one after the other.
-///
-/// # Errors
-/// A `SinkFault` where the sink failed. What went out is a beginning of these texts then.
-#[inline(always)]
-pub fn put_each<P: Put, K: Sink>(sink: &mut K, items: &[P]) -> Result<(), SinkFault>
-    ensures { IsPut K.written K.failures sink.old sink.new (flat_map P.text items.now) result }
-{
-    for item in items {
-        item.put(sink)?;
+/// A number, after a minus if it is negative, with nothing before it.
+#[derive(Clone, Copy)]
+pub struct Bare(pub bool, pub u64);
+
+impl Put for Bare {
+    ghost text = { λ n. spelled (Number n.0 n.1) };
+
+    #[inline(always)]
+    fn put<K: Sink>(&self, sink: &mut K) -> Result<(), SinkFault> {
+        put_signed(sink, self.0, self.1)
     }
-    Ok(())
 }
 
-/// The line of a set.
-///
-/// # Errors
-/// A `SinkFault` where the sink failed. What went out is a beginning of the line then.
-pub fn put_set<K: Sink>(sink: &mut K, quantifier: Quantifier, vars: &[Var]) -> Result<(), SinkFault>
-    ensures { IsPut K.written K.failures sink.old sink.new
-        (set_text (record { quantifier = quantifier; vars = vars.now })) result }
-{
-    put_letter(sink, quantifier)?;
-    put_each(sink, vars)?;
-    put_bytes(sink, b" 0\n")
+/// The letter of a quantifier.
+impl Put for Quantifier {
+    ghost text = { λ q. spelled (letter q) };
+
+    #[inline(always)]
+    #[tactic(auto, using(crate::proofs::WrittenParts::letter_text))]
+    fn put<K: Sink>(&self, sink: &mut K) -> Result<(), SinkFault> {
+        put_byte(sink, self.letter())
+    }
+}
+
+/// Bytes as they stand.
+#[derive(Clone, Copy)]
+pub struct Bytes<'a>(pub &'a [u8]);
+
+impl<'a> Put for Bytes<'a> {
+    ghost text = { λ b. b.0.now };
+
+    #[inline(always)]
+    fn put<K: Sink>(&self, sink: &mut K) -> Result<(), SinkFault> {
+        put_bytes(sink, self.0)
+    }
+}
+
+/// One text after the other.
+impl<A: Put, B: Put> Put for (A, B) {
+    ghost text = { λ p. A.text p.0 ++ B.text p.1 };
+
+    #[inline(always)]
+    fn put<K: Sink>(&self, sink: &mut K) -> Result<(), SinkFault> {
+        self.0.put(sink)?;
+        self.1.put(sink)
+    }
+}
+
+/// The texts of items, one after the other.
+impl<P: Put> Put for &[P] {
+    ghost text = { λ items. flat_map P.text items.now };
+
+    #[inline(always)]
+    fn put<K: Sink>(&self, sink: &mut K) -> Result<(), SinkFault> {
+        for item in *self {
+            item.put(sink)?;
+        }
+        Ok(())
+    }
+}
+
+/// The line of a header: what stands in front, and two numbers.
+#[derive(Clone, Copy)]
+pub struct HeaderLine<'a>(pub &'a [u8], pub u64, pub u64);
+
+impl<'a> Put for HeaderLine<'a> {
+    ghost text = { λ h. h.0.now ++ (spaced h.1 ++ (spaced h.2 ++ 10 ∷ [])) };
+
+    fn put<K: Sink>(&self, sink: &mut K) -> Result<(), SinkFault> {
+        (Bytes(self.0), (self.1, (self.2, Bytes(b"\n")))).put(sink)
+    }
 }

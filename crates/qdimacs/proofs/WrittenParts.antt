@@ -66,8 +66,8 @@ prefix_from last (b ∷ bs) alternates differs =
     ∙ ap (λ (k : List ℕ). closing_of last ++ k) (sym (append_assoc letter_of_b set_of_b (sets_text bs)))
 
 pub prefix_next : (last : Option Quantifier) (ps : Pairs) (i : ℕ) (q : Quantifier) (v : ℕ) → slice_get ps i ≡ Some (q, v)
-    → prefix_rest last (drop i ps) ≡ opening last q ++ (spaced v ++ prefix_rest (Some q) (drop (i + 1) ps))
-prefix_next last ps i q v at = ap (prefix_rest last) (drop_at ps i (q, v) at)
+    → prefix_rest last (drop i ps) ≡ (opening last q ++ spaced v) ++ prefix_rest (Some q) (drop (i + 1) ps)
+prefix_next last ps i q v at = rw append_assoc (ap (prefix_rest last) (drop_at ps i (q, v) at))
 
 -- ---- the whole
 

@@ -3,12 +3,11 @@
 ghost use Rattle.std.specs.Prelude.{◌≡◌, ◌≤◌, true, length, IfOk};
 ghost use Rattle.std.specs.List.{AllByRecursion};
 ghost use Rattle.qbf_core.specs.Blocks.{pairs, variables, is_bound, IsPrefix};
-ghost use Rattle.qbf_core.specs.Qbf.{IsWellFormed};
 ghost use Rattle.qbf_text.specs.Passing.{LeadOn, Passes};
 ghost use Rattle.qbf_spelling.specs.declared.header.HeaderAt.TheVariants as header;
 ghost use Rattle.qdimacs.specs.declared.grammar.At.TheVariants as at;
 ghost use Rattle.qdimacs.specs.declared.grammar.Parts.{Parts};
-ghost use Rattle.qdimacs.specs.Places.{made, heading, stands, Moves, Leads, IsSound};
+ghost use Rattle.qdimacs.specs.Places.{heading, stands, Moves, Leads, IsSound};
 ghost use Rattle.qdimacs.specs.Reading.{AtP, Whole, IsFull, IsWhole, begun_set, has_more, row};
 ghost use Rattle.qdimacs.specs.Reading.{bind_row};
 
@@ -301,15 +300,6 @@ impl Parts {
             clauses: GrowingLists::new(alloc),
         }
     }
-
-    /// The formula that these make. It takes no memory.
-    fn into_formula(self) -> Formula
-        requires { IsWellFormed (made self) }
-        ensures { result ≡ made self }
-    {
-        let clauses = self.clauses.into_lists();
-        Formula::whole(self.max_var, self.prefix, clauses)
-    }
 }
 
 /// A formula that is read into flat buffers.
@@ -349,7 +339,10 @@ impl FormulaGrammar {
         ensures { self ≡ Whole result }
     {
         match self.at {
-            At::Whole => self.parts.into_formula(),
+            At::Whole => {
+                let parts = self.parts;
+                Formula::whole(parts.max_var, parts.prefix, parts.clauses.into_lists())
+            }
             _ => unreachable!(),
         }
     }

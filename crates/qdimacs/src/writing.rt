@@ -1,28 +1,16 @@
 //! The canonical text of a formula.
 
-ghost use Rattle.std.specs.Prelude.{Ok, ◌≡◌, [], ◌∷◌, ◌++◌, None};
+ghost use Rattle.std.specs.Prelude.{Ok, ◌≡◌, ◌++◌, None};
 ghost use Rattle.qbf_core.specs.Blocks.{pairs};
 ghost use Rattle.qbf_text.specs.Written.{IsPut};
-ghost use Rattle.qbf_text.specs.Canonical.{line_text};
-ghost use Rattle.qbf_spelling.specs.Texts.{closing};
+ghost use Rattle.qbf_text.specs.Canonical.{line_text, spaced};
 ghost use Rattle.qdimacs.specs.Grammar.{text, clause};
 ghost use Rattle.qdimacs.specs.Reading.{read_formula};
 ghost use Rattle.qdimacs.specs.Texts.{opening, prefix_rest, clauses_text};
 
-use qbf_core::{Formula, Lit, Prefix, Quantifier};
-use qbf_spelling::{put_each, put_header, put_letter};
-use qbf_text::{Sink, SinkFault, put_bytes, put_signed, put_spaced};
-
-/// A clause that is not empty.
-#[inline(always)]
-fn put_nonempty<K: Sink>(sink: &mut K, first: Lit, rest: &[Lit]) -> Result<(), SinkFault>
-    ensures { IsPut K.written K.failures sink.old sink.new
-        (line_text (clause (first ∷ rest.now))) result }
-{
-    put_signed(sink, first.is_negative(), u64::from(first.var().number()))?;
-    put_each(sink, rest)?;
-    put_bytes(sink, b" 0\n")
-}
+use qbf_core::{Formula, Lit, Prefix, Quantifier, Var};
+use qbf_spelling::{Bare, Bytes, HeaderLine, Put};
+use qbf_text::{Sink, SinkFault, put_bytes};
 
 /// A clause and its zero.
 #[inline(always)]
@@ -32,68 +20,64 @@ fn put_clause<K: Sink>(sink: &mut K, lits: &[Lit]) -> Result<(), SinkFault>
 {
     match lits {
         [] => put_bytes(sink, b"0\n"),
-        [first, rest @ ..] => put_nonempty(sink, *first, rest),
+        [first, rest @ ..] => {
+            let first = Bare(first.is_negative(), u64::from(first.var().number()));
+            (first, (rest, Bytes(b" 0\n"))).put(sink)
+        }
     }
 }
 
-/// What stands before a variable with this quantifier.
-fn put_opening<K: Sink>(
+/// The clauses, each on its line.
+#[derive(Clone, Copy)]
+struct ClauseLines<'a>(&'a Formula);
+
+impl<'a> Put for ClauseLines<'a> {
+    ghost text = { λ c. clauses_text c.0.now.clauses };
+
+    fn put<K: Sink>(&self, sink: &mut K) -> Result<(), SinkFault> {
+        for i in 0..self.0.clauses() {
+            put_clause(sink, self.0.clause(i))?;
+        }
+        Ok(())
+    }
+}
+
+/// A variable, after what opens its block if the one before it has another quantifier.
+fn put_variable<K: Sink>(
     sink: &mut K,
     last: Option<Quantifier>,
     quantifier: Quantifier,
+    var: Var,
 ) -> Result<(), SinkFault>
-    ensures { IsPut K.written K.failures sink.old sink.new (opening last quantifier) result }
-{
-    match last {
-        None => put_letter(sink, quantifier),
-        Some(open) if open == quantifier => Ok(()),
-        Some(_) => put_next(sink, quantifier),
-    }
-}
-
-/// The zero of a block, and the letter of the next.
-fn put_next<K: Sink>(sink: &mut K, quantifier: Quantifier) -> Result<(), SinkFault>
     ensures { IsPut K.written K.failures sink.old sink.new
-        (closing ++ opening None quantifier) result }
-{
-    put_bytes(sink, b" 0\n")?;
-    put_letter(sink, quantifier)
-}
-
-/// What stands after the last variable.
-fn put_closing<K: Sink>(sink: &mut K, last: Option<Quantifier>) -> Result<(), SinkFault>
-    ensures { IsPut K.written K.failures sink.old sink.new (prefix_rest last []) result }
+        (opening last quantifier ++ spaced var) result }
 {
     match last {
-        None => Ok(()),
-        Some(_) => put_bytes(sink, b" 0\n"),
+        None => (quantifier, var).put(sink),
+        Some(open) if open == quantifier => var.put(sink),
+        Some(_) => ((Bytes(b" 0\n"), quantifier), var).put(sink),
     }
 }
 
 /// The blocks, each with its letter and its zero.
-fn put_prefix<K: Sink>(sink: &mut K, prefix: &Prefix) -> Result<(), SinkFault>
-    ensures { IsPut K.written K.failures sink.old sink.new
-        (prefix_rest None (pairs prefix.now)) result }
-{
-    let mut last = None;
-    for i in 0..prefix.len() {
-        let (quantifier, var) = prefix.pair(i);
-        put_opening(sink, last, quantifier)?;
-        put_spaced(sink, u64::from(var.number()))?;
-        last = Some(quantifier);
-    }
-    put_closing(sink, last)
-}
+#[derive(Clone, Copy)]
+struct BlockLines<'a>(&'a Prefix);
 
-/// The clauses, each on its line.
-fn put_clauses<K: Sink>(sink: &mut K, formula: &Formula) -> Result<(), SinkFault>
-    ensures { IsPut K.written K.failures sink.old sink.new
-        (clauses_text formula.now.clauses) result }
-{
-    for i in 0..formula.clauses() {
-        put_clause(sink, formula.clause(i))?;
+impl<'a> Put for BlockLines<'a> {
+    ghost text = { λ b. prefix_rest None (pairs b.0.now) };
+
+    fn put<K: Sink>(&self, sink: &mut K) -> Result<(), SinkFault> {
+        let mut last = None;
+        for i in 0..self.0.len() {
+            let (quantifier, var) = self.0.pair(i);
+            put_variable(sink, last, quantifier, var)?;
+            last = Some(quantifier);
+        }
+        match last {
+            None => Ok(()),
+            Some(_) => put_bytes(sink, b" 0\n"),
+        }
     }
-    Ok(())
 }
 
 /// Writes the canonical text of the formula in QDIMACS 1.1, and does not `finish` the sink.
@@ -111,7 +95,6 @@ pub fn write_formula<K: Sink>(formula: &Formula, sink: &mut K) -> Result<(), Sin
     ensures reads_back { read_formula (text formula.now) ≡ Ok formula.now }
 {
     let max_var = u64::from(formula.max_var());
-    put_header(sink, b"p cnf", max_var, formula.clauses() as u64)?;
-    put_prefix(sink, formula.prefix())?;
-    put_clauses(sink, formula)
+    let header = HeaderLine(b"p cnf", max_var, formula.clauses() as u64);
+    (header, (BlockLines(formula.prefix()), ClauseLines(formula))).put(sink)
 }

@@ -1,28 +1,23 @@
 -- Reading an item stops after its last word.
-use Rattle.qrp.proofs.Words.{arith, common_steps, rules, ◌≡◌, ℕ, List, [], ◌∷◌, ◌++◌, Option, Ok, ◌⊎◌, refl, sym, ap, append-nil, ◌∙◌}
-use Rattle.qrp.proofs.Words.{Lined, IfKnown, Stops, P7, Item, Stage, AtHeader, AtLists, StopsBehindPart, place_next, Giving, Takes, Giver}
-use Rattle.qrp.proofs.Words.{item_row, giving, Stands, StopsBehind}
-use Rattle.qbf_spelling.proofs.Words.token
+use Rattle.qrp.proofs.Words.{rules, ◌≡◌, ℕ, List, [], ◌∷◌, ◌++◌, Option, Ok, ◌⊎◌, refl, sym, ap, append-nil, ◌∙◌}
+use Rattle.qrp.proofs.Words.{Lined, IfKnown, Stops, Item, Stage, AtHeader, AtLists, StopsBehindPart, place_next, Giver}
+use Rattle.qrp.proofs.Words.{Stands, StopsBehind}
 use Rattle.qbf_text.specs.Rows as rows
 use Rattle.qbf_text.specs.Stopping as text
 use Rattle.qbf_text.proofs.Stops.{if_known, taken_no_end, unread_fault}
 use Rattle.qrp.specs.declared.item.Item.TheVariants as item
-use Rattle.qrp.specs.Reading.{Place, Between, items_from}
+use Rattle.qrp.specs.Reading.{Place, Between, After, row, items_from}
 use Rattle.qrp.proofs.RowsReadTheItem.{gives, given_of}
 use Rattle.qrp.proofs.SpelledIsRead.{Answer, end_row}
 
--- no place takes End
-pub refused : (p : Giving) → item_row p token.End ≡ rows.Fails P7
-refused p = grind (arith, common_steps, end_row)
-
 -- an item that is complete is given
 given_whole : (i : Item) (ns : List ℕ) (rest : List Lined)
-    → (more : List Answer) × (given_of (rows.Whole tt (giving i ns) rest) ≡ Ok i ∷ more)
+    → (more : List Answer) × (given_of (rows.Whole tt (After i ns) rest) ≡ Ok i ∷ more)
 given_whole (item.Result o) ns rest = ([], refl)
 given_whole i ns rest = (items_from (Between ns) rest, refl)
 
 part_behind : (p : Place) (here there : List ℕ → List Lined) (i : Item) (ns bytes rest : List ℕ)
-    → text.StopsBehind item_row (Takes p) (giving i ns) tt here there bytes rest → StopsBehindPart p here i bytes rest
+    → text.StopsBehind row p (After i ns) tt here there bytes rest → StopsBehindPart p here i bytes rest
 part_behind p here there i ns bytes rest s =
     let whole = given_whole i ns (there []) in
     record {
@@ -32,7 +27,7 @@ part_behind p here there i ns bytes rest s =
       consumed = s.taken;
       unbroken = s.unbroken;
       separates = s.separates;
-      missing = (s.line, gives (here s.before) p ∙ ap given_of (unread_fault item_row refused s));
+      missing = (s.line, gives (here s.before) p ∙ ap given_of (unread_fault row end_row s));
       whole = (
         whole.0,
         ap (λ l. items_from p (here l)) (sym (append-nil (s.before ++ s.word ++ s.behind)))
@@ -40,16 +35,15 @@ part_behind p here there i ns bytes rest s =
       );
     }
 
-pub item_stops : (p : Place) (first next : Giving) (here there : List ℕ → List Lined) (i : Item) (ns : List ℕ) (before after : Option (List ℕ))
-    (few : Type 0) → first ≡ Takes p → next ≡ giving i ns
-    → Stops item_row first next here there before after few (Ok tt) → IfKnown (StopsBehindPart p here i) before after × few
-item_stops p first next here there i ns before after few begins is s =
-    let known = s.3 (taken_no_end item_row refused s.0 next s.1 tt s.2) in
-    (if_known (part_behind p here there i ns) before after (rw (begins, is) at known.0), known.1)
+pub item_stops : (p next : Place) (here there : List ℕ → List Lined) (i : Item) (ns : List ℕ) (before after : Option (List ℕ))
+    (few : Type 0) → next ≡ After i ns → Stops row p next here there before after few (Ok tt)
+    → IfKnown (StopsBehindPart p here i) before after × few
+item_stops p next here there i ns before after few is s =
+    let known = s.3 (taken_no_end row end_row s.0 next s.1 tt s.2) in
+    (if_known (part_behind p here there i ns) before after (rw is at known.0), known.1)
 
 -- a reader that is not done
 pub next_stops : (stage : Stage) (g : Giver) (here : List ℕ → List Lined) (before after : Option (List ℕ)) (few : Type 0) (answer : Answer)
-    → (stage ≡ AtHeader) ⊎ (stage ≡ AtLists) → Stands stage g
-    → ((p : Place) → g.giving ≡ Takes p → StopsBehind p here before after few answer)
+    → (stage ≡ AtHeader) ⊎ (stage ≡ AtLists) → Stands stage g → StopsBehind g.place here before after few answer
     → StopsBehind (place_next stage g.kept.numbers) here before after few answer
 next_stops stage g here before after few answer open_ stands h = search rules

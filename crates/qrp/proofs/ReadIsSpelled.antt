@@ -10,7 +10,9 @@ use Rattle.qbf_spelling.proofs.Words.word
 use Rattle.qbf_text.proofs.AcceptedTokens.{Answers}
 use Rattle.qbf_spelling.specs.declared.header.HeaderAt.TheVariants as place
 use Rattle.qrp.specs.Faults.{AreLists, Spells, Reads}
-use Rattle.qrp.specs.Reading.{Place, AtP, InHeader, Between, InSet, InLits, InAnts, AtResult, Row, Goes, Closes, Ends, Fails, row, read}
+use Rattle.qbf_text.specs.Rows.{Goes, Ends, Fails}
+use Rattle.qrp.specs.declared.item.Item.TheVariants as item
+use Rattle.qrp.specs.Reading.{Place, AtP, InHeader, Between, InSet, InLits, InAnts, AtResult, After, Row, row, next_place, read}
 use Rattle.qrp.proofs.SpelledIsRead.{end_row, read_once}
 
 -- ---- lists that grow
@@ -51,11 +53,11 @@ step_closed s is fresh a = record {
 
 -- ---- one token more
 
--- a row leads to a place
+-- a row leads to a place, where it is not the last
 abbrev IsTo : Row → Place → Type 0
 IsTo (Goes p) next = p ≡ next
-IsTo (Closes i p) next = p ≡ next
-IsTo (Ends o) next = ⊥
+IsTo (Ends u (After (item.Result o) ns)) next = ⊥
+IsTo (Ends u p) next = next_place p ≡ next
 IsTo (Fails f) next = ⊥
 
 header_goes : (v : ℕ) (t : Token) (next : Place) → IsTo (row (InHeader (place.Second v)) t) next → (n : ℕ) × (t ≡ number n) × (next ≡ Between [])
@@ -64,7 +66,7 @@ header_goes v t next e = search rules
 list_begins : (ns : List ℕ) (t : Token) (next : Place) → IsTo (row (Between ns) t) next
     → ((q : Quantifier) × (ns ≡ []) × (t ≡ letter q) × (next ≡ InSet q []))
     ⊎ ((n : ℕ) × IsNumber n × (is_used n ns ≡ false) × (t ≡ number n) × (next ≡ InLits ns n []))
-    ⊎ ((t ≡ token.Word word.R) × (next ≡ AtResult))
+    ⊎ ((t ≡ token.Word word.R) × (next ≡ AtResult ns))
 list_begins ns t next e = search rules
 
 set_goes : (q : Quantifier) (vs : List ℕ) (t : Token) (next : Place) → IsTo (row (InSet q vs) t) next
@@ -77,8 +79,10 @@ antecedents_go : (ns : List ℕ) (n : ℕ) (ls : List Literal) (ants : List ℕ)
     ⊎ ((a : ℕ) × IsNumber a × (length ants + 1 ≤ 2) × (t ≡ number a) × (next ≡ InAnts ns n ls (ants ++ a ∷ [])))
 antecedents_go ns n ls ants t next e = search rules
 
-result_ends : (p : Place) (t : Token) (o : Outcome) → row p t ≡ Ends o → (p ≡ AtResult) × (t ≡ result_word o)
-result_ends p t o e = search rules
+-- the result is the last, and after another item reading goes on
+row_ends : (p next : Place) (t : Token) → row p t ≡ Ends tt next
+    → ((ns : List ℕ) × (o : Outcome) × (p ≡ AtResult ns) × (t ≡ result_word o)) ⊎ IsTo (row p t) (next_place next)
+row_ends p next t e = search rules
 
 -- an accepted token leads to a place that the tokens spell
 goes : (ts : List Token) (p next : Place) (t : Token) → Spells ts p → IsTo (row p t) next → Spells (ts ++ t ∷ []) next
@@ -97,9 +101,10 @@ goes ts (InHeader here) next t s e = search rules
 goes ts (Between ns) next t s e = elim (list_begins ns t next e) [
   | inl k ↦ rw (k.3, k.2) (pushed (letter k.0) (rw k.1 at s), tt)
   | inr (inl k) ↦ rw (k.4, k.3) (pushed (number k.0) s, k.1, k.2, tt)
-  | inr (inr k) ↦ rw (k.1, k.0) (ns, pushed (token.Word word.R) s)
+  | inr (inr k) ↦ rw (k.1, k.0) (pushed (token.Word word.R) s)
 ]
-goes ts AtResult next t s e = search rules
+goes ts (AtResult ns) next t s e = search rules
+goes ts (After i ns) next t s e = absurd s
 goes ts (InSet q vs) next t s e = elim (set_goes q vs t next e) [
   | inl k ↦ rw (k.1, k.0) (set_closed (record { quantifier = q; vars = vs }) s.1 (pushed (number 0) s.0))
   | inr k ↦ rw (k.3, k.2) (rw map-append (pushed (number k.0) s.0), AllByRecursion-push IsVariable vs k.0 s.1 k.1)
@@ -120,18 +125,16 @@ goes ts (InAnts ns n ls ants) next t s e = elim (antecedents_go ns n ls ants t n
 
 -- ---- the whole
 
-whole_trace : (before : List Lined) (t : Lined) (ts : List Lined) (p : Place) (o : Outcome) → Spells (unlined before) p → row p t.0 ≡ Ends o
-    → (d : Derivation) × Reads (before ++ t ∷ ts) (Ok d)
-whole_trace before t ts p o s e =
-    let k = result_ends p t.0 o e in
-    let a : Spells (unlined before) AtResult = rw k.0 at s in (
-      record { header = a.1.header; sets = a.1.sets; steps = a.1.steps; result = o },
-      record {
-        rest = unlined ts;
-        spelled = map-append (λ u. u.0) before (t ∷ ts) ∙ (λ i. a.1.spelled i ++ k.1 i ∷ unlined ts) ∙ simp append_assoc;
-        grammatical = a.1.grammatical;
-      },
-    )
+whole_trace : (before : List Lined) (t : Lined) (ts : List Lined) (ns : List ℕ) (o : Outcome) → Spells (unlined before) (AtResult ns)
+    → t.0 ≡ result_word o → (d : Derivation) × Reads (before ++ t ∷ ts) (Ok d)
+whole_trace before t ts ns o a is = (
+  record { header = a.header; sets = a.sets; steps = a.steps; result = o },
+  record {
+    rest = unlined ts;
+    spelled = map-append (λ u. u.0) before (t ∷ ts) ∙ (λ i. a.spelled i ++ is i ∷ unlined ts) ∙ simp append_assoc;
+    grammatical = a.grammatical;
+  },
+)
 
 answer : (before : List Lined) (p : Place) (t : Lined) (ts : List Lined) → Spells (unlined before) p → EndsOnce (t ∷ ts)
     → Answers Spells Reads before t ts
@@ -142,8 +145,10 @@ answer before p t ts s once = by (row p t.0) refl
 
     by : (r : Row) → row p t.0 ≡ r → Answers Spells Reads before t ts
     by (Goes next) is = on next (rw is refl)
-    by (Closes i next) is = on next (rw is refl)
-    by (Ends o) is = let d = whole_trace before t ts p o s is in inl (Ok d.0, d.1)
+    by (Ends u next) is = elim (row_ends p next t.0 is) [
+      | inl k ↦ let d = whole_trace before t ts k.0 k.1 (rw k.2 at s) k.3 in inl (Ok d.0, d.1)
+      | inr e ↦ on (next_place next) e
+    ]
     by (Fails f) is =
         inl (Err (f, t.1), record { before = before; wrong = t.0; after = ts; whole = refl; place = p; stands = s; refused = is })
 

@@ -2,58 +2,53 @@
 use Rattle.qrp.proofs.Words.{arith, common_steps, rules, ◌≡◌, ℕ, List, [], ◌∷◌, Some, IfSome, Ok, Err, ◌⊎◌, refl, ap, sym, ◌∙◌, Token}
 use Rattle.qrp.proofs.Words.{Lined, Read, read-one, ReadError, Known, Cut, reads_from, Leaves, Reads, TraceFault, P1, P7, P9, Item}
 use Rattle.qrp.proofs.Words.{known_items, GivesAnswer, GivesUnless, GivesNextItem, left_behind, stage_after, Stage, AtHeader}
-use Rattle.qrp.proofs.Words.{AtLists, Giving, Takes, Whole, Giver, item_row, as_given, giving, Stands, GivesItem, fault_of}
+use Rattle.qrp.proofs.Words.{AtLists, Giver, Stands, GivesItem, fault_of}
 use Rattle.qbf_spelling.proofs.Words.{read_from}
 use Rattle.qbf_text.specs.Rows as rows
 use Rattle.qbf_text.proofs.OneToken as going
-use Rattle.qrp.specs.declared.item.Item.TheVariants as item
-use Rattle.qrp.specs.Items.{Gives}
-use Rattle.qrp.specs.Reading.{Place, row, items_from}
+use Rattle.qrp.specs.Reading.{Place, After, row, items_from, next_place, given}
 use Rattle.qrp.proofs.SpelledIsRead.{Answer, after, items-one, end_row}
 
 -- the items that are left to give where reading by rows answers this
-abbrev pub given_of : Read Giving (Unit {0}) TraceFault → List Answer
-given_of (rows.Whole u (Takes p) rest) = []
-given_of (rows.Whole u (Gives i next) rest) = Ok i ∷ items_from next rest
-given_of (rows.Whole u (Whole o) rest) = Ok (item.Result o) ∷ []
+abbrev pub given_of : Read Place (Unit {0}) TraceFault → List Answer
+given_of (rows.Whole u next rest) = given next (items_from (next_place next) rest)
 given_of (rows.Fault f line) = Err (f, line) ∷ []
 given_of Cut = Err (P7, 0) ∷ []
 
 -- ---- the items that are left, and what is read of them by rows
 
 abbrev pub More : List Lined → Type 0
-More ts = (p : Place) → items_from p ts ≡ given_of (read_from item_row (Takes p) ts)
+More ts = (p : Place) → items_from p ts ≡ given_of (read_from row p ts)
 
 by_token : (t : Token) (line : ℕ) (ts : List Lined) → More ts → (p : Place)
-    → after (row p t) line ts ≡ given_of (going.after item_row (as_given (row p t)) (t, line) ts)
+    → after (row p t) line ts ≡ given_of (going.after row (row p t) (t, line) ts)
 by_token t line ts more p = grind (arith, common_steps, end_row)
 
 pub gives : (ts : List Lined) → More ts
 unfolding items_from read_from
 gives [] = λ p. refl
-gives (t ∷ ts) = λ p. items-one p t ts ∙ by_token t.0 t.1 ts (gives ts) p ∙ ap given_of (sym (read-one item_row (Takes p) t ts))
+gives (t ∷ ts) = λ p. items-one p t ts ∙ by_token t.0 t.1 ts (gives ts) p ∙ ap given_of (sym (read-one row p t ts))
 
 -- ---- what a call returns that reads so
 
-pub item_given : (p : Place) (known : Known) (next : Giving) (rest : Known) (i : Item) (ns : List ℕ)
-    → Leaves (reads_from item_row (Takes p) known) tt next rest → next ≡ giving i ns
+pub item_given : (p : Place) (known : Known) (next : Place) (rest : Known) (i : Item) (ns : List ℕ)
+    → Leaves (reads_from row p known) tt next rest → next ≡ After i ns
     → GivesAnswer (known_items p known) (left_behind (stage_after (Ok i)) ns rest) (Ok i)
 item_given p known next rest i ns leaves is = grind (arith, common_steps, gives)
 
 fault_left : (p : Place) (known : Known) (f : TraceFault) (line : ℕ)
-    → IfSome (reads_from item_row (Takes p) known) (λ r. r ≡ rows.Fault f line)
+    → IfSome (reads_from row p known) (λ r. r ≡ rows.Fault f line)
     → GivesAnswer (known_items p known) (Some (Err (f, line) ∷ [])) (Err (f, line))
 fault_left p known f line h = grind (arith, common_steps, gives)
 
-pub fault_given : (p : Place) (known : Known) (next : Giving) (rest : Known) (e : ReadError TraceFault)
-    → Reads (reads_from item_row (Takes p) known) next rest (Err e)
+pub fault_given : (p : Place) (known : Known) (next : Place) (rest : Known) (e : ReadError TraceFault)
+    → Reads (reads_from row p known) next rest (Err e)
     → GivesUnless (fault_of P1 P9 e).0 (known_items p known) (Some (Err (fault_of P1 P9 e) ∷ [])) (Err (fault_of P1 P9 e))
 fault_given p known next rest e h = grind (arith, common_steps, fault_left)
 
 -- what a reader that is not done has left
 pub next_given : (stage : Stage) (before g : Giver) (known after_ : Known) (answer : Answer) → (stage ≡ AtHeader) ⊎ (stage ≡ AtLists)
-    → Stands stage before
-    → ((p : Place) → before.giving ≡ Takes p → GivesItem (known_items p known) g.kept.numbers after_ answer)
+    → Stands stage before → GivesItem (known_items before.place known) g.kept.numbers after_ answer
     → GivesNextItem (left_behind stage before.kept.numbers known) (left_behind (stage_after answer) g.kept.numbers after_) answer
 next_given stage before g known after_ answer open_ stands h = search rules
 

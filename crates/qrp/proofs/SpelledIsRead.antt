@@ -8,7 +8,8 @@ use Rattle.qbf_spelling.proofs.Words.{IsDistinct}
 use Rattle.qbf_spelling.proofs.Words.token
 use Rattle.qbf_spelling.proofs.Words.word
 use Rattle.qrp.specs.declared.item.Item.TheVariants as item
-use Rattle.qrp.specs.Reading.{Fault, Place, AtP, Between, InSet, InLits, InAnts, AtResult, Row, Goes, Closes, Ends, Fails, row, items_from}
+use Rattle.qbf_text.specs.Rows.{Goes, Ends, Fails}
+use Rattle.qrp.specs.Reading.{Fault, Place, AtP, Between, InSet, InLits, InAnts, AtResult, After, Row, row, items_from, next_place, given}
 use Rattle.qrp.specs.Reading.{InHeader, items, gathered, nothing, read}
 use Rattle.qbf_spelling.specs.declared.header.HeaderAt.TheVariants as place
 use Rattle.qrp.specs.Faults.{AreLists, Spells, IsFault, whole_before, Reads}
@@ -19,8 +20,7 @@ Answer = Result Item Fault
 -- what comes of a row
 abbrev pub after : Row → ℕ → List Lined → List Answer
 after (Goes next) line rest = items_from next rest
-after (Closes i next) line rest = Ok i ∷ items_from next rest
-after (Ends o) line rest = Ok (item.Result o) ∷ []
+after (Ends u next) line rest = given next (items_from (next_place next) rest)
 after (Fails f) line rest = Err (f, line) ∷ []
 
 pub items-one : (p : Place) (t : Lined) (rest : List Lined) → items_from p (t ∷ rest) ≡ after (row p t.0) t.1 rest
@@ -32,14 +32,14 @@ pub data Leads : Place → List Token → List Item → Place → Type 0 where
   Stays : {p : Place} → Leads p [] [] p
   Passes : {p next q : Place} {t : Token} {ts : List Token} {is : List Item} → row p t ≡ Goes next → Leads next ts is q
       → Leads p (t ∷ ts) is q
-  Completes : {p next q : Place} {t : Token} {ts : List Token} {i : Item} {is : List Item} → row p t ≡ Closes i next → Leads next ts is q
-      → Leads p (t ∷ ts) (i ∷ is) q
+  Completes : {p next q : Place} {t : Token} {ts : List Token} {i : Item} {is : List Item} → row p t ≡ Ends tt next
+      → ((more : List Answer) → given next more ≡ Ok i ∷ more) → Leads (next_place next) ts is q → Leads p (t ∷ ts) (i ∷ is) q
 
 pub leads_then : {p q r : Place} {ts us : List Token} {is js : List Item} → Leads p ts is q → Leads q us js r
     → Leads p (ts ++ us) (is ++ js) r
 leads_then Stays m = m
 leads_then (Passes e l) m = Passes e (leads_then l m)
-leads_then (Completes e l) m = Completes e (leads_then l m)
+leads_then (Completes e g l) m = Completes e g (leads_then l m)
 
 -- after tokens that complete no more
 pub leads_on : {p q r : Place} {ts us : List Token} {is : List Item} → Leads p ts is q → Leads q us [] r → Leads p (ts ++ us) is r
@@ -55,11 +55,11 @@ leads_gives {p} (Passes {t = u} taken l) (t ∷ before) e rest =
     let same : t.0 ≡ u = cc in
     items-one p t (before ++ rest) ∙ ap (λ (r : Row). after r t.1 (before ++ rest)) (ap (row p) same ∙ taken)
     ∙ leads_gives l before (cc) rest
-leads_gives (Completes taken l) [] e rest = absurd cc
-leads_gives {p} (Completes {t = u} {i = i} taken l) (t ∷ before) e rest =
+leads_gives (Completes taken g l) [] e rest = absurd cc
+leads_gives {p} (Completes {next = next} {t = u} {i = i} taken g l) (t ∷ before) e rest =
     let same : t.0 ≡ u = cc in
     items-one p t (before ++ rest) ∙ ap (λ (r : Row). after r t.1 (before ++ rest)) (ap (row p) same ∙ taken)
-    ∙ ap (λ (x : List Answer). Ok i ∷ x) (leads_gives l before (cc) rest)
+    ∙ g (items_from (next_place next) (before ++ rest)) ∙ ap (λ (x : List Answer). Ok i ∷ x) (leads_gives l before (cc) rest)
 
 -- no place takes End
 pub end_row : (p : Place) → row p token.End ≡ Fails P7
@@ -76,7 +76,7 @@ leads_sets : (sets : List Block) → AllByRecursion (λ s. AllByRecursion IsVari
     → Leads (Between []) (flat_map set sets) (map item.Set sets) (Between [])
 leads_sets [] h = Stays
 leads_sets (s ∷ sets) h = leads_then (Passes (search rules)
-    (leads_then (leads_variables s.quantifier [] s.vars h.0) (Completes refl Stays))) (leads_sets sets h.1)
+    (leads_then (leads_variables s.quantifier [] s.vars h.0) (Completes refl (λ more. refl) Stays))) (leads_sets sets h.1)
 
 -- ---- a step
 
@@ -100,7 +100,8 @@ leads_step : (ns : List ℕ) (s : Inference) → IsInference s → is_used s.num
     → Leads (Between ns) (step s) (item.Step s ∷ []) (Between (ns ++ s.number ∷ []))
 leads_step ns s h fresh = Passes (search rules)
     (leads_then (leads_literals ns s.number [] s.lits h.lits) (Passes refl
-    (leads_then (leads_antecedents ns s.number s.lits [] s.ants h.ants h.few) (Completes (search rules) Stays))))
+    (leads_then (leads_antecedents ns s.number s.lits [] s.ants h.ants h.few)
+    (Completes {next = After (item.Step s) (ns ++ s.number ∷ [])} (search rules) (λ more. refl) Stays))))
 
 leads_steps : (ns : List ℕ) (steps : List Inference) → AllByRecursion IsInference steps → IsDistinct nat_eq (ns ++ numbers steps)
     → Leads (Between ns) (flat_map step steps) (map item.Step steps) (Between (ns ++ numbers steps))
@@ -114,7 +115,7 @@ leads_steps ns (s ∷ steps) h distinct =
 pub leads_lists : (h : Header) (sets : List Block) (steps : List Inference) → AreGrammatical sets steps
     → Leads AtP (lists h sets steps) (items_of_lists h sets steps) (Between (numbers steps))
 leads_lists h sets steps g =
-    leads_then (leads_then (Passes refl (Passes refl (Passes refl (Completes refl Stays)))) (leads_sets sets g.variables))
+    leads_then (leads_then (Passes refl (Passes refl (Passes refl (Completes refl (λ more. refl) Stays)))) (leads_sets sets g.variables))
     (leads_steps [] steps g.inferences g.distinct)
 
 -- ---- gathering
@@ -142,8 +143,8 @@ gathered_result d o = refl
 
 -- ---- what is spelled is read
 
-result_row_ok : (o : Outcome) → row AtResult (result_word o) ≡ Ends o
-result_row_ok o = grind (arith, common_steps)
+result_row_ok : (ns : List ℕ) (o : Outcome) → row (AtResult ns) (result_word o) ≡ Ends tt (After (item.Result o) ns)
+result_row_ok ns o = grind (arith, common_steps)
 
 -- the items of a trace that is spelled
 pub spelled_items : (ts : List Lined) (d : Derivation) → IsTrace (unlined ts) d
@@ -155,7 +156,8 @@ spelled_items ts d is =
     ∙ leads_gives (leads_on (leads_lists d.header d.sets d.steps is.grammatical) (Passes (search rules) Stays)) k.0 k.4
     ((result_word d.result, k.1) ∷ k.2)
     ∙ ap (λ (x : List Answer). map Ok (items_of_lists d.header d.sets d.steps) ++ x)
-    (items-one AtResult (result_word d.result, k.1) k.2 ∙ ap (λ (x : Row). after x k.1 k.2) (result_row_ok d.result))
+    (items-one (AtResult (numbers d.steps)) (result_word d.result, k.1) k.2
+    ∙ ap (λ (x : Row). after x k.1 k.2) (result_row_ok (numbers d.steps) d.result))
 
 pub spelled_is_read : (ts : List Lined) (d : Derivation) → IsTrace (unlined ts) d → read ts ≡ Ok d
 spelled_is_read ts d is =
@@ -180,7 +182,8 @@ spelled_leads ts (InSet q vs) e = leads_begun e.0 (Passes (search rules) (leads_
 spelled_leads ts (InLits ns n ls) e = leads_begun e.0 (Passes (search rules) (leads_literals ns n [] ls e.3))
 spelled_leads ts (InAnts ns n ls ants) e = leads_begun e.0 (Passes (search rules)
     (leads_on (leads_literals ns n [] ls e.3) (Passes refl (leads_antecedents ns n ls [] ants e.4 e.5))))
-spelled_leads ts AtResult e = leads_begun e.1 (Passes (search rules) Stays)
+spelled_leads ts (AtResult ns) e = leads_begun e (Passes (search rules) Stays)
+spelled_leads ts (After i ns) e = absurd e
 
 before_fault : (ts : List Token) (place : Place) (s : Spells ts place) (e : Fault)
     → gathered nothing (map Ok (whole_before ts place s) ++ Err e ∷ []) ≡ Err e

@@ -28,7 +28,7 @@ pub use Rattle.qrp.specs.Given.{GivesAnswer, GivesNextItem, GivesUnless, KnownIt
 pub use Rattle.qrp.specs.Given.{place_next, stage_after}
 pub use Rattle.qrp.specs.Grammar.{IsTrace, header, lines, lists, result, result_word, step, text}
 pub use Rattle.qrp.specs.Inferences.{Inference, IsAt, IsInference, IsLiteral, IsNumber, IsOnlyAt, numbers}
-pub use Rattle.qrp.specs.Items.{Giver, GivesItem, Giving, Stands, StopsBehind, Takes, Whole, as_given, giving, item_row}
+pub use Rattle.qrp.specs.Items.{Giver, GivesItem, Stands, StopsBehind}
 pub use Rattle.qrp.specs.Laws.{ItemsOfTrace, ReadsText}
 pub use Rattle.qrp.specs.Texts.{sets_text, step_text, steps_text}
 pub use Rattle.qrp.specs.declared.fault.TraceFault.{TraceFault}

@@ -4,6 +4,7 @@ use Rattle.qbf_spelling.specs.Words
 use Words.{AllByRecursion, Block, IsVariable, Token, Lined, number, literal, letter}
 use Words.token
 use Words.word
+use Rattle.qbf_text.specs.Rows.{Fails}
 use Rattle.qbf_spelling.specs.Headers.{header_before}
 use Rattle.qrp.specs.declared.fault.TraceFault.{TraceFault}
 use Rattle.qrp.specs.declared.item.Header.{Header}
@@ -12,7 +13,7 @@ use Rattle.qrp.specs.Inferences.{Inference, IsLiteral, IsNumber, numbers}
 use Rattle.qrp.specs.Derivations.{Derivation, AreGrammatical, items_of_lists}
 use Rattle.qbf_text.specs.Answering as answering
 use Rattle.qrp.specs.Grammar.{lists, IsTrace}
-use Rattle.qrp.specs.Reading.{Fault, Place, InHeader, Between, InSet, InLits, InAnts, AtResult, row, Fails}
+use Rattle.qrp.specs.Reading.{Fault, Place, InHeader, Between, InSet, InLits, InAnts, AtResult, After, row}
 use Rattle.step_index.specs.Numbers.{is_used}
 
 -- whole sets and whole steps with these numbers, before the tokens of a list that is begun
@@ -33,7 +34,8 @@ Spells ts (InLits ns n ls) = AreLists ts (number n ∷ map literal ls) ns
     × IsNumber n × (is_used n ns ≡ false) × AllByRecursion IsLiteral ls
 Spells ts (InAnts ns n ls ants) = AreLists ts (number n ∷ (map literal ls ++ number 0 ∷ map number ants)) ns
     × IsNumber n × (is_used n ns ≡ false) × AllByRecursion IsLiteral ls × AllByRecursion IsNumber ants × (length ants ≤ 2)
-Spells ts AtResult = (ns : List ℕ) × AreLists ts (token.Word word.R ∷ []) ns
+Spells ts (AtResult ns) = AreLists ts (token.Word word.R ∷ []) ns
+Spells ts (After i ns) = ⊥
 
 -- the items of the lists that are whole before a place: none while the header is unfinished
 abbrev pub whole_before : (ts : List Token) (place : Place) → Spells ts place → List Item
@@ -42,7 +44,8 @@ whole_before ts (Between ns) s = items_of_lists s.header s.sets s.steps
 whole_before ts (InSet q vs) s = items_of_lists s.0.header s.0.sets s.0.steps
 whole_before ts (InLits ns n ls) s = items_of_lists s.0.header s.0.sets s.0.steps
 whole_before ts (InAnts ns n ls ants) s = items_of_lists s.0.header s.0.sets s.0.steps
-whole_before ts AtResult s = items_of_lists s.1.header s.1.sets s.1.steps
+whole_before ts (AtResult ns) s = items_of_lists s.header s.sets s.steps
+whole_before ts (After i ns) s = []
 
 -- The fault stands on this line.
 abbrev pub IsFault : List Lined → TraceFault → ℕ → Type 0

@@ -1,11 +1,10 @@
 -- Where a token stands while a trace is read: what the lists that are begun say of its place.
 use Rattle.std.specs.Prelude.{◌≡◌, ◌<◌, ◌≤◌, ◌^◌, ℕ, false, List, [], ◌∷◌, ◌++◌, length, Result, Ok, Err, ⊤}
-use Rattle.qbf_spelling.specs.Words.{AllByRecursion, IsVariable, Token}
+use Rattle.qbf_spelling.specs.Words.{AllByRecursion, IsVariable}
 use Rattle.std.specs.declared.alloc.AllocError.{AllocError}
 use Rattle.qbf_text.specs.declared.grammar.Stop.{Stop}
 use Rattle.qbf_text.specs.declared.grammar.Stop.TheVariants as stop
 use Rattle.qrp.specs.declared.fault.TraceFault.{TraceFault}
-use Rattle.qrp.specs.declared.fault.TraceFault.TheVariants.{P7}
 use Rattle.qrp.specs.declared.item.Item.{Item}
 use Rattle.qrp.specs.declared.item.Item.TheVariants as item
 use Rattle.qrp.specs.declared.places.At.{At}
@@ -15,25 +14,9 @@ use Rattle.qrp.specs.declared.hand.Reached.{Reached}
 use Rattle.qrp.specs.declared.places.Part.{Part}
 use Rattle.qrp.specs.declared.places.Part.TheVariants as part
 use Rattle.qrp.specs.Inferences.{IsLiteral, IsNumber}
-use Rattle.qrp.specs.Reading.{Place, Row, Goes, Closes, Ends, Fails, InHeader, Between, InSet, InLits, InAnts, AtResult, row}
+use Rattle.qbf_text.specs.Rows.{Goes, Ends, Fails}
+use Rattle.qrp.specs.Reading.{Place, Row, InHeader, Between, InSet, InLits, InAnts, AtResult, After}
 use Rattle.step_index.specs.Numbers.{is_used}
-
--- the place of a token, where one is taken
-abbrev pub place : Begun → At → Place
-place b at.Header = InHeader b.header
-place b at.Between = Between b.index
-place b (at.Set q) = InSet q b.vars.items
-place b (at.Lits n) = InLits b.index n b.lits.begun
-place b (at.Ants n) = InAnts b.index n b.lits.begun b.ants.begun
-place b at.Result = AtResult
-place b (at.Behind p) = AtResult
-place b (at.Whole o) = AtResult
-
--- what is made of a token there
-abbrev pub row_at : Begun → At → Token → Row
-row_at b (at.Behind p) t = Fails P7
-row_at b (at.Whole o) t = Fails P7
-row_at b here t = row (place b here) t
 
 -- the item that a part is
 abbrev pub item_of : Begun → Part → Item
@@ -47,14 +30,21 @@ numbers_behind b (part.Step n) = b.index ++ n ∷ []
 numbers_behind b (part.Header h) = []
 numbers_behind b (part.Set q) = []
 
--- the row of a token that completes it
-abbrev pub row_of : Begun → Part → Row
-row_of b p = Closes (item_of b p) (Between (numbers_behind b p))
+-- where reading stands with these lists
+abbrev pub place : Begun → At → Place
+place b at.Header = InHeader b.header
+place b at.Between = Between b.index
+place b (at.Set q) = InSet q b.vars.items
+place b (at.Lits n) = InLits b.index n b.lits.begun
+place b (at.Ants n) = InAnts b.index n b.lits.begun b.ants.begun
+place b at.Result = AtResult b.index
+place b (at.Behind p) = After (item_of b p) (numbers_behind b p)
+place b (at.Whole o) = After (item.Result o) b.index
 
 -- a token leads where its row says, unless an allocation failed
 abbrev pub Moves : Row → Begun → Result At (Stop TraceFault) → Type 0
-Moves r b (Ok (at.Behind p)) = r ≡ row_of b p
-Moves r b (Ok (at.Whole o)) = r ≡ Ends o
+Moves r b (Ok (at.Behind p)) = r ≡ Ends tt (place b (at.Behind p))
+Moves r b (Ok (at.Whole o)) = r ≡ Ends tt (place b (at.Whole o))
 Moves r b (Ok next) = r ≡ Goes (place b next)
 Moves r b (Err stop.Memory) = ⊤
 Moves r b (Err (stop.Text f)) = r ≡ Fails f
@@ -93,11 +83,6 @@ IsBegun (at.Ants n) b = IsComplete (part.Step n) b
 IsBegun at.Result b = ⊤
 IsBegun (at.Behind p) b = IsComplete p b
 IsBegun (at.Whole o) b = ⊤
-
--- the same, but nothing after a part, where no token is taken
-abbrev pub IsAt : At → Begun → Type 0
-IsAt (at.Behind p) b = ⊤
-IsAt here b = IsBegun here b
 
 -- at the place that a token leads to, where whole lists stay; where it is not taken, what held stays
 abbrev pub Leads : At → Begun → Begun → Result At (Stop TraceFault) → Type 0

@@ -7,9 +7,9 @@ ghost use Rattle.qbf_text.specs.Passing.{LeadOn, Passes, PassesAll};
 ghost use Rattle.qrp.specs.declared.places.At.TheVariants as at;
 ghost use Rattle.qrp.specs.declared.places.Begun.{Begun};
 ghost use Rattle.qrp.specs.Inferences.{IsLiteral};
-ghost use Rattle.qrp.specs.Items.{Takes, item_row, giving_at, lits_place, after_ants};
-ghost use Rattle.qrp.specs.Places.{AreAntecedents, IsBegun, Settles, Stays};
-ghost use Rattle.qrp.specs.Reading.{InAnts, InLits};
+ghost use Rattle.qrp.specs.Items.{lits_place, after_ants};
+ghost use Rattle.qrp.specs.Places.{place, AreAntecedents, IsBegun, Settles, Stays};
+ghost use Rattle.qrp.specs.Reading.{row, InAnts, InLits};
 
 use crate::places::{At, Begun, Part, has_room, take_opening};
 use crate::tokens::{FAULTS, LAST_VARIABLE, antecedent};
@@ -29,8 +29,8 @@ fn take_usual(
     from: Cursor,
 ) -> Result<Cursor, AllocError>
     requires { from.at ≤ length bytes.now }
-    ensures passes { IfOk result (λ r. (ns : List ℕ) (n : ℕ) → Passes (LeadOn item_row
-        (Takes (InLits ns n lits.old.begun)) (Takes (InLits ns n lits.new.begun)))
+    ensures passes { IfOk result (λ r. (ns : List ℕ) (n : ℕ) → Passes (LeadOn row
+        (InLits ns n lits.old.begun) (InLits ns n lits.new.begun))
         bytes.now from r) }
     ensures in_range { AllByRecursion IsLiteral lits.old.begun
         → AllByRecursion IsLiteral lits.new.begun }
@@ -58,8 +58,8 @@ fn take_literals(
     from: Cursor,
 ) -> Result<(Cursor, bool), AllocError>
     requires { from.at ≤ length bytes.now }
-    ensures passes { IfOk result (λ r. (ns : List ℕ) (n : ℕ) → Passes (LeadOn item_row
-        (Takes (InLits ns n lits.old.begun)) (Takes (lits_place ns n lits.new.begun r.1)))
+    ensures passes { IfOk result (λ r. (ns : List ℕ) (n : ℕ) → Passes (LeadOn row
+        (InLits ns n lits.old.begun) (lits_place ns n lits.new.begun r.1))
         bytes.now from r.0) }
     ensures in_range { AllByRecursion IsLiteral lits.old.begun
         → AllByRecursion IsLiteral lits.new.begun }
@@ -88,7 +88,7 @@ fn take_antecedents(
 ) -> Result<(Cursor, Option<()>), AllocError>
     requires { from.at ≤ length bytes.now }
     ensures passes { IfOk result (λ r. (ns : List ℕ) (n : ℕ) (ls : List Literal) →
-        PassesAll item_row (Takes (InAnts ns n ls ants.old.begun))
+        PassesAll row (InAnts ns n ls ants.old.begun)
         (after_ants ns n ls ants.new.begun r.1) bytes.now from r.0 r.1) }
     ensures sound { AreAntecedents ants.old.begun → AreAntecedents ants.new.begun }
     ensures whole { ants.new.whole ≡ ants.old.whole }
@@ -129,8 +129,8 @@ fn take_lists(
 ) -> Result<Reached, AllocError>
     requires within { from.at ≤ length bytes.now }
     requires sound { IsBegun (at.Lits number) begun.old }
-    ensures passes { IfOk result (λ r. PassesAll item_row (giving_at begun.old (at.Lits number))
-        (giving_at begun.new r.at) bytes.now from r.here r.done) }
+    ensures passes { IfOk result (λ r. PassesAll row (place begun.old (at.Lits number))
+        (place begun.new r.at) bytes.now from r.here r.done) }
     ensures sound { Settles (at.Lits number) begun.old begun.new result }
 {
     let (here, closed) = take_literals(&mut begun.lits, bytes, from)?;
@@ -163,13 +163,13 @@ fn take_lists(
 fn open_step(here: At, begun: &mut Begun, bytes: &[u8], from: Cursor) -> Option<(u64, Cursor)>
     requires within { from.at ≤ length bytes.now }
     requires sound { IsBegun here begun.old }
-    ensures passes { IfSome result (λ r. Passes (LeadOn item_row (giving_at begun.old here)
-        (giving_at begun.new (at.Lits r.0))) bytes.now from r.1) }
+    ensures passes { IfSome result (λ r. Passes (LeadOn row (place begun.old here)
+        (place begun.new (at.Lits r.0))) bytes.now from r.1) }
     ensures sound { IfSome result
         (λ r. Stays begun.old begun.new × IsBegun (at.Lits r.0) begun.new) }
     ensures back { IfSome result (λ r. (b : Begun) → IsBegun (at.Lits r.0) b → IsBegun here b) }
     ensures none { IfNone result (Stays begun.old begun.new × IsBegun here begun.new
-        × (giving_at begun.new here ≡ giving_at begun.old here)) }
+        × (place begun.new here ≡ place begun.old here)) }
 {
     match here {
         At::Between => {
@@ -197,8 +197,8 @@ pub fn take_at_hand(
 ) -> Result<Reached, AllocError>
     requires within { from.at ≤ length bytes.now }
     requires sound { IsBegun here begun.old }
-    ensures passes { IfOk result (λ r. PassesAll item_row (giving_at begun.old here)
-        (giving_at begun.new r.at) bytes.now from r.here r.done) }
+    ensures passes { IfOk result (λ r. PassesAll row (place begun.old here)
+        (place begun.new r.at) bytes.now from r.here r.done) }
     ensures sound { Settles here begun.old begun.new result }
 {
     let Some((number, lits)) = open_step(here, begun, bytes, from) else {

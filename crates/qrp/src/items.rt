@@ -2,7 +2,6 @@
 
 ghost use Rattle.std.specs.Prelude.{◌≡◌, IfOk, OnOk, OnErr};
 ghost use Rattle.qrp.specs.Flat.{kept_of, nothing_kept, IsFlat};
-ghost use Rattle.qrp.specs.Items as items;
 ghost use Rattle.qrp.specs.Items.{IsGiven, GivesPart, Keeps};
 ghost use Rattle.qrp.specs.declared.places.Part.TheVariants as part;
 ghost use Rattle.qrp.specs.Places.{item_of, numbers_behind, IsComplete};
@@ -61,13 +60,13 @@ pub struct ItemGrammar {
 
 impl Model for ItemGrammar {
     ghost use Rattle.qrp.specs.Flat.{kept_of};
-    ghost use Rattle.qrp.specs.Items.{Giver, giving_at};
-    ghost use Rattle.qrp.specs.Places.{IsBegun};
+    ghost use Rattle.qrp.specs.Items.{Giver};
+    ghost use Rattle.qrp.specs.Places.{place, IsBegun};
 
     ghost Value = { Giver };
 
     ghost view = { λ g.
-        record { kept = kept_of g.parts; giving = giving_at g.parts.begun g.at } };
+        record { kept = kept_of g.parts; place = place g.parts.begun g.at } };
 
     ghost invariant = { λ g. IsBegun g.at g.parts.begun };
 }
@@ -75,7 +74,7 @@ impl Model for ItemGrammar {
 impl ItemGrammar {
     /// At the beginning of a trace. It takes no memory.
     pub fn new(alloc: Global) -> ItemGrammar
-        ensures begins { result ≡ record { kept = nothing_kept; giving = items.Takes AtP } }
+        ensures begins { result ≡ record { kept = nothing_kept; place = AtP } }
         ensures flat { IsFlat result.kept }
     {
         ItemGrammar {
@@ -89,7 +88,7 @@ impl ItemGrammar {
     /// # Errors
     /// Out of memory. Nothing is changed then.
     pub fn give(&mut self, alloc: Global) -> Result<Item, AllocError>
-        requires { IsGiven self.old.giving }
+        requires { IsGiven self.old.place }
         ensures gives { IfOk result (λ i. GivesPart i self.old self.new) }
         ensures err { OnErr result (self.new ≡ self.old) }
     {
@@ -111,7 +110,7 @@ impl ItemGrammar {
     #[inline(always)]
     pub fn keep(&mut self) -> Result<Option<Outcome>, AllocError>
         requires made { IsFlat self.old.kept }
-        requires given { IsGiven self.old.giving }
+        requires given { IsGiven self.old.place }
         ensures keeps { IfOk result (λ o. Keeps self.old self.new o) }
         ensures made { OnOk result (IsFlat self.new.kept) }
     {
@@ -144,17 +143,17 @@ impl ItemGrammar {
 
 impl Grammar for ItemGrammar {
     ghost use Rattle.qrp.specs.Flat.{Kept};
-    ghost use Rattle.qrp.specs.Items.{Giving, item_row};
+    ghost use Rattle.qrp.specs.Reading.{Place, row};
 
     type Output = ();
 
     type Fault = TraceFault;
 
-    ghost Place = { Giving };
+    ghost Place = { Place };
 
-    ghost place = { λ g. g.giving };
+    ghost place = { λ g. g.place };
 
-    ghost row_of = { item_row };
+    ghost row_of = { row };
 
     ghost Kept = { Kept };
 

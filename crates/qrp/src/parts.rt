@@ -1,9 +1,8 @@
 //! What a trace is made of, part by part, whether it is read or pushed to.
 
-ghost use Rattle.std.specs.Prelude.{◌≡◌, ◌<◌, ◌≤◌, ◌^◌, false, [], ◌∷◌, ◌++◌, length};
+ghost use Rattle.std.specs.Prelude.{◌≡◌, ◌<◌, ◌^◌, false, [], ◌∷◌, ◌++◌};
 ghost use Rattle.std.specs.Prelude.{OnOk, OnErr};
 ghost use Rattle.std.specs.List.{AllByRecursion};
-ghost use Rattle.qbf_core.specs.Blocks.{IsVariable};
 ghost use Rattle.qbf_spelling.specs.declared.header.HeaderAt.TheVariants as header;
 ghost use Rattle.qrp.specs.Inferences.{IsLiteral};
 ghost use Rattle.qrp.specs.Flat.{closed, kept_of, nothing_kept, ClosesPart, IsFlat};
@@ -12,7 +11,7 @@ ghost use Rattle.step_index.specs.Numbers.{is_used, AreStepNumbers};
 
 use crate::item::{Header, QuantSet};
 use crate::places::{Begun, Part};
-use qbf_core::{GrowingLists, Lit, Quantifier, Var};
+use qbf_core::{GrowingLists, Lit, see_all};
 use std::alloc::{AllocError, Global};
 use std::mem;
 use step_index::StepIndex;
@@ -42,102 +41,9 @@ impl Parts {
             begun: Begun::new(alloc),
         }
     }
-
-    /// Adds a set with these variables after the others.
-    ///
-    /// # Errors
-    /// Out of memory. What is whole is as it was then.
-    pub fn push_set(&mut self, quantifier: Quantifier, vars: &[Var]) -> Result<(), AllocError>
-        requires { IsFlat (kept_of self.old) }
-        ensures pushed { OnOk result (kept_of self.new ≡ record (kept_of self.old) {
-          sets = self.old.sets.items ++ record { quantifier = quantifier; vars = vars.now } ∷ [];
-        }) }
-        ensures err { OnErr result (kept_of self.new ≡ kept_of self.old) }
-        ensures sound { IsFlat (kept_of self.new) }
-    {
-        begin_set(&mut self.begun.vars, vars)?;
-        close_set(&mut self.sets, &mut self.begun.vars, self.alloc, quantifier)
-    }
-}
-
-// ---- sets
-
-/// Appends a variable. A function of its own, so that the prover sees its range.
-#[inline(always)]
-fn push_variable(begun: &mut Vec<Var>, var: Var) -> Result<(), AllocError>
-    ensures pushed { OnOk result (begun.new.items ≡ begun.old.items ++ var ∷ []) }
-    ensures in_range { IsVariable var }
-{
-    begun.push(var)?;
-    Ok(())
-}
-
-/// Begins the list of these variables in place of the one that is begun.
-fn begin_set(begun: &mut Vec<Var>, vars: &[Var]) -> Result<(), AllocError>
-    ensures begun { OnOk result (begun.new.items ≡ vars.now) }
-    ensures in_range { OnOk result (AllByRecursion IsVariable vars.now) }
-{
-    begun.clear();
-    for var in vars {
-        push_variable(begun, *var)?;
-    }
-    Ok(())
-}
-
-/// Puts the set that is begun after the others.
-fn close_set(
-    sets: &mut Vec<QuantSet>,
-    vars: &mut Vec<Var>,
-    alloc: Global,
-    quantifier: Quantifier,
-) -> Result<(), AllocError>
-    ensures closed { OnOk result (sets.new.items
-        ≡ sets.old.items ++ record { quantifier = quantifier; vars = vars.old.items } ∷ []) }
-    ensures err { OnErr result (sets.new.items ≡ sets.old.items) }
-{
-    let vars = mem::replace(vars, Vec::new(alloc));
-    sets.push(QuantSet { quantifier, vars })?;
-    Ok(())
 }
 
 // ---- steps
-
-/// Appends a literal. A function of its own, so that the prover sees its range.
-#[inline(always)]
-fn push_literal(lists: &mut GrowingLists<Lit>, lit: Lit) -> Result<(), AllocError>
-    ensures pushed { OnOk result (lists.new
-        ≡ record lists.old { begun = lists.old.begun ++ lit ∷ [] }) }
-    ensures in_range { IsLiteral lit }
-    ensures err { OnErr result (lists.new ≡ lists.old) }
-{
-    lists.push(lit)
-}
-
-/// Begins the list of these literals in place of the one that is begun.
-fn begin_literals(lists: &mut GrowingLists<Lit>, lits: &[Lit]) -> Result<(), AllocError>
-    ensures begun { OnOk result (lists.new.begun ≡ lits.now) }
-    ensures in_range { OnOk result (AllByRecursion IsLiteral lits.now) }
-    ensures whole { lists.new.whole ≡ lists.old.whole }
-{
-    lists.begin();
-    for lit in lits {
-        push_literal(lists, *lit)?;
-    }
-    Ok(())
-}
-
-/// Begins the list of these antecedents in place of the one that is begun.
-fn begin_antecedents(lists: &mut GrowingLists<u64>, ants: &[u64]) -> Result<(), AllocError>
-    ensures begun { OnOk result (lists.new.begun ≡ ants.now) }
-    ensures fit { OnOk result (AllByRecursion (λ n. n < 2 ^ 64) ants.now) }
-    ensures whole { lists.new.whole ≡ lists.old.whole }
-{
-    lists.begin();
-    for ant in ants {
-        lists.push(*ant)?;
-    }
-    Ok(())
-}
 
 /// Begins the lists of a step in place of those that are begun.
 pub fn begin_step(begun: &mut Begun, lits: &[Lit], ants: &[u64]) -> Result<(), AllocError>
@@ -147,9 +53,12 @@ pub fn begin_step(begun: &mut Begun, lits: &[Lit], ants: &[u64]) -> Result<(), A
         ((begun.new.ants.begun ≡ ants.now) × AllByRecursion (λ n. n < 2 ^ 64) ants.now) }
     ensures stays { Stays begun.old begun.new }
 {
-    begin_literals(&mut begun.lits, lits)?;
-    begin_antecedents(&mut begun.ants, ants)?;
-    Ok(())
+    see_all(lits);
+    see_all(ants);
+    begun.lits.begin();
+    begun.ants.begin();
+    begun.lits.extend(lits)?;
+    begun.ants.extend(ants)
 }
 
 /// Puts the antecedents that are begun after the others, and the number of their step.
@@ -221,12 +130,11 @@ pub fn close(parts: &mut Parts, part: Part) -> Result<(), AllocError>
             parts.header = header;
             Ok(())
         }
-        Part::Set(quantifier) => close_set(
-            &mut parts.sets,
-            &mut parts.begun.vars,
-            parts.alloc,
-            quantifier,
-        ),
+        Part::Set(quantifier) => {
+            let vars = mem::replace(&mut parts.begun.vars, Vec::new(parts.alloc));
+            parts.sets.push(QuantSet { quantifier, vars })?;
+            Ok(())
+        }
         Part::Step(number) => {
             close_step(&mut parts.begun, number)?;
             Ok(())

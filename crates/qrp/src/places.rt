@@ -5,8 +5,8 @@ ghost use Rattle.qbf_spelling.specs.declared.header.HeaderAt.TheVariants as head
 ghost use Rattle.qrp.specs.declared.places.At.TheVariants as at;
 ghost use Rattle.qrp.specs.declared.places.Begun.{Begun};
 ghost use Rattle.qrp.specs.Inferences.{IsNumber};
-ghost use Rattle.qrp.specs.Places.{row_at, Moves, Leads, IsAt, IsBegun};
-ghost use Rattle.qrp.specs.Reading.{has_room, has_steps, step_row};
+ghost use Rattle.qrp.specs.Places.{place, Moves, Leads, IsBegun};
+ghost use Rattle.qrp.specs.Reading.{has_room, row, step_row};
 
 use crate::fault::TraceFault;
 use crate::item::{Header, Outcome};
@@ -90,7 +90,7 @@ impl Begun {
 /// Takes a token of the header.
 fn take_header(begun: &mut Begun, token: Token) -> Next
     requires sound { IsBegun at.Header begun.old }
-    ensures row { Moves (row_at begun.old at.Header token) begun.new result }
+    ensures row { Moves (row (place begun.old at.Header) token) begun.new result }
     ensures sound { Leads at.Header begun.old begun.new result }
 {
     match header_move(FORM, begun.header, token)? {
@@ -103,13 +103,6 @@ fn take_header(begun: &mut Begun, token: Token) -> Next
 }
 
 // ---- between lists
-
-/// Whether a step was read.
-fn has_steps(index: &StepIndex) -> bool
-    ensures { result ≡ has_steps index.now }
-{
-    index.len() != 0
-}
 
 /// Begins a step, if its number is new.
 #[inline(always)]
@@ -128,11 +121,10 @@ fn open_step(begun: &mut Begun, number: u64) -> Next
 /// Takes a token between lists.
 #[inline(always)]
 pub fn take_opening(begun: &mut Begun, token: Token) -> Next
-    ensures row { Moves (row_at begun.old at.Between token) begun.new result }
+    ensures row { Moves (row (place begun.old at.Between) token) begun.new result }
     ensures sound { Leads at.Between begun.old begun.new result }
 {
-    let has_steps = has_steps(&begun.index);
-    match opened(has_steps, token)? {
+    match opened(begun.index.len() != 0, token)? {
         Opening::Set(quantifier) => {
             begun.vars.clear();
             Ok(At::Set(quantifier))
@@ -147,7 +139,7 @@ pub fn take_opening(begun: &mut Begun, token: Token) -> Next
 /// Takes a token in a set.
 fn take_member(begun: &mut Begun, quantifier: Quantifier, token: Token) -> Next
     requires sound { IsBegun (at.Set quantifier) begun.old }
-    ensures row { Moves (row_at begun.old (at.Set quantifier) token) begun.new result }
+    ensures row { Moves (row (place begun.old (at.Set quantifier)) token) begun.new result }
     ensures sound { Leads (at.Set quantifier) begun.old begun.new result }
 {
     match member(FAULTS, LAST_VARIABLE, token)? {
@@ -165,7 +157,7 @@ fn take_member(begun: &mut Begun, quantifier: Quantifier, token: Token) -> Next
 #[inline(always)]
 fn take_literal(begun: &mut Begun, number: u64, token: Token) -> Next
     requires sound { IsBegun (at.Lits number) begun.old }
-    ensures row { Moves (row_at begun.old (at.Lits number) token) begun.new result }
+    ensures row { Moves (row (place begun.old (at.Lits number)) token) begun.new result }
     ensures sound { Leads (at.Lits number) begun.old begun.new result }
 {
     match grow(&mut begun.lits, literal(FAULTS, LAST_VARIABLE, token))? {
@@ -189,7 +181,7 @@ pub fn has_room(ants: &GrowingLists<u64>) -> bool
 #[inline(always)]
 fn take_antecedent(begun: &mut Begun, number: u64, token: Token) -> Next
     requires sound { IsBegun (at.Ants number) begun.old }
-    ensures row { Moves (row_at begun.old (at.Ants number) token) begun.new result }
+    ensures row { Moves (row (place begun.old (at.Ants number)) token) begun.new result }
     ensures sound { Leads (at.Ants number) begun.old begun.new result }
 {
     let room = has_room(&begun.ants);
@@ -204,8 +196,8 @@ fn take_antecedent(begun: &mut Begun, number: u64, token: Token) -> Next
 /// The place that a token leads to. Whole lists and the numbers of whole steps stay as they are.
 #[inline(always)]
 pub fn take_at(here: At, begun: &mut Begun, token: Token) -> Next
-    requires sound { IsAt here begun.old }
-    ensures row { Moves (row_at begun.old here token) begun.new result }
+    requires sound { IsBegun here begun.old }
+    ensures row { Moves (row (place begun.old here) token) begun.new result }
     ensures sound { Leads here begun.old begun.new result }
 {
     match here {

@@ -10,8 +10,8 @@ ghost use Rattle.qbf_text.specs.Reading.{left, HasFailed};
 ghost use Rattle.qbf_text.specs.Stopping.{tokens_next};
 ghost use Rattle.qrp.specs.Given.{known_items, items_left, is_last, stage_after, numbers_with};
 ghost use Rattle.qrp.specs.Given.{GivesNextItem, IsDone, IsProper, StopsBehindItem};
-ghost use Rattle.qrp.specs.Items.{Takes, StopsBehind, GivesItem, IsItem, IsDriven};
-ghost use Rattle.qrp.specs.Reading.{Place, items};
+ghost use Rattle.qrp.specs.Items.{StopsBehind, GivesItem, IsItem, IsDriven};
+ghost use Rattle.qrp.specs.Reading.{items};
 
 use crate::fault::{Fault, TraceFault};
 use crate::item::{Item, Outcome};
@@ -50,10 +50,10 @@ fn read_item<S: Source>(
     source: &mut S,
 ) -> Result<Item, Fault>
     requires ready { ¬ HasFailed scanner.old }
-    ensures reads { (p : Place) → grammar.old.giving ≡ Takes p →
-        GivesItem (known_items p (left scanner.old (S.remaining source.old)))
-        grammar.new.kept.numbers (left scanner.new (S.remaining source.new)) result
-        × StopsBehind p (tokens_next scanner.old)
+    ensures reads { GivesItem
+        (known_items grammar.old.place (left scanner.old (S.remaining source.old)))
+        grammar.new.kept.numbers (left scanner.new (S.remaining source.new)) result }
+    ensures stops { StopsBehind grammar.old.place (tokens_next scanner.old)
         (ahead scanner.old.pending (S.remaining source.old))
         (ahead scanner.new.pending (S.remaining source.new))
         (length scanner.new.pending ≤ 4096) result }

@@ -1,6 +1,7 @@
 //! Writing the canonical text of a trace.
 
 ghost use Rattle.std.specs.Prelude.{◌≡◌, ◌<◌, Ok, length};
+ghost use Rattle.std.proofs.Props.{props};
 ghost use Rattle.std.specs.List.{AllByRecursion};
 ghost use Rattle.qbf_text.specs.Canonical.{line_text};
 ghost use Rattle.qbf_text.specs.Written.{IsPut};
@@ -11,69 +12,84 @@ ghost use Rattle.qrp.specs.Reading.{read_trace};
 ghost use Rattle.qbf_spelling.specs.Texts.{set_text};
 ghost use Rattle.qrp.specs.Texts.{step_text, steps_text};
 
-use crate::item::{Outcome, QuantSet};
+use crate::item::{Header, Outcome, QuantSet};
 use crate::steps::Steps;
 use crate::trace::Trace;
-use qbf_spelling::{Put, put_each, put_header, put_set};
-use qbf_text::{Sink, SinkFault, put_bytes, put_number};
-
-// ---- sets
+use qbf_spelling::{Bare, Bytes, HeaderLine, Put};
+use qbf_text::{Sink, SinkFault, put_bytes};
 
 /// The line of a set.
 impl Put for QuantSet {
     ghost text = { set_text };
 
     fn put<K: Sink>(&self, sink: &mut K) -> Result<(), SinkFault> {
-        put_set(sink, self.quantifier, &self.vars)
+        (self.quantifier, (&self.vars[..], Bytes(b" 0\n"))).put(sink)
     }
 }
 
-// ---- a step
+/// The line of a result.
+impl Put for Outcome {
+    ghost text = { λ o. line_text (result_line o) };
 
+    fn put<K: Sink>(&self, sink: &mut K) -> Result<(), SinkFault> {
+        match self {
+            Outcome::Sat => put_bytes(sink, b"r sat\n"),
+            Outcome::Unsat => put_bytes(sink, b"r unsat\n"),
+        }
+    }
+}
+
+// ---- steps
+
+/// The line of a step.
 #[inline(always)]
 fn put_step<K: Sink>(sink: &mut K, trace: &Trace, place: usize) -> Result<(), SinkFault>
     requires { place < length trace.now.steps }
     ensures { (step : Inference) → IsAt trace.now.steps place step
         → IsPut K.written K.failures sink.old sink.new (step_text step) result }
 {
-    put_number(sink, trace.number(place))?;
-    put_each(sink, trace.lits(place))?;
-    put_bytes(sink, b" 0")?;
-    put_each(sink, trace.ants(place))?;
-    put_bytes(sink, b" 0\n")
+    let lists = (
+        trace.lits(place),
+        (Bytes(b" 0"), (trace.ants(place), Bytes(b" 0\n"))),
+    );
+    (Bare(false, trace.number(place)), lists).put(sink)
 }
 
-fn put_steps<K: Sink>(sink: &mut K, trace: &Trace) -> Result<(), SinkFault>
-    ensures { IsPut K.written K.failures sink.old sink.new (steps_text trace.now.steps) result }
-{
-    for place in 0..trace.len() {
-        put_step(sink, trace, place)?;
+/// The lines of all steps.
+#[derive(Clone, Copy)]
+struct StepLines<'a>(&'a Trace);
+
+impl<'a> Put for StepLines<'a> {
+    ghost text = { λ s. steps_text s.0.now.steps };
+
+    fn put<K: Sink>(&self, sink: &mut K) -> Result<(), SinkFault> {
+        for place in 0..self.0.len() {
+            put_step(sink, self.0, place)?;
+        }
+        Ok(())
     }
-    Ok(())
 }
 
-fn put_steps_at<K: Sink>(sink: &mut K, trace: &Trace, places: &[usize]) -> Result<(), SinkFault>
-    requires { AllByRecursion (λ i. i < length trace.now.steps) places.now }
-    ensures { IsPut K.written K.failures sink.old sink.new
-        (steps_text (steps_at trace.now.steps places.now)) result }
-{
-    for place in places {
-        put_step(sink, trace, *place)?;
+/// The lines of the steps at these places.
+#[derive(Clone, Copy)]
+struct StepLinesAt<'a> {
+    trace: &'a Trace,
+    places: &'a [usize],
+    ghost inside: { AllByRecursion (λ i. i < length trace.now.steps) places.now } by { Prim.hlevel props },
+}
+
+impl<'a> Put for StepLinesAt<'a> {
+    ghost text = { λ s. steps_text (steps_at s.trace.now.steps s.places.now) };
+
+    fn put<K: Sink>(&self, sink: &mut K) -> Result<(), SinkFault> {
+        for place in self.places {
+            put_step(sink, self.trace, *place)?;
+        }
+        Ok(())
     }
-    Ok(())
 }
 
 // ---- the whole
-
-fn put_result<K: Sink>(sink: &mut K, outcome: Outcome) -> Result<(), SinkFault>
-    ensures { IsPut K.written K.failures sink.old sink.new
-        (line_text (result_line outcome)) result }
-{
-    match outcome {
-        Outcome::Sat => put_bytes(sink, b"r sat\n"),
-        Outcome::Unsat => put_bytes(sink, b"r unsat\n"),
-    }
-}
 
 /// Writes the canonical text of the trace in the text form of QRP, and does not `finish` the sink.
 /// It takes no memory.
@@ -90,11 +106,9 @@ pub fn write_trace<K: Sink>(trace: &Trace, sink: &mut K) -> Result<(), SinkFault
     // Reading the text gives the trace.
     ensures reads_back { read_trace (text trace.now) ≡ Ok trace.now }
 {
-    let header = trace.header();
-    put_header(sink, b"p qrp", header.vars, header.steps)?;
-    put_each(sink, trace.sets())?;
-    put_steps(sink, trace)?;
-    put_result(sink, trace.result())
+    let Header { vars, steps } = trace.header();
+    let header = HeaderLine(b"p qrp", vars, steps);
+    (header, (trace.sets(), (StepLines(trace), trace.result()))).put(sink)
 }
 
 /// Writes the canonical text of the trace with the steps at these places alone, as `write_trace`
@@ -115,8 +129,7 @@ pub fn write_steps_at<K: Sink>(
     ensures { IsPut K.written K.failures sink.old sink.new
         (text (with_steps_at trace.now places.now)) result }
 {
-    put_header(sink, b"p qrp", trace.header().vars, places.len() as u64)?;
-    put_each(sink, trace.sets())?;
-    put_steps_at(sink, trace, places)?;
-    put_result(sink, trace.result())
+    let header = HeaderLine(b"p qrp", trace.header().vars, places.len() as u64);
+    let steps = StepLinesAt { trace, places };
+    (header, (trace.sets(), (steps, trace.result()))).put(sink)
 }

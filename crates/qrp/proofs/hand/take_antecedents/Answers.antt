@@ -4,15 +4,14 @@ use Rattle.qbf_spelling.proofs.Words.{AllByRecursion-push}
 use Rattle.qbf_text.specs.Passing.{LeadOn}
 use Rattle.qbf_text.proofs.PassedNumbers.{passes_none, passes_on}
 use Rattle.qrp.specs.Inferences.{IsNumber}
-use Rattle.qrp.specs.Items.{Takes, as_given, item_row}
-use Rattle.qrp.specs.Reading.{InAnts, ants_row, has_room}
+use Rattle.qrp.specs.Reading.{row, InAnts, ants_row, has_room}
 use Rattle.qrp.proofs.hand.take_antecedents.Goals as goal
 
 pub antecedents-init : goal.antecedents-init
 antecedents-init c = record {
   passes = λ ns n ls.
-      let first = Takes (InAnts ns n ls c.args.ants.now.begun) in
-      passes_none c.args.bytes.now (LeadOn item_row first first) c.args.from c.requires (λ ts. refl);
+      let first = InAnts ns n ls c.args.ants.now.begun in
+      passes_none c.args.bytes.now (LeadOn row first first) c.args.from c.requires (λ ts. refl);
   sound = λ h. h;
   whole = refl;
   within = c.requires;
@@ -23,12 +22,12 @@ returns-in-Ok-None-clause-passes c = λ ns n ls.
     let xs = c.antecedents.ants.begun in
     let says = rw (c.in-Ok-None.field-0-is, c.has_room.ensures.says) at c.in-Ok-None.ensures.says in
     record {
-      last = Takes (InAnts ns n ls xs);
+      last = InAnts ns n ls xs;
       token = c.in-Some.passed.token;
       here = c.antecedents.here;
       leads = c.antecedents.invariant.passes ns n ls;
       passes = c.in-Some.ensures;
-      ends = ap (λ o. as_given (ants_row ns n ls xs o)) (sym says);
+      ends = ap (λ o. ants_row ns n ls xs o) (sym says);
     }
 
 pub antecedents-preserved : goal.antecedents-preserved
@@ -39,9 +38,9 @@ antecedents-preserved c =
     record {
       passes = λ ns n ls.
           rw (c.in_ok-push-in-Ok-Some.ensures.pushed, c.in-Ok-Some.ant-is) (
-          passes_on item_row (Takes (InAnts ns n ls c.args.ants.now.begun)) (Takes (InAnts ns n ls xs))
-          (Takes (InAnts ns n ls (xs ++ a ∷ []))) c.args.bytes.now c.args.from c.in-Some.passed.next c.antecedents.here
-          c.in-Some.passed.token (ap (λ o. as_given (ants_row ns n ls xs o)) (sym says))
+          passes_on row (InAnts ns n ls c.args.ants.now.begun) (InAnts ns n ls xs)
+          (InAnts ns n ls (xs ++ a ∷ [])) c.args.bytes.now c.args.from c.in-Some.passed.next c.antecedents.here
+          c.in-Some.passed.token (ap (λ o. ants_row ns n ls xs o) (sym says))
           (c.antecedents.invariant.passes ns n ls) c.in-Some.ensures);
       sound = λ h.
           let before = c.antecedents.invariant.sound h in

@@ -7,16 +7,16 @@ use Rattle.qrp.specs.declared.hand.Reached.{Reached}
 use Rattle.qrp.specs.declared.places.At.{At}
 use Rattle.qrp.specs.declared.places.At.TheVariants as at
 use Rattle.qrp.specs.declared.places.Begun.{Begun}
-use Rattle.qrp.specs.Items.{Giving, item_row, giving_at}
-use Rattle.qrp.specs.Places.{IsBegun, Settles, Stays}
+use Rattle.qrp.specs.Places.{place, IsBegun, Settles, Stays}
+use Rattle.qrp.specs.Reading.{Place, row}
 use Rattle.qrp.proofs.hand.take_at_hand.Goals as goal
 
 -- the lists of a step, after its number
-after_number : (first mid : Giving) (b : Begun) (bytes : List ℕ) (from between : Cursor) (result : Result Reached AllocError)
-    → Passes (LeadOn item_row first mid) bytes from between
-    → IfOk result (λ r. PassesAll item_row mid (giving_at b r.at) bytes between r.here r.done)
-    → IfOk result (λ r. PassesAll item_row first (giving_at b r.at) bytes from r.here r.done)
-after_number first mid b bytes from between (Ok r) s t = passes_all item_row first mid (giving_at b r.at) bytes from r.here between r.done s t
+after_number : (first mid : Place) (b : Begun) (bytes : List ℕ) (from between : Cursor) (result : Result Reached AllocError)
+    → Passes (LeadOn row first mid) bytes from between
+    → IfOk result (λ r. PassesAll row mid (place b r.at) bytes between r.here r.done)
+    → IfOk result (λ r. PassesAll row first (place b r.at) bytes from r.here r.done)
+after_number first mid b bytes from between (Ok r) s t = passes_all row first mid (place b r.at) bytes from r.here between r.done s t
 after_number first mid b bytes from between (Err e) s t = tt
 
 stays_then : (old mid new : Begun) → Stays old mid → Stays mid new → Stays old new
@@ -29,7 +29,7 @@ settles_then here n old mid new (Err e) s back t = (stays_then old mid new s t.0
 
 pub returns-clause-passes : goal.returns-clause-passes
 returns-clause-passes c =
-    after_number (giving_at c.args.begun.now c.args.here) (giving_at c.open_step.new.begun (at.Lits c.in-Some.number)) c.take_lists.new.begun
+    after_number (place c.args.begun.now c.args.here) (place c.open_step.new.begun (at.Lits c.in-Some.number)) c.take_lists.new.begun
     c.args.bytes.now c.args.from c.in-Some.lits c.take_lists.result c.in-Some.ensures.passes c.take_lists.ensures.passes
 
 pub returns-clause-sound : goal.returns-clause-sound

@@ -3,15 +3,14 @@ use Rattle.qbf_spelling.proofs.Words.{AllByRecursion-push}
 use Rattle.qbf_text.specs.Passing.{LeadOn}
 use Rattle.qbf_text.proofs.PassedNumbers.{passes_none, passes_on}
 use Rattle.qrp.specs.Inferences.{IsLiteral}
-use Rattle.qrp.specs.Items.{Takes, as_given, item_row}
-use Rattle.qrp.specs.Reading.{InLits, lits_row}
+use Rattle.qrp.specs.Reading.{row, InLits, lits_row}
 use Rattle.qrp.proofs.hand.take_usual.Goals as goal
 
 pub literals-init : goal.literals-init
 literals-init c = record {
   passes = λ ns n.
-      let first = Takes (InLits ns n c.args.lits.now.begun) in
-      passes_none c.args.bytes.now (LeadOn item_row first first) c.args.from c.requires (λ ts. refl);
+      let first = InLits ns n c.args.lits.now.begun in
+      passes_none c.args.bytes.now (LeadOn row first first) c.args.from c.requires (λ ts. refl);
   in_range = λ h. h;
   whole = refl;
   within = c.requires;
@@ -22,10 +21,10 @@ literals-preserved c = record {
   passes = λ ns n.
       let ls = c.literals.lits.begun in
       rw (c.in_ok-push-in-Ok-Some.ensures.pushed, c.in-Ok-Some.lit-is) (
-      passes_on item_row (Takes (InLits ns n c.args.lits.now.begun)) (Takes (InLits ns n ls))
-      (Takes (InLits ns n (ls ++ c.in-Ok-Some.lit ∷ []))) c.args.bytes.now c.args.from c.in-Some.passed.next c.literals.here
+      passes_on row (InLits ns n c.args.lits.now.begun) (InLits ns n ls)
+      (InLits ns n (ls ++ c.in-Ok-Some.lit ∷ [])) c.args.bytes.now c.args.from c.in-Some.passed.next c.literals.here
       c.in-Some.passed.token
-      (ap (λ o. as_given (lits_row ns n ls o)) (sym (rw c.in-Ok-Some.field-0-is at c.in-Ok-Some.ensures.says)))
+      (ap (λ o. lits_row ns n ls o) (sym (rw c.in-Ok-Some.field-0-is at c.in-Ok-Some.ensures.says)))
       (c.literals.invariant.passes ns n) c.in-Some.ensures);
   in_range = λ h. rw (c.in_ok-push-in-Ok-Some.ensures.pushed, c.in-Ok-Some.lit-is) (
       AllByRecursion-push IsLiteral c.literals.lits.begun c.in-Ok-Some.lit (c.literals.invariant.in_range h)

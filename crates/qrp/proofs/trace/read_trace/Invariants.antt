@@ -1,15 +1,14 @@
-use Rattle.qrp.proofs.Words.{◌≡◌, ◌+◌, length, ahead, left, tokens_next, HasFailed, IfKnown, Skips, Leads, reads_bytes, made, IsFlat, Takes}
-use Rattle.qrp.specs.Reading.{Place, read_trace}
+use Rattle.qrp.proofs.Words.{◌≡◌, ◌+◌, length, ahead, left, tokens_next, HasFailed, IfKnown, Skips, Leads, reads_bytes, made, IsFlat}
+use Rattle.qrp.specs.Reading.{read_trace}
 use Rattle.qrp.proofs.ReadItemByItem.{gathered_known, gathered_of}
 use Rattle.qrp.proofs.trace.read_trace.Given as goal
 
 abbrev pub invariant-items : goal.invariant-items
 invariant-items g l = record {
-  reads : (p : Place) × (l.grammar.giving ≡ Takes p)
-      × Leads (reads_bytes (g.S.Source.remaining l.fn.source))
-      (gathered_known (made l.grammar.kept) p (left l.scanner (g.S.Source.remaining l.source)))
-      × IfKnown (Skips read_trace (gathered_of (made l.grammar.kept) p (tokens_next l.scanner))) (g.S.Source.remaining l.fn.source)
-      (ahead l.scanner.pending (g.S.Source.remaining l.source));
+  reads : Leads (reads_bytes (g.S.Source.remaining l.fn.source))
+      (gathered_known (made l.grammar.kept) l.grammar.place (left l.scanner (g.S.Source.remaining l.source)));
+  skips : IfKnown (Skips read_trace (gathered_of (made l.grammar.kept) l.grammar.place (tokens_next l.scanner)))
+      (g.S.Source.remaining l.fn.source) (ahead l.scanner.pending (g.S.Source.remaining l.source));
   flat : IsFlat l.grammar.kept;
   ready : ¬ HasFailed l.scanner;
   works : g.S.Source.failures l.source ≡ g.S.Source.failures l.fn.source;

@@ -1,13 +1,15 @@
 use Rattle.qrp.proofs.Words.{sent_fails, sent_part}
 use Rattle.qrp.proofs.WrittenParts.{steps_at_next}
-use Rattle.qrp.proofs.writing.put_steps_at.Goals as goal
+use Rattle.qrp.proofs.writing.StepLinesAtPut.put.Goals as goal
 
 pub returns-in_err-put_step : goal.returns-in_err-put_step
 returns-in_err-put_step g c =
-    let next = steps_at_next c.args.trace.now.steps c.args.places.now c.loop-place.place-index c.requires c.loop-place-test.true in
+    let self = c.args.self.now in
+    let next = steps_at_next self.trace.now.steps self.places.now c.loop-place.place-index self.inside c.loop-place-test.true in
     sent_fails _ _ c.loop-place.invariant.sent next.2 c.from_residual.ensures.1 (c.in_err-put_step.ensures next.0 next.1)
 
 pub loop-place-preserved : goal.loop-place-preserved
 loop-place-preserved g c =
-    let next = steps_at_next c.args.trace.now.steps c.args.places.now c.loop-place.place-index c.requires c.loop-place-test.true in
+    let self = c.args.self.now in
+    let next = steps_at_next self.trace.now.steps self.places.now c.loop-place.place-index self.inside c.loop-place-test.true in
     record { sent = sent_part _ c.loop-place.invariant.sent next.2 (c.in_ok-put_step.ensures next.0 next.1) }

@@ -1,5 +1,5 @@
 use Rattle.qbf_text.proofs.SentParts.{sent_next, next_fails}
-use Rattle.qbf_spelling.proofs.writing.put_each.Goals as goal
+use Rattle.qbf_spelling.proofs.writing.RefSlicePut.put.Goals as goal
 
 pub returns-in_err-put : goal.returns-in_err-put
 returns-in_err-put g c = next_fails g.P.Put.text _ _ _ _ _ c.loop-item.invariant.sent c.loop-item-test.true c.item-item.is

@@ -1,0 +1,18 @@
+use Rattle.qdimacs.proofs.Words.{arith, refl, pairs, sent_fails, sent_part, drop_all, sent_last}
+use Rattle.qdimacs.proofs.WrittenParts.{prefix_next}
+use Rattle.qdimacs.proofs.writing.BlockLinesPut.put.Goals as goal
+
+pub returns-in_err-put_variable : goal.returns-in_err-put_variable
+returns-in_err-put_variable g c =
+    let next = prefix_next c.loop-i.last (pairs c.args.self.now.0.now) c.loop-i.i _ _ c.pair-quantifier.ensures in
+    sent_fails _ _ c.loop-i.invariant.sent next c.from_residual.ensures.1 c.in_err-put_variable.ensures
+
+pub loop-i-preserved : goal.loop-i-preserved
+loop-i-preserved g c =
+    let next = prefix_next c.loop-i.last (pairs c.args.self.now.0.now) c.loop-i.i _ _ c.pair-quantifier.ensures in
+    record { sent = sent_part _ c.loop-i.invariant.sent next c.in_ok-put_variable.ensures }
+
+pub returns-in-Some : goal.returns-in-Some
+returns-in-Some g c =
+    let all = drop_all c.loop-i.i (pairs c.args.self.now.0.now) (omega (arith, c.len-i-end.ensures.length, c.loop-i-test.false)) in
+    sent_last c.loop-i.invariant.sent (rw (all, c.in-Some.is) refl) c.put_bytes.ensures.put

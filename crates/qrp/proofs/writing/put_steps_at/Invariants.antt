@@ -1,8 +1,0 @@
-use Rattle.qrp.proofs.Words.{drop, IsSent, steps_at, steps_text}
-use Rattle.qrp.proofs.writing.put_steps_at.Given as goal
-
-abbrev pub invariant-loop-place : goal.invariant-loop-place
-invariant-loop-place g l = record {
-  sent : IsSent g.K.Sink.written g.K.Sink.failures l.fn.sink l.sink (steps_text (steps_at l.trace.steps l.places))
-      (steps_text (steps_at l.trace.steps (drop l.place-index l.places)));
-}
