@@ -1,8 +1,7 @@
-use Rattle.std.proofs.Common.{inl, inr}
+use Rattle.qrp_rules.proofs.Words.{inl, inr, clean_within}
 use Rattle.qrp_rules.proofs.Reducing.{reducible_after, reducible_wider}
-use Rattle.qrp_rules.proofs.exact.is_exact_reduct_by.Goals as goal
-use Rattle.qbf_core.proofs.Order.{clean_within}
 use Rattle.qbf_core.proofs.Bound.{bound_within}
+use Rattle.qrp_rules.proofs.exact.is_exact_reduct_by.Goals as goal
 
 pub returns-clause-follows : goal.returns-clause-follows
 returns-clause-follows c = λ t side reduces decides. (

@@ -1,4 +1,4 @@
-use Rattle.std.proofs.Common.{◌∙◌}
+use Rattle.qrp_rules.proofs.Words.{◌∙◌}
 use Rattle.qrp_rules.proofs.reduct.is_exact_reduct.Goals as goal
 
 pub returns-clause-follows : goal.returns-clause-follows
