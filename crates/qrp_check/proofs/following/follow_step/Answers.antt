@@ -1,12 +1,8 @@
-use Rattle.std.proofs.Common.{ℕ, List, None, Some, sym, below_more, take}
-use Rattle.qbf_core.specs.Qbf.{Qbf}
-use Rattle.qrp.specs.Inferences.{Inference}
-use Rattle.qrp_check.specs.Conditions.{StepFollows}
-use Rattle.qrp_check.specs.Core.{IsInCore}
+use Rattle.qrp_check.proofs.Words.{ℕ, List, None, Some, sym, take, Qbf, Inference, StepFollows, IsInCore, at_place}
+use Rattle.std.proofs.Common.{below_more}
 use Rattle.qrp_check.proofs.CoreStep.{found_answer, premises_fit}
 use Rattle.qrp_check.proofs.Marking.{core_within}
 use Rattle.qrp_check.proofs.following.follow_step.Goals as goal
-use Rattle.qbf_core.proofs.Members.{at_place}
 
 pub step_fault-requires-clause-fit : goal.step_fault-requires-clause-fit
 step_fault-requires-clause-fit g c =
