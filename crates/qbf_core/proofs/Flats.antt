@@ -1,10 +1,8 @@
 -- Lists in one buffer.
-use Rattle.std.proofs.lemmas.List.{drop_all}
-use Rattle.std.proofs.Common.{rules}
-use Rattle.std.proofs.lemmas.Grind.{common_steps}
-use Rattle.std.proofs.Common.{◌≡◌, ◌≤◌, ◌<◌, ◌-◌, ℕ, zero, suc, List, [], ◌∷◌, ◌++◌, length, take, drop, slice_get, slice_range}
-use Rattle.std.proofs.Common.{Option, Some, refl, sym, ap, ◌∙◌, arith}
-use Rattle.std.proofs.lemmas.List.{drop-append-le, take-append-drop, length-take-le}
+use Rattle.qbf_core.proofs.Words.{rules, common_steps, ◌≡◌, ◌≤◌, ◌<◌, ◌-◌, ℕ, zero, suc, List, [], ◌∷◌, ◌++◌, length, take, drop, slice_get}
+use Rattle.qbf_core.proofs.Words.{Option, Some, refl, sym, ap, ◌∙◌, arith, take-append-drop}
+use Rattle.std.proofs.lemmas.List.{drop_all, drop-append-le, length-take-le}
+use Rattle.std.proofs.Common.{slice_range}
 use Rattle.std.proofs.Math.Seq.{drop-append_seam}
 use Rattle.std.specs.Option.{unwrap_or}
 use Rattle.qbf_core.specs.Lists.{parts, Reaches, start_of, end_of}

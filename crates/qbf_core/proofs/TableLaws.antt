@@ -1,15 +1,11 @@
 -- The table of a prefix, beside its entries.
-use Rattle.std.proofs.lemmas.Grind.{common_steps}
-use Rattle.std.proofs.Common.{◌≡◌, ℕ, zero, suc, ◌≤◌, ◌<◌, Bool, true, false, cond, if◌then◌else◌, List, [], ◌∷◌, ◌++◌, length, Option}
-use Rattle.std.proofs.Common.{Some, None, ◌⊎◌, inl, inr, refl, ap, sym, subst, ◌∙◌, arith, slice_get, slice_set, get_or, take, drop, nat_eq}
-use Rattle.std.specs.Map.{lookup, keys_of}
-use Rattle.std.specs.List.{AllByRecursion, IsDistinct}
-use Rattle.std.proofs.lemmas.Bool.{eq-eqb, ne_eqb}
-use Rattle.std.proofs.lemmas.Option.{slice_get_within, slice_get_read}
-use Rattle.qbf_core.specs.declared.prefix.Place.{Place}
-use Rattle.qbf_core.specs.Blocks.{IsVariable}
-use Rattle.qbf_core.specs.Places.{IsTable, IsBeyond, IsTold}
-use Rattle.std.proofs.Common.{length-append}
+use Rattle.qbf_core.proofs.Words.{common_steps, ◌≡◌, ℕ, zero, suc, ◌≤◌, ◌<◌, Bool, true, false, cond, List, [], ◌∷◌, ◌++◌, length, Option}
+use Rattle.qbf_core.proofs.Words.{Some, None, ◌⊎◌, inl, inr, refl, ap, sym, subst, ◌∙◌, arith, slice_get, get_or, take, drop, nat_eq}
+use Rattle.qbf_core.proofs.Words.{lookup, keys_of, AllByRecursion, eq-eqb, slice_get_within, slice_get_read, Place, IsVariable, IsTable}
+use Rattle.qbf_core.proofs.Words.{IsBeyond, IsTold}
+use Rattle.std.proofs.Common.{if◌then◌else◌, slice_set, length-append}
+use Rattle.std.specs.List.{IsDistinct}
+use Rattle.std.proofs.lemmas.Bool.{ne_eqb}
 use Rattle.qbf_core.proofs.PushedItems.{pushed_cases}
 
 -- a list after all of it was lent as a slice

@@ -1,10 +1,8 @@
 -- Tokens that are accepted one after the other.
-use Rattle.std.proofs.Common.{rules, ◌≡◌, ◌≢◌, ℕ, List, [], ◌∷◌, ◌++◌, ◌⊎◌, inl, inr, append_assoc, append-nil, refl, ap, ◌∙◌, flat_map}
+use Rattle.qbf_text.proofs.Words.{rules, ◌≡◌, ◌≢◌, ℕ, List, [], ◌∷◌, ◌++◌, ◌⊎◌, inl, inr, append_assoc, append-nil, refl, ap, ◌∙◌, flat_map}
+use Rattle.qbf_text.proofs.Words.{Token, Lined, unlined, EndsOnce, Row, Goes, read_from}
 use Rattle.std.proofs.lemmas.Grind.{flat_map-append}
 use Rattle.std.proofs.lemmas.List.{map-append}
-use Rattle.qbf_text.specs.declared.token.Token.{Token}
-use Rattle.qbf_text.specs.Lined.{Lined, unlined, EndsOnce}
-use Rattle.qbf_text.specs.Rows.{Row, Goes, read_from}
 use Rattle.qbf_text.proofs.OneToken.{read-one, after}
 use Rattle.qbf_text.specs.declared.token.Token.TheVariants as token
 

@@ -1,12 +1,8 @@
 -- What is read of a text is what it spells, or the fault that stands in it.
-use Rattle.std.proofs.Common.{arith, rules, ◌≡◌, ℕ, Bool, List, [], ◌∷◌, Option, Some, IfSome, Result, Ok, Err, ap, sym, ◌∙◌, option_map}
-use Rattle.std.proofs.lemmas.Grind.{common_steps}
-use Rattle.qbf_text.specs.declared.token.Comments.{Comments}
-use Rattle.qbf_text.specs.declared.token.Token.{Token}
+use Rattle.qbf_text.proofs.Words.{arith, rules, ◌≡◌, ℕ, Bool, List, [], ◌∷◌, Option, Some, IfSome, Result, Ok, Err, ap, sym, ◌∙◌}
+use Rattle.qbf_text.proofs.Words.{common_steps, Comments, Token, Lined, unlined, EndsOnce, Row, Read, Whole, Fault, read_from, tokens}
+use Rattle.std.proofs.Common.{option_map}
 use Rattle.qbf_text.specs.Answering.{Gives, ReadsAsRead, ReadsOnce}
-use Rattle.qbf_text.specs.Lined.{Lined, unlined, EndsOnce}
-use Rattle.qbf_text.specs.Rows.{Row, Read, Whole, Fault, read_from}
-use Rattle.qbf_text.specs.Tokens.{tokens}
 use Rattle.qbf_text.proofs.TokensEndOnce.{tokens-EndsOnce}
 use Rattle.qbf_text.specs.Answering as answering
 use Rattle.qbf_text.specs.Taking as taking

@@ -1,14 +1,12 @@
 -- The tokens left, byte by byte.
-use Rattle.std.proofs.Common.{rules, ◌≡◌, ℕ, ◌+◌, Bool, true, false, cond, ◌||◌, List, [], ◌∷◌, ◌++◌, map, count_by, refl, sym, ◌∙◌, arith}
-use Rattle.std.proofs.Common.{zero-add, append-nil}
-use Rattle.std.proofs.lemmas.Grind.{common_steps}
-use Rattle.std.specs.List.{slice_split, onto_first}
-use Rattle.std.specs.Prelude.{⊤}
+use Rattle.qbf_text.proofs.Words.{rules, ◌≡◌, ℕ, ◌+◌, Bool, true, false, cond, ◌||◌, List, [], ◌∷◌, ◌++◌, map, count_by, refl, sym, ◌∙◌}
+use Rattle.qbf_text.proofs.Words.{arith, append-nil, common_steps, slice_split, ⊤, Comments, is_line_end, is_blank, is_comment_byte}
+use Rattle.qbf_text.proofs.Words.{is_comment_line, runs, kind, counted, line_tokens, tokens_from, tokens, tokens_left, is_separator}
+use Rattle.qbf_text.proofs.Words.{IsUnbroken, IsWithinLine, EndsRun, EndsLine}
+use Rattle.std.proofs.Common.{zero-add}
+use Rattle.std.specs.List.{onto_first}
 use Rattle.std.proofs.lemmas.List.Sums.{sum_by-cons}
-use Rattle.qbf_text.specs.declared.token.Comments.{Comments}
-use Rattle.qbf_text.specs.Tokens.{is_line_end, is_blank, is_comment_byte, is_comment_line, runs, kind, counted, line_tokens, tokens_from}
-use Rattle.qbf_text.specs.Tokens.{tokens}
-use Rattle.qbf_text.specs.Left.{rest_tokens, left_from, tokens_left, is_separator, IsUnbroken, IsWithinLine, EndsRun, EndsLine}
+use Rattle.qbf_text.specs.Left.{rest_tokens, left_from}
 use Rattle.qbf_text.specs.declared.token.Token.TheVariants as kinds
 
 -- ---- the number of a line

@@ -1,11 +1,6 @@
 -- Steps along the bytes ahead.
-use Rattle.std.proofs.Common.{arith, ◌≡◌, ℕ, false, List, [], ◌∷◌, ◌++◌, Option, Some, drop}
-use Rattle.std.proofs.lemmas.Grind.{common_steps}
-use Rattle.std.specs.List.{AllByRecursion}
-use Rattle.std.specs.Io.KnownBytes.{Consumes}
-use Rattle.qbf_text.specs.Ahead.{ahead, first_of}
-use Rattle.qbf_text.specs.Left.{IsUnbroken, IsWithinLine}
-use Rattle.qbf_text.specs.Tokens.{is_line_end}
+use Rattle.qbf_text.proofs.Words.{arith, ◌≡◌, ℕ, false, List, [], ◌∷◌, ◌++◌, Option, Some, drop, common_steps, AllByRecursion, Consumes}
+use Rattle.qbf_text.proofs.Words.{ahead, first_of, IsUnbroken, IsWithinLine, is_line_end}
 
 pub all_push : (P : ℕ → Type 0) (xs : List ℕ) (x : ℕ) → AllByRecursion P xs → P x → AllByRecursion P (xs ++ x ∷ [])
 all_push P xs x h p = grind (arith, common_steps)

@@ -1,18 +1,13 @@
 -- The tokens of a canonical text.
-use Rattle.std.proofs.lemmas.Grind.{common_steps}
-use Rattle.std.proofs.Common.{rules, ◌≡◌, ℕ, ◌+◌, Bool, true, false, map, arith, List, [], ◌∷◌, ◌++◌, refl, sym, ap, ◌∙◌, append_assoc}
-use Rattle.std.specs.List.{flat_map, AllByRecursion}
-use Rattle.std.proofs.lemmas.Fmt.{digits_decimal, decimal_nonempty}
-use Rattle.qbf_text.specs.declared.token.Comments.{Comments}
+use Rattle.qbf_text.proofs.Words.{common_steps, rules, ◌≡◌, ℕ, ◌+◌, Bool, true, false, map, arith, List, [], ◌∷◌, ◌++◌, refl, sym, ap, ◌∙◌}
+use Rattle.qbf_text.proofs.Words.{append_assoc, AllByRecursion, digits_decimal, decimal_nonempty, Comments, Token, unlined, IsUnbroken}
+use Rattle.qbf_text.proofs.Words.{EndsRun, tokens_left, kind, counted, tokens, spelled, line_rest}
+use Rattle.std.specs.List.{flat_map}
 use Rattle.qbf_text.specs.declared.token.Word.{Word}
-use Rattle.qbf_text.specs.declared.token.Token.{Token}
-use Rattle.qbf_text.specs.declared.token.Token.TheVariants as token
-use Rattle.qbf_text.specs.Lined.{unlined}
-use Rattle.qbf_text.specs.Left.{IsUnbroken, EndsRun, tokens_left}
-use Rattle.qbf_text.specs.Tokens.{kind, counted, tokens}
-use Rattle.qbf_text.specs.Canonical.{letters, spelled, line_rest, line_text, lines_text, IsPlain, IsOpening, IsLine}
+use Rattle.qbf_text.specs.Canonical.{letters, line_text, lines_text, IsPlain, IsOpening, IsLine}
 use Rattle.qbf_text.proofs.ByteByByte.{left_run, left_blank, left_line_end, left_nothing, left_all, IsToken}
 use Rattle.qbf_text.proofs.Spelled.{own, digits_unbroken, token_digits, kind_decimal, kind_minus}
+use Rattle.qbf_text.specs.declared.token.Token.TheVariants as token
 
 -- ---- one token
 

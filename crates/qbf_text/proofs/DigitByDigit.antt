@@ -1,15 +1,9 @@
 -- One more digit.
-use Rattle.std.proofs.Common.{rules, ◌≡◌, ℕ, ◌+◌, ◌-◌, ◌*◌, ◌^◌, ◌<◌, ◌≤◌, Bool, true, false, not, ◌&&◌, List, [], ◌∷◌, ◌++◌, refl, sym}
-use Rattle.std.proofs.Common.{◌∙◌, arith, nat_lt, if◌then◌else◌}
-use Rattle.std.proofs.lemmas.Grind.{common_steps}
-use Rattle.std.specs.Str.{all_ascii_digits}
-use Rattle.std.specs.Char.{is_ascii_digit}
+use Rattle.qbf_text.proofs.Words.{rules, ◌≡◌, ℕ, ◌+◌, ◌-◌, ◌*◌, ◌^◌, ◌<◌, ◌≤◌, Bool, true, false, not, ◌&&◌, List, [], ◌∷◌, ◌++◌, refl, sym}
+use Rattle.qbf_text.proofs.Words.{◌∙◌, arith, if◌then◌else◌, common_steps, all_ascii_digits, is_ascii_digit, nat_tests, Digits, Value, Big}
+use Rattle.qbf_text.proofs.Words.{Other, magnitude, digits_of}
+use Rattle.std.proofs.Common.{nat_lt}
 use Rattle.std.proofs.lemmas.List.Sums.{fold-append}
-use Rattle.std.proofs.lemmas.Bool.Decides.{nat_tests}
-use Rattle.qbf_text.specs.declared.run.Digits.{Digits}
-use Rattle.qbf_text.specs.declared.run.Digits.TheVariants.{Value, Big, Other}
-use Rattle.qbf_text.specs.Tokens.{magnitude}
-use Rattle.qbf_text.specs.Runs.{digits_of}
 
 and_true : (b : Bool) → (b && true) ≡ b
 and_true b = search rules

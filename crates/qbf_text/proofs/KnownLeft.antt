@@ -1,13 +1,6 @@
 -- What is left where the bytes ahead may be unknown.
-use Rattle.std.proofs.Common.{rules, ◌≡◌, ℕ, Bool, true, false, List, [], ◌∷◌, Option, Some, IfSome, drop, arith}
-use Rattle.std.specs.Prelude.{⊤}
-use Rattle.std.specs.Io.KnownBytes.{Consumes}
-use Rattle.std.proofs.KnownBytes.{Consumes-nil}
-use Rattle.std.proofs.lemmas.Bool.Decides.{nat_tests}
-use Rattle.qbf_text.specs.declared.token.Comments.{Comments}
-use Rattle.qbf_text.specs.Ahead.{ahead, first_of}
-use Rattle.qbf_text.specs.Tokens.{is_line_end, is_comment_byte, kind}
-use Rattle.qbf_text.specs.Left.{is_end}
+use Rattle.qbf_text.proofs.Words.{rules, ◌≡◌, ℕ, Bool, true, false, List, [], ◌∷◌, Option, Some, IfSome, drop, arith, ⊤, Consumes}
+use Rattle.qbf_text.proofs.Words.{Consumes-nil, nat_tests, Comments, ahead, first_of, is_line_end, is_comment_byte, kind, is_end}
 use Rattle.qbf_text.proofs.ByteByByte.{IsToken}
 use Rattle.qbf_text.proofs.BytesAhead.{taken_more}
 

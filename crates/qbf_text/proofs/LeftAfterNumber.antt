@@ -1,13 +1,7 @@
 -- What is left after a number that stands whole among the bytes at hand.
-use Rattle.std.proofs.Common.{rules, ◌≡◌, ℕ, ◌+◌, ◌^◌, ◌<◌, Bool, true, false, List, [], ◌∷◌, ◌++◌, sym, ap, ◌∙◌, arith, append_assoc}
-use Rattle.std.proofs.Common.{eqb-true}
-use Rattle.std.proofs.lemmas.Grind.{common_steps}
-use Rattle.qbf_text.specs.declared.token.Comments.{Comments}
-use Rattle.qbf_text.specs.declared.token.Token.TheVariants.{Number}
-use Rattle.qbf_text.specs.Tokens.{kind, counted}
-use Rattle.qbf_text.specs.Runs.{begins_number}
-use Rattle.qbf_text.specs.Left.{is_separator, IsUnbroken, tokens_left}
-use Rattle.qbf_text.specs.Passing.{BeginsWithNumber}
+use Rattle.qbf_text.proofs.Words.{rules, ◌≡◌, ℕ, ◌+◌, ◌^◌, ◌<◌, Bool, true, false, List, [], ◌∷◌, ◌++◌, sym, ap, ◌∙◌, arith, append_assoc}
+use Rattle.qbf_text.proofs.Words.{eqb-true, common_steps, Comments, Number, kind, counted, begins_number, is_separator, IsUnbroken}
+use Rattle.qbf_text.proofs.Words.{tokens_left, BeginsWithNumber}
 use Rattle.qbf_text.proofs.ByteByByte.{left_run, left_line_end, left_blank, or_cases, IsToken, tokens_left-counted}
 
 -- what begins as a number does is no comment

@@ -1,18 +1,11 @@
 -- A number that stands whole among the bytes at hand.
-use Rattle.std.proofs.Common.{rules, ◌≡◌, ℕ, zero, suc, ◌+◌, ◌-◌, ◌^◌, ◌<◌, ◌≤◌, Bool, true, false, ◌&&◌, ◌||◌, ◌==◌, nat_eq, List, [], ◌∷◌}
-use Rattle.std.proofs.Common.{◌++◌, take, drop, length, get_or, refl, sym, subst, ap, ◌∙◌, arith, eqb-true, take-suc}
-use Rattle.std.proofs.lemmas.Grind.{common_steps}
-use mir.Val.{bool_byte}
-use Rattle.std.specs.Str.Parse.{digits_value, AllDigits}
-use Rattle.std.specs.Char.{is_ascii_digit}
-use Rattle.std.specs.Str.{all_ascii_digits}
+use Rattle.qbf_text.proofs.Words.{rules, ◌≡◌, ℕ, zero, suc, ◌+◌, ◌-◌, ◌^◌, ◌<◌, ◌≤◌, Bool, true, false, ◌&&◌, ◌||◌, ◌==◌, nat_eq, List, []}
+use Rattle.qbf_text.proofs.Words.{◌∷◌, ◌++◌, take, drop, length, get_or, refl, sym, subst, ap, ◌∙◌, arith, eqb-true, common_steps}
+use Rattle.qbf_text.proofs.Words.{bool_byte, digits_value, is_ascii_digit, all_ascii_digits, nat_tests, Value, is_line_end, digits_of}
+use Rattle.qbf_text.proofs.Words.{begins_number, begins_with_minus, after_minus, is_separator, BeginsWithNumber}
+use Rattle.std.proofs.Common.{take-suc}
+use Rattle.std.specs.Str.Parse.{AllDigits}
 use Rattle.std.proofs.lemmas.Bool.{cases_Bool}
-use Rattle.std.proofs.lemmas.Bool.Decides.{nat_tests}
-use Rattle.qbf_text.specs.declared.run.Digits.TheVariants.{Value}
-use Rattle.qbf_text.specs.Tokens.{is_line_end}
-use Rattle.qbf_text.specs.Runs.{digits_of, begins_number, begins_with_minus, after_minus}
-use Rattle.qbf_text.specs.Left.{is_separator}
-use Rattle.qbf_text.specs.Passing.{BeginsWithNumber}
 use Rattle.qbf_text.proofs.DigitByDigit.{pack_small}
 use Rattle.qbf_text.proofs.KindKept.{kind_number}
 use Rattle.qbf_text.proofs.Spelled.{own, and_left, digit_no_minus, digits_unbroken}

@@ -1,11 +1,10 @@
 -- What one token does to what is read.
-use Rattle.std.proofs.Common.{arith, rules, ◌≡◌, ℕ, Bool, false, List, ◌∷◌, Option, Some, None, IfSome, sym, ◌∙◌, subst}
-use Rattle.std.proofs.lemmas.Grind.{common_steps}
-use Rattle.qbf_text.specs.declared.token.Token.{Token}
-use Rattle.qbf_text.specs.Lined.{Lined, Known}
-use Rattle.qbf_text.specs.Left.{is_end}
-use Rattle.qbf_text.specs.Reading.{GivesNext, IsFirst, Reading, HasEnded, HasFailed, IsReady}
-use Rattle.qbf_text.specs.Rows.{Row, Goes, Ends, Fails, Read, Whole, Fault, behind, read_from, reads_from}
+use Rattle.qbf_text.proofs.Words.{arith, rules, ◌≡◌, ℕ, Bool, false, List, ◌∷◌, Option, Some, None, IfSome, sym, ◌∙◌, subst, common_steps}
+use Rattle.qbf_text.proofs.Words.{Token, Lined, is_end, GivesNext, Reading, HasFailed, IsReady, Row, Goes, Ends, Fails, Read, Whole, Fault}
+use Rattle.qbf_text.proofs.Words.{reads_from}
+use Rattle.qbf_text.specs.Lined.{Known}
+use Rattle.qbf_text.specs.Reading.{IsFirst, HasEnded}
+use Rattle.qbf_text.specs.Rows.{behind, read_from}
 use Rattle.qbf_text.specs.Taking.{Leaves}
 
 -- what was to be read, where that is known, is what is still to be read

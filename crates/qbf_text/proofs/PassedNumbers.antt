@@ -1,21 +1,15 @@
 -- Numbers that are passed among the bytes at hand.
-use Rattle.std.proofs.Common.{◌≡◌, ℕ, ◌+◌, ◌^◌, ◌<◌, ◌≤◌, Bool, true, false, not, nat_eq, List, [], ◌∷◌, ◌++◌, drop, length, refl, sym, ap, ◌∙◌}
-use Rattle.std.proofs.Common.{subst, take, ◌-◌, zero, suc, append_assoc, arith, Option, Some, None, ◌⊎◌, inl, inr, length-drop, length-append}
-use Rattle.std.proofs.lemmas.List.{take-append-drop, drop-drop, take_all}
+use Rattle.qbf_text.proofs.Words.{◌≡◌, ℕ, ◌+◌, ◌^◌, ◌<◌, ◌≤◌, Bool, true, false, not, nat_eq, List, [], ◌∷◌, ◌++◌, drop, length, refl, sym}
+use Rattle.qbf_text.proofs.Words.{ap, ◌∙◌, subst, take, ◌-◌, zero, suc, append_assoc, arith, Option, Some, None, ◌⊎◌, inl, inr, drop-drop}
+use Rattle.qbf_text.proofs.Words.{Comments, Token, Number, ahead, tokens_left, known_left, Lined, BeginsWithNumber, SoFar, Reading}
+use Rattle.qbf_text.proofs.Words.{GivesNext, Row, Goes, read_from, reads_from, IfKnown, TakesToken, tokens_next, counted}
+use Rattle.std.proofs.Common.{length-drop, length-append}
+use Rattle.std.proofs.lemmas.List.{take-append-drop, take_all}
 use Rattle.qbf_text.specs.declared.hand.Cursor.{Cursor}
 use Rattle.qbf_text.specs.declared.likely_ends.LikelyEnds.{LikelyEnds}
-use Rattle.qbf_text.specs.declared.token.Comments.{Comments}
-use Rattle.qbf_text.specs.declared.token.Token.{Token}
-use Rattle.qbf_text.specs.declared.token.Token.TheVariants.{Number}
-use Rattle.qbf_text.specs.Ahead.{ahead}
-use Rattle.qbf_text.specs.Left.{tokens_left, known_left}
-use Rattle.qbf_text.specs.Lined.{Lined}
-use Rattle.qbf_text.specs.Passing.{BeginsWithNumber, tokens_from_cursor, behind, counted_if, is_begun, cursor, moved, LeadOn, Passes, PassesNumber, PassesAll, SoFar}
+use Rattle.qbf_text.specs.Passing.{tokens_from_cursor, behind, counted_if, is_begun, cursor, moved, LeadOn, Passes, PassesNumber, PassesAll}
 use Rattle.qbf_text.specs.Passing.{ReadsAtHand}
-use Rattle.qbf_text.specs.Reading.{Reading, GivesNext, IsOpen, left}
-use Rattle.qbf_text.specs.Rows.{Row, Goes, read_from, reads_from}
-use Rattle.qbf_text.specs.Stopping.{IfKnown, TakesToken, tokens_next}
-use Rattle.qbf_text.specs.Tokens.{counted}
+use Rattle.qbf_text.specs.Reading.{IsOpen, left}
 use Rattle.qbf_text.proofs.ByteByByte.{left_nothing}
 use Rattle.qbf_text.proofs.LeftAfterNumber.{spelled_ending, spelled_blanked}
 use Rattle.qbf_text.proofs.OneToken.{after, read-one}

@@ -1,14 +1,11 @@
 -- Texts that go out part by part.
-use Rattle.std.proofs.Common.{arith, ◌≡◌, ℕ, ◌<◌, Ok, Err, List, [], ◌∷◌, ◌++◌, Option, take, drop, refl, sym, ap, subst, ◌∙◌, append_assoc}
-use Rattle.std.proofs.Common.{◌+◌, slice_get, Some, suc, add-one, drop-cons, get_or, length, flat_map, IsErrAnd, Result, decimal, map}
-use Rattle.std.proofs.Common.{false, take-append-drop}
-use Rattle.std.proofs.lemmas.Grind.{common_steps}
+use Rattle.qbf_text.proofs.Words.{arith, ◌≡◌, ℕ, ◌<◌, Ok, Err, List, [], ◌∷◌, ◌++◌, Option, take, drop, refl, sym, ap, subst, ◌∙◌}
+use Rattle.qbf_text.proofs.Words.{append_assoc, ◌+◌, Some, suc, get_or, length, flat_map, Result, decimal, map, false, common_steps}
+use Rattle.qbf_text.proofs.Words.{err_from_is_err_and, Token, spelled, line_rest, IsSent}
+use Rattle.std.proofs.Common.{slice_get, add-one, drop-cons, IsErrAnd, take-append-drop}
 use Rattle.std.proofs.lemmas.Option.{slice_get_within, get_or_from_slice_get}
-use Rattle.std.proofs.lemmas.Result.{err_from_is_err_and}
 use Rattle.std.specs.Fmt.{digits}
-use Rattle.qbf_text.specs.declared.token.Token.{Token}
-use Rattle.qbf_text.specs.Canonical.{spelled, line_rest}
-use Rattle.qbf_text.specs.Written.{IsPut, IsSent}
+use Rattle.qbf_text.specs.Written.{IsPut}
 use Rattle.std.specs.Io.KnownBytes.{Appends}
 use Rattle.std.proofs.KnownBytes.{Appends-trans}
 use Rattle.qbf_text.specs.declared.token.Token.TheVariants as token

@@ -1,26 +1,17 @@
 -- What is taken ends with a token and at most one separator.
-use Rattle.std.proofs.lemmas.Grind.{common_steps}
-use Rattle.std.proofs.Common.{rules, ◌≡◌, ℕ, ◌+◌, ◌^◌, ◌<◌, Bool, true, false, List, [], ◌∷◌, ◌++◌, Option, Some, None, IfSome, refl, sym}
-use Rattle.std.proofs.Common.{ap, ◌∙◌, arith, append_assoc, append-nil}
-use Rattle.std.specs.Prelude.{⊤}
-use Rattle.std.specs.Io.KnownBytes.{Consumes}
+use Rattle.qbf_text.proofs.Words.{common_steps, rules, ◌≡◌, ℕ, ◌+◌, ◌^◌, ◌<◌, Bool, true, false, List, [], ◌∷◌, ◌++◌, Option, Some, None}
+use Rattle.qbf_text.proofs.Words.{IfSome, refl, sym, ap, ◌∙◌, arith, append_assoc, append-nil, ⊤, Consumes, Comments, Token, End}
+use Rattle.qbf_text.proofs.Words.{is_separator, is_end, tokens_left, IsUnbroken, IsWithinLine, EndsRun, EndsLine, known_left, Lined, Row}
+use Rattle.qbf_text.proofs.Words.{Goes, Ends, Whole, read_from, Fails, Fault, IfKnown, TakesToken, PlaceSkips, SoFar, kind, is_blank}
+use Rattle.qbf_text.proofs.Words.{is_line_end, is_comment_byte, counted, GivesNext}
 use Rattle.std.proofs.KnownBytes.{Consumes-trans}
 use Rattle.qbf_text.specs.declared.scanner.Place.{Place}
-use Rattle.qbf_text.specs.declared.token.Comments.{Comments}
-use Rattle.qbf_text.specs.declared.token.Token.{Token}
-use Rattle.qbf_text.specs.declared.token.Token.TheVariants.{End}
-use Rattle.qbf_text.specs.Left.{is_separator, is_end, tokens_left, IsUnbroken, IsWithinLine, EndsRun, EndsLine, known_left}
-use Rattle.qbf_text.specs.Lined.{Lined}
-use Rattle.qbf_text.specs.Rows.{Row, Goes, Ends, Whole, read_from, Fails, Fault}
-use Rattle.qbf_text.specs.Rows as rows
-use Rattle.qbf_text.specs.Stopping.{IfKnown, BeginsAs, Skips, TakesToken, PlaceSkips, PlaceTakes, FindsToken, StopsBehind}
-use Rattle.qbf_text.specs.Passing.{SoFar}
-use Rattle.qbf_text.specs.Tokens.{kind, is_blank, is_line_end, is_comment_byte, counted}
+use Rattle.qbf_text.specs.Stopping.{BeginsAs, Skips, PlaceTakes, FindsToken, StopsBehind}
 use Rattle.qbf_text.proofs.OneToken.{after, read-one}
 use Rattle.qbf_text.proofs.KnownLeft.{always}
 use Rattle.qbf_text.proofs.ByteByByte.{left_nothing, left_line_end, left_blank, left_comment, left_run, IsToken, tokens_left-counted}
+use Rattle.qbf_text.specs.Rows as rows
 use Rattle.qbf_text.specs.declared.token.Token.TheVariants as token
-use Rattle.qbf_text.specs.Reading.{GivesNext}
 
 -- ---- known bytes
 

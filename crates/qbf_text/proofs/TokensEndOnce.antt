@@ -1,11 +1,7 @@
 -- The tokens of a text end once.
-use Rattle.std.proofs.Common.{rules, ◌≡◌, ◌≢◌, ℕ, ◌+◌, Bool, true, false, List, [], ◌∷◌, ◌++◌, map, refl, ap, append_assoc, count_by}
-use Rattle.std.specs.List.{slice_split}
-use Rattle.qbf_text.specs.declared.token.Comments.{Comments}
-use Rattle.qbf_text.specs.declared.token.Token.{Token}
-use Rattle.qbf_text.specs.Lined.{Lined, EndsOnce}
-use Rattle.qbf_text.specs.Left.{is_end}
-use Rattle.qbf_text.specs.Tokens.{is_line_end, is_comment_line, runs, kind, counted, line_tokens, tokens_from, tokens}
+use Rattle.qbf_text.proofs.Words.{rules, ◌≡◌, ◌≢◌, ℕ, ◌+◌, Bool, true, false, List, [], ◌∷◌, ◌++◌, map, refl, ap, append_assoc, count_by}
+use Rattle.qbf_text.proofs.Words.{slice_split, Comments, Token, Lined, EndsOnce, is_end, is_line_end, is_comment_line, runs, kind, counted}
+use Rattle.qbf_text.proofs.Words.{line_tokens, tokens_from, tokens}
 use Rattle.qbf_text.proofs.KnownLeft.{kind_no_end}
 use Rattle.qbf_text.specs.declared.token.Token.TheVariants as kinds
 

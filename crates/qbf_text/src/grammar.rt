@@ -143,6 +143,9 @@ pub trait Grammar {
         ensures kept { kept self.new ≡ kept self.old };
 
     /// Takes the next token. After the end of the text it does not go on.
+    ///
+    /// # Errors
+    /// Out of memory, or the fault of the token at its place.
     fn take(&mut self, token: Token) -> Result<Taken<Self::Output>, Stop<Self::Fault>>
         ensures row { Takes (row_of (place self.old) token) (place self.new) result }
         ensures more { StaysOpen token result }

@@ -1,15 +1,9 @@
 -- What one step adds to a formula, as a clause to its matrix or as a cube beside it, by the laws of the rules.
-use Rattle.std.proofs.Common.{◌↔◌, ℕ, List, [], ◌∷◌, ◌++◌, inl, inr, refl, sym, subst, rules}
-use Rattle.std.specs.List.{AllByRecursion}
-use Rattle.qbf_core.specs.Literal.{Literal}
-use Rattle.qbf_core.specs.Members.{◌∈◌, ◌⊆◌}
-use Rattle.qbf_core.specs.Rules.{Side, Clauses, Cubes, IsClean, IsReduct, IsInitial, Clashes, resolvent}
-use Rattle.qbf_core.specs.Blocks.{IsBound, AreBound}
-use Rattle.qbf_core.specs.Qbf.{Qbf, IsClosed}
+use Rattle.qrp_check.proofs.Words.{◌↔◌, ℕ, List, [], ◌∷◌, ◌++◌, inl, inr, refl, sym, subst, rules, AllByRecursion, Literal, ◌∈◌, ◌⊆◌, Side}
+use Rattle.qrp_check.proofs.Words.{Clauses, Cubes, IsClean, IsReduct, IsInitial, Clashes, resolvent, IsBound, AreBound, Qbf, IsClosed}
+use Rattle.qrp_check.proofs.Words.{IsTrueWithSets, append_left, append_right}
 use Rattle.qbf_core.proofs.Inferences.{resolvent_holds}
 use Rattle.qbf_core.proofs.TruthLaws.{implied_clause, reduct_clause, initial_cube, resolvent_cube, reduct_cube}
-use Rattle.qrp_check.specs.Laws.{IsTrueWithSets}
-use Rattle.qbf_core.proofs.Members.{append_left, append_right}
 
 -- each set is clean and over the prefix
 abbrev pub AreGood : Qbf → List (List Literal) → Type 0

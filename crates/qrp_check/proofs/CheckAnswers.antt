@@ -1,20 +1,10 @@
 -- What a check answers, from what is told of the core.
-use Rattle.std.proofs.lemmas.Grind.{common_steps}
-use Rattle.std.proofs.Common.{◌≡◌, ◌≢◌, ◌↔◌, Bool, true, false, List, refl, subst, IsTrue, arith}
-use Rattle.std.specs.Prelude.{Result, Ok, Err, OnOk, IfOk, IfErr}
-use Rattle.qbf_core.specs.Blocks.{Block}
-use Rattle.qbf_core.specs.Qbf.{Qbf, IsClosed, IsWellFormed}
-use Rattle.qbf_core.specs.Truth.{IsTrueFormula}
-use Rattle.qbf_core.specs.Rules.{Side, Clauses, Cubes}
-use Rattle.qrp.specs.Inferences.{Inference}
-use Rattle.qrp.specs.declared.item.Outcome.{Outcome}
-use Rattle.qrp_check.specs.declared.fault.CheckFault.{CheckFault}
-use Rattle.qrp_check.specs.declared.fault.CheckFault.TheVariants.{C1, C2, C3, C4, C5, C6}
-use Rattle.qrp_rules.specs.declared.rules.Rules.{Rules}
+use Rattle.qrp_check.proofs.Words.{common_steps, ◌≡◌, ◌≢◌, ◌↔◌, Bool, true, false, List, refl, subst, IsTrue, arith, Result, Ok, Err, IfOk}
+use Rattle.qrp_check.proofs.Words.{Block, Qbf, IsClosed, IsTrueFormula, Side, Clauses, Cubes, Inference, Outcome, CheckFault, C1, C2, C3}
+use Rattle.qrp_check.proofs.Words.{C4, C5, C6, Rules, side_of, Derives, Proves, IsFirstFault, ResultHolds, SetsAgree, Verified}
+use Rattle.std.specs.Prelude.{OnOk, IfErr}
+use Rattle.qbf_core.specs.Qbf.{IsWellFormed}
 use Rattle.qrp_check.specs.Followed.{IsCoreFault}
-use Rattle.qrp_check.specs.Proof.{side_of, Derives, Proves, IsFirstFault, ResultHolds}
-use Rattle.qrp_check.specs.Sets.{SetsAgree}
-use Rattle.qrp_check.specs.declared.verdict.Verified.{Verified}
 use Rattle.qrp_check.proofs.Soundness.{soundness}
 
 -- a fault of the core is the first fault

@@ -1,31 +1,24 @@
 -- One step of the core: its antecedents, and its conditions.
-use Rattle.std.proofs.Common.{◌≡◌, ℕ, ◌<◌, ◌≤◌, List, [], ◌∷◌, Option, Some, None, inl, inr, refl, sym, ap, subst, ◌∙◌, arith}
-use Rattle.std.proofs.Common.{◌+◌, length, get_or, take, rules, below_more}
-use Rattle.std.specs.Prelude.{Bool, IfOk, IfSome, IsTrue, Result, Ok, Err}
-use Rattle.qbf_core.specs.Literal.{Literal, positive}
-use Rattle.qbf_core.specs.Members.{◌∈◌}
-use Rattle.qbf_core.specs.Blocks.{Block, AreBound, IsBound}
-use Rattle.qbf_core.specs.Qbf.{Qbf}
-use Rattle.qbf_core.specs.Rules.{Side, IsClean, IsTautology}
+use Rattle.qrp_check.proofs.Words.{◌≡◌, ℕ, ◌<◌, ◌≤◌, List, [], ◌∷◌, Option, Some, None, inl, inr, refl, sym, ap, subst, ◌∙◌, arith, length}
+use Rattle.qrp_check.proofs.Words.{get_or, take, rules, IfOk, IfSome, Result, Ok, Err, Literal, ◌∈◌, Block, AreBound, IsBound, Qbf, Side}
+use Rattle.qrp_check.proofs.Words.{IsClean, bound_each, Inference, IsAt, RuleFault, IsAnswer, initial_condition, reduct_conditions}
+use Rattle.qrp_check.proofs.Words.{resolvent_conditions, Rules, IsNumberOf, StepFollows, lits_of, step_conditions, IsInCore, next}
+use Rattle.qrp_check.proofs.Words.{premise_conditions, reduct_answer, resolvent_answer, same_self, in_take, take_in}
+use Rattle.std.specs.Prelude.{Bool, IsTrue}
+use Rattle.qbf_core.specs.Literal.{positive}
+use Rattle.qbf_core.specs.Rules.{IsTautology}
+use Rattle.std.proofs.Common.{◌+◌, below_more}
 use Rattle.qbf_core.specs.Sets.{HasMembersOf}
-use Rattle.qbf_core.proofs.Bound.{bound_each}
-use Rattle.qrp.specs.Inferences.{Inference, IsAt, IsOnlyAt}
-use Rattle.qrp_rules.specs.declared.fault.RuleFault.{RuleFault}
+use Rattle.qrp.specs.Inferences.{IsOnlyAt}
 use Rattle.qrp_rules.specs.declared.fault.RuleFault.TheVariants.{S1, S2, S3}
-use Rattle.qrp_rules.specs.Conditions.{Condition, IsAnswer, initial_condition, reduct_conditions, resolvent_conditions}
-use Rattle.qrp_rules.specs.declared.rules.Rules.{Rules}
-use Rattle.qrp_check.specs.Conditions.{IsNumberOf, StepFollows, lits_of, step_conditions}
-use Rattle.qrp_check.specs.Core.{IsInCore, Needs, next}
-use Rattle.qrp_check.specs.Premises.{AreFit, ArePremises, IsFit, IsPremise, found_conditions, premise_conditions}
-use Rattle.qrp_check.specs.Premises.{written_conditions}
+use Rattle.qrp_rules.specs.Conditions.{Condition}
+use Rattle.qrp_check.specs.Premises.{AreFit, ArePremises, IsFit, IsPremise, found_conditions, written_conditions}
 use Rattle.qrp_check.specs.declared.premises.Premises.{Premises}
 use Rattle.qrp_check.specs.declared.premises.Premises.TheVariants.{Initial, One, Two}
-use Rattle.qrp_check.proofs.Marking.{core_within}
-use Rattle.qrp_check.proofs.StepFaults.{named}
+use Rattle.qrp_check.proofs.StepFaults.{named, need_of}
 use Rattle.qrp_check.proofs.StepPlaces.{one_at}
-use Rattle.qrp_rules.proofs.MembersDecide.{initial_answer, reduct_answer, resolvent_answer, same_self}
+use Rattle.qrp_rules.proofs.MembersDecide.{initial_answer}
 use Rattle.qrp_rules.proofs.FirstFailures.{answer_after}
-use Rattle.qbf_core.proofs.Members.{at_place, in_take, take_in}
 
 -- ---- earlier steps
 
@@ -50,11 +43,6 @@ found_late steps place number index answer only found late (s, h, is) =
     let less : w.0 < place = w.1 in
     omega (arith, same, less, late)
 
-needed : (steps : List Inference) (place index number : ℕ) → IsInCore steps place
-    → ((step : Inference) → IsAt steps place step → number ∈ step.ants) → index < place
-    → (below : Inference) → IsAt steps index below → below.number ≡ number → Needs steps place index
-needed steps place index number core ants less below here is = search (rules, at_place, core_within, named)
-
 -- the literals that are lent of an earlier step are those under its number
 pub premise_of : (steps : List Inference) (place index number : ℕ) (lits : List Literal) → index < place
     → (below : Inference) × IsAt steps index below × (below.number ≡ number) → IsOnlyAt steps index number
@@ -71,13 +59,10 @@ module _ (rules : Rules) (side : Side) (f : Qbf) (steps : List Inference) (place
   -- an antecedent of a step of the core follows itself, so it is clean and bound
   premise_fit : (number : ℕ) (lits : List Literal) → number ∈ step.ants → IsPremise (take place steps) number lits → IsFit f.blocks lits
   premise_fit number lits named_here (own, e) =
-      let s = named (take place steps) number own in
-      let w = in_take steps place s.0 s.1 in
-      let at_step : (other : Inference) → IsAt steps place other → number ∈ other.ants =
-      λ other at. subst (λ (t : Inference). number ∈ t.ants) (one_at steps place step other here at) named_here in
-      let done = follows w.0 w.1 (next core (needed steps place w.0 number core at_step w.1 s.0 w.2 s.2)) in
+      let w = need_of steps place step number here named_here own in
+      let done = follows w.0 w.1.before (next core w.1) in
       let lits_in : Inference → List Literal = λ t. t.lits in
-      let at : done.step.lits ≡ lits = ap lits_in (one_at steps w.0 done.step s.0 done.here w.2) ∙ s.3 ∙ sym e in
+      let at : done.step.lits ≡ lits = ap lits_in (one_at steps w.0 done.step w.1.below done.here w.1.at_below) ∙ w.3 ∙ sym e in
       (subst IsClean at done.all.0, subst (AreBound f.blocks) at done.all.1.0)
 
   pub premises_fit : (found : Option Premises) → ArePremises (take place steps) step.ants found → IfSome found (AreFit f.blocks)

@@ -1,23 +1,13 @@
 -- The core's steps are added one by one, and the truth stays.
-use Rattle.std.proofs.Common.{◌≡◌, ◌↔◌, ℕ, zero, suc, ◌<◌, List, [], ◌∷◌, ◌++◌, inl, inr, refl, sym, subst, take, arith, rules}
-use Rattle.qbf_core.specs.Literal.{Literal}
-use Rattle.qbf_core.specs.Members.{◌∈◌, ◌⊆◌}
-use Rattle.qbf_core.specs.Rules.{Side, Clauses, Cubes, IsClean, IsInitial}
-use Rattle.qbf_core.specs.Blocks.{AreBound}
-use Rattle.qbf_core.specs.Qbf.{Qbf, IsClosed}
-use Rattle.qbf_core.specs.Truth.{IsTrueFormula}
+use Rattle.qrp_check.proofs.Words.{◌≡◌, ◌↔◌, ℕ, zero, suc, ◌<◌, List, [], ◌∷◌, ◌++◌, inl, inr, refl, sym, subst, take, arith, rules}
+use Rattle.qrp_check.proofs.Words.{Literal, ◌∈◌, ◌⊆◌, Side, Clauses, Cubes, IsClean, IsInitial, AreBound, Qbf, IsClosed, IsTrueFormula}
+use Rattle.qrp_check.proofs.Words.{IsAt, Inference, Rules, IsInCore, next, Derives, antecedent_conditions, lits_of, step_conditions}
+use Rattle.qrp_check.proofs.Words.{AllHold, initial_condition, IsTrueWithSets, AreOfCore, CoreKeepsTheTruth, in_append, append_left}
+use Rattle.qrp_check.proofs.Words.{append_right}
 use Rattle.qbf_core.proofs.TruthLaws.{fewer_clauses, fewer_cubes, beside_none}
-use Rattle.qrp.specs.Inferences.{IsAt, Inference}
-use Rattle.qrp_rules.specs.declared.rules.Rules.{Rules}
-use Rattle.qrp_check.specs.Core.{IsInCore, Needs, next}
-use Rattle.qrp_check.specs.Proof.{Derives}
-use Rattle.qrp_check.specs.Conditions.{antecedent_conditions, lits_of, step_conditions}
-use Rattle.qrp_rules.specs.Conditions.{AllHold, initial_condition}
-use Rattle.qrp_check.specs.Laws.{IsTrueWithSets, AreOfCore, CoreKeepsTheTruth}
 use Rattle.qrp_check.proofs.AddedSets.{AreGood, Grown, one_grown, grown_on, initial_grows, reduct_grows}
 use Rattle.qrp_check.proofs.ParentsReduced.{resolved_grown}
-use Rattle.qrp_check.proofs.StepFaults.{named}
-use Rattle.qbf_core.proofs.Members.{in_append, append_left, append_right, in_take}
+use Rattle.qrp_check.proofs.StepFaults.{need_of}
 
 initial_of : (side : Side) (f : Qbf) (lits : List Literal) → (initial_condition side f lits).1 → IsInitial side f lits
 initial_of Clauses f lits h = h
@@ -65,17 +55,8 @@ module _ (rules : Rules) (side : Side) (f : Qbf) (steps : List Inference) (close
           subst (λ s. CanGrow s.lits) same
           (by_rule (take i steps) above.ants above.lits clean bound
           (λ m h.
-          let w = named (take i steps) m (names m h) in
-          let p = in_take steps i w.0 w.1 in
-          let needs : Needs steps i p.0 = record {
-            before = p.1;
-            above = above;
-            at_above = there;
-            below = w.0;
-            at_below = p.2;
-            named = subst (λ k. k ∈ above.ants) (sym w.2) h;
-          } in
-          subst (λ lits. CanGrow lits) w.3 (earlier p.0 p.1 (next core needs) w.0 p.2))
+          let w = need_of steps i above m there h (names m h) in
+          subst (λ lits. CanGrow lits) w.3 (earlier w.0 w.1.before (next core w.1) w.1.below w.1.at_below))
           rows)
 
   -- sets among good ones that change no truth

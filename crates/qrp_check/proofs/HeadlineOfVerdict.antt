@@ -1,35 +1,28 @@
 -- From the verdict on what was read to the headline over the bytes.
-use Rattle.std.proofs.Common.{◌≡◌, ◌↔◌, ℕ, IsTrue, List, Option, Some, None, inl, inr, refl, subst, rules}
-use Rattle.std.specs.Prelude.{Result, Ok, Err, IfSome}
-use Rattle.qbf_core.specs.Qbf.{Qbf}
-use Rattle.qbf_core.specs.Truth.{IsTrueFormula}
+use Rattle.qrp_check.proofs.Words.{◌≡◌, ◌↔◌, ℕ, IsTrue, List, Option, Some, None, inl, inr, refl, subst, rules, Result, Ok, Err, IfSome}
+use Rattle.qrp_check.proofs.Words.{Qbf, IsTrueFormula, Derivation, Rules, Verified, Fault, ListsCore, side_of, ResultHolds, IsVerdict}
 use Rattle.qbf_text.specs.declared.token.Comments.TheVariants.{Qdimacs, Qrp}
 use Rattle.qbf_text.specs.Lined.{unlined}
 use Rattle.qbf_text.specs.Tokens.{tokens}
 use Rattle.qbf_text.proofs.TokensEndOnce.{tokens-EndsOnce}
 use Rattle.qdimacs.specs.declared.fault.FormulaFault.{FormulaFault}
 use Rattle.qdimacs.specs.Grammar.{IsFormula}
-use Rattle.qdimacs.specs.Faults as formulas
 use Rattle.qdimacs.specs.Reading.{read_formula}
-use Rattle.qdimacs.proofs.ReadIsSpelled as formulas_sound
-use Rattle.qdimacs.proofs.SpelledIsRead as formulas_complete
 use Rattle.qrp.specs.declared.fault.TraceFault.{TraceFault}
-use Rattle.qrp.specs.Derivations.{Derivation}
 use Rattle.qrp.specs.Grammar.{IsTrace}
-use Rattle.qrp.specs.Faults as traces
 use Rattle.qrp.specs.Reading.{read_trace}
-use Rattle.qrp.proofs.ReadIsSpelled as traces_sound
-use Rattle.qrp.proofs.SpelledIsRead as traces_complete
-use Rattle.qrp_rules.specs.declared.rules.Rules.{Rules}
-use Rattle.qrp_check.specs.declared.verdict.Verified.{Verified}
-use Rattle.qrp_check.specs.declared.verdict.Fault.{Fault}
-use Rattle.qrp_check.specs.declared.verdict.Fault.TheVariants as fault
-use Rattle.qrp_check.specs.Core.{ListsCore}
-use Rattle.qrp_check.specs.Proof.{side_of, IsProof, ResultHolds}
-use Rattle.qrp_check.specs.Verdict.{is_sat, IsVerdict, IsVerdictUnless}
+use Rattle.qrp_check.specs.Proof.{IsProof}
+use Rattle.qrp_check.specs.Verdict.{is_sat, IsVerdictUnless}
 use Rattle.qrp_check.specs.Headline.{Spell, IsShown, Headline}
 use Rattle.qrp_check.proofs.Soundness.{soundness}
 use Rattle.qrp_check.proofs.Verdicts.{verdict_is_one}
+use Rattle.qdimacs.specs.Faults as formulas
+use Rattle.qdimacs.proofs.ReadIsSpelled as formulas_sound
+use Rattle.qdimacs.proofs.SpelledIsRead as formulas_complete
+use Rattle.qrp.specs.Faults as traces
+use Rattle.qrp.proofs.ReadIsSpelled as traces_sound
+use Rattle.qrp.proofs.SpelledIsRead as traces_complete
+use Rattle.qrp_check.specs.declared.verdict.Fault.TheVariants as fault
 
 formula_spelled : (bytes : List ℕ) (f : Qbf) → read_formula bytes ≡ Ok f → IsFormula (unlined (tokens Qdimacs bytes)) f
 formula_spelled bytes f is =

@@ -1,14 +1,11 @@
 -- Parents that are reduced before they are resolved: reductions of the parents, a resolution, and a reduction of the resolvent.
-use Rattle.std.proofs.Common.{◌≡◌, ℕ, List, [], ◌∷◌, ◌++◌, ◌⊎◌, inl, inr, refl, sym, subst, rules}
-use Rattle.std.proofs.lemmas.Bool.{cases_eq}
-use Rattle.qbf_core.specs.Literal.{Literal}
-use Rattle.qbf_core.specs.Members.{◌∈◌, ◌⊆◌}
-use Rattle.qbf_core.specs.Rules.{IsClean, Side, IsReducible, IsReduct, Clashes, IsOnlyClash, resolvent}
-use Rattle.qbf_core.specs.Blocks.{Block, IsBound, AreBound}
-use Rattle.qbf_core.proofs.Bound.{bound_each, bound_within}
-use Rattle.qbf_core.specs.Qbf.{Qbf, IsClosed}
+use Rattle.qrp_check.proofs.Words.{◌≡◌, ℕ, List, [], ◌∷◌, ◌++◌, ◌⊎◌, inl, inr, refl, sym, subst, rules, cases_eq, Literal, ◌∈◌, ◌⊆◌}
+use Rattle.qrp_check.proofs.Words.{IsClean, Side, IsReduct, Clashes, resolvent, Block, IsBound, AreBound, bound_each, Qbf, IsClosed}
+use Rattle.qrp_check.proofs.Words.{in_append, append_left, append_right}
+use Rattle.qbf_core.specs.Rules.{IsReducible, IsOnlyClash}
+use Rattle.qbf_core.proofs.Bound.{bound_within}
 use Rattle.qrp_rules.specs.Conditions.{IsReducibleInParents}
-use Rattle.qbf_core.proofs.Members.{in_or_not, in_append, append_left, append_right}
+use Rattle.qbf_core.proofs.Members.{in_or_not}
 use Rattle.qbf_core.proofs.Inferences.{in_without, from_without, resolvent_clean, resolvent_bound}
 use Rattle.qrp_check.proofs.AddedSets.{AreGood, Grown, one_grown, grown_on, reduct_grows, resolvent_grows}
 use Rattle.qbf_core.proofs.Order.{clean_within}

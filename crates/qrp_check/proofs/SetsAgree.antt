@@ -1,17 +1,14 @@
 -- How far the sets of a trace agree: one pair more, and one list of pairs more.
-use Rattle.std.proofs.Common.{◌≡◌, ◌≤◌, ◌<◌, ◌+◌, ℕ, zero, suc, List, [], ◌∷◌, ◌++◌, ◌⊎◌, inl, inr, refl, sym, ap, subst, ◌∙◌, arith, rules}
-use Rattle.std.proofs.Common.{length, get_or, take, drop, slice_get, Some}
-use Rattle.std.proofs.lemmas.List.{append_assoc, append-nil, map-append, map_more, take_more, take-append-drop}
+use Rattle.qrp_check.proofs.Words.{◌≡◌, ◌≤◌, ◌<◌, ◌+◌, ℕ, zero, suc, List, [], ◌∷◌, ◌++◌, ◌⊎◌, inl, inr, refl, sym, ap, subst, ◌∙◌, arith}
+use Rattle.qrp_check.proofs.Words.{rules, length, get_or, take, drop, Some, take_more, Quantifier, Block, IsBound, pairs, pairs_of_block}
+use Rattle.qrp_check.proofs.Words.{in_push, push_in, CheckFault, C1, C2, C3, AllHold, IsFirstFailure, Passes, FailsIn}
+use Rattle.std.proofs.Common.{slice_get}
+use Rattle.std.proofs.lemmas.List.{append_assoc, append-nil, map-append, map_more, take-append-drop}
 use Rattle.std.proofs.lemmas.List.Concat.{flat_map-append}
-use Rattle.qbf_core.specs.declared.quantifier.Quantifier.{Quantifier}
-use Rattle.qbf_core.specs.Blocks.{Block, Binds, IsBound, block_in, pairs, pairs_of_block}
+use Rattle.qbf_core.specs.Blocks.{Binds, block_in}
 use Rattle.qbf_core.proofs.Bound.{binds_in, in_bound}
-use Rattle.qbf_core.proofs.Members.{in_push, push_in}
-use Rattle.qrp_check.specs.declared.fault.CheckFault.{CheckFault}
-use Rattle.qrp_check.specs.declared.fault.CheckFault.TheVariants.{C1, C2, C3}
-use Rattle.qrp_rules.specs.Conditions.{AllHold, IsFirstFailure}
 use Rattle.qrp_check.specs.Sets.{set_conditions, PairsAgree, IsPairFault}
-use Rattle.qrp_check.specs.Passed.{IsPassed, Passes, FailsIn}
+use Rattle.qrp_check.specs.Passed.{IsPassed}
 
 -- places of a list with more behind it
 push_at : {A : Type 0} (xs : List A) (y r : A) (i : ℕ) → slice_get (xs ++ y ∷ []) i ≡ Some r

@@ -1,12 +1,8 @@
 -- Steps at their places.
-use Rattle.std.proofs.Common.{◌≡◌, ℕ, suc, ◌<◌, ◌≤◌, true, false, List, [], ◌∷◌, Some, refl, sym, ◌∙◌, length, rules}
+use Rattle.qrp_check.proofs.Words.{◌≡◌, ℕ, suc, ◌<◌, ◌≤◌, true, false, List, [], ◌∷◌, Some, refl, sym, ◌∙◌, length, rules, slice_get}
+use Rattle.qrp_check.proofs.Words.{false≢true, cases_eq, Inference, IsAt, IsGoal, at_place}
 use Rattle.std.proofs.Common.{eqb}
-use Rattle.std.specs.Prelude.{slice_get}
 use Rattle.std.proofs.Math.Dec.{eqb-suc-zero}
-use Rattle.std.proofs.lemmas.Bool.{false≢true, cases_eq}
-use Rattle.qrp.specs.Inferences.{Inference, IsAt}
-use Rattle.qrp_check.specs.Core.{IsGoal}
-use Rattle.qbf_core.proofs.Members.{at_place}
 
 pub one_at : {A : Type 0} (xs : List A) (i : ℕ) (x y : A) → slice_get xs i ≡ Some x → slice_get xs i ≡ Some y → x ≡ y
 one_at xs i x y p q = let e : Some x ≡ Some y = sym p ∙ q in cc e

@@ -1,25 +1,17 @@
 -- The steps at some places: what holds of them, and that rising places give steps of different numbers.
-use Rattle.std.proofs.Common.{◌≡◌, ℕ, suc, ◌+◌, ◌<◌, false, ◌||◌, List, [], ◌∷◌, ◌++◌, inr, refl, ap, ◌∙◌, length, rules}
-use Rattle.std.proofs.Common.{take, get_or, Some, arith, nat_eq}
-use Rattle.std.specs.Prelude.{slice_get, Result, Ok, Err, IfOk}
-use Rattle.std.specs.List.{AllByRecursion, cons_option}
+use Rattle.qrp_check.proofs.Words.{◌≡◌, ℕ, suc, ◌+◌, ◌<◌, false, List, [], ◌∷◌, ◌++◌, inr, refl, ap, ◌∙◌, length, rules, take, get_or, Some}
+use Rattle.qrp_check.proofs.Words.{arith, nat_eq, slice_get, Result, Ok, Err, IfOk, AllByRecursion, take_more, slice_get_cases}
+use Rattle.qrp_check.proofs.Words.{slice_get-get_or, get_or_from_slice_get, ◌∈◌, Inference, IsAt, numbers, HasOwnNumbers, ListsCore}
+use Rattle.qrp_check.proofs.Words.{steps_at, CheckFault, Verified, in_take}
+use Rattle.std.proofs.Common.{◌||◌}
+use Rattle.std.specs.List.{cons_option}
 use Rattle.std.specs.List.Sorted.{IsStrictlyIncreasing}
 use Rattle.std.proofs.lemmas.Bool.{ne_eqb}
-use Rattle.std.proofs.lemmas.List.{take_more}
 use Rattle.std.proofs.lemmas.List.Elements.{filter_map-append}
 use Rattle.std.proofs.lemmas.List.Kept.{AllPairs-from_increasing}
-use Rattle.std.proofs.lemmas.Option.{slice_get_cases, slice_get-get_or, get_or_from_slice_get}
-use Rattle.qbf_core.specs.Members.{◌∈◌}
 use Rattle.qbf_core.proofs.DistinctNumbers.{all_at}
-use Rattle.qrp.specs.Inferences.{Inference, IsAt, numbers}
 use Rattle.step_index.specs.Numbers.{is_used}
-use Rattle.qrp.proofs.Positions.{HasOwnNumbers}
-use Rattle.qrp_check.specs.Core.{ListsCore}
-use Rattle.qrp.specs.Derivations.{steps_at}
-use Rattle.qrp_check.specs.declared.fault.CheckFault.{CheckFault}
-use Rattle.qrp_check.specs.declared.verdict.Verified.{Verified}
 use Rattle.qrp_check.proofs.Marking.{core_within}
-use Rattle.qbf_core.proofs.Members.{in_take}
 
 -- ---- lists by places
 

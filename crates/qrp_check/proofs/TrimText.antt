@@ -1,14 +1,11 @@
 -- A trimmed trace is well formed, and so its text reads as it.
-use Rattle.std.proofs.Common.{◌≡◌, ℕ, zero, suc, ◌^◌, ◌<◌, ◌≤◌, List, [], ◌∷◌, inl, inr, refl, length, Some, arith, nat_eq, rules}
-use Rattle.std.specs.Prelude.{slice_get}
+use Rattle.qrp_check.proofs.Words.{◌≡◌, ℕ, zero, suc, ◌<◌, ◌≤◌, List, [], ◌∷◌, inl, inr, refl, length, Some, arith, nat_eq, rules}
+use Rattle.qrp_check.proofs.Words.{slice_get, slice_get_cases, slice_get_within, ◌∈◌, Inference, numbers, Derivation, steps_at}
+use Rattle.qrp_check.proofs.Words.{HasOwnNumbers, own_numbers, ListsCore}
+use Rattle.std.proofs.Common.{◌^◌}
 use Rattle.std.specs.List.{IsDistinct}
-use Rattle.std.proofs.lemmas.Option.{slice_get_cases, slice_get_within}
-use Rattle.qbf_core.specs.Members.{◌∈◌}
-use Rattle.qrp.specs.Inferences.{Inference, numbers}
-use Rattle.qrp.specs.Derivations.{Derivation, IsWellFormed, steps_at}
-use Rattle.qrp.proofs.Positions.{HasOwnNumbers, own_numbers}
+use Rattle.qrp.specs.Derivations.{IsWellFormed}
 use Rattle.qrp.proofs.ReadingLaws.{text_is_read}
-use Rattle.qrp_check.specs.Core.{ListsCore}
 use Rattle.qrp_check.specs.Laws.{TrimmedTextProves}
 use Rattle.qrp_check.specs.Trim.{trimmed}
 use Rattle.qrp_check.proofs.Marking.{core_within}

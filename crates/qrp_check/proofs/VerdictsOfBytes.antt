@@ -1,18 +1,10 @@
 -- From the check of what was read to the verdict on its bytes.
-use Rattle.std.proofs.Common.{◌≡◌, ◌≢◌, ℕ, List, Option, Some, None, arith, inl, inr, refl}
-use Rattle.std.specs.Prelude.{Result, Ok, Err, IfSome}
-use Rattle.qbf_core.specs.Qbf.{Qbf}
-use Rattle.qrp.specs.Answers as traces
-use Rattle.qrp.specs.Derivations.{Derivation}
-use Rattle.qrp_rules.specs.declared.rules.Rules.{Rules}
-use Rattle.qrp_check.specs.declared.verdict.Fault.{Fault}
-use Rattle.qrp_check.specs.declared.verdict.Fault.TheVariants as fault
-use Rattle.qrp_check.specs.declared.fault.CheckFault.{CheckFault}
-use Rattle.qrp_check.specs.declared.fault.CheckFault.TheVariants.{C1, C2, C3, C4, C5, C6}
-use Rattle.qrp_check.specs.declared.verdict.Verified.{Verified}
+use Rattle.qrp_check.proofs.Words.{◌≡◌, ◌≢◌, ℕ, List, Option, Some, None, arith, inl, inr, refl, Result, Ok, Err, IfSome, Qbf, Derivation}
+use Rattle.qrp_check.proofs.Words.{Rules, Fault, CheckFault, C1, C2, C3, C4, C5, C6, Verified, IsFirstFault, IsVerdict}
 use Rattle.qrp_check.specs.Checked.{SourceCall, IsCheckedOf, verdict_of}
-use Rattle.qrp_check.specs.Proof.{IsFirstFault}
-use Rattle.qrp_check.specs.Verdict.{IsVerdict, IsVerdictOf}
+use Rattle.qrp_check.specs.Verdict.{IsVerdictOf}
+use Rattle.qrp.specs.Answers as traces
+use Rattle.qrp_check.specs.declared.verdict.Fault.TheVariants as fault
 
 first_fault_is : (rules : Rules) (trace : Option (List ℕ)) (f : Qbf) (d : Derivation) (e : CheckFault)
     → IfSome (traces.reads_bytes trace) (λ r. r ≡ Ok d) → IsFirstFault rules f d.sets d.steps d.result e

@@ -1,15 +1,8 @@
 -- What follows by some rules follows by wider ones.
-use Rattle.std.proofs.Common.{ℕ, List, [], ◌∷◌, IsTrue, inl, inr, take, rules}
-use Rattle.qbf_core.specs.Literal.{Literal}
-use Rattle.qbf_core.specs.Blocks.{Block}
-use Rattle.qbf_core.specs.Qbf.{Qbf}
-use Rattle.qbf_core.specs.Rules.{Side}
-use Rattle.qrp.specs.Inferences.{Inference}
-use Rattle.qrp_rules.specs.declared.rules.Rules.{Rules}
-use Rattle.qrp_check.specs.Conditions.{StepFollows, antecedent_conditions}
-use Rattle.qrp_rules.specs.Conditions.{AllHold, AllowsPivot}
+use Rattle.qrp_check.proofs.Words.{ℕ, List, [], ◌∷◌, IsTrue, inl, inr, take, rules, Literal, Block, Qbf, Side, Inference, Rules}
+use Rattle.qrp_check.proofs.Words.{StepFollows, antecedent_conditions, AllHold, side_of}
+use Rattle.qrp_rules.specs.Conditions.{AllowsPivot}
 use Rattle.qrp_check.specs.Laws.{MorePivotsKeep, ReducedParentsKeep}
-use Rattle.qrp_check.specs.Proof.{side_of}
 use Rattle.qrp_check.specs.Unreduced.{FollowsUnreduced, unreduced_antecedents}
 use Rattle.qrp_rules.proofs.UnreducedParents.{reduced_too}
 

@@ -1,12 +1,10 @@
 -- Walks over ordered lists side by side.
-use Rattle.std.proofs.Common.{◌≡◌, ◌<◌, ◌≤◌, ◌+◌, ℕ, suc, zero, List, [], ◌∷◌, length, get_or, drop, Bool, eqb, ◌&&◌, ◌↔◌, IsTrue, rules}
-use Rattle.std.proofs.Common.{slice_get, Some, refl, sym, ap, subst, ◌∙◌, inl, inr, arith}
+use Rattle.qrp_rules.proofs.Words.{◌≡◌, ◌<◌, ◌≤◌, ◌+◌, ℕ, suc, zero, List, [], ◌∷◌, length, get_or, drop, Bool, ◌↔◌, IsTrue, rules}
+use Rattle.qrp_rules.proofs.Words.{slice_get, Some, refl, sym, ap, subst, ◌∙◌, inl, inr, arith, Literal, ◌∈◌, ◌⊆◌, IsOrdered, lit_test}
+use Rattle.qrp_rules.proofs.Words.{drop_more}
+use Rattle.std.proofs.Common.{eqb, ◌&&◌}
 use mathlib.Core.Bool.{beq}
-use Rattle.qbf_core.specs.Literal.{Literal}
-use Rattle.qbf_core.specs.Members.{◌∈◌, ◌⊆◌}
-use Rattle.qbf_core.specs.Sets.{IsOrdered}
-use Rattle.qbf_core.proofs.Members.{lit_test, lit_test_same}
-use Rattle.std.proofs.lemmas.List.{drop_more}
+use Rattle.qbf_core.proofs.Members.{lit_test_same}
 
 -- v is the variable of a literal of the list
 abbrev pub HasVar : List Literal → ℕ → Type 0

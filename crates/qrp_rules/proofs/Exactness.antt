@@ -1,25 +1,18 @@
 -- Steps that are written exactly as they follow, in any order: what the walk over them tells.
-use Rattle.std.proofs.Common.{IsTrue, ◌≡◌, ◌<◌, ◌≤◌, ◌+◌, ℕ, List, [], ◌∷◌, ◌++◌, ◌⊎◌, ◌↔◌, Bool, length, get_or, take, drop, slice_get}
-use Rattle.std.proofs.Common.{Some, None, refl, rules}
-use Rattle.std.proofs.Common.{sym, ap, subst, ◌∙◌, inl, inr, arith}
-use Rattle.std.proofs.lemmas.Bool.{cases_eq}
+use Rattle.qrp_rules.proofs.Words.{IsTrue, ◌≡◌, ◌<◌, ◌≤◌, ◌+◌, ℕ, List, [], ◌∷◌, ◌++◌, ◌⊎◌, ◌↔◌, Bool, length, get_or, take, drop}
+use Rattle.qrp_rules.proofs.Words.{slice_get, Some, None, refl, rules, sym, ap, subst, ◌∙◌, inl, inr, arith, cases_eq, take-append-drop}
+use Rattle.qrp_rules.proofs.Words.{Literal, negated, positive, negative, ◌∈◌, ◌⊆◌, Block, Side, Clashes, IsClean, IsOnlyClash, IsReducible}
+use Rattle.qrp_rules.proofs.Words.{resolvent, in_without, from_without, in_take_all, in_take_more, in_append, append_left, append_right}
+use Rattle.qrp_rules.proofs.Words.{take_more_in, take_within, got_in, Rules, AllHold, AllowsPivot, resolvent_conditions, IsApart}
+use Rattle.qrp_rules.proofs.Words.{IsMergeSoFar, IsNext, IsPutBy, Has, clash_here, clean_within, slice_get_read}
+use Rattle.std.proofs.lemmas.List.{take_all}
+use Rattle.qbf_core.specs.Blocks.{AreBound}
+use Rattle.qbf_core.proofs.Inferences.{resolvent_clean, resolvent_bound}
+use Rattle.qbf_core.proofs.Members.{negated_differs, negated_twice, drop_within}
+use Rattle.qrp_rules.specs.Exact.{IsMergeBut, IsResolvedBut}
 use Rattle.std.proofs.lemmas.Grind.{common_steps}
-use Rattle.std.proofs.lemmas.List.{take-append-drop, take_all}
-use Rattle.qbf_core.specs.Literal.{Literal, negated, positive, negative}
-use Rattle.qbf_core.specs.Members.{◌∈◌, ◌⊆◌}
-use Rattle.qbf_core.specs.Blocks.{Block, AreBound}
-use Rattle.qbf_core.specs.Rules.{Side, Clashes, IsClean, IsOnlyClash, IsReducible, resolvent}
-use Rattle.qbf_core.proofs.Inferences.{in_without, from_without, resolvent_clean, resolvent_bound}
-use Rattle.qbf_core.proofs.Members.{in_take_all, in_take_more, negated_differs, negated_twice, in_append}
-use Rattle.qbf_core.proofs.Members.{append_left, append_right, take_more_in, take_within, drop_within, got_in}
-use Rattle.qrp_rules.specs.declared.rules.Rules.{Rules}
-use Rattle.qrp_rules.specs.Conditions.{AllHold, AllowsPivot, resolvent_conditions}
-use Rattle.qrp_rules.specs.Exact.{IsApart, IsMergeBut, IsMergeSoFar, IsNext, IsPutBy, IsResolvedBut}
-use Rattle.qrp_rules.specs.Seen.{Has}
 use Rattle.qrp_rules.proofs.Merging.{in_pass, pass_in, pass_inside, pass_takes, split_at}
 use Rattle.qrp_rules.proofs.ResolventRows.{at_pivot}
-use Rattle.qbf_core.proofs.Order.{clash_here, clean_within}
-use Rattle.std.proofs.lemmas.Option.{slice_get_read}
 
 -- ---- one literal more
 

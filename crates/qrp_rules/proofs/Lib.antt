@@ -12,3 +12,4 @@ pub mod Merging
 pub mod Exactness
 pub mod Stamps
 pub mod WatchedClauses
+pub mod Words

@@ -1,17 +1,9 @@
 -- Rules look at members alone: lists with the same members meet the same conditions.
-use Rattle.std.proofs.Common.{◌≡◌, ℕ, List, [], ◌∷◌, ◌++◌, ◌⊎◌, Option, Some, None, inl, inr, refl, ◌∙◌, rules}
-use Rattle.qbf_core.specs.Literal.{Literal, positive, negative}
-use Rattle.qbf_core.specs.Members.{◌∈◌, ◌⊆◌}
-use Rattle.qbf_core.specs.Blocks.{Block}
-use Rattle.qbf_core.specs.Qbf.{Qbf}
-use Rattle.qbf_core.specs.Rules.{Side, Clauses, Cubes, IsReducible, IsReduct, Clashes, resolvent, IsInitial}
-use Rattle.qbf_core.specs.Sets.{HasMembersOf}
-use Rattle.qbf_core.proofs.Inferences.{in_without, from_without}
-use Rattle.qrp_rules.specs.declared.fault.RuleFault.{RuleFault}
-use Rattle.qrp_rules.specs.declared.rules.Rules.{Rules}
-use Rattle.qrp_rules.specs.Conditions.{Condition, AllHold, IsFirstFailure, IsAnswer, IsReducibleInParents, reduct_conditions}
-use Rattle.qrp_rules.specs.Conditions.{resolvent_conditions, initial_condition}
-use Rattle.qbf_core.proofs.Members.{in_append, append_left, append_right}
+use Rattle.qrp_rules.proofs.Words.{◌≡◌, ℕ, List, [], ◌∷◌, ◌++◌, ◌⊎◌, Option, Some, None, inl, inr, refl, ◌∙◌, rules, Literal, positive}
+use Rattle.qrp_rules.proofs.Words.{negative, ◌∈◌, ◌⊆◌, Block, Qbf, Side, Clauses, Cubes, IsReducible, IsReduct, Clashes, resolvent}
+use Rattle.qrp_rules.proofs.Words.{IsInitial, HasMembersOf, in_without, from_without, RuleFault, Rules, Condition, AllHold, IsFirstFailure}
+use Rattle.qrp_rules.proofs.Words.{IsAnswer, IsReducibleInParents, reduct_conditions, resolvent_conditions, initial_condition, in_append}
+use Rattle.qrp_rules.proofs.Words.{append_left, append_right}
 
 -- the same names, and each condition of the one list follows from that of the other
 abbrev pub AreImplied : List (Condition RuleFault) → List (Condition RuleFault) → Type 0

@@ -1,16 +1,8 @@
 -- Steps that are written exactly as they follow: what the walk over them tells.
-use Rattle.std.proofs.Common.{◌≡◌, ◌<◌, ◌≤◌, ◌+◌, ℕ, List, ◌∷◌, ◌++◌, ◌⊎◌, length, get_or, take, drop, slice_get, Some}
-use Rattle.std.proofs.Common.{Option, refl, sym, ap, subst, ◌∙◌, inl, inr, arith}
-use Rattle.std.proofs.lemmas.Bool.{cases_eq}
-use Rattle.qbf_core.specs.Literal.{Literal}
-use Rattle.qbf_core.specs.Members.{◌∈◌, ◌⊆◌}
-use Rattle.qbf_core.specs.Blocks.{Block}
-use Rattle.qbf_core.proofs.Members.{in_take_all, in_take_more, take_more_in, take_within}
-use Rattle.qbf_core.specs.declared.quantifier.Quantifier.{Quantifier}
-use Rattle.qrp_rules.specs.Walks.{StandsAfter}
-use Rattle.qrp_rules.specs.Exact.{IsNext}
-use Rattle.std.proofs.lemmas.List.{drop_more, take-append-drop}
-use Rattle.std.proofs.lemmas.Option.{slice_get_within, get_or_from_slice_get}
+use Rattle.qrp_rules.proofs.Words.{◌≡◌, ◌<◌, ◌≤◌, ◌+◌, ℕ, List, ◌∷◌, ◌++◌, ◌⊎◌, length, get_or, take, drop, slice_get, Some, Option, refl}
+use Rattle.qrp_rules.proofs.Words.{sym, ap, subst, ◌∙◌, inl, inr, arith, cases_eq, Literal, ◌∈◌, ◌⊆◌, Block, in_take_all, in_take_more}
+use Rattle.qrp_rules.proofs.Words.{take_more_in, take_within, Quantifier, StandsAfter, IsNext, drop_more, take-append-drop}
+use Rattle.qrp_rules.proofs.Words.{slice_get_within, get_or_from_slice_get}
 
 -- ---- one literal more
 

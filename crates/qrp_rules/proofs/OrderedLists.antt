@@ -1,11 +1,7 @@
 -- Ordered lists: their beginnings, and their lengths.
-use Rattle.std.proofs.Common.{◌≡◌, ◌<◌, ◌≤◌, ◌+◌, ℕ, List, [], ◌∷◌, ◌++◌, length, get_or, take, refl, sym, subst, ◌∙◌, inl, inr, rules}
-use Rattle.std.proofs.Common.{arith}
-use Rattle.qbf_core.specs.Literal.{Literal}
-use Rattle.qbf_core.specs.Members.{◌∈◌, ◌⊆◌}
-use Rattle.qbf_core.specs.Sets.{IsOrdered}
+use Rattle.qrp_rules.proofs.Words.{◌≡◌, ◌<◌, ◌≤◌, ◌+◌, ℕ, List, [], ◌∷◌, ◌++◌, length, get_or, take, refl, sym, subst, ◌∙◌, inl, inr, rules}
+use Rattle.qrp_rules.proofs.Words.{arith, Literal, ◌∈◌, ◌⊆◌, IsOrdered, ordered_push}
 use Rattle.std.proofs.lemmas.List.{take_more}
-use Rattle.qbf_core.proofs.Order.{ordered_push}
 
 -- one more literal above those so far
 pub ordered_taken : (xs : List Literal) (i : ℕ) (x : Literal) → i < length xs → x ≡ get_or xs i x → IsOrdered (take i xs)

@@ -1,28 +1,20 @@
 -- Fully reduced forms: a reduct has that of the list it is made from.
-use Rattle.std.proofs.Common.{◌≡◌, ◌<◌, ◌≤◌, ◌+◌, ◌↔◌, ℕ, suc, List, [], ◌∷◌, ◌++◌, ◌⊎◌, length, get_or, take, slice_get, Option, rules}
-use Rattle.std.proofs.Common.{Some, None, Contains, Bool, IsTrue, refl, sym, ap, subst, ◌∙◌, inl, inr, arith}
+use Rattle.qrp_rules.proofs.Words.{◌≡◌, ◌<◌, ◌≤◌, ◌+◌, ◌↔◌, ℕ, suc, List, [], ◌∷◌, ◌++◌, ◌⊎◌, length, get_or, take, slice_get, Option}
+use Rattle.qrp_rules.proofs.Words.{rules, Some, None, Contains, Bool, IsTrue, refl, sym, ap, subst, ◌∙◌, inl, inr, arith, Contains-push}
+use Rattle.qrp_rules.proofs.Words.{ltb, drop, ◌-◌, true, IsNonDecreasingBy, All, Exists, Literal, ◌∈◌, ◌⊆◌, Block, Binds, Qbf, Side}
+use Rattle.qrp_rules.proofs.Words.{Clauses, Cubes, IsClean, IsReducible, IsReduct, IsInitial, reduced_quantifier, deciding_quantifier}
+use Rattle.qrp_rules.proofs.Words.{IsOrdered, HasMembersOf, got_in, in_got, ordered_push, IsInnermost, StandsAfter, IsReducedForm}
+use Rattle.qrp_rules.proofs.Words.{HasReductAt, IsIndexBelow, hash_from, hash_of, IndexEntry, slice_get_within}
 use Rattle.std.proofs.lemmas.Bool.{cases_lt}
-use Rattle.std.proofs.lemmas.List.Elements.{Contains-append_left, Contains-push}
-use Rattle.std.proofs.Common.{ltb, drop, ◌-◌, true}
+use Rattle.std.proofs.lemmas.List.Elements.{Contains-append_left}
 use Rattle.std.proofs.lemmas.Bool.Decides.{nat_tests}
 use Rattle.std.proofs.lemmas.List.{get_or_default, get_or-take, get_or-drop, length-drop, length-take-le}
 use Rattle.std.proofs.lemmas.List.Sorted.{Contains-permutation}
 use Rattle.std.specs.List.{AllWithin}
-use Rattle.std.specs.List.Sorted.{IsPermutation, IsNonDecreasingBy}
-use Rattle.qbf_core.specs.declared.quantifier.Quantifier.TheVariants.{All, Exists}
-use Rattle.qbf_core.specs.Literal.{Literal}
-use Rattle.qbf_core.specs.Members.{◌∈◌, ◌⊆◌}
-use Rattle.qbf_core.specs.Blocks.{Block, Binds}
-use Rattle.qbf_core.specs.Qbf.{Qbf}
-use Rattle.qbf_core.specs.Rules.{Side, Clauses, Cubes, IsClean, IsReducible, IsReduct, IsInitial, reduced_quantifier, deciding_quantifier}
-use Rattle.qbf_core.specs.Sets.{IsOrdered, HasMembersOf}
-use Rattle.qbf_core.proofs.Members.{in_push, got_in, push_in, in_got}
-use Rattle.qbf_core.proofs.Order.{ordered_push}
-use Rattle.qrp_rules.specs.Walks.{IsInnermost, StandsAfter}
-use Rattle.qrp_rules.specs.Index.{IsReducedForm, HasReductAt, IsIndex, IsIndexBelow, hash_with, hash_from, hash_of}
-use Rattle.qrp_rules.specs.declared.clause_index.IndexEntry.{IndexEntry}
+use Rattle.std.specs.List.Sorted.{IsPermutation}
+use Rattle.qbf_core.proofs.Members.{in_push, push_in}
+use Rattle.qrp_rules.specs.Index.{IsIndex, hash_with}
 use Rattle.qrp_rules.proofs.Reducing.{reducible_after}
-use Rattle.std.proofs.lemmas.Option.{slice_get_within}
 
 -- two ordered lists with the same members are the same
 pub ordered_same : (xs ys : List Literal) → IsOrdered xs → IsOrdered ys → xs ⊆ ys → ys ⊆ xs → xs ≡ ys

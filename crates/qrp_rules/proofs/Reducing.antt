@@ -1,18 +1,14 @@
 -- Reducible literals by one innermost block.
-use Rattle.std.proofs.Common.{◌≡◌, ◌∙◌, ℕ, List, ◌++◌, ◌⊎◌, ◌↔◌, Option, Some, None, refl, sym, subst, inl, inr, rules}
-use Rattle.std.proofs.lemmas.Bool.{cases_eq}
-use Rattle.qbf_core.specs.declared.quantifier.Quantifier.{Quantifier}
-use Rattle.qbf_core.specs.Literal.{Literal}
-use Rattle.qbf_core.specs.Members.{◌∈◌}
-use Rattle.qbf_core.specs.Blocks.{Block, Binds, block_in, pairs}
+use Rattle.qrp_rules.proofs.Words.{◌≡◌, ◌∙◌, ℕ, List, ◌++◌, ◌⊎◌, ◌↔◌, Option, Some, None, refl, sym, subst, inl, inr, rules, cases_eq}
+use Rattle.qrp_rules.proofs.Words.{Quantifier, Literal, ◌∈◌, Block, Binds, Side, Clauses, Cubes, reduced_quantifier, deciding_quantifier}
+use Rattle.qrp_rules.proofs.Words.{Clashes, IsReducible, resolvent, in_append, append_left, append_right, in_without, from_without}
+use Rattle.qrp_rules.proofs.Words.{IsReducibleInParents, Accounts, IsAfter, IsHeldBefore, IsInnermost, StandsAfter}
+use Rattle.qbf_core.specs.Blocks.{block_in, pairs}
 use Rattle.qbf_core.proofs.Bound.{binds_in, in_bound, block_found}
-use Rattle.qbf_core.specs.Rules.{Side, Clauses, Cubes, reduced_quantifier, deciding_quantifier, Clashes, IsReducible, resolvent}
-use Rattle.qbf_core.proofs.Members.{in_or_not, in_append, append_left, append_right}
-use Rattle.qbf_core.proofs.Inferences.{in_without, from_without}
-use Rattle.qrp_rules.specs.Conditions.{IsReducibleInParents}
+use Rattle.qbf_core.proofs.Members.{in_or_not}
 use Rattle.qrp_rules.proofs.Clashing.{clash_var, clash_var_right}
 use Rattle.qrp_rules.specs.declared.walks.Reducible.{Reducible}
-use Rattle.qrp_rules.specs.Walks.{Accounts, Covers, IsAfter, IsHeldBefore, IsInnermost, IsThePivot, StandsAfter}
+use Rattle.qrp_rules.specs.Walks.{Covers, IsThePivot}
 
 -- what a quantifier binds has a block
 pub binds_block : (blocks : List Block) (q : Quantifier) (v : ℕ) → Binds blocks q v → block_in v blocks ≡ None → ⊥

@@ -1,17 +1,10 @@
 -- Initial steps: reducts by their members, and clauses by their places.
-use Rattle.std.proofs.Common.{◌≡◌, ◌+◌, ◌↔◌, IsTrue, Bool, true, false, not, ℕ, List, refl, sym, rules}
-use Rattle.std.proofs.Common.{slice_get, Option, Some, None, take}
-use Rattle.std.proofs.lemmas.Bool.{false≢true}
+use Rattle.qrp_rules.proofs.Words.{◌≡◌, ◌+◌, ◌↔◌, IsTrue, Bool, true, false, ℕ, List, refl, sym, rules, slice_get, Option, Some, None, take}
+use Rattle.qrp_rules.proofs.Words.{false≢true, ◌∈◌, Literal, positive, Block, Side, IsClean, IsTautology, IsReduct, RuleFault, IsAnswer}
+use Rattle.qrp_rules.proofs.Words.{reduct_conditions, slice_get_within, get_or_from_slice_get, each_more}
+use Rattle.std.proofs.Common.{not}
 use Rattle.std.specs.Option.{is_some}
-use Rattle.qbf_core.specs.Members.{◌∈◌}
-use Rattle.qbf_core.specs.Literal.{Literal, positive}
-use Rattle.qbf_core.specs.Blocks.{Block}
-use Rattle.qbf_core.specs.Rules.{Side, IsClean, IsTautology, IsReduct}
-use Rattle.qrp_rules.specs.declared.fault.RuleFault.{RuleFault}
-use Rattle.qrp_rules.specs.Conditions.{IsAnswer, reduct_conditions}
 use Rattle.qrp_rules.proofs.FirstFailures.{no_fault}
-use Rattle.std.proofs.lemmas.Option.{slice_get_within, get_or_from_slice_get}
-use Rattle.qbf_core.proofs.Members.{each_more}
 
 -- a test of the reduct's conditions tells whether it is one
 pub reduct_told : (side : Side) (blocks : List Block) (from to : List Literal) (answer : Option RuleFault) (t : Bool)

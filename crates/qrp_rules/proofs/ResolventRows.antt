@@ -1,14 +1,8 @@
 -- The conditions of a step with two antecedents that clash in one variable.
-use Rattle.std.proofs.Common.{◌≡◌, ℕ, List, [], ◌∷◌, Option, refl, sym, subst, ◌∙◌}
-use Rattle.qbf_core.specs.Literal.{Literal}
-use Rattle.qbf_core.specs.Members.{◌⊆◌}
-use Rattle.qbf_core.specs.Blocks.{Block}
-use Rattle.qbf_core.specs.Rules.{Side, Clashes, IsOnlyClash, resolvent}
-use Rattle.qrp_rules.specs.declared.rules.Rules.{Rules}
-use Rattle.qrp_rules.specs.declared.fault.RuleFault.{RuleFault}
-use Rattle.qrp_rules.specs.declared.fault.RuleFault.TheVariants.{S8, S9, S10, S11, S12}
-use Rattle.qrp_rules.specs.Conditions.{Condition, AllowsPivot, IsAnswer, resolvent_conditions}
-use Rattle.qrp_rules.specs.Walks.{Accounts}
+use Rattle.qrp_rules.proofs.Words.{◌≡◌, ℕ, List, [], ◌∷◌, Option, refl, sym, subst, ◌∙◌, Literal, ◌⊆◌, Block, Side, Clashes, IsOnlyClash}
+use Rattle.qrp_rules.proofs.Words.{resolvent, Rules, RuleFault, S10, S11, S12, Condition, AllowsPivot, IsAnswer, resolvent_conditions}
+use Rattle.qrp_rules.proofs.Words.{Accounts}
+use Rattle.qrp_rules.specs.declared.fault.RuleFault.TheVariants.{S8, S9}
 use Rattle.qrp_rules.proofs.FirstFailures.{answer_after}
 use Rattle.qrp_rules.proofs.MembersDecide.{same_answer}
 

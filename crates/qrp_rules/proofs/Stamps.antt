@@ -1,12 +1,12 @@
 -- Numbers with the stamp of a time.
-use Rattle.std.proofs.Common.{◌≡◌, ◌<◌, ◌≤◌, ◌+◌, ◌*◌, ◌⊎◌, ℕ, zero, suc, Bool, true, false, List, [], ◌∷◌, length, get_or, if◌then◌else◌}
-use Rattle.std.proofs.Common.{refl, sym, arith, rules}
-use Rattle.std.proofs.lemmas.Bool.{cases_eq, eqb-true, eq-eqb}
-use Rattle.std.proofs.Math.ListN.{replicate, set}
-use Rattle.std.proofs.lemmas.List.{get_or-set_same, get_or-set_other, length-set}
-use Rattle.qbf_core.specs.Literal.{Literal}
+use Rattle.qrp_rules.proofs.Words.{◌≡◌, ◌<◌, ◌≤◌, ◌+◌, ◌⊎◌, ℕ, zero, suc, Bool, true, false, List, [], ◌∷◌, length, get_or, refl, sym}
+use Rattle.qrp_rules.proofs.Words.{arith, rules, cases_eq, eqb-true, set, length-set, Literal, AreUpTo, code}
+use Rattle.std.proofs.Common.{◌*◌, if◌then◌else◌}
+use Rattle.std.proofs.lemmas.Bool.{eq-eqb}
+use Rattle.std.proofs.Math.ListN.{replicate}
+use Rattle.std.proofs.lemmas.List.{get_or-set_same, get_or-set_other}
 use Rattle.qbf_core.proofs.Order.{same_lit}
-use Rattle.qrp_rules.specs.Seen.{AreUpTo, code, stamped}
+use Rattle.qrp_rules.specs.Seen.{stamped}
 
 -- the number is in the set
 abbrev pub Holds : List Bool → ℕ → Type 0

@@ -1,11 +1,6 @@
 -- What follows from parents as they stand follows where they may be reduced.
-use Rattle.std.proofs.Common.{◌≡◌, List, Option, Some, None, inl, inr, refl, rules}
-use Rattle.qbf_core.specs.Literal.{Literal}
-use Rattle.qbf_core.specs.Blocks.{Block}
-use Rattle.qbf_core.specs.Rules.{Side}
-use Rattle.qrp_rules.specs.declared.rules.Rules.{Rules}
-use Rattle.qrp_rules.specs.declared.fault.RuleFault.{RuleFault}
-use Rattle.qrp_rules.specs.Conditions.{Condition, AllHold, IsAnswer, resolvent_conditions}
+use Rattle.qrp_rules.proofs.Words.{◌≡◌, List, Option, Some, None, inl, inr, refl, rules, Literal, Block, Side, Rules, RuleFault, Condition}
+use Rattle.qrp_rules.proofs.Words.{AllHold, IsAnswer, resolvent_conditions}
 use Rattle.qrp_rules.specs.Unreduced.{unreduced_conditions}
 use Rattle.qrp_rules.proofs.FirstFailures.{no_fault}
 

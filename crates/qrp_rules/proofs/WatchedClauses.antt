@@ -1,24 +1,16 @@
 -- Clauses that are watched, while lists are written to, added and taken out.
-use Rattle.std.proofs.Common.{◌⊎◌, ◌≡◌, ◌≢◌, ◌<◌, ◌+◌, ◌-◌, ℕ, zero, suc, List, [], ◌∷◌, ◌++◌, length, get_or, slice_get, Some, Contains}
-use Rattle.std.proofs.Common.{Bool, true, false, Result, Ok, Err, refl, sym, ap, subst, ◌∙◌, inl, inr, arith, take, rules}
-use Rattle.std.proofs.Math.ListN.{set}
+use Rattle.qrp_rules.proofs.Words.{◌⊎◌, ◌≡◌, ◌<◌, ◌+◌, ◌-◌, ℕ, zero, suc, List, [], ◌∷◌, ◌++◌, length, get_or, slice_get, Some, Contains}
+use Rattle.qrp_rules.proofs.Words.{Bool, true, false, refl, sym, ap, subst, ◌∙◌, inl, inr, arith, take, rules, set, cases_eq, length-set}
+use Rattle.qrp_rules.proofs.Words.{slice_get_within, get_or_from_slice_get, Literal, ◌∈◌, Qbf, Side, Clauses, Cubes, IsInitial, IsTautology}
+use Rattle.qrp_rules.proofs.Words.{reduced_quantifier, Exists, AllHold, initial_condition, Has, IsMet, IsWatchedBy, Watch, in_got}
+use Rattle.qrp_rules.proofs.Words.{Contains-push}
+use Rattle.std.proofs.Common.{◌≢◌, Result, Ok, Err}
 use Rattle.std.specs.Prelude.{⊤, IfOk, IsTrue, OnOk, OnErr}
 use Rattle.std.specs.List.{swap_remove}
-use Rattle.std.proofs.lemmas.Bool.{cases_eq}
-use Rattle.std.proofs.lemmas.List.{length-set, length_push}
-use Rattle.std.proofs.lemmas.Option.{slice_get_within, get_or_from_slice_get}
-use Rattle.qbf_core.specs.Literal.{Literal}
-use Rattle.qbf_core.specs.Members.{◌∈◌}
-use Rattle.qbf_core.specs.Qbf.{Qbf}
-use Rattle.qbf_core.specs.Rules.{Side, Clauses, Cubes, IsInitial, IsTautology, reduced_quantifier}
-use Rattle.qbf_core.specs.declared.quantifier.Quantifier.TheVariants.{Exists}
-use Rattle.qrp_rules.specs.Conditions.{AllHold, initial_condition}
-use Rattle.qrp_rules.specs.Seen.{Has}
-use Rattle.qrp_rules.specs.Watches.{IsMet, IsTakenOut, IsWatched, IsWatchedBy, IsWatchedIf, KeepsWatches}
+use Rattle.std.proofs.lemmas.List.{length_push}
+use Rattle.qrp_rules.specs.Watches.{IsTakenOut, IsWatched, IsWatchedIf, KeepsWatches}
 use Rattle.qbf_core.proofs.PushedItems.{pushed_new, pushed_old, written_here, written_elsewhere}
-use Rattle.qrp_rules.specs.declared.initial_cubes.Watch.{Watch}
-use Rattle.qbf_core.proofs.Members.{in_got}
-use Rattle.std.proofs.lemmas.List.Elements.{Contains-push, Contains-push_cases}
+use Rattle.std.proofs.lemmas.List.Elements.{Contains-push_cases}
 
 -- a list is written over by one of the same literal that has its clauses too
 pub written_keeps : (lists : List Watch) (k : ℕ) (was new : Watch) → slice_get lists k ≡ Some was → new.lit ≡ was.lit

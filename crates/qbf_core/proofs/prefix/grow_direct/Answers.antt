@@ -1,5 +1,4 @@
-use Rattle.std.proofs.Common.{arith}
-use Rattle.std.proofs.lemmas.Grind.{common_steps}
+use Rattle.qbf_core.proofs.Words.{arith, common_steps}
 use Rattle.qbf_core.proofs.TableLaws.{told_grown}
 use Rattle.qbf_core.proofs.prefix.grow_direct.Goals as goal
 

@@ -1,6 +1,4 @@
-use Rattle.std.proofs.Common.{◌≡◌, ℕ, List, length}
-use Rattle.qbf_core.specs.declared.prefix.Place.{Place}
-use Rattle.qbf_core.specs.Places.{IsTold}
+use Rattle.qbf_core.proofs.Words.{◌≡◌, ℕ, List, length, Place, IsTold}
 use Rattle.qbf_core.proofs.prefix.grow_direct.Given as goal
 
 abbrev pub invariant-loop-next : goal.invariant-loop-next

@@ -1,6 +1,4 @@
-use Rattle.std.proofs.Common.{arith}
-use Rattle.std.proofs.lemmas.Grind.{common_steps}
-use Rattle.std.proofs.lemmas.Bool.{false≢true}
+use Rattle.qbf_core.proofs.Words.{arith, common_steps, false≢true}
 use Rattle.qbf_core.proofs.TableLaws.{lookup_outside}
 use Rattle.qbf_core.proofs.prefix.place_of_number.Goals as goal
 

@@ -1,7 +1,4 @@
-use Rattle.std.proofs.lemmas.Grind.{common_steps}
-use Rattle.std.proofs.Common.{◌≡◌, ◌∙◌, None, sym, ap, subst, arith, is_some, nat_eq}
-use Rattle.std.specs.Map.{lookup}
-use Rattle.qbf_core.specs.Blocks.{IsVariable}
+use Rattle.qbf_core.proofs.Words.{common_steps, ◌≡◌, ◌∙◌, None, sym, ap, subst, arith, is_some, nat_eq, lookup, IsVariable}
 use Rattle.qbf_core.proofs.PrefixLaws.{added, AllByRecursion-push}
 use Rattle.qbf_core.proofs.TableLaws.{beyond_noted, beyond_added}
 use Rattle.qbf_core.proofs.prefix.put_far.Goals as goal

@@ -1,6 +1,4 @@
-use Rattle.std.proofs.Common.{refl}
-use Rattle.qbf_text.specs.Ahead.{ahead}
-use Rattle.qbf_text.specs.Stopping.{tokens_next}
+use Rattle.qbf_text.proofs.Words.{refl, ahead, tokens_next}
 use Rattle.qbf_text.proofs.PassedNumbers.{handed}
 use Rattle.qbf_text.proofs.Stops.{so_far_none}
 use Rattle.qbf_text.proofs.grammar.hand_over.Goals as goal

@@ -1,9 +1,4 @@
-use Rattle.std.proofs.lemmas.Grind.{common_steps}
-use Rattle.std.proofs.Common.{◌≡◌, true, false, arith, sym, ◌∙◌}
-use Rattle.qbf_text.specs.Ahead.{ahead}
-use Rattle.qbf_text.specs.Reading.{left}
-use Rattle.qbf_text.specs.Rows.{reads_from}
-use Rattle.qbf_text.specs.Stopping.{tokens_next}
+use Rattle.qbf_text.proofs.Words.{common_steps, ◌≡◌, true, false, arith, sym, ◌∙◌, ahead, left, reads_from, tokens_next}
 use Rattle.qbf_text.proofs.OneToken.{leads_same, leads_then, goes, ends, stops, same_state, ready_still, unfailed}
 use Rattle.qbf_text.proofs.Stops.{so_far_none, known_so_far, so_far_goes, stops_behind}
 use Rattle.qbf_text.proofs.grammar.read_by.Goals as goal

@@ -1,9 +1,4 @@
-use Rattle.std.proofs.Common.{◌≡◌, ◌+◌, ◌≤◌, length}
-use Rattle.qbf_text.specs.Reading.{left, HasFailed, IsReady}
-use Rattle.qbf_text.specs.Ahead.{ahead}
-use Rattle.qbf_text.specs.Rows.{reads_from}
-use Rattle.qbf_text.specs.Stopping.{IfKnown, tokens_next}
-use Rattle.qbf_text.specs.Passing.{SoFar}
+use Rattle.qbf_text.proofs.Words.{◌≡◌, ◌+◌, ◌≤◌, length, left, HasFailed, IsReady, ahead, reads_from, IfKnown, tokens_next, SoFar}
 use Rattle.qbf_text.proofs.OneToken.{Leads}
 use Rattle.qbf_text.proofs.grammar.read_by.Given as goal
 

@@ -1,9 +1,6 @@
-use mir.Val.{bool_byte}
-use Rattle.std.specs.Str.Parse.{digits_value}
-use Rattle.std.proofs.Common.{◌≡◌, ℕ, List, take, drop, ◌∙◌, ◌+◌, ◌-◌, ◌%◌, ◌<◌, ◌≤◌, ◌^◌, ◌&&◌, Bool, true, false, nat_eq, get_or, refl, arith, ap, subst}
-use Rattle.std.proofs.lemmas.Bool.Decides.{nat_tests}
-use Rattle.qbf_text.specs.Left.{is_separator}
-use Rattle.qbf_text.specs.Passing.{BeginsWithNumber}
+use Rattle.qbf_text.proofs.Words.{bool_byte, digits_value, ◌≡◌, ℕ, List, take, drop, ◌∙◌, ◌+◌, ◌-◌, ◌<◌, ◌≤◌, ◌^◌, ◌&&◌, Bool, true, false}
+use Rattle.qbf_text.proofs.Words.{nat_eq, get_or, refl, arith, ap, subst, nat_tests, is_separator, BeginsWithNumber}
+use Rattle.std.proofs.Common.{◌%◌}
 use Rattle.qbf_text.proofs.NumberAtHand.{found}
 use Rattle.qbf_text.proofs.hand.number_before.Goals as goal
 

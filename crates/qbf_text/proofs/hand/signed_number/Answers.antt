@@ -1,4 +1,4 @@
-use Rattle.std.proofs.Common.{◌<◌, ◌^◌, sym, ◌∙◌}
+use Rattle.qbf_text.proofs.Words.{◌<◌, ◌^◌, sym, ◌∙◌}
 use Rattle.qbf_text.proofs.NumberAtHand.{found}
 use Rattle.qbf_text.proofs.hand.signed_number.Goals as goal
 

@@ -1,5 +1,4 @@
-use Rattle.std.proofs.Common.{◌≡◌, ◌+◌, ◌≤◌, length}
-use Rattle.qbf_text.specs.Ahead.{ahead}
+use Rattle.qbf_text.proofs.Words.{◌≡◌, ◌+◌, ◌≤◌, length, ahead}
 use Rattle.qbf_text.proofs.BytesAhead.{IsReading}
 use Rattle.qbf_text.proofs.scanner.read_as.Given as goal
 

@@ -1,6 +1,4 @@
-use Rattle.std.proofs.lemmas.Grind.{common_steps}
-use Rattle.std.proofs.Common.{refl, sym, ◌∙◌, arith}
-use Rattle.std.proofs.lemmas.Bool.{false≢true}
+use Rattle.qrp_check.proofs.Words.{common_steps, refl, sym, ◌∙◌, arith, false≢true}
 use Rattle.qrp_rules.proofs.Reducing.{binds_block}
 use Rattle.qrp_check.proofs.SetsAgree.{passes_one, fails_unbound, fails_other, fails_early}
 use Rattle.qrp_check.proofs.agree.next_block.Goals as goal

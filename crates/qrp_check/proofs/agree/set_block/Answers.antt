@@ -1,8 +1,4 @@
-use Rattle.std.proofs.Common.{◌+◌, ◌∷◌, [], ℕ, List, take, drop, subst, sym, ap, ◌∙◌}
-use Rattle.std.proofs.lemmas.List.{take_all}
-use Rattle.qbf_core.specs.declared.quantifier.Quantifier.{Quantifier}
-use Rattle.qbf_core.specs.Blocks.{Block}
-use Rattle.qrp_check.specs.Passed.{Passes, FailsIn}
+use Rattle.qrp_check.proofs.Words.{◌+◌, ◌∷◌, [], ℕ, List, take, drop, subst, sym, ap, ◌∙◌, take_all, Quantifier, Block, Passes, FailsIn}
 use Rattle.qrp_check.proofs.SetsAgree.{passes_more, fails_more, under, under_next, under_rest}
 use Rattle.qrp_check.proofs.agree.set_block.Goals as goal
 

@@ -1,5 +1,4 @@
-use Rattle.std.proofs.Common.{take}
-use Rattle.qrp_check.specs.Passed.{Passes}
+use Rattle.qrp_check.proofs.Words.{take, Passes}
 use Rattle.qrp_check.proofs.SetsAgree.{under}
 use Rattle.qrp_check.proofs.agree.set_block.Given as goal
 

@@ -1,7 +1,4 @@
-use Rattle.std.proofs.Common.{◌+◌, ℕ, List, take, drop, subst, sym}
-use Rattle.std.proofs.lemmas.List.{take_all}
-use Rattle.qbf_core.specs.Blocks.{Block, pairs, pairs_of_block}
-use Rattle.qrp_check.specs.Passed.{Passes, FailsIn}
+use Rattle.qrp_check.proofs.Words.{◌+◌, ℕ, List, take, drop, subst, sym, take_all, Block, pairs, pairs_of_block, Passes, FailsIn}
 use Rattle.qrp_check.proofs.SetsAgree.{passes_more, fails_more, sets_next, sets_rest, agrees_by_passes, fault_by_fails}
 use Rattle.qrp_check.proofs.agree.sets_fault.Goals as goal
 

@@ -1,6 +1,4 @@
-use Rattle.std.proofs.Common.{take}
-use Rattle.qbf_core.specs.Blocks.{pairs}
-use Rattle.qrp_check.specs.Passed.{Passes}
+use Rattle.qrp_check.proofs.Words.{take, pairs, Passes}
 use Rattle.qrp_check.proofs.agree.sets_fault.Given as goal
 
 abbrev pub invariant-loop-set : goal.invariant-loop-set

@@ -1,6 +1,4 @@
-use Rattle.std.proofs.Common.{ap, true, false}
-use Rattle.qbf_core.specs.Rules.{Clauses, Cubes}
-use Rattle.qrp_check.specs.Proof.{side_of}
+use Rattle.qrp_check.proofs.Words.{ap, true, false, Clauses, Cubes, side_of}
 use Rattle.qrp_check.proofs.CheckAnswers.{proves, refuses, shows, claims_false, claims_true, closed_of}
 use Rattle.qrp_check.proofs.StepsAt.{answer_rises, answer_inside}
 use Rattle.qrp_check.proofs.checking.check.Goals as goal

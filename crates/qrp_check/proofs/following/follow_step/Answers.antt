@@ -1,13 +1,11 @@
-use Rattle.std.proofs.Common.{ℕ, List, Option, Some, subst, sym, take}
+use Rattle.qrp_check.proofs.Words.{ℕ, List, None, Some, sym, take, Qbf, Inference, StepFollows, IsInCore, at_place}
+use Rattle.std.proofs.Common.{below_more, Option, subst}
+use Rattle.qrp_check.proofs.CoreStep.{found_answer, premises_fit, followed_here}
 use Rattle.std.specs.Prelude.{IfSome}
-use Rattle.qbf_core.specs.Qbf.{Qbf}
-use Rattle.qrp.specs.Inferences.{Inference}
 use Rattle.qrp_check.specs.Premises.{AreFit}
 use Rattle.qrp_check.specs.declared.premises.Premises.{Premises}
-use Rattle.qrp_check.proofs.CoreStep.{followed_here, found_answer, premises_fit}
 use Rattle.qrp_check.proofs.Marking.{core_within}
 use Rattle.qrp_check.proofs.following.follow_step.Goals as goal
-use Rattle.qbf_core.proofs.Members.{at_place}
 
 pub fault_by_sets-requires-clause-fit : goal.fault_by_sets-requires-clause-fit
 fault_by_sets-requires-clause-fit g c =

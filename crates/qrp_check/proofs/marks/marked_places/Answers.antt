@@ -1,8 +1,8 @@
-use Rattle.std.proofs.Common.{ℕ, ◌+◌, List, Vec, Global, subst, sym}
-use Rattle.qrp_check.specs.Marks.{ListsMarked}
+use Rattle.qrp_check.proofs.Words.{ℕ, ◌+◌, List, subst, sym, ListsMarked}
+use Rattle.std.proofs.Common.{Vec, Global}
 use Rattle.qrp_check.proofs.MarkedPlaces.{marked, unmarked, listing_skip, listing_push}
-use Rattle.qrp_check.proofs.marks.marked_places.Goals as goal
 use Rattle.qrp_check.proofs.marks.marked_places.Goals.{then-marks-place+in_ok-push, else-marks-place}
+use Rattle.qrp_check.proofs.marks.marked_places.Goals as goal
 
 pub loop-place-preserved : goal.loop-place-preserved
 loop-place-preserved c =

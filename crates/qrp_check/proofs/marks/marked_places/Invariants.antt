@@ -1,4 +1,4 @@
-use Rattle.qrp_check.specs.Marks.{ListsMarked}
+use Rattle.qrp_check.proofs.Words.{ListsMarked}
 use Rattle.qrp_check.proofs.marks.marked_places.Given as goal
 
 abbrev pub invariant-loop-place : goal.invariant-loop-place

@@ -1,7 +1,6 @@
-use Rattle.std.proofs.Common.{sym, ◌∙◌, arith}
+use Rattle.qrp_check.proofs.Words.{sym, ◌∙◌, arith, at_place}
 use Rattle.qrp_check.proofs.CoreStep.{not_found, found_late}
 use Rattle.qrp_check.proofs.premises.place_before.Goals as goal
-use Rattle.qbf_core.proofs.Members.{at_place}
 
 pub returns-then-number-clause-found : goal.returns-then-number-clause-found
 returns-then-number-clause-found g c =

@@ -1,9 +1,5 @@
-use Rattle.std.proofs.lemmas.Grind.{common_steps}
-use Rattle.std.proofs.Common.{Option, arith}
+use Rattle.qrp_check.proofs.Words.{common_steps, Option, arith, RuleFault, IsAnswer, premise_conditions}
 use Rattle.std.proofs.lemmas.Result.{IfOk-weaker}
-use Rattle.qrp_rules.specs.declared.fault.RuleFault.{RuleFault}
-use Rattle.qrp_rules.specs.Conditions.{IsAnswer}
-use Rattle.qrp_check.specs.Premises.{premise_conditions}
 use Rattle.qrp_check.proofs.CoreStep.{not_all_bound, not_clean, set_answer}
 use Rattle.qrp_check.proofs.step.fault_by_sets.Goals as goal
 

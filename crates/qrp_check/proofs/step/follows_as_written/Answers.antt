@@ -1,7 +1,5 @@
-use Rattle.std.proofs.Common.{[], ◌∷◌, ◌∙◌}
-use Rattle.qrp_rules.specs.Conditions.{AllHold, initial_condition, resolvent_conditions}
-use Rattle.qbf_core.specs.Blocks.{AreBound}
-use Rattle.qbf_core.specs.Rules.{IsClean}
+use Rattle.qrp_check.proofs.Words.{[], ◌∷◌, AllHold, initial_condition, resolvent_conditions, AreBound, IsClean}
+use Rattle.std.proofs.Common.{◌∙◌}
 use Rattle.qrp_check.proofs.CoreStep.{ok_all}
 use Rattle.qrp_check.proofs.step.follows_as_written.Goals as goal
 

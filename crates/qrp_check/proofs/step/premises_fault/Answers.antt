@@ -1,4 +1,4 @@
-use Rattle.qrp_rules.proofs.MembersDecide.{reduct_answer, resolvent_answer, same_self}
+use Rattle.qrp_check.proofs.Words.{reduct_answer, resolvent_answer, same_self}
 use Rattle.qrp_check.proofs.step.premises_fault.Goals as goal
 
 pub own_set-requires-in-Two-2 : goal.own_set-requires-in-Two-2

@@ -1,5 +1,4 @@
-use Rattle.std.proofs.Common.{◌≡◌, take}
-use Rattle.qrp.specs.Derivations.{steps_at}
+use Rattle.qrp_check.proofs.Words.{◌≡◌, take, steps_at}
 use Rattle.qrp_check.proofs.trimming.push_steps.Given as goal
 
 abbrev pub invariant-loop-place : goal.invariant-loop-place

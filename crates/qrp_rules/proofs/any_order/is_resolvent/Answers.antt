@@ -1,4 +1,4 @@
-use Rattle.std.proofs.lemmas.Result.{IfOk-weaker}
+use Rattle.qrp_rules.proofs.Words.{IfOk-weaker}
 use Rattle.qrp_rules.proofs.Exactness.{followed_bound, followed_clean}
 use Rattle.qrp_rules.proofs.any_order.is_resolvent.Goals as goal
 

@@ -1,6 +1,4 @@
-use Rattle.std.proofs.Common.{inl, inr, ◌∙◌}
-use Rattle.qrp_rules.specs.Seen.{Has}
-use Rattle.qrp_rules.specs.Walks.{StandsAfter}
+use Rattle.qrp_rules.proofs.Words.{inl, inr, ◌∙◌, Has, StandsAfter}
 use Rattle.qrp_rules.proofs.Exactness.{left_follows, put_then}
 use Rattle.qrp_rules.proofs.Reducing.{reducible_after, reducible_wider}
 use Rattle.qrp_rules.proofs.any_order.leaves_out_rests.Goals as goal

@@ -1,7 +1,4 @@
-use Rattle.std.proofs.Common.{◌≡◌, ◌⊎◌, subst, sym, inl, inr}
-use Rattle.qbf_core.specs.Literal.{Literal}
-use Rattle.qbf_core.proofs.Members.{in_take_more}
-use Rattle.qrp_rules.specs.Seen.{Has}
+use Rattle.qrp_rules.proofs.Words.{◌≡◌, ◌⊎◌, subst, sym, inl, inr, Literal, in_take_more, Has}
 use Rattle.qrp_rules.proofs.Exactness.{put_then}
 use Rattle.qrp_rules.proofs.any_order.put_each_left_out.Goals as goal
 

@@ -1,9 +1,4 @@
-use Rattle.std.proofs.Common.{◌≡◌, ◌⊎◌, take}
-use Rattle.qbf_core.specs.Literal.{Literal}
-use Rattle.qbf_core.specs.Members.{◌∈◌}
-use Rattle.qrp_rules.specs.Exact.{IsPutBy}
-use Rattle.qrp_rules.specs.Seen.{Has}
-use Rattle.qrp_rules.specs.Walks.{StandsAfter}
+use Rattle.qrp_rules.proofs.Words.{◌≡◌, ◌⊎◌, take, Literal, ◌∈◌, IsPutBy, Has, StandsAfter}
 use Rattle.qrp_rules.proofs.any_order.put_each_left_out.Given as goal
 
 abbrev pub invariant-loop-lit : goal.invariant-loop-lit

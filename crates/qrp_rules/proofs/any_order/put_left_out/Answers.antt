@@ -1,7 +1,4 @@
-use Rattle.std.proofs.Common.{refl, subst, sym, ◌∙◌}
-use Rattle.std.proofs.lemmas.Bool.{false≢true}
-use Rattle.qrp_rules.specs.Seen.{Has}
-use Rattle.qrp_rules.specs.Walks.{StandsAfter}
+use Rattle.qrp_rules.proofs.Words.{refl, subst, sym, ◌∙◌, false≢true, Has, StandsAfter}
 use Rattle.qrp_rules.proofs.Exactness.{put_one}
 use Rattle.qrp_rules.proofs.any_order.put_left_out.Goals as goal
 

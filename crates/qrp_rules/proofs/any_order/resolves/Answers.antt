@@ -1,6 +1,4 @@
-use Rattle.std.proofs.Common.{refl, sym, ◌∙◌}
-use Rattle.std.proofs.lemmas.Bool.{eqb-true}
-use Rattle.std.proofs.lemmas.Result.{IfOk-weaker}
+use Rattle.qrp_rules.proofs.Words.{refl, sym, ◌∙◌, eqb-true, IfOk-weaker}
 use Rattle.qrp_rules.proofs.Exactness.{exact_follows}
 use Rattle.qrp_rules.proofs.any_order.resolves.Goals as goal
 use Rattle.qrp_rules.proofs.any_order.resolves.Goals.{in-Some, in-None+in_ok-make_room-in-None+in-Some-find_parents}

@@ -1,7 +1,4 @@
-use Rattle.std.proofs.Common.{ℕ, ◌+◌, ◌↔◌, take, rules}
-use Rattle.qbf_core.specs.Literal.{Literal}
-use Rattle.qbf_core.proofs.Members.{in_take_more, take_more_in}
-use Rattle.qrp_rules.specs.Walks.{IsAfter, IsHeldBefore}
+use Rattle.qrp_rules.proofs.Words.{ℕ, ◌+◌, ◌↔◌, take, rules, Literal, in_take_more, take_more_in, IsAfter, IsHeldBefore}
 use Rattle.qrp_rules.proofs.Reducing.{innermost_more}
 use Rattle.qrp_rules.proofs.blocks.innermost.Goals as goal
 

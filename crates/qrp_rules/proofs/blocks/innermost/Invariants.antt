@@ -1,5 +1,4 @@
-use Rattle.std.proofs.Common.{take}
-use Rattle.qrp_rules.specs.Walks.{IsInnermost}
+use Rattle.qrp_rules.proofs.Words.{take, IsInnermost}
 use Rattle.qrp_rules.proofs.blocks.innermost.Given as goal
 
 abbrev pub invariant-loop-lit : goal.invariant-loop-lit

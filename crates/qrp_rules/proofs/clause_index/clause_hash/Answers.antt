@@ -1,6 +1,4 @@
-use Rattle.std.proofs.Common.{ap, Some}
-use Rattle.qbf_core.specs.Rules.{Clauses}
-use Rattle.qbf_core.proofs.Bound.{bound_each}
+use Rattle.qrp_rules.proofs.Words.{ap, Some, Clauses, bound_each}
 use Rattle.qrp_rules.proofs.ReductsByMembers.{not_clean}
 use Rattle.qrp_rules.proofs.ReducedForms.{form_same}
 use Rattle.qrp_rules.proofs.clause_index.clause_hash.Goals as goal

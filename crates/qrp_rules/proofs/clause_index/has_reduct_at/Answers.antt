@@ -1,7 +1,4 @@
-use Rattle.std.proofs.Common.{◌↔◌, Bool, IsTrue}
-use Rattle.std.proofs.lemmas.Result.{IfOk-weaker}
-use Rattle.qbf_core.specs.Rules.{Clauses, IsClean, IsReduct}
-use Rattle.qrp_rules.specs.Index.{HasReductAt}
+use Rattle.qrp_rules.proofs.Words.{◌↔◌, Bool, IsTrue, IfOk-weaker, Clauses, IsClean, IsReduct, HasReductAt}
 use Rattle.qrp_rules.proofs.ReducedForms.{reduct_at}
 use Rattle.qrp_rules.proofs.clause_index.has_reduct_at.Goals as goal
 

@@ -1,12 +1,9 @@
-use Rattle.std.proofs.Common.{◌≡◌, ◌∙◌, ◌+◌, ◌∷◌, [], List, Some, refl, sym, subst, arith}
+use Rattle.qrp_rules.proofs.Words.{◌≡◌, ◌∙◌, ◌+◌, ◌∷◌, [], List, Some, refl, sym, subst, arith, Block, Clauses, IsIndexBelow, IsReducedForm}
+use Rattle.qrp_rules.proofs.Words.{hash_from, IndexEntry}
 use Rattle.std.proofs.lemmas.Slice.{pushed}
-use Rattle.qbf_core.specs.Blocks.{Block}
-use Rattle.qbf_core.specs.Rules.{Clauses}
-use Rattle.qrp_rules.specs.Index.{IsIndexBelow, IsReducedForm, hash_from}
-use Rattle.qrp_rules.specs.declared.clause_index.IndexEntry.{IndexEntry}
 use Rattle.qrp_rules.proofs.ReducedForms.{filed_more, unfiled, filed_all}
-use Rattle.qrp_rules.proofs.clause_index.hashed_clauses.Goals as goal
 use Rattle.qrp_rules.proofs.clause_index.hashed_clauses.Goals.{in-Some+in_ok-push, in_default}
+use Rattle.qrp_rules.proofs.clause_index.hashed_clauses.Goals as goal
 
 pub loop-place-preserved : goal.loop-place-preserved
 loop-place-preserved c = elim c.match-branch-3.branch [

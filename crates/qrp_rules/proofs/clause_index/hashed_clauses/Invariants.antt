@@ -1,4 +1,4 @@
-use Rattle.qrp_rules.specs.Index.{IsIndexBelow}
+use Rattle.qrp_rules.proofs.Words.{IsIndexBelow}
 use Rattle.qrp_rules.proofs.clause_index.hashed_clauses.Given as goal
 
 abbrev pub invariant-loop-place : goal.invariant-loop-place

@@ -1,14 +1,9 @@
-use Rattle.std.proofs.Common.{ℕ, ◌+◌, ◌∙◌, take, sym, subst, List}
-use Rattle.std.proofs.lemmas.Bool.{false≢true}
-use Rattle.qbf_core.specs.declared.quantifier.Quantifier.TheVariants.{All}
-use Rattle.qbf_core.specs.Literal.{Literal}
-use Rattle.qbf_core.proofs.Members.{in_take_more, take_more_in}
+use Rattle.qrp_rules.proofs.Words.{ℕ, ◌+◌, ◌∙◌, take, sym, subst, List, false≢true, All, Literal, in_take_more, take_more_in, StandsAfter}
 use Rattle.qbf_core.proofs.Order.{all_taken}
-use Rattle.qrp_rules.specs.Walks.{StandsAfter}
 use Rattle.qrp_rules.proofs.ReducedForms.{numbered_skip, numbered_push, numbered_done}
-use Rattle.qrp_rules.proofs.clause_index.reduced_hash.Goals as goal
 use Rattle.qrp_rules.proofs.clause_index.reduced_hash.Goals.{then-not-stands_after, else-not-stands_after}
 use Rattle.qrp_rules.proofs.Clashing.{taken_below}
+use Rattle.qrp_rules.proofs.clause_index.reduced_hash.Goals as goal
 
 pub loop-lit-preserved : goal.loop-lit-preserved
 loop-lit-preserved c =

@@ -1,4 +1,4 @@
-use Rattle.std.proofs.Common.{take}
+use Rattle.qrp_rules.proofs.Words.{take}
 use Rattle.qrp_rules.proofs.ReducedForms.{Numbered}
 use Rattle.qrp_rules.proofs.clause_index.reduced_hash.Given as goal
 

@@ -1,6 +1,5 @@
-use Rattle.std.proofs.Common.{◌+◌, ◌∙◌, sym}
+use Rattle.qrp_rules.proofs.Words.{◌+◌, ◌∙◌, sym, lit_test}
 use Rattle.std.proofs.lemmas.List.{take_rest}
-use Rattle.qbf_core.proofs.Members.{lit_test}
 use Rattle.qrp_rules.proofs.Exactness.{resolved_at, resolved_behind}
 use Rattle.qrp_rules.proofs.exact.find_rests.Goals as goal
 

@@ -1,7 +1,6 @@
-use Rattle.std.proofs.Common.{◌≡◌, rules, tests}
+use Rattle.qrp_rules.proofs.Words.{◌≡◌, rules, tests, YieldsList-from_slice, Literal}
 use Rattle.std.proofs.lemmas.Bool.{MatchBool-at_true}
-use Rattle.std.proofs.lemmas.Iterator.{cases_from_all, YieldsList-from_slice}
-use Rattle.qbf_core.specs.Literal.{Literal}
+use Rattle.std.proofs.lemmas.Iterator.{cases_from_all}
 use Rattle.qbf_core.proofs.Members.{each_within}
 use Rattle.qrp_rules.proofs.exact.is_apart.Goals as goal
 

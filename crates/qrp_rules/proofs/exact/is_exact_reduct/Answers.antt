@@ -1,13 +1,13 @@
-use Rattle.std.proofs.Common.{◌≡◌, List, inl, inr, subst}
+use Rattle.qrp_rules.proofs.Words.{inl, inr, clean_within}
+use Rattle.qrp_rules.proofs.Reducing.{reducible_after, reducible_wider}
+use Rattle.std.proofs.Common.{◌≡◌, List, subst}
 use Rattle.std.proofs.lemmas.Slice.Eq.{slice_eq-Decides}
 use Rattle.qbf_core.specs.Literal.{Literal}
 use Rattle.qbf_core.specs.Blocks.{AreBound}
 use Rattle.qbf_core.specs.Rules.{IsClean}
 use Rattle.qbf_core.proofs.Members.{lit_decides}
 use Rattle.qrp_rules.specs.Conditions.{AllHold, reduct_conditions}
-use Rattle.qrp_rules.proofs.Reducing.{reducible_after, reducible_wider}
 use Rattle.qrp_rules.proofs.exact.is_exact_reduct.Goals as goal
-use Rattle.qbf_core.proofs.Order.{clean_within}
 use Rattle.qbf_core.proofs.Bound.{bound_within}
 
 pub returns-clause-follows : goal.returns-clause-follows

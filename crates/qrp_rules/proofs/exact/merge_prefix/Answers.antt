@@ -1,5 +1,4 @@
-use Rattle.std.proofs.Common.{sym, ◌∙◌, arith}
-use Rattle.std.proofs.lemmas.Bool.{false≢true}
+use Rattle.qrp_rules.proofs.Words.{sym, ◌∙◌, arith, false≢true}
 use Rattle.qrp_rules.proofs.Exactness.{merge_more}
 use Rattle.qrp_rules.proofs.exact.merge_prefix.Goals as goal
 

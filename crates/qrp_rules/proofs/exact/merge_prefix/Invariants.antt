@@ -1,4 +1,4 @@
-use Rattle.qrp_rules.specs.Exact.{IsMergeSoFar}
+use Rattle.qrp_rules.proofs.Words.{IsMergeSoFar}
 use Rattle.qrp_rules.proofs.exact.merge_prefix.Given as goal
 
 abbrev pub invariant-loop-position : goal.invariant-loop-position

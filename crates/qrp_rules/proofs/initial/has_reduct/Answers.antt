@@ -1,13 +1,7 @@
-use Rattle.std.proofs.lemmas.Grind.{common_steps}
-use Rattle.std.proofs.Common.{sym, arith}
-use Rattle.std.proofs.lemmas.Bool.{false≢true}
-use Rattle.qbf_core.specs.Rules.{Clauses}
-use Rattle.qbf_core.proofs.Bound.{bound_each}
-use Rattle.qbf_core.proofs.Order.{clean_from_same}
+use Rattle.qrp_rules.proofs.Words.{common_steps, sym, arith, false≢true, Clauses, bound_each, clean_from_same, got_in}
 use Rattle.qrp_rules.proofs.MembersDecide.{same_self, reduct_members}
 use Rattle.qrp_rules.proofs.ReductsByMembers.{not_clean}
 use Rattle.qrp_rules.proofs.initial.has_reduct.Goals as goal
-use Rattle.qbf_core.proofs.Members.{got_in}
 
 pub returns-then-not-is_among : goal.returns-then-not-is_among
 returns-then-not-is_among c = (

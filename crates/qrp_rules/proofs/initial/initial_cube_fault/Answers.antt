@@ -1,11 +1,6 @@
-use Rattle.std.proofs.Common.{arith, refl, sym, inl, inr, List, ◌⊎◌, ◌∙◌}
-use Rattle.std.proofs.lemmas.Bool.{false≢true}
-use Rattle.qbf_core.specs.Literal.{Literal}
-use Rattle.qbf_core.specs.Members.{◌∈◌}
-use Rattle.qbf_core.specs.Rules.{IsTautology}
-use Rattle.qbf_core.proofs.Members.{in_take_all, got_in}
-use Rattle.qrp_rules.proofs.initial.initial_cube_fault.Goals as goal
+use Rattle.qrp_rules.proofs.Words.{arith, refl, sym, inl, inr, List, ◌⊎◌, ◌∙◌, false≢true, Literal, ◌∈◌, IsTautology, in_take_all, got_in}
 use Rattle.qrp_rules.proofs.ReductsByMembers.{each_got}
+use Rattle.qrp_rules.proofs.initial.initial_cube_fault.Goals as goal
 
 pub returns-then-not-is_tautology : goal.returns-then-not-is_tautology
 returns-then-not-is_tautology c =

@@ -1,7 +1,4 @@
-use Rattle.std.proofs.Common.{take, List, ◌⊎◌}
-use Rattle.qbf_core.specs.Literal.{Literal}
-use Rattle.qbf_core.specs.Members.{◌∈◌}
-use Rattle.qbf_core.specs.Rules.{IsTautology}
+use Rattle.qrp_rules.proofs.Words.{take, List, ◌⊎◌, Literal, ◌∈◌, IsTautology}
 use Rattle.qrp_rules.proofs.initial.initial_cube_fault.Given as goal
 
 abbrev pub invariant-loop-i : goal.invariant-loop-i

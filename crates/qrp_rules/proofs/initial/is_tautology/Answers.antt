@@ -1,8 +1,4 @@
-use Rattle.std.proofs.Common.{rules, tests}
-use Rattle.std.proofs.lemmas.Iterator.{cases_from_any, YieldsList-from_slice}
-use Rattle.qbf_core.specs.Literal.{Literal, negated, positive}
-use Rattle.qbf_core.specs.Members.{◌∈◌}
-use Rattle.qbf_core.proofs.Members.{any_members}
+use Rattle.qrp_rules.proofs.Words.{rules, tests, cases_from_any, YieldsList-from_slice, Literal, negated, positive, ◌∈◌, any_members}
 use Rattle.qbf_core.proofs.Order.{clash_from}
 use Rattle.qrp_rules.proofs.initial.is_tautology.Goals as goal
 

@@ -1,8 +1,4 @@
-use Rattle.std.proofs.Common.{rules, tests}
-use Rattle.std.proofs.lemmas.Iterator.{cases_from_any, YieldsList-from_slice}
-use Rattle.qbf_core.specs.Literal.{Literal}
-use Rattle.qbf_core.specs.Members.{◌∈◌}
-use Rattle.qbf_core.proofs.Members.{any_members}
+use Rattle.qrp_rules.proofs.Words.{rules, tests, cases_from_any, YieldsList-from_slice, Literal, ◌∈◌, any_members}
 use Rattle.qrp_rules.proofs.initial.shares.Goals as goal
 
 pub returns : goal.returns

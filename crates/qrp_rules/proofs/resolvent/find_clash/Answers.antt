@@ -1,13 +1,8 @@
-use Rattle.std.proofs.Common.{◌+◌, ℕ, take, drop, sym, ap, subst, rules}
-use Rattle.std.proofs.lemmas.Bool.{true≢false}
-use Rattle.qbf_core.specs.Literal.{Literal}
-use Rattle.qbf_core.specs.Literal.{negated}
-use Rattle.qbf_core.specs.Members.{◌∈◌}
-use Rattle.qbf_core.specs.Rules.{IsOnlyClash}
+use Rattle.qrp_rules.proofs.Words.{◌+◌, ℕ, take, drop, sym, ap, subst, rules, true≢false, Literal, negated, ◌∈◌, IsOnlyClash}
 use Rattle.qrp_rules.proofs.Cursors.{Reaches, HasVar, reach_more, reach_in}
 use Rattle.qrp_rules.proofs.Clashing.{IsClashSoFar, clash_same, clash_first, clash_second, clash_none}
-use Rattle.qrp_rules.proofs.resolvent.find_clash.Goals as goal
 use Rattle.qrp_rules.proofs.resolvent.find_clash.Goals.{then-opposite+in-None, else-opposite}
+use Rattle.qrp_rules.proofs.resolvent.find_clash.Goals as goal
 
 pub returns-in-Some : goal.returns-in-Some
 returns-in-Some c =

@@ -1,5 +1,4 @@
-use Rattle.std.proofs.Common.{◌∙◌, sym, refl}
-use Rattle.std.proofs.lemmas.Bool.{true≢false}
+use Rattle.qrp_rules.proofs.Words.{◌∙◌, sym, refl, true≢false}
 use Rattle.qrp_rules.proofs.Reducing.{resolvent_kept}
 use Rattle.qrp_rules.proofs.resolvent.is_reduced.Goals as goal
 

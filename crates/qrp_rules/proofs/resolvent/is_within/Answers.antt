@@ -1,12 +1,6 @@
-use Rattle.std.proofs.Common.{◌+◌, ◌∙◌, ℕ, drop, refl, sym, inl, inr, ◌++◌, rules}
-use Rattle.std.proofs.lemmas.Bool.{false≢true}
-use Rattle.qbf_core.specs.Literal.{Literal}
-use Rattle.qbf_core.specs.Members.{◌∈◌}
-use Rattle.qbf_core.specs.Rules.{resolvent}
-use Rattle.qrp_rules.proofs.Cursors.{Reaches, HasVar}
-use Rattle.qbf_core.proofs.Members.{in_at, in_take_all, in_append, append_left, append_right, each_more}
-use Rattle.qbf_core.proofs.Inferences.{in_without, from_without}
-use Rattle.qrp_rules.proofs.Cursors.{reach_more, reach_in}
+use Rattle.qrp_rules.proofs.Words.{◌+◌, ◌∙◌, ℕ, drop, refl, sym, inl, inr, ◌++◌, rules, false≢true, Literal, ◌∈◌, resolvent, in_at}
+use Rattle.qrp_rules.proofs.Words.{in_take_all, in_append, append_left, append_right, each_more, in_without, from_without}
+use Rattle.qrp_rules.proofs.Cursors.{Reaches, HasVar, reach_more, reach_in}
 use Rattle.qrp_rules.proofs.resolvent.is_within.Goals as goal
 
 pub returns-then-not-is_resolved : goal.returns-then-not-is_resolved

@@ -1,6 +1,4 @@
-use Rattle.std.proofs.Common.{take, drop}
-use Rattle.qbf_core.specs.Members.{◌⊆◌}
-use Rattle.qbf_core.specs.Rules.{resolvent}
+use Rattle.qrp_rules.proofs.Words.{take, drop, ◌⊆◌, resolvent}
 use Rattle.qrp_rules.proofs.Cursors.{Reaches, HasVar}
 use Rattle.qrp_rules.proofs.resolvent.is_within.Given as goal
 

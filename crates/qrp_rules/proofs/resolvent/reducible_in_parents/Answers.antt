@@ -1,4 +1,4 @@
-use Rattle.std.proofs.Common.{◌∙◌}
+use Rattle.qrp_rules.proofs.Words.{◌∙◌}
 use Rattle.qrp_rules.proofs.Reducing.{parents_account}
 use Rattle.qrp_rules.proofs.resolvent.reducible_in_parents.Goals as goal
 

@@ -1,8 +1,4 @@
-use Rattle.std.proofs.Common.{ℕ, sym, subst, ◌∙◌, inl, inr}
-use Rattle.std.proofs.lemmas.Bool.{false≢true}
-use Rattle.qbf_core.specs.Literal.{Literal}
-use Rattle.qbf_core.proofs.Members.{in_take_more, take_more_in}
-use Rattle.qrp_rules.specs.Seen.{Has}
+use Rattle.qrp_rules.proofs.Words.{ℕ, sym, subst, ◌∙◌, inl, inr, false≢true, Literal, in_take_more, take_more_in, Has}
 use Rattle.qrp_rules.proofs.Exactness.{clean_all, clean_with}
 use Rattle.qrp_rules.proofs.seen.set_if_clean.Goals as goal
 

@@ -1,6 +1,4 @@
-use Rattle.std.proofs.Common.{◌≡◌, ℕ, get_or, subst, sym, ap, inl, inr, ◌∙◌, rules}
-use Rattle.qbf_core.specs.Literal.{Literal}
-use Rattle.qbf_core.proofs.Members.{in_take_all, in_take_more}
+use Rattle.qrp_rules.proofs.Words.{◌≡◌, ℕ, get_or, subst, sym, ap, inl, inr, ◌∙◌, rules, Literal, in_take_all, in_take_more}
 use Rattle.qrp_rules.proofs.Exactness.{clean_all, clean_with}
 use Rattle.qrp_rules.proofs.seen.stamp_vars.Goals as goal
 

@@ -1,9 +1,4 @@
-use Rattle.std.proofs.Common.{◌≡◌, get_or, take}
-use Rattle.qbf_core.specs.Literal.{Literal}
-use Rattle.qbf_core.specs.Members.{◌∈◌}
-use Rattle.qbf_core.specs.Rules.{IsClean}
-use Rattle.qrp_rules.specs.Exact.{IsApart}
-use Rattle.qrp_rules.specs.Seen.{AreUpTo}
+use Rattle.qrp_rules.proofs.Words.{◌≡◌, get_or, take, Literal, ◌∈◌, IsClean, IsApart, AreUpTo}
 use Rattle.qrp_rules.proofs.seen.stamp_vars.Given as goal
 
 abbrev pub invariant-loop-lit : goal.invariant-loop-lit

@@ -1,4 +1,4 @@
-use Rattle.std.proofs.Common.{◌≤◌, ℕ, sym, subst, arith}
+use Rattle.qrp_rules.proofs.Words.{◌≤◌, ℕ, sym, subst, arith}
 use Rattle.qrp_rules.proofs.walks.advance_to.Goals as goal
 
 pub returns-clause-kept : goal.returns-clause-kept

@@ -1,13 +1,7 @@
-use Rattle.std.proofs.lemmas.Grind.{common_steps}
-use Rattle.std.proofs.Common.{ℕ, ◌⊎◌, refl, subst, inl, inr, arith}
-use Rattle.std.proofs.lemmas.Bool.{false≢true}
-use Rattle.qbf_core.specs.Literal.{Literal}
-use Rattle.qbf_core.specs.Members.{◌∈◌}
-use Rattle.qbf_core.proofs.Members.{in_at, each_more}
-use Rattle.qrp_rules.specs.Walks.{MayLack}
+use Rattle.qrp_rules.proofs.Words.{common_steps, ℕ, ◌⊎◌, refl, subst, inl, inr, arith, false≢true, Literal, ◌∈◌, in_at, each_more, MayLack}
 use Rattle.qrp_rules.proofs.Cursors.{reach_more, reach_in}
-use Rattle.qrp_rules.proofs.walks.is_covered.Goals as goal
 use Rattle.qrp_rules.proofs.walks.is_covered.Goals.{else-not-kept-via-then-not-kept+else-not-may_lack, else-not-kept-via-else-not-kept}
+use Rattle.qrp_rules.proofs.walks.is_covered.Goals as goal
 
 pub returns-then-not-may_lack : goal.returns-then-not-may_lack
 returns-then-not-may_lack c = grind (arith, common_steps, false≢true, in_at, reach_in)

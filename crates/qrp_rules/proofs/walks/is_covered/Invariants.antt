@@ -1,8 +1,5 @@
-use Rattle.std.proofs.Common.{take, drop, ◌⊎◌}
-use Rattle.qbf_core.specs.Literal.{Literal}
-use Rattle.qbf_core.specs.Members.{◌∈◌}
+use Rattle.qrp_rules.proofs.Words.{take, drop, ◌⊎◌, Literal, ◌∈◌, MayLack}
 use Rattle.qrp_rules.proofs.Cursors.{Reaches, HasVar}
-use Rattle.qrp_rules.specs.Walks.{MayLack}
 use Rattle.qrp_rules.proofs.walks.is_covered.Given as goal
 
 abbrev pub invariant-loop-lit : goal.invariant-loop-lit

@@ -1,7 +1,4 @@
-use Rattle.std.proofs.Common.{◌⊎◌, refl, inl, inr, arith, List}
-use Rattle.std.proofs.lemmas.Bool.{false≢true}
-use Rattle.qbf_core.specs.Literal.{Literal}
-use Rattle.qbf_core.specs.Members.{◌∈◌, ◌⊆◌}
+use Rattle.qrp_rules.proofs.Words.{◌⊎◌, refl, inl, inr, arith, List, false≢true, Literal, ◌∈◌, ◌⊆◌}
 use Rattle.qrp_rules.proofs.Reducing.{each_reducible}
 use Rattle.qrp_rules.proofs.OrderedLists.{ordered_whole}
 use Rattle.qrp_rules.proofs.walks.ordered_reduct_fault_by.Goals as goal

@@ -1,6 +1,4 @@
-use Rattle.std.proofs.Common.{◌≡◌, sym, subst, arith, ◌∷◌, inr, rules}
-use Rattle.qbf_core.specs.Members.{◌∈◌}
-use Rattle.qbf_core.specs.Sets.{IsOrdered}
+use Rattle.qrp_rules.proofs.Words.{◌≡◌, sym, subst, arith, ◌∷◌, inr, rules, ◌∈◌, IsOrdered}
 use Rattle.qrp_rules.proofs.Cursors.{first_least, rest_keeps}
 use Rattle.qrp_rules.proofs.walks.skip_to.Goals as goal
 

@@ -1,7 +1,4 @@
-use Rattle.std.proofs.Common.{◌≤◌, length}
-use Rattle.qbf_core.specs.Literal.{Literal}
-use Rattle.qbf_core.specs.Members.{◌∈◌}
-use Rattle.qbf_core.specs.Sets.{IsOrdered}
+use Rattle.qrp_rules.proofs.Words.{◌≤◌, length, Literal, ◌∈◌, IsOrdered}
 use Rattle.qrp_rules.proofs.walks.skip_to.Given as goal
 
 abbrev pub invariant-loop-first : goal.invariant-loop-first

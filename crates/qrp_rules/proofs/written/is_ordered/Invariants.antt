@@ -1,7 +1,4 @@
-use Rattle.std.proofs.Common.{◌≡◌, ◌≤◌, ◌⊎◌, take}
-use Rattle.qbf_core.specs.Literal.{Literal}
-use Rattle.qbf_core.specs.Members.{◌∈◌}
-use Rattle.qbf_core.specs.Sets.{IsOrdered}
+use Rattle.qrp_rules.proofs.Words.{◌≡◌, ◌≤◌, ◌⊎◌, take, Literal, ◌∈◌, IsOrdered}
 use Rattle.qrp_rules.proofs.written.is_ordered.Given as goal
 
 abbrev pub invariant-loop-lit : goal.invariant-loop-lit

@@ -1,6 +1,4 @@
-use Rattle.std.proofs.lemmas.Grind.{common_steps}
-use Rattle.std.proofs.Common.{arith}
-use Rattle.qbf_core.proofs.Order.{clean_from_same}
+use Rattle.qrp_rules.proofs.Words.{common_steps, arith, clean_from_same}
 use Rattle.qrp_rules.proofs.MembersDecide.{same_self}
 use Rattle.qrp_rules.proofs.written.set_unless_ordered.Goals as goal
 

@@ -1,4 +1,4 @@
-use Rattle.std.proofs.Common.{arith}
+use Rattle.qbf_core.proofs.Words.{arith}
 use Rattle.qbf_core.proofs.formula.Formula.new.Goals as goal
 
 pub whole-requires : goal.whole-requires

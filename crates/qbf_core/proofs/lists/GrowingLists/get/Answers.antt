@@ -1,5 +1,4 @@
-use Rattle.std.proofs.Common.{arith}
-use Rattle.std.proofs.lemmas.Grind.{common_steps}
+use Rattle.qbf_core.proofs.Words.{arith, common_steps}
 use Rattle.qbf_core.proofs.Flats.{part_place}
 use Rattle.qbf_core.proofs.lists.GrowingLists.get.Goals as goal
 

@@ -1,5 +1,4 @@
-use Rattle.std.proofs.Common.{arith}
-use Rattle.std.proofs.lemmas.Grind.{common_steps}
+use Rattle.qbf_core.proofs.Words.{arith, common_steps}
 use Rattle.qbf_core.proofs.Flats.{fewer_parts, fewer_reach, same_count}
 use Rattle.qbf_core.proofs.lists.GrowingLists.pop.Goals as goal
 

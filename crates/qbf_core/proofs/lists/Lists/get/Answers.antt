@@ -1,4 +1,4 @@
-use Rattle.std.proofs.Common.{◌∙◌, List, ap, slice_get, sym}
+use Rattle.qbf_core.proofs.Words.{◌∙◌, List, ap, slice_get, sym}
 use Rattle.qbf_core.proofs.Flats.{part_place}
 use Rattle.qbf_core.proofs.lists.Lists.get.Goals as goal
 

@@ -1,4 +1,4 @@
-use Rattle.std.proofs.Common.{◌^◌, ◌<◌}
+use Rattle.qbf_text.proofs.Words.{◌^◌, ◌<◌}
 use Rattle.qbf_text.proofs.PassedNumbers.{all_behind, passes_number}
 use Rattle.qbf_text.proofs.hand.Cursor.usual_number.Goals as goal
 

@@ -1,11 +1,7 @@
-use Rattle.std.proofs.Common.{arith}
-use Rattle.std.proofs.lemmas.Grind.{common_steps}
-use Rattle.std.proofs.KnownBytes.{Consumes-nil}
-use Rattle.qbf_text.specs.Ahead.{ahead}
+use Rattle.qbf_text.proofs.Words.{arith, common_steps, Consumes-nil, ahead, is_blank, is_line_end}
 use Rattle.qbf_text.proofs.KnownLeft.{took_at, no_line_end_at}
 use Rattle.qbf_text.proofs.ByteByByte.{or_cases}
 use Rattle.qbf_text.proofs.Stops.{skips_line_end, skips_blank}
-use Rattle.qbf_text.specs.Tokens.{is_blank, is_line_end}
 use Rattle.qbf_text.proofs.scanner.Place.pass_separator.Goals as goal
 
 pub returns-then-byte-eq10-clause-none : goal.returns-then-byte-eq10-clause-none

@@ -1,5 +1,4 @@
-use Rattle.std.proofs.lemmas.Grind.{common_steps}
-use Rattle.std.proofs.Common.{arith}
+use Rattle.qbf_text.proofs.Words.{common_steps, arith}
 use Rattle.qbf_text.proofs.Stops.{place_skips_more}
 use Rattle.qbf_text.proofs.scanner.Place.skip_separators.Goals as goal
 

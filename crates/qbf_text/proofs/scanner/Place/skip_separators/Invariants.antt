@@ -1,5 +1,4 @@
-use Rattle.std.proofs.Common.{ℕ, ◌≤◌, List, Option, length}
-use Rattle.qbf_text.specs.Stopping.{PlaceSkips}
+use Rattle.qbf_text.proofs.Words.{ℕ, ◌≤◌, List, Option, length, PlaceSkips}
 use Rattle.qbf_text.proofs.scanner.Place.skip_separators.Given as goal
 
 abbrev pub invariant-loop-byte : goal.invariant-loop-byte

@@ -1,5 +1,4 @@
-use Rattle.std.proofs.Common.{arith}
-use Rattle.std.proofs.lemmas.Grind.{common_steps}
+use Rattle.qbf_text.proofs.Words.{arith, common_steps}
 use Rattle.qbf_text.specs.Reading.{left}
 use Rattle.qbf_text.proofs.Stops.{next_taken}
 use Rattle.qbf_text.proofs.scanner.Scanner.next_token.Goals as goal

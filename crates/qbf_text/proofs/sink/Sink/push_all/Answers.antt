@@ -1,5 +1,4 @@
-use Rattle.std.proofs.Common.{arith}
-use Rattle.std.proofs.lemmas.Grind.{common_steps}
+use Rattle.qbf_text.proofs.Words.{arith, common_steps}
 use Rattle.qbf_text.proofs.SentParts.{sent_more}
 use Rattle.qbf_text.proofs.sink.Sink.push_all.Goals as goal
 

@@ -1,5 +1,4 @@
-use Rattle.std.proofs.Common.{decimal}
-use Rattle.std.proofs.lemmas.Result.{err_from_is_err_and}
+use Rattle.qbf_text.proofs.Words.{decimal, err_from_is_err_and}
 use Rattle.qbf_text.proofs.SentParts.{put_fails}
 use Rattle.qbf_text.proofs.sink.Sink.push_spaced.Goals as goal
 

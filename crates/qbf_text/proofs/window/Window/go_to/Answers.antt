@@ -1,5 +1,4 @@
-use Rattle.std.proofs.Common.{arith}
-use Rattle.std.proofs.lemmas.Grind.{common_steps}
+use Rattle.qbf_text.proofs.Words.{arith, common_steps}
 use Rattle.qbf_text.proofs.Windows.{part, part_skip}
 use Rattle.qbf_text.proofs.window.Window.go_to.Goals as goal
 

@@ -1,7 +1,4 @@
-use Rattle.std.proofs.Common.{List, subst, arith}
-use Rattle.qbf_core.specs.Blocks.{Block}
-use Rattle.qbf_core.specs.Rules.{Clauses}
-use Rattle.qrp_rules.specs.Index.{IsReducedForm}
+use Rattle.qrp_rules.proofs.Words.{List, subst, arith, Block, Clauses, IsReducedForm}
 use Rattle.qrp_rules.proofs.ReducedForms.{none_initial, none_left, above_from}
 use Rattle.qrp_rules.proofs.clause_index.ClauseIndex.find.Goals as goal
 

@@ -1,8 +1,5 @@
-use Rattle.std.proofs.Common.{rules, ltb, refl, sym, subst, List}
+use Rattle.qrp_rules.proofs.Words.{rules, ltb, refl, sym, subst, List, IsNonDecreasingBy, hash_of, IndexEntry}
 use Rattle.std.proofs.lemmas.List.Sorted.{IsPartitionPoint-from_clause, IsPartitionedBy-ltb}
-use Rattle.std.specs.List.Sorted.{IsNonDecreasingBy}
-use Rattle.qrp_rules.specs.Index.{hash_of}
-use Rattle.qrp_rules.specs.declared.clause_index.IndexEntry.{IndexEntry}
 use Rattle.qrp_rules.proofs.ReducedForms.{in_rest}
 use Rattle.qrp_rules.proofs.clause_index.ClauseIndex.from_hash.Goals as goal
 

@@ -1,6 +1,5 @@
-use Rattle.std.proofs.Common.{rules}
+use Rattle.qrp_rules.proofs.Words.{rules, hash_of}
 use Rattle.std.proofs.lemmas.List.Sorted.{IsNonDecreasingBy-from_sort_by_key}
-use Rattle.qrp_rules.specs.Index.{hash_of}
 use Rattle.qrp_rules.proofs.ReducedForms.{filed_sorted}
 use Rattle.qrp_rules.proofs.clause_index.ClauseIndex.new.Goals as goal
 

@@ -1,5 +1,5 @@
-use Rattle.std.proofs.Common.{ℕ, Option, IfSome, subst}
-use Rattle.qrp_rules.specs.Index.{HasReductAt}
+use Rattle.qrp_rules.proofs.Words.{ℕ, Option, subst, HasReductAt}
+use Rattle.std.proofs.Common.{IfSome}
 use Rattle.qrp_rules.proofs.ReducedForms.{found_initial}
 use Rattle.qrp_rules.proofs.clause_index.InitialClauses.fault.Goals as goal
 

@@ -1,5 +1,4 @@
-use Rattle.std.proofs.Common.{refl}
-use Rattle.qbf_core.specs.Rules.{Clauses}
+use Rattle.qrp_rules.proofs.Words.{refl, Clauses}
 use Rattle.qrp_rules.proofs.ReducedForms.{found_initial}
 use Rattle.qrp_rules.proofs.clause_index.InitialClauses.is_next.Goals as goal
 

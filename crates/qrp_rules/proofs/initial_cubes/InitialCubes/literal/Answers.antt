@@ -1,5 +1,4 @@
-use Rattle.std.proofs.Common.{refl}
-use Rattle.std.proofs.lemmas.Option.{slice_get_read}
+use Rattle.qrp_rules.proofs.Words.{refl, slice_get_read}
 use Rattle.qrp_rules.proofs.initial_cubes.InitialCubes.literal.Goals as goal
 
 pub returns : goal.returns

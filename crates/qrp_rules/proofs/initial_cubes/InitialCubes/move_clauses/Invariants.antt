@@ -1,5 +1,5 @@
-use Rattle.std.proofs.Common.{◌≤◌, ◌+◌, ℕ, length, vec_len}
-use Rattle.qrp_rules.specs.Watches.{IsMet}
+use Rattle.qrp_rules.proofs.Words.{◌≤◌, ◌+◌, ℕ, length, IsMet}
+use Rattle.std.proofs.Common.{vec_len}
 use Rattle.qrp_rules.proofs.WatchedClauses.{IsPending}
 use Rattle.qrp_rules.proofs.initial_cubes.InitialCubes.move_clauses.Given as goal
 

@@ -1,7 +1,5 @@
-use Rattle.std.proofs.Common.{◌≡◌, ◌∙◌, List, Some, ap, arith, slice_get, subst, sym}
+use Rattle.qrp_rules.proofs.Words.{◌≡◌, ◌∙◌, List, Some, ap, arith, slice_get, subst, sym, lit_test, Watch}
 use Rattle.std.proofs.lemmas.Option.{slice_get-get_or}
-use Rattle.qbf_core.proofs.Members.{lit_test}
-use Rattle.qrp_rules.specs.declared.initial_cubes.Watch.{Watch}
 use Rattle.qrp_rules.proofs.initial_cubes.InitialCubes.position.Goals as goal
 
 pub returns-then-eq : goal.returns-then-eq

@@ -1,5 +1,4 @@
-use Rattle.std.proofs.Common.{◌≡◌, ◌+◌, ◌-◌, ◌<◌, ℕ, arith, subst}
-use Rattle.qrp_rules.specs.Watches.{IsMet}
+use Rattle.qrp_rules.proofs.Words.{◌≡◌, ◌+◌, ◌-◌, ◌<◌, ℕ, arith, subst, IsMet}
 use Rattle.qrp_rules.proofs.WatchedClauses.{watched_before}
 use Rattle.qrp_rules.proofs.initial_cubes.InitialCubes.renew.Goals as goal
 

@@ -1,5 +1,4 @@
-use Rattle.std.proofs.Common.{◌≤◌, ℕ, length}
-use Rattle.qrp_rules.specs.Watches.{IsMet}
+use Rattle.qrp_rules.proofs.Words.{◌≤◌, ℕ, length, IsMet}
 use Rattle.qrp_rules.proofs.initial_cubes.InitialCubes.renew.Given as goal
 
 abbrev pub invariant-loop-position : goal.invariant-loop-position

@@ -1,5 +1,4 @@
-use Rattle.std.proofs.Common.{ℕ, ◌<◌}
-use Rattle.qrp_rules.specs.Watches.{IsMet}
+use Rattle.qrp_rules.proofs.Words.{ℕ, ◌<◌, IsMet}
 use Rattle.qrp_rules.proofs.initial_cubes.InitialCubes.watch_all.Given as goal
 
 abbrev pub invariant-loop-place : goal.invariant-loop-place

@@ -1,10 +1,7 @@
-use Rattle.std.proofs.Common.{◌≡◌, ◌∙◌, refl, sym, subst, ap, Contains, List}
-use Rattle.std.proofs.lemmas.Option.{get_or_from_slice_get}
-use Rattle.qrp_rules.specs.Watches.{IsWatchedBy}
-use Rattle.qrp_rules.specs.declared.initial_cubes.Watch.{Watch}
+use Rattle.qrp_rules.proofs.Words.{◌≡◌, ◌∙◌, refl, sym, subst, ap, Contains, List, get_or_from_slice_get, IsWatchedBy, Watch}
 use Rattle.qrp_rules.proofs.WatchedClauses.{added_watches, last_one, pushed_or_not, written_keeps, written_watches}
-use Rattle.qrp_rules.proofs.initial_cubes.InitialCubes.watch_by.Goals as goal
 use Rattle.std.proofs.lemmas.Result.{on_ok_weaker}
+use Rattle.qrp_rules.proofs.initial_cubes.InitialCubes.watch_by.Goals as goal
 
 pub returns-in-Some-clause-kept : goal.returns-in-Some-clause-kept
 returns-in-Some-clause-kept c =

@@ -1,5 +1,4 @@
-use Rattle.std.proofs.Common.{arith}
-use Rattle.qrp_rules.specs.Seen.{code}
+use Rattle.qrp_rules.proofs.Words.{arith, code}
 use Rattle.qrp_rules.proofs.Stamps.{none_later, zeros_upto}
 use Rattle.qrp_rules.proofs.seen.SeenLits.clear.Goals as goal
 
