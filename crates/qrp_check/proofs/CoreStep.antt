@@ -1,6 +1,6 @@
 -- One step of the core: its antecedents, and its conditions.
 use Rattle.qrp_check.proofs.Words.{◌≡◌, ℕ, ◌<◌, ◌≤◌, List, [], ◌∷◌, Option, Some, None, inl, inr, refl, sym, ap, subst, ◌∙◌, arith, length}
-use Rattle.qrp_check.proofs.Words.{get_or, take, rules, IfOk, IfSome, Result, Ok, Err, Literal, ◌∈◌, Block, AreBound, IsBound, Qbf, Side}
+use Rattle.qrp_check.proofs.Words.{at_place, get_or, take, rules, IfOk, IfSome, Result, Ok, Err, Literal, ◌∈◌, Block, AreBound, IsBound, Qbf, Side}
 use Rattle.qrp_check.proofs.Words.{IsClean, bound_each, Inference, IsAt, RuleFault, IsAnswer, initial_condition, reduct_conditions}
 use Rattle.qrp_check.proofs.Words.{resolvent_conditions, Rules, IsNumberOf, StepFollows, lits_of, step_conditions, IsInCore, next}
 use Rattle.qrp_check.proofs.Words.{premise_conditions, reduct_answer, resolvent_answer, same_self, in_take, take_in}
@@ -15,6 +15,7 @@ use Rattle.qrp_rules.specs.Conditions.{Condition}
 use Rattle.qrp_check.specs.Premises.{AreFit, ArePremises, IsFit, IsPremise, found_conditions, written_conditions}
 use Rattle.qrp_check.specs.declared.premises.Premises.{Premises}
 use Rattle.qrp_check.specs.declared.premises.Premises.TheVariants.{Initial, One, Two}
+use Rattle.qrp_check.proofs.Marking.{core_within}
 use Rattle.qrp_check.proofs.StepFaults.{named, need_of}
 use Rattle.qrp_check.proofs.StepPlaces.{one_at}
 use Rattle.qrp_rules.proofs.MembersDecide.{initial_answer}
