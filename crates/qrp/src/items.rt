@@ -128,7 +128,9 @@ impl ItemGrammar {
     pub fn into_parts(self) -> Parts
         ensures { kept_of result ≡ self.kept }
     {
-        self.parts
+        let mut parts = self.parts;
+        parts.begun.index.place_all();
+        parts
     }
 
     /// The numbers of the steps that were given. It takes no memory.
@@ -137,7 +139,9 @@ impl ItemGrammar {
     {
         let parts = self.parts;
         let begun = parts.begun;
-        begun.index
+        let mut index = begun.index;
+        index.place_all();
+        index
     }
 }
 

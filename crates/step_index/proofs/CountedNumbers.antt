@@ -1,11 +1,14 @@
 -- Numbers that are counted from a first one, with others after them.
 use Rattle.std.proofs.Common.{rules, ◌≡◌, ◌<◌, ◌≤◌, ◌+◌, ◌-◌, ◌^◌, ◌⊎◌, ℕ, zero, suc, true, false, List, [], ◌∷◌, ◌++◌, length, slice_get}
 use Rattle.std.proofs.Common.{nat_eq, Option, None, Some, IfSome, IfNone, refl, sym, ap, ◌∙◌, inl, inr, arith, is_some, eq-eqb, append-nil}
+use Rattle.std.specs.Map.{lookup}
 use Rattle.std.proofs.lemmas.Grind.{common_steps}
 use Rattle.std.proofs.lemmas.Bool.{cases_lt}
 use Rattle.std.proofs.lemmas.Bool.Decides.{eqb_tells}
 use Rattle.std.proofs.lemmas.Map.Keys.{any_passes_from_place}
 use Rattle.step_index.specs.Numbers.{is_used, count_from, AreStepNumbers}
+use Rattle.step_index.specs.NumberSets.{Has}
+use Rattle.step_index.specs.Sparse.{AreFound}
 use Rattle.qbf_core.proofs.DistinctNumbers.{push_distinct, all_at}
 use Rattle.std.specs.List.{AllByRecursion}
 
@@ -83,6 +86,18 @@ unused_above ks m top below above = grind (arith, common_steps, unused_none, all
 pub sparse_used : (ks : List ℕ) (m : ℕ) (o : Option ℕ) → IfSome o (λ i. slice_get ks i ≡ Some m)
     → IfNone o ((i : ℕ) → slice_get ks i ≡ Some m → ⊥) → is_some o ≡ is_used m ks
 sparse_used ks m o some none = grind (arith, common_steps, unused_none, used_at)
+
+-- what a set or else a map has of it says the same
+module _ (near table : List ℕ) (far : List (ℕ × ℕ)) (ks : List ℕ) (placed m : ℕ) (found : AreFound near table far ks placed) where
+  pub near_used : Has near m → true ≡ is_used m ks
+  near_used has = let w = found.near_sound m has in sparse_used ks m (Some w.0) w.1 tt
+
+  pub far_used : (o : Option ℕ) → (Has near m → ⊥) → o ≡ lookup (nat_eq m) far → is_some o ≡ is_used m ks
+  far_used None none is = sparse_used ks m None tt (λ i here. elim (found.noted m i here) [
+    | inl has ↦ none has
+    | inr far ↦ far (sym is)
+  ])
+  far_used (Some i) none is = sparse_used ks m (Some i) (found.far_sound m i (sym is)) tt
 
 -- ---- one more number
 

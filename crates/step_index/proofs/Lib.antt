@@ -1,2 +1,3 @@
 pub mod SparseNumbers
 pub mod CountedNumbers
+pub mod NumberSets

@@ -1,26 +1,14 @@
--- Numbers that are found by a table and a map, with one more of them.
-use Rattle.std.proofs.Common.{◌≡◌, ℕ, suc, ◌<◌, List, [], ◌∷◌, ◌++◌, Some, inl, inr, sym, ap, subst, ◌∙◌, length, get_or, slice_get, set}
-use Rattle.std.proofs.Common.{cond, nat_eq, arith, ◌≤◌, max, eq-eqb, ne_eqb, get_or-set_same, get_or-set_other}
+-- Numbers that are noted in a set or a map: one more of them, and the place of one more in the table.
+use Rattle.std.proofs.Common.{◌≡◌, ℕ, zero, suc, ◌<◌, ◌≤◌, ◌+◌, List, [], ◌∷◌, ◌++◌, Some, None, inl, inr, sym, ap, subst, ◌∙◌, length, get_or}
+use Rattle.std.proofs.Common.{slice_get, cond, nat_eq, arith, max, eq-eqb, ne_eqb, length-append}
+use Rattle.std.specs.Prelude.{◌↔◌, ◌⊎◌}
 use Rattle.std.specs.List.{AllByRecursion}
 use Rattle.qbf_core.proofs.PrefixLaws.{AllByRecursion-push}
 use Rattle.std.specs.Map.{lookup}
-use Rattle.std.proofs.lemmas.Bool.{cases_eq}
-use Rattle.step_index.specs.Sparse.{AreFound}
+use Rattle.std.proofs.lemmas.Bool.{cases_eq, cases_lt}
+use Rattle.step_index.specs.NumberSets.{Has}
+use Rattle.step_index.specs.Sparse.{AreFound, IsFar}
 use Rattle.qbf_core.proofs.PushedItems.{pushed_cases, pushed_old, pushed_new}
-
--- the table was made longer
-pub sparse_grown : (table grown : List ℕ) (far : List (ℕ × ℕ)) (numbers : List ℕ) → ((n : ℕ) → get_or grown n 0 ≡ get_or table n 0)
-    → AreFound table far numbers → AreFound grown far numbers
-sparse_grown table grown far numbers same sparse = record {
-  sound = λ n i has. elim has [
-    | inl e ↦ sparse.sound n i (inl (sym (same n) ∙ e))
-    | inr e ↦ sparse.sound n i (inr e)
-  ];
-  full = λ n i here. let w = sparse.full n i here in elim w.1 [
-    | inl e ↦ (w.0, inl (same n ∙ e))
-    | inr e ↦ (w.0, inr e)
-  ];
-}
 
 -- ---- no number is greater than the greatest
 
@@ -34,69 +22,91 @@ below_raised ns m g top is h = AllByRecursion-push (λ n. n ≤ top) ns m (below
 
 -- ---- one more number
 
--- what is at an old place is still there
-module _ (numbers : List ℕ) (m : ℕ) where
-  -- the table has the new place
-  pub sparse_near : (table : List ℕ) (far : List (ℕ × ℕ)) (v : ℕ) → m < length table → v ≡ suc (length numbers)
-      → AreFound table far numbers → AreFound (set table m v) far (numbers ++ m ∷ [])
-  sparse_near table far v within is sparse = record {
-    sound = λ n i has. elim has [
-      | inl e ↦ elim (cases_eq n m) [
-        | inl same ↦
-            let value : suc (length numbers) ≡ suc i =
-            sym (ap (λ (k : ℕ). get_or (set table m v) k 0) same ∙ get_or-set_same table m v 0 within ∙ is) ∙ e in
-            let place : i ≡ length numbers = omega (arith, value) in
-            subst (λ (k : ℕ). slice_get (numbers ++ m ∷ []) k ≡ Some n) (sym place)
-            (pushed_new numbers m ∙ ap (λ (k : ℕ). Some k) (sym same))
-        | inr other ↦ pushed_old numbers m i n (sparse.sound n i (inl (sym (get_or-set_other table m n v 0 other) ∙ e)))
-      ]
-      | inr e ↦ pushed_old numbers m i n (sparse.sound n i (inr e))
+module _ (near table : List ℕ) (far : List (ℕ × ℕ)) (numbers : List ℕ) (placed m : ℕ) (found : AreFound near table far numbers placed) where
+  -- the first numbers are as they were
+  old_at : (n i : ℕ) → i < placed → slice_get (numbers ++ m ∷ []) i ≡ Some n → slice_get numbers i ≡ Some n
+  old_at n i less here = elim (pushed_cases numbers m i n here) [
+    | inl old ↦ old
+    | inr new ↦ (let no : placed < placed = omega (arith, less, new.0, found.few) in absurd (omega (arith, no)))
+  ]
+
+  more_few : placed ≤ length (numbers ++ m ∷ [])
+  more_few = omega (arith, found.few, length-append numbers (m ∷ []))
+
+  -- the set has the new one
+  pub found_near : (more grown : List ℕ) → ((n : ℕ) → Has more n ↔ (Has near n ⊎ (n ≡ m)))
+      → ((n : ℕ) → get_or grown n 0 ≡ get_or table n 0) → AreFound more grown far (numbers ++ m ∷ []) placed
+  found_near more grown has same = record {
+    table_sound = λ n i e. pushed_old numbers m i n (found.table_sound n i (sym (same n) ∙ e));
+    far_sound = λ n i e. pushed_old numbers m i n (found.far_sound n i e);
+    near_sound = λ n h. elim ((has n).0 h) [
+      | inl old ↦ let w = found.near_sound n old in (w.0, pushed_old numbers m w.0 n w.1)
+      | inr is ↦ (length numbers, pushed_new numbers m ∙ ap (λ (k : ℕ). Some k) (sym is))
     ];
-    full = λ n i here. elim (cases_eq n m) [
-      | inl same ↦ (
-        length numbers,
-        inl (ap (λ (k : ℕ). get_or (set table m v) k 0) same ∙ get_or-set_same table m v 0 within ∙ is),
-      )
-      | inr other ↦ elim (pushed_cases numbers m i n here) [
-        | inl old ↦ let w = sparse.full n i old in elim w.1 [
-          | inl e ↦ (w.0, inl (get_or-set_other table m n v 0 other ∙ e))
-          | inr e ↦ (w.0, inr e)
-        ]
-        | inr new ↦ absurd (other new.1)
+    noted = λ n i here. elim (pushed_cases numbers m i n here) [
+      | inl old ↦ elim (found.noted n i old) [
+        | inl h ↦ inl ((has n).1 (inl h))
+        | inr h ↦ inr h
       ]
+      | inr new ↦ inl ((has n).1 (inr new.1))
     ];
+    first = λ n i less here. elim (found.first n i less (old_at n i less here)) [
+      | inl some ↦ inl (λ e. some (sym (same n) ∙ e))
+      | inr h ↦ inr h
+    ];
+    few = more_few;
   }
 
-  -- the map has the new place
-  pub sparse_far : (table : List ℕ) (far more : List (ℕ × ℕ)) (place : ℕ) → place ≡ length numbers
+  -- the map has it
+  pub found_far : (more : List (ℕ × ℕ)) (place : ℕ) → place ≡ length numbers
       → ((n : ℕ) → lookup (nat_eq n) more ≡ cond (nat_eq m n) (Some place) (lookup (nat_eq n) far))
-      → AreFound table far numbers → AreFound table more (numbers ++ m ∷ [])
-  sparse_far table far more place is updates sparse = record {
-    sound = λ n i has. elim has [
-      | inl e ↦ pushed_old numbers m i n (sparse.sound n i (inl e))
-      | inr e ↦ elim (cases_eq n m) [
-        | inl same ↦
-            let value : Some place ≡ Some i = sym (found n same) ∙ e in
-            let there : i ≡ length numbers = (let f : place ≡ i = cc value in sym f ∙ is) in
-            subst (λ (k : ℕ). slice_get (numbers ++ m ∷ []) k ≡ Some n) (sym there)
-            (pushed_new numbers m ∙ ap (λ (k : ℕ). Some k) (sym same))
-        | inr other ↦ pushed_old numbers m i n (sparse.sound n i (inr (sym (kept n other) ∙ e)))
-      ]
+      → AreFound near table more (numbers ++ m ∷ []) placed
+  found_far more place is updates = record {
+    table_sound = λ n i e. pushed_old numbers m i n (found.table_sound n i e);
+    far_sound = λ n i e. elim (cases_eq n m) [
+      | inl same ↦
+          let value : Some place ≡ Some i = sym (there n same) ∙ e in
+          let at : i ≡ length numbers = (let f : place ≡ i = cc value in sym f ∙ is) in
+          subst (λ (k : ℕ). slice_get (numbers ++ m ∷ []) k ≡ Some n) (sym at) (pushed_new numbers m ∙ ap (λ (k : ℕ). Some k) (sym same))
+      | inr other ↦ pushed_old numbers m i n (found.far_sound n i (sym (kept n other) ∙ e))
     ];
-    full = λ n i here. elim (cases_eq n m) [
-      | inl same ↦ (place, inr (found n same))
-      | inr other ↦ elim (pushed_cases numbers m i n here) [
-        | inl old ↦ let w = sparse.full n i old in elim w.1 [
-          | inl e ↦ (w.0, inl e)
-          | inr e ↦ (w.0, inr (kept n other ∙ e))
-        ]
-        | inr new ↦ absurd (other new.1)
+    near_sound = λ n h. let w = found.near_sound n h in (w.0, pushed_old numbers m w.0 n w.1);
+    noted = λ n i here. elim (pushed_cases numbers m i n here) [
+      | inl old ↦ elim (found.noted n i old) [
+        | inl h ↦ inl h
+        | inr h ↦ inr (still_far n h)
       ]
+      | inr new ↦ inr (λ e. let no : Some place ≡ None = sym (there n new.1) ∙ e in absurd cc)
     ];
+    first = λ n i less here. elim (found.first n i less (old_at n i less here)) [
+      | inl some ↦ inl some
+      | inr h ↦ inr (still_far n h)
+    ];
+    few = more_few;
   }
     where
-      found : (n : ℕ) → n ≡ m → lookup (nat_eq n) more ≡ Some place
-      found n same = updates n ∙ ap (λ b. cond b (Some place) (lookup (nat_eq n) far)) (eq-eqb m n (sym same))
+      there : (n : ℕ) → n ≡ m → lookup (nat_eq n) more ≡ Some place
+      there n same = updates n ∙ ap (λ b. cond b (Some place) (lookup (nat_eq n) far)) (eq-eqb m n (sym same))
 
       kept : (n : ℕ) → (n ≡ m → ⊥) → lookup (nat_eq n) more ≡ lookup (nat_eq n) far
       kept n other = updates n ∙ ap (λ b. cond b (Some place) (lookup (nat_eq n) far)) (ne_eqb m n (λ e. other (sym e)))
+
+      still_far : (n : ℕ) → IsFar far n → IsFar more n
+      still_far n h = elim (cases_eq n m) [
+        | inl same ↦ λ e. (let no : Some place ≡ None = sym (there n same) ∙ e in absurd cc)
+        | inr other ↦ λ e. h (sym (kept n other) ∙ e)
+      ]
+
+-- ---- looking a number up
+
+-- what neither table nor map has, and none of the last numbers is, did not come
+pub not_there : (near table : List ℕ) (far : List (ℕ × ℕ)) (numbers : List ℕ) (placed n : ℕ) → AreFound near table far numbers placed
+    → get_or table n 0 ≡ 0 → lookup (nat_eq n) far ≡ None → ((i : ℕ) → placed ≤ i → slice_get numbers i ≡ Some n → ⊥)
+    → (i : ℕ) → slice_get numbers i ≡ Some n → ⊥
+not_there near table far numbers placed n found empty none last i here = elim (cases_lt i placed) [
+  | inl before ↦ elim (found.first n i before here) [
+    | inl some ↦ some empty
+    | inr is_far ↦ is_far none
+  ]
+  | inr late ↦ last i late here
+]

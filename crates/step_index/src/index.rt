@@ -133,4 +133,12 @@ impl StepIndex {
         self.sparse.push(number)?;
         Ok(())
     }
+
+    /// Makes each number found at once by `position`, which goes over those that were pushed since
+    /// the last call else.
+    pub fn place_all(&mut self)
+        ensures { self.new ≡ self.old }
+    {
+        self.sparse.place_all();
+    }
 }

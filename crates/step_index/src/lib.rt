@@ -2,6 +2,7 @@
 #![tactic(auto)]
 
 mod index;
+mod number_set;
 mod sparse;
 
 pub use index::StepIndex;

@@ -1,9 +1,11 @@
 //! Numbers in the order in which they come, found by value.
 
-ghost use Rattle.std.specs.Prelude.{◌≡◌, ℕ, ◌+◌, ◌^◌, ◌<◌, [], ◌∷◌, ◌++◌, suc, length, get_or};
-ghost use Rattle.std.specs.Prelude.{slice_get, ◌-◌, Some, IfSome, IfNone, IsTrue, OnOk, OnErr};
+ghost use Rattle.std.specs.Prelude.{◌≡◌, ◌≢◌, ℕ, ◌+◌, ◌-◌, ◌^◌, ◌<◌, ◌≤◌, List, [], ◌∷◌, ◌++◌, suc, length};
+ghost use Rattle.std.specs.Prelude.{get_or, slice_get, Some, IfSome, IfNone, IsTrue, OnOk, OnErr, false};
 ghost use Rattle.step_index.specs.Numbers.{is_used};
+ghost use Rattle.step_index.specs.Sparse.{ArePlaced, ArePlaces, AreNoted};
 
+use crate::number_set::NumberSet;
 use indexmap::IndexMap;
 use std::alloc::{AllocError, Global};
 use std::marker::Model;
@@ -24,9 +26,14 @@ pub(crate) struct SparseNumbers {
     numbers: Vec<u64>,
     /// The greatest of them, or 0 if there is none.
     greatest: u64,
+    /// Those that were not too large for the table when they came. Whether a number came is looked
+    /// up here, since a table by number does not stay in the processor's caches.
+    near: NumberSet,
     /// For each number below its length: one more than a place of that number, or 0 where `far`
-    /// may have it.
+    /// or `numbers` alone may have it.
     table: Vec<u32>,
+    /// How many of the numbers, from the first on, have their places in the table or in `far`.
+    placed: usize,
     /// The places of the numbers that were too large for the table when they came.
     far: IndexMap<u64, usize>,
 }
@@ -40,7 +47,8 @@ impl Model for SparseNumbers {
 
     ghost view = { λ s. s.numbers.items };
 
-    ghost invariant = { λ s. AreFound s.table.items s.far.entries s.numbers.items
+    ghost invariant = { λ s.
+        AreFound s.near s.table.items s.far.entries s.numbers.items s.placed
         × AllByRecursion (λ n. n ≤ s.greatest) s.numbers.items };
 }
 
@@ -66,16 +74,72 @@ fn place_in(table: &[u32], number: u64) -> Option<usize>
     Some(table[index] as usize - 1)
 }
 
-/// Makes a table reach an index. An `Err` means that an allocation failed, and changes nothing.
-fn reach(table: &mut Vec<u32>, index: usize) -> Result<(), AllocError>
+/// Makes a table reach an index by empty entries. An `Err` means that an allocation failed, and
+/// changes nothing.
+#[inline(always)]
+pub(crate) fn reach<T: Copy + Drop>(
+    table: &mut Vec<T>,
+    index: usize,
+    empty: T,
+) -> Result<(), AllocError>
     requires { index < 2 ^ 37 }
     ensures reached { OnOk result (index < length table.new.items) }
-    ensures kept { (n : ℕ) → get_or table.new.items n 0 ≡ get_or table.old.items n 0 }
+    ensures kept { (n : ℕ) → get_or table.new.items n empty ≡ get_or table.old.items n empty }
+    ensures err { OnErr result (table.new.items ≡ table.old.items) }
 {
     if index < table.len() {
         return Ok(());
     }
-    table.resize(index + 1, 0)
+    table.resize(index + 1, empty)
+}
+
+/// Puts the place of a number into a table, or returns `false` if there is no room for it.
+fn put_place(table: &mut [u32], number: u64, place: usize) -> bool
+    ensures put { IsTrue result → get_or table.new number 0 ≡ suc place }
+    ensures kept { (n : ℕ) → n ≢ number → get_or table.new n 0 ≡ get_or table.old n 0 }
+    ensures none { result ≡ false → get_or table.new number 0 ≡ get_or table.old number 0 }
+{
+    let index = number as usize;
+    if index >= table.len() || place >= u32::MAX as usize {
+        return false;
+    }
+    table[index] = place as u32 + 1;
+    true
+}
+
+/// Puts the places of the numbers of a set into a table, from a place on, as far as there is room.
+/// Returns how far.
+fn put_places(table: &mut [u32], near: &NumberSet, numbers: &[u64], from: usize) -> usize
+    requires { from ≤ length numbers.now }
+    ensures few { result ≤ length numbers.now }
+    ensures sound { ArePlaces table.old numbers.now → ArePlaces table.new numbers.now }
+    ensures placed { (far : List (ℕ × ℕ)) → AreNoted far near.now numbers.now
+        → ArePlaced far table.old numbers.now from → ArePlaced far table.new numbers.now result }
+{
+    for place in from..numbers.len() {
+        let number = numbers[place];
+        if near.contains(number) {
+            if !put_place(table, number, place) {
+                return place;
+            }
+        }
+    }
+    numbers.len()
+}
+
+/// The first place from another one on that has a number.
+#[cold]
+#[inline(never)]
+fn find_from(numbers: &[u64], from: usize, number: u64) -> Option<usize>
+    ensures some { IfSome result (λ i. slice_get numbers.now i ≡ Some number) }
+    ensures none { IfNone result ((i : ℕ) → from ≤ i → slice_get numbers.now i ≡ Some number → ⊥) }
+{
+    for place in from..numbers.len() {
+        if numbers[place] == number {
+            return Some(place);
+        }
+    }
+    None
 }
 
 impl SparseNumbers {
@@ -86,7 +150,9 @@ impl SparseNumbers {
         SparseNumbers {
             numbers: Vec::new(alloc),
             greatest: 0,
+            near: NumberSet::new(alloc),
             table: Vec::new(alloc),
+            placed: 0,
             far: IndexMap::new(alloc),
         }
     }
@@ -110,6 +176,7 @@ impl SparseNumbers {
 
     /// A place of a number, or `None` where it did not come.
     #[inline(always)]
+    #[tactic(auto, using(crate::proofs::SparseNumbers::not_there))]
     pub(crate) fn position(&self, number: u64) -> Option<usize>
         ensures some { IfSome result (λ i. slice_get self.now i ≡ Some number) }
         ensures none { IfNone result ((i : ℕ) → slice_get self.now i ≡ Some number → ⊥) }
@@ -117,7 +184,10 @@ impl SparseNumbers {
         if let Some(place) = place_in(&self.table, number) {
             return Some(place);
         }
-        self.far.get(&number).copied()
+        match self.far.get(&number) {
+            Some(place) => Some(*place),
+            None => find_from(&self.numbers, self.placed, number),
+        }
     }
 
     /// Whether a number came. One that is greater than all before is not looked up.
@@ -128,7 +198,19 @@ impl SparseNumbers {
         if number > self.greatest {
             return false;
         }
-        self.position(number).is_some()
+        if self.near.contains(number) {
+            return true;
+        }
+        let far = self.far.get(&number);
+        far.copied().is_some()
+    }
+
+    /// Puts the places of all numbers where `position` finds them at once: before this it goes over
+    /// those that were added since.
+    pub(crate) fn place_all(&mut self)
+        ensures { self.new ≡ self.old }
+    {
+        self.placed = put_places(&mut self.table, &self.near, &self.numbers, self.placed);
     }
 
     /// Adds a number at the end. An `Err` means that an allocation failed, and changes nothing.
@@ -142,8 +224,8 @@ impl SparseNumbers {
         self.numbers.reserve(1)?;
         let place = self.numbers.len();
         if is_near(place, number) {
-            reach(&mut self.table, number as usize)?;
-            self.table[number as usize] = place as u32 + 1;
+            reach(&mut self.table, number as usize, 0)?;
+            self.near.insert(number)?;
         } else {
             self.far.insert(number, place)?;
         }

@@ -1,11 +1,15 @@
-use Rattle.std.proofs.Common.{arith, sym}
-use Rattle.std.proofs.lemmas.Grind.{common_steps}
-use Rattle.step_index.proofs.CountedNumbers.{sparse_used, unused_above}
+use Rattle.std.proofs.Common.{◌∙◌, refl, sym}
+use Rattle.std.proofs.lemmas.Bool.{false≢true}
+use Rattle.step_index.proofs.CountedNumbers.{far_used, near_used, unused_above}
 use Rattle.step_index.proofs.sparse.SparseNumbers.contains.Goals as goal
 
 pub returns-then-number-self : goal.returns-then-number-self
 returns-then-number-self c = rw (← c.self.view_is) (
     sym (unused_above c.self.inside.numbers.items c.args.number c.self.inside.greatest c.self.invariant.1 c.if-number-self.true))
 
+pub returns-then-contains : goal.returns-then-contains
+returns-then-contains c = rw (← c.self.view_is) (near_used _ _ _ _ _ _ c.self.invariant.0 (c.if-contains.ensures.0 refl))
+
 pub returns : goal.returns
-returns c = grind (arith, common_steps, sparse_used)
+returns c = rw (← c.self.view_is, c.is_some.ensures) (
+    far_used _ _ _ _ _ _ c.self.invariant.0 _ (λ some. false≢true (c.if-contains.ensures.1 some)) (c.copied.ensures ∙ c.get-far.ensures.value))
