@@ -146,40 +146,6 @@ fn is_clean_without(
     Ok(seen.are_distinct(lits, var))
 }
 
-/// Whether a list follows from two others that are clean and bound. `false` says nothing.
-fn resolves<S: Side>(
-    alloc: Global,
-    seen: &mut SeenLits,
-    prefix: &Prefix,
-    a: &[Lit],
-    b: &[Lit],
-    to: &[Lit],
-    rules: Rules,
-) -> Holds
-    ensures { IfOk result (λ t. IsTrue t
-        → AllHold (resolvent_conditions rules S.side prefix.now a.now b.now to.now)) }
-{
-    let rests = match find_rests(a, b, to) {
-        Some(rests) => rests,
-        None => {
-            seen.make_room(alloc, prefix)?;
-            let Some(rests) = find_parents(seen, a, b, to) else {
-                return Ok(false);
-            };
-            rests
-        }
-    };
-    let pivot = rests.pivot.var();
-    if !is_pivot::<S>(prefix, pivot, rules) {
-        return Ok(false);
-    }
-    if rests.a.is_empty() && rests.b.is_empty() {
-        return is_clean_without(alloc, seen, prefix, to, pivot);
-    }
-    seen.make_room(alloc, prefix)?;
-    Ok(leaves_out_rests::<S>(seen, prefix, to, rests))
-}
-
 /// Whether a list follows from two others, which are clean and bound, by resolution: as
 /// `resolvent_fault`, of literals as they are written.
 ///
@@ -206,5 +172,23 @@ pub fn is_resolvent<S: Side>(
     ensures clean { IfOk result (λ t. IsTrue t → IsClean to.now) }
     ensures bound { IfOk result (λ t. IsTrue t → AreBound prefix.now to.now) }
 {
-    resolves::<S>(alloc, seen, prefix, a, b, to, rules)
+    let rests = match find_rests(a, b, to) {
+        Some(rests) => rests,
+        None => {
+            seen.make_room(alloc, prefix)?;
+            let Some(rests) = find_parents(seen, a, b, to) else {
+                return Ok(false);
+            };
+            rests
+        }
+    };
+    let pivot = rests.pivot.var();
+    if !is_pivot::<S>(prefix, pivot, rules) {
+        return Ok(false);
+    }
+    if rests.a.is_empty() && rests.b.is_empty() {
+        return is_clean_without(alloc, seen, prefix, to, pivot);
+    }
+    seen.make_room(alloc, prefix)?;
+    Ok(leaves_out_rests::<S>(seen, prefix, to, rests))
 }
