@@ -1,4 +1,4 @@
-//! Resolvents as they are written, whatever the order of their literals: a walk or a set of literals
+//! Resolvents as they are written, whatever the order of their literals: a walk or a set of them
 //! finds the pivot and what is left of the antecedents, and a set whether that may be left out.
 
 ghost use Rattle.std.specs.Prelude.{◌≡◌, ◌⊎◌, IsTrue, IfOk, IfSome, List};
@@ -108,8 +108,8 @@ fn leaves_out_rests<S: Side>(seen: &mut SeenLits, prefix: &Prefix, to: &[Lit], r
         && put_each_left_out(seen, prefix, reducible, pivot, rests.b)
 }
 
-/// Two lists, whatever their order, where a third one has no other literals, and a literal of the one
-/// whose negation is in the other. `None` says nothing.
+/// Two lists, whatever their order, where a third one has no other literals, and a literal of the
+/// one whose negation is in the other. `None` says nothing.
 fn find_parents<'a>(
     seen: &mut SeenLits,
     a: &'a [Lit],
@@ -149,8 +149,8 @@ fn is_clean_without(
 /// Whether a list follows from two others, which are clean and bound, by resolution: as
 /// `resolvent_fault`, of literals as they are written.
 ///
-/// `false` says nothing, as of literals in another order than those of the antecedents. Where
-/// nothing is left out only the pivot is looked up. What was seen is forgotten.
+/// `false` says nothing. Where the literals are in the order of the antecedents, and nothing is
+/// left out, only the pivot is looked up. What was seen is forgotten.
 ///
 /// # Errors
 /// If an allocation fails.
