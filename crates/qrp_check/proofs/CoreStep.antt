@@ -128,8 +128,8 @@ found_answer rules side f before step found lits answer same are a =
     (subst (λ (z : List Literal). IsAnswer (found_conditions rules side f found z) answer) same a)
 
 -- a step that follows, after those before it
-pub followed_here : (rules : Rules) (side : Side) (f : Qbf) (steps : List Inference) (place : ℕ) (found : Option Premises) (lits : List Literal)
-    → ((j : ℕ) → j < place → IsInCore steps j → StepFollows rules side f steps j)
+pub followed_here : (rules : Rules) (side : Side) (f : Qbf) (steps : List Inference) (place : ℕ) (found : Option Premises)
+    (lits : List Literal) → ((j : ℕ) → j < place → IsInCore steps j → StepFollows rules side f steps j)
     → ((step : Inference) → IsAt steps place step → lits ≡ step.lits)
     → ((step : Inference) → IsAt steps place step → ArePremises (take place steps) step.ants found)
     → IsAnswer (found_conditions rules side f found lits) None

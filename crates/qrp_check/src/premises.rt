@@ -1,7 +1,7 @@
 //! The literals of the antecedents of a step.
 
-ghost use Rattle.std.specs.Prelude.{◌≡◌, ◌<◌, ℕ, List, take, length, IfSome, IfNone};
-ghost use Rattle.qrp.specs.Inferences.{Inference, IsAt, IsOnlyAt};
+ghost use Rattle.std.specs.Prelude.{◌<◌, take, length, IfSome, IfNone};
+ghost use Rattle.qrp.specs.Inferences.{Inference, IsAt};
 ghost use Rattle.qrp_check.specs.Conditions.{IsNumberOf};
 ghost use Rattle.qrp_check.specs.Premises.{ArePremises, IsPremise};
 
@@ -20,31 +20,7 @@ pub(crate) enum Premises<'a> {
     Two(&'a [Lit], &'a [Lit]),
 }
 
-/// The place of the step with a number, if it is before a place. The hint is tried first.
-#[inline(always)]
-fn place_before<T: Steps>(
-    trace: &T,
-    place: usize,
-    number: u64,
-    hint: Option<usize>,
-) -> Option<usize>
-    requires { place < length (T.steps trace.now) }
-    ensures before { IfSome result (λ i. i < place) }
-    ensures found { IfSome result (λ i. (step : Inference) × IsAt (T.steps trace.now) i step
-        × (step.number ≡ number)) }
-    ensures only { IfSome result (λ i. IsOnlyAt (T.steps trace.now) i number) }
-    ensures none { IfNone result (IsNumberOf (take place (T.steps trace.now)) number → ⊥) }
-{
-    if let Some(index) = hint {
-        if index < place && trace.number(index) == number {
-            return Some(index);
-        }
-    }
-    let index = trace.position(number)?;
-    if index < place { Some(index) } else { None }
-}
-
-/// The literals of the step with a number, if it is before a place.
+/// The literals of the step with a number, if it is before a place. The hint is tried first.
 #[inline(always)]
 fn find_premise<T: Steps>(
     trace: &T,
@@ -57,8 +33,17 @@ fn find_premise<T: Steps>(
         (λ lits. IsPremise (take place (T.steps trace.now)) number lits.now) }
     ensures none { IfNone result (IsNumberOf (take place (T.steps trace.now)) number → ⊥) }
 {
-    let index = place_before(trace, place, number, hint)?;
-    Some(trace.lits(index))
+    if let Some(index) = hint {
+        if index < place && trace.number(index) == number {
+            return Some(trace.lits(index));
+        }
+    }
+    let index = trace.position(number)?;
+    if index < place {
+        Some(trace.lits(index))
+    } else {
+        None
+    }
 }
 
 /// The literals of the antecedents of the step at a place, or `None` if one of them is not the

@@ -1,4 +1,4 @@
-//! Resolvents as they are written, whatever the order of their literals: a walk or a set of literals
+//! Resolvents as they are written, whatever the order of their literals: a walk or a set of them
 //! finds the pivot and what is left of the antecedents, and a set whether that may be left out.
 
 ghost use Rattle.std.specs.Prelude.{◌≡◌, ◌⊎◌, IsTrue, IfOk, IfSome, List};
@@ -108,8 +108,8 @@ fn leaves_out_rests<S: Side>(seen: &mut SeenLits, prefix: &Prefix, to: &[Lit], r
         && put_each_left_out(seen, prefix, reducible, pivot, rests.b)
 }
 
-/// Two lists, whatever their order, where a third one has no other literals, and a literal of the one
-/// whose negation is in the other. `None` says nothing.
+/// Two lists, whatever their order, where a third one has no other literals, and a literal of the
+/// one whose negation is in the other. `None` says nothing.
 fn find_parents<'a>(
     seen: &mut SeenLits,
     a: &'a [Lit],
@@ -146,45 +146,11 @@ fn is_clean_without(
     Ok(seen.are_distinct(lits, var))
 }
 
-/// Whether a list follows from two others that are clean and bound. `false` says nothing.
-fn resolves<S: Side>(
-    alloc: Global,
-    seen: &mut SeenLits,
-    prefix: &Prefix,
-    a: &[Lit],
-    b: &[Lit],
-    to: &[Lit],
-    rules: Rules,
-) -> Holds
-    ensures { IfOk result (λ t. IsTrue t
-        → AllHold (resolvent_conditions rules S.side prefix.now a.now b.now to.now)) }
-{
-    let rests = match find_rests(a, b, to) {
-        Some(rests) => rests,
-        None => {
-            seen.make_room(alloc, prefix)?;
-            let Some(rests) = find_parents(seen, a, b, to) else {
-                return Ok(false);
-            };
-            rests
-        }
-    };
-    let pivot = rests.pivot.var();
-    if !is_pivot::<S>(prefix, pivot, rules) {
-        return Ok(false);
-    }
-    if rests.a.is_empty() && rests.b.is_empty() {
-        return is_clean_without(alloc, seen, prefix, to, pivot);
-    }
-    seen.make_room(alloc, prefix)?;
-    Ok(leaves_out_rests::<S>(seen, prefix, to, rests))
-}
-
 /// Whether a list follows from two others, which are clean and bound, by resolution: as
 /// `resolvent_fault`, of literals as they are written.
 ///
-/// `false` says nothing, as of literals in another order than those of the antecedents. Where
-/// nothing is left out only the pivot is looked up. What was seen is forgotten.
+/// `false` says nothing. Where the literals are in the order of the antecedents, and nothing is
+/// left out, only the pivot is looked up. What was seen is forgotten.
 ///
 /// # Errors
 /// If an allocation fails.
@@ -206,5 +172,23 @@ pub fn is_resolvent<S: Side>(
     ensures clean { IfOk result (λ t. IsTrue t → IsClean to.now) }
     ensures bound { IfOk result (λ t. IsTrue t → AreBound prefix.now to.now) }
 {
-    resolves::<S>(alloc, seen, prefix, a, b, to, rules)
+    let rests = match find_rests(a, b, to) {
+        Some(rests) => rests,
+        None => {
+            seen.make_room(alloc, prefix)?;
+            let Some(rests) = find_parents(seen, a, b, to) else {
+                return Ok(false);
+            };
+            rests
+        }
+    };
+    let pivot = rests.pivot.var();
+    if !is_pivot::<S>(prefix, pivot, rules) {
+        return Ok(false);
+    }
+    if rests.a.is_empty() && rests.b.is_empty() {
+        return is_clean_without(alloc, seen, prefix, to, pivot);
+    }
+    seen.make_room(alloc, prefix)?;
+    Ok(leaves_out_rests::<S>(seen, prefix, to, rests))
 }

@@ -157,9 +157,7 @@ fn is_reduct_as_written(
 }
 
 /// Whether a list is, as it is written, a clean and bound one without some reducible literals, for
-/// a side with these quantifiers.
-///
-/// `false` says nothing. It takes no memory.
+/// a side with these quantifiers. `false` says nothing. It takes no memory.
 #[inline(always)]
 pub fn is_exact_reduct(
     prefix: &Prefix,

@@ -43,6 +43,7 @@ impl InitialSteps {
     ///
     /// # Errors
     /// If an allocation fails.
+    #[inline(never)]
     #[tactic(auto, using(crate::proofs::WatchedClauses::initial_cube))]
     pub fn is_initial<S: Side>(
         &mut self,

@@ -1,5 +1,6 @@
-use Rattle.qrp_check.proofs.Words.{◌≡◌, ℕ, ◌<◌, ◌≤◌, [], length, Inference, IsAt}
-use Rattle.qrp_check.proofs.goal.find_goal.Given as goal
+use Rattle.std.proofs.Common.{◌≡◌, ℕ, ◌<◌, ◌≤◌, [], length}
+use Rattle.qrp.specs.Inferences.{Inference, IsAt}
+use Rattle.qrp_check.proofs.marks.find_goal.Given as goal
 
 abbrev pub invariant-loop-i : goal.invariant-loop-i
 invariant-loop-i g l = record {
