@@ -2,19 +2,18 @@
 
 ghost use Rattle.std.specs.Prelude.{◌≡◌, ◌≤◌, true, length, IfOk};
 ghost use Rattle.std.specs.List.{AllByRecursion};
-ghost use Rattle.qbf_core.specs.Blocks.{pairs, variables, is_bound, IsPrefix};
+ghost use Rattle.qbf_core.specs.Blocks.{pairs, variables, IsPrefix};
 ghost use Rattle.qbf_text.specs.Passing.{LeadOn, Passes};
 ghost use Rattle.qbf_spelling.specs.declared.header.HeaderAt.TheVariants as header;
 ghost use Rattle.qdimacs.specs.declared.grammar.At.TheVariants as at;
 ghost use Rattle.qdimacs.specs.declared.grammar.Parts.{Parts};
-ghost use Rattle.qdimacs.specs.Places.{heading, stands, Moves, Leads, IsSound};
-ghost use Rattle.qdimacs.specs.Reading.{AtP, Whole, IsFull, IsWhole, begun_set, has_more, row};
-ghost use Rattle.qdimacs.specs.Reading.{bind_row};
+ghost use Rattle.qdimacs.specs.Places.{stands, Moves, Leads, IsSound};
+ghost use Rattle.qdimacs.specs.Reading.{AtP, Whole, IsFull, IsWhole, begun_set, row};
 
 use crate::fault::FormulaFault;
 use crate::tokens::{FAULTS, FORM, bound_literal, clause_or_end};
 use qbf_core::{Formula, GrowingLists, Lit, Prefix, PrefixFault, Quantifier, Var};
-use qbf_spelling::{HeaderAt, HeaderMove, grow, header_move, member, quantifier};
+use qbf_spelling::{HeaderAt, HeaderMove, header_move, member, quantifier};
 use qbf_text::{Cursor, Grammar, Stop, Taken, Token};
 use std::alloc::{AllocError, Global};
 use std::marker::Model;
@@ -86,21 +85,6 @@ fn take_header(parts: &mut Parts, token: Token) -> Next
 
 // ---- a set
 
-/// Binds a variable innermost.
-fn bind(parts: &mut Parts, quantifier: Quantifier, var: Var) -> Next
-    requires sound { IsSound (at.Set quantifier) parts.old }
-    requires top { var ≤ parts.old.max_var }
-    ensures row { Moves (bind_row (heading parts.old) (pairs parts.old.prefix) quantifier var
-        (is_bound var (pairs parts.old.prefix))) parts.new result }
-    ensures sound { Leads parts.old parts.new result }
-{
-    match parts.prefix.push(quantifier, var) {
-        Ok(()) => Ok(At::Set(quantifier)),
-        Err(PrefixFault::B1) => Err(Stop::Text(FormulaFault::F5)),
-        Err(PrefixFault::B2) => Err(Stop::Memory),
-    }
-}
-
 /// Takes a token in a set.
 fn take_member(parts: &mut Parts, quantifier: Quantifier, token: Token) -> Next
     requires sound { IsSound (at.Set quantifier) parts.old }
@@ -108,7 +92,11 @@ fn take_member(parts: &mut Parts, quantifier: Quantifier, token: Token) -> Next
     ensures sound { Leads parts.old parts.new result }
 {
     match member(FAULTS, parts.max_var, token)? {
-        Some(var) => bind(parts, quantifier, var),
+        Some(var) => match parts.prefix.push(quantifier, var) {
+            Ok(()) => Ok(At::Set(quantifier)),
+            Err(PrefixFault::B1) => Err(Stop::Text(FormulaFault::F5)),
+            Err(PrefixFault::B2) => Err(Stop::Memory),
+        },
         None => {
             if parts.prefix.widen().is_err() {
                 return Err(Stop::Memory);
@@ -129,8 +117,11 @@ fn take_literal(parts: &mut Parts, token: Token) -> Next
     ensures sound { Leads parts.old parts.new result }
 {
     let said = bound_literal(&parts.prefix, parts.max_var, parts.full, token);
-    match grow(&mut parts.clauses, said)? {
-        Some(_) => Ok(At::Clause),
+    match said? {
+        Some(lit) => match parts.clauses.push(lit) {
+            Ok(()) => Ok(At::Clause),
+            Err(_) => Err(Stop::Memory),
+        },
         None => match parts.clauses.close() {
             Ok(()) => Ok(At::Between),
             Err(_) => Err(Stop::Memory),
@@ -150,14 +141,6 @@ fn opened(parts: &Parts, token: Token) -> Option<Quantifier>
     quantifier(token)
 }
 
-/// Whether the header counts more clauses.
-#[inline(always)]
-fn has_more(parts: &Parts) -> bool
-    ensures { result ≡ has_more (heading parts.now) parts.now.clauses.whole }
-{
-    parts.clauses.whole_len() < parts.count as usize
-}
-
 /// Takes a token between lists.
 #[inline(always)]
 #[tactic(auto, using(crate::proofs::FormulaParts::made_whole))]
@@ -169,7 +152,8 @@ fn take_opening(parts: &mut Parts, token: Token) -> Next
     if let Some(quantifier) = opened(parts, token) {
         return Ok(At::Set(quantifier));
     }
-    match clause_or_end(has_more(parts), token)? {
+    let has_more = parts.clauses.whole_len() < parts.count as usize;
+    match clause_or_end(has_more, token)? {
         true => take_literal(parts, token),
         false => Ok(At::Whole),
     }

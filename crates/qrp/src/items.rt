@@ -4,7 +4,7 @@ ghost use Rattle.std.specs.Prelude.{◌≡◌, IfOk, OnOk, OnErr};
 ghost use Rattle.qrp.specs.Flat.{kept_of, nothing_kept, IsFlat};
 ghost use Rattle.qrp.specs.Items.{IsGiven, GivesPart, Keeps};
 ghost use Rattle.qrp.specs.declared.places.Part.TheVariants as part;
-ghost use Rattle.qrp.specs.Places.{item_of, numbers_behind, IsComplete};
+ghost use Rattle.qrp.specs.Places.{numbers_behind, IsComplete};
 ghost use Rattle.qrp.specs.Reading.{AtP};
 
 use crate::fault::TraceFault;
@@ -30,23 +30,6 @@ fn take_step(begun: &mut Begun, alloc: Global, number: u64) -> Result<Step, Allo
     let ants = Vec::from_slice(alloc, begun.ants.begun())?;
     begun.index.push(number)?;
     Ok(Step { number, lits, ants })
-}
-
-/// Takes a part that is complete out of the lists that are begun.
-fn take_part(begun: &mut Begun, alloc: Global, part: Part) -> Result<Item, AllocError>
-    requires { IsComplete part begun.old }
-    ensures item { IfOk result (λ i. i ≡ item_of begun.old part) }
-    ensures numbers { OnOk result (begun.new.index ≡ numbers_behind begun.old part) }
-    ensures err { OnErr result (begun.new ≡ begun.old) }
-{
-    match part {
-        Part::Header(header) => Ok(Item::Header(header)),
-        Part::Set(quantifier) => {
-            let vars = mem::replace(&mut begun.vars, Vec::new(alloc));
-            Ok(Item::Set(QuantSet { quantifier, vars }))
-        }
-        Part::Step(number) => Ok(Item::Step(take_step(begun, alloc, number)?)),
-    }
 }
 
 /// A trace of which one part is given after the other.
@@ -92,15 +75,20 @@ impl ItemGrammar {
         ensures gives { IfOk result (λ i. GivesPart i self.old self.new) }
         ensures err { OnErr result (self.new ≡ self.old) }
     {
-        match self.at {
-            At::Behind(part) => {
-                let item = take_part(&mut self.parts.begun, alloc, part)?;
-                self.at = At::Between;
-                Ok(item)
+        let item = match self.at {
+            At::Behind(Part::Header(header)) => Item::Header(header),
+            At::Behind(Part::Set(quantifier)) => {
+                let vars = mem::replace(&mut self.parts.begun.vars, Vec::new(alloc));
+                Item::Set(QuantSet { quantifier, vars })
             }
-            At::Whole(outcome) => Ok(Item::Result(outcome)),
+            At::Behind(Part::Step(number)) => {
+                Item::Step(take_step(&mut self.parts.begun, alloc, number)?)
+            }
+            At::Whole(outcome) => return Ok(Item::Result(outcome)),
             _ => unreachable!(),
-        }
+        };
+        self.at = At::Between;
+        Ok(item)
     }
 
     /// Keeps the item that is complete after the others; the result, where it is that.

@@ -4,15 +4,14 @@ ghost use Rattle.std.specs.Prelude.{◌≡◌, []};
 ghost use Rattle.qbf_spelling.specs.declared.header.HeaderAt.TheVariants as header;
 ghost use Rattle.qrp.specs.declared.places.At.TheVariants as at;
 ghost use Rattle.qrp.specs.declared.places.Begun.{Begun};
-ghost use Rattle.qrp.specs.Inferences.{IsNumber};
 ghost use Rattle.qrp.specs.Places.{place, Moves, Leads, IsBegun};
-ghost use Rattle.qrp.specs.Reading.{has_room, row, step_row};
+ghost use Rattle.qrp.specs.Reading.{has_room, row};
 
 use crate::fault::TraceFault;
 use crate::item::{Header, Outcome};
 use crate::tokens::{FAULTS, FORM, LAST_VARIABLE, Opening, antecedent, opened, outcome_of};
 use qbf_core::{GrowingLists, Lit, Quantifier, Var};
-use qbf_spelling::{HeaderAt, HeaderMove, grow, header_move, literal, member};
+use qbf_spelling::{HeaderAt, HeaderMove, header_move, literal, member};
 use qbf_text::{Stop, Token};
 use std::alloc::Global;
 use step_index::StepIndex;
@@ -104,20 +103,6 @@ fn take_header(begun: &mut Begun, token: Token) -> Next
 
 // ---- between lists
 
-/// Begins a step, if its number is new.
-#[inline(always)]
-fn open_step(begun: &mut Begun, number: u64) -> Next
-    requires number { IsNumber number }
-    ensures row { Moves (step_row begun.old.index number) begun.new result }
-    ensures sound { Leads at.Between begun.old begun.new result }
-{
-    if begun.index.contains(number) {
-        return Err(Stop::Text(TraceFault::P5));
-    }
-    begun.lits.begin();
-    Ok(At::Lits(number))
-}
-
 /// Takes a token between lists.
 #[inline(always)]
 pub fn take_opening(begun: &mut Begun, token: Token) -> Next
@@ -129,7 +114,11 @@ pub fn take_opening(begun: &mut Begun, token: Token) -> Next
             begun.vars.clear();
             Ok(At::Set(quantifier))
         }
-        Opening::Step(number) => open_step(begun, number),
+        Opening::Step(number) if begun.index.contains(number) => Err(Stop::Text(TraceFault::P5)),
+        Opening::Step(number) => {
+            begun.lits.begin();
+            Ok(At::Lits(number))
+        }
         Opening::Result => Ok(At::Result),
     }
 }
@@ -160,8 +149,11 @@ fn take_literal(begun: &mut Begun, number: u64, token: Token) -> Next
     ensures row { Moves (row (place begun.old (at.Lits number)) token) begun.new result }
     ensures sound { Leads (at.Lits number) begun.old begun.new result }
 {
-    match grow(&mut begun.lits, literal(FAULTS, LAST_VARIABLE, token))? {
-        Some(_) => Ok(At::Lits(number)),
+    match literal(FAULTS, LAST_VARIABLE, token)? {
+        Some(lit) => match begun.lits.push(lit) {
+            Ok(()) => Ok(At::Lits(number)),
+            Err(_) => Err(Stop::Memory),
+        },
         None => {
             begun.ants.begin();
             Ok(At::Ants(number))
@@ -185,8 +177,11 @@ fn take_antecedent(begun: &mut Begun, number: u64, token: Token) -> Next
     ensures sound { Leads (at.Ants number) begun.old begun.new result }
 {
     let room = has_room(&begun.ants);
-    match grow(&mut begun.ants, antecedent(room, token))? {
-        Some(_) => Ok(At::Ants(number)),
+    match antecedent(room, token)? {
+        Some(ant) => match begun.ants.push(ant) {
+            Ok(()) => Ok(At::Ants(number)),
+            Err(_) => Err(Stop::Memory),
+        },
         None => Ok(At::Behind(Part::Step(number))),
     }
 }
