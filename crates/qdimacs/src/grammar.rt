@@ -8,7 +8,7 @@ ghost use Rattle.qbf_spelling.specs.declared.header.HeaderAt.TheVariants as head
 ghost use Rattle.qdimacs.specs.declared.grammar.At.TheVariants as at;
 ghost use Rattle.qdimacs.specs.declared.grammar.Parts.{Parts};
 ghost use Rattle.qdimacs.specs.Places.{stands, Moves, Leads, IsSound};
-ghost use Rattle.qdimacs.specs.Reading.{AtP, Whole, IsFull, IsWhole, begun_set, row};
+ghost use Rattle.qdimacs.specs.Reading.{AtP, Whole, IsFull, IsWhole, row};
 
 use crate::fault::FormulaFault;
 use crate::tokens::{FAULTS, FORM, bound_literal, clause_or_end};
@@ -131,16 +131,6 @@ fn take_literal(parts: &mut Parts, token: Token) -> Next
 
 // ---- between lists
 
-/// The quantifier of the set that a token begins: no set, once a clause was begun.
-fn opened(parts: &Parts, token: Token) -> Option<Quantifier>
-    ensures { result ≡ begun_set parts.now.clauses.whole token }
-{
-    if parts.clauses.whole_len() != 0 {
-        return None;
-    }
-    quantifier(token)
-}
-
 /// Takes a token between lists.
 #[inline(always)]
 #[tactic(auto, using(crate::proofs::FormulaParts::made_whole))]
@@ -149,8 +139,10 @@ fn take_opening(parts: &mut Parts, token: Token) -> Next
     ensures row { Moves (row (stands parts.old at.Between) token) parts.new result }
     ensures sound { Leads parts.old parts.new result }
 {
-    if let Some(quantifier) = opened(parts, token) {
-        return Ok(At::Set(quantifier));
+    if parts.clauses.whole_len() == 0 {
+        if let Some(quantifier) = quantifier(token) {
+            return Ok(At::Set(quantifier));
+        }
     }
     let has_more = parts.clauses.whole_len() < parts.count as usize;
     match clause_or_end(has_more, token)? {

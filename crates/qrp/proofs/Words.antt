@@ -7,6 +7,7 @@ pub use Rattle.qbf_spelling.proofs.Words.{map-append, number, part_fails, part_t
 pub use Rattle.qbf_spelling.proofs.Words.{tokens_next, unlined}
 pub use Rattle.qbf_spelling.proofs.Worked.{all, exists}
 pub use Rattle.qbf_spelling.proofs.WrittenParts.{closed_numbers, set_line}
+pub use Rattle.qbf_spelling.specs.Texts.{set_text}
 pub use Rattle.qbf_text.proofs.AcceptedTokens.{flat_map-push, split_at}
 pub use Rattle.qbf_text.proofs.Answered.{answered_bytes, explained}
 pub use Rattle.qbf_text.proofs.CanonicalTokens.{all_appended, all_mapped, closed_plain, joined, tokens-lines_text}
@@ -30,7 +31,7 @@ pub use Rattle.qrp.specs.Grammar.{IsTrace, header, lines, lists, result, result_
 pub use Rattle.qrp.specs.Inferences.{Inference, IsAt, IsInference, IsLiteral, IsNumber, IsOnlyAt, numbers}
 pub use Rattle.qrp.specs.Items.{Giver, GivesItem, Stands, StopsBehind}
 pub use Rattle.qrp.specs.Laws.{ItemsOfTrace, ReadsText}
-pub use Rattle.qrp.specs.Texts.{sets_text, step_text, steps_text}
+pub use Rattle.qrp.specs.Texts.{step_text, steps_text}
 pub use Rattle.qrp.specs.declared.fault.TraceFault.{TraceFault}
 pub use Rattle.qrp.specs.declared.fault.TraceFault.TheVariants.{P1, P2, P3, P4, P5, P6, P7, P8, P9}
 pub use Rattle.qrp.specs.declared.item.Header.{Header}

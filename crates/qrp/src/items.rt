@@ -18,20 +18,6 @@ use std::marker::Model;
 use std::mem;
 use step_index::StepIndex;
 
-/// Takes a step out of the lists that are begun. The copies are allocated in exactly their size.
-fn take_step(begun: &mut Begun, alloc: Global, number: u64) -> Result<Step, AllocError>
-    requires { IsComplete (part.Step number) begun.old }
-    ensures step { IfOk result (λ s. s
-        ≡ record { number = number; lits = begun.old.lits.begun; ants = begun.old.ants.begun }) }
-    ensures number { OnOk result (begun.new.index ≡ numbers_behind begun.old (part.Step number)) }
-    ensures err { OnErr result (begun.new ≡ begun.old) }
-{
-    let lits = Vec::from_slice(alloc, begun.lits.begun())?;
-    let ants = Vec::from_slice(alloc, begun.ants.begun())?;
-    begun.index.push(number)?;
-    Ok(Step { number, lits, ants })
-}
-
 /// A trace of which one part is given after the other.
 ///
 /// Contracts see what is kept of the parts that were given, and what stands next.
@@ -66,7 +52,8 @@ impl ItemGrammar {
         }
     }
 
-    /// The item that is complete, of which the number alone is kept if it is a step.
+    /// The item that is complete, of which the number alone is kept if it is a step. Its lists are
+    /// allocated in exactly their size.
     ///
     /// # Errors
     /// Out of memory. Nothing is changed then.
@@ -82,7 +69,11 @@ impl ItemGrammar {
                 Item::Set(QuantSet { quantifier, vars })
             }
             At::Behind(Part::Step(number)) => {
-                Item::Step(take_step(&mut self.parts.begun, alloc, number)?)
+                let begun = &mut self.parts.begun;
+                let lits = Vec::from_slice(alloc, begun.lits.begun())?;
+                let ants = Vec::from_slice(alloc, begun.ants.begun())?;
+                begun.index.push(number)?;
+                Item::Step(Step { number, lits, ants })
             }
             At::Whole(outcome) => return Ok(Item::Result(outcome)),
             _ => unreachable!(),

@@ -1,20 +1,15 @@
 //! What a trace is made of, part by part, whether it is read or pushed to.
 
-ghost use Rattle.std.specs.Prelude.{◌≡◌, ◌<◌, ◌^◌, false, [], ◌∷◌, ◌++◌};
-ghost use Rattle.std.specs.Prelude.{OnOk, OnErr};
-ghost use Rattle.std.specs.List.{AllByRecursion};
+ghost use Rattle.std.specs.Prelude.{◌≡◌, false, [], ◌∷◌, ◌++◌, OnOk, OnErr};
 ghost use Rattle.qbf_spelling.specs.declared.header.HeaderAt.TheVariants as header;
-ghost use Rattle.qrp.specs.Inferences.{IsLiteral};
 ghost use Rattle.qrp.specs.Flat.{closed, kept_of, nothing_kept, ClosesPart, IsFlat};
 ghost use Rattle.qrp.specs.Places.{IsComplete, Stays};
 ghost use Rattle.step_index.specs.Numbers.{is_used, AreStepNumbers};
 
 use crate::item::{Header, QuantSet};
 use crate::places::{Begun, Part};
-use qbf_core::{GrowingLists, Lit, see_all};
 use std::alloc::{AllocError, Global};
 use std::mem;
-use step_index::StepIndex;
 
 /// The parts of a trace.
 #[derive(Drop)]
@@ -45,48 +40,6 @@ impl Parts {
 
 // ---- steps
 
-/// Begins the lists of a step in place of those that are begun.
-pub fn begin_step(begun: &mut Begun, lits: &[Lit], ants: &[u64]) -> Result<(), AllocError>
-    ensures lits { OnOk result
-        ((begun.new.lits.begun ≡ lits.now) × AllByRecursion IsLiteral lits.now) }
-    ensures ants { OnOk result
-        ((begun.new.ants.begun ≡ ants.now) × AllByRecursion (λ n. n < 2 ^ 64) ants.now) }
-    ensures stays { Stays begun.old begun.new }
-{
-    see_all(lits);
-    see_all(ants);
-    begun.lits.begin();
-    begun.ants.begin();
-    begun.lits.extend(lits)?;
-    begun.ants.extend(ants)
-}
-
-/// Puts the antecedents that are begun after the others, and the number of their step.
-///
-/// # Errors
-/// Out of memory. The whole lists and the numbers are as they were then.
-#[inline(always)]
-fn close_antecedents(
-    ants: &mut GrowingLists<u64>,
-    index: &mut StepIndex,
-    number: u64,
-) -> Result<(), AllocError>
-    requires { is_used number index.old ≡ false }
-    ensures closed { OnOk result
-        ((ants.new ≡ closed ants.old) × (index.new ≡ index.old ++ number ∷ [])) }
-    ensures sound { OnOk result (AreStepNumbers index.new) }
-    ensures err { OnErr result ((ants.new.whole ≡ ants.old.whole) × (index.new ≡ index.old)) }
-{
-    ants.close()?;
-    match index.push(number) {
-        Ok(()) => Ok(()),
-        Err(refused) => {
-            ants.pop();
-            Err(refused)
-        }
-    }
-}
-
 /// Puts the step that is begun after the others.
 ///
 /// # Errors
@@ -103,9 +56,14 @@ fn close_step(begun: &mut Begun, number: u64) -> Result<(), AllocError>
     ensures err { OnErr result (Stays begun.old begun.new) }
 {
     begun.lits.close()?;
-    match close_antecedents(&mut begun.ants, &mut begun.index, number) {
+    if let Err(refused) = begun.ants.close() {
+        begun.lits.pop();
+        return Err(refused);
+    }
+    match begun.index.push(number) {
         Ok(()) => Ok(()),
         Err(refused) => {
+            begun.ants.pop();
             begun.lits.pop();
             Err(refused)
         }
