@@ -56,9 +56,12 @@ fn close_step(begun: &mut Begun, number: u64) -> Result<(), AllocError>
     ensures err { OnErr result (Stays begun.old begun.new) }
 {
     begun.lits.close()?;
-    if let Err(refused) = begun.ants.close() {
-        begun.lits.pop();
-        return Err(refused);
+    match begun.ants.close() {
+        Ok(()) => {}
+        Err(refused) => {
+            begun.lits.pop();
+            return Err(refused);
+        }
     }
     match begun.index.push(number) {
         Ok(()) => Ok(()),
