@@ -4,7 +4,6 @@ ghost use Rattle.std.specs.Prelude.{◌≡◌, ◌≤◌, true, length, IfOk};
 ghost use Rattle.std.specs.List.{AllByRecursion};
 ghost use Rattle.qbf_core.specs.Blocks.{pairs, variables, IsPrefix};
 ghost use Rattle.qbf_text.specs.Passing.{LeadOn, Passes};
-ghost use Rattle.qbf_spelling.specs.declared.header.HeaderAt.TheVariants as header;
 ghost use Rattle.qdimacs.specs.declared.grammar.At.TheVariants as at;
 ghost use Rattle.qdimacs.specs.declared.grammar.Parts.{Parts};
 ghost use Rattle.qdimacs.specs.Places.{stands, Moves, Leads, IsSound};
@@ -261,23 +260,6 @@ fn take_numbers(
     (place, Ok(here))
 }
 
-impl Parts {
-    /// Nothing yet. It takes no memory.
-    fn new(alloc: Global) -> Parts
-        ensures sound { IsSound at.Header result }
-        ensures header { result.header ≡ header.P }
-    {
-        Parts {
-            header: HeaderAt::P,
-            max_var: 0,
-            count: 0,
-            prefix: Prefix::new(alloc),
-            full: false,
-            clauses: GrowingLists::new(alloc),
-        }
-    }
-}
-
 /// A formula that is read into flat buffers.
 ///
 /// Contracts see where the next token stands.
@@ -305,7 +287,14 @@ impl FormulaGrammar {
     {
         FormulaGrammar {
             at: At::Header,
-            parts: Parts::new(alloc),
+            parts: Parts {
+                header: HeaderAt::P,
+                max_var: 0,
+                count: 0,
+                prefix: Prefix::new(alloc),
+                full: false,
+                clauses: GrowingLists::new(alloc),
+            },
         }
     }
 

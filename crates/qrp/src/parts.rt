@@ -8,8 +8,11 @@ ghost use Rattle.step_index.specs.Numbers.{is_used, AreStepNumbers};
 
 use crate::item::{Header, QuantSet};
 use crate::places::{Begun, Part};
+use qbf_core::GrowingLists;
+use qbf_spelling::HeaderAt;
 use std::alloc::{AllocError, Global};
 use std::mem;
+use step_index::StepIndex;
 
 /// The parts of a trace.
 #[derive(Drop)]
@@ -33,7 +36,13 @@ impl Parts {
             alloc,
             header: Header { vars: 0, steps: 0 },
             sets: Vec::new(alloc),
-            begun: Begun::new(alloc),
+            begun: Begun {
+                header: HeaderAt::P,
+                vars: Vec::new(alloc),
+                lits: GrowingLists::new(alloc),
+                ants: GrowingLists::new(alloc),
+                index: StepIndex::new(alloc),
+            },
         }
     }
 }

@@ -1,7 +1,6 @@
 //! Where a token stands in a trace, and what each place makes of it.
 
-ghost use Rattle.std.specs.Prelude.{◌≡◌, []};
-ghost use Rattle.qbf_spelling.specs.declared.header.HeaderAt.TheVariants as header;
+ghost use Rattle.std.specs.Prelude.{◌≡◌};
 ghost use Rattle.qrp.specs.declared.places.At.TheVariants as at;
 ghost use Rattle.qrp.specs.declared.places.Begun.{Begun};
 ghost use Rattle.qrp.specs.Places.{place, Moves, Leads, IsBegun};
@@ -13,7 +12,6 @@ use crate::tokens::{FAULTS, FORM, LAST_VARIABLE, Opening, antecedent, opened, ou
 use qbf_core::{GrowingLists, Lit, Quantifier, Var};
 use qbf_spelling::{HeaderAt, HeaderMove, header_move, literal, member};
 use qbf_text::{Stop, Token};
-use std::alloc::Global;
 use step_index::StepIndex;
 
 /// Where the next token stands.
@@ -64,24 +62,6 @@ pub struct Begun {
     pub ants: GrowingLists<u64>,
     /// The numbers of the steps that are whole.
     pub index: StepIndex,
-}
-
-impl Begun {
-    /// Nothing yet. It takes no memory.
-    pub fn new(alloc: Global) -> Begun
-        ensures header { result.header ≡ header.P }
-        ensures index { result.index ≡ [] }
-        ensures lits { result.lits ≡ record { whole = []; begun = [] } }
-        ensures ants { result.ants ≡ record { whole = []; begun = [] } }
-    {
-        Begun {
-            header: HeaderAt::P,
-            vars: Vec::new(alloc),
-            lits: GrowingLists::new(alloc),
-            ants: GrowingLists::new(alloc),
-            index: StepIndex::new(alloc),
-        }
-    }
 }
 
 // ---- the header
