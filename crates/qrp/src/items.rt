@@ -16,7 +16,6 @@ use qbf_text::{Cursor, Grammar, Stop, Taken, Token};
 use std::alloc::{AllocError, Global};
 use std::marker::Model;
 use std::mem;
-use step_index::StepIndex;
 
 /// A trace of which one part is given after the other.
 ///
@@ -108,15 +107,6 @@ impl ItemGrammar {
         ensures { kept_of result ≡ self.kept }
     {
         self.parts
-    }
-
-    /// The numbers of the steps that were given. It takes no memory.
-    pub fn into_index(self) -> StepIndex
-        ensures { result ≡ self.kept.numbers }
-    {
-        let parts = self.parts;
-        let begun = parts.begun;
-        begun.index
     }
 }
 

@@ -64,23 +64,6 @@ pub struct Begun {
     pub index: StepIndex,
 }
 
-// ---- the header
-
-/// Takes a token of the header.
-fn take_header(begun: &mut Begun, token: Token) -> Next
-    requires sound { IsBegun at.Header begun.old }
-    ensures row { Moves (row (place begun.old at.Header) token) begun.new result }
-    ensures sound { Leads at.Header begun.old begun.new result }
-{
-    match header_move(FORM, begun.header, token)? {
-        HeaderMove::Goes(next) => {
-            begun.header = next;
-            Ok(At::Header)
-        }
-        HeaderMove::Ends(vars, steps) => Ok(At::Behind(Part::Header(Header { vars, steps }))),
-    }
-}
-
 // ---- between lists
 
 /// Takes a token between lists.
@@ -100,23 +83,6 @@ pub fn take_opening(begun: &mut Begun, token: Token) -> Next
             Ok(At::Lits(number))
         }
         Opening::Result => Ok(At::Result),
-    }
-}
-
-// ---- a set
-
-/// Takes a token in a set.
-fn take_member(begun: &mut Begun, quantifier: Quantifier, token: Token) -> Next
-    requires sound { IsBegun (at.Set quantifier) begun.old }
-    ensures row { Moves (row (place begun.old (at.Set quantifier)) token) begun.new result }
-    ensures sound { Leads (at.Set quantifier) begun.old begun.new result }
-{
-    match member(FAULTS, LAST_VARIABLE, token)? {
-        Some(var) => match begun.vars.push(var) {
-            Ok(()) => Ok(At::Set(quantifier)),
-            Err(_) => Err(Stop::Memory),
-        },
-        None => Ok(At::Behind(Part::Set(quantifier))),
     }
 }
 
@@ -179,9 +145,21 @@ pub fn take_at(here: At, begun: &mut Begun, token: Token) -> Next
         At::Lits(number) => take_literal(begun, number, token),
         At::Ants(number) => take_antecedent(begun, number, token),
         At::Between => take_opening(begun, token),
-        At::Set(quantifier) => take_member(begun, quantifier, token),
+        At::Set(quantifier) => match member(FAULTS, LAST_VARIABLE, token)? {
+            Some(var) => match begun.vars.push(var) {
+                Ok(()) => Ok(At::Set(quantifier)),
+                Err(_) => Err(Stop::Memory),
+            },
+            None => Ok(At::Behind(Part::Set(quantifier))),
+        },
         At::Result => Ok(At::Whole(outcome_of(token)?)),
-        At::Header => take_header(begun, token),
+        At::Header => match header_move(FORM, begun.header, token)? {
+            HeaderMove::Goes(next) => {
+                begun.header = next;
+                Ok(At::Header)
+            }
+            HeaderMove::Ends(vars, steps) => Ok(At::Behind(Part::Header(Header { vars, steps }))),
+        },
         At::Behind(_) | At::Whole(_) => Err(Stop::Text(TraceFault::P7)),
     }
 }
