@@ -62,26 +62,6 @@ fn is_full(prefix: &Prefix, max_var: u32) -> bool
     prefix.len() == max_var as usize
 }
 
-/// Takes a token of the header.
-fn take_header(parts: &mut Parts, token: Token) -> Next
-    requires sound { IsSound at.Header parts.old }
-    ensures row { Moves (row (stands parts.old at.Header) token) parts.new result }
-    ensures sound { Leads parts.old parts.new result }
-{
-    match header_move(FORM, parts.header, token)? {
-        HeaderMove::Goes(next) => {
-            parts.header = next;
-            Ok(At::Header)
-        }
-        HeaderMove::Ends(max_var, count) => {
-            parts.max_var = max_var as u32;
-            parts.count = count as u32;
-            parts.full = is_full(&parts.prefix, parts.max_var);
-            Ok(At::Between)
-        }
-    }
-}
-
 // ---- a set
 
 /// Takes a token in a set.
@@ -163,7 +143,18 @@ fn take_at(here: At, parts: &mut Parts, token: Token) -> Next
         At::Clause => take_literal(parts, token),
         At::Between => take_opening(parts, token),
         At::Set(quantifier) => take_member(parts, quantifier, token),
-        At::Header => take_header(parts, token),
+        At::Header => match header_move(FORM, parts.header, token)? {
+            HeaderMove::Goes(next) => {
+                parts.header = next;
+                Ok(At::Header)
+            }
+            HeaderMove::Ends(max_var, count) => {
+                parts.max_var = max_var as u32;
+                parts.count = count as u32;
+                parts.full = is_full(&parts.prefix, parts.max_var);
+                Ok(At::Between)
+            }
+        },
         At::Whole => Err(Stop::Text(FormulaFault::F3)),
     }
 }
