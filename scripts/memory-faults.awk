@@ -316,7 +316,8 @@ function resolved(n, callee, receiver, name) {
 # The type of self, of a field of it, of a parameter or of a local value, or of a field of these.
 function type_of(n, receiver, text, found, dot) {
     if (receiver == "self") return within[n]
-    if (sub(/^self\./, "", receiver)) return type[within[n], receiver]
+    if (receiver ~ /^self\.[a-z_]+$/) return type[within[n], substr(receiver, 6)]
+    if (match(receiver, /^self\.[a-z_]+\./)) return type[type[within[n], substr(receiver, 6, RLENGTH - 6)], substr(receiver, RLENGTH + 1)]
     dot = index(receiver, ".")
     if (dot) return type[type_of(n, substr(receiver, 1, dot - 1)), substr(receiver, dot + 1)]
     for (; !(n in head) && n > 1; n--) {

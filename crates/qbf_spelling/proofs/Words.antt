@@ -11,7 +11,7 @@ pub use Rattle.qbf_core.specs.Qbf.{Qbf}
 pub use Rattle.qbf_core.specs.declared.quantifier.Quantifier.{Quantifier}
 pub use Rattle.qbf_spelling.specs.Spelling.{letter, literal, number, set}
 pub use Rattle.qbf_text.proofs.OneToken.{read-one}
-pub use Rattle.qbf_text.proofs.SentParts.{part_fails, part_then, sent_fails, sent_part}
+pub use Rattle.qbf_text.proofs.SentParts.{sent_fails, sent_part}
 pub use Rattle.qbf_text.specs.Ahead.{ahead}
 pub use Rattle.qbf_text.specs.Lined.{Lined, unlined}
 pub use Rattle.qbf_text.specs.Reading.{left}

@@ -1,7 +1,7 @@
 //! The header of a text, token by token.
 
 ghost use Rattle.std.specs.Prelude.{◌≡◌, ◌-◌, ◌^◌, IfSome, IfOk};
-ghost use Rattle.qbf_spelling.specs.Headers.{header_fault, is_word, is_allowed, header_word};
+ghost use Rattle.qbf_spelling.specs.Headers.{header_fault, is_allowed, header_word};
 ghost use Rattle.qbf_spelling.specs.Headers.{header_number, header_move, IsUpTo, LeadsUpTo};
 
 use crate::said::Faults;
@@ -51,13 +51,6 @@ fn header_fault<F: Copy>(faults: Faults<F>, token: Token) -> F
     }
 }
 
-/// Whether a token is this word.
-fn is_word(token: Token, word: Word) -> bool
-    ensures { result ≡ is_word word token }
-{
-    token == Token::Word(word)
-}
-
 /// Whether a header may have this number.
 fn is_allowed(last: Option<u64>, number: u64) -> bool
     ensures { result ≡ is_allowed last number }
@@ -72,7 +65,7 @@ fn is_allowed(last: Option<u64>, number: u64) -> bool
 fn header_word<F: Copy>(faults: Faults<F>, word: Word, token: Token) -> Result<(), F>
     ensures { result ≡ header_word faults word token }
 {
-    if is_word(token, word) {
+    if token == Token::Word(word) {
         return Ok(());
     }
     Err(header_fault(faults, token))

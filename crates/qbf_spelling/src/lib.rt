@@ -2,12 +2,10 @@
 //! says, and how these are written.
 #![tactic(auto)]
 
-mod growing;
 mod header;
 mod said;
 mod writing;
 
-pub use growing::grow;
 pub use header::{HeaderAt, HeaderForm, HeaderMove, header_move};
 pub use said::{Faults, literal, member, quantifier};
 pub use writing::{Bare, Bytes, HeaderLine, Put};

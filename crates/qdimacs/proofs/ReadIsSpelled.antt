@@ -20,8 +20,6 @@ count_is : (v : ℕ) (t : Token) (next : Place) → row (InHeader (place.Second 
     → (n : ℕ) × (t ≡ number n) × (n ≤ 2147483647) × (Between (record { max_var = v; count = n }) [] [] ≡ next)
 count_is v t next e = search rules
 
--- ---- what is accepted so far, and one more
-
 -- ---- one token more
 
 abbrev front : Heading → List Block → Clauses → List Token

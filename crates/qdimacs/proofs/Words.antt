@@ -6,8 +6,8 @@ pub use Rattle.qbf_core.specs.Qbf.{IsWellFormed}
 pub use Rattle.qbf_spelling.proofs.CanonicalLines.{literals_plain, set_written}
 pub use Rattle.qbf_spelling.proofs.Words.{AllByRecursion, AllByRecursion-push, Block, Ends, IsSent, IsVariable, Lined, Literal, Qbf}
 pub use Rattle.qbf_spelling.proofs.Words.{Qdimacs, Quantifier, Token, blocks_of, flat_map, flat_map-append, flat_map-map, is_bound}
-pub use Rattle.qbf_spelling.proofs.Words.{length-append, letter, literal, map-append, number, pairs, part_fails, part_then, read-one}
-pub use Rattle.qbf_spelling.proofs.Words.{sent_fails, sent_part, set, tokens, unlined, variables}
+pub use Rattle.qbf_spelling.proofs.Words.{length-append, letter, literal, map-append, number, pairs, read-one, sent_fails, sent_part, set}
+pub use Rattle.qbf_spelling.proofs.Words.{tokens, unlined, variables}
 pub use Rattle.qbf_spelling.proofs.Worked.{all, exists}
 pub use Rattle.qbf_spelling.proofs.WrittenParts.{closed_literals, closed_numbers}
 pub use Rattle.qbf_spelling.specs.Said.{member}

@@ -2,19 +2,17 @@
 
 ghost use Rattle.std.specs.Prelude.{◌≡◌, ◌≤◌, true, length, IfOk};
 ghost use Rattle.std.specs.List.{AllByRecursion};
-ghost use Rattle.qbf_core.specs.Blocks.{pairs, variables, is_bound, IsPrefix};
+ghost use Rattle.qbf_core.specs.Blocks.{pairs, variables, IsPrefix};
 ghost use Rattle.qbf_text.specs.Passing.{LeadOn, Passes};
-ghost use Rattle.qbf_spelling.specs.declared.header.HeaderAt.TheVariants as header;
 ghost use Rattle.qdimacs.specs.declared.grammar.At.TheVariants as at;
 ghost use Rattle.qdimacs.specs.declared.grammar.Parts.{Parts};
-ghost use Rattle.qdimacs.specs.Places.{heading, stands, Moves, Leads, IsSound};
-ghost use Rattle.qdimacs.specs.Reading.{AtP, Whole, IsFull, IsWhole, begun_set, has_more, row};
-ghost use Rattle.qdimacs.specs.Reading.{bind_row};
+ghost use Rattle.qdimacs.specs.Places.{stands, Moves, Leads, IsSound};
+ghost use Rattle.qdimacs.specs.Reading.{AtP, Whole, IsFull, IsWhole, row};
 
 use crate::fault::FormulaFault;
 use crate::tokens::{FAULTS, FORM, bound_literal, clause_or_end};
 use qbf_core::{Formula, GrowingLists, Lit, Prefix, PrefixFault, Quantifier, Var};
-use qbf_spelling::{HeaderAt, HeaderMove, grow, header_move, member, quantifier};
+use qbf_spelling::{HeaderAt, HeaderMove, header_move, member, quantifier};
 use qbf_text::{Cursor, Grammar, Stop, Taken, Token};
 use std::alloc::{AllocError, Global};
 use std::marker::Model;
@@ -64,42 +62,7 @@ fn is_full(prefix: &Prefix, max_var: u32) -> bool
     prefix.len() == max_var as usize
 }
 
-/// Takes a token of the header.
-fn take_header(parts: &mut Parts, token: Token) -> Next
-    requires sound { IsSound at.Header parts.old }
-    ensures row { Moves (row (stands parts.old at.Header) token) parts.new result }
-    ensures sound { Leads parts.old parts.new result }
-{
-    match header_move(FORM, parts.header, token)? {
-        HeaderMove::Goes(next) => {
-            parts.header = next;
-            Ok(At::Header)
-        }
-        HeaderMove::Ends(max_var, count) => {
-            parts.max_var = max_var as u32;
-            parts.count = count as u32;
-            parts.full = is_full(&parts.prefix, parts.max_var);
-            Ok(At::Between)
-        }
-    }
-}
-
 // ---- a set
-
-/// Binds a variable innermost.
-fn bind(parts: &mut Parts, quantifier: Quantifier, var: Var) -> Next
-    requires sound { IsSound (at.Set quantifier) parts.old }
-    requires top { var ≤ parts.old.max_var }
-    ensures row { Moves (bind_row (heading parts.old) (pairs parts.old.prefix) quantifier var
-        (is_bound var (pairs parts.old.prefix))) parts.new result }
-    ensures sound { Leads parts.old parts.new result }
-{
-    match parts.prefix.push(quantifier, var) {
-        Ok(()) => Ok(At::Set(quantifier)),
-        Err(PrefixFault::B1) => Err(Stop::Text(FormulaFault::F5)),
-        Err(PrefixFault::B2) => Err(Stop::Memory),
-    }
-}
 
 /// Takes a token in a set.
 fn take_member(parts: &mut Parts, quantifier: Quantifier, token: Token) -> Next
@@ -108,7 +71,11 @@ fn take_member(parts: &mut Parts, quantifier: Quantifier, token: Token) -> Next
     ensures sound { Leads parts.old parts.new result }
 {
     match member(FAULTS, parts.max_var, token)? {
-        Some(var) => bind(parts, quantifier, var),
+        Some(var) => match parts.prefix.push(quantifier, var) {
+            Ok(()) => Ok(At::Set(quantifier)),
+            Err(PrefixFault::B1) => Err(Stop::Text(FormulaFault::F5)),
+            Err(PrefixFault::B2) => Err(Stop::Memory),
+        },
         None => {
             if parts.prefix.widen().is_err() {
                 return Err(Stop::Memory);
@@ -129,8 +96,11 @@ fn take_literal(parts: &mut Parts, token: Token) -> Next
     ensures sound { Leads parts.old parts.new result }
 {
     let said = bound_literal(&parts.prefix, parts.max_var, parts.full, token);
-    match grow(&mut parts.clauses, said)? {
-        Some(_) => Ok(At::Clause),
+    match said? {
+        Some(lit) => match parts.clauses.push(lit) {
+            Ok(()) => Ok(At::Clause),
+            Err(_) => Err(Stop::Memory),
+        },
         None => match parts.clauses.close() {
             Ok(()) => Ok(At::Between),
             Err(_) => Err(Stop::Memory),
@@ -140,24 +110,6 @@ fn take_literal(parts: &mut Parts, token: Token) -> Next
 
 // ---- between lists
 
-/// The quantifier of the set that a token begins: no set, once a clause was begun.
-fn opened(parts: &Parts, token: Token) -> Option<Quantifier>
-    ensures { result ≡ begun_set parts.now.clauses.whole token }
-{
-    if parts.clauses.whole_len() != 0 {
-        return None;
-    }
-    quantifier(token)
-}
-
-/// Whether the header counts more clauses.
-#[inline(always)]
-fn has_more(parts: &Parts) -> bool
-    ensures { result ≡ has_more (heading parts.now) parts.now.clauses.whole }
-{
-    parts.clauses.whole_len() < parts.count as usize
-}
-
 /// Takes a token between lists.
 #[inline(always)]
 #[tactic(auto, using(crate::proofs::FormulaParts::made_whole))]
@@ -166,10 +118,13 @@ fn take_opening(parts: &mut Parts, token: Token) -> Next
     ensures row { Moves (row (stands parts.old at.Between) token) parts.new result }
     ensures sound { Leads parts.old parts.new result }
 {
-    if let Some(quantifier) = opened(parts, token) {
-        return Ok(At::Set(quantifier));
+    if parts.clauses.whole_len() == 0 {
+        if let Some(quantifier) = quantifier(token) {
+            return Ok(At::Set(quantifier));
+        }
     }
-    match clause_or_end(has_more(parts), token)? {
+    let has_more = parts.clauses.whole_len() < parts.count as usize;
+    match clause_or_end(has_more, token)? {
         true => take_literal(parts, token),
         false => Ok(At::Whole),
     }
@@ -188,7 +143,18 @@ fn take_at(here: At, parts: &mut Parts, token: Token) -> Next
         At::Clause => take_literal(parts, token),
         At::Between => take_opening(parts, token),
         At::Set(quantifier) => take_member(parts, quantifier, token),
-        At::Header => take_header(parts, token),
+        At::Header => match header_move(FORM, parts.header, token)? {
+            HeaderMove::Goes(next) => {
+                parts.header = next;
+                Ok(At::Header)
+            }
+            HeaderMove::Ends(max_var, count) => {
+                parts.max_var = max_var as u32;
+                parts.count = count as u32;
+                parts.full = is_full(&parts.prefix, parts.max_var);
+                Ok(At::Between)
+            }
+        },
         At::Whole => Err(Stop::Text(FormulaFault::F3)),
     }
 }
@@ -285,23 +251,6 @@ fn take_numbers(
     (place, Ok(here))
 }
 
-impl Parts {
-    /// Nothing yet. It takes no memory.
-    fn new(alloc: Global) -> Parts
-        ensures sound { IsSound at.Header result }
-        ensures header { result.header ≡ header.P }
-    {
-        Parts {
-            header: HeaderAt::P,
-            max_var: 0,
-            count: 0,
-            prefix: Prefix::new(alloc),
-            full: false,
-            clauses: GrowingLists::new(alloc),
-        }
-    }
-}
-
 /// A formula that is read into flat buffers.
 ///
 /// Contracts see where the next token stands.
@@ -329,7 +278,14 @@ impl FormulaGrammar {
     {
         FormulaGrammar {
             at: At::Header,
-            parts: Parts::new(alloc),
+            parts: Parts {
+                header: HeaderAt::P,
+                max_var: 0,
+                count: 0,
+                prefix: Prefix::new(alloc),
+                full: false,
+                clauses: GrowingLists::new(alloc),
+            },
         }
     }
 

@@ -3,10 +3,10 @@ pub use Rattle.qbf_core.proofs.DistinctNumbers.{new_number, one_place, push_dist
 pub use Rattle.qbf_spelling.proofs.CanonicalLines.{literals_plain, set_written}
 pub use Rattle.qbf_spelling.proofs.Words.{AllByRecursion, AllByRecursion-push, Block, IsSent, IsVariable, Lined, Literal, Qrp, Quantifier}
 pub use Rattle.qbf_spelling.proofs.Words.{Read, Token, ahead, flat_map, flat_map-append, flat_map-map, left, length-append, letter, literal}
-pub use Rattle.qbf_spelling.proofs.Words.{map-append, number, part_fails, part_then, read-one, sent_fails, sent_part, set, tokens}
-pub use Rattle.qbf_spelling.proofs.Words.{tokens_next, unlined}
+pub use Rattle.qbf_spelling.proofs.Words.{map-append, number, read-one, sent_fails, sent_part, set, tokens, tokens_next, unlined}
 pub use Rattle.qbf_spelling.proofs.Worked.{all, exists}
 pub use Rattle.qbf_spelling.proofs.WrittenParts.{closed_numbers, set_line}
+pub use Rattle.qbf_spelling.specs.Texts.{set_text}
 pub use Rattle.qbf_text.proofs.AcceptedTokens.{flat_map-push, split_at}
 pub use Rattle.qbf_text.proofs.Answered.{answered_bytes, explained}
 pub use Rattle.qbf_text.proofs.CanonicalTokens.{all_appended, all_mapped, closed_plain, joined, tokens-lines_text}
@@ -24,13 +24,13 @@ pub use Rattle.qbf_text.specs.declared.grammar.ReadError.{ReadError}
 pub use Rattle.qrp.specs.Answers.{Answers, Gives, StopsBehindResult, is_outside, reads_bytes}
 pub use Rattle.qrp.specs.Derivations.{AreGrammatical, Derivation, IsWellFormed, items_of_lists, steps_at, with_steps_at}
 pub use Rattle.qrp.specs.Flat.{IsFlat, Kept, kept_of, made, numbered, with_item}
-pub use Rattle.qrp.specs.Given.{GivesAnswer, GivesNextItem, GivesUnless, KnownItems, StopsBehindPart, is_last, known_items, left_behind}
-pub use Rattle.qrp.specs.Given.{place_next, stage_after}
+pub use Rattle.qrp.specs.Given.{GivesAnswer, GivesNextItem, GivesUnless, StopsBehindPart, is_last, known_items, left_behind, place_next}
+pub use Rattle.qrp.specs.Given.{stage_after}
 pub use Rattle.qrp.specs.Grammar.{IsTrace, header, lines, lists, result, result_word, step, text}
 pub use Rattle.qrp.specs.Inferences.{Inference, IsAt, IsInference, IsLiteral, IsNumber, IsOnlyAt, numbers}
 pub use Rattle.qrp.specs.Items.{Giver, GivesItem, Stands, StopsBehind}
 pub use Rattle.qrp.specs.Laws.{ItemsOfTrace, ReadsText}
-pub use Rattle.qrp.specs.Texts.{sets_text, step_text, steps_text}
+pub use Rattle.qrp.specs.Texts.{step_text, steps_text}
 pub use Rattle.qrp.specs.declared.fault.TraceFault.{TraceFault}
 pub use Rattle.qrp.specs.declared.fault.TraceFault.TheVariants.{P1, P2, P3, P4, P5, P6, P7, P8, P9}
 pub use Rattle.qrp.specs.declared.item.Header.{Header}
@@ -40,8 +40,8 @@ pub use Rattle.qrp.specs.declared.item.Outcome.TheVariants.{Sat, Unsat}
 pub use Rattle.qrp.specs.declared.reader.Stage.{Stage}
 pub use Rattle.qrp.specs.declared.reader.Stage.TheVariants.{AtHeader, AtLists}
 pub use Rattle.std.proofs.Common.{Bool, Err, IfSome, List, Ok, Option, Result, Some, [], add-one, ap, append-nil, append_assoc, arith, drop}
-pub use Rattle.std.proofs.Common.{false, get_or, inl, inr, length, map, nat_eq, refl, rules, slice_get, subst, suc, sym, take, zero, ℕ}
-pub use Rattle.std.proofs.Common.{◌++◌, ◌+◌, ◌<◌, ◌^◌, ◌∙◌, ◌∷◌, ◌≡◌, ◌≤◌, ◌⊎◌}
+pub use Rattle.std.proofs.Common.{false, get_or, inl, inr, length, map, nat_eq, refl, rules, slice_get, suc, sym, zero, ℕ, ◌++◌, ◌+◌, ◌<◌}
+pub use Rattle.std.proofs.Common.{◌^◌, ◌∙◌, ◌∷◌, ◌≡◌, ◌≤◌, ◌⊎◌}
 pub use Rattle.std.proofs.lemmas.Grind.{common_steps}
 pub use Rattle.std.proofs.lemmas.Option.{slice_get-map, slice_get_cases}
 pub use Rattle.step_index.specs.Numbers.{AreStepNumbers, is_used}

@@ -2,7 +2,7 @@
 use Rattle.qrp.proofs.Words.{common_steps, ◌≡◌, ℕ, List, [], ◌∷◌, ◌++◌, refl, sym, ◌∙◌, append_assoc, append-nil, drop, get_or, length}
 use Rattle.qrp.proofs.Words.{zero, suc, inl, inr, arith, ◌<◌, ◌+◌, add-one, AllByRecursion, flat_map-append, flat_map-map, line_rest-map}
 use Rattle.qrp.proofs.Words.{zero_rest, part_at, slice_get_cases, line_text, Header, Inference, IsAt, Derivation, steps_at, with_steps_at}
-use Rattle.qrp.proofs.Words.{closed_numbers, set_line, step, header, result, text, step_text, sets_text, steps_text}
+use Rattle.qrp.proofs.Words.{closed_numbers, set_line, step, header, result, text, step_text, steps_text, flat_map, set_text}
 
 -- ---- lists
 
@@ -42,14 +42,14 @@ step_line s = grind (arith, common_steps, line_rest-map, zero_rest, closed_numbe
 -- ---- the whole
 
 pub text_parts : (d : Derivation)
-    → text d ≡ line_text (header d.header) ++ (sets_text d.sets ++ (steps_text d.steps ++ line_text (result d.result)))
+    → text d ≡ line_text (header d.header) ++ (flat_map set_text d.sets ++ (steps_text d.steps ++ line_text (result d.result)))
 text_parts d = grind (arith, common_steps, append-nil, flat_map-append, flat_map-map, append_assoc, set_line, step_line)
 
 -- the same of the text with the steps at some places alone
 pub text_parts_at : (d : Derivation) (places : List ℕ) (h : Header) → AllByRecursion (λ i. i < length d.steps) places → h ≡ d.header
     → text (with_steps_at d places) ≡ line_text (header (record { vars = h.vars; steps = length places }))
-    ++ (sets_text d.sets ++ (steps_text (steps_at d.steps places) ++ line_text (result d.result)))
+    ++ (flat_map set_text d.sets ++ (steps_text (steps_at d.steps places) ++ line_text (result d.result)))
 text_parts_at d places h inside is =
     text_parts (with_steps_at d places)
     ∙ (λ i. line_text (header (record { vars = (sym is i).vars; steps = length_at d.steps places inside i }))
-    ++ (sets_text d.sets ++ (steps_text (steps_at d.steps places) ++ line_text (result d.result))))
+    ++ (flat_map set_text d.sets ++ (steps_text (steps_at d.steps places) ++ line_text (result d.result))))

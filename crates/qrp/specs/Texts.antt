@@ -1,21 +1,13 @@
 -- The parts of a canonical text, as they are written one after the other.
 use Rattle.std.specs.Prelude.{ℕ, List, [], ◌∷◌, ◌++◌, decimal}
-use Rattle.qbf_spelling.specs.Words.{flat_map, Block}
+use Rattle.qbf_spelling.specs.Words.{flat_map}
 use Rattle.qbf_text.specs.Canonical.{spaced}
 use Rattle.qrp.specs.Inferences.{Inference}
-use Rattle.qbf_spelling.specs.Texts.{literal_text, closing, set_text}
-
--- a zero after a blank
-abbrev pub zero_text : List ℕ
-zero_text = 32 ∷ 48 ∷ []
+use Rattle.qbf_spelling.specs.Texts.{literal_text, closing}
 
 -- the line of a step
 abbrev pub step_text : Inference → List ℕ
-step_text s = decimal s.number ++ (flat_map literal_text s.lits ++ (zero_text ++ (flat_map spaced s.ants ++ closing)))
-
--- the lines of sets
-abbrev pub sets_text : List Block → List ℕ
-sets_text sets = flat_map set_text sets
+step_text s = decimal s.number ++ (flat_map literal_text s.lits ++ (32 ∷ 48 ∷ (flat_map spaced s.ants ++ closing)))
 
 -- the lines of steps
 abbrev pub steps_text : List Inference → List ℕ

@@ -4,7 +4,7 @@ ghost use Rattle.std.specs.Prelude.{◌≡◌, IfOk, OnOk, OnErr};
 ghost use Rattle.qrp.specs.Flat.{kept_of, nothing_kept, IsFlat};
 ghost use Rattle.qrp.specs.Items.{IsGiven, GivesPart, Keeps};
 ghost use Rattle.qrp.specs.declared.places.Part.TheVariants as part;
-ghost use Rattle.qrp.specs.Places.{item_of, numbers_behind, IsComplete};
+ghost use Rattle.qrp.specs.Places.{numbers_behind, IsComplete};
 ghost use Rattle.qrp.specs.Reading.{AtP};
 
 use crate::fault::TraceFault;
@@ -16,38 +16,6 @@ use qbf_text::{Cursor, Grammar, Stop, Taken, Token};
 use std::alloc::{AllocError, Global};
 use std::marker::Model;
 use std::mem;
-use step_index::StepIndex;
-
-/// Takes a step out of the lists that are begun. The copies are allocated in exactly their size.
-fn take_step(begun: &mut Begun, alloc: Global, number: u64) -> Result<Step, AllocError>
-    requires { IsComplete (part.Step number) begun.old }
-    ensures step { IfOk result (λ s. s
-        ≡ record { number = number; lits = begun.old.lits.begun; ants = begun.old.ants.begun }) }
-    ensures number { OnOk result (begun.new.index ≡ numbers_behind begun.old (part.Step number)) }
-    ensures err { OnErr result (begun.new ≡ begun.old) }
-{
-    let lits = Vec::from_slice(alloc, begun.lits.begun())?;
-    let ants = Vec::from_slice(alloc, begun.ants.begun())?;
-    begun.index.push(number)?;
-    Ok(Step { number, lits, ants })
-}
-
-/// Takes a part that is complete out of the lists that are begun.
-fn take_part(begun: &mut Begun, alloc: Global, part: Part) -> Result<Item, AllocError>
-    requires { IsComplete part begun.old }
-    ensures item { IfOk result (λ i. i ≡ item_of begun.old part) }
-    ensures numbers { OnOk result (begun.new.index ≡ numbers_behind begun.old part) }
-    ensures err { OnErr result (begun.new ≡ begun.old) }
-{
-    match part {
-        Part::Header(header) => Ok(Item::Header(header)),
-        Part::Set(quantifier) => {
-            let vars = mem::replace(&mut begun.vars, Vec::new(alloc));
-            Ok(Item::Set(QuantSet { quantifier, vars }))
-        }
-        Part::Step(number) => Ok(Item::Step(take_step(begun, alloc, number)?)),
-    }
-}
 
 /// A trace of which one part is given after the other.
 ///
@@ -83,7 +51,8 @@ impl ItemGrammar {
         }
     }
 
-    /// The item that is complete, of which the number alone is kept if it is a step.
+    /// The item that is complete, of which the number alone is kept if it is a step. Its lists are
+    /// allocated in exactly their size.
     ///
     /// # Errors
     /// Out of memory. Nothing is changed then.
@@ -92,15 +61,24 @@ impl ItemGrammar {
         ensures gives { IfOk result (λ i. GivesPart i self.old self.new) }
         ensures err { OnErr result (self.new ≡ self.old) }
     {
-        match self.at {
-            At::Behind(part) => {
-                let item = take_part(&mut self.parts.begun, alloc, part)?;
-                self.at = At::Between;
-                Ok(item)
+        let item = match self.at {
+            At::Behind(Part::Header(header)) => Item::Header(header),
+            At::Behind(Part::Set(quantifier)) => {
+                let vars = mem::replace(&mut self.parts.begun.vars, Vec::new(alloc));
+                Item::Set(QuantSet { quantifier, vars })
             }
-            At::Whole(outcome) => Ok(Item::Result(outcome)),
+            At::Behind(Part::Step(number)) => {
+                let begun = &mut self.parts.begun;
+                let lits = Vec::from_slice(alloc, begun.lits.begun())?;
+                let ants = Vec::from_slice(alloc, begun.ants.begun())?;
+                begun.index.push(number)?;
+                Item::Step(Step { number, lits, ants })
+            }
+            At::Whole(outcome) => return Ok(Item::Result(outcome)),
             _ => unreachable!(),
-        }
+        };
+        self.at = At::Between;
+        Ok(item)
     }
 
     /// Keeps the item that is complete after the others; the result, where it is that.
@@ -131,17 +109,6 @@ impl ItemGrammar {
         let mut parts = self.parts;
         parts.begun.index.place_all();
         parts
-    }
-
-    /// The numbers of the steps that were given. It takes no memory.
-    pub fn into_index(self) -> StepIndex
-        ensures { result ≡ self.kept.numbers }
-    {
-        let parts = self.parts;
-        let begun = parts.begun;
-        let mut index = begun.index;
-        index.place_all();
-        index
     }
 }
 

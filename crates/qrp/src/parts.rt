@@ -1,17 +1,15 @@
 //! What a trace is made of, part by part, whether it is read or pushed to.
 
-ghost use Rattle.std.specs.Prelude.{◌≡◌, ◌<◌, ◌^◌, false, [], ◌∷◌, ◌++◌};
-ghost use Rattle.std.specs.Prelude.{OnOk, OnErr};
-ghost use Rattle.std.specs.List.{AllByRecursion};
+ghost use Rattle.std.specs.Prelude.{◌≡◌, false, [], ◌∷◌, ◌++◌, OnOk, OnErr};
 ghost use Rattle.qbf_spelling.specs.declared.header.HeaderAt.TheVariants as header;
-ghost use Rattle.qrp.specs.Inferences.{IsLiteral};
 ghost use Rattle.qrp.specs.Flat.{closed, kept_of, nothing_kept, ClosesPart, IsFlat};
 ghost use Rattle.qrp.specs.Places.{IsComplete, Stays};
 ghost use Rattle.step_index.specs.Numbers.{is_used, AreStepNumbers};
 
 use crate::item::{Header, QuantSet};
 use crate::places::{Begun, Part};
-use qbf_core::{GrowingLists, Lit, see_all};
+use qbf_core::GrowingLists;
+use qbf_spelling::HeaderAt;
 use std::alloc::{AllocError, Global};
 use std::mem;
 use step_index::StepIndex;
@@ -38,54 +36,18 @@ impl Parts {
             alloc,
             header: Header { vars: 0, steps: 0 },
             sets: Vec::new(alloc),
-            begun: Begun::new(alloc),
+            begun: Begun {
+                header: HeaderAt::P,
+                vars: Vec::new(alloc),
+                lits: GrowingLists::new(alloc),
+                ants: GrowingLists::new(alloc),
+                index: StepIndex::new(alloc),
+            },
         }
     }
 }
 
 // ---- steps
-
-/// Begins the lists of a step in place of those that are begun.
-pub fn begin_step(begun: &mut Begun, lits: &[Lit], ants: &[u64]) -> Result<(), AllocError>
-    ensures lits { OnOk result
-        ((begun.new.lits.begun ≡ lits.now) × AllByRecursion IsLiteral lits.now) }
-    ensures ants { OnOk result
-        ((begun.new.ants.begun ≡ ants.now) × AllByRecursion (λ n. n < 2 ^ 64) ants.now) }
-    ensures stays { Stays begun.old begun.new }
-{
-    see_all(lits);
-    see_all(ants);
-    begun.lits.begin();
-    begun.ants.begin();
-    begun.lits.extend(lits)?;
-    begun.ants.extend(ants)
-}
-
-/// Puts the antecedents that are begun after the others, and the number of their step.
-///
-/// # Errors
-/// Out of memory. The whole lists and the numbers are as they were then.
-#[inline(always)]
-fn close_antecedents(
-    ants: &mut GrowingLists<u64>,
-    index: &mut StepIndex,
-    number: u64,
-) -> Result<(), AllocError>
-    requires { is_used number index.old ≡ false }
-    ensures closed { OnOk result
-        ((ants.new ≡ closed ants.old) × (index.new ≡ index.old ++ number ∷ [])) }
-    ensures sound { OnOk result (AreStepNumbers index.new) }
-    ensures err { OnErr result ((ants.new.whole ≡ ants.old.whole) × (index.new ≡ index.old)) }
-{
-    ants.close()?;
-    match index.push(number) {
-        Ok(()) => Ok(()),
-        Err(refused) => {
-            ants.pop();
-            Err(refused)
-        }
-    }
-}
 
 /// Puts the step that is begun after the others.
 ///
@@ -103,9 +65,17 @@ fn close_step(begun: &mut Begun, number: u64) -> Result<(), AllocError>
     ensures err { OnErr result (Stays begun.old begun.new) }
 {
     begun.lits.close()?;
-    match close_antecedents(&mut begun.ants, &mut begun.index, number) {
+    match begun.ants.close() {
+        Ok(()) => {}
+        Err(refused) => {
+            begun.lits.pop();
+            return Err(refused);
+        }
+    }
+    match begun.index.push(number) {
         Ok(()) => Ok(()),
         Err(refused) => {
+            begun.ants.pop();
             begun.lits.pop();
             Err(refused)
         }

@@ -1,20 +1,17 @@
 //! Where a token stands in a trace, and what each place makes of it.
 
-ghost use Rattle.std.specs.Prelude.{◌≡◌, []};
-ghost use Rattle.qbf_spelling.specs.declared.header.HeaderAt.TheVariants as header;
+ghost use Rattle.std.specs.Prelude.{◌≡◌};
 ghost use Rattle.qrp.specs.declared.places.At.TheVariants as at;
 ghost use Rattle.qrp.specs.declared.places.Begun.{Begun};
-ghost use Rattle.qrp.specs.Inferences.{IsNumber};
 ghost use Rattle.qrp.specs.Places.{place, Moves, Leads, IsBegun};
-ghost use Rattle.qrp.specs.Reading.{has_room, row, step_row};
+ghost use Rattle.qrp.specs.Reading.{has_room, row};
 
 use crate::fault::TraceFault;
 use crate::item::{Header, Outcome};
 use crate::tokens::{FAULTS, FORM, LAST_VARIABLE, Opening, antecedent, opened, outcome_of};
 use qbf_core::{GrowingLists, Lit, Quantifier, Var};
-use qbf_spelling::{HeaderAt, HeaderMove, grow, header_move, literal, member};
+use qbf_spelling::{HeaderAt, HeaderMove, header_move, literal, member};
 use qbf_text::{Stop, Token};
-use std::alloc::Global;
 use step_index::StepIndex;
 
 /// Where the next token stands.
@@ -67,56 +64,7 @@ pub struct Begun {
     pub index: StepIndex,
 }
 
-impl Begun {
-    /// Nothing yet. It takes no memory.
-    pub fn new(alloc: Global) -> Begun
-        ensures header { result.header ≡ header.P }
-        ensures index { result.index ≡ [] }
-        ensures lits { result.lits ≡ record { whole = []; begun = [] } }
-        ensures ants { result.ants ≡ record { whole = []; begun = [] } }
-    {
-        Begun {
-            header: HeaderAt::P,
-            vars: Vec::new(alloc),
-            lits: GrowingLists::new(alloc),
-            ants: GrowingLists::new(alloc),
-            index: StepIndex::new(alloc),
-        }
-    }
-}
-
-// ---- the header
-
-/// Takes a token of the header.
-fn take_header(begun: &mut Begun, token: Token) -> Next
-    requires sound { IsBegun at.Header begun.old }
-    ensures row { Moves (row (place begun.old at.Header) token) begun.new result }
-    ensures sound { Leads at.Header begun.old begun.new result }
-{
-    match header_move(FORM, begun.header, token)? {
-        HeaderMove::Goes(next) => {
-            begun.header = next;
-            Ok(At::Header)
-        }
-        HeaderMove::Ends(vars, steps) => Ok(At::Behind(Part::Header(Header { vars, steps }))),
-    }
-}
-
 // ---- between lists
-
-/// Begins a step, if its number is new.
-#[inline(always)]
-fn open_step(begun: &mut Begun, number: u64) -> Next
-    requires number { IsNumber number }
-    ensures row { Moves (step_row begun.old.index number) begun.new result }
-    ensures sound { Leads at.Between begun.old begun.new result }
-{
-    if begun.index.contains(number) {
-        return Err(Stop::Text(TraceFault::P5));
-    }
-    begun.lits.begin();
-    Ok(At::Lits(number))
-}
 
 /// Takes a token between lists.
 #[inline(always)]
@@ -129,25 +77,12 @@ pub fn take_opening(begun: &mut Begun, token: Token) -> Next
             begun.vars.clear();
             Ok(At::Set(quantifier))
         }
-        Opening::Step(number) => open_step(begun, number),
+        Opening::Step(number) if begun.index.contains(number) => Err(Stop::Text(TraceFault::P5)),
+        Opening::Step(number) => {
+            begun.lits.begin();
+            Ok(At::Lits(number))
+        }
         Opening::Result => Ok(At::Result),
-    }
-}
-
-// ---- a set
-
-/// Takes a token in a set.
-fn take_member(begun: &mut Begun, quantifier: Quantifier, token: Token) -> Next
-    requires sound { IsBegun (at.Set quantifier) begun.old }
-    ensures row { Moves (row (place begun.old (at.Set quantifier)) token) begun.new result }
-    ensures sound { Leads (at.Set quantifier) begun.old begun.new result }
-{
-    match member(FAULTS, LAST_VARIABLE, token)? {
-        Some(var) => match begun.vars.push(var) {
-            Ok(()) => Ok(At::Set(quantifier)),
-            Err(_) => Err(Stop::Memory),
-        },
-        None => Ok(At::Behind(Part::Set(quantifier))),
     }
 }
 
@@ -160,8 +95,11 @@ fn take_literal(begun: &mut Begun, number: u64, token: Token) -> Next
     ensures row { Moves (row (place begun.old (at.Lits number)) token) begun.new result }
     ensures sound { Leads (at.Lits number) begun.old begun.new result }
 {
-    match grow(&mut begun.lits, literal(FAULTS, LAST_VARIABLE, token))? {
-        Some(_) => Ok(At::Lits(number)),
+    match literal(FAULTS, LAST_VARIABLE, token)? {
+        Some(lit) => match begun.lits.push(lit) {
+            Ok(()) => Ok(At::Lits(number)),
+            Err(_) => Err(Stop::Memory),
+        },
         None => {
             begun.ants.begin();
             Ok(At::Ants(number))
@@ -185,8 +123,11 @@ fn take_antecedent(begun: &mut Begun, number: u64, token: Token) -> Next
     ensures sound { Leads (at.Ants number) begun.old begun.new result }
 {
     let room = has_room(&begun.ants);
-    match grow(&mut begun.ants, antecedent(room, token))? {
-        Some(_) => Ok(At::Ants(number)),
+    match antecedent(room, token)? {
+        Some(ant) => match begun.ants.push(ant) {
+            Ok(()) => Ok(At::Ants(number)),
+            Err(_) => Err(Stop::Memory),
+        },
         None => Ok(At::Behind(Part::Step(number))),
     }
 }
@@ -204,9 +145,21 @@ pub fn take_at(here: At, begun: &mut Begun, token: Token) -> Next
         At::Lits(number) => take_literal(begun, number, token),
         At::Ants(number) => take_antecedent(begun, number, token),
         At::Between => take_opening(begun, token),
-        At::Set(quantifier) => take_member(begun, quantifier, token),
+        At::Set(quantifier) => match member(FAULTS, LAST_VARIABLE, token)? {
+            Some(var) => match begun.vars.push(var) {
+                Ok(()) => Ok(At::Set(quantifier)),
+                Err(_) => Err(Stop::Memory),
+            },
+            None => Ok(At::Behind(Part::Set(quantifier))),
+        },
         At::Result => Ok(At::Whole(outcome_of(token)?)),
-        At::Header => take_header(begun, token),
+        At::Header => match header_move(FORM, begun.header, token)? {
+            HeaderMove::Goes(next) => {
+                begun.header = next;
+                Ok(At::Header)
+            }
+            HeaderMove::Ends(vars, steps) => Ok(At::Behind(Part::Header(Header { vars, steps }))),
+        },
         At::Behind(_) | At::Whole(_) => Err(Stop::Text(TraceFault::P7)),
     }
 }

@@ -167,6 +167,8 @@ impl TraceReader {
     pub fn into_index(self) -> StepIndex
         ensures { result ≡ self.numbers }
     {
-        self.grammar.into_index()
+        let parts = self.grammar.into_parts();
+        let begun = parts.begun;
+        begun.index
     }
 }

@@ -1,4 +1,4 @@
-use Rattle.std.proofs.Common.{refl, ap}
+use Rattle.std.proofs.Common.{refl}
 use Rattle.qbf_text.specs.Passing.{LeadOn}
 use Rattle.qbf_text.proofs.PassedNumbers.{passes_none, passes_on}
 use Rattle.qrp.specs.declared.places.At.TheVariants as at
