@@ -49,6 +49,7 @@ impl Buffer {
         }
     }
 
+    /// The bytes that are held back.
     fn as_slice(&self) -> &[u8]
         ensures { result.now ≡ self.now }
     {
