@@ -49,6 +49,7 @@ impl Buffer {
         }
     }
 
+    /// The bytes that are held back.
     fn as_slice(&self) -> &[u8]
         ensures { result.now ≡ self.now }
     {
@@ -112,6 +113,7 @@ impl Buffer {
     }
 
     /// Holds a number back, after a blank, where nothing is held.
+    #[tactic(auto, using(crate::proofs::BufferPart::part, crate::proofs::BufferPart::part_put))]
     fn begin_with_spaced(&mut self, negative: bool, n: u64)
         requires { self.old ≡ [] }
         ensures { self.new ≡ 32 ∷ spelled (Number negative n) }

@@ -26,7 +26,7 @@ fn short_count(n: u64) -> usize
 
 /// How many digits a number has.
 #[inline(always)]
-#[tactic(auto, using(crate::proofs::Fronts::few_digits))]
+#[tactic(auto, using(crate::proofs::Fronts::few_digits, itoa::proofs::Decimal::length_four))]
 fn digit_count(n: u64) -> usize
     ensures count { result ≡ length (decimal n) }
     ensures few { result ≤ 20 }
@@ -57,7 +57,7 @@ pub fn put_digits(bytes: &mut [u8], at: usize, n: u64) -> usize
 /// Puts a blank and a number from a place on, with a minus before the digits if it is negative, and
 /// returns where it ends. There is room for the longest number.
 #[inline(always)]
-#[tactic(auto, using(crate::proofs::Fronts::at_most_one))]
+#[tactic(auto, using(crate::proofs::Fronts::at_most_one, crate::proofs::Fronts::shorter))]
 pub fn put_spaced(bytes: &mut [u8], at: usize, negative: bool, n: u64) -> usize
     requires { at + 22 ≤ length bytes.old }
     ensures end { result ≡ at + length (32 ∷ spelled (Number negative n)) }

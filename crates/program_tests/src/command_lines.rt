@@ -7,6 +7,9 @@ use std::alloc::{AllocError, Global};
 use std::test::Fail;
 
 /// The arguments as a list of texts.
+///
+/// # Errors
+/// If an allocation fails.
 pub fn given(alloc: Global, words: &[&str]) -> Result<Vec<String>, AllocError> {
     let mut list = Vec::new(alloc);
     for word in words {

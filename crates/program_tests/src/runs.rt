@@ -33,6 +33,9 @@ pub fn assert_same<T: Copy + PartialEq + Debug>(
 }
 
 /// Two sinks that have nothing yet.
+///
+/// # Errors
+/// If an allocation fails.
 pub fn sinks(alloc: Global) -> Result<(VecSink, VecSink), Fail> {
     Ok((VecSink::new(alloc, 0)?, VecSink::new(alloc, 0)?))
 }

@@ -161,6 +161,7 @@ impl Place {
     }
 
     /// Goes past the separators that were pulled.
+    #[tactic(auto, using(crate::proofs::Stops::place_skips_more))]
     fn skip_separators(&mut self)
         ensures none { (remaining : Option (List ℕ))
             → PlaceSkips self.old remaining self.new remaining }

@@ -37,21 +37,23 @@ abbrev pub step_numbers : Result Derivation Fault → List ℕ
 step_numbers (Ok t) = numbers t.steps
 step_numbers (Err e) = []
 
--- The struct has the truth that a proof shows, or the fault as for a check; the buffer holds the text of the trimmed trace.
-pub record IsTrimAnswered (rules : Rules) (formula trace old new : List ℕ) (out : QrpVerdict) (returned : ℕ) : Type 0 where
+-- The struct has the truth that a proof shows, or the fault as for a check; and this holds of the trimmed trace, or of the fault.
+pub record IsProofAnswered (rules : Rules) (formula trace : List ℕ) (out : QrpVerdict) (Holds : Result Derivation Fault → Type 0) : Type 0 where
   pub answer : Result Derivation Fault
   pub trimmed : IsTrimmed rules (lent formula) (lent trace) answer
   pub told : out ≡ told_trace answer
   pub named : IfErr answer NamesVariable
-  pub written : IsWritten (trace_text answer) old new returned
+  pub holds : Holds answer
 
--- The same with the numbers of the trimmed trace's steps: they are those of the core.
-pub record IsCoreAnswered (rules : Rules) (formula trace old new : List ℕ) (out : QrpVerdict) (returned : ℕ) : Type 0 where
-  pub answer : Result Derivation Fault
-  pub trimmed : IsTrimmed rules (lent formula) (lent trace) answer
-  pub told : out ≡ told_trace answer
-  pub named : IfErr answer NamesVariable
-  pub listed : IsListed (step_numbers answer) old new returned
+-- The buffer holds the text of the trimmed trace.
+abbrev pub IsTrimAnswered : Rules → List ℕ → List ℕ → List ℕ → List ℕ → QrpVerdict → ℕ → Type 0
+IsTrimAnswered rules formula trace old new out returned =
+    IsProofAnswered rules formula trace out (λ answer. IsWritten (trace_text answer) old new returned)
+
+-- The list holds the numbers of the trimmed trace's steps: they are those of the core.
+abbrev pub IsCoreAnswered : Rules → List ℕ → List ℕ → List ℕ → List ℕ → QrpVerdict → ℕ → Type 0
+IsCoreAnswered rules formula trace old new out returned =
+    IsProofAnswered rules formula trace out (λ answer. IsListed (step_numbers answer) old new returned)
 
 -- the struct where nothing was verified or refused: all zeros
 abbrev pub told_nothing : QrpVerdict

@@ -30,8 +30,10 @@ pub fn verify_lent(alloc: Global, formula: &[u8], trace: &[u8], rules: Rules) ->
     tell(&answer)
 }
 
-/// The trace in these bytes, and what the check of it on the formula in those says, or the first
-/// fault.
+/// The trace in these bytes, and what the check of it on the formula in those says.
+///
+/// # Errors
+/// The first fault.
 fn lent_proof(
     alloc: Global,
     formula: &[u8],
@@ -77,8 +79,10 @@ fn numbers_at(alloc: Global, trace: &Trace, places: &[usize]) -> Result<Vec<u64>
     Ok(numbers)
 }
 
-/// The truth that the proof in these bytes shows, with the text of the trimmed trace, or the first
-/// fault.
+/// The truth that the proof in these bytes shows, with the text of the trimmed trace.
+///
+/// # Errors
+/// The first fault, or C5 if an allocation fails.
 pub fn trim_lent(
     alloc: Global,
     formula: &[u8],
@@ -97,6 +101,9 @@ pub fn trim_lent(
 }
 
 /// The same with the numbers of the core's steps, in the order of the trace.
+///
+/// # Errors
+/// As those of `trim_lent`.
 pub fn list_core(
     alloc: Global,
     formula: &[u8],

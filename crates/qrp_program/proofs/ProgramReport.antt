@@ -1,5 +1,5 @@
 -- From a run over opened files to the report of the program.
-use Rattle.std.proofs.Common.{arith, rules, ◌≡◌, ◌∙◌, ◌<◌, ℕ, List, [], Option, sym, ap, map, length, get_or, Result}
+use Rattle.std.proofs.Common.{arith, rules, ◌≡◌, ◌∙◌, ◌<◌, ℕ, List, [], Option, Some, None, IfSome, inr, sym, ap, map, length, get_or, Result}
 use Rattle.std.proofs.lemmas.Grind.{common_steps}
 use Rattle.std.proofs.lemmas.List.{get_or-map}
 use Rattle.qrp_program.specs.declared.job.Job.{Job}
@@ -8,7 +8,8 @@ use Rattle.qrp_check.specs.declared.verdict.Verified.{Verified}
 use Rattle.qrp_check.specs.declared.verdict.Fault.{Fault}
 use Rattle.qrp_program.specs.Output.{IsOutput, Report}
 use Rattle.qrp_check.specs.Checked.{SourceCall, IsChecked}
-use Rattle.qrp_program.specs.Program.{read, word, IsOnBoth}
+use Rattle.qrp_program.specs.Program.{read, word, IsOnBoth, IsOnFiles, IsProgram, Opens}
+use Rattle.qrp_program.specs.Words.{IsRow}
 
 -- a source that failed never before, of which nothing is told of where it is
 abbrev pub from : Option (List ℕ) → ℕ → ℕ → Type 0 → SourceCall
@@ -28,6 +29,28 @@ module _ (f t : Option (List ℕ)) (m n : ℕ) (p q : Type 0) where
   of_run j a b u r no_a no_b is o = grind (arith, common_steps, output)
 
 -- the word at a place, as it stands in a list of texts
-pub word_is : {A : Type 0} (f : A → List ℕ) (xs : List A) (i : ℕ) (x : A) (text : List ℕ) → i < length xs → x ≡ get_or xs i x → text ≡ f x
+word_is : {A : Type 0} (f : A → List ℕ) (xs : List A) (i : ℕ) (x : A) (text : List ℕ) → i < length xs → x ≡ get_or xs i x → text ≡ f x
     → word (map f xs) i ≡ text
 word_is f xs i x text below is same = get_or-map f xs i x [] below ∙ ap f (sym is) ∙ sym same
+
+-- the report on the files that the words of a row name
+module _ {A : Type 0} (opens : Opens) (bytes : A → List ℕ) (xs : List A) (r : Report) where
+  pub of_both : (j : Job) (i k : ℕ) (trace : Option ℕ) (x y : A) (first second : List ℕ)
+      → IsRow (map bytes xs) (record { job = j; formula = i; trace = trace })
+      → (i < length xs) × IfSome trace (λ t. t < length xs) → trace ≡ Some k
+      → x ≡ get_or xs i x → first ≡ bytes x → y ≡ get_or xs k y → second ≡ bytes y
+      → IsOnFiles opens j first (Some second) r → IsProgram opens (map bytes xs) r
+  of_both j i k trace x y first second row within is is_x same_x is_y same_y on =
+      let inside = rw is at within in
+      inr (
+        record { job = j; formula = i; trace = Some k },
+        rw is at row,
+        rw (word_is bytes xs i x first inside.0 is_x same_x, word_is bytes xs k y second inside.1 is_y same_y) on,
+      )
+
+  pub of_formula : (j : Job) (i : ℕ) (trace : Option ℕ) (x : A) (first : List ℕ)
+      → IsRow (map bytes xs) (record { job = j; formula = i; trace = trace })
+      → (i < length xs) × IfSome trace (λ t. t < length xs) → trace ≡ None → x ≡ get_or xs i x → first ≡ bytes x
+      → IsOnFiles opens j first None r → IsProgram opens (map bytes xs) r
+  of_formula j i trace x first row within is is_x same_x on =
+      inr (record { job = j; formula = i; trace = None }, rw is at row, rw (word_is bytes xs i x first within.0 is_x same_x) on)

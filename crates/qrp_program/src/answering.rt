@@ -1,10 +1,13 @@
 //! From the command line to a run over files.
 
-ghost use Rattle.std.specs.Prelude.{◌≡◌, ℕ, Some, None, [], map, IfOk, IfErr};
+ghost use Rattle.std.specs.Prelude.{◌≡◌, Some, None, Ok, Err, map, IfOk, IfErr};
 ghost use Rattle.std.specs.String.{string_bytes};
+ghost use Rattle.qrp_program.specs.declared.job.Job.{Job};
+ghost use Rattle.qrp_program.specs.declared.unopened.Unopened.{Unopened};
 ghost use Rattle.qrp_program.specs.Lines.{start_line, start_status};
 ghost use Rattle.qrp_program.specs.Output.{Report, Errors, IsSent, IsReported, refusals};
-ghost use Rattle.qrp_program.specs.Program.{start_report, IsOnFiles, IsProgram};
+ghost use Rattle.qrp_program.specs.Program.{not_opened, start_report};
+ghost use Rattle.qrp_program.specs.Program.{IsOnBoth, IsOnFiles, IsProgram};
 
 use crate::job::Job;
 use crate::open::Open;
@@ -36,72 +39,38 @@ fn refuse<O: Sink, E: Sink>(job: Job, start: Start, out: &mut O, err: &mut E) ->
     }
 }
 
-/// Does a job on a formula and a trace. Both are opened before anything is read, the formula first.
-fn on_both<F: Open, O: Sink, E: Sink>(
-    alloc: Global,
-    files: &F,
-    job: Job,
-    paths: (&str, &str),
-    out: &mut O,
-    err: &mut E,
-) -> Status
-    ensures { (r : Report)
-        × IsOnFiles (F.opens files.now) job paths.entry.0.now (Some paths.entry.1.now) r
-        × IsReported O.Sink out.old out.new E.Sink err.old err.new r result }
-{
-    let mut formula = match files.open(paths.0) {
-        Ok(file) => file,
-        Err(fault) => return refuse(job, fault.start(Start::NoFormula), out, err),
-    };
-    let mut trace = match files.open(paths.1) {
-        Ok(file) => file,
-        Err(fault) => return refuse(job, fault.start(Start::NoTrace), out, err),
-    };
-    run(alloc, job, &mut formula, &mut trace, out, err)
-}
-
-/// Does a job on a formula alone.
-fn on_formula<F: Open, O: Sink, E: Sink>(
-    alloc: Global,
-    files: &F,
-    job: Job,
-    path: &str,
-    out: &mut O,
-    err: &mut E,
-) -> Status
-    ensures { (r : Report) × IsOnFiles (F.opens files.now) job path.now None r
-        × IsReported O.Sink out.old out.new E.Sink err.old err.new r result }
+/// Opens a file.
+///
+/// # Errors
+/// How the program ends where it is not opened; `no_file` if it cannot be.
+fn open_file<F: Open>(files: &F, path: &str, no_file: Start) -> Result<F::File, Start>
+    ensures file { IfOk result (λ f. F.opens files.now path.now (Ok (F.File.remaining f))) }
+    ensures failures { IfOk result (λ f. F.File.failures f ≡ 0) }
+    ensures refused { IfErr result (λ start. (e : Unopened)
+        × F.opens files.now path.now (Err e) × (start ≡ not_opened no_file e)) }
 {
     match files.open(path) {
-        Ok(mut formula) => {
-            let mut no_trace = SliceSource::new(&[]);
-            run(alloc, job, &mut formula, &mut no_trace, out, err)
-        }
-        Err(fault) => refuse(job, fault.start(Start::NoFormula), out, err),
+        Ok(file) => Ok(file),
+        Err(fault) => Err(fault.start(no_file)),
     }
 }
 
-/// Does what the arguments ask for, as `program` says.
-fn answer<F: Open, O: Sink, E: Sink>(
-    alloc: Global,
-    files: &F,
-    words: &[String],
-    out: &mut O,
-    err: &mut E,
-) -> Status
-    ensures { (r : Report) × IsProgram (F.opens files.now) (map (λ w. string_bytes w) words.now) r
-        × IsReported O.Sink out.old out.new E.Sink err.old err.new r result }
+/// Opens the files of a formula and a trace, the formula first.
+///
+/// # Errors
+/// How the program ends where one of them is not opened.
+fn open_both<F: Open>(files: &F, formula: &str, trace: &str) -> Result<(F::File, F::File), Start>
+    ensures opened { IfOk result (λ f. (job : Job) (r : Report)
+        → IsOnBoth job (F.File.remaining f.0) (F.File.remaining f.1) r
+        → IsOnFiles (F.opens files.now) job formula.now (Some trace.now) r) }
+    ensures failures { IfOk result
+        (λ f. (F.File.failures f.0 ≡ 0) × (F.File.failures f.1 ≡ 0)) }
+    ensures refused { IfErr result (λ start. (job : Job) → IsOnFiles (F.opens files.now) job
+        formula.now (Some trace.now) (start_report (refusals job) start)) }
 {
-    match request(words) {
-        Some((job, formula, Some(trace))) => {
-            let paths = (words[formula].as_str(), words[trace].as_str());
-            on_both(alloc, files, job, paths, out, err)
-        }
-        Some((job, formula, None)) => {
-            on_formula(alloc, files, job, words[formula].as_str(), out, err)
-        }
-        None => stop(err, Start::Usage),
-    }
+    let formula = open_file(files, formula, Start::NoFormula)?;
+    let trace = open_file(files, trace, Start::NoTrace)?;
+    Ok((formula, trace))
 }
 
 /// The whole program, but for where its arguments, its files and its sinks come from: does what the
@@ -127,8 +96,27 @@ pub fn program<F: Open, O: Sink, E: Sink>(
     ensures no_words { IfErr words (λ start. IsReported O.Sink out.old out.new E.Sink err.old
         err.new (start_report Errors start) result) }
 {
-    match words {
-        Ok(words) => answer(alloc, files, &words, out, err),
-        Err(start) => stop(err, start),
+    let words = match words {
+        Ok(words) => words,
+        Err(start) => return stop(err, start),
+    };
+    let texts = words.as_slice();
+    match request(texts) {
+        Some((job, formula, Some(trace))) => {
+            match open_both(files, texts[formula].as_str(), texts[trace].as_str()) {
+                Ok((mut formula, mut trace)) => run(alloc, job, &mut formula, &mut trace, out, err),
+                Err(start) => refuse(job, start, out, err),
+            }
+        }
+        Some((job, formula, None)) => {
+            match open_file(files, texts[formula].as_str(), Start::NoFormula) {
+                Ok(mut formula) => {
+                    let mut no_trace = SliceSource::new(&[]);
+                    run(alloc, job, &mut formula, &mut no_trace, out, err)
+                }
+                Err(start) => refuse(job, start, out, err),
+            }
+        }
+        None => stop(err, Start::Usage),
     }
 }

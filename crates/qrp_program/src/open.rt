@@ -19,6 +19,9 @@ pub trait Open {
     ghost opens: { Self → List ℕ → Result (Option (List ℕ)) Unopened → Type 0 };
 
     /// Opens a file, of which no more than `LIMIT` bytes are read.
+    ///
+    /// # Errors
+    /// Why it is not opened.
     fn open(&self, path: &str) -> Result<Self::File, Unopened>
         ensures file { IfOk result (λ f. opens self.now path.now (Ok (Self.File.remaining f))) }
         ensures bound { IfOk result (λ f. Self.File.bound f ≡ 4611686018427387904) }

@@ -1,6 +1,5 @@
 -- The fault of a refusal, by its numbers.
-use Rattle.std.proofs.Common.{rules}
-use Rattle.std.proofs.Common.{◌≡◌, ◌∙◌, ◌⊎◌, ℕ, zero, suc, ◌+◌, ◌<◌, ◌≤◌, List, [], ◌∷◌, map, length, inl, inr, refl, arith, sym, subst}
+use Rattle.std.proofs.Common.{rules, ◌≡◌, ◌∙◌, ◌⊎◌, ℕ, zero, suc, ◌+◌, ◌<◌, ◌≤◌, List, [], ◌∷◌, map, length, inl, inr, refl, arith, sym, subst}
 use Rattle.std.proofs.lemmas.Bool.{cases_eq}
 use Rattle.qdimacs.specs.declared.fault.FormulaFault.{FormulaFault}
 use Rattle.qdimacs.specs.declared.fault.FormulaFault.TheVariants.{F1, F2, F3, F4, F5, F6, F7, F8, F9}
@@ -13,8 +12,24 @@ use Rattle.qrp_check.specs.declared.verdict.Fault.{Fault}
 use Rattle.qrp_check.specs.declared.verdict.Fault.TheVariants as fault
 use Rattle.step_index.specs.Numbers.{count_from}
 use Rattle.qrp_report.specs.declared.refusal.Refusal.{Refusal}
-use Rattle.qrp_report.specs.OfFaults.{NamesVariable, IsOfFault, IsOfText, IsOfSet, IsOfWhole, IsOfStep}
+use Rattle.qrp_report.specs.OfFaults.{NamesVariable, IsOfFault}
 use Rattle.qrp_report.specs.Refusals.{formula_number, trace_number, rule_number, refusal, refusal_of}
+
+-- by its numbers, a refusal is that of a fault of a text: F1 to F9, P1 to P9
+abbrev pub IsOfText : Refusal → Type 0
+IsOfText r = ((r.letter ≡ 70) ⊎ (r.letter ≡ 80)) × (1 ≤ r.number) × (r.number ≤ 9) × (r.rule ≡ 0)
+
+-- of a variable in a set: C1 to C3
+abbrev pub IsOfSet : Refusal → Type 0
+IsOfSet r = (r.letter ≡ 67) × (1 ≤ r.number) × (r.number ≤ 3) × (r.rule ≡ 0) × (1 ≤ r.position) × (r.position ≤ 2147483647)
+
+-- of a missing goal or of memory: C4, C5
+abbrev pub IsOfWhole : Refusal → Type 0
+IsOfWhole r = (r.letter ≡ 67) × (4 ≤ r.number) × (r.number ≤ 5) × (r.rule ≡ 0) × (r.position ≡ 0)
+
+-- of a step: C6 with S1 to S12
+abbrev pub IsOfStep : Refusal → Type 0
+IsOfStep r = (r.letter ≡ 67) × (r.number ≡ 6) × (1 ≤ r.rule) × (r.rule ≤ 12)
 
 -- the value of each number, where the numbers of all values are counted from the first
 value_of : {A : Type 0} (number : A → ℕ) (all : List A) (first n : ℕ) → map number all ≡ count_from first (length all)
@@ -57,7 +72,7 @@ of_whole l n s p (is, low, high, none, no_place) = absurd (omega (arith, low, hi
 of_step : (r : Refusal) → IsOfStep r → IsOfFault r
 of_step r (is, six, low, high) = let w = rule_of r.rule low high in (fault.Check (C6 r.position w.0), tt, rw (is, six, w.1) refl)
 
--- by one of the four tables
+-- of any fault
 abbrev pub HasNumbers : Refusal → Type 0
 HasNumbers r = IsOfText r ⊎ (IsOfSet r ⊎ (IsOfWhole r ⊎ IsOfStep r))
 

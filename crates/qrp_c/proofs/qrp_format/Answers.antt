@@ -1,24 +1,20 @@
-use Rattle.std.proofs.Common.{◌≡◌, subst, Ok, Err, List, ℕ}
-use Rattle.qdimacs.specs.Grammar.{text}
-use Rattle.qrp_memory.specs.Buffers.{IsWritten}
+use Rattle.std.proofs.Common.{Ok, Err}
 use Rattle.qrp_c.proofs.qrp_format.Goals as goal
 
 pub returns-in-Ok : goal.returns-in-Ok
 returns-in-Ok c =
     let found = c.in-Ok.ensures.ok in
-    let is : c.bytes.result.now ≡ text found.0 = cc (c.bytes.ensures.bytes, found.2) in
     record {
       answer = Ok found.0;
       reads = found.1;
       told = c.tell_nothing.ensures;
-      written = subst (λ (t : List ℕ). IsWritten t c.args.buffer.now c.put_text.new.buffer c.put_text.result) is c.put_text.ensures.written;
+      written = rw (c.bytes.ensures.bytes, found.2) at c.put_text.ensures.written;
     }
 
 pub returns-in-Err : goal.returns-in-Err
-returns-in-Err c =
-    record {
-      answer = Err (c.in-Err.fault, c.in-Err.line);
-      reads = c.in-Err.ensures.err;
-      told = c.tell_fault.ensures.told;
-      written = c.put_text-in-Err.ensures.written;
-    }
+returns-in-Err c = record {
+  answer = Err (c.in-Err.fault, c.in-Err.line);
+  reads = c.in-Err.ensures.err;
+  told = c.tell_fault.ensures.told;
+  written = c.put_text-in-Err.ensures.written;
+}

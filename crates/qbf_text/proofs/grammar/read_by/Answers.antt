@@ -1,4 +1,4 @@
-use Rattle.qbf_text.proofs.Words.{common_steps, ◌≡◌, true, false, arith, sym, ◌∙◌, ahead, left, reads_from, tokens_next}
+use Rattle.qbf_text.proofs.Words.{common_steps, ◌≡◌, true, false, arith, sym, ◌∙◌, left, reads_from}
 use Rattle.qbf_text.proofs.OneToken.{leads_same, leads_then, goes, ends, stops, same_state, ready_still, unfailed}
 use Rattle.qbf_text.proofs.Stops.{so_far_none, known_so_far, so_far_goes, stops_behind}
 use Rattle.qbf_text.proofs.grammar.read_by.Goals as goal
@@ -15,17 +15,13 @@ tokens-preserved g c =
     let h = c.in_ok-handed.ensures in
     let s = c.hand_over.new.scanner in
     let none = rw c.in-None.is at h.reads at_hand in
-    let so_far = leads_then whole (reads_from row (g.G.Grammar.place c.tokens.grammar) (left c.tokens.scanner at_hand))
-    (reads_from row (g.G.Grammar.place c.hand_over.new.grammar) (left s at_hand)) c.tokens.invariant.so_far none.1 in
-    let read = known_so_far row first (g.G.Grammar.place c.tokens.grammar) (g.G.Grammar.place c.hand_over.new.grammar)
-    (tokens_next c.args.scanner.now) (tokens_next c.tokens.scanner) (tokens_next s)
-    (ahead c.args.scanner.now.pending (g.S.Source.remaining c.args.source.now)) (ahead c.tokens.scanner.pending at_hand)
-    (ahead s.pending at_hand) c.tokens.invariant.stops none.0 in
+    let so_far = leads_then whole _ _ c.tokens.invariant.so_far none.1 in
+    let read = known_so_far row first _ _ _ _ _ _ _ _ c.tokens.invariant.stops none.0 in
     let ready = same_state c.tokens.scanner s h.state c.tokens.invariant.ready in
     record {
       so_far = goes row _ _ whole _ _ _ so_far c.in_ok-token.ensures.token
           (rw c.in-Ok-More.field-0-is at c.in-Ok-More.ensures.row) (rw c.in-Ok-More.field-0-is at c.in-Ok-More.ensures.more);
-      stops = so_far_goes row first _ _ (tokens_next c.args.scanner.now) (tokens_next s) _ (c.in_ok-token.token, c.in_ok-token.line) _ _ _
+      stops = so_far_goes row first _ _ _ _ _ (c.in_ok-token.token, c.in_ok-token.line) _ _ _
           (rw c.in-Ok-More.field-0-is at c.in-Ok-More.ensures.row) read
           (c.in_ok-token.ensures.takes (rw c.in-Ok-More.field-0-is at c.in-Ok-More.ensures.more));
       ready = unfailed s c.next_token.new.self at_hand (g.S.Source.remaining c.next_token.new.source) ready c.in_ok-token.ensures.ready
@@ -42,9 +38,7 @@ returns-in-Ok-Done-clause-reads g c =
     let at_hand = g.S.Source.remaining c.tokens.source in
     let none = rw c.in-None.is at c.in_ok-handed.ensures.reads at_hand in
     let whole = reads_from row (g.G.Grammar.place c.args.grammar.now) (left c.args.scanner.now (g.S.Source.remaining c.args.source.now)) in
-    let so_far = leads_then whole (reads_from row (g.G.Grammar.place c.tokens.grammar) (left c.tokens.scanner at_hand))
-    (reads_from row (g.G.Grammar.place c.hand_over.new.grammar) (left c.hand_over.new.scanner at_hand)) c.tokens.invariant.so_far
-    none.1 in
+    let so_far = leads_then whole _ _ c.tokens.invariant.so_far none.1 in
     ends row _ _ _ whole _ _ _ so_far c.in_ok-token.ensures.token (rw c.in-Ok-Done.field-0-is at c.in-Ok-Done.ensures.row)
 
 pub returns-in-Err-Text-clause-reads : goal.returns-in-Err-Text-clause-reads
@@ -53,9 +47,7 @@ returns-in-Err-Text-clause-reads g c =
     let at_hand = g.S.Source.remaining c.tokens.source in
     let none = rw c.in-None.is at c.in_ok-handed.ensures.reads at_hand in
     let whole = reads_from row (g.G.Grammar.place c.args.grammar.now) (left c.args.scanner.now (g.S.Source.remaining c.args.source.now)) in
-    let so_far = leads_then whole (reads_from row (g.G.Grammar.place c.tokens.grammar) (left c.tokens.scanner at_hand))
-    (reads_from row (g.G.Grammar.place c.hand_over.new.grammar) (left c.hand_over.new.scanner at_hand)) c.tokens.invariant.so_far
-    none.1 in
+    let so_far = leads_then whole _ _ c.tokens.invariant.so_far none.1 in
     stops row _ _ whole _ _ (c.in_ok-token.token, c.in_ok-token.line) so_far c.in_ok-token.ensures.token
     (rw c.in-Err-Text.field-0-is at c.in-Err-Text.ensures.row)
 
@@ -68,18 +60,12 @@ returns-in-Ok-Done-clause-stops g c =
     let h = c.hand_over.new in
     let ends_so = rw c.in-Ok-Done.field-0-is at c.in-Ok-Done.ensures.row in
     let s = c.next_token.new.self in
-    let read = known_so_far row first (g.G.Grammar.place c.tokens.grammar) (g.G.Grammar.place h.grammar)
-    (tokens_next c.args.scanner.now) (tokens_next c.tokens.scanner) (tokens_next h.scanner)
-    (ahead c.args.scanner.now.pending (g.S.Source.remaining c.args.source.now)) (ahead c.tokens.scanner.pending at_hand)
-    (ahead h.scanner.pending at_hand) c.tokens.invariant.stops none.0 in (
+    let read = known_so_far row first _ _ _ _ _ _ _ _ c.tokens.invariant.stops none.0 in (
       g.G.Grammar.place h.grammar,
       c.in_ok-token.token,
       ends_so,
       λ open_. (
-        stops_behind row first (g.G.Grammar.place h.grammar)
-            (g.G.Grammar.place c.take.new.self) c.in-Ok-Done.output (tokens_next c.args.scanner.now) (tokens_next h.scanner)
-            (tokens_next s) (c.in_ok-token.token, c.in_ok-token.line) _ _ _
-            ends_so open_ read (c.in_ok-token.ensures.takes open_),
+        stops_behind row first _ _ c.in-Ok-Done.output _ _ _ _ _ _ _ ends_so open_ read (c.in_ok-token.ensures.takes open_),
         c.in_ok-token.ensures.few open_,
       ),
     )
@@ -90,8 +76,7 @@ returns-in-Some-clause-reads g c =
     let at_hand = g.S.Source.remaining c.tokens.source in
     let last = rw c.in-Some.is at c.in_ok-handed.ensures.reads at_hand in
     let whole = reads_from row (g.G.Grammar.place c.args.grammar.now) (left c.args.scanner.now (g.S.Source.remaining c.args.source.now)) in
-    let so_far = leads_then whole (reads_from row (g.G.Grammar.place c.tokens.grammar) (left c.tokens.scanner at_hand))
-    (reads_from row last.last (left last.mid at_hand)) c.tokens.invariant.so_far last.leads.1 in
+    let so_far = leads_then whole _ _ c.tokens.invariant.so_far last.leads.1 in
     ends row _ _ _ whole _ _ _ so_far last.gives last.ends
 
 pub returns-in-Some-clause-follows : goal.returns-in-Some-clause-follows
@@ -111,16 +96,12 @@ returns-in-Some-clause-stops g c =
     let at_hand = g.S.Source.remaining c.tokens.source in
     let h = c.hand_over.new in
     let last = rw c.in-Some.is at c.in_ok-handed.ensures.reads at_hand in
-    let read = known_so_far row first (g.G.Grammar.place c.tokens.grammar) last.last
-    (tokens_next c.args.scanner.now) (tokens_next c.tokens.scanner) (tokens_next last.mid)
-    (ahead c.args.scanner.now.pending (g.S.Source.remaining c.args.source.now)) (ahead c.tokens.scanner.pending at_hand)
-    (ahead last.mid.pending at_hand) c.tokens.invariant.stops last.leads.0 in (
+    let read = known_so_far row first _ _ _ _ _ _ _ _ c.tokens.invariant.stops last.leads.0 in (
       last.last,
       last.token.0,
       last.ends,
       λ open_. (
-        stops_behind row first last.last (g.G.Grammar.place h.grammar) c.in-Some.output (tokens_next c.args.scanner.now)
-            (tokens_next last.mid) (tokens_next h.scanner) last.token _ _ _ last.ends open_ read last.takes,
+        stops_behind row first _ _ c.in-Some.output _ _ _ last.token _ _ _ last.ends open_ read last.takes,
         last.few,
       ),
     )

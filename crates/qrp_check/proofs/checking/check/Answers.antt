@@ -1,4 +1,4 @@
-use Rattle.qrp_check.proofs.Words.{ap, true, false, Clauses, Cubes, side_of}
+use Rattle.qrp_check.proofs.Words.{ap, side_of}
 use Rattle.qrp_check.proofs.CheckAnswers.{proves, refuses, shows, claims_false, claims_true, closed_of}
 use Rattle.qrp_check.proofs.StepsAt.{answer_rises, answer_inside}
 use Rattle.qrp_check.proofs.checking.check.Goals as goal
@@ -8,51 +8,37 @@ returns-in_default-find_goal-clause-refused g c =
     λ other. (rw c.prefix.ensures.value at c.in_default.ensures.none, c.in_default-find_goal.ensures.none)
 
 pub returns-in-Unsat-clause-proves : goal.returns-in-Unsat-clause-proves
-returns-in-Unsat-clause-proves g c =
-    proves c.args.rules c.args.formula.now c.args.sets.now (g.T.Steps.steps c.args.trace.now) c.args.outcome Clauses c.check_core.result
-    (ap side_of c.in-Unsat.is)
+returns-in-Unsat-clause-proves g c = proves _ _ _ _ _ _ _ (ap side_of c.in-Unsat.is)
     (rw c.prefix.ensures.value at c.in_default.ensures.none) c.check_core.ensures.derives
 
 pub returns-in-Unsat-clause-truth : goal.returns-in-Unsat-clause-truth
-returns-in-Unsat-clause-truth g c =
-    shows c.args.rules c.args.formula.now c.args.sets.now (g.T.Steps.steps c.args.trace.now) c.args.outcome Clauses false c.check_core.result
-    (ap side_of c.in-Unsat.is) (claims_false c.args.formula.now)
+returns-in-Unsat-clause-truth g c = shows _ _ _ _ _ _ _ _ (ap side_of c.in-Unsat.is) (claims_false c.args.formula.now)
     (closed_of c.args.formula.now c.prefix.ensures.sound) (returns-in-Unsat-clause-proves g c) c.check_core.ensures.claim
 
 pub returns-in-Unsat-clause-refused : goal.returns-in-Unsat-clause-refused
-returns-in-Unsat-clause-refused g c =
-    refuses c.args.rules c.args.formula.now c.args.sets.now (g.T.Steps.steps c.args.trace.now) c.args.outcome Clauses c.check_core.result
-    (ap side_of c.in-Unsat.is)
+returns-in-Unsat-clause-refused g c = refuses _ c.args.formula.now c.args.sets.now _ _ _ _ (ap side_of c.in-Unsat.is)
     (rw c.prefix.ensures.value at c.in_default.ensures.none) c.check_core.ensures.refused
 
 pub returns-in-Sat-clause-proves : goal.returns-in-Sat-clause-proves
-returns-in-Sat-clause-proves g c =
-    proves c.args.rules c.args.formula.now c.args.sets.now
-    (g.T.Steps.steps c.args.trace.now) c.args.outcome Cubes c.check_core-in-Sat.result (ap side_of c.in-Sat.is)
+returns-in-Sat-clause-proves g c = proves _ _ _ _ _ _ _ (ap side_of c.in-Sat.is)
     (rw c.prefix.ensures.value at c.in_default.ensures.none) c.check_core-in-Sat.ensures.derives
 
 pub returns-in-Sat-clause-truth : goal.returns-in-Sat-clause-truth
-returns-in-Sat-clause-truth g c =
-    shows c.args.rules c.args.formula.now c.args.sets.now (g.T.Steps.steps c.args.trace.now) c.args.outcome Cubes true
-    c.check_core-in-Sat.result (ap side_of c.in-Sat.is) (claims_true c.args.formula.now)
+returns-in-Sat-clause-truth g c = shows _ _ _ _ _ _ _ _ (ap side_of c.in-Sat.is) (claims_true c.args.formula.now)
     (closed_of c.args.formula.now c.prefix.ensures.sound) (returns-in-Sat-clause-proves g c) c.check_core-in-Sat.ensures.claim
 
 pub returns-in-Sat-clause-refused : goal.returns-in-Sat-clause-refused
-returns-in-Sat-clause-refused g c =
-    refuses c.args.rules c.args.formula.now c.args.sets.now
-    (g.T.Steps.steps c.args.trace.now) c.args.outcome Cubes c.check_core-in-Sat.result (ap side_of c.in-Sat.is)
+returns-in-Sat-clause-refused g c = refuses _ c.args.formula.now c.args.sets.now _ _ _ _ (ap side_of c.in-Sat.is)
     (rw c.prefix.ensures.value at c.in_default.ensures.none) c.check_core-in-Sat.ensures.refused
 
 pub returns-in-Unsat-clause-rises : goal.returns-in-Unsat-clause-rises
-returns-in-Unsat-clause-rises g c = answer_rises (g.T.Steps.steps c.args.trace.now) c.check_core.result c.check_core.ensures.core
+returns-in-Unsat-clause-rises g c = answer_rises _ _ c.check_core.ensures.core
 
 pub returns-in-Unsat-clause-within : goal.returns-in-Unsat-clause-within
-returns-in-Unsat-clause-within g c = answer_inside (g.T.Steps.steps c.args.trace.now) c.check_core.result c.check_core.ensures.core
+returns-in-Unsat-clause-within g c = answer_inside _ _ c.check_core.ensures.core
 
 pub returns-in-Sat-clause-rises : goal.returns-in-Sat-clause-rises
-returns-in-Sat-clause-rises g c =
-    answer_rises (g.T.Steps.steps c.args.trace.now) c.check_core-in-Sat.result c.check_core-in-Sat.ensures.core
+returns-in-Sat-clause-rises g c = answer_rises _ _ c.check_core-in-Sat.ensures.core
 
 pub returns-in-Sat-clause-within : goal.returns-in-Sat-clause-within
-returns-in-Sat-clause-within g c =
-    answer_inside (g.T.Steps.steps c.args.trace.now) c.check_core-in-Sat.result c.check_core-in-Sat.ensures.core
+returns-in-Sat-clause-within g c = answer_inside _ _ c.check_core-in-Sat.ensures.core

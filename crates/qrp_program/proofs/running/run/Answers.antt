@@ -27,9 +27,7 @@ returns-in-Ok-find_proof-clause-report g c =
       trim_report c.in-Trim.rules trimmed,
       (
         trimmed,
-        trims c.in-Trim.rules (call_of g.F.Source c.args.formula.now c.find_proof.new.formula)
-            (call_of g.T.Source c.args.trace.now c.find_proof.new.trace) found.whole found.verified found.ensures.checked found.ensures.works
-            found.ensures.reads,
+        trims _ _ _ _ _ found.ensures.checked found.ensures.works found.ensures.reads,
         refl,
       ),
       (c.send_trimmed.ensures, refl),
