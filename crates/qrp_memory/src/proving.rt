@@ -68,6 +68,7 @@ fn text_at(alloc: Global, trace: &Trace, places: &[usize]) -> Result<VecSink, Al
 }
 
 /// The numbers of the steps at these places, in order.
+#[tactic(auto, using(crate::proofs::GivenTexts::next_number))]
 fn numbers_at(alloc: Global, trace: &Trace, places: &[usize]) -> Result<Vec<u64>, AllocError>
     requires { AllByRecursion (λ i. i < length trace.now.steps) places.now }
     ensures { IfOk result (λ v. v.items ≡ numbers (steps_at trace.now.steps places.now)) }
