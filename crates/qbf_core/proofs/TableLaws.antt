@@ -5,6 +5,8 @@ use Rattle.qbf_core.proofs.Words.{lookup, keys_of, AllByRecursion, eq-eqb, slice
 use Rattle.qbf_core.proofs.Words.{IsBeyond, IsTold}
 use Rattle.std.proofs.Common.{if◌then◌else◌, slice_set, length-append}
 use Rattle.std.specs.List.{IsDistinct}
+use Rattle.std.specs.Prelude.{IfSome}
+use Rattle.qbf_core.specs.Places.{FitsTable}
 use Rattle.std.proofs.lemmas.Bool.{ne_eqb}
 use Rattle.qbf_core.proofs.PushedItems.{pushed_cases}
 
@@ -31,10 +33,14 @@ lookup_other n v p [] differs = rw differs refl
 lookup_other n v p (e ∷ es) differs = ap (λ (o : Option Place). cond (nat_eq n e.0) (Some e.1) o) (lookup_other n v p es differs)
 
 -- a number that no variable has is not among the entries
-pub lookup_outside : (n : ℕ) (es : List (ℕ × Place)) → AllByRecursion (λ e. IsVariable e.0) es → (IsVariable n → ⊥)
-    → lookup (nat_eq n) es ≡ None
+pub lookup_outside : (n : ℕ) (es : List (ℕ × Place)) → AllByRecursion FitsTable es → (IsVariable n → ⊥) → lookup (nat_eq n) es ≡ None
 lookup_outside n [] h out = refl
-lookup_outside n (e ∷ es) h out = rw (ne_eqb n e.0 (λ same. out (subst IsVariable (sym same) h.0))) (lookup_outside n es h.1 out)
+lookup_outside n (e ∷ es) h out = rw (ne_eqb n e.0 (λ same. out (subst IsVariable (sym same) h.0.0))) (lookup_outside n es h.1 out)
+
+-- and what is found there can be packed
+pub lookup_fits : (n : ℕ) (es : List (ℕ × Place)) → AllByRecursion FitsTable es → IfSome (lookup (nat_eq n) es) (λ p. p.block < 2147483647)
+lookup_fits n [] h = tt
+lookup_fits n (e ∷ es) h = grind (arith, common_steps, lookup_fits n es h.1, h.0.1)
 
 module _ (table : List (Option Place)) (es : List (ℕ × Place)) (is : IsTable table es) where
   -- one more entry, of the next number

@@ -9,7 +9,7 @@ pub use Rattle.qbf_core.specs.Qbf.{Qbf}
 pub use Rattle.qbf_core.specs.Rules.{Clashes, Clauses, Cubes, IsClean, IsTotal, Side, deciding_quantifier, reduced_quantifier, resolvent}
 pub use Rattle.qbf_core.specs.Sets.{HasMembersOf, IsOrdered}
 pub use Rattle.qbf_core.specs.Truth.{ClauseHolds, IsTrueFormula, IsTrueFrom, MatrixHolds}
-pub use Rattle.qbf_core.specs.declared.prefix.Place.{Place}
+pub use Rattle.qbf_core.specs.declared.place.Place.{Place}
 pub use Rattle.qbf_core.specs.declared.quantifier.Quantifier.{Quantifier}
 pub use Rattle.qbf_core.specs.declared.quantifier.Quantifier.TheVariants.{All, Exists}
 pub use Rattle.std.proofs.Common.{Bool, IsTrue, List, None, Option, Some, [], ap, arith, cond, drop, eqb, false, get_or, inl, inr, is_some}

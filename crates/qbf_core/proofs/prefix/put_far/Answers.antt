@@ -1,6 +1,7 @@
 use Rattle.qbf_core.proofs.Words.{common_steps, ◌≡◌, ◌∙◌, None, sym, ap, subst, arith, is_some, nat_eq, lookup, IsVariable}
 use Rattle.qbf_core.proofs.PrefixLaws.{added, AllByRecursion-push}
 use Rattle.qbf_core.proofs.TableLaws.{beyond_noted, beyond_added}
+use Rattle.qbf_core.specs.Places.{FitsTable}
 use Rattle.qbf_core.proofs.prefix.put_far.Goals as goal
 
 pub returns-then-reached-number-clause-kept : goal.returns-then-reached-number-clause-kept
@@ -18,5 +19,5 @@ returns-clause-within c = λ es told none all.
     let out : lookup (nat_eq c.args.var) c.args.far.now.entries ≡ None =
     told c.args.var (omega (arith, c.if-reached-number.false, c.number.ensures.value)) ∙ none in
     rw (added c.args.far.now c.insert.new.self c.args.var c.args.place (sym (ap is_some out)) c.in_ok-insert.ensures.entries)
-    (AllByRecursion-push (λ e. IsVariable e.0) c.args.far.now.entries (c.args.var, c.args.place) all
-    (subst IsVariable c.number.ensures.value (c.number.ensures.low, c.number.ensures.high)))
+    (AllByRecursion-push FitsTable c.args.far.now.entries (c.args.var, c.args.place) all
+    (subst IsVariable c.number.ensures.value (c.number.ensures.low, c.number.ensures.high), c.requires))

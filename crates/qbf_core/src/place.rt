@@ -1,0 +1,69 @@
+//! Where a prefix has a variable, and the same in four bytes.
+
+ghost use Rattle.std.specs.Prelude.{◌≡◌, ◌<◌, IfSome};
+
+use crate::quantifier::Quantifier;
+use std::marker::Model;
+
+/// A variable's quantifier and the number of its block. There are fewer variables than 2^31, so 32
+/// bits are enough for a block.
+#[derive(Clone, Copy)]
+pub struct Place {
+    pub quantifier: Quantifier,
+    pub block: u32,
+}
+
+/// A place, or that there is none, in four bytes.
+#[derive(Clone, Copy)]
+pub struct Entry {
+    /// 0 for none; else twice the block, and 1 more for `All`, or 2 more for `Exists`.
+    packed: u32,
+}
+
+impl Model for Entry {
+    ghost use Rattle.std.specs.Prelude.{Option};
+    ghost use Rattle.qbf_core.specs.Places.{as_number, as_place};
+    ghost use Rattle.qbf_core.specs.declared.place.Place.{Place};
+
+    ghost Value = { Option Place };
+
+    ghost view = { λ e. as_place e.packed };
+
+    ghost inverse = { λ p. record { packed = as_number p } };
+}
+
+impl Entry {
+    /// Packs a place. The number of its block is below 2^31 - 1.
+    #[inline(always)]
+    pub fn new(place: Option<Place>) -> Entry
+        requires { IfSome place (λ p. p.block < 2147483647) }
+        ensures { result ≡ place }
+    {
+        Entry {
+            packed: match place {
+                Some(Place { quantifier, block }) => match quantifier {
+                    Quantifier::All => 2 * block + 1,
+                    Quantifier::Exists => 2 * block + 2,
+                },
+                None => 0,
+            },
+        }
+    }
+
+    /// The place, or `None` where there is none.
+    #[inline(always)]
+    pub fn place(self) -> Option<Place>
+        ensures { result ≡ self }
+    {
+        let number = self.packed.checked_sub(1)?;
+        let quantifier = if number % 2 == 0 {
+            Quantifier::All
+        } else {
+            Quantifier::Exists
+        };
+        Some(Place {
+            quantifier,
+            block: number / 2,
+        })
+    }
+}
