@@ -1,10 +1,9 @@
 //! The decimal digits that stand at a place of some bytes.
 
-ghost use Rattle.std.specs.Prelude.{◌≡◌, ◌+◌, ◌-◌, ◌*◌, ◌^◌, ◌≤◌, ◌<◌, length, take, drop, slice_index};
+ghost use Rattle.std.specs.Prelude.{◌≡◌, ◌+◌, ◌-◌, ◌*◌, ◌^◌, ◌≤◌, ◌<◌, length, take, drop};
 ghost use Rattle.std.specs.Prelude.{true, false, IfSome};
-ghost use Rattle.std.specs.Char.{is_ascii_digit};
 ghost use Rattle.std.specs.Str.Parse.{digits_value, AllDigits};
-ghost use Rattle.decimal.specs.Digits.{AreDigits, IsWithZeros};
+ghost use Rattle.decimal.specs.Digits.{AreDigits, AreLeadingDigits, IsWithZeros};
 
 use crate::word::{of_len, short};
 
@@ -26,11 +25,7 @@ fn fits(value: u64, digit: u64) -> bool
 #[inline(never)]
 fn by_digit(bytes: &[u8], from: usize) -> (u64, usize)
     requires { from ≤ length bytes.now }
-    ensures within { (from ≤ result.1) × (result.1 ≤ length bytes.now) × (result.1 ≤ from + 20) }
-    ensures digits { AllDigits 10 (take (result.1 - from) (drop from bytes.now)) }
-    ensures value { result.0 ≡ digits_value 10 (take (result.1 - from) (drop from bytes.now)) }
-    ensures longest { result.1 < from + 19 → result.1 < length bytes.now
-        → is_ascii_digit (slice_index bytes.now result.1) ≡ false }
+    ensures { AreLeadingDigits bytes.now from result }
 {
     let rest = &bytes[from..];
     let mut value: u64 = 0;
@@ -111,11 +106,7 @@ pub fn number_between(bytes: &[u8], from: usize, end: usize) -> Option<u64>
 #[inline(always)]
 pub fn digits(bytes: &[u8], from: usize) -> (u64, usize)
     requires { from ≤ length bytes.now }
-    ensures within { (from ≤ result.1) × (result.1 ≤ length bytes.now) × (result.1 ≤ from + 20) }
-    ensures digits { AllDigits 10 (take (result.1 - from) (drop from bytes.now)) }
-    ensures value { result.0 ≡ digits_value 10 (take (result.1 - from) (drop from bytes.now)) }
-    ensures longest { result.1 < from + 19 → result.1 < length bytes.now
-        → is_ascii_digit (slice_index bytes.now result.1) ≡ false }
+    ensures { AreLeadingDigits bytes.now from result }
 {
     match by_word(bytes, from) {
         Some(found) => found,

@@ -33,25 +33,30 @@ one_more r i within before here =
 pub loop-i-preserved : goal.loop-i-preserved
 loop-i-preserved c = grind (arith, common_steps, one_more)
 
-pub returns-clause-longest : goal.returns-clause-longest
-returns-clause-longest c = λ few within.
-    elim c.loop-i-test.branch [
-      | then-loop-i-test+then-i-rest+else-is_ascii_digit w ↦
-          let r = take (length c.args.bytes.now - c.args.from) (drop c.args.from c.args.bytes.now) in
-          let all : length (drop c.args.from c.args.bytes.now) ≤ length c.args.bytes.now - c.args.from =
-          omega (arith, length-drop c.args.from c.args.bytes.now) in
-          let same : get_or r c.loop-i.i 0 ≡ get_or c.args.bytes.now (c.args.from + c.loop-i.i) 0 =
-          ap (λ l. get_or l c.loop-i.i 0) (take_all (length c.args.bytes.now - c.args.from) (drop c.args.from c.args.bytes.now) all)
-          ∙ get_or-drop c.args.from c.args.bytes.now c.loop-i.i 0 in
-          let stop : is_ascii_digit (get_or r c.loop-i.i 0) ≡ false = sym w.is_ascii_digit.ensures.value ∙ w.if-is_ascii_digit.false in
-          subst (λ b. is_ascii_digit b ≡ false) same stop
-      | then-loop-i-test+else-i-rest w ↦ absurd (omega (arith, w.if-i-rest.false))
-      | else-loop-i-test w ↦ absurd (omega (arith, w.loop-i-test.false))
-      | then-loop-i-test+then-i-rest+then-is_ascii_digit+then-not-fits w ↦
-          let r = take (length c.args.bytes.now - c.args.from) (drop c.args.from c.args.bytes.now) in
-          let more = one_more r c.loop-i.i w.if-i-rest.true c.loop-i.invariant.digits w.if-is_ascii_digit.ensures.cases in
-          let first : c.loop-i.i < 19 = omega arith in
-          let fits : c.loop-i.value * 10 + w.from-digit.result < 10 ^ 19 =
-          omega (arith, more.2 first, c.loop-i.invariant.value, w.from-digit.ensures) in
-          absurd (omega (arith, fits, w.fits.ensures.no w.if-not-fits.true))
-    ]
+pub returns : goal.returns
+returns c = record {
+  within = grind (arith, common_steps);
+  digits = grind (arith, common_steps);
+  value = grind (arith, common_steps);
+  longest = λ few within.
+      elim c.loop-i-test.branch [
+        | then-loop-i-test+then-i-rest+else-is_ascii_digit w ↦
+            let r = take (length c.args.bytes.now - c.args.from) (drop c.args.from c.args.bytes.now) in
+            let all : length (drop c.args.from c.args.bytes.now) ≤ length c.args.bytes.now - c.args.from =
+            omega (arith, length-drop c.args.from c.args.bytes.now) in
+            let same : get_or r c.loop-i.i 0 ≡ get_or c.args.bytes.now (c.args.from + c.loop-i.i) 0 =
+            ap (λ l. get_or l c.loop-i.i 0) (take_all (length c.args.bytes.now - c.args.from) (drop c.args.from c.args.bytes.now) all)
+            ∙ get_or-drop c.args.from c.args.bytes.now c.loop-i.i 0 in
+            let stop : is_ascii_digit (get_or r c.loop-i.i 0) ≡ false = sym w.is_ascii_digit.ensures.value ∙ w.if-is_ascii_digit.false in
+            subst (λ b. is_ascii_digit b ≡ false) same stop
+        | then-loop-i-test+else-i-rest w ↦ absurd (omega (arith, w.if-i-rest.false))
+        | else-loop-i-test w ↦ absurd (omega (arith, w.loop-i-test.false))
+        | then-loop-i-test+then-i-rest+then-is_ascii_digit+then-not-fits w ↦
+            let r = take (length c.args.bytes.now - c.args.from) (drop c.args.from c.args.bytes.now) in
+            let more = one_more r c.loop-i.i w.if-i-rest.true c.loop-i.invariant.digits w.if-is_ascii_digit.ensures.cases in
+            let first : c.loop-i.i < 19 = omega arith in
+            let fits : c.loop-i.value * 10 + w.from-digit.result < 10 ^ 19 =
+            omega (arith, more.2 first, c.loop-i.invariant.value, w.from-digit.ensures) in
+            absurd (omega (arith, fits, w.fits.ensures.no w.if-not-fits.true))
+      ];
+}
