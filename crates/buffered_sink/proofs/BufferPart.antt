@@ -19,12 +19,12 @@ part_advance bytes start end n order h =
     sym (part_from (drop start bytes) n (end - (start + n)) (end - start) (omega arith)
     ∙ ap (take (end - (start + n))) (drop-drop n start bytes ∙ ap (λ k. drop k bytes) (omega arith)))
 
--- more bytes behind
+-- more bytes after them
 pub part_append : (bytes more : List ℕ) (start end room k : ℕ) → start ≤ end → end ≤ length bytes → length more ≡ k
     → part (put_mid end room bytes more) start (end + k) ≡ part bytes start end ++ more
 part_append bytes more start end room k order inside long = grind (arith, common_steps, part_from, take-put_mid)
 
--- digits put from the end on, whatever stands behind them
+-- digits put from the end on, whatever stands after them
 pub part_put : (old new ds rest : List ℕ) (start at : ℕ) → start ≤ at → at ≤ length old → take at new ≡ take at old
     → drop at new ≡ ds ++ rest
     → part new start (at + length ds) ≡ part old start at ++ ds

@@ -2,7 +2,7 @@
 use Rattle.qbf_core.proofs.Words.{common_steps, ◌≡◌, ℕ, zero, suc, ◌≤◌, ◌<◌, Bool, true, false, cond, List, [], ◌∷◌, ◌++◌, length, Option}
 use Rattle.qbf_core.proofs.Words.{Some, None, ◌⊎◌, inl, inr, refl, ap, sym, subst, ◌∙◌, arith, slice_get, get_or, take, drop, nat_eq}
 use Rattle.qbf_core.proofs.Words.{lookup, keys_of, AllByRecursion, eq-eqb, slice_get_within, slice_get_read, Place, IsVariable, IsTable}
-use Rattle.qbf_core.proofs.Words.{IsBeyond, IsTold}
+use Rattle.qbf_core.proofs.Words.{IsBeyond, IsIndexOf}
 use Rattle.std.proofs.Common.{if◌then◌else◌, slice_set, length-append}
 use Rattle.std.specs.List.{IsDistinct}
 use Rattle.std.specs.Prelude.{IfSome}
@@ -70,25 +70,25 @@ module _ (table : List (Option Place)) (es : List (ℕ × Place)) (is : IsTable 
       let there : slice_get read n ≡ Some slot = slice_get_read read (length read) n slot refl less at in
       is v slot (ap (slice_get table) (sym number) ∙ (ap (λ xs. slice_get xs n) (sym same) ∙ there))
 
--- one more entry of the table, which the map told so far, or none where it is refused
-pub told_grown : (table : List (Option Place)) (far : List (ℕ × Place)) (given : Bool) (slot : Option Place)
+-- one more entry of the table, which was in the map before, or none where it is refused
+pub index_grown : (table : List (Option Place)) (far : List (ℕ × Place)) (given : Bool) (slot : Option Place)
     → slot ≡ lookup (nat_eq (length table)) far
-    → (es : List (ℕ × Place)) → IsTold table far es → IsTold (if given then table ++ slot ∷ [] else table) far es
-told_grown table far true slot here es told = (
-  table_pushed table es told.0 slot (here ∙ told.1 (length table) (omega arith)),
-  λ n long. told.1 n (omega (arith, long, length-append table (slot ∷ []))),
+    → (es : List (ℕ × Place)) → IsIndexOf table far es → IsIndexOf (if given then table ++ slot ∷ [] else table) far es
+index_grown table far true slot here es index = (
+  table_pushed table es index.0 slot (here ∙ index.1 (length table) (omega arith)),
+  λ n long. index.1 n (omega (arith, long, length-append table (slot ∷ []))),
 )
-told_grown table far false slot here es told = told
+index_grown table far false slot here es index = index
 
 -- a new variable that the table reaches, and one that it does not reach
 pub beyond_noted : (reached : ℕ) (far es : List (ℕ × Place)) (v : ℕ) (p : Place) → v < reached
     → IsBeyond reached far es → IsBeyond reached far (es ++ (v, p) ∷ [])
-beyond_noted reached far es v p less told n long = grind (arith, common_steps, lookup_other)
+beyond_noted reached far es v p less index n long = grind (arith, common_steps, lookup_other)
 
 pub beyond_added : (reached : ℕ) (far es : List (ℕ × Place)) (v : ℕ) (p : Place) → lookup (nat_eq v) far ≡ None
     → lookup (nat_eq v) es ≡ None
     → IsBeyond reached far es → IsBeyond reached (far ++ (v, p) ∷ []) (es ++ (v, p) ∷ [])
-beyond_added reached far es v p out none told n long = grind (arith, common_steps, lookup_new, lookup_other, ne_eqb)
+beyond_added reached far es v p out none index n long = grind (arith, common_steps, lookup_new, lookup_other, ne_eqb)
 
 -- a new variable keeps them distinct
 pub distinct_push : (es : List (ℕ × Place)) (v : ℕ) (p : Place) → lookup (nat_eq v) es ≡ None → IsDistinct nat_eq (keys_of es)

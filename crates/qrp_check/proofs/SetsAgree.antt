@@ -10,7 +10,7 @@ use Rattle.qbf_core.proofs.Bound.{binds_in, in_bound}
 use Rattle.qrp_check.specs.Sets.{set_conditions, PairsAgree, IsPairFault}
 use Rattle.qrp_check.specs.Passed.{IsPassed}
 
--- places of a list with more behind it
+-- places of a list with more after it
 push_at : {A : Type 0} (xs : List A) (y r : A) (i : ℕ) → slice_get (xs ++ y ∷ []) i ≡ Some r
     → ((slice_get xs i ≡ Some r) × (take i (xs ++ y ∷ []) ≡ take i xs)) ⊎ ((r ≡ y) × (take i (xs ++ y ∷ []) ≡ xs))
 push_at [] y r zero e = inr ((let s : r ≡ y = cc e in s), refl)
@@ -127,7 +127,7 @@ fails_more blocks highest n ps qs more fault first second before rest passed =
     assoc : {A : Type 0} (xs ys zs us vs : List A) → (xs ++ ys) ++ (zs ++ (us ++ vs)) ≡ xs ++ (((ys ++ zs) ++ us) ++ vs)
     assoc xs ys zs us vs = simp append_assoc
 
--- of nothing before, and nothing behind
+-- of nothing before, and nothing after
 pub agrees_by_passes : (blocks : List Block) (ps : List (Quantifier × ℕ)) (n : ℕ) → Passes blocks 0 ps n → PairsAgree blocks ps
 agrees_by_passes blocks ps n passes = (passes [] (passed_none blocks)).agree
 

@@ -15,7 +15,7 @@ use Rattle.qrp_rules.specs.declared.rules.Rules.{Rules}
 use Rattle.qrp_check.specs.declared.verdict.Verified.{Verified}
 use Rattle.qrp_check.specs.declared.verdict.Fault.{Fault}
 use Rattle.qrp_check.specs.Proof.{side_of, IsProof, ResultHolds}
-use Rattle.qrp_check.specs.Verdict.{is_sat, IsWantOfMemory, IsFormulaDevice, IsTraceDevice}
+use Rattle.qrp_check.specs.Verdict.{is_sat, IsOutOfMemory, IsFormulaDevice, IsTraceDevice}
 
 -- the bytes spell f, a closed prenex formula, and the trace d
 pub record Spell (formula trace : List ℕ) (f : Qbf) (d : Derivation) : Type 0 where
@@ -34,6 +34,6 @@ pub record IsShown (rules : Rules) (formula trace : List ℕ) : Type 0 where
 pub record Headline (rules : Rules) (formula trace : List ℕ) (answer : Result Verified Fault) : Type 0 where
   pub only : IsOk answer → IsShown rules formula trace
   pub wherever : IsShown rules formula trace
-      → IsOk answer ⊎ (IsWantOfMemory answer ⊎ (IsFormulaDevice answer ⊎ IsTraceDevice answer))
+      → IsOk answer ⊎ (IsOutOfMemory answer ⊎ (IsFormulaDevice answer ⊎ IsTraceDevice answer))
   pub truth : IfOk answer (λ v. (f : Qbf) (d : Derivation) → Spell formula trace f d
       → ResultHolds (side_of d.result) f × (v.truth ≡ is_sat d.result) × (IsTrue v.truth ↔ IsTrueFormula f))

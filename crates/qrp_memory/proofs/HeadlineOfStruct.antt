@@ -4,7 +4,7 @@ use Rattle.qbf_core.specs.Truth.{IsTrueFormula}
 use Rattle.qrp_rules.specs.declared.rules.Rules.{Rules}
 use Rattle.qrp_check.specs.declared.verdict.Verified.{Verified}
 use Rattle.qrp_check.specs.declared.verdict.Fault.{Fault}
-use Rattle.qrp_check.specs.Verdict.{IsWantOfMemory, IsFormulaDevice, IsTraceDevice}
+use Rattle.qrp_check.specs.Verdict.{IsOutOfMemory, IsFormulaDevice, IsTraceDevice}
 use Rattle.qrp_memory.specs.Told.{told, told_fault}
 use Rattle.qrp_memory.specs.Verdicts.{Headline}
 use Rattle.qrp_check.specs.Headline as over_answers
@@ -12,8 +12,8 @@ use Rattle.qrp_check.specs.Headline as over_answers
 not_zero : (e : Fault) → (told_fault e).status ≡ 0 → ⊥
 not_zero e is = search rules
 
-want_is_four : (e : Fault) → IsWantOfMemory (Err e) → (told_fault e).status ≡ 4
-want_is_four e is = search rules
+memory_is_four : (e : Fault) → IsOutOfMemory (Err e) → (told_fault e).status ≡ 4
+memory_is_four e is = search rules
 
 -- the number that tells a truth
 abbrev truth_number : Bool → ℕ
@@ -22,10 +22,10 @@ truth_number b = if b then 1 else 0
 one_is_true : (b : Bool) (A : Type 0) → IsTrue b ↔ A → (truth_number b ≡ 1) ↔ A
 one_is_true b A same = search rules
 
--- no device stands behind it
-want_alone : (answer : Result Verified Fault) (e : Fault) → answer ≡ Err e → (IsFormulaDevice answer → ⊥) → (IsTraceDevice answer → ⊥)
-    → IsOk answer ⊎ (IsWantOfMemory answer ⊎ (IsFormulaDevice answer ⊎ IsTraceDevice answer)) → IsWantOfMemory (Err e)
-want_alone answer e is no_formula no_trace h = search rules
+-- no device is read
+memory_alone : (answer : Result Verified Fault) (e : Fault) → answer ≡ Err e → (IsFormulaDevice answer → ⊥) → (IsTraceDevice answer → ⊥)
+    → IsOk answer ⊎ (IsOutOfMemory answer ⊎ (IsFormulaDevice answer ⊎ IsTraceDevice answer)) → IsOutOfMemory (Err e)
+memory_alone answer e is no_formula no_trace h = search rules
 
 pub headline_told : (rules : Rules) (formula trace : List ℕ) (answer : Result Verified Fault)
     → over_answers.Headline rules formula trace answer
@@ -39,6 +39,6 @@ headline_told rules formula trace (Ok v) h no_formula no_trace = record {
 }
 headline_told rules formula trace (Err e) h no_formula no_trace = record {
   only = λ is. absurd (not_zero e is);
-  wherever = λ shown. inr (want_is_four e (want_alone (Err e) e refl no_formula no_trace (h.wherever shown)));
+  wherever = λ shown. inr (memory_is_four e (memory_alone (Err e) e refl no_formula no_trace (h.wherever shown)));
   truth = λ is. absurd (not_zero e is);
 }

@@ -9,7 +9,7 @@ use Rattle.qrp_rules.specs.declared.rules.Rules.{Rules}
 use Rattle.qrp_check.specs.declared.verdict.Verified.{Verified}
 use Rattle.qrp_check.specs.declared.verdict.Fault.{Fault}
 use Rattle.qrp_check.specs.Proof.{side_of, ResultHolds}
-use Rattle.qrp_check.specs.Verdict.{is_sat, IsVerdict, IsWantOfMemory, IsFormulaDevice, IsTraceDevice, StandsOnLine}
+use Rattle.qrp_check.specs.Verdict.{is_sat, IsVerdict, IsOutOfMemory, IsFormulaDevice, IsTraceDevice, StandsOnLine}
 use Rattle.qrp_check.specs.Headline.{Spell, IsShown}
 use Rattle.qrp_memory.specs.declared.verdict.QrpVerdict.{QrpVerdict}
 use Rattle.qrp_memory.specs.Told.{IsTold}
@@ -25,7 +25,7 @@ pub record Headline (rules : Rules) (formula trace : List ℕ) (out : QrpVerdict
 -- The struct is that of a result: of the verdict on these bytes, or of out of memory, on line 0, and never of a failed device.
 pub record IsAnswered (rules : Rules) (formula trace : List ℕ) (out : QrpVerdict) : Type 0 where
   pub answer : Result Verified Fault
-  pub verdict : IsVerdict rules (read_formula formula) (Some (read_trace trace)) answer ⊎ IsWantOfMemory answer
+  pub verdict : IsVerdict rules (read_formula formula) (Some (read_trace trace)) answer ⊎ IsOutOfMemory answer
   pub lines : IfErr answer StandsOnLine
   pub works : (IsFormulaDevice answer → ⊥) × (IsTraceDevice answer → ⊥)
   pub is : IsTold answer out

@@ -8,16 +8,16 @@ pub returns-then-reached-number-clause-kept : goal.returns-then-reached-number-c
 returns-then-reached-number-clause-kept c = grind (arith, common_steps, beyond_noted)
 
 pub returns-clause-kept : goal.returns-clause-kept
-returns-clause-kept c = λ es told none.
+returns-clause-kept c = λ es index none.
     let out : lookup (nat_eq c.args.var) c.args.far.now.entries ≡ None =
-    told c.args.var (omega (arith, c.if-reached-number.false, c.number.ensures.value)) ∙ none in
+    index c.args.var (omega (arith, c.if-reached-number.false, c.number.ensures.value)) ∙ none in
     rw (added c.args.far.now c.insert.new.self c.args.var c.args.place (sym (ap is_some out)) c.in_ok-insert.ensures.entries)
-    (beyond_added c.args.reached c.args.far.now.entries es c.args.var c.args.place out none told)
+    (beyond_added c.args.reached c.args.far.now.entries es c.args.var c.args.place out none index)
 
 pub returns-clause-within : goal.returns-clause-within
-returns-clause-within c = λ es told none all.
+returns-clause-within c = λ es index none all.
     let out : lookup (nat_eq c.args.var) c.args.far.now.entries ≡ None =
-    told c.args.var (omega (arith, c.if-reached-number.false, c.number.ensures.value)) ∙ none in
+    index c.args.var (omega (arith, c.if-reached-number.false, c.number.ensures.value)) ∙ none in
     rw (added c.args.far.now c.insert.new.self c.args.var c.args.place (sym (ap is_some out)) c.in_ok-insert.ensures.entries)
     (AllByRecursion-push FitsTable c.args.far.now.entries (c.args.var, c.args.place) all
     (subst IsVariable c.number.ensures.value (c.number.ensures.low, c.number.ensures.high), c.requires))
