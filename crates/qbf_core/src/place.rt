@@ -1,6 +1,7 @@
 //! Where a prefix has a variable, and the same in four bytes.
 
 ghost use Rattle.std.specs.Prelude.{◌≡◌, ◌<◌, IfSome};
+ghost use Rattle.qbf_core.specs.declared.literal.TheConstants.{LAST_VARIABLE};
 
 use crate::quantifier::Quantifier;
 use std::marker::Model;
@@ -33,10 +34,10 @@ impl Model for Entry {
 }
 
 impl Entry {
-    /// Packs a place. The number of its block is below 2^31 - 1.
+    /// Packs a place. The number of its block is below `LAST_VARIABLE`.
     #[inline(always)]
     pub fn new(place: Option<Place>) -> Entry
-        requires { IfSome place (λ p. p.block < 2147483647) }
+        requires { IfSome place (λ p. p.block < LAST_VARIABLE) }
         ensures { result ≡ place }
     {
         Entry {
