@@ -82,6 +82,7 @@ fn is_after(block: Option<usize>, place: usize) -> bool
 }
 
 /// Whether a variable has the quantifier, and stands in a block after this one.
+#[inline(always)]
 pub(crate) fn stands_after(
     prefix: &Prefix,
     quantifier: Quantifier,
