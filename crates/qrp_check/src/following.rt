@@ -8,18 +8,10 @@ ghost use Rattle.qrp_check.specs.Marks.{IsMarked};
 
 use crate::fault::CheckFault;
 use crate::premises::find_premises;
-use crate::step::{Context, fault_by_sets, follows_as_written};
+use crate::step::{CheckState, Context, fault_by_sets, follows_as_written};
 use crate::uses::Uses;
 use qrp::Steps;
 use qrp_rules::{InitialSteps, SeenLits, Side};
-
-/// What is kept from one step to the next.
-#[derive(Drop)]
-struct CheckState {
-    uses: Uses,
-    seen: SeenLits,
-    initial: InitialSteps,
-}
 
 /// Follows the step of the core at a place, after those before it.
 fn follow_step<S: Side, T: Steps>(
@@ -40,7 +32,7 @@ fn follow_step<S: Side, T: Steps>(
     let lits = trace.lits(place);
     // Most steps follow as they are written.
     if let Some(premises) = found {
-        if follows_as_written::<S>(context, premises, &mut state.seen, &mut state.initial, lits)? {
+        if follows_as_written::<S>(context, premises, state, lits)? {
             return Ok(());
         }
     }

@@ -1,9 +1,9 @@
 -- Fully reduced forms: a reduct has that of the list it is made from.
-use Rattle.qrp_rules.proofs.Words.{◌≡◌, ◌<◌, ◌≤◌, ◌+◌, ◌↔◌, ℕ, suc, List, [], ◌∷◌, ◌++◌, ◌⊎◌, length, get_or, take, slice_get, Option}
-use Rattle.qrp_rules.proofs.Words.{rules, Some, None, Contains, Bool, IsTrue, refl, sym, ap, subst, ◌∙◌, inl, inr, arith, Contains-push}
-use Rattle.qrp_rules.proofs.Words.{ltb, drop, ◌-◌, true, IsNonDecreasingBy, All, Exists, Literal, ◌∈◌, ◌⊆◌, Block, Binds, Qbf, Side}
+use Rattle.qrp_rules.proofs.Words.{◌≡◌, ◌<◌, ◌≤◌, ◌+◌, ◌↔◌, ℕ, suc, List, [], ◌∷◌, ◌++◌, ◌⊎◌, length, get_or, take, slice_get}
+use Rattle.qrp_rules.proofs.Words.{rules, Some, Contains, Bool, IsTrue, refl, sym, ap, subst, ◌∙◌, inl, inr, arith, Contains-push}
+use Rattle.qrp_rules.proofs.Words.{ltb, drop, ◌-◌, true, IsNonDecreasingBy, Literal, ◌∈◌, ◌⊆◌, Block, Binds, Qbf, Side}
 use Rattle.qrp_rules.proofs.Words.{Clauses, Cubes, IsClean, IsReducible, IsReduct, IsInitial, reduced_quantifier, deciding_quantifier}
-use Rattle.qrp_rules.proofs.Words.{IsOrdered, HasMembersOf, got_in, in_got, ordered_push, IsInnermost, StandsAfter, IsReducedForm}
+use Rattle.qrp_rules.proofs.Words.{IsOrdered, HasMembersOf, got_in, in_got, ordered_push, IsReducedForm}
 use Rattle.qrp_rules.proofs.Words.{HasReductAt, IsIndexBelow, hash_from, hash_of, IndexEntry, slice_get_within}
 use Rattle.std.proofs.lemmas.Bool.{cases_lt}
 use Rattle.std.proofs.lemmas.List.Elements.{Contains-append_left}
@@ -14,7 +14,6 @@ use Rattle.std.specs.List.{AllWithin}
 use Rattle.std.specs.List.Sorted.{IsPermutation}
 use Rattle.qbf_core.proofs.Members.{in_push, push_in}
 use Rattle.qrp_rules.specs.Index.{IsIndex, hash_with}
-use Rattle.qrp_rules.proofs.Reducing.{reducible_after}
 
 -- two ordered lists with the same members are the same
 pub ordered_same : (xs ys : List Literal) → IsOrdered xs → IsOrdered ys → xs ⊆ ys → ys ⊆ xs → xs ≡ ys
@@ -70,28 +69,28 @@ pub form_same : (side : Side) (blocks : List Block) (a b form : List Literal) �
     → IsReducedForm side blocks b form
 form_same side blocks a b form same = form_of_reduct side blocks a b form (record { within = same.1; each = λ l h. inl (same.0 l h) })
 
--- the hash of the literals seen so far that do not stand after the block
-pub record Numbered (blocks : List Block) (block : Option ℕ) (seen : List Literal) (hash : ℕ) : Type 0 where
+-- the hash of the literals seen so far that may not be taken out
+pub record Numbered (May : Literal → Type 0) (seen : List Literal) (hash : ℕ) : Type 0 where
   pub form : List Literal
   pub numbered : hash ≡ hash_from 0 form
   pub ordered : IsOrdered form
-  pub within : (l : Literal) → l ∈ form → (l ∈ seen) × (StandsAfter blocks All block l.var → ⊥)
-  pub whole : (l : Literal) → l ∈ seen → (StandsAfter blocks All block l.var → ⊥) → l ∈ form
+  pub within : (l : Literal) → l ∈ form → (l ∈ seen) × (May l → ⊥)
+  pub whole : (l : Literal) → l ∈ seen → (May l → ⊥) → l ∈ form
 
-pub numbered_skip : (blocks : List Block) (block : Option ℕ) (xs zs : List Literal) (x : Literal) (hash : ℕ)
+pub numbered_skip : (May : Literal → Type 0) (xs zs : List Literal) (x : Literal) (hash : ℕ)
     → ((m : Literal) → m ∈ zs → (m ∈ xs) ⊎ (m ≡ x)) → ((m : Literal) → (m ∈ xs) ⊎ (m ≡ x) → m ∈ zs)
-    → StandsAfter blocks All block x.var → Numbered blocks block xs hash → Numbered blocks block zs hash
-numbered_skip blocks block xs zs x hash cases wider out n = search rules
+    → May x → Numbered May xs hash → Numbered May zs hash
+numbered_skip May xs zs x hash cases wider may n = search rules
 
 number_push : (n : ℕ) (xs : List Literal) (x : Literal) → hash_from n (xs ++ x ∷ []) ≡ hash_with (hash_from n xs) x
 number_push n [] x = refl
 number_push n (y ∷ xs) x = number_push (hash_with n y) xs x
 
-pub numbered_push : (blocks : List Block) (block : Option ℕ) (xs zs : List Literal) (x : Literal) (hash hash' : ℕ)
+pub numbered_push : (May : Literal → Type 0) (xs zs : List Literal) (x : Literal) (hash hash' : ℕ)
     → ((m : Literal) → m ∈ zs → (m ∈ xs) ⊎ (m ≡ x)) → ((m : Literal) → (m ∈ xs) ⊎ (m ≡ x) → m ∈ zs)
     → ((m : Literal) → m ∈ xs → m.var < x.var) → hash' ≡ hash_with hash x
-    → (StandsAfter blocks All block x.var → ⊥) → Numbered blocks block xs hash → Numbered blocks block zs hash'
-numbered_push blocks block xs zs x hash hash' cases wider below is out n = record {
+    → (May x → ⊥) → Numbered May xs hash → Numbered May zs hash'
+numbered_push May xs zs x hash hash' cases wider below is out n = record {
   form = n.form ++ x ∷ [];
   numbered = is ∙ ap (λ (k : ℕ). hash_with k x) n.numbered ∙ sym (number_push 0 n.form x);
   ordered = ordered_push n.form x n.ordered (λ m h. below m (n.within m h).0);
@@ -100,15 +99,15 @@ numbered_push blocks block xs zs x hash hash' cases wider below is out n = recor
 }
 
 -- over the whole list it is the hash of the fully reduced form
-pub numbered_done : (blocks : List Block) (block : Option ℕ) (lits seen : List Literal) (hash : ℕ) → HasMembersOf seen lits
-    → IsInnermost blocks Exists None lits block
-    → Numbered blocks block seen hash → (form : List Literal) × IsReducedForm Clauses blocks lits form × (hash ≡ hash_from 0 form)
-numbered_done blocks block lits seen hash same is n = (
+pub numbered_done : (May : Literal → Type 0) (blocks : List Block) (lits seen : List Literal) (hash : ℕ) → HasMembersOf seen lits
+    → ((l : Literal) → May l ↔ IsReducible Clauses blocks lits l)
+    → Numbered May seen hash → (form : List Literal) × IsReducedForm Clauses blocks lits form × (hash ≡ hash_from 0 form)
+numbered_done May blocks lits seen hash same is n = (
   n.form,
   record {
     ordered = n.ordered;
-    within = search (rules, reducible_after);
-    whole = λ l h out. n.whole l (same.1 l h) (λ stands. out ((reducible_after Clauses blocks All Exists lits block refl refl is l).0 stands));
+    within = search rules;
+    whole = λ l h out. n.whole l (same.1 l h) (λ may. out ((is l).0 may));
   },
   n.numbered,
 )

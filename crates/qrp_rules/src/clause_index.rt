@@ -12,7 +12,7 @@ ghost use Rattle.qrp_rules.specs.Conditions.{IsAnswer, initial_condition};
 ghost use Rattle.qrp_rules.specs.Index.{HasReductAt, IsIndex, IsIndexed, IsReducedForm, hash_with};
 ghost use Rattle.qrp_rules.specs.Index.{hash_from};
 
-use crate::blocks::{innermost, stands_after};
+use crate::blocks::reducible_in;
 use crate::exact::is_exact_reduct;
 use crate::fault::{Holds, Judgement, RuleFault};
 use crate::initial::has_reduct;
@@ -39,10 +39,10 @@ fn reduced_hash(prefix: &Prefix, lits: &[Lit]) -> u64
     ensures { (form : List Literal) × IsReducedForm Clauses prefix.now lits.now form
         × (result ≡ hash_from 0 form) }
 {
-    let block = innermost(prefix, Quantifier::Exists, None, lits);
+    let reducible = reducible_in(prefix, Quantifier::All, lits);
     let mut hash = 0u64;
     for lit in lits {
-        if !stands_after(prefix, Quantifier::All, block, lit.var()) {
+        if !reducible.has(lit.var()) {
             hash = hash_with(hash, *lit);
         }
     }
@@ -180,13 +180,7 @@ impl InitialClauses {
 
     /// Whether literals are, as they are written, a reduct of the clause after the one that was found
     /// last, clean and bound. `false` says nothing.
-    pub(crate) fn is_next(
-        &mut self,
-        alloc: Global,
-        formula: &Formula,
-        seen: &mut SeenLits,
-        lits: &[Lit],
-    ) -> Holds
+    pub(crate) fn is_next(&mut self, formula: &Formula, seen: &mut SeenLits, lits: &[Lit]) -> Holds
         requires { IsIndexed formula.now self.old }
         ensures initial { IfOk result (λ t. IsTrue t → IsInitial Clauses formula.now lits.now) }
         ensures clean { IfOk result (λ t. IsTrue t → IsClean lits.now) }
@@ -202,10 +196,10 @@ impl InitialClauses {
         if clause.first() != lits.first() {
             return Ok(false);
         }
-        if !is_clean(alloc, seen, prefix, clause)? {
+        if !is_clean(seen, prefix, clause)? {
             return Ok(false);
         }
-        if !is_exact_reduct(prefix, Quantifier::All, Quantifier::Exists, clause, lits) {
+        if !is_exact_reduct(prefix, Quantifier::All, clause, lits) {
             return Ok(false);
         }
         self.next = self.next.saturating_add(1);

@@ -20,7 +20,7 @@ fn has_ordered_reduct(prefix: &Prefix, clause: &[Lit], set: &[Lit]) -> bool
     requires set { IsOrdered set.now }
     ensures { IsTrue result ↔ IsReduct Clauses prefix.now clause.now set.now }
 {
-    ordered_reduct_fault_by(prefix, Quantifier::All, Quantifier::Exists, clause, set).is_none()
+    ordered_reduct_fault_by(prefix, Quantifier::All, clause, set).is_none()
 }
 
 /// Whether a clause as written is clean and has the set as a reduct.

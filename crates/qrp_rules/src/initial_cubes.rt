@@ -245,7 +245,7 @@ impl InitialCubes {
         ensures bound { IfOk result (λ t. IsTrue t → AreBound formula.now.blocks lits.now) }
         ensures kept { OnOk result (IsWatching formula.now self.new) }
     {
-        seen.make_room(self.alloc, formula.prefix())?;
+        seen.make_room(formula.prefix())?;
         if !are_bound(formula.prefix(), lits) {
             return Ok(false);
         }

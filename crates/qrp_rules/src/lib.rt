@@ -23,7 +23,7 @@ pub use exact::is_exact_reduct;
 pub use fault::{Judgement, RuleFault};
 pub use initial_steps::InitialSteps;
 pub use reduct::{is_reduct, ordered_reduct_fault, reduct_fault};
-pub use resolvent::{ordered_resolvent_fault, resolvent_fault};
+pub use resolvent::{Resolution, ordered_resolvent_fault, resolvent_fault};
 pub use rules::Rules;
 pub use seen::SeenLits;
 pub use side::{Clauses, Cubes, Side};

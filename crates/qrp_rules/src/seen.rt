@@ -24,6 +24,7 @@ pub(crate) fn code(lit: Lit) -> usize
 /// A set of literals that is emptied by one step. Contracts see which literals it has.
 #[derive(Drop)]
 pub struct SeenLits {
+    alloc: Global,
     /// When each literal was met, by its number.
     stamps: Vec<u32>,
     /// The stamp of the literals that are in the set. It is never 0.
@@ -45,6 +46,7 @@ impl SeenLits {
     /// An empty set. It takes no memory yet, and has no room.
     pub fn new(alloc: Global) -> SeenLits {
         SeenLits {
+            alloc,
             stamps: Vec::new(alloc),
             stamp: 1,
         }
@@ -55,10 +57,10 @@ impl SeenLits {
     ///
     /// # Errors
     /// If an allocation fails.
-    pub(crate) fn make_room(&mut self, alloc: Global, prefix: &Prefix) -> Result<(), AllocError> {
+    pub(crate) fn make_room(&mut self, prefix: &Prefix) -> Result<(), AllocError> {
         if self.stamps.is_empty() {
             let width = prefix.len().saturating_mul(4).saturating_add(4);
-            self.stamps = vec![in alloc; 0; width]?;
+            self.stamps = vec![in self.alloc; 0; width]?;
         }
         Ok(())
     }
@@ -189,12 +191,12 @@ pub(crate) fn find_negated(seen: &SeenLits, lits: &[Lit]) -> Option<Lit>
 }
 
 /// Whether literals are clean. `false` says nothing.
-pub(crate) fn is_clean(alloc: Global, seen: &mut SeenLits, prefix: &Prefix, lits: &[Lit]) -> Holds
+pub(crate) fn is_clean(seen: &mut SeenLits, prefix: &Prefix, lits: &[Lit]) -> Holds
     ensures { IfOk result (λ t. IsTrue t → IsClean lits.now) }
 {
     if is_ordered(lits) {
         return Ok(true);
     }
-    seen.make_room(alloc, prefix)?;
+    seen.make_room(prefix)?;
     Ok(set_if_clean(seen, lits))
 }

@@ -3,12 +3,12 @@
 ghost use Rattle.std.specs.Prelude.{◌≡◌, ◌≤◌, ◌↔◌, ◌⊎◌, IsTrue};
 ghost use Rattle.qbf_core.specs.Literal.{Literal};
 ghost use Rattle.qbf_core.specs.Members.{◌∈◌, ◌⊆◌};
-ghost use Rattle.qbf_core.specs.Rules.{Side, reduced_quantifier, deciding_quantifier};
+ghost use Rattle.qbf_core.specs.Rules.{Side, reduced_quantifier};
 ghost use Rattle.qbf_core.specs.Sets.{IsOrdered};
 ghost use Rattle.qrp_rules.specs.Conditions.{IsAnswer, reduct_conditions};
 ghost use Rattle.qrp_rules.specs.Walks.{Covers, MayLack};
 
-use crate::blocks::{innermost, is_the_pivot, stands_after};
+use crate::blocks::{Reducible, is_the_pivot, reducible_in};
 use crate::fault::RuleFault;
 use qbf_core::{Lit, Prefix, Quantifier, Var};
 
@@ -55,32 +55,19 @@ pub(crate) fn advance_to(lits: &[Lit], lit: Lit) -> (&[Lit], bool)
     (rest, begins(rest, lit))
 }
 
-/// What a reduction may take out: literals of a quantifier after a block, or all if there is none.
-#[derive(Clone, Copy)]
-pub(crate) struct Reducible {
-    pub quantifier: Quantifier,
-    pub block: Option<usize>,
-}
-
 /// Whether a literal of the variable may be missing: of the pivot, or one that reduction takes out.
-pub(crate) fn may_lack(
-    prefix: &Prefix,
-    reducible: Option<Reducible>,
-    pivot: Option<u32>,
-    var: Var,
-) -> bool
-    ensures { IsTrue result ↔ MayLack prefix.now reducible pivot var }
+pub(crate) fn may_lack(reducible: Option<Reducible>, pivot: Option<u32>, var: Var) -> bool
+    ensures { IsTrue result ↔ MayLack reducible.entry pivot var }
 {
     match reducible {
         _ if is_the_pivot(pivot, var) => true,
-        Some(after) => stands_after(prefix, after.quantifier, after.block, var),
+        Some(reducible) => reducible.has(var),
         None => false,
     }
 }
 
 /// Whether each literal of one ordered list is in the other, or may be missing there.
 pub(crate) fn is_covered(
-    prefix: &Prefix,
     reducible: Option<Reducible>,
     pivot: Option<u32>,
     from: &[Lit],
@@ -88,12 +75,12 @@ pub(crate) fn is_covered(
 ) -> bool
     requires from { IsOrdered from.now }
     requires to { IsOrdered to.now }
-    ensures { IsTrue result ↔ Covers prefix.now reducible pivot from.now to.now }
+    ensures { IsTrue result ↔ Covers reducible.entry pivot from.now to.now }
 {
     let mut rest = to;
     for lit in from {
         let (others, kept) = advance_to(rest, *lit);
-        if !kept && !may_lack(prefix, reducible, pivot, lit.var()) {
+        if !kept && !may_lack(reducible, pivot, lit.var()) {
             return false;
         }
         rest = others;
@@ -101,32 +88,26 @@ pub(crate) fn is_covered(
     true
 }
 
-/// Why one ordered list is no reduct of the other, for a side with these quantifiers.
+/// Why one ordered list is no reduct of the other, for the side that reduces this quantifier.
 pub(crate) fn ordered_reduct_fault_by(
     prefix: &Prefix,
     reduced: Quantifier,
-    deciding: Quantifier,
     from: &[Lit],
     to: &[Lit],
 ) -> Option<RuleFault>
     requires from { IsOrdered from.now }
     requires to { IsOrdered to.now }
-    ensures { (side : Side)
-        → reduced ≡ reduced_quantifier side → deciding ≡ deciding_quantifier side
+    ensures { (side : Side) → reduced ≡ reduced_quantifier side
         → IsAnswer (reduct_conditions side prefix.now from.now to.now) result }
 {
-    if !is_covered(prefix, None, None, to, from) {
+    if !is_covered(None, None, to, from) {
         return Some(RuleFault::S6);
     }
     // Nothing is left out, so no block matters.
     if from.len() <= to.len() {
         return None;
     }
-    let reducible = Some(Reducible {
-        quantifier: reduced,
-        block: innermost(prefix, deciding, None, from),
-    });
-    if !is_covered(prefix, reducible, None, from, to) {
+    if !is_covered(Some(reducible_in(prefix, reduced, from)), None, from, to) {
         return Some(RuleFault::S7);
     }
     None

@@ -1,5 +1,5 @@
-use Rattle.qrp_check.proofs.Words.{ℕ, List, None, Some, sym, take, Qbf, Inference, StepFollows, IsInCore, at_place}
-use Rattle.std.proofs.Common.{below_more, Option, subst}
+use Rattle.qrp_check.proofs.Words.{ℕ, List, Some, sym, take, Qbf, Inference, at_place}
+use Rattle.std.proofs.Common.{Option, subst}
 use Rattle.qrp_check.proofs.CoreStep.{found_answer, premises_fit, followed_here}
 use Rattle.std.specs.Prelude.{IfSome}
 use Rattle.qrp_check.specs.Premises.{AreFit}
