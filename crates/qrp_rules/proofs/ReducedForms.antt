@@ -112,7 +112,7 @@ numbered_done May blocks lits seen hash same is n = (
   n.numbered,
 )
 
--- a test of the clause at a place
+-- a test of the clause at a position
 pub reduct_at : (f : Qbf) (blocks : List Block) (set clause : List Literal) (i : ℕ) (t : Bool) → blocks ≡ f.blocks
     → slice_get f.clauses i ≡ Some clause
     → (IsTrue t ↔ (IsClean clause × IsReduct Clauses blocks clause set)) → IsTrue t ↔ HasReductAt f set i
@@ -132,36 +132,36 @@ reduct_at f blocks set clause i t same at told = (
 pub found_initial : (f : Qbf) (set : List Literal) (i : ℕ) → HasReductAt f set i → IsInitial Clauses f set
 found_initial f set i h = (h.clause, got_in f.clauses i h.clause h.here, h.clean, h.reduct)
 
--- so where no place under the hash of a set has it as a reduct, no clause has
+-- so where no position under the hash of a set has it as a reduct, no clause has
 pub none_initial : (f : Qbf) (index : List IndexEntry) (set form : List Literal) (hash : ℕ) → IsIndex f index
     → IsReducedForm Clauses f.blocks set form → hash ≡ hash_from 0 form
-    → ((i : ℕ) → Contains index (record { hash = hash; place = i }) → HasReductAt f set i → ⊥) → IsInitial Clauses f set → ⊥
+    → ((i : ℕ) → Contains index (record { hash = hash; position = i }) → HasReductAt f set i → ⊥) → IsInitial Clauses f set → ⊥
 none_initial f index set form hash is reduced numbered none h =
     let at = in_got f.clauses h.0 h.1 in
     let filed = is (suc at.0) at.0 h.0 (omega arith) at.1 h.2 in
     let same : form ≡ filed.0 = search (rules, form_once, form_of_reduct) in
     let e : hash ≡ hash_from 0 filed.0 = numbered ∙ ap (hash_from 0) same in
-    none at.0 (subst (λ (n : ℕ). Contains index (record { hash = n; place = at.0 })) (sym e) filed.2)
+    none at.0 (subst (λ (n : ℕ). Contains index (record { hash = n; position = at.0 })) (sym e) filed.2)
     (record { clause = h.0; here = at.1; clean = h.2; reduct = h.3 })
 
 -- one more clause is filed, or is not clean
 pub filed_more : (f : Qbf) (index : List IndexEntry) (n hash : ℕ) (clause : List Literal)
     → slice_get f.clauses n ≡ Some clause
     → (IsClean clause → (form : List Literal) × IsReducedForm Clauses f.blocks clause form × (hash ≡ hash_from 0 form))
-    → IsIndexBelow f index n → IsIndexBelow f (index ++ record { hash = hash; place = n } ∷ []) (n + 1)
+    → IsIndexBelow f index n → IsIndexBelow f (index ++ record { hash = hash; position = n } ∷ []) (n + 1)
 filed_more f index n hash clause at told before i c less got clean = elim (cases_lt i n) [
   | inl earlier ↦ (let w = before i c earlier got clean in
-      (w.0, w.1, Contains-append_left index (record { hash = hash; place = n } ∷ []) _ w.2))
+      (w.0, w.1, Contains-append_left index (record { hash = hash; position = n } ∷ []) _ w.2))
   | inr late ↦
       let last : i ≡ n = omega arith in
       let same : c ≡ clause = (let q : Some c ≡ Some clause = sym got ∙ ap (slice_get f.clauses) last ∙ at in cc q) in
       let w = told (subst (λ (z : List Literal). IsClean z) same clean) in
-      let whole : List IndexEntry = index ++ record { hash = hash; place = n } ∷ [] in (
+      let whole : List IndexEntry = index ++ record { hash = hash; position = n } ∷ [] in (
         w.0,
         subst (λ (z : List Literal). IsReducedForm Clauses f.blocks z w.0) (sym same) w.1,
-        subst (λ (k : ℕ). Contains whole (record { hash = k; place = i })) w.2
-            (subst (λ (k : ℕ). Contains whole (record { hash = hash; place = k })) (sym last)
-            (Contains-push index (record { hash = hash; place = n }))),
+        subst (λ (k : ℕ). Contains whole (record { hash = k; position = i })) w.2
+            (subst (λ (k : ℕ). Contains whole (record { hash = hash; position = k })) (sym last)
+            (Contains-push index (record { hash = hash; position = n }))),
       )
 ]
 
@@ -202,9 +202,9 @@ in_rest index first hash x within below is at =
 
 -- where each entry so far was tried and those to come are above the hash, none of the hash is left
 pub none_left : (f : Qbf) (set : List Literal) (rest : List IndexEntry) (hash j : ℕ)
-    → ((k : ℕ) (d : IndexEntry) → k < j → HasReductAt f set (get_or rest k d).place → ⊥)
+    → ((k : ℕ) (d : IndexEntry) → k < j → HasReductAt f set (get_or rest k d).position → ⊥)
     → ((k : ℕ) (d : IndexEntry) → j ≤ k → k < length rest → hash < (get_or rest k d).hash)
-    → (i : ℕ) → Contains rest (record { hash = hash; place = i }) → HasReductAt f set i → ⊥
+    → (i : ℕ) → Contains rest (record { hash = hash; position = i }) → HasReductAt f set i → ⊥
 none_left f set rest hash j tried above i at h = search (rules, cases_lt)
 
 pub above_from : (rest : List IndexEntry) (hash j : ℕ) (x : IndexEntry) → IsNonDecreasingBy hash_of rest → j < length rest

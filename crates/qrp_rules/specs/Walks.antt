@@ -21,7 +21,7 @@ abbrev pub IsThePivot : Option ℕ → ℕ → Type 0
 IsThePivot None v = ⊥
 IsThePivot (Some x) v = v ≡ x
 
--- the place k is after the block, if there is one
+-- the position k is after the block, if there is one
 abbrev pub IsAfter : Option ℕ → ℕ → Type 0
 IsAfter None k = Unit {0}
 IsAfter (Some block) k = block < k
@@ -45,13 +45,13 @@ abbrev pub TakesOut : Reducible → ℕ → Type 0
 TakesOut reducible v = StandsAfter reducible.prefix.now reducible.quantifier reducible.block v
 
 -- a literal of v may be missing: v is left aside, or a reduction may take the literal out
-abbrev pub MayLack : Option Reducible → Option ℕ → ℕ → Type 0
-MayLack None pivot v = IsThePivot pivot v
-MayLack (Some reducible) pivot v = IsThePivot pivot v ⊎ TakesOut reducible v
+abbrev pub MayOmit : Option Reducible → Option ℕ → ℕ → Type 0
+MayOmit None pivot v = IsThePivot pivot v
+MayOmit (Some reducible) pivot v = IsThePivot pivot v ⊎ TakesOut reducible v
 
 -- each literal of `from` is in `to`, or may be missing there
 abbrev pub Covers : Option Reducible → Option ℕ → List Literal → List Literal → Type 0
-Covers reducible pivot from to = (l : Literal) → l ∈ from → (l ∈ to) ⊎ MayLack reducible pivot l.var
+Covers reducible pivot from to = (l : Literal) → l ∈ from → (l ∈ to) ⊎ MayOmit reducible pivot l.var
 
 -- each literal of the resolvent is in `to`, or reducible in the resolvent or in the antecedents
 abbrev pub Accounts : Side → List Block → List Literal → List Literal → List Literal → ℕ → Type 0

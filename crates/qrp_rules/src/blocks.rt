@@ -73,12 +73,12 @@ pub(crate) fn innermost(
     found
 }
 
-/// Whether a place is after the block, if there is one.
-fn is_after(block: Option<usize>, place: usize) -> bool
-    ensures { IsTrue result ↔ IsAfter block place }
+/// Whether a position is after the block, if there is one.
+fn is_after(block: Option<usize>, position: usize) -> bool
+    ensures { IsTrue result ↔ IsAfter block position }
 {
     match block {
-        Some(block) => block < place,
+        Some(block) => block < position,
         None => true,
     }
 }
@@ -94,6 +94,7 @@ pub(crate) struct Reducible<'a> {
 
 impl<'a> Reducible<'a> {
     /// Whether literals of the variable are among them.
+    #[inline(always)]
     pub(crate) fn has(self, var: Var) -> bool
         ensures { IsTrue result ↔ TakesOut self.entry var }
     {

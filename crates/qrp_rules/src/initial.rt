@@ -49,7 +49,7 @@ pub(crate) fn has_reduct(alloc: Global, prefix: &Prefix, clause: &[Lit], set: &[
 }
 
 /// Whether a clause as written has a literal of the set.
-fn shares(clause: &[Lit], set: &[Lit]) -> bool
+fn has_common_literal(clause: &[Lit], set: &[Lit]) -> bool
     requires { IsOrdered set.now }
     ensures { IsTrue result ↔ ((l : Literal) × (l ∈ clause.now) × (l ∈ set.now)) }
 {
@@ -78,7 +78,7 @@ pub(crate) fn initial_cube_fault(formula: &Formula, set: &[Lit]) -> Option<RuleF
 {
     for i in 0..formula.clauses() {
         let clause = formula.clause(i);
-        if shares(clause, set) {
+        if has_common_literal(clause, set) {
             continue;
         }
         if !is_tautology(clause) {

@@ -14,7 +14,7 @@ use crate::blocks::{Reducible, block_if, inner, innermost, is_bound_by, outer};
 use crate::fault::RuleFault;
 use crate::rules::Rules;
 use crate::side::Side;
-use crate::walks::{advance_to, is_covered};
+use crate::walks::{is_subset_up_to, seek_literal};
 use qbf_core::{Lit, LitSet, Prefix, Var};
 
 /// A step of resolution: the literals of two antecedents, and those that are to follow from them.
@@ -44,7 +44,7 @@ fn find_clash(a: &[Lit], b: &[Lit]) -> Clash
     let mut rest = b;
     let mut found: Option<Var> = None;
     for lit in a {
-        let (others, opposite) = advance_to(rest, lit.negated());
+        let (others, opposite) = seek_literal(rest, lit.negated());
         rest = others;
         if opposite {
             match found {
@@ -76,8 +76,8 @@ fn is_within(to: &[Lit], a: &[Lit], b: &[Lit], pivot: Var) -> bool
     let mut left = a;
     let mut right = b;
     for lit in to {
-        let (xs, in_a) = advance_to(left, *lit);
-        let (ys, in_b) = advance_to(right, *lit);
+        let (xs, in_a) = seek_literal(left, *lit);
+        let (ys, in_b) = seek_literal(right, *lit);
         if !is_resolved(in_a, in_b, lit.var(), pivot) {
             return false;
         }
@@ -105,9 +105,9 @@ pub(crate) fn reducible_in_parents<'a, S: Side>(
 {
     let reduced = S::REDUCED;
     let deciding = S::DECIDING;
-    let aside = Some(pivot.number());
-    let beside_a = innermost(prefix, deciding, aside, a);
-    let beside_b = innermost(prefix, deciding, aside, b);
+    let number = Some(pivot.number());
+    let beside_a = innermost(prefix, deciding, number, a);
+    let beside_b = innermost(prefix, deciding, number, b);
     let of_pivot = block_if(prefix, deciding, None, pivot);
     let whole = inner(beside_a, beside_b);
     let in_a = Reducible {
@@ -136,13 +136,13 @@ fn is_reduced<S: Side>(prefix: &Prefix, step: Resolution, pivot: Var) -> bool
         step.entry.to.now pivot }
 {
     let Resolution { a, b, to } = step;
-    let aside = Some(pivot.number());
+    let number = Some(pivot.number());
     // Most steps leave nothing out, and then no block matters.
-    if is_covered(None, aside, a, to) && is_covered(None, aside, b, to) {
+    if is_subset_up_to(None, number, a, to) && is_subset_up_to(None, number, b, to) {
         return true;
     }
     let (in_a, in_b) = reducible_in_parents::<S>(prefix, a, b, pivot);
-    is_covered(Some(in_a), aside, a, to) && is_covered(Some(in_b), aside, b, to)
+    is_subset_up_to(Some(in_a), number, a, to) && is_subset_up_to(Some(in_b), number, b, to)
 }
 
 /// Whether a step may resolve on the variable.

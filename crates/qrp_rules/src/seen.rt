@@ -98,11 +98,11 @@ impl SeenLits {
     pub(crate) fn insert(&mut self, lit: Lit) -> bool
         ensures { (l : Literal) → Has self.new l ↔ (Has self.old l ⊎ ((l ≡ lit) × IsTrue result)) }
     {
-        let place = code(lit);
-        if place >= self.stamps.len() {
+        let position = code(lit);
+        if position >= self.stamps.len() {
             return false;
         }
-        self.stamps[place] = self.stamp;
+        self.stamps[position] = self.stamp;
         true
     }
 
@@ -125,11 +125,11 @@ fn stamp_var(stamps: &mut [u32], stamp: u32, var: Var) -> bool
     ensures kept { (n : ℕ) → get_or stamps.old n 0 ≡ stamp → get_or stamps.new n 0 ≡ stamp }
     ensures upto { AreUpTo stamps.old stamp → AreUpTo stamps.new stamp }
 {
-    let place = var.number() as usize;
-    if place >= stamps.len() || stamps[place] == stamp {
+    let position = var.number() as usize;
+    if position >= stamps.len() || stamps[position] == stamp {
         return false;
     }
-    stamps[place] = stamp;
+    stamps[position] = stamp;
     true
 }
 
