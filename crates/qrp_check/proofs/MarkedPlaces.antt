@@ -1,10 +1,10 @@
--- The marked places, listed from the first on.
+-- The marked positions, listed from the first on.
 use Rattle.qrp_check.proofs.Words.{◌≡◌, ℕ, ◌+◌, ◌<◌, Bool, true, false, List, [], ◌∷◌, ◌++◌, inl, inr, sym, ap, ◌∙◌, subst, length, get_or}
 use Rattle.qrp_check.proofs.Words.{Some, arith, rules, slice_get, slice_get_within, slice_get-get_or, get_or_from_slice_get, cases_eq}
 use Rattle.qrp_check.proofs.Words.{IsMarked, ListsMarked}
 use Rattle.qbf_core.proofs.PushedItems.{pushed_cases, pushed_old, pushed_new}
 
--- what was read says whether the place is marked
+-- what was read says whether the position is marked
 pub marked : (marks : List Bool) (i : ℕ) → i < length marks → get_or marks i false ≡ true → IsMarked marks i
 marked marks i less is = slice_get-get_or marks i false less ∙ ap Some is
 
@@ -14,33 +14,33 @@ unmarked marks i clear m = let f : true ≡ false = sym (get_or_from_slice_get m
 pub listing_none : (marks : List Bool) → ListsMarked marks 0 []
 listing_none marks = search rules
 
-pub listing_skip : (marks : List Bool) (i : ℕ) (places : List ℕ) → (IsMarked marks i → ⊥) → ListsMarked marks i places
-    → ListsMarked marks (i + 1) places
-listing_skip marks i places out listing = record {
+pub listing_skip : (marks : List Bool) (i : ℕ) (positions : List ℕ) → (IsMarked marks i → ⊥) → ListsMarked marks i positions
+    → ListsMarked marks (i + 1) positions
+listing_skip marks i positions out listing = record {
   rises = listing.rises;
   sound = λ k a h. let w = listing.sound k a h in ((let less : a < i = w.0 in omega arith), w.1);
   full = search (rules, cases_eq);
 }
 
-pub listing_push : (marks : List Bool) (i : ℕ) (places : List ℕ) → IsMarked marks i → ListsMarked marks i places
-    → ListsMarked marks (i + 1) (places ++ i ∷ [])
-listing_push marks i places is listing = record {
-  rises = λ k l a b h g less. elim (pushed_cases places i l b g) [
-    | inl old ↦ elim (pushed_cases places i k a h) [
+pub listing_push : (marks : List Bool) (i : ℕ) (positions : List ℕ) → IsMarked marks i → ListsMarked marks i positions
+    → ListsMarked marks (i + 1) (positions ++ i ∷ [])
+listing_push marks i positions is listing = record {
+  rises = λ k l a b h g less. elim (pushed_cases positions i l b g) [
+    | inl old ↦ elim (pushed_cases positions i k a h) [
       | inl older ↦ listing.rises k l a b older old less
-      | inr (e, _) ↦ absurd (let within : l < length places = slice_get_within places l b old in omega arith)
+      | inr (e, _) ↦ absurd (let within : l < length positions = slice_get_within positions l b old in omega arith)
     ]
-    | inr (e, f) ↦ elim (pushed_cases places i k a h) [
+    | inr (e, f) ↦ elim (pushed_cases positions i k a h) [
       | inl older ↦ (let below : a < i = (listing.sound k a older).0 in omega arith)
       | inr (e2, _) ↦ absurd (omega arith)
     ]
   ];
-  sound = λ k a h. elim (pushed_cases places i k a h) [
+  sound = λ k a h. elim (pushed_cases positions i k a h) [
     | inl old ↦ (let w = listing.sound k a old in ((let less : a < i = w.0 in omega arith), w.1))
     | inr (_, f) ↦ (omega arith, subst (λ x. IsMarked marks x) (sym f) is)
   ];
   full = λ a less h. elim (cases_eq a i) [
-    | inl e ↦ (length places, subst (λ x. slice_get (places ++ i ∷ []) (length places) ≡ Some x) (sym e) (pushed_new places i))
-    | inr ne ↦ (let w = listing.full a (omega arith) h in (w.0, pushed_old places i w.0 a w.1))
+    | inl e ↦ (length positions, subst (λ x. slice_get (positions ++ i ∷ []) (length positions) ≡ Some x) (sym e) (pushed_new positions i))
+    | inr ne ↦ (let w = listing.full a (omega arith) h in (w.0, pushed_old positions i w.0 a w.1))
   ];
 }

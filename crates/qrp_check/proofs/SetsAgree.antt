@@ -10,7 +10,7 @@ use Rattle.qbf_core.proofs.Bound.{binds_in, in_bound}
 use Rattle.qrp_check.specs.Sets.{set_conditions, PairsAgree, IsPairFault}
 use Rattle.qrp_check.specs.Passed.{IsPassed}
 
--- places of a list with more after it
+-- positions of a list with more after it
 push_at : {A : Type 0} (xs : List A) (y r : A) (i : ℕ) → slice_get (xs ++ y ∷ []) i ≡ Some r
     → ((slice_get xs i ≡ Some r) × (take i (xs ++ y ∷ []) ≡ take i xs)) ⊎ ((r ≡ y) × (take i (xs ++ y ∷ []) ≡ xs))
 push_at [] y r zero e = inr ((let s : r ≡ y = cc e in s), refl)
@@ -73,7 +73,7 @@ pub fails_one : (blocks : List Block) (highest : ℕ) (p : Quantifier × ℕ) (f
 fails_one blocks highest p fault fails before rest passed =
     let w = here_at before rest p in
     record {
-      place = length before;
+      position = length before;
       pair = p;
       here = w.0;
       first = subst (λ bs. IsFirstFailure (set_conditions blocks bs p) fault) (sym w.1) (fails before passed);

@@ -1,4 +1,4 @@
--- Steps at their places.
+-- Steps at their positions.
 use Rattle.qrp_check.proofs.Words.{◌≡◌, ℕ, suc, ◌<◌, ◌≤◌, true, false, List, [], ◌∷◌, Some, refl, sym, ◌∙◌, length, rules, slice_get}
 use Rattle.qrp_check.proofs.Words.{false≢true, cases_eq, Inference, IsAt, IsGoal, at_place}
 use Rattle.std.proofs.Common.{eqb}

@@ -20,7 +20,7 @@ pub reduced_parents_keep : ReducedParentsKeep
 reduced_parents_keep rules f sets steps result proof = record {
   agree = proof.agree;
   derives = record {
-    place = proof.place;
+    position = proof.position;
     is_goal = proof.is_goal;
     each = λ i core. follows_too rules (side_of result) f steps i (proof.each i core);
   };
@@ -53,7 +53,7 @@ pub more_pivots_keep : MorePivotsKeep
 more_pivots_keep rules wider f sets steps result more proof = record {
   agree = proof.agree;
   derives = record {
-    place = proof.derives.place;
+    position = proof.derives.position;
     is_goal = proof.derives.is_goal;
     each = λ i core. pivots_follow rules wider (side_of result) f steps i more (proof.derives.each i core);
   };

@@ -10,9 +10,9 @@ use Rattle.qrp_check.specs.Core.{IsInCore}
 use Rattle.qrp_check.specs.Proof.{IsFirstFaultyStep}
 use Rattle.qrp_check.specs.declared.fault.CheckFault.{CheckFault}
 use Rattle.qrp_check.specs.declared.fault.CheckFault.TheVariants.{C1, C2, C3, C4, C5, C6}
-use Rattle.qrp_check.specs.declared.following.CheckState.{CheckState}
+use Rattle.qrp_check.specs.declared.step.CheckState.{CheckState}
 
--- the steps of the core before place i follow, and so are clean and bound, and what is kept is of this formula
+-- the steps of the core before position i follow, and so are clean and bound, and what is kept is of this formula
 pub record IsFollowed (rules : Rules) (side : Side) (f : Qbf) (steps : List Inference) (i : ℕ) (state : CheckState) : Type 0 where
   pub follows : (j : ℕ) → j < i → IsInCore steps j → StepFollows rules side f steps j
   pub known : AreKnown f state.initial

@@ -35,6 +35,6 @@ pub record FollowsUnreduced (rules : Rules) (side : Side) (f : Qbf) (steps : Lis
 -- these sets, steps and this result prove the result of f, with parents as they stand
 pub record ProvesUnreduced (rules : Rules) (f : Qbf) (sets : List Block) (steps : List Inference) (result : Outcome) : Type 0 where
   pub agree : SetsAgree f.blocks sets
-  pub place : ℕ
-  pub is_goal : IsGoal steps place
+  pub position : ℕ
+  pub is_goal : IsGoal steps position
   pub each : (i : ℕ) → IsInCore steps i → FollowsUnreduced rules (side_of result) f steps i

@@ -13,17 +13,17 @@ ghost use Rattle.qrp_check.specs.Verdict.{is_sat};
 use crate::agree::sets_fault;
 use crate::fault::CheckFault;
 use crate::following::follow_core;
-use crate::marks::{find_goal, mark_core, marked_places};
+use crate::hints::Hints;
+use crate::marks::{find_goal, mark_core, marked_positions};
 use crate::step::Context;
-use crate::uses::Uses;
 use crate::verdict::Verified;
 use qbf_core::Formula;
 use qrp::{Outcome, QuantSet, Steps};
 use qrp_rules::{Clauses, Cubes, Rules, Side};
 use std::alloc::Global;
 
-/// The places of the core beside what they show, where each of its steps follows from those before
-/// it.
+/// The positions of the core beside what they show, where each of its steps follows from those
+/// before it.
 fn check_core<S: Side, T: Steps>(
     context: Context,
     trace: &T,
@@ -38,12 +38,12 @@ fn check_core<S: Side, T: Steps>(
     ensures refused { IfErr result
         (IsCoreFault context.entry.rules S.side context.entry.formula.now (T.steps trace.now)) }
 {
-    let mut uses = Uses::new(context.alloc, trace);
-    let Ok(marks) = mark_core(context.alloc, trace, goal, &mut uses) else {
+    let mut hints = Hints::new(context.alloc, trace);
+    let Ok(marks) = mark_core(context.alloc, trace, goal, &mut hints) else {
         return Err(CheckFault::C5);
     };
-    follow_core::<S, T>(context, trace, &marks, uses)?;
-    match marked_places(context.alloc, &marks) {
+    follow_core::<S, T>(context, trace, &marks, hints)?;
+    match marked_positions(context.alloc, &marks) {
         Ok(core) => Ok(Verified { truth, core }),
         Err(_) => Err(CheckFault::C5),
     }

@@ -7,46 +7,38 @@ ghost use Rattle.qrp_check.specs.Followed.{IsCoreFault, IsFollowed};
 ghost use Rattle.qrp_check.specs.Marks.{IsMarked};
 
 use crate::fault::CheckFault;
+use crate::hints::Hints;
 use crate::premises::find_premises;
-use crate::step::{Context, fault_by_sets, follows_as_written};
-use crate::uses::Uses;
+use crate::step::{CheckState, Context, fault_by_sets, follows_as_written};
 use qrp::Steps;
 use qrp_rules::{InitialSteps, SeenLits, Side};
 
-/// What is kept from one step to the next.
-#[derive(Drop)]
-struct CheckState {
-    uses: Uses,
-    seen: SeenLits,
-    initial: InitialSteps,
-}
-
-/// Follows the step of the core at a place, after those before it.
+/// Follows the step of the core at a position, after those before it.
 fn follow_step<S: Side, T: Steps>(
     context: Context,
     trace: &T,
-    place: usize,
+    position: usize,
     state: &mut CheckState,
 ) -> Result<(), CheckFault>
-    requires core { IsInCore (T.steps trace.now) place }
+    requires core { IsInCore (T.steps trace.now) position }
     requires before { IsFollowed context.rules S.side context.formula.now (T.steps trace.now)
-        place state.old }
+        position state.old }
     ensures follows { OnOk result (IsFollowed context.entry.rules S.side context.entry.formula.now
-        (T.steps trace.now) (place + 1) state.new) }
+        (T.steps trace.now) (position + 1) state.new) }
     ensures refused { IfErr result
         (IsCoreFault context.entry.rules S.side context.entry.formula.now (T.steps trace.now)) }
 {
-    let found = find_premises(trace, place, &mut state.uses);
-    let lits = trace.lits(place);
+    let found = find_premises(trace, position, &mut state.hints);
+    let lits = trace.lits(position);
     // Most steps follow as they are written.
     if let Some(premises) = found {
-        if follows_as_written::<S>(context, premises, &mut state.seen, &mut state.initial, lits)? {
+        if follows_as_written::<S>(context, premises, state, lits)? {
             return Ok(());
         }
     }
     match fault_by_sets::<S>(context, found, &mut state.initial, lits)? {
         None => Ok(()),
-        Some(fault) => Err(CheckFault::C6(trace.number(place), fault)),
+        Some(fault) => Err(CheckFault::C6(trace.number(position), fault)),
     }
 }
 
@@ -56,7 +48,7 @@ pub(crate) fn follow_core<S: Side, T: Steps>(
     context: Context,
     trace: &T,
     marks: &[bool],
-    uses: Uses,
+    hints: Hints,
 ) -> Result<(), CheckFault>
     requires len { length marks.now ≡ length (T.steps trace.now) }
     requires core { (i : ℕ) → IsMarked marks.now i ↔ IsInCore (T.steps trace.now) i }
@@ -66,13 +58,13 @@ pub(crate) fn follow_core<S: Side, T: Steps>(
         (IsCoreFault context.entry.rules S.side context.entry.formula.now (T.steps trace.now)) }
 {
     let mut state = CheckState {
-        uses,
+        hints,
         seen: SeenLits::new(context.alloc),
         initial: InitialSteps::new(context.alloc),
     };
-    for place in 0..trace.len() {
-        if marks[place] {
-            follow_step::<S, T>(context, trace, place, &mut state)?;
+    for position in 0..trace.len() {
+        if marks[position] {
+            follow_step::<S, T>(context, trace, position, &mut state)?;
         }
     }
     Ok(())

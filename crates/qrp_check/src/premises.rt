@@ -5,7 +5,7 @@ ghost use Rattle.qrp.specs.Inferences.{Inference, IsAt};
 ghost use Rattle.qrp_check.specs.Conditions.{IsNumberOf};
 ghost use Rattle.qrp_check.specs.Premises.{ArePremises, IsPremise};
 
-use crate::uses::Uses;
+use crate::hints::Hints;
 use qbf_core::Lit;
 use qrp::Steps;
 
@@ -20,54 +20,54 @@ pub(crate) enum Premises<'a> {
     Two(&'a [Lit], &'a [Lit]),
 }
 
-/// The literals of the step with a number, if it is before a place. The hint is tried first.
+/// The literals of the step with a number, if it is before a position. The hint is tried first.
 #[inline(always)]
 fn find_premise<T: Steps>(
     trace: &T,
-    place: usize,
+    position: usize,
     number: u64,
     hint: Option<usize>,
 ) -> Option<&[Lit]>
-    requires { place < length (T.steps trace.now) }
+    requires { position < length (T.steps trace.now) }
     ensures some { IfSome result
-        (λ lits. IsPremise (take place (T.steps trace.now)) number lits.now) }
-    ensures none { IfNone result (IsNumberOf (take place (T.steps trace.now)) number → ⊥) }
+        (λ lits. IsPremise (take position (T.steps trace.now)) number lits.now) }
+    ensures none { IfNone result (IsNumberOf (take position (T.steps trace.now)) number → ⊥) }
 {
     if let Some(index) = hint {
-        if index < place && trace.number(index) == number {
+        if index < position && trace.number(index) == number {
             return Some(trace.lits(index));
         }
     }
     let index = trace.position(number)?;
-    if index < place {
+    if index < position {
         Some(trace.lits(index))
     } else {
         None
     }
 }
 
-/// The literals of the antecedents of the step at a place, or `None` if one of them is not the
+/// The literals of the antecedents of the step at a position, or `None` if one of them is not the
 /// number of an earlier step.
 #[inline(always)]
 pub(crate) fn find_premises<'a, T: Steps>(
     trace: &'a T,
-    place: usize,
-    uses: &mut Uses,
+    position: usize,
+    hints: &mut Hints,
 ) -> Option<Premises<'a>>
-    requires { place < length (T.steps trace.now) }
-    ensures { (step : Inference) → IsAt (T.steps trace.now) place step
-        → ArePremises (take place (T.steps trace.now)) step.ants result }
+    requires { position < length (T.steps trace.now) }
+    ensures { (step : Inference) → IsAt (T.steps trace.now) position step
+        → ArePremises (take position (T.steps trace.now)) step.ants result }
 {
-    match trace.ants(place) {
+    match trace.ants(position) {
         [] => Some(Premises::Initial),
         [number] => {
-            let from = find_premise(trace, place, *number, uses.pop_hint())?;
+            let from = find_premise(trace, position, *number, hints.pop())?;
             Some(Premises::One(from))
         }
         [first, second] => {
-            // The places were found in the other order.
-            let b = find_premise(trace, place, *second, uses.pop_hint())?;
-            let a = find_premise(trace, place, *first, uses.pop_hint())?;
+            // The positions were found in the other order.
+            let b = find_premise(trace, position, *second, hints.pop())?;
+            let a = find_premise(trace, position, *first, hints.pop())?;
             Some(Premises::Two(a, b))
         }
         _ => unreachable!(),

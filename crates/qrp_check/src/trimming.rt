@@ -39,15 +39,15 @@ impl<'a> Model for LentStep<'a> {
     ghost view = { λ s. record { number = s.number; lits = s.lits.now; ants = s.ants.now } };
 }
 
-/// The step at a place.
-fn step_at(trace: &Trace, place: usize) -> LentStep<'_>
-    requires { place < length trace.now.steps }
-    ensures { IsAt trace.now.steps place result }
+/// The step at a position.
+fn step_at(trace: &Trace, position: usize) -> LentStep<'_>
+    requires { position < length trace.now.steps }
+    ensures { IsAt trace.now.steps position result }
 {
     LentStep {
-        number: trace.number(place),
-        lits: trace.lits(place),
-        ants: trace.ants(place),
+        number: trace.number(position),
+        lits: trace.lits(position),
+        ants: trace.ants(position),
     }
 }
 
@@ -65,18 +65,18 @@ fn push_sets(alloc: Global, trace: &mut Trace, sets: &[QuantSet]) -> Result<(), 
     Ok(())
 }
 
-/// Adds copies of the steps at some places of a trace to another that has none.
+/// Adds copies of the steps at some positions of a trace to another that has none.
 #[tactic(auto, using(crate::proofs::StepsAt::fresh_at, crate::proofs::StepsAt::next_at, qrp::proofs::Positions::own_numbers, qbf_core::proofs::DistinctNumbers::all_at))]
-fn push_steps(shorter: &mut Trace, trace: &Trace, places: &[usize]) -> Result<(), AllocError>
+fn push_steps(shorter: &mut Trace, trace: &Trace, positions: &[usize]) -> Result<(), AllocError>
     requires sound { IsWellFormed trace.now }
     requires empty { shorter.old.steps ≡ [] }
-    requires rises { IsStrictlyIncreasing places.now }
-    requires within { AllByRecursion (λ i. i < length trace.now.steps) places.now }
+    requires rises { IsStrictlyIncreasing positions.now }
+    requires within { AllByRecursion (λ i. i < length trace.now.steps) positions.now }
     ensures { OnOk result
-        (shorter.new ≡ record shorter.old { steps = steps_at trace.now.steps places.now }) }
+        (shorter.new ≡ record shorter.old { steps = steps_at trace.now.steps positions.now }) }
 {
-    for place in places {
-        let step = step_at(trace, *place);
+    for position in positions {
+        let step = step_at(trace, *position);
         shorter.push_lists(step.number, step.lits, step.ants)?;
     }
     Ok(())
@@ -84,10 +84,10 @@ fn push_steps(shorter: &mut Trace, trace: &Trace, places: &[usize]) -> Result<()
 
 /// The trace without the steps outside the core.
 ///
-/// Sets, result and the number of variables in the header stay as written. The steps at the places
-/// of the core stay in their order, with their numbers, literals and antecedents, and the header
-/// counts them. The places are strictly ascending and below the number of steps, as `check` gives
-/// them.
+/// Sets, result and the number of variables in the header stay as written. The steps at the
+/// positions of the core stay in their order, with their numbers, literals and antecedents, and the
+/// header counts them. The positions are strictly ascending and below the number of steps, as
+/// `check` gives them.
 ///
 /// # Errors
 /// If an allocation fails.

@@ -1,7 +1,7 @@
 -- Steps that are written exactly as they follow: what the walk over them tells.
-use Rattle.qrp_rules.proofs.Words.{◌≡◌, ◌<◌, ◌≤◌, ◌+◌, ℕ, List, ◌∷◌, ◌++◌, ◌⊎◌, length, get_or, take, drop, slice_get, Some, Option, refl}
-use Rattle.qrp_rules.proofs.Words.{sym, ap, subst, ◌∙◌, inl, inr, arith, cases_eq, Literal, ◌∈◌, ◌⊆◌, Block, in_take_all, in_take_more}
-use Rattle.qrp_rules.proofs.Words.{take_more_in, take_within, Quantifier, StandsAfter, IsNext, drop_more, take-append-drop}
+use Rattle.qrp_rules.proofs.Words.{◌≡◌, ◌<◌, ◌≤◌, ◌+◌, ℕ, List, ◌∷◌, ◌++◌, ◌⊎◌, length, get_or, take, drop, slice_get, Some, refl}
+use Rattle.qrp_rules.proofs.Words.{sym, ap, subst, ◌∙◌, inl, inr, arith, cases_eq, Literal, ◌∈◌, ◌⊆◌, in_take_all, in_take_more}
+use Rattle.qrp_rules.proofs.Words.{take_more_in, take_within, IsNext, drop_more, take-append-drop}
 use Rattle.qrp_rules.proofs.Words.{slice_get_within, get_or_from_slice_get}
 
 -- ---- one literal more
@@ -37,28 +37,26 @@ split_at xs i x e =
 
 -- ---- what is left of one list
 
--- the beginning of `to` is that of `from` without some literals of a quantifier after a block
-pub record IsRestSoFar (blocks : List Block) (q : Quantifier) (block : Option ℕ) (from to : List Literal) (i k : ℕ) : Type 0 where
+-- the beginning of `to` is that of `from` without some literals that may be left out
+pub record IsRestSoFar (May : Literal → Type 0) (from to : List Literal) (i k : ℕ) : Type 0 where
   pub inside : k ≤ length to
   pub within : take k to ⊆ take i from
-  pub each : (m : Literal) → m ∈ take i from → (m ∈ take k to) ⊎ StandsAfter blocks q block m.var
+  pub each : (m : Literal) → m ∈ take i from → (m ∈ take k to) ⊎ May m
 
-module _ (blocks : List Block) (q : Quantifier) (block : Option ℕ) (from to : List Literal) (i k next : ℕ) (x : Literal)
-    (less : i < length from) (e : x ≡ get_or from i x) (p : IsNext to k x next) (stands : next ≡ k → StandsAfter blocks q block x.var)
-    (u : IsRestSoFar blocks q block from to i k) where
-  here : (x ∈ take next to) ⊎ StandsAfter blocks q block x.var
-  here = elim (cases_eq next k) [ inl same ↦ inr (stands same) | inr ne ↦ inl (pass_takes to k next x p ne) ]
+module _ (May : Literal → Type 0) (from to : List Literal) (i k next : ℕ) (x : Literal) (less : i < length from)
+    (e : x ≡ get_or from i x) (p : IsNext to k x next) (may : next ≡ k → May x) (u : IsRestSoFar May from to i k) where
+  here : (x ∈ take next to) ⊎ May x
+  here = elim (cases_eq next k) [ inl same ↦ inr (may same) | inr ne ↦ inl (pass_takes to k next x p ne) ]
 
-  pub rest_more : IsRestSoFar blocks q block from to (i + 1) next
+  pub rest_more : IsRestSoFar May from to (i + 1) next
   rest_more = record {
     inside = pass_inside to k next x p u.inside;
     within = λ l h. take_more_in from i x l less e (elim (pass_in to k next x l p h) [ inl r ↦ inl (u.within l r) | inr f ↦ inr f ]);
     each = λ l h. elim (in_take_more from i x l less e h) [
       | inl r ↦ elim (u.each l r) [ inl w ↦ inl (in_pass to k next x l p w) | inr s ↦ inr s ]
-      | inr f ↦ subst (λ (z : Literal). (z ∈ take next to) ⊎ StandsAfter blocks q block z.var) (sym f) here
+      | inr f ↦ subst (λ (z : Literal). (z ∈ take next to) ⊎ May z) (sym f) here
     ];
   }
 
-pub rest_within : (blocks : List Block) (q : Quantifier) (block : Option ℕ) (from to : List Literal) (i k : ℕ) → k ≡ length to
-    → IsRestSoFar blocks q block from to i k → to ⊆ from
-rest_within blocks q block from to i k e u l h = take_within from i l (u.within l (in_take_all to k l (omega arith) h))
+pub rest_within : (May : Literal → Type 0) (from to : List Literal) (i k : ℕ) → k ≡ length to → IsRestSoFar May from to i k → to ⊆ from
+rest_within May from to i k e u l h = take_within from i l (u.within l (in_take_all to k l (omega arith) h))

@@ -1,9 +1,9 @@
 -- Fully reduced forms: a reduct has that of the list it is made from.
-use Rattle.qrp_rules.proofs.Words.{◌≡◌, ◌<◌, ◌≤◌, ◌+◌, ◌↔◌, ℕ, suc, List, [], ◌∷◌, ◌++◌, ◌⊎◌, length, get_or, take, slice_get, Option}
-use Rattle.qrp_rules.proofs.Words.{rules, Some, None, Contains, Bool, IsTrue, refl, sym, ap, subst, ◌∙◌, inl, inr, arith, Contains-push}
-use Rattle.qrp_rules.proofs.Words.{ltb, drop, ◌-◌, true, IsNonDecreasingBy, All, Exists, Literal, ◌∈◌, ◌⊆◌, Block, Binds, Qbf, Side}
+use Rattle.qrp_rules.proofs.Words.{◌≡◌, ◌<◌, ◌≤◌, ◌+◌, ◌↔◌, ℕ, suc, List, [], ◌∷◌, ◌++◌, ◌⊎◌, length, get_or, take, slice_get}
+use Rattle.qrp_rules.proofs.Words.{rules, Some, Contains, Bool, IsTrue, refl, sym, ap, subst, ◌∙◌, inl, inr, arith, Contains-push}
+use Rattle.qrp_rules.proofs.Words.{ltb, drop, ◌-◌, true, IsNonDecreasingBy, Literal, ◌∈◌, ◌⊆◌, Block, Binds, Qbf, Side}
 use Rattle.qrp_rules.proofs.Words.{Clauses, Cubes, IsClean, IsReducible, IsReduct, IsInitial, reduced_quantifier, deciding_quantifier}
-use Rattle.qrp_rules.proofs.Words.{IsOrdered, HasMembersOf, got_in, in_got, ordered_push, IsInnermost, StandsAfter, IsReducedForm}
+use Rattle.qrp_rules.proofs.Words.{IsOrdered, HasMembersOf, got_in, in_got, ordered_push, IsReducedForm}
 use Rattle.qrp_rules.proofs.Words.{HasReductAt, IsIndexBelow, hash_from, hash_of, IndexEntry, slice_get_within}
 use Rattle.std.proofs.lemmas.Bool.{cases_lt}
 use Rattle.std.proofs.lemmas.List.Elements.{Contains-append_left}
@@ -14,7 +14,7 @@ use Rattle.std.specs.List.{AllWithin}
 use Rattle.std.specs.List.Sorted.{IsPermutation}
 use Rattle.qbf_core.proofs.Members.{in_push, push_in}
 use Rattle.qrp_rules.specs.Index.{IsIndex, hash_with}
-use Rattle.qrp_rules.proofs.Reducing.{reducible_after}
+use Rattle.qrp_rules.proofs.Reducing.{quantifiers_differ}
 
 -- two ordered lists with the same members are the same
 pub ordered_same : (xs ys : List Literal) → IsOrdered xs → IsOrdered ys → xs ⊆ ys → ys ⊆ xs → xs ≡ ys
@@ -44,16 +44,10 @@ ordered_same (x ∷ xs) (y ∷ ys) o p a b =
       | inr k ↦ k
     ]
 
--- what has the deciding quantifier is not reducible
-not_both : (side : Side) (blocks : List Block) (v : ℕ) → Binds blocks (reduced_quantifier side) v
-    → Binds blocks (deciding_quantifier side) v → ⊥
-not_both Clauses blocks v r d = cc (r, d)
-not_both Cubes blocks v r d = cc (r, d)
-
 -- a literal is reducible in a reduct exactly where it is in the list
 reducible_same : (side : Side) (blocks : List Block) (from to : List Literal) (l : Literal) → IsReduct side blocks from to
     → IsReducible side blocks to l → IsReducible side blocks from l
-reducible_same side blocks from to l r h = search (rules, not_both)
+reducible_same side blocks from to l r h = search (rules, quantifiers_differ)
 
 -- a reduct has the form of the list
 pub form_of_reduct : (side : Side) (blocks : List Block) (from to form : List Literal) → IsReduct side blocks from to
@@ -70,28 +64,28 @@ pub form_same : (side : Side) (blocks : List Block) (a b form : List Literal) �
     → IsReducedForm side blocks b form
 form_same side blocks a b form same = form_of_reduct side blocks a b form (record { within = same.1; each = λ l h. inl (same.0 l h) })
 
--- the hash of the literals seen so far that do not stand after the block
-pub record Numbered (blocks : List Block) (block : Option ℕ) (seen : List Literal) (hash : ℕ) : Type 0 where
+-- the hash of the literals seen so far that may not be taken out
+pub record Numbered (May : Literal → Type 0) (seen : List Literal) (hash : ℕ) : Type 0 where
   pub form : List Literal
   pub numbered : hash ≡ hash_from 0 form
   pub ordered : IsOrdered form
-  pub within : (l : Literal) → l ∈ form → (l ∈ seen) × (StandsAfter blocks All block l.var → ⊥)
-  pub whole : (l : Literal) → l ∈ seen → (StandsAfter blocks All block l.var → ⊥) → l ∈ form
+  pub within : (l : Literal) → l ∈ form → (l ∈ seen) × (May l → ⊥)
+  pub whole : (l : Literal) → l ∈ seen → (May l → ⊥) → l ∈ form
 
-pub numbered_skip : (blocks : List Block) (block : Option ℕ) (xs zs : List Literal) (x : Literal) (hash : ℕ)
+pub numbered_skip : (May : Literal → Type 0) (xs zs : List Literal) (x : Literal) (hash : ℕ)
     → ((m : Literal) → m ∈ zs → (m ∈ xs) ⊎ (m ≡ x)) → ((m : Literal) → (m ∈ xs) ⊎ (m ≡ x) → m ∈ zs)
-    → StandsAfter blocks All block x.var → Numbered blocks block xs hash → Numbered blocks block zs hash
-numbered_skip blocks block xs zs x hash cases wider out n = search rules
+    → May x → Numbered May xs hash → Numbered May zs hash
+numbered_skip May xs zs x hash cases wider may n = search rules
 
 number_push : (n : ℕ) (xs : List Literal) (x : Literal) → hash_from n (xs ++ x ∷ []) ≡ hash_with (hash_from n xs) x
 number_push n [] x = refl
 number_push n (y ∷ xs) x = number_push (hash_with n y) xs x
 
-pub numbered_push : (blocks : List Block) (block : Option ℕ) (xs zs : List Literal) (x : Literal) (hash hash' : ℕ)
+pub numbered_push : (May : Literal → Type 0) (xs zs : List Literal) (x : Literal) (hash hash' : ℕ)
     → ((m : Literal) → m ∈ zs → (m ∈ xs) ⊎ (m ≡ x)) → ((m : Literal) → (m ∈ xs) ⊎ (m ≡ x) → m ∈ zs)
     → ((m : Literal) → m ∈ xs → m.var < x.var) → hash' ≡ hash_with hash x
-    → (StandsAfter blocks All block x.var → ⊥) → Numbered blocks block xs hash → Numbered blocks block zs hash'
-numbered_push blocks block xs zs x hash hash' cases wider below is out n = record {
+    → (May x → ⊥) → Numbered May xs hash → Numbered May zs hash'
+numbered_push May xs zs x hash hash' cases wider below is out n = record {
   form = n.form ++ x ∷ [];
   numbered = is ∙ ap (λ (k : ℕ). hash_with k x) n.numbered ∙ sym (number_push 0 n.form x);
   ordered = ordered_push n.form x n.ordered (λ m h. below m (n.within m h).0);
@@ -100,20 +94,20 @@ numbered_push blocks block xs zs x hash hash' cases wider below is out n = recor
 }
 
 -- over the whole list it is the hash of the fully reduced form
-pub numbered_done : (blocks : List Block) (block : Option ℕ) (lits seen : List Literal) (hash : ℕ) → HasMembersOf seen lits
-    → IsInnermost blocks Exists None lits block
-    → Numbered blocks block seen hash → (form : List Literal) × IsReducedForm Clauses blocks lits form × (hash ≡ hash_from 0 form)
-numbered_done blocks block lits seen hash same is n = (
+pub numbered_done : (May : Literal → Type 0) (blocks : List Block) (lits seen : List Literal) (hash : ℕ) → HasMembersOf seen lits
+    → ((l : Literal) → May l ↔ IsReducible Clauses blocks lits l)
+    → Numbered May seen hash → (form : List Literal) × IsReducedForm Clauses blocks lits form × (hash ≡ hash_from 0 form)
+numbered_done May blocks lits seen hash same is n = (
   n.form,
   record {
     ordered = n.ordered;
-    within = search (rules, reducible_after);
-    whole = λ l h out. n.whole l (same.1 l h) (λ stands. out ((reducible_after Clauses blocks All Exists lits block refl refl is l).0 stands));
+    within = search rules;
+    whole = λ l h out. n.whole l (same.1 l h) (λ may. out ((is l).0 may));
   },
   n.numbered,
 )
 
--- a test of the clause at a place
+-- a test of the clause at a position
 pub reduct_at : (f : Qbf) (blocks : List Block) (set clause : List Literal) (i : ℕ) (t : Bool) → blocks ≡ f.blocks
     → slice_get f.clauses i ≡ Some clause
     → (IsTrue t ↔ (IsClean clause × IsReduct Clauses blocks clause set)) → IsTrue t ↔ HasReductAt f set i
@@ -133,36 +127,36 @@ reduct_at f blocks set clause i t same at told = (
 pub found_initial : (f : Qbf) (set : List Literal) (i : ℕ) → HasReductAt f set i → IsInitial Clauses f set
 found_initial f set i h = (h.clause, got_in f.clauses i h.clause h.here, h.clean, h.reduct)
 
--- so where no place under the hash of a set has it as a reduct, no clause has
+-- so where no position under the hash of a set has it as a reduct, no clause has
 pub none_initial : (f : Qbf) (index : List IndexEntry) (set form : List Literal) (hash : ℕ) → IsIndex f index
     → IsReducedForm Clauses f.blocks set form → hash ≡ hash_from 0 form
-    → ((i : ℕ) → Contains index (record { hash = hash; place = i }) → HasReductAt f set i → ⊥) → IsInitial Clauses f set → ⊥
+    → ((i : ℕ) → Contains index (record { hash = hash; position = i }) → HasReductAt f set i → ⊥) → IsInitial Clauses f set → ⊥
 none_initial f index set form hash is reduced numbered none h =
     let at = in_got f.clauses h.0 h.1 in
     let filed = is (suc at.0) at.0 h.0 (omega arith) at.1 h.2 in
     let same : form ≡ filed.0 = search (rules, form_once, form_of_reduct) in
     let e : hash ≡ hash_from 0 filed.0 = numbered ∙ ap (hash_from 0) same in
-    none at.0 (subst (λ (n : ℕ). Contains index (record { hash = n; place = at.0 })) (sym e) filed.2)
+    none at.0 (subst (λ (n : ℕ). Contains index (record { hash = n; position = at.0 })) (sym e) filed.2)
     (record { clause = h.0; here = at.1; clean = h.2; reduct = h.3 })
 
 -- one more clause is filed, or is not clean
 pub filed_more : (f : Qbf) (index : List IndexEntry) (n hash : ℕ) (clause : List Literal)
     → slice_get f.clauses n ≡ Some clause
     → (IsClean clause → (form : List Literal) × IsReducedForm Clauses f.blocks clause form × (hash ≡ hash_from 0 form))
-    → IsIndexBelow f index n → IsIndexBelow f (index ++ record { hash = hash; place = n } ∷ []) (n + 1)
+    → IsIndexBelow f index n → IsIndexBelow f (index ++ record { hash = hash; position = n } ∷ []) (n + 1)
 filed_more f index n hash clause at told before i c less got clean = elim (cases_lt i n) [
   | inl earlier ↦ (let w = before i c earlier got clean in
-      (w.0, w.1, Contains-append_left index (record { hash = hash; place = n } ∷ []) _ w.2))
+      (w.0, w.1, Contains-append_left index (record { hash = hash; position = n } ∷ []) _ w.2))
   | inr late ↦
       let last : i ≡ n = omega arith in
       let same : c ≡ clause = (let q : Some c ≡ Some clause = sym got ∙ ap (slice_get f.clauses) last ∙ at in cc q) in
       let w = told (subst (λ (z : List Literal). IsClean z) same clean) in
-      let whole : List IndexEntry = index ++ record { hash = hash; place = n } ∷ [] in (
+      let whole : List IndexEntry = index ++ record { hash = hash; position = n } ∷ [] in (
         w.0,
         subst (λ (z : List Literal). IsReducedForm Clauses f.blocks z w.0) (sym same) w.1,
-        subst (λ (k : ℕ). Contains whole (record { hash = k; place = i })) w.2
-            (subst (λ (k : ℕ). Contains whole (record { hash = hash; place = k })) (sym last)
-            (Contains-push index (record { hash = hash; place = n }))),
+        subst (λ (k : ℕ). Contains whole (record { hash = k; position = i })) w.2
+            (subst (λ (k : ℕ). Contains whole (record { hash = hash; position = k })) (sym last)
+            (Contains-push index (record { hash = hash; position = n }))),
       )
 ]
 
@@ -203,9 +197,9 @@ in_rest index first hash x within below is at =
 
 -- where each entry so far was tried and those to come are above the hash, none of the hash is left
 pub none_left : (f : Qbf) (set : List Literal) (rest : List IndexEntry) (hash j : ℕ)
-    → ((k : ℕ) (d : IndexEntry) → k < j → HasReductAt f set (get_or rest k d).place → ⊥)
+    → ((k : ℕ) (d : IndexEntry) → k < j → HasReductAt f set (get_or rest k d).position → ⊥)
     → ((k : ℕ) (d : IndexEntry) → j ≤ k → k < length rest → hash < (get_or rest k d).hash)
-    → (i : ℕ) → Contains rest (record { hash = hash; place = i }) → HasReductAt f set i → ⊥
+    → (i : ℕ) → Contains rest (record { hash = hash; position = i }) → HasReductAt f set i → ⊥
 none_left f set rest hash j tried above i at h = search (rules, cases_lt)
 
 pub above_from : (rest : List IndexEntry) (hash j : ℕ) (x : IndexEntry) → IsNonDecreasingBy hash_of rest → j < length rest

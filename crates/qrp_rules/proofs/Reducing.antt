@@ -2,12 +2,12 @@
 use Rattle.qrp_rules.proofs.Words.{◌≡◌, ◌∙◌, ℕ, List, ◌++◌, ◌⊎◌, ◌↔◌, Option, Some, None, refl, sym, subst, inl, inr, rules, cases_eq}
 use Rattle.qrp_rules.proofs.Words.{Quantifier, Literal, ◌∈◌, Block, Binds, Side, Clauses, Cubes, reduced_quantifier, deciding_quantifier}
 use Rattle.qrp_rules.proofs.Words.{Clashes, IsReducible, resolvent, in_append, append_left, append_right, in_without, from_without}
-use Rattle.qrp_rules.proofs.Words.{IsReducibleInParents, Accounts, IsAfter, IsHeldBefore, IsInnermost, StandsAfter}
+use Rattle.qrp_rules.proofs.Words.{IsReducibleInParents, Accounts, IsAfter, IsHeldBefore, IsInnermost, StandsAfter, TakesOut}
 use Rattle.qbf_core.specs.Blocks.{block_in, pairs}
 use Rattle.qbf_core.proofs.Bound.{binds_in, in_bound, block_found}
 use Rattle.qbf_core.proofs.Members.{in_or_not}
 use Rattle.qrp_rules.proofs.Clashing.{clash_var, clash_var_right}
-use Rattle.qrp_rules.specs.declared.walks.Reducible.{Reducible}
+use Rattle.qrp_rules.specs.declared.blocks.Reducible.{Reducible}
 use Rattle.qrp_rules.specs.Walks.{Covers, IsThePivot}
 
 -- what a quantifier binds has a block
@@ -58,24 +58,23 @@ reducible_after side blocks reduced deciding lits block er ed is l = (
 )
 
 -- what is reducible in a list is so with more literals that have the reduced quantifier
-quantifiers_differ : (side : Side) → Some (reduced_quantifier side) ≡ Some (deciding_quantifier side) → ⊥
+pub quantifiers_differ : (side : Side) → Some (reduced_quantifier side) ≡ Some (deciding_quantifier side) → ⊥
 quantifiers_differ Clauses e = cc e
 quantifiers_differ Cubes e = cc e
 
-pub reducible_wider : (side : Side) (blocks : List Block) (q : Quantifier) (block : Option ℕ) (from to : List Literal)
-    → q ≡ reduced_quantifier side → ((l : Literal) → l ∈ from → (l ∈ to) ⊎ StandsAfter blocks q block l.var)
-    → (l : Literal) → IsReducible side blocks to l → IsReducible side blocks from l
-reducible_wider side blocks q block from to er each l red = search (rules, quantifiers_differ)
+pub reducible_wider : (side : Side) (blocks : List Block) (May : Literal → Type 0) (from to : List Literal)
+    → ((l : Literal) → May l ↔ IsReducible side blocks to l) → ((l : Literal) → l ∈ from → (l ∈ to) ⊎ May l)
+    → (l : Literal) → May l → IsReducible side blocks from l
+reducible_wider side blocks May from to same each l may = search (rules, quantifiers_differ)
 
 -- so what may be left out is reducible, where there is no pivot
-pub each_reducible : (side : Side) (blocks : List Block) (after : Reducible) (deciding : Quantifier) (from to : List Literal)
-    → after.quantifier ≡ reduced_quantifier side → deciding ≡ deciding_quantifier side → IsInnermost blocks deciding None from after.block
-    → Covers blocks (Some after) None from to ↔ ((l : Literal) → l ∈ from → (l ∈ to) ⊎ IsReducible side blocks from l)
-each_reducible side blocks after deciding from to er ed is =
-    let same = reducible_after side blocks after.quantifier deciding from after.block er ed is in (
-      (λ all l h. elim (all l h) [ inl k ↦ inl k | inr (inl none) ↦ absurd none | inr (inr stands) ↦ inr ((same l).0 stands) ]),
-      (λ all l h. elim (all l h) [ inl k ↦ inl k | inr red ↦ inr (inr ((same l).1 red)) ]),
-    )
+pub each_reducible : (side : Side) (blocks : List Block) (reducible : Reducible) (from to : List Literal)
+    → ((l : Literal) → TakesOut reducible l.var ↔ IsReducible side blocks from l)
+    → Covers (Some reducible) None from to ↔ ((l : Literal) → l ∈ from → (l ∈ to) ⊎ IsReducible side blocks from l)
+each_reducible side blocks reducible from to same = (
+  (λ all l h. elim (all l h) [ inl k ↦ inl k | inr (inl none) ↦ absurd none | inr (inr may) ↦ inr ((same l).0 may) ]),
+  (λ all l h. elim (all l h) [ inl k ↦ inl k | inr red ↦ inr (inr ((same l).1 red)) ]),
+)
 
 -- a variable stands after the outer one of two blocks exactly where it stands after one of them
 stands_outer : (blocks : List Block) (q : Quantifier) (one other both : Option ℕ) (v : ℕ)
@@ -130,7 +129,7 @@ module _ (side : Side) (blocks : List Block) (reduced deciding : Quantifier) (er
 
   -- one antecedent, after its block
   abbrev IsCovered : List Literal → Option ℕ → Type 0
-  IsCovered from block = Covers blocks (Some (record { quantifier = reduced; block = block })) (Some x) from to
+  IsCovered from block = (l : Literal) → l ∈ from → (l ∈ to) ⊎ ((l.var ≡ x) ⊎ StandsAfter blocks reduced block l.var)
 
   abbrev IsSplit : List Literal → Option ℕ → Type 0
   IsSplit from block = (l : Literal) → StandsAfter blocks reduced block l.var ↔ (Red (resolvent a b x) l ⊎ Red from l)
@@ -192,8 +191,8 @@ module _ (side : Side) (blocks : List Block) (reduced deciding : Quantifier) (er
       kept l (inr red) = inr (inl red)
 
 -- where nothing but the pivot is left out of either antecedent, nothing is left out of their resolvent
-pub resolvent_kept : (side : Side) (blocks : List Block) (a b to : List Literal) (x : ℕ) → Covers blocks None (Some x) a to
-    → Covers blocks None (Some x) b to → Accounts side blocks a b to x
+pub resolvent_kept : (side : Side) (blocks : List Block) (a b to : List Literal) (x : ℕ) → Covers None (Some x) a to
+    → Covers None (Some x) b to → Accounts side blocks a b to x
 resolvent_kept side blocks a b to x in_a in_b l h =
     let w = from_without x (a ++ b) l h in
     let kept : (l ∈ to) ⊎ IsThePivot (Some x) l.var = elim (in_append a b l w.0) [ inl i ↦ in_a l i | inr i ↦ in_b l i ] in

@@ -116,7 +116,7 @@ met_next f seen old new n kept here before i less = elim (cases_eq i n) [
   | inr ne ↦ met_keeps 0 f seen old new i kept (before i (omega (arith, less, ne)))
 ]
 
--- the clause at place i, if there is one, is still to be watched, or is met
+-- the clause at position i, if there is one, is still to be watched, or is met
 abbrev pub IsPending : ℕ → Qbf → List Bool → List ℕ → List Watch → ℕ → Type 0
 IsPending n f seen left lists i =
     (clause : List Literal) → slice_get f.clauses i ≡ Some clause

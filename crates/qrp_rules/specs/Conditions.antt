@@ -50,12 +50,12 @@ IsReducibleInParents side blocks a b l = (l ∈ a → IsReducible side blocks a 
 -- a and b clash in one variable, which may be resolved on, and what `to` leaves out of their resolvent may be left out of it
 abbrev pub resolution_conditions : Rules → Side → List Block → List Literal → List Literal → List Literal
     → (List Literal → Literal → Type 0) → List (Condition RuleFault)
-resolution_conditions rules side blocks a b to may_lack =
+resolution_conditions rules side blocks a b to may_omit =
     (S8, ((x : ℕ) × Clashes a b x))
     ∷ (S9, ((x y : ℕ) → Clashes a b x → Clashes a b y → x ≡ y))
     ∷ (S10, ((x : ℕ) → Clashes a b x → AllowsPivot rules side blocks x))
     ∷ (S11, ((x : ℕ) → Clashes a b x → to ⊆ resolvent a b x))
-    ∷ (S12, ((x : ℕ) → Clashes a b x → (l : Literal) → l ∈ resolvent a b x → (l ∈ to) ⊎ may_lack (resolvent a b x) l))
+    ∷ (S12, ((x : ℕ) → Clashes a b x → (l : Literal) → l ∈ resolvent a b x → (l ∈ to) ⊎ may_omit (resolvent a b x) l))
     ∷ []
 
 -- the same, where what is reducible in the resolvent, or in the parents, may be left out

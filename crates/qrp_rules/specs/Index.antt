@@ -27,20 +27,20 @@ hash_from n (l ∷ lits) = hash_from (hash_with n l) lits
 
 -- the hash that a clause is filed under
 abbrev pub hash_of : IndexEntry → ℕ
-hash_of filed = filed.hash
+hash_of entry = entry.hash
 
--- the clause at a place is clean and has the set as a reduct
+-- the clause at a position is clean and has the set as a reduct
 pub record HasReductAt (f : Qbf) (set : List Literal) (i : ℕ) : Type 0 where
   pub clause : List Literal
   pub here : slice_get f.clauses i ≡ Some clause
   pub clean : IsClean clause
   pub reduct : IsReduct Clauses f.blocks clause set
 
--- each clean clause before place n is filed under the hash of its fully reduced form
+-- each clean clause before position n is filed under the hash of its fully reduced form
 abbrev pub IsIndexBelow : Qbf → List IndexEntry → ℕ → Type 0
 IsIndexBelow f index n =
     (i : ℕ) (clause : List Literal) → i < n → slice_get f.clauses i ≡ Some clause → IsClean clause
-    → (form : List Literal) × IsReducedForm Clauses f.blocks clause form × Contains index (record { hash = hash_from 0 form; place = i })
+    → (form : List Literal) × IsReducedForm Clauses f.blocks clause form × Contains index (record { hash = hash_from 0 form; position = i })
 
 -- each clean clause is filed under the hash of its fully reduced form
 abbrev pub IsIndex : Qbf → List IndexEntry → Type 0
@@ -48,4 +48,4 @@ IsIndex f index = (n : ℕ) → IsIndexBelow f index n
 
 -- the index, where one was made, is one of this formula, in the order of the hashes
 abbrev pub IsIndexed : Qbf → InitialClauses → Type 0
-IsIndexed f clauses = IfSome clauses.index (λ index. IsIndex f index.filed.items × IsNonDecreasingBy hash_of index.filed.items)
+IsIndexed f clauses = IfSome clauses.index (λ index. IsIndex f index.entries.items × IsNonDecreasingBy hash_of index.entries.items)

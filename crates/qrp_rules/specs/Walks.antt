@@ -6,7 +6,7 @@ use Rattle.qbf_core.specs.Members.{◌∈◌}
 use Rattle.qbf_core.specs.Blocks.{Block, Binds, block_in}
 use Rattle.qbf_core.specs.Rules.{Side, Clashes, IsOnlyClash, IsReducible, resolvent}
 use Rattle.qrp_rules.specs.Conditions.{IsReducibleInParents}
-use Rattle.qrp_rules.specs.declared.walks.Reducible.{Reducible}
+use Rattle.qrp_rules.specs.declared.blocks.Reducible.{Reducible}
 use Rattle.qrp_rules.specs.declared.resolvent.Clash.{Clash}
 use Rattle.qrp_rules.specs.declared.resolvent.Clash.TheVariants.{Nothing, One, More}
 
@@ -21,7 +21,7 @@ abbrev pub IsThePivot : Option ℕ → ℕ → Type 0
 IsThePivot None v = ⊥
 IsThePivot (Some x) v = v ≡ x
 
--- the place k is after the block, if there is one
+-- the position k is after the block, if there is one
 abbrev pub IsAfter : Option ℕ → ℕ → Type 0
 IsAfter None k = Unit {0}
 IsAfter (Some block) k = block < k
@@ -40,14 +40,18 @@ IsInnermost blocks q pivot lits block =
 abbrev pub StandsAfter : List Block → Quantifier → Option ℕ → ℕ → Type 0
 StandsAfter blocks q block v = Binds blocks q v × ((k : ℕ) → block_in v blocks ≡ Some k → IsAfter block k)
 
+-- a reduction may take out the literals of v
+abbrev pub TakesOut : Reducible → ℕ → Type 0
+TakesOut reducible v = StandsAfter reducible.prefix.now reducible.quantifier reducible.block v
+
 -- a literal of v may be missing: v is left aside, or a reduction may take the literal out
-abbrev pub MayLack : List Block → Option Reducible → Option ℕ → ℕ → Type 0
-MayLack blocks None pivot v = IsThePivot pivot v
-MayLack blocks (Some after) pivot v = IsThePivot pivot v ⊎ StandsAfter blocks after.quantifier after.block v
+abbrev pub MayOmit : Option Reducible → Option ℕ → ℕ → Type 0
+MayOmit None pivot v = IsThePivot pivot v
+MayOmit (Some reducible) pivot v = IsThePivot pivot v ⊎ TakesOut reducible v
 
 -- each literal of `from` is in `to`, or may be missing there
-abbrev pub Covers : List Block → Option Reducible → Option ℕ → List Literal → List Literal → Type 0
-Covers blocks reducible pivot from to = (l : Literal) → l ∈ from → (l ∈ to) ⊎ MayLack blocks reducible pivot l.var
+abbrev pub Covers : Option Reducible → Option ℕ → List Literal → List Literal → Type 0
+Covers reducible pivot from to = (l : Literal) → l ∈ from → (l ∈ to) ⊎ MayOmit reducible pivot l.var
 
 -- each literal of the resolvent is in `to`, or reducible in the resolvent or in the antecedents
 abbrev pub Accounts : Side → List Block → List Literal → List Literal → List Literal → ℕ → Type 0

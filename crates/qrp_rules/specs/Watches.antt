@@ -8,7 +8,7 @@ use Rattle.qrp_rules.specs.declared.initial_cubes.Watch.{Watch}
 use Rattle.qrp_rules.specs.declared.initial_cubes.InitialCubes.{InitialCubes}
 use Rattle.qrp_rules.specs.Seen.{Has}
 
--- the clause at place i is among those that l watches, whose list is at position k
+-- the clause at position i is among those that l watches, whose list is at position k
 pub record IsWatchedBy (lists : List Watch) (k : ℕ) (l : Literal) (i : ℕ) : Type 0 where
   pub watch : Watch
   pub here : slice_get lists k ≡ Some watch
@@ -20,7 +20,7 @@ pub record KeepsWatches (old new : List Watch) : Type 0 where
   pub watched : (k : ℕ) (l : Literal) (i : ℕ) → IsWatchedBy old k l i → IsWatchedBy new k l i
   pub longer : length old ≤ length new
 
--- the clause at place i, if there is one, needs no literal, or is watched by one that it holds
+-- the clause at position i, if there is one, needs no literal, or is watched by one that it holds
 abbrev pub IsWatched : Qbf → List Watch → ℕ → Type 0
 IsWatched f lists i =
     (clause : List Literal) → slice_get f.clauses i ≡ Some clause

@@ -10,31 +10,23 @@ ghost use Rattle.qrp_rules.specs.declared.rules.Rules.{Rules};
 ghost use Rattle.qrp_rules.specs.Conditions.{AllHold, AllowsPivot, resolvent_conditions};
 ghost use Rattle.qrp_rules.specs.Exact.{IsApart, IsPutBy, IsResolvedBut};
 ghost use Rattle.qrp_rules.specs.Seen.{Has};
-ghost use Rattle.qrp_rules.specs.Walks.{StandsAfter};
+ghost use Rattle.qrp_rules.specs.Walks.{TakesOut};
 
-use crate::blocks::{innermost, stands_after};
+use crate::blocks::{Reducible, reducible_in};
 use crate::exact::{Rests, find_rests, is_apart};
 use crate::fault::Holds;
-use crate::resolvent::is_pivot;
+use crate::normalizing::is_ordered;
+use crate::resolvent::{Resolution, is_pivot};
 use crate::rules::Rules;
 use crate::seen::{SeenLits, find_negated, put_each, set_if_clean};
 use crate::side::Side;
-use crate::walks::Reducible;
-use crate::written::is_ordered;
 use qbf_core::{Lit, Prefix, Var};
-use std::alloc::{AllocError, Global};
+use std::alloc::AllocError;
 
 /// Puts a literal into a set, unless it is one of the pivot. `false` where it is not there, and may
 /// not be left out, or its negation is there, or there is no room.
-fn put_left_out(
-    seen: &mut SeenLits,
-    prefix: &Prefix,
-    reducible: Reducible,
-    pivot: Var,
-    lit: Lit,
-) -> bool
-    ensures put { IsPutBy seen.old seen.new (λ l.
-        StandsAfter prefix.now reducible.quantifier reducible.block l.var) }
+fn put_left_out(seen: &mut SeenLits, reducible: Reducible, pivot: Var, lit: Lit) -> bool
+    ensures put { IsPutBy seen.old seen.new (λ l. TakesOut reducible.entry l.var) }
     ensures has { IsTrue result → (lit.var ≡ pivot) ⊎ Has seen.new lit }
 {
     if lit.var().number() == pivot.number() {
@@ -46,27 +38,20 @@ fn put_left_out(
     if seen.contains(lit.negated()) {
         return false;
     }
-    if !stands_after(prefix, reducible.quantifier, reducible.block, lit.var()) {
+    if !reducible.has(lit.var()) {
         return false;
     }
     seen.insert(lit)
 }
 
 /// The same of each literal of a list.
-fn put_each_left_out(
-    seen: &mut SeenLits,
-    prefix: &Prefix,
-    reducible: Reducible,
-    pivot: Var,
-    lits: &[Lit],
-) -> bool
-    ensures put { IsPutBy seen.old seen.new (λ l.
-        StandsAfter prefix.now reducible.quantifier reducible.block l.var) }
+fn put_each_left_out(seen: &mut SeenLits, reducible: Reducible, pivot: Var, lits: &[Lit]) -> bool
+    ensures put { IsPutBy seen.old seen.new (λ l. TakesOut reducible.entry l.var) }
     ensures each { IsTrue result → (l : Literal) → l ∈ lits.now
         → (l.var ≡ pivot) ⊎ Has seen.new l }
 {
     for lit in lits {
-        if !put_left_out(seen, prefix, reducible, pivot, *lit) {
+        if !put_left_out(seen, reducible, pivot, *lit) {
             return false;
         }
     }
@@ -99,13 +84,9 @@ fn leaves_out_rests<S: Side>(seen: &mut SeenLits, prefix: &Prefix, to: &[Lit], r
         return true;
     }
     // What is left out has the other quantifier, so the literals that are kept say the block.
-    let block = innermost(prefix, S::DECIDING, None, to);
-    let reducible = Reducible {
-        quantifier: S::REDUCED,
-        block,
-    };
-    put_each_left_out(seen, prefix, reducible, pivot, rests.a)
-        && put_each_left_out(seen, prefix, reducible, pivot, rests.b)
+    let reducible = reducible_in(prefix, S::REDUCED, to);
+    put_each_left_out(seen, reducible, pivot, rests.a)
+        && put_each_left_out(seen, reducible, pivot, rests.b)
 }
 
 /// Two lists, whatever their order, where a third one has no other literals, and a literal of the
@@ -130,23 +111,17 @@ fn find_parents<'a>(
 }
 
 /// Whether literals are clean, and none has this variable. `false` says nothing.
-fn is_clean_without(
-    alloc: Global,
-    seen: &mut SeenLits,
-    prefix: &Prefix,
-    lits: &[Lit],
-    var: Var,
-) -> Holds
+fn is_clean_without(seen: &mut SeenLits, prefix: &Prefix, lits: &[Lit], var: Var) -> Holds
     ensures { IfOk result (λ t. IsTrue t → IsClean lits.now × IsApart lits.now var) }
 {
     if is_ordered(lits) {
         return Ok(is_apart(lits, var));
     }
-    seen.make_room(alloc, prefix)?;
+    seen.make_room(prefix)?;
     Ok(seen.are_distinct(lits, var))
 }
 
-/// Whether a list follows from two others, which are clean and bound, by resolution: as
+/// Whether a step follows from its antecedents, which are clean and bound, by resolution: as
 /// `resolvent_fault`, of literals as they are written.
 ///
 /// `false` says nothing. Where the literals are in the order of the antecedents, and nothing is
@@ -155,27 +130,25 @@ fn is_clean_without(
 /// # Errors
 /// If an allocation fails.
 pub fn is_resolvent<S: Side>(
-    alloc: Global,
     seen: &mut SeenLits,
     prefix: &Prefix,
-    a: &[Lit],
-    b: &[Lit],
-    to: &[Lit],
+    step: Resolution,
     rules: Rules,
 ) -> Result<bool, AllocError>
-    requires clean_a { IsClean a.now }
-    requires clean_b { IsClean b.now }
-    requires bound_a { AreBound prefix.now a.now }
-    requires bound_b { AreBound prefix.now b.now }
-    ensures follows { IfOk result (λ t. IsTrue t
-        → AllHold (resolvent_conditions rules S.side prefix.now a.now b.now to.now)) }
-    ensures clean { IfOk result (λ t. IsTrue t → IsClean to.now) }
-    ensures bound { IfOk result (λ t. IsTrue t → AreBound prefix.now to.now) }
+    requires clean_a { IsClean step.a.now }
+    requires clean_b { IsClean step.b.now }
+    requires bound_a { AreBound prefix.now step.a.now }
+    requires bound_b { AreBound prefix.now step.b.now }
+    ensures follows { IfOk result (λ t. IsTrue t → AllHold (resolvent_conditions rules S.side
+        prefix.now step.entry.a.now step.entry.b.now step.entry.to.now)) }
+    ensures clean { IfOk result (λ t. IsTrue t → IsClean step.entry.to.now) }
+    ensures bound { IfOk result (λ t. IsTrue t → AreBound prefix.now step.entry.to.now) }
 {
+    let Resolution { a, b, to } = step;
     let rests = match find_rests(a, b, to) {
         Some(rests) => rests,
         None => {
-            seen.make_room(alloc, prefix)?;
+            seen.make_room(prefix)?;
             let Some(rests) = find_parents(seen, a, b, to) else {
                 return Ok(false);
             };
@@ -187,8 +160,8 @@ pub fn is_resolvent<S: Side>(
         return Ok(false);
     }
     if rests.a.is_empty() && rests.b.is_empty() {
-        return is_clean_without(alloc, seen, prefix, to, pivot);
+        return is_clean_without(seen, prefix, to, pivot);
     }
-    seen.make_room(alloc, prefix)?;
+    seen.make_room(prefix)?;
     Ok(leaves_out_rests::<S>(seen, prefix, to, rests))
 }

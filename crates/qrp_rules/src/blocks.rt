@@ -1,9 +1,11 @@
-//! The blocks of literals: the innermost of some, and which literals stand after a block.
+//! The blocks of literals: the innermost of some, and what a reduction may take out.
 
-ghost use Rattle.std.specs.Prelude.{◌↔◌, ℕ, ◌⊎◌, IsTrue};
+ghost use Rattle.std.specs.Prelude.{◌≡◌, ◌↔◌, ℕ, ◌⊎◌, IsTrue};
+ghost use Rattle.qbf_core.specs.Literal.{Literal};
 ghost use Rattle.qbf_core.specs.Blocks.{Binds};
-ghost use Rattle.qrp_rules.specs.Walks.{IsAfter, IsHeldBefore, IsInnermost, IsThePivot};
-ghost use Rattle.qrp_rules.specs.Walks.{StandsAfter};
+ghost use Rattle.qbf_core.specs.Rules.{Side, IsReducible, deciding_quantifier};
+ghost use Rattle.qbf_core.specs.Rules.{reduced_quantifier};
+ghost use Rattle.qrp_rules.specs.Walks.{IsAfter, IsHeldBefore, IsInnermost, IsThePivot, TakesOut};
 
 use qbf_core::{Lit, Prefix, Quantifier, Var};
 
@@ -71,28 +73,62 @@ pub(crate) fn innermost(
     found
 }
 
-/// Whether a place is after the block, if there is one.
-fn is_after(block: Option<usize>, place: usize) -> bool
-    ensures { IsTrue result ↔ IsAfter block place }
+/// Whether a position is after the block, if there is one.
+fn is_after(block: Option<usize>, position: usize) -> bool
+    ensures { IsTrue result ↔ IsAfter block position }
 {
     match block {
-        Some(block) => block < place,
+        Some(block) => block < position,
         None => true,
     }
 }
 
-/// Whether a variable has the quantifier, and stands in a block after this one.
-#[inline(always)]
-pub(crate) fn stands_after(
-    prefix: &Prefix,
-    quantifier: Quantifier,
-    block: Option<usize>,
-    var: Var,
-) -> bool
-    ensures { IsTrue result ↔ StandsAfter prefix.now quantifier block var }
+/// The literals that a reduction may take out: those of a quantifier after a block of a prefix, or
+/// all of that quantifier if there is no block.
+#[derive(Clone, Copy)]
+pub(crate) struct Reducible<'a> {
+    pub prefix: &'a Prefix,
+    pub quantifier: Quantifier,
+    pub block: Option<usize>,
+}
+
+impl<'a> Reducible<'a> {
+    /// Whether literals of the variable are among them.
+    #[inline(always)]
+    pub(crate) fn has(self, var: Var) -> bool
+        ensures { IsTrue result ↔ TakesOut self.entry var }
+    {
+        match self.prefix.block_bound_by(self.quantifier, var) {
+            Some(block) => is_after(self.block, block),
+            None => false,
+        }
+    }
+}
+
+/// The quantifier that is not this one.
+fn other_quantifier(quantifier: Quantifier) -> Quantifier
+    ensures { (side : Side) → quantifier ≡ reduced_quantifier side
+        → result ≡ deciding_quantifier side }
 {
-    match prefix.block_bound_by(quantifier, var) {
-        Some(place) => is_after(block, place),
-        None => false,
+    match quantifier {
+        Quantifier::All => Quantifier::Exists,
+        Quantifier::Exists => Quantifier::All,
+    }
+}
+
+/// What may be taken out of a list, for the side that reduces this quantifier.
+#[inline(always)]
+pub(crate) fn reducible_in<'a>(
+    prefix: &'a Prefix,
+    reduced: Quantifier,
+    lits: &[Lit],
+) -> Reducible<'a>
+    ensures { (side : Side) → reduced ≡ reduced_quantifier side → (l : Literal)
+        → TakesOut result l.var ↔ IsReducible side prefix.now lits.now l }
+{
+    Reducible {
+        prefix,
+        quantifier: reduced,
+        block: innermost(prefix, other_quantifier(reduced), None, lits),
     }
 }

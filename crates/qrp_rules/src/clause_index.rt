@@ -12,12 +12,12 @@ ghost use Rattle.qrp_rules.specs.Conditions.{IsAnswer, initial_condition};
 ghost use Rattle.qrp_rules.specs.Index.{HasReductAt, IsIndex, IsIndexed, IsReducedForm, hash_with};
 ghost use Rattle.qrp_rules.specs.Index.{hash_from};
 
-use crate::blocks::{innermost, stands_after};
+use crate::blocks::reducible_in;
 use crate::exact::is_exact_reduct;
 use crate::fault::{Holds, Judgement, RuleFault};
 use crate::initial::has_reduct;
+use crate::normalizing::is_ordered;
 use crate::seen::{SeenLits, is_clean};
-use crate::written::is_ordered;
 use qbf_core::{Formula, Lit, LitSet, Prefix, Quantifier, SetFault};
 use std::alloc::{AllocError, Global};
 
@@ -39,10 +39,10 @@ fn reduced_hash(prefix: &Prefix, lits: &[Lit]) -> u64
     ensures { (form : List Literal) × IsReducedForm Clauses prefix.now lits.now form
         × (result ≡ hash_from 0 form) }
 {
-    let block = innermost(prefix, Quantifier::Exists, None, lits);
+    let reducible = reducible_in(prefix, Quantifier::All, lits);
     let mut hash = 0u64;
     for lit in lits {
-        if !stands_after(prefix, Quantifier::All, block, lit.var()) {
+        if !reducible.has(lit.var()) {
             hash = hash_with(hash, *lit);
         }
     }
@@ -68,45 +68,45 @@ fn clause_hash(alloc: Global, prefix: &Prefix, clause: &[Lit]) -> Result<Option<
     }
 }
 
-/// Whether the clause at a place, if there is one, is clean and has the set as a reduct.
-fn has_reduct_at(alloc: Global, formula: &Formula, place: usize, set: &[Lit]) -> Holds
+/// Whether the clause at a position, if there is one, is clean and has the set as a reduct.
+fn has_reduct_at(alloc: Global, formula: &Formula, position: usize, set: &[Lit]) -> Holds
     requires { IsOrdered set.now }
-    ensures { IfOk result (λ t. IsTrue t ↔ HasReductAt formula.now set.now place) }
+    ensures { IfOk result (λ t. IsTrue t ↔ HasReductAt formula.now set.now position) }
 {
-    if place >= formula.clauses() {
+    if position >= formula.clauses() {
         return Ok(false);
     }
-    has_reduct(alloc, formula.prefix(), formula.clause(place), set)
+    has_reduct(alloc, formula.prefix(), formula.clause(position), set)
 }
 
 /// A clause of the formula, and the hash that it shares with its reducts.
 #[derive(Clone, Copy)]
 struct IndexEntry {
     hash: u64,
-    place: usize,
+    position: usize,
 }
 
 /// The clean clauses of a formula in their order, each with its hash.
 fn hashed_clauses(alloc: Global, formula: &Formula) -> Result<Vec<IndexEntry>, AllocError>
-    ensures { IfOk result (λ filed. IsIndex formula.now filed.items) }
+    ensures { IfOk result (λ entries. IsIndex formula.now entries.items) }
 {
-    let mut filed = Vec::with_capacity(alloc, formula.clauses())?;
-    for place in 0..formula.clauses() {
-        if let Some(hash) = clause_hash(alloc, formula.prefix(), formula.clause(place))? {
-            filed.push(IndexEntry { hash, place })?;
+    let mut entries = Vec::with_capacity(alloc, formula.clauses())?;
+    for position in 0..formula.clauses() {
+        if let Some(hash) = clause_hash(alloc, formula.prefix(), formula.clause(position))? {
+            entries.push(IndexEntry { hash, position })?;
         }
     }
-    Ok(filed)
+    Ok(entries)
 }
 
-/// The place of a clause that was looked for, unless an allocation fails.
+/// The position of a clause that was looked for, unless an allocation fails.
 type Found = Result<Option<usize>, AllocError>;
 
 /// The clean clauses of a formula, found by their hashes.
 #[derive(Drop)]
 struct ClauseIndex {
     /// In the order of the hashes.
-    filed: Vec<IndexEntry>,
+    entries: Vec<IndexEntry>,
 }
 
 impl ClauseIndex {
@@ -115,30 +115,30 @@ impl ClauseIndex {
 
     /// The index of a formula.
     fn new(alloc: Global, formula: &Formula) -> Result<ClauseIndex, AllocError>
-        ensures index { IfOk result (λ index. IsIndex formula.now index.filed.items) }
-        ensures sorted { IfOk result (λ index. IsNonDecreasingBy hash_of index.filed.items) }
+        ensures index { IfOk result (λ index. IsIndex formula.now index.entries.items) }
+        ensures sorted { IfOk result (λ index. IsNonDecreasingBy hash_of index.entries.items) }
     {
-        let mut filed = hashed_clauses(alloc, formula)?;
-        filed.sort_unstable_by_key(|filed| filed.hash);
-        Ok(ClauseIndex { filed })
+        let mut entries = hashed_clauses(alloc, formula)?;
+        entries.sort_unstable_by_key(|entries| entries.hash);
+        Ok(ClauseIndex { entries })
     }
 
     /// The clauses from the first with a hash on.
     fn from_hash(&self, hash: u64) -> &[IndexEntry]
-        requires { IsNonDecreasingBy hash_of self.now.filed.items }
+        requires { IsNonDecreasingBy hash_of self.now.entries.items }
         ensures sorted { IsNonDecreasingBy hash_of result.now }
-        ensures all { (place : ℕ)
-            → Contains self.now.filed.items (record { hash = hash; place = place })
-            → Contains result.now (record { hash = hash; place = place }) }
+        ensures all { (position : ℕ)
+            → Contains self.now.entries.items (record { hash = hash; position = position })
+            → Contains result.now (record { hash = hash; position = position }) }
     {
-        let first = self.filed.partition_point(|filed| filed.hash < hash);
-        &self.filed[first..]
+        let first = self.entries.partition_point(|entries| entries.hash < hash);
+        &self.entries[first..]
     }
 
-    /// The place of a clean clause with the set as a reduct. Only those with its hash are tried.
+    /// The position of a clean clause with the set as a reduct. Only those with its hash are tried.
     fn find(&self, alloc: Global, formula: &Formula, set: &[Lit]) -> Found
-        requires index { IsIndex formula.now self.now.filed.items }
-        requires sorted { IsNonDecreasingBy hash_of self.now.filed.items }
+        requires index { IsIndex formula.now self.now.entries.items }
+        requires sorted { IsNonDecreasingBy hash_of self.now.entries.items }
         requires ordered { IsOrdered set.now }
         ensures some { IfOk result (λ found. IfSome found (HasReductAt formula.now set.now)) }
         ensures none { IfOk result
@@ -146,12 +146,12 @@ impl ClauseIndex {
     {
         let hash = reduced_hash(formula.prefix(), set);
         let rest = self.from_hash(hash);
-        for filed in rest {
-            if filed.hash > hash {
+        for entry in rest {
+            if entry.hash > hash {
                 return Ok(None);
             }
-            if has_reduct_at(alloc, formula, filed.place, set)? {
-                return Ok(Some(filed.place));
+            if has_reduct_at(alloc, formula, entry.position, set)? {
+                return Ok(Some(entry.position));
             }
         }
         Ok(None)
@@ -161,7 +161,7 @@ impl ClauseIndex {
 /// How the initial clauses of a trace are found in the formula.
 #[derive(Drop)]
 pub(crate) struct InitialClauses {
-    /// The place after the clause that was found last: solvers mostly write them in their order.
+    /// The position after the clause that was found last: solvers mostly write them in their order.
     next: usize,
     /// Made when a clause is first not found there.
     index: Option<ClauseIndex>,
@@ -180,13 +180,7 @@ impl InitialClauses {
 
     /// Whether literals are, as they are written, a reduct of the clause after the one that was found
     /// last, clean and bound. `false` says nothing.
-    pub(crate) fn is_next(
-        &mut self,
-        alloc: Global,
-        formula: &Formula,
-        seen: &mut SeenLits,
-        lits: &[Lit],
-    ) -> Holds
+    pub(crate) fn is_next(&mut self, formula: &Formula, seen: &mut SeenLits, lits: &[Lit]) -> Holds
         requires { IsIndexed formula.now self.old }
         ensures initial { IfOk result (λ t. IsTrue t → IsInitial Clauses formula.now lits.now) }
         ensures clean { IfOk result (λ t. IsTrue t → IsClean lits.now) }
@@ -202,17 +196,17 @@ impl InitialClauses {
         if clause.first() != lits.first() {
             return Ok(false);
         }
-        if !is_clean(alloc, seen, prefix, clause)? {
+        if !is_clean(seen, prefix, clause)? {
             return Ok(false);
         }
-        if !is_exact_reduct(prefix, Quantifier::All, Quantifier::Exists, clause, lits) {
+        if !is_exact_reduct(prefix, Quantifier::All, clause, lits) {
             return Ok(false);
         }
         self.next = self.next.saturating_add(1);
         Ok(true)
     }
 
-    /// The place of a clean clause that has the set as a reduct, by the index.
+    /// The position of a clean clause that has the set as a reduct, by the index.
     fn find(&mut self, alloc: Global, formula: &Formula, set: &[Lit]) -> Found
         requires indexed { IsIndexed formula.now self.old }
         requires ordered { IsOrdered set.now }
@@ -243,8 +237,8 @@ impl InitialClauses {
             return Ok(None);
         }
         match self.find(alloc, formula, set)? {
-            Some(place) => {
-                self.next = place.saturating_add(1);
+            Some(position) => {
+                self.next = position.saturating_add(1);
                 Ok(None)
             }
             None => Ok(Some(RuleFault::S4)),

@@ -5,12 +5,12 @@ ghost use Rattle.std.specs.Prelude.{◌≡◌, ◌⊎◌, ◌↔◌, IsTrue, IfS
 ghost use Rattle.qbf_core.specs.Literal.{Literal, negated};
 ghost use Rattle.qbf_core.specs.Members.{◌∈◌, ◌⊆◌};
 ghost use Rattle.qbf_core.specs.Blocks.{AreBound};
-ghost use Rattle.qbf_core.specs.Rules.{Side, IsClean, reduced_quantifier, deciding_quantifier};
+ghost use Rattle.qbf_core.specs.Rules.{Side, IsClean, reduced_quantifier};
 ghost use Rattle.qrp_rules.specs.Conditions.{AllHold, reduct_conditions};
 ghost use Rattle.qrp_rules.specs.Exact.{IsApart, IsMergeBut, IsMerged, IsNext, IsResolvedBut};
-ghost use Rattle.qrp_rules.specs.Walks.{StandsAfter};
+ghost use Rattle.qrp_rules.specs.Walks.{TakesOut};
 
-use crate::blocks::{innermost, stands_after};
+use crate::blocks::{Reducible, reducible_in};
 use crate::initial::is_among;
 use qbf_core::{Lit, Prefix, Quantifier, Var};
 
@@ -133,22 +133,16 @@ pub(crate) fn is_apart(lits: &[Lit], var: Var) -> bool
     lits.iter().all(|lit| lit.var().number() != var.number())
 }
 
-/// Whether a list is what is left of another without some literals of a quantifier after a block.
-fn is_reduct_as_written(
-    prefix: &Prefix,
-    quantifier: Quantifier,
-    block: Option<usize>,
-    from: &[Lit],
-    to: &[Lit],
-) -> bool
+/// Whether a list is what is left of another without some literals that a reduction may take out.
+fn is_reduct_as_written(reducible: Reducible, from: &[Lit], to: &[Lit]) -> bool
     ensures within { IsTrue result → to.now ⊆ from.now }
     ensures each { IsTrue result → (l : Literal) → l ∈ from.now
-        → (l ∈ to.now) ⊎ StandsAfter prefix.now quantifier block l.var }
+        → (l ∈ to.now) ⊎ TakesOut reducible.entry l.var }
 {
     let mut in_to = 0;
     for lit in from {
         let next = advance_if_equal(to, in_to, *lit);
-        if next == in_to && !stands_after(prefix, quantifier, block, lit.var()) {
+        if next == in_to && !reducible.has(lit.var()) {
             return false;
         }
         in_to = next;
@@ -157,19 +151,12 @@ fn is_reduct_as_written(
 }
 
 /// Whether a list is, as it is written, a clean and bound one without some reducible literals, for
-/// a side with these quantifiers. `false` says nothing. It takes no memory.
+/// the side that reduces this quantifier. `false` says nothing. It takes no memory.
 #[inline(always)]
-pub fn is_exact_reduct(
-    prefix: &Prefix,
-    reduced: Quantifier,
-    deciding: Quantifier,
-    from: &[Lit],
-    to: &[Lit],
-) -> bool
+pub fn is_exact_reduct(prefix: &Prefix, reduced: Quantifier, from: &[Lit], to: &[Lit]) -> bool
     requires clean { IsClean from.now }
     requires bound { AreBound prefix.now from.now }
-    ensures follows { IsTrue result → (side : Side)
-        → reduced ≡ reduced_quantifier side → deciding ≡ deciding_quantifier side
+    ensures follows { IsTrue result → (side : Side) → reduced ≡ reduced_quantifier side
         → AllHold (reduct_conditions side prefix.now from.now to.now) }
     ensures clean { IsTrue result → IsClean to.now }
     ensures bound { IsTrue result → AreBound prefix.now to.now }
@@ -179,6 +166,5 @@ pub fn is_exact_reduct(
         return true;
     }
     // What is left out has the other quantifier, so the literals that are kept say the block.
-    let block = innermost(prefix, deciding, None, to);
-    is_reduct_as_written(prefix, reduced, block, from, to)
+    is_reduct_as_written(reducible_in(prefix, reduced, to), from, to)
 }

@@ -9,8 +9,8 @@ ghost use Rattle.qbf_core.specs.Sets.{IsOrdered};
 ghost use Rattle.qrp_rules.specs.Conditions.{IsAnswer, initial_condition};
 
 use crate::fault::{Holds, RuleFault};
+use crate::normalizing::is_ordered;
 use crate::walks::ordered_reduct_fault_by;
-use crate::written::is_ordered;
 use qbf_core::{Formula, Lit, LitSet, Prefix, Quantifier, SetFault, is_member};
 use std::alloc::{AllocError, Global};
 
@@ -20,7 +20,7 @@ fn has_ordered_reduct(prefix: &Prefix, clause: &[Lit], set: &[Lit]) -> bool
     requires set { IsOrdered set.now }
     ensures { IsTrue result ↔ IsReduct Clauses prefix.now clause.now set.now }
 {
-    ordered_reduct_fault_by(prefix, Quantifier::All, Quantifier::Exists, clause, set).is_none()
+    ordered_reduct_fault_by(prefix, Quantifier::All, clause, set).is_none()
 }
 
 /// Whether a clause as written is clean and has the set as a reduct.
@@ -49,7 +49,7 @@ pub(crate) fn has_reduct(alloc: Global, prefix: &Prefix, clause: &[Lit], set: &[
 }
 
 /// Whether a clause as written has a literal of the set.
-fn shares(clause: &[Lit], set: &[Lit]) -> bool
+fn has_common_literal(clause: &[Lit], set: &[Lit]) -> bool
     requires { IsOrdered set.now }
     ensures { IsTrue result ↔ ((l : Literal) × (l ∈ clause.now) × (l ∈ set.now)) }
 {
@@ -78,7 +78,7 @@ pub(crate) fn initial_cube_fault(formula: &Formula, set: &[Lit]) -> Option<RuleF
 {
     for i in 0..formula.clauses() {
         let clause = formula.clause(i);
-        if shares(clause, set) {
+        if has_common_literal(clause, set) {
             continue;
         }
         if !is_tautology(clause) {

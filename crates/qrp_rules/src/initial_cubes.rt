@@ -69,8 +69,8 @@ impl InitialCubes {
 
     /// Where the list of a literal is, or `None` if it has none.
     fn position(&self, lit: Lit) -> Option<usize>
-        ensures { IfSome result (λ place. (w : Watch)
-            × (slice_get self.now.lists.items place ≡ Some w) × (w.lit ≡ lit)) }
+        ensures { IfSome result (λ position. (w : Watch)
+            × (slice_get self.now.lists.items position ≡ Some w) × (w.lit ≡ lit)) }
     {
         let position = *self.positions.get(code(lit))? as usize;
         if self.lists.get(position)?.lit == lit {
@@ -174,8 +174,8 @@ impl InitialCubes {
         ensures { IfOk result (λ is. IsTrue is
             → (i : ℕ) → IsMet 0 formula.now seen.now self.new.lists.items i) }
     {
-        for place in 0..formula.clauses() {
-            if !self.watch_clause(formula, seen, place)? {
+        for position in 0..formula.clauses() {
+            if !self.watch_clause(formula, seen, position)? {
                 return Ok(false);
             }
         }
@@ -245,7 +245,7 @@ impl InitialCubes {
         ensures bound { IfOk result (λ t. IsTrue t → AreBound formula.now.blocks lits.now) }
         ensures kept { OnOk result (IsWatching formula.now self.new) }
     {
-        seen.make_room(self.alloc, formula.prefix())?;
+        seen.make_room(formula.prefix())?;
         if !are_bound(formula.prefix(), lits) {
             return Ok(false);
         }

@@ -47,7 +47,6 @@ impl InitialSteps {
     #[tactic(auto, using(crate::proofs::WatchedClauses::initial_cube))]
     pub fn is_initial<S: Side>(
         &mut self,
-        alloc: Global,
         formula: &Formula,
         seen: &mut SeenLits,
         lits: &[Lit],
@@ -60,7 +59,7 @@ impl InitialSteps {
         ensures known { OnOk result (AreKnown formula.now self.new) }
     {
         match S::REDUCED {
-            Quantifier::All => self.clauses.is_next(alloc, formula, seen, lits),
+            Quantifier::All => self.clauses.is_next(formula, seen, lits),
             Quantifier::Exists => self.cubes.is_initial(formula, seen, lits),
         }
     }

@@ -18,7 +18,7 @@ pub fn ordered_reduct_fault<S: Side>(prefix: &Prefix, from: &[Lit], to: &[Lit]) 
     requires to { IsOrdered to.now }
     ensures { IsAnswer (reduct_conditions S.side prefix.now from.now to.now) result }
 {
-    ordered_reduct_fault_by(prefix, S::REDUCED, S::DECIDING, from, to)
+    ordered_reduct_fault_by(prefix, S::REDUCED, from, to)
 }
 
 /// Why a set is no reduct of another, or `None` where it is one. Both are over this prefix.

@@ -10,12 +10,23 @@ ghost use Rattle.qrp_rules.specs.Conditions.{AllHold, AllowsPivot, IsAnswer, res
 ghost use Rattle.qrp_rules.specs.Unreduced.{unreduced_conditions};
 ghost use Rattle.qrp_rules.specs.Walks.{Accounts, Covers, IsClashOf};
 
-use crate::blocks::{block_if, inner, innermost, is_bound_by, outer};
+use crate::blocks::{Reducible, block_if, inner, innermost, is_bound_by, outer};
 use crate::fault::RuleFault;
 use crate::rules::Rules;
 use crate::side::Side;
-use crate::walks::{Reducible, advance_to, is_covered};
+use crate::walks::{is_subset_up_to, seek_literal};
 use qbf_core::{Lit, LitSet, Prefix, Var};
+
+/// A step of resolution: the literals of two antecedents, and those that are to follow from them.
+#[derive(Clone, Copy)]
+pub struct Resolution<'a> {
+    /// The literals of the first antecedent.
+    pub a: &'a [Lit],
+    /// The literals of the second antecedent.
+    pub b: &'a [Lit],
+    /// The literals of the step.
+    pub to: &'a [Lit],
+}
 
 /// The variables in which two sets clash.
 enum Clash {
@@ -33,7 +44,7 @@ fn find_clash(a: &[Lit], b: &[Lit]) -> Clash
     let mut rest = b;
     let mut found: Option<Var> = None;
     for lit in a {
-        let (others, opposite) = advance_to(rest, lit.negated());
+        let (others, opposite) = seek_literal(rest, lit.negated());
         rest = others;
         if opposite {
             match found {
@@ -65,8 +76,8 @@ fn is_within(to: &[Lit], a: &[Lit], b: &[Lit], pivot: Var) -> bool
     let mut left = a;
     let mut right = b;
     for lit in to {
-        let (xs, in_a) = advance_to(left, *lit);
-        let (ys, in_b) = advance_to(right, *lit);
+        let (xs, in_a) = seek_literal(left, *lit);
+        let (ys, in_b) = seek_literal(right, *lit);
         if !is_resolved(in_a, in_b, lit.var(), pivot) {
             return false;
         }
@@ -81,29 +92,31 @@ fn is_within(to: &[Lit], a: &[Lit], b: &[Lit], pivot: Var) -> bool
 ///
 /// These stand after the outer one of the innermost blocks of the two. A literal that both hold is
 /// left out if it may be left out of both.
-pub(crate) fn reducible_in_parents<S: Side>(
-    prefix: &Prefix,
+pub(crate) fn reducible_in_parents<'a, S: Side>(
+    prefix: &'a Prefix,
     a: &[Lit],
     b: &[Lit],
     pivot: Var,
-) -> (Reducible, Reducible)
+) -> (Reducible<'a>, Reducible<'a>)
     requires { Clashes a.now b.now pivot }
     ensures { (to : List Literal) → Accounts S.side prefix.now a.now b.now to pivot
-        ↔ (Covers prefix.now (Some result.0) (Some pivot) a.now to
-        × Covers prefix.now (Some result.1) (Some pivot) b.now to) }
+        ↔ (Covers (Some result.0) (Some pivot) a.now to
+        × Covers (Some result.1) (Some pivot) b.now to) }
 {
     let reduced = S::REDUCED;
     let deciding = S::DECIDING;
-    let aside = Some(pivot.number());
-    let beside_a = innermost(prefix, deciding, aside, a);
-    let beside_b = innermost(prefix, deciding, aside, b);
+    let number = Some(pivot.number());
+    let beside_a = innermost(prefix, deciding, number, a);
+    let beside_b = innermost(prefix, deciding, number, b);
     let of_pivot = block_if(prefix, deciding, None, pivot);
     let whole = inner(beside_a, beside_b);
     let in_a = Reducible {
+        prefix,
         quantifier: reduced,
         block: outer(whole, inner(beside_a, of_pivot)),
     };
     let in_b = Reducible {
+        prefix,
         quantifier: reduced,
         block: outer(whole, inner(beside_b, of_pivot)),
     };
@@ -114,20 +127,22 @@ pub(crate) fn reducible_in_parents<S: Side>(
 ///
 /// Each antecedent is walked over once, with its own outer block, and a literal that both hold is
 /// looked at in both walks.
-fn is_reduced<S: Side>(prefix: &Prefix, a: &[Lit], b: &[Lit], to: &[Lit], pivot: Var) -> bool
-    requires a { IsOrdered a.now }
-    requires b { IsOrdered b.now }
-    requires to { IsOrdered to.now }
-    requires clash { Clashes a.now b.now pivot }
-    ensures { IsTrue result ↔ Accounts S.side prefix.now a.now b.now to.now pivot }
+fn is_reduced<S: Side>(prefix: &Prefix, step: Resolution, pivot: Var) -> bool
+    requires a { IsOrdered step.a.now }
+    requires b { IsOrdered step.b.now }
+    requires to { IsOrdered step.to.now }
+    requires clash { Clashes step.a.now step.b.now pivot }
+    ensures { IsTrue result ↔ Accounts S.side prefix.now step.entry.a.now step.entry.b.now
+        step.entry.to.now pivot }
 {
-    let aside = Some(pivot.number());
+    let Resolution { a, b, to } = step;
+    let number = Some(pivot.number());
     // Most steps leave nothing out, and then no block matters.
-    if is_covered(prefix, None, aside, a, to) && is_covered(prefix, None, aside, b, to) {
+    if is_subset_up_to(None, number, a, to) && is_subset_up_to(None, number, b, to) {
         return true;
     }
     let (in_a, in_b) = reducible_in_parents::<S>(prefix, a, b, pivot);
-    is_covered(prefix, Some(in_a), aside, a, to) && is_covered(prefix, Some(in_b), aside, b, to)
+    is_subset_up_to(Some(in_a), number, a, to) && is_subset_up_to(Some(in_b), number, b, to)
 }
 
 /// Whether a step may resolve on the variable.
@@ -137,32 +152,31 @@ pub(crate) fn is_pivot<S: Side>(prefix: &Prefix, pivot: Var, rules: Rules) -> bo
     rules.any_pivot || is_bound_by(prefix, S::DECIDING, pivot)
 }
 
-/// Why an ordered list does not follow from two others by resolution, or `None` where it does: as
+/// Why a step does not follow from its antecedents by resolution, or `None` where it does: as
 /// `resolvent_fault`, of literals in the order of their variables, no variable twice. It takes no
 /// memory.
 pub fn ordered_resolvent_fault<S: Side>(
     prefix: &Prefix,
-    a: &[Lit],
-    b: &[Lit],
-    to: &[Lit],
+    step: Resolution,
     rules: Rules,
 ) -> Option<RuleFault>
-    requires a { IsOrdered a.now }
-    requires b { IsOrdered b.now }
-    requires to { IsOrdered to.now }
-    ensures { IsAnswer (resolvent_conditions rules S.side prefix.now a.now b.now to.now) result }
+    requires a { IsOrdered step.a.now }
+    requires b { IsOrdered step.b.now }
+    requires to { IsOrdered step.to.now }
+    ensures { IsAnswer (resolvent_conditions rules S.side prefix.now step.entry.a.now
+        step.entry.b.now step.entry.to.now) result }
 {
-    match find_clash(a, b) {
+    match find_clash(step.a, step.b) {
         Clash::Nothing => Some(RuleFault::S8),
         Clash::More => Some(RuleFault::S9),
         Clash::One(pivot) => {
             if !is_pivot::<S>(prefix, pivot, rules) {
                 return Some(RuleFault::S10);
             }
-            if !is_within(to, a, b, pivot) {
+            if !is_within(step.to, step.a, step.b, pivot) {
                 return Some(RuleFault::S11);
             }
-            if !is_reduced::<S>(prefix, a, b, to, pivot) {
+            if !is_reduced::<S>(prefix, step, pivot) {
                 return Some(RuleFault::S12);
             }
             None
@@ -197,5 +211,10 @@ pub fn resolvent_fault<S: Side>(
     ensures as_before { AllHold (unreduced_conditions rules S.side prefix.now a.now b.now to.now)
         → result ≡ None }
 {
-    ordered_resolvent_fault::<S>(prefix, a.as_slice(), b.as_slice(), to.as_slice(), rules)
+    let step = Resolution {
+        a: a.as_slice(),
+        b: b.as_slice(),
+        to: to.as_slice(),
+    };
+    ordered_resolvent_fault::<S>(prefix, step, rules)
 }

@@ -8,7 +8,7 @@ ghost use Rattle.qrp_rules.specs.Exact.{IsApart};
 ghost use Rattle.qrp_rules.specs.Seen.{AreUpTo, Has, code};
 
 use crate::fault::Holds;
-use crate::written::is_ordered;
+use crate::normalizing::is_ordered;
 use qbf_core::{Lit, Prefix, Var};
 use std::alloc::{AllocError, Global};
 use std::marker::Model;
@@ -24,6 +24,7 @@ pub(crate) fn code(lit: Lit) -> usize
 /// A set of literals that is emptied by one step. Contracts see which literals it has.
 #[derive(Drop)]
 pub struct SeenLits {
+    alloc: Global,
     /// When each literal was met, by its number.
     stamps: Vec<u32>,
     /// The stamp of the literals that are in the set. It is never 0.
@@ -45,6 +46,7 @@ impl SeenLits {
     /// An empty set. It takes no memory yet, and has no room.
     pub fn new(alloc: Global) -> SeenLits {
         SeenLits {
+            alloc,
             stamps: Vec::new(alloc),
             stamp: 1,
         }
@@ -55,10 +57,10 @@ impl SeenLits {
     ///
     /// # Errors
     /// If an allocation fails.
-    pub(crate) fn make_room(&mut self, alloc: Global, prefix: &Prefix) -> Result<(), AllocError> {
+    pub(crate) fn make_room(&mut self, prefix: &Prefix) -> Result<(), AllocError> {
         if self.stamps.is_empty() {
             let width = prefix.len().saturating_mul(4).saturating_add(4);
-            self.stamps = vec![in alloc; 0; width]?;
+            self.stamps = vec![in self.alloc; 0; width]?;
         }
         Ok(())
     }
@@ -96,11 +98,11 @@ impl SeenLits {
     pub(crate) fn insert(&mut self, lit: Lit) -> bool
         ensures { (l : Literal) → Has self.new l ↔ (Has self.old l ⊎ ((l ≡ lit) × IsTrue result)) }
     {
-        let place = code(lit);
-        if place >= self.stamps.len() {
+        let position = code(lit);
+        if position >= self.stamps.len() {
             return false;
         }
-        self.stamps[place] = self.stamp;
+        self.stamps[position] = self.stamp;
         true
     }
 
@@ -123,11 +125,11 @@ fn stamp_var(stamps: &mut [u32], stamp: u32, var: Var) -> bool
     ensures kept { (n : ℕ) → get_or stamps.old n 0 ≡ stamp → get_or stamps.new n 0 ≡ stamp }
     ensures upto { AreUpTo stamps.old stamp → AreUpTo stamps.new stamp }
 {
-    let place = var.number() as usize;
-    if place >= stamps.len() || stamps[place] == stamp {
+    let position = var.number() as usize;
+    if position >= stamps.len() || stamps[position] == stamp {
         return false;
     }
-    stamps[place] = stamp;
+    stamps[position] = stamp;
     true
 }
 
@@ -189,12 +191,12 @@ pub(crate) fn find_negated(seen: &SeenLits, lits: &[Lit]) -> Option<Lit>
 }
 
 /// Whether literals are clean. `false` says nothing.
-pub(crate) fn is_clean(alloc: Global, seen: &mut SeenLits, prefix: &Prefix, lits: &[Lit]) -> Holds
+pub(crate) fn is_clean(seen: &mut SeenLits, prefix: &Prefix, lits: &[Lit]) -> Holds
     ensures { IfOk result (λ t. IsTrue t → IsClean lits.now) }
 {
     if is_ordered(lits) {
         return Ok(true);
     }
-    seen.make_room(alloc, prefix)?;
+    seen.make_room(prefix)?;
     Ok(set_if_clean(seen, lits))
 }

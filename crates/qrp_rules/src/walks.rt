@@ -3,17 +3,17 @@
 ghost use Rattle.std.specs.Prelude.{◌≡◌, ◌≤◌, ◌↔◌, ◌⊎◌, IsTrue};
 ghost use Rattle.qbf_core.specs.Literal.{Literal};
 ghost use Rattle.qbf_core.specs.Members.{◌∈◌, ◌⊆◌};
-ghost use Rattle.qbf_core.specs.Rules.{Side, reduced_quantifier, deciding_quantifier};
+ghost use Rattle.qbf_core.specs.Rules.{Side, reduced_quantifier};
 ghost use Rattle.qbf_core.specs.Sets.{IsOrdered};
 ghost use Rattle.qrp_rules.specs.Conditions.{IsAnswer, reduct_conditions};
-ghost use Rattle.qrp_rules.specs.Walks.{Covers, MayLack};
+ghost use Rattle.qrp_rules.specs.Walks.{Covers, MayOmit};
 
-use crate::blocks::{innermost, is_the_pivot, stands_after};
+use crate::blocks::{Reducible, is_the_pivot, reducible_in};
 use crate::fault::RuleFault;
 use qbf_core::{Lit, Prefix, Quantifier, Var};
 
 /// What is left of an ordered list from a variable on.
-fn skip_to(lits: &[Lit], var: Var) -> &[Lit]
+fn seek(lits: &[Lit], var: Var) -> &[Lit]
     requires { IsOrdered lits.now }
     ensures ordered { IsOrdered result.now }
     ensures within { result.now ⊆ lits.now }
@@ -32,7 +32,7 @@ fn skip_to(lits: &[Lit], var: Var) -> &[Lit]
 
 /// Whether an ordered list, with no variable before that of the literal, begins with it.
 #[tactic(auto, using(crate::proofs::Cursors::first_is))]
-fn begins(lits: &[Lit], lit: Lit) -> bool
+fn starts_with(lits: &[Lit], lit: Lit) -> bool
     requires ordered { IsOrdered lits.now }
     requires later { (m : Literal) → m ∈ lits.now → lit.var ≤ m.var }
     ensures { IsTrue result ↔ lit ∈ lits.now }
@@ -44,43 +44,30 @@ fn begins(lits: &[Lit], lit: Lit) -> bool
 }
 
 /// What is left of an ordered list from the variable of a literal on, and whether it has that one.
-pub(crate) fn advance_to(lits: &[Lit], lit: Lit) -> (&[Lit], bool)
+pub(crate) fn seek_literal(lits: &[Lit], lit: Lit) -> (&[Lit], bool)
     requires { IsOrdered lits.now }
     ensures ordered { IsOrdered result.0.now }
     ensures within { result.0.now ⊆ lits.now }
     ensures kept { (m : Literal) → m ∈ lits.now → lit.var ≤ m.var → m ∈ result.0.now }
     ensures found { IsTrue result.1 ↔ lit ∈ lits.now }
 {
-    let rest = skip_to(lits, lit.var());
-    (rest, begins(rest, lit))
-}
-
-/// What a reduction may take out: literals of a quantifier after a block, or all if there is none.
-#[derive(Clone, Copy)]
-pub(crate) struct Reducible {
-    pub quantifier: Quantifier,
-    pub block: Option<usize>,
+    let rest = seek(lits, lit.var());
+    (rest, starts_with(rest, lit))
 }
 
 /// Whether a literal of the variable may be missing: of the pivot, or one that reduction takes out.
-pub(crate) fn may_lack(
-    prefix: &Prefix,
-    reducible: Option<Reducible>,
-    pivot: Option<u32>,
-    var: Var,
-) -> bool
-    ensures { IsTrue result ↔ MayLack prefix.now reducible pivot var }
+pub(crate) fn may_omit(reducible: Option<Reducible>, pivot: Option<u32>, var: Var) -> bool
+    ensures { IsTrue result ↔ MayOmit reducible.entry pivot var }
 {
     match reducible {
         _ if is_the_pivot(pivot, var) => true,
-        Some(after) => stands_after(prefix, after.quantifier, after.block, var),
+        Some(reducible) => reducible.has(var),
         None => false,
     }
 }
 
 /// Whether each literal of one ordered list is in the other, or may be missing there.
-pub(crate) fn is_covered(
-    prefix: &Prefix,
+pub(crate) fn is_subset_up_to(
     reducible: Option<Reducible>,
     pivot: Option<u32>,
     from: &[Lit],
@@ -88,12 +75,12 @@ pub(crate) fn is_covered(
 ) -> bool
     requires from { IsOrdered from.now }
     requires to { IsOrdered to.now }
-    ensures { IsTrue result ↔ Covers prefix.now reducible pivot from.now to.now }
+    ensures { IsTrue result ↔ Covers reducible.entry pivot from.now to.now }
 {
     let mut rest = to;
     for lit in from {
-        let (others, kept) = advance_to(rest, *lit);
-        if !kept && !may_lack(prefix, reducible, pivot, lit.var()) {
+        let (others, kept) = seek_literal(rest, *lit);
+        if !kept && !may_omit(reducible, pivot, lit.var()) {
             return false;
         }
         rest = others;
@@ -101,32 +88,26 @@ pub(crate) fn is_covered(
     true
 }
 
-/// Why one ordered list is no reduct of the other, for a side with these quantifiers.
+/// Why one ordered list is no reduct of the other, for the side that reduces this quantifier.
 pub(crate) fn ordered_reduct_fault_by(
     prefix: &Prefix,
     reduced: Quantifier,
-    deciding: Quantifier,
     from: &[Lit],
     to: &[Lit],
 ) -> Option<RuleFault>
     requires from { IsOrdered from.now }
     requires to { IsOrdered to.now }
-    ensures { (side : Side)
-        → reduced ≡ reduced_quantifier side → deciding ≡ deciding_quantifier side
+    ensures { (side : Side) → reduced ≡ reduced_quantifier side
         → IsAnswer (reduct_conditions side prefix.now from.now to.now) result }
 {
-    if !is_covered(prefix, None, None, to, from) {
+    if !is_subset_up_to(None, None, to, from) {
         return Some(RuleFault::S6);
     }
     // Nothing is left out, so no block matters.
     if from.len() <= to.len() {
         return None;
     }
-    let reducible = Some(Reducible {
-        quantifier: reduced,
-        block: innermost(prefix, deciding, None, from),
-    });
-    if !is_covered(prefix, reducible, None, from, to) {
+    if !is_subset_up_to(Some(reducible_in(prefix, reduced, from)), None, from, to) {
         return Some(RuleFault::S7);
     }
     None

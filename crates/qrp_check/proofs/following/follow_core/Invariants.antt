@@ -1,6 +1,6 @@
 use Rattle.qrp_check.specs.Followed.{IsFollowed}
 use Rattle.qrp_check.proofs.following.follow_core.Given as goal
 
-abbrev pub invariant-loop-place : goal.invariant-loop-place
-invariant-loop-place g l =
-    IsFollowed l.context.rules g.S.Side.side l.context.formula.now (g.T.Steps.steps l.trace) l.place l.state
+abbrev pub invariant-loop-position : goal.invariant-loop-position
+invariant-loop-position g l =
+    IsFollowed l.context.rules g.S.Side.side l.context.formula.now (g.T.Steps.steps l.trace) l.position l.state

@@ -17,8 +17,7 @@ returns-in-One-clause-follows g c = rw c.in-One.is (λ t. (
   c.is_exact_reduct.ensures.clean t,
   (
     rw c.prefix-prefix.ensures.value at c.is_exact_reduct.ensures.bound t,
-    rw c.prefix-prefix.ensures.value at c.is_exact_reduct.ensures.follows t g.S.Side.side (c.REDUCED.ensures ∙ g.met.S.Side.reduces)
-        (c.DECIDING.ensures ∙ g.met.S.Side.decides),
+    rw c.prefix-prefix.ensures.value at c.is_exact_reduct.ensures.follows t g.S.Side.side (c.REDUCED.ensures ∙ g.met.S.Side.reduces),
   ),
 ))
 

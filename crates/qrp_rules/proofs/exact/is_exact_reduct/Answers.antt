@@ -1,5 +1,5 @@
-use Rattle.qrp_rules.proofs.Words.{inl, inr, clean_within}
-use Rattle.qrp_rules.proofs.Reducing.{reducible_after, reducible_wider}
+use Rattle.qrp_rules.proofs.Words.{inl, inr, clean_within, TakesOut}
+use Rattle.qrp_rules.proofs.Reducing.{reducible_wider}
 use Rattle.std.proofs.Common.{◌≡◌, List, subst}
 use Rattle.std.proofs.lemmas.Slice.Eq.{slice_eq-Decides}
 use Rattle.qbf_core.specs.Literal.{Literal}
@@ -11,16 +11,13 @@ use Rattle.qrp_rules.proofs.exact.is_exact_reduct.Goals as goal
 use Rattle.qbf_core.proofs.Bound.{bound_within}
 
 pub returns-clause-follows : goal.returns-clause-follows
-returns-clause-follows c = λ t side reduces decides. (
+returns-clause-follows c = λ t side reduces. (
   c.is_reduct_as_written.ensures.within t,
   (
     (λ l h. elim (c.is_reduct_as_written.ensures.each t l h) [
       | inl k ↦ inl k
-      | inr stands ↦ inr
-          (reducible_wider side c.args.prefix.now c.args.reduced c.innermost-block.result c.args.from.now c.args.to.now reduces
-          (c.is_reduct_as_written.ensures.each t) l
-          ((reducible_after side c.args.prefix.now c.args.reduced c.args.deciding c.args.to.now c.innermost-block.result
-          reduces decides c.innermost-block.ensures l).0 stands))
+      | inr may ↦ inr (reducible_wider side c.args.prefix.now (λ m. TakesOut c.reducible_in.result m.var) c.args.from.now c.args.to.now
+          (c.reducible_in.ensures side reduces) (c.is_reduct_as_written.ensures.each t) l may)
     ]),
     tt,
   ),
@@ -36,7 +33,7 @@ same : (c : goal.Then-eq) → c.args.from.now ≡ c.args.to.now
 same c = (slice_eq-Decides lit_decides c.args.from.now c.args.to.now c.eq.result c.eq.ensures).0 c.if-eq.true
 
 pub returns-then-eq-clause-follows : goal.returns-then-eq-clause-follows
-returns-then-eq-clause-follows c = λ _ side _ _.
+returns-then-eq-clause-follows c = λ _ side _.
     subst (λ (to : List Literal). AllHold (reduct_conditions side c.args.prefix.now c.args.from.now to)) (same c)
     ((λ l h. h), ((λ l h. inl h), tt))
 

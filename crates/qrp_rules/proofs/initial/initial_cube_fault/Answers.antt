@@ -7,7 +7,7 @@ returns-then-not-is_tautology c =
     inl (
       (λ all. elim (all c.clause-clause.result.now (got_in _ c.loop-i.i _ c.clause-clause.ensures)) [
         | inl t ↦ false≢true (sym c.if-not-is_tautology.true ∙ c.is_tautology.ensures.1 t)
-        | inr w ↦ false≢true (sym c.if-shares.false ∙ c.shares.ensures.1 w)
+        | inr w ↦ false≢true (sym c.if-has_common_literal.false ∙ c.has_common_literal.ensures.1 w)
       ]),
       refl,
     )
@@ -16,9 +16,10 @@ pub loop-i-preserved : goal.loop-i-preserved
 loop-i-preserved c = each_got (λ (z : List Literal). IsTautology z ⊎ ((m : Literal) × (m ∈ z) × (m ∈ c.args.set.now))) _ c.loop-i.i
     c.clause-clause.result.now c.clause-clause.ensures (inl (c.is_tautology.ensures.0 c.if-not-is_tautology.false)) c.loop-i.invariant
 
-pub loop-i-preserved-then-shares : goal.loop-i-preserved-then-shares
-loop-i-preserved-then-shares c = each_got (λ (z : List Literal). IsTautology z ⊎ ((m : Literal) × (m ∈ z) × (m ∈ c.args.set.now))) _
-    c.loop-i.i c.clause-clause.result.now c.clause-clause.ensures (inr (c.shares.ensures.0 c.if-shares.true)) c.loop-i.invariant
+pub loop-i-preserved-then-has_common_literal : goal.loop-i-preserved-then-has_common_literal
+loop-i-preserved-then-has_common_literal c =
+    each_got (λ (z : List Literal). IsTautology z ⊎ ((m : Literal) × (m ∈ z) × (m ∈ c.args.set.now))) _ c.loop-i.i
+    c.clause-clause.result.now c.clause-clause.ensures (inr (c.has_common_literal.ensures.0 c.if-has_common_literal.true)) c.loop-i.invariant
 
 pub returns : goal.returns
 returns c = ((λ k h. c.loop-i.invariant k (in_take_all c.args.formula.now.clauses c.loop-i.i k (omega arith) h)), tt)

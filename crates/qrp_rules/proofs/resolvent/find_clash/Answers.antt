@@ -17,14 +17,14 @@ loop-lit-preserved c =
     let i : ℕ = c.loop-lit.lit-index in
     let x : Literal = c.lit-item.result in
     let var_of : Literal → ℕ = λ z. z.var in
-    let reach' : Reaches c.args.b.now c.advance_to-opposite.result.0.now (HasVar (drop (i + 1) c.args.a.now)) =
+    let reach' : Reaches c.args.b.now c.seek_literal-opposite.result.0.now (HasVar (drop (i + 1) c.args.a.now)) =
     reach_more c.args.b.now c.loop-lit.rest.now _ c.args.a.now i (c.negated.result.var) x c.requires.a c.loop-lit-test.true
-    c.lit-item.is c.loop-lit.invariant.reach c.advance_to-opposite.ensures.ordered c.advance_to-opposite.ensures.within
-    (ap var_of c.negated.ensures) c.advance_to-opposite.ensures.kept in
+    c.lit-item.is c.loop-lit.invariant.reach c.seek_literal-opposite.ensures.ordered c.seek_literal-opposite.ensures.within
+    (ap var_of c.negated.ensures) c.seek_literal-opposite.ensures.kept in
     elim c.if-opposite.branch [
       | then-opposite+in-None w ↦
           let k : negated x ∈ c.loop-lit.rest.now = subst (λ (z : Literal). z ∈ c.loop-lit.rest.now) c.negated.ensures
-          (c.advance_to-opposite.ensures.found.0 w.if-opposite.true) in
+          (c.seek_literal-opposite.ensures.found.0 w.if-opposite.true) in
           record {
             reach = reach';
             clash = subst (λ o. IsClashSoFar (take (i + 1) c.args.a.now) c.args.b.now o) (sym w.found-is)

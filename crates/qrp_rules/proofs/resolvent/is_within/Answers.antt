@@ -24,12 +24,14 @@ pub loop-lit-preserved : goal.loop-lit-preserved
 loop-lit-preserved c =
     let i : ℕ = c.loop-lit.lit-index in
     let x : Literal = c.lit-item.result in
-    let left' : Reaches c.args.a.now c.advance_to-in_a.result.0.now (HasVar (drop (i + 1) c.args.to.now)) =
+    let in_a = c.seek_literal-in_a.ensures in
+    let in_b = c.seek_literal-in_b.ensures in
+    let left' : Reaches c.args.a.now c.seek_literal-in_a.result.0.now (HasVar (drop (i + 1) c.args.to.now)) =
     reach_more c.args.a.now c.loop-lit.left.now _ c.args.to.now i x.var x c.requires.to c.loop-lit-test.true c.lit-item.is
-    c.loop-lit.invariant.left c.advance_to-in_a.ensures.ordered c.advance_to-in_a.ensures.within refl c.advance_to-in_a.ensures.kept in
-    let right' : Reaches c.args.b.now c.advance_to-in_b.result.0.now (HasVar (drop (i + 1) c.args.to.now)) =
+    c.loop-lit.invariant.left in_a.ordered in_a.within refl in_a.kept in
+    let right' : Reaches c.args.b.now c.seek_literal-in_b.result.0.now (HasVar (drop (i + 1) c.args.to.now)) =
     reach_more c.args.b.now c.loop-lit.right.now _ c.args.to.now i x.var x c.requires.to c.loop-lit-test.true c.lit-item.is
-    c.loop-lit.invariant.right c.advance_to-in_b.ensures.ordered c.advance_to-in_b.ensures.within refl c.advance_to-in_b.ensures.kept in
+    c.loop-lit.invariant.right in_b.ordered in_b.within refl in_b.kept in
     record {
       left = left';
       right = right';
@@ -37,8 +39,8 @@ loop-lit-preserved c =
           c.lit-item.is (
           let t = c.if-not-is_resolved.ensures.0 refl in
           in_without c.args.pivot (c.args.a.now ++ c.args.b.now) x (elim t.0 [
-            | inl k ↦ append_left c.args.a.now c.args.b.now x (c.loop-lit.invariant.left.within x (c.advance_to-in_a.ensures.found.0 k))
-            | inr k ↦ append_right c.args.a.now c.args.b.now x (c.loop-lit.invariant.right.within x (c.advance_to-in_b.ensures.found.0 k))
+            | inl k ↦ append_left c.args.a.now c.args.b.now x (c.loop-lit.invariant.left.within x (in_a.found.0 k))
+            | inr k ↦ append_right c.args.a.now c.args.b.now x (c.loop-lit.invariant.right.within x (in_b.found.0 k))
           ]) (λ e. t.1 (c.var.ensures ∙ e))) c.loop-lit.invariant.done;
     }
 

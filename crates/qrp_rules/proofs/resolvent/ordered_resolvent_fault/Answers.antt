@@ -10,17 +10,17 @@ returns-in-More g c = let m = c.in-More.ensures in inr ((m.0, m.2), inl ((λ h. 
 
 pub returns-then-not-is_pivot : goal.returns-then-not-is_pivot
 returns-then-not-is_pivot g c =
-    at_pivot c.args.rules g.S.Side.side c.args.prefix.now c.args.a.now c.args.b.now c.args.to.now c.in-One.pivot (Some S10) c.in-One.ensures
+    at_pivot c.args.rules g.S.Side.side c.args.prefix.now c.args.step.a.now c.args.step.b.now c.args.step.to.now c.in-One.pivot (Some S10) c.in-One.ensures
     (inl ((λ d. false≢true (c.if-not-is_pivot.ensures.1 d)), refl))
 
 pub returns-then-not-is_within : goal.returns-then-not-is_within
 returns-then-not-is_within g c =
-    at_pivot c.args.rules g.S.Side.side c.args.prefix.now c.args.a.now c.args.b.now c.args.to.now c.in-One.pivot (Some S11) c.in-One.ensures
+    at_pivot c.args.rules g.S.Side.side c.args.prefix.now c.args.step.a.now c.args.step.b.now c.args.step.to.now c.in-One.pivot (Some S11) c.in-One.ensures
     (inr (c.if-not-is_pivot.ensures.0 refl, inl ((λ d. false≢true (c.if-not-is_within.ensures.1 d)), refl)))
 
 pub returns-then-not-is_reduced : goal.returns-then-not-is_reduced
 returns-then-not-is_reduced g c =
-    at_pivot c.args.rules g.S.Side.side c.args.prefix.now c.args.a.now c.args.b.now c.args.to.now c.in-One.pivot (Some S12) c.in-One.ensures
+    at_pivot c.args.rules g.S.Side.side c.args.prefix.now c.args.step.a.now c.args.step.b.now c.args.step.to.now c.in-One.pivot (Some S12) c.in-One.ensures
     (inr (
       c.if-not-is_pivot.ensures.0 refl,
       inr (c.if-not-is_within.ensures.0 refl, inl ((λ d. false≢true (c.if-not-is_reduced.ensures.1 d)), refl)),
@@ -28,5 +28,5 @@ returns-then-not-is_reduced g c =
 
 pub returns-else-not-is_reduced : goal.returns-else-not-is_reduced
 returns-else-not-is_reduced g c =
-    at_pivot c.args.rules g.S.Side.side c.args.prefix.now c.args.a.now c.args.b.now c.args.to.now c.in-One.pivot None c.in-One.ensures
+    at_pivot c.args.rules g.S.Side.side c.args.prefix.now c.args.step.a.now c.args.step.b.now c.args.step.to.now c.in-One.pivot None c.in-One.ensures
     (c.if-not-is_pivot.ensures.0 refl, (c.if-not-is_within.ensures.0 refl, (c.if-not-is_reduced.ensures.0 refl, tt)))

@@ -7,24 +7,23 @@ use Rattle.qrp_rules.proofs.walks.ordered_reduct_fault_by.Goals as goal
 subset : (part whole : List Literal) → ((l : Literal) → l ∈ part → (l ∈ whole) ⊎ ⊥) → part ⊆ whole
 subset part whole kept = λ l h. elim (kept l h) [ inl k ↦ k | inr n ↦ absurd n ]
 
-pub returns-then-not-is_covered : goal.returns-then-not-is_covered
-returns-then-not-is_covered c = λ side er ed. inl ((λ all. false≢true (c.if-not-is_covered.ensures.1 (λ l h. inl (all l h)))), refl)
+pub returns-then-not-is_subset_up_to : goal.returns-then-not-is_subset_up_to
+returns-then-not-is_subset_up_to c = λ side er. inl ((λ all. false≢true (c.if-not-is_subset_up_to.ensures.1 (λ l h. inl (all l h)))), refl)
 
-pub returns-then-not-is_covered-2 : goal.returns-then-not-is_covered-2
-returns-then-not-is_covered-2 c = λ side er ed.
+pub returns-then-not-is_subset_up_to-2 : goal.returns-then-not-is_subset_up_to-2
+returns-then-not-is_subset_up_to-2 c = λ side er.
     inr (
-      subset c.args.to.now c.args.from.now (c.if-not-is_covered.ensures.0 refl),
+      subset c.args.to.now c.args.from.now (c.if-not-is_subset_up_to.ensures.0 refl),
       inl (
-        (λ all. false≢true (c.if-not-is_covered-2.ensures.1 ((each_reducible side c.args.prefix.now
-            (record { quantifier = c.args.reduced; block = c.innermost.result }) c.args.deciding c.args.from.now c.args.to.now er ed
-            c.innermost.ensures).1 all))),
+        (λ all. false≢true (c.if-not-is_subset_up_to-2.ensures.1 ((each_reducible side c.args.prefix.now c.reducible_in.result
+            c.args.from.now c.args.to.now (c.reducible_in.ensures side er)).1 all))),
         refl,
       ),
     )
 
 pub returns-then-from-to : goal.returns-then-from-to
-returns-then-from-to c = λ side er ed.
-    let within = subset c.args.to.now c.args.from.now (c.if-not-is_covered.ensures.0 refl) in (
+returns-then-from-to c = λ side er.
+    let within = subset c.args.to.now c.args.from.now (c.if-not-is_subset_up_to.ensures.0 refl) in (
       within,
       (
         (λ l h. inl
@@ -34,11 +33,11 @@ returns-then-from-to c = λ side er ed.
     )
 
 pub returns : goal.returns
-returns c = λ side er ed. (
-  subset c.args.to.now c.args.from.now (c.if-not-is_covered.ensures.0 refl),
+returns c = λ side er. (
+  subset c.args.to.now c.args.from.now (c.if-not-is_subset_up_to.ensures.0 refl),
   (
-    (each_reducible side c.args.prefix.now (record { quantifier = c.args.reduced; block = c.innermost.result }) c.args.deciding
-        c.args.from.now c.args.to.now er ed c.innermost.ensures).0 (c.if-not-is_covered-2.ensures.0 refl),
+    (each_reducible side c.args.prefix.now c.reducible_in.result c.args.from.now c.args.to.now (c.reducible_in.ensures side er)).0
+        (c.if-not-is_subset_up_to-2.ensures.0 refl),
     tt,
   ),
 )

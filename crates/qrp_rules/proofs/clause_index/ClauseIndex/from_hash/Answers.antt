@@ -10,7 +10,7 @@ returns-clause-all c =
     (IsPartitionedBy-ltb hash_of c.deref.result.now c.args.hash
     (subst (λ (xs : List IndexEntry). IsNonDecreasingBy hash_of xs) (sym c.deref.ensures.value) c.requires))
     (λ a r q k. search rules) in
-    λ place at. rw c.deref-2.ensures.value (
-    in_rest c.args.self.now.filed.items c.partition_point-first.result c.args.hash _
+    λ position at. rw c.deref-2.ensures.value (
+    in_rest c.args.self.now.entries.items c.partition_point-first.result c.args.hash _
     (rw c.deref.ensures.value at c.partition_point-first.ensures.bound)
     (rw c.deref.ensures.value at point.0) refl at)

@@ -9,7 +9,7 @@ returns-then-branch-clause-fault c =
 
 pub returns-in-Some-clause-fault : goal.returns-in-Some-clause-fault
 returns-in-Some-clause-fault c = (
-  found_initial c.args.formula.now c.args.set.now c.in-Some.place
-      (subst (λ (o : Option ℕ). IfSome o (HasReductAt c.args.formula.now c.args.set.now)) c.in-Some.is c.in_ok-place.ensures.some),
+  found_initial c.args.formula.now c.args.set.now c.in-Some.position
+      (subst (λ (o : Option ℕ). IfSome o (HasReductAt c.args.formula.now c.args.set.now)) c.in-Some.is c.in_ok-position.ensures.some),
   tt,
 )

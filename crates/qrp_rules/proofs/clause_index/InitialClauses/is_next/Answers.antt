@@ -4,7 +4,7 @@ use Rattle.qrp_rules.proofs.clause_index.InitialClauses.is_next.Goals as goal
 
 pub returns-clause-initial : goal.returns-clause-initial
 returns-clause-initial c = λ t.
-    let follows = c.is_exact_reduct.ensures.follows c.if-not-is_exact_reduct.false Clauses refl refl in
+    let follows = c.is_exact_reduct.ensures.follows c.if-not-is_exact_reduct.false Clauses refl in
     found_initial c.args.formula.now c.args.lits.now _ (record {
       clause = c.clause-clause.result.now;
       here = c.clause-clause.ensures;

@@ -1,6 +1,6 @@
 use Rattle.qrp_rules.proofs.Words.{◌≡◌, sym, subst, arith, ◌∷◌, inr, rules, ◌∈◌, IsOrdered}
 use Rattle.qrp_rules.proofs.Cursors.{first_least, rest_keeps}
-use Rattle.qrp_rules.proofs.walks.skip_to.Goals as goal
+use Rattle.qrp_rules.proofs.walks.seek.Goals as goal
 
 pub returns-then-number-clause-later : goal.returns-then-number-clause-later
 returns-then-number-clause-later c =

@@ -1,5 +1,5 @@
 use Rattle.qrp_rules.proofs.Words.{◌≤◌, length, Literal, ◌∈◌, IsOrdered}
-use Rattle.qrp_rules.proofs.walks.skip_to.Given as goal
+use Rattle.qrp_rules.proofs.walks.seek.Given as goal
 
 abbrev pub invariant-loop-first : goal.invariant-loop-first
 invariant-loop-first l = record {

@@ -1,5 +1,5 @@
 use Rattle.qrp_rules.proofs.Words.{rules, tests, cases_from_any, YieldsList-from_slice, Literal, ◌∈◌, any_members}
-use Rattle.qrp_rules.proofs.initial.shares.Goals as goal
+use Rattle.qrp_rules.proofs.initial.has_common_literal.Goals as goal
 
 pub returns : goal.returns
 returns c = any_members (λ (l : Literal). l ∈ c.args.set.now) c.args.clause.now c.any.result

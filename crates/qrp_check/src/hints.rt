@@ -7,38 +7,38 @@ use std::alloc::{AllocError, Global};
 /// them back from the last one on. Contracts say nothing of them: each is compared with its
 /// antecedent when it is taken.
 #[derive(Drop)]
-pub(crate) struct Uses {
-    places: Vec<u32>,
+pub(crate) struct Hints {
+    positions: Vec<u32>,
     /// Whether positions are kept: not where a look-up takes no memory.
     keeps: bool,
 }
 
-impl Uses {
+impl Hints {
     /// No positions. They are kept where the last of the steps has another number than it would have
     /// if the numbers went up one by one.
-    pub(crate) fn new<T: Steps>(alloc: Global, trace: &T) -> Uses {
+    pub(crate) fn new<T: Steps>(alloc: Global, trace: &T) -> Hints {
         let count = trace.len();
         let keeps = count > 1
             && count < u32::MAX as usize
             && trace.number(count - 1).wrapping_sub(trace.number(0)) != count as u64 - 1;
-        Uses {
-            places: Vec::new(alloc),
+        Hints {
+            positions: Vec::new(alloc),
             keeps,
         }
     }
 
     /// Keeps where an antecedent was found. Where it was not found, any other position serves.
-    pub(crate) fn push_hint(&mut self, found: Option<usize>) -> Result<(), AllocError> {
+    pub(crate) fn push(&mut self, found: Option<usize>) -> Result<(), AllocError> {
         if self.keeps {
-            let place = found.unwrap_or(0).min(u32::MAX as usize);
-            self.places.push(place as u32)?;
+            let position = found.unwrap_or(0).min(u32::MAX as usize);
+            self.positions.push(position as u32)?;
         }
         Ok(())
     }
 
     /// The position that was kept last, which is no longer kept.
-    pub(crate) fn pop_hint(&mut self) -> Option<usize> {
-        let place = self.places.pop()?;
-        Some(place as usize)
+    pub(crate) fn pop(&mut self) -> Option<usize> {
+        let position = self.positions.pop()?;
+        Some(position as usize)
     }
 }
