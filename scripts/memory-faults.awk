@@ -1,14 +1,14 @@
-# Looks at each place that answers want of memory, in files laid out by `rt fmt`. See scripts/check-memory-faults.
+# Looks at each place that returns out of memory, in files laid out by `rt fmt`. See scripts/check-memory-faults.
 #
-# A place is one of the words below where it is a value and no pattern, or any Err of a function that is refused for want
-# of memory alone. It must stand
+# A place is one of the words below where it is a value and no pattern, or any Err of a function that fails only out of
+# memory. It must stand
 #   - on an arm whose pattern has one of the words in each of its alternatives;
-#   - on the arm Err(_) or Err(name) of a match on a call that is refused for want of memory alone, directly below
+#   - on the arm Err(_) or Err(name) of a match on a call that fails only out of memory, directly below
 #     `if CALL.is_err()`, or in the else of `let Ok(..) = CALL else`;
-#   - as the second argument of `ReadError::fault`, which its contract answers for want of memory alone;
-#   - or in a `from` that takes want of memory.
-# Calls that are refused for want of memory alone: functions and methods of the crates whose error is AllocError, those
-# listed here, and a `write_` call whose last argument is a local VecSink, which fails for want of memory alone. A method is found by the type of what stands before it. What is not understood is refused.
+#   - as the second argument of `ReadError::fault`, which its contract returns only out of memory;
+#   - or in a `from` that takes an error of the allocator.
+# Calls that fail only out of memory: functions and methods of the crates whose error is AllocError, those
+# listed here, and a `write_` call whose last argument is a local VecSink, which fails only out of memory. A method is found by the type of what stands before it. What is not understood is refused.
 #
 # A request for memory that is made in order to be refused is such an answer too. So each size that is asked for at once is listed here
 # with its file: the length of something that is there, or one more.
@@ -183,12 +183,12 @@ END {
     }
     if (looked != places) { failed++; print looked " places were looked at, where there were " places }
     sizes_as_listed()
-    print looked + 0 " places answer want of memory"
+    print looked + 0 " places return out of memory"
     print looked - wrong " passed, " failed + 0 " failed"
     exit failed > 0
 }
 
-# Whether a line makes an answer for want of memory.
+# Whether a line returns out of memory.
 function answers(n, callee, text) {
     text = code[n]
     if (text ~ /=>/) sub(/^.*=>/, "", text)
@@ -269,7 +269,7 @@ function stands(n, text) {
     text = statement(n)
     if (sub(/^let Ok\([a-z_ ]+\) = /, "", text) && sub(/ else [{]$/, "", text)) return call(n, text)
     if (signs[n] ~ /fn from\([a-z_]+: (AllocError|AllocFailed<[A-Za-z]+>)\)/) return ""
-    return "below no refused allocation"
+    return "below no failed allocation"
 }
 
 function arm(n, text, m) {
@@ -277,14 +277,14 @@ function arm(n, text, m) {
     sub(/ =>.*/, "", text)
     for (m = n; trimmed(code[m]) ~ /^[|] /; m--) text = trimmed(code[m - 1]) " " text
     if (text !~ / if / && each_has_word(text)) return ""
-    if (text !~ /^Err\([a-z_]+\)$/) return "on an arm that is not for want of memory"
+    if (text !~ /^Err\([a-z_]+\)$/) return "on an arm that is not for out of memory"
     n = holder(n)
     text = statement(n)
     if (!sub(/^(.* )?match /, "", text) || !sub(/ [{]$/, "", text)) return "on an arm of no match"
     return call(n, text)
 }
 
-# Why an expression is no call that is refused for want of memory alone, or nothing.
+# Why an expression is no call that fails only out of memory, or nothing.
 function call(n, text, callee, deep, i, c) {
     callee = text
     if (!match(callee, /[(]/)) return "no call"

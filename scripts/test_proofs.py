@@ -19,7 +19,7 @@ SCRIPTS = Path(__file__).resolve().parent
 SOURCE = """//! A library.
 mod low;
 pub struct Pair(u64, u64);
-/// A sum; not `fn sum` of anything else.
+/// A sum, as `sum(1, 2)`; not `fn sum` of anything else.
 pub fn sum(a: u64, b: u64) -> u64 {
     low::first(a) + b
 }
@@ -63,11 +63,18 @@ for file, text in texts.items():
     for name, body in re.findall(r"\bfn (\w+)(.*?)(?=\bfn \w|\Z)", text, re.S):
         path, folder = "::".join(["one", *module, name]), "/".join(["proofs", *module, name])
         answers = here / folder / "Answers.antt"
+        stored = answers.read_text() if answers.exists() else ""
         refused = f"fn {path}: no proof: expected answers in ./{folder}/Answers.antt; `search` did not prove `returns`"
         waits = f"fn {path}: no proof: it calls `one::low::first`, which is not proved"
-        if "a * b" in body and answers.exists() and "fits" in answers.read_text():
+        is_wrong = "a - b" in body or "a * b" in body or "a.0" in body
+        if "no_answer" in stored:
+            said.append(f"./{folder}/Answers.antt:6:13: error: `no_answer`: the two types differ")
+        if "a * b" in body and "fits" in stored:
             said.append(f"./{folder}/Answers.antt:4:3: error: `returns`: the two types differ\nfn {path}: not proved")
-        elif "a - b" in body or "a * b" in body or "a.0" in body:
+        elif "no_answer" in stored:
+            note = "note: src/lib.rt:6:1: it is not proved that what the function ensures holds when it returns (`returns`)\n"
+            said.append(waits if "b + a" in body else f"{note if is_wrong else ''}fn {path}: not proved")
+        elif is_wrong:
             said.append(refused)
         elif "b + a" in body:
             said.append(waits)
@@ -173,12 +180,12 @@ def a_copy_has_the_contract_and_the_proofs():
         wrong_bodies.find_functions(edit, "one", crate)
         wrong_bodies.make_copy(edit, 7, "one", crate)
         wrong_bodies.copy_proofs([edit], "one", crate)
-        whole = "/// A sum; not `fn sum` of anything else.\npub fn sum(a: u64, b: u64) -> u64 {\n    low::first(a) + b\n}\n"
-        copy = "\n/// A sum; not `fn sum` of anything else.\npub fn sum_wrong_7(a: u64, b: u64) -> u64 {\n    a * b\n}\n"
+        whole = "/// A sum, as `sum(1, 2)`; not `fn sum` of anything else.\npub fn sum(a: u64, b: u64) -> u64 {\n    low::first(a) + b\n}\n"
+        copy = "\n/// A sum, as `sum(1, 2)`; not `fn sum` of anything else.\npub fn sum_wrong_7(a: u64, b: u64) -> u64 {\n    a * b\n}\n"
         text = (crate / "proofs/sum_wrong_7/Answers.antt").read_text()
         return all([
             wrong_bodies.together([edit], crate) == {"src/lib.rt": SOURCE.replace(whole, whole + copy)},
-            text == answers.read_text().replace("Rattle.one.proofs.sum.Goals", "Rattle.one.proofs.sum_wrong_7.Goals"),
+            text == answers.read_text().replace("Rattle.one.proofs.sum.Goals", "Rattle.one.proofs.sum_wrong_7.Goals") + "\n" + wrong_bodies.NO_ANSWER,
             edit.paths() == {"one::sum_wrong_7"},
         ])
 
@@ -293,14 +300,21 @@ def what_a_check_says_is_read():
         "fn one::b: not proved",
         "fn one::c: no proof: it passes the block `one::Pair`, which is not proved",
         "fn one::d: proved",
+        "./proofs/e/Answers.antt:7:13: error: `no_answer`: the two types differ",
+        "note: src/lib.rt:7:1: it is not proved that what the function ensures holds when it returns (`returns-in-Ok`); `search` gave up",
+        "note: src/lib.rt:8:1: it is not proved that the invariant of the loop holds (`loop-i`); the values at which this goal is false",
+        "fn one::e: not proved",
+        "fn one::f: not proved",
     ])
     said, faults = read_check(text)
     return all([
         faults == [],
-        sorted(said) == ["one::a", "one::b", "one::c"],
+        sorted(said) == ["one::a", "one::b", "one::c", "one::e", "one::f"],
         said["one::a"].goals == ["returns", "loop-i-preserved"] and said["one::a"].false == ["returns"],
         said["one::b"].misfits == [("proofs/b/Answers.antt", 3, "`returns`: the two types differ")],
         said["one::c"].waits,
+        said["one::e"].goals == ["returns-in-Ok", "loop-i"] and said["one::e"].false == ["loop-i"] and not said["one::e"].misfits,
+        not said["one::f"].goals,
     ])
 
 

@@ -217,7 +217,7 @@ def make_copy(edit, number, crate_name, crate):
     (start, end, _), (first, last, place) = old, new
     is_all = before[:start] == text[:first] and before[end:] == text[last:]
     body = text[first:place] + re.sub(rf"\bfn {name}\b", f"fn {name}_wrong_{number}", text[place:last], count=1)
-    if is_all and not re.search(rf"(?<![.:\w]){name}\(|\b[Ss]elf(?:\.|::){name}\(|#\[cycle", body):
+    if is_all and not re.search(rf"(?<![.:\w]){name}\(|\b[Ss]elf(?:\.|::){name}\(|#\[cycle", blanked(body)):
         edit.copy = Copy(path, f"{path}_wrong_{number}", file, end, f"\n\n{body}")
 
 
@@ -240,8 +240,13 @@ def is_of_trait(text, place):
     return any("trait" in it[0].split() or " for " in it[0].split(" where ")[0] for it in heads)
 
 
+# An answer that is none. A check of a function that it cannot prove runs once more, to print the goals and a file for their answers: that takes
+# a third of its time. Where it refuses a stored answer, it only names the goals that are open.
+NO_ANSWER = "no_answer : Type 0\nno_answer = Type 0\n"
+
+
 def copy_proofs(edits, crate_name, crate):
-    """Gives the copies of functions the stored proofs of these, in the crate's folder."""
+    """Gives the copies of functions the stored proofs of these, in the crate's folder, with an answer that is none."""
     for copy in (edit.copy for edit in edits if edit.copy):
         source, target = (crate / "proofs" / Path(*it.split("::")[1:]) for it in (copy.of, copy.path))
         if source.is_dir():
@@ -250,13 +255,23 @@ def copy_proofs(edits, crate_name, crate):
         for file in sorted(target.rglob("*.antt")) if source.is_dir() else []:
             own = rf"(\bRattle\.{crate_name}\.(?:proofs|specs\.contracts)\.){re.escape(old)}(?![\w-])"
             file.write_text(re.sub(own, rf"\g<1>{new}", file.read_text(encoding="utf-8")), encoding="utf-8")
+        target.mkdir(parents=True, exist_ok=True)
+        answers = target / "Answers.antt"
+        before = answers.read_text(encoding="utf-8") + "\n" if answers.exists() else ""
+        answers.write_text(before + NO_ANSWER, encoding="utf-8")
+
+
+def answered(path, crate):
+    """The goals of a function that have a stored answer, among the other words that lines of that file begin with."""
+    file = crate / "proofs" / Path(*path.split("::")[1:]) / "Answers.antt"
+    return set(re.findall(r"(?m)^(?:pub )?(\S+)", file.read_text(encoding="utf-8"))) if file.exists() else set()
 
 
 # ---- which edits go together
 
 # The most that go together, and the most of one function: so many that loading the crate hardly counts, and so few that the processors are
 # all used, also where a function takes long.
-MOST, MOST_OF_ONE = 12, 3
+MOST, MOST_OF_ONE = 20, 5
 
 # Methods of std that some types of ours have too: a call of one is taken for std's, but on `self`.
 OF_STD = {"push", "pop", "len", "get", "insert", "contains", "first", "last", "position", "is_empty", "new", "find", "take", "clone"}
@@ -374,22 +389,28 @@ class Refusal:
 
 def read_check(text):
     """What a check says of each function that it does not prove, by its path, and the faults of the sources themselves."""
-    refusals, misfits, faults = {}, [], []
+    refusals, misfits, faults, notes = {}, [], [], []
     for line in text.splitlines():
-        function = re.match(r"fn (\S+): (?:not proved|no proof|could not tell)(.*)", line)
+        function = re.match(r"fn (\S+): (\w+ \w+|\w+)(.*)", line)
+        note = re.match(r"note: src/\S+?:\d+:\d+: it is not proved that .*\(`([^`]+)`\)(.*)", line)
         error = re.match(r"(?:\./)?((src|specs|proofs)/\S+?):(\d+):\d+: error: (.*)", line)
         if function:
-            goals = function[2].partition("did not prove ")[2]
-            waits = " it calls " in function[2] or " it passes " in function[2]
-            refusals[function[1]] = Refusal(re.findall(r"`([^`]+)`", goals), [], waits, [])
-        elif error and error[2] == "proofs":
+            if function[2] in ("not proved", "no proof", "could not"):
+                goals = re.findall(r"`([^`]+)`", function[3].partition("did not prove ")[2])
+                goals += [goal for goal, _ in notes if goal not in goals]
+                waits = " it calls " in function[3] or " it passes " in function[3]
+                refusals[function[1]] = Refusal(goals, [goal for goal, is_false in notes if is_false], waits, [])
+            notes = []
+        elif note:
+            notes.append((note[1], "at which this goal is false" in note[2]))
+        elif error and error[2] == "proofs" and not error[4].startswith("`no_answer`"):
             misfits.append((error[1], int(error[3]), error[4]))
-        elif error or re.match(r"error\b", line):
+        elif error and error[2] != "proofs" or re.match(r"error\b", line):
             faults.append(line[:200])
     for path, refusal in refusals.items():
         folder = "proofs/" + "/".join(path.split("::")[1:]) + "/"
         refusal.misfits = [it for it in misfits if it[0].startswith(folder)]
-        refusal.false = [goal for goal in refusal.goals if f"`{goal}` of {folder}Answers.antt may be false" in text]
+        refusal.false += [goal for goal in refusal.goals if f"`{goal}` of {folder}Answers.antt may be false" in text]
     return refusals, faults
 
 

@@ -73,6 +73,46 @@ fn open_both<F: Open>(files: &F, formula: &str, trace: &str) -> Result<(F::File,
     Ok((formula, trace))
 }
 
+/// Does a job on a formula and a trace, or reports which of them is not opened.
+fn on_both<F: Open, O: Sink, E: Sink>(
+    alloc: Global,
+    files: &F,
+    job: Job,
+    formula: &str,
+    trace: &str,
+    out: &mut O,
+    err: &mut E,
+) -> Status
+    ensures { (r : Report) × IsOnFiles (F.opens files.now) job formula.now (Some trace.now) r
+        × IsReported O.Sink out.old out.new E.Sink err.old err.new r result }
+{
+    match open_both(files, formula, trace) {
+        Ok((mut formula, mut trace)) => run(alloc, job, &mut formula, &mut trace, out, err),
+        Err(start) => refuse(job, start, out, err),
+    }
+}
+
+/// Does a job on a formula alone, or reports that it is not opened.
+fn on_formula<F: Open, O: Sink, E: Sink>(
+    alloc: Global,
+    files: &F,
+    job: Job,
+    path: &str,
+    out: &mut O,
+    err: &mut E,
+) -> Status
+    ensures { (r : Report) × IsOnFiles (F.opens files.now) job path.now None r
+        × IsReported O.Sink out.old out.new E.Sink err.old err.new r result }
+{
+    match open_file(files, path, Start::NoFormula) {
+        Ok(mut formula) => {
+            let mut no_trace = SliceSource::new(&[]);
+            run(alloc, job, &mut formula, &mut no_trace, out, err)
+        }
+        Err(start) => refuse(job, start, out, err),
+    }
+}
+
 /// The whole program, but for where its arguments, its files and its sinks come from: does what the
 /// arguments ask for, over the files that they name, writes the report to `out` or `err`, and
 /// returns the status.
@@ -103,19 +143,11 @@ pub fn program<F: Open, O: Sink, E: Sink>(
     let texts = words.as_slice();
     match request(texts) {
         Some((job, formula, Some(trace))) => {
-            match open_both(files, texts[formula].as_str(), texts[trace].as_str()) {
-                Ok((mut formula, mut trace)) => run(alloc, job, &mut formula, &mut trace, out, err),
-                Err(start) => refuse(job, start, out, err),
-            }
+            let (formula, trace) = (texts[formula].as_str(), texts[trace].as_str());
+            on_both(alloc, files, job, formula, trace, out, err)
         }
         Some((job, formula, None)) => {
-            match open_file(files, texts[formula].as_str(), Start::NoFormula) {
-                Ok(mut formula) => {
-                    let mut no_trace = SliceSource::new(&[]);
-                    run(alloc, job, &mut formula, &mut no_trace, out, err)
-                }
-                Err(start) => refuse(job, start, out, err),
-            }
+            on_formula(alloc, files, job, texts[formula].as_str(), out, err)
         }
         None => stop(err, Start::Usage),
     }
