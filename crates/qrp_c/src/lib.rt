@@ -8,7 +8,7 @@ ghost use Rattle.qrp_check.specs.declared.verdict.Fault.{Fault};
 ghost use Rattle.qrp_report.specs.Meanings.{fault_meaning};
 ghost use Rattle.qrp_report.specs.OfFaults.{NamesVariable};
 ghost use Rattle.qrp_memory.specs.Buffers.{IsWritten};
-ghost use Rattle.qrp_memory.specs.Told.{IsTold, TellsSome, TellsFault, told_fault, answer_line};
+ghost use Rattle.qrp_memory.specs.Encoding.{IsEncoded, EncodesSome, EncodesFault, encoded_fault, answer_line};
 ghost use Rattle.qrp_memory.specs.Texts.{IsTrimAnswered, IsCoreAnswered, IsFormatAnswered};
 ghost use Rattle.qrp_memory.specs.Verdicts.{Headline, IsAnswered};
 
@@ -49,12 +49,12 @@ pub extern "C" fn qrp_verify(
 ///
 /// Returns its length without the zero, 47 at most. Where the buffer has room for it and the zero,
 /// they stand at its front, and the rest of the buffer stays as it was; else all of it stays. A
-/// struct that is not what is told of any result, such as one of zeros, has the empty line.
+/// struct that is not the encoding of any result, such as one of zeros, has the empty line.
 #[unsafe(no_mangle)]
 pub extern "C" fn qrp_verdict_line(verdict: &QrpVerdict, buffer: &mut [u8]) -> usize
-    ensures told { (answer : Result Verified Fault) → IsTold answer verdict.now
+    ensures encoded { (answer : Result Verified Fault) → IsEncoded answer verdict.now
         → IsWritten (answer_line answer) buffer.old buffer.new result }
-    ensures none { ¬ TellsSome verdict.now → IsWritten [] buffer.old buffer.new result }
+    ensures none { ¬ EncodesSome verdict.now → IsWritten [] buffer.old buffer.new result }
     ensures short { result ≤ 47 }
     // Of any struct.
     ensures kept { drop (1 + result) buffer.new ≡ drop (1 + result) buffer.old }
@@ -70,9 +70,9 @@ pub extern "C" fn qrp_verdict_line(verdict: &QrpVerdict, buffer: &mut [u8]) -> u
 /// that tells no fault has the empty text.
 #[unsafe(no_mangle)]
 pub extern "C" fn qrp_fault_text(verdict: &QrpVerdict, buffer: &mut [u8]) -> usize
-    ensures told { (e : Fault) → NamesVariable e → verdict.now ≡ told_fault e
+    ensures encoded { (e : Fault) → NamesVariable e → verdict.now ≡ encoded_fault e
         → IsWritten (fault_meaning e) buffer.old buffer.new result }
-    ensures none { ¬ TellsFault verdict.now → IsWritten [] buffer.old buffer.new result }
+    ensures none { ¬ EncodesFault verdict.now → IsWritten [] buffer.old buffer.new result }
     ensures short { result ≤ 127 }
     ensures kept { drop (1 + result) buffer.new ≡ drop (1 + result) buffer.old }
 {

@@ -1,4 +1,4 @@
--- The numbers of the steps at some places, and the line of what was told.
+-- The numbers of the steps at some places, and the line of what was encoded.
 use Rattle.std.proofs.Common.{rules, ◌≡◌, Bool, Option, Some, ℕ, ◌+◌, ◌<◌, List, [], ◌∷◌, ◌++◌, length, take, get_or, ap, ◌∙◌, sym, Result}
 use Rattle.std.proofs.lemmas.List.{map-append}
 use Rattle.std.proofs.lemmas.Option.{slice_get-get_or}
@@ -13,7 +13,7 @@ use Rattle.qrp_report.specs.declared.refusal.Refusal.{Refusal}
 use Rattle.qrp_report.specs.Lines.{refusal_line}
 use Rattle.qrp_report.specs.OfFaults.{IsOfFault}
 use Rattle.qrp_memory.specs.declared.verdict.QrpVerdict.{QrpVerdict}
-use Rattle.qrp_memory.specs.Told.{IsTold, told_truth, told_refusal, answer_line}
+use Rattle.qrp_memory.specs.Encoding.{IsEncoded, encoded_truth, encoded_refusal, answer_line}
 
 -- the numbers so far, and that of the step at the next place
 pub next_number : (steps : List Inference) (places : List ℕ) (k n : ℕ) (sofar : List ℕ)
@@ -32,7 +32,7 @@ next_number steps places k n sofar within less value is =
     ∙ ap numbers (sym (next_at steps places k step less here))
 
 -- the line of a refusal that a struct tells is that of its result
-pub told_line : (answer : Result Verified Fault) (v : QrpVerdict) (r : Refusal) (truth : Option Bool) → IsTold answer v
-    → ((b : Bool) → v ≡ told_truth b → truth ≡ Some b) → ((b : Bool) → truth ≡ Some b → ⊥)
-    → ((s : Refusal) → IsOfFault s → v ≡ told_refusal s → Some r ≡ Some s) → refusal_line r ≡ answer_line answer
-told_line answer v r truth h held none only = search rules
+pub encoded_line : (answer : Result Verified Fault) (v : QrpVerdict) (r : Refusal) (truth : Option Bool) → IsEncoded answer v
+    → ((b : Bool) → v ≡ encoded_truth b → truth ≡ Some b) → ((b : Bool) → truth ≡ Some b → ⊥)
+    → ((s : Refusal) → IsOfFault s → v ≡ encoded_refusal s → Some r ≡ Some s) → refusal_line r ≡ answer_line answer
+encoded_line answer v r truth h held none only = search rules

@@ -1,18 +1,18 @@
--- From the headline over an answer to the headline over what is told of it.
+-- From the headline over an answer to the headline over what the struct says of it.
 use Rattle.std.proofs.Common.{rules, ◌≡◌, ◌↔◌, ℕ, Bool, IsTrue, List, inl, inr, refl, ap, ◌⊎◌, if◌then◌else◌, Result, Ok, Err, IsOk}
 use Rattle.qbf_core.specs.Truth.{IsTrueFormula}
 use Rattle.qrp_rules.specs.declared.rules.Rules.{Rules}
 use Rattle.qrp_check.specs.declared.verdict.Verified.{Verified}
 use Rattle.qrp_check.specs.declared.verdict.Fault.{Fault}
 use Rattle.qrp_check.specs.Verdict.{IsOutOfMemory, IsFormulaDevice, IsTraceDevice}
-use Rattle.qrp_memory.specs.Told.{told, told_fault}
+use Rattle.qrp_memory.specs.Encoding.{encoded, encoded_fault}
 use Rattle.qrp_memory.specs.Verdicts.{Headline}
 use Rattle.qrp_check.specs.Headline as over_answers
 
-not_zero : (e : Fault) → (told_fault e).status ≡ 0 → ⊥
+not_zero : (e : Fault) → (encoded_fault e).status ≡ 0 → ⊥
 not_zero e is = search rules
 
-memory_is_four : (e : Fault) → IsOutOfMemory (Err e) → (told_fault e).status ≡ 4
+memory_is_four : (e : Fault) → IsOutOfMemory (Err e) → (encoded_fault e).status ≡ 4
 memory_is_four e is = search rules
 
 -- the number that tells a truth
@@ -27,17 +27,17 @@ memory_alone : (answer : Result Verified Fault) (e : Fault) → answer ≡ Err e
     → IsOk answer ⊎ (IsOutOfMemory answer ⊎ (IsFormulaDevice answer ⊎ IsTraceDevice answer)) → IsOutOfMemory (Err e)
 memory_alone answer e is no_formula no_trace h = search rules
 
-pub headline_told : (rules : Rules) (formula trace : List ℕ) (answer : Result Verified Fault)
+pub headline_encoded : (rules : Rules) (formula trace : List ℕ) (answer : Result Verified Fault)
     → over_answers.Headline rules formula trace answer
-    → (IsFormulaDevice answer → ⊥) → (IsTraceDevice answer → ⊥) → Headline rules formula trace (told answer)
-headline_told rules formula trace (Ok v) h no_formula no_trace = record {
+    → (IsFormulaDevice answer → ⊥) → (IsTraceDevice answer → ⊥) → Headline rules formula trace (encoded answer)
+headline_encoded rules formula trace (Ok v) h no_formula no_trace = record {
   only = λ is. h.only refl;
   wherever = λ shown. inl refl;
   truth = λ is f d spelled.
       let says = h.truth f d spelled in
       (says.0, ap truth_number says.1, one_is_true v.truth (IsTrueFormula f) says.2);
 }
-headline_told rules formula trace (Err e) h no_formula no_trace = record {
+headline_encoded rules formula trace (Err e) h no_formula no_trace = record {
   only = λ is. absurd (not_zero e is);
   wherever = λ shown. inr (memory_is_four e (memory_alone (Err e) e refl no_formula no_trace (h.wherever shown)));
   truth = λ is. absurd (not_zero e is);

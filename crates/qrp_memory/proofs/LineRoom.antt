@@ -9,7 +9,7 @@ use Rattle.qrp_check.specs.declared.verdict.Fault.{Fault}
 use Rattle.qrp_report.specs.declared.refusal.Refusal.{Refusal}
 use Rattle.qrp_report.specs.Lines.{numbers_line, text_line, check_line, refusal_line, verdict_line}
 use Rattle.qrp_report.specs.OfFaults.{IsOfFault, NamesVariable}
-use Rattle.qrp_memory.specs.Told.{told, answer_line}
+use Rattle.qrp_memory.specs.Encoding.{encoded, answer_line}
 use Rattle.qrp_report.proofs.FaultsByNumbers.{HasNumbers, has_numbers}
 
 -- a line that is chosen is short, if each of them is
@@ -42,15 +42,15 @@ by_numbers r low rule small = search (rules, chosen, text_short, check_short)
 numbers_low : (r : Refusal) → HasNumbers r → (r.number ≤ 9) × (r.rule ≤ 12)
 numbers_low r h = search rules
 
--- by the position that was told
+-- by the position that was encoded
 refusal_short : (r : Refusal) → IsOfFault r → r.position < 2 ^ 64 → length (refusal_line r) < 47
 refusal_short r of small = let low = numbers_low r (has_numbers r of) in by_numbers r low.0 low.1 small
 
 verdict_short : (b : Bool) → length (verdict_line b) < 47
 verdict_short b = search rules
 
--- by the place that was told
-pub line_short : (answer : Result Verified Fault) → IfErr answer NamesVariable → (told answer).place < 2 ^ 64
+-- by the place that was encoded
+pub line_short : (answer : Result Verified Fault) → IfErr answer NamesVariable → (encoded answer).place < 2 ^ 64
     → length (answer_line answer) < 47
 line_short answer names small = grind (arith, common_steps, verdict_short, refusal_short)
 

@@ -1,4 +1,4 @@
 pub mod Buffers
 pub mod Texts
-pub mod Told
+pub mod Encoding
 pub mod Verdicts

@@ -16,16 +16,16 @@ use Rattle.qrp_report.specs.OfFaults.{NamesVariable}
 use Rattle.qrp_report.specs.Results.{IsTrimmed, IsFormulaRead}
 use Rattle.qrp_memory.specs.declared.verdict.QrpVerdict.{QrpVerdict}
 use Rattle.qrp_memory.specs.Buffers.{IsWritten, IsListed}
-use Rattle.qrp_memory.specs.Told.{told_fault, told_truth}
+use Rattle.qrp_memory.specs.Encoding.{encoded_fault, encoded_truth}
 
 -- bytes that are lent
 abbrev pub lent : List ℕ → SourceCall
 lent bytes = record { bytes = Some bytes; before = 0; after = 0; unpulled = Unit {0} }
 
 -- the struct for a trimmed trace, or for what was refused
-abbrev pub told_trace : Result Derivation Fault → QrpVerdict
-told_trace (Ok t) = told_truth (is_sat t.result)
-told_trace (Err e) = told_fault e
+abbrev pub encoded_trace : Result Derivation Fault → QrpVerdict
+encoded_trace (Ok t) = encoded_truth (is_sat t.result)
+encoded_trace (Err e) = encoded_fault e
 
 -- the text of a trimmed trace
 abbrev pub trace_text : Result Derivation Fault → List ℕ
@@ -41,7 +41,7 @@ step_numbers (Err e) = []
 pub record IsProofAnswered (rules : Rules) (formula trace : List ℕ) (out : QrpVerdict) (Holds : Result Derivation Fault → Type 0) : Type 0 where
   pub answer : Result Derivation Fault
   pub trimmed : IsTrimmed rules (lent formula) (lent trace) answer
-  pub told : out ≡ told_trace answer
+  pub encoded : out ≡ encoded_trace answer
   pub named : IfErr answer NamesVariable
   pub holds : Holds answer
 
@@ -56,13 +56,13 @@ IsCoreAnswered rules formula trace old new out returned =
     IsProofAnswered rules formula trace out (λ answer. IsListed (step_numbers answer) old new returned)
 
 -- the struct where nothing was verified or refused: all zeros
-abbrev pub told_nothing : QrpVerdict
-told_nothing = record { place = 0; status = 0; truth = 0; letter = 0; number = 0; rule = 0 }
+abbrev pub encoded_nothing : QrpVerdict
+encoded_nothing = record { place = 0; status = 0; truth = 0; letter = 0; number = 0; rule = 0 }
 
 -- the struct for a formula's text
-abbrev pub told_formula : Result Qbf (FormulaFault × ℕ) → QrpVerdict
-told_formula (Ok f) = told_nothing
-told_formula (Err e) = told_fault (fault.Formula e.0 e.1)
+abbrev pub encoded_formula : Result Qbf (FormulaFault × ℕ) → QrpVerdict
+encoded_formula (Ok f) = encoded_nothing
+encoded_formula (Err e) = encoded_fault (fault.Formula e.0 e.1)
 
 -- the canonical text of a formula that was read
 abbrev pub formula_text : Result Qbf (FormulaFault × ℕ) → List ℕ
@@ -73,5 +73,5 @@ formula_text (Err e) = []
 pub record IsFormatAnswered (formula old new : List ℕ) (out : QrpVerdict) (returned : ℕ) : Type 0 where
   pub answer : Result Qbf (FormulaFault × ℕ)
   pub reads : IsFormulaRead (lent formula) answer
-  pub told : out ≡ told_formula answer
+  pub encoded : out ≡ encoded_formula answer
   pub written : IsWritten (formula_text answer) old new returned

@@ -12,7 +12,7 @@ use Rattle.qrp_check.specs.Proof.{side_of, ResultHolds}
 use Rattle.qrp_check.specs.Verdict.{is_sat, IsVerdict, IsOutOfMemory, IsFormulaDevice, IsTraceDevice, StandsOnLine}
 use Rattle.qrp_check.specs.Headline.{Spell, IsShown}
 use Rattle.qrp_memory.specs.declared.verdict.QrpVerdict.{QrpVerdict}
-use Rattle.qrp_memory.specs.Told.{IsTold}
+use Rattle.qrp_memory.specs.Encoding.{IsEncoded}
 
 -- The headline: status 0 only where the bytes show it, and wherever they do, unless an allocation failed, 4. And then the formula is false
 -- if the trace says `r unsat` and true if it says `r sat`, and `truth` is 1 exactly where it is true.
@@ -28,4 +28,4 @@ pub record IsAnswered (rules : Rules) (formula trace : List ℕ) (out : QrpVerdi
   pub verdict : IsVerdict rules (read_formula formula) (Some (read_trace trace)) answer ⊎ IsOutOfMemory answer
   pub lines : IfErr answer StandsOnLine
   pub works : (IsFormulaDevice answer → ⊥) × (IsTraceDevice answer → ⊥)
-  pub is : IsTold answer out
+  pub is : IsEncoded answer out

@@ -6,7 +6,7 @@ ghost use Rattle.qrp_check.specs.declared.verdict.Verified.{Verified};
 ghost use Rattle.qrp_check.specs.declared.verdict.Fault.{Fault};
 ghost use Rattle.qrp_report.specs.Meanings.{fault_meaning};
 ghost use Rattle.qrp_report.specs.OfFaults.{NamesVariable};
-ghost use Rattle.qrp_memory.specs.Told.{IsTold, TellsSome, TellsFault, told_fault, answer_line};
+ghost use Rattle.qrp_memory.specs.Encoding.{IsEncoded, EncodesSome, EncodesFault, encoded_fault, answer_line};
 
 use crate::line::Line;
 use crate::verdict::{QrpVerdict, refusal, truth};
@@ -15,9 +15,9 @@ use qrp_report::{put_refusal, put_verdict};
 
 /// Sends the line of a verdict, and nothing if the struct tells nothing.
 fn put_line<S: Sink>(sink: &mut S, verdict: &QrpVerdict) -> Result<(), SinkFault>
-    ensures told { (answer : Result Verified Fault) → IsTold answer verdict.now
+    ensures encoded { (answer : Result Verified Fault) → IsEncoded answer verdict.now
         → IsPut S.written S.failures sink.old sink.new (answer_line answer) result }
-    ensures none { ¬ TellsSome verdict.now → sink.new ≡ sink.old }
+    ensures none { ¬ EncodesSome verdict.now → sink.new ≡ sink.old }
 {
     if let Some(truth) = truth(verdict) {
         return put_verdict(sink, truth);
@@ -30,9 +30,9 @@ fn put_line<S: Sink>(sink: &mut S, verdict: &QrpVerdict) -> Result<(), SinkFault
 
 /// The line of a verdict, and nothing if the struct tells nothing.
 pub fn line_of(verdict: &QrpVerdict) -> Line
-    ensures told { (answer : Result Verified Fault) → IsTold answer verdict.now
+    ensures encoded { (answer : Result Verified Fault) → IsEncoded answer verdict.now
         → ⟦<Line as Sink>⟧.written result ≡ Some (answer_line answer) }
-    ensures none { ¬ TellsSome verdict.now → ⟦<Line as Sink>⟧.written result ≡ Some [] }
+    ensures none { ¬ EncodesSome verdict.now → ⟦<Line as Sink>⟧.written result ≡ Some [] }
 {
     // The place comes with the fact that it has at most 20 digits.
     let _place = verdict.place;
@@ -43,9 +43,9 @@ pub fn line_of(verdict: &QrpVerdict) -> Line
 
 /// What the fault of a verdict means, and nothing if the struct tells no fault.
 pub fn meaning_of(verdict: &QrpVerdict) -> &'static str
-    ensures told { (e : Fault) → NamesVariable e → verdict.now ≡ told_fault e
+    ensures encoded { (e : Fault) → NamesVariable e → verdict.now ≡ encoded_fault e
         → result.now ≡ fault_meaning e }
-    ensures none { ¬ TellsFault verdict.now → result.now ≡ [] }
+    ensures none { ¬ EncodesFault verdict.now → result.now ≡ [] }
     ensures short { length result.now ≤ 127 }
 {
     match refusal(verdict) {

@@ -3,8 +3,8 @@
 ghost use Rattle.std.specs.Prelude.{◌≡◌, Bool, Some, IfSome};
 ghost use Rattle.qrp_report.specs.declared.refusal.Refusal.{Refusal};
 ghost use Rattle.qrp_report.specs.OfFaults.{NamesVariable, IsOfFault};
-ghost use Rattle.qrp_memory.specs.Texts.{told_nothing};
-ghost use Rattle.qrp_memory.specs.Told.{IsTold, told_truth, told_fault, told_refusal};
+ghost use Rattle.qrp_memory.specs.Texts.{encoded_nothing};
+ghost use Rattle.qrp_memory.specs.Encoding.{IsEncoded, encoded_truth, encoded_fault, encoded_refusal};
 
 use qrp_check::{Fault, Verified};
 use qrp_report::{Refusal, is_of_fault};
@@ -29,7 +29,7 @@ pub struct QrpVerdict {
 
 /// What a caller in C gets of a formula that was verified to have this truth.
 pub fn tell_truth(truth: bool) -> QrpVerdict
-    ensures { result ≡ told_truth truth }
+    ensures { result ≡ encoded_truth truth }
 {
     QrpVerdict {
         place: 0,
@@ -43,7 +43,7 @@ pub fn tell_truth(truth: bool) -> QrpVerdict
 
 /// What a caller in C gets where nothing was verified or refused.
 pub fn tell_nothing() -> QrpVerdict
-    ensures { result ≡ told_nothing }
+    ensures { result ≡ encoded_nothing }
 {
     QrpVerdict {
         place: 0,
@@ -57,7 +57,7 @@ pub fn tell_nothing() -> QrpVerdict
 
 /// What a caller in C gets of a refusal.
 fn tell_refusal(refusal: &Refusal) -> QrpVerdict
-    ensures { result ≡ told_refusal refusal.now }
+    ensures { result ≡ encoded_refusal refusal.now }
 {
     QrpVerdict {
         place: refusal.position,
@@ -71,7 +71,7 @@ fn tell_refusal(refusal: &Refusal) -> QrpVerdict
 
 /// What a caller in C gets of a fault.
 pub fn tell_fault(fault: &Fault) -> QrpVerdict
-    ensures told { result ≡ told_fault fault.now }
+    ensures encoded { result ≡ encoded_fault fault.now }
     ensures named { NamesVariable fault.now }
 {
     tell_refusal(&Refusal::of(fault))
@@ -79,7 +79,7 @@ pub fn tell_fault(fault: &Fault) -> QrpVerdict
 
 /// What a caller in C gets of a result.
 pub fn tell(answer: &Result<Verified, Fault>) -> QrpVerdict
-    ensures { IsTold answer.now result }
+    ensures { IsEncoded answer.now result }
 {
     match answer {
         Ok(verified) => tell_truth(verified.truth),
@@ -89,8 +89,8 @@ pub fn tell(answer: &Result<Verified, Fault>) -> QrpVerdict
 
 /// The truth that this struct tells, or `None` if it tells none.
 pub fn truth(verdict: &QrpVerdict) -> Option<bool>
-    ensures told { IfSome result (λ b. verdict.now ≡ told_truth b) }
-    ensures all { (b : Bool) → verdict.now ≡ told_truth b → result ≡ Some b }
+    ensures encoded { IfSome result (λ b. verdict.now ≡ encoded_truth b) }
+    ensures all { (b : Bool) → verdict.now ≡ encoded_truth b → result ≡ Some b }
 {
     let truth = verdict.truth == 1;
     if *verdict == tell_truth(truth) {
@@ -102,8 +102,8 @@ pub fn truth(verdict: &QrpVerdict) -> Option<bool>
 
 /// The refusal that this struct tells, or `None` if it tells none of a fault.
 pub fn refusal(verdict: &QrpVerdict) -> Option<Refusal>
-    ensures told { IfSome result (λ r. IsOfFault r × (verdict.now ≡ told_refusal r)) }
-    ensures all { (r : Refusal) → IsOfFault r → verdict.now ≡ told_refusal r → result ≡ Some r }
+    ensures encoded { IfSome result (λ r. IsOfFault r × (verdict.now ≡ encoded_refusal r)) }
+    ensures all { (r : Refusal) → IsOfFault r → verdict.now ≡ encoded_refusal r → result ≡ Some r }
 {
     let refusal = Refusal {
         letter: verdict.letter,

@@ -7,7 +7,7 @@ returns-in-Ok c =
     record {
       answer = Ok found.0;
       reads = found.1;
-      told = c.tell_nothing.ensures;
+      encoded = c.tell_nothing.ensures;
       written = rw (c.bytes.ensures.bytes, found.2) at c.put_text.ensures.written;
     }
 
@@ -15,6 +15,6 @@ pub returns-in-Err : goal.returns-in-Err
 returns-in-Err c = record {
   answer = Err (c.in-Err.fault, c.in-Err.line);
   reads = c.in-Err.ensures.err;
-  told = c.tell_fault.ensures.told;
+  encoded = c.tell_fault.ensures.encoded;
   written = c.put_text-in-Err.ensures.written;
 }

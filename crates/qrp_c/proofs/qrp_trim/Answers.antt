@@ -1,5 +1,5 @@
 use Rattle.std.proofs.Common.{◌∙◌, refl, ap, Ok, Err}
-use Rattle.qrp_memory.specs.Told.{told_truth}
+use Rattle.qrp_memory.specs.Encoding.{encoded_truth}
 use Rattle.qrp_c.proofs.qrp_trim.Goals as goal
 
 pub returns-in-Ok : goal.returns-in-Ok
@@ -8,7 +8,7 @@ returns-in-Ok c =
     record {
       answer = Ok found.0;
       trimmed = (found.1, refl, refl);
-      told = c.tell_truth.ensures ∙ ap told_truth found.2;
+      encoded = c.tell_truth.ensures ∙ ap encoded_truth found.2;
       named = tt;
       holds = rw (c.bytes.ensures.bytes, found.3) at c.put_text.ensures.written;
     }
@@ -17,7 +17,7 @@ pub returns-in-Err : goal.returns-in-Err
 returns-in-Err c = record {
   answer = Err c.in-Err.fault;
   trimmed = c.in-Err.ensures.err;
-  told = c.tell_fault.ensures.told;
+  encoded = c.tell_fault.ensures.encoded;
   named = c.tell_fault.ensures.named;
   holds = c.put_text-in-Err.ensures.written;
 }

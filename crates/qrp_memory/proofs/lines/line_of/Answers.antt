@@ -3,8 +3,8 @@ use Rattle.qrp_memory.specs.declared.verdict.QrpVerdict.{QrpVerdict}
 use Rattle.qrp_memory.proofs.LineRoom.{line_short, kept_whole}
 use Rattle.qrp_memory.proofs.lines.line_of.Goals as goal
 
-pub returns-clause-told : goal.returns-clause-told
-returns-clause-told c = λ answer is.
+pub returns-clause-encoded : goal.returns-clause-encoded
+returns-clause-encoded c = λ answer is.
     let small : c.args.verdict.now.place < 2 ^ 64 = omega arith in
-    kept_whole _ _ c.new-line.result c.put_line.new.sink _ c.put_line.result _ (c.put_line.ensures.told answer is) c.new-line.ensures.written
+    kept_whole _ _ c.new-line.result c.put_line.new.sink _ c.put_line.result _ (c.put_line.ensures.encoded answer is) c.new-line.ensures.written
     c.new-line.ensures.failures refl c.put_line.new.sink.full (line_short answer is.1 (subst (λ (v : QrpVerdict). v.place < 2 ^ 64) is.0 small))
