@@ -86,24 +86,24 @@ refused_not rules formula trace e shown h =
     by (fault.Trace e line) h = h
     by (fault.Check c) h = (verdict_is_one rules shown.f shown.d.sets shown.d.steps shown.d.result c c).0 shown.proves h
 
-headline_encoded : (rules : Rules) (formula trace : List ℕ) (answer : Result Verified Fault)
+headline_known : (rules : Rules) (formula trace : List ℕ) (answer : Result Verified Fault)
     → IsVerdictUnless rules (Some formula) (Some trace) answer
     → Headline rules formula trace answer
-headline_encoded rules formula trace (Ok v) (inl h) =
+headline_known rules formula trace (Ok v) (inl h) =
     verified rules formula trace v (found rules formula trace v (read_formula formula) (read_trace trace) refl refl h)
-headline_encoded rules formula trace (Ok v) (inr (inl h)) = absurd h
-headline_encoded rules formula trace (Ok v) (inr (inr (inl h))) = absurd h
-headline_encoded rules formula trace (Ok v) (inr (inr (inr h))) = absurd h
-headline_encoded rules formula trace (Err e) (inl h) = record {
+headline_known rules formula trace (Ok v) (inr (inl h)) = absurd h
+headline_known rules formula trace (Ok v) (inr (inr (inl h))) = absurd h
+headline_known rules formula trace (Ok v) (inr (inr (inr h))) = absurd h
+headline_known rules formula trace (Err e) (inl h) = record {
   only = λ is. absurd (cc is);
   wherever = λ shown. absurd (refused_not rules formula trace e shown h);
   truth = tt;
 }
-headline_encoded rules formula trace (Err e) (inr aside) = record { only = λ is. absurd (cc is); wherever = λ shown. inr aside; truth = tt }
+headline_known rules formula trace (Err e) (inr aside) = record { only = λ is. absurd (cc is); wherever = λ shown. inr aside; truth = tt }
 
 pub headline : (rules : Rules) (formula trace : Option (List ℕ)) (answer : Result Verified Fault)
     → IsVerdictUnless rules formula trace answer
     → IfSome formula (λ a. IfSome trace (λ b. Headline rules a b answer))
 headline rules None trace answer h = tt
 headline rules (Some a) None answer h = tt
-headline rules (Some a) (Some b) answer h = headline_encoded rules a b answer h
+headline rules (Some a) (Some b) answer h = headline_known rules a b answer h
