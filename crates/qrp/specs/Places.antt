@@ -1,7 +1,6 @@
 -- Where a token stands while a trace is read: what the lists that are begun say of its place.
 use Rattle.std.specs.Prelude.{◌≡◌, ◌<◌, ◌≤◌, ◌^◌, ℕ, false, List, [], ◌∷◌, ◌++◌, length, Result, Ok, Err, ⊤}
 use Rattle.qbf_spelling.specs.Words.{AllByRecursion, IsVariable}
-use Rattle.std.specs.declared.alloc.AllocError.{AllocError}
 use Rattle.qbf_text.specs.declared.grammar.Stop.{Stop}
 use Rattle.qbf_text.specs.declared.grammar.Stop.TheVariants as stop
 use Rattle.qrp.specs.declared.fault.TraceFault.{TraceFault}
@@ -10,7 +9,6 @@ use Rattle.qrp.specs.declared.item.Item.TheVariants as item
 use Rattle.qrp.specs.declared.places.At.{At}
 use Rattle.qrp.specs.declared.places.At.TheVariants as at
 use Rattle.qrp.specs.declared.places.Begun.{Begun}
-use Rattle.qrp.specs.declared.hand.Reached.{Reached}
 use Rattle.qrp.specs.declared.places.Part.{Part}
 use Rattle.qrp.specs.declared.places.Part.TheVariants as part
 use Rattle.qrp.specs.Inferences.{IsLiteral, IsNumber}
@@ -88,8 +86,3 @@ IsBegun (at.Whole o) b = ⊤
 abbrev pub Leads : At → Begun → Begun → Result At (Stop TraceFault) → Type 0
 Leads here old new (Ok next) = Stays old new × IsBegun next new
 Leads here old new (Err e) = Stays old new × (IsBegun here old → IsBegun here new)
-
--- at the place in a step that was reached, where whole lists stay; if an allocation failed, at the place before
-abbrev pub Settles : At → Begun → Begun → Result Reached AllocError → Type 0
-Settles here old new (Ok r) = Stays old new × IsBegun r.at new
-Settles here old new (Err e) = Stays old new × IsBegun here new

@@ -7,8 +7,8 @@ ghost use Rattle.qrp.specs.declared.places.Part.TheVariants as part;
 ghost use Rattle.qrp.specs.Places.{numbers_behind, IsComplete};
 ghost use Rattle.qrp.specs.Reading.{AtP};
 
+use crate::buffered::take_buffered;
 use crate::fault::TraceFault;
-use crate::hand::take_at_hand;
 use crate::item::{Item, Outcome, QuantSet, Step};
 use crate::parts::{Parts, close};
 use crate::places::{At, Begun, Part, take_at};
@@ -136,9 +136,9 @@ impl Grammar for ItemGrammar {
         bytes: &[u8],
         from: Cursor,
     ) -> Result<(Cursor, Option<()>), AllocError> {
-        let reached = take_at_hand(self.at, &mut self.parts.begun, bytes, from)?;
-        self.at = reached.at;
-        Ok((reached.here, reached.done))
+        let (at, reached) = take_buffered(self.at, &mut self.parts.begun, bytes, from);
+        self.at = at;
+        reached
     }
 
     #[inline(always)]
