@@ -37,16 +37,6 @@ module _ (d : Derivation) (p next : Place) where
   unfolding gathered
   result_made o ns ts us is e = ap (gathered d) (gives ts p ∙ ap given_of (rw is at e))
 
-  item_leads : (whole : Option (Result Derivation Fault)) (i : Item) (ns : List ℕ) (known rest : Known) → is_last (Ok i) ≡ false
-      → next ≡ After i ns → Leads whole (option_map (made_from d p) known) → Leaves (reads_from row p known) tt next rest
-      → Leads whole (option_map (made_from (with_item d i) (Between ns)) rest)
-  item_leads whole i ns known rest more is so_far leaves = grind (arith, common_steps, item_made i ns)
-
-  result_leads : (whole : Option (Result Derivation Fault)) (o : Outcome) (ns : List ℕ) (known rest : Known) → next ≡ After (item.Result o) ns
-      → Leads whole (option_map (made_from d p) known) → Leaves (reads_from row p known) tt next rest
-      → Gives (Ok (record d { result = o })) whole
-  result_leads whole o ns known rest is so_far leaves = grind (arith, common_steps, result_made o ns)
-
   unless : (b : Bool) {X : Type 0} → X → Unless b X
   unless b x = grind (arith, common_steps)
 
@@ -97,7 +87,7 @@ module _ {whole remaining : Option (List ℕ)} {d : Derivation} {p : Place} {r :
       → Stops row p next (tokens_next r) (tokens_next s) (ahead r.pending remaining) (ahead s.pending rest) few (Ok tt)
       → IsSoFar whole (with_item d i) (Between ns) s rest
   item_so_far {few} i ns more is leaves stops = record {
-    leads = item_leads d p next (reads_bytes whole) i ns (left r remaining) (left s rest) more is so_far.leads leaves;
+    leads = let so_far_leads = so_far.leads in grind (arith, common_steps, item_made d p next i ns);
     skips =
         known_skips read_trace (λ l. made_from d p (tokens_next r l)) (λ l. made_from (with_item d i) (Between ns) (tokens_next s l)) whole
         (ahead r.pending remaining) (ahead s.pending rest) so_far.skips
@@ -113,7 +103,7 @@ module _ {whole remaining : Option (List ℕ)} {d : Derivation} {p : Place} {r :
   -- the result ends the trace
   pub result_given : (o : Outcome) (ns : List ℕ) → next ≡ After (item.Result o) ns
       → Leaves (reads_from row p (left r remaining)) tt next (left s rest) → Gives (Ok (record d { result = o })) (reads_bytes whole)
-  result_given o ns is leaves = result_leads d p next (reads_bytes whole) o ns (left r remaining) (left s rest) is so_far.leads leaves
+  result_given o ns is leaves = let leads = so_far.leads in grind (arith, common_steps, result_made d p next o ns)
 
   pub result_stops : (o : Outcome) (ns : List ℕ) → next ≡ After (item.Result o) ns
       → Stops row p next (tokens_next r) (tokens_next s) (ahead r.pending remaining) (ahead s.pending rest) (length s.pending ≤ 4096) (Ok tt)

@@ -12,36 +12,8 @@ use qbf_spelling::literal;
 use qbf_text::Cursor;
 use std::alloc::AllocError;
 
-/// Takes literals of the step with this number, as long as they are written as usual.
-///
-/// # Errors
-/// Out of memory.
-#[inline(always)]
-#[tactic(auto, using(crate::proofs::BufferedNumbers::numbers_lead_on))]
-fn take_usual(
-    begun: &mut Begun,
-    number: u64,
-    bytes: &[u8],
-    from: Cursor,
-) -> Result<Cursor, AllocError>
-    requires within { from.at ≤ length bytes.now }
-    requires sound { IsBegun (at.Lits number) begun.old }
-    ensures passes { IfOk result (λ to. Passes (LeadOn row (place begun.old (at.Lits number))
-        (place begun.new (at.Lits number))) bytes.now from to) }
-    ensures sound { Stays begun.old begun.new × IsBegun (at.Lits number) begun.new }
-{
-    let mut here = from;
-    'literals: while let Some(passed) = here.usual_number(bytes) {
-        match literal(FAULTS, LAST_VARIABLE, passed.token) {
-            Ok(Some(lit)) => begun.lits.push(lit)?,
-            _ => break,
-        }
-        here = passed.next;
-    }
-    Ok(here)
-}
-
-/// Takes literals, and the zero after them if it stands there. Returns where the next token stands.
+/// Takes literals of the step with this number, as long as they are written as usual, and the zero
+/// after them if it stands there. Returns where the next token stands.
 ///
 /// # Errors
 /// Out of memory.
@@ -59,19 +31,25 @@ fn take_literals(
         (place begun.new result.0)) bytes.now from to) }
     ensures sound { Stays begun.old begun.new × IsBegun result.0 begun.new }
 {
-    let reached = take_usual(begun, number, bytes, from);
-    let Ok(here) = reached else {
-        return (At::Lits(number), reached);
-    };
+    let mut here = from;
+    'literals: while let Some(passed) = here.usual_number(bytes) {
+        match literal(FAULTS, LAST_VARIABLE, passed.token) {
+            Ok(Some(lit)) => match begun.lits.push(lit) {
+                Ok(()) => here = passed.next,
+                Err(_) => return (At::Lits(number), Err(AllocError)),
+            },
+            _ => break,
+        }
+    }
     let Some(passed) = here.any_number(bytes) else {
-        return (At::Lits(number), reached);
+        return (At::Lits(number), Ok(here));
     };
     match literal(FAULTS, LAST_VARIABLE, passed.token) {
         Ok(None) => {
             begun.ants.begin();
             (At::Ants(number), Ok(passed.next))
         }
-        _ => (At::Lits(number), reached),
+        _ => (At::Lits(number), Ok(here)),
     }
 }
 

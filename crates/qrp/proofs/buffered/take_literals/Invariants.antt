@@ -1,7 +1,7 @@
 use Rattle.qrp.proofs.Words.{◌-◌, ◌≤◌, length, LeadOn, Passes, place, IsBegun, Stays}
 use Rattle.qrp.specs.declared.places.At.TheVariants.{Lits}
 use Rattle.qrp.specs.Reading.{row}
-use Rattle.qrp.proofs.buffered.take_usual.Given as goal
+use Rattle.qrp.proofs.buffered.take_literals.Given as goal
 
 abbrev pub invariant-literals : goal.invariant-literals
 invariant-literals l = record {
