@@ -3,7 +3,7 @@ use Rattle.qbf_text.proofs.Words.{◌≡◌, ℕ, ◌+◌, ◌^◌, ◌<◌, ◌
 use Rattle.qbf_text.proofs.Words.{ap, ◌∙◌, subst, take, ◌-◌, zero, suc, append_assoc, arith, Option, Some, None, ◌⊎◌, inl, inr, drop-drop}
 use Rattle.qbf_text.proofs.Words.{Comments, Token, Number, ahead, tokens_left, known_left, Lined, BeginsWithNumber, SoFar, Reading}
 use Rattle.qbf_text.proofs.Words.{GivesNext, Row, Goes, read_from, reads_from, IfKnown, TakesToken, tokens_next, counted}
-use Rattle.std.proofs.Common.{length-drop, length-append}
+use Rattle.std.proofs.Common.{length-drop, length-append, Result, Ok, Err, IfOk}
 use Rattle.std.proofs.lemmas.List.{take-append-drop, take_all}
 use Rattle.qbf_text.specs.declared.hand.Cursor.{Cursor}
 use Rattle.qbf_text.specs.declared.likely_ends.LikelyEnds.{LikelyEnds}
@@ -156,6 +156,21 @@ module _ {P A F : Type 0} (row : P → Token → Row P A F) (first mid last : P)
       passes = t.passes;
       ends = t.ends;
     }
+
+module _ {P A F : Type 0} (row : P → Token → Row P A F) (first : P) (bytes : List ℕ) (from : Cursor) where
+  -- a number leads on
+  pub passes_first : (next : P) (to : Cursor) (token : Token) → from.at ≤ length bytes → row first token ≡ Goes next
+      → PassesNumber bytes from to token → Passes (LeadOn row first next) bytes from to
+  passes_first next to token within e =
+      passes_on row first first next bytes from to from token e (passes_none bytes (LeadOn row first first) from within (λ ts. refl))
+
+  -- tokens lead on, and others after them, unless an allocation fails, to where a grammar came
+  pub passes_in_turn : {E : Type 0} (mid last next : P) (here there : Cursor) (result : Result (Cursor × Option A) E)
+      → Passes (LeadOn row first mid) bytes from here → Passes (LeadOn row mid last) bytes here there
+      → IfOk result (λ r. PassesAll row last next bytes there r.0 r.1) → IfOk result (λ r. PassesAll row first next bytes from r.0 r.1)
+  passes_in_turn mid last next here there (Ok r) s t u =
+      passes_all row first last next bytes from r.0 there r.1 (passes_further row first mid last bytes from there here s t) u
+  passes_in_turn mid last next here there (Err e) s t u = tt
 
 -- ---- a scanner that goes to where a grammar came
 

@@ -21,7 +21,8 @@ module _ (n : ℕ) (vs : List ℕ) (distinct : IsDistinct eqb vs) (within : AllB
   -- with one that is missing, and 0, they would be too many below n + 1
   crowded : (v : ℕ) → 1 ≤ v → v ≤ n → list_any (eqb v) vs ≡ false → ⊥
   crowded v low high none =
-      let zero : AllByRecursion (λ w. eqb 0 w ≡ false) (v ∷ vs) = (search rules, all_of IsVariable (λ w. eqb 0 w ≡ false) (λ w is. search rules) vs within) in
+      let zero : AllByRecursion (λ w. eqb 0 w ≡ false) (v ∷ vs) =
+      (search rules, all_of IsVariable (λ w. eqb 0 w ≡ false) (λ w is. search rules) vs within) in
       let longer : IsDistinct eqb (0 ∷ v ∷ vs) =
       IsDistinct-cons eqb 0 (v ∷ vs) zero (IsDistinct-cons eqb v vs (apart v vs none) distinct) in
       let few : length (0 ∷ v ∷ vs) ≤ n + 1 = length-le_from_distinct_below (0 ∷ v ∷ vs) (n + 1) longer

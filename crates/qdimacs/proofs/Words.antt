@@ -14,13 +14,13 @@ pub use Rattle.qbf_spelling.specs.Said.{member}
 pub use Rattle.qbf_spelling.specs.Texts.{closing, literal_text}
 pub use Rattle.qbf_text.proofs.AcceptedTokens.{Leads, Stays, flat_map-push, leads_reads, leads_then, split_at}
 pub use Rattle.qbf_text.proofs.Answered.{AnswersAsRead, answered_bytes, explained, whole_given}
-pub use Rattle.qbf_text.proofs.CanonicalTokens.{all_appended, all_mapped, all_of, closed_plain, joined, tokens-lines_text}
+pub use Rattle.qbf_text.proofs.CanonicalTokens.{all_appended, all_both, all_mapped, all_of, closed_plain, joined, tokens-lines_text}
 pub use Rattle.qbf_text.proofs.OneToken.{after}
 pub use Rattle.qbf_text.proofs.PassedNumbers.{passes_further, passes_none, passes_on}
 pub use Rattle.qbf_text.proofs.SentParts.{drop_at, sent_last, zero_decimal}
 pub use Rattle.qbf_text.proofs.TokensEndOnce.{tokens-EndsOnce}
 pub use Rattle.qbf_text.specs.Answering.{BytesRead, ReadsAsRead, ReadsOnce}
-pub use Rattle.qbf_text.specs.Canonical.{IsLine, IsPlain, line_rest, line_text, spaced, spelled}
+pub use Rattle.qbf_text.specs.Canonical.{IsLine, IsPlain, line_text, spaced, spelled}
 pub use Rattle.qbf_text.specs.Left.{is_end}
 pub use Rattle.qbf_text.specs.Passing.{LeadOn, Passes}
 pub use Rattle.qbf_text.specs.Rows.{Fails, Goes}

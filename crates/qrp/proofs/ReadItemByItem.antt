@@ -1,6 +1,6 @@
 -- A trace is read item by item, and each item is put after the others.
-use Rattle.qrp.proofs.Words.{arith, common_steps, ◌≡◌, ◌≤◌, ℕ, Bool, false, List, [], ◌++◌, length, Option, Some, IfSome, Result, Ok, Err}
-use Rattle.qrp.proofs.Words.{ap, sym, ◌∙◌, append_assoc, append-nil, Qrp, Lined, ahead, left, tokens, tokens_next, ReadError, Unless}
+use Rattle.qrp.proofs.Words.{arith, common_steps, ◌≡◌, ◌≤◌, ℕ, false, List, [], ◌++◌, length, Option, Some, IfSome, Result, Ok, Err}
+use Rattle.qrp.proofs.Words.{ap, sym, ◌∙◌, append_assoc, append-nil, Qrp, Lined, ahead, left, tokens, tokens_next, ReadError, unless}
 use Rattle.qrp.proofs.Words.{fault_of, Known, Reading, reads_from, IfKnown, Skips, Stops, Leaves, Reads, Leads, TraceFault, P1, P9, Item}
 use Rattle.qrp.proofs.Words.{Outcome, is_outside, reads_bytes, Gives, StopsBehindPart, StopsBehindResult, Derivation, with_item, is_last}
 use Rattle.std.proofs.Common.{None, option_map}
@@ -23,8 +23,8 @@ pub record IsSoFar (whole : Option (List ℕ)) (d : Derivation) (p : Place) (s :
   pub skips : IfKnown (Skips read_trace (λ bytes. made_from d p (tokens_next s bytes))) whole (ahead s.pending remaining)
 
 pub nothing_so_far : (s : Reading) → ((bytes : List ℕ) → left s (Some bytes) ≡ Some (tokens Qrp bytes)) → s.pending ≡ []
-    → ((bytes : List ℕ) → tokens_next s bytes ≡ tokens Qrp bytes) → (remaining : Option (List ℕ)) → IsSoFar remaining nothing AtP s remaining
-nothing_so_far s begins none next remaining = record { leads = grind (arith, common_steps); skips = grind (arith, common_steps) }
+    → ((bytes : List ℕ) → tokens_next s bytes ≡ tokens Qrp bytes) → (given : Option (List ℕ)) → IsSoFar given nothing AtP s given
+nothing_so_far s begins none next given = record { leads = grind (arith, common_steps); skips = grind (arith, common_steps) }
 
 module _ (d : Derivation) (p next : Place) where
   item_made : (i : Item) (ns : List ℕ) (ts us : List Lined) → is_last (Ok i) ≡ false → next ≡ After i ns
@@ -36,9 +36,6 @@ module _ (d : Derivation) (p next : Place) where
       → read_from row p ts ≡ rows.Whole tt next us → made_from d p ts ≡ Ok (record d { result = o })
   unfolding gathered
   result_made o ns ts us is e = ap (gathered d) (gives ts p ∙ ap given_of (rw is at e))
-
-  unless : (b : Bool) {X : Type 0} → X → Unless b X
-  unless b x = grind (arith, common_steps)
 
   fault_read : (whole : Option (Result Derivation Fault)) (known : Known) (f : TraceFault) (line : ℕ)
       → Leads whole (option_map (made_from d p) known) → IfSome (reads_from row p known) (λ r. r ≡ rows.Fault f line)
@@ -106,8 +103,8 @@ module _ {whole remaining : Option (List ℕ)} {d : Derivation} {p : Place} {r :
   result_given o ns is leaves = let leads = so_far.leads in grind (arith, common_steps, result_made d p next o ns)
 
   pub result_stops : (o : Outcome) (ns : List ℕ) → next ≡ After (item.Result o) ns
-      → Stops row p next (tokens_next r) (tokens_next s) (ahead r.pending remaining) (ahead s.pending rest) (length s.pending ≤ 4096) (Ok tt)
-      → IfKnown (StopsBehindResult (record d { result = o })) whole rest
+      → Stops row p next (tokens_next r) (tokens_next s) (ahead r.pending remaining) (ahead s.pending rest) (length s.pending ≤ 4096)
+      (Ok tt) → IfKnown (StopsBehindResult (record d { result = o })) whole rest
   result_stops o ns is stops =
       let k = item_stops p next (tokens_next r) (tokens_next s) (ahead r.pending remaining) (ahead s.pending rest) (length s.pending ≤ 4096)
       stops (item.Result o) ns is in
@@ -123,5 +120,6 @@ module _ {whole remaining : Option (List ℕ)} {d : Derivation} {p : Place} {r :
 
   pub fault_given : (e : ReadError TraceFault) → Reads (reads_from row p (left r remaining)) next (left s rest) (Err e)
       → Gives (Err (fault_of P1 P9 e)) (reads_bytes whole)
-  fault_given (error.Text f line) h = unless d p next (is_outside f) (fault_read d p next (reads_bytes whole) (left r remaining) f line so_far.leads h)
+  fault_given (error.Text f line) h =
+      unless (is_outside f) (fault_read d p next (reads_bytes whole) (left r remaining) f line so_far.leads h)
   fault_given e h = tt

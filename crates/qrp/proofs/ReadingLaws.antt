@@ -1,7 +1,7 @@
 -- The laws of reading, and the canonical text that is read again.
 use Rattle.qrp.proofs.Words.{common_steps, rules, append-nil, ◌≡◌, ◌<◌, ◌^◌, List, [], ◌∷◌, ◌++◌, map, ◌∙◌, arith, append_assoc, ℕ, Option}
 use Rattle.qrp.proofs.Words.{IfSome, Result, flat_map-append, map-append, flat_map-map, AllByRecursion, IsVariable, Qrp, tokens, number}
-use Rattle.qrp.proofs.Words.{literal, set, IsPlain, IsLine, joined, tokens-lines_text, all_appended, all_mapped, closed_plain, Outcome}
+use Rattle.qrp.proofs.Words.{literal, set, IsPlain, IsLine, joined, tokens-lines_text, all_appended, all_mapped, closed_plain}
 use Rattle.qrp.proofs.Words.{Inference, IsInference, numbers, Derivation, IsWellFormed, literals_plain, set_written, step, result, lists}
 use Rattle.qrp.proofs.Words.{lines, text, IsTrace, ReadsText, ItemsOfTrace, answered_bytes, tokens-EndsOnce, Answers, Gives, reads_bytes}
 use Rattle.qrp.proofs.Words.{is_outside, BytesRead}
