@@ -5,7 +5,7 @@ use Rattle.qbf_text.proofs.Words.{Comments, Token, Number, ahead, tokens_left, k
 use Rattle.qbf_text.proofs.Words.{GivesNext, Row, Goes, read_from, reads_from, IfKnown, TakesToken, tokens_next, counted}
 use Rattle.std.proofs.Common.{length-drop, length-append, Result, Ok, Err, IfOk}
 use Rattle.std.proofs.lemmas.List.{take-append-drop, take_all}
-use Rattle.qbf_text.specs.declared.hand.Cursor.{Cursor}
+use Rattle.qbf_text.specs.declared.buffered.Cursor.{Cursor}
 use Rattle.qbf_text.specs.declared.likely_ends.LikelyEnds.{LikelyEnds}
 use Rattle.qbf_text.specs.Passing.{tokens_from_cursor, behind, counted_if, is_begun, cursor, moved, LeadOn, Passes, PassesNumber, PassesAll}
 use Rattle.qbf_text.specs.Passing.{ReadsAtHand}
@@ -233,11 +233,11 @@ taken_number format bytes here to token p (Some rest) = record {
   spelled = λ more _. p.spelled format more;
 }
 
-given_at_hand : (r : Reading) (here to : Cursor) (token : Token) → PassesNumber r.pending here to token → IsOpen r
+given_buffered : (r : Reading) (here to : Cursor) (token : Token) → PassesNumber r.pending here to token → IsOpen r
     → (remaining : Option (List ℕ)) → GivesNext (left (moved r here) remaining) (left (moved r to) remaining) (token, here.line)
 unfolding left
-given_at_hand r here to token p open_ None = rw open_ tt
-given_at_hand r here to token p open_ (Some rest) = rw (open_, p.no_end) (
+given_buffered r here to token p open_ None = rw open_ tt
+given_buffered r here to token p open_ (Some rest) = rw (open_, p.no_end) (
     ap (λ l. tokens_left r.comments (is_begun here) here.line l)
     (ap (λ l. l ++ rest) p.taken ∙ append_assoc (p.word ++ p.behind ∷ []) (drop to.at r.pending) rest)
     ∙ p.spelled r.comments (drop to.at r.pending ++ rest))
@@ -253,7 +253,7 @@ handed row first next (Some a) r likely to open_ few p remaining = record {
   token = (p.token, p.here.line);
   mid = moved r p.here;
   leads = (handed_so_far row first p.last r likely p.here p.leads remaining, handed_leads row first p.last r likely p.here p.leads open_ remaining);
-  gives = given_at_hand r p.here to p.token p.passes open_ remaining;
+  gives = given_buffered r p.here to p.token p.passes open_ remaining;
   takes = taken_number r.comments r.pending p.here to p.token p.passes remaining;
   ends = p.ends;
   no_end = p.passes.no_end;

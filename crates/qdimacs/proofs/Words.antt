@@ -10,7 +10,7 @@ pub use Rattle.qbf_spelling.proofs.Words.{length-append, letter, literal, map-ap
 pub use Rattle.qbf_spelling.proofs.Words.{tokens, unlined, variables}
 pub use Rattle.qbf_spelling.proofs.Worked.{all, exists}
 pub use Rattle.qbf_spelling.proofs.WrittenParts.{closed_literals, set_line}
-pub use Rattle.qbf_spelling.specs.Said.{member}
+pub use Rattle.qbf_spelling.specs.Decode.{member}
 pub use Rattle.qbf_spelling.specs.Texts.{closing, literal_text}
 pub use Rattle.qbf_text.proofs.AcceptedTokens.{Leads, Stays, flat_map-push, leads_reads, leads_then, split_at}
 pub use Rattle.qbf_text.proofs.Answered.{AnswersAsRead, answered_bytes, explained, whole_given}

@@ -113,7 +113,7 @@ fn take_literal(parts: &mut Parts, token: Token) -> Next
 /// Takes a token between lists.
 #[inline(always)]
 #[tactic(auto, using(crate::proofs::FormulaParts::made_whole))]
-fn take_opening(parts: &mut Parts, token: Token) -> Next
+fn take_list_start(parts: &mut Parts, token: Token) -> Next
     requires sound { IsSound at.Between parts.old }
     ensures row { Moves (row (stands parts.old at.Between) token) parts.new result }
     ensures sound { Leads parts.old parts.new result }
@@ -141,7 +141,7 @@ fn take_at(here: At, parts: &mut Parts, token: Token) -> Next
 {
     match here {
         At::Clause => take_literal(parts, token),
-        At::Between => take_opening(parts, token),
+        At::Between => take_list_start(parts, token),
         At::Set(quantifier) => take_member(parts, quantifier, token),
         At::Header => match header_move(FORM, parts.header, token)? {
             HeaderMove::Goes(next) => {

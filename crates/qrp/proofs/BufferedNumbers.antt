@@ -1,9 +1,9 @@
 -- Where numbers among the bytes at hand lead to.
 use Rattle.qrp.proofs.Words.{passes_none, passes_on, passes_further, passes_all, ◌≡◌, ℕ, List, [], ◌∷◌, ◌++◌, Some, Ok, ap, sym, Literal}
 use Rattle.qrp.proofs.Words.{Token, LeadOn, Passes}
-use Rattle.qbf_text.specs.declared.hand.Cursor.{Cursor}
+use Rattle.qbf_text.specs.declared.buffered.Cursor.{Cursor}
 use Rattle.qbf_text.specs.Passing.{PassesNumber}
-use Rattle.qbf_spelling.specs.Said.{literal_in}
+use Rattle.qbf_spelling.specs.Decode.{literal_in}
 use Rattle.qrp.specs.Reading.{Place, row, faults, lits_row, ants_row, antecedent, has_room, InLits, InAnts}
 
 module _ (first : Place) (bytes : List ℕ) (from to here : Cursor) (t : Token) (ns : List ℕ) (n : ℕ) (ls : List Literal) where

@@ -32,7 +32,7 @@ pub use Rattle.qrp.specs.Grammar.{IsTrace, header, lines, lists, result, result_
 pub use Rattle.qrp.specs.Inferences.{Inference, IsAt, IsInference, IsLiteral, IsNumber, IsOnlyAt, numbers}
 pub use Rattle.qrp.specs.Items.{Giver, GivesItem, Stands, StopsBehind}
 pub use Rattle.qrp.specs.Laws.{ItemsOfTrace, ReadsText}
-pub use Rattle.qrp.specs.Places.{IsBegun, Stays, place}
+pub use Rattle.qrp.specs.Places.{IsSound, Stays, place}
 pub use Rattle.qrp.specs.Texts.{step_text, steps_text}
 pub use Rattle.qrp.specs.declared.fault.TraceFault.{TraceFault}
 pub use Rattle.qrp.specs.declared.fault.TraceFault.TheVariants.{P1, P2, P3, P4, P5, P6, P7, P8, P9}

@@ -3,10 +3,10 @@
 ghost use Rattle.std.specs.Prelude.{◌≤◌, length, IfOk};
 ghost use Rattle.qbf_text.specs.Passing.{LeadOn, Passes, PassesAll};
 ghost use Rattle.qrp.specs.declared.places.At.TheVariants as at;
-ghost use Rattle.qrp.specs.Places.{place, IsBegun, Stays};
+ghost use Rattle.qrp.specs.Places.{place, IsSound, Stays};
 ghost use Rattle.qrp.specs.Reading.{row};
 
-use crate::places::{At, Begun, Part, has_room, take_opening};
+use crate::places::{At, Part, Partial, has_room, take_item_start};
 use crate::tokens::{FAULTS, LAST_VARIABLE, antecedent};
 use qbf_spelling::literal;
 use qbf_text::Cursor;
@@ -20,21 +20,21 @@ use std::alloc::AllocError;
 #[inline(always)]
 #[tactic(auto, using(crate::proofs::BufferedNumbers::numbers_lead_on))]
 fn take_literals(
-    begun: &mut Begun,
+    partial: &mut Partial,
     number: u64,
     bytes: &[u8],
     from: Cursor,
 ) -> (At, Result<Cursor, AllocError>)
     requires within { from.at ≤ length bytes.now }
-    requires sound { IsBegun (at.Lits number) begun.old }
-    ensures passes { IfOk result.1 (λ to. Passes (LeadOn row (place begun.old (at.Lits number))
-        (place begun.new result.0)) bytes.now from to) }
-    ensures sound { Stays begun.old begun.new × IsBegun result.0 begun.new }
+    requires sound { IsSound (at.Lits number) partial.old }
+    ensures passes { IfOk result.1 (λ to. Passes (LeadOn row (place partial.old (at.Lits number))
+        (place partial.new result.0)) bytes.now from to) }
+    ensures sound { Stays partial.old partial.new × IsSound result.0 partial.new }
 {
     let mut here = from;
     'literals: while let Some(passed) = here.usual_number(bytes) {
         match literal(FAULTS, LAST_VARIABLE, passed.token) {
-            Ok(Some(lit)) => match begun.lits.push(lit) {
+            Ok(Some(lit)) => match partial.lits.push(lit) {
                 Ok(()) => here = passed.next,
                 Err(_) => return (At::Lits(number), Err(AllocError)),
             },
@@ -46,7 +46,7 @@ fn take_literals(
     };
     match literal(FAULTS, LAST_VARIABLE, passed.token) {
         Ok(None) => {
-            begun.ants.begin();
+            partial.ants.begin();
             (At::Ants(number), Ok(passed.next))
         }
         _ => (At::Lits(number), Ok(here)),
@@ -62,21 +62,24 @@ type Reached = (At, Result<(Cursor, Option<()>), AllocError>);
 /// Out of memory.
 #[inline(always)]
 #[tactic(auto, using(crate::proofs::BufferedNumbers::numbers_lead_on))]
-fn take_antecedents(begun: &mut Begun, number: u64, bytes: &[u8], from: Cursor) -> Reached
+fn take_antecedents(partial: &mut Partial, number: u64, bytes: &[u8], from: Cursor) -> Reached
     requires within { from.at ≤ length bytes.now }
-    requires sound { IsBegun (at.Ants number) begun.old }
-    ensures passes { IfOk result.1 (λ r. PassesAll row (place begun.old (at.Ants number))
-        (place begun.new result.0) bytes.now from r.0 r.1) }
-    ensures sound { Stays begun.old begun.new × IsBegun result.0 begun.new }
+    requires sound { IsSound (at.Ants number) partial.old }
+    ensures passes { IfOk result.1 (λ r. PassesAll row (place partial.old (at.Ants number))
+        (place partial.new result.0) bytes.now from r.0 r.1) }
+    ensures sound { Stays partial.old partial.new × IsSound result.0 partial.new }
 {
     let mut here = from;
     'antecedents: while let Some(passed) = here.number(bytes) {
-        match antecedent(has_room(&begun.ants), passed.token) {
-            Ok(Some(ant)) => match begun.ants.push(ant) {
+        match antecedent(has_room(&partial.ants), passed.token) {
+            Ok(Some(ant)) => match partial.ants.push(ant) {
                 Ok(()) => here = passed.next,
                 Err(_) => return (At::Ants(number), Err(AllocError)),
             },
-            Ok(None) => return (At::Behind(Part::Step(number)), Ok((passed.next, Some(())))),
+            Ok(None) => return (
+                At::ItemComplete(Part::Step(number)),
+                Ok((passed.next, Some(()))),
+            ),
             Err(_) => break,
         }
     }
@@ -86,12 +89,12 @@ fn take_antecedents(begun: &mut Begun, number: u64, bytes: &[u8], from: Cursor) 
 /// Takes the number of a step, if one begins here. Returns where the next token stands.
 #[inline(always)]
 #[tactic(auto, using(crate::proofs::BufferedNumbers::numbers_lead_on))]
-fn take_number(here: At, begun: &mut Begun, bytes: &[u8], from: Cursor) -> (At, Cursor)
+fn take_number(here: At, partial: &mut Partial, bytes: &[u8], from: Cursor) -> (At, Cursor)
     requires within { from.at ≤ length bytes.now }
-    requires sound { IsBegun here begun.old }
-    ensures passes { Passes (LeadOn row (place begun.old here) (place begun.new result.0))
+    requires sound { IsSound here partial.old }
+    ensures passes { Passes (LeadOn row (place partial.old here) (place partial.new result.0))
         bytes.now from result.1 }
-    ensures sound { Stays begun.old begun.new × IsBegun result.0 begun.new }
+    ensures sound { Stays partial.old partial.new × IsSound result.0 partial.new }
 {
     let At::Between = here else {
         return (here, from);
@@ -99,7 +102,7 @@ fn take_number(here: At, begun: &mut Begun, bytes: &[u8], from: Cursor) -> (At, 
     let Some(passed) = from.number(bytes) else {
         return (here, from);
     };
-    match take_opening(begun, passed.token) {
+    match take_item_start(partial, passed.token) {
         Ok(At::Lits(number)) => (At::Lits(number), passed.next),
         _ => (here, from),
     }
@@ -111,19 +114,19 @@ fn take_number(here: At, begun: &mut Begun, bytes: &[u8], from: Cursor) -> (At, 
 /// Out of memory.
 #[inline(always)]
 #[tactic(auto, using(crate::proofs::BufferedNumbers::numbers_lead_on))]
-pub fn take_buffered(here: At, begun: &mut Begun, bytes: &[u8], from: Cursor) -> Reached
+pub fn take_buffered(here: At, partial: &mut Partial, bytes: &[u8], from: Cursor) -> Reached
     requires within { from.at ≤ length bytes.now }
-    requires sound { IsBegun here begun.old }
-    ensures passes { IfOk result.1 (λ r. PassesAll row (place begun.old here)
-        (place begun.new result.0) bytes.now from r.0 r.1) }
-    ensures sound { Stays begun.old begun.new × IsBegun result.0 begun.new }
+    requires sound { IsSound here partial.old }
+    ensures passes { IfOk result.1 (λ r. PassesAll row (place partial.old here)
+        (place partial.new result.0) bytes.now from r.0 r.1) }
+    ensures sound { Stays partial.old partial.new × IsSound result.0 partial.new }
 {
-    let (at, lits) = take_number(here, begun, bytes, from);
+    let (at, lits) = take_number(here, partial, bytes, from);
     let At::Lits(number) = at else {
         return (at, Ok((lits, None)));
     };
-    match take_literals(begun, number, bytes, lits) {
-        (At::Ants(number), Ok(ants)) => take_antecedents(begun, number, bytes, ants),
+    match take_literals(partial, number, bytes, lits) {
+        (At::Ants(number), Ok(ants)) => take_antecedents(partial, number, bytes, ants),
         (at, Ok(to)) => (at, Ok((to, None))),
         (at, Err(refused)) => (at, Err(refused)),
     }
