@@ -4,7 +4,7 @@ use Rattle.qbf_text.specs.declared.token.Token.{Token}
 use Rattle.qbf_text.specs.declared.token.Token.TheVariants as token
 use Rattle.qbf_text.specs.declared.token.Word.{Word}
 use Rattle.qbf_text.specs.declared.token.Word.TheVariants as word
-use Rattle.qbf_spelling.specs.declared.said.Faults.{Faults}
+use Rattle.qbf_spelling.specs.declared.decode.Faults.{Faults}
 use Rattle.qbf_spelling.specs.declared.header.HeaderForm.{HeaderForm}
 use Rattle.qbf_spelling.specs.declared.header.HeaderAt.{HeaderAt}
 use Rattle.qbf_spelling.specs.declared.header.HeaderAt.TheVariants.{P, Format, First, Second}

@@ -1,5 +1,5 @@
 pub mod Spelling
-pub mod Said
+pub mod Decode
 pub mod Headers
 pub mod Texts
 pub mod Words

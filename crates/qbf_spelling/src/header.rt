@@ -4,7 +4,7 @@ ghost use Rattle.std.specs.Prelude.{◌≡◌, ◌-◌, ◌^◌, IfSome, IfOk};
 ghost use Rattle.qbf_spelling.specs.Headers.{header_fault, is_allowed, header_word};
 ghost use Rattle.qbf_spelling.specs.Headers.{header_number, header_move, IsUpTo, LeadsUpTo};
 
-use crate::said::Faults;
+use crate::decode::Faults;
 use qbf_text::{Token, Word};
 
 /// How the header of a format is spelled, `p`, its word and two numbers, and the faults of the

@@ -2,10 +2,10 @@
 //! says, and how these are written.
 #![tactic(auto)]
 
+mod decode;
 mod header;
-mod said;
 mod writing;
 
+pub use decode::{Faults, literal, member, quantifier};
 pub use header::{HeaderAt, HeaderForm, HeaderMove, header_move};
-pub use said::{Faults, literal, member, quantifier};
 pub use writing::{Bare, Bytes, HeaderLine, Put};

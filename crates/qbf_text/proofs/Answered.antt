@@ -18,6 +18,9 @@ explained Spells Reads read first begins one only ts once =
     let r = accepted.each_is_answered Spells Reads one [] first ts begins once in
     rw (only ts r.0 r.1) r.1
 
+pub unless : (b : Bool) {X : Type 0} → X → answering.Unless b X
+unless b x = grind (arith, common_steps)
+
 module _ {A F : Type 0} (outside : F → Bool) (Spelled : List Token → A → Type 0) (Stands : List Lined → F → ℕ → Type 0) where
   answered : (ts : List Lined) (whole result : Result A (F × ℕ)) → answering.Reads Spelled Stands ts whole
       → Gives outside result (Some whole) → answering.Answers outside Spelled Stands ts result

@@ -80,6 +80,11 @@ pub all_of : {X : Type 0} (P Q : X → Type 0) → ((x : X) → P x → Q x) →
 all_of P Q one [] h = tt
 all_of P Q one (x ∷ xs) h = (one x h.0, all_of P Q one xs h.1)
 
+pub all_both : {X : Type 0} (P Q : X → Type 0) (xs : List X) → AllByRecursion P xs → AllByRecursion Q xs
+    → AllByRecursion (λ x. P x × Q x) xs
+all_both P Q [] h k = tt
+all_both P Q (x ∷ xs) h k = ((h.0, k.0), all_both P Q xs h.1 k.1)
+
 -- plain tokens and a zero
 pub closed_plain : (ts : List Token) → AllByRecursion IsPlain ts → AllByRecursion IsPlain (ts ++ token.Number false 0 ∷ [])
 closed_plain ts h = all_appended IsPlain ts (token.Number false 0 ∷ []) h (omega arith, tt)

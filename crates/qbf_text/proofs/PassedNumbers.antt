@@ -3,9 +3,9 @@ use Rattle.qbf_text.proofs.Words.{◌≡◌, ℕ, ◌+◌, ◌^◌, ◌<◌, ◌
 use Rattle.qbf_text.proofs.Words.{ap, ◌∙◌, subst, take, ◌-◌, zero, suc, append_assoc, arith, Option, Some, None, ◌⊎◌, inl, inr, drop-drop}
 use Rattle.qbf_text.proofs.Words.{Comments, Token, Number, ahead, tokens_left, known_left, Lined, BeginsWithNumber, SoFar, Reading}
 use Rattle.qbf_text.proofs.Words.{GivesNext, Row, Goes, read_from, reads_from, IfKnown, TakesToken, tokens_next, counted}
-use Rattle.std.proofs.Common.{length-drop, length-append}
+use Rattle.std.proofs.Common.{length-drop, length-append, Result, Ok, Err, IfOk}
 use Rattle.std.proofs.lemmas.List.{take-append-drop, take_all}
-use Rattle.qbf_text.specs.declared.hand.Cursor.{Cursor}
+use Rattle.qbf_text.specs.declared.buffered.Cursor.{Cursor}
 use Rattle.qbf_text.specs.declared.likely_ends.LikelyEnds.{LikelyEnds}
 use Rattle.qbf_text.specs.Passing.{tokens_from_cursor, behind, counted_if, is_begun, cursor, moved, LeadOn, Passes, PassesNumber, PassesAll}
 use Rattle.qbf_text.specs.Passing.{ReadsAtHand}
@@ -157,6 +157,21 @@ module _ {P A F : Type 0} (row : P → Token → Row P A F) (first mid last : P)
       ends = t.ends;
     }
 
+module _ {P A F : Type 0} (row : P → Token → Row P A F) (first : P) (bytes : List ℕ) (from : Cursor) where
+  -- a number leads on
+  pub passes_first : (next : P) (to : Cursor) (token : Token) → from.at ≤ length bytes → row first token ≡ Goes next
+      → PassesNumber bytes from to token → Passes (LeadOn row first next) bytes from to
+  passes_first next to token within e =
+      passes_on row first first next bytes from to from token e (passes_none bytes (LeadOn row first first) from within (λ ts. refl))
+
+  -- tokens lead on, and others after them, unless an allocation fails, to where a grammar came
+  pub passes_in_turn : {E : Type 0} (mid last next : P) (here there : Cursor) (result : Result (Cursor × Option A) E)
+      → Passes (LeadOn row first mid) bytes from here → Passes (LeadOn row mid last) bytes here there
+      → IfOk result (λ r. PassesAll row last next bytes there r.0 r.1) → IfOk result (λ r. PassesAll row first next bytes from r.0 r.1)
+  passes_in_turn mid last next here there (Ok r) s t u =
+      passes_all row first last next bytes from r.0 there r.1 (passes_further row first mid last bytes from there here s t) u
+  passes_in_turn mid last next here there (Err e) s t u = tt
+
 -- ---- a scanner that goes to where a grammar came
 
 pub begun_counted : (b : Bool) → not (nat_eq (counted_if b) 0) ≡ b
@@ -218,11 +233,11 @@ taken_number format bytes here to token p (Some rest) = record {
   spelled = λ more _. p.spelled format more;
 }
 
-given_at_hand : (r : Reading) (here to : Cursor) (token : Token) → PassesNumber r.pending here to token → IsOpen r
+given_buffered : (r : Reading) (here to : Cursor) (token : Token) → PassesNumber r.pending here to token → IsOpen r
     → (remaining : Option (List ℕ)) → GivesNext (left (moved r here) remaining) (left (moved r to) remaining) (token, here.line)
 unfolding left
-given_at_hand r here to token p open_ None = rw open_ tt
-given_at_hand r here to token p open_ (Some rest) = rw (open_, p.no_end) (
+given_buffered r here to token p open_ None = rw open_ tt
+given_buffered r here to token p open_ (Some rest) = rw (open_, p.no_end) (
     ap (λ l. tokens_left r.comments (is_begun here) here.line l)
     (ap (λ l. l ++ rest) p.taken ∙ append_assoc (p.word ++ p.behind ∷ []) (drop to.at r.pending) rest)
     ∙ p.spelled r.comments (drop to.at r.pending ++ rest))
@@ -238,7 +253,7 @@ handed row first next (Some a) r likely to open_ few p remaining = record {
   token = (p.token, p.here.line);
   mid = moved r p.here;
   leads = (handed_so_far row first p.last r likely p.here p.leads remaining, handed_leads row first p.last r likely p.here p.leads open_ remaining);
-  gives = given_at_hand r p.here to p.token p.passes open_ remaining;
+  gives = given_buffered r p.here to p.token p.passes open_ remaining;
   takes = taken_number r.comments r.pending p.here to p.token p.passes remaining;
   ends = p.ends;
   no_end = p.passes.no_end;

@@ -1,9 +1,10 @@
 -- Texts that go out part by part.
 use Rattle.qbf_text.proofs.Words.{arith, ◌≡◌, ℕ, ◌<◌, Ok, Err, List, [], ◌∷◌, ◌++◌, Option, take, drop, refl, sym, ap, subst, ◌∙◌}
-use Rattle.qbf_text.proofs.Words.{append_assoc, ◌+◌, Some, suc, get_or, length, flat_map, Result, decimal, map, false, common_steps}
-use Rattle.qbf_text.proofs.Words.{err_from_is_err_and, Token, spelled, line_rest, IsSent}
+use Rattle.qbf_text.proofs.Words.{append_assoc, ◌+◌, Some, zero, suc, inl, inr, AllByRecursion, get_or, length, flat_map, Result, decimal}
+use Rattle.qbf_text.proofs.Words.{map, false, common_steps, err_from_is_err_and, Token, spelled, line_rest, IsSent}
 use Rattle.std.proofs.Common.{slice_get, add-one, drop-cons, IsErrAnd, take-append-drop}
-use Rattle.std.proofs.lemmas.Option.{slice_get_within, get_or_from_slice_get}
+use Rattle.std.proofs.lemmas.Option.{slice_get_within, get_or_from_slice_get, slice_get_cases}
+use Rattle.std.specs.List.{filter_map}
 use Rattle.std.specs.Fmt.{digits}
 use Rattle.qbf_text.specs.Written.{IsPut}
 use Rattle.std.specs.Io.KnownBytes.{Appends}
@@ -38,6 +39,37 @@ part_at f xs i x at = ap (flat_map f) (drop_at xs i x at)
 pub parts_next : {X : Type 0} (f : X → List ℕ) (xs : List X) (i : ℕ) (x d : X) → i < length xs → x ≡ get_or xs i d
     → flat_map f (drop i xs) ≡ f x ++ flat_map f (drop (i + 1) xs)
 parts_next f xs i x d lt is = grind (arith, common_steps)
+
+module _ {X : Type 0} (f : X → List ℕ) (xs : List X) where
+  -- what is left of a list of parts has a first one
+  pub part_next : (i : ℕ) → i < length xs
+      → (x : X) × (slice_get xs i ≡ Some x) × (flat_map f (drop i xs) ≡ f x ++ flat_map f (drop (i + 1) xs))
+  part_next i less = elim (slice_get_cases xs i).1 [
+    | inl (x, _, is, _) ↦ (x, is, part_at f xs i x is)
+    | inr (past, _) ↦ absurd (omega (arith, less, past))
+  ]
+
+  -- and so has what is left of the parts at some places, from the k-th of these on
+  pub part_at_next : (places : List ℕ) (k : ℕ) → AllByRecursion (λ i. i < length xs) places → k < length places
+      → (x : X) × (slice_get xs (get_or places k 0) ≡ Some x)
+      × (flat_map f (filter_map (slice_get xs) (drop k places)) ≡ f x ++ flat_map f (filter_map (slice_get xs) (drop (k + 1) places)))
+  part_at_next places k inside less = rw (add-one) (from places k inside less)
+    where
+      from : (places : List ℕ) (k : ℕ) → AllByRecursion (λ i. i < length xs) places → k < length places
+          → (x : X) × (slice_get xs (get_or places k 0) ≡ Some x)
+          × (flat_map f (filter_map (slice_get xs) (drop k places)) ≡ f x ++ flat_map f (filter_map (slice_get xs) (drop (suc k) places)))
+      from [] k inside less = absurd (omega arith)
+      from (p ∷ places) zero inside less = elim (slice_get_cases xs p).1 [
+        | inl (x, _, is, _) ↦ (x, is, rw is refl)
+        | inr (past, _) ↦ absurd (let below : p < length xs = inside.0 in omega (arith, below, past))
+      ]
+      from (p ∷ places) (suc k) inside less = from places k inside.1 (omega arith)
+
+-- as many items stand at some places as there are places
+pub length_at : {X : Type 0} (xs : List X) (places : List ℕ) → AllByRecursion (λ i. i < length xs) places
+    → length (filter_map (slice_get xs) places) ≡ length places
+length_at xs [] inside = refl
+length_at xs (p ∷ places) inside = grind (arith, common_steps, slice_get_cases, length_at xs places inside.1)
 
 module _ {S : Type 0} {written : S → Option (List ℕ)} {failures : S → ℕ} where
   sent_step : (a b c : S) (whole rest part more : List ℕ) → IsSent written failures a b whole rest → rest ≡ part ++ more

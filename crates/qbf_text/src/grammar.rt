@@ -12,7 +12,7 @@ ghost use Rattle.qbf_text.specs.Ahead.{ahead};
 ghost use Rattle.qbf_text.specs.Passing.{PassesAll, ReadsAtHand};
 ghost use Rattle.qbf_text.specs.Stopping.{tokens_next, Stops};
 
-use crate::hand::Cursor;
+use crate::buffered::Cursor;
 use crate::scanner::{ScanFault, Scanner};
 use crate::source::Source;
 use crate::token::{Comments, Token};
@@ -154,7 +154,7 @@ pub trait Grammar {
 
 /// Lets a grammar take numbers from the bytes at hand; what was read, if it is complete.
 #[inline(always)]
-fn hand_over<G: Grammar>(
+fn take_buffered<G: Grammar>(
     grammar: &mut G,
     scanner: &mut Scanner,
 ) -> Result<Option<G::Output>, AllocError>
@@ -207,7 +207,7 @@ pub fn read_by<G: Grammar, S: Source>(
         ≤ length scanner.old.pending + S.bound source.old) }
 {
     'tokens: loop {
-        let handed = hand_over(grammar, scanner)?;
+        let handed = take_buffered(grammar, scanner)?;
         match handed {
             Some(output) => return Ok(output),
             None => {}

@@ -1,8 +1,8 @@
 //! Bytes in and out, and the tokens of QDIMACS and QRP texts.
 #![tactic(auto)]
 
+mod buffered;
 mod grammar;
-mod hand;
 mod likely_ends;
 mod pieces;
 mod run;
@@ -14,8 +14,8 @@ mod spelling;
 mod token;
 mod window;
 
+pub use buffered::{Cursor, Passed};
 pub use grammar::{Grammar, ReadError, Stop, Taken, read_by, read_text};
-pub use hand::{Cursor, Passed};
 pub use pieces::{PieceSink, PieceSource};
 pub use scanner::{ScanFault, Scanner};
 pub use sink::{Sink, SinkFault, ToWrite, VecSink, put_byte, put_bytes, put_number};

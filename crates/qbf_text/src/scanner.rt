@@ -10,7 +10,7 @@ ghost use Rattle.qbf_text.specs.Tokens.{kind};
 ghost use Rattle.qbf_text.specs.Left.{is_separator, IsUnbroken, IsWithinLine, EndsRun, EndsLine};
 ghost use Rattle.qbf_text.specs.Left.{is_end};
 
-use crate::hand::Cursor;
+use crate::buffered::Cursor;
 use crate::run::{Numeral, Run, Spelling, begins_number};
 use crate::separators::is_separator;
 use crate::source::{Source, SourceFault};

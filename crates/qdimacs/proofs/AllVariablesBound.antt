@@ -1,6 +1,6 @@
 -- As many bound variables as the header allows: each that it allows is bound.
 use Rattle.qdimacs.proofs.Words.{common_steps, rules, ◌≡◌, ℕ, ◌≤◌, ◌+◌, ◌||◌, Bool, true, false, List, [], ◌∷◌, length, eqb, refl, ap}
-use Rattle.qdimacs.proofs.Words.{arith, AllByRecursion, Block, pairs, variables, is_bound, IsVariable, list_any, length-map}
+use Rattle.qdimacs.proofs.Words.{arith, AllByRecursion, Block, pairs, variables, is_bound, IsVariable, list_any, length-map, all_of}
 use Rattle.qdimacs.proofs.Words.{IsDistinct-cons, length-le_from_distinct_below, IsPrefix, IsFull, Pairs}
 use Rattle.qbf_spelling.proofs.Words.{IsDistinct}
 
@@ -9,10 +9,6 @@ use Rattle.qbf_spelling.proofs.Words.{IsDistinct}
 apart : (v : ℕ) (vs : List ℕ) → list_any (eqb v) vs ≡ false → AllByRecursion (λ w. eqb v w ≡ false) vs
 apart v [] none = tt
 apart v (w ∷ vs) none = let rest = apart v vs in search rules
-
-zero_apart : (vs : List ℕ) → AllByRecursion IsVariable vs → AllByRecursion (λ w. eqb 0 w ≡ false) vs
-zero_apart [] h = tt
-zero_apart (v ∷ vs) h = (search rules, zero_apart vs h.1)
 
 below : (n : ℕ) (vs : List ℕ) → AllByRecursion (λ v. v ≤ n) vs → (q : ℕ) → list_any (eqb q) vs ≡ true → q ≤ n
 below n [] h q e = search rules
@@ -25,7 +21,8 @@ module _ (n : ℕ) (vs : List ℕ) (distinct : IsDistinct eqb vs) (within : AllB
   -- with one that is missing, and 0, they would be too many below n + 1
   crowded : (v : ℕ) → 1 ≤ v → v ≤ n → list_any (eqb v) vs ≡ false → ⊥
   crowded v low high none =
-      let zero : AllByRecursion (λ w. eqb 0 w ≡ false) (v ∷ vs) = (search rules, zero_apart vs within) in
+      let zero : AllByRecursion (λ w. eqb 0 w ≡ false) (v ∷ vs) =
+      (search rules, all_of IsVariable (λ w. eqb 0 w ≡ false) (λ w is. search rules) vs within) in
       let longer : IsDistinct eqb (0 ∷ v ∷ vs) =
       IsDistinct-cons eqb 0 (v ∷ vs) zero (IsDistinct-cons eqb v vs (apart v vs none) distinct) in
       let few : length (0 ∷ v ∷ vs) ≤ n + 1 = length-le_from_distinct_below (0 ∷ v ∷ vs) (n + 1) longer

@@ -1,7 +1,7 @@
 -- What the parts of a formula make, and where clauses in the bytes at hand lead to.
-use Rattle.qdimacs.proofs.Words.{arith, common_steps, passes_none, passes_on, passes_further, ◌≡◌, Bool, false, Option, None, Result, Ok, Quantifier}
-use Rattle.qdimacs.proofs.Words.{Literal, Token, pairs, Ends, blocks_of-pairs, is_end, Goes, FormulaFault, At, Parts, made, heading, stands}
-use Rattle.qdimacs.proofs.Words.{row_to, IsMade, Place, Whole, between_row, row}
+use Rattle.qdimacs.proofs.Words.{arith, common_steps, passes_none, passes_on, passes_further, ◌≡◌, Bool, false, Option, None, Result, Ok}
+use Rattle.qdimacs.proofs.Words.{Quantifier, Literal, Token, pairs, Ends, blocks_of-pairs, is_end, Goes, FormulaFault, At, Parts, made}
+use Rattle.qdimacs.proofs.Words.{heading, stands, row_to, IsMade, Place, Whole, between_row, row}
 
 -- after the last clause the end makes the formula
 pub made_whole : (p : Parts) → IsMade p → (set : Option Quantifier) (mark : Result Bool FormulaFault)

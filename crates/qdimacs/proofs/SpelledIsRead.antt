@@ -5,7 +5,8 @@ use Rattle.qdimacs.proofs.Words.{Quantifier, Literal, Block, pairs, is_bound, bl
 use Rattle.qdimacs.proofs.Words.{Ends, Qbf, Lined, unlined, read-one, append-nil, pairs_of_block, middle, front_all, front_distinct}
 use Rattle.qdimacs.proofs.Words.{new_number, Leads, Stays, leads_then, split_at, leads_reads, AreGood, Reads, Spells, IsFault, header}
 use Rattle.qdimacs.proofs.Words.{clause, IsFormula, Heading, Place, AtP, InHeader, Between, InSet, InClause, Whole, row, Pairs, Clauses}
-use Rattle.qdimacs.proofs.Words.{AreFrom, Row, read, answer_of, blocks_of-pairs, ReadsOnce, FormulaFault, after}
+use Rattle.qdimacs.proofs.Words.{AreFrom, Row, read, answer_of, blocks_of-pairs, ReadsOnce, FormulaFault, after, IsVariable, all_both}
+use Rattle.qdimacs.proofs.Words.{all_of}
 use Rattle.qbf_spelling.proofs.Words.token
 use Rattle.qbf_spelling.proofs.Words.word
 use Rattle.qdimacs.proofs.AllVariablesBound.{is_bound_variables}
@@ -105,11 +106,6 @@ leads_lists h sets cs lv lc good closed few =
     leads_then (leads_then (leads_header h lv lc) (leads_sets h [] sets good))
     (leads_clauses h (pairs sets) good [] cs closed (omega arith))
 
-both : (P Q : ℕ → Type 0) (vs : List ℕ) → AllByRecursion (λ v. P v × Q v) vs → (R : ℕ → Type 0) → AllByRecursion R vs
-    → AllByRecursion (λ v. P v × R v) vs
-both P Q [] h R k = tt
-both P Q (v ∷ vs) h R k = ((h.0.0, k.0), both P Q vs h.1 R k.1)
-
 -- What is spelled is read.
 pub spelled_is_read : (ts : List Lined) (f : Qbf) → IsFormula (unlined ts) f → read ts ≡ Ok f
 spelled_is_read ts f is =
@@ -117,7 +113,7 @@ spelled_is_read ts f is =
     let w = is.well_formed in
     let good : AreGood f.max_var (pairs is.sets) = subst (AreGood f.max_var) (sym is.bound) (record {
       distinct = w.prefix.distinct;
-      within = both (λ v. 1 ≤ v) (λ v. v ≤ 2147483647) _ w.prefix.within (λ v. v ≤ f.max_var) w.top;
+      within = all_both (λ v. 1 ≤ v) (λ v. v ≤ f.max_var) _ (all_of IsVariable (λ v. 1 ≤ v) (λ v is. is.0) _ w.prefix.within) w.top;
     }) in
     let closed = subst (λ (ps : Pairs). AllByRecursion (AreFrom ps) f.clauses)
     (sym is.bound) w.closed in

@@ -1,7 +1,7 @@
 -- The names that the proofs cite most, passed on from one place. Declares nothing.
 pub use Rattle.qbf_core.proofs.BlockLaws.{Alternates-blocks_of, blocks_of-pairs, pairs-blocks_of}
 pub use Rattle.qbf_core.proofs.DistinctNumbers.{front_all, front_distinct, middle, new_number, push_distinct}
-pub use Rattle.qbf_core.specs.Blocks.{Alternates, AreBound, IsPrefix, is_quantifier, pairs_of_block}
+pub use Rattle.qbf_core.specs.Blocks.{AreBound, IsPrefix, pairs_of_block, with_pair}
 pub use Rattle.qbf_core.specs.Qbf.{IsWellFormed}
 pub use Rattle.qbf_spelling.proofs.CanonicalLines.{literals_plain, set_written}
 pub use Rattle.qbf_spelling.proofs.Words.{AllByRecursion, AllByRecursion-push, Block, Ends, IsSent, IsVariable, Lined, Literal, Qbf}
@@ -9,18 +9,18 @@ pub use Rattle.qbf_spelling.proofs.Words.{Qdimacs, Quantifier, Token, blocks_of,
 pub use Rattle.qbf_spelling.proofs.Words.{length-append, letter, literal, map-append, number, pairs, read-one, sent_fails, sent_part, set}
 pub use Rattle.qbf_spelling.proofs.Words.{tokens, unlined, variables}
 pub use Rattle.qbf_spelling.proofs.Worked.{all, exists}
-pub use Rattle.qbf_spelling.proofs.WrittenParts.{closed_literals, closed_numbers}
-pub use Rattle.qbf_spelling.specs.Said.{member}
+pub use Rattle.qbf_spelling.proofs.WrittenParts.{closed_literals, set_line}
+pub use Rattle.qbf_spelling.specs.Decode.{member}
 pub use Rattle.qbf_spelling.specs.Texts.{closing, literal_text}
 pub use Rattle.qbf_text.proofs.AcceptedTokens.{Leads, Stays, flat_map-push, leads_reads, leads_then, split_at}
 pub use Rattle.qbf_text.proofs.Answered.{AnswersAsRead, answered_bytes, explained, whole_given}
-pub use Rattle.qbf_text.proofs.CanonicalTokens.{all_appended, all_mapped, all_of, closed_plain, joined, tokens-lines_text}
+pub use Rattle.qbf_text.proofs.CanonicalTokens.{all_appended, all_both, all_mapped, all_of, closed_plain, joined, tokens-lines_text}
 pub use Rattle.qbf_text.proofs.OneToken.{after}
 pub use Rattle.qbf_text.proofs.PassedNumbers.{passes_further, passes_none, passes_on}
 pub use Rattle.qbf_text.proofs.SentParts.{drop_at, sent_last, zero_decimal}
 pub use Rattle.qbf_text.proofs.TokensEndOnce.{tokens-EndsOnce}
 pub use Rattle.qbf_text.specs.Answering.{BytesRead, ReadsAsRead, ReadsOnce}
-pub use Rattle.qbf_text.specs.Canonical.{IsLine, IsPlain, line_rest, line_text, spaced, spelled}
+pub use Rattle.qbf_text.specs.Canonical.{IsLine, IsPlain, line_text, spaced, spelled}
 pub use Rattle.qbf_text.specs.Left.{is_end}
 pub use Rattle.qbf_text.specs.Passing.{LeadOn, Passes}
 pub use Rattle.qbf_text.specs.Rows.{Fails, Goes}
@@ -31,7 +31,7 @@ pub use Rattle.qdimacs.specs.Places.{IsMade, IsSound, heading, made, row_to, sta
 pub use Rattle.qdimacs.specs.Reading.{Answer, AreFrom, AtP, Between, Clauses, Gives, Heading, InClause, InHeader, InSet, IsFull, IsWhole}
 pub use Rattle.qdimacs.specs.Reading.{Pairs, Place, Row, Whole, answer_of, between_row, bound_literal, clause_row, faults, is_outside, read}
 pub use Rattle.qdimacs.specs.Reading.{read_formula, reads_bytes, row, set_row}
-pub use Rattle.qdimacs.specs.Texts.{clauses_text, opening, prefix_rest, sets_text}
+pub use Rattle.qdimacs.specs.Texts.{blocks_rest, clauses_text, opening, sets_text}
 pub use Rattle.qdimacs.specs.declared.fault.FormulaFault.{FormulaFault}
 pub use Rattle.qdimacs.specs.declared.fault.FormulaFault.TheVariants.{F2, F3, F4, F5, F6, F7, F8}
 pub use Rattle.qdimacs.specs.declared.grammar.At.{At}

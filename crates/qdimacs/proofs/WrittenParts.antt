@@ -1,9 +1,8 @@
 -- The parts of a canonical text, one after the other.
-use Rattle.qdimacs.proofs.Words.{common_steps, ◌≢◌, ◌≡◌, ℕ, false, List, [], ◌∷◌, ◌++◌, map, Option, Some, None, refl, ap, sym, ◌∙◌}
-use Rattle.qdimacs.proofs.Words.{append_assoc, drop, slice_get, length, arith, ◌<◌, ◌+◌, flat_map, Quantifier, Literal, Block, pairs, Qbf}
-use Rattle.qdimacs.proofs.Words.{number, literal, letter, zero_decimal, drop_at, Alternates, is_quantifier, spaced, spelled, line_rest}
-use Rattle.qdimacs.proofs.Words.{line_text, literal_text, closing, closed_numbers, closed_literals, clause, header, text, opening}
-use Rattle.qdimacs.proofs.Words.{prefix_rest, sets_text, clauses_text, Pairs, Clauses}
+use Rattle.qdimacs.proofs.Words.{common_steps, ◌≡◌, ℕ, List, [], ◌∷◌, ◌++◌, Option, Some, ap, ◌∙◌, append_assoc, drop, slice_get, length}
+use Rattle.qdimacs.proofs.Words.{arith, ◌<◌, ◌+◌, flat_map, flat_map-append, flat_map-map, Quantifier, Literal, Block, blocks_of, Qbf}
+use Rattle.qdimacs.proofs.Words.{literal, zero_decimal, drop_at, with_pair, spaced, spelled, line_text, literal_text, closing, set_line}
+use Rattle.qdimacs.proofs.Words.{closed_literals, clause, header, text, opening, blocks_rest, sets_text, clauses_text, Pairs, Clauses}
 
 -- ---- a clause
 
@@ -22,55 +21,17 @@ clauses_next cs i c at = ap clauses_text (drop_at cs i c at)
 
 -- ---- a prefix
 
--- the blocks go on with another quantifier
-abbrev Differs : Option Quantifier → List Block → Type 0
-Differs (Some q) (b ∷ bs) = is_quantifier q b.quantifier ≡ false
-Differs last bs = Unit {0}
-
-rest_alternates : (b : Block) (bs : List Block) → Alternates (b ∷ bs) → (b.vars ≢ []) × Alternates bs × Differs (Some b.quantifier) bs
-rest_alternates b bs h = grind (arith, common_steps)
-
--- the variables of a block that is begun
-variables_rest : (q : Quantifier) (vs : List ℕ) (ps : Pairs)
-    → prefix_rest (Some q) (map (λ v. (q, v)) vs ++ ps) ≡ flat_map spaced vs ++ prefix_rest (Some q) ps
-variables_rest q [] ps = refl
-variables_rest q (v ∷ vs) ps = grind (arith, common_steps, variables_rest q vs ps)
-
--- what closes a block, if there is one
-abbrev closing_of : Option Quantifier → List ℕ
-closing_of None = []
-closing_of (Some q) = closing
-
-opens : (last : Option Quantifier) (b : Block) (bs : List Block) → Differs last (b ∷ bs)
-    → opening last b.quantifier ≡ closing_of last ++ spelled (letter b.quantifier)
-opens last b bs d = grind (arith, common_steps)
-
-block_begins : (last : Option Quantifier) (q : Quantifier) (vs : List ℕ) (ps : Pairs) → vs ≢ []
-    → prefix_rest last (map (λ v. (q, v)) vs ++ ps) ≡ opening last q ++ (flat_map spaced vs ++ prefix_rest (Some q) ps)
-block_begins last q [] ps some = absurd (some refl)
-block_begins last q (v ∷ vs) ps some = grind (arith, common_steps, variables_rest)
-
-prefix_from : (last : Option Quantifier) (bs : List Block) → Alternates bs → Differs last bs
-    → prefix_rest last (pairs bs) ≡ closing_of last ++ sets_text bs
-prefix_from last [] alternates differs = grind (arith, common_steps)
-prefix_from last (b ∷ bs) alternates differs =
-    let h = rest_alternates b bs alternates in
-    let letter_of_b = spelled (letter b.quantifier) in
-    let set_of_b = line_rest (map number b.vars ++ number 0 ∷ []) in
-    let vars = flat_map spaced b.vars in
-    block_begins last b.quantifier b.vars (pairs bs) h.0
-    ∙ (λ i. opens last b bs differs i ++ (vars ++ prefix_from (Some b.quantifier) bs h.1 h.2 i))
-    ∙ append_assoc (closing_of last) letter_of_b (vars ++ (closing ++ sets_text bs))
-    ∙ ap (λ (k : List ℕ). closing_of last ++ (letter_of_b ++ k))
-    (sym (append_assoc vars closing (sets_text bs)) ∙ ap (λ (k : List ℕ). k ++ sets_text bs) (sym (closed_numbers b.vars)))
-    ∙ ap (λ (k : List ℕ). closing_of last ++ k) (sym (append_assoc letter_of_b set_of_b (sets_text bs)))
+one_pair : (last : Option Quantifier) (q : Quantifier) (v : ℕ) (bs : List Block)
+    → blocks_rest last (with_pair (q, v) bs) ≡ (opening last q ++ spaced v) ++ blocks_rest (Some q) bs
+one_pair last q v bs = grind (arith, common_steps, append_assoc)
 
 pub prefix_next : (last : Option Quantifier) (ps : Pairs) (i : ℕ) (q : Quantifier) (v : ℕ) → slice_get ps i ≡ Some (q, v)
-    → prefix_rest last (drop i ps) ≡ (opening last q ++ spaced v) ++ prefix_rest (Some q) (drop (i + 1) ps)
-prefix_next last ps i q v at = rw append_assoc (ap (prefix_rest last) (drop_at ps i (q, v) at))
+    → blocks_rest last (blocks_of (drop i ps)) ≡ (opening last q ++ spaced v) ++ blocks_rest (Some q) (blocks_of (drop (i + 1) ps))
+prefix_next last ps i q v at =
+    ap (λ (rest : Pairs). blocks_rest last (blocks_of rest)) (drop_at ps i (q, v) at) ∙ one_pair last q v (blocks_of (drop (i + 1) ps))
 
 -- ---- the whole
 
-pub text_parts : (f : Qbf) → Alternates f.blocks
-    → text f ≡ line_text (header f.max_var (length f.clauses)) ++ (prefix_rest None (pairs f.blocks) ++ clauses_text f.clauses)
-text_parts f alternates = grind (arith, common_steps, prefix_from)
+pub text_parts : (f : Qbf)
+    → text f ≡ line_text (header f.max_var (length f.clauses)) ++ (sets_text f.blocks ++ clauses_text f.clauses)
+text_parts f = grind (arith, common_steps, flat_map-append, flat_map-map, append_assoc, set_line)

@@ -113,7 +113,7 @@ fn take_literal(parts: &mut Parts, token: Token) -> Next
 /// Takes a token between lists.
 #[inline(always)]
 #[tactic(auto, using(crate::proofs::FormulaParts::made_whole))]
-fn take_opening(parts: &mut Parts, token: Token) -> Next
+fn take_list_start(parts: &mut Parts, token: Token) -> Next
     requires sound { IsSound at.Between parts.old }
     ensures row { Moves (row (stands parts.old at.Between) token) parts.new result }
     ensures sound { Leads parts.old parts.new result }
@@ -141,7 +141,7 @@ fn take_at(here: At, parts: &mut Parts, token: Token) -> Next
 {
     match here {
         At::Clause => take_literal(parts, token),
-        At::Between => take_opening(parts, token),
+        At::Between => take_list_start(parts, token),
         At::Set(quantifier) => take_member(parts, quantifier, token),
         At::Header => match header_move(FORM, parts.header, token)? {
             HeaderMove::Goes(next) => {
@@ -161,14 +161,17 @@ fn take_at(here: At, parts: &mut Parts, token: Token) -> Next
 
 // ---- numbers in the bytes at hand
 
-/// Takes the usual numbers of a clause from the bytes at hand, as far as they stand there whole and
-/// are no fault. Returns where the next token stands, with the cursor before it.
+/// Where the next token stands, and the cursor before it.
+type Reached = (At, Result<Cursor, AllocError>);
+
+/// Takes the usual numbers of a clause from the bytes at hand, and the number after them, which is
+/// mostly the zero that closes the clause, as far as they stand there whole and are no fault.
 ///
 /// # Errors
 /// Out of memory.
 #[inline(always)]
 #[tactic(auto, using(crate::proofs::FormulaParts::numbers_lead_on))]
-fn take_literals(parts: &mut Parts, bytes: &[u8], from: Cursor) -> (At, Result<Cursor, AllocError>)
+fn take_clause(parts: &mut Parts, bytes: &[u8], from: Cursor) -> Reached
     requires within { from.at ≤ length bytes.now }
     requires sound { IsSound at.Clause parts.old }
     ensures passes { IfOk result.1 (λ to. Passes
@@ -184,46 +187,23 @@ fn take_literals(parts: &mut Parts, bytes: &[u8], from: Cursor) -> (At, Result<C
             Err(Stop::Text(_)) => return (At::Clause, Ok(here)),
         }
     }
-    (At::Clause, Ok(here))
-}
-
-/// The same with the number after them, which is mostly the zero that closes the clause.
-#[inline(always)]
-#[tactic(auto, using(crate::proofs::FormulaParts::numbers_lead_on))]
-fn take_clause(parts: &mut Parts, bytes: &[u8], from: Cursor) -> (At, Result<Cursor, AllocError>)
-    requires within { from.at ≤ length bytes.now }
-    requires sound { IsSound at.Clause parts.old }
-    ensures passes { IfOk result.1 (λ to. Passes
-        (LeadOn row (stands parts.old at.Clause) (stands parts.new result.0)) bytes.now from to) }
-    ensures sound { IsSound result.0 parts.new }
-{
-    let (at, reached) = take_literals(parts, bytes, from);
-    let (At::Clause, Ok(here)) = (at, reached) else {
-        return (at, reached);
-    };
     let Some(passed) = here.any_number(bytes) else {
-        return (at, reached);
+        return (At::Clause, Ok(here));
     };
     match take_literal(parts, passed.token) {
         Ok(next) => (next, Ok(passed.next)),
-        Err(Stop::Memory) => (at, Err(AllocError)),
-        Err(Stop::Text(_)) => (at, reached),
+        Err(Stop::Memory) => (At::Clause, Err(AllocError)),
+        Err(Stop::Text(_)) => (At::Clause, Ok(here)),
     }
 }
 
-/// Takes numbers from the bytes at hand, as far as they stand there whole and are no fault. Returns
-/// where the next token stands, with the cursor before it.
+/// Takes numbers from the bytes at hand, as far as they stand there whole and are no fault.
 ///
 /// # Errors
 /// Out of memory.
 #[inline(always)]
 #[tactic(auto, using(crate::proofs::FormulaParts::numbers_lead_on))]
-fn take_numbers(
-    at: At,
-    parts: &mut Parts,
-    bytes: &[u8],
-    from: Cursor,
-) -> (At, Result<Cursor, AllocError>)
+fn take_numbers(at: At, parts: &mut Parts, bytes: &[u8], from: Cursor) -> Reached
     requires within { from.at ≤ length bytes.now }
     requires sound { IsSound at parts.old }
     ensures passes { IfOk result.1 (λ to. Passes

@@ -1,12 +1,11 @@
 //! The canonical text of a formula.
 
-ghost use Rattle.std.specs.Prelude.{Ok, ◌≡◌, ◌++◌, None};
-ghost use Rattle.qbf_core.specs.Blocks.{pairs};
+ghost use Rattle.std.specs.Prelude.{Ok, ◌≡◌, ◌++◌};
 ghost use Rattle.qbf_text.specs.Written.{IsPut};
 ghost use Rattle.qbf_text.specs.Canonical.{line_text, spaced};
 ghost use Rattle.qdimacs.specs.Grammar.{text, clause};
 ghost use Rattle.qdimacs.specs.Reading.{read_formula};
-ghost use Rattle.qdimacs.specs.Texts.{opening, prefix_rest, clauses_text};
+ghost use Rattle.qdimacs.specs.Texts.{opening, sets_text, clauses_text};
 
 use qbf_core::{Formula, Lit, Prefix, Quantifier, Var};
 use qbf_spelling::{Bare, Bytes, HeaderLine, Put};
@@ -64,7 +63,7 @@ fn put_variable<K: Sink>(
 struct BlockLines<'a>(&'a Prefix);
 
 impl<'a> Put for BlockLines<'a> {
-    ghost text = { λ b. prefix_rest None (pairs b.0.now) };
+    ghost text = { λ b. sets_text b.0.now };
 
     fn put<K: Sink>(&self, sink: &mut K) -> Result<(), SinkFault> {
         let mut last = None;

@@ -26,11 +26,8 @@ numbered_more (n ∷ ns) (l ∷ lits) (a ∷ ants) s e f =
     grind (arith, common_steps, numbered_more ns lits ants s (omega (arith, e)) (omega (arith, f)))
 numbered_more ns lits ants s e f = grind (arith, common_steps)
 
-abbrev AntsFit : Inference → Type 0
-AntsFit s = AllByRecursion (λ n. n < 2 ^ 64) s.ants
-
-pub flat_pushed : (k : Kept) (s : Inference) → IsFlat k → AreStepNumbers (k.numbers ++ s.number ∷ []) → IsInference s → AntsFit s
-    → IsFlat (record k {
+pub flat_pushed : (k : Kept) (s : Inference) → IsFlat k → AreStepNumbers (k.numbers ++ s.number ∷ []) → IsInference s
+    → AllByRecursion (λ n. n < 2 ^ 64) s.ants → IsFlat (record k {
       numbers = k.numbers ++ s.number ∷ [];
       lits = k.lits ++ s.lits ∷ [];
       ants = k.ants ++ s.ants ∷ [];

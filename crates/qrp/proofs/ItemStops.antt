@@ -35,12 +35,13 @@ part_behind p here there i ns bytes rest s =
       );
     }
 
-pub item_stops : (p next : Place) (here there : List ℕ → List Lined) (i : Item) (ns : List ℕ) (before after : Option (List ℕ))
-    (few : Type 0) → next ≡ After i ns → Stops row p next here there before after few (Ok tt)
-    → IfKnown (StopsBehindPart p here i) before after × few
-item_stops p next here there i ns before after few is s =
-    let known = s.3 (taken_no_end row end_row s.0 next s.1 tt s.2) in
-    (if_known (part_behind p here there i ns) before after (rw is at known.0), known.1)
+module _ (p next : Place) (here there : List ℕ → List Lined) (before after : Option (List ℕ)) (few : Type 0)
+    (stops : Stops row p next here there before after few (Ok tt)) where
+  pub known_stops : IfKnown (text.StopsBehind row p next tt here there) before after × few
+  known_stops = stops.3 (taken_no_end row end_row stops.0 next stops.1 tt stops.2)
+
+  pub item_stops : (i : Item) (ns : List ℕ) → next ≡ After i ns → IfKnown (StopsBehindPart p here i) before after × few
+  item_stops i ns is = (if_known (part_behind p here there i ns) before after (rw is at known_stops.0), known_stops.1)
 
 -- a reader that is not done
 pub next_stops : (stage : Stage) (g : Giver) (here : List ℕ → List Lined) (before after : Option (List ℕ)) (few : Type 0) (answer : Answer)

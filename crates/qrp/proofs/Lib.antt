@@ -1,11 +1,12 @@
 mod WorkedRows
 pub mod Positions
+pub mod BufferedNumbers
 pub mod SpelledIsRead
 pub mod ReadIsSpelled
 pub mod WrittenParts
 pub mod Flats
-pub mod ReadItemByItem
 pub mod RowsReadTheItem
 pub mod ItemStops
+pub mod ReadItemByItem
 pub mod ReadingLaws
 pub mod Words

@@ -1,7 +1,7 @@
 -- The laws of reading, and the canonical text that is read again.
 use Rattle.qrp.proofs.Words.{common_steps, rules, append-nil, ◌≡◌, ◌<◌, ◌^◌, List, [], ◌∷◌, ◌++◌, map, ◌∙◌, arith, append_assoc, ℕ, Option}
 use Rattle.qrp.proofs.Words.{IfSome, Result, flat_map-append, map-append, flat_map-map, AllByRecursion, IsVariable, Qrp, tokens, number}
-use Rattle.qrp.proofs.Words.{literal, set, IsPlain, IsLine, joined, tokens-lines_text, all_appended, all_mapped, closed_plain, Outcome}
+use Rattle.qrp.proofs.Words.{literal, set, IsPlain, IsLine, joined, tokens-lines_text, all_appended, all_mapped, closed_plain}
 use Rattle.qrp.proofs.Words.{Inference, IsInference, numbers, Derivation, IsWellFormed, literals_plain, set_written, step, result, lists}
 use Rattle.qrp.proofs.Words.{lines, text, IsTrace, ReadsText, ItemsOfTrace, answered_bytes, tokens-EndsOnce, Answers, Gives, reads_bytes}
 use Rattle.qrp.proofs.Words.{is_outside, BytesRead}
@@ -27,9 +27,6 @@ steps_lines (s ∷ steps) h small ants = (
   steps_lines steps h.1 small.1 ants.1,
 )
 
-result_line : (o : Outcome) → IsLine (result o)
-result_line o = search rules
-
 lines_written : (d : Derivation) → IsWellFormed d → AllByRecursion IsLine (lines d)
 lines_written d w = (
   (tt, (tt, (tt, (w.fits.vars, (w.fits.steps, tt))))),
@@ -37,7 +34,7 @@ lines_written d w = (
       (all_appended IsLine (map set d.sets) (map step d.steps)
       (all_mapped (λ s. AllByRecursion IsVariable s.vars) IsLine set set_written d.sets w.grammatical.variables)
       (steps_lines d.steps w.grammatical.inferences w.fits.numbers_fit w.fits.ants_fit))
-      (result_line d.result, tt),
+      (search rules, tt),
 )
 
 joined_lines : (d : Derivation) → joined (lines d) ++ token.End ∷ [] ≡ lists d.header d.sets d.steps ++ result d.result ++ token.End ∷ []

@@ -1,5 +1,5 @@
 -- What is read by the rows of the items is the next item.
-use Rattle.qrp.proofs.Words.{arith, common_steps, rules, ◌≡◌, ℕ, List, [], ◌∷◌, Some, IfSome, Ok, Err, ◌⊎◌, refl, ap, sym, ◌∙◌, Token}
+use Rattle.qrp.proofs.Words.{arith, common_steps, rules, ◌≡◌, ℕ, List, [], ◌∷◌, Some, Ok, Err, ◌⊎◌, refl, ap, sym, ◌∙◌, Token}
 use Rattle.qrp.proofs.Words.{Lined, Read, read-one, ReadError, Known, Cut, reads_from, Leaves, Reads, TraceFault, P1, P7, P9, Item}
 use Rattle.qrp.proofs.Words.{known_items, GivesAnswer, GivesUnless, GivesNextItem, left_behind, stage_after, Stage, AtHeader}
 use Rattle.qrp.proofs.Words.{AtLists, Giver, Stands, GivesItem, fault_of}
@@ -36,22 +36,13 @@ pub item_given : (p : Place) (known : Known) (next : Place) (rest : Known) (i : 
     → GivesAnswer (known_items p known) (left_behind (stage_after (Ok i)) ns rest) (Ok i)
 item_given p known next rest i ns leaves is = grind (arith, common_steps, gives)
 
-fault_left : (p : Place) (known : Known) (f : TraceFault) (line : ℕ)
-    → IfSome (reads_from row p known) (λ r. r ≡ rows.Fault f line)
-    → GivesAnswer (known_items p known) (Some (Err (f, line) ∷ [])) (Err (f, line))
-fault_left p known f line h = grind (arith, common_steps, gives)
-
 pub fault_given : (p : Place) (known : Known) (next : Place) (rest : Known) (e : ReadError TraceFault)
     → Reads (reads_from row p known) next rest (Err e)
     → GivesUnless (fault_of P1 P9 e).0 (known_items p known) (Some (Err (fault_of P1 P9 e) ∷ [])) (Err (fault_of P1 P9 e))
-fault_given p known next rest e h = grind (arith, common_steps, fault_left)
+fault_given p known next rest e h = grind (arith, common_steps, gives)
 
 -- what a reader that is not done has left
 pub next_given : (stage : Stage) (before g : Giver) (known after_ : Known) (answer : Answer) → (stage ≡ AtHeader) ⊎ (stage ≡ AtLists)
     → Stands stage before → GivesItem (known_items before.place known) g.kept.numbers after_ answer
     → GivesNextItem (left_behind stage before.kept.numbers known) (left_behind (stage_after answer) g.kept.numbers after_) answer
 next_given stage before g known after_ answer open_ stands h = search rules
-
--- a fault is given for good
-pub given_again : (f : TraceFault) (line : ℕ) → GivesUnless f (Some (Err (f, line) ∷ [])) (Some (Err (f, line) ∷ [])) (Err (f, line))
-given_again f line = search rules

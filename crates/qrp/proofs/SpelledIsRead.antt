@@ -86,14 +86,10 @@ leads_literals ns n ls [] h = rw append-nil Stays
 leads_literals ns n ls (x ∷ xs) h =
     Passes (search rules) (rw append_assoc at (leads_literals ns n (ls ++ x ∷ []) xs h.1))
 
-antecedent_row : (ns : List ℕ) (n : ℕ) (ls : List Literal) (ants bs : List ℕ) (a : ℕ) → IsNumber a → length (ants ++ a ∷ bs) ≤ 2
-    → row (InAnts ns n ls ants) (number a) ≡ Goes (InAnts ns n ls (ants ++ a ∷ []))
-antecedent_row ns n ls ants bs a h few = grind (arith, common_steps, length-append)
-
 pub leads_antecedents : (ns : List ℕ) (n : ℕ) (ls : List Literal) (ants bs : List ℕ) → AllByRecursion IsNumber bs → length (ants ++ bs) ≤ 2
     → Leads (InAnts ns n ls ants) (map number bs) [] (InAnts ns n ls (ants ++ bs))
 leads_antecedents ns n ls ants [] h few = rw append-nil Stays
-leads_antecedents ns n ls ants (b ∷ bs) h few = Passes (antecedent_row ns n ls ants bs b h.0 few)
+leads_antecedents ns n ls ants (b ∷ bs) h few = Passes (grind (arith, common_steps, length-append))
     (rw append_assoc at (leads_antecedents ns n ls (ants ++ b ∷ []) bs h.1 (rw append_assoc few)))
 
 leads_step : (ns : List ℕ) (s : Inference) → IsInference s → is_used s.number ns ≡ false
@@ -137,10 +133,6 @@ gathered_lists : (h : Header) (sets : List Block) (steps : List Inference) (more
 unfolding gathered
 gathered_lists h sets steps more = gathered_more (record nothing { header = h }) sets steps more
 
-gathered_result : (d : Derivation) (o : Outcome) → gathered d (Ok (item.Result o) ∷ []) ≡ Ok (record d { result = o })
-unfolding gathered
-gathered_result d o = refl
-
 -- ---- what is spelled is read
 
 result_row_ok : (ns : List ℕ) (o : Outcome) → row (AtResult ns) (result_word o) ≡ Ends tt (After (item.Result o) ns)
@@ -160,10 +152,9 @@ spelled_items ts d is =
     ∙ ap (λ (x : Row). after x k.1 k.2) (result_row_ok (numbers d.steps) d.result))
 
 pub spelled_is_read : (ts : List Lined) (d : Derivation) → IsTrace (unlined ts) d → read ts ≡ Ok d
+unfolding gathered
 spelled_is_read ts d is =
-    ap (gathered nothing) (spelled_items ts d is)
-    ∙ gathered_lists d.header d.sets d.steps (Ok (item.Result d.result) ∷ [])
-    ∙ gathered_result (record { header = d.header; sets = d.sets; steps = d.steps; result = Sat }) d.result
+    ap (gathered nothing) (spelled_items ts d is) ∙ gathered_lists d.header d.sets d.steps (Ok (item.Result d.result) ∷ [])
 
 -- ---- a fault that stands is found
 

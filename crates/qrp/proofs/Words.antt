@@ -8,14 +8,16 @@ pub use Rattle.qbf_spelling.proofs.Worked.{all, exists}
 pub use Rattle.qbf_spelling.proofs.WrittenParts.{closed_numbers, set_line}
 pub use Rattle.qbf_spelling.specs.Texts.{set_text}
 pub use Rattle.qbf_text.proofs.AcceptedTokens.{flat_map-push, split_at}
-pub use Rattle.qbf_text.proofs.Answered.{answered_bytes, explained}
+pub use Rattle.qbf_text.proofs.Answered.{answered_bytes, explained, unless}
 pub use Rattle.qbf_text.proofs.CanonicalTokens.{all_appended, all_mapped, closed_plain, joined, tokens-lines_text}
 pub use Rattle.qbf_text.proofs.OneToken.{Leads}
-pub use Rattle.qbf_text.proofs.SentParts.{line_rest-map, part_at, zero_rest}
+pub use Rattle.qbf_text.proofs.PassedNumbers.{passes_all, passes_first, passes_further, passes_in_turn, passes_none, passes_on}
+pub use Rattle.qbf_text.proofs.SentParts.{length_at, line_rest-map, part_at_next, part_next, zero_rest}
 pub use Rattle.qbf_text.proofs.TokensEndOnce.{tokens-EndsOnce}
-pub use Rattle.qbf_text.specs.Answering.{BytesRead, ReadsAsRead, ReadsOnce, Unless, fault_of}
+pub use Rattle.qbf_text.specs.Answering.{BytesRead, ReadsAsRead, ReadsOnce, fault_of}
 pub use Rattle.qbf_text.specs.Canonical.{IsLine, IsPlain, line_text}
 pub use Rattle.qbf_text.specs.Lined.{EndsOnce, Known}
+pub use Rattle.qbf_text.specs.Passing.{LeadOn, Passes}
 pub use Rattle.qbf_text.specs.Reading.{HasFailed, Reading}
 pub use Rattle.qbf_text.specs.Rows.{Cut, reads_from}
 pub use Rattle.qbf_text.specs.Stopping.{IfKnown, Skips, Stops}
@@ -30,6 +32,7 @@ pub use Rattle.qrp.specs.Grammar.{IsTrace, header, lines, lists, result, result_
 pub use Rattle.qrp.specs.Inferences.{Inference, IsAt, IsInference, IsLiteral, IsNumber, IsOnlyAt, numbers}
 pub use Rattle.qrp.specs.Items.{Giver, GivesItem, Stands, StopsBehind}
 pub use Rattle.qrp.specs.Laws.{ItemsOfTrace, ReadsText}
+pub use Rattle.qrp.specs.Places.{IsSound, Stays, place}
 pub use Rattle.qrp.specs.Texts.{step_text, steps_text}
 pub use Rattle.qrp.specs.declared.fault.TraceFault.{TraceFault}
 pub use Rattle.qrp.specs.declared.fault.TraceFault.TheVariants.{P1, P2, P3, P4, P5, P6, P7, P8, P9}
@@ -39,9 +42,9 @@ pub use Rattle.qrp.specs.declared.item.Outcome.{Outcome}
 pub use Rattle.qrp.specs.declared.item.Outcome.TheVariants.{Sat, Unsat}
 pub use Rattle.qrp.specs.declared.reader.Stage.{Stage}
 pub use Rattle.qrp.specs.declared.reader.Stage.TheVariants.{AtHeader, AtLists}
-pub use Rattle.std.proofs.Common.{Bool, Err, IfSome, List, Ok, Option, Result, Some, [], add-one, ap, append-nil, append_assoc, arith, drop}
-pub use Rattle.std.proofs.Common.{false, get_or, inl, inr, length, map, nat_eq, refl, rules, slice_get, suc, sym, zero, ℕ, ◌++◌, ◌+◌, ◌<◌}
+pub use Rattle.std.proofs.Common.{Err, IfSome, List, Ok, Option, Result, Some, [], ap, append-nil, append_assoc, arith, drop}
+pub use Rattle.std.proofs.Common.{◌-◌, false, inl, inr, length, map, nat_eq, refl, rules, slice_get, suc, sym, zero, ℕ, ◌++◌, ◌+◌, ◌<◌}
 pub use Rattle.std.proofs.Common.{◌^◌, ◌∙◌, ◌∷◌, ◌≡◌, ◌≤◌, ◌⊎◌}
 pub use Rattle.std.proofs.lemmas.Grind.{common_steps}
-pub use Rattle.std.proofs.lemmas.Option.{slice_get-map, slice_get_cases}
+pub use Rattle.std.proofs.lemmas.Option.{slice_get-map}
 pub use Rattle.step_index.specs.Numbers.{AreStepNumbers, is_used}

@@ -11,7 +11,7 @@ use Rattle.qrp.specs.Grammar.{IsTrace}
 use Rattle.qrp.specs.Reading.{Fault, read_trace}
 use Rattle.qrp.specs.Faults.{IsFault}
 
--- what bytes read as, where they are told
+-- what bytes read as, where they are known
 abbrev pub reads_bytes : Option (List ℕ) → Option (Result Derivation Fault)
 reads_bytes bytes = option_map read_trace bytes
 

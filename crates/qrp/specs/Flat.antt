@@ -11,7 +11,7 @@ use Rattle.qrp.specs.declared.parts.Parts.{Parts}
 use Rattle.qrp.specs.declared.places.Part.{Part}
 use Rattle.qrp.specs.Derivations.{Derivation, IsWellFormed}
 use Rattle.qrp.specs.Inferences.{Inference, numbers}
-use Rattle.qrp.specs.Places.{item_of, numbers_behind}
+use Rattle.qrp.specs.Places.{item_of, numbers_after}
 
 -- the steps of these numbers, literals and antecedents
 abbrev pub numbered : List ℕ → List (List Literal) → List (List ℕ) → List Inference
@@ -48,9 +48,9 @@ abbrev pub kept_of : Parts → Kept
 kept_of p = record {
   header = p.header;
   sets = p.sets.items;
-  numbers = p.begun.index;
-  lits = p.begun.lits.whole;
-  ants = p.begun.ants.whole;
+  numbers = p.partial.index;
+  lits = p.partial.lits.whole;
+  ants = p.partial.ants.whole;
 }
 
 -- a list that grew is whole, and an empty one is begun
@@ -66,6 +66,6 @@ with_item d (item.Result o) = record d { result = o }
 
 -- a part that was begun is whole
 pub record ClosesPart (old new : Parts) (p : Part) : Type 0 where
-  pub made : made (kept_of new) ≡ with_item (made (kept_of old)) (item_of old.begun p)
-  pub numbers : new.begun.index ≡ numbers_behind old.begun p
+  pub made : made (kept_of new) ≡ with_item (made (kept_of old)) (item_of old.partial p)
+  pub numbers : new.partial.index ≡ numbers_after old.partial p
   pub flat : IsFlat (kept_of new)

@@ -1,7 +1,7 @@
 -- The parts of a trace, given one after the other.
-use Rattle.std.specs.Prelude.{◌≡◌, ◌≢◌, ◌<◌, Option, Some, None, ◌+◌, ◌-◌, ◌^◌, ℕ, Bool, true, false, List, [], ◌∷◌, ◌++◌, length, Result}
+use Rattle.std.specs.Prelude.{◌≡◌, ◌≢◌, ◌<◌, Option, Some, None, ◌+◌, ◌-◌, ◌^◌, ℕ, false, List, length, Result}
 use Rattle.std.specs.Prelude.{Ok, IfOk, OnOk, IfErr, ⊤}
-use Rattle.qbf_spelling.specs.Words.{Lined, Literal, Known}
+use Rattle.qbf_spelling.specs.Words.{Lined, Known}
 use Rattle.qbf_text.specs.Stopping.{IfKnown}
 use Rattle.qbf_text.specs.Reading.{Reading, HasFailed}
 use Rattle.qrp.specs.declared.fault.TraceFault.TheVariants.{P1}
@@ -13,22 +13,12 @@ use Rattle.qrp.specs.declared.reader.Stage.TheVariants.{AtHeader, AtLists, HasRe
 use Rattle.qrp.specs.Flat.{Kept, made, with_item}
 use Rattle.qrp.specs.Given.{KnownItems, left_behind, is_last, numbers_with, stage_after, GivesNextItem, IsProper, StandsOnLine}
 use Rattle.qrp.specs.Given.{StopsBehindPart}
-use Rattle.qrp.specs.Reading.{Fault, Place, AtP, Between, InLits, InAnts, After}
+use Rattle.qrp.specs.Reading.{Fault, Place, AtP, Between, After}
 
 -- what is kept of the parts that were given, and where reading stands
 pub record Giver : Type 0 where
   pub kept : Kept
   pub place : Place
-
--- after literals, and the zero after them if that was taken
-abbrev pub lits_place : List ℕ → ℕ → List Literal → Bool → Place
-lits_place ns n ls true = InAnts ns n ls []
-lits_place ns n ls false = InLits ns n ls
-
--- after antecedents, and the zero after them if that was taken
-abbrev pub after_ants : List ℕ → ℕ → List Literal → List ℕ → Option (Unit {0}) → Place
-after_ants ns n ls ants None = InAnts ns n ls ants
-after_ants ns n ls ants (Some u) = After (item.Step (record { number = n; lits = ls; ants = ants })) (ns ++ n ∷ [])
 
 -- an item is complete
 abbrev pub IsGiven : Place → Type 0

@@ -1,7 +1,6 @@
 -- Where a token stands while a trace is read: what the lists that are begun say of its place.
 use Rattle.std.specs.Prelude.{◌≡◌, ◌<◌, ◌≤◌, ◌^◌, ℕ, false, List, [], ◌∷◌, ◌++◌, length, Result, Ok, Err, ⊤}
 use Rattle.qbf_spelling.specs.Words.{AllByRecursion, IsVariable}
-use Rattle.std.specs.declared.alloc.AllocError.{AllocError}
 use Rattle.qbf_text.specs.declared.grammar.Stop.{Stop}
 use Rattle.qbf_text.specs.declared.grammar.Stop.TheVariants as stop
 use Rattle.qrp.specs.declared.fault.TraceFault.{TraceFault}
@@ -9,8 +8,7 @@ use Rattle.qrp.specs.declared.item.Item.{Item}
 use Rattle.qrp.specs.declared.item.Item.TheVariants as item
 use Rattle.qrp.specs.declared.places.At.{At}
 use Rattle.qrp.specs.declared.places.At.TheVariants as at
-use Rattle.qrp.specs.declared.places.Begun.{Begun}
-use Rattle.qrp.specs.declared.hand.Reached.{Reached}
+use Rattle.qrp.specs.declared.places.Partial.{Partial}
 use Rattle.qrp.specs.declared.places.Part.{Part}
 use Rattle.qrp.specs.declared.places.Part.TheVariants as part
 use Rattle.qrp.specs.Inferences.{IsLiteral, IsNumber}
@@ -19,38 +17,38 @@ use Rattle.qrp.specs.Reading.{Place, Row, InHeader, Between, InSet, InLits, InAn
 use Rattle.step_index.specs.Numbers.{is_used}
 
 -- the item that a part is
-abbrev pub item_of : Begun → Part → Item
+abbrev pub item_of : Partial → Part → Item
 item_of b (part.Header h) = item.Header h
 item_of b (part.Set q) = item.Set (record { quantifier = q; vars = b.vars.items })
 item_of b (part.Step n) = item.Step (record { number = n; lits = b.lits.begun; ants = b.ants.begun })
 
 -- the numbers of the steps after it
-abbrev pub numbers_behind : Begun → Part → List ℕ
-numbers_behind b (part.Step n) = b.index ++ n ∷ []
-numbers_behind b (part.Header h) = []
-numbers_behind b (part.Set q) = []
+abbrev pub numbers_after : Partial → Part → List ℕ
+numbers_after b (part.Step n) = b.index ++ n ∷ []
+numbers_after b (part.Header h) = []
+numbers_after b (part.Set q) = []
 
 -- where reading stands with these lists
-abbrev pub place : Begun → At → Place
+abbrev pub place : Partial → At → Place
 place b at.Header = InHeader b.header
 place b at.Between = Between b.index
 place b (at.Set q) = InSet q b.vars.items
 place b (at.Lits n) = InLits b.index n b.lits.begun
 place b (at.Ants n) = InAnts b.index n b.lits.begun b.ants.begun
 place b at.Result = AtResult b.index
-place b (at.Behind p) = After (item_of b p) (numbers_behind b p)
+place b (at.ItemComplete p) = After (item_of b p) (numbers_after b p)
 place b (at.Whole o) = After (item.Result o) b.index
 
 -- a token leads where its row says, unless an allocation failed
-abbrev pub Moves : Row → Begun → Result At (Stop TraceFault) → Type 0
-Moves r b (Ok (at.Behind p)) = r ≡ Ends tt (place b (at.Behind p))
+abbrev pub Moves : Row → Partial → Result At (Stop TraceFault) → Type 0
+Moves r b (Ok (at.ItemComplete p)) = r ≡ Ends tt (place b (at.ItemComplete p))
 Moves r b (Ok (at.Whole o)) = r ≡ Ends tt (place b (at.Whole o))
 Moves r b (Ok next) = r ≡ Goes (place b next)
 Moves r b (Err stop.Memory) = ⊤
 Moves r b (Err (stop.Text f)) = r ≡ Fails f
 
 -- whole lists and the numbers of whole steps are as they were
-pub record Stays (old new : Begun) : Type 0 where
+pub record Stays (old new : Partial) : Type 0 where
   pub index : new.index ≡ old.index
   pub lits : new.lits.whole ≡ old.lits.whole
   pub ants : new.ants.whole ≡ old.ants.whole
@@ -68,28 +66,23 @@ pub record AreAntecedents (ants : List ℕ) : Type 0 where
   pub few : length ants ≤ 2
 
 -- after a part
-abbrev pub IsComplete : Part → Begun → Type 0
+abbrev pub IsComplete : Part → Partial → Type 0
 IsComplete (part.Header h) b = (b.index ≡ []) × (h.vars < 2 ^ 64) × (h.steps < 2 ^ 64)
 IsComplete (part.Set q) b = (b.index ≡ []) × AllByRecursion IsVariable b.vars.items
 IsComplete (part.Step n) b = IsNew n b.index × AllByRecursion IsLiteral b.lits.begun × AreAntecedents b.ants.begun
 
 -- at each place
-abbrev pub IsBegun : At → Begun → Type 0
-IsBegun at.Header b = b.index ≡ []
-IsBegun at.Between b = ⊤
-IsBegun (at.Set q) b = IsComplete (part.Set q) b
-IsBegun (at.Lits n) b = IsNew n b.index × AllByRecursion IsLiteral b.lits.begun
-IsBegun (at.Ants n) b = IsComplete (part.Step n) b
-IsBegun at.Result b = ⊤
-IsBegun (at.Behind p) b = IsComplete p b
-IsBegun (at.Whole o) b = ⊤
+abbrev pub IsSound : At → Partial → Type 0
+IsSound at.Header b = b.index ≡ []
+IsSound at.Between b = ⊤
+IsSound (at.Set q) b = IsComplete (part.Set q) b
+IsSound (at.Lits n) b = IsNew n b.index × AllByRecursion IsLiteral b.lits.begun
+IsSound (at.Ants n) b = IsComplete (part.Step n) b
+IsSound at.Result b = ⊤
+IsSound (at.ItemComplete p) b = IsComplete p b
+IsSound (at.Whole o) b = ⊤
 
 -- at the place that a token leads to, where whole lists stay; where it is not taken, what held stays
-abbrev pub Leads : At → Begun → Begun → Result At (Stop TraceFault) → Type 0
-Leads here old new (Ok next) = Stays old new × IsBegun next new
-Leads here old new (Err e) = Stays old new × (IsBegun here old → IsBegun here new)
-
--- at the place in a step that was reached, where whole lists stay; if an allocation failed, at the place before
-abbrev pub Settles : At → Begun → Begun → Result Reached AllocError → Type 0
-Settles here old new (Ok r) = Stays old new × IsBegun r.at new
-Settles here old new (Err e) = Stays old new × IsBegun here new
+abbrev pub Leads : At → Partial → Partial → Result At (Stop TraceFault) → Type 0
+Leads here old new (Ok next) = Stays old new × IsSound next new
+Leads here old new (Err e) = Stays old new × (IsSound here old → IsSound here new)

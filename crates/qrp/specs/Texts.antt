@@ -1,5 +1,5 @@
 -- The parts of a canonical text, as they are written one after the other.
-use Rattle.std.specs.Prelude.{ℕ, List, [], ◌∷◌, ◌++◌, decimal}
+use Rattle.std.specs.Prelude.{ℕ, List, ◌∷◌, ◌++◌, decimal}
 use Rattle.qbf_spelling.specs.Words.{flat_map}
 use Rattle.qbf_text.specs.Canonical.{spaced}
 use Rattle.qrp.specs.Inferences.{Inference}

@@ -4,14 +4,14 @@ ghost use Rattle.std.specs.Prelude.{◌≡◌, IfOk, OnOk, OnErr};
 ghost use Rattle.qrp.specs.Flat.{kept_of, nothing_kept, IsFlat};
 ghost use Rattle.qrp.specs.Items.{IsGiven, GivesPart, Keeps};
 ghost use Rattle.qrp.specs.declared.places.Part.TheVariants as part;
-ghost use Rattle.qrp.specs.Places.{numbers_behind, IsComplete};
+ghost use Rattle.qrp.specs.Places.{numbers_after, IsComplete};
 ghost use Rattle.qrp.specs.Reading.{AtP};
 
+use crate::buffered::take_buffered;
 use crate::fault::TraceFault;
-use crate::hand::take_at_hand;
 use crate::item::{Item, Outcome, QuantSet, Step};
 use crate::parts::{Parts, close};
-use crate::places::{At, Begun, Part, take_at};
+use crate::places::{At, Part, Partial, take_at};
 use qbf_text::{Cursor, Grammar, Stop, Taken, Token};
 use std::alloc::{AllocError, Global};
 use std::marker::Model;
@@ -29,14 +29,14 @@ pub struct ItemGrammar {
 impl Model for ItemGrammar {
     ghost use Rattle.qrp.specs.Flat.{kept_of};
     ghost use Rattle.qrp.specs.Items.{Giver};
-    ghost use Rattle.qrp.specs.Places.{place, IsBegun};
+    ghost use Rattle.qrp.specs.Places.{place, IsSound};
 
     ghost Value = { Giver };
 
     ghost view = { λ g.
-        record { kept = kept_of g.parts; place = place g.parts.begun g.at } };
+        record { kept = kept_of g.parts; place = place g.parts.partial g.at } };
 
-    ghost invariant = { λ g. IsBegun g.at g.parts.begun };
+    ghost invariant = { λ g. IsSound g.at g.parts.partial };
 }
 
 impl ItemGrammar {
@@ -62,16 +62,16 @@ impl ItemGrammar {
         ensures err { OnErr result (self.new ≡ self.old) }
     {
         let item = match self.at {
-            At::Behind(Part::Header(header)) => Item::Header(header),
-            At::Behind(Part::Set(quantifier)) => {
-                let vars = mem::replace(&mut self.parts.begun.vars, Vec::new(alloc));
+            At::ItemComplete(Part::Header(header)) => Item::Header(header),
+            At::ItemComplete(Part::Set(quantifier)) => {
+                let vars = mem::replace(&mut self.parts.partial.vars, Vec::new(alloc));
                 Item::Set(QuantSet { quantifier, vars })
             }
-            At::Behind(Part::Step(number)) => {
-                let begun = &mut self.parts.begun;
-                let lits = Vec::from_slice(alloc, begun.lits.begun())?;
-                let ants = Vec::from_slice(alloc, begun.ants.begun())?;
-                begun.index.push(number)?;
+            At::ItemComplete(Part::Step(number)) => {
+                let partial = &mut self.parts.partial;
+                let lits = Vec::from_slice(alloc, partial.lits.begun())?;
+                let ants = Vec::from_slice(alloc, partial.ants.begun())?;
+                partial.index.push(number)?;
                 Item::Step(Step { number, lits, ants })
             }
             At::Whole(outcome) => return Ok(Item::Result(outcome)),
@@ -93,7 +93,7 @@ impl ItemGrammar {
         ensures made { OnOk result (IsFlat self.new.kept) }
     {
         match mem::replace(&mut self.at, At::Between) {
-            At::Behind(part) => {
+            At::ItemComplete(part) => {
                 close(&mut self.parts, part)?;
                 Ok(None)
             }
@@ -107,7 +107,7 @@ impl ItemGrammar {
         ensures { kept_of result ≡ self.kept }
     {
         let mut parts = self.parts;
-        parts.begun.index.place_all();
+        parts.partial.index.place_all();
         parts
     }
 }
@@ -136,16 +136,16 @@ impl Grammar for ItemGrammar {
         bytes: &[u8],
         from: Cursor,
     ) -> Result<(Cursor, Option<()>), AllocError> {
-        let reached = take_at_hand(self.at, &mut self.parts.begun, bytes, from)?;
-        self.at = reached.at;
-        Ok((reached.here, reached.done))
+        let (at, reached) = take_buffered(self.at, &mut self.parts.partial, bytes, from);
+        self.at = at;
+        reached
     }
 
     #[inline(always)]
     fn take(&mut self, token: Token) -> Result<Taken<()>, Stop<TraceFault>> {
-        self.at = take_at(self.at, &mut self.parts.begun, token)?;
+        self.at = take_at(self.at, &mut self.parts.partial, token)?;
         match self.at {
-            At::Behind(_) | At::Whole(_) => Ok(Taken::Done(())),
+            At::ItemComplete(_) | At::Whole(_) => Ok(Taken::Done(())),
             _ => Ok(Taken::More),
         }
     }

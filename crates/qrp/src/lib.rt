@@ -2,8 +2,8 @@
 //! canonical text.
 #![tactic(auto)]
 
+mod buffered;
 mod fault;
-mod hand;
 mod item;
 mod items;
 mod laws;

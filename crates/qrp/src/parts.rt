@@ -7,7 +7,7 @@ ghost use Rattle.qrp.specs.Places.{IsComplete, Stays};
 ghost use Rattle.step_index.specs.Numbers.{is_used, AreStepNumbers};
 
 use crate::item::{Header, QuantSet};
-use crate::places::{Begun, Part};
+use crate::places::{Part, Partial};
 use qbf_core::GrowingLists;
 use qbf_spelling::HeaderAt;
 use std::alloc::{AllocError, Global};
@@ -22,7 +22,7 @@ pub struct Parts {
     /// The sets that are whole.
     pub sets: Vec<QuantSet>,
     /// The lists that are begun, which whole ones come before.
-    pub begun: Begun,
+    pub partial: Partial,
 }
 
 impl Parts {
@@ -30,13 +30,13 @@ impl Parts {
     pub fn new(alloc: Global) -> Parts
         ensures sound { IsFlat (kept_of result) }
         ensures kept { kept_of result ≡ nothing_kept }
-        ensures header { result.begun.header ≡ header.P }
+        ensures header { result.partial.header ≡ header.P }
     {
         Parts {
             alloc,
             header: Header { vars: 0, steps: 0 },
             sets: Vec::new(alloc),
-            begun: Begun {
+            partial: Partial {
                 header: HeaderAt::P,
                 vars: Vec::new(alloc),
                 lits: GrowingLists::new(alloc),
@@ -54,29 +54,29 @@ impl Parts {
 /// # Errors
 /// Out of memory. What is whole is as it was then.
 #[inline(always)]
-fn close_step(begun: &mut Begun, number: u64) -> Result<(), AllocError>
-    requires { is_used number begun.old.index ≡ false }
-    ensures closed { OnOk result (begun.new ≡ record begun.old {
-      lits = closed begun.old.lits;
-      ants = closed begun.old.ants;
-      index = begun.old.index ++ number ∷ [];
+fn close_step(partial: &mut Partial, number: u64) -> Result<(), AllocError>
+    requires { is_used number partial.old.index ≡ false }
+    ensures closed { OnOk result (partial.new ≡ record partial.old {
+      lits = closed partial.old.lits;
+      ants = closed partial.old.ants;
+      index = partial.old.index ++ number ∷ [];
     }) }
-    ensures sound { OnOk result (AreStepNumbers begun.new.index) }
-    ensures err { OnErr result (Stays begun.old begun.new) }
+    ensures sound { OnOk result (AreStepNumbers partial.new.index) }
+    ensures err { OnErr result (Stays partial.old partial.new) }
 {
-    begun.lits.close()?;
-    match begun.ants.close() {
+    partial.lits.close()?;
+    match partial.ants.close() {
         Ok(()) => {}
         Err(refused) => {
-            begun.lits.pop();
+            partial.lits.pop();
             return Err(refused);
         }
     }
-    match begun.index.push(number) {
+    match partial.index.push(number) {
         Ok(()) => Ok(()),
         Err(refused) => {
-            begun.ants.pop();
-            begun.lits.pop();
+            partial.ants.pop();
+            partial.lits.pop();
             Err(refused)
         }
     }
@@ -91,7 +91,7 @@ fn close_step(begun: &mut Begun, number: u64) -> Result<(), AllocError>
 #[inline(always)]
 pub fn close(parts: &mut Parts, part: Part) -> Result<(), AllocError>
     requires made { IsFlat (kept_of parts.old) }
-    requires complete { IsComplete part parts.old.begun }
+    requires complete { IsComplete part parts.old.partial }
     ensures closed { OnOk result (ClosesPart parts.old parts.new part) }
     ensures err { OnErr result (kept_of parts.new ≡ kept_of parts.old) }
 {
@@ -101,12 +101,12 @@ pub fn close(parts: &mut Parts, part: Part) -> Result<(), AllocError>
             Ok(())
         }
         Part::Set(quantifier) => {
-            let vars = mem::replace(&mut parts.begun.vars, Vec::new(parts.alloc));
+            let vars = mem::replace(&mut parts.partial.vars, Vec::new(parts.alloc));
             parts.sets.push(QuantSet { quantifier, vars })?;
             Ok(())
         }
         Part::Step(number) => {
-            close_step(&mut parts.begun, number)?;
+            close_step(&mut parts.partial, number)?;
             Ok(())
         }
     }

@@ -2,13 +2,15 @@
 
 ghost use Rattle.std.specs.Prelude.{◌≡◌};
 ghost use Rattle.qrp.specs.declared.places.At.TheVariants as at;
-ghost use Rattle.qrp.specs.declared.places.Begun.{Begun};
-ghost use Rattle.qrp.specs.Places.{place, Moves, Leads, IsBegun};
+ghost use Rattle.qrp.specs.declared.places.Partial.{Partial};
+ghost use Rattle.qrp.specs.Places.{place, Moves, Leads, IsSound};
 ghost use Rattle.qrp.specs.Reading.{has_room, row};
 
 use crate::fault::TraceFault;
 use crate::item::{Header, Outcome};
-use crate::tokens::{FAULTS, FORM, LAST_VARIABLE, Opening, antecedent, opened, outcome_of};
+use crate::tokens::{
+    FAULTS, FORM, ItemStart, LAST_VARIABLE, antecedent, decode_item_start, outcome_of,
+};
 use qbf_core::{GrowingLists, Lit, Quantifier, Var};
 use qbf_spelling::{HeaderAt, HeaderMove, header_move, literal, member};
 use qbf_text::{Stop, Token};
@@ -30,12 +32,12 @@ pub enum At {
     /// After `r`.
     Result,
     /// After a complete part. No token is accepted until it was handed out.
-    Behind(Part),
+    ItemComplete(Part),
     /// After this result, where no token is accepted.
     Whole(Outcome),
 }
 
-/// A part of a trace that is complete. What it lists is in `Begun`.
+/// A part of a trace that is complete. What it lists is in `Partial`.
 #[derive(Clone, Copy)]
 pub enum Part {
     /// The header.
@@ -51,7 +53,7 @@ type Next = Result<At, Stop<TraceFault>>;
 
 /// The lists that are begun, and the numbers of the steps that are whole.
 #[derive(Drop)]
-pub struct Begun {
+pub struct Partial {
     /// The place in the header.
     pub header: HeaderAt,
     /// The variables of a set.
@@ -68,21 +70,23 @@ pub struct Begun {
 
 /// Takes a token between lists.
 #[inline(always)]
-pub fn take_opening(begun: &mut Begun, token: Token) -> Next
-    ensures row { Moves (row (place begun.old at.Between) token) begun.new result }
-    ensures sound { Leads at.Between begun.old begun.new result }
+pub fn take_item_start(partial: &mut Partial, token: Token) -> Next
+    ensures row { Moves (row (place partial.old at.Between) token) partial.new result }
+    ensures sound { Leads at.Between partial.old partial.new result }
 {
-    match opened(begun.index.len() != 0, token)? {
-        Opening::Set(quantifier) => {
-            begun.vars.clear();
+    match decode_item_start(partial.index.len() != 0, token)? {
+        ItemStart::Set(quantifier) => {
+            partial.vars.clear();
             Ok(At::Set(quantifier))
         }
-        Opening::Step(number) if begun.index.contains(number) => Err(Stop::Text(TraceFault::P5)),
-        Opening::Step(number) => {
-            begun.lits.begin();
+        ItemStart::Step(number) if partial.index.contains(number) => Err(Stop::Text(
+            TraceFault::P5,
+        )),
+        ItemStart::Step(number) => {
+            partial.lits.begin();
             Ok(At::Lits(number))
         }
-        Opening::Result => Ok(At::Result),
+        ItemStart::Result => Ok(At::Result),
     }
 }
 
@@ -90,18 +94,18 @@ pub fn take_opening(begun: &mut Begun, token: Token) -> Next
 
 /// Takes a token in the literals of a step.
 #[inline(always)]
-fn take_literal(begun: &mut Begun, number: u64, token: Token) -> Next
-    requires sound { IsBegun (at.Lits number) begun.old }
-    ensures row { Moves (row (place begun.old (at.Lits number)) token) begun.new result }
-    ensures sound { Leads (at.Lits number) begun.old begun.new result }
+fn take_literal(partial: &mut Partial, number: u64, token: Token) -> Next
+    requires sound { IsSound (at.Lits number) partial.old }
+    ensures row { Moves (row (place partial.old (at.Lits number)) token) partial.new result }
+    ensures sound { Leads (at.Lits number) partial.old partial.new result }
 {
     match literal(FAULTS, LAST_VARIABLE, token)? {
-        Some(lit) => match begun.lits.push(lit) {
+        Some(lit) => match partial.lits.push(lit) {
             Ok(()) => Ok(At::Lits(number)),
             Err(_) => Err(Stop::Memory),
         },
         None => {
-            begun.ants.begin();
+            partial.ants.begin();
             Ok(At::Ants(number))
         }
     }
@@ -117,18 +121,18 @@ pub fn has_room(ants: &GrowingLists<u64>) -> bool
 
 /// Takes a token in the antecedents of a step.
 #[inline(always)]
-fn take_antecedent(begun: &mut Begun, number: u64, token: Token) -> Next
-    requires sound { IsBegun (at.Ants number) begun.old }
-    ensures row { Moves (row (place begun.old (at.Ants number)) token) begun.new result }
-    ensures sound { Leads (at.Ants number) begun.old begun.new result }
+fn take_antecedent(partial: &mut Partial, number: u64, token: Token) -> Next
+    requires sound { IsSound (at.Ants number) partial.old }
+    ensures row { Moves (row (place partial.old (at.Ants number)) token) partial.new result }
+    ensures sound { Leads (at.Ants number) partial.old partial.new result }
 {
-    let room = has_room(&begun.ants);
+    let room = has_room(&partial.ants);
     match antecedent(room, token)? {
-        Some(ant) => match begun.ants.push(ant) {
+        Some(ant) => match partial.ants.push(ant) {
             Ok(()) => Ok(At::Ants(number)),
             Err(_) => Err(Stop::Memory),
         },
-        None => Ok(At::Behind(Part::Step(number))),
+        None => Ok(At::ItemComplete(Part::Step(number))),
     }
 }
 
@@ -136,30 +140,33 @@ fn take_antecedent(begun: &mut Begun, number: u64, token: Token) -> Next
 
 /// The place that a token leads to. Whole lists and the numbers of whole steps stay as they are.
 #[inline(always)]
-pub fn take_at(here: At, begun: &mut Begun, token: Token) -> Next
-    requires sound { IsBegun here begun.old }
-    ensures row { Moves (row (place begun.old here) token) begun.new result }
-    ensures sound { Leads here begun.old begun.new result }
+pub fn take_at(here: At, partial: &mut Partial, token: Token) -> Next
+    requires sound { IsSound here partial.old }
+    ensures row { Moves (row (place partial.old here) token) partial.new result }
+    ensures sound { Leads here partial.old partial.new result }
 {
     match here {
-        At::Lits(number) => take_literal(begun, number, token),
-        At::Ants(number) => take_antecedent(begun, number, token),
-        At::Between => take_opening(begun, token),
+        At::Lits(number) => take_literal(partial, number, token),
+        At::Ants(number) => take_antecedent(partial, number, token),
+        At::Between => take_item_start(partial, token),
         At::Set(quantifier) => match member(FAULTS, LAST_VARIABLE, token)? {
-            Some(var) => match begun.vars.push(var) {
+            Some(var) => match partial.vars.push(var) {
                 Ok(()) => Ok(At::Set(quantifier)),
                 Err(_) => Err(Stop::Memory),
             },
-            None => Ok(At::Behind(Part::Set(quantifier))),
+            None => Ok(At::ItemComplete(Part::Set(quantifier))),
         },
         At::Result => Ok(At::Whole(outcome_of(token)?)),
-        At::Header => match header_move(FORM, begun.header, token)? {
+        At::Header => match header_move(FORM, partial.header, token)? {
             HeaderMove::Goes(next) => {
-                begun.header = next;
+                partial.header = next;
                 Ok(At::Header)
             }
-            HeaderMove::Ends(vars, steps) => Ok(At::Behind(Part::Header(Header { vars, steps }))),
+            HeaderMove::Ends(vars, steps) => Ok(At::ItemComplete(Part::Header(Header {
+                vars,
+                steps,
+            }))),
         },
-        At::Behind(_) | At::Whole(_) => Err(Stop::Text(TraceFault::P7)),
+        At::ItemComplete(_) | At::Whole(_) => Err(Stop::Text(TraceFault::P7)),
     }
 }

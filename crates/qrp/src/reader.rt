@@ -168,7 +168,7 @@ impl TraceReader {
         ensures { result ≡ self.numbers }
     {
         let parts = self.grammar.into_parts();
-        let begun = parts.begun;
-        begun.index
+        let partial = parts.partial;
+        partial.index
     }
 }

@@ -2,7 +2,7 @@
 
 ghost use Rattle.std.specs.Prelude.{◌≡◌, ◌<◌, ◌^◌, true, IfOk, IfSome};
 ghost use Rattle.qrp.specs.Inferences.{IsNumber};
-ghost use Rattle.qrp.specs.Reading.{antecedent, opened, outcome_of};
+ghost use Rattle.qrp.specs.Reading.{antecedent, item_start, outcome_of};
 
 use crate::fault::TraceFault;
 use crate::item::Outcome;
@@ -31,24 +31,24 @@ pub const FORM: HeaderForm<TraceFault> = HeaderForm {
 
 /// What begins between lists.
 #[derive(Clone, Copy)]
-pub enum Opening {
+pub enum ItemStart {
     Set(Quantifier),
     Step(u64),
     Result,
 }
 
-/// What a token begins between lists: no set, once a step was begun.
-pub fn opened(begun: bool, token: Token) -> Result<Opening, TraceFault>
-    ensures { result ≡ opened begun token }
+/// What a token begins between lists: no set, once there are steps.
+pub fn decode_item_start(has_steps: bool, token: Token) -> Result<ItemStart, TraceFault>
+    ensures { result ≡ item_start has_steps token }
 {
     match token {
-        Token::Word(Word::A) if !begun => Ok(Opening::Set(Quantifier::All)),
-        Token::Word(Word::E) if !begun => Ok(Opening::Set(Quantifier::Exists)),
-        Token::Word(Word::R) => Ok(Opening::Result),
+        Token::Word(Word::A) if !has_steps => Ok(ItemStart::Set(Quantifier::All)),
+        Token::Word(Word::E) if !has_steps => Ok(ItemStart::Set(Quantifier::Exists)),
+        Token::Word(Word::R) => Ok(ItemStart::Result),
         Token::Number {
             negative: false,
             value,
-        } if 1 <= value => Ok(Opening::Step(value)),
+        } if 1 <= value => Ok(ItemStart::Step(value)),
         Token::Number { .. } | Token::Big => Err(TraceFault::P4),
         Token::End => Err(TraceFault::P7),
         Token::Word(_) | Token::Bad => Err(TraceFault::P3),

@@ -8,10 +8,10 @@ returns-in-Ok-give-clause-reads g c = item_given _ _ _ _ c.in-Ok-give.item _ c.i
     (rw (← c.in-Ok-give.ensures.gives.numbers) at c.in-Ok-give.ensures.gives.item)
 
 pub returns-in-Ok-give-clause-stops : goal.returns-in-Ok-give-clause-stops
-returns-in-Ok-give-clause-stops g c = item_stops _ _ (tokens_next c.args.scanner.now) (tokens_next c.read_by.new.scanner) c.in-Ok-give.item _
+returns-in-Ok-give-clause-stops g c = item_stops _ _ (tokens_next c.args.scanner.now) (tokens_next c.read_by.new.scanner)
     (ahead c.args.scanner.now.pending (g.S.Source.remaining c.args.source.now))
     (ahead c.read_by.new.scanner.pending (g.S.Source.remaining c.read_by.new.source)) (length c.read_by.new.scanner.pending ≤ 4096)
-    c.in-Ok-give.ensures.gives.item c.in-Ok.ensures.stops
+    c.in-Ok.ensures.stops c.in-Ok-give.item _ c.in-Ok-give.ensures.gives.item
 
 pub returns-in-Err-clause-reads : goal.returns-in-Err-clause-reads
 returns-in-Err-clause-reads g c = rw c.fault.ensures

@@ -1,6 +1,9 @@
-use Rattle.qdimacs.proofs.Words.{arith, refl, pairs, sent_fails, sent_part, drop_all, sent_last}
+use Rattle.qdimacs.proofs.Words.{arith, rules, refl, pairs, blocks_of-pairs, sent_fails, sent_part, drop_all, sent_last}
 use Rattle.qdimacs.proofs.WrittenParts.{prefix_next}
 use Rattle.qdimacs.proofs.writing.BlockLinesPut.put.Goals as goal
+
+pub loop-i-init : goal.loop-i-init
+loop-i-init g c = rw (blocks_of-pairs _ c.len-i-end.ensures.sound.alternates) (search rules)
 
 pub returns-in_err-put_variable : goal.returns-in_err-put_variable
 returns-in_err-put_variable g c =

@@ -1,7 +1,7 @@
-use Rattle.qrp.proofs.Words.{◌≤◌, length, refl, ahead, tokens_next}
+use Rattle.qrp.proofs.Words.{◌≤◌, length, refl, rules, ahead, tokens_next}
 use Rattle.qrp.proofs.ItemStops.{next_stops}
 use Rattle.qrp.specs.Given.{items_left}
-use Rattle.qrp.proofs.RowsReadTheItem.{next_given, given_again}
+use Rattle.qrp.proofs.RowsReadTheItem.{next_given}
 use Rattle.qrp.proofs.reader.TraceReader.next_item.Goals as goal
 
 pub returns-in-HasResult-clause-gives : goal.returns-in-HasResult-clause-gives
@@ -10,7 +10,7 @@ returns-in-HasResult-clause-gives g c = rw (← c.self.view_is, c.in-HasResult.i
 
 pub returns-in-HasFault-clause-gives : goal.returns-in-HasFault-clause-gives
 unfolding items_left
-returns-in-HasFault-clause-gives g c = rw (← c.self.view_is, c.in-HasFault.is) (given_again c.in-HasFault.fault c.in-HasFault.line)
+returns-in-HasFault-clause-gives g c = rw (← c.self.view_is, c.in-HasFault.is) (search rules)
 
 pub returns-in-AtHeader-clause-gives : goal.returns-in-AtHeader-clause-gives
 unfolding items_left

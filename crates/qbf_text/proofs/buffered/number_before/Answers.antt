@@ -2,7 +2,7 @@ use Rattle.qbf_text.proofs.Words.{bool_byte, digits_value, ◌≡◌, ℕ, List,
 use Rattle.qbf_text.proofs.Words.{nat_eq, get_or, refl, arith, ap, subst, nat_tests, is_separator, BeginsWithNumber}
 use Rattle.std.proofs.Common.{◌%◌}
 use Rattle.qbf_text.proofs.NumberAtHand.{found}
-use Rattle.qbf_text.proofs.hand.number_before.Goals as goal
+use Rattle.qbf_text.proofs.buffered.number_before.Goals as goal
 
 one_at_most : (start : ℕ) (negative : Bool) → start ≡ bool_byte negative → start ≤ 1
 one_at_most start true e = omega (arith, e)

@@ -2,7 +2,7 @@
 
 ghost use Rattle.std.specs.Prelude.{◌≡◌, ◌≤◌, IfSome, IfOk};
 ghost use Rattle.qbf_core.specs.Blocks.{IsVariable};
-ghost use Rattle.qbf_spelling.specs.Said.{quantifier, member, literal_in};
+ghost use Rattle.qbf_spelling.specs.Decode.{quantifier, member, literal_in};
 
 use qbf_core::{Lit, Quantifier, Var};
 use qbf_text::{Token, Word};

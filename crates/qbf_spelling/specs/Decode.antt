@@ -6,7 +6,7 @@ use Rattle.qbf_core.specs.Literal.{Literal}
 use Rattle.qbf_text.specs.declared.token.Token.{Token}
 use Rattle.qbf_text.specs.declared.token.Token.TheVariants as token
 use Rattle.qbf_text.specs.declared.token.Word.TheVariants as word
-use Rattle.qbf_spelling.specs.declared.said.Faults.{Faults}
+use Rattle.qbf_spelling.specs.declared.decode.Faults.{Faults}
 
 -- the quantifier that a letter names
 abbrev pub quantifier : Token → Option Quantifier

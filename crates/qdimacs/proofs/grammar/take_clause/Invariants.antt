@@ -1,6 +1,6 @@
 use Rattle.qdimacs.proofs.Words.{◌-◌, ◌≤◌, length, LeadOn, Passes, stands, IsSound, row}
 use Rattle.qdimacs.specs.declared.grammar.At.TheVariants.{Clause}
-use Rattle.qdimacs.proofs.grammar.take_literals.Given as goal
+use Rattle.qdimacs.proofs.grammar.take_clause.Given as goal
 
 abbrev pub invariant-literals : goal.invariant-literals
 invariant-literals l = record {

@@ -1,7 +1,7 @@
 use Rattle.qbf_text.proofs.Words.{refl, ahead, tokens_next}
 use Rattle.qbf_text.proofs.PassedNumbers.{handed}
 use Rattle.qbf_text.proofs.Stops.{so_far_none}
-use Rattle.qbf_text.proofs.grammar.hand_over.Goals as goal
+use Rattle.qbf_text.proofs.grammar.take_buffered.Goals as goal
 
 pub returns-then-not-is_open-clause-reads : goal.returns-then-not-is_open-clause-reads
 returns-then-not-is_open-clause-reads g c = λ remaining. (

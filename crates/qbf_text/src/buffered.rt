@@ -176,7 +176,7 @@ impl Cursor {
 
     /// What a number that was found at the cursor leads to.
     #[inline(always)]
-    fn passed(self, found: Found, ends: LikelyEnds) -> Passed
+    fn pass(self, found: Found, ends: LikelyEnds) -> Passed
         requires { self.at + found.len < 2 ^ 64 }
         ensures token { result.token ≡ Number found.negative found.value }
         ensures next { result.next ≡ behind self ends found.len found.ends_line }
@@ -214,7 +214,7 @@ impl Cursor {
         let Some(found) = number_before(&bytes[at..], end.wrapping_sub(at)) else {
             return None;
         };
-        Some(self.passed(found, ends))
+        Some(self.pass(found, ends))
     }
 
     /// The same for any number of at most 20 digits that has 64 bits.
@@ -227,7 +227,7 @@ impl Cursor {
         let Some(found) = number_in_front(&bytes[self.at..]) else {
             return None;
         };
-        Some(self.passed(found, ends))
+        Some(self.pass(found, ends))
     }
 
     /// The number that stands next and whole among the bytes at hand: as a usual one is looked for,
