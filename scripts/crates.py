@@ -15,7 +15,7 @@ from pathlib import Path
 
 PARTS = ("src", "specs", "proofs", "data", "args", "stdin", "stdout", "status")
 # What one run of `rt` may take beside others, in bytes.
-ROOM = 3_000_000_000
+ROOM = 4_000_000_000
 
 
 class Stopped(Exception):
