@@ -1,8 +1,8 @@
 -- Fully reduced forms: a reduct has that of the list it is made from.
 use Rattle.qrp_rules.proofs.Words.{◌≡◌, ◌<◌, ◌≤◌, ◌+◌, ◌↔◌, ℕ, suc, List, [], ◌∷◌, ◌++◌, ◌⊎◌, length, get_or, take, slice_get}
 use Rattle.qrp_rules.proofs.Words.{rules, Some, Contains, Bool, IsTrue, refl, sym, ap, subst, ◌∙◌, inl, inr, arith, Contains-push}
-use Rattle.qrp_rules.proofs.Words.{ltb, drop, ◌-◌, true, IsNonDecreasingBy, Literal, ◌∈◌, ◌⊆◌, Block, Binds, Qbf, Side}
-use Rattle.qrp_rules.proofs.Words.{Clauses, Cubes, IsClean, IsReducible, IsReduct, IsInitial, reduced_quantifier, deciding_quantifier}
+use Rattle.qrp_rules.proofs.Words.{ltb, drop, ◌-◌, true, IsNonDecreasingBy, Literal, ◌∈◌, ◌⊆◌, Block, Qbf, Side}
+use Rattle.qrp_rules.proofs.Words.{Clauses, IsClean, IsReducible, IsReduct, IsInitial}
 use Rattle.qrp_rules.proofs.Words.{IsOrdered, HasMembersOf, got_in, in_got, ordered_push, IsReducedForm}
 use Rattle.qrp_rules.proofs.Words.{HasReductAt, IsIndexBelow, hash_from, hash_of, IndexEntry, slice_get_within}
 use Rattle.std.proofs.lemmas.Bool.{cases_lt}
@@ -14,6 +14,7 @@ use Rattle.std.specs.List.{AllWithin}
 use Rattle.std.specs.List.Sorted.{IsPermutation}
 use Rattle.qbf_core.proofs.Members.{in_push, push_in}
 use Rattle.qrp_rules.specs.Index.{IsIndex, hash_with}
+use Rattle.qrp_rules.proofs.Reducing.{quantifiers_differ}
 
 -- two ordered lists with the same members are the same
 pub ordered_same : (xs ys : List Literal) → IsOrdered xs → IsOrdered ys → xs ⊆ ys → ys ⊆ xs → xs ≡ ys
@@ -43,16 +44,10 @@ ordered_same (x ∷ xs) (y ∷ ys) o p a b =
       | inr k ↦ k
     ]
 
--- what has the deciding quantifier is not reducible
-not_both : (side : Side) (blocks : List Block) (v : ℕ) → Binds blocks (reduced_quantifier side) v
-    → Binds blocks (deciding_quantifier side) v → ⊥
-not_both Clauses blocks v r d = cc (r, d)
-not_both Cubes blocks v r d = cc (r, d)
-
 -- a literal is reducible in a reduct exactly where it is in the list
 reducible_same : (side : Side) (blocks : List Block) (from to : List Literal) (l : Literal) → IsReduct side blocks from to
     → IsReducible side blocks to l → IsReducible side blocks from l
-reducible_same side blocks from to l r h = search (rules, not_both)
+reducible_same side blocks from to l r h = search (rules, quantifiers_differ)
 
 -- a reduct has the form of the list
 pub form_of_reduct : (side : Side) (blocks : List Block) (from to form : List Literal) → IsReduct side blocks from to

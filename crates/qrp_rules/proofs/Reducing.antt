@@ -58,7 +58,7 @@ reducible_after side blocks reduced deciding lits block er ed is l = (
 )
 
 -- what is reducible in a list is so with more literals that have the reduced quantifier
-quantifiers_differ : (side : Side) → Some (reduced_quantifier side) ≡ Some (deciding_quantifier side) → ⊥
+pub quantifiers_differ : (side : Side) → Some (reduced_quantifier side) ≡ Some (deciding_quantifier side) → ⊥
 quantifiers_differ Clauses e = cc e
 quantifiers_differ Cubes e = cc e
 

@@ -6,4 +6,4 @@ pub mod Seen
 pub mod Index
 pub mod Watches
 pub mod Initial
-pub mod Written
+pub mod Normal

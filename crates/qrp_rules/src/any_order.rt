@@ -15,11 +15,11 @@ ghost use Rattle.qrp_rules.specs.Walks.{TakesOut};
 use crate::blocks::{Reducible, reducible_in};
 use crate::exact::{Rests, find_rests, is_apart};
 use crate::fault::Holds;
+use crate::normalizing::is_ordered;
 use crate::resolvent::{Resolution, is_pivot};
 use crate::rules::Rules;
 use crate::seen::{SeenLits, find_negated, put_each, set_if_clean};
 use crate::side::Side;
-use crate::written::is_ordered;
 use qbf_core::{Lit, Prefix, Var};
 use std::alloc::AllocError;
 

@@ -1,4 +1,4 @@
-//! The blocks of literals: the innermost of some, and which literals stand after a block.
+//! The blocks of literals: the innermost of some, and what a reduction may take out.
 
 ghost use Rattle.std.specs.Prelude.{◌≡◌, ◌↔◌, ℕ, ◌⊎◌, IsTrue};
 ghost use Rattle.qbf_core.specs.Literal.{Literal};

@@ -16,8 +16,8 @@ use crate::blocks::reducible_in;
 use crate::exact::is_exact_reduct;
 use crate::fault::{Holds, Judgement, RuleFault};
 use crate::initial::has_reduct;
+use crate::normalizing::is_ordered;
 use crate::seen::{SeenLits, is_clean};
-use crate::written::is_ordered;
 use qbf_core::{Formula, Lit, LitSet, Prefix, Quantifier, SetFault};
 use std::alloc::{AllocError, Global};
 

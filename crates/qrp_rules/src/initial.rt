@@ -9,8 +9,8 @@ ghost use Rattle.qbf_core.specs.Sets.{IsOrdered};
 ghost use Rattle.qrp_rules.specs.Conditions.{IsAnswer, initial_condition};
 
 use crate::fault::{Holds, RuleFault};
+use crate::normalizing::is_ordered;
 use crate::walks::ordered_reduct_fault_by;
-use crate::written::is_ordered;
 use qbf_core::{Formula, Lit, LitSet, Prefix, Quantifier, SetFault, is_member};
 use std::alloc::{AllocError, Global};
 

@@ -8,7 +8,7 @@ ghost use Rattle.qrp_rules.specs.Exact.{IsApart};
 ghost use Rattle.qrp_rules.specs.Seen.{AreUpTo, Has, code};
 
 use crate::fault::Holds;
-use crate::written::is_ordered;
+use crate::normalizing::is_ordered;
 use qbf_core::{Lit, Prefix, Var};
 use std::alloc::{AllocError, Global};
 use std::marker::Model;

@@ -15,9 +15,9 @@ returns-in-Err-E2-clause-fault g c =
 pub returns-in-Some-clause-fault : goal.returns-in-Some-clause-fault
 returns-in-Some-clause-fault g c = rw c.in-Some.is (IfOk-weaker c.premises_fault.result
     (λ (fault : Option RuleFault). IsAnswer (premise_conditions c.args.context.rules g.S.Side.side c.args.context.formula.now
-    c.in-Some.premises c.set_or_written.result.now) fault)
+    c.in-Some.premises c.normal_form.result.now) fault)
     _
-    (λ fault a. set_answer c.args.context.rules g.S.Side.side c.args.context.formula.now c.in-Some.premises c.set_or_written.result.now
-    c.args.lits.now fault (rw c.set_or_written.ensures c.in-Ok.ensures.members)
+    (λ fault a. set_answer c.args.context.rules g.S.Side.side c.args.context.formula.now c.in-Some.premises c.normal_form.result.now
+    c.args.lits.now fault (rw c.normal_form.ensures c.in-Ok.ensures.members)
     (c.in-Ok.ensures.fit.0, rw c.prefix.ensures.value at c.in-Ok.ensures.fit.1) a)
     c.premises_fault.ensures.fault)

@@ -8,7 +8,7 @@ ghost use Rattle.qbf_core.specs.Members.{◌∈◌};
 ghost use Rattle.qbf_core.specs.Blocks.{AreBound, IsBound};
 ghost use Rattle.qbf_core.specs.Rules.{IsClean, IsTautology};
 ghost use Rattle.qbf_core.specs.Sets.{HasMembersOf, IsOrdered};
-ghost use Rattle.qrp_rules.specs.Written.{set_or_written};
+ghost use Rattle.qrp_rules.specs.Normal.{normal_form};
 
 use qbf_core::{Lit, LitSet, Prefix, SetFault, are_bound};
 use std::alloc::Global;
@@ -33,13 +33,9 @@ pub(crate) fn is_ordered(lits: &[Lit]) -> bool
 ///
 /// # Errors
 /// As those of `LitSet::from_slice`.
-pub fn set_unless_ordered(
-    alloc: Global,
-    prefix: &Prefix,
-    lits: &[Lit],
-) -> Result<Option<LitSet>, SetFault>
-    ensures ordered { IfOk result (λ set. IsOrdered (set_or_written set lits.now)) }
-    ensures members { IfOk result (λ set. HasMembersOf (set_or_written set lits.now) lits.now) }
+pub fn normalize(alloc: Global, prefix: &Prefix, lits: &[Lit]) -> Result<Option<LitSet>, SetFault>
+    ensures ordered { IfOk result (λ set. IsOrdered (normal_form set lits.now)) }
+    ensures members { IfOk result (λ set. HasMembersOf (normal_form set lits.now) lits.now) }
     ensures fit { OnOk result (IsClean lits.now × AreBound prefix.now lits.now) }
     ensures clash { IsErrOf result SetFault.E1 → IsTautology lits.now }
     ensures clean { IsErrOf result SetFault.E2 → IsClean lits.now }
@@ -56,8 +52,8 @@ pub fn set_unless_ordered(
 }
 
 /// The members of the set, or the literals as written where there is none.
-pub fn set_or_written<'a>(set: &'a Option<LitSet>, lits: &'a [Lit]) -> &'a [Lit]
-    ensures { result.now ≡ set_or_written set.now lits.now }
+pub fn normal_form<'a>(set: &'a Option<LitSet>, lits: &'a [Lit]) -> &'a [Lit]
+    ensures { result.now ≡ normal_form set.now lits.now }
 {
     match set {
         Some(set) => set.as_slice(),

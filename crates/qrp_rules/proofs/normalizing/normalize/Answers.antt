@@ -1,6 +1,6 @@
 use Rattle.qrp_rules.proofs.Words.{common_steps, arith, clean_from_same}
 use Rattle.qrp_rules.proofs.MembersDecide.{same_self}
-use Rattle.qrp_rules.proofs.written.set_unless_ordered.Goals as goal
+use Rattle.qrp_rules.proofs.normalizing.normalize.Goals as goal
 
 pub returns-then-are_bound-clause-fit : goal.returns-then-are_bound-clause-fit
 returns-then-are_bound-clause-fit c = grind (arith, common_steps, clean_from_same, same_self)

@@ -3,6 +3,6 @@ use Rattle.std.specs.Prelude.{List, Option, Some, None}
 use Rattle.qbf_core.specs.Literal.{Literal}
 
 -- the members of a set, or the literals themselves where no set was made of them
-abbrev pub set_or_written : Option (List Literal) → List Literal → List Literal
-set_or_written None lits = lits
-set_or_written (Some set) lits = set
+abbrev pub normal_form : Option (List Literal) → List Literal → List Literal
+normal_form None lits = lits
+normal_form (Some set) lits = set
