@@ -1,8 +1,8 @@
 -- Fully reduced forms: a reduct has that of the list it is made from.
 use Rattle.qrp_rules.proofs.Words.{◌≡◌, ◌<◌, ◌≤◌, ◌+◌, ◌↔◌, ℕ, suc, List, [], ◌∷◌, ◌++◌, ◌⊎◌, length, get_or, take, slice_get}
 use Rattle.qrp_rules.proofs.Words.{rules, Some, Contains, Bool, IsTrue, refl, sym, ap, subst, ◌∙◌, inl, inr, arith, Contains-push}
-use Rattle.qrp_rules.proofs.Words.{ltb, drop, ◌-◌, true, IsNonDecreasingBy, Literal, ◌∈◌, ◌⊆◌, Block, Binds, Qbf, Side}
-use Rattle.qrp_rules.proofs.Words.{Clauses, Cubes, IsClean, IsReducible, IsReduct, IsInitial, reduced_quantifier, deciding_quantifier}
+use Rattle.qrp_rules.proofs.Words.{ltb, drop, ◌-◌, true, IsNonDecreasingBy, Literal, ◌∈◌, ◌⊆◌, Block, Qbf, Side}
+use Rattle.qrp_rules.proofs.Words.{Clauses, IsClean, IsReducible, IsReduct, IsInitial}
 use Rattle.qrp_rules.proofs.Words.{IsOrdered, HasMembersOf, got_in, in_got, ordered_push, IsReducedForm}
 use Rattle.qrp_rules.proofs.Words.{HasReductAt, IsIndexBelow, hash_from, hash_of, IndexEntry, slice_get_within}
 use Rattle.std.proofs.lemmas.Bool.{cases_lt}
