@@ -5,7 +5,7 @@ ghost use Rattle.qbf_core.specs.Blocks.{pairs, IsBound};
 ghost use Rattle.qdimacs.specs.Reading.{bound_literal, clause_or_end, IsFull};
 
 use crate::fault::FormulaFault;
-use qbf_core::{Lit, Prefix};
+use qbf_core::{LAST_VARIABLE, Lit, Prefix};
 use qbf_spelling::{Faults, HeaderForm, literal};
 use qbf_text::{Token, Word};
 
@@ -21,7 +21,7 @@ pub(crate) const FAULTS: Faults<FormulaFault> = Faults {
 /// The header of a formula: the word `cnf`, and the numbers of variables and of clauses.
 pub(crate) const FORM: HeaderForm<FormulaFault> = HeaderForm {
     format: Word::Cnf,
-    last: Some(2147483647),
+    last: Some(LAST_VARIABLE as u64),
     faults: FAULTS,
 };
 

@@ -7,7 +7,8 @@ ghost use Rattle.qrp.specs.Places.{place, IsSound, Stays};
 ghost use Rattle.qrp.specs.Reading.{row};
 
 use crate::places::{At, Part, Partial, has_room, take_item_start};
-use crate::tokens::{FAULTS, LAST_VARIABLE, antecedent};
+use crate::tokens::{FAULTS, antecedent};
+use qbf_core::LAST_VARIABLE;
 use qbf_spelling::literal;
 use qbf_text::Cursor;
 use std::alloc::AllocError;

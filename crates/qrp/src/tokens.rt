@@ -10,9 +10,6 @@ use qbf_core::Quantifier;
 use qbf_spelling::{Faults, HeaderForm};
 use qbf_text::{Token, Word};
 
-/// The greatest variable of a trace.
-pub const LAST_VARIABLE: u32 = 2147483647;
-
 /// The faults that tokens of a trace are.
 pub const FAULTS: Faults<TraceFault> = Faults {
     header: TraceFault::P2,
