@@ -1,23 +1,29 @@
 //! A job from its sources to its sinks.
 
-ghost use Rattle.std.specs.Prelude.{◌≡◌, ◌<◌, List, ℕ, length};
+ghost use Rattle.std.specs.Prelude.{◌≡◌, ◌<◌, List, ℕ, Result, length};
 ghost use Rattle.std.specs.List.{AllByRecursion};
+ghost use Rattle.qbf_core.specs.Qbf.{Qbf};
 ghost use Rattle.qbf_text.specs.Written.{IsPut};
+ghost use Rattle.qdimacs.specs.declared.fault.FormulaFault.{FormulaFault};
 ghost use Rattle.qdimacs.specs.Grammar.{text};
+ghost use Rattle.qrp.specs.Derivations.{Derivation};
 ghost use Rattle.qrp.specs.Grammar.{text as trace_text};
 ghost use Rattle.qrp_check.specs.Checked.{call_of};
+ghost use Rattle.qrp_check.specs.declared.verdict.Fault.{Fault};
 ghost use Rattle.qrp_check.specs.Trim.{trimmed};
 ghost use Rattle.qrp_report.specs.Lines.{fault_line, verdict_line};
 ghost use Rattle.qrp_report.specs.Refusals.{fault_status};
+ghost use Rattle.qrp_report.specs.Results.{IsFormulaRead, IsTrimmed};
 ghost use Rattle.qrp_program.specs.declared.job.Job.TheVariants.{Format};
 ghost use Rattle.qrp_program.specs.Output.{Report, IsOutput, IsSent, IsReported};
+ghost use Rattle.qrp_program.specs.Output.{trim_report, format_report};
 
 use crate::job::Job;
 use qbf_core::Formula;
 use qbf_text::{Sink, SinkFault, Source};
 use qdimacs::{read_formula, write_formula};
 use qrp::{Trace, write_steps_at};
-use qrp_check::{Fault, Verified, find_proof, verify};
+use qrp_check::{Fault, Rules, Verified, find_proof, verify};
 use qrp_report::{Refusal, put_refusal, put_verdict};
 use std::alloc::Global;
 
@@ -79,6 +85,44 @@ fn send_trimmed<S: Sink>(sink: &mut S, trace: &Trace, verified: &Verified) -> St
     finish_sent(sink, sent, 0)
 }
 
+/// Does the job `Trim`: sends the trimmed trace to `out`, or the line for the first fault to `err`.
+fn run_trim<F: Source, T: Source, O: Sink, E: Sink>(
+    alloc: Global,
+    rules: Rules,
+    formula: &mut F,
+    trace: &mut T,
+    out: &mut O,
+    err: &mut E,
+) -> Status
+    ensures { (answer : Result Derivation Fault) × IsTrimmed rules
+        (call_of F.Source formula.old formula.new) (call_of T.Source trace.old trace.new) answer
+        × IsReported O.Sink out.old out.new E.Sink err.old err.new
+        (trim_report rules answer) result }
+{
+    match find_proof(alloc, formula, trace, rules) {
+        Ok((whole, verified)) => send_trimmed(out, &whole, &verified),
+        Err(fault) => send_fault(err, &fault),
+    }
+}
+
+/// Does the job `Format`: sends the canonical text to `out`, or the line for the fault to `err`.
+fn run_format<F: Source, O: Sink, E: Sink>(
+    alloc: Global,
+    formula: &mut F,
+    out: &mut O,
+    err: &mut E,
+) -> Status
+    ensures { (reading : Result Qbf (FormulaFault × ℕ))
+        × IsFormulaRead (call_of F.Source formula.old formula.new) reading
+        × IsReported O.Sink out.old out.new E.Sink err.old err.new
+        (format_report reading) result }
+{
+    match read_formula(alloc, formula) {
+        Ok(read) => send_formula(out, &read),
+        Err((fault, line)) => send_fault(err, &Fault::Formula(fault, line)),
+    }
+}
+
 /// Does a job: reads the formula and, where the job asks for it, the trace, and writes the report
 /// to `out` or `err`.
 ///
@@ -108,13 +152,7 @@ pub fn run<F: Source, T: Source, O: Sink, E: Sink>(
             Ok(verified) => send_verdict(out, verified.truth),
             Err(fault) => send_fault(out, &fault),
         },
-        Job::Trim(rules) => match find_proof(alloc, formula, trace, rules) {
-            Ok((whole, verified)) => send_trimmed(out, &whole, &verified),
-            Err(fault) => send_fault(err, &fault),
-        },
-        Job::Format => match read_formula(alloc, formula) {
-            Ok(read) => send_formula(out, &read),
-            Err((fault, line)) => send_fault(err, &Fault::Formula(fault, line)),
-        },
+        Job::Trim(rules) => run_trim(alloc, rules, formula, trace, out, err),
+        Job::Format => run_format(alloc, formula, out, err),
     }
 }
