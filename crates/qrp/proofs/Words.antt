@@ -12,7 +12,7 @@ pub use Rattle.qbf_text.proofs.Answered.{answered_bytes, explained, unless}
 pub use Rattle.qbf_text.proofs.CanonicalTokens.{all_appended, all_mapped, closed_plain, joined, tokens-lines_text}
 pub use Rattle.qbf_text.proofs.OneToken.{Leads}
 pub use Rattle.qbf_text.proofs.PassedNumbers.{passes_all, passes_first, passes_further, passes_in_turn, passes_none, passes_on}
-pub use Rattle.qbf_text.proofs.SentParts.{length_at, line_rest-map, part_at_next, part_next, zero_rest}
+pub use Rattle.qbf_text.proofs.SentParts.{line_rest-map, part_at_next, part_next, zero_rest}
 pub use Rattle.qbf_text.proofs.TokensEndOnce.{tokens-EndsOnce}
 pub use Rattle.qbf_text.specs.Answering.{BytesRead, ReadsAsRead, ReadsOnce, fault_of}
 pub use Rattle.qbf_text.specs.Canonical.{IsLine, IsPlain, line_text}

@@ -1,8 +1,14 @@
 -- The parts of a canonical text, one after the other.
 use Rattle.qrp.proofs.Words.{common_steps, ◌≡◌, ℕ, List, ◌++◌, sym, ◌∙◌, append_assoc, append-nil, length, arith, ◌<◌, AllByRecursion}
-use Rattle.qrp.proofs.Words.{flat_map-append, flat_map-map, line_rest-map, zero_rest, length_at, line_text, Header, Inference, Derivation}
+use Rattle.qrp.proofs.Words.{flat_map-append, flat_map-map, line_rest-map, zero_rest, line_text, Header, Inference, Derivation}
 use Rattle.qrp.proofs.Words.{steps_at, with_steps_at, closed_numbers, set_line, step, header, result, text, step_text, steps_text, flat_map}
 use Rattle.qrp.proofs.Words.{set_text}
+use Rattle.qbf_text.proofs.SentParts as sent
+
+-- as many steps stand at some places as there are places
+pub length_at : (steps : List Inference) (places : List ℕ) → AllByRecursion (λ i. i < length steps) places
+    → length (steps_at steps places) ≡ length places
+length_at = sent.length_at
 
 step_line : (s : Inference) → line_text (step s) ≡ step_text s
 step_line s = grind (arith, common_steps, line_rest-map, zero_rest, closed_numbers)
