@@ -240,13 +240,8 @@ def is_of_trait(text, place):
     return any("trait" in it[0].split() or " for " in it[0].split(" where ")[0] for it in heads)
 
 
-# An answer that is none. A check of a function that it cannot prove runs once more, to print the goals and a file for their answers: that takes
-# a third of its time. Where it refuses a stored answer, it only names the goals that are open.
-NO_ANSWER = "no_answer : Type 0\nno_answer = Type 0\n"
-
-
 def copy_proofs(edits, crate_name, crate):
-    """Gives the copies of functions the stored proofs of these, in the crate's folder, with an answer that is none."""
+    """Gives the copies of functions the stored proofs of these, in the crate's folder."""
     for copy in (edit.copy for edit in edits if edit.copy):
         source, target = (crate / "proofs" / Path(*it.split("::")[1:]) for it in (copy.of, copy.path))
         if source.is_dir():
@@ -255,16 +250,29 @@ def copy_proofs(edits, crate_name, crate):
         for file in sorted(target.rglob("*.antt")) if source.is_dir() else []:
             own = rf"(\bRattle\.{crate_name}\.(?:proofs|specs\.contracts)\.){re.escape(old)}(?![\w-])"
             file.write_text(re.sub(own, rf"\g<1>{new}", file.read_text(encoding="utf-8")), encoding="utf-8")
-        target.mkdir(parents=True, exist_ok=True)
-        answers = target / "Answers.antt"
-        before = answers.read_text(encoding="utf-8") + "\n" if answers.exists() else ""
-        answers.write_text(before + NO_ANSWER, encoding="utf-8")
+
+
+def answers_of(path, crate):
+    return crate / "proofs" / Path(*path.split("::")[1:]) / "Answers.antt"
 
 
 def answered(path, crate):
     """The goals of a function that have a stored answer, among the other words that lines of that file begin with."""
-    file = crate / "proofs" / Path(*path.split("::")[1:]) / "Answers.antt"
+    file = answers_of(path, crate)
     return set(re.findall(r"(?m)^(?:pub )?(\S+)", file.read_text(encoding="utf-8"))) if file.exists() else set()
+
+
+# A check that cannot prove a function runs once more, to print the goals and a file for their answers: that takes a third of its time.
+# Where it refuses a stored answer, as this one, it only names the goals that are open.
+NO_ANSWER = "no_answer : Type 0\nno_answer = Type 0\n"
+
+
+def print_no_goals(path, crate):
+    """Has a check only name the open goals of a function, which it then does not prove in any case."""
+    file = answers_of(path, crate)
+    file.parent.mkdir(parents=True, exist_ok=True)
+    before = file.read_text(encoding="utf-8") + "\n" if file.exists() else ""
+    file.write_text(before + NO_ANSWER, encoding="utf-8")
 
 
 # ---- which edits go together
