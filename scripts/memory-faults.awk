@@ -27,7 +27,7 @@ BEGIN {
     size("qrp_rules/src/clause_index.rt", "formula.clauses()")
     size("qrp_rules/src/initial_cubes.rt", "seen.room()")
     size("qrp_rules/src/seen.rt", "width")
-    size("step_index/src/sparse.rt", "index + 1")
+    size("step_index/src/reach.rt", "index + 1")
     size("step_index/src/sparse.rt", "1")
 }
 

@@ -3,6 +3,7 @@
 
 mod index;
 mod number_set;
+mod reach;
 mod sparse;
 
 pub use index::StepIndex;

@@ -3,7 +3,7 @@
 ghost use Rattle.std.specs.Prelude.{◌≡◌, ◌↔◌, ◌⊎◌, ◌<◌, ◌^◌, ℕ, IsTrue, OnOk, OnErr};
 ghost use Rattle.step_index.specs.NumberSets.{Has};
 
-use crate::sparse::reach;
+use crate::reach::reach;
 use std::alloc::{AllocError, Global};
 use std::marker::Model;
 

@@ -6,6 +6,7 @@ ghost use Rattle.step_index.specs.Numbers.{is_used};
 ghost use Rattle.step_index.specs.Sparse.{ArePlaced, ArePlaces, AreNoted};
 
 use crate::number_set::NumberSet;
+use crate::reach::reach;
 use indexmap::IndexMap;
 use std::alloc::{AllocError, Global};
 use std::marker::Model;
@@ -72,25 +73,6 @@ fn place_in(table: &[u32], number: u64) -> Option<usize>
         return None;
     }
     Some(table[index] as usize - 1)
-}
-
-/// Makes a table reach an index by empty entries. An `Err` means that an allocation failed, and
-/// changes nothing.
-#[inline(always)]
-pub(crate) fn reach<T: Copy + Drop>(
-    table: &mut Vec<T>,
-    index: usize,
-    empty: T,
-) -> Result<(), AllocError>
-    requires { index < 2 ^ 37 }
-    ensures reached { OnOk result (index < length table.new.items) }
-    ensures kept { (n : ℕ) → get_or table.new.items n empty ≡ get_or table.old.items n empty }
-    ensures err { OnErr result (table.new.items ≡ table.old.items) }
-{
-    if index < table.len() {
-        return Ok(());
-    }
-    table.resize(index + 1, empty)
 }
 
 /// Puts the place of a number into a table, or returns `false` if there is no room for it.
