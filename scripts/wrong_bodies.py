@@ -395,22 +395,38 @@ class Refusal:
     misfits: list  # places of its stored proofs that no longer fit: (file, line, why)
 
 
-def read_check(text):
-    """What a check says of each function that it does not prove, by its path, and the faults of the sources themselves."""
+def function_at(crate, file, line):
+    """The name of the function that a line of a source file is of, from its comments and attributes to the next function; None above all."""
+    text, name = read_source(crate, file), None
+    lines = text.split("\n")
+    for head in re.finditer(r"\bfn\s+(\w+)", blanked(text)):
+        first = text.count("\n", 0, head.start()) + 1
+        while first > 1 and re.match(r" *(#\[|//)", lines[first - 2]):
+            first -= 1
+        if first > line:
+            break
+        name = head[1]
+    return name
+
+
+def read_check(text, function_at):
+    """What a check says of each function that it does not prove, by its path, and the faults of the sources themselves. An open goal counts
+    for the function that `function_at` finds where the goal stands."""
     refusals, misfits, faults, notes = {}, [], [], []
     for line in text.splitlines():
         function = re.match(r"fn (\S+): (\w+ \w+|\w+)(.*)", line)
-        note = re.match(r"note: src/\S+?:\d+:\d+: it is not proved that .*\(`([^`]+)`\)(.*)", line)
+        note = re.match(r"note: (src/\S+?):(\d+):\d+: it is not proved that .*\(`([^`]+)`\)(.*)", line)
         error = re.match(r"(?:\./)?((src|specs|proofs)/\S+?):(\d+):\d+: error: (.*)", line)
         if function:
             if function[2] in ("not proved", "no proof", "could not"):
                 goals = re.findall(r"`([^`]+)`", function[3].partition("did not prove ")[2])
-                goals += [goal for goal, _ in notes if goal not in goals]
+                notes = [it for it in notes if function_at(*it[2]) in re.split(r"::|\+", function[1])]
+                goals += [goal for goal, _, _ in notes if goal not in goals]
                 waits = " it calls " in function[3] or " it passes " in function[3]
-                refusals[function[1]] = Refusal(goals, [goal for goal, is_false in notes if is_false], waits, [])
+                refusals[function[1]] = Refusal(goals, [goal for goal, is_false, _ in notes if is_false], waits, [])
             notes = []
         elif note:
-            notes.append((note[1], "at which this goal is false" in note[2]))
+            notes.append((note[3], "at which this goal is false" in note[4], (note[1], int(note[2]))))
         elif error and error[2] == "proofs" and not error[4].startswith("`no_answer`"):
             misfits.append((error[1], int(error[3]), error[4]))
         elif error and error[2] != "proofs" or re.match(r"error\b", line):
