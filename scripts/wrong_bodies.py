@@ -34,10 +34,18 @@ class Edit:
     functions: set = field(default_factory=set)
     added: set = field(default_factory=set)
     copy: Copy | None = None
+    # for each check in which some did not fit: the changed files of stored answers by their paths in the crate
+    answers: list = field(default_factory=list)
 
     def paths(self):
         """The functions that a check has to refuse for it."""
         return {self.copy.path} if self.copy else self.functions | self.added
+
+    def put_answers(self, crate):
+        """Takes out of a copy of the crate the stored answers that did not fit in the checks before."""
+        for files in self.answers:
+            for file, text in files.items():
+                (crate / file).write_text(text, encoding="utf-8")
 
 
 def read_edit(path, crate):
@@ -438,18 +446,17 @@ def read_check(text, function_at):
     return refusals, faults
 
 
-def take_out(crate, misfits):
-    """Takes answers that no longer fit out of the stored proofs, so that the prover tries their goals itself. Says whether any was there."""
-    found = False
+def take_out(edit, crate, misfits):
+    """Notes which stored answers no longer fit, so that the prover tries their goals itself from now on. Says whether there is any."""
+    files = {}
     for file in sorted({file for file, _, _ in misfits}):
         path = crate / file
         lines = path.read_text(encoding="utf-8").split("\n")
         at = {line for name, line, _ in misfits if name == file}
-        if path.name != "Answers.antt" or all(lines[line - 1] == "" for line in at):
-            continue
-        found = True
-        path.write_text("\n".join(without(lines, at, " ".join(why for name, _, why in misfits if name == file))), encoding="utf-8")
-    return found
+        if path.name == "Answers.antt" and any(lines[line - 1] != "" for line in at):
+            files[file] = "\n".join(without(lines, at, " ".join(why for name, _, why in misfits if name == file)))
+    edit.answers += [files] if files else []
+    return bool(files)
 
 
 def without(lines, at, why):
