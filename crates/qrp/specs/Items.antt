@@ -1,9 +1,10 @@
 -- The parts of a trace, given one after the other.
-use Rattle.std.specs.Prelude.{◌≡◌, ◌≢◌, ◌<◌, Option, Some, None, ◌+◌, ◌-◌, ◌^◌, ℕ, false, List, length, Result}
+use Rattle.std.specs.Prelude.{◌≡◌, ◌≢◌, ◌<◌, ◌≤◌, Option, Some, None, ◌+◌, ◌-◌, ◌^◌, ℕ, false, List, length, Result}
 use Rattle.std.specs.Prelude.{Ok, IfOk, OnOk, IfErr, ⊤}
 use Rattle.qbf_spelling.specs.Words.{Lined, Known}
-use Rattle.qbf_text.specs.Stopping.{IfKnown}
-use Rattle.qbf_text.specs.Reading.{Reading, HasFailed}
+use Rattle.qbf_text.specs.Ahead.{ahead}
+use Rattle.qbf_text.specs.Reading.{Reading, HasFailed, left}
+use Rattle.qbf_text.specs.Stopping.{IfKnown, tokens_next}
 use Rattle.qrp.specs.declared.fault.TraceFault.TheVariants.{P1}
 use Rattle.qrp.specs.declared.item.Item.{Item}
 use Rattle.qrp.specs.declared.item.Item.TheVariants as item
@@ -11,7 +12,7 @@ use Rattle.qrp.specs.declared.item.Outcome.{Outcome}
 use Rattle.qrp.specs.declared.reader.Stage.{Stage}
 use Rattle.qrp.specs.declared.reader.Stage.TheVariants.{AtHeader, AtLists, HasResult, HasFault}
 use Rattle.qrp.specs.Flat.{Kept, made, with_item}
-use Rattle.qrp.specs.Given.{KnownItems, left_behind, is_last, numbers_with, stage_after, GivesNextItem, IsProper, StandsOnLine}
+use Rattle.qrp.specs.Given.{KnownItems, known_items, left_behind, is_last, numbers_with, stage_after, GivesNextItem, IsProper, StandsOnLine}
 use Rattle.qrp.specs.Given.{StopsBehindPart}
 use Rattle.qrp.specs.Reading.{Fault, Place, AtP, Between, After}
 
@@ -71,3 +72,10 @@ pub record IsDriven (scanner : Reading) (before bound old new : ℕ) (answer : R
 -- what was consumed for an item ends with its last word, and few bytes are held
 abbrev pub StopsBehind : Place → (List ℕ → List Lined) → Option (List ℕ) → Option (List ℕ) → Type 0 → Result Item Fault → Type 0
 StopsBehind p here before after few answer = IfOk answer (λ i. IfKnown (StopsBehindPart p here i) before after × few)
+
+-- an item was read from this place on: what was left is the result and what is left now, and nothing is read past the item but a
+-- separator and what is held
+pub record ReadsItem (place : Place) (ns : List ℕ) (old : Reading) (before : Option (List ℕ)) (new : Reading) (after : Option (List ℕ))
+    (answer : Result Item Fault) : Type 0 where
+  pub gives : GivesItem (known_items place (left old before)) ns (left new after) answer
+  pub stops : StopsBehind place (tokens_next old) (ahead old.pending before) (ahead new.pending after) (length new.pending ≤ 4096) answer

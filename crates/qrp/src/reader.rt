@@ -5,12 +5,10 @@ ghost use Rattle.std.specs.Prelude.{Err, List, [], length, IfOk, OnOk, IfErr};
 ghost use Rattle.qbf_text.specs.Tokens.{tokens};
 ghost use Rattle.qbf_text.specs.declared.token.Comments.TheVariants.{Qrp};
 ghost use Rattle.qrp.specs.declared.fault.TraceFault.TheVariants.{P1, P9};
-ghost use Rattle.qbf_text.specs.Ahead.{ahead};
-ghost use Rattle.qbf_text.specs.Reading.{left, HasFailed};
-ghost use Rattle.qbf_text.specs.Stopping.{tokens_next};
-ghost use Rattle.qrp.specs.Given.{known_items, items_left, is_last, stage_after, numbers_with};
+ghost use Rattle.qbf_text.specs.Reading.{HasFailed};
+ghost use Rattle.qrp.specs.Given.{items_left, is_last, stage_after, numbers_with};
 ghost use Rattle.qrp.specs.Given.{GivesNextItem, IsDone, IsProper, StopsBehindItem};
-ghost use Rattle.qrp.specs.Items.{StopsBehind, GivesItem, IsItem, IsDriven};
+ghost use Rattle.qrp.specs.Items.{ReadsItem, IsItem, IsDriven};
 ghost use Rattle.qrp.specs.Reading.{items};
 
 use crate::fault::{Fault, TraceFault};
@@ -50,13 +48,8 @@ fn read_item<S: Source>(
     source: &mut S,
 ) -> Result<Item, Fault>
     requires ready { ¬ HasFailed scanner.old }
-    ensures reads { GivesItem
-        (known_items grammar.old.place (left scanner.old (S.remaining source.old)))
-        grammar.new.kept.numbers (left scanner.new (S.remaining source.new)) result }
-    ensures stops { StopsBehind grammar.old.place (tokens_next scanner.old)
-        (ahead scanner.old.pending (S.remaining source.old))
-        (ahead scanner.new.pending (S.remaining source.new))
-        (length scanner.new.pending ≤ 4096) result }
+    ensures reads { ReadsItem grammar.old.place grammar.new.kept.numbers scanner.old
+        (S.remaining source.old) scanner.new (S.remaining source.new) result }
     ensures item { IsItem grammar.old grammar.new result }
     ensures devices { IsDriven scanner.new (length scanner.old.pending + S.bound source.old)
         (S.bound source.new) (S.failures source.old) (S.failures source.new) result }

@@ -16,7 +16,7 @@ pub returns-in-AtHeader-clause-gives : goal.returns-in-AtHeader-clause-gives
 unfolding items_left
 returns-in-AtHeader-clause-gives g c = rw (← c.self.view_is, c.stage_after-self-inside.ensures)
     (next_given c.self.inside.stage c.self.inside.grammar c.read_item-answer.new.grammar _ _ c.read_item-answer.result c.in-AtHeader.is
-    c.self.invariant.0 c.read_item-answer.ensures.reads)
+    c.self.invariant.0 c.read_item-answer.ensures.reads.gives)
 
 pub returns-in-AtHeader-clause-stops : goal.returns-in-AtHeader-clause-stops
 returns-in-AtHeader-clause-stops g c _ = rw (← c.self.view_is)
@@ -24,4 +24,4 @@ returns-in-AtHeader-clause-stops g c _ = rw (← c.self.view_is)
     (ahead c.self.inside.scanner.pending (g.S.Source.remaining c.args.source.now))
     (ahead c.read_item-answer.new.scanner.pending (g.S.Source.remaining c.read_item-answer.new.source))
     (length c.read_item-answer.new.scanner.pending ≤ 4096) c.read_item-answer.result c.in-AtHeader.is c.self.invariant.0
-    c.read_item-answer.ensures.stops)
+    c.read_item-answer.ensures.reads.stops)
