@@ -11,7 +11,7 @@ flat_map-push f xs x = flat_map-append f xs (x ∷ []) ∙ ap (λ k. flat_map f 
 
 -- tokens on lines, parted at a token
 pub split_at : (ts : List Lined) (xs : List Token) (t : Token) (ys : List Token) → unlined ts ≡ xs ++ t ∷ ys
-    → (before : List Lined) × (line : ℕ) × (behind : List Lined) × (ts ≡ before ++ (t, line) ∷ behind) × (unlined before ≡ xs)
+    → (before : List Lined) × (line : ℕ) × (rest : List Lined) × (ts ≡ before ++ (t, line) ∷ rest) × (unlined before ≡ xs)
 split_at [] [] t ys e = absurd cc
 split_at [] (x ∷ xs) t ys e = absurd cc
 split_at (u ∷ ts) [] t ys e = let same : u.0 ≡ t = cc in ([], u.1, ts, (λ i. (same i, u.1) ∷ ts), refl)

@@ -24,11 +24,11 @@ spelled_unbroken : (t : Token) → IsPlain t → IsUnbroken (spelled t)
 spelled_unbroken t h = grind (arith, common_steps, word_unbroken, digits_unbroken, digits_decimal, own)
 
 -- after another token of its line each token is one
-word_behind : (f : Comments) (w : Word) → IsToken f true (letters w)
-word_behind f w = search rules
+word_after : (f : Comments) (w : Word) → IsToken f true (letters w)
+word_after f w = search rules
 
-behind : (f : Comments) (t : Token) → IsPlain t → IsToken f true (spelled t)
-behind f t h = grind (arith, common_steps, word_behind, token_digits, decimal_nonempty, digits_decimal, own)
+spelled_after : (f : Comments) (t : Token) → IsPlain t → IsToken f true (spelled t)
+spelled_after f t h = grind (arith, common_steps, word_after, token_digits, decimal_nonempty, digits_decimal, own)
 
 -- at the beginning of a line the others are
 word_first : (f : Comments) (w : Word) → IsOpening (token.Word w) → IsToken f false (letters w)
@@ -57,7 +57,7 @@ left_rest f n [] rest h = ap unlined (left_line_end f true n rest)
 left_rest f n (t ∷ ts) rest h =
     ap unlined (left_blank f true n 32 ((spelled t ++ line_rest ts) ++ rest) refl
     ∙ ap (tokens_left f true n) (append_assoc (spelled t) (line_rest ts) rest)
-    ∙ left_token f true n t (line_rest ts ++ rest) h.0 (behind f t h.0) (rest_ends ts rest))
+    ∙ left_token f true n t (line_rest ts ++ rest) h.0 (spelled_after f t h.0) (rest_ends ts rest))
     ∙ ap (λ k. t ∷ k) (left_rest f n ts rest h.1)
 
 left_line : (f : Comments) (n : ℕ) (line : List Token) (rest : List ℕ) → IsLine line

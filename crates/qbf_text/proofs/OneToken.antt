@@ -4,7 +4,7 @@ use Rattle.qbf_text.proofs.Words.{Token, Lined, is_end, GivesNext, Reading, HasF
 use Rattle.qbf_text.proofs.Words.{reads_from}
 use Rattle.qbf_text.specs.Lined.{Known}
 use Rattle.qbf_text.specs.Reading.{IsFirst, HasEnded}
-use Rattle.qbf_text.specs.Rows.{behind, read_from}
+use Rattle.qbf_text.specs.Rows.{rest_after, read_from}
 use Rattle.qbf_text.specs.Taking.{Leaves}
 
 -- what was to be read, where that is known, is what is still to be read
@@ -22,19 +22,19 @@ module _ {P A F : Type 0} (row : P → Token → Row P A F) where
   -- what comes of a row
   abbrev pub after : Row P A F → Lined → List Lined → Read P A F
   after (Goes next) t ts = read_from row next ts
-  after (Ends a next) t ts = Whole a next (behind (is_end t.0) t ts)
+  after (Ends a next) t ts = Whole a next (rest_after (is_end t.0) t ts)
   after (Fails f) t ts = Fault f t.1
 
   pub read-one : (place : P) (t : Lined) (ts : List Lined) → read_from row place (t ∷ ts) ≡ after (row place t.0) t ts
   unfolding read_from
   read-one place t ts = search rules
 
-  first : (b : Bool) (old new : List Lined) (t : Lined) → IsFirst b old t new → (ts : List Lined) × (old ≡ t ∷ ts) × (new ≡ behind b t ts)
+  first : (b : Bool) (old new : List Lined) (t : Lined) → IsFirst b old t new → (ts : List Lined) × (old ≡ t ∷ ts) × (new ≡ rest_after b t ts)
   first b old new t h = search rules
 
   -- where a token was taken, its row decides
   one : (place : P) (whole : Option (Read P A F)) (old new : Known) (t : Lined) → Leads whole (reads_from row place old) → GivesNext old new
-      t → IfSome whole (λ r. (ts : List Lined) × (r ≡ after (row place t.0) t ts) × (new ≡ Some (behind (is_end t.0) t ts)))
+      t → IfSome whole (λ r. (ts : List Lined) × (r ≡ after (row place t.0) t ts) × (new ≡ Some (rest_after (is_end t.0) t ts)))
   one place whole old new t so_far gives = grind (arith, common_steps, first, read-one)
 
   pub goes : (place next : P) (whole : Option (Read P A F)) (old new : Known) (t : Lined) → Leads whole (reads_from row place old)

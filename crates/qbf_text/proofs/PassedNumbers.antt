@@ -7,7 +7,7 @@ use Rattle.std.proofs.Common.{length-drop, length-append, Result, Ok, Err, IfOk}
 use Rattle.std.proofs.lemmas.List.{take-append-drop, take_all}
 use Rattle.qbf_text.specs.declared.buffered.Cursor.{Cursor}
 use Rattle.qbf_text.specs.declared.likely_ends.LikelyEnds.{LikelyEnds}
-use Rattle.qbf_text.specs.Passing.{tokens_from_cursor, behind, counted_if, is_begun, cursor, moved, LeadOn, Passes, PassesNumber, PassesAll}
+use Rattle.qbf_text.specs.Passing.{tokens_from_cursor, cursor_after, counted_if, is_begun, cursor, moved, LeadOn, Passes, PassesNumber, PassesAll}
 use Rattle.qbf_text.specs.Passing.{ReadsAtHand}
 use Rattle.qbf_text.specs.Reading.{IsOpen, left}
 use Rattle.qbf_text.proofs.ByteByByte.{left_nothing}
@@ -15,8 +15,8 @@ use Rattle.qbf_text.proofs.LeftAfterNumber.{spelled_ending, spelled_blanked}
 use Rattle.qbf_text.proofs.OneToken.{after, read-one}
 
 -- all bytes from a place on
-pub all_behind : (at : ℕ) (bytes : List ℕ) → take (length bytes - at) (drop at bytes) ≡ drop at bytes
-all_behind at bytes = take_all (length bytes - at) (drop at bytes) (omega (arith, length-drop at bytes))
+pub all_after : (at : ℕ) (bytes : List ℕ) → take (length bytes - at) (drop at bytes) ≡ drop at bytes
+all_after at bytes = take_all (length bytes - at) (drop at bytes) (omega (arith, length-drop at bytes))
 
 -- the bytes from a number on are its run, the separator and the bytes after
 split : (bytes : List ℕ) (at len : ℕ) (front : List ℕ) → take len (drop at bytes) ≡ front
@@ -33,35 +33,35 @@ zero_or (suc n) = inr (omega arith)
 module _ (bytes : List ℕ) (here : Cursor) (likely : LikelyEnds) (negative : Bool) (value len : ℕ) (ends : Bool)
     (h : BeginsWithNumber (drop here.at bytes) negative value len ends) (small : here.line < 2 ^ 64) where
   spelled : (ends_line : Bool) → ends_line ≡ ends → (format : Comments) (rest : List ℕ)
-      → tokens_from_cursor format here ((h.run ++ h.behind ∷ []) ++ rest)
-      ≡ (Number negative value, here.line) ∷ tokens_from_cursor format (behind here likely len ends_line) rest
+      → tokens_from_cursor format here ((h.run ++ h.separator ∷ []) ++ rest)
+      ≡ (Number negative value, here.line) ∷ tokens_from_cursor format (cursor_after here likely len ends_line) rest
   spelled true e format rest =
       spelled_ending format (is_begun here) here.line (drop here.at bytes) negative value len ends h small (sym e) rest
   spelled false e format rest =
       spelled_blanked format (is_begun here) here.line (drop here.at bytes) negative value len ends h small (sym e) rest
 
-  at_behind : (ends_line : Bool) → (behind here likely len ends_line).at ≡ here.at + len
-  at_behind true = refl
-  at_behind false = refl
+  at_after : (ends_line : Bool) → (cursor_after here likely len ends_line).at ≡ here.at + len
+  at_after true = refl
+  at_after false = refl
 
   some : 0 < len
   some = elim (zero_or len) [
-    | inl none ↦ absurd (let empty : [] ≡ h.run ++ h.behind ∷ [] = rw none at h.front in
-        let none_left : 0 ≡ length h.run + 1 = ap length empty ∙ length-append h.run (h.behind ∷ []) in omega (arith, none_left))
+    | inl none ↦ absurd (let empty : [] ≡ h.run ++ h.separator ∷ [] = rw none at h.front in
+        let none_left : 0 ≡ length h.run + 1 = ap length empty ∙ length-append h.run (h.separator ∷ []) in omega (arith, none_left))
     | inr more ↦ more
   ]
 
   -- a number in front of the bytes from the cursor on is passed
-  pub passes_number : here.at ≤ length bytes → PassesNumber bytes here (behind here likely len ends) (Number negative value)
+  pub passes_number : here.at ≤ length bytes → PassesNumber bytes here (cursor_after here likely len ends) (Number negative value)
   passes_number within = record {
     word = h.run;
-    behind = h.behind;
+    separator = h.separator;
     unbroken = h.unbroken;
     separates = h.separates;
     no_end = refl;
-    further = rw (at_behind ends) (omega (arith, some));
-    within = rw (at_behind ends) (omega (arith, within, h.within, length-drop here.at bytes));
-    taken = rw (at_behind ends) (split bytes here.at len (h.run ++ h.behind ∷ []) h.front);
+    further = rw (at_after ends) (omega (arith, some));
+    within = rw (at_after ends) (omega (arith, within, h.within, length-drop here.at bytes));
+    taken = rw (at_after ends) (split bytes here.at len (h.run ++ h.separator ∷ []) h.front);
     spelled = spelled ends refl;
   }
 
@@ -79,10 +79,10 @@ module _ (bytes : List ℕ) where
     are = are;
   }
 
-  pub passes_then : (Are Behind Both : List Lined → Type 0) (here mid there : Cursor)
-      → ((ts us : List Lined) → Are ts → Behind us → Both (ts ++ us))
-      → Passes Are bytes here mid → Passes Behind bytes mid there → Passes Both bytes here there
-  passes_then Are Behind Both here mid there both s t = record {
+  pub passes_then : (Are Then Both : List Lined → Type 0) (here mid there : Cursor)
+      → ((ts us : List Lined) → Are ts → Then us → Both (ts ++ us))
+      → Passes Are bytes here mid → Passes Then bytes mid there → Passes Both bytes here there
+  passes_then Are Then Both here mid there both s t = record {
     front = s.front ++ t.front;
     given = s.given ++ t.given;
     forward = omega (arith, s.forward, t.forward);
@@ -99,7 +99,7 @@ module _ (bytes : List ℕ) where
   one_number : (mid there : Cursor) (token : Token) → PassesNumber bytes mid there token
       → Passes (λ ts. ts ≡ (token, mid.line) ∷ []) bytes mid there
   one_number mid there token t = record {
-    front = t.word ++ t.behind ∷ [];
+    front = t.word ++ t.separator ∷ [];
     given = (token, mid.line) ∷ [];
     forward = omega (arith, t.further);
     within = t.within;
@@ -224,9 +224,9 @@ taken_number format bytes here to token p None = tt
 taken_number format bytes here to token p (Some rest) = record {
   skipped = [];
   word = p.word;
-  behind = p.behind ∷ [];
+  separator = p.separator ∷ [];
   line = counted here.line;
-  taken = ap (λ l. l ++ rest) p.taken ∙ append_assoc (p.word ++ p.behind ∷ []) (drop to.at bytes) rest;
+  taken = ap (λ l. l ++ rest) p.taken ∙ append_assoc (p.word ++ p.separator ∷ []) (drop to.at bytes) rest;
   nothing = left_nothing format (is_begun here) here.line;
   unbroken = p.unbroken;
   separates = p.separates;
@@ -239,7 +239,7 @@ unfolding left
 given_buffered r here to token p open_ None = rw open_ tt
 given_buffered r here to token p open_ (Some rest) = rw (open_, p.no_end) (
     ap (λ l. tokens_left r.comments (is_begun here) here.line l)
-    (ap (λ l. l ++ rest) p.taken ∙ append_assoc (p.word ++ p.behind ∷ []) (drop to.at r.pending) rest)
+    (ap (λ l. l ++ rest) p.taken ∙ append_assoc (p.word ++ p.separator ∷ []) (drop to.at r.pending) rest)
     ∙ p.spelled r.comments (drop to.at r.pending ++ rest))
 
 -- what a grammar took is read

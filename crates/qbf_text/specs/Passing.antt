@@ -18,14 +18,14 @@ use Rattle.qbf_text.specs.Tokens.{counted, kind, is_line_end}
 -- the first `len` bytes are a run that is this number, and the separator after it, which ends the line or not
 pub record BeginsWithNumber (bytes : List ℕ) (negative : Bool) (value len : ℕ) (ends_line : Bool) : Type 0 where
   pub run : List ℕ
-  pub behind : ℕ
+  pub separator : ℕ
   pub within : len ≤ length bytes
-  pub front : take len bytes ≡ run ++ behind ∷ []
+  pub front : take len bytes ≡ run ++ separator ∷ []
   pub begins : begins_number run ≡ true
   pub unbroken : IsUnbroken run
   pub is : Number negative value ≡ kind run
-  pub separates : is_separator behind ≡ true
-  pub ends : ends_line ≡ is_line_end behind
+  pub separates : is_separator separator ≡ true
+  pub ends : ends_line ≡ is_line_end separator
 
 -- 1 where this is so
 abbrev pub counted_if : Bool → ℕ
@@ -37,9 +37,9 @@ abbrev pub is_begun : Cursor → Bool
 is_begun here = not (nat_eq here.tokens 0)
 
 -- the cursor after a number and its separator, which take so many bytes
-abbrev pub behind : Cursor → LikelyEnds → ℕ → Bool → Cursor
-behind here ends len true = record { at = here.at + len; line = counted (here.line + 1); tokens = 0; ends = ends }
-behind here ends len false = record { at = here.at + len; line = here.line; tokens = 1; ends = ends }
+abbrev pub cursor_after : Cursor → LikelyEnds → ℕ → Bool → Cursor
+cursor_after here ends len true = record { at = here.at + len; line = counted (here.line + 1); tokens = 0; ends = ends }
+cursor_after here ends len false = record { at = here.at + len; line = here.line; tokens = 1; ends = ends }
 
 -- where the first of the bytes at hand stands
 abbrev pub cursor : Reading → LikelyEnds → Cursor
@@ -56,14 +56,14 @@ tokens_from_cursor format here = tokens_left format (is_begun here) here.line
 -- one token stands between two cursors, whatever bytes follow
 pub record PassesNumber (bytes : List ℕ) (here next : Cursor) (token : Token) : Type 0 where
   pub word : List ℕ
-  pub behind : ℕ
+  pub separator : ℕ
   pub unbroken : IsUnbroken word
-  pub separates : is_separator behind ≡ true
+  pub separates : is_separator separator ≡ true
   pub no_end : is_end token ≡ false
   pub further : here.at < next.at
   pub within : next.at ≤ length bytes
-  pub taken : drop here.at bytes ≡ (word ++ behind ∷ []) ++ drop next.at bytes
-  pub spelled : (format : Comments) (rest : List ℕ) → tokens_from_cursor format here ((word ++ behind ∷ []) ++ rest)
+  pub taken : drop here.at bytes ≡ (word ++ separator ∷ []) ++ drop next.at bytes
+  pub spelled : (format : Comments) (rest : List ℕ) → tokens_from_cursor format here ((word ++ separator ∷ []) ++ rest)
       ≡ (token, here.line) ∷ tokens_from_cursor format next rest
 
 -- the tokens between two cursors are as this says, whatever bytes follow

@@ -20,9 +20,9 @@ pub data Read (P A F : Type 0) : Type 0 where
   Cut : Read P A F
 
 -- the tokens after one that was taken: End stays
-abbrev pub behind : Bool → Lined → List Lined → List Lined
-behind true t ts = t ∷ []
-behind false t ts = ts
+abbrev pub rest_after : Bool → Lined → List Lined → List Lined
+rest_after true t ts = t ∷ []
+rest_after false t ts = ts
 
 -- What is read from a place on.
 unfoldable pub read_from : {P A F : Type 0} → (P → Token → Row P A F) → P → List Lined → Read P A F
@@ -30,7 +30,7 @@ read_from row place [] = Cut
 read_from row place (t ∷ ts) =
     elim (row place t.0) [
       | Goes next ↦ read_from row next ts
-      | Ends answer next ↦ Whole answer next (behind (is_end t.0) t ts)
+      | Ends answer next ↦ Whole answer next (rest_after (is_end t.0) t ts)
       | Fails fault ↦ Fault fault t.1
     ]
 

@@ -12,8 +12,8 @@ use Rattle.qrp.specs.declared.item.Outcome.{Outcome}
 use Rattle.qrp.specs.declared.reader.Stage.{Stage}
 use Rattle.qrp.specs.declared.reader.Stage.TheVariants.{AtHeader, AtLists, HasResult, HasFault}
 use Rattle.qrp.specs.Flat.{Kept, made, with_item}
-use Rattle.qrp.specs.Given.{KnownItems, known_items, left_behind, is_last, numbers_with, stage_after, GivesNextItem, IsProper, StandsOnLine}
-use Rattle.qrp.specs.Given.{StopsBehindPart}
+use Rattle.qrp.specs.Given.{KnownItems, known_items, left_after, is_last, numbers_with, stage_after, GivesNextItem, IsProper, StandsOnLine}
+use Rattle.qrp.specs.Given.{StopsAfterPart}
 use Rattle.qrp.specs.Reading.{Fault, Place, AtP, Between, After}
 
 -- what is kept of the parts that were given, and where reading stands
@@ -51,7 +51,7 @@ Stands (HasFault f line) g = ⊤
 
 -- what was left from a place on is the result and what is left now, after steps with these numbers; the last result stays
 abbrev pub GivesItem : KnownItems → List ℕ → Known → Result Item Fault → Type 0
-GivesItem before ns after answer = GivesNextItem before (left_behind (stage_after answer) ns after) answer
+GivesItem before ns after answer = GivesNextItem before (left_after (stage_after answer) ns after) answer
 
 -- the item is as the grammar asks, its number is after the others, and the next token stands where it is to be taken
 pub record IsItem (old new : Giver) (answer : Result Item Fault) : Type 0 where
@@ -70,12 +70,12 @@ pub record IsDriven (scanner : Reading) (before bound old new : ℕ) (answer : R
   pub works : OnOk answer (new ≡ old)
 
 -- what was consumed for an item ends with its last word, and few bytes are held
-abbrev pub StopsBehind : Place → (List ℕ → List Lined) → Option (List ℕ) → Option (List ℕ) → Type 0 → Result Item Fault → Type 0
-StopsBehind p here before after few answer = IfOk answer (λ i. IfKnown (StopsBehindPart p here i) before after × few)
+abbrev pub StopsAfter : Place → (List ℕ → List Lined) → Option (List ℕ) → Option (List ℕ) → Type 0 → Result Item Fault → Type 0
+StopsAfter p here before after few answer = IfOk answer (λ i. IfKnown (StopsAfterPart p here i) before after × few)
 
 -- an item was read from this place on: what was left is the result and what is left now, and nothing is read past the item but a
 -- separator and what is held
 pub record ReadsItem (place : Place) (ns : List ℕ) (old : Reading) (before : Option (List ℕ)) (new : Reading) (after : Option (List ℕ))
     (answer : Result Item Fault) : Type 0 where
   pub gives : GivesItem (known_items place (left old before)) ns (left new after) answer
-  pub stops : StopsBehind place (tokens_next old) (ahead old.pending before) (ahead new.pending after) (length new.pending ≤ 4096) answer
+  pub stops : StopsAfter place (tokens_next old) (ahead old.pending before) (ahead new.pending after) (length new.pending ≤ 4096) answer

@@ -7,7 +7,7 @@ ghost use Rattle.qbf_text.specs.declared.token.Comments.TheVariants.{Qrp};
 ghost use Rattle.qrp.specs.declared.fault.TraceFault.TheVariants.{P1, P9};
 ghost use Rattle.qbf_text.specs.Reading.{HasFailed};
 ghost use Rattle.qrp.specs.Given.{items_left, is_last, stage_after, numbers_with};
-ghost use Rattle.qrp.specs.Given.{GivesNextItem, IsDone, IsProper, StopsBehindItem};
+ghost use Rattle.qrp.specs.Given.{GivesNextItem, IsDone, IsProper, StopsAfterItem};
 ghost use Rattle.qrp.specs.Items.{ReadsItem, IsItem, IsDriven};
 ghost use Rattle.qrp.specs.Reading.{items};
 
@@ -120,7 +120,7 @@ impl TraceReader {
         // Nothing is read past an item but a separator and what is held, and that is at most 4,096
         // bytes.
         ensures stops { ¬ IsDone self.old → IfOk result (λ i.
-            StopsBehindItem self.old (S.remaining source.old) self.new (S.remaining source.new) i) }
+            StopsAfterItem self.old (S.remaining source.old) self.new (S.remaining source.new) i) }
         // The result and a fault are given for good, and nothing is pulled then.
         ensures last { is_last result ≡ true → IsDone self.new }
         ensures more { is_last result ≡ false → ¬ IsDone self.new }

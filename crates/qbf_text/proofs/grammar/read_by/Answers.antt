@@ -1,6 +1,6 @@
 use Rattle.qbf_text.proofs.Words.{common_steps, ◌≡◌, true, false, arith, sym, ◌∙◌, left, reads_from}
 use Rattle.qbf_text.proofs.OneToken.{leads_same, leads_then, goes, ends, stops, same_state, ready_still, unfailed}
-use Rattle.qbf_text.proofs.Stops.{so_far_none, known_so_far, so_far_goes, stops_behind}
+use Rattle.qbf_text.proofs.Stops.{so_far_none, known_so_far, so_far_goes, stops_after}
 use Rattle.qbf_text.proofs.grammar.read_by.Goals as goal
 
 pub tokens-init : goal.tokens-init
@@ -65,7 +65,7 @@ returns-in-Ok-Done-clause-stops g c =
       c.in_ok-token.token,
       ends_so,
       λ open_. (
-        stops_behind row first _ _ c.in-Ok-Done.output _ _ _ _ _ _ _ ends_so open_ read (c.in_ok-token.ensures.takes open_),
+        stops_after row first _ _ c.in-Ok-Done.output _ _ _ _ _ _ _ ends_so open_ read (c.in_ok-token.ensures.takes open_),
         c.in_ok-token.ensures.few open_,
       ),
     )
@@ -101,7 +101,7 @@ returns-in-Some-clause-stops g c =
       last.token.0,
       last.ends,
       λ open_. (
-        stops_behind row first _ _ c.in-Some.output _ _ _ last.token _ _ _ last.ends open_ read last.takes,
+        stops_after row first _ _ c.in-Some.output _ _ _ last.token _ _ _ last.ends open_ read last.takes,
         last.few,
       ),
     )
