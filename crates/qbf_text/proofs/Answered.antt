@@ -1,6 +1,6 @@
 -- What is read of a text is what it spells, or the fault that stands in it.
 use Rattle.qbf_text.proofs.Words.{arith, rules, ◌≡◌, ℕ, Bool, List, [], ◌∷◌, Option, Some, IfSome, Result, Ok, Err, ap, sym, ◌∙◌}
-use Rattle.qbf_text.proofs.Words.{common_steps, Comments, Token, Lined, unlined, EndsOnce, Row, Read, Whole, Fault, read_from, tokens}
+use Rattle.qbf_text.proofs.Words.{common_steps, Comments, Token, Lined, without_lines, EndsOnce, Row, Read, Whole, Fault, read_from, tokens}
 use Rattle.std.proofs.Common.{option_map}
 use Rattle.qbf_text.specs.Answering.{Gives, ReadsAsRead, ReadsOnce}
 use Rattle.qbf_text.proofs.TokensEndOnce.{tokens-EndsOnce}
@@ -11,7 +11,7 @@ use Rattle.qbf_text.proofs.AcceptedTokens as accepted
 -- where each token is answered or leads on, and tokens read as nothing else, they read as what is read
 pub explained : {P R : Type 0} (Spells : List Token → P → Type 0) (Reads : List Lined → R → Type 0) (read : List Lined → R) (first : P)
     → Spells [] first
-    → ((before : List Lined) (p : P) (t : Lined) (ts : List Lined) → Spells (unlined before) p → EndsOnce (t ∷ ts)
+    → ((before : List Lined) (p : P) (t : Lined) (ts : List Lined) → Spells (without_lines before) p → EndsOnce (t ∷ ts)
     → accepted.Answers Spells Reads before t ts)
     → ReadsOnce Reads read → ReadsAsRead Reads read
 explained Spells Reads read first begins one only ts once =

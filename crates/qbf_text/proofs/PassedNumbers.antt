@@ -2,12 +2,12 @@
 use Rattle.qbf_text.proofs.Words.{◌≡◌, ℕ, ◌+◌, ◌^◌, ◌<◌, ◌≤◌, Bool, true, false, not, nat_eq, List, [], ◌∷◌, ◌++◌, drop, length, refl, sym}
 use Rattle.qbf_text.proofs.Words.{ap, ◌∙◌, subst, take, ◌-◌, zero, suc, append_assoc, arith, Option, Some, None, ◌⊎◌, inl, inr, drop-drop}
 use Rattle.qbf_text.proofs.Words.{Comments, Token, Number, ahead, tokens_left, known_left, Lined, BeginsWithNumber, SoFar, Reading}
-use Rattle.qbf_text.proofs.Words.{GivesNext, Row, Goes, read_from, reads_from, IfKnown, TakesToken, tokens_next, counted}
+use Rattle.qbf_text.proofs.Words.{GivesNext, Row, Goes, read_from, reads_from, IfKnown, TakesToken, tokens_next, line_number}
 use Rattle.std.proofs.Common.{length-drop, length-append, Result, Ok, Err, IfOk}
 use Rattle.std.proofs.lemmas.List.{take-append-drop, take_all}
 use Rattle.qbf_text.specs.declared.buffered.Cursor.{Cursor}
 use Rattle.qbf_text.specs.declared.likely_ends.LikelyEnds.{LikelyEnds}
-use Rattle.qbf_text.specs.Passing.{tokens_from_cursor, cursor_after, counted_if, is_begun, cursor, moved, LeadOn, Passes, PassesNumber, PassesAll}
+use Rattle.qbf_text.specs.Passing.{tokens_from_cursor, cursor_after, one_if, is_begun, cursor, scanner_at, LeadOn, Passes, PassesNumber, PassesAll}
 use Rattle.qbf_text.specs.Passing.{ReadsAtHand}
 use Rattle.qbf_text.specs.Reading.{IsOpen, left}
 use Rattle.qbf_text.proofs.ByteByByte.{left_nothing}
@@ -174,7 +174,7 @@ module _ {P A F : Type 0} (row : P → Token → Row P A F) (first : P) (bytes :
 
 -- ---- a scanner that goes to where a grammar came
 
-pub begun_counted : (b : Bool) → not (nat_eq (counted_if b) 0) ≡ b
+pub begun_counted : (b : Bool) → not (nat_eq (one_if b) 0) ≡ b
 begun_counted true = refl
 begun_counted false = refl
 
@@ -186,7 +186,7 @@ first_tokens r ends bytes = ap (λ b. tokens_left r.comments b r.line bytes) (sy
 module _ {P A F : Type 0} (row : P → Token → Row P A F) (first place : P) (r : Reading) (ends : LikelyEnds)
     (here : Cursor) (p : Passes (LeadOn row first place) r.pending (cursor r ends) here) where
   pub handed_so_far : (remaining : Option (List ℕ))
-      → IfKnown (SoFar row first place (tokens_next r) (tokens_next (moved r here))) (ahead r.pending remaining)
+      → IfKnown (SoFar row first place (tokens_next r) (tokens_next (scanner_at r here))) (ahead r.pending remaining)
       (ahead (drop here.at r.pending) remaining)
   handed_so_far None = tt
   handed_so_far (Some rest) = record {
@@ -210,7 +210,7 @@ module _ {P A F : Type 0} (row : P → Token → Row P A F) (first place : P) (r
       ∙ p.are (tokens_left r.comments (is_begun here) here.line (drop here.at r.pending ++ rest)))
 
   pub handed_leads : IsOpen r → (remaining : Option (List ℕ))
-      → reads_from row first (left r remaining) ≡ reads_from row place (left (moved r here) remaining)
+      → reads_from row first (left r remaining) ≡ reads_from row place (left (scanner_at r here) remaining)
   unfolding left
   handed_leads open_ remaining = rw open_ (known remaining)
 
@@ -225,7 +225,7 @@ taken_number format bytes here to token p (Some rest) = record {
   skipped = [];
   word = p.word;
   separator = p.separator ∷ [];
-  line = counted here.line;
+  line = line_number here.line;
   taken = ap (λ l. l ++ rest) p.taken ∙ append_assoc (p.word ++ p.separator ∷ []) (drop to.at bytes) rest;
   nothing = left_nothing format (is_begun here) here.line;
   unbroken = p.unbroken;
@@ -234,7 +234,7 @@ taken_number format bytes here to token p (Some rest) = record {
 }
 
 given_buffered : (r : Reading) (here to : Cursor) (token : Token) → PassesNumber r.pending here to token → IsOpen r
-    → (remaining : Option (List ℕ)) → GivesNext (left (moved r here) remaining) (left (moved r to) remaining) (token, here.line)
+    → (remaining : Option (List ℕ)) → GivesNext (left (scanner_at r here) remaining) (left (scanner_at r to) remaining) (token, here.line)
 unfolding left
 given_buffered r here to token p open_ None = rw open_ tt
 given_buffered r here to token p open_ (Some rest) = rw (open_, p.no_end) (
@@ -245,13 +245,13 @@ given_buffered r here to token p open_ (Some rest) = rw (open_, p.no_end) (
 -- what a grammar took is read
 pub handed : {P A F : Type 0} (row : P → Token → Row P A F) (first next : P) (answer : Option A) (r : Reading) (likely : LikelyEnds) (to : Cursor)
     → IsOpen r → length (drop to.at r.pending) ≤ 4096 → PassesAll row first next r.pending (cursor r likely) to answer → (remaining : Option (List ℕ))
-    → ReadsAtHand row first next r (moved r to) remaining answer
+    → ReadsAtHand row first next r (scanner_at r to) remaining answer
 handed row first next None r likely to open_ few p remaining =
     (handed_so_far row first next r likely to p remaining, handed_leads row first next r likely to p open_ remaining)
 handed row first next (Some a) r likely to open_ few p remaining = record {
   last = p.last;
   token = (p.token, p.here.line);
-  mid = moved r p.here;
+  mid = scanner_at r p.here;
   leads = (handed_so_far row first p.last r likely p.here p.leads remaining, handed_leads row first p.last r likely p.here p.leads open_ remaining);
   gives = given_buffered r p.here to p.token p.passes open_ remaining;
   takes = taken_number r.comments r.pending p.here to p.token p.passes remaining;

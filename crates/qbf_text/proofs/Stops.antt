@@ -3,7 +3,7 @@ use Rattle.qbf_text.proofs.Words.{common_steps, rules, ◌≡◌, ℕ, ◌+◌, 
 use Rattle.qbf_text.proofs.Words.{IfSome, refl, sym, ap, ◌∙◌, arith, append_assoc, append-nil, ⊤, Consumes, Comments, Token, End}
 use Rattle.qbf_text.proofs.Words.{is_separator, is_end, tokens_left, IsUnbroken, IsWithinLine, EndsRun, EndsLine, known_left, Lined, Row}
 use Rattle.qbf_text.proofs.Words.{Goes, Ends, Whole, read_from, Fails, Fault, IfKnown, TakesToken, PlaceSkips, SoFar, kind, is_blank}
-use Rattle.qbf_text.proofs.Words.{is_line_end, is_comment_byte, counted, GivesNext}
+use Rattle.qbf_text.proofs.Words.{is_line_end, is_comment_byte, line_number, GivesNext}
 use Rattle.std.proofs.KnownBytes.{Consumes-trans}
 use Rattle.qbf_text.specs.declared.scanner.Place.{Place}
 use Rattle.qbf_text.specs.Stopping.{BeginsAs, Skips, PlaceTakes, FindsToken, StopsAfter}
@@ -85,12 +85,12 @@ module _ (f : Comments) (begun : Bool) (n : ℕ) where
   skips_same a b p = known_by _ (λ _. ⊤) a b [] p (always b) (λ rest _. skips_nothing (tokens_left f begun n) rest)
 
   pub skips_line_end : (b : ℕ) (t t' : Option (List ℕ)) → Consumes t t' (b ∷ []) → b ≡ 10
-      → IfKnown (Skips (tokens_left f begun n) (tokens_left f false (counted (n + 1)))) t t'
+      → IfKnown (Skips (tokens_left f begun n) (tokens_left f false (line_number (n + 1)))) t t'
   skips_line_end b t t' p e =
       known_by _ (λ _. ⊤) t t' (b ∷ []) p (always t') (λ new _. record {
         skipped = b ∷ [];
         taken = refl;
-        spelled = λ rest _. rw e (left_line_end f begun n rest ∙ tokens_left-counted f false (n + 1) (counted (n + 1)) rest (omega arith));
+        spelled = λ rest _. rw e (left_line_end f begun n rest ∙ tokens_left-counted f false (n + 1) (line_number (n + 1)) rest (omega arith));
       })
 
   pub skips_blank : (b : ℕ) (t t' : Option (List ℕ)) → Consumes t t' (b ∷ []) → is_blank b ≡ true
@@ -119,12 +119,12 @@ module _ (f : Comments) (begun : Bool) (n : ℕ) where
       → Consumes t' t'' more → IsUnbroken more → IfSome t'' EndsRun
       → IfKnown (TakesToken (tokens_left f begun n) (tokens_left f true n) (kind (b ∷ more), n)) t t''
   takes_run b more t t' t'' p sep token small q unbroken end =
-      let same : counted n ≡ n = omega arith in
+      let same : line_number n ≡ n = omega arith in
       known_by _ EndsRun t t'' (b ∷ more) (Consumes-trans t t' t'' (b ∷ []) more p q) end (λ new ends. record {
         skipped = [];
         word = b ∷ more;
         separator = [];
-        line = counted n;
+        line = line_number n;
         taken = ap (λ l. l ++ new) (sym (append-nil (b ∷ more)));
         nothing = left_nothing f begun n;
         unbroken = (sep, unbroken);

@@ -13,7 +13,7 @@ use Rattle.qbf_text.specs.Reading.{Reading, GivesNext, left}
 use Rattle.qbf_text.specs.Rows.{Row, Ends, read_from, reads_from}
 use Rattle.qbf_text.specs.Stopping.{BeginsAs, IfKnown, ScannerTakes, tokens_next}
 use Rattle.qbf_text.specs.Runs.{begins_number}
-use Rattle.qbf_text.specs.Tokens.{counted, kind, is_line_end}
+use Rattle.qbf_text.specs.Tokens.{line_number, kind, is_line_end}
 
 -- the first `len` bytes are a run that is this number, and the separator after it, which ends the line or not
 pub record BeginsWithNumber (bytes : List ℕ) (negative : Bool) (value len : ℕ) (ends_line : Bool) : Type 0 where
@@ -28,9 +28,9 @@ pub record BeginsWithNumber (bytes : List ℕ) (negative : Bool) (value len : �
   pub ends : ends_line ≡ is_line_end separator
 
 -- 1 where this is so
-abbrev pub counted_if : Bool → ℕ
-counted_if true = 1
-counted_if false = 0
+abbrev pub one_if : Bool → ℕ
+one_if true = 1
+one_if false = 0
 
 -- whether a token stands before a cursor on its line
 abbrev pub is_begun : Cursor → Bool
@@ -38,16 +38,16 @@ is_begun here = not (nat_eq here.tokens 0)
 
 -- the cursor after a number and its separator, which take so many bytes
 abbrev pub cursor_after : Cursor → LikelyEnds → ℕ → Bool → Cursor
-cursor_after here ends len true = record { at = here.at + len; line = counted (here.line + 1); tokens = 0; ends = ends }
+cursor_after here ends len true = record { at = here.at + len; line = line_number (here.line + 1); tokens = 0; ends = ends }
 cursor_after here ends len false = record { at = here.at + len; line = here.line; tokens = 1; ends = ends }
 
 -- where the first of the bytes at hand stands
 abbrev pub cursor : Reading → LikelyEnds → Cursor
-cursor r ends = record { at = 0; line = r.line; tokens = counted_if r.begun; ends = ends }
+cursor r ends = record { at = 0; line = r.line; tokens = one_if r.begun; ends = ends }
 
 -- a scanner that went to a cursor
-abbrev pub moved : Reading → Cursor → Reading
-moved r here = record r { line = here.line; begun = is_begun here; pending = drop here.at r.pending }
+abbrev pub scanner_at : Reading → Cursor → Reading
+scanner_at r here = record r { line = here.line; begun = is_begun here; pending = drop here.at r.pending }
 
 -- the tokens of bytes that stand at a cursor
 abbrev pub tokens_from_cursor : Comments → Cursor → List ℕ → List Lined

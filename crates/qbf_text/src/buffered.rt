@@ -145,7 +145,7 @@ pub struct Passed {
 
 impl Cursor {
     ghost use Rattle.std.specs.Prelude.{List, ℕ, drop};
-    ghost use Rattle.qbf_text.specs.Passing.{cursor_after, counted_if, is_begun};
+    ghost use Rattle.qbf_text.specs.Passing.{cursor_after, one_if, is_begun};
     ghost use Rattle.qbf_text.specs.declared.token.Token.TheVariants.{Number};
 
     /// The cursor at the first of the bytes.
@@ -154,7 +154,7 @@ impl Cursor {
         ensures { result ≡ record {
           at = 0;
           line = line;
-          tokens = counted_if begun;
+          tokens = one_if begun;
           ends = ends;
         } }
     {

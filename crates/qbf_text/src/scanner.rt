@@ -90,7 +90,7 @@ struct Place {
 }
 
 impl Place {
-    ghost use Rattle.qbf_text.specs.Passing.{counted_if, is_begun};
+    ghost use Rattle.qbf_text.specs.Passing.{one_if, is_begun};
     ghost use Rattle.qbf_text.specs.Stopping.{FindsToken, FindsEnd, PlaceSkips};
     ghost use Rattle.qbf_text.specs.declared.token.Token.TheVariants.{End};
 
@@ -100,7 +100,7 @@ impl Place {
         ensures { result ≡ record {
           at = 0;
           line = self.now.line;
-          tokens = counted_if self.now.begun;
+          tokens = one_if self.now.begun;
           ends = result.ends;
         } }
     {
@@ -256,7 +256,7 @@ impl Model for Scanner {
 impl Scanner {
     ghost use Rattle.qbf_text.specs.Tokens.{tokens};
     ghost use Rattle.qbf_text.specs.Reading.{left, GivesNext, HasEnded, HasFailed, IsOpen, IsReady};
-    ghost use Rattle.qbf_text.specs.Passing.{cursor, moved};
+    ghost use Rattle.qbf_text.specs.Passing.{cursor, scanner_at};
     ghost use Rattle.qbf_text.specs.Stopping.{tokens_next, ScannerTakes};
     ghost use Rattle.qbf_text.specs.declared.token.Token.TheVariants.{End};
 
@@ -310,7 +310,7 @@ impl Scanner {
     #[inline(always)]
     pub fn go_to(&mut self, here: Cursor)
         requires { here.at ≤ length self.old.pending }
-        ensures to { self.new ≡ moved self.old here }
+        ensures to { self.new ≡ scanner_at self.old here }
         ensures few { length self.new.pending ≤ 4096 }
     {
         self.place.go_to(here);

@@ -1,7 +1,7 @@
 -- What is read is spelled, and a fault that is found stands.
 use Rattle.qdimacs.proofs.Words.{common_steps, rules, inl, inr, ◌⊎◌, ◌≡◌, ℕ, ◌<◌, ◌≤◌, true, false, List, [], ◌∷◌, ◌++◌, length, map, Ok}
 use Rattle.qdimacs.proofs.Words.{Err, refl, sym, subst, ◌∙◌, arith, append_assoc, map-append, flat_map, Quantifier, Literal, Block, pairs}
-use Rattle.qdimacs.proofs.Words.{is_bound, blocks_of, AllByRecursion-push, Token, Lined, number, literal, letter, set, unlined, Ends}
+use Rattle.qdimacs.proofs.Words.{is_bound, blocks_of, AllByRecursion-push, Token, Lined, number, literal, letter, set, without_lines, Ends}
 use Rattle.qdimacs.proofs.Words.{append-nil, pairs_of_block, pairs-blocks_of, Alternates-blocks_of, is_end, push_distinct, flat_map-push}
 use Rattle.qdimacs.proofs.Words.{member, header, clause, IsFormula, ReadsAsRead, all_of, explained, AnswersAsRead, Reads, IsSoFar, Spells}
 use Rattle.qdimacs.proofs.Words.{Goes, Fails, Heading, Place, AtP, InHeader, Between, InSet, InClause, Whole, Row, row, faults, set_row}
@@ -131,19 +131,19 @@ last_is_whole p next t e = subst IsWhole (sym (last p next t e).whole) tt
 
 -- ---- the whole
 
-answer : (before : List Lined) (p : Place) (t : Lined) (ts : List Lined) → Spells (unlined before) p → EndsOnce (t ∷ ts)
+answer : (before : List Lined) (p : Place) (t : Lined) (ts : List Lined) → Spells (without_lines before) p → EndsOnce (t ∷ ts)
     → accepted.Answers Spells Reads before t ts
 answer before p t ts b once = by (row p t.0) refl
   where
     by : (r : Row) → row p t.0 ≡ r → accepted.Answers Spells Reads before t ts
-    by (Goes next) is = inr ((λ e. grind (arith, common_steps)), next, step (unlined before) p next t.0 b is)
+    by (Goes next) is = inr ((λ e. grind (arith, common_steps)), next, step (without_lines before) p next t.0 b is)
     by (Ends u next) is =
         let k = last p next t.0 is in
         let none : ts ≡ [] = grind (arith, common_steps, k.at_end) in
-        let said : Spells (unlined before) (Between k.h k.ps k.cs) = rw k.between at b in
-        let whole = whole_formula (unlined before) k.h k.ps k.cs said (let f = said.3 in omega (arith, f.few, k.all)) in
-        let spelled : unlined (before ++ t ∷ ts) ≡ unlined before ++ token.End ∷ [] =
-        map-append (λ u. u.0) before (t ∷ ts) ∙ (λ i. unlined before ++ k.at_end i ∷ unlined (none i)) in
+        let said : Spells (without_lines before) (Between k.h k.ps k.cs) = rw k.between at b in
+        let whole = whole_formula (without_lines before) k.h k.ps k.cs said (let f = said.3 in omega (arith, f.few, k.all)) in
+        let spelled : without_lines (before ++ t ∷ ts) ≡ without_lines before ++ token.End ∷ [] =
+        map-append (λ u. u.0) before (t ∷ ts) ∙ (λ i. without_lines before ++ k.at_end i ∷ without_lines (none i)) in
         inl (Ok (record { max_var = k.h.max_var; blocks = blocks_of k.ps; clauses = k.cs }), rw spelled whole)
     by (Fails f) is =
         inl (Err (f, t.1), record { before = before; wrong = t.0; after = ts; whole = refl; place = p; stands = b; refused = is })

@@ -2,7 +2,7 @@
 use Rattle.qdimacs.proofs.Words.{common_steps, rules, ◌≡◌, ◌∙◌, ◌≢◌, ℕ, ◌<◌, ◌≤◌, ◌+◌, Bool, true, List, [], ◌∷◌, ◌++◌, length, map, refl}
 use Rattle.qdimacs.proofs.Words.{arith, append_assoc, Ok, Err, ap, sym, subst, map-append, length-append, flat_map, AllByRecursion}
 use Rattle.qdimacs.proofs.Words.{Quantifier, Literal, Block, pairs, is_bound, blocks_of, variables, Token, number, literal, letter, set}
-use Rattle.qdimacs.proofs.Words.{Ends, Qbf, Lined, unlined, read-one, append-nil, pairs_of_block, middle, front_all, front_distinct}
+use Rattle.qdimacs.proofs.Words.{Ends, Qbf, Lined, without_lines, read-one, append-nil, pairs_of_block, middle, front_all, front_distinct}
 use Rattle.qdimacs.proofs.Words.{new_number, Leads, Stays, leads_then, split_at, leads_reads, AreGood, Reads, Spells, IsFault, header}
 use Rattle.qdimacs.proofs.Words.{clause, IsFormula, Heading, Place, AtP, InHeader, Between, InSet, InClause, Whole, row, Pairs, Clauses}
 use Rattle.qdimacs.proofs.Words.{AreFrom, Row, read, answer_of, blocks_of-pairs, ReadsOnce, FormulaFault, after, IsVariable, all_both}
@@ -107,7 +107,7 @@ leads_lists h sets cs lv lc good closed few =
     (leads_clauses h (pairs sets) good [] cs closed (omega arith))
 
 -- What is spelled is read.
-pub spelled_is_read : (ts : List Lined) (f : Qbf) → IsFormula (unlined ts) f → read ts ≡ Ok f
+pub spelled_is_read : (ts : List Lined) (f : Qbf) → IsFormula (without_lines ts) f → read ts ≡ Ok f
 spelled_is_read ts f is =
     let h : Heading = record { max_var = f.max_var; count = length f.clauses } in
     let w = is.well_formed in
@@ -152,7 +152,7 @@ spelled_leads ts (Whole f) e = absurd e
 pub fault_is_found : (ts : List Lined) (f : FormulaFault) (line : ℕ) → IsFault ts f line → read ts ≡ Err (f, line)
 fault_is_found ts f line is =
     ap read is.whole
-    ∙ ap answer_of (leads_reads (spelled_leads (unlined is.before) is.place is.stands) is.before refl ((is.wrong, line) ∷ is.after))
+    ∙ ap answer_of (leads_reads (spelled_leads (without_lines is.before) is.place is.stands) is.before refl ((is.wrong, line) ∷ is.after))
     ∙ ap answer_of (read-one row is.place (is.wrong, line) is.after ∙ ap (λ (r : Row). after row r (is.wrong, line) is.after) is.refused)
 
 -- Tokens read as nothing else.

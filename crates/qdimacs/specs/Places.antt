@@ -17,21 +17,21 @@ abbrev pub heading : Parts → Heading
 heading p = record { max_var = p.max_var; count = p.count }
 
 -- the formula that is made of what is whole
-abbrev pub made : Parts → Qbf
-made p = record { max_var = p.max_var; blocks = p.prefix; clauses = p.clauses.whole }
+abbrev pub formula_of : Parts → Qbf
+formula_of p = record { max_var = p.max_var; blocks = p.prefix; clauses = p.clauses.whole }
 
 -- where reading stands with these parts
-abbrev pub stands : Parts → At → Place
-stands p at.Header = InHeader p.header
-stands p at.Between = Between (heading p) (pairs p.prefix) p.clauses.whole
-stands p (at.Set q) = InSet (heading p) (pairs p.prefix) q
-stands p at.Clause = InClause (heading p) (pairs p.prefix) p.clauses.whole p.clauses.begun
-stands p at.Whole = Whole (made p)
+abbrev pub place_at : Parts → At → Place
+place_at p at.Header = InHeader p.header
+place_at p at.Between = Between (heading p) (pairs p.prefix) p.clauses.whole
+place_at p (at.Set q) = InSet (heading p) (pairs p.prefix) q
+place_at p at.Clause = InClause (heading p) (pairs p.prefix) p.clauses.whole p.clauses.unfinished
+place_at p at.Whole = Whole (formula_of p)
 
 -- the row that leads there
 abbrev pub row_to : Parts → At → Row
-row_to p at.Whole = Ends tt (stands p at.Whole)
-row_to p next = Goes (stands p next)
+row_to p at.Whole = Ends tt (place_at p at.Whole)
+row_to p next = Goes (place_at p next)
 
 -- the next place is that of the row, unless an allocation failed
 abbrev pub Moves : Row → Parts → Result At (Stop FormulaFault) → Type 0
@@ -43,7 +43,7 @@ Moves r p (Err (stop.Text f)) = r ≡ Fails f
 
 -- nothing is made yet
 abbrev pub IsNothing : Parts → Type 0
-IsNothing p = (p.prefix ≡ []) × (p.clauses.whole ≡ []) × (p.clauses.begun ≡ [])
+IsNothing p = (p.prefix ≡ []) × (p.clauses.whole ≡ []) × (p.clauses.unfinished ≡ [])
 
 -- the numbers of the header, and the variables below them
 pub record AreCounted (p : Parts) : Type 0 where
@@ -62,10 +62,10 @@ pub record IsMade (p : Parts) : Type 0 where
 -- what holds at each place
 abbrev pub IsSound : At → Parts → Type 0
 IsSound at.Header p = IsNothing p × IsUpTo 2147483647 p.header
-IsSound at.Between p = IsMade p × (p.clauses.begun ≡ [])
-IsSound (at.Set q) p = AreCounted p × (p.clauses.whole ≡ []) × (p.clauses.begun ≡ [])
-IsSound at.Clause p = IsMade p × AreBound p.prefix p.clauses.begun × (length p.clauses.whole < p.count)
-IsSound at.Whole p = IsWellFormed (made p)
+IsSound at.Between p = IsMade p × (p.clauses.unfinished ≡ [])
+IsSound (at.Set q) p = AreCounted p × (p.clauses.whole ≡ []) × (p.clauses.unfinished ≡ [])
+IsSound at.Clause p = IsMade p × AreBound p.prefix p.clauses.unfinished × (length p.clauses.whole < p.count)
+IsSound at.Whole p = IsWellFormed (formula_of p)
 
 -- at the place that a token leads to; where it is not taken, nothing is changed
 abbrev pub Leads : Parts → Parts → Result At (Stop FormulaFault) → Type 0

@@ -97,14 +97,14 @@ abbrev pub IsFull : ℕ → Pairs → Type 0
 IsFull max_var ps = (v : ℕ) → 1 ≤ v → v ≤ max_var → is_bound v ps ≡ true
 
 -- the literal that is said in a clause, if its variable is bound
-abbrev pub bound_in : Pairs → Result (Option Literal) FormulaFault → Result (Option Literal) FormulaFault
-bound_in ps (Ok (Some l)) = if is_bound l.var ps then Ok (Some l) else Err F6
-bound_in ps (Ok None) = Ok None
-bound_in ps (Err f) = Err f
+abbrev pub if_bound : Pairs → Result (Option Literal) FormulaFault → Result (Option Literal) FormulaFault
+if_bound ps (Ok (Some l)) = if is_bound l.var ps then Ok (Some l) else Err F6
+if_bound ps (Ok None) = Ok None
+if_bound ps (Err f) = Err f
 
 -- the literal that a token says in a clause, or None where it closes the clause
 abbrev pub bound_literal : ℕ → Pairs → Token → Result (Option Literal) FormulaFault
-bound_literal max_var ps t = bound_in ps (literal_in faults max_var t)
+bound_literal max_var ps t = if_bound ps (literal_in faults max_var t)
 
 -- in a clause
 abbrev pub clause_row : Heading → Pairs → Clauses → List Literal
@@ -116,9 +116,9 @@ clause_row h ps cs ls (Ok (Some l)) = Goes (InClause h ps cs (ls ++ l ∷ []))
 -- ---- between lists
 
 -- the set that a token begins: none, once a clause was begun
-abbrev pub begun_set : Clauses → Token → Option Quantifier
-begun_set [] t = quantifier t
-begun_set (c ∷ cs) t = None
+abbrev pub set_start : Clauses → Token → Option Quantifier
+set_start [] t = quantifier t
+set_start (c ∷ cs) t = None
 
 -- whether clauses are still to come
 abbrev pub has_more : Heading → Clauses → Bool
@@ -149,7 +149,7 @@ between_row h ps cs None (Ok false) first = Ends tt (Whole (record { max_var = h
 abbrev pub row : Place → Token → Row
 row (InHeader here) t = header_row (header_move form here t)
 row (Between h ps cs) t =
-    between_row h ps cs (begun_set cs t) (clause_or_end (has_more h cs) t) (bound_literal h.max_var ps t)
+    between_row h ps cs (set_start cs t) (clause_or_end (has_more h cs) t) (bound_literal h.max_var ps t)
 row (InSet h ps q) t = set_row h ps q (member faults h.max_var t)
 row (InClause h ps cs ls) t = clause_row h ps cs ls (bound_literal h.max_var ps t)
 row (Whole f) t = Fails F3

@@ -6,7 +6,7 @@ ghost use Rattle.qbf_core.specs.Blocks.{pairs, variables, IsPrefix};
 ghost use Rattle.qbf_text.specs.Passing.{LeadOn, Passes};
 ghost use Rattle.qdimacs.specs.declared.grammar.At.TheVariants as at;
 ghost use Rattle.qdimacs.specs.declared.grammar.Parts.{Parts};
-ghost use Rattle.qdimacs.specs.Places.{stands, Moves, Leads, IsSound};
+ghost use Rattle.qdimacs.specs.Places.{place_at, Moves, Leads, IsSound};
 ghost use Rattle.qdimacs.specs.Reading.{AtP, Whole, IsFull, IsWhole, row};
 
 use crate::fault::FormulaFault;
@@ -47,7 +47,7 @@ struct Parts {
     prefix: Prefix,
     /// Whether each variable that the header allows is bound, after the last whole set.
     full: bool,
-    /// The literals of the clauses, and of the one that is begun.
+    /// The literals of the clauses, and of the unfinished one.
     clauses: GrowingLists<Lit>,
 }
 
@@ -67,7 +67,7 @@ fn is_full(prefix: &Prefix, max_var: u32) -> bool
 /// Takes a token in a set.
 fn take_member(parts: &mut Parts, quantifier: Quantifier, token: Token) -> Next
     requires sound { IsSound (at.Set quantifier) parts.old }
-    ensures row { Moves (row (stands parts.old (at.Set quantifier)) token) parts.new result }
+    ensures row { Moves (row (place_at parts.old (at.Set quantifier)) token) parts.new result }
     ensures sound { Leads parts.old parts.new result }
 {
     match member(FAULTS, parts.max_var, token)? {
@@ -92,7 +92,7 @@ fn take_member(parts: &mut Parts, quantifier: Quantifier, token: Token) -> Next
 #[inline(always)]
 fn take_literal(parts: &mut Parts, token: Token) -> Next
     requires sound { IsSound at.Clause parts.old }
-    ensures row { Moves (row (stands parts.old at.Clause) token) parts.new result }
+    ensures row { Moves (row (place_at parts.old at.Clause) token) parts.new result }
     ensures sound { Leads parts.old parts.new result }
 {
     let said = bound_literal(&parts.prefix, parts.max_var, parts.full, token);
@@ -115,7 +115,7 @@ fn take_literal(parts: &mut Parts, token: Token) -> Next
 #[tactic(auto, using(crate::proofs::FormulaParts::made_whole))]
 fn take_list_start(parts: &mut Parts, token: Token) -> Next
     requires sound { IsSound at.Between parts.old }
-    ensures row { Moves (row (stands parts.old at.Between) token) parts.new result }
+    ensures row { Moves (row (place_at parts.old at.Between) token) parts.new result }
     ensures sound { Leads parts.old parts.new result }
 {
     if parts.clauses.whole_len() == 0 {
@@ -136,7 +136,7 @@ fn take_list_start(parts: &mut Parts, token: Token) -> Next
 #[inline(always)]
 fn take_at(here: At, parts: &mut Parts, token: Token) -> Next
     requires sound { IsSound here parts.old }
-    ensures row { Moves (row (stands parts.old here) token) parts.new result }
+    ensures row { Moves (row (place_at parts.old here) token) parts.new result }
     ensures sound { Leads parts.old parts.new result }
 {
     match here {
@@ -174,8 +174,8 @@ type Reached = (At, Result<Cursor, AllocError>);
 fn take_clause(parts: &mut Parts, bytes: &[u8], from: Cursor) -> Reached
     requires within { from.at ≤ length bytes.now }
     requires sound { IsSound at.Clause parts.old }
-    ensures passes { IfOk result.1 (λ to. Passes
-        (LeadOn row (stands parts.old at.Clause) (stands parts.new result.0)) bytes.now from to) }
+    ensures passes { IfOk result.1 (λ to. Passes (LeadOn row (place_at parts.old at.Clause)
+        (place_at parts.new result.0)) bytes.now from to) }
     ensures sound { IsSound result.0 parts.new }
 {
     let mut here = from;
@@ -207,7 +207,7 @@ fn take_numbers(at: At, parts: &mut Parts, bytes: &[u8], from: Cursor) -> Reache
     requires within { from.at ≤ length bytes.now }
     requires sound { IsSound at parts.old }
     ensures passes { IfOk result.1 (λ to. Passes
-        (LeadOn row (stands parts.old at) (stands parts.new result.0)) bytes.now from to) }
+        (LeadOn row (place_at parts.old at) (place_at parts.new result.0)) bytes.now from to) }
     ensures sound { IsSound result.0 parts.new }
 {
     let mut place = at;
@@ -241,12 +241,12 @@ pub(crate) struct FormulaGrammar {
 }
 
 impl Model for FormulaGrammar {
-    ghost use Rattle.qdimacs.specs.Places.{stands, IsSound};
+    ghost use Rattle.qdimacs.specs.Places.{place_at, IsSound};
     ghost use Rattle.qdimacs.specs.Reading.{Place};
 
     ghost Value = { Place };
 
-    ghost view = { λ g. stands g.parts g.at };
+    ghost view = { λ g. place_at g.parts g.at };
 
     ghost invariant = { λ g. IsSound g.at g.parts };
 }

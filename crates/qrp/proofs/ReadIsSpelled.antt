@@ -1,7 +1,7 @@
 -- What is read is spelled, and a fault that is found stands.
 use Rattle.qrp.proofs.Words.{common_steps, rules, ◌≡◌, ℕ, ◌≤◌, ◌+◌, List, [], ◌∷◌, ◌++◌, ◌⊎◌, inl, inr, length, Ok, Err, refl, sym, ◌∙◌}
 use Rattle.qrp.proofs.Words.{false, arith, append_assoc, append-nil, map-append, length-append, AllByRecursion, Quantifier, Literal, Block}
-use Rattle.qrp.proofs.Words.{IsVariable, AllByRecursion-push, Token, Lined, unlined, number, letter, set, EndsOnce, push_distinct}
+use Rattle.qrp.proofs.Words.{IsVariable, AllByRecursion-push, Token, Lined, without_lines, number, letter, set, EndsOnce, push_distinct}
 use Rattle.qrp.proofs.Words.{flat_map-push, Header, Outcome, Inference, IsInference, IsNumber, numbers, Derivation, step, result_word}
 use Rattle.qrp.proofs.Words.{lists, ReadsAsRead, explained, is_used}
 use Rattle.qbf_spelling.proofs.Words.{IsDistinct}
@@ -125,23 +125,23 @@ goes ts (InAnts ns n ls ants) next t s e = elim (antecedents_go ns n ls ants t n
 
 -- ---- the whole
 
-whole_trace : (before : List Lined) (t : Lined) (ts : List Lined) (ns : List ℕ) (o : Outcome) → Spells (unlined before) (AtResult ns)
+whole_trace : (before : List Lined) (t : Lined) (ts : List Lined) (ns : List ℕ) (o : Outcome) → Spells (without_lines before) (AtResult ns)
     → t.0 ≡ result_word o → (d : Derivation) × Reads (before ++ t ∷ ts) (Ok d)
 whole_trace before t ts ns o a is = (
   record { header = a.header; sets = a.sets; steps = a.steps; result = o },
   record {
-    rest = unlined ts;
-    spelled = map-append (λ u. u.0) before (t ∷ ts) ∙ (λ i. a.spelled i ++ is i ∷ unlined ts) ∙ simp append_assoc;
+    rest = without_lines ts;
+    spelled = map-append (λ u. u.0) before (t ∷ ts) ∙ (λ i. a.spelled i ++ is i ∷ without_lines ts) ∙ simp append_assoc;
     grammatical = a.grammatical;
   },
 )
 
-answer : (before : List Lined) (p : Place) (t : Lined) (ts : List Lined) → Spells (unlined before) p → EndsOnce (t ∷ ts)
+answer : (before : List Lined) (p : Place) (t : Lined) (ts : List Lined) → Spells (without_lines before) p → EndsOnce (t ∷ ts)
     → Answers Spells Reads before t ts
 answer before p t ts s once = by (row p t.0) refl
   where
     on : (next : Place) → IsTo (row p t.0) next → Answers Spells Reads before t ts
-    on next e = inr ((λ end. (rw (end, end_row p) at e)), next, goes (unlined before) p next t.0 s e)
+    on next e = inr ((λ end. (rw (end, end_row p) at e)), next, goes (without_lines before) p next t.0 s e)
 
     by : (r : Row) → row p t.0 ≡ r → Answers Spells Reads before t ts
     by (Goes next) is = on next (rw is refl)

@@ -9,13 +9,13 @@ use Rattle.qbf_text.specs.declared.grammar.ReadError.TheVariants as error
 use Rattle.qbf_text.specs.Rows as rows
 use Rattle.qbf_text.proofs.Stops.{begins_more, begins_skipped, regroup, known_skips, if_known}
 use Rattle.qrp.specs.declared.item.Item.TheVariants as item
-use Rattle.qrp.specs.Reading.{Fault, Place, AtP, Between, After, row, items_from, gathered, nothing, read_trace}
+use Rattle.qrp.specs.Reading.{Fault, Place, AtP, Between, After, row, items_from, with_items, nothing, read_trace}
 use Rattle.qrp.proofs.ItemStops.{known_stops, item_stops}
 use Rattle.qrp.proofs.RowsReadTheItem.{gives, given_of}
 
 -- what is made of tokens from a place on, after a trace that was made of those before
 abbrev pub made_from : Derivation → Place → List Lined → Result Derivation Fault
-made_from d p ts = gathered d (items_from p ts)
+made_from d p ts = with_items d (items_from p ts)
 
 -- what was to be read of a text is what is still to be read at this place, after this trace was made
 pub record IsSoFar (whole : Option (List ℕ)) (d : Derivation) (p : Place) (s : Reading) (remaining : Option (List ℕ)) : Type 0 where
@@ -29,25 +29,25 @@ nothing_so_far s begins none next given = record { leads = grind (arith, common_
 module _ (d : Derivation) (p next : Place) where
   item_made : (i : Item) (ns : List ℕ) (ts us : List Lined) → is_last (Ok i) ≡ false → next ≡ After i ns
       → read_from row p ts ≡ rows.Whole tt next us → made_from d p ts ≡ made_from (with_item d i) (Between ns) us
-  unfolding gathered
+  unfolding with_items
   item_made i ns ts us more is e = grind (arith, common_steps, gives)
 
   result_made : (o : Outcome) (ns : List ℕ) (ts us : List Lined) → next ≡ After (item.Result o) ns
       → read_from row p ts ≡ rows.Whole tt next us → made_from d p ts ≡ Ok (record d { result = o })
-  unfolding gathered
-  result_made o ns ts us is e = ap (gathered d) (gives ts p ∙ ap given_of (rw is at e))
+  unfolding with_items
+  result_made o ns ts us is e = ap (with_items d) (gives ts p ∙ ap given_of (rw is at e))
 
   fault_read : (whole : Option (Result Derivation Fault)) (known : Known) (f : TraceFault) (line : ℕ)
       → Leads whole (option_map (made_from d p) known) → IfSome (reads_from row p known) (λ r. r ≡ rows.Fault f line)
       → IfSome whole (λ r. r ≡ Err (f, line))
-  unfolding gathered
+  unfolding with_items
   fault_read whole known f line so_far h = grind (arith, common_steps, gives)
 
 -- the bytes held are those after the result word
 result_after : (d : Derivation) (p : Place) (o : Outcome) (here : List ℕ → List Lined) (bytes old held rest : List ℕ)
     → Skips read_trace (λ l. made_from d p (here l)) bytes old → StopsAfterPart p here (item.Result o) old (held ++ rest)
     → length held ≤ 4096 → StopsAfterResult (record d { result = o }) bytes rest
-unfolding gathered
+unfolding with_items
 result_after d p o here bytes old held rest t s few =
     let front = s.before ++ s.word ++ s.separator in
     let same = regroup t.skipped s.before s.word s.separator in
@@ -67,13 +67,13 @@ result_after d p o here bytes old held rest t s few =
       few = few;
       missing = (
         s.missing.0,
-        t.spelled s.before (rw s.consumed (begins_skipped s.before s.word s.separator (held ++ rest))) ∙ ap (gathered d) s.missing.1,
+        t.spelled s.before (rw s.consumed (begins_skipped s.before s.word s.separator (held ++ rest))) ∙ ap (with_items d) s.missing.1,
       );
       whole =
           ap read_trace (same ∙ ap (λ l. t.skipped ++ l) (sym (append-nil front)))
           ∙ t.spelled (front ++ []) (rw s.consumed (begins_more front (held ++ rest) [] tt))
           ∙ ap (λ l. made_from d p (here l)) (append-nil front)
-          ∙ ap (gathered d) s.whole.1;
+          ∙ ap (with_items d) s.whole.1;
     }
 
 module _ {whole remaining : Option (List ℕ)} {d : Derivation} {p : Place} {r : Reading} (so_far : IsSoFar whole d p r remaining)

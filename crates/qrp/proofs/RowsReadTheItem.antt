@@ -6,12 +6,12 @@ use Rattle.qrp.proofs.Words.{AtLists, Giver, Stands, GivesItem, fault_of}
 use Rattle.qbf_spelling.proofs.Words.{read_from}
 use Rattle.qbf_text.specs.Rows as rows
 use Rattle.qbf_text.proofs.OneToken as going
-use Rattle.qrp.specs.Reading.{Place, After, row, items_from, next_place, given}
+use Rattle.qrp.specs.Reading.{Place, After, row, items_from, next_place, item_and_more}
 use Rattle.qrp.proofs.SpelledIsRead.{Answer, after, items-one, end_row}
 
 -- the items that are left to give where reading by rows answers this
 abbrev pub given_of : Read Place (Unit {0}) TraceFault → List Answer
-given_of (rows.Whole u next rest) = given next (items_from (next_place next) rest)
+given_of (rows.Whole u next rest) = item_and_more next (items_from (next_place next) rest)
 given_of (rows.Fault f line) = Err (f, line) ∷ []
 given_of Cut = Err (P7, 0) ∷ []
 

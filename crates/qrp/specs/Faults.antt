@@ -16,7 +16,7 @@ use Rattle.qrp.specs.Grammar.{lists, IsTrace}
 use Rattle.qrp.specs.Reading.{Fault, Place, InHeader, Between, InSet, InLits, InAnts, AtResult, After, row}
 use Rattle.step_index.specs.Numbers.{is_used}
 
--- whole sets and whole steps with these numbers, before the tokens of a list that is begun
+-- whole sets and whole steps with these numbers, before the tokens of an unfinished list
 pub record AreLists (ts begun : List Token) (ns : List ℕ) : Type 0 where
   pub header : Header
   pub sets : List Block

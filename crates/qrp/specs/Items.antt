@@ -11,7 +11,7 @@ use Rattle.qrp.specs.declared.item.Item.TheVariants as item
 use Rattle.qrp.specs.declared.item.Outcome.{Outcome}
 use Rattle.qrp.specs.declared.reader.Stage.{Stage}
 use Rattle.qrp.specs.declared.reader.Stage.TheVariants.{AtHeader, AtLists, HasResult, HasFault}
-use Rattle.qrp.specs.Flat.{Kept, made, with_item}
+use Rattle.qrp.specs.Flat.{Kept, trace_of, with_item}
 use Rattle.qrp.specs.Given.{KnownItems, known_items, left_after, is_last, numbers_with, stage_after, GivesNextItem, IsProper, StandsOnLine}
 use Rattle.qrp.specs.Given.{StopsAfterPart}
 use Rattle.qrp.specs.Reading.{Fault, Place, AtP, Between, After}
@@ -37,7 +37,7 @@ pub record GivesPart (i : Item) (old new : Giver) : Type 0 where
 -- the item that was complete was kept after the others, or it is the result
 abbrev pub Keeps : Giver → Giver → Option Outcome → Type 0
 Keeps old new None = (i : Item) × (is_last (Ok i) ≡ false) × (old.place ≡ After i new.kept.numbers)
-    × (made new.kept ≡ with_item (made old.kept) i) × (new.place ≡ Between new.kept.numbers)
+    × (trace_of new.kept ≡ with_item (trace_of old.kept) i) × (new.place ≡ Between new.kept.numbers)
 Keeps old new (Some o) = (old.place ≡ After (item.Result o) old.kept.numbers) × (new.kept ≡ old.kept)
 
 -- a reader that is so far takes a token here

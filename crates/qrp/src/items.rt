@@ -29,12 +29,12 @@ pub struct ItemGrammar {
 impl Model for ItemGrammar {
     ghost use Rattle.qrp.specs.Flat.{kept_of};
     ghost use Rattle.qrp.specs.Items.{Giver};
-    ghost use Rattle.qrp.specs.Places.{place, IsSound};
+    ghost use Rattle.qrp.specs.Places.{place_at, IsSound};
 
     ghost Value = { Giver };
 
     ghost view = { λ g.
-        record { kept = kept_of g.parts; place = place g.parts.partial g.at } };
+        record { kept = kept_of g.parts; place = place_at g.parts.partial g.at } };
 
     ghost invariant = { λ g. IsSound g.at g.parts.partial };
 }
@@ -69,8 +69,8 @@ impl ItemGrammar {
             }
             At::ItemComplete(Part::Step(number)) => {
                 let partial = &mut self.parts.partial;
-                let lits = Vec::from_slice(alloc, partial.lits.begun())?;
-                let ants = Vec::from_slice(alloc, partial.ants.begun())?;
+                let lits = Vec::from_slice(alloc, partial.lits.unfinished())?;
+                let ants = Vec::from_slice(alloc, partial.ants.unfinished())?;
                 partial.index.push(number)?;
                 Item::Step(Step { number, lits, ants })
             }

@@ -3,7 +3,7 @@
 ghost use Rattle.std.specs.Prelude.{◌≡◌};
 ghost use Rattle.qrp.specs.declared.places.At.TheVariants as at;
 ghost use Rattle.qrp.specs.declared.places.Partial.{Partial};
-ghost use Rattle.qrp.specs.Places.{place, Moves, Leads, IsSound};
+ghost use Rattle.qrp.specs.Places.{place_at, Moves, Leads, IsSound};
 ghost use Rattle.qrp.specs.Reading.{has_room, row};
 
 use crate::fault::TraceFault;
@@ -49,7 +49,7 @@ pub enum Part {
 /// The place that a token leads to, or why it is not taken.
 type Next = Result<At, Stop<TraceFault>>;
 
-/// The lists that are begun, and the numbers of the steps that are whole.
+/// The unfinished lists, and the numbers of the steps that are whole.
 #[derive(Drop)]
 pub struct Partial {
     /// The place in the header.
@@ -69,7 +69,7 @@ pub struct Partial {
 /// Takes a token between lists.
 #[inline(always)]
 pub fn take_item_start(partial: &mut Partial, token: Token) -> Next
-    ensures row { Moves (row (place partial.old at.Between) token) partial.new result }
+    ensures row { Moves (row (place_at partial.old at.Between) token) partial.new result }
     ensures sound { Leads at.Between partial.old partial.new result }
 {
     match decode_item_start(partial.index.len() != 0, token)? {
@@ -94,7 +94,7 @@ pub fn take_item_start(partial: &mut Partial, token: Token) -> Next
 #[inline(always)]
 fn take_literal(partial: &mut Partial, number: u64, token: Token) -> Next
     requires sound { IsSound (at.Lits number) partial.old }
-    ensures row { Moves (row (place partial.old (at.Lits number)) token) partial.new result }
+    ensures row { Moves (row (place_at partial.old (at.Lits number)) token) partial.new result }
     ensures sound { Leads (at.Lits number) partial.old partial.new result }
 {
     match literal(FAULTS, LAST_VARIABLE, token)? {
@@ -112,16 +112,16 @@ fn take_literal(partial: &mut Partial, number: u64, token: Token) -> Next
 /// Whether another antecedent may come.
 #[inline(always)]
 pub fn has_room(ants: &GrowingLists<u64>) -> bool
-    ensures says { result ≡ has_room ants.now.begun }
+    ensures says { result ≡ has_room ants.now.unfinished }
 {
-    ants.begun_len() < 2
+    ants.unfinished_len() < 2
 }
 
 /// Takes a token in the antecedents of a step.
 #[inline(always)]
 fn take_antecedent(partial: &mut Partial, number: u64, token: Token) -> Next
     requires sound { IsSound (at.Ants number) partial.old }
-    ensures row { Moves (row (place partial.old (at.Ants number)) token) partial.new result }
+    ensures row { Moves (row (place_at partial.old (at.Ants number)) token) partial.new result }
     ensures sound { Leads (at.Ants number) partial.old partial.new result }
 {
     let room = has_room(&partial.ants);
@@ -140,7 +140,7 @@ fn take_antecedent(partial: &mut Partial, number: u64, token: Token) -> Next
 #[inline(always)]
 pub fn take_at(here: At, partial: &mut Partial, token: Token) -> Next
     requires sound { IsSound here partial.old }
-    ensures row { Moves (row (place partial.old here) token) partial.new result }
+    ensures row { Moves (row (place_at partial.old here) token) partial.new result }
     ensures sound { Leads here partial.old partial.new result }
 {
     match here {

@@ -1,9 +1,9 @@
-use Rattle.qdimacs.proofs.Words.{◌-◌, ◌≤◌, length, LeadOn, Passes, stands, IsSound, row}
+use Rattle.qdimacs.proofs.Words.{◌-◌, ◌≤◌, length, LeadOn, Passes, place_at, IsSound, row}
 use Rattle.qdimacs.proofs.grammar.take_numbers.Given as goal
 
 abbrev pub invariant-numbers : goal.invariant-numbers
 invariant-numbers l = record {
-  passes : Passes (LeadOn row (stands l.fn.parts l.fn.at) (stands l.parts l.place)) l.bytes l.fn.from l.here;
+  passes : Passes (LeadOn row (place_at l.fn.parts l.fn.at) (place_at l.parts l.place)) l.bytes l.fn.from l.here;
   sound : IsSound l.place l.parts;
   within : l.here.at ≤ length l.bytes;
 }

@@ -1,4 +1,4 @@
-use Rattle.qrp.proofs.Words.{Ok, Err, P9, refl, ◌∙◌, ap, Kept, made, with_item}
+use Rattle.qrp.proofs.Words.{Ok, Err, P9, refl, ◌∙◌, ap, Kept, trace_of, with_item}
 use Rattle.qrp.specs.declared.item.Item.TheVariants as item
 use Rattle.qrp.proofs.ReadingLaws.{given_answers}
 use Rattle.qrp.proofs.ReadItemByItem.{nothing_so_far, item_so_far, result_given, result_stops, fault_given}
@@ -30,7 +30,7 @@ pub returns-in-Ok-Some-clause-exact : goal.returns-in-Ok-Some-clause-exact
 returns-in-Ok-Some-clause-exact g c =
     let h = c.in-Ok.ensures in
     let keeps = rw c.in-Ok-Some.field-0-is at c.in-Ok-Some.ensures.keeps in
-    let same = c.whole.ensures ∙ ap (λ (k : Kept). with_item (made k) (item.Result c.in-Ok-Some.outcome))
+    let same = c.whole.ensures ∙ ap (λ (k : Kept). with_item (trace_of k) (item.Result c.in-Ok-Some.outcome))
     (c.into_parts.ensures ∙ keeps.1 ∙ h.kept) in
     rw same (result_given c.items.invariant.so_far c.read_by.new.grammar.place c.read_by.new.scanner
     (g.S.Source.remaining c.read_by.new.source) c.in-Ok-Some.outcome _ keeps.0 h.reads)
@@ -42,7 +42,7 @@ pub returns-in-Ok-Some-clause-stops : goal.returns-in-Ok-Some-clause-stops
 returns-in-Ok-Some-clause-stops g c =
     let h = c.in-Ok.ensures in
     let keeps = rw c.in-Ok-Some.field-0-is at c.in-Ok-Some.ensures.keeps in
-    let same = c.whole.ensures ∙ ap (λ (k : Kept). with_item (made k) (item.Result c.in-Ok-Some.outcome))
+    let same = c.whole.ensures ∙ ap (λ (k : Kept). with_item (trace_of k) (item.Result c.in-Ok-Some.outcome))
     (c.into_parts.ensures ∙ keeps.1 ∙ h.kept) in
     rw same (result_stops c.items.invariant.so_far c.read_by.new.grammar.place c.read_by.new.scanner
     (g.S.Source.remaining c.read_by.new.source) c.in-Ok-Some.outcome _ keeps.0 h.stops)
