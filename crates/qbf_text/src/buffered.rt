@@ -144,7 +144,6 @@ pub struct Passed {
 }
 
 impl Cursor {
-    ghost use Rattle.std.specs.Prelude.{List, ℕ, drop};
     ghost use Rattle.qbf_text.specs.Passing.{cursor_after, one_if, is_begun};
     ghost use Rattle.qbf_text.specs.declared.token.Token.TheVariants.{Number};
 

@@ -1,13 +1,12 @@
 //! Texts as tokens with their lines, read from a source.
 
-ghost use Rattle.std.specs.Prelude.{Option, ◌≡◌, ℕ, ◌+◌, ◌-◌, ◌^◌, ◌<◌, ◌≤◌, Some, List, [], ◌∷◌};
+ghost use Rattle.std.specs.Prelude.{Option, ◌≡◌, ℕ, ◌+◌, ◌-◌, ◌^◌, ◌<◌, ◌≤◌, Some, List, []};
 ghost use Rattle.std.specs.Prelude.{length, drop, IfSome, IfNone, false, true, IsOk, IsErr, IfOk};
 ghost use Rattle.std.specs.Prelude.{OnOk, OnErr};
-ghost use Rattle.std.specs.Io.KnownBytes.{Consumes, IsAtEnd};
+ghost use Rattle.std.specs.Io.KnownBytes.{Consumes};
 ghost use Rattle.qbf_text.specs.Ahead.{ahead, first_of};
-ghost use Rattle.qbf_text.specs.Pulling.{HasPulled};
-ghost use Rattle.qbf_text.specs.Tokens.{kind};
-ghost use Rattle.qbf_text.specs.Left.{is_separator, IsUnbroken, IsWithinLine, EndsRun, EndsLine};
+ghost use Rattle.qbf_text.specs.Pulling.{HasPulled, ReadsRun};
+ghost use Rattle.qbf_text.specs.Left.{is_separator, IsWithinLine, EndsLine};
 ghost use Rattle.qbf_text.specs.Left.{is_end};
 
 use crate::buffered::Cursor;
@@ -43,11 +42,8 @@ fn read_as<R: Run, S: Source>(
     source: &mut S,
 ) -> Result<Token, SourceFault>
     requires { R.begins first }
-    ensures run { IfOk result
-        (λ token. (more : List ℕ) × (token ≡ kind (first ∷ more)) × IsUnbroken more
-        × Consumes (ahead window.old (S.remaining source.old))
-        (ahead window.new (S.remaining source.new)) more) }
-    ensures end { OnOk result (IfSome (ahead window.new (S.remaining source.new)) EndsRun) }
+    ensures run { IfOk result (ReadsRun first (ahead window.old (S.remaining source.old))
+        (ahead window.new (S.remaining source.new))) }
     ensures pulled { HasPulled S.bound S.failures window.old window.new
         source.old source.new result }
 {
@@ -64,11 +60,8 @@ fn read_as<R: Run, S: Source>(
 
 /// The same, for any first byte.
 fn read_run<S: Source>(first: u8, window: &mut Window, source: &mut S) -> Result<Token, SourceFault>
-    ensures run { IfOk result
-        (λ token. (more : List ℕ) × (token ≡ kind (first ∷ more)) × IsUnbroken more
-        × Consumes (ahead window.old (S.remaining source.old))
-        (ahead window.new (S.remaining source.new)) more) }
-    ensures end { OnOk result (IfSome (ahead window.new (S.remaining source.new)) EndsRun) }
+    ensures run { IfOk result (ReadsRun first (ahead window.old (S.remaining source.old))
+        (ahead window.new (S.remaining source.new))) }
     ensures pulled { HasPulled S.bound S.failures window.old window.new
         source.old source.new result }
 {

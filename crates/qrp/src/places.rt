@@ -67,6 +67,9 @@ pub struct Partial {
 // ---- between lists
 
 /// Takes a token between lists.
+///
+/// # Errors
+/// The fault that the token is there.
 #[inline(always)]
 pub fn take_item_start(partial: &mut Partial, token: Token) -> Next
     ensures row { Moves (row (place_at partial.old at.Between) token) partial.new result }
@@ -137,6 +140,9 @@ fn take_antecedent(partial: &mut Partial, number: u64, token: Token) -> Next
 // ---- the whole
 
 /// The place that a token leads to. Whole lists and the numbers of whole steps stay as they are.
+///
+/// # Errors
+/// Out of memory, or the fault that the token is there.
 #[inline(always)]
 pub fn take_at(here: At, partial: &mut Partial, token: Token) -> Next
     requires sound { IsSound here partial.old }

@@ -37,18 +37,16 @@ returns-in-Ok-Done-clause-reads g c =
     let row = g.G.Grammar.row_of in
     let at_hand = g.S.Source.remaining c.tokens.source in
     let none = rw c.in-None.is at c.in_ok-handed.ensures.reads at_hand in
-    let whole = reads_from row (g.G.Grammar.place c.args.grammar.now) (left c.args.scanner.now (g.S.Source.remaining c.args.source.now)) in
-    let so_far = leads_then whole _ _ c.tokens.invariant.so_far none.1 in
-    ends row _ _ _ whole _ _ _ so_far c.in_ok-token.ensures.token (rw c.in-Ok-Done.field-0-is at c.in-Ok-Done.ensures.row)
+    let so_far = leads_then _ _ _ c.tokens.invariant.so_far none.1 in
+    ends row _ _ _ _ _ _ _ so_far c.in_ok-token.ensures.token (rw c.in-Ok-Done.field-0-is at c.in-Ok-Done.ensures.row)
 
 pub returns-in-Err-Text-clause-reads : goal.returns-in-Err-Text-clause-reads
 returns-in-Err-Text-clause-reads g c =
     let row = g.G.Grammar.row_of in
     let at_hand = g.S.Source.remaining c.tokens.source in
     let none = rw c.in-None.is at c.in_ok-handed.ensures.reads at_hand in
-    let whole = reads_from row (g.G.Grammar.place c.args.grammar.now) (left c.args.scanner.now (g.S.Source.remaining c.args.source.now)) in
-    let so_far = leads_then whole _ _ c.tokens.invariant.so_far none.1 in
-    stops row _ _ whole _ _ (c.in_ok-token.token, c.in_ok-token.line) so_far c.in_ok-token.ensures.token
+    let so_far = leads_then _ _ _ c.tokens.invariant.so_far none.1 in
+    stops row _ _ _ _ _ (c.in_ok-token.token, c.in_ok-token.line) so_far c.in_ok-token.ensures.token
     (rw c.in-Err-Text.field-0-is at c.in-Err-Text.ensures.row)
 
 pub returns-in-Ok-Done-clause-stops : goal.returns-in-Ok-Done-clause-stops
