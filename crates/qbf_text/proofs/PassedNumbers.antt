@@ -260,3 +260,10 @@ handed row first next (Some a) r likely to open_ few p remaining = record {
   less = omega (arith, length-drop to.at r.pending, p.passes.further, p.passes.within);
   few = few;
 }
+
+-- what holds in a loop that takes numbers at hand, which lead from one place of the text to another, and with what it keeps of them
+pub record TakesNumbers {P A F : Type 0} (row : P → Token → Row P A F) (first next : P) (Sound : Type 0) (bytes : List ℕ) (from to : Cursor)
+    : Type 0 where
+  pub passes : Passes (LeadOn row first next) bytes from to
+  pub sound : Sound
+  pub within : to.at ≤ length bytes

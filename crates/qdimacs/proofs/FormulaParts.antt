@@ -1,8 +1,7 @@
 -- What the parts of a formula make, and where clauses in the bytes at hand lead to.
 use Rattle.qdimacs.proofs.Words.{arith, common_steps, passes_none, passes_on, passes_further, ◌≡◌, Bool, false, Option, None, Result, Ok}
 use Rattle.qdimacs.proofs.Words.{Quantifier, Literal, Token, pairs, Ends, blocks_of-pairs, is_end, Goes, FormulaFault, At, Parts, formula_of}
-use Rattle.qdimacs.proofs.Words.{heading, place_at, row_to, IsMade, IsSound, Place, Whole, between_row, row, ◌≤◌, ℕ, List, length, LeadOn, Passes}
-use Rattle.qbf_text.specs.declared.buffered.Cursor.{Cursor}
+use Rattle.qdimacs.proofs.Words.{heading, place_at, row_to, IsMade, Place, Whole, between_row, row}
 
 -- after the last clause the end makes the formula
 pub made_whole : (p : Parts) → IsMade p → (set : Option Quantifier) (mark : Result Bool FormulaFault)
@@ -14,12 +13,6 @@ made_whole p m set mark first none ends = grind (arith, common_steps, blocks_of-
 pub leads_on : (place : Place) (p : Parts) (next : At) (t : Token) → is_end t ≡ false → row place t ≡ row_to p next
     → row place t ≡ Goes (place_at p next)
 leads_on place p next t open_ e = grind (arith, common_steps)
-
--- what holds in a loop that takes numbers at hand, from one place to another
-pub record TakesNumbers (first here : At) (old new : Parts) (bytes : List ℕ) (from to : Cursor) : Type 0 where
-  pub passes : Passes (LeadOn row (place_at old first) (place_at new here)) bytes from to
-  pub sound : IsSound here new
-  pub within : to.at ≤ length bytes
 
 -- one number more at hand
 pub ruleset numbers_lead_on = (leads_on, passes_none, passes_on, passes_further)

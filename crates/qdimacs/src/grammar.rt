@@ -51,8 +51,6 @@ struct Parts {
     clauses: GrowingLists<Lit>,
 }
 
-// ---- the header
-
 /// Whether a prefix binds each variable up to this one.
 fn is_full(prefix: &Prefix, max_var: u32) -> bool
     requires top { AllByRecursion (λ v. v ≤ max_var) (variables (pairs prefix.now)) }
@@ -61,8 +59,6 @@ fn is_full(prefix: &Prefix, max_var: u32) -> bool
 {
     prefix.len() == max_var as usize
 }
-
-// ---- a set
 
 /// Takes a token in a set.
 fn take_member(parts: &mut Parts, quantifier: Quantifier, token: Token) -> Next
@@ -86,8 +82,6 @@ fn take_member(parts: &mut Parts, quantifier: Quantifier, token: Token) -> Next
     }
 }
 
-// ---- a clause
-
 /// Takes a token in a clause.
 #[inline(always)]
 fn take_literal(parts: &mut Parts, token: Token) -> Next
@@ -108,8 +102,6 @@ fn take_literal(parts: &mut Parts, token: Token) -> Next
     }
 }
 
-// ---- between lists
-
 /// Takes a token between lists.
 #[inline(always)]
 #[tactic(auto, using(crate::proofs::FormulaParts::made_whole))]
@@ -129,8 +121,6 @@ fn take_list_start(parts: &mut Parts, token: Token) -> Next
         false => Ok(At::Whole),
     }
 }
-
-// ---- the whole
 
 /// The place that a token leads to.
 #[inline(always)]

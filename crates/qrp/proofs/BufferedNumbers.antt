@@ -1,8 +1,6 @@
 -- Where numbers among the bytes at hand lead to.
 use Rattle.qrp.proofs.Words.{passes_none, passes_on, passes_further, passes_all, ◌≡◌, ℕ, List, [], ◌∷◌, ◌++◌, Some, Ok, ap, sym, Literal}
-use Rattle.qrp.proofs.Words.{◌≤◌, length, Token, LeadOn, Passes, place_at, IsSound, Stays}
-use Rattle.qrp.specs.declared.places.At.{At}
-use Rattle.qrp.specs.declared.places.Partial.{Partial}
+use Rattle.qrp.proofs.Words.{Token, LeadOn, Passes}
 use Rattle.qbf_text.specs.declared.buffered.Cursor.{Cursor}
 use Rattle.qbf_text.specs.Passing.{PassesNumber}
 use Rattle.qbf_spelling.specs.Decode.{literal_in}
@@ -23,11 +21,5 @@ module _ (first : Place) (bytes : List ℕ) (from to here : Cursor) (t : Token) 
   antecedent_more ants a says =
       passes_on row first (InAnts ns n ls ants) (InAnts ns n ls (ants ++ a ∷ [])) bytes from to here t
       (ap (λ o. ants_row ns n ls ants o) (sym says))
-
--- what holds in a loop that takes numbers of a step, which stays at one place
-pub record TakesNumbers (here : At) (old new : Partial) (bytes : List ℕ) (from to : Cursor) : Type 0 where
-  pub passes : Passes (LeadOn row (place_at old here) (place_at new here)) bytes from to
-  pub sound : Stays old new × IsSound here new
-  pub within : to.at ≤ length bytes
 
 pub ruleset numbers_lead_on = (passes_none, passes_on, passes_further, passes_all)

@@ -1,7 +1,7 @@
 -- Reading an item stops after its last word.
 use Rattle.qrp.proofs.Words.{rules, ◌≡◌, ℕ, List, [], ◌∷◌, ◌++◌, Option, Ok, ◌⊎◌, refl, sym, ap, append-nil, ◌∙◌}
 use Rattle.qrp.proofs.Words.{Lined, IfKnown, Stops, Item, Stage, AtHeader, AtLists, StopsAfterPart, place_next, Giver}
-use Rattle.qrp.proofs.Words.{Stands, StopsAfter}
+use Rattle.qrp.proofs.Words.{Stands}
 use Rattle.qbf_text.specs.Rows as rows
 use Rattle.qbf_text.specs.Stopping as text
 use Rattle.qbf_text.proofs.Stops.{if_known, taken_no_end, unread_fault}
@@ -43,8 +43,6 @@ module _ (p next : Place) (here there : List ℕ → List Lined) (before after :
   pub item_stops : (i : Item) (ns : List ℕ) → next ≡ After i ns → IfKnown (StopsAfterPart p here i) before after × few
   item_stops i ns is = (if_known (part_after p here there i ns) before after (rw is at known_stops.0), known_stops.1)
 
--- a reader that is not done
-pub next_stops : (stage : Stage) (g : Giver) (here : List ℕ → List Lined) (before after : Option (List ℕ)) (few : Type 0) (answer : Answer)
-    → (stage ≡ AtHeader) ⊎ (stage ≡ AtLists) → Stands stage g → StopsAfter g.place here before after few answer
-    → StopsAfter (place_next stage g.kept.numbers) here before after few answer
-next_stops stage g here before after few answer open_ stands h = search rules
+-- where the next token stands, of a reader that is not done
+pub stands_next : (stage : Stage) (g : Giver) → (stage ≡ AtHeader) ⊎ (stage ≡ AtLists) → Stands stage g → g.place ≡ place_next stage g.kept.numbers
+stands_next stage g open_ stands = search rules

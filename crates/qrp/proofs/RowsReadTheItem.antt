@@ -1,8 +1,8 @@
 -- What is read by the rows of the items is the next item.
 use Rattle.qrp.proofs.Words.{arith, common_steps, rules, ◌≡◌, ℕ, List, [], ◌∷◌, Some, Ok, Err, ◌⊎◌, refl, ap, sym, ◌∙◌, Token}
 use Rattle.qrp.proofs.Words.{Lined, Read, read-one, ReadError, Known, Cut, reads_from, Leaves, Reads, TraceFault, P1, P7, P9, Item}
-use Rattle.qrp.proofs.Words.{known_items, GivesAnswer, GivesUnless, GivesNextItem, left_after, stage_after, Stage, AtHeader}
-use Rattle.qrp.proofs.Words.{AtLists, Giver, Stands, GivesItem, fault_of}
+use Rattle.qrp.proofs.Words.{known_items, GivesUnless, GivesNextItem, left_after, stage_after, Stage, AtHeader}
+use Rattle.qrp.proofs.Words.{AtLists, Giver, Stands, fault_of}
 use Rattle.qbf_spelling.proofs.Words.{read_from}
 use Rattle.qbf_text.specs.Rows as rows
 use Rattle.qbf_text.proofs.OneToken as going
@@ -33,7 +33,7 @@ gives (t ∷ ts) = λ p. items-one p t ts ∙ by_token t.0 t.1 ts (gives ts) p �
 
 pub item_given : (p : Place) (known : Known) (next : Place) (rest : Known) (i : Item) (ns : List ℕ)
     → Leaves (reads_from row p known) tt next rest → next ≡ After i ns
-    → GivesAnswer (known_items p known) (left_after (stage_after (Ok i)) ns rest) (Ok i)
+    → GivesNextItem (known_items p known) (left_after (stage_after (Ok i)) ns rest) (Ok i)
 item_given p known next rest i ns leaves is = grind (arith, common_steps, gives)
 
 pub fault_given : (p : Place) (known : Known) (next : Place) (rest : Known) (e : ReadError TraceFault)
@@ -42,7 +42,6 @@ pub fault_given : (p : Place) (known : Known) (next : Place) (rest : Known) (e :
 fault_given p known next rest e h = grind (arith, common_steps, gives)
 
 -- what a reader that is not done has left
-pub next_given : (stage : Stage) (before g : Giver) (known after_ : Known) (answer : Answer) → (stage ≡ AtHeader) ⊎ (stage ≡ AtLists)
-    → Stands stage before → GivesItem (known_items before.place known) g.kept.numbers after_ answer
-    → GivesNextItem (left_after stage before.kept.numbers known) (left_after (stage_after answer) g.kept.numbers after_) answer
-next_given stage before g known after_ answer open_ stands h = search rules
+pub left_next : (stage : Stage) (g : Giver) (known : Known) → (stage ≡ AtHeader) ⊎ (stage ≡ AtLists) → Stands stage g
+    → left_after stage g.kept.numbers known ≡ known_items g.place known
+left_next stage g known open_ stands = search rules

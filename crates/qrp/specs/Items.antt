@@ -1,7 +1,6 @@
 -- The parts of a trace, given one after the other.
 use Rattle.std.specs.Prelude.{◌≡◌, ◌≢◌, ◌<◌, ◌≤◌, Option, Some, None, ◌+◌, ◌-◌, ◌^◌, ℕ, false, List, length, Result}
 use Rattle.std.specs.Prelude.{Ok, IfOk, OnOk, IfErr, ⊤}
-use Rattle.qbf_spelling.specs.Words.{Lined, Known}
 use Rattle.qbf_text.specs.Ahead.{ahead}
 use Rattle.qbf_text.specs.Reading.{Reading, HasFailed, left}
 use Rattle.qbf_text.specs.Stopping.{IfKnown, tokens_next}
@@ -10,9 +9,9 @@ use Rattle.qrp.specs.declared.item.Item.{Item}
 use Rattle.qrp.specs.declared.item.Item.TheVariants as item
 use Rattle.qrp.specs.declared.item.Outcome.{Outcome}
 use Rattle.qrp.specs.declared.reader.Stage.{Stage}
-use Rattle.qrp.specs.declared.reader.Stage.TheVariants.{AtHeader, AtLists, HasResult, HasFault}
+use Rattle.qrp.specs.declared.reader.Stage.TheVariants.{AtHeader, AtLists}
 use Rattle.qrp.specs.Flat.{Kept, trace_of, with_item}
-use Rattle.qrp.specs.Given.{KnownItems, known_items, left_after, is_last, numbers_with, stage_after, GivesNextItem, IsProper, StandsOnLine}
+use Rattle.qrp.specs.Given.{known_items, left_after, is_last, numbers_with, stage_after, GivesNextItem, IsProper, StandsOnLine}
 use Rattle.qrp.specs.Given.{StopsAfterPart}
 use Rattle.qrp.specs.Reading.{Fault, Place, AtP, Between, After}
 
@@ -44,14 +43,9 @@ Keeps old new (Some o) = (old.place ≡ After (item.Result o) old.kept.numbers) 
 abbrev pub Stands : Stage → Giver → Type 0
 Stands AtHeader g = g.place ≡ AtP
 Stands AtLists g = g.place ≡ Between g.kept.numbers
-Stands (HasResult o) g = ⊤
-Stands (HasFault f line) g = ⊤
+Stands done g = ⊤
 
 -- ---- what reading an item returns
-
--- what was left from a place on is the result and what is left now, after steps with these numbers; the last result stays
-abbrev pub GivesItem : KnownItems → List ℕ → Known → Result Item Fault → Type 0
-GivesItem before ns after answer = GivesNextItem before (left_after (stage_after answer) ns after) answer
 
 -- the item is as the grammar asks, its number is after the others, and the next token stands where it is to be taken
 pub record IsItem (old new : Giver) (answer : Result Item Fault) : Type 0 where
@@ -69,13 +63,10 @@ pub record IsDriven (scanner : Reading) (before bound old new : ℕ) (answer : R
   pub lines : IfErr answer (λ e. StandsOnLine e.0 e.1)
   pub works : OnOk answer (new ≡ old)
 
--- what was consumed for an item ends with its last word, and few bytes are held
-abbrev pub StopsAfter : Place → (List ℕ → List Lined) → Option (List ℕ) → Option (List ℕ) → Type 0 → Result Item Fault → Type 0
-StopsAfter p here before after few answer = IfOk answer (λ i. IfKnown (StopsAfterPart p here i) before after × few)
-
 -- an item was read from this place on: what was left is the result and what is left now, and nothing is read past the item but a
 -- separator and what is held
 pub record ReadsItem (place : Place) (ns : List ℕ) (old : Reading) (before : Option (List ℕ)) (new : Reading) (after : Option (List ℕ))
     (answer : Result Item Fault) : Type 0 where
-  pub gives : GivesItem (known_items place (left old before)) ns (left new after) answer
-  pub stops : StopsAfter place (tokens_next old) (ahead old.pending before) (ahead new.pending after) (length new.pending ≤ 4096) answer
+  pub gives : GivesNextItem (known_items place (left old before)) (left_after (stage_after answer) ns (left new after)) answer
+  pub stops : IfOk answer (λ i. IfKnown (StopsAfterPart place (tokens_next old) i) (ahead old.pending before) (ahead new.pending after)
+      × (length new.pending ≤ 4096))

@@ -47,8 +47,6 @@ impl Parts {
     }
 }
 
-// ---- steps
-
 /// Puts the unfinished step after the others.
 ///
 /// # Errors
@@ -81,8 +79,6 @@ fn close_step(partial: &mut Partial, number: u64) -> Result<(), AllocError>
         }
     }
 }
-
-// ---- the whole
 
 /// Puts a part that is complete after the others.
 ///

@@ -64,8 +64,6 @@ pub struct Partial {
     pub index: StepIndex,
 }
 
-// ---- between lists
-
 /// Takes a token between lists.
 ///
 /// # Errors
@@ -90,8 +88,6 @@ pub fn take_item_start(partial: &mut Partial, token: Token) -> Next
         ItemStart::Result => Ok(At::Result),
     }
 }
-
-// ---- a step
 
 /// Takes a token in the literals of a step.
 #[inline(always)]
@@ -136,8 +132,6 @@ fn take_antecedent(partial: &mut Partial, number: u64, token: Token) -> Next
         None => Ok(At::ItemComplete(Part::Step(number))),
     }
 }
-
-// ---- the whole
 
 /// The place that a token leads to. Whole lists and the numbers of whole steps stay as they are.
 ///

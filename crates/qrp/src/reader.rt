@@ -84,9 +84,8 @@ impl Model for TraceReader {
     ghost view = { λ r.
         record { scanner = r.scanner; numbers = r.grammar.kept.numbers; stage = r.stage } };
 
-    ghost invariant = { λ r. Stands r.stage r.grammar
-        × IsInStage r.stage
-        (record { scanner = r.scanner; numbers = r.grammar.kept.numbers; stage = r.stage }) };
+    ghost invariant = { λ r.
+        Stands r.stage r.grammar × IsInStage r.stage r.scanner r.grammar.kept.numbers };
 }
 
 impl TraceReader {

@@ -39,8 +39,6 @@ impl Put for Outcome {
     }
 }
 
-// ---- steps
-
 /// The line of a step.
 #[inline(always)]
 fn put_step<K: Sink>(sink: &mut K, trace: &Trace, position: usize) -> Result<(), SinkFault>
@@ -88,8 +86,6 @@ impl<'a> Put for StepLinesAt<'a> {
         Ok(())
     }
 }
-
-// ---- the whole
 
 /// Writes the canonical text of the trace in the text form of QRP, and does not `finish` the sink.
 /// It takes no memory.
