@@ -20,7 +20,7 @@ split_at (u ∷ ts) (x ∷ xs) t ys e =
     let r = split_at ts xs t ys (cc) in
     (u ∷ r.0, r.1, r.2, ap (λ (k : List Lined). u ∷ k) r.3, (λ i. same i ∷ r.4 i))
 
--- ---- tokens that lead from one place to another
+-- ---- tokens that lead from one state to another
 
 pub data Leads {P A F : Type 0} (row : P → Token → Row P A F) : P → List Token → P → Type 0 where
   Stays : {p : P} → Leads row p [] p

@@ -183,10 +183,10 @@ first_tokens : (r : Reading) (ends : LikelyEnds) (bytes : List ℕ)
     → tokens_next r bytes ≡ tokens_from_cursor r.comments (cursor r ends) bytes
 first_tokens r ends bytes = ap (λ b. tokens_left r.comments b r.line bytes) (sym (begun_counted r.begun))
 
-module _ {P A F : Type 0} (row : P → Token → Row P A F) (first place : P) (r : Reading) (ends : LikelyEnds)
-    (here : Cursor) (p : Passes (LeadOn row first place) r.pending (cursor r ends) here) where
+module _ {P A F : Type 0} (row : P → Token → Row P A F) (first state : P) (r : Reading) (ends : LikelyEnds)
+    (here : Cursor) (p : Passes (LeadOn row first state) r.pending (cursor r ends) here) where
   pub handed_so_far : (remaining : Option (List ℕ))
-      → IfKnown (SoFar row first place (tokens_next r) (tokens_next (scanner_at r here))) (ahead r.pending remaining)
+      → IfKnown (SoFar row first state (tokens_next r) (tokens_next (scanner_at r here))) (ahead r.pending remaining)
       (ahead (drop here.at r.pending) remaining)
   handed_so_far None = tt
   handed_so_far (Some rest) = record {
@@ -199,7 +199,7 @@ module _ {P A F : Type 0} (row : P → Token → Row P A F) (first place : P) (r
 
   known : (remaining : Option (List ℕ))
       → reads_from row first (known_left r.comments r.begun r.line (ahead r.pending remaining))
-      ≡ reads_from row place (known_left r.comments (is_begun here) here.line (ahead (drop here.at r.pending) remaining))
+      ≡ reads_from row state (known_left r.comments (is_begun here) here.line (ahead (drop here.at r.pending) remaining))
   known None = refl
   known (Some rest) = ap (λ x. Some x) (
       ap (λ l. read_from row first (tokens_left r.comments r.begun r.line l))
@@ -210,7 +210,7 @@ module _ {P A F : Type 0} (row : P → Token → Row P A F) (first place : P) (r
       ∙ p.are (tokens_left r.comments (is_begun here) here.line (drop here.at r.pending ++ rest)))
 
   pub handed_leads : IsOpen r → (remaining : Option (List ℕ))
-      → reads_from row first (left r remaining) ≡ reads_from row place (left (scanner_at r here) remaining)
+      → reads_from row first (left r remaining) ≡ reads_from row state (left (scanner_at r here) remaining)
   unfolding left
   handed_leads open_ remaining = rw open_ (known remaining)
 
@@ -261,7 +261,7 @@ handed row first next (Some a) r likely to open_ few p remaining = record {
   few = few;
 }
 
--- what holds in a loop that takes numbers at hand, which lead from one place of the text to another, and with what it keeps of them
+-- what holds in a loop that takes numbers at hand, which lead from one state to another, and with what it keeps of them
 pub record TakesNumbers {P A F : Type 0} (row : P → Token → Row P A F) (first next : P) (Sound : Type 0) (bytes : List ℕ) (from to : Cursor)
     : Type 0 where
   pub passes : Passes (LeadOn row first next) bytes from to

@@ -162,9 +162,9 @@ module _ {P A F : Type 0} (row : P → Token → Row P A F) (first : P) where
   so_far_none here None = tt
   so_far_none here (Some x) = record { front = []; given = []; taken = refl; spelled = λ rest _. refl; leads = λ ts. refl }
 
-  so_far_then : (place next : P) (here mid there : List ℕ → List Lined) (x y z : List ℕ) → SoFar row first place here mid x y
-      → SoFar row place next mid there y z → SoFar row first next here there x z
-  so_far_then place next here mid there x y z s t = record {
+  so_far_then : (state next : P) (here mid there : List ℕ → List Lined) (x y z : List ℕ) → SoFar row first state here mid x y
+      → SoFar row state next mid there y z → SoFar row first next here there x z
+  so_far_then state next here mid there x y z s t = record {
     front = s.front ++ t.front;
     given = s.given ++ t.given;
     taken = s.taken ∙ ap (λ l. s.front ++ l) t.taken ∙ sym (append_assoc s.front t.front z);
@@ -176,14 +176,14 @@ module _ {P A F : Type 0} (row : P → Token → Row P A F) (first : P) where
     leads = λ ts. ap (read_from row first) (append_assoc s.given t.given ts) ∙ s.leads (t.given ++ ts) ∙ t.leads ts;
   }
 
-  pub known_so_far : (place next : P) (here mid there : List ℕ → List Lined) (a b c : Option (List ℕ))
-      → IfKnown (SoFar row first place here mid) a b → IfKnown (SoFar row place next mid there) b c
+  pub known_so_far : (state next : P) (here mid there : List ℕ → List Lined) (a b c : Option (List ℕ))
+      → IfKnown (SoFar row first state here mid) a b → IfKnown (SoFar row state next mid there) b c
       → IfKnown (SoFar row first next here there) a c
-  known_so_far place next here mid there a b c = known_trans _ _ _ (λ x y z. so_far_then place next here mid there x y z) a b c
+  known_so_far state next here mid there a b c = known_trans _ _ _ (λ x y z. so_far_then state next here mid there x y z) a b c
 
-  so_far_more : (place next : P) (here mid there : List ℕ → List Lined) (token : Lined) (x y z : List ℕ) → row place token.0 ≡ Goes next
-      → SoFar row first place here mid x y → TakesToken mid there token y z → SoFar row first next here there x z
-  so_far_more place next here mid there token x y z e s t =
+  so_far_more : (state next : P) (here mid there : List ℕ → List Lined) (token : Lined) (x y z : List ℕ) → row state token.0 ≡ Goes next
+      → SoFar row first state here mid x y → TakesToken mid there token y z → SoFar row first next here there x z
+  so_far_more state next here mid there token x y z e s t =
       let more = t.skipped ++ t.word ++ t.separator in
       record {
         front = s.front ++ more;
@@ -197,15 +197,15 @@ module _ {P A F : Type 0} (row : P → Token → Row P A F) (first : P) where
         leads = λ ts.
             ap (read_from row first) (append_assoc s.given (token ∷ []) ts)
             ∙ s.leads (token ∷ ts)
-            ∙ read-one row place token ts
+            ∙ read-one row state token ts
             ∙ ap (λ (r : Row P A F). after row r token ts) e;
       }
 
-  pub so_far_goes : (place next : P) (here mid there : List ℕ → List Lined) (token : Lined) (a b c : Option (List ℕ))
-      → row place token.0 ≡ Goes next
-      → IfKnown (SoFar row first place here mid) a b → IfKnown (TakesToken mid there token) b c
+  pub so_far_goes : (state next : P) (here mid there : List ℕ → List Lined) (token : Lined) (a b c : Option (List ℕ))
+      → row state token.0 ≡ Goes next
+      → IfKnown (SoFar row first state here mid) a b → IfKnown (TakesToken mid there token) b c
       → IfKnown (SoFar row first next here there) a c
-  so_far_goes place next here mid there token a b c e = search (rules, known_trans, so_far_more)
+  so_far_goes state next here mid there token a b c e = search (rules, known_trans, so_far_more)
 
   stops_one : (last next : P) (answer : A) (here mid there : List ℕ → List Lined) (token : Lined) (x y z : List ℕ)
       → row last token.0 ≡ Ends answer next → is_end token.0 ≡ false

@@ -7,16 +7,16 @@ use Rattle.qbf_text.specs.declared.token.Token.{Token}
 use Rattle.qbf_text.specs.Lined.{Lined, without_lines, EndsOnce}
 use Rattle.qbf_text.specs.Tokens.{tokens}
 
--- The fault stands on this line: the tokens before it spell a place, and that place refuses this one.
+-- The fault stands on this line: the tokens before it spell a state, and that state refuses this one.
 pub record IsFault {P F : Type 0} (Spells : List Token → P → Type 0) (Refuses : P → Token → F → Type 0) (ts : List Lined) (fault : F)
     (line : ℕ) : Type 0 where
   pub before : List Lined
   pub wrong : Token
   pub after : List Lined
   pub whole : ts ≡ before ++ (wrong, line) ∷ after
-  pub place : P
-  pub stands : Spells (without_lines before) place
-  pub refused : Refuses place wrong fault
+  pub state : P
+  pub stands : Spells (without_lines before) state
+  pub refused : Refuses state wrong fault
 
 -- What tokens read as: what they spell, or the fault that stands.
 abbrev pub Reads : {A F : Type 0} → (List Token → A → Type 0) → (List Lined → F → ℕ → Type 0) → List Lined → Result A (F × ℕ) → Type 0

@@ -77,11 +77,11 @@ pub record Passes (Are : List Lined → Type 0) (bytes : List ℕ) (here next : 
       ≡ given ++ tokens_from_cursor format next rest
   pub are : Are given
 
--- tokens lead from one place to another
+-- tokens lead from one state to another
 abbrev pub LeadOn : {P A F : Type 0} → (P → Token → Row P A F) → P → P → List Lined → Type 0
-LeadOn row first place given = (ts : List Lined) → read_from row first (given ++ ts) ≡ read_from row place ts
+LeadOn row first state given = (ts : List Lined) → read_from row first (given ++ ts) ≡ read_from row state ts
 
--- tokens lead from one place to another, and there one token more ends what is read
+-- tokens lead from one state to another, and there one token more ends what is read
 pub record PassesLast {P A F : Type 0} (row : P → Token → Row P A F) (first next : P) (answer : A) (bytes : List ℕ) (from to : Cursor)
     : Type 0 where
   pub last : P
@@ -96,16 +96,16 @@ abbrev pub PassesAll : {P A F : Type 0} → (P → Token → Row P A F) → (fir
 PassesAll row first next bytes from to None = Passes (LeadOn row first next) bytes from to
 PassesAll row first next bytes from to (Some answer) = PassesLast row first next answer bytes from to
 
--- what was read so far: the tokens of the bytes that were taken lead from the first place to this one
-pub record SoFar {P A F : Type 0} (row : P → Token → Row P A F) (first place : P) (here there : List ℕ → List Lined)
+-- what was read so far: the tokens of the bytes that were taken lead from the first state to this one
+pub record SoFar {P A F : Type 0} (row : P → Token → Row P A F) (first state : P) (here there : List ℕ → List Lined)
     (old new : List ℕ) : Type 0 where
   pub front : List ℕ
   pub given : List Lined
   pub taken : old ≡ front ++ new
   pub spelled : (rest : List ℕ) → BeginsAs new rest → here (front ++ rest) ≡ given ++ there rest
-  pub leads : (ts : List Lined) → read_from row first (given ++ ts) ≡ read_from row place ts
+  pub leads : (ts : List Lined) → read_from row first (given ++ ts) ≡ read_from row state ts
 
--- between two places of a scanner the tokens lead from one place of the text to another
+-- between two places of a scanner the tokens lead from one state to another
 abbrev pub LeadsOver : {P A F : Type 0} → (P → Token → Row P A F) → (first next : P) → (r s : Reading) → Option (List ℕ) → Type 0
 LeadsOver row first next r s remaining =
     IfKnown (SoFar row first next (tokens_next r) (tokens_next s)) (ahead r.pending remaining) (ahead s.pending remaining)

@@ -212,7 +212,7 @@ pub struct ScanFault;
 
 /// What was given last.
 #[derive(Clone, Copy)]
-enum State {
+enum Status {
     /// A token, or nothing yet.
     Open,
     /// End.
@@ -229,7 +229,7 @@ enum State {
 #[derive(Drop)]
 pub struct Scanner {
     place: Place,
-    state: State,
+    status: Status,
 }
 
 impl Model for Scanner {
@@ -242,7 +242,7 @@ impl Model for Scanner {
       line = s.place.line;
       begun = s.place.begun;
       pending = s.place.window;
-      state = s.state;
+      status = s.status;
     } };
 }
 
@@ -268,7 +268,7 @@ impl Scanner {
                 begun: false,
                 window: Window::new(),
             },
-            state: State::Open,
+            status: Status::Open,
         }
     }
 
@@ -277,9 +277,9 @@ impl Scanner {
     pub fn is_open(&self) -> bool
         ensures { result ≡ true → IsOpen self.now }
     {
-        match self.state {
-            State::Open => true,
-            State::Ended | State::Failed => false,
+        match self.status {
+            Status::Open => true,
+            Status::Ended | Status::Failed => false,
         }
     }
 
@@ -352,10 +352,10 @@ impl Scanner {
         ensures err { OnErr result (¬ HasFailed self.old →
             S.failures source.old < 2 ^ 64 - 1 → S.failures source.old < S.failures source.new) }
     {
-        match self.state {
-            State::Failed => return Err(ScanFault),
-            State::Ended => return Ok((Token::End, self.place.line)),
-            State::Open => {}
+        match self.status {
+            Status::Failed => return Err(ScanFault),
+            Status::Ended => return Ok((Token::End, self.place.line)),
+            Status::Open => {}
         }
         if let Some(token) = self.place.number() {
             return Ok(token);
@@ -363,11 +363,11 @@ impl Scanner {
         match self.place.scan(source) {
             Ok(Some(token)) => Ok(token),
             Ok(None) => {
-                self.state = State::Ended;
+                self.status = Status::Ended;
                 Ok((Token::End, self.place.line))
             }
             Err(_) => {
-                self.state = State::Failed;
+                self.status = Status::Failed;
                 Err(ScanFault)
             }
         }

@@ -27,9 +27,9 @@ pub use Rattle.qbf_text.specs.Rows.{Fails, Goes}
 pub use Rattle.qdimacs.specs.Faults.{Answers, AreGood, IsFault, IsSoFar, Reads, Spells}
 pub use Rattle.qdimacs.specs.Grammar.{IsFormula, clause, header, lines, spelling, text}
 pub use Rattle.qdimacs.specs.Laws.{ReadsText}
-pub use Rattle.qdimacs.specs.Places.{IsMade, IsSound, heading, formula_of, row_to, place_at}
+pub use Rattle.qdimacs.specs.States.{IsMade, IsSound, heading, formula_of, row_to, state_at}
 pub use Rattle.qdimacs.specs.Reading.{Answer, AreFrom, AtP, Between, Clauses, Gives, Heading, InClause, InHeader, InSet, IsFull, IsWhole}
-pub use Rattle.qdimacs.specs.Reading.{Pairs, Place, Row, Whole, answer_of, between_row, bound_literal, clause_row, faults, is_outside, read}
+pub use Rattle.qdimacs.specs.Reading.{Pairs, State, Row, Whole, answer_of, between_row, bound_literal, clause_row, faults, is_outside, read}
 pub use Rattle.qdimacs.specs.Reading.{read_formula, reads_bytes, row, set_row}
 pub use Rattle.qdimacs.specs.Texts.{blocks_rest, clauses_text, opening, sets_text}
 pub use Rattle.qdimacs.specs.declared.fault.FormulaFault.{FormulaFault}

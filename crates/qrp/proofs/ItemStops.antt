@@ -1,12 +1,12 @@
 -- Reading an item stops after its last word.
 use Rattle.qrp.proofs.Words.{rules, ◌≡◌, ℕ, List, [], ◌∷◌, ◌++◌, Option, Ok, ◌⊎◌, refl, sym, ap, append-nil, ◌∙◌}
-use Rattle.qrp.proofs.Words.{Lined, IfKnown, Stops, Item, Stage, AtHeader, AtLists, StopsAfterPart, place_next, Giver}
+use Rattle.qrp.proofs.Words.{Lined, IfKnown, Stops, Item, Stage, AtHeader, AtLists, StopsAfterPart, state_next, Giver}
 use Rattle.qrp.proofs.Words.{Stands}
 use Rattle.qbf_text.specs.Rows as rows
 use Rattle.qbf_text.specs.Stopping as text
 use Rattle.qbf_text.proofs.Stops.{if_known, taken_no_end, unread_fault}
 use Rattle.qrp.specs.declared.item.Item.TheVariants as item
-use Rattle.qrp.specs.Reading.{Place, Between, After, row, items_from}
+use Rattle.qrp.specs.Reading.{State, Between, After, row, items_from}
 use Rattle.qrp.proofs.RowsReadTheItem.{gives, given_of}
 use Rattle.qrp.proofs.SpelledIsRead.{Answer, end_row}
 
@@ -16,7 +16,7 @@ given_whole : (i : Item) (ns : List ℕ) (rest : List Lined)
 given_whole (item.Result o) ns rest = ([], refl)
 given_whole i ns rest = (items_from (Between ns) rest, refl)
 
-part_after : (p : Place) (here there : List ℕ → List Lined) (i : Item) (ns bytes rest : List ℕ)
+part_after : (p : State) (here there : List ℕ → List Lined) (i : Item) (ns bytes rest : List ℕ)
     → text.StopsAfter row p (After i ns) tt here there bytes rest → StopsAfterPart p here i bytes rest
 part_after p here there i ns bytes rest s =
     let whole = given_whole i ns (there []) in
@@ -35,7 +35,7 @@ part_after p here there i ns bytes rest s =
       );
     }
 
-module _ (p next : Place) (here there : List ℕ → List Lined) (before after : Option (List ℕ)) (few : Type 0)
+module _ (p next : State) (here there : List ℕ → List Lined) (before after : Option (List ℕ)) (few : Type 0)
     (stops : Stops row p next here there before after few (Ok tt)) where
   pub known_stops : IfKnown (text.StopsAfter row p next tt here there) before after × few
   known_stops = stops.3 (taken_no_end row end_row stops.0 next stops.1 tt stops.2)
@@ -44,5 +44,5 @@ module _ (p next : Place) (here there : List ℕ → List Lined) (before after :
   item_stops i ns is = (if_known (part_after p here there i ns) before after (rw is at known_stops.0), known_stops.1)
 
 -- where the next token stands, of a reader that is not done
-pub stands_next : (stage : Stage) (g : Giver) → (stage ≡ AtHeader) ⊎ (stage ≡ AtLists) → Stands stage g → g.place ≡ place_next stage g.kept.numbers
+pub stands_next : (stage : Stage) (g : Giver) → (stage ≡ AtHeader) ⊎ (stage ≡ AtLists) → Stands stage g → g.state ≡ state_next stage g.kept.numbers
 stands_next stage g open_ stands = search rules

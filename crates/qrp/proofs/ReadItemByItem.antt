@@ -9,16 +9,16 @@ use Rattle.qbf_text.specs.declared.grammar.ReadError.TheVariants as error
 use Rattle.qbf_text.specs.Rows as rows
 use Rattle.qbf_text.proofs.Stops.{begins_more, begins_skipped, regroup, known_skips, if_known}
 use Rattle.qrp.specs.declared.item.Item.TheVariants as item
-use Rattle.qrp.specs.Reading.{Fault, Place, AtP, Between, After, row, items_from, with_items, nothing, read_trace}
+use Rattle.qrp.specs.Reading.{Fault, State, AtP, Between, After, row, items_from, with_items, nothing, read_trace}
 use Rattle.qrp.proofs.ItemStops.{known_stops, item_stops}
 use Rattle.qrp.proofs.RowsReadTheItem.{gives, given_of}
 
--- what is made of tokens from a place on, after a trace that was made of those before
-abbrev pub made_from : Derivation → Place → List Lined → Result Derivation Fault
+-- what is made of tokens from a state on, after a trace that was made of those before
+abbrev pub made_from : Derivation → State → List Lined → Result Derivation Fault
 made_from d p ts = with_items d (items_from p ts)
 
--- what was to be read of a text is what is still to be read at this place, after this trace was made
-pub record IsSoFar (whole : Option (List ℕ)) (d : Derivation) (p : Place) (s : Reading) (remaining : Option (List ℕ)) : Type 0 where
+-- what was to be read of a text is what is still to be read at this state, after this trace was made
+pub record IsSoFar (whole : Option (List ℕ)) (d : Derivation) (p : State) (s : Reading) (remaining : Option (List ℕ)) : Type 0 where
   pub leads : Leads (reads_bytes whole) (option_map (made_from d p) (left s remaining))
   pub skips : IfKnown (Skips read_trace (λ bytes. made_from d p (tokens_next s bytes))) whole (ahead s.pending remaining)
 
@@ -26,7 +26,7 @@ pub nothing_so_far : (s : Reading) → ((bytes : List ℕ) → left s (Some byte
     → ((bytes : List ℕ) → tokens_next s bytes ≡ tokens Qrp bytes) → (given : Option (List ℕ)) → IsSoFar given nothing AtP s given
 nothing_so_far s begins none next given = record { leads = grind (arith, common_steps); skips = grind (arith, common_steps) }
 
-module _ (d : Derivation) (p next : Place) where
+module _ (d : Derivation) (p next : State) where
   item_made : (i : Item) (ns : List ℕ) (ts us : List Lined) → is_last (Ok i) ≡ false → next ≡ After i ns
       → read_from row p ts ≡ rows.Whole tt next us → made_from d p ts ≡ made_from (with_item d i) (Between ns) us
   unfolding with_items
@@ -44,7 +44,7 @@ module _ (d : Derivation) (p next : Place) where
   fault_read whole known f line so_far h = grind (arith, common_steps, gives)
 
 -- the bytes held are those after the result word
-result_after : (d : Derivation) (p : Place) (o : Outcome) (here : List ℕ → List Lined) (bytes old held rest : List ℕ)
+result_after : (d : Derivation) (p : State) (o : Outcome) (here : List ℕ → List Lined) (bytes old held rest : List ℕ)
     → Skips read_trace (λ l. made_from d p (here l)) bytes old → StopsAfterPart p here (item.Result o) old (held ++ rest)
     → length held ≤ 4096 → StopsAfterResult (record d { result = o }) bytes rest
 unfolding with_items
@@ -76,8 +76,8 @@ result_after d p o here bytes old held rest t s few =
           ∙ ap (with_items d) s.whole.1;
     }
 
-module _ {whole remaining : Option (List ℕ)} {d : Derivation} {p : Place} {r : Reading} (so_far : IsSoFar whole d p r remaining)
-    (next : Place) (s : Reading) (rest : Option (List ℕ)) where
+module _ {whole remaining : Option (List ℕ)} {d : Derivation} {p : State} {r : Reading} (so_far : IsSoFar whole d p r remaining)
+    (next : State) (s : Reading) (rest : Option (List ℕ)) where
   -- an item is put after the others
   pub item_so_far : {few : Type 0} (i : Item) (ns : List ℕ) → is_last (Ok i) ≡ false → next ≡ After i ns
       → Leaves (reads_from row p (left r remaining)) tt next (left s rest)

@@ -8,10 +8,10 @@ use Rattle.qrp.specs.declared.item.Item.{Item}
 use Rattle.qrp.specs.declared.item.Item.TheVariants as item
 use Rattle.qrp.specs.declared.item.Outcome.TheVariants.{Sat}
 use Rattle.qrp.specs.declared.parts.Parts.{Parts}
-use Rattle.qrp.specs.declared.places.Part.{Part}
+use Rattle.qrp.specs.declared.states.Part.{Part}
 use Rattle.qrp.specs.Derivations.{Derivation, IsWellFormed}
 use Rattle.qrp.specs.Inferences.{Inference, numbers}
-use Rattle.qrp.specs.Places.{item_of, numbers_after}
+use Rattle.qrp.specs.States.{item_of, numbers_after}
 
 -- the steps of these numbers, literals and antecedents
 abbrev pub steps_of : List ℕ → List (List Literal) → List (List ℕ) → List Inference

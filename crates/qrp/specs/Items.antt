@@ -13,36 +13,36 @@ use Rattle.qrp.specs.declared.reader.Stage.TheVariants.{AtHeader, AtLists}
 use Rattle.qrp.specs.Flat.{Kept, trace_of, with_item}
 use Rattle.qrp.specs.Given.{known_items, left_after, is_last, numbers_with, stage_after, GivesNextItem, IsProper, StandsOnLine}
 use Rattle.qrp.specs.Given.{StopsAfterPart}
-use Rattle.qrp.specs.Reading.{Fault, Place, AtP, Between, After}
+use Rattle.qrp.specs.Reading.{Fault, State, AtP, Between, After}
 
 -- what is kept of the parts that were given, and where reading stands
 pub record Giver : Type 0 where
   pub kept : Kept
-  pub place : Place
+  pub state : State
 
 -- an item is complete
-abbrev pub IsGiven : Place → Type 0
+abbrev pub IsGiven : State → Type 0
 IsGiven (After i ns) = ⊤
 IsGiven here = ⊥
 
 -- the item that was complete was given, and is as the grammar asks; after it its number is kept, if it is a step, and the next token is
 -- taken, if it is not the last
 pub record GivesPart (i : Item) (old new : Giver) : Type 0 where
-  pub item : old.place ≡ After i (numbers_with old.kept.numbers (Ok i))
+  pub item : old.state ≡ After i (numbers_with old.kept.numbers (Ok i))
   pub proper : IsProper old.kept.numbers i
   pub numbers : new.kept.numbers ≡ numbers_with old.kept.numbers (Ok i)
-  pub next : is_last (Ok i) ≡ false → new.place ≡ Between new.kept.numbers
+  pub next : is_last (Ok i) ≡ false → new.state ≡ Between new.kept.numbers
 
 -- the item that was complete was kept after the others, or it is the result
 abbrev pub Keeps : Giver → Giver → Option Outcome → Type 0
-Keeps old new None = (i : Item) × (is_last (Ok i) ≡ false) × (old.place ≡ After i new.kept.numbers)
-    × (trace_of new.kept ≡ with_item (trace_of old.kept) i) × (new.place ≡ Between new.kept.numbers)
-Keeps old new (Some o) = (old.place ≡ After (item.Result o) old.kept.numbers) × (new.kept ≡ old.kept)
+Keeps old new None = (i : Item) × (is_last (Ok i) ≡ false) × (old.state ≡ After i new.kept.numbers)
+    × (trace_of new.kept ≡ with_item (trace_of old.kept) i) × (new.state ≡ Between new.kept.numbers)
+Keeps old new (Some o) = (old.state ≡ After (item.Result o) old.kept.numbers) × (new.kept ≡ old.kept)
 
 -- a reader that is so far takes a token here
 abbrev pub Stands : Stage → Giver → Type 0
-Stands AtHeader g = g.place ≡ AtP
-Stands AtLists g = g.place ≡ Between g.kept.numbers
+Stands AtHeader g = g.state ≡ AtP
+Stands AtLists g = g.state ≡ Between g.kept.numbers
 Stands done g = ⊤
 
 -- ---- what reading an item returns
@@ -63,10 +63,10 @@ pub record IsDriven (scanner : Reading) (before bound old new : ℕ) (answer : R
   pub lines : IfErr answer (λ e. StandsOnLine e.0 e.1)
   pub works : OnOk answer (new ≡ old)
 
--- an item was read from this place on: what was left is the result and what is left now, and nothing is read past the item but a
+-- an item was read from this state on: what was left is the result and what is left now, and nothing is read past the item but a
 -- separator and what is held
-pub record ReadsItem (place : Place) (ns : List ℕ) (old : Reading) (before : Option (List ℕ)) (new : Reading) (after : Option (List ℕ))
+pub record ReadsItem (state : State) (ns : List ℕ) (old : Reading) (before : Option (List ℕ)) (new : Reading) (after : Option (List ℕ))
     (answer : Result Item Fault) : Type 0 where
-  pub gives : GivesNextItem (known_items place (left old before)) (left_after (stage_after answer) ns (left new after)) answer
-  pub stops : IfOk answer (λ i. IfKnown (StopsAfterPart place (tokens_next old) i) (ahead old.pending before) (ahead new.pending after)
+  pub gives : GivesNextItem (known_items state (left old before)) (left_after (stage_after answer) ns (left new after)) answer
+  pub stops : IfOk answer (λ i. IfKnown (StopsAfterPart state (tokens_next old) i) (ahead old.pending before) (ahead new.pending after)
       × (length new.pending ≤ 4096))

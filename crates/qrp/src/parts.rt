@@ -3,11 +3,11 @@
 ghost use Rattle.std.specs.Prelude.{◌≡◌, false, [], ◌∷◌, ◌++◌, OnOk, OnErr};
 ghost use Rattle.qbf_spelling.specs.declared.header.HeaderAt.TheVariants as header;
 ghost use Rattle.qrp.specs.Flat.{after_close, kept_of, nothing_kept, ClosesPart, IsFlat};
-ghost use Rattle.qrp.specs.Places.{IsComplete, Stays};
+ghost use Rattle.qrp.specs.States.{IsComplete, Stays};
 ghost use Rattle.step_index.specs.Numbers.{is_used, AreStepNumbers};
 
 use crate::item::{Header, QuantSet};
-use crate::places::{Part, Partial};
+use crate::states::{Part, Partial};
 use qbf_core::GrowingLists;
 use qbf_spelling::HeaderAt;
 use std::alloc::{AllocError, Global};

@@ -48,7 +48,7 @@ fn read_item<S: Source>(
     source: &mut S,
 ) -> Result<Item, Fault>
     requires ready { ¬ HasFailed scanner.old }
-    ensures reads { ReadsItem grammar.old.place grammar.new.kept.numbers scanner.old
+    ensures reads { ReadsItem grammar.old.state grammar.new.kept.numbers scanner.old
         (S.remaining source.old) scanner.new (S.remaining source.new) result }
     ensures item { IsItem grammar.old grammar.new result }
     ensures devices { IsDriven scanner.new (length scanner.old.pending + S.bound source.old)

@@ -4,7 +4,7 @@ use Rattle.qrp.proofs.trace.read_trace.Given as goal
 
 abbrev pub invariant-items : goal.invariant-items
 invariant-items g l = record {
-  so_far : IsSoFar (g.S.Source.remaining l.fn.source) (trace_of l.grammar.kept) l.grammar.place l.scanner (g.S.Source.remaining l.source);
+  so_far : IsSoFar (g.S.Source.remaining l.fn.source) (trace_of l.grammar.kept) l.grammar.state l.scanner (g.S.Source.remaining l.source);
   flat : IsFlat l.grammar.kept;
   ready : ¬ HasFailed l.scanner;
   works : g.S.Source.failures l.source ≡ g.S.Source.failures l.fn.source;

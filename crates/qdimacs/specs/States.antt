@@ -10,7 +10,7 @@ use Rattle.qdimacs.specs.declared.fault.FormulaFault.{FormulaFault}
 use Rattle.qdimacs.specs.declared.grammar.At.{At}
 use Rattle.qdimacs.specs.declared.grammar.At.TheVariants as at
 use Rattle.qdimacs.specs.declared.grammar.Parts.{Parts}
-use Rattle.qdimacs.specs.Reading.{Heading, Place, InHeader, Between, InSet, InClause, Whole, Row, IsFull}
+use Rattle.qdimacs.specs.Reading.{Heading, State, InHeader, Between, InSet, InClause, Whole, Row, IsFull}
 
 -- the numbers of the header
 abbrev pub heading : Parts → Heading
@@ -21,19 +21,19 @@ abbrev pub formula_of : Parts → Qbf
 formula_of p = record { max_var = p.max_var; blocks = p.prefix; clauses = p.clauses.whole }
 
 -- where reading stands with these parts
-abbrev pub place_at : Parts → At → Place
-place_at p at.Header = InHeader p.header
-place_at p at.Between = Between (heading p) (pairs p.prefix) p.clauses.whole
-place_at p (at.Set q) = InSet (heading p) (pairs p.prefix) q
-place_at p at.Clause = InClause (heading p) (pairs p.prefix) p.clauses.whole p.clauses.unfinished
-place_at p at.Whole = Whole (formula_of p)
+abbrev pub state_at : Parts → At → State
+state_at p at.Header = InHeader p.header
+state_at p at.Between = Between (heading p) (pairs p.prefix) p.clauses.whole
+state_at p (at.Set q) = InSet (heading p) (pairs p.prefix) q
+state_at p at.Clause = InClause (heading p) (pairs p.prefix) p.clauses.whole p.clauses.unfinished
+state_at p at.Whole = Whole (formula_of p)
 
 -- the row that leads there
 abbrev pub row_to : Parts → At → Row
-row_to p at.Whole = Ends tt (place_at p at.Whole)
-row_to p next = Goes (place_at p next)
+row_to p at.Whole = Ends tt (state_at p at.Whole)
+row_to p next = Goes (state_at p next)
 
--- the next place is that of the row, unless an allocation failed
+-- the next state is that of the row, unless an allocation failed
 abbrev pub Moves : Row → Parts → Result At (Stop FormulaFault) → Type 0
 Moves r p (Ok next) = r ≡ row_to p next
 Moves r p (Err stop.Memory) = ⊤
@@ -59,7 +59,7 @@ pub record IsMade (p : Parts) : Type 0 where
   pub closed : AllByRecursion (AreBound p.prefix) p.clauses.whole
   pub few : length p.clauses.whole ≤ p.count
 
--- what holds at each place
+-- what holds at each state
 abbrev pub IsSound : At → Parts → Type 0
 IsSound at.Header p = IsNothing p × IsUpTo 2147483647 p.header
 IsSound at.Between p = IsMade p × (p.clauses.unfinished ≡ [])
@@ -67,7 +67,7 @@ IsSound (at.Set q) p = AreCounted p × (p.clauses.whole ≡ []) × (p.clauses.un
 IsSound at.Clause p = IsMade p × AreBound p.prefix p.clauses.unfinished × (length p.clauses.whole < p.count)
 IsSound at.Whole p = IsWellFormed (formula_of p)
 
--- at the place that a token leads to; where it is not taken, nothing is changed
+-- at the state that a token leads to; where it is not taken, nothing is changed
 abbrev pub Leads : Parts → Parts → Result At (Stop FormulaFault) → Type 0
 Leads old new (Ok next) = IsSound next new
 Leads old new (Err e) = new ≡ old

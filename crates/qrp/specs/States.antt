@@ -1,4 +1,4 @@
--- Where a token stands while a trace is read: what the unfinished lists say of its place.
+-- Where a token stands while a trace is read: what the unfinished lists say of its state.
 use Rattle.std.specs.Prelude.{◌≡◌, ◌<◌, ◌≤◌, ◌^◌, ℕ, false, List, [], ◌∷◌, ◌++◌, length, Result, Ok, Err, ⊤}
 use Rattle.qbf_spelling.specs.Words.{AllByRecursion, IsVariable}
 use Rattle.qbf_text.specs.declared.grammar.Stop.{Stop}
@@ -6,14 +6,14 @@ use Rattle.qbf_text.specs.declared.grammar.Stop.TheVariants as stop
 use Rattle.qrp.specs.declared.fault.TraceFault.{TraceFault}
 use Rattle.qrp.specs.declared.item.Item.{Item}
 use Rattle.qrp.specs.declared.item.Item.TheVariants as item
-use Rattle.qrp.specs.declared.places.At.{At}
-use Rattle.qrp.specs.declared.places.At.TheVariants as at
-use Rattle.qrp.specs.declared.places.Partial.{Partial}
-use Rattle.qrp.specs.declared.places.Part.{Part}
-use Rattle.qrp.specs.declared.places.Part.TheVariants as part
+use Rattle.qrp.specs.declared.states.At.{At}
+use Rattle.qrp.specs.declared.states.At.TheVariants as at
+use Rattle.qrp.specs.declared.states.Partial.{Partial}
+use Rattle.qrp.specs.declared.states.Part.{Part}
+use Rattle.qrp.specs.declared.states.Part.TheVariants as part
 use Rattle.qrp.specs.Inferences.{IsLiteral, IsNumber}
 use Rattle.qbf_text.specs.Rows.{Goes, Ends, Fails}
-use Rattle.qrp.specs.Reading.{Place, Row, InHeader, Between, InSet, InLits, InAnts, AtResult, After}
+use Rattle.qrp.specs.Reading.{State, Row, InHeader, Between, InSet, InLits, InAnts, AtResult, After}
 use Rattle.step_index.specs.Numbers.{is_used}
 
 -- the item that a part is
@@ -29,21 +29,21 @@ numbers_after b (part.Header h) = []
 numbers_after b (part.Set q) = []
 
 -- where reading stands with these lists
-abbrev pub place_at : Partial → At → Place
-place_at b at.Header = InHeader b.header
-place_at b at.Between = Between b.index
-place_at b (at.Set q) = InSet q b.vars.items
-place_at b (at.Lits n) = InLits b.index n b.lits.unfinished
-place_at b (at.Ants n) = InAnts b.index n b.lits.unfinished b.ants.unfinished
-place_at b at.Result = AtResult b.index
-place_at b (at.ItemComplete p) = After (item_of b p) (numbers_after b p)
-place_at b (at.Whole o) = After (item.Result o) b.index
+abbrev pub state_at : Partial → At → State
+state_at b at.Header = InHeader b.header
+state_at b at.Between = Between b.index
+state_at b (at.Set q) = InSet q b.vars.items
+state_at b (at.Lits n) = InLits b.index n b.lits.unfinished
+state_at b (at.Ants n) = InAnts b.index n b.lits.unfinished b.ants.unfinished
+state_at b at.Result = AtResult b.index
+state_at b (at.ItemComplete p) = After (item_of b p) (numbers_after b p)
+state_at b (at.Whole o) = After (item.Result o) b.index
 
 -- a token leads where its row says, unless an allocation failed
 abbrev pub Moves : Row → Partial → Result At (Stop TraceFault) → Type 0
-Moves r b (Ok (at.ItemComplete p)) = r ≡ Ends tt (place_at b (at.ItemComplete p))
-Moves r b (Ok (at.Whole o)) = r ≡ Ends tt (place_at b (at.Whole o))
-Moves r b (Ok next) = r ≡ Goes (place_at b next)
+Moves r b (Ok (at.ItemComplete p)) = r ≡ Ends tt (state_at b (at.ItemComplete p))
+Moves r b (Ok (at.Whole o)) = r ≡ Ends tt (state_at b (at.Whole o))
+Moves r b (Ok next) = r ≡ Goes (state_at b next)
 Moves r b (Err stop.Memory) = ⊤
 Moves r b (Err (stop.Text f)) = r ≡ Fails f
 
@@ -71,7 +71,7 @@ IsComplete (part.Header h) b = (b.index ≡ []) × (h.vars < 2 ^ 64) × (h.steps
 IsComplete (part.Set q) b = (b.index ≡ []) × AllByRecursion IsVariable b.vars.items
 IsComplete (part.Step n) b = IsNew n b.index × AllByRecursion IsLiteral b.lits.unfinished × AreAntecedents b.ants.unfinished
 
--- at each place
+-- at each state
 abbrev pub IsSound : At → Partial → Type 0
 IsSound at.Header b = b.index ≡ []
 IsSound at.Between b = ⊤
@@ -82,7 +82,7 @@ IsSound at.Result b = ⊤
 IsSound (at.ItemComplete p) b = IsComplete p b
 IsSound (at.Whole o) b = ⊤
 
--- at the place that a token leads to, where whole lists stay; where it is not taken, what held stays
+-- at the state that a token leads to, where whole lists stay; where it is not taken, what held stays
 abbrev pub Leads : At → Partial → Partial → Result At (Stop TraceFault) → Type 0
 Leads here old new (Ok next) = Stays old new × IsSound next new
 Leads here old new (Err e) = Stays old new × (IsSound here old → IsSound here new)

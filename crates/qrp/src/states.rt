@@ -1,9 +1,9 @@
-//! Where a token stands in a trace, and what each place makes of it.
+//! The states of reading a trace, and what each makes of a token.
 
 ghost use Rattle.std.specs.Prelude.{◌≡◌};
-ghost use Rattle.qrp.specs.declared.places.At.TheVariants as at;
-ghost use Rattle.qrp.specs.declared.places.Partial.{Partial};
-ghost use Rattle.qrp.specs.Places.{place_at, Moves, Leads, IsSound};
+ghost use Rattle.qrp.specs.declared.states.At.TheVariants as at;
+ghost use Rattle.qrp.specs.declared.states.Partial.{Partial};
+ghost use Rattle.qrp.specs.States.{state_at, Moves, Leads, IsSound};
 ghost use Rattle.qrp.specs.Reading.{has_room, row};
 
 use crate::fault::TraceFault;
@@ -46,7 +46,7 @@ pub enum Part {
     Step(u64),
 }
 
-/// The place that a token leads to, or why it is not taken.
+/// The state that a token leads to, or why it is not taken.
 type Next = Result<At, Stop<TraceFault>>;
 
 /// The unfinished lists, and the numbers of the steps that are whole.
@@ -70,7 +70,7 @@ pub struct Partial {
 /// The fault that the token is there.
 #[inline(always)]
 pub fn take_item_start(partial: &mut Partial, token: Token) -> Next
-    ensures row { Moves (row (place_at partial.old at.Between) token) partial.new result }
+    ensures row { Moves (row (state_at partial.old at.Between) token) partial.new result }
     ensures sound { Leads at.Between partial.old partial.new result }
 {
     match decode_item_start(partial.index.len() != 0, token)? {
@@ -93,7 +93,7 @@ pub fn take_item_start(partial: &mut Partial, token: Token) -> Next
 #[inline(always)]
 fn take_literal(partial: &mut Partial, number: u64, token: Token) -> Next
     requires sound { IsSound (at.Lits number) partial.old }
-    ensures row { Moves (row (place_at partial.old (at.Lits number)) token) partial.new result }
+    ensures row { Moves (row (state_at partial.old (at.Lits number)) token) partial.new result }
     ensures sound { Leads (at.Lits number) partial.old partial.new result }
 {
     match literal(FAULTS, LAST_VARIABLE, token)? {
@@ -120,7 +120,7 @@ pub fn has_room(ants: &GrowingLists<u64>) -> bool
 #[inline(always)]
 fn take_antecedent(partial: &mut Partial, number: u64, token: Token) -> Next
     requires sound { IsSound (at.Ants number) partial.old }
-    ensures row { Moves (row (place_at partial.old (at.Ants number)) token) partial.new result }
+    ensures row { Moves (row (state_at partial.old (at.Ants number)) token) partial.new result }
     ensures sound { Leads (at.Ants number) partial.old partial.new result }
 {
     let room = has_room(&partial.ants);
@@ -133,14 +133,14 @@ fn take_antecedent(partial: &mut Partial, number: u64, token: Token) -> Next
     }
 }
 
-/// The place that a token leads to. Whole lists and the numbers of whole steps stay as they are.
+/// The state that a token leads to. Whole lists and the numbers of whole steps stay as they are.
 ///
 /// # Errors
 /// Out of memory, or the fault that the token is there.
 #[inline(always)]
 pub fn take_at(here: At, partial: &mut Partial, token: Token) -> Next
     requires sound { IsSound here partial.old }
-    ensures row { Moves (row (place_at partial.old here) token) partial.new result }
+    ensures row { Moves (row (state_at partial.old here) token) partial.new result }
     ensures sound { Leads here partial.old partial.new result }
 {
     match here {
