@@ -4,7 +4,7 @@ ghost use Rattle.std.specs.Prelude.{◌≡◌, ℕ, ◌+◌, ◌-◌, ◌<◌, �
 ghost use Rattle.std.specs.Prelude.{◌∷◌};
 ghost use Rattle.std.specs.Prelude.{◌^◌, true, false, decimal, IfOk, OnOk, OnErr};
 ghost use Rattle.std.specs.Io.KnownBytes.{append_known, Keeps, WriteAppends};
-ghost use Rattle.qbf_text.specs.Canonical.{spelled};
+ghost use Rattle.qbf_text.specs.Canonical.{token_text};
 ghost use Rattle.qbf_text.specs.declared.token.Token.TheVariants.{Number};
 ghost use Rattle.qbf_text.specs.Written.{IsPut};
 
@@ -101,7 +101,7 @@ impl Buffer {
     /// for any number, and returns whether there was.
     #[inline(always)]
     fn append_spaced(&mut self, negative: bool, n: u64) -> bool
-        ensures all { result ≡ true → self.new ≡ self.old ++ 32 ∷ spelled (Number negative n) }
+        ensures all { result ≡ true → self.new ≡ self.old ++ 32 ∷ token_text (Number negative n) }
         ensures none { result ≡ false → self.new ≡ self.old }
     {
         if ROOM - self.end < LONGEST_SPACED {
@@ -116,7 +116,7 @@ impl Buffer {
     #[tactic(auto, using(crate::proofs::BufferPart::part, crate::proofs::BufferPart::part_put))]
     fn begin_with_spaced(&mut self, negative: bool, n: u64)
         requires { self.old ≡ [] }
-        ensures { self.new ≡ 32 ∷ spelled (Number negative n) }
+        ensures { self.new ≡ 32 ∷ token_text (Number negative n) }
     {
         let end = put_spaced(&mut self.bytes, 0, negative, n);
         self.start = 0;
@@ -237,7 +237,7 @@ impl<S: Sink> Buffered<S> {
     #[inline(never)]
     fn flush_then_push_spaced(&mut self, negative: bool, n: u64) -> Result<(), SinkFault>
         ensures { IsPut (⟦<Buffered<S> as Sink>⟧.written) (⟦<Buffered<S> as Sink>⟧.failures)
-            self.old self.new (32 ∷ spelled (Number negative n)) result }
+            self.old self.new (32 ∷ token_text (Number negative n)) result }
     {
         self.flush_buffer()?;
         self.buffer.begin_with_spaced(negative, n);

@@ -2,7 +2,7 @@
 
 ghost use Rattle.std.specs.Prelude.{◌≡◌, ◌+◌, ◌-◌, ◌/◌, ◌%◌, ◌≤◌, ◌<◌, ◌∷◌, ◌++◌, length, take};
 ghost use Rattle.std.specs.Prelude.{drop, decimal};
-ghost use Rattle.qbf_text.specs.Canonical.{spelled};
+ghost use Rattle.qbf_text.specs.Canonical.{token_text};
 ghost use Rattle.qbf_text.specs.declared.token.Token.TheVariants.{Number};
 
 use itoa::write_digits;
@@ -60,10 +60,10 @@ pub fn put_digits(bytes: &mut [u8], at: usize, n: u64) -> usize
 #[tactic(auto, using(crate::proofs::Fronts::at_most_one, crate::proofs::Fronts::shorter))]
 pub fn put_spaced(bytes: &mut [u8], at: usize, negative: bool, n: u64) -> usize
     requires { at + 22 ≤ length bytes.old }
-    ensures end { result ≡ at + length (32 ∷ spelled (Number negative n)) }
+    ensures end { result ≡ at + length (32 ∷ token_text (Number negative n)) }
     ensures within { result ≤ at + 22 }
     ensures written { drop at bytes.new
-        ≡ (32 ∷ spelled (Number negative n)) ++ drop result bytes.old }
+        ≡ (32 ∷ token_text (Number negative n)) ++ drop result bytes.old }
     ensures before { take at bytes.new ≡ take at bytes.old }
 {
     let start = at + 1 + usize::from(negative);

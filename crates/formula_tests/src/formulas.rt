@@ -320,9 +320,9 @@ fn lists(rt: HostRuntime) -> Result<(), Fail> {
 fn grow_two(rt: &impl Abort, growing: &mut GrowingLists<u64>) -> Result<(), Fail> {
     growing.push(7u64)?;
     growing.push(9)?;
-    assert_eq!(rt; growing.begun_len(), 2);
+    assert_eq!(rt; growing.unfinished_len(), 2);
     growing.close()?;
-    assert_eq!(rt; growing.begun_len(), 0);
+    assert_eq!(rt; growing.unfinished_len(), 0);
     growing.close()?;
     Ok(())
 }
@@ -348,7 +348,7 @@ fn grown_lists(rt: &impl Abort, alloc: Global) -> Result<GrowingLists<u64>, Fail
 #[test]
 fn growing_lists(rt: HostRuntime) -> Result<(), Fail> {
     let growing = grown_lists(&rt, rt.alloc())?;
-    assert_eq!(rt; growing.begun_len(), 1);
+    assert_eq!(rt; growing.unfinished_len(), 1);
     assert_eq!(rt; growing.whole_len(), 3);
     assert_three_lists(&rt, &growing.into_lists());
     Ok(())
@@ -362,7 +362,7 @@ fn whole_lists(rt: HostRuntime) -> Result<(), Fail> {
     assert!(rt; growing.get(2) == [4].as_slice());
     growing.pop();
     assert_eq!(rt; growing.whole_len(), 2);
-    assert!(rt; growing.begun().is_empty());
+    assert!(rt; growing.unfinished().is_empty());
     Ok(())
 }
 

@@ -116,15 +116,15 @@ impl<T: Copy + Drop> Lists<T> {
     }
 }
 
-/// Lists in one buffer, and after them one more that is begun. Contracts see both.
+/// Lists in one buffer, and after them one more that is unfinished. Contracts see both.
 ///
-/// The list that is begun grows where it lies, and is made one of the lists without a copy.
+/// The unfinished list grows where it lies, and is made one of the lists without a copy.
 #[derive(Drop)]
 pub struct GrowingLists<T> {
     items: Vec<T>,
     /// Where each whole list ends.
     ends: Offsets,
-    /// Where the last whole list ends, and the list that is begun begins.
+    /// Where the last whole list ends, and the unfinished list begins.
     start: usize,
 }
 
@@ -135,15 +135,15 @@ impl<T> Model for GrowingLists<T> {
     ghost Value = { Growing T };
 
     ghost view = { λ s.
-        record { whole = parts s.items.items 0 s.ends; begun = drop s.start s.items.items } };
+        record { whole = parts s.items.items 0 s.ends; unfinished = drop s.start s.items.items } };
 
     ghost invariant = { λ s. Reaches 0 s.ends s.start × (s.start ≤ length s.items.items) };
 }
 
 impl<T: Copy + Drop> GrowingLists<T> {
-    /// No lists, and an empty one that is begun. It takes no memory yet.
+    /// No lists, and an empty one that is unfinished. It takes no memory yet.
     pub fn new(alloc: Global) -> GrowingLists<T>
-        ensures { result ≡ record { whole = []; begun = [] } }
+        ensures { result ≡ record { whole = []; unfinished = [] } }
     {
         GrowingLists {
             items: Vec::new(alloc),
@@ -172,31 +172,31 @@ impl<T: Copy + Drop> GrowingLists<T> {
         list_at(items, &self.ends, i)
     }
 
-    /// How many items the list has that is begun.
+    /// How many items the unfinished list has.
     #[inline(always)]
-    pub fn begun_len(&self) -> usize
-        ensures { result ≡ length self.now.begun }
+    pub fn unfinished_len(&self) -> usize
+        ensures { result ≡ length self.now.unfinished }
     {
         self.items.len() - self.start
     }
 
-    /// The list that is begun.
-    pub fn begun(&self) -> &[T]
-        ensures { result.now ≡ self.now.begun }
+    /// The unfinished list.
+    pub fn unfinished(&self) -> &[T]
+        ensures { result.now ≡ self.now.unfinished }
     {
         part(&self.items, self.start, self.items.len())
     }
 
-    /// Begins an empty list in place of the one that is begun.
+    /// Begins an empty list in place of the unfinished one.
     #[inline(always)]
     #[tactic(auto, using(crate::proofs::Flats::kept_parts, crate::proofs::Flats::drop_kept))]
     pub fn begin(&mut self)
-        ensures { self.new ≡ record self.old { begun = [] } }
+        ensures { self.new ≡ record self.old { unfinished = [] } }
     {
         self.items.truncate(self.start);
     }
 
-    /// Adds an item at the end of the list that is begun.
+    /// Adds an item at the end of the unfinished list.
     ///
     /// # Errors
     /// Out of memory. Nothing is changed then.
@@ -204,36 +204,38 @@ impl<T: Copy + Drop> GrowingLists<T> {
     #[tactic(auto, using(crate::proofs::Flats::grown_parts, crate::proofs::Flats::drop_grown))]
     pub fn push(&mut self, item: T) -> Result<(), AllocError>
         ensures pushed { OnOk result
-            (self.new ≡ record self.old { begun = self.old.begun ++ item ∷ [] }) }
+            (self.new ≡ record self.old { unfinished = self.old.unfinished ++ item ∷ [] }) }
         ensures err { OnErr result (self.new ≡ self.old) }
     {
         self.items.push(item)?;
         Ok(())
     }
 
-    /// Adds these items at the end of the list that is begun.
+    /// Adds these items at the end of the unfinished list.
     ///
     /// # Errors
     /// Out of memory. Nothing is changed then.
     #[tactic(auto, using(crate::proofs::Flats::grown_parts, crate::proofs::Flats::drop_grown))]
     pub fn extend(&mut self, more: &[T]) -> Result<(), AllocError>
         ensures extended { OnOk result
-            (self.new ≡ record self.old { begun = self.old.begun ++ more.now }) }
+            (self.new ≡ record self.old { unfinished = self.old.unfinished ++ more.now }) }
         ensures err { OnErr result (self.new ≡ self.old) }
     {
         self.items.extend_from_slice(more)?;
         Ok(())
     }
 
-    /// The list that is begun is whole, and an empty one is begun after it.
+    /// The unfinished list is whole, and an empty one begins after it.
     ///
     /// # Errors
     /// Out of memory. Nothing is changed then.
     #[inline(always)]
     #[tactic(auto, using(crate::proofs::Flats::closed))]
     pub fn close(&mut self) -> Result<(), AllocError>
-        ensures closed { OnOk result
-            (self.new ≡ record { whole = self.old.whole ++ self.old.begun ∷ []; begun = [] }) }
+        ensures closed { OnOk result (self.new ≡ record {
+          whole = self.old.whole ++ self.old.unfinished ∷ [];
+          unfinished = [];
+        }) }
         ensures err { OnErr result (self.new ≡ self.old) }
     {
         let end = self.items.len();
@@ -242,11 +244,11 @@ impl<T: Copy + Drop> GrowingLists<T> {
         Ok(())
     }
 
-    /// Takes the last whole list away, if there is one. The list that is begun is empty then.
+    /// Takes the last whole list away, if there is one. The unfinished list is empty then.
     pub fn pop(&mut self)
         ensures { self.new ≡ record {
           whole = take (length self.old.whole - 1) self.old.whole;
-          begun = [];
+          unfinished = [];
         } }
     {
         self.ends.pop();

@@ -13,7 +13,7 @@ pub use Rattle.qbf_spelling.specs.Spelling.{letter, literal, number, set}
 pub use Rattle.qbf_text.proofs.OneToken.{read-one}
 pub use Rattle.qbf_text.proofs.SentParts.{sent_fails, sent_part}
 pub use Rattle.qbf_text.specs.Ahead.{ahead}
-pub use Rattle.qbf_text.specs.Lined.{Lined, unlined}
+pub use Rattle.qbf_text.specs.Lined.{Lined, without_lines}
 pub use Rattle.qbf_text.specs.Reading.{left}
 pub use Rattle.qbf_text.specs.Rows.{Ends, Read}
 unfoldable pub use Rattle.qbf_text.specs.Rows.{read_from}

@@ -55,16 +55,16 @@ header_number form t = Err (header_fault form.faults t)
 -- ---- the whole
 
 -- what is done after a token that says something
-abbrev pub behind : {X F : Type 0} → (X → HeaderMove) → Result X F → Result HeaderMove F
-behind next (Ok x) = Ok (next x)
-behind next (Err f) = Err f
+abbrev pub header_next : {X F : Type 0} → (X → HeaderMove) → Result X F → Result HeaderMove F
+header_next next (Ok x) = Ok (next x)
+header_next next (Err f) = Err f
 
 -- what a token does at its place in a header
 abbrev pub header_move : {F : Type 0} → HeaderForm F → HeaderAt → Token → Result HeaderMove F
-header_move form P t = behind (λ u. Goes Format) (header_word form.faults word.P t)
-header_move form Format t = behind (λ u. Goes First) (header_word form.faults form.format t)
-header_move form First t = behind (λ n. Goes (Second n)) (header_number form t)
-header_move form (Second first) t = behind (λ n. Ends first n) (header_number form t)
+header_move form P t = header_next (λ u. Goes Format) (header_word form.faults word.P t)
+header_move form Format t = header_next (λ u. Goes First) (header_word form.faults form.format t)
+header_move form First t = header_next (λ n. Goes (Second n)) (header_number form t)
+header_move form (Second first) t = header_next (λ n. Ends first n) (header_number form t)
 
 -- the tokens before a place in a header
 abbrev pub header_before : Word → HeaderAt → List Token

@@ -3,12 +3,12 @@ use Rattle.std.specs.Prelude.{ℕ, List, [], ◌∷◌, ◌++◌}
 use Rattle.std.specs.List.{flat_map}
 use Rattle.qbf_core.specs.Literal.{Literal}
 use Rattle.qbf_core.specs.Blocks.{Block}
-use Rattle.qbf_text.specs.Canonical.{spaced, spelled}
+use Rattle.qbf_text.specs.Canonical.{spaced_number, token_text}
 use Rattle.qbf_spelling.specs.Spelling.{literal, letter}
 
 -- a literal after a blank
 abbrev pub literal_text : Literal → List ℕ
-literal_text l = 32 ∷ spelled (literal l)
+literal_text l = 32 ∷ token_text (literal l)
 
 -- a zero after a blank, and the line end
 abbrev pub closing : List ℕ
@@ -16,4 +16,4 @@ closing = 32 ∷ 48 ∷ 10 ∷ []
 
 -- the line of a set
 abbrev pub set_text : Block → List ℕ
-set_text s = spelled (letter s.quantifier) ++ (flat_map spaced s.vars ++ closing)
+set_text s = token_text (letter s.quantifier) ++ (flat_map spaced_number s.vars ++ closing)

@@ -34,6 +34,9 @@ pub fn quantifier(token: Token) -> Option<Quantifier>
 }
 
 /// The variable that a token says in a set, at most `last`, or `None` where it closes the set.
+///
+/// # Errors
+/// The fault of the format that the token is there.
 #[inline(always)]
 pub fn member<F: Copy>(faults: Faults<F>, last: u32, token: Token) -> Result<Option<Var>, F>
     requires { last ≤ 2147483647 }
@@ -55,6 +58,9 @@ pub fn member<F: Copy>(faults: Faults<F>, last: u32, token: Token) -> Result<Opt
 
 /// The literal that a token says, its variable at most `last`, or `None` where it closes the
 /// literals.
+///
+/// # Errors
+/// The fault of the format that the token is there.
 #[inline(always)]
 pub fn literal<F: Copy>(faults: Faults<F>, last: u32, token: Token) -> Result<Option<Lit>, F>
     requires { last ≤ 2147483647 }

@@ -84,7 +84,10 @@ fn header_number<F: Copy>(form: HeaderForm<F>, token: Token) -> Result<u64, F>
     }
 }
 
-/// What a token does at its place in a header, or the fault that it is.
+/// What a token does at its place in a header.
+///
+/// # Errors
+/// The fault of the format that the token is there.
 pub fn header_move<F: Copy>(
     form: HeaderForm<F>,
     here: HeaderAt,

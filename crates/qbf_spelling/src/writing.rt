@@ -2,7 +2,7 @@
 
 ghost use Rattle.std.specs.Prelude.{ℕ, List, [], ◌∷◌, ◌++◌};
 ghost use Rattle.std.specs.List.{flat_map};
-ghost use Rattle.qbf_text.specs.Canonical.{spaced, spelled};
+ghost use Rattle.qbf_text.specs.Canonical.{spaced_number, token_text};
 ghost use Rattle.qbf_text.specs.Written.{IsPut};
 ghost use Rattle.qbf_text.specs.declared.token.Token.TheVariants.{Number};
 ghost use Rattle.qbf_spelling.specs.Spelling.{letter};
@@ -36,7 +36,7 @@ impl Put for Lit {
 
 /// A variable after a blank.
 impl Put for Var {
-    ghost text = { spaced };
+    ghost text = { spaced_number };
 
     #[inline(always)]
     fn put<K: Sink>(&self, sink: &mut K) -> Result<(), SinkFault> {
@@ -46,7 +46,7 @@ impl Put for Var {
 
 /// A number after a blank.
 impl Put for u64 {
-    ghost text = { spaced };
+    ghost text = { spaced_number };
 
     #[inline(always)]
     fn put<K: Sink>(&self, sink: &mut K) -> Result<(), SinkFault> {
@@ -59,7 +59,7 @@ impl Put for u64 {
 pub struct Bare(pub bool, pub u64);
 
 impl Put for Bare {
-    ghost text = { λ n. spelled (Number n.0 n.1) };
+    ghost text = { λ n. token_text (Number n.0 n.1) };
 
     #[inline(always)]
     fn put<K: Sink>(&self, sink: &mut K) -> Result<(), SinkFault> {
@@ -69,7 +69,7 @@ impl Put for Bare {
 
 /// The letter of a quantifier.
 impl Put for Quantifier {
-    ghost text = { λ q. spelled (letter q) };
+    ghost text = { λ q. token_text (letter q) };
 
     #[inline(always)]
     #[tactic(auto, using(crate::proofs::WrittenParts::letter_text))]
@@ -120,7 +120,7 @@ impl<P: Put> Put for &[P] {
 pub struct HeaderLine<'a>(pub &'a [u8], pub u64, pub u64);
 
 impl<'a> Put for HeaderLine<'a> {
-    ghost text = { λ h. h.0.now ++ (spaced h.1 ++ (spaced h.2 ++ 10 ∷ [])) };
+    ghost text = { λ h. h.0.now ++ (spaced_number h.1 ++ (spaced_number h.2 ++ 10 ∷ [])) };
 
     fn put<K: Sink>(&self, sink: &mut K) -> Result<(), SinkFault> {
         (Bytes(self.0), (self.1, (self.2, Bytes(b"\n")))).put(sink)

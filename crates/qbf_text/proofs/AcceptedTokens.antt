@@ -1,6 +1,6 @@
 -- Tokens that are accepted one after the other.
 use Rattle.qbf_text.proofs.Words.{rules, ◌≡◌, ◌≢◌, ℕ, List, [], ◌∷◌, ◌++◌, ◌⊎◌, inl, inr, append_assoc, append-nil, refl, ap, ◌∙◌, flat_map}
-use Rattle.qbf_text.proofs.Words.{Token, Lined, unlined, EndsOnce, Row, Goes, read_from}
+use Rattle.qbf_text.proofs.Words.{Token, Lined, without_lines, EndsOnce, Row, Goes, read_from}
 use Rattle.std.proofs.lemmas.Grind.{flat_map-append}
 use Rattle.std.proofs.lemmas.List.{map-append}
 use Rattle.qbf_text.proofs.OneToken.{read-one, after}
@@ -10,8 +10,8 @@ pub flat_map-push : {X Y : Type 0} (f : X → List Y) (xs : List X) (x : X) → 
 flat_map-push f xs x = flat_map-append f xs (x ∷ []) ∙ ap (λ k. flat_map f xs ++ k) (append-nil (f x))
 
 -- tokens on lines, parted at a token
-pub split_at : (ts : List Lined) (xs : List Token) (t : Token) (ys : List Token) → unlined ts ≡ xs ++ t ∷ ys
-    → (before : List Lined) × (line : ℕ) × (behind : List Lined) × (ts ≡ before ++ (t, line) ∷ behind) × (unlined before ≡ xs)
+pub split_at : (ts : List Lined) (xs : List Token) (t : Token) (ys : List Token) → without_lines ts ≡ xs ++ t ∷ ys
+    → (before : List Lined) × (line : ℕ) × (rest : List Lined) × (ts ≡ before ++ (t, line) ∷ rest) × (without_lines before ≡ xs)
 split_at [] [] t ys e = absurd cc
 split_at [] (x ∷ xs) t ys e = absurd cc
 split_at (u ∷ ts) [] t ys e = let same : u.0 ≡ t = cc in ([], u.1, ts, (λ i. (same i, u.1) ∷ ts), refl)
@@ -20,7 +20,7 @@ split_at (u ∷ ts) (x ∷ xs) t ys e =
     let r = split_at ts xs t ys (cc) in
     (u ∷ r.0, r.1, r.2, ap (λ (k : List Lined). u ∷ k) r.3, (λ i. same i ∷ r.4 i))
 
--- ---- tokens that lead from one place to another
+-- ---- tokens that lead from one state to another
 
 pub data Leads {P A F : Type 0} (row : P → Token → Row P A F) : P → List Token → P → Type 0 where
   Stays : {p : P} → Leads row p [] p
@@ -32,7 +32,7 @@ module _ {P A F : Type 0} {row : P → Token → Row P A F} where
   leads_then (Passes e l) m = Passes e (leads_then l m)
 
   -- what is read after them
-  pub leads_reads : {p q : P} {ts : List Token} → Leads row p ts q → (before : List Lined) → unlined before ≡ ts → (rest : List Lined)
+  pub leads_reads : {p q : P} {ts : List Token} → Leads row p ts q → (before : List Lined) → without_lines before ≡ ts → (rest : List Lined)
       → read_from row p (before ++ rest) ≡ read_from row q rest
   leads_reads Stays [] e rest = refl
   leads_reads Stays (t ∷ before) e rest = absurd cc
@@ -51,10 +51,10 @@ module _ {P R : Type 0} (Spells : List Token → P → Type 0) (Reads : List Lin
   -- a token that is answered, or leads on
   abbrev pub Answers : List Lined → Lined → List Lined → Type 0
   Answers before t ts =
-      ((r : R) × Reads (before ++ t ∷ ts) r) ⊎ ((t.0 ≢ token.End) × (next : P) × Spells (unlined before ++ t.0 ∷ []) next)
+      ((r : R) × Reads (before ++ t ∷ ts) r) ⊎ ((t.0 ≢ token.End) × (next : P) × Spells (without_lines before ++ t.0 ∷ []) next)
 
-  pub each_is_answered : ((before : List Lined) (p : P) (t : Lined) (ts : List Lined) → Spells (unlined before) p → EndsOnce (t ∷ ts)
-      → Answers before t ts) → (before : List Lined) (p : P) (ts : List Lined) → Spells (unlined before) p → EndsOnce ts
+  pub each_is_answered : ((before : List Lined) (p : P) (t : Lined) (ts : List Lined) → Spells (without_lines before) p → EndsOnce (t ∷ ts)
+      → Answers before t ts) → (before : List Lined) (p : P) (ts : List Lined) → Spells (without_lines before) p → EndsOnce ts
       → (r : R) × Reads (before ++ ts) r
   each_is_answered one before p [] s once = absurd once
   each_is_answered one before p (t ∷ ts) s once = elim (one before p t ts s once) [

@@ -1,6 +1,6 @@
 -- What is read of a text is what it spells, or the fault that stands in it.
 use Rattle.qbf_text.proofs.Words.{arith, rules, ◌≡◌, ℕ, Bool, List, [], ◌∷◌, Option, Some, IfSome, Result, Ok, Err, ap, sym, ◌∙◌}
-use Rattle.qbf_text.proofs.Words.{common_steps, Comments, Token, Lined, unlined, EndsOnce, Row, Read, Whole, Fault, read_from, tokens}
+use Rattle.qbf_text.proofs.Words.{common_steps, Comments, Token, Lined, without_lines, EndsOnce, Row, Read, Whole, Fault, read_from, tokens}
 use Rattle.std.proofs.Common.{option_map}
 use Rattle.qbf_text.specs.Answering.{Gives, ReadsAsRead, ReadsOnce}
 use Rattle.qbf_text.proofs.TokensEndOnce.{tokens-EndsOnce}
@@ -11,7 +11,7 @@ use Rattle.qbf_text.proofs.AcceptedTokens as accepted
 -- where each token is answered or leads on, and tokens read as nothing else, they read as what is read
 pub explained : {P R : Type 0} (Spells : List Token → P → Type 0) (Reads : List Lined → R → Type 0) (read : List Lined → R) (first : P)
     → Spells [] first
-    → ((before : List Lined) (p : P) (t : Lined) (ts : List Lined) → Spells (unlined before) p → EndsOnce (t ∷ ts)
+    → ((before : List Lined) (p : P) (t : Lined) (ts : List Lined) → Spells (without_lines before) p → EndsOnce (t ∷ ts)
     → accepted.Answers Spells Reads before t ts)
     → ReadsOnce Reads read → ReadsAsRead Reads read
 explained Spells Reads read first begins one only ts once =
@@ -33,7 +33,7 @@ module _ {A F : Type 0} (outside : F → Bool) (Spelled : List Token → A → T
       → IfSome remaining (λ bytes. answering.Answers outside Spelled Stands (tokens format bytes) result)
   answered_bytes format read reads remaining result given = grind (arith, common_steps, answered, tokens-EndsOnce)
 
--- reading by these rows from this place on answers what is read
+-- reading by these rows from this state on answers what is read
 pub record AnswersAsRead {P A F : Type 0} (row : P → Token → Row P (Unit {0}) F)
     (answer : Read P (Unit {0}) F → Result A (F × ℕ)) (first : P) (read : List Lined → Result A (F × ℕ)) : Type 0 where
   pub same : (ts : List Lined) → answer (read_from row first ts) ≡ read ts
@@ -41,12 +41,12 @@ pub record AnswersAsRead {P A F : Type 0} (row : P → Token → Row P (Unit {0}
 
 module _ {P A F : Type 0} {row : P → Token → Row P (Unit {0}) F} {answer : Read P (Unit {0}) F → Result A (F × ℕ)} {first : P}
     {read : List Lined → Result A (F × ℕ)} (outside : F → Bool) (is : AnswersAsRead row answer first read) (format : Comments)
-    (place next : P) (here : place ≡ first) where
-  same : (ts : List Lined) → read ts ≡ answer (read_from row place ts)
+    (state next : P) (here : state ≡ first) where
+  same : (ts : List Lined) → read ts ≡ answer (read_from row state ts)
   same ts = sym (is.same ts) ∙ ap (λ (p : P). answer (read_from row p ts)) (sym here)
 
   -- what was read is given
   pub whole_given : (a : A) → ((more : List Lined) → answer (Whole tt next more) ≡ Ok a) → (remaining : Option (List ℕ))
-      → IfSome remaining (λ bytes. taking.Answers (read_from row place (tokens format bytes)) next (Ok tt))
+      → IfSome remaining (λ bytes. taking.Answers (read_from row state (tokens format bytes)) next (Ok tt))
       → Gives outside (Ok a) (option_map (λ bytes. read (tokens format bytes)) remaining)
   whole_given a whole remaining h = search rules

@@ -1,7 +1,7 @@
 -- The tokens left, byte by byte.
 use Rattle.qbf_text.proofs.Words.{rules, ◌≡◌, ℕ, ◌+◌, Bool, true, false, cond, ◌||◌, List, [], ◌∷◌, ◌++◌, map, count_by, refl, sym, ◌∙◌}
 use Rattle.qbf_text.proofs.Words.{arith, append-nil, common_steps, slice_split, ⊤, Comments, is_line_end, is_blank, is_comment_byte}
-use Rattle.qbf_text.proofs.Words.{is_comment_line, runs, kind, counted, line_tokens, tokens_from, tokens, tokens_left, is_separator}
+use Rattle.qbf_text.proofs.Words.{is_comment_line, runs, kind, line_number, line_tokens, tokens_from, tokens, tokens_left, is_separator}
 use Rattle.qbf_text.proofs.Words.{IsUnbroken, IsWithinLine, EndsRun, EndsLine}
 use Rattle.std.proofs.Common.{zero-add}
 use Rattle.std.specs.List.{onto_first}
@@ -11,30 +11,30 @@ use Rattle.qbf_text.specs.declared.token.Token.TheVariants as kinds
 
 -- ---- the number of a line
 
-pub line_counted : (f : Comments) (n m : ℕ) (line : List ℕ) → counted n ≡ counted m → line_tokens f n line ≡ line_tokens f m line
+pub line_counted : (f : Comments) (n m : ℕ) (line : List ℕ) → line_number n ≡ line_number m → line_tokens f n line ≡ line_tokens f m line
 line_counted f n m line e = rw e refl
 
-lines_counted : (f : Comments) (n m : ℕ) (lines : List (List ℕ)) → counted n ≡ counted m → tokens_from f n lines ≡ tokens_from f m lines
+lines_counted : (f : Comments) (n m : ℕ) (lines : List (List ℕ)) → line_number n ≡ line_number m → tokens_from f n lines ≡ tokens_from f m lines
 lines_counted f n m [] e = refl
 lines_counted f n m (line ∷ lines) e =
     rw (line_counted f n m line e, lines_counted f (n + 1) (m + 1) lines (omega (arith, e))) refl
 
-rest_counted : (f : Comments) (begun : Bool) (n m : ℕ) (rest : List ℕ) → counted n ≡ counted m
+rest_counted : (f : Comments) (begun : Bool) (n m : ℕ) (rest : List ℕ) → line_number n ≡ line_number m
     → rest_tokens f begun n rest ≡ rest_tokens f begun m rest
 rest_counted f begun n m rest e = search rules
 
-left_counted : (f : Comments) (begun : Bool) (n m : ℕ) (lines : List (List ℕ)) → counted n ≡ counted m
+left_counted : (f : Comments) (begun : Bool) (n m : ℕ) (lines : List (List ℕ)) → line_number n ≡ line_number m
     → left_from f begun n lines ≡ left_from f begun m lines
 left_counted f begun n m lines e = grind (arith, common_steps, rest_counted, lines_counted)
 
 -- the tokens left speak of the counted number alone
-pub tokens_left-counted : (f : Comments) (begun : Bool) (n m : ℕ) (bytes : List ℕ) → counted n ≡ counted m
+pub tokens_left-counted : (f : Comments) (begun : Bool) (n m : ℕ) (bytes : List ℕ) → line_number n ≡ line_number m
     → tokens_left f begun n bytes ≡ tokens_left f begun m bytes
 tokens_left-counted f begun n m bytes e = grind (arith, common_steps, left_counted)
 
 -- ---- the end
 
-pub left_nothing : (f : Comments) (begun : Bool) (n : ℕ) → tokens_left f begun n [] ≡ (kinds.End, counted n) ∷ []
+pub left_nothing : (f : Comments) (begun : Bool) (n : ℕ) → tokens_left f begun n [] ≡ (kinds.End, line_number n) ∷ []
 left_nothing f begun n = search rules
 
 -- ---- a line end
@@ -141,11 +141,11 @@ IsToken f true (b ∷ bs) = ⊤
 IsToken f false (b ∷ bs) = is_comment_byte f b ≡ false
 
 line_no_comment : (f : Comments) (n : ℕ) (line : List ℕ) → is_comment_line f line ≡ false
-    → line_tokens f n line ≡ map (λ run. (kind run, counted n)) (runs line)
+    → line_tokens f n line ≡ map (λ run. (kind run, line_number n)) (runs line)
 line_no_comment f n line h = rw h refl
 
 rest_run : (f : Comments) (begun : Bool) (n b : ℕ) (bs rest : List ℕ) → IsUnbroken (b ∷ bs) → IsOpen rest → IsToken f begun (b ∷ bs)
-    → rest_tokens f begun n ((b ∷ bs) ++ rest) ≡ (kind (b ∷ bs), counted n) ∷ rest_tokens f true n rest
+    → rest_tokens f begun n ((b ∷ bs) ++ rest) ≡ (kind (b ∷ bs), line_number n) ∷ rest_tokens f true n rest
 rest_run f begun n b bs rest h o t = grind (arith, common_steps, runs_run, line_no_comment, no_blank)
 
 open_blank : (b : ℕ) (lines : List (List ℕ)) → is_blank b ≡ true
@@ -167,5 +167,5 @@ open_rest [] h = ([], [], refl, tt)
 open_rest (b ∷ bs) h = open_at b (slice_split is_line_end bs) (is_line_end b) refl h
 
 pub left_run : (f : Comments) (begun : Bool) (n : ℕ) (run rest : List ℕ) → IsUnbroken run → EndsRun rest → IsToken f begun run
-    → tokens_left f begun n (run ++ rest) ≡ (kind run, counted n) ∷ tokens_left f true n rest
+    → tokens_left f begun n (run ++ rest) ≡ (kind run, line_number n) ∷ tokens_left f true n rest
 left_run f begun n run rest h ends t = grind (arith, common_steps, open_rest, unbroken_within, count_front, split_front, rest_run)

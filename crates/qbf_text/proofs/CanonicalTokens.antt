@@ -1,7 +1,7 @@
 -- The tokens of a canonical text.
 use Rattle.qbf_text.proofs.Words.{common_steps, rules, ◌≡◌, ℕ, ◌+◌, Bool, true, false, map, arith, List, [], ◌∷◌, ◌++◌, refl, sym, ap, ◌∙◌}
-use Rattle.qbf_text.proofs.Words.{append_assoc, AllByRecursion, digits_decimal, decimal_nonempty, Comments, Token, unlined, IsUnbroken}
-use Rattle.qbf_text.proofs.Words.{EndsRun, tokens_left, kind, counted, tokens, spelled, line_rest}
+use Rattle.qbf_text.proofs.Words.{append_assoc, AllByRecursion, digits_decimal, decimal_nonempty, Comments, Token, without_lines, IsUnbroken}
+use Rattle.qbf_text.proofs.Words.{EndsRun, tokens_left, kind, line_number, tokens, token_text, line_rest}
 use Rattle.std.specs.List.{flat_map}
 use Rattle.qbf_text.specs.declared.token.Word.{Word}
 use Rattle.qbf_text.specs.Canonical.{letters, line_text, lines_text, IsPlain, IsOpening, IsLine}
@@ -17,18 +17,18 @@ kind_word w = search rules
 word_unbroken : (w : Word) → IsUnbroken (letters w)
 word_unbroken w = search rules
 
-pub kind_spelled : (t : Token) → IsPlain t → kind (spelled t) ≡ t
+pub kind_spelled : (t : Token) → IsPlain t → kind (token_text t) ≡ t
 kind_spelled t h = grind (arith, common_steps, kind_word, kind_decimal, kind_minus)
 
-spelled_unbroken : (t : Token) → IsPlain t → IsUnbroken (spelled t)
+spelled_unbroken : (t : Token) → IsPlain t → IsUnbroken (token_text t)
 spelled_unbroken t h = grind (arith, common_steps, word_unbroken, digits_unbroken, digits_decimal, own)
 
 -- after another token of its line each token is one
-word_behind : (f : Comments) (w : Word) → IsToken f true (letters w)
-word_behind f w = search rules
+word_after : (f : Comments) (w : Word) → IsToken f true (letters w)
+word_after f w = search rules
 
-behind : (f : Comments) (t : Token) → IsPlain t → IsToken f true (spelled t)
-behind f t h = grind (arith, common_steps, word_behind, token_digits, decimal_nonempty, digits_decimal, own)
+spelled_after : (f : Comments) (t : Token) → IsPlain t → IsToken f true (token_text t)
+spelled_after f t h = grind (arith, common_steps, word_after, token_digits, decimal_nonempty, digits_decimal, own)
 
 -- at the beginning of a line the others are
 word_first : (f : Comments) (w : Word) → IsOpening (token.Word w) → IsToken f false (letters w)
@@ -37,12 +37,12 @@ word_first f w h = search rules
 minus_first : (f : Comments) (ds : List ℕ) → IsToken f false (45 ∷ ds)
 minus_first f ds = search rules
 
-first : (f : Comments) (t : Token) → IsOpening t → IsPlain t → IsToken f false (spelled t)
+first : (f : Comments) (t : Token) → IsOpening t → IsPlain t → IsToken f false (token_text t)
 first f t o h = grind (arith, common_steps, word_first, token_digits, decimal_nonempty, digits_decimal, own, minus_first)
 
 -- a token that is written before a separator or the end is the next
-left_token : (f : Comments) (begun : Bool) (n : ℕ) (t : Token) (rest : List ℕ) → IsPlain t → IsToken f begun (spelled t) → EndsRun rest
-    → tokens_left f begun n (spelled t ++ rest) ≡ (t, counted n) ∷ tokens_left f true n rest
+left_token : (f : Comments) (begun : Bool) (n : ℕ) (t : Token) (rest : List ℕ) → IsPlain t → IsToken f begun (token_text t) → EndsRun rest
+    → tokens_left f begun n (token_text t ++ rest) ≡ (t, line_number n) ∷ tokens_left f true n rest
 left_token f begun n t rest plain is ends = grind (arith, common_steps, left_run, spelled_unbroken, kind_spelled)
 
 -- ---- a line
@@ -52,19 +52,19 @@ rest_ends [] rest = refl
 rest_ends (t ∷ ts) rest = refl
 
 left_rest : (f : Comments) (n : ℕ) (ts : List Token) (rest : List ℕ) → AllByRecursion IsPlain ts
-    → unlined (tokens_left f true n (line_rest ts ++ rest)) ≡ ts ++ unlined (tokens_left f false (n + 1) rest)
-left_rest f n [] rest h = ap unlined (left_line_end f true n rest)
+    → without_lines (tokens_left f true n (line_rest ts ++ rest)) ≡ ts ++ without_lines (tokens_left f false (n + 1) rest)
+left_rest f n [] rest h = ap without_lines (left_line_end f true n rest)
 left_rest f n (t ∷ ts) rest h =
-    ap unlined (left_blank f true n 32 ((spelled t ++ line_rest ts) ++ rest) refl
-    ∙ ap (tokens_left f true n) (append_assoc (spelled t) (line_rest ts) rest)
-    ∙ left_token f true n t (line_rest ts ++ rest) h.0 (behind f t h.0) (rest_ends ts rest))
+    ap without_lines (left_blank f true n 32 ((token_text t ++ line_rest ts) ++ rest) refl
+    ∙ ap (tokens_left f true n) (append_assoc (token_text t) (line_rest ts) rest)
+    ∙ left_token f true n t (line_rest ts ++ rest) h.0 (spelled_after f t h.0) (rest_ends ts rest))
     ∙ ap (λ k. t ∷ k) (left_rest f n ts rest h.1)
 
 left_line : (f : Comments) (n : ℕ) (line : List Token) (rest : List ℕ) → IsLine line
-    → unlined (tokens_left f false n (line_text line ++ rest)) ≡ line ++ unlined (tokens_left f false (n + 1) rest)
+    → without_lines (tokens_left f false n (line_text line ++ rest)) ≡ line ++ without_lines (tokens_left f false (n + 1) rest)
 left_line f n [] rest h = absurd h
 left_line f n (t ∷ ts) rest h =
-    ap unlined (ap (tokens_left f false n) (append_assoc (spelled t) (line_rest ts) rest)
+    ap without_lines (ap (tokens_left f false n) (append_assoc (token_text t) (line_rest ts) rest)
     ∙ left_token f false n t (line_rest ts ++ rest) h.1.0 (first f t h.0 h.1.0) (rest_ends ts rest))
     ∙ ap (λ k. t ∷ k) (left_rest f n ts rest h.1.1)
 
@@ -94,8 +94,8 @@ abbrev pub joined : List (List Token) → List Token
 joined lines = flat_map (λ line. line) lines
 
 left_lines : (f : Comments) (n : ℕ) (lines : List (List Token)) → AllByRecursion IsLine lines
-    → unlined (tokens_left f false n (lines_text lines)) ≡ joined lines ++ token.End ∷ []
-left_lines f n [] h = ap unlined (left_nothing f false n)
+    → without_lines (tokens_left f false n (lines_text lines)) ≡ joined lines ++ token.End ∷ []
+left_lines f n [] h = ap without_lines (left_nothing f false n)
 left_lines f n (line ∷ lines) h =
     left_line f n line (lines_text lines) h.0
     ∙ ap (λ k. line ++ k) (left_lines f (n + 1) lines h.1)
@@ -103,5 +103,5 @@ left_lines f n (line ∷ lines) h =
 
 -- The tokens of a canonical text are those that it was written from, and End.
 pub tokens-lines_text : (f : Comments) (lines : List (List Token)) → AllByRecursion IsLine lines
-    → unlined (tokens f (lines_text lines)) ≡ joined lines ++ token.End ∷ []
-tokens-lines_text f lines h = ap unlined (sym (left_all f (lines_text lines))) ∙ left_lines f 1 lines h
+    → without_lines (tokens f (lines_text lines)) ≡ joined lines ++ token.End ∷ []
+tokens-lines_text f lines h = ap without_lines (sym (left_all f (lines_text lines))) ∙ left_lines f 1 lines h

@@ -22,8 +22,8 @@ took_at t pending after rem b e p h = rw e (taken_more t t pending rem [] b (Con
 pub no_line_end_at : (b : ℕ) → (b ≡ 10 → ⊥) → is_line_end b ≡ false
 no_line_end_at b h = grind (arith, nat_tests)
 
-pub token_behind : (f : Comments) (begun : Bool) (b : ℕ) (more : List ℕ) → begun ≡ true → IsToken f begun (b ∷ more)
-token_behind f begun b more e = search rules
+pub token_after : (f : Comments) (begun : Bool) (b : ℕ) (more : List ℕ) → begun ≡ true → IsToken f begun (b ∷ more)
+token_after f begun b more e = search rules
 
 pub token_open : (f : Comments) (begun : Bool) (b : ℕ) (more : List ℕ) → is_comment_byte f b ≡ false → IsToken f begun (b ∷ more)
 token_open f begun b more e = search rules

@@ -37,7 +37,7 @@ plain b bs (suc n) within all some small sep =
     let after : after_minus run ≡ run = rw no_minus refl in
     record {
       run = run;
-      behind = get_or (b ∷ bs) (suc n) 0;
+      separator = get_or (b ∷ bs) (suc n) 0;
       within = omega arith;
       front = one_more (b ∷ bs) (suc n) within;
       begins = begins;
@@ -56,7 +56,7 @@ minus bs n within all small nonzero sep =
     let run = 45 ∷ take n bs in
     record {
       run = run;
-      behind = get_or (45 ∷ bs) (suc n) 0;
+      separator = get_or (45 ∷ bs) (suc n) 0;
       within = omega arith;
       front = one_more (45 ∷ bs) (suc n) within;
       begins = refl;

@@ -2,12 +2,12 @@
 use Rattle.qbf_text.proofs.Words.{◌≡◌, ℕ, ◌+◌, ◌^◌, ◌<◌, ◌≤◌, Bool, true, false, not, nat_eq, List, [], ◌∷◌, ◌++◌, drop, length, refl, sym}
 use Rattle.qbf_text.proofs.Words.{ap, ◌∙◌, subst, take, ◌-◌, zero, suc, append_assoc, arith, Option, Some, None, ◌⊎◌, inl, inr, drop-drop}
 use Rattle.qbf_text.proofs.Words.{Comments, Token, Number, ahead, tokens_left, known_left, Lined, BeginsWithNumber, SoFar, Reading}
-use Rattle.qbf_text.proofs.Words.{GivesNext, Row, Goes, read_from, reads_from, IfKnown, TakesToken, tokens_next, counted}
+use Rattle.qbf_text.proofs.Words.{GivesNext, Row, Goes, read_from, reads_from, IfKnown, TakesToken, tokens_next, line_number}
 use Rattle.std.proofs.Common.{length-drop, length-append, Result, Ok, Err, IfOk}
 use Rattle.std.proofs.lemmas.List.{take-append-drop, take_all}
 use Rattle.qbf_text.specs.declared.buffered.Cursor.{Cursor}
 use Rattle.qbf_text.specs.declared.likely_ends.LikelyEnds.{LikelyEnds}
-use Rattle.qbf_text.specs.Passing.{tokens_from_cursor, behind, counted_if, is_begun, cursor, moved, LeadOn, Passes, PassesNumber, PassesAll}
+use Rattle.qbf_text.specs.Passing.{tokens_from_cursor, cursor_after, one_if, is_begun, cursor, scanner_at, LeadOn, Passes, PassesNumber, PassesAll}
 use Rattle.qbf_text.specs.Passing.{ReadsAtHand}
 use Rattle.qbf_text.specs.Reading.{IsOpen, left}
 use Rattle.qbf_text.proofs.ByteByByte.{left_nothing}
@@ -15,8 +15,8 @@ use Rattle.qbf_text.proofs.LeftAfterNumber.{spelled_ending, spelled_blanked}
 use Rattle.qbf_text.proofs.OneToken.{after, read-one}
 
 -- all bytes from a place on
-pub all_behind : (at : ℕ) (bytes : List ℕ) → take (length bytes - at) (drop at bytes) ≡ drop at bytes
-all_behind at bytes = take_all (length bytes - at) (drop at bytes) (omega (arith, length-drop at bytes))
+pub all_after : (at : ℕ) (bytes : List ℕ) → take (length bytes - at) (drop at bytes) ≡ drop at bytes
+all_after at bytes = take_all (length bytes - at) (drop at bytes) (omega (arith, length-drop at bytes))
 
 -- the bytes from a number on are its run, the separator and the bytes after
 split : (bytes : List ℕ) (at len : ℕ) (front : List ℕ) → take len (drop at bytes) ≡ front
@@ -33,35 +33,35 @@ zero_or (suc n) = inr (omega arith)
 module _ (bytes : List ℕ) (here : Cursor) (likely : LikelyEnds) (negative : Bool) (value len : ℕ) (ends : Bool)
     (h : BeginsWithNumber (drop here.at bytes) negative value len ends) (small : here.line < 2 ^ 64) where
   spelled : (ends_line : Bool) → ends_line ≡ ends → (format : Comments) (rest : List ℕ)
-      → tokens_from_cursor format here ((h.run ++ h.behind ∷ []) ++ rest)
-      ≡ (Number negative value, here.line) ∷ tokens_from_cursor format (behind here likely len ends_line) rest
+      → tokens_from_cursor format here ((h.run ++ h.separator ∷ []) ++ rest)
+      ≡ (Number negative value, here.line) ∷ tokens_from_cursor format (cursor_after here likely len ends_line) rest
   spelled true e format rest =
       spelled_ending format (is_begun here) here.line (drop here.at bytes) negative value len ends h small (sym e) rest
   spelled false e format rest =
       spelled_blanked format (is_begun here) here.line (drop here.at bytes) negative value len ends h small (sym e) rest
 
-  at_behind : (ends_line : Bool) → (behind here likely len ends_line).at ≡ here.at + len
-  at_behind true = refl
-  at_behind false = refl
+  at_after : (ends_line : Bool) → (cursor_after here likely len ends_line).at ≡ here.at + len
+  at_after true = refl
+  at_after false = refl
 
   some : 0 < len
   some = elim (zero_or len) [
-    | inl none ↦ absurd (let empty : [] ≡ h.run ++ h.behind ∷ [] = rw none at h.front in
-        let none_left : 0 ≡ length h.run + 1 = ap length empty ∙ length-append h.run (h.behind ∷ []) in omega (arith, none_left))
+    | inl none ↦ absurd (let empty : [] ≡ h.run ++ h.separator ∷ [] = rw none at h.front in
+        let none_left : 0 ≡ length h.run + 1 = ap length empty ∙ length-append h.run (h.separator ∷ []) in omega (arith, none_left))
     | inr more ↦ more
   ]
 
   -- a number in front of the bytes from the cursor on is passed
-  pub passes_number : here.at ≤ length bytes → PassesNumber bytes here (behind here likely len ends) (Number negative value)
+  pub passes_number : here.at ≤ length bytes → PassesNumber bytes here (cursor_after here likely len ends) (Number negative value)
   passes_number within = record {
     word = h.run;
-    behind = h.behind;
+    separator = h.separator;
     unbroken = h.unbroken;
     separates = h.separates;
     no_end = refl;
-    further = rw (at_behind ends) (omega (arith, some));
-    within = rw (at_behind ends) (omega (arith, within, h.within, length-drop here.at bytes));
-    taken = rw (at_behind ends) (split bytes here.at len (h.run ++ h.behind ∷ []) h.front);
+    further = rw (at_after ends) (omega (arith, some));
+    within = rw (at_after ends) (omega (arith, within, h.within, length-drop here.at bytes));
+    taken = rw (at_after ends) (split bytes here.at len (h.run ++ h.separator ∷ []) h.front);
     spelled = spelled ends refl;
   }
 
@@ -79,10 +79,10 @@ module _ (bytes : List ℕ) where
     are = are;
   }
 
-  pub passes_then : (Are Behind Both : List Lined → Type 0) (here mid there : Cursor)
-      → ((ts us : List Lined) → Are ts → Behind us → Both (ts ++ us))
-      → Passes Are bytes here mid → Passes Behind bytes mid there → Passes Both bytes here there
-  passes_then Are Behind Both here mid there both s t = record {
+  pub passes_then : (Are Then Both : List Lined → Type 0) (here mid there : Cursor)
+      → ((ts us : List Lined) → Are ts → Then us → Both (ts ++ us))
+      → Passes Are bytes here mid → Passes Then bytes mid there → Passes Both bytes here there
+  passes_then Are Then Both here mid there both s t = record {
     front = s.front ++ t.front;
     given = s.given ++ t.given;
     forward = omega (arith, s.forward, t.forward);
@@ -99,7 +99,7 @@ module _ (bytes : List ℕ) where
   one_number : (mid there : Cursor) (token : Token) → PassesNumber bytes mid there token
       → Passes (λ ts. ts ≡ (token, mid.line) ∷ []) bytes mid there
   one_number mid there token t = record {
-    front = t.word ++ t.behind ∷ [];
+    front = t.word ++ t.separator ∷ [];
     given = (token, mid.line) ∷ [];
     forward = omega (arith, t.further);
     within = t.within;
@@ -174,7 +174,7 @@ module _ {P A F : Type 0} (row : P → Token → Row P A F) (first : P) (bytes :
 
 -- ---- a scanner that goes to where a grammar came
 
-pub begun_counted : (b : Bool) → not (nat_eq (counted_if b) 0) ≡ b
+pub begun_counted : (b : Bool) → not (nat_eq (one_if b) 0) ≡ b
 begun_counted true = refl
 begun_counted false = refl
 
@@ -183,10 +183,10 @@ first_tokens : (r : Reading) (ends : LikelyEnds) (bytes : List ℕ)
     → tokens_next r bytes ≡ tokens_from_cursor r.comments (cursor r ends) bytes
 first_tokens r ends bytes = ap (λ b. tokens_left r.comments b r.line bytes) (sym (begun_counted r.begun))
 
-module _ {P A F : Type 0} (row : P → Token → Row P A F) (first place : P) (r : Reading) (ends : LikelyEnds)
-    (here : Cursor) (p : Passes (LeadOn row first place) r.pending (cursor r ends) here) where
+module _ {P A F : Type 0} (row : P → Token → Row P A F) (first state : P) (r : Reading) (ends : LikelyEnds)
+    (here : Cursor) (p : Passes (LeadOn row first state) r.pending (cursor r ends) here) where
   pub handed_so_far : (remaining : Option (List ℕ))
-      → IfKnown (SoFar row first place (tokens_next r) (tokens_next (moved r here))) (ahead r.pending remaining)
+      → IfKnown (SoFar row first state (tokens_next r) (tokens_next (scanner_at r here))) (ahead r.pending remaining)
       (ahead (drop here.at r.pending) remaining)
   handed_so_far None = tt
   handed_so_far (Some rest) = record {
@@ -199,7 +199,7 @@ module _ {P A F : Type 0} (row : P → Token → Row P A F) (first place : P) (r
 
   known : (remaining : Option (List ℕ))
       → reads_from row first (known_left r.comments r.begun r.line (ahead r.pending remaining))
-      ≡ reads_from row place (known_left r.comments (is_begun here) here.line (ahead (drop here.at r.pending) remaining))
+      ≡ reads_from row state (known_left r.comments (is_begun here) here.line (ahead (drop here.at r.pending) remaining))
   known None = refl
   known (Some rest) = ap (λ x. Some x) (
       ap (λ l. read_from row first (tokens_left r.comments r.begun r.line l))
@@ -210,7 +210,7 @@ module _ {P A F : Type 0} (row : P → Token → Row P A F) (first place : P) (r
       ∙ p.are (tokens_left r.comments (is_begun here) here.line (drop here.at r.pending ++ rest)))
 
   pub handed_leads : IsOpen r → (remaining : Option (List ℕ))
-      → reads_from row first (left r remaining) ≡ reads_from row place (left (moved r here) remaining)
+      → reads_from row first (left r remaining) ≡ reads_from row state (left (scanner_at r here) remaining)
   unfolding left
   handed_leads open_ remaining = rw open_ (known remaining)
 
@@ -224,9 +224,9 @@ taken_number format bytes here to token p None = tt
 taken_number format bytes here to token p (Some rest) = record {
   skipped = [];
   word = p.word;
-  behind = p.behind ∷ [];
-  line = counted here.line;
-  taken = ap (λ l. l ++ rest) p.taken ∙ append_assoc (p.word ++ p.behind ∷ []) (drop to.at bytes) rest;
+  separator = p.separator ∷ [];
+  line = line_number here.line;
+  taken = ap (λ l. l ++ rest) p.taken ∙ append_assoc (p.word ++ p.separator ∷ []) (drop to.at bytes) rest;
   nothing = left_nothing format (is_begun here) here.line;
   unbroken = p.unbroken;
   separates = p.separates;
@@ -234,24 +234,24 @@ taken_number format bytes here to token p (Some rest) = record {
 }
 
 given_buffered : (r : Reading) (here to : Cursor) (token : Token) → PassesNumber r.pending here to token → IsOpen r
-    → (remaining : Option (List ℕ)) → GivesNext (left (moved r here) remaining) (left (moved r to) remaining) (token, here.line)
+    → (remaining : Option (List ℕ)) → GivesNext (left (scanner_at r here) remaining) (left (scanner_at r to) remaining) (token, here.line)
 unfolding left
 given_buffered r here to token p open_ None = rw open_ tt
 given_buffered r here to token p open_ (Some rest) = rw (open_, p.no_end) (
     ap (λ l. tokens_left r.comments (is_begun here) here.line l)
-    (ap (λ l. l ++ rest) p.taken ∙ append_assoc (p.word ++ p.behind ∷ []) (drop to.at r.pending) rest)
+    (ap (λ l. l ++ rest) p.taken ∙ append_assoc (p.word ++ p.separator ∷ []) (drop to.at r.pending) rest)
     ∙ p.spelled r.comments (drop to.at r.pending ++ rest))
 
 -- what a grammar took is read
 pub handed : {P A F : Type 0} (row : P → Token → Row P A F) (first next : P) (answer : Option A) (r : Reading) (likely : LikelyEnds) (to : Cursor)
     → IsOpen r → length (drop to.at r.pending) ≤ 4096 → PassesAll row first next r.pending (cursor r likely) to answer → (remaining : Option (List ℕ))
-    → ReadsAtHand row first next r (moved r to) remaining answer
+    → ReadsAtHand row first next r (scanner_at r to) remaining answer
 handed row first next None r likely to open_ few p remaining =
     (handed_so_far row first next r likely to p remaining, handed_leads row first next r likely to p open_ remaining)
 handed row first next (Some a) r likely to open_ few p remaining = record {
   last = p.last;
   token = (p.token, p.here.line);
-  mid = moved r p.here;
+  mid = scanner_at r p.here;
   leads = (handed_so_far row first p.last r likely p.here p.leads remaining, handed_leads row first p.last r likely p.here p.leads open_ remaining);
   gives = given_buffered r p.here to p.token p.passes open_ remaining;
   takes = taken_number r.comments r.pending p.here to p.token p.passes remaining;
@@ -260,3 +260,10 @@ handed row first next (Some a) r likely to open_ few p remaining = record {
   less = omega (arith, length-drop to.at r.pending, p.passes.further, p.passes.within);
   few = few;
 }
+
+-- what holds in a loop that takes numbers at hand, which lead from one state to another, and with what it keeps of them
+pub record TakesNumbers {P A F : Type 0} (row : P → Token → Row P A F) (first next : P) (Sound : Type 0) (bytes : List ℕ) (from to : Cursor)
+    : Type 0 where
+  pub passes : Passes (LeadOn row first next) bytes from to
+  pub sound : Sound
+  pub within : to.at ≤ length bytes

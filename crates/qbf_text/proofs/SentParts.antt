@@ -1,7 +1,7 @@
 -- Texts that go out part by part.
 use Rattle.qbf_text.proofs.Words.{arith, ◌≡◌, ℕ, ◌<◌, Ok, Err, List, [], ◌∷◌, ◌++◌, Option, take, drop, refl, sym, ap, subst, ◌∙◌}
 use Rattle.qbf_text.proofs.Words.{append_assoc, ◌+◌, Some, zero, suc, inl, inr, AllByRecursion, get_or, length, flat_map, Result, decimal}
-use Rattle.qbf_text.proofs.Words.{map, false, common_steps, err_from_is_err_and, Token, spelled, line_rest, IsSent}
+use Rattle.qbf_text.proofs.Words.{map, false, common_steps, err_from_is_err_and, Token, token_text, line_rest, IsSent}
 use Rattle.std.proofs.Common.{slice_get, add-one, drop-cons, IsErrAnd, take-append-drop}
 use Rattle.std.proofs.lemmas.Option.{slice_get_within, get_or_from_slice_get, slice_get_cases}
 use Rattle.std.specs.List.{filter_map}
@@ -17,10 +17,10 @@ zero_decimal = refl
 
 -- tokens of a list go out one by one
 pub line_rest-map : {X : Type 0} (f : X → Token) (xs : List X) (ts : List Token)
-    → line_rest (map f xs ++ ts) ≡ flat_map (λ x. 32 ∷ spelled (f x)) xs ++ line_rest ts
+    → line_rest (map f xs ++ ts) ≡ flat_map (λ x. 32 ∷ token_text (f x)) xs ++ line_rest ts
 line_rest-map f [] ts = refl
-line_rest-map f (x ∷ xs) ts = ap (λ (k : List ℕ). 32 ∷ (spelled (f x) ++ k)) (line_rest-map f xs ts)
-    ∙ sym (append_assoc (32 ∷ spelled (f x)) (flat_map (λ y. 32 ∷ spelled (f y)) xs) (line_rest ts))
+line_rest-map f (x ∷ xs) ts = ap (λ (k : List ℕ). 32 ∷ (token_text (f x) ++ k)) (line_rest-map f xs ts)
+    ∙ sym (append_assoc (32 ∷ token_text (f x)) (flat_map (λ y. 32 ∷ token_text (f y)) xs) (line_rest ts))
 
 -- a zero closes them
 pub zero_rest : (ts : List Token) → line_rest (token.Number false 0 ∷ ts) ≡ 32 ∷ 48 ∷ line_rest ts

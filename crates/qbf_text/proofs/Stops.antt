@@ -3,10 +3,10 @@ use Rattle.qbf_text.proofs.Words.{common_steps, rules, ◌≡◌, ℕ, ◌+◌, 
 use Rattle.qbf_text.proofs.Words.{IfSome, refl, sym, ap, ◌∙◌, arith, append_assoc, append-nil, ⊤, Consumes, Comments, Token, End}
 use Rattle.qbf_text.proofs.Words.{is_separator, is_end, tokens_left, IsUnbroken, IsWithinLine, EndsRun, EndsLine, known_left, Lined, Row}
 use Rattle.qbf_text.proofs.Words.{Goes, Ends, Whole, read_from, Fails, Fault, IfKnown, TakesToken, PlaceSkips, SoFar, kind, is_blank}
-use Rattle.qbf_text.proofs.Words.{is_line_end, is_comment_byte, counted, GivesNext}
+use Rattle.qbf_text.proofs.Words.{is_line_end, is_comment_byte, line_number, GivesNext}
 use Rattle.std.proofs.KnownBytes.{Consumes-trans}
 use Rattle.qbf_text.specs.declared.scanner.Place.{Place}
-use Rattle.qbf_text.specs.Stopping.{BeginsAs, Skips, PlaceTakes, FindsToken, StopsBehind}
+use Rattle.qbf_text.specs.Stopping.{BeginsAs, Skips, PlaceTakes, FindsToken, StopsAfter}
 use Rattle.qbf_text.proofs.OneToken.{after, read-one}
 use Rattle.qbf_text.proofs.KnownLeft.{always}
 use Rattle.qbf_text.proofs.ByteByByte.{left_nothing, left_line_end, left_blank, left_comment, left_run, IsToken, tokens_left-counted}
@@ -58,18 +58,18 @@ pub regroup : (a b c d : List ℕ) → a ++ b ++ c ++ d ≡ a ++ (b ++ c ++ d)
 regroup a b c d = ap (λ l. l ++ d) (append_assoc a b c) ∙ append_assoc a (b ++ c) d
 
 -- no token, and then one
-pub takes_behind : (here mid there : List ℕ → List Lined) (token : Lined) (x y z : List ℕ) → Skips here mid x y
+pub takes_after : (here mid there : List ℕ → List Lined) (token : Lined) (x y z : List ℕ) → Skips here mid x y
     → TakesToken mid there token y z → TakesToken here there token x z
-takes_behind here mid there token x y z s t =
-    let front = t.skipped ++ t.word ++ t.behind in
-    let same = regroup s.skipped t.skipped t.word t.behind in
+takes_after here mid there token x y z s t =
+    let front = t.skipped ++ t.word ++ t.separator in
+    let same = regroup s.skipped t.skipped t.word t.separator in
     record {
       skipped = s.skipped ++ t.skipped;
       word = t.word;
-      behind = t.behind;
+      separator = t.separator;
       line = t.line;
       taken = s.taken ∙ ap (λ l. s.skipped ++ l) t.taken ∙ sym (append_assoc s.skipped front z) ∙ ap (λ l. l ++ z) (sym same);
-      nothing = s.spelled t.skipped (rw t.taken (begins_skipped t.skipped t.word t.behind z)) ∙ t.nothing;
+      nothing = s.spelled t.skipped (rw t.taken (begins_skipped t.skipped t.word t.separator z)) ∙ t.nothing;
       unbroken = t.unbroken;
       separates = t.separates;
       spelled = λ rest h.
@@ -85,12 +85,12 @@ module _ (f : Comments) (begun : Bool) (n : ℕ) where
   skips_same a b p = known_by _ (λ _. ⊤) a b [] p (always b) (λ rest _. skips_nothing (tokens_left f begun n) rest)
 
   pub skips_line_end : (b : ℕ) (t t' : Option (List ℕ)) → Consumes t t' (b ∷ []) → b ≡ 10
-      → IfKnown (Skips (tokens_left f begun n) (tokens_left f false (counted (n + 1)))) t t'
+      → IfKnown (Skips (tokens_left f begun n) (tokens_left f false (line_number (n + 1)))) t t'
   skips_line_end b t t' p e =
       known_by _ (λ _. ⊤) t t' (b ∷ []) p (always t') (λ new _. record {
         skipped = b ∷ [];
         taken = refl;
-        spelled = λ rest _. rw e (left_line_end f begun n rest ∙ tokens_left-counted f false (n + 1) (counted (n + 1)) rest (omega arith));
+        spelled = λ rest _. rw e (left_line_end f begun n rest ∙ tokens_left-counted f false (n + 1) (line_number (n + 1)) rest (omega arith));
       })
 
   pub skips_blank : (b : ℕ) (t t' : Option (List ℕ)) → Consumes t t' (b ∷ []) → is_blank b ≡ true
@@ -119,12 +119,12 @@ module _ (f : Comments) (begun : Bool) (n : ℕ) where
       → Consumes t' t'' more → IsUnbroken more → IfSome t'' EndsRun
       → IfKnown (TakesToken (tokens_left f begun n) (tokens_left f true n) (kind (b ∷ more), n)) t t''
   takes_run b more t t' t'' p sep token small q unbroken end =
-      let same : counted n ≡ n = omega arith in
+      let same : line_number n ≡ n = omega arith in
       known_by _ EndsRun t t'' (b ∷ more) (Consumes-trans t t' t'' (b ∷ []) more p q) end (λ new ends. record {
         skipped = [];
         word = b ∷ more;
-        behind = [];
-        line = counted n;
+        separator = [];
+        line = line_number n;
         taken = ap (λ l. l ++ new) (sym (append-nil (b ∷ more)));
         nothing = left_nothing f begun n;
         unbroken = (sep, unbroken);
@@ -141,19 +141,19 @@ known_skips here mid there a b c s t = known_trans _ _ _ (skips_more here mid th
 
 pub known_takes : (here mid there : List ℕ → List Lined) (token : Lined) (a b c : Option (List ℕ)) → IfKnown (Skips here mid) a b
     → IfKnown (TakesToken mid there token) b c → IfKnown (TakesToken here there token) a c
-known_takes here mid there token a b c s t = known_trans _ _ _ (takes_behind here mid there token) a b c s t
+known_takes here mid there token a b c s t = known_trans _ _ _ (takes_after here mid there token) a b c s t
 
 pub place_skips_more : (p q r : Place) (a b c : Option (List ℕ)) → PlaceSkips p a q b → PlaceSkips q b r c → PlaceSkips p a r c
 place_skips_more p q r a b c s t = grind (arith, common_steps, known_trans, skips_more)
 
-pub place_takes_behind : (p q r : Place) (a b c : Option (List ℕ)) (token : Lined) → PlaceSkips p a q b → PlaceTakes q b r c token
+pub place_takes_after : (p q r : Place) (a b c : Option (List ℕ)) (token : Lined) → PlaceSkips p a q b → PlaceTakes q b r c token
     → PlaceTakes p a r c token
-place_takes_behind p q r a b c token s t = grind (arith, common_steps, known_trans, takes_behind)
+place_takes_after p q r a b c token s t = grind (arith, common_steps, known_trans, takes_after)
 
 -- a token after it is found
 pub found_token : {p q r : Place} {a b c : Option (List ℕ)} {token : Lined} → PlaceSkips p a q b → FindsToken q b r c token
     → FindsToken p a r c token
-found_token s t = grind (arith, common_steps, place_takes_behind)
+found_token s t = grind (arith, common_steps, place_takes_after)
 
 -- ---- token after token
 
@@ -162,9 +162,9 @@ module _ {P A F : Type 0} (row : P → Token → Row P A F) (first : P) where
   so_far_none here None = tt
   so_far_none here (Some x) = record { front = []; given = []; taken = refl; spelled = λ rest _. refl; leads = λ ts. refl }
 
-  so_far_then : (place next : P) (here mid there : List ℕ → List Lined) (x y z : List ℕ) → SoFar row first place here mid x y
-      → SoFar row place next mid there y z → SoFar row first next here there x z
-  so_far_then place next here mid there x y z s t = record {
+  so_far_then : (state next : P) (here mid there : List ℕ → List Lined) (x y z : List ℕ) → SoFar row first state here mid x y
+      → SoFar row state next mid there y z → SoFar row first next here there x z
+  so_far_then state next here mid there x y z s t = record {
     front = s.front ++ t.front;
     given = s.given ++ t.given;
     taken = s.taken ∙ ap (λ l. s.front ++ l) t.taken ∙ sym (append_assoc s.front t.front z);
@@ -176,15 +176,15 @@ module _ {P A F : Type 0} (row : P → Token → Row P A F) (first : P) where
     leads = λ ts. ap (read_from row first) (append_assoc s.given t.given ts) ∙ s.leads (t.given ++ ts) ∙ t.leads ts;
   }
 
-  pub known_so_far : (place next : P) (here mid there : List ℕ → List Lined) (a b c : Option (List ℕ))
-      → IfKnown (SoFar row first place here mid) a b → IfKnown (SoFar row place next mid there) b c
+  pub known_so_far : (state next : P) (here mid there : List ℕ → List Lined) (a b c : Option (List ℕ))
+      → IfKnown (SoFar row first state here mid) a b → IfKnown (SoFar row state next mid there) b c
       → IfKnown (SoFar row first next here there) a c
-  known_so_far place next here mid there a b c = known_trans _ _ _ (λ x y z. so_far_then place next here mid there x y z) a b c
+  known_so_far state next here mid there a b c = known_trans _ _ _ (λ x y z. so_far_then state next here mid there x y z) a b c
 
-  so_far_more : (place next : P) (here mid there : List ℕ → List Lined) (token : Lined) (x y z : List ℕ) → row place token.0 ≡ Goes next
-      → SoFar row first place here mid x y → TakesToken mid there token y z → SoFar row first next here there x z
-  so_far_more place next here mid there token x y z e s t =
-      let more = t.skipped ++ t.word ++ t.behind in
+  so_far_more : (state next : P) (here mid there : List ℕ → List Lined) (token : Lined) (x y z : List ℕ) → row state token.0 ≡ Goes next
+      → SoFar row first state here mid x y → TakesToken mid there token y z → SoFar row first next here there x z
+  so_far_more state next here mid there token x y z e s t =
+      let more = t.skipped ++ t.word ++ t.separator in
       record {
         front = s.front ++ more;
         given = s.given ++ token ∷ [];
@@ -197,27 +197,27 @@ module _ {P A F : Type 0} (row : P → Token → Row P A F) (first : P) where
         leads = λ ts.
             ap (read_from row first) (append_assoc s.given (token ∷ []) ts)
             ∙ s.leads (token ∷ ts)
-            ∙ read-one row place token ts
+            ∙ read-one row state token ts
             ∙ ap (λ (r : Row P A F). after row r token ts) e;
       }
 
-  pub so_far_goes : (place next : P) (here mid there : List ℕ → List Lined) (token : Lined) (a b c : Option (List ℕ))
-      → row place token.0 ≡ Goes next
-      → IfKnown (SoFar row first place here mid) a b → IfKnown (TakesToken mid there token) b c
+  pub so_far_goes : (state next : P) (here mid there : List ℕ → List Lined) (token : Lined) (a b c : Option (List ℕ))
+      → row state token.0 ≡ Goes next
+      → IfKnown (SoFar row first state here mid) a b → IfKnown (TakesToken mid there token) b c
       → IfKnown (SoFar row first next here there) a c
-  so_far_goes place next here mid there token a b c e = search (rules, known_trans, so_far_more)
+  so_far_goes state next here mid there token a b c e = search (rules, known_trans, so_far_more)
 
   stops_one : (last next : P) (answer : A) (here mid there : List ℕ → List Lined) (token : Lined) (x y z : List ℕ)
       → row last token.0 ≡ Ends answer next → is_end token.0 ≡ false
-      → SoFar row first last here mid x y → TakesToken mid there token y z → StopsBehind row first next answer here there x z
+      → SoFar row first last here mid x y → TakesToken mid there token y z → StopsAfter row first next answer here there x z
   stops_one last next answer here mid there token x y z e no_end s t =
-      let more = t.skipped ++ t.word ++ t.behind in
-      let same = regroup s.front t.skipped t.word t.behind in
+      let more = t.skipped ++ t.word ++ t.separator in
+      let same = regroup s.front t.skipped t.word t.separator in
       let before = s.front ++ t.skipped in
       record {
         before = before;
         word = t.word;
-        behind = t.behind;
+        separator = t.separator;
         last = last;
         token = token.0;
         line = t.line;
@@ -228,7 +228,7 @@ module _ {P A F : Type 0} (row : P → Token → Row P A F) (first : P) where
         no_end = no_end;
         unread =
             ap (read_from row first)
-            (s.spelled t.skipped (rw t.taken (begins_skipped t.skipped t.word t.behind z)) ∙ ap (λ l. s.given ++ l) t.nothing)
+            (s.spelled t.skipped (rw t.taken (begins_skipped t.skipped t.word t.separator z)) ∙ ap (λ l. s.given ++ l) t.nothing)
             ∙ s.leads ((End, t.line) ∷ []);
         whole = λ rest h.
             ap (λ l. read_from row first (here l)) (ap (λ l. l ++ rest) same ∙ append_assoc s.front more rest)
@@ -237,14 +237,14 @@ module _ {P A F : Type 0} (row : P → Token → Row P A F) (first : P) where
             ∙ s.leads (token ∷ there rest)
             ∙ read-one row last token (there rest)
             ∙ ap (λ (r : Row P A F). after row r token (there rest)) e
-            ∙ ap (λ (b : Bool). Whole answer next (rows.behind b token (there rest))) no_end;
+            ∙ ap (λ (b : Bool). Whole answer next (rows.rest_after b token (there rest))) no_end;
       }
 
-  pub stops_behind : (last next : P) (answer : A) (here mid there : List ℕ → List Lined) (token : Lined)
+  pub stops_after : (last next : P) (answer : A) (here mid there : List ℕ → List Lined) (token : Lined)
       (a b c : Option (List ℕ)) → row last token.0 ≡ Ends answer next → is_end token.0 ≡ false
       → IfKnown (SoFar row first last here mid) a b → IfKnown (TakesToken mid there token) b c
-      → IfKnown (StopsBehind row first next answer here there) a c
-  stops_behind last next answer here mid there token a b c e no_end = search (rules, known_trans, stops_one)
+      → IfKnown (StopsAfter row first next answer here there) a c
+  stops_after last next answer here mid there token a b c e no_end = search (rules, known_trans, stops_one)
 
 -- what holds of known bytes, in other words
 pub if_known : {P Q : List ℕ → List ℕ → Type 0} → ((x y : List ℕ) → P x y → Q x y) → (before after : Option (List ℕ))
@@ -257,7 +257,7 @@ module _ {P A F : Type 0} (row : P → Token → Row P A F) {fault : F} (refused
 
   -- without the last run there is the fault of the end
   pub unread_fault : {first next : P} {a : A} {here there : List ℕ → List Lined} {old new : List ℕ}
-      → (s : StopsBehind row first next a here there old new)
+      → (s : StopsAfter row first next a here there old new)
       → read_from row first (here s.before) ≡ Fault fault s.line
   unread_fault s = grind (arith, common_steps, read-one, after)
 

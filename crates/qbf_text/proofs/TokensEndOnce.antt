@@ -1,6 +1,6 @@
 -- The tokens of a text end once.
 use Rattle.qbf_text.proofs.Words.{rules, ◌≡◌, ◌≢◌, ℕ, ◌+◌, Bool, true, false, List, [], ◌∷◌, ◌++◌, map, refl, ap, append_assoc, count_by}
-use Rattle.qbf_text.proofs.Words.{slice_split, Comments, Token, Lined, EndsOnce, is_end, is_line_end, is_comment_line, runs, kind, counted}
+use Rattle.qbf_text.proofs.Words.{slice_split, Comments, Token, Lined, EndsOnce, is_end, is_line_end, is_comment_line, runs, kind, line_number}
 use Rattle.qbf_text.proofs.Words.{line_tokens, tokens_from, tokens}
 use Rattle.qbf_text.proofs.KnownLeft.{kind_no_end}
 use Rattle.qbf_text.specs.declared.token.Token.TheVariants as kinds
@@ -21,7 +21,7 @@ line_before f n line ts h = by (is_comment_line f line) refl
   where
     by : (b : Bool) → is_comment_line f line ≡ b → EndsOnce (line_tokens f n line ++ ts)
     by true e = rw e h
-    by false e = rw e (runs_before (counted n) (runs line) ts h)
+    by false e = rw e (runs_before (line_number n) (runs line) ts h)
 
 lines_before : (f : Comments) (n : ℕ) (lines : List (List ℕ)) (ts : List Lined) → EndsOnce ts → EndsOnce (tokens_from f n lines ++ ts)
 lines_before f n [] ts h = h
@@ -30,4 +30,4 @@ lines_before f n (line ∷ lines) ts h =
     (line_before f n line (tokens_from f (n + 1) lines ++ ts) (lines_before f (n + 1) lines ts h))
 
 pub tokens-EndsOnce : (f : Comments) (bytes : List ℕ) → EndsOnce (tokens f bytes)
-tokens-EndsOnce f bytes = lines_before f 1 (slice_split is_line_end bytes) ((kinds.End, counted (1 + count_by is_line_end bytes)) ∷ []) refl
+tokens-EndsOnce f bytes = lines_before f 1 (slice_split is_line_end bytes) ((kinds.End, line_number (1 + count_by is_line_end bytes)) ∷ []) refl

@@ -1,14 +1,14 @@
 -- The names that the proofs cite most, passed on from one place. Declares nothing.
 pub use Rattle.qbf_text.specs.Ahead.{ahead, first_of}
-pub use Rattle.qbf_text.specs.Canonical.{line_rest, spelled}
+pub use Rattle.qbf_text.specs.Canonical.{line_rest, token_text}
 pub use Rattle.qbf_text.specs.Left.{EndsLine, EndsRun, IsUnbroken, IsWithinLine, is_end, is_separator, known_left, tokens_left}
-pub use Rattle.qbf_text.specs.Lined.{EndsOnce, Lined, unlined}
+pub use Rattle.qbf_text.specs.Lined.{EndsOnce, Lined, without_lines}
 pub use Rattle.qbf_text.specs.Passing.{BeginsWithNumber, SoFar}
 pub use Rattle.qbf_text.specs.Reading.{GivesNext, HasFailed, IsReady, Reading, left}
 pub use Rattle.qbf_text.specs.Rows.{Ends, Fails, Fault, Goes, Read, Row, Whole, read_from, reads_from}
 pub use Rattle.qbf_text.specs.Runs.{after_minus, begins_number, begins_with_minus, digits_of}
 pub use Rattle.qbf_text.specs.Stopping.{IfKnown, PlaceSkips, TakesToken, tokens_next}
-pub use Rattle.qbf_text.specs.Tokens.{counted, is_blank, is_comment_byte, is_comment_line, is_line_end, kind, line_tokens, magnitude}
+pub use Rattle.qbf_text.specs.Tokens.{line_number, is_blank, is_comment_byte, is_comment_line, is_line_end, kind, line_tokens, magnitude}
 pub use Rattle.qbf_text.specs.Tokens.{number, numeral, runs, tokens, tokens_from}
 pub use Rattle.qbf_text.specs.Written.{IsSent}
 pub use Rattle.qbf_text.specs.declared.run.Digits.{Digits}

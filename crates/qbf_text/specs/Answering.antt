@@ -4,23 +4,23 @@ use Rattle.qbf_text.specs.declared.grammar.ReadError.{ReadError}
 use Rattle.qbf_text.specs.declared.grammar.ReadError.TheVariants as error
 use Rattle.qbf_text.specs.declared.token.Comments.{Comments}
 use Rattle.qbf_text.specs.declared.token.Token.{Token}
-use Rattle.qbf_text.specs.Lined.{Lined, unlined, EndsOnce}
+use Rattle.qbf_text.specs.Lined.{Lined, without_lines, EndsOnce}
 use Rattle.qbf_text.specs.Tokens.{tokens}
 
--- The fault stands on this line: the tokens before it spell a place, and that place refuses this one.
+-- The fault stands on this line: the tokens before it spell a state, and that state refuses this one.
 pub record IsFault {P F : Type 0} (Spells : List Token → P → Type 0) (Refuses : P → Token → F → Type 0) (ts : List Lined) (fault : F)
     (line : ℕ) : Type 0 where
   pub before : List Lined
   pub wrong : Token
   pub after : List Lined
   pub whole : ts ≡ before ++ (wrong, line) ∷ after
-  pub place : P
-  pub stands : Spells (unlined before) place
-  pub refused : Refuses place wrong fault
+  pub state : P
+  pub stands : Spells (without_lines before) state
+  pub refused : Refuses state wrong fault
 
 -- What tokens read as: what they spell, or the fault that stands.
 abbrev pub Reads : {A F : Type 0} → (List Token → A → Type 0) → (List Lined → F → ℕ → Type 0) → List Lined → Result A (F × ℕ) → Type 0
-Reads Spelled Stands ts (Ok a) = Spelled (unlined ts) a
+Reads Spelled Stands ts (Ok a) = Spelled (without_lines ts) a
 Reads Spelled Stands ts (Err e) = Stands ts e.0 e.1
 
 -- this holds, but where something else is to blame
@@ -31,7 +31,7 @@ Unless false A = A
 -- The same, where some faults are not of the text: the source failed, or memory ran out.
 abbrev pub Answers : {A F : Type 0} → (F → Bool) → (List Token → A → Type 0) → (List Lined → F → ℕ → Type 0) → List Lined
     → Result A (F × ℕ) → Type 0
-Answers outside Spelled Stands ts (Ok a) = Spelled (unlined ts) a
+Answers outside Spelled Stands ts (Ok a) = Spelled (without_lines ts) a
 Answers outside Spelled Stands ts (Err e) = Unless (outside e.0) (Stands ts e.0 e.1)
 
 -- The result is what was to be read, as far as that is known, unless the source failed or memory ran out.

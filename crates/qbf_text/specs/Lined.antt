@@ -8,8 +8,8 @@ abbrev pub Lined : Type 0
 Lined = Token × ℕ
 
 -- the tokens without their lines
-abbrev pub unlined : List Lined → List Token
-unlined ts = map (λ t. t.0) ts
+abbrev pub without_lines : List Lined → List Token
+without_lines ts = map (λ t. t.0) ts
 
 -- End comes last, and nowhere else
 abbrev pub EndsOnce : List Lined → Type 0

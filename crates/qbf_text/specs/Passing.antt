@@ -13,41 +13,41 @@ use Rattle.qbf_text.specs.Reading.{Reading, GivesNext, left}
 use Rattle.qbf_text.specs.Rows.{Row, Ends, read_from, reads_from}
 use Rattle.qbf_text.specs.Stopping.{BeginsAs, IfKnown, ScannerTakes, tokens_next}
 use Rattle.qbf_text.specs.Runs.{begins_number}
-use Rattle.qbf_text.specs.Tokens.{counted, kind, is_line_end}
+use Rattle.qbf_text.specs.Tokens.{line_number, kind, is_line_end}
 
 -- the first `len` bytes are a run that is this number, and the separator after it, which ends the line or not
 pub record BeginsWithNumber (bytes : List ℕ) (negative : Bool) (value len : ℕ) (ends_line : Bool) : Type 0 where
   pub run : List ℕ
-  pub behind : ℕ
+  pub separator : ℕ
   pub within : len ≤ length bytes
-  pub front : take len bytes ≡ run ++ behind ∷ []
+  pub front : take len bytes ≡ run ++ separator ∷ []
   pub begins : begins_number run ≡ true
   pub unbroken : IsUnbroken run
   pub is : Number negative value ≡ kind run
-  pub separates : is_separator behind ≡ true
-  pub ends : ends_line ≡ is_line_end behind
+  pub separates : is_separator separator ≡ true
+  pub ends : ends_line ≡ is_line_end separator
 
 -- 1 where this is so
-abbrev pub counted_if : Bool → ℕ
-counted_if true = 1
-counted_if false = 0
+abbrev pub one_if : Bool → ℕ
+one_if true = 1
+one_if false = 0
 
 -- whether a token stands before a cursor on its line
 abbrev pub is_begun : Cursor → Bool
 is_begun here = not (nat_eq here.tokens 0)
 
 -- the cursor after a number and its separator, which take so many bytes
-abbrev pub behind : Cursor → LikelyEnds → ℕ → Bool → Cursor
-behind here ends len true = record { at = here.at + len; line = counted (here.line + 1); tokens = 0; ends = ends }
-behind here ends len false = record { at = here.at + len; line = here.line; tokens = 1; ends = ends }
+abbrev pub cursor_after : Cursor → LikelyEnds → ℕ → Bool → Cursor
+cursor_after here ends len true = record { at = here.at + len; line = line_number (here.line + 1); tokens = 0; ends = ends }
+cursor_after here ends len false = record { at = here.at + len; line = here.line; tokens = 1; ends = ends }
 
 -- where the first of the bytes at hand stands
 abbrev pub cursor : Reading → LikelyEnds → Cursor
-cursor r ends = record { at = 0; line = r.line; tokens = counted_if r.begun; ends = ends }
+cursor r ends = record { at = 0; line = r.line; tokens = one_if r.begun; ends = ends }
 
 -- a scanner that went to a cursor
-abbrev pub moved : Reading → Cursor → Reading
-moved r here = record r { line = here.line; begun = is_begun here; pending = drop here.at r.pending }
+abbrev pub scanner_at : Reading → Cursor → Reading
+scanner_at r here = record r { line = here.line; begun = is_begun here; pending = drop here.at r.pending }
 
 -- the tokens of bytes that stand at a cursor
 abbrev pub tokens_from_cursor : Comments → Cursor → List ℕ → List Lined
@@ -56,14 +56,14 @@ tokens_from_cursor format here = tokens_left format (is_begun here) here.line
 -- one token stands between two cursors, whatever bytes follow
 pub record PassesNumber (bytes : List ℕ) (here next : Cursor) (token : Token) : Type 0 where
   pub word : List ℕ
-  pub behind : ℕ
+  pub separator : ℕ
   pub unbroken : IsUnbroken word
-  pub separates : is_separator behind ≡ true
+  pub separates : is_separator separator ≡ true
   pub no_end : is_end token ≡ false
   pub further : here.at < next.at
   pub within : next.at ≤ length bytes
-  pub taken : drop here.at bytes ≡ (word ++ behind ∷ []) ++ drop next.at bytes
-  pub spelled : (format : Comments) (rest : List ℕ) → tokens_from_cursor format here ((word ++ behind ∷ []) ++ rest)
+  pub taken : drop here.at bytes ≡ (word ++ separator ∷ []) ++ drop next.at bytes
+  pub spelled : (format : Comments) (rest : List ℕ) → tokens_from_cursor format here ((word ++ separator ∷ []) ++ rest)
       ≡ (token, here.line) ∷ tokens_from_cursor format next rest
 
 -- the tokens between two cursors are as this says, whatever bytes follow
@@ -77,11 +77,11 @@ pub record Passes (Are : List Lined → Type 0) (bytes : List ℕ) (here next : 
       ≡ given ++ tokens_from_cursor format next rest
   pub are : Are given
 
--- tokens lead from one place to another
+-- tokens lead from one state to another
 abbrev pub LeadOn : {P A F : Type 0} → (P → Token → Row P A F) → P → P → List Lined → Type 0
-LeadOn row first place given = (ts : List Lined) → read_from row first (given ++ ts) ≡ read_from row place ts
+LeadOn row first state given = (ts : List Lined) → read_from row first (given ++ ts) ≡ read_from row state ts
 
--- tokens lead from one place to another, and there one token more ends what is read
+-- tokens lead from one state to another, and there one token more ends what is read
 pub record PassesLast {P A F : Type 0} (row : P → Token → Row P A F) (first next : P) (answer : A) (bytes : List ℕ) (from to : Cursor)
     : Type 0 where
   pub last : P
@@ -96,16 +96,16 @@ abbrev pub PassesAll : {P A F : Type 0} → (P → Token → Row P A F) → (fir
 PassesAll row first next bytes from to None = Passes (LeadOn row first next) bytes from to
 PassesAll row first next bytes from to (Some answer) = PassesLast row first next answer bytes from to
 
--- what was read so far: the tokens of the bytes that were taken lead from the first place to this one
-pub record SoFar {P A F : Type 0} (row : P → Token → Row P A F) (first place : P) (here there : List ℕ → List Lined)
+-- what was read so far: the tokens of the bytes that were taken lead from the first state to this one
+pub record SoFar {P A F : Type 0} (row : P → Token → Row P A F) (first state : P) (here there : List ℕ → List Lined)
     (old new : List ℕ) : Type 0 where
   pub front : List ℕ
   pub given : List Lined
   pub taken : old ≡ front ++ new
   pub spelled : (rest : List ℕ) → BeginsAs new rest → here (front ++ rest) ≡ given ++ there rest
-  pub leads : (ts : List Lined) → read_from row first (given ++ ts) ≡ read_from row place ts
+  pub leads : (ts : List Lined) → read_from row first (given ++ ts) ≡ read_from row state ts
 
--- between two places of a scanner the tokens lead from one place of the text to another
+-- between two places of a scanner the tokens lead from one state to another
 abbrev pub LeadsOver : {P A F : Type 0} → (P → Token → Row P A F) → (first next : P) → (r s : Reading) → Option (List ℕ) → Type 0
 LeadsOver row first next r s remaining =
     IfKnown (SoFar row first next (tokens_next r) (tokens_next s)) (ahead r.pending remaining) (ahead s.pending remaining)

@@ -25,12 +25,12 @@ abbrev pub pull_size : Supply → ℕ → ℕ
 pull_size s room = min s.piece (min (length s.rest) room)
 
 -- after a pull of n bytes
-abbrev pub pulled : Supply → ℕ → Supply
-pulled s n = record s { rest = drop n s.rest; pulls = one_more s.pulls }
+abbrev pub after_pull : Supply → ℕ → Supply
+after_pull s n = record s { rest = drop n s.rest; pulls = one_more s.pulls }
 
 -- after the pull that fails no byte is gone
-abbrev pub pull_failed : Supply → Supply
-pull_failed s = record s { pulls = one_more s.pulls; failures = one_more s.failures }
+abbrev pub after_failed_pull : Supply → Supply
+after_failed_pull s = record s { pulls = one_more s.pulls; failures = one_more s.failures }
 
 -- ---- sinks that keep what was sent
 
@@ -51,9 +51,9 @@ pub record Store : Type 0 where
   pub failures : ℕ
 
 -- no more than the room
-abbrev pub within : Option ℕ → ℕ → ℕ
-within None n = n
-within (Some room) n = min room n
+abbrev pub up_to_room : Option ℕ → ℕ → ℕ
+up_to_room None n = n
+up_to_room (Some room) n = min room n
 
 -- the room after n bytes
 abbrev pub room_after : Option ℕ → ℕ → Option ℕ
@@ -62,20 +62,20 @@ room_after (Some room) n = Some (room - n)
 
 -- how many bytes a push takes of so many: the least of the piece, of these and of the room
 abbrev pub push_size : Store → ℕ → ℕ
-push_size s count = within s.room (min s.piece count)
+push_size s count = up_to_room s.room (min s.piece count)
 
 -- after a push of these bytes, with memory for so many
-abbrev pub pushed : Store → List ℕ → ℕ → Store
-pushed s sent capacity = record s { bytes = s.bytes ++ sent; room = room_after s.room (length sent); capacity = capacity }
+abbrev pub after_push : Store → List ℕ → ℕ → Store
+after_push s sent capacity = record s { bytes = s.bytes ++ sent; room = room_after s.room (length sent); capacity = capacity }
 
 -- after the push that meets the room used up: none fails for want of room again
-abbrev pub room_failed : Store → Store
-room_failed s = record s { room = None; failures = one_more s.failures }
+abbrev pub without_room : Store → Store
+without_room s = record s { room = None; failures = one_more s.failures }
 
 -- after a failure of `finish`
-abbrev pub finish_failed : Store → Store
-finish_failed s = record s { failures = one_more s.failures }
+abbrev pub after_failed_finish : Store → Store
+after_failed_finish s = record s { failures = one_more s.failures }
 
 -- after a failed growth, with memory for so many
-abbrev pub refused : Store → ℕ → Store
-refused s capacity = record s { failures = one_more s.failures; capacity = capacity }
+abbrev pub after_failed_growth : Store → ℕ → Store
+after_failed_growth s capacity = record s { failures = one_more s.failures; capacity = capacity }

@@ -1,18 +1,18 @@
--- Reading by rows: for each place in a text a row says which tokens go on, which end, and what is a fault.
+-- Reading by rows: for each state in a text a row says which tokens go on, which end, and what is a fault.
 use Rattle.std.specs.Prelude.{ℕ, Bool, true, false, List, [], ◌∷◌, Option, Some, None}
 use Rattle.qbf_text.specs.declared.token.Token.{Token}
 use Rattle.qbf_text.specs.Lined.{Lined, Known}
 use Rattle.qbf_text.specs.Left.{is_end}
 
--- What the row of a place makes of a token.
+-- What the row of a state makes of a token.
 pub data Row (P A F : Type 0) : Type 0 where
   Goes : P → Row P A F
   Ends : A → P → Row P A F
   Fails : F → Row P A F
 
--- What is read from a place on.
+-- What is read from a state on.
 pub data Read (P A F : Type 0) : Type 0 where
-  -- the result, the place after it and the tokens that are left
+  -- the result, the state after it and the tokens that are left
   Whole : A → P → List Lined → Read P A F
   -- the first fault and its line
   Fault : F → ℕ → Read P A F
@@ -20,21 +20,21 @@ pub data Read (P A F : Type 0) : Type 0 where
   Cut : Read P A F
 
 -- the tokens after one that was taken: End stays
-abbrev pub behind : Bool → Lined → List Lined → List Lined
-behind true t ts = t ∷ []
-behind false t ts = ts
+abbrev pub rest_after : Bool → Lined → List Lined → List Lined
+rest_after true t ts = t ∷ []
+rest_after false t ts = ts
 
--- What is read from a place on.
+-- What is read from a state on.
 unfoldable pub read_from : {P A F : Type 0} → (P → Token → Row P A F) → P → List Lined → Read P A F
-read_from row place [] = Cut
-read_from row place (t ∷ ts) =
-    elim (row place t.0) [
+read_from row state [] = Cut
+read_from row state (t ∷ ts) =
+    elim (row state t.0) [
       | Goes next ↦ read_from row next ts
-      | Ends answer next ↦ Whole answer next (behind (is_end t.0) t ts)
+      | Ends answer next ↦ Whole answer next (rest_after (is_end t.0) t ts)
       | Fails fault ↦ Fault fault t.1
     ]
 
 -- The same, where the tokens are known.
 abbrev pub reads_from : {P A F : Type 0} → (P → Token → Row P A F) → P → Known → Option (Read P A F)
-reads_from row place None = None
-reads_from row place (Some ts) = Some (read_from row place ts)
+reads_from row state None = None
+reads_from row state (Some ts) = Some (read_from row state ts)

@@ -40,13 +40,13 @@ pub record Skips {R : Type 0} (here there : List ℕ → R) (old new : List ℕ)
 pub record TakesToken (here there : List ℕ → List Lined) (token : Lined) (old new : List ℕ) : Type 0 where
   pub skipped : List ℕ
   pub word : List ℕ
-  pub behind : List ℕ
+  pub separator : List ℕ
   pub line : ℕ
-  pub taken : old ≡ skipped ++ word ++ behind ++ new
+  pub taken : old ≡ skipped ++ word ++ separator ++ new
   pub nothing : here skipped ≡ (End, line) ∷ []
   pub unbroken : IsUnbroken word
-  pub separates : IsAtMostASeparator behind
-  pub spelled : (rest : List ℕ) → BeginsAs new rest → here (skipped ++ word ++ behind ++ rest) ≡ token ∷ there rest
+  pub separates : IsAtMostASeparator separator
+  pub spelled : (rest : List ℕ) → BeginsAs new rest → here (skipped ++ word ++ separator ++ rest) ≡ token ∷ there rest
 
 -- the tokens of bytes that stand next at a place in the text
 abbrev pub tokens_at : Place → List ℕ → List Lined
@@ -86,29 +86,29 @@ ScannerTakes r before s after token =
     IfKnown (TakesToken (tokens_next r) (tokens_next s) token) (ahead r.pending before) (ahead s.pending after)
 
 -- Of the bytes before, no more was taken than what spells the result: the run of the last token is needed, since without it the
--- last place is not left, and after it at most one separator was taken. `here` says what tokens bytes have before, and `there` what
+-- last state is not left, and after it at most one separator was taken. `here` says what tokens bytes have before, and `there` what
 -- they have afterwards.
-pub record StopsBehind {P A F : Type 0} (row : P → Token → Row P A F) (first next : P) (answer : A) (here there : List ℕ → List Lined)
+pub record StopsAfter {P A F : Type 0} (row : P → Token → Row P A F) (first next : P) (answer : A) (here there : List ℕ → List Lined)
     (old new : List ℕ) : Type 0 where
   pub before : List ℕ
   pub word : List ℕ
-  pub behind : List ℕ
+  pub separator : List ℕ
   pub last : P
   pub token : Token
   pub line : ℕ
-  pub taken : old ≡ before ++ word ++ behind ++ new
+  pub taken : old ≡ before ++ word ++ separator ++ new
   pub unbroken : IsUnbroken word
-  pub separates : IsAtMostASeparator behind
+  pub separates : IsAtMostASeparator separator
   pub ends : row last token ≡ Ends answer next
   pub no_end : is_end token ≡ false
-  -- the bytes before that run lead to the last place
+  -- the bytes before that run lead to the last state
   pub unread : read_from row first (here before) ≡ read_from row last ((End, line) ∷ [])
   -- with it they give the result, whether the text goes on as it does or ends there
-  pub whole : (rest : List ℕ) → BeginsAs new rest → read_from row first (here (before ++ word ++ behind ++ rest)) ≡ Whole answer next (there rest)
+  pub whole : (rest : List ℕ) → BeginsAs new rest → read_from row first (here (before ++ word ++ separator ++ rest)) ≡ Whole answer next (there rest)
 
 -- where some row takes a token that is not End, nothing is taken after it but a separator, and this holds too
 abbrev pub Stops : {P A F : Type 0} → (P → Token → Row P A F) → P → P → (here there : List ℕ → List Lined) → Option (List ℕ)
     → Option (List ℕ) → Type 0 → Result A (ReadError F) → Type 0
-Stops {P = P} row first next here there before after few (Ok a) = (place : P) × (token : Token) × (row place token ≡ Ends a next)
-    × (is_end token ≡ false → IfKnown (StopsBehind row first next a here there) before after × few)
+Stops {P = P} row first next here there before after few (Ok a) = (state : P) × (token : Token) × (row state token ≡ Ends a next)
+    × (is_end token ≡ false → IfKnown (StopsAfter row first next a here there) before after × few)
 Stops row first next here there before after few (Err e) = ⊤

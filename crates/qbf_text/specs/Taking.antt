@@ -55,7 +55,7 @@ Answers whole next (Err (error.Text f line)) = whole ≡ Fault f line
 -- token is not End, and what holds if it is
 abbrev pub Follows : {P A F : Type 0} → (P → Token → Row P A F) → P → Type 0 → Type 0 → Result A (ReadError F) → Type 0
 Follows {P = P} row next open_ ended (Ok a) =
-    (place : P) × (token : Token) × (row place token ≡ Ends a next) × (is_end token ≡ false → open_) × (is_end token ≡ true → ended)
+    (state : P) × (token : Token) × (row state token ≡ Ends a next) × (is_end token ≡ false → open_) × (is_end token ≡ true → ended)
 Follows row next open_ ended (Err error.Device) = ⊤
 Follows row next open_ ended (Err error.Memory) = ⊤
-Follows {P = P} row next open_ ended (Err (error.Text f line)) = (place : P) × (token : Token) × (row place token ≡ Fails f)
+Follows {P = P} row next open_ ended (Err (error.Text f line)) = (state : P) × (token : Token) × (row state token ≡ Fails f)

@@ -67,15 +67,15 @@ fn signed_number(bytes: &[u8]) -> Option<Found>
     if end == start || end >= bytes.len() || is_minus_zero(negative, value) {
         return None;
     }
-    let behind = bytes[end];
-    if !is_separator(behind) {
+    let separator = bytes[end];
+    if !is_separator(separator) {
         return None;
     }
     Some(Found {
         negative,
         value,
         len: end + 1,
-        ends_line: behind == b'\n',
+        ends_line: separator == b'\n',
     })
 }
 
@@ -144,8 +144,7 @@ pub struct Passed {
 }
 
 impl Cursor {
-    ghost use Rattle.std.specs.Prelude.{List, ℕ, drop};
-    ghost use Rattle.qbf_text.specs.Passing.{behind, counted_if, is_begun};
+    ghost use Rattle.qbf_text.specs.Passing.{cursor_after, one_if, is_begun};
     ghost use Rattle.qbf_text.specs.declared.token.Token.TheVariants.{Number};
 
     /// The cursor at the first of the bytes.
@@ -154,7 +153,7 @@ impl Cursor {
         ensures { result ≡ record {
           at = 0;
           line = line;
-          tokens = counted_if begun;
+          tokens = one_if begun;
           ends = ends;
         } }
     {
@@ -179,7 +178,7 @@ impl Cursor {
     fn pass(self, found: Found, ends: LikelyEnds) -> Passed
         requires { self.at + found.len < 2 ^ 64 }
         ensures token { result.token ≡ Number found.negative found.value }
-        ensures next { result.next ≡ behind self ends found.len found.ends_line }
+        ensures next { result.next ≡ cursor_after self ends found.len found.ends_line }
     {
         let line = self.line;
         Passed {

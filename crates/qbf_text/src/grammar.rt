@@ -1,8 +1,7 @@
 //! One loop that reads by the rows of a grammar.
 
-ghost use Rattle.std.specs.Prelude.{◌≡◌, ℕ, ◌+◌, ◌<◌, ◌≤◌, length, false, List, Option, IfSome, IfOk, OnOk};
+ghost use Rattle.std.specs.Prelude.{◌≡◌, ℕ, ◌+◌, ◌<◌, ◌≤◌, length, List, Option, IfSome, IfOk, OnOk};
 ghost use Rattle.qbf_text.specs.declared.token.Token.{Token};
-ghost use Rattle.qbf_text.specs.Lined.{Lined};
 ghost use Rattle.std.specs.Io.KnownBytes.{IsAtEnd};
 ghost use Rattle.qbf_text.specs.Reading.{left, HasFailed, IsReady};
 ghost use Rattle.qbf_text.specs.Rows.{Row, read_from, reads_from};
@@ -105,7 +104,7 @@ impl<F: Copy> ReadError<F> {
 /// How far a grammar came among the bytes at hand, and what was read, if it is complete.
 pub type Handed<T> = (Cursor, Option<T>);
 
-/// A text by its rows: what each place makes of each token.
+/// A text by its rows: what each state makes of each token.
 ///
 /// It is handed one token after the other, and keeps what it makes of them.
 pub trait Grammar {
@@ -115,14 +114,14 @@ pub trait Grammar {
     /// What can be wrong with a text.
     type Fault: Drop;
 
-    /// Where a token stands, after what the tokens before it spell.
-    ghost Place: { Type 0 };
+    /// Where reading stands, after what the tokens so far spell.
+    ghost State: { Type 0 };
 
     /// Where this stands.
-    ghost place: { Self → Place };
+    ghost state: { Self → State };
 
-    /// What each place makes of a token.
-    ghost row_of: { Place → Token → Row Place Self.Output Self.Fault };
+    /// What each state makes of a token.
+    ghost row_of: { State → Token → Row State Self.Output Self.Fault };
 
     /// What no token changes.
     ghost Kept: { Type 0 };
@@ -139,7 +138,7 @@ pub trait Grammar {
     fn take_hand(&mut self, bytes: &[u8], from: Cursor) -> Result<Handed<Self::Output>, AllocError>
         requires { from.at ≤ length bytes.now }
         ensures passes { IfOk result (λ r.
-            PassesAll row_of (place self.old) (place self.new) bytes.now from r.0 r.1) }
+            PassesAll row_of (state self.old) (state self.new) bytes.now from r.0 r.1) }
         ensures kept { kept self.new ≡ kept self.old };
 
     /// Takes the next token. After the end of the text it does not go on.
@@ -147,7 +146,7 @@ pub trait Grammar {
     /// # Errors
     /// Out of memory, or the fault of the token at its place.
     fn take(&mut self, token: Token) -> Result<Taken<Self::Output>, Stop<Self::Fault>>
-        ensures row { Takes (row_of (place self.old) token) (place self.new) result }
+        ensures row { Takes (row_of (state self.old) token) (state self.new) result }
         ensures more { StaysOpen token result }
         ensures kept { kept self.new ≡ kept self.old };
 }
@@ -159,8 +158,8 @@ fn take_buffered<G: Grammar>(
     scanner: &mut Scanner,
 ) -> Result<Option<G::Output>, AllocError>
     ensures reads { IfOk result (λ answer. (remaining : Option (List ℕ)) → ReadsAtHand G.row_of
-        (G.place grammar.old) (G.place grammar.new) scanner.old scanner.new remaining answer) }
-    ensures state { scanner.new.state ≡ scanner.old.state }
+        (G.state grammar.old) (G.state grammar.new) scanner.old scanner.new remaining answer) }
+    ensures status { scanner.new.status ≡ scanner.old.status }
     ensures no_more { length scanner.new.pending ≤ length scanner.old.pending }
     ensures kept { G.kept grammar.new ≡ G.kept grammar.old }
 {
@@ -184,17 +183,17 @@ pub fn read_by<G: Grammar, S: Source>(
 ) -> Result<G::Output, ReadError<G::Fault>>
     requires ready { ¬ HasFailed scanner.old }
     ensures reads { Reads
-        (reads_from G.row_of (G.place grammar.old) (left scanner.old (S.remaining source.old)))
-        (G.place grammar.new) (left scanner.new (S.remaining source.new)) result }
+        (reads_from G.row_of (G.state grammar.old) (left scanner.old (S.remaining source.old)))
+        (G.state grammar.new) (left scanner.new (S.remaining source.new)) result }
     // The last token was taken by some row: with each token but End less can still come, and after
     // End no byte remains.
-    ensures follows { Follows G.row_of (G.place grammar.new)
+    ensures follows { Follows G.row_of (G.state grammar.new)
         (length scanner.new.pending + S.bound source.new
         < length scanner.old.pending + S.bound source.old)
         (IsReady scanner.old (S.remaining source.old) → IsAtEnd (S.remaining source.new)) result }
     // After the last token, unless that is End, no byte is taken but a separator, and at most
     // 4,096 bytes are held.
-    ensures stops { Stops G.row_of (G.place grammar.old) (G.place grammar.new)
+    ensures stops { Stops G.row_of (G.state grammar.old) (G.state grammar.new)
         (tokens_next scanner.old) (tokens_next scanner.new)
         (ahead scanner.old.pending (S.remaining source.old))
         (ahead scanner.new.pending (S.remaining source.new))
@@ -232,10 +231,10 @@ pub fn read_text<G: Grammar, S: Source>(
     source: &mut S,
 ) -> Result<G::Output, ReadError<G::Fault>>
     ensures reads { IfSome (S.remaining source.old) (λ bytes. Answers
-        (read_from G.row_of (G.place grammar.old) (tokens comments bytes))
-        (G.place grammar.new) result) }
+        (read_from G.row_of (G.state grammar.old) (tokens comments bytes))
+        (G.state grammar.new) result) }
     // The last token was taken by some row; after End no byte remains.
-    ensures follows { Follows G.row_of (G.place grammar.new) (S.bound source.new < S.bound source.old)
+    ensures follows { Follows G.row_of (G.state grammar.new) (S.bound source.new < S.bound source.old)
         (IsAtEnd (S.remaining source.new)) result }
     ensures kept { G.kept grammar.new ≡ G.kept grammar.old }
     ensures counts { Counts (S.failures source.old) (S.failures source.new) result }

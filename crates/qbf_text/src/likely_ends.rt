@@ -1,6 +1,6 @@
 //! Where numbers seem to end among the bytes at hand, for 64 bytes at once.
 
-ghost use Rattle.std.specs.Prelude.{◌≡◌, ◌≤◌, length};
+ghost use Rattle.std.specs.Prelude.{◌≤◌, length};
 
 use std::simd::prelude::*;
 

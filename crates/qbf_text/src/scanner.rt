@@ -1,13 +1,12 @@
 //! Texts as tokens with their lines, read from a source.
 
-ghost use Rattle.std.specs.Prelude.{Option, ◌≡◌, ℕ, ◌+◌, ◌-◌, ◌^◌, ◌<◌, ◌≤◌, Some, List, [], ◌∷◌};
+ghost use Rattle.std.specs.Prelude.{Option, ◌≡◌, ℕ, ◌+◌, ◌-◌, ◌^◌, ◌<◌, ◌≤◌, Some, List, []};
 ghost use Rattle.std.specs.Prelude.{length, drop, IfSome, IfNone, false, true, IsOk, IsErr, IfOk};
 ghost use Rattle.std.specs.Prelude.{OnOk, OnErr};
-ghost use Rattle.std.specs.Io.KnownBytes.{Consumes, IsAtEnd};
+ghost use Rattle.std.specs.Io.KnownBytes.{Consumes};
 ghost use Rattle.qbf_text.specs.Ahead.{ahead, first_of};
-ghost use Rattle.qbf_text.specs.Pulling.{HasPulled};
-ghost use Rattle.qbf_text.specs.Tokens.{kind};
-ghost use Rattle.qbf_text.specs.Left.{is_separator, IsUnbroken, IsWithinLine, EndsRun, EndsLine};
+ghost use Rattle.qbf_text.specs.Pulling.{HasPulled, ReadsRun};
+ghost use Rattle.qbf_text.specs.Left.{is_separator, IsWithinLine, EndsLine};
 ghost use Rattle.qbf_text.specs.Left.{is_end};
 
 use crate::buffered::Cursor;
@@ -43,11 +42,8 @@ fn read_as<R: Run, S: Source>(
     source: &mut S,
 ) -> Result<Token, SourceFault>
     requires { R.begins first }
-    ensures run { IfOk result
-        (λ token. (more : List ℕ) × (token ≡ kind (first ∷ more)) × IsUnbroken more
-        × Consumes (ahead window.old (S.remaining source.old))
-        (ahead window.new (S.remaining source.new)) more) }
-    ensures end { OnOk result (IfSome (ahead window.new (S.remaining source.new)) EndsRun) }
+    ensures run { IfOk result (ReadsRun first (ahead window.old (S.remaining source.old))
+        (ahead window.new (S.remaining source.new))) }
     ensures pulled { HasPulled S.bound S.failures window.old window.new
         source.old source.new result }
 {
@@ -64,11 +60,8 @@ fn read_as<R: Run, S: Source>(
 
 /// The same, for any first byte.
 fn read_run<S: Source>(first: u8, window: &mut Window, source: &mut S) -> Result<Token, SourceFault>
-    ensures run { IfOk result
-        (λ token. (more : List ℕ) × (token ≡ kind (first ∷ more)) × IsUnbroken more
-        × Consumes (ahead window.old (S.remaining source.old))
-        (ahead window.new (S.remaining source.new)) more) }
-    ensures end { OnOk result (IfSome (ahead window.new (S.remaining source.new)) EndsRun) }
+    ensures run { IfOk result (ReadsRun first (ahead window.old (S.remaining source.old))
+        (ahead window.new (S.remaining source.new))) }
     ensures pulled { HasPulled S.bound S.failures window.old window.new
         source.old source.new result }
 {
@@ -90,7 +83,7 @@ struct Place {
 }
 
 impl Place {
-    ghost use Rattle.qbf_text.specs.Passing.{counted_if, is_begun};
+    ghost use Rattle.qbf_text.specs.Passing.{one_if, is_begun};
     ghost use Rattle.qbf_text.specs.Stopping.{FindsToken, FindsEnd, PlaceSkips};
     ghost use Rattle.qbf_text.specs.declared.token.Token.TheVariants.{End};
 
@@ -100,7 +93,7 @@ impl Place {
         ensures { result ≡ record {
           at = 0;
           line = self.now.line;
-          tokens = counted_if self.now.begun;
+          tokens = one_if self.now.begun;
           ends = result.ends;
         } }
     {
@@ -219,7 +212,7 @@ pub struct ScanFault;
 
 /// What was given last.
 #[derive(Clone, Copy)]
-enum State {
+enum Status {
     /// A token, or nothing yet.
     Open,
     /// End.
@@ -236,7 +229,7 @@ enum State {
 #[derive(Drop)]
 pub struct Scanner {
     place: Place,
-    state: State,
+    status: Status,
 }
 
 impl Model for Scanner {
@@ -249,14 +242,14 @@ impl Model for Scanner {
       line = s.place.line;
       begun = s.place.begun;
       pending = s.place.window;
-      state = s.state;
+      status = s.status;
     } };
 }
 
 impl Scanner {
     ghost use Rattle.qbf_text.specs.Tokens.{tokens};
     ghost use Rattle.qbf_text.specs.Reading.{left, GivesNext, HasEnded, HasFailed, IsOpen, IsReady};
-    ghost use Rattle.qbf_text.specs.Passing.{cursor, moved};
+    ghost use Rattle.qbf_text.specs.Passing.{cursor, scanner_at};
     ghost use Rattle.qbf_text.specs.Stopping.{tokens_next, ScannerTakes};
     ghost use Rattle.qbf_text.specs.declared.token.Token.TheVariants.{End};
 
@@ -275,7 +268,7 @@ impl Scanner {
                 begun: false,
                 window: Window::new(),
             },
-            state: State::Open,
+            status: Status::Open,
         }
     }
 
@@ -284,9 +277,9 @@ impl Scanner {
     pub fn is_open(&self) -> bool
         ensures { result ≡ true → IsOpen self.now }
     {
-        match self.state {
-            State::Open => true,
-            State::Ended | State::Failed => false,
+        match self.status {
+            Status::Open => true,
+            Status::Ended | Status::Failed => false,
         }
     }
 
@@ -310,7 +303,7 @@ impl Scanner {
     #[inline(always)]
     pub fn go_to(&mut self, here: Cursor)
         requires { here.at ≤ length self.old.pending }
-        ensures to { self.new ≡ moved self.old here }
+        ensures to { self.new ≡ scanner_at self.old here }
         ensures few { length self.new.pending ≤ 4096 }
     {
         self.place.go_to(here);
@@ -359,10 +352,10 @@ impl Scanner {
         ensures err { OnErr result (¬ HasFailed self.old →
             S.failures source.old < 2 ^ 64 - 1 → S.failures source.old < S.failures source.new) }
     {
-        match self.state {
-            State::Failed => return Err(ScanFault),
-            State::Ended => return Ok((Token::End, self.place.line)),
-            State::Open => {}
+        match self.status {
+            Status::Failed => return Err(ScanFault),
+            Status::Ended => return Ok((Token::End, self.place.line)),
+            Status::Open => {}
         }
         if let Some(token) = self.place.number() {
             return Ok(token);
@@ -370,11 +363,11 @@ impl Scanner {
         match self.place.scan(source) {
             Ok(Some(token)) => Ok(token),
             Ok(None) => {
-                self.state = State::Ended;
+                self.status = Status::Ended;
                 Ok((Token::End, self.place.line))
             }
             Err(_) => {
-                self.state = State::Failed;
+                self.status = Status::Failed;
                 Err(ScanFault)
             }
         }

@@ -1,7 +1,7 @@
 //! Numbers as texts have them, on their way to a sink.
 
 ghost use Rattle.std.specs.Prelude.{◌∷◌, decimal};
-ghost use Rattle.qbf_text.specs.Canonical.{spaced, spelled};
+ghost use Rattle.qbf_text.specs.Canonical.{spaced_number, token_text};
 ghost use Rattle.qbf_text.specs.Written.{IsPut};
 ghost use Rattle.qbf_text.specs.declared.token.Token.TheVariants.{Number};
 
@@ -13,7 +13,7 @@ use crate::sink::{Sink, SinkFault, put_byte, put_number};
 /// A `SinkFault` where the sink failed. What went out is a beginning of these bytes then.
 #[inline(always)]
 pub fn put_spaced<S: Sink>(sink: &mut S, n: u64) -> Result<(), SinkFault>
-    ensures { IsPut S.written S.failures sink.old sink.new (spaced n) result }
+    ensures { IsPut S.written S.failures sink.old sink.new (spaced_number n) result }
 {
     sink.push_spaced(false, n)
 }
@@ -25,7 +25,7 @@ pub fn put_spaced<S: Sink>(sink: &mut S, n: u64) -> Result<(), SinkFault>
 #[inline(always)]
 pub fn put_spaced_signed<S: Sink>(sink: &mut S, negative: bool, n: u64) -> Result<(), SinkFault>
     ensures { IsPut S.written S.failures sink.old sink.new
-        (32 ∷ spelled (Number negative n)) result }
+        (32 ∷ token_text (Number negative n)) result }
 {
     sink.push_spaced(negative, n)
 }
@@ -45,7 +45,7 @@ fn put_minus<S: Sink>(sink: &mut S, n: u64) -> Result<(), SinkFault>
 /// A `SinkFault` where the sink failed. What went out is a beginning of these bytes then.
 #[inline(always)]
 pub fn put_signed<S: Sink>(sink: &mut S, negative: bool, n: u64) -> Result<(), SinkFault>
-    ensures { IsPut S.written S.failures sink.old sink.new (spelled (Number negative n)) result }
+    ensures { IsPut S.written S.failures sink.old sink.new (token_text (Number negative n)) result }
 {
     if negative {
         return put_minus(sink, n);

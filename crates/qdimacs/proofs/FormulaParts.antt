@@ -1,18 +1,18 @@
 -- What the parts of a formula make, and where clauses in the bytes at hand lead to.
 use Rattle.qdimacs.proofs.Words.{arith, common_steps, passes_none, passes_on, passes_further, ◌≡◌, Bool, false, Option, None, Result, Ok}
-use Rattle.qdimacs.proofs.Words.{Quantifier, Literal, Token, pairs, Ends, blocks_of-pairs, is_end, Goes, FormulaFault, At, Parts, made}
-use Rattle.qdimacs.proofs.Words.{heading, stands, row_to, IsMade, Place, Whole, between_row, row}
+use Rattle.qdimacs.proofs.Words.{Quantifier, Literal, Token, pairs, Ends, blocks_of-pairs, is_end, Goes, FormulaFault, At, Parts, formula_of}
+use Rattle.qdimacs.proofs.Words.{heading, state_at, row_to, IsMade, State, Whole, between_row, row}
 
 -- after the last clause the end makes the formula
 pub made_whole : (p : Parts) → IsMade p → (set : Option Quantifier) (mark : Result Bool FormulaFault)
     (first : Result (Option Literal) FormulaFault) → None ≡ set → Ok false ≡ mark
-    → between_row (heading p) (pairs p.prefix) p.clauses.whole set mark first ≡ Ends tt (Whole (made p))
+    → between_row (heading p) (pairs p.prefix) p.clauses.whole set mark first ≡ Ends tt (Whole (formula_of p))
 made_whole p m set mark first none ends = grind (arith, common_steps, blocks_of-pairs)
 
 -- a token that is not End leads on
-pub leads_on : (place : Place) (p : Parts) (next : At) (t : Token) → is_end t ≡ false → row place t ≡ row_to p next
-    → row place t ≡ Goes (stands p next)
-leads_on place p next t open_ e = grind (arith, common_steps)
+pub leads_on : (state : State) (p : Parts) (next : At) (t : Token) → is_end t ≡ false → row state t ≡ row_to p next
+    → row state t ≡ Goes (state_at p next)
+leads_on state p next t open_ e = grind (arith, common_steps)
 
 -- one number more at hand
 pub ruleset numbers_lead_on = (leads_on, passes_none, passes_on, passes_further)

@@ -1,10 +1,10 @@
 -- What is read is spelled, and a fault that is found stands.
 use Rattle.qdimacs.proofs.Words.{common_steps, rules, inl, inr, ◌⊎◌, ◌≡◌, ℕ, ◌<◌, ◌≤◌, true, false, List, [], ◌∷◌, ◌++◌, length, map, Ok}
 use Rattle.qdimacs.proofs.Words.{Err, refl, sym, subst, ◌∙◌, arith, append_assoc, map-append, flat_map, Quantifier, Literal, Block, pairs}
-use Rattle.qdimacs.proofs.Words.{is_bound, blocks_of, AllByRecursion-push, Token, Lined, number, literal, letter, set, unlined, Ends}
+use Rattle.qdimacs.proofs.Words.{is_bound, blocks_of, AllByRecursion-push, Token, Lined, number, literal, letter, set, without_lines, Ends}
 use Rattle.qdimacs.proofs.Words.{append-nil, pairs_of_block, pairs-blocks_of, Alternates-blocks_of, is_end, push_distinct, flat_map-push}
 use Rattle.qdimacs.proofs.Words.{member, header, clause, IsFormula, ReadsAsRead, all_of, explained, AnswersAsRead, Reads, IsSoFar, Spells}
-use Rattle.qdimacs.proofs.Words.{Goes, Fails, Heading, Place, AtP, InHeader, Between, InSet, InClause, Whole, Row, row, faults, set_row}
+use Rattle.qdimacs.proofs.Words.{Goes, Fails, Heading, State, AtP, InHeader, Between, InSet, InClause, Whole, Row, row, faults, set_row}
 use Rattle.qdimacs.proofs.Words.{bound_literal, clause_row, read, IsWhole, answer_of, Pairs, Clauses, AreFrom}
 use Rattle.qbf_spelling.proofs.Words.{IsDistinct}
 use Rattle.qbf_spelling.proofs.Words.token
@@ -16,7 +16,7 @@ use Rattle.qbf_spelling.specs.declared.header.HeaderAt.TheVariants as place
 
 -- ---- one token
 
-count_is : (v : ℕ) (t : Token) (next : Place) → row (InHeader (place.Second v)) t ≡ Goes next
+count_is : (v : ℕ) (t : Token) (next : State) → row (InHeader (place.Second v)) t ≡ Goes next
     → (n : ℕ) × (t ≡ number n) × (n ≤ 2147483647) × (Between (record { max_var = v; count = n }) [] [] ≡ next)
 count_is v t next e = search rules
 
@@ -35,14 +35,14 @@ record IsBegun (ts : List Token) (h : Heading) (ps : Pairs) (cs : Clauses) (ls :
   more : length cs < h.count
 
 -- a clause goes on with a literal, or is closed
-clause_goes : (h : Heading) (ps : Pairs) (cs : Clauses) (ls : List Literal) (t : Token) (next : Place)
+clause_goes : (h : Heading) (ps : Pairs) (cs : Clauses) (ls : List Literal) (t : Token) (next : State)
     → clause_row h ps cs ls (bound_literal h.max_var ps t) ≡ Goes next
     → ((t ≡ number 0) × (next ≡ Between h ps (cs ++ ls ∷ [])))
     ⊎ ((l : Literal) × (t ≡ literal l) × (is_bound l.var ps ≡ true) × (next ≡ InClause h ps cs (ls ++ l ∷ [])))
 clause_goes h ps cs ls t next e = search rules
 
 clause_step : {ts : List Token} {h : Heading} {ps : Pairs} {cs : Clauses} {ls : List Literal} (t : Token)
-    (next : Place) → IsBegun ts h ps cs ls → clause_row h ps cs ls (bound_literal h.max_var ps t) ≡ Goes next → Spells (ts ++ t ∷ []) next
+    (next : State) → IsBegun ts h ps cs ls → clause_row h ps cs ls (bound_literal h.max_var ps t) ≡ Goes next → Spells (ts ++ t ∷ []) next
 clause_step {h = h} {ps = ps} {cs = cs} {ls = ls} t next b e = elim (clause_goes h ps cs ls t next e) [
   | inl k ↦ rw (k.1, k.0, b.spelled)
       (b.sets, (simp (flat_map-push, append_assoc)), b.bound, grind (arith, common_steps))
@@ -58,13 +58,13 @@ clause_step {h = h} {ps = ps} {cs = cs} {ls = ls} t next b e = elim (clause_goes
 ]
 
 -- a set goes on with a variable, or is closed
-set_goes : (h : Heading) (ps : Pairs) (q : Quantifier) (t : Token) (next : Place)
+set_goes : (h : Heading) (ps : Pairs) (q : Quantifier) (t : Token) (next : State)
     → set_row h ps q (member faults h.max_var t) ≡ Goes next
     → ((t ≡ number 0) × (next ≡ Between h ps []))
     ⊎ ((v : ℕ) × (t ≡ number v) × (1 ≤ v) × (v ≤ h.max_var) × (is_bound v ps ≡ false) × (next ≡ InSet h (ps ++ (q, v) ∷ []) q))
 set_goes h ps q t next e = search rules
 
-set_step : (ts : List Token) (h : Heading) (ps : Pairs) (q : Quantifier) (t : Token) (next : Place)
+set_step : (ts : List Token) (h : Heading) (ps : Pairs) (q : Quantifier) (t : Token) (next : State)
     → Spells ts (InSet h ps q) → set_row h ps q (member faults h.max_var t) ≡ Goes next → Spells (ts ++ t ∷ []) next
 set_step ts h ps q t next b e = elim (set_goes h ps q t next e) [
   | inl k ↦
@@ -85,14 +85,14 @@ set_step ts h ps q t next b e = elim (set_goes h ps q t next e) [
 ]
 
 -- between lists a set or a clause begins
-between_goes : (h : Heading) (ps : Pairs) (cs : Clauses) (t : Token) (next : Place)
+between_goes : (h : Heading) (ps : Pairs) (cs : Clauses) (t : Token) (next : State)
     → row (Between h ps cs) t ≡ Goes next
     → ((q : Quantifier) × (cs ≡ []) × (t ≡ letter q) × (next ≡ InSet h ps q))
     ⊎ ((length cs < h.count) × (clause_row h ps cs [] (bound_literal h.max_var ps t) ≡ Goes next))
 between_goes h ps cs t next e = search rules
 
--- an accepted token leads to a place that the tokens spell
-step : (ts : List Token) (p next : Place) (t : Token) → Spells ts p → row p t ≡ Goes next → Spells (ts ++ t ∷ []) next
+-- an accepted token leads to a state that the tokens spell
+step : (ts : List Token) (p next : State) (t : Token) → Spells ts p → row p t ≡ Goes next → Spells (ts ++ t ∷ []) next
 unfolding IsDistinct
 step ts (InHeader (place.Second v)) next t b e =
     let k = count_is v t next e in
@@ -109,7 +109,7 @@ whole_formula : (ts : List Token) (h : Heading) (ps : Pairs) (cs : Clauses) → 
 whole_formula ts h ps cs b all = grind (arith, common_steps, pairs-blocks_of, Alternates-blocks_of, all_of)
 
 -- reading ends after whole lists, at the end
-record IsLast (p : Place) (t : Token) (next : Place) : Type 0 where
+record IsLast (p : State) (t : Token) (next : State) : Type 0 where
   h : Heading
   ps : Pairs
   cs : Clauses
@@ -118,35 +118,35 @@ record IsLast (p : Place) (t : Token) (next : Place) : Type 0 where
   all : h.count ≤ length cs
   at_end : t ≡ token.End
 
-last : (p next : Place) (t : Token) → row p t ≡ Ends tt next → IsLast p t next
+last : (p next : State) (t : Token) → row p t ≡ Ends tt next → IsLast p t next
 last p next t e = search rules
 
 -- reading ends at the end of the text
-pub last_is_end : (p next : Place) (t : Token) → row p t ≡ Ends tt next → is_end t ≡ true
+pub last_is_end : (p next : State) (t : Token) → row p t ≡ Ends tt next → is_end t ≡ true
 last_is_end p next t e = search rules
 
 -- what was read there is a whole formula
-pub last_is_whole : (p next : Place) (t : Token) → row p t ≡ Ends tt next → IsWhole next
+pub last_is_whole : (p next : State) (t : Token) → row p t ≡ Ends tt next → IsWhole next
 last_is_whole p next t e = subst IsWhole (sym (last p next t e).whole) tt
 
 -- ---- the whole
 
-answer : (before : List Lined) (p : Place) (t : Lined) (ts : List Lined) → Spells (unlined before) p → EndsOnce (t ∷ ts)
+answer : (before : List Lined) (p : State) (t : Lined) (ts : List Lined) → Spells (without_lines before) p → EndsOnce (t ∷ ts)
     → accepted.Answers Spells Reads before t ts
 answer before p t ts b once = by (row p t.0) refl
   where
     by : (r : Row) → row p t.0 ≡ r → accepted.Answers Spells Reads before t ts
-    by (Goes next) is = inr ((λ e. grind (arith, common_steps)), next, step (unlined before) p next t.0 b is)
+    by (Goes next) is = inr ((λ e. grind (arith, common_steps)), next, step (without_lines before) p next t.0 b is)
     by (Ends u next) is =
         let k = last p next t.0 is in
         let none : ts ≡ [] = grind (arith, common_steps, k.at_end) in
-        let said : Spells (unlined before) (Between k.h k.ps k.cs) = rw k.between at b in
-        let whole = whole_formula (unlined before) k.h k.ps k.cs said (let f = said.3 in omega (arith, f.few, k.all)) in
-        let spelled : unlined (before ++ t ∷ ts) ≡ unlined before ++ token.End ∷ [] =
-        map-append (λ u. u.0) before (t ∷ ts) ∙ (λ i. unlined before ++ k.at_end i ∷ unlined (none i)) in
+        let said : Spells (without_lines before) (Between k.h k.ps k.cs) = rw k.between at b in
+        let whole = whole_formula (without_lines before) k.h k.ps k.cs said (let f = said.3 in omega (arith, f.few, k.all)) in
+        let spelled : without_lines (before ++ t ∷ ts) ≡ without_lines before ++ token.End ∷ [] =
+        map-append (λ u. u.0) before (t ∷ ts) ∙ (λ i. without_lines before ++ k.at_end i ∷ without_lines (none i)) in
         inl (Ok (record { max_var = k.h.max_var; blocks = blocks_of k.ps; clauses = k.cs }), rw spelled whole)
     by (Fails f) is =
-        inl (Err (f, t.1), record { before = before; wrong = t.0; after = ts; whole = refl; place = p; stands = b; refused = is })
+        inl (Err (f, t.1), record { before = before; wrong = t.0; after = ts; whole = refl; state = p; stands = b; refused = is })
 
 -- What is read is spelled; a fault that is found stands.
 pub read_explained : ReadsAsRead Reads read

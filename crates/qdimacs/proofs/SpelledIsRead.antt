@@ -1,10 +1,10 @@
--- What tokens spell is read, and a fault that stands is found: accepted tokens, and the place that they lead to.
+-- What tokens spell is read, and a fault that stands is found: accepted tokens, and the state that they lead to.
 use Rattle.qdimacs.proofs.Words.{common_steps, rules, ◌≡◌, ◌∙◌, ◌≢◌, ℕ, ◌<◌, ◌≤◌, ◌+◌, Bool, true, List, [], ◌∷◌, ◌++◌, length, map, refl}
 use Rattle.qdimacs.proofs.Words.{arith, append_assoc, Ok, Err, ap, sym, subst, map-append, length-append, flat_map, AllByRecursion}
 use Rattle.qdimacs.proofs.Words.{Quantifier, Literal, Block, pairs, is_bound, blocks_of, variables, Token, number, literal, letter, set}
-use Rattle.qdimacs.proofs.Words.{Ends, Qbf, Lined, unlined, read-one, append-nil, pairs_of_block, middle, front_all, front_distinct}
+use Rattle.qdimacs.proofs.Words.{Ends, Qbf, Lined, without_lines, read-one, append-nil, pairs_of_block, middle, front_all, front_distinct}
 use Rattle.qdimacs.proofs.Words.{new_number, Leads, Stays, leads_then, split_at, leads_reads, AreGood, Reads, Spells, IsFault, header}
-use Rattle.qdimacs.proofs.Words.{clause, IsFormula, Heading, Place, AtP, InHeader, Between, InSet, InClause, Whole, row, Pairs, Clauses}
+use Rattle.qdimacs.proofs.Words.{clause, IsFormula, Heading, State, AtP, InHeader, Between, InSet, InClause, Whole, row, Pairs, Clauses}
 use Rattle.qdimacs.proofs.Words.{AreFrom, Row, read, answer_of, blocks_of-pairs, ReadsOnce, FormulaFault, after, IsVariable, all_both}
 use Rattle.qdimacs.proofs.Words.{all_of}
 use Rattle.qbf_spelling.proofs.Words.token
@@ -73,7 +73,7 @@ module _ (h : Heading) (ps : Pairs) (good : AreGood h.max_var ps) where
       Passes (search rules)
       (rw append_assoc at (leads_literals cs (ls ++ l ∷ []) xs bound.1))
 
-  begins : {cs : Clauses} {negative : Bool} {n : ℕ} {ts : List Token} {q : Place} → length cs < h.count
+  begins : {cs : Clauses} {negative : Bool} {n : ℕ} {ts : List Token} {q : State} → length cs < h.count
       → Leads row (InClause h ps cs []) (token.Number negative n ∷ ts) q → Leads row (Between h ps cs) (token.Number negative n ∷ ts) q
   begins {cs} {negative} {n} more (Passes e l) = Passes (grind (arith, common_steps)) l
 
@@ -107,7 +107,7 @@ leads_lists h sets cs lv lc good closed few =
     (leads_clauses h (pairs sets) good [] cs closed (omega arith))
 
 -- What is spelled is read.
-pub spelled_is_read : (ts : List Lined) (f : Qbf) → IsFormula (unlined ts) f → read ts ≡ Ok f
+pub spelled_is_read : (ts : List Lined) (f : Qbf) → IsFormula (without_lines ts) f → read ts ≡ Ok f
 spelled_is_read ts f is =
     let h : Heading = record { max_var = f.max_var; count = length f.clauses } in
     let w = is.well_formed in
@@ -127,13 +127,13 @@ spelled_is_read ts f is =
     ∙ ap (λ (bs : List Block). Ok (record { max_var = f.max_var; blocks = bs; clauses = f.clauses }))
     (ap blocks_of is.bound ∙ blocks_of-pairs f.blocks w.prefix.alternates)
 
--- The tokens before a place lead to it.
+-- The tokens before a state lead to it.
 leads_between : {ts : List Token} {h : Heading} {ps : Pairs} {cs : Clauses} → Spells ts (Between h ps cs)
     → Leads row AtP ts (Between h ps cs)
 leads_between {h = h} {ps = ps} {cs = cs} e =
     rw (e.1, ← e.2) (leads_lists h e.0 cs e.3.max_var e.3.count (rw e.2 e.3.good) (rw e.2 e.3.closed) e.3.few)
 
-spelled_leads : (ts : List Token) (place : Place) → Spells ts place → Leads row AtP ts place
+spelled_leads : (ts : List Token) (state : State) → Spells ts state → Leads row AtP ts state
 spelled_leads ts (InHeader place.P) e = rw e.0 Stays
 spelled_leads ts (InHeader place.Format) e = rw e.0 (Passes refl Stays)
 spelled_leads ts (InHeader place.First) e = rw e.0 (Passes refl (Passes refl Stays))
@@ -152,8 +152,8 @@ spelled_leads ts (Whole f) e = absurd e
 pub fault_is_found : (ts : List Lined) (f : FormulaFault) (line : ℕ) → IsFault ts f line → read ts ≡ Err (f, line)
 fault_is_found ts f line is =
     ap read is.whole
-    ∙ ap answer_of (leads_reads (spelled_leads (unlined is.before) is.place is.stands) is.before refl ((is.wrong, line) ∷ is.after))
-    ∙ ap answer_of (read-one row is.place (is.wrong, line) is.after ∙ ap (λ (r : Row). after row r (is.wrong, line) is.after) is.refused)
+    ∙ ap answer_of (leads_reads (spelled_leads (without_lines is.before) is.state is.stands) is.before refl ((is.wrong, line) ∷ is.after))
+    ∙ ap answer_of (read-one row is.state (is.wrong, line) is.after ∙ ap (λ (r : Row). after row r (is.wrong, line) is.after) is.refused)
 
 -- Tokens read as nothing else.
 pub read_once : ReadsOnce Reads read

@@ -7,7 +7,7 @@ pub use Rattle.qbf_spelling.proofs.CanonicalLines.{literals_plain, set_written}
 pub use Rattle.qbf_spelling.proofs.Words.{AllByRecursion, AllByRecursion-push, Block, Ends, IsSent, IsVariable, Lined, Literal, Qbf}
 pub use Rattle.qbf_spelling.proofs.Words.{Qdimacs, Quantifier, Token, blocks_of, flat_map, flat_map-append, flat_map-map, is_bound}
 pub use Rattle.qbf_spelling.proofs.Words.{length-append, letter, literal, map-append, number, pairs, read-one, sent_fails, sent_part, set}
-pub use Rattle.qbf_spelling.proofs.Words.{tokens, unlined, variables}
+pub use Rattle.qbf_spelling.proofs.Words.{tokens, without_lines, variables}
 pub use Rattle.qbf_spelling.proofs.Worked.{all, exists}
 pub use Rattle.qbf_spelling.proofs.WrittenParts.{closed_literals, set_line}
 pub use Rattle.qbf_spelling.specs.Decode.{member}
@@ -20,16 +20,16 @@ pub use Rattle.qbf_text.proofs.PassedNumbers.{passes_further, passes_none, passe
 pub use Rattle.qbf_text.proofs.SentParts.{drop_at, sent_last, zero_decimal}
 pub use Rattle.qbf_text.proofs.TokensEndOnce.{tokens-EndsOnce}
 pub use Rattle.qbf_text.specs.Answering.{BytesRead, ReadsAsRead, ReadsOnce}
-pub use Rattle.qbf_text.specs.Canonical.{IsLine, IsPlain, line_text, spaced, spelled}
+pub use Rattle.qbf_text.specs.Canonical.{IsLine, IsPlain, line_text, spaced_number, token_text}
 pub use Rattle.qbf_text.specs.Left.{is_end}
 pub use Rattle.qbf_text.specs.Passing.{LeadOn, Passes}
 pub use Rattle.qbf_text.specs.Rows.{Fails, Goes}
 pub use Rattle.qdimacs.specs.Faults.{Answers, AreGood, IsFault, IsSoFar, Reads, Spells}
 pub use Rattle.qdimacs.specs.Grammar.{IsFormula, clause, header, lines, spelling, text}
 pub use Rattle.qdimacs.specs.Laws.{ReadsText}
-pub use Rattle.qdimacs.specs.Places.{IsMade, IsSound, heading, made, row_to, stands}
+pub use Rattle.qdimacs.specs.States.{IsMade, IsSound, heading, formula_of, row_to, state_at}
 pub use Rattle.qdimacs.specs.Reading.{Answer, AreFrom, AtP, Between, Clauses, Gives, Heading, InClause, InHeader, InSet, IsFull, IsWhole}
-pub use Rattle.qdimacs.specs.Reading.{Pairs, Place, Row, Whole, answer_of, between_row, bound_literal, clause_row, faults, is_outside, read}
+pub use Rattle.qdimacs.specs.Reading.{Pairs, State, Row, Whole, answer_of, between_row, bound_literal, clause_row, faults, is_outside, read}
 pub use Rattle.qdimacs.specs.Reading.{read_formula, reads_bytes, row, set_row}
 pub use Rattle.qdimacs.specs.Texts.{blocks_rest, clauses_text, opening, sets_text}
 pub use Rattle.qdimacs.specs.declared.fault.FormulaFault.{FormulaFault}

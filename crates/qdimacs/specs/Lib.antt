@@ -1,6 +1,6 @@
 pub mod Grammar
 pub mod Reading
-pub mod Places
+pub mod States
 pub mod Faults
 pub mod Laws
 pub mod Texts

@@ -1,5 +1,5 @@
 -- Reading from the first token on, to the formula or to the first fault.
--- QDIMACS 1.1, input format, token by token: for each place in the text a row says which tokens go on, which end,
+-- QDIMACS 1.1, input format, token by token: for each state in the text a row says which tokens go on, which end,
 -- and what is a fault.
 use Rattle.std.specs.Prelude.{◌≡◌, ◌≤◌, ℕ, Bool, true, false, List, [], ◌∷◌, ◌++◌, length, Option, Some, None, option_map, Result, Ok, Err}
 use Rattle.std.specs.Prelude.{nat_lt, if◌then◌else◌}
@@ -45,21 +45,21 @@ pub record Heading : Type 0 where
   pub count : ℕ
 
 -- Where a token stands, after what the tokens before it spell.
-pub data Place : Type 0 where
+pub data State : Type 0 where
   -- in the header
-  InHeader : HeaderAt → Place
+  InHeader : HeaderAt → State
   -- after whole sets and whole clauses
-  Between : Heading → Pairs → Clauses → Place
+  Between : Heading → Pairs → Clauses → State
   -- in a set, the pairs of its own variables the last
-  InSet : Heading → Pairs → Quantifier → Place
+  InSet : Heading → Pairs → Quantifier → State
   -- in a clause that has begun with these literals
-  InClause : Heading → Pairs → Clauses → List Literal → Place
+  InClause : Heading → Pairs → Clauses → List Literal → State
   -- after the end
-  Whole : Qbf → Place
+  Whole : Qbf → State
 
--- What the row of a place makes of a token.
+-- What the row of a state makes of a token.
 abbrev pub Row : Type 0
-Row = rows.Row Place (Unit {0}) FormulaFault
+Row = rows.Row State (Unit {0}) FormulaFault
 
 -- ---- the header
 
@@ -97,14 +97,14 @@ abbrev pub IsFull : ℕ → Pairs → Type 0
 IsFull max_var ps = (v : ℕ) → 1 ≤ v → v ≤ max_var → is_bound v ps ≡ true
 
 -- the literal that is said in a clause, if its variable is bound
-abbrev pub bound_in : Pairs → Result (Option Literal) FormulaFault → Result (Option Literal) FormulaFault
-bound_in ps (Ok (Some l)) = if is_bound l.var ps then Ok (Some l) else Err F6
-bound_in ps (Ok None) = Ok None
-bound_in ps (Err f) = Err f
+abbrev pub if_bound : Pairs → Result (Option Literal) FormulaFault → Result (Option Literal) FormulaFault
+if_bound ps (Ok (Some l)) = if is_bound l.var ps then Ok (Some l) else Err F6
+if_bound ps (Ok None) = Ok None
+if_bound ps (Err f) = Err f
 
 -- the literal that a token says in a clause, or None where it closes the clause
 abbrev pub bound_literal : ℕ → Pairs → Token → Result (Option Literal) FormulaFault
-bound_literal max_var ps t = bound_in ps (literal_in faults max_var t)
+bound_literal max_var ps t = if_bound ps (literal_in faults max_var t)
 
 -- in a clause
 abbrev pub clause_row : Heading → Pairs → Clauses → List Literal
@@ -116,9 +116,9 @@ clause_row h ps cs ls (Ok (Some l)) = Goes (InClause h ps cs (ls ++ l ∷ []))
 -- ---- between lists
 
 -- the set that a token begins: none, once a clause was begun
-abbrev pub begun_set : Clauses → Token → Option Quantifier
-begun_set [] t = quantifier t
-begun_set (c ∷ cs) t = None
+abbrev pub set_start : Clauses → Token → Option Quantifier
+set_start [] t = quantifier t
+set_start (c ∷ cs) t = None
 
 -- whether clauses are still to come
 abbrev pub has_more : Heading → Clauses → Bool
@@ -145,38 +145,38 @@ between_row h ps cs None (Ok false) first = Ends tt (Whole (record { max_var = h
 
 -- ---- the whole
 
--- the row of each place
-abbrev pub row : Place → Token → Row
+-- the row of each state
+abbrev pub row : State → Token → Row
 row (InHeader here) t = header_row (header_move form here t)
 row (Between h ps cs) t =
-    between_row h ps cs (begun_set cs t) (clause_or_end (has_more h cs) t) (bound_literal h.max_var ps t)
+    between_row h ps cs (set_start cs t) (clause_or_end (has_more h cs) t) (bound_literal h.max_var ps t)
 row (InSet h ps q) t = set_row h ps q (member faults h.max_var t)
 row (InClause h ps cs ls) t = clause_row h ps cs ls (bound_literal h.max_var ps t)
 row (Whole f) t = Fails F3
 
 -- the end was read
-abbrev pub IsWhole : Place → Type 0
+abbrev pub IsWhole : State → Type 0
 IsWhole (Whole f) = Unit {0}
-IsWhole place = ⊥
+IsWhole state = ⊥
 
 -- what is read after the last token
-abbrev pub answer_at : Place → Answer
+abbrev pub answer_at : State → Answer
 answer_at (Whole f) = Ok f
-answer_at place = Err (F7, 0)
+answer_at state = Err (F7, 0)
 
 -- what is read by the rows
-abbrev pub answer_of : Read Place (Unit {0}) FormulaFault → Answer
-answer_of (rows.Whole u place rest) = answer_at place
+abbrev pub answer_of : Read State (Unit {0}) FormulaFault → Answer
+answer_of (rows.Whole u state rest) = answer_at state
 answer_of (rows.Fault f line) = Err (f, line)
 answer_of rows.Cut = Err (F7, 0)
 
 -- where the first token stands
-abbrev pub AtP : Place
+abbrev pub AtP : State
 AtP = InHeader header.P
 
--- What is read from a place on.
-abbrev pub read_from : Place → List Lined → Answer
-read_from place ts = answer_of (rows.read_from row place ts)
+-- What is read from a state on.
+abbrev pub read_from : State → List Lined → Answer
+read_from state ts = answer_of (rows.read_from row state ts)
 
 -- What tokens are read as.
 abbrev pub read : List Lined → Answer

@@ -6,7 +6,7 @@ ghost use Rattle.qbf_core.specs.Blocks.{pairs, variables, IsPrefix};
 ghost use Rattle.qbf_text.specs.Passing.{LeadOn, Passes};
 ghost use Rattle.qdimacs.specs.declared.grammar.At.TheVariants as at;
 ghost use Rattle.qdimacs.specs.declared.grammar.Parts.{Parts};
-ghost use Rattle.qdimacs.specs.Places.{stands, Moves, Leads, IsSound};
+ghost use Rattle.qdimacs.specs.States.{state_at, Moves, Leads, IsSound};
 ghost use Rattle.qdimacs.specs.Reading.{AtP, Whole, IsFull, IsWhole, row};
 
 use crate::fault::FormulaFault;
@@ -32,7 +32,7 @@ enum At {
     Whole,
 }
 
-/// The place that a token leads to, or why it is not taken.
+/// The state that a token leads to, or why it is not taken.
 type Next = Result<At, Stop<FormulaFault>>;
 
 /// What was read of a formula.
@@ -47,11 +47,9 @@ struct Parts {
     prefix: Prefix,
     /// Whether each variable that the header allows is bound, after the last whole set.
     full: bool,
-    /// The literals of the clauses, and of the one that is begun.
+    /// The literals of the clauses, and of the unfinished one.
     clauses: GrowingLists<Lit>,
 }
-
-// ---- the header
 
 /// Whether a prefix binds each variable up to this one.
 fn is_full(prefix: &Prefix, max_var: u32) -> bool
@@ -62,12 +60,10 @@ fn is_full(prefix: &Prefix, max_var: u32) -> bool
     prefix.len() == max_var as usize
 }
 
-// ---- a set
-
 /// Takes a token in a set.
 fn take_member(parts: &mut Parts, quantifier: Quantifier, token: Token) -> Next
     requires sound { IsSound (at.Set quantifier) parts.old }
-    ensures row { Moves (row (stands parts.old (at.Set quantifier)) token) parts.new result }
+    ensures row { Moves (row (state_at parts.old (at.Set quantifier)) token) parts.new result }
     ensures sound { Leads parts.old parts.new result }
 {
     match member(FAULTS, parts.max_var, token)? {
@@ -86,13 +82,11 @@ fn take_member(parts: &mut Parts, quantifier: Quantifier, token: Token) -> Next
     }
 }
 
-// ---- a clause
-
 /// Takes a token in a clause.
 #[inline(always)]
 fn take_literal(parts: &mut Parts, token: Token) -> Next
     requires sound { IsSound at.Clause parts.old }
-    ensures row { Moves (row (stands parts.old at.Clause) token) parts.new result }
+    ensures row { Moves (row (state_at parts.old at.Clause) token) parts.new result }
     ensures sound { Leads parts.old parts.new result }
 {
     let said = bound_literal(&parts.prefix, parts.max_var, parts.full, token);
@@ -108,14 +102,12 @@ fn take_literal(parts: &mut Parts, token: Token) -> Next
     }
 }
 
-// ---- between lists
-
 /// Takes a token between lists.
 #[inline(always)]
 #[tactic(auto, using(crate::proofs::FormulaParts::made_whole))]
 fn take_list_start(parts: &mut Parts, token: Token) -> Next
     requires sound { IsSound at.Between parts.old }
-    ensures row { Moves (row (stands parts.old at.Between) token) parts.new result }
+    ensures row { Moves (row (state_at parts.old at.Between) token) parts.new result }
     ensures sound { Leads parts.old parts.new result }
 {
     if parts.clauses.whole_len() == 0 {
@@ -130,13 +122,11 @@ fn take_list_start(parts: &mut Parts, token: Token) -> Next
     }
 }
 
-// ---- the whole
-
-/// The place that a token leads to.
+/// The state that a token leads to.
 #[inline(always)]
 fn take_at(here: At, parts: &mut Parts, token: Token) -> Next
     requires sound { IsSound here parts.old }
-    ensures row { Moves (row (stands parts.old here) token) parts.new result }
+    ensures row { Moves (row (state_at parts.old here) token) parts.new result }
     ensures sound { Leads parts.old parts.new result }
 {
     match here {
@@ -174,8 +164,8 @@ type Reached = (At, Result<Cursor, AllocError>);
 fn take_clause(parts: &mut Parts, bytes: &[u8], from: Cursor) -> Reached
     requires within { from.at ≤ length bytes.now }
     requires sound { IsSound at.Clause parts.old }
-    ensures passes { IfOk result.1 (λ to. Passes
-        (LeadOn row (stands parts.old at.Clause) (stands parts.new result.0)) bytes.now from to) }
+    ensures passes { IfOk result.1 (λ to. Passes (LeadOn row (state_at parts.old at.Clause)
+        (state_at parts.new result.0)) bytes.now from to) }
     ensures sound { IsSound result.0 parts.new }
 {
     let mut here = from;
@@ -207,28 +197,28 @@ fn take_numbers(at: At, parts: &mut Parts, bytes: &[u8], from: Cursor) -> Reache
     requires within { from.at ≤ length bytes.now }
     requires sound { IsSound at parts.old }
     ensures passes { IfOk result.1 (λ to. Passes
-        (LeadOn row (stands parts.old at) (stands parts.new result.0)) bytes.now from to) }
+        (LeadOn row (state_at parts.old at) (state_at parts.new result.0)) bytes.now from to) }
     ensures sound { IsSound result.0 parts.new }
 {
-    let mut place = at;
+    let mut state = at;
     let mut here = from;
     'numbers: while let Some(passed) = here.number(bytes) {
-        match take_at(place, parts, passed.token) {
-            Ok(next) => place = next,
-            Err(Stop::Memory) => return (place, Err(AllocError)),
+        match take_at(state, parts, passed.token) {
+            Ok(next) => state = next,
+            Err(Stop::Memory) => return (state, Err(AllocError)),
             Err(Stop::Text(_)) => break,
         }
         here = passed.next;
-        if let At::Clause = place {
+        if let At::Clause = state {
             let (next, reached) = take_clause(parts, bytes, here);
-            place = next;
+            state = next;
             match reached {
                 Ok(to) => here = to,
-                Err(refused) => return (place, Err(refused)),
+                Err(refused) => return (state, Err(refused)),
             }
         }
     }
-    (place, Ok(here))
+    (state, Ok(here))
 }
 
 /// A formula that is read into flat buffers.
@@ -241,12 +231,12 @@ pub(crate) struct FormulaGrammar {
 }
 
 impl Model for FormulaGrammar {
-    ghost use Rattle.qdimacs.specs.Places.{stands, IsSound};
-    ghost use Rattle.qdimacs.specs.Reading.{Place};
+    ghost use Rattle.qdimacs.specs.States.{state_at, IsSound};
+    ghost use Rattle.qdimacs.specs.Reading.{State};
 
-    ghost Value = { Place };
+    ghost Value = { State };
 
-    ghost view = { λ g. stands g.parts g.at };
+    ghost view = { λ g. state_at g.parts g.at };
 
     ghost invariant = { λ g. IsSound g.at g.parts };
 }
@@ -285,15 +275,15 @@ impl FormulaGrammar {
 }
 
 impl Grammar for FormulaGrammar {
-    ghost use Rattle.qdimacs.specs.Reading.{Place, row};
+    ghost use Rattle.qdimacs.specs.Reading.{State, row};
 
     type Output = ();
 
     type Fault = FormulaFault;
 
-    ghost Place = { Place };
+    ghost State = { State };
 
-    ghost place = { λ g. g };
+    ghost state = { λ g. g };
 
     ghost row_of = { row };
 

@@ -28,6 +28,9 @@ pub(crate) const FORM: HeaderForm<FormulaFault> = HeaderForm {
 /// The literal that a token says in a clause, or `None` where it closes the clause.
 ///
 /// Where the prefix is `full`, no variable is looked up.
+///
+/// # Errors
+/// F3, F4, F6 or F7: the fault that the token is there.
 #[inline(always)]
 pub(crate) fn bound_literal(
     prefix: &Prefix,
@@ -48,6 +51,9 @@ pub(crate) fn bound_literal(
 }
 
 /// What a token says that begins no set: that a clause begins, or that all is read.
+///
+/// # Errors
+/// F3, F4 or F8: the fault that the token is there.
 #[inline(always)]
 pub(crate) fn clause_or_end(more: bool, token: Token) -> Result<bool, FormulaFault>
     ensures { result ≡ clause_or_end more token }

@@ -2,7 +2,7 @@
 
 ghost use Rattle.std.specs.Prelude.{Ok, ◌≡◌, ◌++◌};
 ghost use Rattle.qbf_text.specs.Written.{IsPut};
-ghost use Rattle.qbf_text.specs.Canonical.{line_text, spaced};
+ghost use Rattle.qbf_text.specs.Canonical.{line_text, spaced_number};
 ghost use Rattle.qdimacs.specs.Grammar.{text, clause};
 ghost use Rattle.qdimacs.specs.Reading.{read_formula};
 ghost use Rattle.qdimacs.specs.Texts.{opening, sets_text, clauses_text};
@@ -49,7 +49,7 @@ fn put_variable<K: Sink>(
     var: Var,
 ) -> Result<(), SinkFault>
     ensures { IsPut K.written K.failures sink.old sink.new
-        (opening last quantifier ++ spaced var) result }
+        (opening last quantifier ++ spaced_number var) result }
 {
     match last {
         None => (quantifier, var).put(sink),

@@ -4,9 +4,9 @@ use Rattle.qrp.proofs.Words.{Token, LeadOn, Passes}
 use Rattle.qbf_text.specs.declared.buffered.Cursor.{Cursor}
 use Rattle.qbf_text.specs.Passing.{PassesNumber}
 use Rattle.qbf_spelling.specs.Decode.{literal_in}
-use Rattle.qrp.specs.Reading.{Place, row, faults, lits_row, ants_row, antecedent, has_room, InLits, InAnts}
+use Rattle.qrp.specs.Reading.{State, row, faults, lits_row, ants_row, antecedent, has_room, InLits, InAnts}
 
-module _ (first : Place) (bytes : List ℕ) (from to here : Cursor) (t : Token) (ns : List ℕ) (n : ℕ) (ls : List Literal) where
+module _ (first : State) (bytes : List ℕ) (from to here : Cursor) (t : Token) (ns : List ℕ) (n : ℕ) (ls : List Literal) where
   -- a literal more
   pub literal_more : (l : Literal) → Ok (Some l) ≡ literal_in faults 2147483647 t
       → Passes (LeadOn row first (InLits ns n ls)) bytes from here → PassesNumber bytes here to t

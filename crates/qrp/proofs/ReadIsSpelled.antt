@@ -1,7 +1,7 @@
 -- What is read is spelled, and a fault that is found stands.
 use Rattle.qrp.proofs.Words.{common_steps, rules, ◌≡◌, ℕ, ◌≤◌, ◌+◌, List, [], ◌∷◌, ◌++◌, ◌⊎◌, inl, inr, length, Ok, Err, refl, sym, ◌∙◌}
 use Rattle.qrp.proofs.Words.{false, arith, append_assoc, append-nil, map-append, length-append, AllByRecursion, Quantifier, Literal, Block}
-use Rattle.qrp.proofs.Words.{IsVariable, AllByRecursion-push, Token, Lined, unlined, number, letter, set, EndsOnce, push_distinct}
+use Rattle.qrp.proofs.Words.{IsVariable, AllByRecursion-push, Token, Lined, without_lines, number, letter, set, EndsOnce, push_distinct}
 use Rattle.qrp.proofs.Words.{flat_map-push, Header, Outcome, Inference, IsInference, IsNumber, numbers, Derivation, step, result_word}
 use Rattle.qrp.proofs.Words.{lists, ReadsAsRead, explained, is_used}
 use Rattle.qbf_spelling.proofs.Words.{IsDistinct}
@@ -12,7 +12,7 @@ use Rattle.qbf_spelling.specs.declared.header.HeaderAt.TheVariants as place
 use Rattle.qrp.specs.Faults.{AreLists, Spells, Reads}
 use Rattle.qbf_text.specs.Rows.{Goes, Ends, Fails}
 use Rattle.qrp.specs.declared.item.Item.TheVariants as item
-use Rattle.qrp.specs.Reading.{Place, AtP, InHeader, Between, InSet, InLits, InAnts, AtResult, After, Row, row, next_place, read}
+use Rattle.qrp.specs.Reading.{State, AtP, InHeader, Between, InSet, InLits, InAnts, AtResult, After, Row, row, next_state, read}
 use Rattle.qrp.proofs.SpelledIsRead.{end_row, read_once}
 
 -- ---- lists that grow
@@ -53,39 +53,39 @@ step_closed s is fresh a = record {
 
 -- ---- one token more
 
--- a row leads to a place, where it is not the last
-abbrev IsTo : Row → Place → Type 0
+-- a row leads to a state, where it is not the last
+abbrev IsTo : Row → State → Type 0
 IsTo (Goes p) next = p ≡ next
 IsTo (Ends u (After (item.Result o) ns)) next = ⊥
-IsTo (Ends u p) next = next_place p ≡ next
+IsTo (Ends u p) next = next_state p ≡ next
 IsTo (Fails f) next = ⊥
 
-header_goes : (v : ℕ) (t : Token) (next : Place) → IsTo (row (InHeader (place.Second v)) t) next → (n : ℕ) × (t ≡ number n) × (next ≡ Between [])
+header_goes : (v : ℕ) (t : Token) (next : State) → IsTo (row (InHeader (place.Second v)) t) next → (n : ℕ) × (t ≡ number n) × (next ≡ Between [])
 header_goes v t next e = search rules
 
-list_begins : (ns : List ℕ) (t : Token) (next : Place) → IsTo (row (Between ns) t) next
+list_begins : (ns : List ℕ) (t : Token) (next : State) → IsTo (row (Between ns) t) next
     → ((q : Quantifier) × (ns ≡ []) × (t ≡ letter q) × (next ≡ InSet q []))
     ⊎ ((n : ℕ) × IsNumber n × (is_used n ns ≡ false) × (t ≡ number n) × (next ≡ InLits ns n []))
     ⊎ ((t ≡ token.Word word.R) × (next ≡ AtResult ns))
 list_begins ns t next e = search rules
 
-set_goes : (q : Quantifier) (vs : List ℕ) (t : Token) (next : Place) → IsTo (row (InSet q vs) t) next
+set_goes : (q : Quantifier) (vs : List ℕ) (t : Token) (next : State) → IsTo (row (InSet q vs) t) next
     → ((t ≡ number 0) × (next ≡ Between [])) ⊎ ((v : ℕ) × IsVariable v × (t ≡ number v) × (next ≡ InSet q (vs ++ v ∷ [])))
 set_goes q vs t next e = search rules
 
-antecedents_go : (ns : List ℕ) (n : ℕ) (ls : List Literal) (ants : List ℕ) (t : Token) (next : Place)
+antecedents_go : (ns : List ℕ) (n : ℕ) (ls : List Literal) (ants : List ℕ) (t : Token) (next : State)
     → IsTo (row (InAnts ns n ls ants) t) next
     → ((t ≡ number 0) × (next ≡ Between (ns ++ n ∷ [])))
     ⊎ ((a : ℕ) × IsNumber a × (length ants + 1 ≤ 2) × (t ≡ number a) × (next ≡ InAnts ns n ls (ants ++ a ∷ [])))
 antecedents_go ns n ls ants t next e = search rules
 
 -- the result is the last, and after another item reading goes on
-row_ends : (p next : Place) (t : Token) → row p t ≡ Ends tt next
-    → ((ns : List ℕ) × (o : Outcome) × (p ≡ AtResult ns) × (t ≡ result_word o)) ⊎ IsTo (row p t) (next_place next)
+row_ends : (p next : State) (t : Token) → row p t ≡ Ends tt next
+    → ((ns : List ℕ) × (o : Outcome) × (p ≡ AtResult ns) × (t ≡ result_word o)) ⊎ IsTo (row p t) (next_state next)
 row_ends p next t e = search rules
 
--- an accepted token leads to a place that the tokens spell
-goes : (ts : List Token) (p next : Place) (t : Token) → Spells ts p → IsTo (row p t) next → Spells (ts ++ t ∷ []) next
+-- an accepted token leads to a state that the tokens spell
+goes : (ts : List Token) (p next : State) (t : Token) → Spells ts p → IsTo (row p t) next → Spells (ts ++ t ∷ []) next
 unfolding IsDistinct
 goes ts (InHeader (place.Second v)) next t s e =
     let k = header_goes v t next e in
@@ -125,32 +125,32 @@ goes ts (InAnts ns n ls ants) next t s e = elim (antecedents_go ns n ls ants t n
 
 -- ---- the whole
 
-whole_trace : (before : List Lined) (t : Lined) (ts : List Lined) (ns : List ℕ) (o : Outcome) → Spells (unlined before) (AtResult ns)
+whole_trace : (before : List Lined) (t : Lined) (ts : List Lined) (ns : List ℕ) (o : Outcome) → Spells (without_lines before) (AtResult ns)
     → t.0 ≡ result_word o → (d : Derivation) × Reads (before ++ t ∷ ts) (Ok d)
 whole_trace before t ts ns o a is = (
   record { header = a.header; sets = a.sets; steps = a.steps; result = o },
   record {
-    rest = unlined ts;
-    spelled = map-append (λ u. u.0) before (t ∷ ts) ∙ (λ i. a.spelled i ++ is i ∷ unlined ts) ∙ simp append_assoc;
+    rest = without_lines ts;
+    spelled = map-append (λ u. u.0) before (t ∷ ts) ∙ (λ i. a.spelled i ++ is i ∷ without_lines ts) ∙ simp append_assoc;
     grammatical = a.grammatical;
   },
 )
 
-answer : (before : List Lined) (p : Place) (t : Lined) (ts : List Lined) → Spells (unlined before) p → EndsOnce (t ∷ ts)
+answer : (before : List Lined) (p : State) (t : Lined) (ts : List Lined) → Spells (without_lines before) p → EndsOnce (t ∷ ts)
     → Answers Spells Reads before t ts
 answer before p t ts s once = by (row p t.0) refl
   where
-    on : (next : Place) → IsTo (row p t.0) next → Answers Spells Reads before t ts
-    on next e = inr ((λ end. (rw (end, end_row p) at e)), next, goes (unlined before) p next t.0 s e)
+    on : (next : State) → IsTo (row p t.0) next → Answers Spells Reads before t ts
+    on next e = inr ((λ end. (rw (end, end_row p) at e)), next, goes (without_lines before) p next t.0 s e)
 
     by : (r : Row) → row p t.0 ≡ r → Answers Spells Reads before t ts
     by (Goes next) is = on next (rw is refl)
     by (Ends u next) is = elim (row_ends p next t.0 is) [
       | inl k ↦ let d = whole_trace before t ts k.0 k.1 (rw k.2 at s) k.3 in inl (Ok d.0, d.1)
-      | inr e ↦ on (next_place next) e
+      | inr e ↦ on (next_state next) e
     ]
     by (Fails f) is =
-        inl (Err (f, t.1), record { before = before; wrong = t.0; after = ts; whole = refl; place = p; stands = s; refused = is })
+        inl (Err (f, t.1), record { before = before; wrong = t.0; after = ts; whole = refl; state = p; stands = s; refused = is })
 
 -- What is read is spelled; a fault that is found stands.
 pub read_explained : ReadsAsRead Reads read

@@ -61,4 +61,6 @@ pub given_answers : (remaining : Option (List ℕ)) (result : Result Derivation 
     → IfSome remaining (λ bytes. Answers (tokens Qrp bytes) result)
 given_answers = answered_bytes is_outside IsTrace IsFault Qrp read read_explained
 
-pub ruleset laws = (read_explained, read_once, fault_items, bytes_read, text_is_read, trace_items)
+pub ruleset trace_laws = (read_explained, read_once, bytes_read, text_is_read)
+
+pub ruleset item_laws = (trace_items, fault_items)

@@ -1,26 +1,26 @@
 -- What is read by the rows of the items is the next item.
 use Rattle.qrp.proofs.Words.{arith, common_steps, rules, ◌≡◌, ℕ, List, [], ◌∷◌, Some, Ok, Err, ◌⊎◌, refl, ap, sym, ◌∙◌, Token}
 use Rattle.qrp.proofs.Words.{Lined, Read, read-one, ReadError, Known, Cut, reads_from, Leaves, Reads, TraceFault, P1, P7, P9, Item}
-use Rattle.qrp.proofs.Words.{known_items, GivesAnswer, GivesUnless, GivesNextItem, left_behind, stage_after, Stage, AtHeader}
-use Rattle.qrp.proofs.Words.{AtLists, Giver, Stands, GivesItem, fault_of}
+use Rattle.qrp.proofs.Words.{known_items, GivesUnless, GivesNextItem, left_after, stage_after, Stage, AtHeader}
+use Rattle.qrp.proofs.Words.{AtLists, Giver, Stands, fault_of}
 use Rattle.qbf_spelling.proofs.Words.{read_from}
 use Rattle.qbf_text.specs.Rows as rows
 use Rattle.qbf_text.proofs.OneToken as going
-use Rattle.qrp.specs.Reading.{Place, After, row, items_from, next_place, given}
+use Rattle.qrp.specs.Reading.{State, After, row, items_from, next_state, item_and_more}
 use Rattle.qrp.proofs.SpelledIsRead.{Answer, after, items-one, end_row}
 
 -- the items that are left to give where reading by rows answers this
-abbrev pub given_of : Read Place (Unit {0}) TraceFault → List Answer
-given_of (rows.Whole u next rest) = given next (items_from (next_place next) rest)
+abbrev pub given_of : Read State (Unit {0}) TraceFault → List Answer
+given_of (rows.Whole u next rest) = item_and_more next (items_from (next_state next) rest)
 given_of (rows.Fault f line) = Err (f, line) ∷ []
 given_of Cut = Err (P7, 0) ∷ []
 
 -- ---- the items that are left, and what is read of them by rows
 
 abbrev pub More : List Lined → Type 0
-More ts = (p : Place) → items_from p ts ≡ given_of (read_from row p ts)
+More ts = (p : State) → items_from p ts ≡ given_of (read_from row p ts)
 
-by_token : (t : Token) (line : ℕ) (ts : List Lined) → More ts → (p : Place)
+by_token : (t : Token) (line : ℕ) (ts : List Lined) → More ts → (p : State)
     → after (row p t) line ts ≡ given_of (going.after row (row p t) (t, line) ts)
 by_token t line ts more p = grind (arith, common_steps, end_row)
 
@@ -31,18 +31,17 @@ gives (t ∷ ts) = λ p. items-one p t ts ∙ by_token t.0 t.1 ts (gives ts) p �
 
 -- ---- what a call returns that reads so
 
-pub item_given : (p : Place) (known : Known) (next : Place) (rest : Known) (i : Item) (ns : List ℕ)
+pub item_given : (p : State) (known : Known) (next : State) (rest : Known) (i : Item) (ns : List ℕ)
     → Leaves (reads_from row p known) tt next rest → next ≡ After i ns
-    → GivesAnswer (known_items p known) (left_behind (stage_after (Ok i)) ns rest) (Ok i)
+    → GivesNextItem (known_items p known) (left_after (stage_after (Ok i)) ns rest) (Ok i)
 item_given p known next rest i ns leaves is = grind (arith, common_steps, gives)
 
-pub fault_given : (p : Place) (known : Known) (next : Place) (rest : Known) (e : ReadError TraceFault)
+pub fault_given : (p : State) (known : Known) (next : State) (rest : Known) (e : ReadError TraceFault)
     → Reads (reads_from row p known) next rest (Err e)
     → GivesUnless (fault_of P1 P9 e).0 (known_items p known) (Some (Err (fault_of P1 P9 e) ∷ [])) (Err (fault_of P1 P9 e))
 fault_given p known next rest e h = grind (arith, common_steps, gives)
 
 -- what a reader that is not done has left
-pub next_given : (stage : Stage) (before g : Giver) (known after_ : Known) (answer : Answer) → (stage ≡ AtHeader) ⊎ (stage ≡ AtLists)
-    → Stands stage before → GivesItem (known_items before.place known) g.kept.numbers after_ answer
-    → GivesNextItem (left_behind stage before.kept.numbers known) (left_behind (stage_after answer) g.kept.numbers after_) answer
-next_given stage before g known after_ answer open_ stands h = search rules
+pub left_next : (stage : Stage) (g : Giver) (known : Known) → (stage ≡ AtHeader) ⊎ (stage ≡ AtLists) → Stands stage g
+    → left_after stage g.kept.numbers known ≡ known_items g.state known
+left_next stage g known open_ stands = search rules

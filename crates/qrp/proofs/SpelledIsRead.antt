@@ -1,7 +1,7 @@
--- What tokens spell is read, and a fault that stands is found: accepted tokens, and the place that they lead to.
+-- What tokens spell is read, and a fault that stands is found: accepted tokens, and the state that they lead to.
 use Rattle.qrp.proofs.Words.{common_steps, rules, ◌≡◌, ℕ, ◌≤◌, false, List, [], ◌∷◌, ◌++◌, length, map, Result, Ok, Err, refl, ap, ◌∙◌}
 use Rattle.qrp.proofs.Words.{arith, append_assoc, append-nil, nat_eq, length-append, flat_map, AllByRecursion, Quantifier, Literal, Block}
-use Rattle.qrp.proofs.Words.{IsVariable, Token, Lined, unlined, number, literal, set, new_number, P7, Header, Item, Inference, IsInference}
+use Rattle.qrp.proofs.Words.{IsVariable, Token, Lined, without_lines, number, literal, set, new_number, P7, Header, Item, Inference, IsInference}
 use Rattle.qrp.proofs.Words.{IsLiteral, IsNumber, numbers, AreGrammatical, items_of_lists, Derivation, step, lists, result_word, IsTrace}
 use Rattle.qrp.proofs.Words.{is_used, split_at, TraceFault, Outcome, Sat, ReadsOnce}
 use Rattle.qbf_spelling.proofs.Words.{IsDistinct}
@@ -9,8 +9,8 @@ use Rattle.qbf_spelling.proofs.Words.token
 use Rattle.qbf_spelling.proofs.Words.word
 use Rattle.qrp.specs.declared.item.Item.TheVariants as item
 use Rattle.qbf_text.specs.Rows.{Goes, Ends, Fails}
-use Rattle.qrp.specs.Reading.{Fault, Place, AtP, Between, InSet, InLits, InAnts, AtResult, After, Row, row, items_from, next_place, given}
-use Rattle.qrp.specs.Reading.{InHeader, items, gathered, nothing, read}
+use Rattle.qrp.specs.Reading.{Fault, State, AtP, Between, InSet, InLits, InAnts, AtResult, After, Row, row, items_from, next_state, item_and_more}
+use Rattle.qrp.specs.Reading.{InHeader, items, with_items, nothing, read}
 use Rattle.qbf_spelling.specs.declared.header.HeaderAt.TheVariants as place
 use Rattle.qrp.specs.Faults.{AreLists, Spells, IsFault, whole_before, Reads}
 
@@ -20,33 +20,33 @@ Answer = Result Item Fault
 -- what comes of a row
 abbrev pub after : Row → ℕ → List Lined → List Answer
 after (Goes next) line rest = items_from next rest
-after (Ends u next) line rest = given next (items_from (next_place next) rest)
+after (Ends u next) line rest = item_and_more next (items_from (next_state next) rest)
 after (Fails f) line rest = Err (f, line) ∷ []
 
-pub items-one : (p : Place) (t : Lined) (rest : List Lined) → items_from p (t ∷ rest) ≡ after (row p t.0) t.1 rest
+pub items-one : (p : State) (t : Lined) (rest : List Lined) → items_from p (t ∷ rest) ≡ after (row p t.0) t.1 rest
 unfolding items_from
 items-one p t rest = grind (arith, common_steps)
 
--- the tokens close these items, and lead from one place to another
-pub data Leads : Place → List Token → List Item → Place → Type 0 where
-  Stays : {p : Place} → Leads p [] [] p
-  Passes : {p next q : Place} {t : Token} {ts : List Token} {is : List Item} → row p t ≡ Goes next → Leads next ts is q
+-- the tokens close these items, and lead from one state to another
+pub data Leads : State → List Token → List Item → State → Type 0 where
+  Stays : {p : State} → Leads p [] [] p
+  Passes : {p next q : State} {t : Token} {ts : List Token} {is : List Item} → row p t ≡ Goes next → Leads next ts is q
       → Leads p (t ∷ ts) is q
-  Completes : {p next q : Place} {t : Token} {ts : List Token} {i : Item} {is : List Item} → row p t ≡ Ends tt next
-      → ((more : List Answer) → given next more ≡ Ok i ∷ more) → Leads (next_place next) ts is q → Leads p (t ∷ ts) (i ∷ is) q
+  Completes : {p next q : State} {t : Token} {ts : List Token} {i : Item} {is : List Item} → row p t ≡ Ends tt next
+      → ((more : List Answer) → item_and_more next more ≡ Ok i ∷ more) → Leads (next_state next) ts is q → Leads p (t ∷ ts) (i ∷ is) q
 
-pub leads_then : {p q r : Place} {ts us : List Token} {is js : List Item} → Leads p ts is q → Leads q us js r
+pub leads_then : {p q r : State} {ts us : List Token} {is js : List Item} → Leads p ts is q → Leads q us js r
     → Leads p (ts ++ us) (is ++ js) r
 leads_then Stays m = m
 leads_then (Passes e l) m = Passes e (leads_then l m)
 leads_then (Completes e g l) m = Completes e g (leads_then l m)
 
 -- after tokens that complete no more
-pub leads_on : {p q r : Place} {ts us : List Token} {is : List Item} → Leads p ts is q → Leads q us [] r → Leads p (ts ++ us) is r
+pub leads_on : {p q r : State} {ts us : List Token} {is : List Item} → Leads p ts is q → Leads q us [] r → Leads p (ts ++ us) is r
 leads_on l m = rw append-nil at (leads_then l m)
 
 -- what is given of them, on whatever lines they stand
-pub leads_gives : {p q : Place} {ts : List Token} {is : List Item} → Leads p ts is q → (before : List Lined) → unlined before ≡ ts
+pub leads_gives : {p q : State} {ts : List Token} {is : List Item} → Leads p ts is q → (before : List Lined) → without_lines before ≡ ts
     → (rest : List Lined) → items_from p (before ++ rest) ≡ map Ok is ++ items_from q rest
 leads_gives Stays [] e rest = refl
 leads_gives Stays (t ∷ before) e rest = absurd cc
@@ -59,10 +59,10 @@ leads_gives (Completes taken g l) [] e rest = absurd cc
 leads_gives {p} (Completes {next = next} {t = u} {i = i} taken g l) (t ∷ before) e rest =
     let same : t.0 ≡ u = cc in
     items-one p t (before ++ rest) ∙ ap (λ (r : Row). after r t.1 (before ++ rest)) (ap (row p) same ∙ taken)
-    ∙ g (items_from (next_place next) (before ++ rest)) ∙ ap (λ (x : List Answer). Ok i ∷ x) (leads_gives l before (cc) rest)
+    ∙ g (items_from (next_state next) (before ++ rest)) ∙ ap (λ (x : List Answer). Ok i ∷ x) (leads_gives l before (cc) rest)
 
--- no place takes End
-pub end_row : (p : Place) → row p token.End ≡ Fails P7
+-- no state takes End
+pub end_row : (p : State) → row p token.End ≡ Fails P7
 end_row p = search rules
 
 -- ---- a set
@@ -117,20 +117,20 @@ leads_lists h sets steps g =
 -- ---- gathering
 
 gathered_more : (d : Derivation) (sets : List Block) (steps : List Inference) (more : List Answer)
-    → gathered d (map Ok (map item.Set sets ++ map item.Step steps) ++ more)
-    ≡ gathered (record d { sets = d.sets ++ sets; steps = d.steps ++ steps }) more
-unfolding gathered
+    → with_items d (map Ok (map item.Set sets ++ map item.Step steps) ++ more)
+    ≡ with_items (record d { sets = d.sets ++ sets; steps = d.steps ++ steps }) more
+unfolding with_items
 gathered_more d [] [] more = rw (append-nil d.sets, append-nil d.steps) refl
 gathered_more d [] (s ∷ steps) more = gathered_more (record d { steps = d.steps ++ s ∷ [] }) [] steps more
-    ∙ ap (λ (x : List Inference). gathered (record d { sets = d.sets ++ []; steps = x }) more) (append_assoc d.steps (s ∷ []) steps)
+    ∙ ap (λ (x : List Inference). with_items (record d { sets = d.sets ++ []; steps = x }) more) (append_assoc d.steps (s ∷ []) steps)
 gathered_more d (s ∷ sets) steps more = gathered_more (record d { sets = d.sets ++ s ∷ [] }) sets steps more
-    ∙ ap (λ (x : List Block). gathered (record d { sets = x; steps = d.steps ++ steps }) more) (append_assoc d.sets (s ∷ []) sets)
+    ∙ ap (λ (x : List Block). with_items (record d { sets = x; steps = d.steps ++ steps }) more) (append_assoc d.sets (s ∷ []) sets)
 
 -- header, sets and steps are gathered in their places
 gathered_lists : (h : Header) (sets : List Block) (steps : List Inference) (more : List Answer)
-    → gathered nothing (map Ok (item.Header h ∷ (map item.Set sets ++ map item.Step steps)) ++ more)
-    ≡ gathered (record { header = h; sets = sets; steps = steps; result = Sat }) more
-unfolding gathered
+    → with_items nothing (map Ok (item.Header h ∷ (map item.Set sets ++ map item.Step steps)) ++ more)
+    ≡ with_items (record { header = h; sets = sets; steps = steps; result = Sat }) more
+unfolding with_items
 gathered_lists h sets steps more = gathered_more (record nothing { header = h }) sets steps more
 
 -- ---- what is spelled is read
@@ -139,7 +139,7 @@ result_row_ok : (ns : List ℕ) (o : Outcome) → row (AtResult ns) (result_word
 result_row_ok ns o = grind (arith, common_steps)
 
 -- the items of a trace that is spelled
-pub spelled_items : (ts : List Lined) (d : Derivation) → IsTrace (unlined ts) d
+pub spelled_items : (ts : List Lined) (d : Derivation) → IsTrace (without_lines ts) d
     → items ts ≡ map Ok (items_of_lists d.header d.sets d.steps) ++ Ok (item.Result d.result) ∷ []
 spelled_items ts d is =
     let k = split_at ts (lists d.header d.sets d.steps ++ token.Word word.R ∷ []) (result_word d.result) is.rest
@@ -151,19 +151,19 @@ spelled_items ts d is =
     (items-one (AtResult (numbers d.steps)) (result_word d.result, k.1) k.2
     ∙ ap (λ (x : Row). after x k.1 k.2) (result_row_ok (numbers d.steps) d.result))
 
-pub spelled_is_read : (ts : List Lined) (d : Derivation) → IsTrace (unlined ts) d → read ts ≡ Ok d
-unfolding gathered
+pub spelled_is_read : (ts : List Lined) (d : Derivation) → IsTrace (without_lines ts) d → read ts ≡ Ok d
+unfolding with_items
 spelled_is_read ts d is =
-    ap (gathered nothing) (spelled_items ts d is) ∙ gathered_lists d.header d.sets d.steps (Ok (item.Result d.result) ∷ [])
+    ap (with_items nothing) (spelled_items ts d is) ∙ gathered_lists d.header d.sets d.steps (Ok (item.Result d.result) ∷ [])
 
 -- ---- a fault that stands is found
 
-leads_begun : {ts begun : List Token} {ns : List ℕ} {p : Place} → (a : AreLists ts begun ns) → Leads (Between ns) begun [] p
+leads_begun : {ts begun : List Token} {ns : List ℕ} {p : State} → (a : AreLists ts begun ns) → Leads (Between ns) begun [] p
     → Leads AtP ts (items_of_lists a.header a.sets a.steps) p
 leads_begun a l = rw a.spelled (leads_on (rw a.numbered at (leads_lists a.header a.sets a.steps a.grammatical)) l)
 
--- the tokens before a place lead to it
-spelled_leads : (ts : List Token) (place : Place) (s : Spells ts place) → Leads AtP ts (whole_before ts place s) place
+-- the tokens before a state lead to it
+spelled_leads : (ts : List Token) (state : State) (s : Spells ts state) → Leads AtP ts (whole_before ts state s) state
 spelled_leads ts (InHeader place.P) e = rw e Stays
 spelled_leads ts (InHeader place.Format) e = rw e (Passes refl Stays)
 spelled_leads ts (InHeader place.First) e = rw e (Passes refl (Passes refl Stays))
@@ -176,23 +176,23 @@ spelled_leads ts (InAnts ns n ls ants) e = leads_begun e.0 (Passes (search rules
 spelled_leads ts (AtResult ns) e = leads_begun e (Passes (search rules) Stays)
 spelled_leads ts (After i ns) e = absurd e
 
-before_fault : (ts : List Token) (place : Place) (s : Spells ts place) (e : Fault)
-    → gathered nothing (map Ok (whole_before ts place s) ++ Err e ∷ []) ≡ Err e
-unfolding gathered
-before_fault ts place s e = grind (arith, common_steps, gathered_lists)
+before_fault : (ts : List Token) (state : State) (s : Spells ts state) (e : Fault)
+    → with_items nothing (map Ok (whole_before ts state s) ++ Err e ∷ []) ≡ Err e
+unfolding with_items
+before_fault ts state s e = grind (arith, common_steps, gathered_lists)
 
 -- the items before a fault that stands
 pub fault_items : (ts : List Lined) (f : TraceFault) (line : ℕ) (is : IsFault ts f line)
-    → items ts ≡ map Ok (whole_before (unlined is.before) is.place is.stands) ++ Err (f, line) ∷ []
+    → items ts ≡ map Ok (whole_before (without_lines is.before) is.state is.stands) ++ Err (f, line) ∷ []
 fault_items ts f line is =
     ap items is.whole
-    ∙ leads_gives (spelled_leads (unlined is.before) is.place is.stands) is.before refl ((is.wrong, line) ∷ is.after)
-    ∙ ap (λ (x : List Answer). map Ok (whole_before (unlined is.before) is.place is.stands) ++ x)
-    (items-one is.place (is.wrong, line) is.after ∙ ap (λ (x : Row). after x line is.after) is.refused)
+    ∙ leads_gives (spelled_leads (without_lines is.before) is.state is.stands) is.before refl ((is.wrong, line) ∷ is.after)
+    ∙ ap (λ (x : List Answer). map Ok (whole_before (without_lines is.before) is.state is.stands) ++ x)
+    (items-one is.state (is.wrong, line) is.after ∙ ap (λ (x : Row). after x line is.after) is.refused)
 
 pub fault_is_found : (ts : List Lined) (f : TraceFault) (line : ℕ) → IsFault ts f line → read ts ≡ Err (f, line)
 fault_is_found ts f line is =
-    ap (gathered nothing) (fault_items ts f line is) ∙ before_fault (unlined is.before) is.place is.stands (f, line)
+    ap (with_items nothing) (fault_items ts f line is) ∙ before_fault (without_lines is.before) is.state is.stands (f, line)
 
 -- Tokens read as nothing else.
 pub read_once : ReadsOnce Reads read

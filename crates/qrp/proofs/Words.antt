@@ -3,7 +3,7 @@ pub use Rattle.qbf_core.proofs.DistinctNumbers.{new_number, one_place, push_dist
 pub use Rattle.qbf_spelling.proofs.CanonicalLines.{literals_plain, set_written}
 pub use Rattle.qbf_spelling.proofs.Words.{AllByRecursion, AllByRecursion-push, Block, IsSent, IsVariable, Lined, Literal, Qrp, Quantifier}
 pub use Rattle.qbf_spelling.proofs.Words.{Read, Token, ahead, flat_map, flat_map-append, flat_map-map, left, length-append, letter, literal}
-pub use Rattle.qbf_spelling.proofs.Words.{map-append, number, read-one, sent_fails, sent_part, set, tokens, tokens_next, unlined}
+pub use Rattle.qbf_spelling.proofs.Words.{map-append, number, read-one, sent_fails, sent_part, set, tokens, tokens_next, without_lines}
 pub use Rattle.qbf_spelling.proofs.Worked.{all, exists}
 pub use Rattle.qbf_spelling.proofs.WrittenParts.{closed_numbers, set_line}
 pub use Rattle.qbf_spelling.specs.Texts.{set_text}
@@ -23,16 +23,16 @@ pub use Rattle.qbf_text.specs.Rows.{Cut, reads_from}
 pub use Rattle.qbf_text.specs.Stopping.{IfKnown, Skips, Stops}
 pub use Rattle.qbf_text.specs.Taking.{Leaves, Reads}
 pub use Rattle.qbf_text.specs.declared.grammar.ReadError.{ReadError}
-pub use Rattle.qrp.specs.Answers.{Answers, Gives, StopsBehindResult, is_outside, reads_bytes}
+pub use Rattle.qrp.specs.Answers.{Answers, Gives, StopsAfterResult, is_outside, reads_bytes}
 pub use Rattle.qrp.specs.Derivations.{AreGrammatical, Derivation, IsWellFormed, items_of_lists, steps_at, with_steps_at}
-pub use Rattle.qrp.specs.Flat.{IsFlat, Kept, kept_of, made, numbered, with_item}
-pub use Rattle.qrp.specs.Given.{GivesAnswer, GivesNextItem, GivesUnless, StopsBehindPart, is_last, known_items, left_behind, place_next}
+pub use Rattle.qrp.specs.Flat.{IsFlat, Kept, kept_of, trace_of, steps_of, with_item}
+pub use Rattle.qrp.specs.Given.{GivesNextItem, GivesUnless, StopsAfterPart, is_last, known_items, left_after, state_next}
 pub use Rattle.qrp.specs.Given.{stage_after}
 pub use Rattle.qrp.specs.Grammar.{IsTrace, header, lines, lists, result, result_word, step, text}
 pub use Rattle.qrp.specs.Inferences.{Inference, IsAt, IsInference, IsLiteral, IsNumber, IsOnlyAt, numbers}
-pub use Rattle.qrp.specs.Items.{Giver, GivesItem, Stands, StopsBehind}
+pub use Rattle.qrp.specs.Items.{Giver, Stands}
 pub use Rattle.qrp.specs.Laws.{ItemsOfTrace, ReadsText}
-pub use Rattle.qrp.specs.Places.{IsSound, Stays, place}
+pub use Rattle.qrp.specs.States.{IsSound, Stays, state_at}
 pub use Rattle.qrp.specs.Texts.{step_text, steps_text}
 pub use Rattle.qrp.specs.declared.fault.TraceFault.{TraceFault}
 pub use Rattle.qrp.specs.declared.fault.TraceFault.TheVariants.{P1, P2, P3, P4, P5, P6, P7, P8, P9}

@@ -3,7 +3,7 @@ use Rattle.qrp.proofs.Words.{AllByRecursion, Literal, exists, all, P2, P3, P4, P
 use Rattle.std.specs.Prelude.{codes, ◌≡◌, ℕ, List, [], ◌∷◌, ◌++◌, Result, Ok, Err, refl}
 use Rattle.std.specs.Fmt.{digits}
 use Rattle.qbf_core.specs.Literal.{positive as pos, negative as neg}
-use Rattle.qrp.specs.Reading.{Fault, read_trace, items_from, gathered}
+use Rattle.qrp.specs.Reading.{Fault, read_trace, items_from, with_items}
 
 abbrev inference : ℕ → List Literal → List ℕ → Inference
 inference n ls ants = record { number = n; lits = ls; ants = ants }
@@ -58,7 +58,7 @@ rows = (codes "p qrp 1\ne 1 0\n", Err (P2, 2))
     ∷ []
 
 rows_read : AllByRecursion (λ r. read_trace r.0 ≡ r.1) rows
-unfolding items_from gathered
+unfolding items_from with_items
 rows_read = (refl, (refl, (refl, (refl, (refl, (refl, (refl, (refl, (refl, (refl, (refl, (refl, (refl, (refl, (refl, tt)))))))))))))))
 
 -- ---- traces, and their canonical texts

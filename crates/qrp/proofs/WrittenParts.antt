@@ -5,9 +5,9 @@ use Rattle.qrp.proofs.Words.{steps_at, with_steps_at, closed_numbers, set_line, 
 use Rattle.qrp.proofs.Words.{set_text}
 use Rattle.qbf_text.proofs.SentParts as sent
 
--- as many steps stand at some places as there are places
-pub length_at : (steps : List Inference) (places : List ℕ) → AllByRecursion (λ i. i < length steps) places
-    → length (steps_at steps places) ≡ length places
+-- as many steps stand at some positions as there are positions
+pub length_at : (steps : List Inference) (positions : List ℕ) → AllByRecursion (λ i. i < length steps) positions
+    → length (steps_at steps positions) ≡ length positions
 length_at = sent.length_at
 
 step_line : (s : Inference) → line_text (step s) ≡ step_text s
@@ -19,11 +19,11 @@ pub text_parts : (d : Derivation)
     → text d ≡ line_text (header d.header) ++ (flat_map set_text d.sets ++ (steps_text d.steps ++ line_text (result d.result)))
 text_parts d = grind (arith, common_steps, append-nil, flat_map-append, flat_map-map, append_assoc, set_line, step_line)
 
--- the same of the text with the steps at some places alone
-pub text_parts_at : (d : Derivation) (places : List ℕ) (h : Header) → AllByRecursion (λ i. i < length d.steps) places → h ≡ d.header
-    → text (with_steps_at d places) ≡ line_text (header (record { vars = h.vars; steps = length places }))
-    ++ (flat_map set_text d.sets ++ (steps_text (steps_at d.steps places) ++ line_text (result d.result)))
-text_parts_at d places h inside is =
-    text_parts (with_steps_at d places)
-    ∙ (λ i. line_text (header (record { vars = (sym is i).vars; steps = length_at d.steps places inside i }))
-    ++ (flat_map set_text d.sets ++ (steps_text (steps_at d.steps places) ++ line_text (result d.result))))
+-- the same of the text with the steps at some positions alone
+pub text_parts_at : (d : Derivation) (positions : List ℕ) (h : Header) → AllByRecursion (λ i. i < length d.steps) positions → h ≡ d.header
+    → text (with_steps_at d positions) ≡ line_text (header (record { vars = h.vars; steps = length positions }))
+    ++ (flat_map set_text d.sets ++ (steps_text (steps_at d.steps positions) ++ line_text (result d.result)))
+text_parts_at d positions h inside is =
+    text_parts (with_steps_at d positions)
+    ∙ (λ i. line_text (header (record { vars = (sym is i).vars; steps = length_at d.steps positions inside i }))
+    ++ (flat_map set_text d.sets ++ (steps_text (steps_at d.steps positions) ++ line_text (result d.result))))

@@ -31,16 +31,16 @@ Answers ts answer = answering.Answers is_outside IsTrace IsFault ts answer
 
 -- What was consumed of the bytes ends with the result word and at most one separator, but for at most 4,096 bytes that were pulled
 -- with it. These are held and not looked at, and lost with the reader.
-pub record StopsBehindResult (d : Derivation) (bytes rest : List ℕ) : Type 0 where
+pub record StopsAfterResult (d : Derivation) (bytes rest : List ℕ) : Type 0 where
   pub before : List ℕ
   pub word : List ℕ
-  pub behind : List ℕ
+  pub separator : List ℕ
   pub held : List ℕ
-  pub consumed : bytes ≡ before ++ word ++ behind ++ held ++ rest
+  pub consumed : bytes ≡ before ++ word ++ separator ++ held ++ rest
   pub unbroken : IsUnbroken word
-  pub separates : IsAtMostASeparator behind
+  pub separates : IsAtMostASeparator separator
   pub few : length held ≤ 4096
   -- without that word the trace has no result
   pub missing : (line : ℕ) × (read_trace before ≡ Err (P7, line))
   -- with it the trace is whole
-  pub whole : read_trace (before ++ word ++ behind) ≡ Ok d
+  pub whole : read_trace (before ++ word ++ separator) ≡ Ok d

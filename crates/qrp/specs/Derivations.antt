@@ -42,13 +42,13 @@ items_of_lists h sets steps = item.Header h ∷ (map item.Set sets ++ map item.S
 abbrev pub items_of : Derivation → List Item
 items_of d = item.Header d.header ∷ map item.Set d.sets ++ map item.Step d.steps ++ item.Result d.result ∷ []
 
--- the steps at these places
+-- the steps at these positions
 abbrev pub steps_at : List Inference → List ℕ → List Inference
-steps_at steps places = filter_map (slice_get steps) places
+steps_at steps positions = filter_map (slice_get steps) positions
 
--- the trace with the steps at these places alone, and their count in its header
+-- the trace with the steps at these positions alone, and their count in its header
 abbrev pub with_steps_at : Derivation → List ℕ → Derivation
-with_steps_at d places = record d {
-  header = record { vars = d.header.vars; steps = length (steps_at d.steps places) };
-  steps = steps_at d.steps places;
+with_steps_at d positions = record d {
+  header = record { vars = d.header.vars; steps = length (steps_at d.steps positions) };
+  steps = steps_at d.steps positions;
 }

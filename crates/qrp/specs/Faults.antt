@@ -1,4 +1,4 @@
--- Where the first fault stands: the tokens before it are accepted, and the row of its place refuses it.
+-- Where the first fault stands: the tokens before it are accepted, and the row of its state refuses it.
 use Rattle.std.specs.Prelude.{◌≡◌, ◌≤◌, ℕ, false, List, [], ◌∷◌, ◌++◌, map, length, Result}
 use Rattle.qbf_spelling.specs.Words
 use Words.{AllByRecursion, Block, IsVariable, Token, Lined, number, literal, letter}
@@ -13,10 +13,10 @@ use Rattle.qrp.specs.Inferences.{Inference, IsLiteral, IsNumber, numbers}
 use Rattle.qrp.specs.Derivations.{Derivation, AreGrammatical, items_of_lists}
 use Rattle.qbf_text.specs.Answering as answering
 use Rattle.qrp.specs.Grammar.{lists, IsTrace}
-use Rattle.qrp.specs.Reading.{Fault, Place, InHeader, Between, InSet, InLits, InAnts, AtResult, After, row}
+use Rattle.qrp.specs.Reading.{Fault, State, InHeader, Between, InSet, InLits, InAnts, AtResult, After, row}
 use Rattle.step_index.specs.Numbers.{is_used}
 
--- whole sets and whole steps with these numbers, before the tokens of a list that is begun
+-- whole sets and whole steps with these numbers, before the tokens of an unfinished list
 pub record AreLists (ts begun : List Token) (ns : List ℕ) : Type 0 where
   pub header : Header
   pub sets : List Block
@@ -25,8 +25,8 @@ pub record AreLists (ts begun : List Token) (ns : List ℕ) : Type 0 where
   pub numbered : numbers steps ≡ ns
   pub grammatical : AreGrammatical sets steps
 
--- The tokens before a place: an unfinished header, or whole sets and whole steps and then nothing, one begun list, or `r`.
-abbrev pub Spells : List Token → Place → Type 0
+-- The tokens before a state: an unfinished header, or whole sets and whole steps and then nothing, one begun list, or `r`.
+abbrev pub Spells : List Token → State → Type 0
 Spells ts (InHeader here) = ts ≡ header_before word.Qrp here
 Spells ts (Between ns) = AreLists ts [] ns
 Spells ts (InSet q vs) = AreLists ts (letter q ∷ map number vs) [] × AllByRecursion IsVariable vs
@@ -37,8 +37,8 @@ Spells ts (InAnts ns n ls ants) = AreLists ts (number n ∷ (map literal ls ++ n
 Spells ts (AtResult ns) = AreLists ts (token.Word word.R ∷ []) ns
 Spells ts (After i ns) = ⊥
 
--- the items of the lists that are whole before a place: none while the header is unfinished
-abbrev pub whole_before : (ts : List Token) (place : Place) → Spells ts place → List Item
+-- the items of the lists that are whole before a state: none while the header is unfinished
+abbrev pub whole_before : (ts : List Token) (state : State) → Spells ts state → List Item
 whole_before ts (InHeader here) s = []
 whole_before ts (Between ns) s = items_of_lists s.header s.sets s.steps
 whole_before ts (InSet q vs) s = items_of_lists s.0.header s.0.sets s.0.steps
@@ -49,7 +49,7 @@ whole_before ts (After i ns) s = []
 
 -- The fault stands on this line.
 abbrev pub IsFault : List Lined → TraceFault → ℕ → Type 0
-IsFault ts fault line = answering.IsFault Spells (λ place t f. row place t ≡ Fails f) ts fault line
+IsFault ts fault line = answering.IsFault Spells (λ state t f. row state t ≡ Fails f) ts fault line
 
 -- What the tokens read as: the trace that they spell, or the fault that stands.
 abbrev pub Reads : List Lined → Result Derivation Fault → Type 0

@@ -8,17 +8,17 @@ use Rattle.qrp.specs.declared.item.Item.{Item}
 use Rattle.qrp.specs.declared.item.Item.TheVariants as item
 use Rattle.qrp.specs.declared.item.Outcome.TheVariants.{Sat}
 use Rattle.qrp.specs.declared.parts.Parts.{Parts}
-use Rattle.qrp.specs.declared.places.Part.{Part}
+use Rattle.qrp.specs.declared.states.Part.{Part}
 use Rattle.qrp.specs.Derivations.{Derivation, IsWellFormed}
 use Rattle.qrp.specs.Inferences.{Inference, numbers}
-use Rattle.qrp.specs.Places.{item_of, numbers_after}
+use Rattle.qrp.specs.States.{item_of, numbers_after}
 
 -- the steps of these numbers, literals and antecedents
-abbrev pub numbered : List ℕ → List (List Literal) → List (List ℕ) → List Inference
-numbered [] lits ants = []
-numbered (n ∷ ns) [] ants = []
-numbered (n ∷ ns) (l ∷ lits) [] = []
-numbered (n ∷ ns) (l ∷ lits) (a ∷ ants) = record { number = n; lits = l; ants = a } ∷ numbered ns lits ants
+abbrev pub steps_of : List ℕ → List (List Literal) → List (List ℕ) → List Inference
+steps_of [] lits ants = []
+steps_of (n ∷ ns) [] ants = []
+steps_of (n ∷ ns) (l ∷ lits) [] = []
+steps_of (n ∷ ns) (l ∷ lits) (a ∷ ants) = record { number = n; lits = l; ants = a } ∷ steps_of ns lits ants
 
 -- what is whole of a trace
 pub record Kept : Type 0 where
@@ -33,13 +33,13 @@ abbrev pub nothing_kept : Kept
 nothing_kept = record { header = record { vars = 0; steps = 0 }; sets = []; numbers = []; lits = []; ants = [] }
 
 -- the trace that is made of it
-abbrev pub made : Kept → Derivation
-made k = record { header = k.header; sets = k.sets; steps = numbered k.numbers k.lits k.ants; result = Sat }
+abbrev pub trace_of : Kept → Derivation
+trace_of k = record { header = k.header; sets = k.sets; steps = steps_of k.numbers k.lits k.ants; result = Sat }
 
 -- each step has its number, its literals and its antecedents, and the whole is well formed, which no result changes
 pub record IsFlat (k : Kept) : Type 0 where
-  pub well_formed : IsWellFormed (made k)
-  pub same : k.numbers ≡ numbers (made k).steps
+  pub well_formed : IsWellFormed (trace_of k)
+  pub same : k.numbers ≡ numbers (trace_of k).steps
   pub lits_counted : length k.lits ≡ length k.numbers
   pub ants_counted : length k.ants ≡ length k.numbers
 
@@ -53,9 +53,9 @@ kept_of p = record {
   ants = p.partial.ants.whole;
 }
 
--- a list that grew is whole, and an empty one is begun
-abbrev pub closed : {X : Type 0} → Growing X → Growing X
-closed g = record { whole = g.whole ++ g.begun ∷ []; begun = [] }
+-- the unfinished list is whole, and an empty one begins after it
+abbrev pub after_close : {X : Type 0} → Growing X → Growing X
+after_close g = record { whole = g.whole ++ g.unfinished ∷ []; unfinished = [] }
 
 -- a trace with one more item
 abbrev pub with_item : Derivation → Item → Derivation
@@ -64,8 +64,8 @@ with_item d (item.Set s) = record d { sets = d.sets ++ s ∷ [] }
 with_item d (item.Step s) = record d { steps = d.steps ++ s ∷ [] }
 with_item d (item.Result o) = record d { result = o }
 
--- a part that was begun is whole
+-- an unfinished part is whole
 pub record ClosesPart (old new : Parts) (p : Part) : Type 0 where
-  pub made : made (kept_of new) ≡ with_item (made (kept_of old)) (item_of old.partial p)
+  pub made : trace_of (kept_of new) ≡ with_item (trace_of (kept_of old)) (item_of old.partial p)
   pub numbers : new.partial.index ≡ numbers_after old.partial p
   pub flat : IsFlat (kept_of new)

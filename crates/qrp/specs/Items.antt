@@ -1,56 +1,51 @@
 -- The parts of a trace, given one after the other.
-use Rattle.std.specs.Prelude.{◌≡◌, ◌≢◌, ◌<◌, Option, Some, None, ◌+◌, ◌-◌, ◌^◌, ℕ, false, List, length, Result}
+use Rattle.std.specs.Prelude.{◌≡◌, ◌≢◌, ◌<◌, ◌≤◌, Option, Some, None, ◌+◌, ◌-◌, ◌^◌, ℕ, false, List, length, Result}
 use Rattle.std.specs.Prelude.{Ok, IfOk, OnOk, IfErr, ⊤}
-use Rattle.qbf_spelling.specs.Words.{Lined, Known}
-use Rattle.qbf_text.specs.Stopping.{IfKnown}
-use Rattle.qbf_text.specs.Reading.{Reading, HasFailed}
+use Rattle.qbf_text.specs.Ahead.{ahead}
+use Rattle.qbf_text.specs.Reading.{Reading, HasFailed, left}
+use Rattle.qbf_text.specs.Stopping.{IfKnown, tokens_next}
 use Rattle.qrp.specs.declared.fault.TraceFault.TheVariants.{P1}
 use Rattle.qrp.specs.declared.item.Item.{Item}
 use Rattle.qrp.specs.declared.item.Item.TheVariants as item
 use Rattle.qrp.specs.declared.item.Outcome.{Outcome}
 use Rattle.qrp.specs.declared.reader.Stage.{Stage}
-use Rattle.qrp.specs.declared.reader.Stage.TheVariants.{AtHeader, AtLists, HasResult, HasFault}
-use Rattle.qrp.specs.Flat.{Kept, made, with_item}
-use Rattle.qrp.specs.Given.{KnownItems, left_behind, is_last, numbers_with, stage_after, GivesNextItem, IsProper, StandsOnLine}
-use Rattle.qrp.specs.Given.{StopsBehindPart}
-use Rattle.qrp.specs.Reading.{Fault, Place, AtP, Between, After}
+use Rattle.qrp.specs.declared.reader.Stage.TheVariants.{AtHeader, AtLists}
+use Rattle.qrp.specs.Flat.{Kept, trace_of, with_item}
+use Rattle.qrp.specs.Given.{known_items, left_after, is_last, numbers_with, stage_after, GivesNextItem, IsProper, StandsOnLine}
+use Rattle.qrp.specs.Given.{StopsAfterPart}
+use Rattle.qrp.specs.Reading.{Fault, State, AtP, Between, After}
 
 -- what is kept of the parts that were given, and where reading stands
 pub record Giver : Type 0 where
   pub kept : Kept
-  pub place : Place
+  pub state : State
 
 -- an item is complete
-abbrev pub IsGiven : Place → Type 0
+abbrev pub IsGiven : State → Type 0
 IsGiven (After i ns) = ⊤
 IsGiven here = ⊥
 
 -- the item that was complete was given, and is as the grammar asks; after it its number is kept, if it is a step, and the next token is
 -- taken, if it is not the last
 pub record GivesPart (i : Item) (old new : Giver) : Type 0 where
-  pub item : old.place ≡ After i (numbers_with old.kept.numbers (Ok i))
+  pub item : old.state ≡ After i (numbers_with old.kept.numbers (Ok i))
   pub proper : IsProper old.kept.numbers i
   pub numbers : new.kept.numbers ≡ numbers_with old.kept.numbers (Ok i)
-  pub next : is_last (Ok i) ≡ false → new.place ≡ Between new.kept.numbers
+  pub next : is_last (Ok i) ≡ false → new.state ≡ Between new.kept.numbers
 
 -- the item that was complete was kept after the others, or it is the result
 abbrev pub Keeps : Giver → Giver → Option Outcome → Type 0
-Keeps old new None = (i : Item) × (is_last (Ok i) ≡ false) × (old.place ≡ After i new.kept.numbers)
-    × (made new.kept ≡ with_item (made old.kept) i) × (new.place ≡ Between new.kept.numbers)
-Keeps old new (Some o) = (old.place ≡ After (item.Result o) old.kept.numbers) × (new.kept ≡ old.kept)
+Keeps old new None = (i : Item) × (is_last (Ok i) ≡ false) × (old.state ≡ After i new.kept.numbers)
+    × (trace_of new.kept ≡ with_item (trace_of old.kept) i) × (new.state ≡ Between new.kept.numbers)
+Keeps old new (Some o) = (old.state ≡ After (item.Result o) old.kept.numbers) × (new.kept ≡ old.kept)
 
 -- a reader that is so far takes a token here
 abbrev pub Stands : Stage → Giver → Type 0
-Stands AtHeader g = g.place ≡ AtP
-Stands AtLists g = g.place ≡ Between g.kept.numbers
-Stands (HasResult o) g = ⊤
-Stands (HasFault f line) g = ⊤
+Stands AtHeader g = g.state ≡ AtP
+Stands AtLists g = g.state ≡ Between g.kept.numbers
+Stands done g = ⊤
 
 -- ---- what reading an item returns
-
--- what was left from a place on is the result and what is left now, after steps with these numbers; the last result stays
-abbrev pub GivesItem : KnownItems → List ℕ → Known → Result Item Fault → Type 0
-GivesItem before ns after answer = GivesNextItem before (left_behind (stage_after answer) ns after) answer
 
 -- the item is as the grammar asks, its number is after the others, and the next token stands where it is to be taken
 pub record IsItem (old new : Giver) (answer : Result Item Fault) : Type 0 where
@@ -68,6 +63,10 @@ pub record IsDriven (scanner : Reading) (before bound old new : ℕ) (answer : R
   pub lines : IfErr answer (λ e. StandsOnLine e.0 e.1)
   pub works : OnOk answer (new ≡ old)
 
--- what was consumed for an item ends with its last word, and few bytes are held
-abbrev pub StopsBehind : Place → (List ℕ → List Lined) → Option (List ℕ) → Option (List ℕ) → Type 0 → Result Item Fault → Type 0
-StopsBehind p here before after few answer = IfOk answer (λ i. IfKnown (StopsBehindPart p here i) before after × few)
+-- an item was read from this state on: what was left is the result and what is left now, and nothing is read past the item but a
+-- separator and what is held
+pub record ReadsItem (state : State) (ns : List ℕ) (old : Reading) (before : Option (List ℕ)) (new : Reading) (after : Option (List ℕ))
+    (answer : Result Item Fault) : Type 0 where
+  pub gives : GivesNextItem (known_items state (left old before)) (left_after (stage_after answer) ns (left new after)) answer
+  pub stops : IfOk answer (λ i. IfKnown (StopsAfterPart state (tokens_next old) i) (ahead old.pending before) (ahead new.pending after)
+      × (length new.pending ≤ 4096))

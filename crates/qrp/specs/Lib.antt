@@ -8,5 +8,5 @@ pub mod Given
 pub mod Answers
 pub mod Texts
 pub mod Flat
-pub mod Places
+pub mod States
 pub mod Items

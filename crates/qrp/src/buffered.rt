@@ -2,11 +2,11 @@
 
 ghost use Rattle.std.specs.Prelude.{◌≤◌, length, IfOk};
 ghost use Rattle.qbf_text.specs.Passing.{LeadOn, Passes, PassesAll};
-ghost use Rattle.qrp.specs.declared.places.At.TheVariants as at;
-ghost use Rattle.qrp.specs.Places.{place, IsSound, Stays};
+ghost use Rattle.qrp.specs.declared.states.At.TheVariants as at;
+ghost use Rattle.qrp.specs.States.{state_at, IsSound, Stays};
 ghost use Rattle.qrp.specs.Reading.{row};
 
-use crate::places::{At, Part, Partial, has_room, take_item_start};
+use crate::states::{At, Part, Partial, has_room, take_item_start};
 use crate::tokens::{FAULTS, antecedent};
 use qbf_core::LAST_VARIABLE;
 use qbf_spelling::literal;
@@ -28,8 +28,8 @@ fn take_literals(
 ) -> (At, Result<Cursor, AllocError>)
     requires within { from.at ≤ length bytes.now }
     requires sound { IsSound (at.Lits number) partial.old }
-    ensures passes { IfOk result.1 (λ to. Passes (LeadOn row (place partial.old (at.Lits number))
-        (place partial.new result.0)) bytes.now from to) }
+    ensures passes { IfOk result.1 (λ to. Passes (LeadOn row (state_at partial.old (at.Lits number))
+        (state_at partial.new result.0)) bytes.now from to) }
     ensures sound { Stays partial.old partial.new × IsSound result.0 partial.new }
 {
     let mut here = from;
@@ -66,8 +66,8 @@ type Reached = (At, Result<(Cursor, Option<()>), AllocError>);
 fn take_antecedents(partial: &mut Partial, number: u64, bytes: &[u8], from: Cursor) -> Reached
     requires within { from.at ≤ length bytes.now }
     requires sound { IsSound (at.Ants number) partial.old }
-    ensures passes { IfOk result.1 (λ r. PassesAll row (place partial.old (at.Ants number))
-        (place partial.new result.0) bytes.now from r.0 r.1) }
+    ensures passes { IfOk result.1 (λ r. PassesAll row (state_at partial.old (at.Ants number))
+        (state_at partial.new result.0) bytes.now from r.0 r.1) }
     ensures sound { Stays partial.old partial.new × IsSound result.0 partial.new }
 {
     let mut here = from;
@@ -93,7 +93,7 @@ fn take_antecedents(partial: &mut Partial, number: u64, bytes: &[u8], from: Curs
 fn take_number(here: At, partial: &mut Partial, bytes: &[u8], from: Cursor) -> (At, Cursor)
     requires within { from.at ≤ length bytes.now }
     requires sound { IsSound here partial.old }
-    ensures passes { Passes (LeadOn row (place partial.old here) (place partial.new result.0))
+    ensures passes { Passes (LeadOn row (state_at partial.old here) (state_at partial.new result.0))
         bytes.now from result.1 }
     ensures sound { Stays partial.old partial.new × IsSound result.0 partial.new }
 {
@@ -118,8 +118,8 @@ fn take_number(here: At, partial: &mut Partial, bytes: &[u8], from: Cursor) -> (
 pub fn take_buffered(here: At, partial: &mut Partial, bytes: &[u8], from: Cursor) -> Reached
     requires within { from.at ≤ length bytes.now }
     requires sound { IsSound here partial.old }
-    ensures passes { IfOk result.1 (λ r. PassesAll row (place partial.old here)
-        (place partial.new result.0) bytes.now from r.0 r.1) }
+    ensures passes { IfOk result.1 (λ r. PassesAll row (state_at partial.old here)
+        (state_at partial.new result.0) bytes.now from r.0 r.1) }
     ensures sound { Stays partial.old partial.new × IsSound result.0 partial.new }
 {
     let (at, lits) = take_number(here, partial, bytes, from);

@@ -3,15 +3,14 @@
 ghost use Rattle.std.specs.Prelude.{◌≡◌, IfOk, OnOk, OnErr};
 ghost use Rattle.qrp.specs.Flat.{kept_of, nothing_kept, IsFlat};
 ghost use Rattle.qrp.specs.Items.{IsGiven, GivesPart, Keeps};
-ghost use Rattle.qrp.specs.declared.places.Part.TheVariants as part;
-ghost use Rattle.qrp.specs.Places.{numbers_after, IsComplete};
+ghost use Rattle.qrp.specs.declared.states.Part.TheVariants as part;
 ghost use Rattle.qrp.specs.Reading.{AtP};
 
 use crate::buffered::take_buffered;
 use crate::fault::TraceFault;
 use crate::item::{Item, Outcome, QuantSet, Step};
 use crate::parts::{Parts, close};
-use crate::places::{At, Part, Partial, take_at};
+use crate::states::{At, Part, Partial, take_at};
 use qbf_text::{Cursor, Grammar, Stop, Taken, Token};
 use std::alloc::{AllocError, Global};
 use std::marker::Model;
@@ -29,12 +28,12 @@ pub struct ItemGrammar {
 impl Model for ItemGrammar {
     ghost use Rattle.qrp.specs.Flat.{kept_of};
     ghost use Rattle.qrp.specs.Items.{Giver};
-    ghost use Rattle.qrp.specs.Places.{place, IsSound};
+    ghost use Rattle.qrp.specs.States.{state_at, IsSound};
 
     ghost Value = { Giver };
 
     ghost view = { λ g.
-        record { kept = kept_of g.parts; place = place g.parts.partial g.at } };
+        record { kept = kept_of g.parts; state = state_at g.parts.partial g.at } };
 
     ghost invariant = { λ g. IsSound g.at g.parts.partial };
 }
@@ -42,7 +41,7 @@ impl Model for ItemGrammar {
 impl ItemGrammar {
     /// At the beginning of a trace. It takes no memory.
     pub fn new(alloc: Global) -> ItemGrammar
-        ensures begins { result ≡ record { kept = nothing_kept; place = AtP } }
+        ensures begins { result ≡ record { kept = nothing_kept; state = AtP } }
         ensures flat { IsFlat result.kept }
     {
         ItemGrammar {
@@ -57,7 +56,7 @@ impl ItemGrammar {
     /// # Errors
     /// Out of memory. Nothing is changed then.
     pub fn give(&mut self, alloc: Global) -> Result<Item, AllocError>
-        requires { IsGiven self.old.place }
+        requires { IsGiven self.old.state }
         ensures gives { IfOk result (λ i. GivesPart i self.old self.new) }
         ensures err { OnErr result (self.new ≡ self.old) }
     {
@@ -69,8 +68,8 @@ impl ItemGrammar {
             }
             At::ItemComplete(Part::Step(number)) => {
                 let partial = &mut self.parts.partial;
-                let lits = Vec::from_slice(alloc, partial.lits.begun())?;
-                let ants = Vec::from_slice(alloc, partial.ants.begun())?;
+                let lits = Vec::from_slice(alloc, partial.lits.unfinished())?;
+                let ants = Vec::from_slice(alloc, partial.ants.unfinished())?;
                 partial.index.push(number)?;
                 Item::Step(Step { number, lits, ants })
             }
@@ -88,7 +87,7 @@ impl ItemGrammar {
     #[inline(always)]
     pub fn keep(&mut self) -> Result<Option<Outcome>, AllocError>
         requires made { IsFlat self.old.kept }
-        requires given { IsGiven self.old.place }
+        requires given { IsGiven self.old.state }
         ensures keeps { IfOk result (λ o. Keeps self.old self.new o) }
         ensures made { OnOk result (IsFlat self.new.kept) }
     {
@@ -114,15 +113,15 @@ impl ItemGrammar {
 
 impl Grammar for ItemGrammar {
     ghost use Rattle.qrp.specs.Flat.{Kept};
-    ghost use Rattle.qrp.specs.Reading.{Place, row};
+    ghost use Rattle.qrp.specs.Reading.{State, row};
 
     type Output = ();
 
     type Fault = TraceFault;
 
-    ghost Place = { Place };
+    ghost State = { State };
 
-    ghost place = { λ g. g.place };
+    ghost state = { λ g. g.state };
 
     ghost row_of = { row };
 

@@ -8,8 +8,8 @@ mod item;
 mod items;
 mod laws;
 mod parts;
-mod places;
 mod reader;
+mod states;
 mod steps;
 mod tokens;
 mod trace;
@@ -17,7 +17,7 @@ mod writing;
 
 pub use fault::TraceFault;
 pub use item::{Header, Item, Outcome, QuantSet, Step};
-pub use laws::trace_laws;
+pub use laws::{item_laws, trace_laws};
 pub use reader::TraceReader;
 pub use step_index::StepIndex;
 pub use steps::Steps;

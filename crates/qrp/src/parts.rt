@@ -2,12 +2,12 @@
 
 ghost use Rattle.std.specs.Prelude.{◌≡◌, false, [], ◌∷◌, ◌++◌, OnOk, OnErr};
 ghost use Rattle.qbf_spelling.specs.declared.header.HeaderAt.TheVariants as header;
-ghost use Rattle.qrp.specs.Flat.{closed, kept_of, nothing_kept, ClosesPart, IsFlat};
-ghost use Rattle.qrp.specs.Places.{IsComplete, Stays};
+ghost use Rattle.qrp.specs.Flat.{after_close, kept_of, nothing_kept, ClosesPart, IsFlat};
+ghost use Rattle.qrp.specs.States.{IsComplete, Stays};
 ghost use Rattle.step_index.specs.Numbers.{is_used, AreStepNumbers};
 
 use crate::item::{Header, QuantSet};
-use crate::places::{Part, Partial};
+use crate::states::{Part, Partial};
 use qbf_core::GrowingLists;
 use qbf_spelling::HeaderAt;
 use std::alloc::{AllocError, Global};
@@ -21,7 +21,7 @@ pub struct Parts {
     pub header: Header,
     /// The sets that are whole.
     pub sets: Vec<QuantSet>,
-    /// The lists that are begun, which whole ones come before.
+    /// The unfinished lists, after the whole ones.
     pub partial: Partial,
 }
 
@@ -47,9 +47,7 @@ impl Parts {
     }
 }
 
-// ---- steps
-
-/// Puts the step that is begun after the others.
+/// Puts the unfinished step after the others.
 ///
 /// # Errors
 /// Out of memory. What is whole is as it was then.
@@ -57,8 +55,8 @@ impl Parts {
 fn close_step(partial: &mut Partial, number: u64) -> Result<(), AllocError>
     requires { is_used number partial.old.index ≡ false }
     ensures closed { OnOk result (partial.new ≡ record partial.old {
-      lits = closed partial.old.lits;
-      ants = closed partial.old.ants;
+      lits = after_close partial.old.lits;
+      ants = after_close partial.old.ants;
       index = partial.old.index ++ number ∷ [];
     }) }
     ensures sound { OnOk result (AreStepNumbers partial.new.index) }
@@ -81,8 +79,6 @@ fn close_step(partial: &mut Partial, number: u64) -> Result<(), AllocError>
         }
     }
 }
-
-// ---- the whole
 
 /// Puts a part that is complete after the others.
 ///

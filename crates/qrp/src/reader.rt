@@ -1,16 +1,14 @@
 //! Reading a trace item by item.
 
-ghost use Rattle.std.specs.Prelude.{◌≡◌, ◌≢◌, ℕ, ◌<◌, ◌≤◌, ◌+◌, ◌-◌, ◌^◌, true, false, Some, Ok};
+ghost use Rattle.std.specs.Prelude.{◌≡◌, ◌≢◌, ℕ, ◌<◌, ◌+◌, ◌-◌, ◌^◌, true, false, Some, Ok};
 ghost use Rattle.std.specs.Prelude.{Err, List, [], length, IfOk, OnOk, IfErr};
 ghost use Rattle.qbf_text.specs.Tokens.{tokens};
 ghost use Rattle.qbf_text.specs.declared.token.Comments.TheVariants.{Qrp};
 ghost use Rattle.qrp.specs.declared.fault.TraceFault.TheVariants.{P1, P9};
-ghost use Rattle.qbf_text.specs.Ahead.{ahead};
-ghost use Rattle.qbf_text.specs.Reading.{left, HasFailed};
-ghost use Rattle.qbf_text.specs.Stopping.{tokens_next};
-ghost use Rattle.qrp.specs.Given.{known_items, items_left, is_last, stage_after, numbers_with};
-ghost use Rattle.qrp.specs.Given.{GivesNextItem, IsDone, IsProper, StopsBehindItem};
-ghost use Rattle.qrp.specs.Items.{StopsBehind, GivesItem, IsItem, IsDriven};
+ghost use Rattle.qbf_text.specs.Reading.{HasFailed};
+ghost use Rattle.qrp.specs.Given.{items_left, is_last, stage_after, numbers_with};
+ghost use Rattle.qrp.specs.Given.{GivesNextItem, IsDone, IsProper, StopsAfterItem};
+ghost use Rattle.qrp.specs.Items.{ReadsItem, IsItem, IsDriven};
 ghost use Rattle.qrp.specs.Reading.{items};
 
 use crate::fault::{Fault, TraceFault};
@@ -50,13 +48,8 @@ fn read_item<S: Source>(
     source: &mut S,
 ) -> Result<Item, Fault>
     requires ready { ¬ HasFailed scanner.old }
-    ensures reads { GivesItem
-        (known_items grammar.old.place (left scanner.old (S.remaining source.old)))
-        grammar.new.kept.numbers (left scanner.new (S.remaining source.new)) result }
-    ensures stops { StopsBehind grammar.old.place (tokens_next scanner.old)
-        (ahead scanner.old.pending (S.remaining source.old))
-        (ahead scanner.new.pending (S.remaining source.new))
-        (length scanner.new.pending ≤ 4096) result }
+    ensures reads { ReadsItem grammar.old.state grammar.new.kept.numbers scanner.old
+        (S.remaining source.old) scanner.new (S.remaining source.new) result }
     ensures item { IsItem grammar.old grammar.new result }
     ensures devices { IsDriven scanner.new (length scanner.old.pending + S.bound source.old)
         (S.bound source.new) (S.failures source.old) (S.failures source.new) result }
@@ -91,9 +84,8 @@ impl Model for TraceReader {
     ghost view = { λ r.
         record { scanner = r.scanner; numbers = r.grammar.kept.numbers; stage = r.stage } };
 
-    ghost invariant = { λ r. Stands r.stage r.grammar
-        × IsInStage r.stage
-        (record { scanner = r.scanner; numbers = r.grammar.kept.numbers; stage = r.stage }) };
+    ghost invariant = { λ r.
+        Stands r.stage r.grammar × IsInStage r.stage r.scanner r.grammar.kept.numbers };
 }
 
 impl TraceReader {
@@ -127,7 +119,7 @@ impl TraceReader {
         // Nothing is read past an item but a separator and what is held, and that is at most 4,096
         // bytes.
         ensures stops { ¬ IsDone self.old → IfOk result (λ i.
-            StopsBehindItem self.old (S.remaining source.old) self.new (S.remaining source.new) i) }
+            StopsAfterItem self.old (S.remaining source.old) self.new (S.remaining source.new) i) }
         // The result and a fault are given for good, and nothing is pulled then.
         ensures last { is_last result ≡ true → IsDone self.new }
         ensures more { is_last result ≡ false → ¬ IsDone self.new }

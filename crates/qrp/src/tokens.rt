@@ -35,6 +35,9 @@ pub enum ItemStart {
 }
 
 /// What a token begins between lists: no set, once there are steps.
+///
+/// # Errors
+/// P3, P4 or P7: the fault that the token is there.
 pub fn decode_item_start(has_steps: bool, token: Token) -> Result<ItemStart, TraceFault>
     ensures { result ≡ item_start has_steps token }
 {
@@ -53,6 +56,9 @@ pub fn decode_item_start(has_steps: bool, token: Token) -> Result<ItemStart, Tra
 }
 
 /// The result that a token says after `r`.
+///
+/// # Errors
+/// P7 at the end of the text, P8 for any other token.
 pub fn outcome_of(token: Token) -> Result<Outcome, TraceFault>
     ensures { result ≡ outcome_of token }
 {
@@ -65,6 +71,9 @@ pub fn outcome_of(token: Token) -> Result<Outcome, TraceFault>
 }
 
 /// The antecedent that a token says in a step, or `None` where it closes the step.
+///
+/// # Errors
+/// P3, P4, P6 or P7: the fault that the token is there. P6 is a number where there is no `room`.
 pub fn antecedent(room: bool, token: Token) -> Result<Option<u64>, TraceFault>
     ensures says { result ≡ antecedent room token }
     ensures range { IfOk result (λ o. IfSome o IsNumber) }

@@ -39,20 +39,18 @@ impl Put for Outcome {
     }
 }
 
-// ---- steps
-
 /// The line of a step.
 #[inline(always)]
-fn put_step<K: Sink>(sink: &mut K, trace: &Trace, place: usize) -> Result<(), SinkFault>
-    requires { place < length trace.now.steps }
-    ensures { (step : Inference) → IsAt trace.now.steps place step
+fn put_step<K: Sink>(sink: &mut K, trace: &Trace, position: usize) -> Result<(), SinkFault>
+    requires { position < length trace.now.steps }
+    ensures { (step : Inference) → IsAt trace.now.steps position step
         → IsPut K.written K.failures sink.old sink.new (step_text step) result }
 {
     let lists = (
-        trace.lits(place),
-        (Bytes(b" 0"), (trace.ants(place), Bytes(b" 0\n"))),
+        trace.lits(position),
+        (Bytes(b" 0"), (trace.ants(position), Bytes(b" 0\n"))),
     );
-    (Bare(false, trace.number(place)), lists).put(sink)
+    (Bare(false, trace.number(position)), lists).put(sink)
 }
 
 /// The lines of all steps.
@@ -63,33 +61,31 @@ impl<'a> Put for StepLines<'a> {
     ghost text = { λ s. steps_text s.0.now.steps };
 
     fn put<K: Sink>(&self, sink: &mut K) -> Result<(), SinkFault> {
-        for place in 0..self.0.len() {
-            put_step(sink, self.0, place)?;
+        for position in 0..self.0.len() {
+            put_step(sink, self.0, position)?;
         }
         Ok(())
     }
 }
 
-/// The lines of the steps at these places.
+/// The lines of the steps at these positions.
 #[derive(Clone, Copy)]
 struct StepLinesAt<'a> {
     trace: &'a Trace,
-    places: &'a [usize],
-    ghost inside: { AllByRecursion (λ i. i < length trace.now.steps) places.now } by { Prim.hlevel props },
+    positions: &'a [usize],
+    ghost inside: { AllByRecursion (λ i. i < length trace.now.steps) positions.now } by { Prim.hlevel props },
 }
 
 impl<'a> Put for StepLinesAt<'a> {
-    ghost text = { λ s. steps_text (steps_at s.trace.now.steps s.places.now) };
+    ghost text = { λ s. steps_text (steps_at s.trace.now.steps s.positions.now) };
 
     fn put<K: Sink>(&self, sink: &mut K) -> Result<(), SinkFault> {
-        for place in self.places {
-            put_step(sink, self.trace, *place)?;
+        for position in self.positions {
+            put_step(sink, self.trace, *position)?;
         }
         Ok(())
     }
 }
-
-// ---- the whole
 
 /// Writes the canonical text of the trace in the text form of QRP, and does not `finish` the sink.
 /// It takes no memory.
@@ -111,25 +107,25 @@ pub fn write_trace<K: Sink>(trace: &Trace, sink: &mut K) -> Result<(), SinkFault
     (header, (trace.sets(), (StepLines(trace), trace.result()))).put(sink)
 }
 
-/// Writes the canonical text of the trace with the steps at these places alone, as `write_trace`
+/// Writes the canonical text of the trace with the steps at these positions alone, as `write_trace`
 /// does. It takes no memory.
 ///
 /// Sets, result and the number of variables in the header stay as they are; the header counts the
-/// places. Each place is below the number of steps, and a place that is named twice is written
+/// positions. Each position is below the number of steps, and one that is named twice is written
 /// twice.
 ///
 /// # Errors
 /// A `SinkFault` where the sink failed. What went out is a beginning of the text then.
 pub fn write_steps_at<K: Sink>(
     trace: &Trace,
-    places: &[usize],
+    positions: &[usize],
     sink: &mut K,
 ) -> Result<(), SinkFault>
-    requires { AllByRecursion (λ i. i < length trace.now.steps) places.now }
+    requires { AllByRecursion (λ i. i < length trace.now.steps) positions.now }
     ensures { IsPut K.written K.failures sink.old sink.new
-        (text (with_steps_at trace.now places.now)) result }
+        (text (with_steps_at trace.now positions.now)) result }
 {
-    let header = HeaderLine(b"p qrp", trace.header().vars, places.len() as u64);
-    let steps = StepLinesAt { trace, places };
+    let header = HeaderLine(b"p qrp", trace.header().vars, positions.len() as u64);
+    let steps = StepLinesAt { trace, positions };
     (header, (trace.sets(), (steps, trace.result()))).put(sink)
 }

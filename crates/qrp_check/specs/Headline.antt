@@ -6,7 +6,7 @@ use Rattle.std.specs.Prelude.{◌≡◌, ◌↔◌, ◌⊎◌, ℕ, IsTrue, List
 use Rattle.qbf_core.specs.Qbf.{Qbf}
 use Rattle.qbf_core.specs.Truth.{IsTrueFormula}
 use Rattle.qbf_text.specs.declared.token.Comments.TheVariants.{Qdimacs, Qrp}
-use Rattle.qbf_text.specs.Lined.{unlined}
+use Rattle.qbf_text.specs.Lined.{without_lines}
 use Rattle.qbf_text.specs.Tokens.{tokens}
 use Rattle.qdimacs.specs.Grammar.{IsFormula}
 use Rattle.qrp.specs.Derivations.{Derivation}
@@ -19,8 +19,8 @@ use Rattle.qrp_check.specs.Verdict.{is_sat, IsOutOfMemory, IsFormulaDevice, IsTr
 
 -- the bytes spell f, a closed prenex formula, and the trace d
 pub record Spell (formula trace : List ℕ) (f : Qbf) (d : Derivation) : Type 0 where
-  pub formula_spelled : IsFormula (unlined (tokens Qdimacs formula)) f
-  pub trace_spelled : IsTrace (unlined (tokens Qrp trace)) d
+  pub formula_spelled : IsFormula (without_lines (tokens Qdimacs formula)) f
+  pub trace_spelled : IsTrace (without_lines (tokens Qrp trace)) d
 
 -- The bytes spell a formula and a trace that proves its result of it: the sets agree, and the last empty step and all below it follow.
 pub record IsShown (rules : Rules) (formula trace : List ℕ) : Type 0 where

@@ -7,7 +7,7 @@ ghost use Rattle.qrp_check.specs.Checked.{IsChecked, IsCheckedOf, WasReadFrom};
 ghost use Rattle.qrp_check.specs.Checked.{call_of, verdict_of};
 ghost use Rattle.qrp_check.specs.Headline.{Headline};
 ghost use Rattle.qrp_check.specs.Verdict.{IsVerdictUnless, IsFormulaDevice, IsTraceDevice};
-ghost use Rattle.qrp_check.specs.Verdict.{IsFormulaFault, StandsOnLine, WasRead, StopsBehindTrace};
+ghost use Rattle.qrp_check.specs.Verdict.{IsFormulaFault, StandsOnLine, WasRead, StopsAfterTrace};
 
 use crate::checking::check;
 use crate::verdict::{Fault, Verified};
@@ -31,7 +31,7 @@ fn find_proof_of<B: Source>(
     ensures within { IfOk result (λ r.
         AllByRecursion (λ i. i < length r.0.steps) r.1.core.items) }
     ensures stops { WasRead (verdict_of result)
-        → IfKnown StopsBehindTrace (B.remaining trace.old) (B.remaining trace.new) }
+        → IfKnown StopsAfterTrace (B.remaining trace.old) (B.remaining trace.new) }
 {
     let whole = read_trace(alloc, trace)?;
     let verified = check(alloc, formula, &whole, whole.sets(), whole.result(), rules)?;
@@ -57,7 +57,7 @@ pub fn find_proof<A: Source, B: Source>(
     ensures within { IfOk result (λ r.
         AllByRecursion (λ i. i < length r.0.steps) r.1.core.items) }
     ensures stops { WasRead (verdict_of result)
-        → IfKnown StopsBehindTrace (B.remaining trace.old) (B.remaining trace.new) }
+        → IfKnown StopsAfterTrace (B.remaining trace.old) (B.remaining trace.new) }
 {
     let read = read_formula(alloc, formula)?;
     find_proof_of(alloc, &read, trace, rules)
@@ -93,7 +93,7 @@ pub fn verify<A: Source, B: Source>(
     ensures lines { IfErr result StandsOnLine }
     // Where the trace was read, nothing is read past its result word but at most 4,096 bytes.
     ensures stops { WasRead result
-        → IfKnown StopsBehindTrace (B.remaining trace.old) (B.remaining trace.new) }
+        → IfKnown StopsAfterTrace (B.remaining trace.old) (B.remaining trace.new) }
     ensures not_pulled { IsFormulaFault result → trace.new ≡ trace.old }
 {
     let (_, verified) = find_proof(alloc, formula, trace, rules)?;

@@ -35,7 +35,7 @@ merge_more a b to i j k i' j' x less e p q moved u = record {
       | inr ne ↦ inl (pass_takes a i i' x p ne)
     ]
 
--- ---- two walks, before and behind the pivot
+-- ---- two walks, before and after the pivot
 
 pub in_parts : (xs : List Literal) (n : ℕ) (l : Literal) → l ∈ xs → (l ∈ take n xs) ⊎ (l ∈ drop n xs)
 in_parts xs n l h = in_append (take n xs) (drop n xs) l (subst (λ (zs : List Literal). l ∈ zs) (sym (take-append-drop n xs)) h)
@@ -87,26 +87,26 @@ resolved_at a b to s t u rest_a rest_b i j k x y in_a at_a in_b at_b opposite es
       left = λ l h. elim (in_around a i x l here_a h) [
         | inl e ↦ inl (ap var_of e)
         | inr (inl p) ↦ inr (inl (take_within to k l (so_far.left l p)))
-        | inr (inr p) ↦ inr (behind l rest_a (rests.left l (subst (λ (zs : List Literal). l ∈ zs) (sym es) p)))
+        | inr (inr p) ↦ inr (past l rest_a (rests.left l (subst (λ (zs : List Literal). l ∈ zs) (sym es) p)))
       ];
       right = λ l h. elim (in_around b j y l here_b h) [
         | inl e ↦ inl (ap var_of (e ∙ opposite))
         | inr (inl p) ↦ inr (inl (take_within to k l (so_far.right l p)))
-        | inr (inr p) ↦ inr (behind l rest_b (rests.right l (subst (λ (zs : List Literal). l ∈ zs) (sym et) p)))
+        | inr (inr p) ↦ inr (past l rest_b (rests.right l (subst (λ (zs : List Literal). l ∈ zs) (sym et) p)))
       ];
     }
   where
     var_of : Literal → ℕ
     var_of z = z.var
 
-    behind : (l : Literal) (rest : List Literal) → (l ∈ u) ⊎ (l ∈ rest) → (l ∈ to) ⊎ (l ∈ rest)
-    behind l rest (inl h) = inl (drop_within to k l (subst (λ (zs : List Literal). l ∈ zs) eu h))
-    behind l rest (inr h) = inr h
+    past : (l : Literal) (rest : List Literal) → (l ∈ u) ⊎ (l ∈ rest) → (l ∈ to) ⊎ (l ∈ rest)
+    past l rest (inl h) = inl (drop_within to k l (subst (λ (zs : List Literal). l ∈ zs) eu h))
+    past l rest (inr h) = inr h
 
 -- the pivot among what is left
-pub resolved_behind : (a b to s t : List Literal) (i j k : ℕ) (x : Literal) → k ≡ length to → s ≡ drop i a → t ≡ drop j b
+pub resolved_after : (a b to s t : List Literal) (i j k : ℕ) (x : Literal) → k ≡ length to → s ≡ drop i a → t ≡ drop j b
     → IsMergeSoFar a b to i j k → (x ∈ s) × (negated x ∈ t) → IsResolvedBut a b to s t x
-resolved_behind a b to s t i j k x e es et so_far (in_s, in_t) =
+resolved_after a b to s t i j k x e es et so_far (in_s, in_t) =
     let rests = merge_but a b to s t i j k e es et so_far in record {
       in_a = drop_within a i x (subst (λ (zs : List Literal). x ∈ zs) es in_s);
       in_b = drop_within b j (negated x) (subst (λ (zs : List Literal). negated x ∈ zs) et in_t);

@@ -27,12 +27,12 @@ front_at f zero ks i less = absurd (omega (arith, less))
 front_at f (suc n) ks zero less = (let e : f ≡ f + 0 = omega arith in ap (λ (m : ℕ). Some m) e)
 front_at f (suc n) ks (suc i) less = grind (arith, common_steps, front_at (suc f) n ks i (omega (arith, less)))
 
-pub behind_at : (f n : ℕ) (ks : List ℕ) (i : ℕ) → slice_get (count_from f n ++ ks) (n + i) ≡ slice_get ks i
-behind_at f zero ks i = (let e : 0 + i ≡ i = omega arith in ap (slice_get ks) e)
-behind_at f (suc n) ks i = grind (arith, common_steps, behind_at (suc f) n ks i)
+pub past_counted : (f n : ℕ) (ks : List ℕ) (i : ℕ) → slice_get (count_from f n ++ ks) (n + i) ≡ slice_get ks i
+past_counted f zero ks i = (let e : 0 + i ≡ i = omega arith in ap (slice_get ks) e)
+past_counted f (suc n) ks i = grind (arith, common_steps, past_counted (suc f) n ks i)
 
 pub late_at : (f n : ℕ) (ks : List ℕ) (i : ℕ) → n ≤ i → slice_get (count_from f n ++ ks) i ≡ slice_get ks (i - n)
-late_at f n ks i late = grind (arith, common_steps, behind_at)
+late_at f n ks i late = grind (arith, common_steps, past_counted)
 
 -- ---- whether a number is there
 
@@ -69,7 +69,7 @@ none_there f n ks m out none i here = elim (cases_lt i n) [
 
 -- a sparse number stands after those that are counted
 pub sparse_at : (f n : ℕ) (ks : List ℕ) (m i : ℕ) → slice_get ks i ≡ Some m → slice_get (count_from f n ++ ks) (n + i) ≡ Some m
-sparse_at f n ks m i e = behind_at f n ks i ∙ e
+sparse_at f n ks m i e = past_counted f n ks i ∙ e
 
 unused_none : (ks : List ℕ) (m : ℕ) → ((i : ℕ) → slice_get ks i ≡ Some m → ⊥) → is_used m ks ≡ false
 unused_none [] m none = refl

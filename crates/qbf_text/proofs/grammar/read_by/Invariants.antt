@@ -4,9 +4,9 @@ use Rattle.qbf_text.proofs.grammar.read_by.Given as goal
 
 abbrev pub invariant-tokens : goal.invariant-tokens
 invariant-tokens g l = record {
-  so_far : Leads (reads_from g.G.Grammar.row_of (g.G.Grammar.place l.fn.grammar) (left l.fn.scanner (g.S.Source.remaining l.fn.source)))
-      (reads_from g.G.Grammar.row_of (g.G.Grammar.place l.grammar) (left l.scanner (g.S.Source.remaining l.source)));
-  stops : IfKnown (SoFar g.G.Grammar.row_of (g.G.Grammar.place l.fn.grammar) (g.G.Grammar.place l.grammar) (tokens_next l.fn.scanner)
+  so_far : Leads (reads_from g.G.Grammar.row_of (g.G.Grammar.state l.fn.grammar) (left l.fn.scanner (g.S.Source.remaining l.fn.source)))
+      (reads_from g.G.Grammar.row_of (g.G.Grammar.state l.grammar) (left l.scanner (g.S.Source.remaining l.source)));
+  stops : IfKnown (SoFar g.G.Grammar.row_of (g.G.Grammar.state l.fn.grammar) (g.G.Grammar.state l.grammar) (tokens_next l.fn.scanner)
       (tokens_next l.scanner))
       (ahead l.fn.scanner.pending (g.S.Source.remaining l.fn.source)) (ahead l.scanner.pending (g.S.Source.remaining l.source));
   ready : ¬ HasFailed l.scanner;

@@ -10,7 +10,7 @@ literals-preserved c =
       passes = literal_more _ _ _ _ _ _ _ _ _ c.in-Ok-Some.lit read.says i.passes c.in-Some.ensures;
       sound = (
         record { index = i.sound.0.index; lits = i.sound.0.lits; ants = i.sound.0.ants },
-        (i.sound.1.0, AllByRecursion-push IsLiteral c.literals.partial.lits.begun c.in-Ok-Some.lit i.sound.1.1 read.range),
+        (i.sound.1.0, AllByRecursion-push IsLiteral c.literals.partial.lits.unfinished c.in-Ok-Some.lit i.sound.1.1 read.range),
       );
       within = c.in-Some.ensures.within;
     })

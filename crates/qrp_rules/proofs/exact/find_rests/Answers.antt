@@ -1,6 +1,6 @@
 use Rattle.qrp_rules.proofs.Words.{◌+◌, ◌∙◌, sym, lit_test}
 use Rattle.std.proofs.lemmas.List.{take_rest}
-use Rattle.qrp_rules.proofs.Exactness.{resolved_at, resolved_behind}
+use Rattle.qrp_rules.proofs.Exactness.{resolved_at, resolved_after}
 use Rattle.qrp_rules.proofs.exact.find_rests.Goals as goal
 
 pub returns-then-eq : goal.returns-then-eq
@@ -16,7 +16,7 @@ returns-then-eq c =
 
 pub returns : goal.returns
 returns c =
-    resolved_behind c.args.a.now c.args.b.now c.args.to.now _ _ c.merge_prefix-before.result.a c.merge_prefix-before.result.b
+    resolved_after c.args.a.now c.args.b.now c.args.to.now _ _ c.merge_prefix-before.result.a c.merge_prefix-before.result.b
     c.merge_prefix-before.result.to _ c.if-before-to.false
     (take_rest c.args.a.now c.merge_prefix-before.result.a) (take_rest c.args.b.now c.merge_prefix-before.result.b)
     c.merge_prefix-before.ensures.merge c.in_ok-pivot-2.ensures

@@ -1,5 +1,5 @@
 use Rattle.std.proofs.Common.{◌∙◌, ◌≤◌, ◌∷◌, ◌++◌, List, ℕ, length, ap, arith}
-use Rattle.qbf_text.specs.Canonical.{spelled}
+use Rattle.qbf_text.specs.Canonical.{token_text}
 use Rattle.qbf_text.specs.declared.token.Token.TheVariants.{Number}
 use Rattle.buffered_sink.proofs.BufferPart.{part, part_put}
 use Rattle.buffered_sink.proofs.buffered.Buffer.append_spaced.Goals as goal
@@ -7,7 +7,7 @@ use Rattle.buffered_sink.proofs.buffered.Buffer.append_spaced.Goals as goal
 pub returns-clause-all : goal.returns-clause-all
 returns-clause-all c = λ _.
     let s = c.self.inside in
-    let text : List ℕ = 32 ∷ spelled (Number c.args.negative c.args.n) in
+    let text : List ℕ = 32 ∷ token_text (Number c.args.negative c.args.n) in
     let inside : s.end ≤ length s.bytes = omega (arith, c.self.invariant.1, c.self.told) in
     let put = c.put_spaced-end.ensures in
     ap (part c.put_spaced-end.new.bytes s.start) put.end

@@ -1,8 +1,8 @@
 use Rattle.qrp.proofs.Words.{drop, IsSent, steps_at, steps_text}
 use Rattle.qrp.proofs.writing.StepLinesAtPut.put.Given as goal
 
-abbrev pub invariant-loop-place : goal.invariant-loop-place
-invariant-loop-place g l = record {
-  sent : IsSent g.K.Sink.written g.K.Sink.failures l.fn.sink l.sink (steps_text (steps_at l.self.trace.now.steps l.self.places.now))
-      (steps_text (steps_at l.self.trace.now.steps (drop l.place-index l.self.places.now)));
+abbrev pub invariant-loop-position : goal.invariant-loop-position
+invariant-loop-position g l = record {
+  sent : IsSent g.K.Sink.written g.K.Sink.failures l.fn.sink l.sink (steps_text (steps_at l.self.trace.now.steps l.self.positions.now))
+      (steps_text (steps_at l.self.trace.now.steps (drop l.position-index l.self.positions.now)));
 }

@@ -10,30 +10,30 @@ use Rattle.qdimacs.specs.declared.fault.FormulaFault.{FormulaFault}
 use Rattle.qdimacs.specs.declared.grammar.At.{At}
 use Rattle.qdimacs.specs.declared.grammar.At.TheVariants as at
 use Rattle.qdimacs.specs.declared.grammar.Parts.{Parts}
-use Rattle.qdimacs.specs.Reading.{Heading, Place, InHeader, Between, InSet, InClause, Whole, Row, IsFull}
+use Rattle.qdimacs.specs.Reading.{Heading, State, InHeader, Between, InSet, InClause, Whole, Row, IsFull}
 
 -- the numbers of the header
 abbrev pub heading : Parts → Heading
 heading p = record { max_var = p.max_var; count = p.count }
 
 -- the formula that is made of what is whole
-abbrev pub made : Parts → Qbf
-made p = record { max_var = p.max_var; blocks = p.prefix; clauses = p.clauses.whole }
+abbrev pub formula_of : Parts → Qbf
+formula_of p = record { max_var = p.max_var; blocks = p.prefix; clauses = p.clauses.whole }
 
 -- where reading stands with these parts
-abbrev pub stands : Parts → At → Place
-stands p at.Header = InHeader p.header
-stands p at.Between = Between (heading p) (pairs p.prefix) p.clauses.whole
-stands p (at.Set q) = InSet (heading p) (pairs p.prefix) q
-stands p at.Clause = InClause (heading p) (pairs p.prefix) p.clauses.whole p.clauses.begun
-stands p at.Whole = Whole (made p)
+abbrev pub state_at : Parts → At → State
+state_at p at.Header = InHeader p.header
+state_at p at.Between = Between (heading p) (pairs p.prefix) p.clauses.whole
+state_at p (at.Set q) = InSet (heading p) (pairs p.prefix) q
+state_at p at.Clause = InClause (heading p) (pairs p.prefix) p.clauses.whole p.clauses.unfinished
+state_at p at.Whole = Whole (formula_of p)
 
 -- the row that leads there
 abbrev pub row_to : Parts → At → Row
-row_to p at.Whole = Ends tt (stands p at.Whole)
-row_to p next = Goes (stands p next)
+row_to p at.Whole = Ends tt (state_at p at.Whole)
+row_to p next = Goes (state_at p next)
 
--- the next place is that of the row, unless an allocation failed
+-- the next state is that of the row, unless an allocation failed
 abbrev pub Moves : Row → Parts → Result At (Stop FormulaFault) → Type 0
 Moves r p (Ok next) = r ≡ row_to p next
 Moves r p (Err stop.Memory) = ⊤
@@ -43,7 +43,7 @@ Moves r p (Err (stop.Text f)) = r ≡ Fails f
 
 -- nothing is made yet
 abbrev pub IsNothing : Parts → Type 0
-IsNothing p = (p.prefix ≡ []) × (p.clauses.whole ≡ []) × (p.clauses.begun ≡ [])
+IsNothing p = (p.prefix ≡ []) × (p.clauses.whole ≡ []) × (p.clauses.unfinished ≡ [])
 
 -- the numbers of the header, and the variables below them
 pub record AreCounted (p : Parts) : Type 0 where
@@ -59,15 +59,15 @@ pub record IsMade (p : Parts) : Type 0 where
   pub closed : AllByRecursion (AreBound p.prefix) p.clauses.whole
   pub few : length p.clauses.whole ≤ p.count
 
--- what holds at each place
+-- what holds at each state
 abbrev pub IsSound : At → Parts → Type 0
 IsSound at.Header p = IsNothing p × IsUpTo 2147483647 p.header
-IsSound at.Between p = IsMade p × (p.clauses.begun ≡ [])
-IsSound (at.Set q) p = AreCounted p × (p.clauses.whole ≡ []) × (p.clauses.begun ≡ [])
-IsSound at.Clause p = IsMade p × AreBound p.prefix p.clauses.begun × (length p.clauses.whole < p.count)
-IsSound at.Whole p = IsWellFormed (made p)
+IsSound at.Between p = IsMade p × (p.clauses.unfinished ≡ [])
+IsSound (at.Set q) p = AreCounted p × (p.clauses.whole ≡ []) × (p.clauses.unfinished ≡ [])
+IsSound at.Clause p = IsMade p × AreBound p.prefix p.clauses.unfinished × (length p.clauses.whole < p.count)
+IsSound at.Whole p = IsWellFormed (formula_of p)
 
--- at the place that a token leads to; where it is not taken, nothing is changed
+-- at the state that a token leads to; where it is not taken, nothing is changed
 abbrev pub Leads : Parts → Parts → Result At (Stop FormulaFault) → Type 0
 Leads old new (Ok next) = IsSound next new
 Leads old new (Err e) = new ≡ old

@@ -1,4 +1,4 @@
--- Where a token stands while a trace is read: what the lists that are begun say of its place.
+-- Where a token stands while a trace is read: what the unfinished lists say of its state.
 use Rattle.std.specs.Prelude.{◌≡◌, ◌<◌, ◌≤◌, ◌^◌, ℕ, false, List, [], ◌∷◌, ◌++◌, length, Result, Ok, Err, ⊤}
 use Rattle.qbf_spelling.specs.Words.{AllByRecursion, IsVariable}
 use Rattle.qbf_text.specs.declared.grammar.Stop.{Stop}
@@ -6,21 +6,21 @@ use Rattle.qbf_text.specs.declared.grammar.Stop.TheVariants as stop
 use Rattle.qrp.specs.declared.fault.TraceFault.{TraceFault}
 use Rattle.qrp.specs.declared.item.Item.{Item}
 use Rattle.qrp.specs.declared.item.Item.TheVariants as item
-use Rattle.qrp.specs.declared.places.At.{At}
-use Rattle.qrp.specs.declared.places.At.TheVariants as at
-use Rattle.qrp.specs.declared.places.Partial.{Partial}
-use Rattle.qrp.specs.declared.places.Part.{Part}
-use Rattle.qrp.specs.declared.places.Part.TheVariants as part
+use Rattle.qrp.specs.declared.states.At.{At}
+use Rattle.qrp.specs.declared.states.At.TheVariants as at
+use Rattle.qrp.specs.declared.states.Partial.{Partial}
+use Rattle.qrp.specs.declared.states.Part.{Part}
+use Rattle.qrp.specs.declared.states.Part.TheVariants as part
 use Rattle.qrp.specs.Inferences.{IsLiteral, IsNumber}
 use Rattle.qbf_text.specs.Rows.{Goes, Ends, Fails}
-use Rattle.qrp.specs.Reading.{Place, Row, InHeader, Between, InSet, InLits, InAnts, AtResult, After}
+use Rattle.qrp.specs.Reading.{State, Row, InHeader, Between, InSet, InLits, InAnts, AtResult, After}
 use Rattle.step_index.specs.Numbers.{is_used}
 
 -- the item that a part is
 abbrev pub item_of : Partial → Part → Item
 item_of b (part.Header h) = item.Header h
 item_of b (part.Set q) = item.Set (record { quantifier = q; vars = b.vars.items })
-item_of b (part.Step n) = item.Step (record { number = n; lits = b.lits.begun; ants = b.ants.begun })
+item_of b (part.Step n) = item.Step (record { number = n; lits = b.lits.unfinished; ants = b.ants.unfinished })
 
 -- the numbers of the steps after it
 abbrev pub numbers_after : Partial → Part → List ℕ
@@ -29,21 +29,21 @@ numbers_after b (part.Header h) = []
 numbers_after b (part.Set q) = []
 
 -- where reading stands with these lists
-abbrev pub place : Partial → At → Place
-place b at.Header = InHeader b.header
-place b at.Between = Between b.index
-place b (at.Set q) = InSet q b.vars.items
-place b (at.Lits n) = InLits b.index n b.lits.begun
-place b (at.Ants n) = InAnts b.index n b.lits.begun b.ants.begun
-place b at.Result = AtResult b.index
-place b (at.ItemComplete p) = After (item_of b p) (numbers_after b p)
-place b (at.Whole o) = After (item.Result o) b.index
+abbrev pub state_at : Partial → At → State
+state_at b at.Header = InHeader b.header
+state_at b at.Between = Between b.index
+state_at b (at.Set q) = InSet q b.vars.items
+state_at b (at.Lits n) = InLits b.index n b.lits.unfinished
+state_at b (at.Ants n) = InAnts b.index n b.lits.unfinished b.ants.unfinished
+state_at b at.Result = AtResult b.index
+state_at b (at.ItemComplete p) = After (item_of b p) (numbers_after b p)
+state_at b (at.Whole o) = After (item.Result o) b.index
 
 -- a token leads where its row says, unless an allocation failed
 abbrev pub Moves : Row → Partial → Result At (Stop TraceFault) → Type 0
-Moves r b (Ok (at.ItemComplete p)) = r ≡ Ends tt (place b (at.ItemComplete p))
-Moves r b (Ok (at.Whole o)) = r ≡ Ends tt (place b (at.Whole o))
-Moves r b (Ok next) = r ≡ Goes (place b next)
+Moves r b (Ok (at.ItemComplete p)) = r ≡ Ends tt (state_at b (at.ItemComplete p))
+Moves r b (Ok (at.Whole o)) = r ≡ Ends tt (state_at b (at.Whole o))
+Moves r b (Ok next) = r ≡ Goes (state_at b next)
 Moves r b (Err stop.Memory) = ⊤
 Moves r b (Err (stop.Text f)) = r ≡ Fails f
 
@@ -53,7 +53,7 @@ pub record Stays (old new : Partial) : Type 0 where
   pub lits : new.lits.whole ≡ old.lits.whole
   pub ants : new.ants.whole ≡ old.ants.whole
 
--- ---- what holds of what is begun
+-- ---- what holds of what is unfinished
 
 -- a number of a step that may come after steps with these numbers
 abbrev pub IsNew : ℕ → List ℕ → Type 0
@@ -69,20 +69,20 @@ pub record AreAntecedents (ants : List ℕ) : Type 0 where
 abbrev pub IsComplete : Part → Partial → Type 0
 IsComplete (part.Header h) b = (b.index ≡ []) × (h.vars < 2 ^ 64) × (h.steps < 2 ^ 64)
 IsComplete (part.Set q) b = (b.index ≡ []) × AllByRecursion IsVariable b.vars.items
-IsComplete (part.Step n) b = IsNew n b.index × AllByRecursion IsLiteral b.lits.begun × AreAntecedents b.ants.begun
+IsComplete (part.Step n) b = IsNew n b.index × AllByRecursion IsLiteral b.lits.unfinished × AreAntecedents b.ants.unfinished
 
--- at each place
+-- at each state
 abbrev pub IsSound : At → Partial → Type 0
 IsSound at.Header b = b.index ≡ []
 IsSound at.Between b = ⊤
 IsSound (at.Set q) b = IsComplete (part.Set q) b
-IsSound (at.Lits n) b = IsNew n b.index × AllByRecursion IsLiteral b.lits.begun
+IsSound (at.Lits n) b = IsNew n b.index × AllByRecursion IsLiteral b.lits.unfinished
 IsSound (at.Ants n) b = IsComplete (part.Step n) b
 IsSound at.Result b = ⊤
 IsSound (at.ItemComplete p) b = IsComplete p b
 IsSound (at.Whole o) b = ⊤
 
--- at the place that a token leads to, where whole lists stay; where it is not taken, what held stays
+-- at the state that a token leads to, where whole lists stay; where it is not taken, what held stays
 abbrev pub Leads : At → Partial → Partial → Result At (Stop TraceFault) → Type 0
 Leads here old new (Ok next) = Stays old new × IsSound next new
 Leads here old new (Err e) = Stays old new × (IsSound here old → IsSound here new)

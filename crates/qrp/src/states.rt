@@ -1,9 +1,9 @@
-//! Where a token stands in a trace, and what each place makes of it.
+//! The states of reading a trace, and what each makes of a token.
 
 ghost use Rattle.std.specs.Prelude.{◌≡◌};
-ghost use Rattle.qrp.specs.declared.places.At.TheVariants as at;
-ghost use Rattle.qrp.specs.declared.places.Partial.{Partial};
-ghost use Rattle.qrp.specs.Places.{place, Moves, Leads, IsSound};
+ghost use Rattle.qrp.specs.declared.states.At.TheVariants as at;
+ghost use Rattle.qrp.specs.declared.states.Partial.{Partial};
+ghost use Rattle.qrp.specs.States.{state_at, Moves, Leads, IsSound};
 ghost use Rattle.qrp.specs.Reading.{has_room, row};
 
 use crate::fault::TraceFault;
@@ -46,10 +46,10 @@ pub enum Part {
     Step(u64),
 }
 
-/// The place that a token leads to, or why it is not taken.
+/// The state that a token leads to, or why it is not taken.
 type Next = Result<At, Stop<TraceFault>>;
 
-/// The lists that are begun, and the numbers of the steps that are whole.
+/// The unfinished lists, and the numbers of the steps that are whole.
 #[derive(Drop)]
 pub struct Partial {
     /// The place in the header.
@@ -64,12 +64,13 @@ pub struct Partial {
     pub index: StepIndex,
 }
 
-// ---- between lists
-
 /// Takes a token between lists.
+///
+/// # Errors
+/// The fault that the token is there.
 #[inline(always)]
 pub fn take_item_start(partial: &mut Partial, token: Token) -> Next
-    ensures row { Moves (row (place partial.old at.Between) token) partial.new result }
+    ensures row { Moves (row (state_at partial.old at.Between) token) partial.new result }
     ensures sound { Leads at.Between partial.old partial.new result }
 {
     match decode_item_start(partial.index.len() != 0, token)? {
@@ -88,13 +89,11 @@ pub fn take_item_start(partial: &mut Partial, token: Token) -> Next
     }
 }
 
-// ---- a step
-
 /// Takes a token in the literals of a step.
 #[inline(always)]
 fn take_literal(partial: &mut Partial, number: u64, token: Token) -> Next
     requires sound { IsSound (at.Lits number) partial.old }
-    ensures row { Moves (row (place partial.old (at.Lits number)) token) partial.new result }
+    ensures row { Moves (row (state_at partial.old (at.Lits number)) token) partial.new result }
     ensures sound { Leads (at.Lits number) partial.old partial.new result }
 {
     match literal(FAULTS, LAST_VARIABLE, token)? {
@@ -112,16 +111,16 @@ fn take_literal(partial: &mut Partial, number: u64, token: Token) -> Next
 /// Whether another antecedent may come.
 #[inline(always)]
 pub fn has_room(ants: &GrowingLists<u64>) -> bool
-    ensures says { result ≡ has_room ants.now.begun }
+    ensures says { result ≡ has_room ants.now.unfinished }
 {
-    ants.begun_len() < 2
+    ants.unfinished_len() < 2
 }
 
 /// Takes a token in the antecedents of a step.
 #[inline(always)]
 fn take_antecedent(partial: &mut Partial, number: u64, token: Token) -> Next
     requires sound { IsSound (at.Ants number) partial.old }
-    ensures row { Moves (row (place partial.old (at.Ants number)) token) partial.new result }
+    ensures row { Moves (row (state_at partial.old (at.Ants number)) token) partial.new result }
     ensures sound { Leads (at.Ants number) partial.old partial.new result }
 {
     let room = has_room(&partial.ants);
@@ -134,13 +133,14 @@ fn take_antecedent(partial: &mut Partial, number: u64, token: Token) -> Next
     }
 }
 
-// ---- the whole
-
-/// The place that a token leads to. Whole lists and the numbers of whole steps stay as they are.
+/// The state that a token leads to. Whole lists and the numbers of whole steps stay as they are.
+///
+/// # Errors
+/// Out of memory, or the fault that the token is there.
 #[inline(always)]
 pub fn take_at(here: At, partial: &mut Partial, token: Token) -> Next
     requires sound { IsSound here partial.old }
-    ensures row { Moves (row (place partial.old here) token) partial.new result }
+    ensures row { Moves (row (state_at partial.old here) token) partial.new result }
     ensures sound { Leads here partial.old partial.new result }
 {
     match here {
