@@ -179,7 +179,7 @@ fn whole(rt: &impl Abort, alloc: Global, one: Var, lit: Lit) -> Result<Formula, 
 {
     let prefix = one_variable(alloc, Quantifier::Exists, one)?;
     assert_eq!(rt; prefix.len(), 1);
-    Ok(Formula::whole(5, prefix, one_whole_list(alloc, lit)?))
+    Ok(Formula::from_parts(5, prefix, one_whole_list(alloc, lit)?))
 }
 
 #[test]

@@ -6,7 +6,7 @@ use Rattle.std.specs.List.{AllByRecursion}
 use Rattle.qbf_core.proofs.PrefixLaws.{AllByRecursion-push}
 use Rattle.std.specs.Map.{lookup}
 use Rattle.std.proofs.lemmas.Bool.{cases_eq, cases_lt}
-use Rattle.step_index.specs.NumberSets.{Has}
+use Rattle.step_index.specs.NumberSets.{HasBit}
 use Rattle.step_index.specs.Sparse.{AreFound, IsFar}
 use Rattle.qbf_core.proofs.PushedItems.{pushed_cases, pushed_old, pushed_new}
 
@@ -34,7 +34,7 @@ module _ (near table : List ℕ) (far : List (ℕ × ℕ)) (numbers : List ℕ) 
   more_few = omega (arith, found.few, length-append numbers (m ∷ []))
 
   -- the set has the new one
-  pub found_near : (more grown : List ℕ) → ((n : ℕ) → Has more n ↔ (Has near n ⊎ (n ≡ m)))
+  pub found_near : (more grown : List ℕ) → ((n : ℕ) → HasBit more n ↔ (HasBit near n ⊎ (n ≡ m)))
       → ((n : ℕ) → get_or grown n 0 ≡ get_or table n 0) → AreFound more grown far (numbers ++ m ∷ []) placed
   found_near more grown has same = record {
     table_sound = λ n i e. pushed_old numbers m i n (found.table_sound n i (sym (same n) ∙ e));
