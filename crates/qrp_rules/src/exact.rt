@@ -94,7 +94,7 @@ fn rests_of_merge<'a>(a: &'a [Lit], b: &'a [Lit], to: &[Lit]) -> Option<(&'a [Li
 }
 
 /// A literal of the one of two lists whose negation is in the other, and what is left of both
-/// behind the literals that a third list has from them.
+/// after the literals that a third list has from them.
 #[derive(Clone, Copy)]
 pub(crate) struct Rests<'a> {
     pub pivot: Lit,

@@ -1,5 +1,5 @@
 -- Numbers that are noted in a set or a map: one more of them, and the place of one more in the table.
-use Rattle.std.proofs.Common.{◌≡◌, ℕ, zero, suc, ◌<◌, ◌≤◌, ◌+◌, List, [], ◌∷◌, ◌++◌, Some, None, inl, inr, sym, ap, subst, ◌∙◌, length, get_or}
+use Rattle.std.proofs.Common.{◌≡◌, ℕ, ◌<◌, ◌≤◌, List, [], ◌∷◌, ◌++◌, Some, None, inl, inr, sym, ap, subst, ◌∙◌, length, get_or}
 use Rattle.std.proofs.Common.{slice_get, cond, nat_eq, arith, max, eq-eqb, ne_eqb, length-append}
 use Rattle.std.specs.Prelude.{◌↔◌, ◌⊎◌}
 use Rattle.std.specs.List.{AllByRecursion}

@@ -1,5 +1,5 @@
 -- How numbers are kept so that each is found by value.
-use Rattle.std.specs.Prelude.{◌≡◌, ◌≢◌, ◌<◌, ◌≤◌, ◌⊎◌, ℕ, suc, List, length, Option, Some, None, slice_get, get_or, nat_eq}
+use Rattle.std.specs.Prelude.{◌≡◌, ◌≢◌, ◌<◌, ◌≤◌, ◌⊎◌, ℕ, suc, List, length, Some, None, slice_get, get_or, nat_eq}
 use Rattle.std.specs.Map.{lookup}
 use Rattle.step_index.specs.NumberSets.{HasBit}
 
