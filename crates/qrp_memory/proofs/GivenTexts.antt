@@ -13,7 +13,7 @@ use Rattle.qrp_report.specs.declared.refusal.Refusal.{Refusal}
 use Rattle.qrp_report.specs.Lines.{refusal_line}
 use Rattle.qrp_report.specs.OfFaults.{IsOfFault}
 use Rattle.qrp_memory.specs.declared.verdict.QrpVerdict.{QrpVerdict}
-use Rattle.qrp_memory.specs.Encoding.{IsEncoded, encoded_truth, encoded_refusal, answer_line}
+use Rattle.qrp_memory.specs.Encoding.{IsEncoded, encoded_truth, encoded_refusal, result_line}
 
 -- the numbers so far, and that of the step at the next place
 pub next_number : (steps : List Inference) (places : List ℕ) (k n : ℕ) (sofar : List ℕ)
@@ -31,8 +31,8 @@ next_number steps places k n sofar within less value is =
     ∙ sym (map-append number_of (steps_at steps (take k places)) (step ∷ []))
     ∙ ap numbers (sym (next_at steps places k step less here))
 
--- the line of a refusal that a struct tells is that of its result
-pub encoded_line : (answer : Result Verified Fault) (v : QrpVerdict) (r : Refusal) (truth : Option Bool) → IsEncoded answer v
+-- the line of a refusal that a struct encodes is that of its result
+pub encoded_line : (outcome : Result Verified Fault) (v : QrpVerdict) (r : Refusal) (truth : Option Bool) → IsEncoded outcome v
     → ((b : Bool) → v ≡ encoded_truth b → truth ≡ Some b) → ((b : Bool) → truth ≡ Some b → ⊥)
-    → ((s : Refusal) → IsOfFault s → v ≡ encoded_refusal s → Some r ≡ Some s) → refusal_line r ≡ answer_line answer
-encoded_line answer v r truth h held none only = search rules
+    → ((s : Refusal) → IsOfFault s → v ≡ encoded_refusal s → Some r ≡ Some s) → refusal_line r ≡ result_line outcome
+encoded_line outcome v r truth h held none only = search rules

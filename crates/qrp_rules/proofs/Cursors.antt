@@ -33,7 +33,7 @@ drop_later : (xs : List Literal) (i : ℕ) (x l : Literal) → IsOrdered xs → 
 drop_later xs i x l o less e h = subst (λ (z : Literal). z.var < l.var) (sym e)
     ((subst IsOrdered (drop_more xs i x less) (ordered_drop xs i o)).0 l h)
 
--- a list that is walked beside another, behind one more literal
+-- a list that is walked beside another, after one more literal
 pub reach_more : (whole rest rest' part : List Literal) (i v : ℕ) (x : Literal) → IsOrdered part → i < length part → x ≡ get_or part i x
     → Reaches whole rest (HasVar (drop i part)) → IsOrdered rest' → ((m : Literal) → m ∈ rest' → m ∈ rest) → v ≡ x.var
     → ((m : Literal) → m ∈ rest → v ≤ m.var → m ∈ rest')

@@ -6,7 +6,7 @@ use Rattle.std.proofs.Common.{not}
 use Rattle.std.specs.Option.{is_some}
 use Rattle.qrp_rules.proofs.FirstFailures.{no_fault}
 
--- a test of the reduct's conditions tells whether it is one
+-- a test of the reduct's conditions decides whether it is one
 pub reduct_told : (side : Side) (blocks : List Block) (from to : List Literal) (answer : Option RuleFault) (t : Bool)
     → IsJudgement (reduct_conditions side blocks from to) answer → is_some answer ≡ not t → IsTrue t ↔ IsReduct side blocks from to
 reduct_told side blocks from to None true all e = ((λ _. record { within = all.0; each = all.1.0 }), (λ _. refl))

@@ -10,7 +10,7 @@ pub reduced_too : (rules : Rules) (side : Side) (blocks : List Block) (a b to : 
 reduced_too rules side blocks a b to (some, (one, (pivot, (within, (each, last))))) =
     (some, (one, (pivot, (within, ((λ x c l h. elim (each x c l h) [ inl k ↦ inl k | inr red ↦ inr (inl red) ]), last)))))
 
--- where all conditions hold, nothing is answered
+-- where all conditions hold, no fault is returned
 answers_nothing : (conditions : List (Condition RuleFault)) (answer : Option RuleFault) → AllHold conditions → IsJudgement conditions answer
     → answer ≡ None
 answers_nothing conditions None all is = refl

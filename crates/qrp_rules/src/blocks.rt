@@ -56,7 +56,7 @@ pub(crate) fn outer_block(a: Option<usize>, b: Option<usize>) -> Option<usize>
     a.min(b)
 }
 
-/// The innermost block of the literals that have the quantifier, where the pivot may be left aside.
+/// The innermost block of the literals that have the quantifier and are not of the pivot.
 #[inline(always)]
 pub(crate) fn innermost_block(
     prefix: &Prefix,

@@ -24,7 +24,7 @@ fn place_of(first: u64, counted: usize, number: u64) -> Option<usize>
     if i < counted { Some(i) } else { None }
 }
 
-/// Whether a number goes on with the count.
+/// Whether a number is the next one of the count, or the first.
 fn continues_count(first: u64, counted: usize, number: u64) -> bool
     ensures fits { IsTrue result → counted < 2 ^ 63 }
     ensures next { IsTrue result → (counted ≡ 0) ⊎ (first + counted ≡ number) }
