@@ -1,19 +1,23 @@
 -- The numbers of the steps at some places, and the line of what was encoded.
-use Rattle.std.proofs.Common.{rules, ◌≡◌, Bool, Option, Some, ℕ, ◌+◌, ◌<◌, List, [], ◌∷◌, ◌++◌, length, take, get_or, ap, ◌∙◌, sym, Result}
+use Rattle.std.proofs.Common.{rules, Ok, refl, ◌≡◌, Bool, Option, Some, ℕ, ◌+◌, ◌<◌, List, [], ◌∷◌, ◌++◌, length, take, get_or, ap, ◌∙◌, sym, Result}
 use Rattle.std.proofs.lemmas.List.{map-append}
 use Rattle.std.proofs.lemmas.Option.{slice_get-get_or}
 use Rattle.std.specs.List.{AllByRecursion}
 use Rattle.qbf_core.proofs.DistinctNumbers.{all_at}
-use Rattle.qrp.specs.Derivations.{steps_at}
+use Rattle.qrp.specs.Derivations.{Derivation, steps_at}
 use Rattle.qrp.specs.Inferences.{Inference, IsAt, numbers}
+use Rattle.qrp_rules.specs.declared.rules.Rules.{Rules}
 use Rattle.qrp_check.proofs.StepsAt.{next_at}
+use Rattle.qrp_check.specs.Verdict.{is_sat}
 use Rattle.qrp_check.specs.declared.verdict.Fault.{Fault}
 use Rattle.qrp_check.specs.declared.verdict.Verified.{Verified}
 use Rattle.qrp_report.specs.declared.refusal.Refusal.{Refusal}
 use Rattle.qrp_report.specs.Lines.{refusal_line}
 use Rattle.qrp_report.specs.OfFaults.{IsOfFault}
+use Rattle.qrp_report.specs.Results.{IsTrimmedFrom}
 use Rattle.qrp_memory.specs.declared.verdict.QrpVerdict.{QrpVerdict}
 use Rattle.qrp_memory.specs.Encoding.{IsEncoded, encoded_truth, encoded_refusal, result_line}
+use Rattle.qrp_memory.specs.Texts.{ProofReturns}
 
 -- the numbers so far, and that of the step at the next place
 pub next_number : (steps : List Inference) (places : List ℕ) (k n : ℕ) (sofar : List ℕ)
@@ -36,3 +40,10 @@ pub encoded_line : (outcome : Result Verified Fault) (v : QrpVerdict) (r : Refus
     → ((b : Bool) → v ≡ encoded_truth b → truth ≡ Some b) → ((b : Bool) → truth ≡ Some b → ⊥)
     → ((s : Refusal) → IsOfFault s → v ≡ encoded_refusal s → Some r ≡ Some s) → refusal_line r ≡ result_line outcome
 encoded_line outcome v r truth h held none only = search rules
+
+-- a proof's truth is returned, and what holds of the trimmed trace
+pub proof_returned : {rules : Rules} {formula trace : List ℕ} {out : QrpVerdict} {Holds : Result Derivation Fault → Type 0} {t : Derivation}
+    {truth : Bool} → IsTrimmedFrom rules formula trace t → truth ≡ is_sat t.result → out ≡ encoded_truth truth → Holds (Ok t)
+    → ProofReturns rules formula trace out Holds
+proof_returned {t = t} from is same holds =
+    record { outcome = Ok t; trimmed = (from, refl, refl); encoded = same ∙ ap encoded_truth is; named = tt; holds = holds }
