@@ -362,7 +362,7 @@ fn whole_lists(rt: HostRuntime) -> Result<(), Fail> {
     assert!(rt; growing.get(2) == [4].as_slice());
     growing.pop();
     assert_eq!(rt; growing.whole_len(), 2);
-    assert!(rt; growing.begun().is_empty());
+    assert!(rt; growing.begun_list().is_empty());
     Ok(())
 }
 

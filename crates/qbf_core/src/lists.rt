@@ -181,7 +181,7 @@ impl<T: Copy + Drop> GrowingLists<T> {
     }
 
     /// The list that is begun.
-    pub fn begun(&self) -> &[T]
+    pub fn begun_list(&self) -> &[T]
         ensures { result.now ≡ self.now.begun }
     {
         part(&self.items, self.start, self.items.len())

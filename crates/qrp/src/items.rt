@@ -69,8 +69,8 @@ impl ItemGrammar {
             }
             At::ItemComplete(Part::Step(number)) => {
                 let partial = &mut self.parts.partial;
-                let lits = Vec::from_slice(alloc, partial.lits.begun())?;
-                let ants = Vec::from_slice(alloc, partial.ants.begun())?;
+                let lits = Vec::from_slice(alloc, partial.lits.begun_list())?;
+                let ants = Vec::from_slice(alloc, partial.ants.begun_list())?;
                 partial.index.push(number)?;
                 Item::Step(Step { number, lits, ants })
             }
