@@ -56,7 +56,7 @@ impl Buffer {
         &self.bytes[self.start..self.end]
     }
 
-    /// Lets go of the first bytes.
+    /// Drops the first bytes.
     #[tactic(auto, using(crate::proofs::BufferPart::part, crate::proofs::BufferPart::part_advance))]
     fn advance(&mut self, n: usize)
         requires { n ≤ length self.old }
@@ -154,7 +154,7 @@ impl Buffer {
 
 /// Holds bytes back and sends them on to another sink, many at a time.
 ///
-/// What it still holds when it is let go is not sent.
+/// What it still holds when it is dropped is not sent.
 #[derive(Drop)]
 pub struct Buffered<S> {
     sink: S,

@@ -5,7 +5,7 @@ ghost use Rattle.std.specs.Prelude.{true, false, IfSome};
 ghost use Rattle.std.specs.Str.Parse.{digits_value, AllDigits};
 ghost use Rattle.decimal.specs.Digits.{AreDigits, AreLeadingDigits, IsWithZeros};
 
-use crate::word::{of_len, short};
+use crate::word::{number_of_len, short_number};
 
 /// At most this many digits are read: more than these, but for leading zeros, do not fit.
 const MOST: usize = 20;
@@ -52,7 +52,7 @@ fn by_word(bytes: &[u8], from: usize) -> Option<(u64, usize)>
     let Some(eight) = bytes.first_chunk::<8>() else {
         return None;
     };
-    let Some((len, value)) = short(u64::from_le_bytes(*eight) >> (8 * from)) else {
+    let Some((len, value)) = short_number(u64::from_le_bytes(*eight) >> (8 * from)) else {
         return None;
     };
     let end = from + len as usize;
@@ -95,7 +95,7 @@ pub fn number_between(bytes: &[u8], from: usize, end: usize) -> Option<u64>
         (λ v. v ≡ digits_value 10 (take (end - from) (drop from bytes.now))) }
 {
     let word = without_sign(bytes, from)?;
-    of_len(word, end as u32)
+    number_of_len(word, end as u32)
 }
 
 /// The value of the decimal digits from the place `from` on, at most 20 of them and as far as

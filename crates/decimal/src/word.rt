@@ -51,7 +51,7 @@ fn are_digits(word: u64) -> bool
 /// The decimal number of `len` digits that the word's bytes begin with, from the lowest on, or
 /// `None` if one of them is no digit.
 #[inline(always)]
-pub fn of_len(word: u64, len: u32) -> Option<u64>
+pub fn number_of_len(word: u64, len: u32) -> Option<u64>
     requires { (0 < len) × (len ≤ 8) }
     ensures { IfSome result (λ v. (len ≤ prefix_len is_ascii_digit (to_le_bytes w64 word))
         × (v ≡ digits_value 10 (take len (to_le_bytes w64 word)))) }
@@ -66,7 +66,7 @@ pub fn of_len(word: u64, len: u32) -> Option<u64>
 /// The decimal number that the word's bytes begin with, from the lowest on, and how many digits it
 /// has: one to seven.
 #[inline(always)]
-pub fn short(word: u64) -> Option<(u32, u64)>
+pub fn short_number(word: u64) -> Option<(u32, u64)>
     ensures { MatchOption result
         ((prefix_len is_ascii_digit (to_le_bytes w64 word) ≡ 0)
         ⊎ (prefix_len is_ascii_digit (to_le_bytes w64 word) ≡ 8))

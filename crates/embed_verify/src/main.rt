@@ -14,7 +14,7 @@ const TRACE: &[u8] =
     b"p qrp 2 5\n1 1 2 0 0\n2 -1 2 0 0\n3 1 0 1 0\n4 -1 0 2 0\n5 0 3 4 0\nr unsat\n";
 
 /// What the program says of a verdict.
-fn said(verdict: &Result<Verified, Fault>) -> &'static [u8]
+fn message_of(verdict: &Result<Verified, Fault>) -> &'static [u8]
     ensures truth { IfOk verdict.now (λ v.
         result.now
         ≡ (if v.truth then codes "the formula is true\n" else codes "the formula is false\n")) }
@@ -31,7 +31,7 @@ fn main(rt: HostRuntime) -> ExitCode {
     let mut formula = SliceSource::new(FORMULA);
     let mut trace = SliceSource::new(TRACE);
     let verdict = verify(rt.alloc(), &mut formula, &mut trace, Rules::plain());
-    match rt.stdout().write_all(said(&verdict)) {
+    match rt.stdout().write_all(message_of(&verdict)) {
         Ok(()) => ExitCode::from(0),
         Err(_) => ExitCode::from(3),
     }

@@ -62,7 +62,7 @@ fn quantifier_at(place: usize) -> Quantifier {
 }
 
 /// The prefix that binds these variables in turn.
-fn bound_in_turn(rt: &impl Abort, alloc: Global, numbers: &[u32]) -> Result<Prefix, Fail> {
+fn prefix_of(rt: &impl Abort, alloc: Global, numbers: &[u32]) -> Result<Prefix, Fail> {
     let mut prefix = Prefix::new(alloc);
     assert_eq!(rt; prefix.blocks(), 0);
     for (place, number) in numbers.iter().enumerate() {
@@ -73,7 +73,7 @@ fn bound_in_turn(rt: &impl Abort, alloc: Global, numbers: &[u32]) -> Result<Pref
 
 /// The prefix `e 7`, `a 2 1`.
 fn exists_then_all(rt: &impl Abort, alloc: Global) -> Result<Prefix, Fail> {
-    let mut prefix = bound_in_turn(rt, alloc, &[7, 2])?;
+    let mut prefix = prefix_of(rt, alloc, &[7, 2])?;
     prefix.push(Quantifier::All, variable(rt, 1))?;
     Ok(prefix)
 }
@@ -93,7 +93,7 @@ fn prefixes(rt: HostRuntime) -> Result<(), Fail> {
     Ok(())
 }
 
-/// What is told of variables that are bound.
+/// What is known of variables that are bound.
 fn assert_bound(rt: &impl Abort, prefix: &Prefix) {
     let two = variable(rt, 2);
     assert!(rt; prefix.quantifier(variable(rt, 7)) == Some(Quantifier::Exists));
@@ -103,7 +103,7 @@ fn assert_bound(rt: &impl Abort, prefix: &Prefix) {
     assert!(rt; prefix.block_bound_by(Quantifier::Exists, two).is_none());
 }
 
-/// What is told of a variable that is not bound.
+/// What is known of a variable that is not bound.
 fn assert_unbound(rt: &impl Abort, prefix: &Prefix, unbound: Var) {
     assert!(rt; prefix.quantifier(unbound).is_none());
     assert!(rt; prefix.block(unbound).is_none());
@@ -137,7 +137,7 @@ fn prefixes_in_any_order(rt: HostRuntime) -> Result<(), Fail> {
         (FAR, &[4, 2147483646]),
     ];
     for (numbers, unbound) in rows {
-        let mut prefix = bound_in_turn(&rt, rt.alloc(), numbers)?;
+        let mut prefix = prefix_of(&rt, rt.alloc(), numbers)?;
         assert_each_found(&rt, &mut prefix, numbers);
         assert_eq!(rt; prefix.len(), numbers.len());
         for number in unbound {
@@ -173,20 +173,20 @@ fn one_whole_list(alloc: Global, lit: Lit) -> Result<Lists<Lit>, Fail>
 }
 
 /// The formula of one existential variable and the clause of this literal.
-fn whole(rt: &impl Abort, alloc: Global, one: Var, lit: Lit) -> Result<Formula, Fail>
+fn formula_of(rt: &impl Abort, alloc: Global, one: Var, lit: Lit) -> Result<Formula, Fail>
     requires one { one ≡ 1 }
     requires lit { lit.var ≡ one }
 {
     let prefix = one_variable(alloc, Quantifier::Exists, one)?;
     assert_eq!(rt; prefix.len(), 1);
-    Ok(Formula::whole(5, prefix, one_whole_list(alloc, lit)?))
+    Ok(Formula::from_parts(5, prefix, one_whole_list(alloc, lit)?))
 }
 
 #[test]
-fn formulas_made_whole(rt: HostRuntime) -> Result<(), Fail> {
+fn formulas_from_parts(rt: HostRuntime) -> Result<(), Fail> {
     let one = variable(&rt, 1);
     let lit = Lit::new(one, false);
-    let formula = whole(&rt, rt.alloc(), one, lit)?;
+    let formula = formula_of(&rt, rt.alloc(), one, lit)?;
     assert_eq!(rt; formula.clauses(), 1);
     assert!(rt; formula.clause(0) == [lit].as_slice());
     Ok(())
@@ -272,7 +272,7 @@ fn assert_row(rt: &(impl Abort + AllocGlobal), prefix: &Prefix, row: &SetRow) ->
 #[test]
 fn sets(rt: HostRuntime) -> Result<(), Fail> {
     for row in SETS {
-        let prefix = bound_in_turn(&rt, rt.alloc(), row.0)?;
+        let prefix = prefix_of(&rt, rt.alloc(), row.0)?;
         assert_row(&rt, &prefix, &row)?;
     }
     Ok(())
@@ -338,7 +338,7 @@ fn grow_one(growing: &mut GrowingLists<u64>) -> Result<(), Fail> {
 }
 
 /// Lists that grow to those of 7 and 9, of nothing, and of 4, and to one of 5 that is begun.
-fn grown_lists(rt: &impl Abort, alloc: Global) -> Result<GrowingLists<u64>, Fail> {
+fn lists_that_grow(rt: &impl Abort, alloc: Global) -> Result<GrowingLists<u64>, Fail> {
     let mut growing = GrowingLists::new(alloc);
     grow_two(rt, &mut growing)?;
     grow_one(&mut growing)?;
@@ -347,7 +347,7 @@ fn grown_lists(rt: &impl Abort, alloc: Global) -> Result<GrowingLists<u64>, Fail
 
 #[test]
 fn growing_lists(rt: HostRuntime) -> Result<(), Fail> {
-    let growing = grown_lists(&rt, rt.alloc())?;
+    let growing = lists_that_grow(&rt, rt.alloc())?;
     assert_eq!(rt; growing.unfinished_len(), 1);
     assert_eq!(rt; growing.whole_len(), 3);
     assert_three_lists(&rt, &growing.into_lists());
@@ -356,7 +356,7 @@ fn growing_lists(rt: HostRuntime) -> Result<(), Fail> {
 
 #[test]
 fn whole_lists(rt: HostRuntime) -> Result<(), Fail> {
-    let mut growing = grown_lists(&rt, rt.alloc())?;
+    let mut growing = lists_that_grow(&rt, rt.alloc())?;
     assert_eq!(rt; growing.whole_len(), 3);
     assert!(rt; growing.get(0) == [7, 9].as_slice());
     assert!(rt; growing.get(2) == [4].as_slice());

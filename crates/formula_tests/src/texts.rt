@@ -34,10 +34,10 @@ fn assert_scanned(rt: &impl Abort, comments: Comments, rows: &[(&[u8], &[(Token,
             let mut source = PieceSource::new(text, piece, 0);
             let mut scanner = Scanner::new(comments);
             for token in *wanted {
-                let answer = scanner.next_token(&mut source);
-                assert_eq!(rt; answer, Ok(*token), "in pieces of {piece}");
+                let returned = scanner.next_token(&mut source);
+                assert_eq!(rt; returned, Ok(*token), "in pieces of {piece}");
                 if token.0 == Token::End {
-                    assert_same_again(rt, &mut scanner, &mut source, answer);
+                    assert_same_again(rt, &mut scanner, &mut source, returned);
                 }
             }
         }
@@ -49,17 +49,17 @@ fn assert_same_again(
     rt: &impl Abort,
     scanner: &mut Scanner,
     source: &mut PieceSource<'_>,
-    answer: Result<(Token, u64), ScanFault>,
+    returned: Result<(Token, u64), ScanFault>,
 ) {
     let pulls = source.pulls();
     for _ in 0..3 {
-        assert_eq!(rt; scanner.next_token(source), answer);
+        assert_eq!(rt; scanner.next_token(source), returned);
     }
     assert_eq!(rt; source.pulls(), pulls);
 }
 
 /// Five thousand zeros between two texts.
-fn with_zeros(alloc: Global, front: &[u8], back: &[u8]) -> Result<Vec<u8>, Fail> {
+fn zeros_between(alloc: Global, front: &[u8], back: &[u8]) -> Result<Vec<u8>, Fail> {
     let mut text = Vec::from_slice(alloc, front)?;
     text.resize(front.len() + 5000, b'0')?;
     text.extend_from_slice(back)?;
@@ -104,9 +104,9 @@ fn scans_traces(rt: HostRuntime) {
 #[test]
 fn scans_long_tokens(rt: HostRuntime) -> Result<(), Fail> {
     let alloc = rt.alloc();
-    let seven = with_zeros(alloc, b"", b"7")?;
-    let minus = with_zeros(alloc, b"-", b"")?;
-    let one = with_zeros(alloc, b"1", b"")?;
+    let seven = zeros_between(alloc, b"", b"7")?;
+    let minus = zeros_between(alloc, b"-", b"")?;
+    let one = zeros_between(alloc, b"1", b"")?;
     let rows: [(&[u8], &[(Token, u64)]); 3] = [
         (&seven, &[number(7), END]),
         (&minus, &[BAD, END]),
@@ -122,15 +122,15 @@ fn fails_for_good(rt: HostRuntime) {
     for fail_at in 1..=17 {
         let mut source = PieceSource::new(text, 1, fail_at);
         let mut scanner = Scanner::new(Comments::Qdimacs);
-        let mut answer = scanner.next_token(&mut source);
+        let mut returned = scanner.next_token(&mut source);
         for _ in 0..8 {
-            if answer.is_ok() {
-                answer = scanner.next_token(&mut source);
+            if returned.is_ok() {
+                returned = scanner.next_token(&mut source);
             }
         }
-        assert_eq!(rt; answer, Err(ScanFault), "at pull {fail_at}");
+        assert_eq!(rt; returned, Err(ScanFault), "at pull {fail_at}");
         assert_eq!(rt; source.pulls(), fail_at);
-        assert_same_again(&rt, &mut scanner, &mut source, answer);
+        assert_same_again(&rt, &mut scanner, &mut source, returned);
     }
 }
 

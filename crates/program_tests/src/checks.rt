@@ -49,7 +49,7 @@ fn trace_of(alloc: Global, text: &[u8]) -> Result<Trace, Fail> {
 }
 
 /// The result for the trace of a text.
-fn checked(
+fn check_text(
     alloc: Global,
     rules: Rules,
     texts: Texts<'_>,
@@ -60,7 +60,7 @@ fn checked(
 }
 
 /// The result for the same bytes.
-fn verified(alloc: Global, rules: Rules, texts: Texts<'_>) -> Result<Verified, Fault> {
+fn verify_text(alloc: Global, rules: Rules, texts: Texts<'_>) -> Result<Verified, Fault> {
     let mut source = SliceSource::new(texts.0);
     verify(alloc, &mut source, &mut SliceSource::new(texts.1), rules)
 }
@@ -79,9 +79,9 @@ fn assert_verified(
     core: &[usize],
 ) -> Result<(), Fail> {
     for rules in [Rules::plain(), Rules::any_pivot()] {
-        let found = checked(rt.alloc(), rules, texts)??;
+        let found = check_text(rt.alloc(), rules, texts)??;
         assert_found(rt, &found, truth, core);
-        let found = verified(rt.alloc(), rules, texts)?;
+        let found = verify_text(rt.alloc(), rules, texts)?;
         assert_found(rt, &found, truth, core);
     }
     Ok(())
@@ -137,7 +137,7 @@ fn follows_a_long_chain(rt: HostRuntime) -> Result<(), Fail> {
 }
 
 /// What is left of a trace that proves its result.
-fn shortened(alloc: Global, whole: &Trace, verified: &Verified) -> Result<Trace, Fail>
+fn trim_by(alloc: Global, whole: &Trace, verified: &Verified) -> Result<Trace, Fail>
     requires rises { IsStrictlyIncreasing verified.now.core.items }
     requires within { AllByRecursion (λ i. i < length whole.now.steps) verified.now.core.items }
 {
@@ -147,13 +147,13 @@ fn shortened(alloc: Global, whole: &Trace, verified: &Verified) -> Result<Trace,
 /// What is left of a trace that proves its result on a formula.
 fn trim_on(alloc: Global, rules: Rules, formula: &Formula, whole: &Trace) -> Result<Trace, Fail> {
     match check(alloc, formula, whole, whole.sets(), whole.result(), rules) {
-        Ok(verified) => shortened(alloc, whole, &verified),
+        Ok(verified) => trim_by(alloc, whole, &verified),
         Err(_) => Err(Fail::new("the trace was refused")),
     }
 }
 
 /// The same of two texts.
-fn trimmed(alloc: Global, rules: Rules, texts: Texts<'_>) -> Result<Trace, Fail> {
+fn trim_text(alloc: Global, rules: Rules, texts: Texts<'_>) -> Result<Trace, Fail> {
     let formula = formula_of(alloc, texts.0)?;
     let whole = trace_of(alloc, texts.1)?;
     trim_on(alloc, rules, &formula, &whole)
@@ -162,7 +162,7 @@ fn trimmed(alloc: Global, rules: Rules, texts: Texts<'_>) -> Result<Trace, Fail>
 #[test]
 fn keeps_what_the_goal_needs(rt: HostRuntime) -> Result<(), Fail> {
     for rules in [Rules::plain(), Rules::any_pivot()] {
-        let left = trimmed(rt.alloc(), rules, FALSE)?;
+        let left = trim_text(rt.alloc(), rules, FALSE)?;
         let mut sink = VecSink::new(rt.alloc(), 0)?;
         assert!(&rt; write_trace(&left, &mut sink).is_ok());
         assert_eq!(&rt; sink.bytes(), FALSE.1);
@@ -182,7 +182,7 @@ fn assert_halved(rt: &impl Abort, left: &Trace) {
 #[test]
 fn leaves_out_every_other_step(rt: HostRuntime) -> Result<(), Fail> {
     let text = chain(rt.alloc(), 2)?;
-    let left = trimmed(rt.alloc(), Rules::plain(), (EMPTY_CLAUSE, text.bytes()))?;
+    let left = trim_text(rt.alloc(), Rules::plain(), (EMPTY_CLAUSE, text.bytes()))?;
     assert_halved(&rt, &left);
     Ok(())
 }

@@ -52,7 +52,7 @@ const FILES: Shelf<'static> = Shelf {
 };
 
 /// What the program writes on these arguments, and its status.
-fn answer_to(alloc: Global, words: &[&str]) -> Result<(VecSink, VecSink, Status), Fail> {
+fn run_on_words(alloc: Global, words: &[&str]) -> Result<(VecSink, VecSink, Status), Fail> {
     let (mut out, mut err) = sinks(alloc)?;
     let words = given(alloc, words)?;
     let status = program(alloc, &FILES, Ok(words), &mut out, &mut err);
@@ -97,7 +97,7 @@ const ANSWERS: &[Answer] = &[
 #[test]
 fn answers_to_command_lines(rt: HostRuntime) -> Result<(), Fail> {
     for (words, to_out, to_err, wanted) in ANSWERS {
-        let (out, err, status) = answer_to(rt.alloc(), words)?;
+        let (out, err, status) = run_on_words(rt.alloc(), words)?;
         assert_same(
             &rt,
             (out.bytes(), err.bytes(), status),

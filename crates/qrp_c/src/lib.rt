@@ -8,14 +8,14 @@ ghost use Rattle.qrp_check.specs.declared.verdict.Fault.{Fault};
 ghost use Rattle.qrp_report.specs.Meanings.{fault_meaning};
 ghost use Rattle.qrp_report.specs.OfFaults.{NamesVariable};
 ghost use Rattle.qrp_memory.specs.Buffers.{IsWritten};
-ghost use Rattle.qrp_memory.specs.Encoding.{IsEncoded, EncodesSome, EncodesFault, encoded_fault, answer_line};
-ghost use Rattle.qrp_memory.specs.Texts.{IsTrimAnswered, IsCoreAnswered, IsFormatAnswered};
-ghost use Rattle.qrp_memory.specs.Verdicts.{Headline, IsAnswered};
+ghost use Rattle.qrp_memory.specs.Encoding.{IsEncoded, EncodesSome, EncodesFault, encoded_fault, result_line};
+ghost use Rattle.qrp_memory.specs.Texts.{TrimReturns, CoreReturns, FormatReturns};
+ghost use Rattle.qrp_memory.specs.Verdicts.{StructHeadline, VerifyReturns};
 
 use qrp_check::{Fault, Rules};
 use qrp_memory::{
-    QrpVerdict, format_lent, line_of, list_core, meaning_of, put_numbers, put_text, tell_fault,
-    tell_nothing, tell_truth, trim_lent, verify_lent,
+    QrpVerdict, format_lent, line_of, list_core, meaning_of, put_numbers, put_text, encode_fault,
+    encode_nothing, encode_truth, trim_lent, verify_lent,
 };
 use std::alloc::Global;
 
@@ -34,8 +34,8 @@ pub extern "C" fn qrp_verify(
     any_pivot: bool,
     out: &mut QrpVerdict,
 ) -> i32
-    ensures headline { Headline (record { any_pivot = any_pivot }) formula.now trace.now out.new }
-    ensures verdict { IsAnswered (record { any_pivot = any_pivot }) formula.now trace.now out.new }
+    ensures headline { StructHeadline (record { any_pivot = any_pivot }) formula.now trace.now out.new }
+    ensures verdict { VerifyReturns (record { any_pivot = any_pivot }) formula.now trace.now out.new }
     ensures status { result ≡ pos out.new.status }
 {
     let verdict = verify_lent(alloc, formula, trace, Rules { any_pivot });
@@ -52,8 +52,8 @@ pub extern "C" fn qrp_verify(
 /// struct that is not the encoding of any result, such as one of zeros, has the empty line.
 #[unsafe(no_mangle)]
 pub extern "C" fn qrp_verdict_line(verdict: &QrpVerdict, buffer: &mut [u8]) -> usize
-    ensures encoded { (answer : Result Verified Fault) → IsEncoded answer verdict.now
-        → IsWritten (answer_line answer) buffer.old buffer.new result }
+    ensures encoded { (outcome : Result Verified Fault) → IsEncoded outcome verdict.now
+        → IsWritten (result_line outcome) buffer.old buffer.new result }
     ensures none { ¬ EncodesSome verdict.now → IsWritten [] buffer.old buffer.new result }
     ensures short { result ≤ 47 }
     // Of any struct.
@@ -67,7 +67,7 @@ pub extern "C" fn qrp_verdict_line(verdict: &QrpVerdict, buffer: &mut [u8]) -> u
 /// In C: `size_t qrp_fault_text(const struct qrp_verdict *verdict, char *buffer, size_t room)`.
 ///
 /// Returns its length without the zero, 127 at most, and writes as `qrp_verdict_line` does. A struct
-/// that tells no fault has the empty text.
+/// that encodes no fault has the empty text.
 #[unsafe(no_mangle)]
 pub extern "C" fn qrp_fault_text(verdict: &QrpVerdict, buffer: &mut [u8]) -> usize
     ensures encoded { (e : Fault) → NamesVariable e → verdict.now ≡ encoded_fault e
@@ -96,16 +96,16 @@ pub extern "C" fn qrp_trim(
     buffer: &mut [u8],
     out: &mut QrpVerdict,
 ) -> usize
-    ensures { IsTrimAnswered (record { any_pivot = any_pivot }) formula.now trace.now
+    ensures { TrimReturns (record { any_pivot = any_pivot }) formula.now trace.now
         buffer.old buffer.new out.new result }
 {
     match trim_lent(alloc, formula, trace, Rules { any_pivot }) {
         Ok((truth, text)) => {
-            *out = tell_truth(truth);
+            *out = encode_truth(truth);
             put_text(buffer, text.bytes())
         }
         Err(fault) => {
-            *out = tell_fault(&fault);
+            *out = encode_fault(&fault);
             put_text(buffer, b"")
         }
     }
@@ -129,16 +129,16 @@ pub extern "C" fn qrp_core(
     steps: &mut [u64],
     out: &mut QrpVerdict,
 ) -> usize
-    ensures { IsCoreAnswered (record { any_pivot = any_pivot }) formula.now trace.now
+    ensures { CoreReturns (record { any_pivot = any_pivot }) formula.now trace.now
         steps.old steps.new out.new result }
 {
     match list_core(alloc, formula, trace, Rules { any_pivot }) {
         Ok((truth, numbers)) => {
-            *out = tell_truth(truth);
+            *out = encode_truth(truth);
             put_numbers(steps, &numbers)
         }
         Err(fault) => {
-            *out = tell_fault(&fault);
+            *out = encode_fault(&fault);
             0
         }
     }
@@ -158,15 +158,15 @@ pub extern "C" fn qrp_format(
     buffer: &mut [u8],
     out: &mut QrpVerdict,
 ) -> usize
-    ensures { IsFormatAnswered formula.now buffer.old buffer.new out.new result }
+    ensures { FormatReturns formula.now buffer.old buffer.new out.new result }
 {
     match format_lent(alloc, formula) {
         Ok(text) => {
-            *out = tell_nothing();
+            *out = encode_nothing();
             put_text(buffer, text.bytes())
         }
         Err((fault, line)) => {
-            *out = tell_fault(&Fault::Formula(fault, line));
+            *out = encode_fault(&Fault::Formula(fault, line));
             put_text(buffer, b"")
         }
     }

@@ -1,7 +1,7 @@
 -- One step of the core: its antecedents, and its conditions.
 use Rattle.qrp_check.proofs.Words.{◌≡◌, ℕ, ◌<◌, ◌≤◌, List, [], ◌∷◌, Option, Some, None, inl, inr, refl, sym, ap, subst, ◌∙◌, arith, length}
 use Rattle.qrp_check.proofs.Words.{at_place, get_or, take, rules, IfOk, IfSome, Result, Ok, Err, Literal, ◌∈◌, Block, AreBound, IsBound, Qbf, Side}
-use Rattle.qrp_check.proofs.Words.{IsClean, bound_each, Inference, IsAt, RuleFault, IsAnswer, initial_condition, reduct_conditions}
+use Rattle.qrp_check.proofs.Words.{IsClean, bound_each, Inference, IsAt, RuleFault, IsJudgement, initial_condition, reduct_conditions}
 use Rattle.qrp_check.proofs.Words.{resolvent_conditions, Rules, IsNumberOf, StepFollows, lits_of, step_conditions, IsInCore, next}
 use Rattle.qrp_check.proofs.Words.{premise_conditions, reduct_answer, resolvent_answer, same_self, in_take, take_in}
 use Rattle.std.specs.Prelude.{Bool, IsTrue}
@@ -78,14 +78,14 @@ module _ (rules : Rules) (side : Side) (f : Qbf) (steps : List Inference) (place
 -- ---- the conditions of a step
 
 with_earlier : (p q earlier : Type 0) (rest : List (Condition RuleFault)) (answer : Option RuleFault) → earlier
-    → IsAnswer ((S1, p) ∷ (S2, q) ∷ rest) answer → IsAnswer ((S1, p) ∷ (S2, q) ∷ (S3, earlier) ∷ rest) answer
+    → IsJudgement ((S1, p) ∷ (S2, q) ∷ rest) answer → IsJudgement ((S1, p) ∷ (S2, q) ∷ (S3, earlier) ∷ rest) answer
 with_earlier p q earlier rest None e (h, (k, all)) = (h, (k, (e, all)))
 with_earlier p q earlier rest (Some fault) e (inl out) = inl out
 with_earlier p q earlier rest (Some fault) e (inr (h, inl out)) = inr (h, inl out)
 with_earlier p q earlier rest (Some fault) e (inr (h, inr (k, first))) = inr (h, inr (k, inr (e, first)))
 
 without_earlier : (p q earlier : Type 0) (rest : List (Condition RuleFault)) (answer : Option RuleFault) → (earlier → ⊥)
-    → IsAnswer ((S1, p) ∷ (S2, q) ∷ (S3, ⊥) ∷ []) answer → IsAnswer ((S1, p) ∷ (S2, q) ∷ (S3, earlier) ∷ rest) answer
+    → IsJudgement ((S1, p) ∷ (S2, q) ∷ (S3, ⊥) ∷ []) answer → IsJudgement ((S1, p) ∷ (S2, q) ∷ (S3, earlier) ∷ rest) answer
 without_earlier p q earlier rest None not all = absurd all.1.1.0
 without_earlier p q earlier rest (Some fault) not (inl out) = inl out
 without_earlier p q earlier rest (Some fault) not (inr (h, inl out)) = inr (h, inl out)
@@ -95,8 +95,8 @@ without_earlier p q earlier rest (Some fault) not (inr (h, inr (k, inr (none, fi
 -- from the antecedents that were found to the numbers of the step
 from_found : (rules : Rules) (side : Side) (f : Qbf) (before : List Inference) (step : Inference) (found : Option Premises)
     (answer : Option RuleFault)
-    → ArePremises before step.ants found → IsAnswer (found_conditions rules side f found step.lits) answer
-    → IsAnswer (step_conditions rules side f before step) answer
+    → ArePremises before step.ants found → IsJudgement (found_conditions rules side f found step.lits) answer
+    → IsJudgement (step_conditions rules side f before step) answer
 from_found rules side f before step None answer not a = search (rules, without_earlier)
 from_found rules side f before step (Some Initial) answer none a =
     rw none (with_earlier (IsClean step.lits) (AreBound f.blocks step.lits) ((n : ℕ) → n ∈ [] → IsNumberOf before n)
@@ -105,7 +105,7 @@ from_found rules side f before step (Some (One from)) answer (m, e, (own, is)) a
     rw e (with_earlier (IsClean step.lits) (AreBound f.blocks step.lits) ((n : ℕ) → n ∈ (m ∷ []) → IsNumberOf before n)
     (reduct_conditions side f.blocks (lits_of before m) step.lits) answer
     (λ n h. elim h [ inl same ↦ subst (IsNumberOf before) (sym same) own | inr none ↦ absurd none ])
-    (subst (λ (z : List Literal). IsAnswer ((S1, IsClean step.lits) ∷ (S2, AreBound f.blocks step.lits)
+    (subst (λ (z : List Literal). IsJudgement ((S1, IsClean step.lits) ∷ (S2, AreBound f.blocks step.lits)
     ∷ reduct_conditions side f.blocks z step.lits) answer) is a))
 from_found rules side f before step (Some (Two x y)) answer (m, k, e, (own_x, is_x), (own_y, is_y)) a =
     rw e (with_earlier (IsClean step.lits) (AreBound f.blocks step.lits) ((n : ℕ) → n ∈ (m ∷ k ∷ []) → IsNumberOf before n)
@@ -115,24 +115,24 @@ from_found rules side f before step (Some (Two x y)) answer (m, k, e, (own_x, is
       | inr (inl same) ↦ subst (IsNumberOf before) (sym same) own_y
       | inr (inr none) ↦ absurd none
     ])
-    (subst (λ (z : List Literal). IsAnswer ((S1, IsClean step.lits) ∷ (S2, AreBound f.blocks step.lits)
+    (subst (λ (z : List Literal). IsJudgement ((S1, IsClean step.lits) ∷ (S2, AreBound f.blocks step.lits)
     ∷ resolvent_conditions rules side f.blocks (lits_of before m) z step.lits) answer) is_y
-    (subst (λ (z : List Literal). IsAnswer ((S1, IsClean step.lits) ∷ (S2, AreBound f.blocks step.lits)
+    (subst (λ (z : List Literal). IsJudgement ((S1, IsClean step.lits) ∷ (S2, AreBound f.blocks step.lits)
     ∷ resolvent_conditions rules side f.blocks z y.now step.lits) answer) is_x a)))
 
 pub found_answer : (rules : Rules) (side : Side) (f : Qbf) (before : List Inference) (step : Inference) (found : Option Premises)
     (lits : List Literal) (answer : Option RuleFault) → lits ≡ step.lits → ArePremises before step.ants found
-    → IsAnswer (found_conditions rules side f found lits) answer → IsAnswer (step_conditions rules side f before step) answer
+    → IsJudgement (found_conditions rules side f found lits) answer → IsJudgement (step_conditions rules side f before step) answer
 found_answer rules side f before step found lits answer same are a =
     from_found rules side f before step found answer are
-    (subst (λ (z : List Literal). IsAnswer (found_conditions rules side f found z) answer) same a)
+    (subst (λ (z : List Literal). IsJudgement (found_conditions rules side f found z) answer) same a)
 
 -- a step that follows, after those before it
 pub followed_here : (rules : Rules) (side : Side) (f : Qbf) (steps : List Inference) (place : ℕ) (found : Option Premises)
     (lits : List Literal) → ((j : ℕ) → j < place → IsInCore steps j → StepFollows rules side f steps j)
     → ((step : Inference) → IsAt steps place step → lits ≡ step.lits)
     → ((step : Inference) → IsAt steps place step → ArePremises (take place steps) step.ants found)
-    → IsAnswer (found_conditions rules side f found lits) None
+    → IsJudgement (found_conditions rules side f found lits) None
     → (j : ℕ) → j < place + 1 → IsInCore steps j → StepFollows rules side f steps j
 followed_here rules side f steps place found lits before own are all =
     below_more (λ (j : ℕ). IsInCore steps j → StepFollows rules side f steps j) place before (λ core.
@@ -145,15 +145,15 @@ followed_here rules side f steps place found lits before own are all =
 
 -- a set in the place of the literals
 premise_answer : (rules : Rules) (side : Side) (f : Qbf) (premises : Premises) (set lits : List Literal) (answer : Option RuleFault)
-    → HasMembersOf set lits → IsAnswer (premise_conditions rules side f premises set) answer
-    → IsAnswer (premise_conditions rules side f premises lits) answer
+    → HasMembersOf set lits → IsJudgement (premise_conditions rules side f premises set) answer
+    → IsJudgement (premise_conditions rules side f premises lits) answer
 premise_answer rules side f Initial set lits answer same a = initial_answer side f set lits answer same a
 premise_answer rules side f (One from) set lits answer same a = search (rules, reduct_answer, same_self)
 premise_answer rules side f (Two x y) set lits answer same a = search (rules, resolvent_answer, same_self)
 
 pub set_answer : (rules : Rules) (side : Side) (f : Qbf) (premises : Premises) (set lits : List Literal) (answer : Option RuleFault)
-    → HasMembersOf set lits → IsFit f.blocks lits → IsAnswer (premise_conditions rules side f premises set) answer
-    → IsAnswer (written_conditions rules side f premises lits) answer
+    → HasMembersOf set lits → IsFit f.blocks lits → IsJudgement (premise_conditions rules side f premises set) answer
+    → IsJudgement (written_conditions rules side f premises lits) answer
 set_answer rules side f premises set lits answer same fit a = search (rules, answer_after, premise_answer)
 
 pub not_tautology : (lits : List Literal) → IsClean lits → IsTautology lits → ⊥
@@ -164,12 +164,12 @@ pub none_unbound : (blocks : List Block) (lits : List Literal) → AreBound bloc
 none_unbound blocks lits bound (l, h, free) = free (bound_each blocks lits bound l h)
 
 pub not_clean : (rules : Rules) (side : Side) (f : Qbf) (found : Option Premises) (lits : List Literal) → IsTautology lits
-    → IsAnswer (found_conditions rules side f found lits) (Some S1)
+    → IsJudgement (found_conditions rules side f found lits) (Some S1)
 not_clean rules side f None lits (v, p, n) = inl ((λ clean. clean (positive v) p n), refl)
 not_clean rules side f (Some premises) lits (v, p, n) = inl ((λ clean. clean (positive v) p n), refl)
 
 pub not_all_bound : (rules : Rules) (side : Side) (f : Qbf) (found : Option Premises) (lits : List Literal) → IsClean lits
-    → (l : Literal) × (l ∈ lits) × (IsBound f.blocks l.var → ⊥) → IsAnswer (found_conditions rules side f found lits) (Some S2)
+    → (l : Literal) × (l ∈ lits) × (IsBound f.blocks l.var → ⊥) → IsJudgement (found_conditions rules side f found lits) (Some S2)
 not_all_bound rules side f None lits clean (l, h, free) = inr (clean, inl ((λ bound. free (bound_each f.blocks lits bound l h)), refl))
 not_all_bound rules side f (Some premises) lits clean (l, h, free) =
     inr (clean, inl ((λ bound. free (bound_each f.blocks lits bound l h)), refl))

@@ -21,7 +21,7 @@ use std::io::ErrorKind;
 use std::process::ExitCode;
 
 /// The arguments without the first, which is the program's name.
-fn after_name(alloc: Global, mut args: Args) -> Result<Vec<String>, Start>
+fn words_after_name(alloc: Global, mut args: Args) -> Result<Vec<String>, Start>
     ensures words { IfOk result (λ words. words.items ≡ drop 1 (into_iter_items args)) }
     ensures refused { IfErr result (λ e. e ≡ NoMemory) }
 {
@@ -52,7 +52,7 @@ fn given_words(rt: &HostRuntime) -> Result<Vec<String>, Start>
     ensures { IfErr result (λ e. (e ≡ NoMemory) ⊎ (e ≡ Usage)) }
 {
     match env::args(rt) {
-        Ok(args) => after_name(rt.alloc(), args),
+        Ok(args) => words_after_name(rt.alloc(), args),
         Err(error) => Err(no_words(error.kind())),
     }
 }

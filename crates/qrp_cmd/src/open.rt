@@ -25,7 +25,7 @@ impl<'a, R: Files> SystemFiles<'a, R> {
 
 /// Why a file is not open, by the kind of the error: out of memory, or else there is no such file to
 /// be read.
-fn unopened(kind: ErrorKind) -> Unopened
+fn open_failure(kind: ErrorKind) -> Unopened
     ensures memory { kind ≡ OutOfMemory → result ≡ NoMemory }
     ensures file { kind ≢ OutOfMemory → result ≡ NoFile }
 {
@@ -43,7 +43,7 @@ impl<R: Files> Open for SystemFiles<'_, R> {
     fn open(&self, path: &str) -> Result<FromRead<R::File>, Unopened> {
         match fs::open(self.rt, path) {
             Ok(file) => Ok(FromRead::new(file, LIMIT)),
-            Err(error) => Err(unopened(error.kind())),
+            Err(error) => Err(open_failure(error.kind())),
         }
     }
 }

@@ -10,25 +10,25 @@ use Rattle.qrp.specs.Derivations.{Derivation}
 use Rattle.qrp.specs.Reading.{Fault}
 
 -- 1: the bytes are no trace; 3: the source failed; 4: an allocation failed
-abbrev pub fault_status : TraceFault → ℕ
-fault_status P1 = 3
-fault_status P9 = 4
-fault_status f = 1
+abbrev pub status_of : TraceFault → ℕ
+status_of P1 = 3
+status_of P9 = 4
+status_of f = 1
 
 -- a device failed in a call that began with its count of failures below the limit
-abbrev pub HasFailed : ℕ → ℕ → Type 0
-HasFailed before after = before < 2 ^ 64 - 1 → before < after
+abbrev pub DeviceFailed : ℕ → ℕ → Type 0
+DeviceFailed before after = before < 2 ^ 64 - 1 → before < after
 
 -- What a source reads as whose count of failures goes from `before` to `after`: the trace or the fault that its bytes
 -- spell, where they are known; or P1 where it failed, or P9 where an allocation failed.
 abbrev pub IsRead : Option (List ℕ) → ℕ → ℕ → Result Derivation Fault → Type 0
 IsRead bytes before after (Ok d) = Gives (Ok d) (reads_bytes bytes) × (after ≡ before)
 IsRead bytes before after (Err e) =
-    Gives (Err e) (reads_bytes bytes) × (e.0 ≡ P1 → HasFailed before after) × (e.0 ≢ P1 → after ≡ before)
+    Gives (Err e) (reads_bytes bytes) × (e.0 ≡ P1 → DeviceFailed before after) × (e.0 ≢ P1 → after ≡ before)
 
 -- A sink went from `old` to `new`: all of the text went out, nothing of it is held back, and 0 is returned; or the sink
 -- failed, a beginning of the text went out, and 3 is returned.
-abbrev pub IsSent : {S : Type 0} → Ghosts S → S → S → List ℕ → ℕ → Type 0
-IsSent sink old new text returned =
+abbrev pub IsEchoed : {S : Type 0} → Ghosts S → S → S → List ℕ → ℕ → Type 0
+IsEchoed sink old new text returned =
     (Appends (sink.written old) (sink.written new) text × (sink.failures new ≡ sink.failures old) × sink.finished new × (returned ≡ 0))
-    ⊎ (AppendsFront (sink.written old) (sink.written new) text × HasFailed (sink.failures old) (sink.failures new) × (returned ≡ 3))
+    ⊎ (AppendsFront (sink.written old) (sink.written new) text × DeviceFailed (sink.failures old) (sink.failures new) × (returned ≡ 3))

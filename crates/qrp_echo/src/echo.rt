@@ -4,7 +4,7 @@ ghost use Rattle.std.specs.Prelude.{◌≡◌, Result, IfOk, IfErr};
 ghost use Rattle.qrp.specs.Derivations.{Derivation};
 ghost use Rattle.qrp.specs.Grammar.{text};
 ghost use Rattle.qrp.specs.Reading.{Fault};
-ghost use Rattle.qrp_echo.specs.Echoed.{IsRead, IsSent, fault_status};
+ghost use Rattle.qrp_echo.specs.Echoed.{IsRead, IsEchoed, status_of};
 
 use qbf_text::{Sink, Source};
 use qrp::{Trace, TraceFault, read_trace, write_trace};
@@ -18,8 +18,8 @@ pub type Status = u8;
 const DEVICE_FAILED: Status = 3;
 
 /// The status for a fault.
-fn fault_status(fault: TraceFault) -> Status
-    ensures { result ≡ fault_status fault }
+fn status_of(fault: TraceFault) -> Status
+    ensures { result ≡ status_of fault }
 {
     match fault {
         TraceFault::P1 => DEVICE_FAILED,
@@ -30,7 +30,7 @@ fn fault_status(fault: TraceFault) -> Status
 
 /// Sends the canonical text of a trace.
 fn send<K: Sink>(trace: &Trace, sink: &mut K) -> Status
-    ensures { IsSent K.Sink sink.old sink.new (text trace.now) result }
+    ensures { IsEchoed K.Sink sink.old sink.new (text trace.now) result }
 {
     if write_trace(trace, sink).is_err() {
         return DEVICE_FAILED;
@@ -48,11 +48,11 @@ fn send<K: Sink>(trace: &Trace, sink: &mut K) -> Status
 pub fn echo<S: Source, K: Sink>(alloc: Global, source: &mut S, sink: &mut K) -> Status
     ensures { (read : Result Derivation Fault)
         × IsRead (S.remaining source.old) (S.failures source.old) (S.failures source.new) read
-        × IfOk read (λ d. IsSent K.Sink sink.old sink.new (text d) result)
-        × IfErr read (λ e. (sink.new ≡ sink.old) × (result ≡ fault_status e.0)) }
+        × IfOk read (λ d. IsEchoed K.Sink sink.old sink.new (text d) result)
+        × IfErr read (λ e. (sink.new ≡ sink.old) × (result ≡ status_of e.0)) }
 {
     match read_trace(alloc, source) {
         Ok(trace) => send(&trace, sink),
-        Err((fault, _)) => fault_status(fault),
+        Err((fault, _)) => status_of(fault),
     }
 }

@@ -1,19 +1,23 @@
 -- The numbers of the steps at some places, and the line of what was encoded.
-use Rattle.std.proofs.Common.{rules, ◌≡◌, Bool, Option, Some, ℕ, ◌+◌, ◌<◌, List, [], ◌∷◌, ◌++◌, length, take, get_or, ap, ◌∙◌, sym, Result}
+use Rattle.std.proofs.Common.{rules, Ok, refl, ◌≡◌, Bool, Option, Some, ℕ, ◌+◌, ◌<◌, List, [], ◌∷◌, ◌++◌, length, take, get_or, ap, ◌∙◌, sym, Result}
 use Rattle.std.proofs.lemmas.List.{map-append}
 use Rattle.std.proofs.lemmas.Option.{slice_get-get_or}
 use Rattle.std.specs.List.{AllByRecursion}
 use Rattle.qbf_core.proofs.DistinctNumbers.{all_at}
-use Rattle.qrp.specs.Derivations.{steps_at}
+use Rattle.qrp.specs.Derivations.{Derivation, steps_at}
 use Rattle.qrp.specs.Inferences.{Inference, IsAt, numbers}
+use Rattle.qrp_rules.specs.declared.rules.Rules.{Rules}
 use Rattle.qrp_check.proofs.StepsAt.{next_at}
+use Rattle.qrp_check.specs.Verdict.{is_sat}
 use Rattle.qrp_check.specs.declared.verdict.Fault.{Fault}
 use Rattle.qrp_check.specs.declared.verdict.Verified.{Verified}
 use Rattle.qrp_report.specs.declared.refusal.Refusal.{Refusal}
 use Rattle.qrp_report.specs.Lines.{refusal_line}
 use Rattle.qrp_report.specs.OfFaults.{IsOfFault}
+use Rattle.qrp_report.specs.Results.{IsTrimmedFrom}
 use Rattle.qrp_memory.specs.declared.verdict.QrpVerdict.{QrpVerdict}
-use Rattle.qrp_memory.specs.Encoding.{IsEncoded, encoded_truth, encoded_refusal, answer_line}
+use Rattle.qrp_memory.specs.Encoding.{IsEncoded, encoded_truth, encoded_refusal, result_line}
+use Rattle.qrp_memory.specs.Texts.{ProofReturns}
 
 -- the numbers so far, and that of the step at the next place
 pub next_number : (steps : List Inference) (places : List ℕ) (k n : ℕ) (sofar : List ℕ)
@@ -31,8 +35,15 @@ next_number steps places k n sofar within less value is =
     ∙ sym (map-append number_of (steps_at steps (take k places)) (step ∷ []))
     ∙ ap numbers (sym (next_at steps places k step less here))
 
--- the line of a refusal that a struct tells is that of its result
-pub encoded_line : (answer : Result Verified Fault) (v : QrpVerdict) (r : Refusal) (truth : Option Bool) → IsEncoded answer v
+-- the line of a refusal that a struct encodes is that of its result
+pub encoded_line : (outcome : Result Verified Fault) (v : QrpVerdict) (r : Refusal) (truth : Option Bool) → IsEncoded outcome v
     → ((b : Bool) → v ≡ encoded_truth b → truth ≡ Some b) → ((b : Bool) → truth ≡ Some b → ⊥)
-    → ((s : Refusal) → IsOfFault s → v ≡ encoded_refusal s → Some r ≡ Some s) → refusal_line r ≡ answer_line answer
-encoded_line answer v r truth h held none only = search rules
+    → ((s : Refusal) → IsOfFault s → v ≡ encoded_refusal s → Some r ≡ Some s) → refusal_line r ≡ result_line outcome
+encoded_line outcome v r truth h held none only = search rules
+
+-- a proof's truth is returned, and what holds of the trimmed trace
+pub proof_returned : {rules : Rules} {formula trace : List ℕ} {out : QrpVerdict} {Holds : Result Derivation Fault → Type 0} {t : Derivation}
+    {truth : Bool} → IsTrimmedFrom rules formula trace t → truth ≡ is_sat t.result → out ≡ encoded_truth truth → Holds (Ok t)
+    → ProofReturns rules formula trace out Holds
+proof_returned {t = t} from is same holds =
+    record { outcome = Ok t; trimmed = (from, refl, refl); encoded = same ∙ ap encoded_truth is; named = tt; holds = holds }

@@ -9,7 +9,7 @@ use Rattle.qrp_check.specs.declared.verdict.Fault.{Fault}
 use Rattle.qrp_report.specs.declared.refusal.Refusal.{Refusal}
 use Rattle.qrp_report.specs.Lines.{numbers_line, text_line, check_line, refusal_line, verdict_line}
 use Rattle.qrp_report.specs.OfFaults.{IsOfFault, NamesVariable}
-use Rattle.qrp_memory.specs.Encoding.{encoded, answer_line}
+use Rattle.qrp_memory.specs.Encoding.{encoding, result_line}
 use Rattle.qrp_report.proofs.FaultsByNumbers.{HasNumbers, has_numbers}
 
 -- a line that is chosen is short, if each of them is
@@ -50,9 +50,9 @@ verdict_short : (b : Bool) → length (verdict_line b) < 47
 verdict_short b = search rules
 
 -- by the place that was encoded
-pub line_short : (answer : Result Verified Fault) → IfErr answer NamesVariable → (encoded answer).place < 2 ^ 64
-    → length (answer_line answer) < 47
-line_short answer names small = grind (arith, common_steps, verdict_short, refusal_short)
+pub line_short : (outcome : Result Verified Fault) → IfErr outcome NamesVariable → (encoding outcome).place < 2 ^ 64
+    → length (result_line outcome) < 47
+line_short outcome names small = grind (arith, common_steps, verdict_short, refusal_short)
 
 full_is_long : (text sent unsent : List ℕ) → text ≡ sent ++ unsent → length sent ≡ 47 → length text < 47 → ⊥
 full_is_long text sent unsent parts full small = grind (arith, common_steps)

@@ -22,18 +22,18 @@ abbrev pub encoded_truth : Bool → QrpVerdict
 encoded_truth b = record { place = 0; status = 0; truth = if b then 1 else 0; letter = 86; number = 0; rule = 0 }
 
 -- the struct for a result
-abbrev pub encoded : Result Verified Fault → QrpVerdict
-encoded (Ok v) = encoded_truth v.truth
-encoded (Err e) = encoded_fault e
+abbrev pub encoding : Result Verified Fault → QrpVerdict
+encoding (Ok v) = encoded_truth v.truth
+encoding (Err e) = encoded_fault e
 
 -- this is the struct for the result
 abbrev pub IsEncoded : Result Verified Fault → QrpVerdict → Type 0
-IsEncoded answer out = (out ≡ encoded answer) × IfErr answer NamesVariable
+IsEncoded outcome out = (out ≡ encoding outcome) × IfErr outcome NamesVariable
 
 -- the line of a result, as the program prints it
-abbrev pub answer_line : Result Verified Fault → List ℕ
-answer_line (Ok v) = verdict_line v.truth
-answer_line (Err e) = fault_line e
+abbrev pub result_line : Result Verified Fault → List ℕ
+result_line (Ok v) = verdict_line v.truth
+result_line (Err e) = fault_line e
 
 -- the struct is that of a fault
 abbrev pub EncodesFault : QrpVerdict → Type 0

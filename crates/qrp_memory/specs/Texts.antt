@@ -18,9 +18,9 @@ use Rattle.qrp_memory.specs.declared.verdict.QrpVerdict.{QrpVerdict}
 use Rattle.qrp_memory.specs.Buffers.{IsWritten, IsListed}
 use Rattle.qrp_memory.specs.Encoding.{encoded_fault, encoded_truth}
 
--- bytes that are lent
-abbrev pub lent : List ℕ → SourceCall
-lent bytes = record { bytes = Some bytes; before = 0; after = 0; unpulled = Unit {0} }
+-- bytes that are lent_bytes
+abbrev pub lent_bytes : List ℕ → SourceCall
+lent_bytes bytes = record { bytes = Some bytes; before = 0; after = 0; unpulled = Unit {0} }
 
 -- the struct for a trimmed trace, or for what was refused
 abbrev pub encoded_trace : Result Derivation Fault → QrpVerdict
@@ -38,22 +38,22 @@ step_numbers (Ok t) = numbers t.steps
 step_numbers (Err e) = []
 
 -- The struct has the truth that a proof shows, or the fault as for a check; and this holds of the trimmed trace, or of the fault.
-pub record IsProofAnswered (rules : Rules) (formula trace : List ℕ) (out : QrpVerdict) (Holds : Result Derivation Fault → Type 0) : Type 0 where
-  pub answer : Result Derivation Fault
-  pub trimmed : IsTrimmed rules (lent formula) (lent trace) answer
-  pub encoded : out ≡ encoded_trace answer
-  pub named : IfErr answer NamesVariable
-  pub holds : Holds answer
+pub record ProofReturns (rules : Rules) (formula trace : List ℕ) (out : QrpVerdict) (Holds : Result Derivation Fault → Type 0) : Type 0 where
+  pub outcome : Result Derivation Fault
+  pub trimmed : IsTrimmed rules (lent_bytes formula) (lent_bytes trace) outcome
+  pub encoded : out ≡ encoded_trace outcome
+  pub named : IfErr outcome NamesVariable
+  pub holds : Holds outcome
 
 -- The buffer holds the text of the trimmed trace.
-abbrev pub IsTrimAnswered : Rules → List ℕ → List ℕ → List ℕ → List ℕ → QrpVerdict → ℕ → Type 0
-IsTrimAnswered rules formula trace old new out returned =
-    IsProofAnswered rules formula trace out (λ answer. IsWritten (trace_text answer) old new returned)
+abbrev pub TrimReturns : Rules → List ℕ → List ℕ → List ℕ → List ℕ → QrpVerdict → ℕ → Type 0
+TrimReturns rules formula trace old new out returned =
+    ProofReturns rules formula trace out (λ outcome. IsWritten (trace_text outcome) old new returned)
 
 -- The list holds the numbers of the trimmed trace's steps: they are those of the core.
-abbrev pub IsCoreAnswered : Rules → List ℕ → List ℕ → List ℕ → List ℕ → QrpVerdict → ℕ → Type 0
-IsCoreAnswered rules formula trace old new out returned =
-    IsProofAnswered rules formula trace out (λ answer. IsListed (step_numbers answer) old new returned)
+abbrev pub CoreReturns : Rules → List ℕ → List ℕ → List ℕ → List ℕ → QrpVerdict → ℕ → Type 0
+CoreReturns rules formula trace old new out returned =
+    ProofReturns rules formula trace out (λ outcome. IsListed (step_numbers outcome) old new returned)
 
 -- the struct where nothing was verified or refused: all zeros
 abbrev pub encoded_nothing : QrpVerdict
@@ -70,8 +70,8 @@ formula_text (Ok f) = formulas.text f
 formula_text (Err e) = []
 
 -- The struct has zeros or the formula's fault; the buffer holds the canonical text of the formula.
-pub record IsFormatAnswered (formula old new : List ℕ) (out : QrpVerdict) (returned : ℕ) : Type 0 where
-  pub answer : Result Qbf (FormulaFault × ℕ)
-  pub reads : IsFormulaRead (lent formula) answer
-  pub encoded : out ≡ encoded_formula answer
-  pub written : IsWritten (formula_text answer) old new returned
+pub record FormatReturns (formula old new : List ℕ) (out : QrpVerdict) (returned : ℕ) : Type 0 where
+  pub outcome : Result Qbf (FormulaFault × ℕ)
+  pub reads : IsFormulaRead (lent_bytes formula) outcome
+  pub encoded : out ≡ encoded_formula outcome
+  pub written : IsWritten (formula_text outcome) old new returned

@@ -16,16 +16,16 @@ use Rattle.qrp_memory.specs.Encoding.{IsEncoded}
 
 -- The headline: status 0 only where the bytes show it, and wherever they do, unless an allocation failed, 4. And then the formula is false
 -- if the trace says `r unsat` and true if it says `r sat`, and `truth` is 1 exactly where it is true.
-pub record Headline (rules : Rules) (formula trace : List ℕ) (out : QrpVerdict) : Type 0 where
+pub record StructHeadline (rules : Rules) (formula trace : List ℕ) (out : QrpVerdict) : Type 0 where
   pub only : out.status ≡ 0 → IsShown rules formula trace
   pub wherever : IsShown rules formula trace → (out.status ≡ 0) ⊎ (out.status ≡ 4)
   pub truth : out.status ≡ 0 → (f : Qbf) (d : Derivation) → Spell formula trace f d
       → ResultHolds (side_of d.result) f × (out.truth ≡ (if is_sat d.result then 1 else 0)) × (out.truth ≡ 1 ↔ IsTrueFormula f)
 
 -- The struct is that of a result: of the verdict on these bytes, or of out of memory, on line 0, and never of a failed device.
-pub record IsAnswered (rules : Rules) (formula trace : List ℕ) (out : QrpVerdict) : Type 0 where
-  pub answer : Result Verified Fault
-  pub verdict : IsVerdict rules (read_formula formula) (Some (read_trace trace)) answer ⊎ IsOutOfMemory answer
-  pub lines : IfErr answer StandsOnLine
-  pub works : (IsFormulaDevice answer → ⊥) × (IsTraceDevice answer → ⊥)
-  pub is : IsEncoded answer out
+pub record VerifyReturns (rules : Rules) (formula trace : List ℕ) (out : QrpVerdict) : Type 0 where
+  pub outcome : Result Verified Fault
+  pub verdict : IsVerdict rules (read_formula formula) (Some (read_trace trace)) outcome ⊎ IsOutOfMemory outcome
+  pub lines : IfErr outcome StandsOnLine
+  pub works : (IsFormulaDevice outcome → ⊥) × (IsTraceDevice outcome → ⊥)
+  pub is : IsEncoded outcome out

@@ -4,7 +4,7 @@ ghost use Rattle.std.specs.Prelude.{◌≡◌, Ok, Err, IfOk, IfErr};
 ghost use Rattle.qbf_core.specs.Qbf.{Qbf};
 ghost use Rattle.qdimacs.specs.Grammar.{text};
 ghost use Rattle.qrp_report.specs.Results.{IsFormulaRead};
-ghost use Rattle.qrp_memory.specs.Texts.{lent};
+ghost use Rattle.qrp_memory.specs.Texts.{lent_bytes};
 
 use qbf_core::Formula;
 use qbf_text::{SliceSource, VecSink};
@@ -30,9 +30,9 @@ fn formula_text(alloc: Global, formula: &Formula) -> Result<VecSink, AllocError>
 /// # Errors
 /// The first fault of the text with its line, or F9 if an allocation fails.
 pub fn format_lent(alloc: Global, formula: &[u8]) -> Result<VecSink, (FormulaFault, u64)>
-    ensures ok { IfOk result (λ s. (f : Qbf) × IsFormulaRead (lent formula.now) (Ok f)
+    ensures ok { IfOk result (λ s. (f : Qbf) × IsFormulaRead (lent_bytes formula.now) (Ok f)
         × (s.bytes ≡ text f)) }
-    ensures err { IfErr result (λ e. IsFormulaRead (lent formula.now) (Err e)) }
+    ensures err { IfErr result (λ e. IsFormulaRead (lent_bytes formula.now) (Err e)) }
 {
     let mut source = SliceSource::new(formula);
     let read = read_formula(alloc, &mut source)?;

@@ -1,5 +1,5 @@
-//! What the library for C does, on texts in memory: checks, trims and formats them, and tells what
-//! comes of it in a struct and in buffers.
+//! What the library for C does, on texts in memory: checks, trims and formats them, and writes
+//! what comes of it to a struct and to buffers.
 #![tactic(auto)]
 
 mod buffer;
@@ -14,4 +14,4 @@ pub use formatting::format_lent;
 pub use line::Line;
 pub use lines::{line_of, meaning_of};
 pub use proving::{list_core, trim_lent, verify_lent};
-pub use verdict::{QrpVerdict, tell_fault, tell_nothing, tell_truth};
+pub use verdict::{QrpVerdict, encode_fault, encode_nothing, encode_truth};

@@ -9,10 +9,10 @@ ghost use Rattle.qrp_check.specs.Trim.{trimmed};
 ghost use Rattle.qrp_check.specs.Verdict.{is_sat};
 ghost use Rattle.qrp_check.specs.Checked.{IsChecked};
 ghost use Rattle.qrp_report.specs.Results.{IsTrimmedFrom};
-ghost use Rattle.qrp_memory.specs.Texts.{lent};
-ghost use Rattle.qrp_memory.specs.Verdicts.{Headline, IsAnswered};
+ghost use Rattle.qrp_memory.specs.Texts.{lent_bytes};
+ghost use Rattle.qrp_memory.specs.Verdicts.{StructHeadline, VerifyReturns};
 
-use crate::verdict::{QrpVerdict, tell};
+use crate::verdict::{QrpVerdict, encode};
 use qbf_text::{SliceSource, VecSink};
 use qrp::{Steps, Trace, write_steps_at};
 use qrp_check::{CheckFault, Fault, Rules, Verified, find_proof, verify};
@@ -21,13 +21,13 @@ use std::alloc::{AllocError, Global};
 /// Whether the trace in these bytes proves its result of the formula in those, as `verify` returns
 /// it.
 pub fn verify_lent(alloc: Global, formula: &[u8], trace: &[u8], rules: Rules) -> QrpVerdict
-    ensures headline { Headline rules formula.now trace.now result }
-    ensures verdict { IsAnswered rules formula.now trace.now result }
+    ensures headline { StructHeadline rules formula.now trace.now result }
+    ensures verdict { VerifyReturns rules formula.now trace.now result }
 {
     let mut formula_source = SliceSource::new(formula);
     let mut trace_source = SliceSource::new(trace);
-    let answer = verify(alloc, &mut formula_source, &mut trace_source, rules);
-    tell(&answer)
+    let outcome = verify(alloc, &mut formula_source, &mut trace_source, rules);
+    encode(&outcome)
 }
 
 /// The trace in these bytes, and what the check of it on the formula in those says.
@@ -45,7 +45,7 @@ fn lent_proof(
     ensures claim { IfOk result (λ r. r.1.truth ≡ is_sat r.0.result) }
     ensures within { IfOk result (λ r.
         AllByRecursion (λ i. i < length r.0.steps) r.1.core.items) }
-    ensures err { IfErr result (λ e. IsChecked rules (lent formula.now) (lent trace.now) (Err e)) }
+    ensures err { IfErr result (λ e. IsChecked rules (lent_bytes formula.now) (lent_bytes trace.now) (Err e)) }
 {
     let mut formula_source = SliceSource::new(formula);
     let mut trace_source = SliceSource::new(trace);
@@ -92,7 +92,7 @@ pub fn trim_lent(
 ) -> Result<(bool, VecSink), Fault>
     ensures ok { IfOk result (λ r. (t : Derivation) × IsTrimmedFrom rules formula.now trace.now t
         × (r.0 ≡ is_sat t.result) × (r.1.bytes ≡ text t)) }
-    ensures err { IfErr result (λ e. IsChecked rules (lent formula.now) (lent trace.now) (Err e)) }
+    ensures err { IfErr result (λ e. IsChecked rules (lent_bytes formula.now) (lent_bytes trace.now) (Err e)) }
 {
     let (whole, verified) = lent_proof(alloc, formula, trace, rules)?;
     match text_at(alloc, &whole, &verified.core) {
@@ -113,7 +113,7 @@ pub fn list_core(
 ) -> Result<(bool, Vec<u64>), Fault>
     ensures ok { IfOk result (λ r. (t : Derivation) × IsTrimmedFrom rules formula.now trace.now t
         × (r.0 ≡ is_sat t.result) × (r.1.items ≡ numbers t.steps)) }
-    ensures err { IfErr result (λ e. IsChecked rules (lent formula.now) (lent trace.now) (Err e)) }
+    ensures err { IfErr result (λ e. IsChecked rules (lent_bytes formula.now) (lent_bytes trace.now) (Err e)) }
 {
     let (whole, verified) = lent_proof(alloc, formula, trace, rules)?;
     match numbers_at(alloc, &whole, &verified.core) {

@@ -28,7 +28,7 @@ pub struct QrpVerdict {
 }
 
 /// What a caller in C gets of a formula that was verified to have this truth.
-pub fn tell_truth(truth: bool) -> QrpVerdict
+pub fn encode_truth(truth: bool) -> QrpVerdict
     ensures { result ≡ encoded_truth truth }
 {
     QrpVerdict {
@@ -42,7 +42,7 @@ pub fn tell_truth(truth: bool) -> QrpVerdict
 }
 
 /// What a caller in C gets where nothing was verified or refused.
-pub fn tell_nothing() -> QrpVerdict
+pub fn encode_nothing() -> QrpVerdict
     ensures { result ≡ encoded_nothing }
 {
     QrpVerdict {
@@ -56,7 +56,7 @@ pub fn tell_nothing() -> QrpVerdict
 }
 
 /// What a caller in C gets of a refusal.
-fn tell_refusal(refusal: &Refusal) -> QrpVerdict
+fn encode_refusal(refusal: &Refusal) -> QrpVerdict
     ensures { result ≡ encoded_refusal refusal.now }
 {
     QrpVerdict {
@@ -70,38 +70,38 @@ fn tell_refusal(refusal: &Refusal) -> QrpVerdict
 }
 
 /// What a caller in C gets of a fault.
-pub fn tell_fault(fault: &Fault) -> QrpVerdict
+pub fn encode_fault(fault: &Fault) -> QrpVerdict
     ensures encoded { result ≡ encoded_fault fault.now }
     ensures named { NamesVariable fault.now }
 {
-    tell_refusal(&Refusal::of(fault))
+    encode_refusal(&Refusal::of(fault))
 }
 
 /// What a caller in C gets of a result.
-pub fn tell(answer: &Result<Verified, Fault>) -> QrpVerdict
-    ensures { IsEncoded answer.now result }
+pub fn encode(outcome: &Result<Verified, Fault>) -> QrpVerdict
+    ensures { IsEncoded outcome.now result }
 {
-    match answer {
-        Ok(verified) => tell_truth(verified.truth),
-        Err(fault) => tell_fault(fault),
+    match outcome {
+        Ok(verified) => encode_truth(verified.truth),
+        Err(fault) => encode_fault(fault),
     }
 }
 
-/// The truth that this struct tells, or `None` if it tells none.
-pub fn truth(verdict: &QrpVerdict) -> Option<bool>
+/// The truth that this struct encodes, or `None` if it encodes none.
+pub fn decode_truth(verdict: &QrpVerdict) -> Option<bool>
     ensures encoded { IfSome result (λ b. verdict.now ≡ encoded_truth b) }
     ensures all { (b : Bool) → verdict.now ≡ encoded_truth b → result ≡ Some b }
 {
     let truth = verdict.truth == 1;
-    if *verdict == tell_truth(truth) {
+    if *verdict == encode_truth(truth) {
         Some(truth)
     } else {
         None
     }
 }
 
-/// The refusal that this struct tells, or `None` if it tells none of a fault.
-pub fn refusal(verdict: &QrpVerdict) -> Option<Refusal>
+/// The refusal of a fault that this struct encodes, or `None` if it encodes none.
+pub fn decode_refusal(verdict: &QrpVerdict) -> Option<Refusal>
     ensures encoded { IfSome result (λ r. IsOfFault r × (verdict.now ≡ encoded_refusal r)) }
     ensures all { (r : Refusal) → IsOfFault r → verdict.now ≡ encoded_refusal r → result ≡ Some r }
 {
@@ -111,7 +111,7 @@ pub fn refusal(verdict: &QrpVerdict) -> Option<Refusal>
         rule: verdict.rule,
         position: verdict.place,
     };
-    if *verdict != tell_refusal(&refusal) {
+    if *verdict != encode_refusal(&refusal) {
         return None;
     }
     if is_of_fault(&refusal) {

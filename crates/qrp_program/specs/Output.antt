@@ -17,7 +17,7 @@ use Rattle.qrp.specs.Grammar as trace
 use Rattle.qrp_check.specs.Checked.{SourceCall, IsChecked}
 use Rattle.qrp_report.specs.Lines.{fault_line, verdict_line}
 use Rattle.qrp_report.specs.Refusals.{fault_status}
-use Rattle.qrp_report.specs.Results.{HasFailed, IsFormulaRead, IsTrimmed}
+use Rattle.qrp_report.specs.Results.{DeviceFailed, IsFormulaRead, IsTrimmed}
 
 -- the two sinks of a run
 pub data Sink : Type 0 where
@@ -73,7 +73,7 @@ IsOutput (job.Trim rules) formula trace r =
 abbrev pub IsSent : {S : Type 0} → Ghosts S → S → S → List ℕ → ℕ → ℕ → ℕ → Type 0
 IsSent sink old new text status failed returned =
     (Appends (sink.written old) (sink.written new) text × (sink.failures new ≡ sink.failures old) × sink.finished new × (returned ≡ status))
-    ⊎ (AppendsFront (sink.written old) (sink.written new) text × HasFailed (sink.failures old) (sink.failures new) × (returned ≡ failed))
+    ⊎ (AppendsFront (sink.written old) (sink.written new) text × DeviceFailed (sink.failures old) (sink.failures new) × (returned ≡ failed))
 
 -- what holds where a report goes to this sink
 abbrev pub IsOn : Sink → Type 0 → Type 0 → Type 0

@@ -13,7 +13,7 @@ use Rattle.qrp_check.specs.declared.verdict.Fault.TheVariants as fault
 use Rattle.step_index.specs.Numbers.{count_from}
 use Rattle.qrp_report.specs.declared.refusal.Refusal.{Refusal}
 use Rattle.qrp_report.specs.OfFaults.{NamesVariable, IsOfFault}
-use Rattle.qrp_report.specs.Refusals.{formula_number, trace_number, rule_number, refusal, refusal_of}
+use Rattle.qrp_report.specs.Refusals.{formula_number, trace_number, rule_number, with_parts, refusal_of}
 
 -- by its numbers, a refusal is that of a fault of a text: F1 to F9, P1 to P9
 abbrev pub IsOfText : Refusal → Type 0
@@ -58,13 +58,13 @@ of_text : (r : Refusal) → IsOfText r → IsOfFault r
 of_text r (inl is, low, high, none) = let w = formula_of r.number low high in (fault.Formula w.0 r.position, tt, rw (is, none, w.1) refl)
 of_text r (inr is, low, high, none) = let w = trace_of r.number low high in (fault.Trace w.0 r.position, tt, rw (is, none, w.1) refl)
 
-of_set : (l n s p : ℕ) → IsOfSet (refusal l n s p) → IsOfFault (refusal l n s p)
+of_set : (l n s p : ℕ) → IsOfSet (with_parts l n s p) → IsOfFault (with_parts l n s p)
 of_set l (suc zero) s p (is, low, high, none, least, most) = (fault.Check (C1 p), (least, most), rw (is, none) refl)
 of_set l (suc (suc zero)) s p (is, low, high, none, least, most) = (fault.Check (C2 p), (least, most), rw (is, none) refl)
 of_set l (suc (suc (suc zero))) s p (is, low, high, none, least, most) = (fault.Check (C3 p), (least, most), rw (is, none) refl)
 of_set l n s p (is, low, high, none, least, most) = absurd (omega (arith, low, high))
 
-of_whole : (l n s p : ℕ) → IsOfWhole (refusal l n s p) → IsOfFault (refusal l n s p)
+of_whole : (l n s p : ℕ) → IsOfWhole (with_parts l n s p) → IsOfFault (with_parts l n s p)
 of_whole l (suc (suc (suc (suc zero)))) s p (is, low, high, none, no_place) = (fault.Check C4, tt, rw (is, none, no_place) refl)
 of_whole l (suc (suc (suc (suc (suc zero))))) s p (is, low, high, none, no_place) = (fault.Check C5, tt, rw (is, none, no_place) refl)
 of_whole l n s p (is, low, high, none, no_place) = absurd (omega (arith, low, high))

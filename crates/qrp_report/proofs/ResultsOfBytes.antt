@@ -16,7 +16,7 @@ use Rattle.qrp_check.specs.Trim.{trimmed}
 use Rattle.qrp_check.specs.Verdict.{IsVerdict, IsVerdictUnless}
 use Rattle.qrp_check.proofs.HeadlineOfVerdict.{found}
 use Rattle.qrp_check.proofs.TrimText.{trimmed_text_proves}
-use Rattle.qrp_report.specs.Results.{HasFailed, IsFormulaRead, IsFormulaRefused, IsTrimmedFrom, IsTrimmed}
+use Rattle.qrp_report.specs.Results.{DeviceFailed, IsFormulaRead, IsFormulaRefused, IsTrimmedFrom, IsTrimmed}
 
 read_as : (bytes : Option (List ℕ)) (f : Qbf) → Gives (Ok f) (reads_bytes bytes) → IfSome bytes (λ b. read_formula b ≡ Ok f)
 read_as bytes f g = search rules
@@ -26,7 +26,7 @@ pub formula_read : (formula : SourceCall) (f : Qbf) → Gives (Ok f) (reads_byte
 formula_read formula f gives works = (read_as formula.bytes f gives, works)
 
 pub formula_refused : (bytes : Option (List ℕ)) (before after : ℕ) (e : FormulaFault) (n : ℕ) → Gives (Err (e, n)) (reads_bytes bytes)
-    → (e ≡ F1 → HasFailed before after) → (e ≢ F1 → after ≡ before) → (e ≡ F1 → n ≡ 0) → (e ≡ F9 → n ≡ 0)
+    → (e ≡ F1 → DeviceFailed before after) → (e ≢ F1 → after ≡ before) → (e ≡ F1 → n ≡ 0) → (e ≡ F9 → n ≡ 0)
     → IsFormulaRefused bytes before after e n
 formula_refused bytes before after e n s failed kept one nine = search rules
 

@@ -52,22 +52,22 @@ rule_number S11 = 11
 rule_number S12 = 12
 
 -- a refusal by its letter, its number, the number of the step's fault, and its position
-abbrev pub refusal : ℕ → ℕ → ℕ → ℕ → Refusal
-refusal letter number rule position = record { letter = letter; number = number; rule = rule; position = position }
+abbrev pub with_parts : ℕ → ℕ → ℕ → ℕ → Refusal
+with_parts letter number rule position = record { letter = letter; number = number; rule = rule; position = position }
 
 -- the refusal for a fault of a check; the letter C, 67
 abbrev pub check_refusal : CheckFault → Refusal
-check_refusal (C1 v) = refusal 67 1 0 v
-check_refusal (C2 v) = refusal 67 2 0 v
-check_refusal (C3 v) = refusal 67 3 0 v
-check_refusal C4 = refusal 67 4 0 0
-check_refusal C5 = refusal 67 5 0 0
-check_refusal (C6 n s) = refusal 67 6 (rule_number s) n
+check_refusal (C1 v) = with_parts 67 1 0 v
+check_refusal (C2 v) = with_parts 67 2 0 v
+check_refusal (C3 v) = with_parts 67 3 0 v
+check_refusal C4 = with_parts 67 4 0 0
+check_refusal C5 = with_parts 67 5 0 0
+check_refusal (C6 n s) = with_parts 67 6 (rule_number s) n
 
 -- the refusal for any fault; the letters F, 70, and P, 80
 abbrev pub refusal_of : Fault → Refusal
-refusal_of (fault.Formula e line) = refusal 70 (formula_number e) 0 line
-refusal_of (fault.Trace e line) = refusal 80 (trace_number e) 0 line
+refusal_of (fault.Formula e line) = with_parts 70 (formula_number e) 0 line
+refusal_of (fault.Trace e line) = with_parts 80 (trace_number e) 0 line
 refusal_of (fault.Check c) = check_refusal c
 
 -- the status of a refusal; 1: the proof is refused; 2: a text is; 3: a source failed; 4: an allocation failed

@@ -15,13 +15,13 @@ use Rattle.qrp_check.specs.Proof.{IsProof}
 use Rattle.qrp_check.specs.Trim.{trimmed}
 
 -- a source or a sink failed in a call that began with its count of failures below the limit
-abbrev pub HasFailed : ℕ → ℕ → Type 0
-HasFailed before after = before < 2 ^ 64 - 1 → before < after
+abbrev pub DeviceFailed : ℕ → ℕ → Type 0
+DeviceFailed before after = before < 2 ^ 64 - 1 → before < after
 
 -- What the formula's text reads as, where its bytes are known and its count of failures goes from `before` to `after`:
 -- the fault that the bytes spell, F1 where the source failed, or F9 where an allocation failed.
 abbrev pub IsFormulaRefused : Option (List ℕ) → ℕ → ℕ → FormulaFault → ℕ → Type 0
-IsFormulaRefused bytes before after F1 n = (n ≡ 0) × HasFailed before after
+IsFormulaRefused bytes before after F1 n = (n ≡ 0) × DeviceFailed before after
 IsFormulaRefused bytes before after F9 n = (n ≡ 0) × (after ≡ before)
 IsFormulaRefused bytes before after e n = IfSome bytes (λ b. read_formula b ≡ Err (e, n)) × (after ≡ before)
 

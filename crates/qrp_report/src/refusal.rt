@@ -1,8 +1,8 @@
 //! Refusals as data: the letter and the number in the name of a fault, and where it stands.
 
 ghost use Rattle.std.specs.Prelude.{◌≡◌};
-ghost use Rattle.qrp_report.specs.OfFaults.{IsNamed, NamesVariable};
-ghost use Rattle.qrp_report.specs.Refusals.{refusal, check_refusal, refusal_of, status};
+ghost use Rattle.qrp_report.specs.OfFaults.{CheckNamesVariable, NamesVariable};
+ghost use Rattle.qrp_report.specs.Refusals.{with_parts, check_refusal, refusal_of, status};
 
 use qrp_check::{CheckFault, Fault};
 
@@ -21,7 +21,7 @@ pub struct Refusal {
 
 /// A refusal by its parts.
 fn with_parts(letter: u8, number: u8, rule: u8, position: u64) -> Refusal
-    ensures { result ≡ refusal letter number rule position }
+    ensures { result ≡ with_parts letter number rule position }
 {
     Refusal {
         letter,
@@ -34,7 +34,7 @@ fn with_parts(letter: u8, number: u8, rule: u8, position: u64) -> Refusal
 /// The refusal for a fault of a check.
 fn check_refusal(fault: CheckFault) -> Refusal
     ensures is { result ≡ check_refusal fault }
-    ensures named { IsNamed fault }
+    ensures named { CheckNamesVariable fault }
 {
     match fault {
         CheckFault::C1(var) => with_parts(b'C', 1, 0, u64::from(var.number())),

@@ -1,4 +1,4 @@
--- Steps that are written exactly as they follow, in any order: what the walk over them tells.
+-- Steps that are written exactly as they follow, in any order: what the walk over them shows.
 use Rattle.qrp_rules.proofs.Words.{IsTrue, ◌≡◌, ◌<◌, ◌≤◌, ◌+◌, ℕ, List, [], ◌∷◌, ◌++◌, ◌⊎◌, ◌↔◌, Bool, length, get_or, take, drop}
 use Rattle.qrp_rules.proofs.Words.{slice_get, Some, None, refl, rules, sym, ap, subst, ◌∙◌, inl, inr, arith, cases_eq, take-append-drop}
 use Rattle.qrp_rules.proofs.Words.{Literal, negated, positive, negative, ◌∈◌, ◌⊆◌, Block, Side, Clashes, IsClean, IsOnlyClash, IsReducible}
@@ -147,7 +147,7 @@ resolved_whole a b to none one both x y is empty of_a (in_b, has) of_b each =
     seen_a : (l : Literal) → Has one l → l ∈ a
     seen_a l h = elim (of_a l h) [ inl k ↦ absurd (empty l k) | inr k ↦ k ]
 
--- ---- what a step without the pivot tells, if a set without a clash has it and what is left
+-- ---- what a step without the pivot shows, if a set without a clash has it and what is left
 
 module _ (rules : Rules) (side : Side) (blocks : List Block) (a b to rest_a rest_b : List Literal) (x : Literal)
     (is : IsResolvedBut a b to rest_a rest_b x) (apart : IsApart to x.var) (In May : Literal → Type 0)
@@ -217,7 +217,7 @@ clean_with xs i x less e out clean l h k = elim (in_take_more xs i x l less e h)
 pub clean_all : (xs : List Literal) (i : ℕ) → length xs ≤ i → IsClean (take i xs) → IsClean xs
 clean_all xs i long clean = subst IsClean (take_all i xs long) clean
 
--- ---- what any step with two antecedents tells that follows
+-- ---- what any step with two antecedents shows that follows
 
 within_resolvent : (rules : Rules) (side : Side) (blocks : List Block) (a b to : List Literal)
     → AllHold (resolvent_conditions rules side blocks a b to) → (x : ℕ) × IsOnlyClash a b x × (to ⊆ resolvent a b x)

@@ -2,7 +2,7 @@
 use Rattle.qrp_rules.proofs.Words.{◌≡◌, ℕ, List, [], ◌∷◌, ◌++◌, ◌⊎◌, Option, Some, None, inl, inr, refl, ◌∙◌, rules, Literal, positive}
 use Rattle.qrp_rules.proofs.Words.{negative, ◌∈◌, ◌⊆◌, Block, Qbf, Side, Clauses, Cubes, IsReducible, IsReduct, Clashes, resolvent}
 use Rattle.qrp_rules.proofs.Words.{IsInitial, HasMembersOf, in_without, from_without, RuleFault, Rules, Condition, AllHold, IsFirstFailure}
-use Rattle.qrp_rules.proofs.Words.{IsAnswer, IsReducibleInParents, reduct_conditions, resolvent_conditions, initial_condition, in_append}
+use Rattle.qrp_rules.proofs.Words.{IsJudgement, IsReducibleInParents, reduct_conditions, resolvent_conditions, initial_condition, in_append}
 use Rattle.qrp_rules.proofs.Words.{append_left, append_right}
 
 -- the same names, and each condition of the one list follows from that of the other
@@ -27,7 +27,7 @@ same_fails ((n, p) ∷ qs) ((m, r) ∷ rs) fault s b (inl (out, is)) = inl ((λ 
 same_fails ((n, p) ∷ qs) ((m, r) ∷ rs) fault s b (inr (h, later)) = inr (s.1 h, same_fails qs rs fault s.2 b.2 later)
 
 pub same_answer : (qs rs : List (Condition RuleFault)) (answer : Option RuleFault) → AreImplied qs rs → AreImplied rs qs
-    → IsAnswer qs answer → IsAnswer rs answer
+    → IsJudgement qs answer → IsJudgement rs answer
 same_answer qs rs None s b all = same_hold qs rs s all
 same_answer qs rs (Some fault) s b fails = same_fails qs rs fault s b fails
 
@@ -117,17 +117,17 @@ initial_implied : (side : Side) (f : Qbf) (to to' : List Literal) → HasMembers
 initial_implied Clauses f to to' t = (refl, initial_to Clauses f to to' t, tt)
 initial_implied Cubes f to to' t = (refl, initial_to Cubes f to to' t, tt)
 
--- the answers of the tests, of the set of a list in its place
+-- the results of the tests, of the set of a list in its place
 pub reduct_answer : (side : Side) (blocks : List Block) (a a' to to' : List Literal) (answer : Option RuleFault) → HasMembersOf a a'
     → HasMembersOf to to'
-    → IsAnswer (reduct_conditions side blocks a to) answer → IsAnswer (reduct_conditions side blocks a' to') answer
+    → IsJudgement (reduct_conditions side blocks a to) answer → IsJudgement (reduct_conditions side blocks a' to') answer
 reduct_answer side blocks a a' to to' answer s t = search (rules, same_answer, reduct_implied, same_back)
 
 pub resolvent_answer : (rules : Rules) (side : Side) (blocks : List Block) (a a' b b' to to' : List Literal) (answer : Option RuleFault)
     → HasMembersOf a a' → HasMembersOf b b' → HasMembersOf to to'
-    → IsAnswer (resolvent_conditions rules side blocks a b to) answer → IsAnswer (resolvent_conditions rules side blocks a' b' to') answer
+    → IsJudgement (resolvent_conditions rules side blocks a b to) answer → IsJudgement (resolvent_conditions rules side blocks a' b' to') answer
 resolvent_answer rules side blocks a a' b b' to to' answer s t u = search (rules, same_answer, resolvent_implied, same_back)
 
 pub initial_answer : (side : Side) (f : Qbf) (to to' : List Literal) (answer : Option RuleFault) → HasMembersOf to to'
-    → IsAnswer (initial_condition side f to ∷ []) answer → IsAnswer (initial_condition side f to' ∷ []) answer
+    → IsJudgement (initial_condition side f to ∷ []) answer → IsJudgement (initial_condition side f to' ∷ []) answer
 initial_answer side f to to' answer t = search (rules, same_answer, initial_implied, same_back)

@@ -1,14 +1,14 @@
 -- Initial steps: reducts by their members, and clauses by their places.
 use Rattle.qrp_rules.proofs.Words.{◌≡◌, ◌+◌, ◌↔◌, IsTrue, Bool, true, false, ℕ, List, refl, sym, rules, slice_get, Option, Some, None, take}
-use Rattle.qrp_rules.proofs.Words.{false≢true, ◌∈◌, Literal, positive, Block, Side, IsClean, IsTautology, IsReduct, RuleFault, IsAnswer}
+use Rattle.qrp_rules.proofs.Words.{false≢true, ◌∈◌, Literal, positive, Block, Side, IsClean, IsTautology, IsReduct, RuleFault, IsJudgement}
 use Rattle.qrp_rules.proofs.Words.{reduct_conditions, slice_get_within, get_or_from_slice_get, each_more}
 use Rattle.std.proofs.Common.{not}
 use Rattle.std.specs.Option.{is_some}
 use Rattle.qrp_rules.proofs.FirstFailures.{no_fault}
 
--- a test of the reduct's conditions tells whether it is one
+-- a test of the reduct's conditions decides whether it is one
 pub reduct_told : (side : Side) (blocks : List Block) (from to : List Literal) (answer : Option RuleFault) (t : Bool)
-    → IsAnswer (reduct_conditions side blocks from to) answer → is_some answer ≡ not t → IsTrue t ↔ IsReduct side blocks from to
+    → IsJudgement (reduct_conditions side blocks from to) answer → is_some answer ≡ not t → IsTrue t ↔ IsReduct side blocks from to
 reduct_told side blocks from to None true all e = ((λ _. record { within = all.0; each = all.1.0 }), (λ _. refl))
 reduct_told side blocks from to None false all e = absurd (cc e)
 reduct_told side blocks from to (Some fault) true fails e = absurd (cc e)

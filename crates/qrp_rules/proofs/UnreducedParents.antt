@@ -1,6 +1,6 @@
 -- What follows from parents as they stand follows where they may be reduced.
 use Rattle.qrp_rules.proofs.Words.{◌≡◌, List, Option, Some, None, inl, inr, refl, rules, Literal, Block, Side, Rules, RuleFault, Condition}
-use Rattle.qrp_rules.proofs.Words.{AllHold, IsAnswer, resolvent_conditions}
+use Rattle.qrp_rules.proofs.Words.{AllHold, IsJudgement, resolvent_conditions}
 use Rattle.qrp_rules.specs.Unreduced.{unreduced_conditions}
 use Rattle.qrp_rules.proofs.FirstFailures.{no_fault}
 
@@ -10,13 +10,13 @@ pub reduced_too : (rules : Rules) (side : Side) (blocks : List Block) (a b to : 
 reduced_too rules side blocks a b to (some, (one, (pivot, (within, (each, last))))) =
     (some, (one, (pivot, (within, ((λ x c l h. elim (each x c l h) [ inl k ↦ inl k | inr red ↦ inr (inl red) ]), last)))))
 
--- where all conditions hold, nothing is answered
-answers_nothing : (conditions : List (Condition RuleFault)) (answer : Option RuleFault) → AllHold conditions → IsAnswer conditions answer
+-- where all conditions hold, no fault is returned
+answers_nothing : (conditions : List (Condition RuleFault)) (answer : Option RuleFault) → AllHold conditions → IsJudgement conditions answer
     → answer ≡ None
 answers_nothing conditions None all is = refl
 answers_nothing conditions (Some fault) all fails = absurd (no_fault conditions fault all fails)
 
 pub answers_as_before : (rules : Rules) (side : Side) (blocks : List Block) (a b to : List Literal) (answer : Option RuleFault)
-    → IsAnswer (resolvent_conditions rules side blocks a b to) answer → AllHold (unreduced_conditions rules side blocks a b to)
+    → IsJudgement (resolvent_conditions rules side blocks a b to) answer → AllHold (unreduced_conditions rules side blocks a b to)
     → answer ≡ None
 answers_as_before rules side blocks a b to answer is all = search (rules, answers_nothing, reduced_too)

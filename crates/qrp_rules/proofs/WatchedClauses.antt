@@ -12,6 +12,13 @@ use Rattle.qrp_rules.specs.Watches.{IsTakenOut, IsWatched, IsWatchedIf, KeepsWat
 use Rattle.qbf_core.proofs.PushedItems.{pushed_new, pushed_old, written_here, written_elsewhere}
 use Rattle.std.proofs.lemmas.List.Elements.{Contains-push_cases}
 
+-- what stands at the position of the list of a literal is that list
+pub list_here : (lists : List Watch) (k : ℕ) (w now : Watch) (l : Literal) → slice_get lists k ≡ Some w → w.lit ≡ l
+    → now ≡ get_or lists k now → (slice_get lists k ≡ Some now) × (now.lit ≡ l)
+list_here lists k w now l at lit is =
+    let same : now ≡ w = is ∙ get_or_from_slice_get lists k w now at in
+    (at ∙ ap Some (sym same), ap (λ (z : Watch). z.lit) same ∙ lit)
+
 -- a list is written over by one of the same literal that has its clauses too
 pub written_keeps : (lists : List Watch) (k : ℕ) (was new : Watch) → slice_get lists k ≡ Some was → new.lit ≡ was.lit
     → ((i : ℕ) → Contains was.clauses.items i → Contains new.clauses.items i) → KeepsWatches lists (set lists k new)

@@ -13,7 +13,7 @@ pub use Rattle.qbf_core.specs.Rules.{deciding_quantifier, reduced_quantifier, re
 pub use Rattle.qbf_core.specs.Sets.{HasMembersOf, IsOrdered}
 pub use Rattle.qbf_core.specs.declared.quantifier.Quantifier.{Quantifier}
 pub use Rattle.qbf_core.specs.declared.quantifier.Quantifier.TheVariants.{All, Exists}
-pub use Rattle.qrp_rules.specs.Conditions.{AllHold, AllowsPivot, Condition, IsAnswer, IsFirstFailure, IsReducibleInParents}
+pub use Rattle.qrp_rules.specs.Conditions.{AllHold, AllowsPivot, Condition, IsJudgement, IsFirstFailure, IsReducibleInParents}
 pub use Rattle.qrp_rules.specs.Conditions.{initial_condition, reduct_conditions, resolvent_conditions}
 pub use Rattle.qrp_rules.specs.Exact.{IsApart, IsMergeSoFar, IsNext, IsPutBy}
 pub use Rattle.qrp_rules.specs.Index.{HasReductAt, IsIndexBelow, IsReducedForm, hash_from, hash_of}

@@ -28,9 +28,9 @@ IsFirstFailure ((name, holds) ∷ conditions) fault =
     ((holds → ⊥) × (fault ≡ name)) ⊎ (holds × IsFirstFailure conditions fault)
 
 -- what a test of conditions returns: nothing where all hold, and else the first that fails
-abbrev pub IsAnswer : {Fault : Type 0} → List (Condition Fault) → Option Fault → Type 0
-IsAnswer conditions None = AllHold conditions
-IsAnswer conditions (Some fault) = IsFirstFailure conditions fault
+abbrev pub IsJudgement : {Fault : Type 0} → List (Condition Fault) → Option Fault → Type 0
+IsJudgement conditions None = AllHold conditions
+IsJudgement conditions (Some fault) = IsFirstFailure conditions fault
 
 -- `to` is a reduct of `from`
 abbrev pub reduct_conditions : Side → List Block → List Literal → List Literal → List (Condition RuleFault)

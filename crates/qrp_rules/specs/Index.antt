@@ -25,7 +25,7 @@ abbrev pub hash_from : ℕ → List Literal → ℕ
 hash_from n [] = n
 hash_from n (l ∷ lits) = hash_from (hash_with n l) lits
 
--- the hash that a clause is filed under
+-- the hash that a clause is listed under
 abbrev pub hash_of : IndexEntry → ℕ
 hash_of entry = entry.hash
 
@@ -36,13 +36,13 @@ pub record HasReductAt (f : Qbf) (set : List Literal) (i : ℕ) : Type 0 where
   pub clean : IsClean clause
   pub reduct : IsReduct Clauses f.blocks clause set
 
--- each clean clause before position n is filed under the hash of its fully reduced form
+-- each clean clause before position n is listed under the hash of its fully reduced form
 abbrev pub IsIndexBelow : Qbf → List IndexEntry → ℕ → Type 0
 IsIndexBelow f index n =
     (i : ℕ) (clause : List Literal) → i < n → slice_get f.clauses i ≡ Some clause → IsClean clause
     → (form : List Literal) × IsReducedForm Clauses f.blocks clause form × Contains index (record { hash = hash_from 0 form; position = i })
 
--- each clean clause is filed under the hash of its fully reduced form
+-- each clean clause is listed under the hash of its fully reduced form
 abbrev pub IsIndex : Qbf → List IndexEntry → Type 0
 IsIndex f index = (n : ℕ) → IsIndexBelow f index n
 

@@ -11,8 +11,8 @@ abbrev pub Has : List Bool → Literal → Type 0
 Has s l = get_or s (code l) false ≡ true
 
 -- which numbers have the stamp of this time
-abbrev pub stamped : List ℕ → ℕ → List Bool
-stamped stamps now = map (λ t. nat_eq t now) stamps
+abbrev pub members_by_stamp : List ℕ → ℕ → List Bool
+members_by_stamp stamps now = map (λ t. nat_eq t now) stamps
 
 -- no stamp is of a later time
 abbrev pub AreUpTo : List ℕ → ℕ → Type 0

@@ -26,7 +26,7 @@ abbrev pub IsAfter : Option ℕ → ℕ → Type 0
 IsAfter None k = Unit {0}
 IsAfter (Some block) k = block < k
 
--- the block of v is before k, where v has the quantifier q and is not left aside
+-- the block of v is before k, where v has the quantifier q and is not the pivot
 abbrev pub IsHeldBefore : List Block → Quantifier → Option ℕ → ℕ → ℕ → Type 0
 IsHeldBefore blocks q pivot v k =
     (IsThePivot pivot v → ⊥) → Binds blocks q v → (i : ℕ) → block_in v blocks ≡ Some i → i < k
@@ -44,7 +44,7 @@ StandsAfter blocks q block v = Binds blocks q v × ((k : ℕ) → block_in v blo
 abbrev pub TakesOut : Reducible → ℕ → Type 0
 TakesOut reducible v = StandsAfter reducible.prefix.now reducible.quantifier reducible.block v
 
--- a literal of v may be missing: v is left aside, or a reduction may take the literal out
+-- a literal of v may be missing: v is the pivot, or a reduction may take the literal out
 abbrev pub MayOmit : Option Reducible → Option ℕ → ℕ → Type 0
 MayOmit None pivot v = IsThePivot pivot v
 MayOmit (Some reducible) pivot v = IsThePivot pivot v ⊎ TakesOut reducible v

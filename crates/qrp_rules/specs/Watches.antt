@@ -38,11 +38,11 @@ IsTakenOut old n taken new =
     (k : ℕ) (l : Literal) (i : ℕ) → IsWatchedBy old k l i
     → Contains taken i ⊎ ((j : ℕ) × IsWatchedBy new j l i × (k < suc n → j < n))
 
--- each clause is watched, if that is said
+-- each clause is watched, if the flag is set
 abbrev pub IsWatchedIf : Bool → Qbf → List Watch → Type 0
 IsWatchedIf true f lists = (i : ℕ) → IsWatched f lists i
 IsWatchedIf false f lists = Unit {0}
 
--- each clause is watched, where that is noted
+-- each clause is watched, if `is_watching` says so
 abbrev pub IsWatching : Qbf → InitialCubes → Type 0
 IsWatching f cubes = IsWatchedIf cubes.is_watching f cubes.lists.items

@@ -43,22 +43,22 @@ pub(crate) fn block_if(
 }
 
 /// The inner one of two blocks.
-pub(crate) fn inner(a: Option<usize>, b: Option<usize>) -> Option<usize>
+pub(crate) fn inner_block(a: Option<usize>, b: Option<usize>) -> Option<usize>
     ensures { (k : ℕ) → IsAfter result k ↔ (IsAfter a k × IsAfter b k) }
 {
     a.max(b)
 }
 
 /// The outer one of two blocks.
-pub(crate) fn outer(a: Option<usize>, b: Option<usize>) -> Option<usize>
+pub(crate) fn outer_block(a: Option<usize>, b: Option<usize>) -> Option<usize>
     ensures { (k : ℕ) → IsAfter result k ↔ (IsAfter a k ⊎ IsAfter b k) }
 {
     a.min(b)
 }
 
-/// The innermost block of the literals that have the quantifier, where the pivot may be left aside.
+/// The innermost block of the literals that have the quantifier and are not of the pivot.
 #[inline(always)]
-pub(crate) fn innermost(
+pub(crate) fn innermost_block(
     prefix: &Prefix,
     quantifier: Quantifier,
     pivot: Option<u32>,
@@ -68,7 +68,7 @@ pub(crate) fn innermost(
 {
     let mut found = None;
     for lit in lits {
-        found = inner(found, block_if(prefix, quantifier, pivot, lit.var()));
+        found = inner_block(found, block_if(prefix, quantifier, pivot, lit.var()));
     }
     found
 }
@@ -129,6 +129,6 @@ pub(crate) fn reducible_in<'a>(
     Reducible {
         prefix,
         quantifier: reduced,
-        block: innermost(prefix, other_quantifier(reduced), None, lits),
+        block: innermost_block(prefix, other_quantifier(reduced), None, lits),
     }
 }

@@ -8,7 +8,7 @@ ghost use Rattle.qbf_core.specs.Blocks.{AreBound};
 ghost use Rattle.qbf_core.specs.Rules.{Clauses, IsClean, IsInitial};
 ghost use Rattle.qbf_core.specs.Qbf.{Qbf};
 ghost use Rattle.qbf_core.specs.Sets.{IsOrdered};
-ghost use Rattle.qrp_rules.specs.Conditions.{IsAnswer, initial_condition};
+ghost use Rattle.qrp_rules.specs.Conditions.{IsJudgement, initial_condition};
 ghost use Rattle.qrp_rules.specs.Index.{HasReductAt, IsIndex, IsIndexed, IsReducedForm, hash_with};
 ghost use Rattle.qrp_rules.specs.Index.{hash_from};
 
@@ -229,7 +229,7 @@ impl InitialClauses {
         requires indexed { IsIndexed formula.now self.old }
         requires ordered { IsOrdered set.now }
         ensures fault { IfOk result
-            (λ fault. IsAnswer (initial_condition Clauses formula.now set.now ∷ []) fault) }
+            (λ fault. IsJudgement (initial_condition Clauses formula.now set.now ∷ []) fault) }
         ensures kept { OnOk result (IsIndexed formula.now self.new) }
     {
         if has_reduct_at(alloc, formula, self.next, set)? {

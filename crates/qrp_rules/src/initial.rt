@@ -6,7 +6,7 @@ ghost use Rattle.qbf_core.specs.Members.{◌∈◌};
 ghost use Rattle.qbf_core.specs.Blocks.{AreBound};
 ghost use Rattle.qbf_core.specs.Rules.{Clauses, Cubes, IsClean, IsReduct, IsTautology};
 ghost use Rattle.qbf_core.specs.Sets.{IsOrdered};
-ghost use Rattle.qrp_rules.specs.Conditions.{IsAnswer, initial_condition};
+ghost use Rattle.qrp_rules.specs.Conditions.{IsJudgement, initial_condition};
 
 use crate::fault::{Holds, RuleFault};
 use crate::normalizing::is_ordered;
@@ -74,7 +74,7 @@ pub(crate) fn is_tautology(clause: &[Lit]) -> bool
 /// Why the set is no initial cube.
 pub(crate) fn initial_cube_fault(formula: &Formula, set: &[Lit]) -> Option<RuleFault>
     requires { IsOrdered set.now }
-    ensures { IsAnswer (initial_condition Cubes formula.now set.now ∷ []) result }
+    ensures { IsJudgement (initial_condition Cubes formula.now set.now ∷ []) result }
 {
     for i in 0..formula.clauses() {
         let clause = formula.clause(i);

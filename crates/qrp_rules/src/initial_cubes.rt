@@ -89,7 +89,7 @@ impl InitialCubes {
         self.lists[position].lit
     }
 
-    /// Notes where the list of a literal is.
+    /// Records where the list of a literal is.
     fn set_position(&mut self, lit: Lit, position: usize)
         ensures { self.new.lists ≡ self.old.lists }
     {

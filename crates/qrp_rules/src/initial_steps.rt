@@ -5,7 +5,7 @@ ghost use Rattle.qbf_core.specs.Blocks.{AreBound};
 ghost use Rattle.qbf_core.specs.Qbf.{Qbf};
 ghost use Rattle.qbf_core.specs.Rules.{IsClean};
 ghost use Rattle.qbf_core.specs.Sets.{IsOrdered};
-ghost use Rattle.qrp_rules.specs.Conditions.{AllHold, IsAnswer, initial_condition};
+ghost use Rattle.qrp_rules.specs.Conditions.{AllHold, IsJudgement, initial_condition};
 ghost use Rattle.qrp_rules.specs.Initial.{AreKnown};
 
 use crate::clause_index::InitialClauses;
@@ -73,7 +73,7 @@ impl InitialSteps {
         requires known { AreKnown formula.now self.old }
         requires ordered { IsOrdered set.now }
         ensures fault { IfOk result
-            (λ fault. IsAnswer (initial_condition S.side formula.now set.now ∷ []) fault) }
+            (λ fault. IsJudgement (initial_condition S.side formula.now set.now ∷ []) fault) }
         ensures known { OnOk result (AreKnown formula.now self.new) }
     {
         match S::REDUCED {

@@ -6,11 +6,11 @@ ghost use Rattle.qbf_core.specs.Members.{◌⊆◌};
 ghost use Rattle.qbf_core.specs.Blocks.{AreBound};
 ghost use Rattle.qbf_core.specs.Rules.{Clashes, resolvent};
 ghost use Rattle.qbf_core.specs.Sets.{IsOrdered};
-ghost use Rattle.qrp_rules.specs.Conditions.{AllHold, AllowsPivot, IsAnswer, resolvent_conditions};
+ghost use Rattle.qrp_rules.specs.Conditions.{AllHold, AllowsPivot, IsJudgement, resolvent_conditions};
 ghost use Rattle.qrp_rules.specs.Unreduced.{unreduced_conditions};
 ghost use Rattle.qrp_rules.specs.Walks.{Accounts, Covers, IsClashOf};
 
-use crate::blocks::{Reducible, block_if, inner, innermost, is_bound_by, outer};
+use crate::blocks::{Reducible, block_if, inner_block, innermost_block, is_bound_by, outer_block};
 use crate::fault::RuleFault;
 use crate::rules::Rules;
 use crate::side::Side;
@@ -106,19 +106,19 @@ pub(crate) fn reducible_in_parents<'a, S: Side>(
     let reduced = S::REDUCED;
     let deciding = S::DECIDING;
     let number = Some(pivot.number());
-    let beside_a = innermost(prefix, deciding, number, a);
-    let beside_b = innermost(prefix, deciding, number, b);
+    let beside_a = innermost_block(prefix, deciding, number, a);
+    let beside_b = innermost_block(prefix, deciding, number, b);
     let of_pivot = block_if(prefix, deciding, None, pivot);
-    let whole = inner(beside_a, beside_b);
+    let whole = inner_block(beside_a, beside_b);
     let in_a = Reducible {
         prefix,
         quantifier: reduced,
-        block: outer(whole, inner(beside_a, of_pivot)),
+        block: outer_block(whole, inner_block(beside_a, of_pivot)),
     };
     let in_b = Reducible {
         prefix,
         quantifier: reduced,
-        block: outer(whole, inner(beside_b, of_pivot)),
+        block: outer_block(whole, inner_block(beside_b, of_pivot)),
     };
     (in_a, in_b)
 }
@@ -163,7 +163,7 @@ pub fn ordered_resolvent_fault<S: Side>(
     requires a { IsOrdered step.a.now }
     requires b { IsOrdered step.b.now }
     requires to { IsOrdered step.to.now }
-    ensures { IsAnswer (resolvent_conditions rules S.side prefix.now step.entry.a.now
+    ensures { IsJudgement (resolvent_conditions rules S.side prefix.now step.entry.a.now
         step.entry.b.now step.entry.to.now) result }
 {
     match find_clash(step.a, step.b) {
@@ -206,7 +206,7 @@ pub fn resolvent_fault<S: Side>(
     requires a { AreBound prefix.now a.now }
     requires b { AreBound prefix.now b.now }
     requires to { AreBound prefix.now to.now }
-    ensures fault { IsAnswer (resolvent_conditions rules S.side prefix.now a.now b.now to.now)
+    ensures fault { IsJudgement (resolvent_conditions rules S.side prefix.now a.now b.now to.now)
         result }
     ensures as_before { AllHold (unreduced_conditions rules S.side prefix.now a.now b.now to.now)
         → result ≡ None }

@@ -33,11 +33,11 @@ pub struct SeenLits {
 
 impl Model for SeenLits {
     ghost use Rattle.std.specs.Prelude.{◌≤◌, Bool, List};
-    ghost use Rattle.qrp_rules.specs.Seen.{AreUpTo, stamped};
+    ghost use Rattle.qrp_rules.specs.Seen.{AreUpTo, members_by_stamp};
 
     ghost Value = { List Bool };
 
-    ghost view = { λ s. stamped s.stamps.items s.stamp };
+    ghost view = { λ s. members_by_stamp s.stamps.items s.stamp };
 
     ghost invariant = { λ s. (1 ≤ s.stamp) × AreUpTo s.stamps.items s.stamp };
 }
@@ -53,7 +53,7 @@ impl SeenLits {
     }
 
     /// Makes room for the literals of a prefix, where there is none yet: of the variables with
-    /// numbers up to twice that of the bound ones. What is in the set then is not said.
+    /// numbers up to twice that of the bound ones. Nothing is known then of what the set holds.
     ///
     /// # Errors
     /// If an allocation fails.
@@ -107,7 +107,7 @@ impl SeenLits {
     }
 
     /// Whether the literals have variables of their own, other than this one. `false` says nothing,
-    /// and what is in the set then is not said.
+    /// and nothing is known then of what the set holds.
     pub(crate) fn are_distinct(&mut self, lits: &[Lit], other: Var) -> bool
         ensures clean { IsTrue result → IsClean lits.now }
         ensures apart { IsTrue result → IsApart lits.now other }

@@ -6,7 +6,7 @@ ghost use Rattle.qbf_core.specs.declared.quantifier.Quantifier.TheVariants.{All,
 ghost use Rattle.qbf_core.specs.Blocks.{AreBound};
 ghost use Rattle.qbf_core.specs.Rules.{Side, Clauses, Cubes, reduced_quantifier};
 ghost use Rattle.qbf_core.specs.Rules.{deciding_quantifier};
-ghost use Rattle.qrp_rules.specs.Conditions.{IsAnswer, initial_condition};
+ghost use Rattle.qrp_rules.specs.Conditions.{IsJudgement, initial_condition};
 
 use crate::clause_index::InitialClauses;
 use crate::fault::Judgement;
@@ -42,7 +42,7 @@ pub trait Side {
     fn initial_fault(alloc: Global, formula: &Formula, set: &LitSet) -> Judgement
         requires { AreBound formula.now.blocks set.now }
         ensures { IfOk result
-            (λ fault. IsAnswer (initial_condition side formula.now set.now ∷ []) fault) };
+            (λ fault. IsJudgement (initial_condition side formula.now set.now ∷ []) fault) };
 
     ghost reduces: { REDUCED ≡ reduced_quantifier side };
 
@@ -92,7 +92,7 @@ impl Side for Cubes {
 
     fn initial_fault(_alloc: Global, formula: &Formula, set: &LitSet) -> Judgement
         ensures answer { IfOk result (λ fault.
-            IsAnswer (initial_condition Rattle.qbf_core.specs.Rules.Cubes formula.now set.now ∷ [])
+            IsJudgement (initial_condition Rattle.qbf_core.specs.Rules.Cubes formula.now set.now ∷ [])
             fault) }
         ensures always { IsOk result }
     {

@@ -7,7 +7,7 @@ use Rattle.std.proofs.lemmas.Bool.{cases_lt}
 use Rattle.std.proofs.lemmas.Bool.Decides.{eqb_tells}
 use Rattle.std.proofs.lemmas.Map.Keys.{any_passes_from_place}
 use Rattle.step_index.specs.Numbers.{is_used, count_from, AreStepNumbers}
-use Rattle.step_index.specs.NumberSets.{Has}
+use Rattle.step_index.specs.NumberSets.{HasBit}
 use Rattle.step_index.specs.Sparse.{AreFound}
 use Rattle.qbf_core.proofs.DistinctNumbers.{push_distinct, all_at}
 use Rattle.std.specs.List.{AllByRecursion}
@@ -89,10 +89,10 @@ sparse_used ks m o some none = grind (arith, common_steps, unused_none, used_at)
 
 -- what a set or else a map has of it says the same
 module _ (near table : List ℕ) (far : List (ℕ × ℕ)) (ks : List ℕ) (placed m : ℕ) (found : AreFound near table far ks placed) where
-  pub near_used : Has near m → true ≡ is_used m ks
+  pub near_used : HasBit near m → true ≡ is_used m ks
   near_used has = let w = found.near_sound m has in sparse_used ks m (Some w.0) w.1 tt
 
-  pub far_used : (o : Option ℕ) → (Has near m → ⊥) → o ≡ lookup (nat_eq m) far → is_some o ≡ is_used m ks
+  pub far_used : (o : Option ℕ) → (HasBit near m → ⊥) → o ≡ lookup (nat_eq m) far → is_some o ≡ is_used m ks
   far_used None none is = sparse_used ks m None tt (λ i here. elim (found.noted m i here) [
     | inl has ↦ none has
     | inr far ↦ far (sym is)

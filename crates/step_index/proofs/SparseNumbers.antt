@@ -1,12 +1,12 @@
 -- Numbers that are noted in a set or a map: one more of them, and the place of one more in the table.
-use Rattle.std.proofs.Common.{◌≡◌, ℕ, zero, suc, ◌<◌, ◌≤◌, ◌+◌, List, [], ◌∷◌, ◌++◌, Some, None, inl, inr, sym, ap, subst, ◌∙◌, length, get_or}
+use Rattle.std.proofs.Common.{◌≡◌, ℕ, ◌<◌, ◌≤◌, List, [], ◌∷◌, ◌++◌, Some, None, inl, inr, sym, ap, subst, ◌∙◌, length, get_or}
 use Rattle.std.proofs.Common.{slice_get, cond, nat_eq, arith, max, eq-eqb, ne_eqb, length-append}
 use Rattle.std.specs.Prelude.{◌↔◌, ◌⊎◌}
 use Rattle.std.specs.List.{AllByRecursion}
 use Rattle.qbf_core.proofs.PrefixLaws.{AllByRecursion-push}
 use Rattle.std.specs.Map.{lookup}
 use Rattle.std.proofs.lemmas.Bool.{cases_eq, cases_lt}
-use Rattle.step_index.specs.NumberSets.{Has}
+use Rattle.step_index.specs.NumberSets.{HasBit}
 use Rattle.step_index.specs.Sparse.{AreFound, IsFar}
 use Rattle.qbf_core.proofs.PushedItems.{pushed_cases, pushed_old, pushed_new}
 
@@ -34,7 +34,7 @@ module _ (near table : List ℕ) (far : List (ℕ × ℕ)) (numbers : List ℕ) 
   more_few = omega (arith, found.few, length-append numbers (m ∷ []))
 
   -- the set has the new one
-  pub found_near : (more grown : List ℕ) → ((n : ℕ) → Has more n ↔ (Has near n ⊎ (n ≡ m)))
+  pub found_near : (more grown : List ℕ) → ((n : ℕ) → HasBit more n ↔ (HasBit near n ⊎ (n ≡ m)))
       → ((n : ℕ) → get_or grown n 0 ≡ get_or table n 0) → AreFound more grown far (numbers ++ m ∷ []) placed
   found_near more grown has same = record {
     table_sound = λ n i e. pushed_old numbers m i n (found.table_sound n i (sym (same n) ∙ e));

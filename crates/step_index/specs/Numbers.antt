@@ -12,7 +12,7 @@ pub record AreStepNumbers (keys : List ℕ) : Type 0 where
   pub fit : AllByRecursion (λ n. n < 2 ^ 64) keys
   pub count : length keys < 2 ^ 64
 
--- so many numbers one by one from the first
+-- this many numbers, one by one from the first
 abbrev pub count_from : ℕ → ℕ → List ℕ
 count_from first zero = []
 count_from first (suc n) = first ∷ count_from (suc first) n

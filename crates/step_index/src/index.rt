@@ -24,8 +24,8 @@ fn place_of(first: u64, counted: usize, number: u64) -> Option<usize>
     if i < counted { Some(i) } else { None }
 }
 
-/// Whether a number goes on with the count.
-fn continues(first: u64, counted: usize, number: u64) -> bool
+/// Whether a number is the next one of the count, or the first.
+fn continues_count(first: u64, counted: usize, number: u64) -> bool
     ensures fits { IsTrue result → counted < 2 ^ 63 }
     ensures next { IsTrue result → (counted ≡ 0) ⊎ (first + counted ≡ number) }
 {
@@ -123,7 +123,7 @@ impl StepIndex {
         ensures sound { AreStepNumbers self.new }
         ensures err { OnErr result (self.new ≡ self.old) }
     {
-        if self.sparse.len() == 0 && continues(self.first, self.counted, number) {
+        if self.sparse.len() == 0 && continues_count(self.first, self.counted, number) {
             if self.counted == 0 {
                 self.first = number;
             }

@@ -1,7 +1,7 @@
 //! A set of numbers, with a bit for each.
 
 ghost use Rattle.std.specs.Prelude.{◌≡◌, ◌↔◌, ◌⊎◌, ◌<◌, ◌^◌, ℕ, IsTrue, OnOk, OnErr};
-ghost use Rattle.step_index.specs.NumberSets.{Has};
+ghost use Rattle.step_index.specs.NumberSets.{HasBit};
 
 use crate::reach::reach;
 use std::alloc::{AllocError, Global};
@@ -26,7 +26,7 @@ impl Model for NumberSet {
 impl NumberSet {
     /// No numbers. It takes no memory.
     pub(crate) fn new(alloc: Global) -> NumberSet
-        ensures { (n : ℕ) → Has result n → ⊥ }
+        ensures { (n : ℕ) → HasBit result n → ⊥ }
     {
         NumberSet {
             words: Vec::new(alloc),
@@ -36,7 +36,7 @@ impl NumberSet {
     /// Whether a number is in the set.
     #[inline(always)]
     pub(crate) fn contains(&self, number: u64) -> bool
-        ensures { IsTrue result ↔ Has self.now number }
+        ensures { IsTrue result ↔ HasBit self.now number }
     {
         let index = (number / 64) as usize;
         if index >= self.words.len() {
@@ -49,7 +49,7 @@ impl NumberSet {
     pub(crate) fn insert(&mut self, number: u64) -> Result<(), AllocError>
         requires { number < 2 ^ 37 }
         ensures inserted { OnOk result
-            ((n : ℕ) → Has self.new n ↔ (Has self.old n ⊎ (n ≡ number))) }
+            ((n : ℕ) → HasBit self.new n ↔ (HasBit self.old n ⊎ (n ≡ number))) }
         ensures err { OnErr result (self.new ≡ self.old) }
     {
         let index = (number / 64) as usize;

@@ -41,7 +41,8 @@ const S11: Option<RuleFault> = Some(RuleFault::S11);
 
 const S12: Option<RuleFault> = Some(RuleFault::S12);
 
-fn read(alloc: Global, text: &str) -> Result<Formula, Fail> {
+/// The formula of a text.
+fn formula_of(alloc: Global, text: &str) -> Result<Formula, Fail> {
     Ok(read_formula(alloc, &mut SliceSource::new(text.as_bytes()))?)
 }
 
@@ -63,7 +64,7 @@ fn initial<S: Side>(
     text: &str,
     to: &[i32],
 ) -> Result<Option<RuleFault>, Fail> {
-    let formula = read(rt.alloc(), text)?;
+    let formula = formula_of(rt.alloc(), text)?;
     let to = set(rt, formula.prefix(), to)?;
     Ok(S::initial_fault(rt.alloc(), &formula, &to)?)
 }
@@ -75,7 +76,7 @@ fn reduct<S: Side>(
     from: &[i32],
     to: &[i32],
 ) -> Result<Option<RuleFault>, Fail> {
-    let formula = read(rt.alloc(), text)?;
+    let formula = formula_of(rt.alloc(), text)?;
     let prefix = formula.prefix();
     let from = set(rt, prefix, from)?;
     let to = set(rt, prefix, to)?;
@@ -91,7 +92,7 @@ fn resolvent<S: Side>(
     sets: [&[i32]; 3],
     rules: Rules,
 ) -> Result<Option<RuleFault>, Fail> {
-    let formula = read(rt.alloc(), text)?;
+    let formula = formula_of(rt.alloc(), text)?;
     let prefix = formula.prefix();
     let a = set(rt, prefix, sets[0])?;
     let b = set(rt, prefix, sets[1])?;

@@ -154,42 +154,41 @@ fn assert_given_for_good(
     assert_given_again(rt, &mut reader, source, wanted);
 }
 
-#[test]
-fn gives_a_fault_of_the_source_for_good(rt: HostRuntime) {
-    for fail_at in 1..=82 {
-        let mut source = PieceSource::new(TRACE, 1, fail_at);
-        assert_given_for_good(&rt, &mut source, (TraceFault::P1, 0));
-        assert_eq!(rt; source.pulls(), fail_at);
-    }
+/// The trace of this text has this fault, read as a whole or item by item, and is pulled equally
+/// often, as is returned. The pieces that are pulled have this size, and the pull with this number
+/// fails.
+fn assert_fault(
+    rt: &(impl Abort + AllocGlobal),
+    text: &[u8],
+    pieces: (usize, u64),
+    wanted: (TraceFault, u64),
+) -> u64
+    requires { 0 < pieces.0 }
+{
+    let mut whole = PieceSource::new(text, pieces.0, pieces.1);
+    assert_refused(rt, &mut whole, wanted);
+    let mut by_items = PieceSource::new(text, pieces.0, pieces.1);
+    assert_given_for_good(rt, &mut by_items, wanted);
+    assert_eq!(rt; by_items.pulls(), whole.pulls());
+    whole.pulls()
 }
 
 #[test]
-fn says_that_a_source_failed(rt: HostRuntime) {
+fn says_for_good_that_a_source_failed(rt: HostRuntime) {
     for fail_at in 1..=82 {
-        let mut source = PieceSource::new(TRACE, 1, fail_at);
-        assert_refused(&rt, &mut source, (TraceFault::P1, 0));
-        assert_eq!(rt; source.pulls(), fail_at);
+        let pulls = assert_fault(&rt, TRACE, (1, fail_at), (TraceFault::P1, 0));
+        assert_eq!(rt; pulls, fail_at);
     }
 }
 
 #[test]
 fn gives_each_fault_of_a_text_for_good(rt: HostRuntime) {
     for (text, looked_at, fault, line) in REFUSED {
-        assert_given_for_good(&rt, &mut PieceSource::new(text, 4096, 0), (fault, line));
+        assert_fault(&rt, text, (4096, 0), (fault, line));
         // The next pull would fail.
-        let mut source = PieceSource::new(text, 1, looked_at.saturating_add(1));
-        assert_given_for_good(&rt, &mut source, (fault, line));
-        assert_eq!(rt; source.pulls(), looked_at);
-    }
-}
-
-#[test]
-fn refuses_each_faulty_text(rt: HostRuntime) {
-    for (text, looked_at, fault, line) in REFUSED {
-        assert_refused(&rt, &mut PieceSource::new(text, 4096, 0), (fault, line));
-        let mut source = PieceSource::new(text, 1, looked_at.saturating_add(1));
-        assert_refused(&rt, &mut source, (fault, line));
-        assert_eq!(rt; source.pulls(), looked_at);
+        let fail_at = looked_at.saturating_add(1);
+        let pulls = assert_fault(&rt, text, (1, fail_at), (fault, line));
+        assert_eq!(rt; pulls, looked_at);
     }
 }
 

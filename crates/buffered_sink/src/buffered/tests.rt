@@ -13,7 +13,7 @@ fn assert_same<T: Copy + PartialEq + Debug>(rt: &impl Abort, found: T, wanted: T
 }
 
 /// A buffer before a sink that takes 1,000 bytes at a push, and has room for this many or for all.
-fn buffered(alloc: Global, room: Option<u64>) -> Result<Buffered<PieceSink>, Fail> {
+fn buffer_of(alloc: Global, room: Option<u64>) -> Result<Buffered<PieceSink>, Fail> {
     Ok(Buffered::new(PieceSink::new(alloc, 1000, room, false, 0)?))
 }
 
@@ -33,7 +33,7 @@ fn put_each(
 }
 
 /// The bytes, and the same again.
-fn twice(alloc: Global, bytes: &[u8]) -> Result<Vec<u8>, Fail> {
+fn bytes_twice(alloc: Global, bytes: &[u8]) -> Result<Vec<u8>, Fail> {
     let mut all = Vec::from_slice(alloc, bytes)?;
     all.extend_from_slice(bytes)?;
     Ok(all)
@@ -52,9 +52,9 @@ fn assert_come_through(rt: &impl Abort, sink: &mut Buffered<PieceSink>, sent: &[
 
 #[test]
 fn bytes_come_through(rt: HostRuntime) -> Result<(), Fail> {
-    let mut sink = buffered(rt.alloc(), None)?;
+    let mut sink = buffer_of(rt.alloc(), None)?;
     let sent = put_each(&rt, rt.alloc(), &mut sink)?;
-    let all = twice(rt.alloc(), &sent)?;
+    let all = bytes_twice(rt.alloc(), &sent)?;
     assert_come_through(&rt, &mut sink, &sent, &all);
     Ok(())
 }
@@ -69,7 +69,7 @@ fn assert_fails_after_three(rt: &impl Abort, sink: &mut Buffered<PieceSink>) {
 
 #[test]
 fn a_failure_keeps_the_rest(rt: HostRuntime) -> Result<(), Fail> {
-    let mut sink = buffered(rt.alloc(), Some(3))?;
+    let mut sink = buffer_of(rt.alloc(), Some(3))?;
     assert_fails_after_three(&rt, &mut sink);
     // The sink works again from then on.
     assert!(rt; sink.finish().is_ok());

@@ -1,23 +1,17 @@
-use Rattle.std.proofs.Common.{◌∙◌, refl, ap, Ok, Err}
-use Rattle.qrp_memory.specs.Encoding.{encoded_truth}
+use Rattle.std.proofs.Common.{refl, Err}
+use Rattle.qrp_memory.proofs.GivenTexts.{proof_returned}
 use Rattle.qrp_c.proofs.qrp_core.Goals as goal
 
 pub returns-in-Ok : goal.returns-in-Ok
 returns-in-Ok c =
     let found = c.in-Ok.ensures.ok in
-    record {
-      answer = Ok found.0;
-      trimmed = (found.1, refl, refl);
-      encoded = c.tell_truth.ensures ∙ ap encoded_truth found.2;
-      named = tt;
-      holds = rw (c.deref.ensures.value, found.3) at c.put_numbers.ensures;
-    }
+    proof_returned found.1 found.2 c.encode_truth.ensures (rw (c.deref.ensures.value, found.3) at c.put_numbers.ensures)
 
 pub returns-in-Err : goal.returns-in-Err
 returns-in-Err c = record {
-  answer = Err c.in-Err.fault;
+  outcome = Err c.in-Err.fault;
   trimmed = c.in-Err.ensures.err;
-  encoded = c.tell_fault.ensures.encoded;
-  named = c.tell_fault.ensures.named;
+  encoded = c.encode_fault.ensures.encoded;
+  named = c.encode_fault.ensures.named;
   holds = (refl, λ fits. refl, λ less. refl);
 }

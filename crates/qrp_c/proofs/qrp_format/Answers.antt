@@ -5,16 +5,16 @@ pub returns-in-Ok : goal.returns-in-Ok
 returns-in-Ok c =
     let found = c.in-Ok.ensures.ok in
     record {
-      answer = Ok found.0;
+      outcome = Ok found.0;
       reads = found.1;
-      encoded = c.tell_nothing.ensures;
+      encoded = c.encode_nothing.ensures;
       written = rw (c.bytes.ensures.bytes, found.2) at c.put_text.ensures.written;
     }
 
 pub returns-in-Err : goal.returns-in-Err
 returns-in-Err c = record {
-  answer = Err (c.in-Err.fault, c.in-Err.line);
+  outcome = Err (c.in-Err.fault, c.in-Err.line);
   reads = c.in-Err.ensures.err;
-  encoded = c.tell_fault.ensures.encoded;
+  encoded = c.encode_fault.ensures.encoded;
   written = c.put_text-in-Err.ensures.written;
 }

@@ -1,4 +1,4 @@
-use Rattle.std.proofs.Common.{◌≡◌, ◌≤◌, ℕ, List, length}
+use Rattle.std.proofs.Common.{◌≡◌, ℕ, List, length}
 use Rattle.step_index.specs.Sparse.{ArePlaced, ArePlaces, AreNoted}
 use Rattle.step_index.proofs.sparse.put_places.Given as goal
 

@@ -1,8 +1,8 @@
 use Rattle.qbf_core.proofs.Words.{arith}
 use Rattle.qbf_core.proofs.formula.Formula.new.Goals as goal
 
-pub whole-requires : goal.whole-requires
-whole-requires c = record {
+pub from_parts-requires : goal.from_parts-requires
+from_parts-requires c = record {
   prefix = c.len.ensures.sound;
   numbers = c.requires.number;
   top = c.requires.top;

@@ -1,27 +1,19 @@
-use Rattle.qrp_rules.proofs.Words.{◌≡◌, ◌∙◌, refl, sym, subst, ap, Contains, List, get_or_from_slice_get, IsWatchedBy, Watch}
-use Rattle.qrp_rules.proofs.WatchedClauses.{added_watches, last_one, pushed_or_not, written_keeps, written_watches}
+use Rattle.qrp_rules.proofs.Words.{◌∙◌, refl, sym, subst, List, IsWatchedBy, Watch}
+use Rattle.qrp_rules.proofs.WatchedClauses.{added_watches, last_one, list_here, pushed_or_not, written_keeps, written_watches}
 use Rattle.std.proofs.lemmas.Result.{on_ok_weaker}
 use Rattle.qrp_rules.proofs.initial_cubes.InitialCubes.watch_by.Goals as goal
 
 pub returns-in-Some-clause-kept : goal.returns-in-Some-clause-kept
 returns-in-Some-clause-kept c =
-    let w : Watch = c.in-Some.ensures.0 in
-    let same : c.index_mut.result.now ≡ w =
-    c.index_mut.ensures.value
-    ∙ get_or_from_slice_get c.args.self.now.lists.items c.in-Some.position w c.index_mut.result.now c.in-Some.ensures.1 in
-    written_keeps c.args.self.now.lists.items c.in-Some.position w c.add.new.watch c.in-Some.ensures.1
-    (c.add.ensures.lit ∙ ap (λ (z : Watch). z.lit) same)
-    (λ i h. c.add.ensures.kept i (subst (λ (z : Watch). Contains z.clauses.items i) (sym same) h))
+    let at = c.in-Some.ensures in
+    let here = list_here c.args.self.now.lists.items c.in-Some.position at.0 _ _ at.1 at.2 c.index_mut.ensures.value in
+    written_keeps _ _ _ c.add.new.watch here.0 c.add.ensures.lit c.add.ensures.kept
 
 pub returns-in-Some-clause-added : goal.returns-in-Some-clause-added
 returns-in-Some-clause-added c =
-    let w : Watch = c.in-Some.ensures.0 in
-    let same : c.index_mut.result.now ≡ w =
-    c.index_mut.ensures.value
-    ∙ get_or_from_slice_get c.args.self.now.lists.items c.in-Some.position w c.index_mut.result.now c.in-Some.ensures.1 in
-    on_ok_weaker c.add.result
-    (written_watches c.args.self.now.lists.items c.in-Some.position w c.add.new.watch c.args.lit c.args.clause c.in-Some.ensures.1
-    (c.add.ensures.lit ∙ ap (λ (z : Watch). z.lit) same ∙ c.in-Some.ensures.2)) c.add.ensures.added
+    let at = c.in-Some.ensures in
+    let here = list_here c.args.self.now.lists.items c.in-Some.position at.0 _ _ at.1 at.2 c.index_mut.ensures.value in
+    on_ok_weaker c.add.result (written_watches _ _ _ c.add.new.watch _ _ here.0 (c.add.ensures.lit ∙ here.1)) c.add.ensures.added
 
 pub returns-in_ok-push-in-None-clause-kept : goal.returns-in_ok-push-in-None-clause-kept
 returns-in_ok-push-in-None-clause-kept c =

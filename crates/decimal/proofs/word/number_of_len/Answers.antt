@@ -1,6 +1,6 @@
 use Rattle.std.proofs.Common.{◌∙◌}
 use Rattle.decimal.proofs.Moved.{digits_moved, moved_value}
-use Rattle.decimal.proofs.word.of_len.Goals as goal
+use Rattle.decimal.proofs.word.number_of_len.Goals as goal
 
 pub returns : goal.returns
 returns c =

@@ -1,7 +1,7 @@
 use Rattle.std.proofs.lemmas.Grind.{common_steps}
 use Rattle.std.proofs.Common.{ℕ, ◌≡◌, ◌<◌, ◌≤◌, arith}
 use Rattle.decimal.proofs.Moved.{at_most, moved_below, moved_value}
-use Rattle.decimal.proofs.word.short.Goals as goal
+use Rattle.decimal.proofs.word.short_number.Goals as goal
 
 between : (n : ℕ) → n ≤ 8 → (n ≡ 0 → ⊥) → (n ≡ 8 → ⊥) → (0 < n) × (n < 8)
 between n few some other = (omega arith, omega arith)

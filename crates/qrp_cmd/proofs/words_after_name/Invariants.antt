@@ -1,6 +1,6 @@
 use Rattle.std.proofs.Common.{◌≡◌, ◌++◌, drop}
 use Rattle.std.specs.Vec.Iter.{into_iter_items, into_iter_len}
-use Rattle.qrp_cmd.proofs.after_name.Given as goal
+use Rattle.qrp_cmd.proofs.words_after_name.Given as goal
 
 -- the words so far and those to come are all but the first
 abbrev pub invariant-loop-word : goal.invariant-loop-word

@@ -1,6 +1,6 @@
 use Rattle.qrp_rules.proofs.Words.{ℕ, ◌+◌, ◌↔◌, take, rules, Literal, in_take_more, take_more_in, IsAfter, IsHeldBefore}
 use Rattle.qrp_rules.proofs.Reducing.{innermost_more}
-use Rattle.qrp_rules.proofs.blocks.innermost.Goals as goal
+use Rattle.qrp_rules.proofs.blocks.innermost_block.Goals as goal
 
 pub loop-lit-preserved : goal.loop-lit-preserved
 loop-lit-preserved c =
@@ -12,4 +12,4 @@ loop-lit-preserved c =
     (take (i + 1) c.args.lits.now) x
     (λ m h. in_take_more c.args.lits.now i x m c.loop-lit-test.true c.lit-item.is h)
     (λ m h. take_more_in c.args.lits.now i x m c.loop-lit-test.true c.lit-item.is h)
-    held c.inner-found.ensures c.loop-lit.invariant
+    held c.inner_block-found.ensures c.loop-lit.invariant
