@@ -1,7 +1,6 @@
--- The front of a list, a sign as a number, and how many digits a number has.
-use Rattle.std.proofs.Common.{◌≡◌, ℕ, ◌≤◌, ◌<◌, ◌^◌, List, length, take, sym, ap, ◌∙◌, arith, take-take, Bool, decimal}
+-- The front of a list, and a sign as a number.
+use Rattle.std.proofs.Common.{◌≡◌, ℕ, ◌≤◌, List, take, sym, ap, ◌∙◌, arith, take-take, Bool}
 use Rattle.std.proofs.lemmas.Grind.{common_steps}
-use Rattle.std.proofs.lemmas.Fmt.{length-decimal-le}
 use mir.Val.{bool_byte}
 
 pub shorter : (i n : ℕ) (xs ys : List ℕ) → i ≤ n → take n xs ≡ take n ys → take i xs ≡ take i ys
@@ -9,6 +8,3 @@ shorter i n xs ys less same = sym (take-take i n xs less) ∙ ap (take i) same �
 
 pub at_most_one : (negative : Bool) → bool_byte negative ≤ 1
 at_most_one negative = grind (arith, common_steps)
-
-pub few_digits : (n : ℕ) → n < 2 ^ 64 → length (decimal n) ≤ 20
-few_digits n small = length-decimal-le 20 n (omega arith) (omega (arith, small)) small

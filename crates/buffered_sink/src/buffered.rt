@@ -8,7 +8,8 @@ ghost use Rattle.qbf_text.specs.Canonical.{token_text};
 ghost use Rattle.qbf_text.specs.declared.token.Token.TheVariants.{Number};
 ghost use Rattle.qbf_text.specs.Written.{IsPut};
 
-use crate::digits::{put_digits, put_spaced};
+use crate::spaced::put_spaced;
+use decimal::put_digits;
 use qbf_text::{Sink, SinkFault};
 use std::marker::Model;
 

@@ -2,6 +2,6 @@
 #![tactic(auto)]
 
 mod buffered;
-mod digits;
+mod spaced;
 
 pub use buffered::Buffered;

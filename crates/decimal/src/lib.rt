@@ -3,5 +3,7 @@
 
 mod number;
 mod word;
+mod writing;
 
 pub use number::{digits, number_between};
+pub use writing::put_digits;

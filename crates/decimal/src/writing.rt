@@ -1,9 +1,7 @@
 //! The digits of a number, put where they belong.
 
-ghost use Rattle.std.specs.Prelude.{◌≡◌, ◌+◌, ◌-◌, ◌/◌, ◌%◌, ◌≤◌, ◌<◌, ◌∷◌, ◌++◌, length, take};
+ghost use Rattle.std.specs.Prelude.{◌≡◌, ◌+◌, ◌-◌, ◌/◌, ◌%◌, ◌≤◌, ◌<◌, ◌++◌, length, take};
 ghost use Rattle.std.specs.Prelude.{drop, decimal};
-ghost use Rattle.qbf_text.specs.Canonical.{token_text};
-ghost use Rattle.qbf_text.specs.declared.token.Token.TheVariants.{Number};
 
 use itoa::write_digits;
 
@@ -26,7 +24,7 @@ fn short_count(n: u64) -> usize
 
 /// How many digits a number has.
 #[inline(always)]
-#[tactic(auto, using(crate::proofs::Fronts::few_digits, itoa::proofs::Decimal::length_four))]
+#[tactic(auto, using(crate::proofs::Counts::few_digits, itoa::proofs::Decimal::length_four))]
 fn digit_count(n: u64) -> usize
     ensures count { result ≡ length (decimal n) }
     ensures few { result ≤ 20 }
@@ -46,30 +44,11 @@ fn digit_count(n: u64) -> usize
 pub fn put_digits(bytes: &mut [u8], at: usize, n: u64) -> usize
     requires { at + 20 ≤ length bytes.old }
     ensures end { result ≡ at + length (decimal n) }
+    ensures within { result ≤ at + 20 }
     ensures written { drop at bytes.new ≡ decimal n ++ drop result bytes.old }
     ensures before { take at bytes.new ≡ take at bytes.old }
 {
     let end = at + digit_count(n);
     let _start = write_digits(n, bytes, end);
-    end
-}
-
-/// Puts a blank and a number from a place on, with a minus before the digits if it is negative, and
-/// returns where it ends. There is room for the longest number.
-#[inline(always)]
-#[tactic(auto, using(crate::proofs::Fronts::at_most_one, crate::proofs::Fronts::shorter))]
-pub fn put_spaced(bytes: &mut [u8], at: usize, negative: bool, n: u64) -> usize
-    requires { at + 22 ≤ length bytes.old }
-    ensures end { result ≡ at + length (32 ∷ token_text (Number negative n)) }
-    ensures within { result ≤ at + 22 }
-    ensures written { drop at bytes.new
-        ≡ (32 ∷ token_text (Number negative n)) ++ drop result bytes.old }
-    ensures before { take at bytes.new ≡ take at bytes.old }
-{
-    let start = at + 1 + usize::from(negative);
-    let end = start + digit_count(n);
-    let _start = write_digits(n, bytes, end);
-    bytes[start - 1] = b'-';
-    bytes[at] = b' ';
     end
 }

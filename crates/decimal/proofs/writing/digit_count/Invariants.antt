@@ -1,5 +1,5 @@
 use Rattle.std.proofs.Common.{◌≡◌, ◌+◌, length, decimal}
-use Rattle.buffered_sink.proofs.digits.digit_count.Given as goal
+use Rattle.decimal.proofs.writing.digit_count.Given as goal
 
 abbrev pub invariant-loop-left : goal.invariant-loop-left
 invariant-loop-left l = l.count + length (decimal l.left) ≡ length (decimal l.n)

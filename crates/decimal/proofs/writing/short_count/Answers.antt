@@ -1,7 +1,7 @@
 use Rattle.std.proofs.lemmas.Grind.{common_steps}
 use Rattle.std.proofs.Common.{◌/◌, sym, arith}
 use Rattle.itoa.proofs.Decimal.{length_one, length_two, length_pair}
-use Rattle.buffered_sink.proofs.digits.short_count.Goals as goal
+use Rattle.decimal.proofs.writing.short_count.Goals as goal
 
 pub returns-then-n-lt10 : goal.returns-then-n-lt10
 returns-then-n-lt10 c = sym (length_one c.args.n c.if-n-lt10.true)

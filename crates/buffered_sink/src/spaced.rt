@@ -1,0 +1,27 @@
+//! A number after a blank.
+
+ghost use Rattle.std.specs.Prelude.{◌≡◌, ◌+◌, ◌-◌, ◌≤◌, ◌∷◌, ◌++◌, length, take};
+ghost use Rattle.std.specs.Prelude.{drop, decimal};
+ghost use Rattle.qbf_text.specs.Canonical.{token_text};
+ghost use Rattle.qbf_text.specs.declared.token.Token.TheVariants.{Number};
+
+use decimal::put_digits;
+
+/// Puts a blank and a number from a place on, with a minus before the digits if it is negative, and
+/// returns where it ends. There is room for the longest number.
+#[inline(always)]
+#[tactic(auto, using(crate::proofs::Fronts::at_most_one))]
+pub fn put_spaced(bytes: &mut [u8], at: usize, negative: bool, n: u64) -> usize
+    requires { at + 22 ≤ length bytes.old }
+    ensures end { result ≡ at + length (32 ∷ token_text (Number negative n)) }
+    ensures within { result ≤ at + 22 }
+    ensures written { drop at bytes.new
+        ≡ (32 ∷ token_text (Number negative n)) ++ drop result bytes.old }
+    ensures before { take at bytes.new ≡ take at bytes.old }
+{
+    let start = at + 1 + usize::from(negative);
+    let end = put_digits(bytes, start, n);
+    bytes[start - 1] = b'-';
+    bytes[at] = b' ';
+    end
+}
