@@ -42,13 +42,13 @@ module _ {P A F : Type 0} {row : P → Token → Row P A F} where
       read-one row p t (before ++ rest)
       ∙ ap (λ (r : Row P A F). after row r t (before ++ rest)) (ap (row p) same ∙ taken) ∙ leads_reads l before (cc) rest
 
--- ---- tokens that end, each of which is answered or leads on
+-- ---- tokens that end, each of which leads on or ends what is read
 
 once_rest : (t : Lined) (ts : List Lined) → t.0 ≢ token.End → EndsOnce (t ∷ ts) → EndsOnce ts
 once_rest t ts n once = search rules
 
 module _ {P R : Type 0} (Spells : List Token → P → Type 0) (Reads : List Lined → R → Type 0) where
-  -- a token that is answered, or leads on
+  -- a token that leads on, or with which there is a result
   abbrev pub Answers : List Lined → Lined → List Lined → Type 0
   Answers before t ts =
       ((r : R) × Reads (before ++ t ∷ ts) r) ⊎ ((t.0 ≢ token.End) × (next : P) × Spells (without_lines before ++ t.0 ∷ []) next)

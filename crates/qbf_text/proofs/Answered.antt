@@ -8,7 +8,7 @@ use Rattle.qbf_text.specs.Answering as answering
 use Rattle.qbf_text.specs.Taking as taking
 use Rattle.qbf_text.proofs.AcceptedTokens as accepted
 
--- where each token is answered or leads on, and tokens read as nothing else, they read as what is read
+-- where each token leads on or gives a result, and tokens read as nothing else, they read as what is read
 pub explained : {P R : Type 0} (Spells : List Token → P → Type 0) (Reads : List Lined → R → Type 0) (read : List Lined → R) (first : P)
     → Spells [] first
     → ((before : List Lined) (p : P) (t : Lined) (ts : List Lined) → Spells (without_lines before) p → EndsOnce (t ∷ ts)
@@ -26,14 +26,14 @@ module _ {A F : Type 0} (outside : F → Bool) (Spelled : List Token → A → T
       → Gives outside result (Some whole) → answering.Answers outside Spelled Stands ts result
   answered ts whole result reads given = search rules
 
-  -- who gives what is read answers
+  -- the result of a call that gives what is read
   pub answered_bytes : (format : Comments) (read : List Lined → Result A (F × ℕ)) → ReadsAsRead (answering.Reads Spelled Stands) read
       → (remaining : Option (List ℕ)) (result : Result A (F × ℕ))
       → Gives outside result (option_map (λ bytes. read (tokens format bytes)) remaining)
       → IfSome remaining (λ bytes. answering.Answers outside Spelled Stands (tokens format bytes) result)
   answered_bytes format read reads remaining result given = grind (arith, common_steps, answered, tokens-EndsOnce)
 
--- reading by these rows from this state on answers what is read
+-- reading by these rows from this state on gives what is read
 pub record AnswersAsRead {P A F : Type 0} (row : P → Token → Row P (Unit {0}) F)
     (answer : Read P (Unit {0}) F → Result A (F × ℕ)) (first : P) (read : List Lined → Result A (F × ℕ)) : Type 0 where
   pub same : (ts : List Lined) → answer (read_from row first ts) ≡ read ts

@@ -28,13 +28,13 @@ abbrev pub Unless : Bool → Type 0 → Type 0
 Unless true A = Unit {0}
 Unless false A = A
 
--- The same, where some faults are not of the text: the source failed, or memory ran out.
+-- The same, where some faults are not of the text: the source failed, or an allocation failed.
 abbrev pub Answers : {A F : Type 0} → (F → Bool) → (List Token → A → Type 0) → (List Lined → F → ℕ → Type 0) → List Lined
     → Result A (F × ℕ) → Type 0
 Answers outside Spelled Stands ts (Ok a) = Spelled (without_lines ts) a
 Answers outside Spelled Stands ts (Err e) = Unless (outside e.0) (Stands ts e.0 e.1)
 
--- The result is what was to be read, as far as that is known, unless the source failed or memory ran out.
+-- The result is what was to be read, as far as that is known, unless the source failed or an allocation failed.
 abbrev pub Gives : {A F : Type 0} → (F → Bool) → Result A (F × ℕ) → Option (Result A (F × ℕ)) → Type 0
 Gives outside (Ok a) whole = IfSome whole (λ r. r ≡ Ok a)
 Gives outside (Err e) whole = Unless (outside e.0) (IfSome whole (λ r. r ≡ Err (e.0, e.1)))

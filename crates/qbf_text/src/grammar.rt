@@ -102,7 +102,7 @@ impl<F: Copy> ReadError<F> {
 }
 
 /// How far a grammar came among the bytes at hand, and what was read, if it is complete.
-pub type Handed<T> = (Cursor, Option<T>);
+pub type Progress<T> = (Cursor, Option<T>);
 
 /// A text by its rows: what each state makes of each token.
 ///
@@ -135,7 +135,11 @@ pub trait Grammar {
     ///
     /// # Errors
     /// Out of memory.
-    fn take_hand(&mut self, bytes: &[u8], from: Cursor) -> Result<Handed<Self::Output>, AllocError>
+    fn take_hand(
+        &mut self,
+        bytes: &[u8],
+        from: Cursor,
+    ) -> Result<Progress<Self::Output>, AllocError>
         requires { from.at ≤ length bytes.now }
         ensures passes { IfOk result (λ r.
             PassesAll row_of (state self.old) (state self.new) bytes.now from r.0 r.1) }

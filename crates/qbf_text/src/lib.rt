@@ -15,7 +15,7 @@ mod token;
 mod window;
 
 pub use buffered::{Cursor, Passed};
-pub use grammar::{Grammar, ReadError, Stop, Taken, read_by, read_text};
+pub use grammar::{Grammar, Progress, ReadError, Stop, Taken, read_by, read_text};
 pub use pieces::{PieceSink, PieceSource};
 pub use scanner::{ScanFault, Scanner};
 pub use sink::{Sink, SinkFault, ToWrite, VecSink, put_byte, put_bytes, put_number};

@@ -152,6 +152,6 @@ answer before p t ts b once = by (row p t.0) refl
 pub read_explained : ReadsAsRead Reads read
 read_explained = explained Spells Reads read AtP (refl, tt) answer read_once
 
--- reading by rows answers what is read
+-- reading by rows gives what is read
 pub answers_as_read : AnswersAsRead row answer_of AtP read
 answers_as_read = record { same = λ ts. refl; fault = λ f line. refl }

@@ -56,7 +56,7 @@ text_is_read f w =
 pub bytes_read : BytesRead Reads read Qdimacs
 bytes_read bytes = read_explained (tokens Qdimacs bytes) (tokens-EndsOnce Qdimacs bytes)
 
--- who gives what is read answers
+-- the result of a call that gives what is read
 pub given_answers : (remaining : Option (List ℕ)) (result : Answer) → Gives result (reads_bytes remaining)
     → IfSome remaining (λ bytes. Answers (tokens Qdimacs bytes) result)
 given_answers = answered_bytes is_outside IsFormula IsFault Qdimacs read read_explained

@@ -96,7 +96,7 @@ set_row h ps q (Ok (Some v)) = bind_row h ps q v (is_bound v ps)
 abbrev pub IsFull : ℕ → Pairs → Type 0
 IsFull max_var ps = (v : ℕ) → 1 ≤ v → v ≤ max_var → is_bound v ps ≡ true
 
--- the literal that is said in a clause, if its variable is bound
+-- the literal of a clause, if its variable is bound
 abbrev pub if_bound : Pairs → Result (Option Literal) FormulaFault → Result (Option Literal) FormulaFault
 if_bound ps (Ok (Some l)) = if is_bound l.var ps then Ok (Some l) else Err F6
 if_bound ps (Ok None) = Ok None
@@ -190,12 +190,12 @@ read_formula bytes = read (text.tokens Qdimacs bytes)
 abbrev pub reads_bytes : Option (List ℕ) → Option (Answer)
 reads_bytes bytes = option_map read_formula bytes
 
--- the source failed, or memory ran out
+-- the source failed, or an allocation failed
 abbrev pub is_outside : FormulaFault → Bool
 is_outside F1 = true
 is_outside F9 = true
 is_outside f = false
 
--- The result is what was to be read, unless the source failed or memory ran out.
+-- The result is what was to be read, unless the source failed or an allocation failed.
 abbrev pub Gives : Answer → Option (Answer) → Type 0
 Gives answer whole = answering.Gives is_outside answer whole

@@ -13,7 +13,7 @@ use crate::fault::FormulaFault;
 use crate::tokens::{FAULTS, FORM, bound_literal, clause_or_end};
 use qbf_core::{Formula, GrowingLists, Lit, Prefix, PrefixFault, Quantifier, Var};
 use qbf_spelling::{HeaderAt, HeaderMove, header_move, member, quantifier};
-use qbf_text::{Cursor, Grammar, Stop, Taken, Token};
+use qbf_text::{Cursor, Grammar, Progress, Stop, Taken, Token};
 use std::alloc::{AllocError, Global};
 use std::marker::Model;
 
@@ -292,11 +292,7 @@ impl Grammar for FormulaGrammar {
     ghost kept = { λ _. tt };
 
     #[inline(always)]
-    fn take_hand(
-        &mut self,
-        bytes: &[u8],
-        from: Cursor,
-    ) -> Result<(Cursor, Option<()>), AllocError> {
+    fn take_hand(&mut self, bytes: &[u8], from: Cursor) -> Result<Progress<()>, AllocError> {
         let (at, reached) = take_numbers(self.at, &mut self.parts, bytes, from);
         self.at = at;
         Ok((reached?, None))

@@ -1,6 +1,6 @@
 -- Reading an item stops after its last word.
 use Rattle.qrp.proofs.Words.{rules, ◌≡◌, ℕ, List, [], ◌∷◌, ◌++◌, Option, Ok, ◌⊎◌, refl, sym, ap, append-nil, ◌∙◌}
-use Rattle.qrp.proofs.Words.{Lined, IfKnown, Stops, Item, Stage, AtHeader, AtLists, StopsAfterPart, state_next, Giver}
+use Rattle.qrp.proofs.Words.{Lined, IfKnown, Stops, Item, Stage, AtHeader, AtLists, StopsAfterPart, state_next, ItemsRead}
 use Rattle.qrp.proofs.Words.{Stands}
 use Rattle.qbf_text.specs.Rows as rows
 use Rattle.qbf_text.specs.Stopping as text
@@ -44,5 +44,5 @@ module _ (p next : State) (here there : List ℕ → List Lined) (before after :
   item_stops i ns is = (if_known (part_after p here there i ns) before after (rw is at known_stops.0), known_stops.1)
 
 -- where the next token stands, of a reader that is not done
-pub stands_next : (stage : Stage) (g : Giver) → (stage ≡ AtHeader) ⊎ (stage ≡ AtLists) → Stands stage g → g.state ≡ state_next stage g.kept.numbers
+pub stands_next : (stage : Stage) (g : ItemsRead) → (stage ≡ AtHeader) ⊎ (stage ≡ AtLists) → Stands stage g → g.state ≡ state_next stage g.kept.numbers
 stands_next stage g open_ stands = search rules

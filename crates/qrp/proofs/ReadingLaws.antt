@@ -56,7 +56,7 @@ trace_items ts d is = grind (arith, common_steps, spelled_items, map-append)
 pub bytes_read : BytesRead Reads read Qrp
 bytes_read bytes = read_explained (tokens Qrp bytes) (tokens-EndsOnce Qrp bytes)
 
--- who gives what is read answers
+-- the result of a call that gives what is read
 pub given_answers : (remaining : Option (List ℕ)) (result : Result Derivation Fault) → Gives result (reads_bytes remaining)
     → IfSome remaining (λ bytes. Answers (tokens Qrp bytes) result)
 given_answers = answered_bytes is_outside IsTrace IsFault Qrp read read_explained

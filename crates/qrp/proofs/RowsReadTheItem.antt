@@ -2,14 +2,14 @@
 use Rattle.qrp.proofs.Words.{arith, common_steps, rules, ◌≡◌, ℕ, List, [], ◌∷◌, Some, Ok, Err, ◌⊎◌, refl, ap, sym, ◌∙◌, Token}
 use Rattle.qrp.proofs.Words.{Lined, Read, read-one, ReadError, Known, Cut, reads_from, Leaves, Reads, TraceFault, P1, P7, P9, Item}
 use Rattle.qrp.proofs.Words.{known_items, GivesUnless, GivesNextItem, left_after, stage_after, Stage, AtHeader}
-use Rattle.qrp.proofs.Words.{AtLists, Giver, Stands, fault_of}
+use Rattle.qrp.proofs.Words.{AtLists, ItemsRead, Stands, fault_of}
 use Rattle.qbf_spelling.proofs.Words.{read_from}
 use Rattle.qbf_text.specs.Rows as rows
 use Rattle.qbf_text.proofs.OneToken as going
 use Rattle.qrp.specs.Reading.{State, After, row, items_from, next_state, item_and_more}
 use Rattle.qrp.proofs.SpelledIsRead.{Answer, after, items-one, end_row}
 
--- the items that are left to give where reading by rows answers this
+-- the items that are left to give where reading by rows gives this
 abbrev pub given_of : Read State (Unit {0}) TraceFault → List Answer
 given_of (rows.Whole u next rest) = item_and_more next (items_from (next_state next) rest)
 given_of (rows.Fault f line) = Err (f, line) ∷ []
@@ -42,6 +42,6 @@ pub fault_given : (p : State) (known : Known) (next : State) (rest : Known) (e :
 fault_given p known next rest e h = grind (arith, common_steps, gives)
 
 -- what a reader that is not done has left
-pub left_next : (stage : Stage) (g : Giver) (known : Known) → (stage ≡ AtHeader) ⊎ (stage ≡ AtLists) → Stands stage g
+pub left_next : (stage : Stage) (g : ItemsRead) (known : Known) → (stage ≡ AtHeader) ⊎ (stage ≡ AtLists) → Stands stage g
     → left_after stage g.kept.numbers known ≡ known_items g.state known
 left_next stage g known open_ stands = search rules

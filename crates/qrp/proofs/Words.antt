@@ -26,11 +26,11 @@ pub use Rattle.qbf_text.specs.declared.grammar.ReadError.{ReadError}
 pub use Rattle.qrp.specs.Answers.{Answers, Gives, StopsAfterResult, is_outside, reads_bytes}
 pub use Rattle.qrp.specs.Derivations.{AreGrammatical, Derivation, IsWellFormed, items_of_lists, steps_at, with_steps_at}
 pub use Rattle.qrp.specs.Flat.{IsFlat, Kept, kept_of, trace_of, steps_of, with_item}
-pub use Rattle.qrp.specs.Given.{GivesNextItem, GivesUnless, StopsAfterPart, is_last, known_items, left_after, state_next}
-pub use Rattle.qrp.specs.Given.{stage_after}
+pub use Rattle.qrp.specs.NextItem.{GivesNextItem, GivesUnless, StopsAfterPart, is_last, known_items, left_after, state_next}
+pub use Rattle.qrp.specs.NextItem.{stage_after}
 pub use Rattle.qrp.specs.Grammar.{IsTrace, header, lines, lists, result, result_word, step, text}
 pub use Rattle.qrp.specs.Inferences.{Inference, IsAt, IsInference, IsLiteral, IsNumber, IsOnlyAt, numbers}
-pub use Rattle.qrp.specs.Items.{Giver, Stands}
+pub use Rattle.qrp.specs.Items.{ItemsRead, Stands}
 pub use Rattle.qrp.specs.Laws.{ItemsOfTrace, ReadsText}
 pub use Rattle.qrp.specs.States.{IsSound, Stays, state_at}
 pub use Rattle.qrp.specs.Texts.{step_text, steps_text}

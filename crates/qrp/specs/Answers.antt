@@ -15,17 +15,17 @@ use Rattle.qrp.specs.Faults.{IsFault}
 abbrev pub reads_bytes : Option (List ℕ) → Option (Result Derivation Fault)
 reads_bytes bytes = option_map read_trace bytes
 
--- the source failed, or memory ran out
+-- the source failed, or an allocation failed
 abbrev pub is_outside : TraceFault → Bool
 is_outside P1 = true
 is_outside P9 = true
 is_outside f = false
 
--- the result is what was read, unless the source failed or memory ran out
+-- the result is what was read, unless the source failed or an allocation failed
 abbrev pub Gives : Result Derivation Fault → Option (Result Derivation Fault) → Type 0
 Gives answer whole = answering.Gives is_outside answer whole
 
--- the result is the trace that the tokens spell, or the fault that stands in them, unless the source failed or memory ran out
+-- the result is the trace that the tokens spell, or the fault that stands in them, unless the source failed or an allocation failed
 abbrev pub Answers : List Lined → Result Derivation Fault → Type 0
 Answers ts answer = answering.Answers is_outside IsTrace IsFault ts answer
 

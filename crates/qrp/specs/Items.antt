@@ -11,36 +11,36 @@ use Rattle.qrp.specs.declared.item.Outcome.{Outcome}
 use Rattle.qrp.specs.declared.reader.Stage.{Stage}
 use Rattle.qrp.specs.declared.reader.Stage.TheVariants.{AtHeader, AtLists}
 use Rattle.qrp.specs.Flat.{Kept, trace_of, with_item}
-use Rattle.qrp.specs.Given.{known_items, left_after, is_last, numbers_with, stage_after, GivesNextItem, IsProper, StandsOnLine}
-use Rattle.qrp.specs.Given.{StopsAfterPart}
+use Rattle.qrp.specs.NextItem.{known_items, left_after, is_last, numbers_with, stage_after, GivesNextItem, IsProper, StandsOnLine}
+use Rattle.qrp.specs.NextItem.{StopsAfterPart}
 use Rattle.qrp.specs.Reading.{Fault, State, AtP, Between, After}
 
 -- what is kept of the parts that were given, and where reading stands
-pub record Giver : Type 0 where
+pub record ItemsRead : Type 0 where
   pub kept : Kept
   pub state : State
 
 -- an item is complete
-abbrev pub IsGiven : State → Type 0
-IsGiven (After i ns) = ⊤
-IsGiven here = ⊥
+abbrev pub HasItem : State → Type 0
+HasItem (After i ns) = ⊤
+HasItem here = ⊥
 
 -- the item that was complete was given, and is as the grammar asks; after it its number is kept, if it is a step, and the next token is
 -- taken, if it is not the last
-pub record GivesPart (i : Item) (old new : Giver) : Type 0 where
+pub record GivesItem (i : Item) (old new : ItemsRead) : Type 0 where
   pub item : old.state ≡ After i (numbers_with old.kept.numbers (Ok i))
   pub proper : IsProper old.kept.numbers i
   pub numbers : new.kept.numbers ≡ numbers_with old.kept.numbers (Ok i)
   pub next : is_last (Ok i) ≡ false → new.state ≡ Between new.kept.numbers
 
 -- the item that was complete was kept after the others, or it is the result
-abbrev pub Keeps : Giver → Giver → Option Outcome → Type 0
+abbrev pub Keeps : ItemsRead → ItemsRead → Option Outcome → Type 0
 Keeps old new None = (i : Item) × (is_last (Ok i) ≡ false) × (old.state ≡ After i new.kept.numbers)
     × (trace_of new.kept ≡ with_item (trace_of old.kept) i) × (new.state ≡ Between new.kept.numbers)
 Keeps old new (Some o) = (old.state ≡ After (item.Result o) old.kept.numbers) × (new.kept ≡ old.kept)
 
 -- a reader that is so far takes a token here
-abbrev pub Stands : Stage → Giver → Type 0
+abbrev pub Stands : Stage → ItemsRead → Type 0
 Stands AtHeader g = g.state ≡ AtP
 Stands AtLists g = g.state ≡ Between g.kept.numbers
 Stands done g = ⊤
@@ -48,7 +48,7 @@ Stands done g = ⊤
 -- ---- what reading an item returns
 
 -- the item is as the grammar asks, its number is after the others, and the next token stands where it is to be taken
-pub record IsItem (old new : Giver) (answer : Result Item Fault) : Type 0 where
+pub record IsItem (old new : ItemsRead) (answer : Result Item Fault) : Type 0 where
   pub proper : IfOk answer (λ i. IsProper old.kept.numbers i)
   pub numbers : new.kept.numbers ≡ numbers_with old.kept.numbers answer
   pub stands : Stands (stage_after answer) new

@@ -4,7 +4,7 @@ pub mod Grammar
 pub mod Reading
 pub mod Faults
 pub mod Laws
-pub mod Given
+pub mod NextItem
 pub mod Answers
 pub mod Texts
 pub mod Flat

@@ -10,7 +10,7 @@ use crate::states::{At, Part, Partial, has_room, take_item_start};
 use crate::tokens::{FAULTS, antecedent};
 use qbf_core::LAST_VARIABLE;
 use qbf_spelling::literal;
-use qbf_text::Cursor;
+use qbf_text::{Cursor, Progress};
 use std::alloc::AllocError;
 
 /// Takes literals of the step with this number, as long as they are written as usual, and the zero
@@ -55,7 +55,7 @@ fn take_literals(
 }
 
 /// Where the next token stands, and how far the bytes were taken; `Some` where the step is complete.
-type Reached = (At, Result<(Cursor, Option<()>), AllocError>);
+type Reached = (At, Result<Progress<()>, AllocError>);
 
 /// Takes antecedents, and the zero after them, which completes the step.
 ///

@@ -2,7 +2,7 @@
 
 ghost use Rattle.std.specs.Prelude.{◌≡◌, IfOk, OnOk, OnErr};
 ghost use Rattle.qrp.specs.Flat.{kept_of, nothing_kept, IsFlat};
-ghost use Rattle.qrp.specs.Items.{IsGiven, GivesPart, Keeps};
+ghost use Rattle.qrp.specs.Items.{HasItem, GivesItem, Keeps};
 ghost use Rattle.qrp.specs.declared.states.Part.TheVariants as part;
 ghost use Rattle.qrp.specs.Reading.{AtP};
 
@@ -11,7 +11,7 @@ use crate::fault::TraceFault;
 use crate::item::{Item, Outcome, QuantSet, Step};
 use crate::parts::{Parts, close};
 use crate::states::{At, Part, Partial, take_at};
-use qbf_text::{Cursor, Grammar, Stop, Taken, Token};
+use qbf_text::{Cursor, Grammar, Progress, Stop, Taken, Token};
 use std::alloc::{AllocError, Global};
 use std::marker::Model;
 use std::mem;
@@ -27,10 +27,10 @@ pub struct ItemGrammar {
 
 impl Model for ItemGrammar {
     ghost use Rattle.qrp.specs.Flat.{kept_of};
-    ghost use Rattle.qrp.specs.Items.{Giver};
+    ghost use Rattle.qrp.specs.Items.{ItemsRead};
     ghost use Rattle.qrp.specs.States.{state_at, IsSound};
 
-    ghost Value = { Giver };
+    ghost Value = { ItemsRead };
 
     ghost view = { λ g.
         record { kept = kept_of g.parts; state = state_at g.parts.partial g.at } };
@@ -56,8 +56,8 @@ impl ItemGrammar {
     /// # Errors
     /// Out of memory. Nothing is changed then.
     pub fn give(&mut self, alloc: Global) -> Result<Item, AllocError>
-        requires { IsGiven self.old.state }
-        ensures gives { IfOk result (λ i. GivesPart i self.old self.new) }
+        requires { HasItem self.old.state }
+        ensures gives { IfOk result (λ i. GivesItem i self.old self.new) }
         ensures err { OnErr result (self.new ≡ self.old) }
     {
         let item = match self.at {
@@ -87,7 +87,7 @@ impl ItemGrammar {
     #[inline(always)]
     pub fn keep(&mut self) -> Result<Option<Outcome>, AllocError>
         requires made { IsFlat self.old.kept }
-        requires given { IsGiven self.old.state }
+        requires complete { HasItem self.old.state }
         ensures keeps { IfOk result (λ o. Keeps self.old self.new o) }
         ensures made { OnOk result (IsFlat self.new.kept) }
     {
@@ -130,11 +130,7 @@ impl Grammar for ItemGrammar {
     ghost kept = { λ g. g.kept };
 
     #[inline(always)]
-    fn take_hand(
-        &mut self,
-        bytes: &[u8],
-        from: Cursor,
-    ) -> Result<(Cursor, Option<()>), AllocError> {
+    fn take_hand(&mut self, bytes: &[u8], from: Cursor) -> Result<Progress<()>, AllocError> {
         let (at, reached) = take_buffered(self.at, &mut self.parts.partial, bytes, from);
         self.at = at;
         reached

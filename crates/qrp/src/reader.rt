@@ -6,8 +6,8 @@ ghost use Rattle.qbf_text.specs.Tokens.{tokens};
 ghost use Rattle.qbf_text.specs.declared.token.Comments.TheVariants.{Qrp};
 ghost use Rattle.qrp.specs.declared.fault.TraceFault.TheVariants.{P1, P9};
 ghost use Rattle.qbf_text.specs.Reading.{HasFailed};
-ghost use Rattle.qrp.specs.Given.{items_left, is_last, stage_after, numbers_with};
-ghost use Rattle.qrp.specs.Given.{GivesNextItem, IsDone, IsProper, StopsAfterItem};
+ghost use Rattle.qrp.specs.NextItem.{items_left, is_last, stage_after, numbers_with};
+ghost use Rattle.qrp.specs.NextItem.{GivesNextItem, IsDone, IsProper, StopsAfterItem};
 ghost use Rattle.qrp.specs.Items.{ReadsItem, IsItem, IsDriven};
 ghost use Rattle.qrp.specs.Reading.{items};
 
@@ -76,7 +76,7 @@ pub struct TraceReader {
 }
 
 impl Model for TraceReader {
-    ghost use Rattle.qrp.specs.Given.{Position, IsInStage};
+    ghost use Rattle.qrp.specs.NextItem.{Position, IsInStage};
     ghost use Rattle.qrp.specs.Items.{Stands};
 
     ghost Value = { Position };
@@ -90,7 +90,7 @@ impl Model for TraceReader {
 
 impl TraceReader {
     /// A reader at the beginning of a trace. It takes no memory.
-    #[tactic(auto, unfolding(crate::specs::Given::items_left))]
+    #[tactic(auto, unfolding(crate::specs::NextItem::items_left))]
     pub fn new(alloc: Global) -> TraceReader
         ensures left { (bytes : List ℕ)
             → items_left result (Some bytes) ≡ Some (items (tokens Qrp bytes)) }

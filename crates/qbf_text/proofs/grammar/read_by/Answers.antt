@@ -34,20 +34,15 @@ tokens-preserved g c =
 
 pub returns-in-Ok-Done-clause-reads : goal.returns-in-Ok-Done-clause-reads
 returns-in-Ok-Done-clause-reads g c =
-    let row = g.G.Grammar.row_of in
-    let at_hand = g.S.Source.remaining c.tokens.source in
-    let none = rw c.in-None.is at c.in_ok-handed.ensures.reads at_hand in
-    let so_far = leads_then _ _ _ c.tokens.invariant.so_far none.1 in
-    ends row _ _ _ _ _ _ _ so_far c.in_ok-token.ensures.token (rw c.in-Ok-Done.field-0-is at c.in-Ok-Done.ensures.row)
+    let none = rw c.in-None.is at c.in_ok-handed.ensures.reads (g.S.Source.remaining c.tokens.source) in
+    ends g.G.Grammar.row_of _ _ _ _ _ _ _ (leads_then _ _ _ c.tokens.invariant.so_far none.1) c.in_ok-token.ensures.token
+    (rw c.in-Ok-Done.field-0-is at c.in-Ok-Done.ensures.row)
 
 pub returns-in-Err-Text-clause-reads : goal.returns-in-Err-Text-clause-reads
 returns-in-Err-Text-clause-reads g c =
-    let row = g.G.Grammar.row_of in
-    let at_hand = g.S.Source.remaining c.tokens.source in
-    let none = rw c.in-None.is at c.in_ok-handed.ensures.reads at_hand in
-    let so_far = leads_then _ _ _ c.tokens.invariant.so_far none.1 in
-    stops row _ _ _ _ _ (c.in_ok-token.token, c.in_ok-token.line) so_far c.in_ok-token.ensures.token
-    (rw c.in-Err-Text.field-0-is at c.in-Err-Text.ensures.row)
+    let none = rw c.in-None.is at c.in_ok-handed.ensures.reads (g.S.Source.remaining c.tokens.source) in
+    stops g.G.Grammar.row_of _ _ _ _ _ (c.in_ok-token.token, c.in_ok-token.line) (leads_then _ _ _ c.tokens.invariant.so_far none.1)
+    c.in_ok-token.ensures.token (rw c.in-Err-Text.field-0-is at c.in-Err-Text.ensures.row)
 
 pub returns-in-Ok-Done-clause-stops : goal.returns-in-Ok-Done-clause-stops
 returns-in-Ok-Done-clause-stops g c =

@@ -1,6 +1,6 @@
 use Rattle.qrp.proofs.Words.{refl, rules}
 use Rattle.qrp.proofs.ItemStops.{stands_next}
-use Rattle.qrp.specs.Given.{items_left}
+use Rattle.qrp.specs.NextItem.{items_left}
 use Rattle.qrp.proofs.RowsReadTheItem.{left_next}
 use Rattle.qrp.proofs.reader.TraceReader.next_item.Goals as goal
 
