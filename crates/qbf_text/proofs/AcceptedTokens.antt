@@ -49,15 +49,15 @@ once_rest t ts n once = search rules
 
 module _ {P R : Type 0} (Spells : List Token → P → Type 0) (Reads : List Lined → R → Type 0) where
   -- a token that leads on, or with which there is a result
-  abbrev pub Answers : List Lined → Lined → List Lined → Type 0
-  Answers before t ts =
+  abbrev pub LeadsOrEnds : List Lined → Lined → List Lined → Type 0
+  LeadsOrEnds before t ts =
       ((r : R) × Reads (before ++ t ∷ ts) r) ⊎ ((t.0 ≢ token.End) × (next : P) × Spells (without_lines before ++ t.0 ∷ []) next)
 
-  pub each_is_answered : ((before : List Lined) (p : P) (t : Lined) (ts : List Lined) → Spells (without_lines before) p → EndsOnce (t ∷ ts)
-      → Answers before t ts) → (before : List Lined) (p : P) (ts : List Lined) → Spells (without_lines before) p → EndsOnce ts
+  pub each_leads_or_ends : ((before : List Lined) (p : P) (t : Lined) (ts : List Lined) → Spells (without_lines before) p → EndsOnce (t ∷ ts)
+      → LeadsOrEnds before t ts) → (before : List Lined) (p : P) (ts : List Lined) → Spells (without_lines before) p → EndsOnce ts
       → (r : R) × Reads (before ++ ts) r
-  each_is_answered one before p [] s once = absurd once
-  each_is_answered one before p (t ∷ ts) s once = elim (one before p t ts s once) [
+  each_leads_or_ends one before p [] s once = absurd once
+  each_leads_or_ends one before p (t ∷ ts) s once = elim (one before p t ts s once) [
     | inl answer ↦ answer
-    | inr on ↦ rw append_assoc at (each_is_answered one (before ++ t ∷ []) on.1 ts (rw map-append on.2) (once_rest t ts on.0 once))
+    | inr on ↦ rw append_assoc at (each_leads_or_ends one (before ++ t ∷ []) on.1 ts (rw map-append on.2) (once_rest t ts on.0 once))
   ]

@@ -82,19 +82,19 @@ abbrev pub LeadOn : {P A F : Type 0} → (P → Token → Row P A F) → P → P
 LeadOn row first state given = (ts : List Lined) → read_from row first (given ++ ts) ≡ read_from row state ts
 
 -- tokens lead from one state to another, and there one token more ends what is read
-pub record PassesLast {P A F : Type 0} (row : P → Token → Row P A F) (first next : P) (answer : A) (bytes : List ℕ) (from to : Cursor)
+pub record PassesLast {P A F : Type 0} (row : P → Token → Row P A F) (first next : P) (result : A) (bytes : List ℕ) (from to : Cursor)
     : Type 0 where
   pub last : P
   pub token : Token
   pub here : Cursor
   pub leads : Passes (LeadOn row first last) bytes from here
   pub passes : PassesNumber bytes here to token
-  pub ends : row last token ≡ Ends answer next
+  pub ends : row last token ≡ Ends result next
 
 -- what a grammar took from the bytes at hand, and what it read, if it is complete
 abbrev pub PassesAll : {P A F : Type 0} → (P → Token → Row P A F) → (first next : P) → List ℕ → (from to : Cursor) → Option A → Type 0
 PassesAll row first next bytes from to None = Passes (LeadOn row first next) bytes from to
-PassesAll row first next bytes from to (Some answer) = PassesLast row first next answer bytes from to
+PassesAll row first next bytes from to (Some result) = PassesLast row first next result bytes from to
 
 -- what was read so far: the tokens of the bytes that were taken lead from the first state to this one
 pub record SoFar {P A F : Type 0} (row : P → Token → Row P A F) (first state : P) (here there : List ℕ → List Lined)
@@ -112,7 +112,7 @@ LeadsOver row first next r s remaining =
     × (reads_from row first (left r remaining) ≡ reads_from row next (left s remaining))
 
 -- and then one token more ends what is read
-pub record ReadsLast {P A F : Type 0} (row : P → Token → Row P A F) (first next : P) (answer : A) (r s : Reading)
+pub record ReadsLast {P A F : Type 0} (row : P → Token → Row P A F) (first next : P) (result : A) (r s : Reading)
     (remaining : Option (List ℕ)) : Type 0 where
   pub last : P
   pub token : Lined
@@ -120,7 +120,7 @@ pub record ReadsLast {P A F : Type 0} (row : P → Token → Row P A F) (first n
   pub leads : LeadsOver row first last r mid remaining
   pub gives : GivesNext (left mid remaining) (left s remaining) token
   pub takes : ScannerTakes mid remaining s remaining token
-  pub ends : row last token.0 ≡ Ends answer next
+  pub ends : row last token.0 ≡ Ends result next
   pub no_end : is_end token.0 ≡ false
   pub less : length s.pending < length r.pending
   pub few : length s.pending ≤ 4096
@@ -129,4 +129,4 @@ pub record ReadsLast {P A F : Type 0} (row : P → Token → Row P A F) (first n
 abbrev pub ReadsAtHand : {P A F : Type 0} → (P → Token → Row P A F) → (first next : P) → (r s : Reading) → Option (List ℕ) → Option A
     → Type 0
 ReadsAtHand row first next r s remaining None = LeadsOver row first next r s remaining
-ReadsAtHand row first next r s remaining (Some answer) = ReadsLast row first next answer r s remaining
+ReadsAtHand row first next r s remaining (Some result) = ReadsLast row first next result r s remaining

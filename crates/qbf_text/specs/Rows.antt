@@ -30,7 +30,7 @@ read_from row state [] = Cut
 read_from row state (t ∷ ts) =
     elim (row state t.0) [
       | Goes next ↦ read_from row next ts
-      | Ends answer next ↦ Whole answer next (rest_after (is_end t.0) t ts)
+      | Ends result next ↦ Whole result next (rest_after (is_end t.0) t ts)
       | Fails fault ↦ Fault fault t.1
     ]
 

@@ -88,7 +88,7 @@ ScannerTakes r before s after token =
 -- Of the bytes before, no more was taken than what spells the result: the run of the last token is needed, since without it the
 -- last state is not left, and after it at most one separator was taken. `here` says what tokens bytes have before, and `there` what
 -- they have afterwards.
-pub record StopsAfter {P A F : Type 0} (row : P → Token → Row P A F) (first next : P) (answer : A) (here there : List ℕ → List Lined)
+pub record StopsAfter {P A F : Type 0} (row : P → Token → Row P A F) (first next : P) (result : A) (here there : List ℕ → List Lined)
     (old new : List ℕ) : Type 0 where
   pub before : List ℕ
   pub word : List ℕ
@@ -99,12 +99,12 @@ pub record StopsAfter {P A F : Type 0} (row : P → Token → Row P A F) (first 
   pub taken : old ≡ before ++ word ++ separator ++ new
   pub unbroken : IsUnbroken word
   pub separates : IsAtMostASeparator separator
-  pub ends : row last token ≡ Ends answer next
+  pub ends : row last token ≡ Ends result next
   pub no_end : is_end token ≡ false
   -- the bytes before that run lead to the last state
   pub unread : read_from row first (here before) ≡ read_from row last ((End, line) ∷ [])
   -- with it they give the result, whether the text goes on as it does or ends there
-  pub whole : (rest : List ℕ) → BeginsAs new rest → read_from row first (here (before ++ word ++ separator ++ rest)) ≡ Whole answer next (there rest)
+  pub whole : (rest : List ℕ) → BeginsAs new rest → read_from row first (here (before ++ word ++ separator ++ rest)) ≡ Whole result next (there rest)
 
 -- where some row takes a token that is not End, nothing is taken after it but a separator, and this holds too
 abbrev pub Stops : {P A F : Type 0} → (P → Token → Row P A F) → P → P → (here there : List ℕ → List Lined) → Option (List ℕ)

@@ -45,11 +45,11 @@ Counts old new (Err error.Memory) = new ≡ old
 Counts old new (Err (error.Text f line)) = new ≡ old
 
 -- the same of known tokens
-abbrev pub Answers : {P A F : Type 0} → Read P A F → P → Result A (ReadError F) → Type 0
-Answers whole next (Ok a) = (rest : List Lined) × (whole ≡ Whole a next rest)
-Answers whole next (Err error.Device) = ⊤
-Answers whole next (Err error.Memory) = ⊤
-Answers whole next (Err (error.Text f line)) = whole ≡ Fault f line
+abbrev pub ReadsKnown : {P A F : Type 0} → Read P A F → P → Result A (ReadError F) → Type 0
+ReadsKnown whole next (Ok a) = (rest : List Lined) × (whole ≡ Whole a next rest)
+ReadsKnown whole next (Err error.Device) = ⊤
+ReadsKnown whole next (Err error.Memory) = ⊤
+ReadsKnown whole next (Err (error.Text f line)) = whole ≡ Fault f line
 
 -- what is returned is what a row says of the last token, unless the source failed or an allocation failed; what holds if that
 -- token is not End, and what holds if it is

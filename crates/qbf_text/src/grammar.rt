@@ -5,7 +5,7 @@ ghost use Rattle.qbf_text.specs.declared.token.Token.{Token};
 ghost use Rattle.std.specs.Io.KnownBytes.{IsAtEnd};
 ghost use Rattle.qbf_text.specs.Reading.{left, HasFailed, IsReady};
 ghost use Rattle.qbf_text.specs.Rows.{Row, read_from, reads_from};
-ghost use Rattle.qbf_text.specs.Taking.{Takes, StaysOpen, Reads, Answers, Counts, Follows};
+ghost use Rattle.qbf_text.specs.Taking.{Takes, StaysOpen, Reads, ReadsKnown, Counts, Follows};
 ghost use Rattle.qbf_text.specs.Tokens.{tokens};
 ghost use Rattle.qbf_text.specs.Ahead.{ahead};
 ghost use Rattle.qbf_text.specs.Passing.{PassesAll, ReadsAtHand};
@@ -86,7 +86,7 @@ impl<F> From<AllocError> for ReadError<F> {
 
 impl<F: Copy> ReadError<F> {
     ghost use Rattle.std.specs.Prelude.{◌≡◌};
-    ghost use Rattle.qbf_text.specs.Answering.{fault_of};
+    ghost use Rattle.qbf_text.specs.WholeTexts.{fault_of};
 
     /// The fault that it stands for, and its line: `device` where the source failed and `memory`
     /// where an allocation failed, both on line 0.
@@ -234,7 +234,7 @@ pub fn read_text<G: Grammar, S: Source>(
     comments: Comments,
     source: &mut S,
 ) -> Result<G::Output, ReadError<G::Fault>>
-    ensures reads { IfSome (S.remaining source.old) (λ bytes. Answers
+    ensures reads { IfSome (S.remaining source.old) (λ bytes. ReadsKnown
         (read_from G.row_of (G.state grammar.old) (tokens comments bytes))
         (G.state grammar.new) result) }
     // The last token was taken by some row; after End no byte remains.

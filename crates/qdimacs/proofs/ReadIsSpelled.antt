@@ -3,9 +3,9 @@ use Rattle.qdimacs.proofs.Words.{common_steps, rules, inl, inr, ◌⊎◌, ◌�
 use Rattle.qdimacs.proofs.Words.{Err, refl, sym, subst, ◌∙◌, arith, append_assoc, map-append, flat_map, Quantifier, Literal, Block, pairs}
 use Rattle.qdimacs.proofs.Words.{is_bound, blocks_of, AllByRecursion-push, Token, Lined, number, literal, letter, set, without_lines, Ends}
 use Rattle.qdimacs.proofs.Words.{append-nil, pairs_of_block, pairs-blocks_of, Alternates-blocks_of, is_end, push_distinct, flat_map-push}
-use Rattle.qdimacs.proofs.Words.{member, header, clause, IsFormula, ReadsAsRead, all_of, explained, AnswersAsRead, Reads, IsSoFar, Spells}
+use Rattle.qdimacs.proofs.Words.{member, header, clause, IsFormula, ReadsAsRead, all_of, explained, ResultsAreRead, Reads, IsSoFar, Spells}
 use Rattle.qdimacs.proofs.Words.{Goes, Fails, Heading, State, AtP, InHeader, Between, InSet, InClause, Whole, Row, row, faults, set_row}
-use Rattle.qdimacs.proofs.Words.{bound_literal, clause_row, read, IsWhole, answer_of, Pairs, Clauses, AreFrom}
+use Rattle.qdimacs.proofs.Words.{bound_literal, clause_row, read, IsWhole, result_of, Pairs, Clauses, AreFrom}
 use Rattle.qbf_spelling.proofs.Words.{IsDistinct}
 use Rattle.qbf_spelling.proofs.Words.token
 use Rattle.qbf_text.specs.Lined.{EndsOnce}
@@ -132,10 +132,10 @@ last_is_whole p next t e = subst IsWhole (sym (last p next t e).whole) tt
 -- ---- the whole
 
 answer : (before : List Lined) (p : State) (t : Lined) (ts : List Lined) → Spells (without_lines before) p → EndsOnce (t ∷ ts)
-    → accepted.Answers Spells Reads before t ts
+    → accepted.LeadsOrEnds Spells Reads before t ts
 answer before p t ts b once = by (row p t.0) refl
   where
-    by : (r : Row) → row p t.0 ≡ r → accepted.Answers Spells Reads before t ts
+    by : (r : Row) → row p t.0 ≡ r → accepted.LeadsOrEnds Spells Reads before t ts
     by (Goes next) is = inr ((λ e. grind (arith, common_steps)), next, step (without_lines before) p next t.0 b is)
     by (Ends u next) is =
         let k = last p next t.0 is in
@@ -153,5 +153,5 @@ pub read_explained : ReadsAsRead Reads read
 read_explained = explained Spells Reads read AtP (refl, tt) answer read_once
 
 -- reading by rows gives what is read
-pub answers_as_read : AnswersAsRead row answer_of AtP read
-answers_as_read = record { same = λ ts. refl; fault = λ f line. refl }
+pub results_are_read : ResultsAreRead row result_of AtP read
+results_are_read = record { same = λ ts. refl; fault = λ f line. refl }

@@ -3,8 +3,8 @@ use Rattle.qdimacs.proofs.Words.{common_steps, ◌≡◌, ℕ, true, List, [], �
 use Rattle.qdimacs.proofs.Words.{flat_map-append, flat_map-map, AllByRecursion, Quantifier, Literal, Block, pairs, variables, is_bound}
 use Rattle.qdimacs.proofs.Words.{IsVariable, Qbf, Qdimacs, tokens, literal, set, AreBound, IsWellFormed, IsPlain, IsLine, joined}
 use Rattle.qdimacs.proofs.Words.{tokens-lines_text, all_appended, all_mapped, all_of, closed_plain, literals_plain, set_written, clause}
-use Rattle.qdimacs.proofs.Words.{spelling, lines, text, IsFormula, ReadsText, Pairs, Answer, Gives, reads_bytes, is_outside, read}
-use Rattle.qdimacs.proofs.Words.{answered_bytes, tokens-EndsOnce, Answers, IsFault, Reads, BytesRead}
+use Rattle.qdimacs.proofs.Words.{spelling, lines, text, IsFormula, ReadsText, Pairs, ReadResult, Gives, reads_bytes, is_outside, read}
+use Rattle.qdimacs.proofs.Words.{bytes_read_as, tokens-EndsOnce, IsReadAs, IsFault, Reads, BytesRead}
 use Rattle.qbf_spelling.proofs.Words.token
 use Rattle.qdimacs.proofs.SpelledIsRead.{bound_one, spelled_is_read, read_once}
 use Rattle.qdimacs.proofs.ReadIsSpelled.{read_explained}
@@ -57,8 +57,8 @@ pub bytes_read : BytesRead Reads read Qdimacs
 bytes_read bytes = read_explained (tokens Qdimacs bytes) (tokens-EndsOnce Qdimacs bytes)
 
 -- the result of a call that gives what is read
-pub given_answers : (remaining : Option (List ℕ)) (result : Answer) → Gives result (reads_bytes remaining)
-    → IfSome remaining (λ bytes. Answers (tokens Qdimacs bytes) result)
-given_answers = answered_bytes is_outside IsFormula IsFault Qdimacs read read_explained
+pub given_results : (remaining : Option (List ℕ)) (result : ReadResult) → Gives result (reads_bytes remaining)
+    → IfSome remaining (λ bytes. IsReadAs (tokens Qdimacs bytes) result)
+given_results = bytes_read_as is_outside IsFormula IsFault Qdimacs read read_explained
 
 pub ruleset laws = (read_explained, read_once, bytes_read, text_is_read)

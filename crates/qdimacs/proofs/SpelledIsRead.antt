@@ -5,7 +5,7 @@ use Rattle.qdimacs.proofs.Words.{Quantifier, Literal, Block, pairs, is_bound, bl
 use Rattle.qdimacs.proofs.Words.{Ends, Qbf, Lined, without_lines, read-one, append-nil, pairs_of_block, middle, front_all, front_distinct}
 use Rattle.qdimacs.proofs.Words.{new_number, Leads, Stays, leads_then, split_at, leads_reads, AreGood, Reads, Spells, IsFault, header}
 use Rattle.qdimacs.proofs.Words.{clause, IsFormula, Heading, State, AtP, InHeader, Between, InSet, InClause, Whole, row, Pairs, Clauses}
-use Rattle.qdimacs.proofs.Words.{AreFrom, Row, read, answer_of, blocks_of-pairs, ReadsOnce, FormulaFault, after, IsVariable, all_both}
+use Rattle.qdimacs.proofs.Words.{AreFrom, Row, read, result_of, blocks_of-pairs, ReadsOnce, FormulaFault, after, IsVariable, all_both}
 use Rattle.qdimacs.proofs.Words.{all_of}
 use Rattle.qbf_spelling.proofs.Words.token
 use Rattle.qbf_spelling.proofs.Words.word
@@ -120,9 +120,9 @@ spelled_is_read ts f is =
     let front = header f.max_var (length f.clauses) ++ flat_map set is.sets ++ flat_map clause f.clauses in
     let k = split_at ts front token.End [] is.spelled in
     ap read k.3
-    ∙ ap answer_of (leads_reads (leads_lists h is.sets f.clauses w.numbers w.count good closed (omega arith)) k.0 k.4
+    ∙ ap result_of (leads_reads (leads_lists h is.sets f.clauses w.numbers w.count good closed (omega arith)) k.0 k.4
     ((token.End, k.1) ∷ k.2))
-    ∙ ap answer_of (read-one row (Between h (pairs is.sets) f.clauses) (token.End, k.1) k.2
+    ∙ ap result_of (read-one row (Between h (pairs is.sets) f.clauses) (token.End, k.1) k.2
     ∙ ap (λ (r : Row). after row r (token.End, k.1) k.2) (end_row h (pairs is.sets) f.clauses (omega arith)))
     ∙ ap (λ (bs : List Block). Ok (record { max_var = f.max_var; blocks = bs; clauses = f.clauses }))
     (ap blocks_of is.bound ∙ blocks_of-pairs f.blocks w.prefix.alternates)
@@ -152,8 +152,8 @@ spelled_leads ts (Whole f) e = absurd e
 pub fault_is_found : (ts : List Lined) (f : FormulaFault) (line : ℕ) → IsFault ts f line → read ts ≡ Err (f, line)
 fault_is_found ts f line is =
     ap read is.whole
-    ∙ ap answer_of (leads_reads (spelled_leads (without_lines is.before) is.state is.stands) is.before refl ((is.wrong, line) ∷ is.after))
-    ∙ ap answer_of (read-one row is.state (is.wrong, line) is.after ∙ ap (λ (r : Row). after row r (is.wrong, line) is.after) is.refused)
+    ∙ ap result_of (leads_reads (spelled_leads (without_lines is.before) is.state is.stands) is.before refl ((is.wrong, line) ∷ is.after))
+    ∙ ap result_of (read-one row is.state (is.wrong, line) is.after ∙ ap (λ (r : Row). after row r (is.wrong, line) is.after) is.refused)
 
 -- Tokens read as nothing else.
 pub read_once : ReadsOnce Reads read

@@ -13,23 +13,23 @@ pub use Rattle.qbf_spelling.proofs.WrittenParts.{closed_literals, set_line}
 pub use Rattle.qbf_spelling.specs.Decode.{member}
 pub use Rattle.qbf_spelling.specs.Texts.{closing, literal_text}
 pub use Rattle.qbf_text.proofs.AcceptedTokens.{Leads, Stays, flat_map-push, leads_reads, leads_then, split_at}
-pub use Rattle.qbf_text.proofs.Answered.{AnswersAsRead, answered_bytes, explained, whole_given}
+pub use Rattle.qbf_text.proofs.ReadTexts.{ResultsAreRead, bytes_read_as, explained, whole_given}
 pub use Rattle.qbf_text.proofs.CanonicalTokens.{all_appended, all_both, all_mapped, all_of, closed_plain, joined, tokens-lines_text}
 pub use Rattle.qbf_text.proofs.OneToken.{after}
 pub use Rattle.qbf_text.proofs.PassedNumbers.{passes_further, passes_none, passes_on}
 pub use Rattle.qbf_text.proofs.SentParts.{drop_at, sent_last, zero_decimal}
 pub use Rattle.qbf_text.proofs.TokensEndOnce.{tokens-EndsOnce}
-pub use Rattle.qbf_text.specs.Answering.{BytesRead, ReadsAsRead, ReadsOnce}
+pub use Rattle.qbf_text.specs.WholeTexts.{BytesRead, ReadsAsRead, ReadsOnce}
 pub use Rattle.qbf_text.specs.Canonical.{IsLine, IsPlain, line_text, spaced_number, token_text}
 pub use Rattle.qbf_text.specs.Left.{is_end}
 pub use Rattle.qbf_text.specs.Passing.{LeadOn, Passes}
 pub use Rattle.qbf_text.specs.Rows.{Fails, Goes}
-pub use Rattle.qdimacs.specs.Faults.{Answers, AreGood, IsFault, IsSoFar, Reads, Spells}
+pub use Rattle.qdimacs.specs.Faults.{IsReadAs, AreGood, IsFault, IsSoFar, Reads, Spells}
 pub use Rattle.qdimacs.specs.Grammar.{IsFormula, clause, header, lines, spelling, text}
 pub use Rattle.qdimacs.specs.Laws.{ReadsText}
 pub use Rattle.qdimacs.specs.States.{IsMade, IsSound, heading, formula_of, row_to, state_at}
-pub use Rattle.qdimacs.specs.Reading.{Answer, AreFrom, AtP, Between, Clauses, Gives, Heading, InClause, InHeader, InSet, IsFull, IsWhole}
-pub use Rattle.qdimacs.specs.Reading.{Pairs, State, Row, Whole, answer_of, between_row, bound_literal, clause_row, faults, is_outside, read}
+pub use Rattle.qdimacs.specs.Reading.{ReadResult, AreFrom, AtP, Between, Clauses, Gives, Heading, InClause, InHeader, InSet, IsFull, IsWhole}
+pub use Rattle.qdimacs.specs.Reading.{Pairs, State, Row, Whole, result_of, between_row, bound_literal, clause_row, faults, is_outside, read}
 pub use Rattle.qdimacs.specs.Reading.{read_formula, reads_bytes, row, set_row}
 pub use Rattle.qdimacs.specs.Texts.{blocks_rest, clauses_text, opening, sets_text}
 pub use Rattle.qdimacs.specs.declared.fault.FormulaFault.{FormulaFault}

@@ -1,5 +1,5 @@
 -- Worked rows of formulas.
-use Rattle.qdimacs.proofs.Words.{AllByRecursion, Qbf, exists, all, F2, F3, F4, F5, F6, F7, F8, text, read_formula, Answer}
+use Rattle.qdimacs.proofs.Words.{AllByRecursion, Qbf, exists, all, F2, F3, F4, F5, F6, F7, F8, text, read_formula, ReadResult}
 use Rattle.std.specs.Prelude.{codes, ◌≡◌, ℕ, List, [], ◌∷◌, Ok, Err, refl}
 use Rattle.qbf_spelling.proofs.Words.{read_from}
 use Rattle.std.specs.Fmt.{digits}
@@ -16,7 +16,7 @@ joined = record { max_var = 4; blocks = exists (3 ∷ 1 ∷ []) ∷ all (2 ∷ [
 
 -- ---- texts, and what is read of them
 
-abbrev rows : List (List ℕ × Answer)
+abbrev rows : List (List ℕ × ReadResult)
 rows = (codes "p cnf 2 2\ne 1 0\na 2 0\n1 2 0\n-1 2 0\n", Ok value_a)
     -- a clause is missing, and there is one too many
     ∷ (codes "p cnf 2 2\ne 1 0\na 2 0\n1 2 0\n", Err (F8, 5))

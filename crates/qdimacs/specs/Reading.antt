@@ -10,7 +10,7 @@ use Words.word
 use Rattle.qbf_core.specs.Blocks.{blocks_of, is_bound}
 use Rattle.qdimacs.specs.declared.fault.FormulaFault.{FormulaFault}
 use Rattle.qdimacs.specs.declared.fault.FormulaFault.TheVariants.{F2, F3, F4, F5, F6, F7, F8, F9, F1}
-use Rattle.qbf_text.specs.Answering as answering
+use Rattle.qbf_text.specs.WholeTexts as whole_texts
 use Rattle.qbf_spelling.specs.declared.decode.Faults.{Faults}
 use Rattle.qbf_spelling.specs.declared.header.HeaderForm.{HeaderForm}
 use Rattle.qbf_spelling.specs.declared.header.HeaderAt.{HeaderAt}
@@ -36,8 +36,8 @@ abbrev pub AreFrom : Pairs → List Literal → Type 0
 AreFrom ps ls = AllByRecursion (λ l. is_bound l.var ps ≡ true) ls
 
 -- what is read: a formula, or the first fault and its line
-abbrev pub Answer : Type 0
-Answer = Result Qbf (FormulaFault × ℕ)
+abbrev pub ReadResult : Type 0
+ReadResult = Result Qbf (FormulaFault × ℕ)
 
 -- the numbers of the header
 pub record Heading : Type 0 where
@@ -160,34 +160,34 @@ IsWhole (Whole f) = Unit {0}
 IsWhole state = ⊥
 
 -- what is read after the last token
-abbrev pub answer_at : State → Answer
-answer_at (Whole f) = Ok f
-answer_at state = Err (F7, 0)
+abbrev pub result_at : State → ReadResult
+result_at (Whole f) = Ok f
+result_at state = Err (F7, 0)
 
 -- what is read by the rows
-abbrev pub answer_of : Read State (Unit {0}) FormulaFault → Answer
-answer_of (rows.Whole u state rest) = answer_at state
-answer_of (rows.Fault f line) = Err (f, line)
-answer_of rows.Cut = Err (F7, 0)
+abbrev pub result_of : Read State (Unit {0}) FormulaFault → ReadResult
+result_of (rows.Whole u state rest) = result_at state
+result_of (rows.Fault f line) = Err (f, line)
+result_of rows.Cut = Err (F7, 0)
 
 -- where the first token stands
 abbrev pub AtP : State
 AtP = InHeader header.P
 
 -- What is read from a state on.
-abbrev pub read_from : State → List Lined → Answer
-read_from state ts = answer_of (rows.read_from row state ts)
+abbrev pub read_from : State → List Lined → ReadResult
+read_from state ts = result_of (rows.read_from row state ts)
 
 -- What tokens are read as.
-abbrev pub read : List Lined → Answer
+abbrev pub read : List Lined → ReadResult
 read ts = read_from AtP ts
 
 -- The same of bytes.
-abbrev pub read_formula : List ℕ → Answer
+abbrev pub read_formula : List ℕ → ReadResult
 read_formula bytes = read (text.tokens Qdimacs bytes)
 
 -- where the bytes are known
-abbrev pub reads_bytes : Option (List ℕ) → Option (Answer)
+abbrev pub reads_bytes : Option (List ℕ) → Option ReadResult
 reads_bytes bytes = option_map read_formula bytes
 
 -- the source failed, or an allocation failed
@@ -197,5 +197,5 @@ is_outside F9 = true
 is_outside f = false
 
 -- The result is what was to be read, unless the source failed or an allocation failed.
-abbrev pub Gives : Answer → Option (Answer) → Type 0
-Gives answer whole = answering.Gives is_outside answer whole
+abbrev pub Gives : ReadResult → Option ReadResult → Type 0
+Gives result whole = whole_texts.Gives is_outside result whole

@@ -5,7 +5,7 @@ ghost use Rattle.qdimacs.specs.declared.fault.FormulaFault.TheVariants.{F1, F9};
 ghost use Rattle.std.specs.Io.KnownBytes.{IsAtEnd};
 ghost use Rattle.qbf_text.specs.Tokens.{tokens};
 ghost use Rattle.qbf_text.specs.declared.token.Comments.TheVariants.{Qdimacs};
-ghost use Rattle.qdimacs.specs.Faults.{Answers};
+ghost use Rattle.qdimacs.specs.Faults.{IsReadAs};
 ghost use Rattle.qdimacs.specs.Reading.{reads_bytes, Gives};
 
 use crate::fault::{Fault, FormulaFault};
@@ -28,7 +28,7 @@ use std::alloc::Global;
 pub fn read_formula<S: Source>(alloc: Global, source: &mut S) -> Result<Formula, Fault>
     // The formula where the bytes spell one, else the fault that stands.
     ensures reads { IfSome (S.remaining source.old)
-        (λ bytes. Answers (tokens Qdimacs bytes) result) }
+        (λ bytes. IsReadAs (tokens Qdimacs bytes) result) }
     // The same by the function that reads.
     ensures exact { Gives result (reads_bytes (S.remaining source.old)) }
     // No byte remains after a formula.

@@ -8,11 +8,11 @@ use Rattle.qbf_text.proofs.Stops.{if_known, taken_no_end, unread_fault}
 use Rattle.qrp.specs.declared.item.Item.TheVariants as item
 use Rattle.qrp.specs.Reading.{State, Between, After, row, items_from}
 use Rattle.qrp.proofs.RowsReadTheItem.{gives, given_of}
-use Rattle.qrp.proofs.SpelledIsRead.{Answer, end_row}
+use Rattle.qrp.proofs.SpelledIsRead.{ItemResult, end_row}
 
 -- an item that is complete is given
 given_whole : (i : Item) (ns : List ℕ) (rest : List Lined)
-    → (more : List Answer) × (given_of (rows.Whole tt (After i ns) rest) ≡ Ok i ∷ more)
+    → (more : List ItemResult) × (given_of (rows.Whole tt (After i ns) rest) ≡ Ok i ∷ more)
 given_whole (item.Result o) ns rest = ([], refl)
 given_whole i ns rest = (items_from (Between ns) rest, refl)
 

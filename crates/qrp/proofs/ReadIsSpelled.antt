@@ -7,7 +7,7 @@ use Rattle.qrp.proofs.Words.{lists, ReadsAsRead, explained, is_used}
 use Rattle.qbf_spelling.proofs.Words.{IsDistinct}
 use Rattle.qbf_spelling.proofs.Words.token
 use Rattle.qbf_spelling.proofs.Words.word
-use Rattle.qbf_text.proofs.AcceptedTokens.{Answers}
+use Rattle.qbf_text.proofs.AcceptedTokens.{LeadsOrEnds}
 use Rattle.qbf_spelling.specs.declared.header.HeaderAt.TheVariants as place
 use Rattle.qrp.specs.Faults.{AreLists, Spells, Reads}
 use Rattle.qbf_text.specs.Rows.{Goes, Ends, Fails}
@@ -137,13 +137,13 @@ whole_trace before t ts ns o a is = (
 )
 
 answer : (before : List Lined) (p : State) (t : Lined) (ts : List Lined) → Spells (without_lines before) p → EndsOnce (t ∷ ts)
-    → Answers Spells Reads before t ts
+    → LeadsOrEnds Spells Reads before t ts
 answer before p t ts s once = by (row p t.0) refl
   where
-    on : (next : State) → IsTo (row p t.0) next → Answers Spells Reads before t ts
+    on : (next : State) → IsTo (row p t.0) next → LeadsOrEnds Spells Reads before t ts
     on next e = inr ((λ end. (rw (end, end_row p) at e)), next, goes (without_lines before) p next t.0 s e)
 
-    by : (r : Row) → row p t.0 ≡ r → Answers Spells Reads before t ts
+    by : (r : Row) → row p t.0 ≡ r → LeadsOrEnds Spells Reads before t ts
     by (Goes next) is = on next (rw is refl)
     by (Ends u next) is = elim (row_ends p next t.0 is) [
       | inl k ↦ let d = whole_trace before t ts k.0 k.1 (rw k.2 at s) k.3 in inl (Ok d.0, d.1)

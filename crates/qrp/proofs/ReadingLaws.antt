@@ -3,7 +3,7 @@ use Rattle.qrp.proofs.Words.{common_steps, rules, append-nil, ◌≡◌, ◌<◌
 use Rattle.qrp.proofs.Words.{IfSome, Result, flat_map-append, map-append, flat_map-map, AllByRecursion, IsVariable, Qrp, tokens, number}
 use Rattle.qrp.proofs.Words.{literal, set, IsPlain, IsLine, joined, tokens-lines_text, all_appended, all_mapped, closed_plain}
 use Rattle.qrp.proofs.Words.{Inference, IsInference, numbers, Derivation, IsWellFormed, literals_plain, set_written, step, result, lists}
-use Rattle.qrp.proofs.Words.{lines, text, IsTrace, ReadsText, ItemsOfTrace, answered_bytes, tokens-EndsOnce, Answers, Gives, reads_bytes}
+use Rattle.qrp.proofs.Words.{lines, text, IsTrace, ReadsText, ItemsOfTrace, bytes_read_as, tokens-EndsOnce, IsReadAs, Gives, reads_bytes}
 use Rattle.qrp.proofs.Words.{is_outside, BytesRead}
 use Rattle.qbf_spelling.proofs.Words.token
 use Rattle.qrp.proofs.SpelledIsRead.{spelled_is_read, spelled_items, read_once, fault_items}
@@ -57,9 +57,9 @@ pub bytes_read : BytesRead Reads read Qrp
 bytes_read bytes = read_explained (tokens Qrp bytes) (tokens-EndsOnce Qrp bytes)
 
 -- the result of a call that gives what is read
-pub given_answers : (remaining : Option (List ℕ)) (result : Result Derivation Fault) → Gives result (reads_bytes remaining)
-    → IfSome remaining (λ bytes. Answers (tokens Qrp bytes) result)
-given_answers = answered_bytes is_outside IsTrace IsFault Qrp read read_explained
+pub given_results : (remaining : Option (List ℕ)) (result : Result Derivation Fault) → Gives result (reads_bytes remaining)
+    → IfSome remaining (λ bytes. IsReadAs (tokens Qrp bytes) result)
+given_results = bytes_read_as is_outside IsTrace IsFault Qrp read read_explained
 
 pub ruleset trace_laws = (read_explained, read_once, bytes_read, text_is_read)
 

@@ -7,10 +7,10 @@ use Rattle.qbf_spelling.proofs.Words.{read_from}
 use Rattle.qbf_text.specs.Rows as rows
 use Rattle.qbf_text.proofs.OneToken as going
 use Rattle.qrp.specs.Reading.{State, After, row, items_from, next_state, item_and_more}
-use Rattle.qrp.proofs.SpelledIsRead.{Answer, after, items-one, end_row}
+use Rattle.qrp.proofs.SpelledIsRead.{ItemResult, after, items-one, end_row}
 
 -- the items that are left to give where reading by rows gives this
-abbrev pub given_of : Read State (Unit {0}) TraceFault → List Answer
+abbrev pub given_of : Read State (Unit {0}) TraceFault → List ItemResult
 given_of (rows.Whole u next rest) = item_and_more next (items_from (next_state next) rest)
 given_of (rows.Fault f line) = Err (f, line) ∷ []
 given_of Cut = Err (P7, 0) ∷ []

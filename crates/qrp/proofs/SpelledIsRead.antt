@@ -14,11 +14,11 @@ use Rattle.qrp.specs.Reading.{InHeader, items, with_items, nothing, read}
 use Rattle.qbf_spelling.specs.declared.header.HeaderAt.TheVariants as place
 use Rattle.qrp.specs.Faults.{AreLists, Spells, IsFault, whole_before, Reads}
 
-abbrev pub Answer : Type 0
-Answer = Result Item Fault
+abbrev pub ItemResult : Type 0
+ItemResult = Result Item Fault
 
 -- what comes of a row
-abbrev pub after : Row → ℕ → List Lined → List Answer
+abbrev pub after : Row → ℕ → List Lined → List ItemResult
 after (Goes next) line rest = items_from next rest
 after (Ends u next) line rest = item_and_more next (items_from (next_state next) rest)
 after (Fails f) line rest = Err (f, line) ∷ []
@@ -33,7 +33,7 @@ pub data Leads : State → List Token → List Item → State → Type 0 where
   Passes : {p next q : State} {t : Token} {ts : List Token} {is : List Item} → row p t ≡ Goes next → Leads next ts is q
       → Leads p (t ∷ ts) is q
   Completes : {p next q : State} {t : Token} {ts : List Token} {i : Item} {is : List Item} → row p t ≡ Ends tt next
-      → ((more : List Answer) → item_and_more next more ≡ Ok i ∷ more) → Leads (next_state next) ts is q → Leads p (t ∷ ts) (i ∷ is) q
+      → ((more : List ItemResult) → item_and_more next more ≡ Ok i ∷ more) → Leads (next_state next) ts is q → Leads p (t ∷ ts) (i ∷ is) q
 
 pub leads_then : {p q r : State} {ts us : List Token} {is js : List Item} → Leads p ts is q → Leads q us js r
     → Leads p (ts ++ us) (is ++ js) r
@@ -59,7 +59,7 @@ leads_gives (Completes taken g l) [] e rest = absurd cc
 leads_gives {p} (Completes {next = next} {t = u} {i = i} taken g l) (t ∷ before) e rest =
     let same : t.0 ≡ u = cc in
     items-one p t (before ++ rest) ∙ ap (λ (r : Row). after r t.1 (before ++ rest)) (ap (row p) same ∙ taken)
-    ∙ g (items_from (next_state next) (before ++ rest)) ∙ ap (λ (x : List Answer). Ok i ∷ x) (leads_gives l before (cc) rest)
+    ∙ g (items_from (next_state next) (before ++ rest)) ∙ ap (λ (x : List ItemResult). Ok i ∷ x) (leads_gives l before (cc) rest)
 
 -- no state takes End
 pub end_row : (p : State) → row p token.End ≡ Fails P7
@@ -116,7 +116,7 @@ leads_lists h sets steps g =
 
 -- ---- gathering
 
-gathered_more : (d : Derivation) (sets : List Block) (steps : List Inference) (more : List Answer)
+gathered_more : (d : Derivation) (sets : List Block) (steps : List Inference) (more : List ItemResult)
     → with_items d (map Ok (map item.Set sets ++ map item.Step steps) ++ more)
     ≡ with_items (record d { sets = d.sets ++ sets; steps = d.steps ++ steps }) more
 unfolding with_items
@@ -127,7 +127,7 @@ gathered_more d (s ∷ sets) steps more = gathered_more (record d { sets = d.set
     ∙ ap (λ (x : List Block). with_items (record d { sets = x; steps = d.steps ++ steps }) more) (append_assoc d.sets (s ∷ []) sets)
 
 -- header, sets and steps are gathered in their places
-gathered_lists : (h : Header) (sets : List Block) (steps : List Inference) (more : List Answer)
+gathered_lists : (h : Header) (sets : List Block) (steps : List Inference) (more : List ItemResult)
     → with_items nothing (map Ok (item.Header h ∷ (map item.Set sets ++ map item.Step steps)) ++ more)
     ≡ with_items (record { header = h; sets = sets; steps = steps; result = Sat }) more
 unfolding with_items
@@ -147,7 +147,7 @@ spelled_items ts d is =
     ap items k.3
     ∙ leads_gives (leads_on (leads_lists d.header d.sets d.steps is.grammatical) (Passes (search rules) Stays)) k.0 k.4
     ((result_word d.result, k.1) ∷ k.2)
-    ∙ ap (λ (x : List Answer). map Ok (items_of_lists d.header d.sets d.steps) ++ x)
+    ∙ ap (λ (x : List ItemResult). map Ok (items_of_lists d.header d.sets d.steps) ++ x)
     (items-one (AtResult (numbers d.steps)) (result_word d.result, k.1) k.2
     ∙ ap (λ (x : Row). after x k.1 k.2) (result_row_ok (numbers d.steps) d.result))
 
@@ -187,7 +187,7 @@ pub fault_items : (ts : List Lined) (f : TraceFault) (line : ℕ) (is : IsFault 
 fault_items ts f line is =
     ap items is.whole
     ∙ leads_gives (spelled_leads (without_lines is.before) is.state is.stands) is.before refl ((is.wrong, line) ∷ is.after)
-    ∙ ap (λ (x : List Answer). map Ok (whole_before (without_lines is.before) is.state is.stands) ++ x)
+    ∙ ap (λ (x : List ItemResult). map Ok (whole_before (without_lines is.before) is.state is.stands) ++ x)
     (items-one is.state (is.wrong, line) is.after ∙ ap (λ (x : Row). after x line is.after) is.refused)
 
 pub fault_is_found : (ts : List Lined) (f : TraceFault) (line : ℕ) → IsFault ts f line → read ts ≡ Err (f, line)

@@ -8,13 +8,13 @@ pub use Rattle.qbf_spelling.proofs.Worked.{all, exists}
 pub use Rattle.qbf_spelling.proofs.WrittenParts.{closed_numbers, set_line}
 pub use Rattle.qbf_spelling.specs.Texts.{set_text}
 pub use Rattle.qbf_text.proofs.AcceptedTokens.{flat_map-push, split_at}
-pub use Rattle.qbf_text.proofs.Answered.{answered_bytes, explained, unless}
+pub use Rattle.qbf_text.proofs.ReadTexts.{bytes_read_as, explained, unless}
 pub use Rattle.qbf_text.proofs.CanonicalTokens.{all_appended, all_mapped, closed_plain, joined, tokens-lines_text}
 pub use Rattle.qbf_text.proofs.OneToken.{Leads}
 pub use Rattle.qbf_text.proofs.PassedNumbers.{passes_all, passes_first, passes_further, passes_in_turn, passes_none, passes_on}
 pub use Rattle.qbf_text.proofs.SentParts.{line_rest-map, part_at_next, part_next, zero_rest}
 pub use Rattle.qbf_text.proofs.TokensEndOnce.{tokens-EndsOnce}
-pub use Rattle.qbf_text.specs.Answering.{BytesRead, ReadsAsRead, ReadsOnce, fault_of}
+pub use Rattle.qbf_text.specs.WholeTexts.{BytesRead, ReadsAsRead, ReadsOnce, fault_of}
 pub use Rattle.qbf_text.specs.Canonical.{IsLine, IsPlain, line_text}
 pub use Rattle.qbf_text.specs.Lined.{EndsOnce, Known}
 pub use Rattle.qbf_text.specs.Passing.{LeadOn, Passes}
@@ -23,7 +23,7 @@ pub use Rattle.qbf_text.specs.Rows.{Cut, reads_from}
 pub use Rattle.qbf_text.specs.Stopping.{IfKnown, Skips, Stops}
 pub use Rattle.qbf_text.specs.Taking.{Leaves, Reads}
 pub use Rattle.qbf_text.specs.declared.grammar.ReadError.{ReadError}
-pub use Rattle.qrp.specs.Answers.{Answers, Gives, StopsAfterResult, is_outside, reads_bytes}
+pub use Rattle.qrp.specs.Returns.{IsReadAs, Gives, StopsAfterResult, is_outside, reads_bytes}
 pub use Rattle.qrp.specs.Derivations.{AreGrammatical, Derivation, IsWellFormed, items_of_lists, steps_at, with_steps_at}
 pub use Rattle.qrp.specs.Flat.{IsFlat, Kept, kept_of, trace_of, steps_of, with_item}
 pub use Rattle.qrp.specs.NextItem.{GivesNextItem, GivesUnless, StopsAfterPart, is_last, known_items, left_after, state_next}

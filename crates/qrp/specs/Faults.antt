@@ -11,7 +11,7 @@ use Rattle.qrp.specs.declared.item.Header.{Header}
 use Rattle.qrp.specs.declared.item.Item.{Item}
 use Rattle.qrp.specs.Inferences.{Inference, IsLiteral, IsNumber, numbers}
 use Rattle.qrp.specs.Derivations.{Derivation, AreGrammatical, items_of_lists}
-use Rattle.qbf_text.specs.Answering as answering
+use Rattle.qbf_text.specs.WholeTexts as whole_texts
 use Rattle.qrp.specs.Grammar.{lists, IsTrace}
 use Rattle.qrp.specs.Reading.{Fault, State, InHeader, Between, InSet, InLits, InAnts, AtResult, After, row}
 use Rattle.step_index.specs.Numbers.{is_used}
@@ -49,8 +49,8 @@ whole_before ts (After i ns) s = []
 
 -- The fault stands on this line.
 abbrev pub IsFault : List Lined → TraceFault → ℕ → Type 0
-IsFault ts fault line = answering.IsFault Spells (λ state t f. row state t ≡ Fails f) ts fault line
+IsFault ts fault line = whole_texts.IsFault Spells (λ state t f. row state t ≡ Fails f) ts fault line
 
 -- What the tokens read as: the trace that they spell, or the fault that stands.
 abbrev pub Reads : List Lined → Result Derivation Fault → Type 0
-Reads ts answer = answering.Reads IsTrace IsFault ts answer
+Reads ts result = whole_texts.Reads IsTrace IsFault ts result

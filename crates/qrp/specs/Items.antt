@@ -48,25 +48,25 @@ Stands done g = ⊤
 -- ---- what reading an item returns
 
 -- the item is as the grammar asks, its number is after the others, and the next token stands where it is to be taken
-pub record IsItem (old new : ItemsRead) (answer : Result Item Fault) : Type 0 where
-  pub proper : IfOk answer (λ i. IsProper old.kept.numbers i)
-  pub numbers : new.kept.numbers ≡ numbers_with old.kept.numbers answer
-  pub stands : Stands (stage_after answer) new
+pub record IsItem (old new : ItemsRead) (result : Result Item Fault) : Type 0 where
+  pub proper : IfOk result (λ i. IsProper old.kept.numbers i)
+  pub numbers : new.kept.numbers ≡ numbers_with old.kept.numbers result
+  pub stands : Stands (stage_after result) new
 
 -- what was done with the devices: the scanner did not fail with an item, and after each but the last less can still come; the count
 -- of failures rose exactly where the source failed; a fault of source or memory stands on line 0
-pub record IsDriven (scanner : Reading) (before bound old new : ℕ) (answer : Result Item Fault) : Type 0 where
-  pub ready : OnOk answer (¬ HasFailed scanner)
-  pub less : is_last answer ≡ false → length scanner.pending + bound < before
-  pub source : IfErr answer (λ e. e.0 ≡ P1 → old < 2 ^ 64 - 1 → old < new)
-  pub kept : IfErr answer (λ e. e.0 ≢ P1 → new ≡ old)
-  pub lines : IfErr answer (λ e. StandsOnLine e.0 e.1)
-  pub works : OnOk answer (new ≡ old)
+pub record IsDriven (scanner : Reading) (before bound old new : ℕ) (result : Result Item Fault) : Type 0 where
+  pub ready : OnOk result (¬ HasFailed scanner)
+  pub less : is_last result ≡ false → length scanner.pending + bound < before
+  pub source : IfErr result (λ e. e.0 ≡ P1 → old < 2 ^ 64 - 1 → old < new)
+  pub kept : IfErr result (λ e. e.0 ≢ P1 → new ≡ old)
+  pub lines : IfErr result (λ e. StandsOnLine e.0 e.1)
+  pub works : OnOk result (new ≡ old)
 
 -- an item was read from this state on: what was left is the result and what is left now, and nothing is read past the item but a
 -- separator and what is held
 pub record ReadsItem (state : State) (ns : List ℕ) (old : Reading) (before : Option (List ℕ)) (new : Reading) (after : Option (List ℕ))
-    (answer : Result Item Fault) : Type 0 where
-  pub gives : GivesNextItem (known_items state (left old before)) (left_after (stage_after answer) ns (left new after)) answer
-  pub stops : IfOk answer (λ i. IfKnown (StopsAfterPart state (tokens_next old) i) (ahead old.pending before) (ahead new.pending after)
+    (result : Result Item Fault) : Type 0 where
+  pub gives : GivesNextItem (known_items state (left old before)) (left_after (stage_after result) ns (left new after)) result
+  pub stops : IfOk result (λ i. IfKnown (StopsAfterPart state (tokens_next old) i) (ahead old.pending before) (ahead new.pending after)
       × (length new.pending ≤ 4096))

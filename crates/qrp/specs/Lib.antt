@@ -5,7 +5,7 @@ pub mod Reading
 pub mod Faults
 pub mod Laws
 pub mod NextItem
-pub mod Answers
+pub mod Returns
 pub mod Texts
 pub mod Flat
 pub mod States

@@ -3,7 +3,7 @@ use Rattle.qrp_check.proofs.Words.{◌≡◌, ◌≢◌, ℕ, List, Option, Some
 use Rattle.qrp_check.proofs.Words.{Rules, Fault, CheckFault, C1, C2, C3, C4, C5, C6, Verified, IsFirstFault, IsVerdict}
 use Rattle.qrp_check.specs.Checked.{SourceCall, IsCheckedOf, verdict_of}
 use Rattle.qrp_check.specs.Verdict.{IsVerdictOf}
-use Rattle.qrp.specs.Answers as traces
+use Rattle.qrp.specs.Returns as traces
 use Rattle.qrp_check.specs.declared.verdict.Fault.TheVariants as fault
 
 first_fault_is : (rules : Rules) (trace : Option (List ℕ)) (f : Qbf) (d : Derivation) (e : CheckFault)

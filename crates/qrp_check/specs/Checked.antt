@@ -2,7 +2,7 @@
 use Rattle.std.specs.Prelude.{◌≡◌, ◌↔◌, ℕ, ◌-◌, ◌^◌, ◌<◌, List, Option, IfSome, IfErr, OnOk, Result, Ok, Err}
 use Rattle.qbf_core.specs.Qbf.{Qbf}
 use Rattle.qbf_text.specs.declared.source.Source as source
-use Rattle.qrp.specs.Answers.{reads_bytes}
+use Rattle.qrp.specs.Returns.{reads_bytes}
 use Rattle.qrp.specs.Derivations.{Derivation, IsWellFormed}
 use Rattle.qrp_rules.specs.declared.rules.Rules.{Rules}
 use Rattle.qrp_check.specs.declared.verdict.Verified.{Verified}

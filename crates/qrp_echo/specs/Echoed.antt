@@ -5,7 +5,7 @@ use Rattle.qbf_text.specs.declared.sink.Sink.{Ghosts}
 use Rattle.qbf_text.specs.Written.{AppendsFront}
 use Rattle.qrp.specs.declared.fault.TraceFault.{TraceFault}
 use Rattle.qrp.specs.declared.fault.TraceFault.TheVariants.{P1, P9}
-use Rattle.qrp.specs.Answers.{Gives, reads_bytes}
+use Rattle.qrp.specs.Returns.{Gives, reads_bytes}
 use Rattle.qrp.specs.Derivations.{Derivation}
 use Rattle.qrp.specs.Reading.{Fault}
 

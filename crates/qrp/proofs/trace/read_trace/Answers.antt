@@ -1,6 +1,6 @@
 use Rattle.qrp.proofs.Words.{Ok, Err, P9, refl, ◌∙◌, ap, Kept, trace_of, with_item}
 use Rattle.qrp.specs.declared.item.Item.TheVariants as item
-use Rattle.qrp.proofs.ReadingLaws.{given_answers}
+use Rattle.qrp.proofs.ReadingLaws.{given_results}
 use Rattle.qrp.proofs.ReadItemByItem.{nothing_so_far, item_so_far, result_given, result_stops, fault_given}
 use Rattle.qrp.proofs.trace.read_trace.Goals as goal
 
@@ -36,7 +36,7 @@ returns-in-Ok-Some-clause-exact g c =
     (g.S.Source.remaining c.read_by.new.source) c.in-Ok-Some.outcome _ keeps.0 h.reads)
 
 pub returns-in-Ok-Some-clause-reads : goal.returns-in-Ok-Some-clause-reads
-returns-in-Ok-Some-clause-reads g c = given_answers _ (Ok c.whole.result) (returns-in-Ok-Some-clause-exact g c)
+returns-in-Ok-Some-clause-reads g c = given_results _ (Ok c.whole.result) (returns-in-Ok-Some-clause-exact g c)
 
 pub returns-in-Ok-Some-clause-stops : goal.returns-in-Ok-Some-clause-stops
 returns-in-Ok-Some-clause-stops g c =
@@ -52,7 +52,7 @@ returns-in-Err-clause-exact g c = rw c.fault.ensures (fault_given c.items.invari
     c.read_by.new.scanner (g.S.Source.remaining c.read_by.new.source) c.in-Err.error c.in-Err.ensures.reads)
 
 pub returns-in-Err-clause-reads : goal.returns-in-Err-clause-reads
-returns-in-Err-clause-reads g c = given_answers _ (Err c.fault.result) (returns-in-Err-clause-exact g c)
+returns-in-Err-clause-reads g c = given_results _ (Err c.fault.result) (returns-in-Err-clause-exact g c)
 
 pub returns-in-Err-keep-clause-reads : goal.returns-in-Err-keep-clause-reads
-returns-in-Err-keep-clause-reads g c = given_answers _ (Err (P9, 0)) tt
+returns-in-Err-keep-clause-reads g c = given_results _ (Err (P9, 0)) tt

@@ -29,10 +29,10 @@ Unless true A = Unit {0}
 Unless false A = A
 
 -- The same, where some faults are not of the text: the source failed, or an allocation failed.
-abbrev pub Answers : {A F : Type 0} → (F → Bool) → (List Token → A → Type 0) → (List Lined → F → ℕ → Type 0) → List Lined
+abbrev pub IsReadAs : {A F : Type 0} → (F → Bool) → (List Token → A → Type 0) → (List Lined → F → ℕ → Type 0) → List Lined
     → Result A (F × ℕ) → Type 0
-Answers outside Spelled Stands ts (Ok a) = Spelled (without_lines ts) a
-Answers outside Spelled Stands ts (Err e) = Unless (outside e.0) (Stands ts e.0 e.1)
+IsReadAs outside Spelled Stands ts (Ok a) = Spelled (without_lines ts) a
+IsReadAs outside Spelled Stands ts (Err e) = Unless (outside e.0) (Stands ts e.0 e.1)
 
 -- The result is what was to be read, as far as that is known, unless the source failed or an allocation failed.
 abbrev pub Gives : {A F : Type 0} → (F → Bool) → Result A (F × ℕ) → Option (Result A (F × ℕ)) → Type 0

@@ -1,7 +1,7 @@
 -- What the calls return that read a whole trace.
 use Rattle.std.specs.Prelude.{◌≡◌, ◌≤◌, ℕ, List, ◌++◌, length, Bool, true, false, Option, option_map, Result, Ok, Err}
 use Rattle.qbf_spelling.specs.Words.{Lined}
-use Rattle.qbf_text.specs.Answering as answering
+use Rattle.qbf_text.specs.WholeTexts as whole_texts
 use Rattle.qbf_text.specs.Left.{IsUnbroken}
 use Rattle.qrp.specs.declared.fault.TraceFault.{TraceFault}
 use Rattle.qbf_text.specs.Stopping.{IsAtMostASeparator}
@@ -23,11 +23,11 @@ is_outside f = false
 
 -- the result is what was read, unless the source failed or an allocation failed
 abbrev pub Gives : Result Derivation Fault → Option (Result Derivation Fault) → Type 0
-Gives answer whole = answering.Gives is_outside answer whole
+Gives result whole = whole_texts.Gives is_outside result whole
 
 -- the result is the trace that the tokens spell, or the fault that stands in them, unless the source failed or an allocation failed
-abbrev pub Answers : List Lined → Result Derivation Fault → Type 0
-Answers ts answer = answering.Answers is_outside IsTrace IsFault ts answer
+abbrev pub IsReadAs : List Lined → Result Derivation Fault → Type 0
+IsReadAs ts result = whole_texts.IsReadAs is_outside IsTrace IsFault ts result
 
 -- What was consumed of the bytes ends with the result word and at most one separator, but for at most 4,096 bytes that were pulled
 -- with it. These are held and not looked at, and lost with the reader.
