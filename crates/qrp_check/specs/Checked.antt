@@ -1,13 +1,16 @@
 -- What the check of a formula and a trace at their sources returns, and what it leaves of these.
-use Rattle.std.specs.Prelude.{◌≡◌, ◌↔◌, ℕ, ◌-◌, ◌^◌, ◌<◌, List, Option, IfSome, IfErr, OnOk, Result, Ok, Err}
+use Rattle.std.specs.Prelude.{◌≡◌, ◌↔◌, ℕ, ◌-◌, ◌^◌, ◌<◌, List, Option, length, IfSome, IfOk, IfErr, OnOk, Result, Ok, Err}
+use Rattle.std.specs.List.{AllByRecursion}
 use Rattle.qbf_core.specs.Qbf.{Qbf}
 use Rattle.qbf_text.specs.declared.source.Source as source
+use Rattle.qbf_text.specs.Stopping.{IfKnown}
 use Rattle.qrp.specs.Answers.{reads_bytes}
 use Rattle.qrp.specs.Derivations.{Derivation, IsWellFormed}
 use Rattle.qrp_rules.specs.declared.rules.Rules.{Rules}
 use Rattle.qrp_check.specs.declared.verdict.Verified.{Verified}
 use Rattle.qrp_check.specs.declared.verdict.Fault.{Fault}
 use Rattle.qrp_check.specs.Verdict.{IsVerdictOf, IsVerdictUnless, IsFormulaDevice, IsTraceDevice, IsFormulaFault, StandsOnLine}
+use Rattle.qrp_check.specs.Verdict.{WasRead, StopsBehindTrace}
 
 -- what a call does with a source: its bytes, where they are known, its count of failures before and after, and that it was not pulled
 pub record SourceCall : Type 1 where
@@ -28,6 +31,14 @@ verdict_of (Err e) = Err e
 -- a trace that was read is well formed, and what these bytes read as, where they are known
 abbrev pub WasReadFrom : Option (List ℕ) → Derivation → Type 0
 WasReadFrom bytes d = IsWellFormed d × IfSome (reads_bytes bytes) (λ read. read ≡ Ok d)
+
+-- What is known of a trace that is returned with its verdict, where its source had these bytes still to give before and after: it was read
+-- from there, and each position of its core is one of its steps; and once it was read, nothing was taken past its result word but what is
+-- held.
+pub record IsOfSource (before after : Option (List ℕ)) (answer : Result (Derivation × Verified) Fault) : Type 0 where
+  pub reads : IfOk answer (λ r. WasReadFrom before r.0)
+  pub within : IfOk answer (λ r. AllByRecursion (λ i. i < length r.0.steps) r.1.core.items)
+  pub stops : WasRead (verdict_of answer) → IfKnown StopsBehindTrace before after
 
 -- What the check of two texts by these rules returns: the verdict on their bytes, or that a source failed, exactly where it did, or
 -- that an allocation failed; the latter two on line 0. With a fault of the formula the trace was not pulled.

@@ -37,6 +37,9 @@ fn follow_step<S: Side, T: Steps>(
 }
 
 /// Goes over the marked steps, which are the core, while each follows from those before it.
+///
+/// # Errors
+/// The first step that does not follow, or out of memory if an allocation failed.
 #[tactic(auto, using(std::proofs::lemmas::Bool::cases_eq, crate::proofs::MarkedPlaces::unmarked, crate::proofs::Marking::core_within))]
 pub(crate) fn follow_core<S: Side, T: Steps>(
     context: Context,

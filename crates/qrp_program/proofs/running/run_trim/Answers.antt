@@ -7,7 +7,7 @@ pub returns-in-Ok : goal.returns-in-Ok
 returns-in-Ok g c =
     let found = c.in-Ok in (
       Ok (trimmed_trace found.whole found.verified.core.items),
-      trims _ _ _ _ _ found.ensures.checked found.ensures.works found.ensures.reads,
+      trims _ _ _ _ _ found.ensures.checked found.ensures.works found.ensures.source.reads,
       (c.send_trimmed.ensures, refl),
     )
 
