@@ -40,7 +40,7 @@ fn follow_step<S: Side, T: Steps>(
 ///
 /// # Errors
 /// The first step that does not follow, or out of memory if an allocation failed.
-#[tactic(auto, using(std::proofs::lemmas::Bool::cases_eq, crate::proofs::MarkedPlaces::unmarked, crate::proofs::Marking::core_within))]
+#[tactic(auto, using(std::proofs::lemmas::Bool::cases_eq, crate::proofs::MarkedPlaces::is_unmarked, crate::proofs::Marking::core_within))]
 pub(crate) fn follow_core<S: Side, T: Steps>(
     context: Context,
     trace: &T,

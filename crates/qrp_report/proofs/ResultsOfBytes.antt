@@ -14,7 +14,7 @@ use Rattle.qrp_check.specs.Core.{ListsCore}
 use Rattle.qrp_check.specs.Proof.{IsProof}
 use Rattle.qrp_check.specs.Trim.{trimmed_trace}
 use Rattle.qrp_check.specs.Verdict.{IsVerdict, IsVerdictUnless}
-use Rattle.qrp_check.proofs.HeadlineOfVerdict.{found}
+use Rattle.qrp_check.proofs.HeadlineOfVerdict.{found_of}
 use Rattle.qrp_check.proofs.TrimText.{trimmed_text_proves}
 use Rattle.qrp_report.specs.Results.{HasFailed, IsFormulaRead, IsFormulaRefused, IsTrimmedFrom, IsTrimmed}
 
@@ -33,7 +33,7 @@ formula_refused bytes before after e n s failed kept one nine = search rules
 trimmed_of : (rules : Rules) (a b : List ℕ) (d : Derivation) (v : Verified) → IsVerdict rules (read_formula a) (Some (read_trace b)) (Ok v)
     → IsWellFormed d → read_trace b ≡ Ok d → IsTrimmedFrom rules a b (trimmed_trace d v.core.items)
 trimmed_of rules a b d v h formed reads =
-    let w = found rules a b v (read_formula a) (Ok d) refl reads (rw reads at h) in
+    let w = found_of rules a b v (read_formula a) (Ok d) refl reads (rw reads at h) in
     let same : w.d ≡ d = cc (w.reads_trace, reads) in
     let lists : ListsCore d.steps v.core.items = subst (λ (d : Derivation). ListsCore d.steps v.core.items) same w.lists in
     let proves : IsProof rules w.f d = subst (IsProof rules w.f) same w.proves in
