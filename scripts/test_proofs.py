@@ -120,7 +120,7 @@ class Repository:
         return subprocess.run([str(self.root / "scripts" / script), *words], **how)
 
     def left(self):
-        """What is left behind: in the folder of temporary files, and of new files in the tree."""
+        """What is left: in the folder of temporary files, and of new files in the tree."""
         return [str(it) for it in self.temporary.iterdir()]
 
     def __enter__(self):

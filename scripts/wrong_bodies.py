@@ -107,7 +107,7 @@ def end_of_block(text, start):
 
 
 def type_name(words):
-    """`a::Name<..>` without its path and its parameters, behind which stand the types that are given for them."""
+    """`a::Name<..>` without its path and its parameters, after which stand the types that are given for them."""
     name = re.sub(r"^&?\s*(?:\w+::)*", "", words.strip())
     return re.match(r"\w*", name)[0]
 
@@ -312,7 +312,7 @@ def calls(crate_name, crate):
 
 
 def may_be(to, of, caller):
-    """Whether a call behind `of` can be one of the function `to`, which has the called name."""
+    """Whether a call after `of` can be one of the function `to`, which has the called name."""
     owner, name = to.split("::")[-2:]
     is_method = owner[0].isupper()
     if of in ("Self::", "self."):
@@ -384,10 +384,10 @@ def change(before, after):
     same = 0
     while same < min(len(before), len(after)) and before[same] == after[same]:
         same += 1
-    behind = 0
-    while behind < min(len(before), len(after)) - same and before[-1 - behind] == after[-1 - behind]:
-        behind += 1
-    return same, len(before) - behind, after[same : len(after) - behind]
+    tail = 0
+    while tail < min(len(before), len(after)) - same and before[-1 - tail] == after[-1 - tail]:
+        tail += 1
+    return same, len(before) - tail, after[same : len(after) - tail]
 
 
 # ---- what a check says

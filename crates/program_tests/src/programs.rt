@@ -1,12 +1,12 @@
 //! The program on files in memory.
 
 ghost use Rattle.std.specs.Prelude.{◌≡◌, ◌≢◌, ◌⊎◌, Some, Ok, Err, codes};
-ghost use Rattle.qrp_program.specs.declared.unopened.Unopened.{Unopened};
+ghost use Rattle.qrp_program.specs.declared.open_fault.OpenFault.{OpenFault};
 
 use crate::command_lines::given;
 use crate::runs::{assert_same, sinks};
 use qbf_text::{FromRead, PieceSink, VecSink};
-use qrp_program::{LIMIT, Open, Start, Status, Unopened, program};
+use qrp_program::{LIMIT, Open, OpenFault, Start, Status, program};
 use std::alloc::Global;
 use std::test::Fail;
 
@@ -24,9 +24,9 @@ impl<'a> Open for Shelf<'a> {
     ghost opens = { λ s path r.
         ((path ≡ codes "f") × (r ≡ Ok (Some s.formula.now)))
         ⊎ (((path ≡ codes "t") × (r ≡ Ok (Some s.trace.now)))
-        ⊎ ((e : Unopened) × (path ≢ codes "f") × (path ≢ codes "t") × (r ≡ Err e))) };
+        ⊎ ((e : OpenFault) × (path ≢ codes "f") × (path ≢ codes "t") × (r ≡ Err e))) };
 
-    fn open(&self, path: &str) -> Result<FromRead<&'a [u8]>, Unopened> {
+    fn open(&self, path: &str) -> Result<FromRead<&'a [u8]>, OpenFault> {
         if path == "f" {
             return Ok(FromRead::new(self.formula, LIMIT));
         }
@@ -34,9 +34,9 @@ impl<'a> Open for Shelf<'a> {
             return Ok(FromRead::new(self.trace, LIMIT));
         }
         if path == "m" {
-            return Err(Unopened::NoMemory);
+            return Err(OpenFault::NoMemory);
         }
-        Err(Unopened::NoFile)
+        Err(OpenFault::NoFile)
     }
 }
 

@@ -16,7 +16,7 @@ use Rattle.qrp_check.specs.Premises.{AreFit, ArePremises, IsFit, IsPremise, foun
 use Rattle.qrp_check.specs.declared.premises.Premises.{Premises}
 use Rattle.qrp_check.specs.declared.premises.Premises.TheVariants.{Initial, One, Two}
 use Rattle.qrp_check.proofs.Marking.{core_within}
-use Rattle.qrp_check.proofs.StepFaults.{named, need_of}
+use Rattle.qrp_check.proofs.StepFaults.{step_named, need_of}
 use Rattle.qrp_check.proofs.StepPlaces.{one_at}
 use Rattle.qrp_rules.proofs.MembersDecide.{initial_answer}
 use Rattle.qrp_rules.proofs.FirstFailures.{answer_after}
@@ -50,7 +50,7 @@ pub premise_of : (steps : List Inference) (place index number : ℕ) (lits : Lis
     → ((step : Inference) → IsAt steps index step → lits ≡ step.lits) → IsPremise (take place steps) number lits
 premise_of steps place index number lits less (below, here, is) only given =
     let own : IsNumberOf (take place steps) number = (below, take_in steps place index below less here, is) in
-    let s = named (take place steps) number own in
+    let s = step_named (take place steps) number own in
     let w = in_take steps place s.0 s.1 in
     let at : IsAt steps index s.0 = subst (λ (k : ℕ). IsAt steps k s.0) (only w.0 s.0 w.2 s.2) w.2 in
     (own, given s.0 at ∙ s.3)

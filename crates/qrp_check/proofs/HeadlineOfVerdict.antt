@@ -51,11 +51,11 @@ pub record Found (rules : Rules) (formula trace : List ℕ) (v : Verified) : Typ
   pub claim : v.truth ≡ is_sat d.result
   pub truth : IsTrue v.truth ↔ IsTrueFormula f
 
-pub found : (rules : Rules) (formula trace : List ℕ) (v : Verified) (r : Result Qbf (FormulaFault × ℕ)) (s : Result Derivation (TraceFault × ℕ))
+pub found_of : (rules : Rules) (formula trace : List ℕ) (v : Verified) (r : Result Qbf (FormulaFault × ℕ)) (s : Result Derivation (TraceFault × ℕ))
     → read_formula formula ≡ r → read_trace trace ≡ s → IsVerdict rules r (Some s) (Ok v) → Found rules formula trace v
-found rules formula trace v (Err e) s reads_formula reads_trace h = absurd (cc h)
-found rules formula trace v (Ok f) (Err e) reads_formula reads_trace h = absurd (cc h)
-found rules formula trace v (Ok f) (Ok d) reads_formula reads_trace (proves, lists, claim, truth) = search rules
+found_of rules formula trace v (Err e) s reads_formula reads_trace h = absurd (cc h)
+found_of rules formula trace v (Ok f) (Err e) reads_formula reads_trace h = absurd (cc h)
+found_of rules formula trace v (Ok f) (Ok d) reads_formula reads_trace (proves, lists, claim, truth) = search rules
 
 spelled_of : (rules : Rules) (formula trace : List ℕ) (v : Verified) (w : Found rules formula trace v) → Spell formula trace w.f w.d
 spelled_of rules formula trace v w = search (rules, formula_spelled, trace_spelled)
@@ -65,8 +65,8 @@ holds : (rules : Rules) (formula trace : List ℕ) (f : Qbf) (d : Derivation) �
     → ResultHolds (side_of d.result) f
 holds rules formula trace f d spelled proves = search (rules, soundness)
 
-verified : (rules : Rules) (formula trace : List ℕ) (v : Verified) → Found rules formula trace v → Headline rules formula trace (Ok v)
-verified rules formula trace v w =
+headline_verified : (rules : Rules) (formula trace : List ℕ) (v : Verified) → Found rules formula trace v → Headline rules formula trace (Ok v)
+headline_verified rules formula trace v w =
     let spelled = spelled_of rules formula trace v w in record {
       only = λ is. record { f = w.f; d = w.d; spelled = spelled; proves = w.proves };
       wherever = λ shown. inl refl;
@@ -90,7 +90,7 @@ headline_known : (rules : Rules) (formula trace : List ℕ) (answer : Result Ver
     → IsVerdictUnless rules (Some formula) (Some trace) answer
     → Headline rules formula trace answer
 headline_known rules formula trace (Ok v) (inl h) =
-    verified rules formula trace v (found rules formula trace v (read_formula formula) (read_trace trace) refl refl h)
+    headline_verified rules formula trace v (found_of rules formula trace v (read_formula formula) (read_trace trace) refl refl h)
 headline_known rules formula trace (Ok v) (inr (inl h)) = absurd h
 headline_known rules formula trace (Ok v) (inr (inr (inl h))) = absurd h
 headline_known rules formula trace (Ok v) (inr (inr (inr h))) = absurd h

@@ -5,11 +5,11 @@ use Rattle.qrp_check.proofs.Words.{IsMarked, ListsMarked}
 use Rattle.qbf_core.proofs.PushedItems.{pushed_cases, pushed_old, pushed_new}
 
 -- what was read says whether the position is marked
-pub marked : (marks : List Bool) (i : ℕ) → i < length marks → get_or marks i false ≡ true → IsMarked marks i
-marked marks i less is = slice_get-get_or marks i false less ∙ ap Some is
+pub is_marked : (marks : List Bool) (i : ℕ) → i < length marks → get_or marks i false ≡ true → IsMarked marks i
+is_marked marks i less is = slice_get-get_or marks i false less ∙ ap Some is
 
-pub unmarked : (marks : List Bool) (i : ℕ) → get_or marks i false ≡ false → IsMarked marks i → ⊥
-unmarked marks i clear m = let f : true ≡ false = sym (get_or_from_slice_get marks i true false m) ∙ clear in cc f
+pub is_unmarked : (marks : List Bool) (i : ℕ) → get_or marks i false ≡ false → IsMarked marks i → ⊥
+is_unmarked marks i clear m = let f : true ≡ false = sym (get_or_from_slice_get marks i true false m) ∙ clear in cc f
 
 pub listing_none : (marks : List Bool) → ListsMarked marks 0 []
 listing_none marks = search rules

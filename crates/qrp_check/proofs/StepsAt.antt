@@ -69,14 +69,14 @@ others_at steps [] i s own here out = tt
 others_at steps (p ∷ places) i s own here out =
     search (rules, slice_get_cases, ne_eqb, others_at steps places i s own here (λ h. out (inr h)))
 
-unused : (n : ℕ) (ns : List ℕ) → AllByRecursion (λ m. nat_eq n m ≡ false) ns → is_used n ns ≡ false
-unused n [] all = refl
-unused n (m ∷ ns) all = ap (λ b. b || is_used n ns) all.0 ∙ unused n ns all.1
+is_unused : (n : ℕ) (ns : List ℕ) → AllByRecursion (λ m. nat_eq n m ≡ false) ns → is_used n ns ≡ false
+is_unused n [] all = refl
+is_unused n (m ∷ ns) all = ap (λ b. b || is_used n ns) all.0 ∙ is_unused n ns all.1
 
 pub fresh_at : (steps : List Inference) (core : List ℕ) (k : ℕ) (s : Inference) → HasOwnNumbers steps → IsStrictlyIncreasing core
     → k < length core
     → IsAt steps (get_or core k 0) s → is_used s.number (numbers (steps_at steps (take k core))) ≡ false
-fresh_at steps core k s own rises less here = search (rules, unused, others_at, not_before)
+fresh_at steps core k s own rises less here = search (rules, is_unused, others_at, not_before)
 
 -- ---- what a check answers
 

@@ -7,7 +7,7 @@ use Rattle.std.specs.List.{IsDistinct}
 use Rattle.qrp.specs.Derivations.{IsWellFormed}
 use Rattle.qrp.proofs.ReadingLaws.{text_is_read}
 use Rattle.qrp_check.specs.Laws.{TrimmedTextProves}
-use Rattle.qrp_check.specs.Trim.{trimmed}
+use Rattle.qrp_check.specs.Trim.{trimmed_trace}
 use Rattle.qrp_check.proofs.Marking.{core_within}
 use Rattle.qrp.proofs.WrittenParts.{length_at}
 use Rattle.qrp_check.proofs.StepsAt.{core_inside, each_at, numbers_at, others_at}
@@ -50,7 +50,7 @@ few_places n (suc m) places count rises inside = elim (slice_get_cases places m)
   | inr (past, _) ↦ absurd (omega (arith, count, past))
 ]
 
-pub well_formed : (d : Derivation) (core : List ℕ) → IsWellFormed d → ListsCore d.steps core → IsWellFormed (trimmed d core)
+pub well_formed : (d : Derivation) (core : List ℕ) → IsWellFormed d → ListsCore d.steps core → IsWellFormed (trimmed_trace d core)
 well_formed d core formed lists =
     let count : length (steps_at d.steps core) ≡ length core = length_at d.steps core (core_inside d.steps core lists) in
     let few : length core ≤ length d.steps =
@@ -71,5 +71,5 @@ trimmed_text_proves rules f d core formed lists proof =
       all = kept.1;
       fixed = λ other other_lists. trimmed_is_fixed rules f d core other formed.grammatical.distinct lists proof other_lists;
       formed = again;
-      read = text_is_read (trimmed d core) again;
+      read = text_is_read (trimmed_trace d core) again;
     }

@@ -1,13 +1,16 @@
 -- What the check of a formula and a trace at their sources returns, and what it leaves of these.
-use Rattle.std.specs.Prelude.{◌≡◌, ◌↔◌, ℕ, ◌-◌, ◌^◌, ◌<◌, List, Option, IfSome, IfErr, OnOk, Result, Ok, Err}
+use Rattle.std.specs.Prelude.{◌≡◌, ◌↔◌, ℕ, ◌-◌, ◌^◌, ◌<◌, List, Option, length, IfSome, IfOk, IfErr, OnOk, Result, Ok, Err}
+use Rattle.std.specs.List.{AllByRecursion}
 use Rattle.qbf_core.specs.Qbf.{Qbf}
 use Rattle.qbf_text.specs.declared.source.Source as source
+use Rattle.qbf_text.specs.Stopping.{IfKnown}
 use Rattle.qrp.specs.Returns.{reads_bytes}
 use Rattle.qrp.specs.Derivations.{Derivation, IsWellFormed}
 use Rattle.qrp_rules.specs.declared.rules.Rules.{Rules}
 use Rattle.qrp_check.specs.declared.verdict.Verified.{Verified}
 use Rattle.qrp_check.specs.declared.verdict.Fault.{Fault}
 use Rattle.qrp_check.specs.Verdict.{IsVerdictOf, IsVerdictUnless, IsFormulaDevice, IsTraceDevice, IsFormulaFault, StandsOnLine}
+use Rattle.qrp_check.specs.Verdict.{WasRead, StopsAfterTrace}
 
 -- what a call does with a source: its bytes, where they are known, its count of failures before and after, and that it was not pulled
 pub record SourceCall : Type 1 where
@@ -29,18 +32,26 @@ verdict_of (Err e) = Err e
 abbrev pub WasReadFrom : Option (List ℕ) → Derivation → Type 0
 WasReadFrom bytes d = IsWellFormed d × IfSome (reads_bytes bytes) (λ read. read ≡ Ok d)
 
+-- What is known of a trace that is returned with its verdict, where its source had these bytes still to give before and after: it was read
+-- from there, and each position of its core is one of its steps; and once it was read, nothing was taken past its result word but what is
+-- held.
+pub record IsOfSource (before after : Option (List ℕ)) (result : Result (Derivation × Verified) Fault) : Type 0 where
+  pub reads : IfOk result (λ r. WasReadFrom before r.0)
+  pub within : IfOk result (λ r. AllByRecursion (λ i. i < length r.0.steps) r.1.core.items)
+  pub stops : WasRead (verdict_of result) → IfKnown StopsAfterTrace before after
+
 -- What the check of two texts by these rules returns: the verdict on their bytes, or that a source failed, exactly where it did, or
 -- that an allocation failed; the latter two on line 0. With a fault of the formula the trace was not pulled.
-pub record IsChecked (rules : Rules) (formula trace : SourceCall) (answer : Result Verified Fault) : Type 0 where
-  pub verdict : IsVerdictUnless rules formula.bytes trace.bytes answer
-  pub formula_failed : formula.before < 2 ^ 64 - 1 → IsFormulaDevice answer ↔ (formula.before < formula.after)
-  pub trace_failed : trace.before < 2 ^ 64 - 1 → IsTraceDevice answer ↔ (trace.before < trace.after)
-  pub lines : IfErr answer StandsOnLine
-  pub not_pulled : IsFormulaFault answer → trace.unpulled
+pub record IsChecked (rules : Rules) (formula trace : SourceCall) (result : Result Verified Fault) : Type 0 where
+  pub verdict : IsVerdictUnless rules formula.bytes trace.bytes result
+  pub formula_failed : formula.before < 2 ^ 64 - 1 → IsFormulaDevice result ↔ (formula.before < formula.after)
+  pub trace_failed : trace.before < 2 ^ 64 - 1 → IsTraceDevice result ↔ (trace.before < trace.after)
+  pub lines : IfErr result StandsOnLine
+  pub not_pulled : IsFormulaFault result → trace.unpulled
 
 -- the same of the check of a trace against a formula that was read
-pub record IsCheckedOf (rules : Rules) (f : Qbf) (trace : SourceCall) (answer : Result Verified Fault) : Type 0 where
-  pub verdict : IsVerdictOf rules f trace.bytes answer
-  pub failed : trace.before < 2 ^ 64 - 1 → IsTraceDevice answer ↔ (trace.before < trace.after)
-  pub lines : IfErr answer StandsOnLine
-  pub works : OnOk answer (trace.after ≡ trace.before)
+pub record IsCheckedOf (rules : Rules) (f : Qbf) (trace : SourceCall) (result : Result Verified Fault) : Type 0 where
+  pub verdict : IsVerdictOf rules f trace.bytes result
+  pub failed : trace.before < 2 ^ 64 - 1 → IsTraceDevice result ↔ (trace.before < trace.after)
+  pub lines : IfErr result StandsOnLine
+  pub works : OnOk result (trace.after ≡ trace.before)

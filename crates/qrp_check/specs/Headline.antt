@@ -31,9 +31,9 @@ pub record IsShown (rules : Rules) (formula trace : List ℕ) : Type 0 where
 
 -- The result is Verified only where the bytes show it, and wherever they do, unless an allocation or a device failed. And then
 -- the formula is false if the trace says `r unsat` and true if it says `r sat`, and `truth` says which.
-pub record Headline (rules : Rules) (formula trace : List ℕ) (answer : Result Verified Fault) : Type 0 where
-  pub only : IsOk answer → IsShown rules formula trace
+pub record Headline (rules : Rules) (formula trace : List ℕ) (result : Result Verified Fault) : Type 0 where
+  pub only : IsOk result → IsShown rules formula trace
   pub wherever : IsShown rules formula trace
-      → IsOk answer ⊎ (IsOutOfMemory answer ⊎ (IsFormulaDevice answer ⊎ IsTraceDevice answer))
-  pub truth : IfOk answer (λ v. (f : Qbf) (d : Derivation) → Spell formula trace f d
+      → IsOk result ⊎ (IsOutOfMemory result ⊎ (IsFormulaDevice result ⊎ IsTraceDevice result))
+  pub truth : IfOk result (λ v. (f : Qbf) (d : Derivation) → Spell formula trace f d
       → ResultHolds (side_of d.result) f × (v.truth ≡ is_sat d.result) × (IsTrue v.truth ↔ IsTrueFormula f))

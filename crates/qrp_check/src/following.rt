@@ -9,7 +9,7 @@ ghost use Rattle.qrp_check.specs.Marks.{IsMarked};
 use crate::fault::CheckFault;
 use crate::hints::Hints;
 use crate::premises::find_premises;
-use crate::step::{CheckState, Context, fault_by_sets, follows_as_written};
+use crate::step::{CheckState, Context, step_fault};
 use qrp::Steps;
 use qrp_rules::{InitialSteps, SeenLits, Side};
 
@@ -30,20 +30,17 @@ fn follow_step<S: Side, T: Steps>(
 {
     let found = find_premises(trace, position, &mut state.hints);
     let lits = trace.lits(position);
-    // Most steps follow as they are written.
-    if let Some(premises) = found {
-        if follows_as_written::<S>(context, premises, state, lits)? {
-            return Ok(());
-        }
-    }
-    match fault_by_sets::<S>(context, found, &mut state.initial, lits)? {
+    match step_fault::<S>(context, found, state, lits)? {
         None => Ok(()),
         Some(fault) => Err(CheckFault::C6(trace.number(position), fault)),
     }
 }
 
 /// Goes over the marked steps, which are the core, while each follows from those before it.
-#[tactic(auto, using(std::proofs::lemmas::Bool::cases_eq, crate::proofs::MarkedPlaces::unmarked, crate::proofs::Marking::core_within))]
+///
+/// # Errors
+/// The first step that does not follow, or out of memory if an allocation failed.
+#[tactic(auto, using(std::proofs::lemmas::Bool::cases_eq, crate::proofs::MarkedPlaces::is_unmarked, crate::proofs::Marking::core_within))]
 pub(crate) fn follow_core<S: Side, T: Steps>(
     context: Context,
     trace: &T,

@@ -28,6 +28,9 @@ impl Hints {
     }
 
     /// Keeps where an antecedent was found. Where it was not found, any other position serves.
+    ///
+    /// # Errors
+    /// If an allocation fails.
     pub(crate) fn push(&mut self, found: Option<usize>) -> Result<(), AllocError> {
         if self.keeps {
             let position = found.unwrap_or(0).min(u32::MAX as usize);

@@ -5,7 +5,7 @@ ghost use Rattle.std.specs.List.{AllByRecursion};
 ghost use Rattle.std.specs.List.Sorted.{IsStrictlyIncreasing};
 ghost use Rattle.qrp.specs.Derivations.{IsWellFormed, steps_at};
 ghost use Rattle.qrp.specs.Inferences.{IsAt};
-ghost use Rattle.qrp_check.specs.Trim.{trimmed};
+ghost use Rattle.qrp_check.specs.Trim.{trimmed_trace};
 
 use crate::verdict::Verified;
 use qbf_core::Lit;
@@ -82,6 +82,18 @@ fn push_steps(shorter: &mut Trace, trace: &Trace, positions: &[usize]) -> Result
     Ok(())
 }
 
+/// The header of the trace with the steps at some positions alone, which are as many.
+#[tactic(auto, using(qrp::proofs::WrittenParts::length_at))]
+fn header_at(trace: &Trace, positions: &[usize]) -> Header
+    requires { AllByRecursion (λ i. i < length trace.now.steps) positions.now }
+    ensures { result ≡ (trimmed_trace trace.now positions.now).header }
+{
+    Header {
+        vars: trace.header().vars,
+        steps: positions.len() as u64,
+    }
+}
+
 /// The trace without the steps outside the core.
 ///
 /// Sets, result and the number of variables in the header stay as written. The steps at the
@@ -91,16 +103,12 @@ fn push_steps(shorter: &mut Trace, trace: &Trace, positions: &[usize]) -> Result
 ///
 /// # Errors
 /// If an allocation fails.
-#[tactic(auto, using(qrp::proofs::WrittenParts::length_at))]
 pub fn trim(alloc: Global, trace: &Trace, verified: &Verified) -> Result<Trace, AllocError>
     requires rises { IsStrictlyIncreasing verified.now.core.items }
     requires within { AllByRecursion (λ i. i < length trace.now.steps) verified.now.core.items }
-    ensures { IfOk result (λ t. t ≡ trimmed trace.now verified.now.core.items) }
+    ensures { IfOk result (λ t. t ≡ trimmed_trace trace.now verified.now.core.items) }
 {
-    let header = Header {
-        vars: trace.header().vars,
-        steps: verified.core.len() as u64,
-    };
+    let header = header_at(trace, &verified.core);
     let mut shorter = Trace::new(alloc, header, trace.result());
     push_sets(alloc, &mut shorter, trace.sets())?;
     push_steps(&mut shorter, trace, &verified.core)?;

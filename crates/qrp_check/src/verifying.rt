@@ -1,9 +1,8 @@
 //! The check of a trace against a formula, both from their bytes.
 
-ghost use Rattle.std.specs.Prelude.{◌≡◌, ◌-◌, ◌^◌, ◌<◌, ◌↔◌, length, OnOk, IfOk, IfErr, IfSome};
-ghost use Rattle.std.specs.List.{AllByRecursion};
+ghost use Rattle.std.specs.Prelude.{◌≡◌, ◌-◌, ◌^◌, ◌<◌, ◌↔◌, OnOk, IfErr, IfSome};
 ghost use Rattle.qbf_text.specs.Stopping.{IfKnown};
-ghost use Rattle.qrp_check.specs.Checked.{IsChecked, IsCheckedOf, WasReadFrom};
+ghost use Rattle.qrp_check.specs.Checked.{IsChecked, IsCheckedOf, IsOfSource};
 ghost use Rattle.qrp_check.specs.Checked.{call_of, verdict_of};
 ghost use Rattle.qrp_check.specs.Headline.{Headline};
 ghost use Rattle.qrp_check.specs.Verdict.{IsVerdictUnless, IsFormulaDevice, IsTraceDevice};
@@ -27,11 +26,7 @@ fn find_proof_of<B: Source>(
 ) -> Result<(Trace, Verified), Fault>
     ensures checked { IsCheckedOf rules formula.now (call_of B.Source trace.old trace.new)
         (verdict_of result) }
-    ensures reads { IfOk result (λ r. WasReadFrom (B.remaining trace.old) r.0) }
-    ensures within { IfOk result (λ r.
-        AllByRecursion (λ i. i < length r.0.steps) r.1.core.items) }
-    ensures stops { WasRead (verdict_of result)
-        → IfKnown StopsAfterTrace (B.remaining trace.old) (B.remaining trace.new) }
+    ensures source { IsOfSource (B.remaining trace.old) (B.remaining trace.new) result }
 {
     let whole = read_trace(alloc, trace)?;
     let verified = check(alloc, formula, &whole, whole.sets(), whole.result(), rules)?;
@@ -53,11 +48,7 @@ pub fn find_proof<A: Source, B: Source>(
         (call_of B.Source trace.old trace.new) (verdict_of result) }
     ensures works { OnOk result ((A.failures formula.new ≡ A.failures formula.old)
         × (B.failures trace.new ≡ B.failures trace.old)) }
-    ensures reads { IfOk result (λ r. WasReadFrom (B.remaining trace.old) r.0) }
-    ensures within { IfOk result (λ r.
-        AllByRecursion (λ i. i < length r.0.steps) r.1.core.items) }
-    ensures stops { WasRead (verdict_of result)
-        → IfKnown StopsAfterTrace (B.remaining trace.old) (B.remaining trace.new) }
+    ensures source { IsOfSource (B.remaining trace.old) (B.remaining trace.new) result }
 {
     let read = read_formula(alloc, formula)?;
     find_proof_of(alloc, &read, trace, rules)

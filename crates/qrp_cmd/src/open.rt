@@ -2,10 +2,10 @@
 
 ghost use Rattle.std.specs.Prelude.{◌≡◌, ◌≢◌, ℕ, ⊤, List, Option, Result, Ok, Err, IfOk, IfErr};
 ghost use Rattle.std.specs.declared.io.ErrorKind.TheVariants.{OutOfMemory};
-ghost use Rattle.qrp_program.specs.declared.unopened.Unopened.TheVariants.{NoMemory, NoFile};
+ghost use Rattle.qrp_program.specs.declared.open_fault.OpenFault.TheVariants.{NoMemory, NoFile};
 
 use qbf_text::FromRead;
-use qrp_program::{LIMIT, Open, Unopened};
+use qrp_program::{LIMIT, Open, OpenFault};
 use std::fs;
 use std::io::ErrorKind;
 use std::rt::Files;
@@ -25,13 +25,13 @@ impl<'a, R: Files> SystemFiles<'a, R> {
 
 /// Why a file is not open, by the kind of the error: out of memory, or else there is no such file to
 /// be read.
-fn open_failure(kind: ErrorKind) -> Unopened
+fn open_failure(kind: ErrorKind) -> OpenFault
     ensures memory { kind ≡ OutOfMemory → result ≡ NoMemory }
     ensures file { kind ≢ OutOfMemory → result ≡ NoFile }
 {
     match kind {
-        ErrorKind::OutOfMemory => Unopened::NoMemory,
-        _ => Unopened::NoFile,
+        ErrorKind::OutOfMemory => OpenFault::NoMemory,
+        _ => OpenFault::NoFile,
     }
 }
 
@@ -40,7 +40,7 @@ impl<R: Files> Open for SystemFiles<'_, R> {
 
     ghost opens = { λ _ _ _. ⊤ };
 
-    fn open(&self, path: &str) -> Result<FromRead<R::File>, Unopened> {
+    fn open(&self, path: &str) -> Result<FromRead<R::File>, OpenFault> {
         match fs::open(self.rt, path) {
             Ok(file) => Ok(FromRead::new(file, LIMIT)),
             Err(error) => Err(open_failure(error.kind())),

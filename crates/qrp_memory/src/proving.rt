@@ -5,7 +5,7 @@ ghost use Rattle.std.specs.List.{AllByRecursion};
 ghost use Rattle.qrp.specs.Derivations.{Derivation, steps_at};
 ghost use Rattle.qrp.specs.Grammar.{text};
 ghost use Rattle.qrp.specs.Inferences.{numbers};
-ghost use Rattle.qrp_check.specs.Trim.{trimmed};
+ghost use Rattle.qrp_check.specs.Trim.{trimmed_trace};
 ghost use Rattle.qrp_check.specs.Verdict.{is_sat};
 ghost use Rattle.qrp_check.specs.Checked.{IsChecked};
 ghost use Rattle.qrp_report.specs.Results.{IsTrimmedFrom};
@@ -41,7 +41,7 @@ fn lent_proof(
     rules: Rules,
 ) -> Result<(Trace, Verified), Fault>
     ensures trimmed { IfOk result (λ r. IsTrimmedFrom rules formula.now trace.now
-        (trimmed r.0 r.1.core.items)) }
+        (trimmed_trace r.0 r.1.core.items)) }
     ensures claim { IfOk result (λ r. r.1.truth ≡ is_sat r.0.result) }
     ensures within { IfOk result (λ r.
         AllByRecursion (λ i. i < length r.0.steps) r.1.core.items) }
@@ -58,7 +58,7 @@ fn lent_proof(
 /// If an allocation fails.
 fn text_at(alloc: Global, trace: &Trace, places: &[usize]) -> Result<VecSink, AllocError>
     requires { AllByRecursion (λ i. i < length trace.now.steps) places.now }
-    ensures { IfOk result (λ s. s.bytes ≡ text (trimmed trace.now places.now)) }
+    ensures { IfOk result (λ s. s.bytes ≡ text (trimmed_trace trace.now places.now)) }
 {
     let mut sink = VecSink::new(alloc, 0)?;
     match write_steps_at(trace, places, &mut sink) {

@@ -1,32 +1,33 @@
 -- From a run over opened files to the report of the program.
-use Rattle.std.proofs.Common.{arith, rules, ◌≡◌, ◌∙◌, ◌<◌, ℕ, List, [], Option, Some, None, IfSome, inr, sym, ap, map, length, get_or, Result}
+use Rattle.std.proofs.Common.{arith, rules, ◌≡◌, ◌∙◌, ◌<◌, ℕ, List, [], Option, Some, None, IfSome, inr, sym, ap, map, length, get_or}
+use Rattle.std.proofs.Common.{Result, Ok, Err}
 use Rattle.std.proofs.lemmas.Grind.{common_steps}
 use Rattle.std.proofs.lemmas.List.{get_or-map}
 use Rattle.qrp_program.specs.declared.job.Job.{Job}
 use Rattle.qrp_rules.specs.declared.rules.Rules.{Rules}
 use Rattle.qrp_check.specs.declared.verdict.Verified.{Verified}
 use Rattle.qrp_check.specs.declared.verdict.Fault.{Fault}
-use Rattle.qrp_program.specs.Output.{IsOutput, Report}
+use Rattle.qrp_program.specs.Output.{IsOn, IsOutput, Report, check_report}
 use Rattle.qrp_check.specs.Checked.{SourceCall, IsChecked}
-use Rattle.qrp_program.specs.Program.{read, word, IsOnBoth, IsOnFiles, IsProgram, Opens}
+use Rattle.qrp_program.specs.Program.{call_of_file, word, IsOnBoth, IsOnFiles, IsProgram, Opens}
 use Rattle.qrp_program.specs.Words.{IsRow}
 
--- a source that failed never before, of which nothing is told of where it is
+-- what a run does with a source that failed `before` times until then
 abbrev pub from : Option (List ℕ) → ℕ → ℕ → Type 0 → SourceCall
 from bytes before after unpulled = record { bytes = bytes; before = before; after = after; unpulled = unpulled }
 
 module _ (f t : Option (List ℕ)) (m n : ℕ) (p q : Type 0) where
-  checked : (rules : Rules) (answer : Result Verified Fault) → IsChecked rules (from f 0 m p) (from t 0 n q) answer
-      → IsChecked rules (read f m) (read t n) answer
-  checked rules answer c = search rules
+  same_check : (rules : Rules) (answer : Result Verified Fault) → IsChecked rules (from f 0 m p) (from t 0 n q) answer
+      → IsChecked rules (call_of_file f m) (call_of_file t n) answer
+  same_check rules answer c = search rules
 
-  output : (j : Job) (r : Report) → IsOutput j (from f 0 m p) (from t 0 n q) r → IsOutput j (read f m) (read t n) r
-  output j r o = search rules
+  same_output : (j : Job) (r : Report) → IsOutput j (from f 0 m p) (from t 0 n q) r → IsOutput j (call_of_file f m) (call_of_file t n) r
+  same_output j r o = search rules
 
   -- the report of a run over files that were just opened
   pub of_run : (j : Job) (a b : ℕ) (u : Option (List ℕ)) (r : Report) → a ≡ 0 → b ≡ 0 → u ≡ t → IsOutput j (from f a m p) (from u b n q) r
       → IsOnBoth j f t r
-  of_run j a b u r no_a no_b is o = grind (arith, common_steps, output)
+  of_run j a b u r no_a no_b is o = grind (arith, common_steps, same_output)
 
 -- the word at a place, as it stands in a list of texts
 word_is : {A : Type 0} (f : A → List ℕ) (xs : List A) (i : ℕ) (x : A) (text : List ℕ) → i < length xs → x ≡ get_or xs i x → text ≡ f x
@@ -54,3 +55,8 @@ module _ {A : Type 0} (opens : Opens) (bytes : A → List ℕ) (xs : List A) (r 
       → IsOnFiles opens j first None r → IsProgram opens (map bytes xs) r
   of_formula j i trace x first row within is is_x same_x on =
       inr (record { job = j; formula = i; trace = None }, rw is at row, rw (word_is bytes xs i x first within.0 is_x same_x) on)
+
+-- a check is reported on the first sink
+pub on_out : (rules : Rules) (answer : Result Verified Fault) (out errors : Type 0) → out → IsOn (check_report rules answer).sink out errors
+on_out rules (Ok v) out errors h = h
+on_out rules (Err e) out errors h = h

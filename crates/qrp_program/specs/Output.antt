@@ -64,9 +64,9 @@ abbrev pub IsOutput : Job → SourceCall → SourceCall → Report → Type 0
 IsOutput job.Format formula trace r =
     (reading : Result Qbf (FormulaFault × ℕ)) × IsFormulaRead formula reading × (r ≡ format_report reading)
 IsOutput (job.Check rules) formula trace r =
-    (answer : Result Verified Fault) × IsChecked rules formula trace answer × (r ≡ check_report rules answer)
+    (result : Result Verified Fault) × IsChecked rules formula trace result × (r ≡ check_report rules result)
 IsOutput (job.Trim rules) formula trace r =
-    (answer : Result Derivation Fault) × IsTrimmed rules formula trace answer × (r ≡ trim_report rules answer)
+    (result : Result Derivation Fault) × IsTrimmed rules formula trace result × (r ≡ trim_report rules result)
 
 -- A text is to go out to a sink, which went from `old` to `new`: all of the text went out, nothing of it is held back, and the
 -- status is returned; or the sink failed, a beginning of the text went out, and the status for that is returned.
@@ -74,6 +74,10 @@ abbrev pub IsSent : {S : Type 0} → Ghosts S → S → S → List ℕ → ℕ �
 IsSent sink old new text status failed returned =
     (Appends (sink.written old) (sink.written new) text × (sink.failures new ≡ sink.failures old) × sink.finished new × (returned ≡ status))
     ⊎ (AppendsFront (sink.written old) (sink.written new) text × DeviceFailed (sink.failures old) (sink.failures new) × (returned ≡ failed))
+
+-- the report is to go out to a sink, which went from `old` to `new`
+abbrev pub IsReportedTo : {S : Type 0} → Ghosts S → S → S → Report → ℕ → Type 0
+IsReportedTo sink old new r returned = IsSent sink old new r.text r.status r.failed returned
 
 -- what holds where a report goes to this sink
 abbrev pub IsOn : Sink → Type 0 → Type 0 → Type 0
@@ -84,6 +88,4 @@ IsOn Errors on_out on_errors = on_errors
 -- `errors` to `errors2`, is as it was.
 abbrev pub IsReported : {O E : Type 0} → Ghosts O → O → O → Ghosts E → E → E → Report → ℕ → Type 0
 IsReported o out out2 e errors errors2 r returned =
-    IsOn r.sink
-    (IsSent o out out2 r.text r.status r.failed returned × (errors2 ≡ errors))
-    (IsSent e errors errors2 r.text r.status r.failed returned × (out2 ≡ out))
+    IsOn r.sink (IsReportedTo o out out2 r returned × (errors2 ≡ errors)) (IsReportedTo e errors errors2 r returned × (out2 ≡ out))

@@ -3,8 +3,8 @@ use Rattle.std.specs.Prelude.{◌≡◌, ℕ, List, [], ◌⊎◌, Option, Some,
 use Rattle.qrp_program.specs.declared.job.Job.{Job}
 use Rattle.qrp_program.specs.declared.start.Start.{Start}
 use Rattle.qrp_program.specs.declared.start.Start.TheVariants as start
-use Rattle.qrp_program.specs.declared.unopened.Unopened.{Unopened}
-use Rattle.qrp_program.specs.declared.unopened.Unopened.TheVariants.{NoFile, NoMemory}
+use Rattle.qrp_program.specs.declared.open_fault.OpenFault.{OpenFault}
+use Rattle.qrp_program.specs.declared.open_fault.OpenFault.TheVariants.{NoFile, NoMemory}
 use Rattle.qrp_program.specs.Lines.{start_line, start_status}
 use Rattle.qrp_program.specs.Output.{Sink, Errors, Report, IsOutput, refusals}
 use Rattle.qrp_check.specs.Checked.{SourceCall}
@@ -15,27 +15,27 @@ abbrev pub start_report : Sink → Start → Report
 start_report sink s = record { sink = sink; text = start_line s; status = start_status s; failed = start_status s }
 
 -- how the program ends where a file is not opened
-abbrev pub not_opened : Start → Unopened → Start
-not_opened no_file NoFile = no_file
-not_opened no_file NoMemory = start.NoMemory
+abbrev pub start_without_file : Start → OpenFault → Start
+start_without_file no_file NoFile = no_file
+start_without_file no_file NoMemory = start.NoMemory
 
 -- what opening a path may return: the bytes of the file, where they are known, or why it is not opened
 abbrev pub Opens : Type 1
-Opens = List ℕ → Result (Option (List ℕ)) Unopened → Type 0
+Opens = List ℕ → Result (Option (List ℕ)) OpenFault → Type 0
 
 -- The report on a file: the end for this sink where it is not opened, or what is said of the bytes of the opened file.
 abbrev pub IsOnFile : Opens → Sink → Start → List ℕ → (Option (List ℕ) → Type 0) → Report → Type 0
 IsOnFile opens sink no_file path says r =
-    ((e : Unopened) × opens path (Err e) × (r ≡ start_report sink (not_opened no_file e)))
+    ((e : OpenFault) × opens path (Err e) × (r ≡ start_report sink (start_without_file no_file e)))
     ⊎ ((bytes : Option (List ℕ)) × opens path (Ok bytes) × says bytes)
 
--- an opened file with these bytes, that failed this often
-abbrev pub read : Option (List ℕ) → ℕ → SourceCall
-read bytes failures = record { bytes = bytes; before = 0; after = failures; unpulled = Unit {0} }
+-- what a run does with an opened file that has these bytes, and that failed this often
+abbrev pub call_of_file : Option (List ℕ) → ℕ → SourceCall
+call_of_file bytes failures = record { bytes = bytes; before = 0; after = failures; unpulled = Unit {0} }
 
 -- the report of a job on an opened formula and an opened trace
 abbrev pub IsOnBoth : Job → Option (List ℕ) → Option (List ℕ) → Report → Type 0
-IsOnBoth j f t r = (m : ℕ) × (n : ℕ) × IsOutput j (read f m) (read t n) r
+IsOnBoth j f t r = (m : ℕ) × (n : ℕ) × IsOutput j (call_of_file f m) (call_of_file t n) r
 
 -- The report on a request: the formula is opened, then the trace, and both before anything is read.
 abbrev pub IsOnFiles : Opens → Job → List ℕ → Option (List ℕ) → Report → Type 0

@@ -3,10 +3,10 @@
 ghost use Rattle.std.specs.Prelude.{◌≡◌, Some, None, Ok, Err, map, IfOk, IfErr};
 ghost use Rattle.std.specs.String.{string_bytes};
 ghost use Rattle.qrp_program.specs.declared.job.Job.{Job};
-ghost use Rattle.qrp_program.specs.declared.unopened.Unopened.{Unopened};
+ghost use Rattle.qrp_program.specs.declared.open_fault.OpenFault.{OpenFault};
 ghost use Rattle.qrp_program.specs.Lines.{start_line, start_status};
 ghost use Rattle.qrp_program.specs.Output.{Report, Errors, IsSent, IsReported, refusals};
-ghost use Rattle.qrp_program.specs.Program.{not_opened, start_report};
+ghost use Rattle.qrp_program.specs.Program.{start_without_file, start_report};
 ghost use Rattle.qrp_program.specs.Program.{IsOnBoth, IsOnFiles, IsProgram};
 
 use crate::job::Job;
@@ -46,8 +46,8 @@ fn refuse<O: Sink, E: Sink>(job: Job, start: Start, out: &mut O, err: &mut E) ->
 fn open_file<F: Open>(files: &F, path: &str, no_file: Start) -> Result<F::File, Start>
     ensures file { IfOk result (λ f. F.opens files.now path.now (Ok (F.File.remaining f))) }
     ensures failures { IfOk result (λ f. F.File.failures f ≡ 0) }
-    ensures refused { IfErr result (λ start. (e : Unopened)
-        × F.opens files.now path.now (Err e) × (start ≡ not_opened no_file e)) }
+    ensures refused { IfErr result (λ start. (e : OpenFault)
+        × F.opens files.now path.now (Err e) × (start ≡ start_without_file no_file e)) }
 {
     match files.open(path) {
         Ok(file) => Ok(file),

@@ -4,15 +4,15 @@
 mod answering;
 mod job;
 mod open;
+mod open_fault;
 mod running;
 mod start;
-mod unopened;
 mod words;
 
 pub use answering::program;
 pub use job::Job;
 pub use open::{LIMIT, Open};
+pub use open_fault::OpenFault;
 pub use running::{Status, run};
 pub use start::Start;
-pub use unopened::Unopened;
 pub use words::request;

@@ -8,15 +8,16 @@ ghost use Rattle.qdimacs.specs.declared.fault.FormulaFault.{FormulaFault};
 ghost use Rattle.qdimacs.specs.Grammar.{text};
 ghost use Rattle.qrp.specs.Derivations.{Derivation};
 ghost use Rattle.qrp.specs.Grammar.{text as trace_text};
-ghost use Rattle.qrp_check.specs.Checked.{call_of};
+ghost use Rattle.qrp_check.specs.Checked.{IsChecked, call_of};
+ghost use Rattle.qrp_check.specs.declared.verdict.Verified.{Verified};
 ghost use Rattle.qrp_check.specs.declared.verdict.Fault.{Fault};
-ghost use Rattle.qrp_check.specs.Trim.{trimmed};
+ghost use Rattle.qrp_check.specs.Trim.{trimmed_trace};
 ghost use Rattle.qrp_report.specs.Lines.{fault_line, verdict_line};
 ghost use Rattle.qrp_report.specs.Refusals.{fault_status};
 ghost use Rattle.qrp_report.specs.Results.{IsFormulaRead, IsTrimmed};
 ghost use Rattle.qrp_program.specs.declared.job.Job.TheVariants.{Format};
-ghost use Rattle.qrp_program.specs.Output.{Report, IsOutput, IsSent, IsReported};
-ghost use Rattle.qrp_program.specs.Output.{trim_report, format_report};
+ghost use Rattle.qrp_program.specs.Output.{Report, IsOutput, IsSent, IsReported, IsReportedTo};
+ghost use Rattle.qrp_program.specs.Output.{check_report, trim_report, format_report};
 
 use crate::job::Job;
 use qbf_core::Formula;
@@ -79,10 +80,28 @@ fn send_verdict<S: Sink>(sink: &mut S, truth: bool) -> Status
 fn send_trimmed<S: Sink>(sink: &mut S, trace: &Trace, verified: &Verified) -> Status
     requires { AllByRecursion (λ i. i < length trace.now.steps) verified.now.core.items }
     ensures { IsSent S.Sink sink.old sink.new
-        (trace_text (trimmed trace.now verified.now.core.items)) 0 3 result }
+        (trace_text (trimmed_trace trace.now verified.now.core.items)) 0 3 result }
 {
     let sent = write_steps_at(trace, &verified.core, sink);
     finish_sent(sink, sent, 0)
+}
+
+/// Does the job `Check`: sends the line of the verdict or for the first fault to `out`.
+fn run_check<F: Source, T: Source, O: Sink>(
+    alloc: Global,
+    rules: Rules,
+    formula: &mut F,
+    trace: &mut T,
+    out: &mut O,
+) -> Status
+    ensures { (answer : Result Verified Fault) × IsChecked rules
+        (call_of F.Source formula.old formula.new) (call_of T.Source trace.old trace.new) answer
+        × IsReportedTo O.Sink out.old out.new (check_report rules answer) result }
+{
+    match verify(alloc, formula, trace, rules) {
+        Ok(verified) => send_verdict(out, verified.truth),
+        Err(fault) => send_fault(out, &fault),
+    }
 }
 
 /// Does the job `Trim`: sends the trimmed trace to `out`, or the line for the first fault to `err`.
@@ -148,10 +167,7 @@ pub fn run<F: Source, T: Source, O: Sink, E: Sink>(
     ensures not_pulled { job ≡ Format → trace.new ≡ trace.old }
 {
     match job {
-        Job::Check(rules) => match verify(alloc, formula, trace, rules) {
-            Ok(verified) => send_verdict(out, verified.truth),
-            Err(fault) => send_fault(out, &fault),
-        },
+        Job::Check(rules) => run_check(alloc, rules, formula, trace, out),
         Job::Trim(rules) => run_trim(alloc, rules, formula, trace, out, err),
         Job::Format => run_format(alloc, formula, out, err),
     }

@@ -12,9 +12,9 @@ use Rattle.qrp_check.specs.declared.verdict.Verified.{Verified}
 use Rattle.qrp_check.specs.Checked.{SourceCall, IsChecked, WasReadFrom, verdict_of}
 use Rattle.qrp_check.specs.Core.{ListsCore}
 use Rattle.qrp_check.specs.Proof.{IsProof}
-use Rattle.qrp_check.specs.Trim.{trimmed}
+use Rattle.qrp_check.specs.Trim.{trimmed_trace}
 use Rattle.qrp_check.specs.Verdict.{IsVerdict, IsVerdictUnless}
-use Rattle.qrp_check.proofs.HeadlineOfVerdict.{found}
+use Rattle.qrp_check.proofs.HeadlineOfVerdict.{found_of}
 use Rattle.qrp_check.proofs.TrimText.{trimmed_text_proves}
 use Rattle.qrp_report.specs.Results.{DeviceFailed, IsFormulaRead, IsFormulaRefused, IsTrimmedFrom, IsTrimmed}
 
@@ -31,9 +31,9 @@ pub formula_refused : (bytes : Option (List ℕ)) (before after : ℕ) (e : Form
 formula_refused bytes before after e n s failed kept one nine = search rules
 
 trimmed_of : (rules : Rules) (a b : List ℕ) (d : Derivation) (v : Verified) → IsVerdict rules (read_formula a) (Some (read_trace b)) (Ok v)
-    → IsWellFormed d → read_trace b ≡ Ok d → IsTrimmedFrom rules a b (trimmed d v.core.items)
+    → IsWellFormed d → read_trace b ≡ Ok d → IsTrimmedFrom rules a b (trimmed_trace d v.core.items)
 trimmed_of rules a b d v h formed reads =
-    let w = found rules a b v (read_formula a) (Ok d) refl reads (rw reads at h) in
+    let w = found_of rules a b v (read_formula a) (Ok d) refl reads (rw reads at h) in
     let same : w.d ≡ d = cc (w.reads_trace, reads) in
     let lists : ListsCore d.steps v.core.items = subst (λ (d : Derivation). ListsCore d.steps v.core.items) same w.lists in
     let proves : IsProof rules w.f d = subst (IsProof rules w.f) same w.proves in
@@ -51,7 +51,7 @@ trimmed_of rules a b d v h formed reads =
 
 by_bytes : (rules : Rules) (formula trace : Option (List ℕ)) (d : Derivation) (v : Verified) → IsVerdictUnless rules formula trace (Ok v)
     → WasReadFrom trace d
-    → IfSome formula (λ a. IfSome trace (λ b. IsTrimmedFrom rules a b (trimmed d v.core.items)))
+    → IfSome formula (λ a. IfSome trace (λ b. IsTrimmedFrom rules a b (trimmed_trace d v.core.items)))
 by_bytes rules None trace d v h reads = tt
 by_bytes rules (Some a) None d v h reads = tt
 by_bytes rules (Some a) (Some b) d v (inl h) (formed, reads) = trimmed_of rules a b d v h formed reads
@@ -62,13 +62,13 @@ by_bytes rules (Some a) (Some b) d v (inr (inr (inr h))) reads = absurd h
 -- What was read and verified is trimmed from its bytes.
 pub trims : (rules : Rules) (formula trace : SourceCall) (d : Derivation) (v : Verified) → IsChecked rules formula trace (Ok v)
     → (formula.after ≡ formula.before) × (trace.after ≡ trace.before) → WasReadFrom trace.bytes d
-    → IsTrimmed rules formula trace (Ok (trimmed d v.core.items))
+    → IsTrimmed rules formula trace (Ok (trimmed_trace d v.core.items))
 trims rules formula trace d v checked works reads =
     (by_bytes rules formula.bytes trace.bytes d v checked.verdict reads, works.0, works.1)
 
 -- The same of texts in memory.
 pub found_trimmed : (rules : Rules) (a b : List ℕ) (answer : Result (Derivation × Verified) Fault)
     → IsVerdictUnless rules (Some a) (Some b) (verdict_of answer) → IfOk answer (λ r. WasReadFrom (Some b) r.0)
-    → IfOk answer (λ r. IsTrimmedFrom rules a b (trimmed r.0 r.1.core.items))
+    → IfOk answer (λ r. IsTrimmedFrom rules a b (trimmed_trace r.0 r.1.core.items))
 found_trimmed rules a b (Ok r) h reads = by_bytes rules (Some a) (Some b) r.0 r.1 h reads
 found_trimmed rules a b (Err e) h reads = tt

@@ -12,7 +12,7 @@ use Rattle.qrp_check.specs.Checked.{SourceCall, IsChecked}
 use Rattle.qrp_check.specs.Core.{ListsCore}
 use Rattle.qrp_check.specs.Laws.{IsTrimmedProof}
 use Rattle.qrp_check.specs.Proof.{IsProof}
-use Rattle.qrp_check.specs.Trim.{trimmed}
+use Rattle.qrp_check.specs.Trim.{trimmed_trace}
 
 -- a source or a sink failed in a call that began with its count of failures below the limit
 abbrev pub DeviceFailed : ℕ → ℕ → Type 0
@@ -40,7 +40,7 @@ pub record IsTrimmedFrom (rules : Rules) (formula trace : List ℕ) (t : Derivat
   pub reads_trace : read_trace trace ≡ Ok d
   pub lists : ListsCore d.steps core
   pub proves : IsProof rules f d
-  pub is : t ≡ trimmed d core
+  pub is : t ≡ trimmed_trace d core
   pub whole : IsTrimmedProof rules f t
 
 -- What the trimming of a trace returns: the trimmed trace, as far as the bytes are known, or a refusal as for a check.

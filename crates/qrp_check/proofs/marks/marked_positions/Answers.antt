@@ -1,6 +1,6 @@
 use Rattle.qrp_check.proofs.Words.{ℕ, ◌+◌, List, subst, sym, ListsMarked}
 use Rattle.std.proofs.Common.{Vec, Global}
-use Rattle.qrp_check.proofs.MarkedPlaces.{marked, unmarked, listing_skip, listing_push}
+use Rattle.qrp_check.proofs.MarkedPlaces.{is_marked, is_unmarked, listing_skip, listing_push}
 use Rattle.qrp_check.proofs.marks.marked_positions.Goals.{then-marks-position+in_ok-push, else-marks-position}
 use Rattle.qrp_check.proofs.marks.marked_positions.Goals as goal
 
@@ -12,7 +12,7 @@ loop-position-preserved c =
       | then-marks-position+in_ok-push w ↦ subst (λ (v : Vec ℕ Global). listed v.items) (sym w.positions-is)
           (subst listed (sym w.in_ok-push.ensures.items)
           (listing_push c.args.marks.now i c.loop-position.positions.items
-          (marked c.args.marks.now i c.loop-position-test.true w.if-marks-position.true) c.loop-position.invariant))
+          (is_marked c.args.marks.now i c.loop-position-test.true w.if-marks-position.true) c.loop-position.invariant))
       | else-marks-position w ↦ subst (λ (v : Vec ℕ Global). listed v.items) (sym w.positions-is) (listing_skip c.args.marks.now i
-          c.loop-position.positions.items (unmarked c.args.marks.now i w.if-marks-position.false) c.loop-position.invariant)
+          c.loop-position.positions.items (is_unmarked c.args.marks.now i w.if-marks-position.false) c.loop-position.invariant)
     ]

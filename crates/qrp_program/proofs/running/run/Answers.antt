@@ -1,20 +1,15 @@
-use Rattle.std.proofs.Common.{rules, refl, Ok, Err}
+use Rattle.std.proofs.Common.{refl, Result}
+use Rattle.qrp_check.specs.declared.verdict.Verified.{Verified}
+use Rattle.qrp_check.specs.declared.verdict.Fault.{Fault}
+use Rattle.qrp_program.proofs.ProgramReport.{on_out}
 use Rattle.qrp_program.specs.Output.{check_report, trim_report, format_report}
 use Rattle.qrp_program.proofs.running.run.Goals as goal
 
-pub returns-in-Ok-clause-report : goal.returns-in-Ok-clause-report
-returns-in-Ok-clause-report g c = rw c.in-Check.is (
-  check_report c.in-Check.rules (Ok c.in-Ok.verified),
-  (Ok c.in-Ok.verified, search rules, refl),
-  (c.send_verdict.ensures, refl),
-)
-
-pub returns-in-Err-clause-report : goal.returns-in-Err-clause-report
-returns-in-Err-clause-report g c = rw c.in-Check.is (
-  check_report c.in-Check.rules (Err c.in-Err.fault),
-  (Err c.in-Err.fault, search rules, refl),
-  (c.send_fault.ensures, refl),
-)
+pub returns-in-Check-clause-report : goal.returns-in-Check-clause-report
+returns-in-Check-clause-report g c =
+    let done = c.run_check.ensures in
+    let answer : Result Verified Fault = done.0 in
+    rw c.in-Check.is (check_report c.in-Check.rules answer, (answer, done.1, refl), on_out c.in-Check.rules answer _ _ (done.2, refl))
 
 pub returns-in-Trim-clause-report : goal.returns-in-Trim-clause-report
 returns-in-Trim-clause-report g c =

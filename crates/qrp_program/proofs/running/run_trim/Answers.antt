@@ -1,13 +1,13 @@
 use Rattle.std.proofs.Common.{refl, Ok, Err}
-use Rattle.qrp_check.specs.Trim.{trimmed}
+use Rattle.qrp_check.specs.Trim.{trimmed_trace}
 use Rattle.qrp_report.proofs.ResultsOfBytes.{trims}
 use Rattle.qrp_program.proofs.running.run_trim.Goals as goal
 
 pub returns-in-Ok : goal.returns-in-Ok
 returns-in-Ok g c =
     let found = c.in-Ok in (
-      Ok (trimmed found.whole found.verified.core.items),
-      trims _ _ _ _ _ found.ensures.checked found.ensures.works found.ensures.reads,
+      Ok (trimmed_trace found.whole found.verified.core.items),
+      trims _ _ _ _ _ found.ensures.checked found.ensures.works found.ensures.source.reads,
       (c.send_trimmed.ensures, refl),
     )
 

@@ -1,27 +1,27 @@
 //! Why a file is not opened.
 
 ghost use Rattle.std.specs.Prelude.{◌≡◌};
-ghost use Rattle.qrp_program.specs.Program.{not_opened};
+ghost use Rattle.qrp_program.specs.Program.{start_without_file};
 
 use crate::start::Start;
 
 /// Why a file is not opened.
 #[derive(Clone, Copy, Debug, PartialEq, Eq)]
-pub enum Unopened {
+pub enum OpenFault {
     /// It cannot be opened.
     NoFile,
     /// An allocation failed.
     NoMemory,
 }
 
-impl Unopened {
+impl OpenFault {
     /// How the program ends, where a file that cannot be opened is reported as `no_file`.
     pub fn start(self, no_file: Start) -> Start
-        ensures { result ≡ not_opened no_file self }
+        ensures { result ≡ start_without_file no_file self }
     {
         match self {
-            Unopened::NoFile => no_file,
-            Unopened::NoMemory => Start::NoMemory,
+            OpenFault::NoFile => no_file,
+            OpenFault::NoMemory => Start::NoMemory,
         }
     }
 }
