@@ -6,7 +6,7 @@ ghost use Rattle.qrp_program.specs.declared.open_fault.OpenFault.{OpenFault};
 use crate::command_lines::given;
 use crate::runs::{assert_same, sinks};
 use qbf_text::{FromRead, PieceSink, VecSink};
-use qrp_program::{LIMIT, Open, Start, Status, OpenFault, program};
+use qrp_program::{LIMIT, Open, OpenFault, Start, Status, program};
 use std::alloc::Global;
 use std::test::Fail;
 
