@@ -14,8 +14,8 @@ ghost use Rattle.qrp_memory.specs.Verdicts.{StructHeadline, VerifyReturns};
 
 use qrp_check::{Fault, Rules};
 use qrp_memory::{
-    QrpVerdict, format_lent, line_of, list_core, meaning_of, put_numbers, put_text, encode_fault,
-    encode_nothing, encode_truth, trim_lent, verify_lent,
+    QrpVerdict, encode_fault, encode_nothing, encode_truth, format_lent, line_of, list_core,
+    meaning_of, put_numbers, put_text, trim_lent, verify_lent,
 };
 use std::alloc::Global;
 

@@ -1,5 +1,5 @@
 -- The numbers of the steps at some places, and the line of what was encoded.
-use Rattle.std.proofs.Common.{rules, Ok, refl, ◌≡◌, Bool, Option, Some, ℕ, ◌+◌, ◌<◌, List, [], ◌∷◌, ◌++◌, length, take, get_or, ap, ◌∙◌, sym, Result}
+use Rattle.std.proofs.Common.{rules, Ok, Err, refl, ◌≡◌, Bool, Option, Some, ℕ, ◌+◌, ◌<◌, List, [], ◌∷◌, ◌++◌, length, take, get_or, ap, ◌∙◌, sym, Result}
 use Rattle.std.proofs.lemmas.List.{map-append}
 use Rattle.std.proofs.lemmas.Option.{slice_get-get_or}
 use Rattle.std.specs.List.{AllByRecursion}
@@ -13,11 +13,11 @@ use Rattle.qrp_check.specs.declared.verdict.Fault.{Fault}
 use Rattle.qrp_check.specs.declared.verdict.Verified.{Verified}
 use Rattle.qrp_report.specs.declared.refusal.Refusal.{Refusal}
 use Rattle.qrp_report.specs.Lines.{refusal_line}
-use Rattle.qrp_report.specs.OfFaults.{IsOfFault}
-use Rattle.qrp_report.specs.Results.{IsTrimmedFrom}
+use Rattle.qrp_report.specs.OfFaults.{IsOfFault, NamesVariable}
+use Rattle.qrp_report.specs.Results.{IsTrimmed, IsTrimmedFrom}
 use Rattle.qrp_memory.specs.declared.verdict.QrpVerdict.{QrpVerdict}
 use Rattle.qrp_memory.specs.Encoding.{IsEncoded, encoded_truth, encoded_refusal, result_line}
-use Rattle.qrp_memory.specs.Texts.{ProofReturns}
+use Rattle.qrp_memory.specs.Texts.{ProofReturns, encoded_trace, lent_bytes}
 
 -- the numbers so far, and that of the step at the next place
 pub next_number : (steps : List Inference) (places : List ℕ) (k n : ℕ) (sofar : List ℕ)
@@ -47,3 +47,10 @@ pub proof_returned : {rules : Rules} {formula trace : List ℕ} {out : QrpVerdic
     → ProofReturns rules formula trace out Holds
 proof_returned {t = t} from is same holds =
     record { outcome = Ok t; trimmed = (from, refl, refl); encoded = same ∙ ap encoded_truth is; named = tt; holds = holds }
+
+-- a fault is returned, and what holds of no trace
+pub fault_returned : {rules : Rules} {formula trace : List ℕ} {out : QrpVerdict} {Holds : Result Derivation Fault → Type 0} (fault : Fault)
+    → IsTrimmed rules (lent_bytes formula) (lent_bytes trace) (Err fault) → out ≡ encoded_trace (Err fault) → NamesVariable fault
+    → Holds (Err fault) → ProofReturns rules formula trace out Holds
+fault_returned fault trimmed encoded named holds =
+    record { outcome = Err fault; trimmed = trimmed; encoded = encoded; named = named; holds = holds }

@@ -1,5 +1,4 @@
-use Rattle.std.proofs.Common.{Err}
-use Rattle.qrp_memory.proofs.GivenTexts.{proof_returned}
+use Rattle.qrp_memory.proofs.GivenTexts.{proof_returned, fault_returned}
 use Rattle.qrp_c.proofs.qrp_trim.Goals as goal
 
 pub returns-in-Ok : goal.returns-in-Ok
@@ -8,10 +7,5 @@ returns-in-Ok c =
     proof_returned found.1 found.2 c.encode_truth.ensures (rw (c.bytes.ensures.bytes, found.3) at c.put_text.ensures.written)
 
 pub returns-in-Err : goal.returns-in-Err
-returns-in-Err c = record {
-  outcome = Err c.in-Err.fault;
-  trimmed = c.in-Err.ensures.err;
-  encoded = c.encode_fault.ensures.encoded;
-  named = c.encode_fault.ensures.named;
-  holds = c.put_text-in-Err.ensures.written;
-}
+returns-in-Err c = fault_returned c.in-Err.fault c.in-Err.ensures.err c.encode_fault.ensures.encoded c.encode_fault.ensures.named
+    c.put_text-in-Err.ensures.written
