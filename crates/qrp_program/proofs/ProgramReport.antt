@@ -1,15 +1,19 @@
 -- From a run over opened files to the report of the program.
 use Rattle.std.proofs.Common.{arith, rules, ◌≡◌, ◌∙◌, ◌<◌, ℕ, List, [], Option, Some, None, IfSome, inr, sym, ap, map, length, get_or}
-use Rattle.std.proofs.Common.{Result, Ok, Err}
+use Rattle.std.proofs.Common.{Result, Ok, Err, IfOk, IfErr, OnOk}
 use Rattle.std.proofs.lemmas.Grind.{common_steps}
 use Rattle.std.proofs.lemmas.List.{get_or-map}
 use Rattle.qrp_program.specs.declared.job.Job.{Job}
 use Rattle.qrp_rules.specs.declared.rules.Rules.{Rules}
 use Rattle.qrp_check.specs.declared.verdict.Verified.{Verified}
 use Rattle.qrp_check.specs.declared.verdict.Fault.{Fault}
-use Rattle.qrp_program.specs.Output.{IsOn, IsOutput, Report, check_report}
-use Rattle.qrp_check.specs.Checked.{SourceCall, IsChecked}
-use Rattle.qrp_program.specs.Program.{call_of_file, word, IsOnBoth, IsOnFiles, IsProgram, Opens}
+use Rattle.qrp_program.specs.declared.start.Start.{Start}
+use Rattle.qrp_program.specs.Output.{IsOn, IsOutput, Report, check_report, refusals, trimmed_result}
+use Rattle.qrp.specs.Derivations.{Derivation}
+use Rattle.qrp_check.specs.Checked.{SourceCall, IsChecked, WasReadFrom, verdict_of}
+use Rattle.qrp_report.specs.Results.{IsTrimmed}
+use Rattle.qrp_report.proofs.ResultsOfBytes.{trims}
+use Rattle.qrp_program.specs.Program.{call_of_file, start_report, word, IsOnBoth, IsOnFiles, IsOnOpened, IsProgram, Opens}
 use Rattle.qrp_program.specs.Words.{IsRow}
 
 -- what a run does with a source that failed `before` times until then
@@ -60,3 +64,19 @@ module _ {A : Type 0} (opens : Opens) (bytes : A → List ℕ) (xs : List A) (r 
 pub on_out : (rules : Rules) (answer : Result Verified Fault) (out errors : Type 0) → out → IsOn (check_report rules answer).sink out errors
 on_out rules (Ok v) out errors h = h
 on_out rules (Err e) out errors h = h
+
+-- the report on what was opened is the one on the files
+pub on_files : {F T : Type 0} (opens : Opens) (first : List ℕ) (second : Option (List ℕ)) (formula : F → Option (List ℕ))
+    (trace : T → Option (List ℕ)) (j : Job) (opened : Result (F × T) Start) (r : Report)
+    → IfOk opened (λ f. (job : Job) (r : Report) → IsOnBoth job (formula f.0) (trace f.1) r → IsOnFiles opens job first second r)
+    → IfErr opened (λ start. (job : Job) → IsOnFiles opens job first second (start_report (refusals job) start))
+    → IsOnOpened formula trace j opened r → IsOnFiles opens j first second r
+on_files opens first second formula trace j (Ok f) r ok err on = ok j r on
+on_files opens first second formula trace j (Err start) r ok err on = rw on (err j)
+
+-- what was read and verified is trimmed, and a fault is that of the check
+pub trims_result : (rules : Rules) (formula trace : SourceCall) (proof : Result (Derivation × Verified) Fault)
+    → IsChecked rules formula trace (verdict_of proof) → OnOk proof ((formula.after ≡ formula.before) × (trace.after ≡ trace.before))
+    → IfOk proof (λ r. WasReadFrom trace.bytes r.0) → IsTrimmed rules formula trace (trimmed_result proof)
+trims_result rules formula trace (Ok r) checked works reads = trims rules formula trace r.0 r.1 checked works reads
+trims_result rules formula trace (Err e) checked works reads = checked

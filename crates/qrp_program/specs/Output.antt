@@ -15,6 +15,7 @@ use Rattle.qrp_check.specs.declared.verdict.Fault.TheVariants as fault
 use Rattle.qrp.specs.Derivations.{Derivation}
 use Rattle.qrp.specs.Grammar as trace
 use Rattle.qrp_check.specs.Checked.{SourceCall, IsChecked}
+use Rattle.qrp_check.specs.Trim.{trimmed_trace}
 use Rattle.qrp_report.specs.Lines.{fault_line, verdict_line}
 use Rattle.qrp_report.specs.Refusals.{fault_status}
 use Rattle.qrp_report.specs.Results.{DeviceFailed, IsFormulaRead, IsTrimmed}
@@ -53,6 +54,11 @@ format_report (Err e) = refusal job.Format (fault.Formula e.0 e.1)
 abbrev pub check_report : Rules → Result Verified Fault → Report
 check_report rules (Ok v) = success (verdict_line v.truth)
 check_report rules (Err e) = refusal (job.Check rules) e
+
+-- the trimmed trace, where a trace was read and verified
+abbrev pub trimmed_result : Result (Derivation × Verified) Fault → Result Derivation Fault
+trimmed_result (Ok r) = Ok (trimmed_trace r.0 r.1.core.items)
+trimmed_result (Err e) = Err e
 
 -- the canonical text of the trimmed trace, or the refusal of a text or of the proof
 abbrev pub trim_report : Rules → Result Derivation Fault → Report

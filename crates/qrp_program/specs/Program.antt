@@ -37,6 +37,11 @@ call_of_file bytes failures = record { bytes = bytes; before = 0; after = failur
 abbrev pub IsOnBoth : Job → Option (List ℕ) → Option (List ℕ) → Report → Type 0
 IsOnBoth j f t r = (m : ℕ) × (n : ℕ) × IsOutput j (call_of_file f m) (call_of_file t n) r
 
+-- the report of a job on an opened formula and an opened trace, or on why they are not opened
+abbrev pub IsOnOpened : {F T : Type 0} → (F → Option (List ℕ)) → (T → Option (List ℕ)) → Job → Result (F × T) Start → Report → Type 0
+IsOnOpened formula trace j (Ok f) r = IsOnBoth j (formula f.0) (trace f.1) r
+IsOnOpened formula trace j (Err start) r = r ≡ start_report (refusals j) start
+
 -- The report on a request: the formula is opened, then the trace, and both before anything is read.
 abbrev pub IsOnFiles : Opens → Job → List ℕ → Option (List ℕ) → Report → Type 0
 IsOnFiles opens j formula None r =

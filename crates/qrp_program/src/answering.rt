@@ -7,14 +7,14 @@ ghost use Rattle.qrp_program.specs.declared.open_fault.OpenFault.{OpenFault};
 ghost use Rattle.qrp_program.specs.Lines.{start_line, start_status};
 ghost use Rattle.qrp_program.specs.Output.{Report, Errors, IsSent, IsReported, refusals};
 ghost use Rattle.qrp_program.specs.Program.{start_without_file, start_report};
-ghost use Rattle.qrp_program.specs.Program.{IsOnBoth, IsOnFiles, IsProgram};
+ghost use Rattle.qrp_program.specs.Program.{IsOnBoth, IsOnFiles, IsOnOpened, IsProgram};
 
 use crate::job::Job;
 use crate::open::Open;
 use crate::running::{Status, run};
 use crate::start::Start;
 use crate::words::request;
-use qbf_text::{Sink, SliceSource, put_bytes};
+use qbf_text::{Sink, SliceSource, Source, put_bytes};
 use std::alloc::Global;
 
 /// Ends before a job begins. The status stays whether or not the line went out.
@@ -73,43 +73,45 @@ fn open_both<F: Open>(files: &F, formula: &str, trace: &str) -> Result<(F::File,
     Ok((formula, trace))
 }
 
-/// Does a job on a formula and a trace, or reports which of them is not opened.
-fn on_both<F: Open, O: Sink, E: Sink>(
-    alloc: Global,
-    files: &F,
-    job: Job,
-    formula: &str,
-    trace: &str,
-    out: &mut O,
-    err: &mut E,
-) -> Status
-    ensures { (r : Report) × IsOnFiles (F.opens files.now) job formula.now (Some trace.now) r
-        × IsReported O.Sink out.old out.new E.Sink err.old err.new r result }
+/// Opens the file of a formula, for a job that has no trace.
+///
+/// # Errors
+/// How the program ends where it is not opened.
+fn open_formula<'a, F: Open>(files: &F, path: &str) -> Result<(F::File, SliceSource<'a>), Start>
+    ensures opened { IfOk result (λ f. (job : Job) (r : Report)
+        → IsOnBoth job (F.File.remaining f.0) (Some f.1) r
+        → IsOnFiles (F.opens files.now) job path.now None r) }
+    ensures failures { IfOk result (λ f. F.File.failures f.0 ≡ 0) }
+    ensures refused { IfErr result (λ start. (job : Job) → IsOnFiles (F.opens files.now) job
+        path.now None (start_report (refusals job) start)) }
 {
-    match open_both(files, formula, trace) {
-        Ok((mut formula, mut trace)) => run(alloc, job, &mut formula, &mut trace, out, err),
-        Err(start) => refuse(job, start, out, err),
-    }
+    let file = open_file(files, path, Start::NoFormula)?;
+    Ok((file, SliceSource::new(&[])))
 }
 
-/// Does a job on a formula alone, or reports that it is not opened.
-fn on_formula<F: Open, O: Sink, E: Sink>(
+/// A job, and where it takes its memory from.
+#[derive(Clone, Copy)]
+struct Task {
     alloc: Global,
-    files: &F,
     job: Job,
-    path: &str,
+}
+
+/// Does a job on the opened files, or reports why they are not opened.
+fn run_opened<F: Source + Drop, T: Source + Drop, O: Sink, E: Sink>(
+    task: Task,
+    opened: Result<(F, T), Start>,
     out: &mut O,
     err: &mut E,
 ) -> Status
-    ensures { (r : Report) × IsOnFiles (F.opens files.now) job path.now None r
+    requires fresh { IfOk opened (λ f. (F.failures f.0 ≡ 0) × (T.failures f.1 ≡ 0)) }
+    ensures { (r : Report) × IsOnOpened F.remaining T.remaining task.job opened r
         × IsReported O.Sink out.old out.new E.Sink err.old err.new r result }
 {
-    match open_file(files, path, Start::NoFormula) {
-        Ok(mut formula) => {
-            let mut no_trace = SliceSource::new(&[]);
-            run(alloc, job, &mut formula, &mut no_trace, out, err)
+    match opened {
+        Ok((mut formula, mut trace)) => {
+            run(task.alloc, task.job, &mut formula, &mut trace, out, err)
         }
-        Err(start) => refuse(job, start, out, err),
+        Err(start) => refuse(task.job, start, out, err),
     }
 }
 
@@ -143,11 +145,12 @@ pub fn program<F: Open, O: Sink, E: Sink>(
     let texts = words.as_slice();
     match request(texts) {
         Some((job, formula, Some(trace))) => {
-            let (formula, trace) = (texts[formula].as_str(), texts[trace].as_str());
-            on_both(alloc, files, job, formula, trace, out, err)
+            let opened = open_both(files, texts[formula].as_str(), texts[trace].as_str());
+            run_opened(Task { alloc, job }, opened, out, err)
         }
         Some((job, formula, None)) => {
-            on_formula(alloc, files, job, texts[formula].as_str(), out, err)
+            let opened = open_formula(files, texts[formula].as_str());
+            run_opened(Task { alloc, job }, opened, out, err)
         }
         None => stop(err, Start::Usage),
     }

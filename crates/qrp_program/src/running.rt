@@ -1,30 +1,28 @@
 //! A job from its sources to its sinks.
 
-ghost use Rattle.std.specs.Prelude.{◌≡◌, ◌<◌, List, ℕ, Result, length};
+ghost use Rattle.std.specs.Prelude.{◌≡◌, ◌<◌, List, ℕ, Result, IfOk, length};
 ghost use Rattle.std.specs.List.{AllByRecursion};
 ghost use Rattle.qbf_core.specs.Qbf.{Qbf};
 ghost use Rattle.qbf_text.specs.Written.{IsPut};
 ghost use Rattle.qdimacs.specs.declared.fault.FormulaFault.{FormulaFault};
 ghost use Rattle.qdimacs.specs.Grammar.{text};
-ghost use Rattle.qrp.specs.Derivations.{Derivation};
 ghost use Rattle.qrp.specs.Grammar.{text as trace_text};
-ghost use Rattle.qrp_check.specs.Checked.{IsChecked, call_of};
-ghost use Rattle.qrp_check.specs.declared.verdict.Verified.{Verified};
-ghost use Rattle.qrp_check.specs.declared.verdict.Fault.{Fault};
+ghost use Rattle.qrp_check.specs.Checked.{call_of};
 ghost use Rattle.qrp_check.specs.Trim.{trimmed_trace};
 ghost use Rattle.qrp_report.specs.Lines.{fault_line, verdict_line};
 ghost use Rattle.qrp_report.specs.Refusals.{fault_status};
-ghost use Rattle.qrp_report.specs.Results.{IsFormulaRead, IsTrimmed};
+ghost use Rattle.qrp_report.specs.Results.{IsFormulaRead};
+ghost use Rattle.qrp_rules.specs.declared.rules.Rules.{Rules};
 ghost use Rattle.qrp_program.specs.declared.job.Job.TheVariants.{Format};
 ghost use Rattle.qrp_program.specs.Output.{Report, IsOutput, IsSent, IsReported, IsReportedTo};
-ghost use Rattle.qrp_program.specs.Output.{check_report, trim_report, format_report};
+ghost use Rattle.qrp_program.specs.Output.{check_report, trim_report, trimmed_result, format_report};
 
 use crate::job::Job;
 use qbf_core::Formula;
 use qbf_text::{Sink, SinkFault, Source};
 use qdimacs::{read_formula, write_formula};
 use qrp::{Trace, write_steps_at};
-use qrp_check::{Fault, Rules, Verified, find_proof, verify};
+use qrp_check::{Fault, Verified, find_proof, verify};
 use qrp_report::{Refusal, put_refusal, put_verdict};
 use std::alloc::Global;
 
@@ -86,39 +84,29 @@ fn send_trimmed<S: Sink>(sink: &mut S, trace: &Trace, verified: &Verified) -> St
     finish_sent(sink, sent, 0)
 }
 
-/// Does the job `Check`: sends the line of the verdict or for the first fault to `out`.
-fn run_check<F: Source, T: Source, O: Sink>(
-    alloc: Global,
-    rules: Rules,
-    formula: &mut F,
-    trace: &mut T,
-    out: &mut O,
-) -> Status
-    ensures { (answer : Result Verified Fault) × IsChecked rules
-        (call_of F.Source formula.old formula.new) (call_of T.Source trace.old trace.new) answer
-        × IsReportedTo O.Sink out.old out.new (check_report rules answer) result }
+/// Sends the line of the verdict, or for the first fault.
+fn send_checked<O: Sink>(out: &mut O, checked: Result<Verified, Fault>) -> Status
+    ensures { (rules : Rules)
+        → IsReportedTo O.Sink out.old out.new (check_report rules checked) result }
 {
-    match verify(alloc, formula, trace, rules) {
+    match checked {
         Ok(verified) => send_verdict(out, verified.truth),
         Err(fault) => send_fault(out, &fault),
     }
 }
 
-/// Does the job `Trim`: sends the trimmed trace to `out`, or the line for the first fault to `err`.
-fn run_trim<F: Source, T: Source, O: Sink, E: Sink>(
-    alloc: Global,
-    rules: Rules,
-    formula: &mut F,
-    trace: &mut T,
+/// Sends the trimmed trace to `out`, or the line for the first fault to `err`.
+fn send_proof<O: Sink, E: Sink>(
     out: &mut O,
     err: &mut E,
+    proof: Result<(Trace, Verified), Fault>,
 ) -> Status
-    ensures { (answer : Result Derivation Fault) × IsTrimmed rules
-        (call_of F.Source formula.old formula.new) (call_of T.Source trace.old trace.new) answer
-        × IsReported O.Sink out.old out.new E.Sink err.old err.new
-        (trim_report rules answer) result }
+    requires within { IfOk proof (λ r.
+        AllByRecursion (λ i. i < length r.0.steps) r.1.core.items) }
+    ensures { (rules : Rules) → IsReported O.Sink out.old out.new E.Sink err.old err.new
+        (trim_report rules (trimmed_result proof)) result }
 {
-    match find_proof(alloc, formula, trace, rules) {
+    match proof {
         Ok((whole, verified)) => send_trimmed(out, &whole, &verified),
         Err(fault) => send_fault(err, &fault),
     }
@@ -167,8 +155,8 @@ pub fn run<F: Source, T: Source, O: Sink, E: Sink>(
     ensures not_pulled { job ≡ Format → trace.new ≡ trace.old }
 {
     match job {
-        Job::Check(rules) => run_check(alloc, rules, formula, trace, out),
-        Job::Trim(rules) => run_trim(alloc, rules, formula, trace, out, err),
+        Job::Check(rules) => send_checked(out, verify(alloc, formula, trace, rules)),
+        Job::Trim(rules) => send_proof(out, err, find_proof(alloc, formula, trace, rules)),
         Job::Format => run_format(alloc, formula, out, err),
     }
 }

@@ -1,20 +1,40 @@
-use Rattle.std.proofs.Common.{refl, Result}
-use Rattle.qrp_check.specs.declared.verdict.Verified.{Verified}
-use Rattle.qrp_check.specs.declared.verdict.Fault.{Fault}
-use Rattle.qrp_program.proofs.ProgramReport.{on_out}
-use Rattle.qrp_program.specs.Output.{check_report, trim_report, format_report}
+use Rattle.std.proofs.Common.{refl}
+use Rattle.qrp_program.proofs.ProgramReport.{on_out, trims_result}
+use Rattle.qrp_program.specs.Output.{check_report, trim_report, trimmed_result, format_report}
 use Rattle.qrp_program.proofs.running.run.Goals as goal
 
 pub returns-in-Check-clause-report : goal.returns-in-Check-clause-report
 returns-in-Check-clause-report g c =
-    let done = c.run_check.ensures in
-    let answer : Result Verified Fault = done.0 in
-    rw c.in-Check.is (check_report c.in-Check.rules answer, (answer, done.1, refl), on_out c.in-Check.rules answer _ _ (done.2, refl))
+    let checked = c.verify.result in
+    let w = c.verify.ensures in
+    let rules = c.in-Check.rules in
+    rw c.in-Check.is (
+      check_report rules checked,
+      (
+        checked,
+        record {
+          verdict = w.verdict;
+          formula_failed = w.formula_failed;
+          trace_failed = w.trace_failed;
+          lines = w.lines;
+          not_pulled = w.not_pulled;
+        },
+        refl,
+      ),
+      on_out rules checked _ _ (c.send_checked.ensures rules, refl),
+    )
 
 pub returns-in-Trim-clause-report : goal.returns-in-Trim-clause-report
 returns-in-Trim-clause-report g c =
-    let done = c.run_trim.ensures in
-    rw c.in-Trim.is (trim_report c.in-Trim.rules done.0, (done.0, done.1, refl), done.2)
+    let proof = c.find_proof.result in
+    let w = c.find_proof.ensures in
+    let rules = c.in-Trim.rules in
+    let trimmed = trimmed_result proof in
+    rw c.in-Trim.is (
+      trim_report rules trimmed,
+      (trimmed, trims_result rules _ _ proof w.checked w.works w.source.reads, refl),
+      c.send_proof.ensures rules,
+    )
 
 pub returns-in-Format-clause-report : goal.returns-in-Format-clause-report
 returns-in-Format-clause-report g c =
