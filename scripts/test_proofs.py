@@ -219,6 +219,9 @@ def each_is_refused_by_its_own_function():
             "refused: one/sum_is_a_difference: one::sum: returns (not shown)" in lines,
             "refused: one/sum_is_a_product: one::sum: returns (not shown, its stored answer taken out)" in lines,
             "refused: one/first_is_a_field: one::low::first: returns (not shown)" in lines,
+            # The one with an answer that does not fit is left, and tried in a round of its own.
+            any(line.startswith("one 1: 3 wrong bodies, ") for line in lines),
+            any(line.startswith("one left 1: sum_is_a_product, ") for line in lines),
             repository.left() == [],
         ])
 
