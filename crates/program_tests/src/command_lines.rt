@@ -2,7 +2,7 @@
 
 use crate::runs::assert_same;
 use qrp_check::Rules;
-use qrp_program::{Job, request};
+use qrp_cli::{Job, request};
 use std::alloc::{AllocError, Global};
 use std::test::Fail;
 

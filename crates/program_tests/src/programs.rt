@@ -1,12 +1,12 @@
 //! The program on files in memory.
 
 ghost use Rattle.std.specs.Prelude.{◌≡◌, ◌≢◌, ◌⊎◌, Some, Ok, Err, codes};
-ghost use Rattle.qrp_program.specs.declared.open_fault.OpenFault.{OpenFault};
+ghost use Rattle.qrp_cli.specs.declared.open_fault.OpenFault.{OpenFault};
 
 use crate::command_lines::given;
 use crate::runs::{assert_same, sinks};
 use qbf_text::{FromRead, PieceSink, VecSink};
-use qrp_program::{LIMIT, Open, OpenFault, Start, Status, program};
+use qrp_cli::{LIMIT, Open, OpenFault, Start, Status, program};
 use std::alloc::Global;
 use std::test::Fail;
 

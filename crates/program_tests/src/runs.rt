@@ -3,7 +3,7 @@
 
 use qbf_text::{FromRead, PieceSink, PieceSource, SliceSource, VecSink};
 use qrp_check::Rules;
-use qrp_program::{Job, Status, run};
+use qrp_cli::{Job, Status, run};
 use std::alloc::Global;
 use std::fmt::Debug;
 use std::process::Abort;

@@ -2,7 +2,7 @@
 use Rattle.qdimacs.proofs.Words.{common_steps, rules, ◌≡◌, ℕ, ◌≤◌, ◌+◌, ◌||◌, Bool, true, false, List, [], ◌∷◌, length, eqb, refl, ap}
 use Rattle.qdimacs.proofs.Words.{arith, AllByRecursion, Block, pairs, variables, is_bound, IsVariable, list_any, length-map, all_of}
 use Rattle.qdimacs.proofs.Words.{IsDistinct-cons, length-le_from_distinct_below, IsPrefix, IsFull, Pairs}
-use Rattle.qbf_spelling.proofs.Words.{IsDistinct}
+use Rattle.dimacs_syntax.proofs.Words.{IsDistinct}
 
 -- ---- numbers that are in no list
 

@@ -6,13 +6,13 @@ use Rattle.qdimacs.proofs.Words.{append-nil, pairs_of_block, pairs-blocks_of, Al
 use Rattle.qdimacs.proofs.Words.{member, header, clause, IsFormula, ReadsAsRead, all_of, explained, ResultsAreRead, Reads, IsSoFar, Spells}
 use Rattle.qdimacs.proofs.Words.{Goes, Fails, Heading, State, AtP, InHeader, Between, InSet, InClause, Whole, Row, row, faults, set_row}
 use Rattle.qdimacs.proofs.Words.{bound_literal, clause_row, read, IsWhole, result_of, Pairs, Clauses, AreFrom}
-use Rattle.qbf_spelling.proofs.Words.{IsDistinct}
-use Rattle.qbf_spelling.proofs.Words.token
+use Rattle.dimacs_syntax.proofs.Words.{IsDistinct}
+use Rattle.dimacs_syntax.proofs.Words.token
 use Rattle.qbf_text.specs.Lined.{EndsOnce}
 use Rattle.qdimacs.proofs.AllVariablesBound.{is_bound_variables}
 use Rattle.qbf_text.proofs.AcceptedTokens as accepted
 use Rattle.qdimacs.proofs.SpelledIsRead.{read_once}
-use Rattle.qbf_spelling.specs.declared.header.HeaderAt.TheVariants as place
+use Rattle.dimacs_syntax.specs.declared.header.HeaderAt.TheVariants as place
 
 -- ---- one token
 

@@ -5,7 +5,7 @@ use Rattle.qdimacs.proofs.Words.{IsVariable, Qbf, Qdimacs, tokens, literal, set,
 use Rattle.qdimacs.proofs.Words.{tokens-lines_text, all_appended, all_mapped, all_of, closed_plain, literals_plain, set_written, clause}
 use Rattle.qdimacs.proofs.Words.{spelling, lines, text, IsFormula, ReadsText, Pairs, ReadResult, Gives, reads_bytes, is_outside, read}
 use Rattle.qdimacs.proofs.Words.{bytes_read_as, tokens-EndsOnce, IsReadAs, IsFault, Reads, BytesRead}
-use Rattle.qbf_spelling.proofs.Words.token
+use Rattle.dimacs_syntax.proofs.Words.token
 use Rattle.qdimacs.proofs.SpelledIsRead.{bound_one, spelled_is_read, read_once}
 use Rattle.qdimacs.proofs.ReadIsSpelled.{read_explained}
 

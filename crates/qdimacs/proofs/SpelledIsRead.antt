@@ -7,11 +7,11 @@ use Rattle.qdimacs.proofs.Words.{new_number, Leads, Stays, leads_then, split_at,
 use Rattle.qdimacs.proofs.Words.{clause, IsFormula, Heading, State, AtP, InHeader, Between, InSet, InClause, Whole, row, Pairs, Clauses}
 use Rattle.qdimacs.proofs.Words.{AreFrom, Row, read, result_of, blocks_of-pairs, ReadsOnce, FormulaFault, after, IsVariable, all_both}
 use Rattle.qdimacs.proofs.Words.{all_of}
-use Rattle.qbf_spelling.proofs.Words.token
-use Rattle.qbf_spelling.proofs.Words.word
+use Rattle.dimacs_syntax.proofs.Words.token
+use Rattle.dimacs_syntax.proofs.Words.word
 use Rattle.qdimacs.proofs.AllVariablesBound.{is_bound_variables}
 use Rattle.qbf_text.proofs.AcceptedTokens.{Passes}
-use Rattle.qbf_spelling.specs.declared.header.HeaderAt.TheVariants as place
+use Rattle.dimacs_syntax.specs.declared.header.HeaderAt.TheVariants as place
 
 -- ---- the header
 

@@ -3,15 +3,15 @@ pub use Rattle.qbf_core.proofs.BlockLaws.{Alternates-blocks_of, blocks_of-pairs,
 pub use Rattle.qbf_core.proofs.DistinctNumbers.{front_all, front_distinct, middle, new_number, push_distinct}
 pub use Rattle.qbf_core.specs.Blocks.{AreBound, IsPrefix, pairs_of_block, with_pair}
 pub use Rattle.qbf_core.specs.Qbf.{IsWellFormed}
-pub use Rattle.qbf_spelling.proofs.CanonicalLines.{literals_plain, set_written}
-pub use Rattle.qbf_spelling.proofs.Words.{AllByRecursion, AllByRecursion-push, Block, Ends, IsSent, IsVariable, Lined, Literal, Qbf}
-pub use Rattle.qbf_spelling.proofs.Words.{Qdimacs, Quantifier, Token, blocks_of, flat_map, flat_map-append, flat_map-map, is_bound}
-pub use Rattle.qbf_spelling.proofs.Words.{length-append, letter, literal, map-append, number, pairs, read-one, sent_fails, sent_part, set}
-pub use Rattle.qbf_spelling.proofs.Words.{tokens, without_lines, variables}
-pub use Rattle.qbf_spelling.proofs.Worked.{all, exists}
-pub use Rattle.qbf_spelling.proofs.WrittenParts.{closed_literals, set_line}
-pub use Rattle.qbf_spelling.specs.Decode.{member}
-pub use Rattle.qbf_spelling.specs.Texts.{closing, literal_text}
+pub use Rattle.dimacs_syntax.proofs.CanonicalLines.{literals_plain, set_written}
+pub use Rattle.dimacs_syntax.proofs.Words.{AllByRecursion, AllByRecursion-push, Block, Ends, IsSent, IsVariable, Lined, Literal, Qbf}
+pub use Rattle.dimacs_syntax.proofs.Words.{Qdimacs, Quantifier, Token, blocks_of, flat_map, flat_map-append, flat_map-map, is_bound}
+pub use Rattle.dimacs_syntax.proofs.Words.{length-append, letter, literal, map-append, number, pairs, read-one, sent_fails, sent_part, set}
+pub use Rattle.dimacs_syntax.proofs.Words.{tokens, without_lines, variables}
+pub use Rattle.dimacs_syntax.proofs.Worked.{all, exists}
+pub use Rattle.dimacs_syntax.proofs.WrittenParts.{closed_literals, set_line}
+pub use Rattle.dimacs_syntax.specs.Decode.{member}
+pub use Rattle.dimacs_syntax.specs.Texts.{closing, literal_text}
 pub use Rattle.qbf_text.proofs.AcceptedTokens.{Leads, Stays, flat_map-push, leads_reads, leads_then, split_at}
 pub use Rattle.qbf_text.proofs.ReadTexts.{ResultsAreRead, bytes_read_as, explained, whole_given}
 pub use Rattle.qbf_text.proofs.CanonicalTokens.{all_appended, all_both, all_mapped, all_of, closed_plain, joined, tokens-lines_text}

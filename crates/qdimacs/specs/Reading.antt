@@ -3,7 +3,7 @@
 -- and what is a fault.
 use Rattle.std.specs.Prelude.{◌≡◌, ◌≤◌, ℕ, Bool, true, false, List, [], ◌∷◌, ◌++◌, length, Option, Some, None, option_map, Result, Ok, Err}
 use Rattle.std.specs.Prelude.{nat_lt, if◌then◌else◌}
-use Rattle.qbf_spelling.specs.Words
+use Rattle.dimacs_syntax.specs.Words
 use Words.{AllByRecursion, Quantifier, Literal, Qbf, Token, Lined, Fails}
 use Words.token
 use Words.word
@@ -11,14 +11,14 @@ use Rattle.qbf_core.specs.Blocks.{blocks_of, is_bound}
 use Rattle.qdimacs.specs.declared.fault.FormulaFault.{FormulaFault}
 use Rattle.qdimacs.specs.declared.fault.FormulaFault.TheVariants.{F2, F3, F4, F5, F6, F7, F8, F9, F1}
 use Rattle.qbf_text.specs.WholeTexts as whole_texts
-use Rattle.qbf_spelling.specs.declared.decode.Faults.{Faults}
-use Rattle.qbf_spelling.specs.declared.header.HeaderForm.{HeaderForm}
-use Rattle.qbf_spelling.specs.declared.header.HeaderAt.{HeaderAt}
-use Rattle.qbf_spelling.specs.declared.header.HeaderAt.TheVariants as header
-use Rattle.qbf_spelling.specs.declared.header.HeaderMove.{HeaderMove}
-use Rattle.qbf_spelling.specs.declared.header.HeaderMove.TheVariants as moves
-use Rattle.qbf_spelling.specs.Headers.{header_move}
-use Rattle.qbf_spelling.specs.Decode.{quantifier, member, literal_in}
+use Rattle.dimacs_syntax.specs.declared.decode.Faults.{Faults}
+use Rattle.dimacs_syntax.specs.declared.header.HeaderForm.{HeaderForm}
+use Rattle.dimacs_syntax.specs.declared.header.HeaderAt.{HeaderAt}
+use Rattle.dimacs_syntax.specs.declared.header.HeaderAt.TheVariants as header
+use Rattle.dimacs_syntax.specs.declared.header.HeaderMove.{HeaderMove}
+use Rattle.dimacs_syntax.specs.declared.header.HeaderMove.TheVariants as moves
+use Rattle.dimacs_syntax.specs.Headers.{header_move}
+use Rattle.dimacs_syntax.specs.Decode.{quantifier, member, literal_in}
 use Rattle.qbf_text.specs.Rows.{Goes, Ends, Read}
 use Rattle.qbf_text.specs.Rows as rows
 use Rattle.qbf_text.specs.declared.token.Comments.TheVariants.{Qdimacs}

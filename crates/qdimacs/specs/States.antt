@@ -1,11 +1,11 @@
 -- What the parts of a formula say while it is read: what is made, and where the next token stands.
 use Rattle.std.specs.Prelude.{◌≡◌, ◌<◌, ◌≤◌, true, [], length, Result, Ok, Err, ⊤}
-use Rattle.qbf_spelling.specs.Words.{AllByRecursion, pairs, Qbf, IsWellFormed, Fails}
+use Rattle.dimacs_syntax.specs.Words.{AllByRecursion, pairs, Qbf, IsWellFormed, Fails}
 use Rattle.qbf_core.specs.Blocks.{variables, AreBound, IsPrefix}
 use Rattle.qbf_text.specs.Rows.{Goes, Ends}
 use Rattle.qbf_text.specs.declared.grammar.Stop.{Stop}
 use Rattle.qbf_text.specs.declared.grammar.Stop.TheVariants as stop
-use Rattle.qbf_spelling.specs.Headers.{IsUpTo}
+use Rattle.dimacs_syntax.specs.Headers.{IsUpTo}
 use Rattle.qdimacs.specs.declared.fault.FormulaFault.{FormulaFault}
 use Rattle.qdimacs.specs.declared.grammar.At.{At}
 use Rattle.qdimacs.specs.declared.grammar.At.TheVariants as at

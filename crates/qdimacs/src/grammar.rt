@@ -11,8 +11,8 @@ ghost use Rattle.qdimacs.specs.Reading.{AtP, Whole, IsFull, IsWhole, row};
 
 use crate::fault::FormulaFault;
 use crate::tokens::{FAULTS, FORM, bound_literal, clause_or_end};
+use dimacs_syntax::{HeaderAt, HeaderMove, header_move, member, quantifier};
 use qbf_core::{Formula, GrowingLists, Lit, Prefix, PrefixFault, Quantifier, Var};
-use qbf_spelling::{HeaderAt, HeaderMove, header_move, member, quantifier};
 use qbf_text::{Cursor, Grammar, Progress, Stop, Taken, Token};
 use std::alloc::{AllocError, Global};
 use std::marker::Model;

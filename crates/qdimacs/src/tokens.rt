@@ -5,8 +5,8 @@ ghost use Rattle.qbf_core.specs.Blocks.{pairs, IsBound};
 ghost use Rattle.qdimacs.specs.Reading.{bound_literal, clause_or_end, IsFull};
 
 use crate::fault::FormulaFault;
+use dimacs_syntax::{Faults, HeaderForm, literal};
 use qbf_core::{LAST_VARIABLE, Lit, Prefix};
-use qbf_spelling::{Faults, HeaderForm, literal};
 use qbf_text::{Token, Word};
 
 /// The faults that tokens of a formula are.

@@ -7,8 +7,8 @@ ghost use Rattle.qdimacs.specs.Grammar.{text, clause};
 ghost use Rattle.qdimacs.specs.Reading.{read_formula};
 ghost use Rattle.qdimacs.specs.Texts.{opening, sets_text, clauses_text};
 
+use dimacs_syntax::{Bare, Bytes, HeaderLine, Put};
 use qbf_core::{Formula, Lit, Prefix, Quantifier, Var};
-use qbf_spelling::{Bare, Bytes, HeaderLine, Put};
 use qbf_text::{Sink, SinkFault, put_bytes};
 
 /// A clause and its zero.

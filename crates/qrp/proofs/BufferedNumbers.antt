@@ -3,7 +3,7 @@ use Rattle.qrp.proofs.Words.{passes_none, passes_on, passes_further, passes_all,
 use Rattle.qrp.proofs.Words.{Token, LeadOn, Passes}
 use Rattle.qbf_text.specs.declared.buffered.Cursor.{Cursor}
 use Rattle.qbf_text.specs.Passing.{PassesNumber}
-use Rattle.qbf_spelling.specs.Decode.{literal_in}
+use Rattle.dimacs_syntax.specs.Decode.{literal_in}
 use Rattle.qrp.specs.Reading.{State, row, faults, lits_row, ants_row, antecedent, has_room, InLits, InAnts}
 
 module _ (first : State) (bytes : List ℕ) (from to here : Cursor) (t : Token) (ns : List ℕ) (n : ℕ) (ls : List Literal) where

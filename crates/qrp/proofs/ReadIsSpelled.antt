@@ -4,11 +4,11 @@ use Rattle.qrp.proofs.Words.{false, arith, append_assoc, append-nil, map-append,
 use Rattle.qrp.proofs.Words.{IsVariable, AllByRecursion-push, Token, Lined, without_lines, number, letter, set, EndsOnce, push_distinct}
 use Rattle.qrp.proofs.Words.{flat_map-push, Header, Outcome, Inference, IsInference, IsNumber, numbers, Derivation, step, result_word}
 use Rattle.qrp.proofs.Words.{lists, ReadsAsRead, explained, is_used}
-use Rattle.qbf_spelling.proofs.Words.{IsDistinct}
-use Rattle.qbf_spelling.proofs.Words.token
-use Rattle.qbf_spelling.proofs.Words.word
+use Rattle.dimacs_syntax.proofs.Words.{IsDistinct}
+use Rattle.dimacs_syntax.proofs.Words.token
+use Rattle.dimacs_syntax.proofs.Words.word
 use Rattle.qbf_text.proofs.AcceptedTokens.{LeadsOrEnds}
-use Rattle.qbf_spelling.specs.declared.header.HeaderAt.TheVariants as place
+use Rattle.dimacs_syntax.specs.declared.header.HeaderAt.TheVariants as place
 use Rattle.qrp.specs.Faults.{AreLists, Spells, Reads}
 use Rattle.qbf_text.specs.Rows.{Goes, Ends, Fails}
 use Rattle.qrp.specs.declared.item.Item.TheVariants as item

@@ -4,7 +4,7 @@ use Rattle.qrp.proofs.Words.{ap, sym, ◌∙◌, append_assoc, append-nil, Qrp, 
 use Rattle.qrp.proofs.Words.{fault_of, Known, Reading, reads_from, IfKnown, Skips, Stops, Leaves, Reads, Leads, TraceFault, P1, P9, Item}
 use Rattle.qrp.proofs.Words.{Outcome, is_outside, reads_bytes, Gives, StopsAfterPart, StopsAfterResult, Derivation, with_item, is_last}
 use Rattle.std.proofs.Common.{None, option_map}
-use Rattle.qbf_spelling.proofs.Words.{read_from}
+use Rattle.dimacs_syntax.proofs.Words.{read_from}
 use Rattle.qbf_text.specs.declared.grammar.ReadError.TheVariants as error
 use Rattle.qbf_text.specs.Rows as rows
 use Rattle.qbf_text.proofs.Stops.{begins_more, begins_skipped, regroup, known_skips, if_known}

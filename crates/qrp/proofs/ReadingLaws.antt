@@ -5,7 +5,7 @@ use Rattle.qrp.proofs.Words.{literal, set, IsPlain, IsLine, joined, tokens-lines
 use Rattle.qrp.proofs.Words.{Inference, IsInference, numbers, Derivation, IsWellFormed, literals_plain, set_written, step, result, lists}
 use Rattle.qrp.proofs.Words.{lines, text, IsTrace, ReadsText, ItemsOfTrace, bytes_read_as, tokens-EndsOnce, IsReadAs, Gives, reads_bytes}
 use Rattle.qrp.proofs.Words.{is_outside, BytesRead}
-use Rattle.qbf_spelling.proofs.Words.token
+use Rattle.dimacs_syntax.proofs.Words.token
 use Rattle.qrp.proofs.SpelledIsRead.{spelled_is_read, spelled_items, read_once, fault_items}
 use Rattle.qrp.specs.Faults.{IsFault, Reads}
 use Rattle.qrp.specs.Reading.{Fault, read}

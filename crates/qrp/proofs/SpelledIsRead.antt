@@ -4,14 +4,14 @@ use Rattle.qrp.proofs.Words.{arith, append_assoc, append-nil, nat_eq, length-app
 use Rattle.qrp.proofs.Words.{IsVariable, Token, Lined, without_lines, number, literal, set, new_number, P7, Header, Item, Inference, IsInference}
 use Rattle.qrp.proofs.Words.{IsLiteral, IsNumber, numbers, AreGrammatical, items_of_lists, Derivation, step, lists, result_word, IsTrace}
 use Rattle.qrp.proofs.Words.{is_used, split_at, TraceFault, Outcome, Sat, ReadsOnce}
-use Rattle.qbf_spelling.proofs.Words.{IsDistinct}
-use Rattle.qbf_spelling.proofs.Words.token
-use Rattle.qbf_spelling.proofs.Words.word
+use Rattle.dimacs_syntax.proofs.Words.{IsDistinct}
+use Rattle.dimacs_syntax.proofs.Words.token
+use Rattle.dimacs_syntax.proofs.Words.word
 use Rattle.qrp.specs.declared.item.Item.TheVariants as item
 use Rattle.qbf_text.specs.Rows.{Goes, Ends, Fails}
 use Rattle.qrp.specs.Reading.{Fault, State, AtP, Between, InSet, InLits, InAnts, AtResult, After, Row, row, items_from, next_state, item_and_more}
 use Rattle.qrp.specs.Reading.{InHeader, items, with_items, nothing, read}
-use Rattle.qbf_spelling.specs.declared.header.HeaderAt.TheVariants as place
+use Rattle.dimacs_syntax.specs.declared.header.HeaderAt.TheVariants as place
 use Rattle.qrp.specs.Faults.{AreLists, Spells, IsFault, whole_before, Reads}
 
 abbrev pub ItemResult : Type 0

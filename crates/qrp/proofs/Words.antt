@@ -1,12 +1,12 @@
 -- The names that the proofs cite most, passed on from one place. Declares nothing.
 pub use Rattle.qbf_core.proofs.DistinctNumbers.{new_number, one_place, push_distinct}
-pub use Rattle.qbf_spelling.proofs.CanonicalLines.{literals_plain, set_written}
-pub use Rattle.qbf_spelling.proofs.Words.{AllByRecursion, AllByRecursion-push, Block, IsSent, IsVariable, Lined, Literal, Qrp, Quantifier}
-pub use Rattle.qbf_spelling.proofs.Words.{Read, Token, ahead, flat_map, flat_map-append, flat_map-map, left, length-append, letter, literal}
-pub use Rattle.qbf_spelling.proofs.Words.{map-append, number, read-one, sent_fails, sent_part, set, tokens, tokens_next, without_lines}
-pub use Rattle.qbf_spelling.proofs.Worked.{all, exists}
-pub use Rattle.qbf_spelling.proofs.WrittenParts.{closed_numbers, set_line}
-pub use Rattle.qbf_spelling.specs.Texts.{set_text}
+pub use Rattle.dimacs_syntax.proofs.CanonicalLines.{literals_plain, set_written}
+pub use Rattle.dimacs_syntax.proofs.Words.{AllByRecursion, AllByRecursion-push, Block, IsSent, IsVariable, Lined, Literal, Qrp, Quantifier}
+pub use Rattle.dimacs_syntax.proofs.Words.{Read, Token, ahead, flat_map, flat_map-append, flat_map-map, left, length-append, letter, literal}
+pub use Rattle.dimacs_syntax.proofs.Words.{map-append, number, read-one, sent_fails, sent_part, set, tokens, tokens_next, without_lines}
+pub use Rattle.dimacs_syntax.proofs.Worked.{all, exists}
+pub use Rattle.dimacs_syntax.proofs.WrittenParts.{closed_numbers, set_line}
+pub use Rattle.dimacs_syntax.specs.Texts.{set_text}
 pub use Rattle.qbf_text.proofs.AcceptedTokens.{flat_map-push, split_at}
 pub use Rattle.qbf_text.proofs.ReadTexts.{bytes_read_as, explained, unless}
 pub use Rattle.qbf_text.proofs.CanonicalTokens.{all_appended, all_mapped, closed_plain, joined, tokens-lines_text}

@@ -1,11 +1,11 @@
 -- Where the first fault stands: the tokens before it are accepted, and the row of its state refuses it.
 use Rattle.std.specs.Prelude.{◌≡◌, ◌≤◌, ℕ, false, List, [], ◌∷◌, ◌++◌, map, length, Result}
-use Rattle.qbf_spelling.specs.Words
+use Rattle.dimacs_syntax.specs.Words
 use Words.{AllByRecursion, Block, IsVariable, Token, Lined, number, literal, letter}
 use Words.token
 use Words.word
 use Rattle.qbf_text.specs.Rows.{Fails}
-use Rattle.qbf_spelling.specs.Headers.{header_before}
+use Rattle.dimacs_syntax.specs.Headers.{header_before}
 use Rattle.qrp.specs.declared.fault.TraceFault.{TraceFault}
 use Rattle.qrp.specs.declared.item.Header.{Header}
 use Rattle.qrp.specs.declared.item.Item.{Item}

@@ -1,9 +1,9 @@
 -- The parts of a canonical text, as they are written one after the other.
 use Rattle.std.specs.Prelude.{ℕ, List, ◌∷◌, ◌++◌, decimal}
-use Rattle.qbf_spelling.specs.Words.{flat_map}
+use Rattle.dimacs_syntax.specs.Words.{flat_map}
 use Rattle.qbf_text.specs.Canonical.{spaced_number}
 use Rattle.qrp.specs.Inferences.{Inference}
-use Rattle.qbf_spelling.specs.Texts.{literal_text, closing}
+use Rattle.dimacs_syntax.specs.Texts.{literal_text, closing}
 
 -- the line of a step
 abbrev pub step_text : Inference → List ℕ

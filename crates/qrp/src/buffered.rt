@@ -8,8 +8,8 @@ ghost use Rattle.qrp.specs.Reading.{row};
 
 use crate::states::{At, Part, Partial, has_room, take_item_start};
 use crate::tokens::{FAULTS, antecedent};
+use dimacs_syntax::literal;
 use qbf_core::LAST_VARIABLE;
-use qbf_spelling::literal;
 use qbf_text::{Cursor, Progress};
 use std::alloc::AllocError;
 

@@ -1,15 +1,15 @@
 //! What a trace is made of, part by part, whether it is read or pushed to.
 
 ghost use Rattle.std.specs.Prelude.{◌≡◌, false, [], ◌∷◌, ◌++◌, OnOk, OnErr};
-ghost use Rattle.qbf_spelling.specs.declared.header.HeaderAt.TheVariants as header;
+ghost use Rattle.dimacs_syntax.specs.declared.header.HeaderAt.TheVariants as header;
 ghost use Rattle.qrp.specs.Flat.{after_close, kept_of, nothing_kept, ClosesPart, IsFlat};
 ghost use Rattle.qrp.specs.States.{IsComplete, Stays};
 ghost use Rattle.step_index.specs.Numbers.{is_used, AreStepNumbers};
 
 use crate::item::{Header, QuantSet};
 use crate::states::{Part, Partial};
+use dimacs_syntax::HeaderAt;
 use qbf_core::GrowingLists;
-use qbf_spelling::HeaderAt;
 use std::alloc::{AllocError, Global};
 use std::mem;
 use step_index::StepIndex;

@@ -9,8 +9,8 @@ ghost use Rattle.qrp.specs.Reading.{has_room, row};
 use crate::fault::TraceFault;
 use crate::item::{Header, Outcome};
 use crate::tokens::{FAULTS, FORM, ItemStart, antecedent, decode_item_start, outcome_of};
+use dimacs_syntax::{HeaderAt, HeaderMove, header_move, literal, member};
 use qbf_core::{GrowingLists, LAST_VARIABLE, Lit, Quantifier, Var};
-use qbf_spelling::{HeaderAt, HeaderMove, header_move, literal, member};
 use qbf_text::{Stop, Token};
 use step_index::StepIndex;
 

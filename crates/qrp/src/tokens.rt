@@ -6,8 +6,8 @@ ghost use Rattle.qrp.specs.Reading.{antecedent, item_start, outcome_of};
 
 use crate::fault::TraceFault;
 use crate::item::Outcome;
+use dimacs_syntax::{Faults, HeaderForm};
 use qbf_core::Quantifier;
-use qbf_spelling::{Faults, HeaderForm};
 use qbf_text::{Token, Word};
 
 /// The faults that tokens of a trace are.

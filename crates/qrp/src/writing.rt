@@ -9,13 +9,13 @@ ghost use Rattle.qrp.specs.Derivations.{steps_at, with_steps_at};
 ghost use Rattle.qrp.specs.Grammar.{result as result_line, text};
 ghost use Rattle.qrp.specs.Inferences.{Inference, IsAt};
 ghost use Rattle.qrp.specs.Reading.{read_trace};
-ghost use Rattle.qbf_spelling.specs.Texts.{set_text};
+ghost use Rattle.dimacs_syntax.specs.Texts.{set_text};
 ghost use Rattle.qrp.specs.Texts.{step_text, steps_text};
 
 use crate::item::{Header, Outcome, QuantSet};
 use crate::steps::Steps;
 use crate::trace::Trace;
-use qbf_spelling::{Bare, Bytes, HeaderLine, Put};
+use dimacs_syntax::{Bare, Bytes, HeaderLine, Put};
 use qbf_text::{Sink, SinkFault, put_bytes};
 
 /// The line of a set.

@@ -7,16 +7,16 @@ ghost use Rattle.qrp_check.specs.declared.verdict.Verified.{Verified};
 ghost use Rattle.qrp_check.specs.declared.verdict.Fault.{Fault};
 ghost use Rattle.qrp_report.specs.Meanings.{fault_meaning};
 ghost use Rattle.qrp_report.specs.OfFaults.{NamesVariable};
-ghost use Rattle.qrp_memory.specs.Buffers.{IsWritten};
-ghost use Rattle.qrp_memory.specs.Encoding.{IsEncoded, EncodesSome, EncodesFault, encoded_fault, result_line};
-ghost use Rattle.qrp_memory.specs.Texts.{TrimReturns, CoreReturns, FormatReturns};
-ghost use Rattle.qrp_memory.specs.Verdicts.{StructHeadline, VerifyReturns};
+ghost use Rattle.qrp_bytes.specs.Buffers.{IsWritten};
+ghost use Rattle.qrp_bytes.specs.Encoding.{IsEncoded, EncodesSome, EncodesFault, encoded_fault, result_line};
+ghost use Rattle.qrp_bytes.specs.Texts.{TrimReturns, CoreReturns, FormatReturns};
+ghost use Rattle.qrp_bytes.specs.Verdicts.{StructHeadline, VerifyReturns};
 
-use qrp_check::{Fault, Rules};
-use qrp_memory::{
-    QrpVerdict, encode_fault, encode_nothing, encode_truth, format_lent, line_of, list_core,
-    meaning_of, put_numbers, put_text, trim_lent, verify_lent,
+use qrp_bytes::{
+    QrpVerdict, encode_fault, encode_nothing, encode_truth, format_bytes, line_of, list_core,
+    meaning_of, put_numbers, put_text, trim_bytes, verify_bytes,
 };
+use qrp_check::{Fault, Rules};
 use std::alloc::Global;
 
 /// Whether the trace in these bytes proves its result of the formula in those, as `verify` returns
@@ -38,7 +38,7 @@ pub extern "C" fn qrp_verify(
     ensures verdict { VerifyReturns (record { any_pivot = any_pivot }) formula.now trace.now out.new }
     ensures status { result ≡ pos out.new.status }
 {
-    let verdict = verify_lent(alloc, formula, trace, Rules { any_pivot });
+    let verdict = verify_bytes(alloc, formula, trace, Rules { any_pivot });
     *out = verdict;
     i32::from(verdict.status)
 }
@@ -99,7 +99,7 @@ pub extern "C" fn qrp_trim(
     ensures { TrimReturns (record { any_pivot = any_pivot }) formula.now trace.now
         buffer.old buffer.new out.new result }
 {
-    match trim_lent(alloc, formula, trace, Rules { any_pivot }) {
+    match trim_bytes(alloc, formula, trace, Rules { any_pivot }) {
         Ok((truth, text)) => {
             *out = encode_truth(truth);
             put_text(buffer, text.bytes())
@@ -160,7 +160,7 @@ pub extern "C" fn qrp_format(
 ) -> usize
     ensures { FormatReturns formula.now buffer.old buffer.new out.new result }
 {
-    match format_lent(alloc, formula) {
+    match format_bytes(alloc, formula) {
         Ok(text) => {
             *out = encode_nothing();
             put_text(buffer, text.bytes())

@@ -5,15 +5,15 @@
 ghost use Rattle.std.specs.Prelude.{◌≡◌, ◌≢◌, ◌⊎◌, IfOk, IfErr, drop};
 ghost use Rattle.std.specs.declared.io.ErrorKind.TheVariants.{OutOfMemory};
 ghost use Rattle.std.specs.Vec.Iter.{into_iter_items};
-ghost use Rattle.qrp_program.specs.declared.start.Start.TheVariants.{NoMemory, Usage};
+ghost use Rattle.qrp_cli.specs.declared.start.Start.TheVariants.{NoMemory, Usage};
 
 mod open;
 
 use buffered_sink::Buffered;
 use open::SystemFiles;
 use qbf_text::ToWrite;
-use qrp_program::program;
-pub use qrp_program::{Job, Start, Status, request, run};
+use qrp_cli::program;
+pub use qrp_cli::{Job, Start, Status, request, run};
 use std::alloc::Global;
 use std::env;
 use std::env::Args;

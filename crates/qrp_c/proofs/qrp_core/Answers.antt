@@ -1,5 +1,5 @@
 use Rattle.std.proofs.Common.{refl}
-use Rattle.qrp_memory.proofs.GivenTexts.{proof_returned, fault_returned}
+use Rattle.qrp_bytes.proofs.GivenTexts.{proof_returned, fault_returned}
 use Rattle.qrp_c.proofs.qrp_core.Goals as goal
 
 pub returns-in-Ok : goal.returns-in-Ok

@@ -1,4 +1,4 @@
-use Rattle.qrp_memory.proofs.GivenTexts.{proof_returned, fault_returned}
+use Rattle.qrp_bytes.proofs.GivenTexts.{proof_returned, fault_returned}
 use Rattle.qrp_c.proofs.qrp_trim.Goals as goal
 
 pub returns-in-Ok : goal.returns-in-Ok

@@ -1,0 +1,36 @@
+-- What a token says at its place, or which fault of its format it is.
+use Rattle.std.specs.Prelude.{ℕ, zero, suc, true, false, Option, Some, None, Result, Ok, Err, nat_lt, if◌then◌else◌}
+use Rattle.qbf_core.specs.declared.quantifier.Quantifier.{Quantifier}
+use Rattle.qbf_core.specs.declared.quantifier.Quantifier.TheVariants.{All, Exists}
+use Rattle.qbf_core.specs.Literal.{Literal}
+use Rattle.qbf_text.specs.declared.token.Token.{Token}
+use Rattle.qbf_text.specs.declared.token.Token.TheVariants as token
+use Rattle.qbf_text.specs.declared.token.Word.TheVariants as word
+use Rattle.dimacs_syntax.specs.declared.decode.Faults.{Faults}
+
+-- the quantifier that a letter names
+abbrev pub quantifier : Token → Option Quantifier
+quantifier (token.Word word.A) = Some All
+quantifier (token.Word word.E) = Some Exists
+quantifier t = None
+
+-- the variable that a token says in a set, at most the last, or None where it closes the set
+abbrev pub member : {F : Type 0} → Faults F → ℕ → Token → Result (Option ℕ) F
+member faults last (token.Number false zero) = Ok None
+member faults last (token.Number false (suc n)) = if nat_lt last (suc n) then Err faults.range else Ok (Some (suc n))
+member faults last (token.Number true n) = Err faults.range
+member faults last token.Big = Err faults.range
+member faults last token.End = Err faults.end
+member faults last (token.Word w) = Err faults.stray
+member faults last token.Bad = Err faults.stray
+
+-- the literal that a token says, its variable at most the last, or None where it closes the literals
+abbrev pub literal_in : {F : Type 0} → Faults F → ℕ → Token → Result (Option Literal) F
+literal_in faults last (token.Number false zero) = Ok None
+literal_in faults last (token.Number true zero) = Err faults.minus_zero
+literal_in faults last (token.Number negative (suc n)) =
+    if nat_lt last (suc n) then Err faults.range else Ok (Some (record { var = suc n; negative = negative }))
+literal_in faults last token.Big = Err faults.range
+literal_in faults last token.End = Err faults.end
+literal_in faults last (token.Word w) = Err faults.stray
+literal_in faults last token.Bad = Err faults.stray

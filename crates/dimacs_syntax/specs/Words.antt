@@ -1,0 +1,13 @@
+-- The names that both formats cite most, passed on from one place. Declares nothing.
+pub use Rattle.std.specs.List.{AllByRecursion, flat_map}
+pub use Rattle.qbf_core.specs.Blocks.{Block, IsVariable, pairs}
+pub use Rattle.qbf_core.specs.Literal.{Literal}
+pub use Rattle.qbf_core.specs.Qbf.{IsWellFormed, Qbf}
+pub use Rattle.qbf_core.specs.declared.quantifier.Quantifier.{Quantifier}
+pub use Rattle.dimacs_syntax.specs.Spelling.{letter, literal, number, set}
+pub use Rattle.qbf_text.specs.Canonical.{lines_text}
+pub use Rattle.qbf_text.specs.Lined.{Known, Lined}
+pub use Rattle.qbf_text.specs.Rows.{Fails}
+pub use Rattle.qbf_text.specs.declared.token.Token.{Token}
+pub use Rattle.qbf_text.specs.declared.token.Token.TheVariants as token
+pub use Rattle.qbf_text.specs.declared.token.Word.TheVariants as word

@@ -1,0 +1,44 @@
+-- From the headline over a result to the headline over the struct for it.
+use Rattle.std.proofs.Common.{rules, ◌≡◌, ◌↔◌, ℕ, Bool, IsTrue, List, inl, inr, refl, ap, ◌⊎◌, if◌then◌else◌, Result, Ok, Err, IsOk}
+use Rattle.qbf_core.specs.Truth.{IsTrueFormula}
+use Rattle.qrp_rules.specs.declared.rules.Rules.{Rules}
+use Rattle.qrp_check.specs.declared.verdict.Verified.{Verified}
+use Rattle.qrp_check.specs.declared.verdict.Fault.{Fault}
+use Rattle.qrp_check.specs.Verdict.{IsOutOfMemory, IsFormulaDevice, IsTraceDevice}
+use Rattle.qrp_bytes.specs.Encoding.{encoding, encoded_fault}
+use Rattle.qrp_bytes.specs.Verdicts.{StructHeadline}
+use Rattle.qrp_check.specs.Headline.{Headline}
+
+not_zero : (e : Fault) → (encoded_fault e).status ≡ 0 → ⊥
+not_zero e is = search rules
+
+memory_is_four : (e : Fault) → IsOutOfMemory (Err e) → (encoded_fault e).status ≡ 4
+memory_is_four e is = search rules
+
+-- the number that stands for a truth
+abbrev truth_number : Bool → ℕ
+truth_number b = if b then 1 else 0
+
+one_is_true : (b : Bool) (A : Type 0) → IsTrue b ↔ A → (truth_number b ≡ 1) ↔ A
+one_is_true b A same = search rules
+
+-- no device is read
+memory_alone : (outcome : Result Verified Fault) (e : Fault) → outcome ≡ Err e → (IsFormulaDevice outcome → ⊥) → (IsTraceDevice outcome → ⊥)
+    → IsOk outcome ⊎ (IsOutOfMemory outcome ⊎ (IsFormulaDevice outcome ⊎ IsTraceDevice outcome)) → IsOutOfMemory (Err e)
+memory_alone outcome e is no_formula no_trace h = search rules
+
+pub headline_encoded : (rules : Rules) (formula trace : List ℕ) (outcome : Result Verified Fault)
+    → Headline rules formula trace outcome
+    → (IsFormulaDevice outcome → ⊥) → (IsTraceDevice outcome → ⊥) → StructHeadline rules formula trace (encoding outcome)
+headline_encoded rules formula trace (Ok v) h no_formula no_trace = record {
+  only = λ is. h.only refl;
+  wherever = λ shown. inl refl;
+  truth = λ is f d spelled.
+      let says = h.truth f d spelled in
+      (says.0, ap truth_number says.1, one_is_true v.truth (IsTrueFormula f) says.2);
+}
+headline_encoded rules formula trace (Err e) h no_formula no_trace = record {
+  only = λ is. absurd (not_zero e is);
+  wherever = λ shown. inr (memory_is_four e (memory_alone (Err e) e refl no_formula no_trace (h.wherever shown)));
+  truth = λ is. absurd (not_zero e is);
+}

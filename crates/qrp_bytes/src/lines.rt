@@ -1,0 +1,55 @@
+//! The line of a verdict, as the program prints it, and what its fault means.
+
+ghost use Rattle.std.specs.Prelude.{◌≡◌, ◌≤◌, Some, Result, [], length};
+ghost use Rattle.qbf_text.specs.Written.{IsPut};
+ghost use Rattle.qrp_check.specs.declared.verdict.Verified.{Verified};
+ghost use Rattle.qrp_check.specs.declared.verdict.Fault.{Fault};
+ghost use Rattle.qrp_report.specs.Meanings.{fault_meaning};
+ghost use Rattle.qrp_report.specs.OfFaults.{NamesVariable};
+ghost use Rattle.qrp_bytes.specs.Encoding.{IsEncoded, EncodesSome, EncodesFault, encoded_fault, result_line};
+
+use crate::line::Line;
+use crate::verdict::{QrpVerdict, decode_refusal, decode_truth};
+use qbf_text::{Sink, SinkFault};
+use qrp_report::{put_refusal, put_verdict};
+
+/// Sends the line of a verdict, and nothing if the struct encodes no result.
+fn put_line<S: Sink>(sink: &mut S, verdict: &QrpVerdict) -> Result<(), SinkFault>
+    ensures encoded { (outcome : Result Verified Fault) → IsEncoded outcome verdict.now
+        → IsPut S.written S.failures sink.old sink.new (result_line outcome) result }
+    ensures none { ¬ EncodesSome verdict.now → sink.new ≡ sink.old }
+{
+    if let Some(truth) = decode_truth(verdict) {
+        return put_verdict(sink, truth);
+    }
+    match decode_refusal(verdict) {
+        Some(refusal) => put_refusal(sink, &refusal),
+        None => Ok(()),
+    }
+}
+
+/// The line of a verdict, and nothing if the struct encodes no result.
+pub fn line_of(verdict: &QrpVerdict) -> Line
+    ensures encoded { (outcome : Result Verified Fault) → IsEncoded outcome verdict.now
+        → ⟦<Line as Sink>⟧.written result ≡ Some (result_line outcome) }
+    ensures none { ¬ EncodesSome verdict.now → ⟦<Line as Sink>⟧.written result ≡ Some [] }
+{
+    // The place comes with the fact that it has at most 20 digits.
+    let _place = verdict.place;
+    let mut line = Line::new();
+    let _ = put_line(&mut line, verdict);
+    line
+}
+
+/// What the fault of a verdict means, and nothing if the struct encodes no fault.
+pub fn meaning_of(verdict: &QrpVerdict) -> &'static str
+    ensures encoded { (e : Fault) → NamesVariable e → verdict.now ≡ encoded_fault e
+        → result.now ≡ fault_meaning e }
+    ensures none { ¬ EncodesFault verdict.now → result.now ≡ [] }
+    ensures short { length result.now ≤ 127 }
+{
+    match decode_refusal(verdict) {
+        Some(refusal) => refusal.meaning(),
+        None => "",
+    }
+}

@@ -1,0 +1,157 @@
+//! From the command line to a run over files.
+
+ghost use Rattle.std.specs.Prelude.{◌≡◌, Some, None, Ok, Err, map, IfOk, IfErr};
+ghost use Rattle.std.specs.String.{string_bytes};
+ghost use Rattle.qrp_cli.specs.declared.job.Job.{Job};
+ghost use Rattle.qrp_cli.specs.declared.open_fault.OpenFault.{OpenFault};
+ghost use Rattle.qrp_cli.specs.Lines.{start_line, start_status};
+ghost use Rattle.qrp_cli.specs.Output.{Report, Errors, IsSent, IsReported, refusals};
+ghost use Rattle.qrp_cli.specs.Program.{start_without_file, start_report};
+ghost use Rattle.qrp_cli.specs.Program.{IsOnBoth, IsOnFiles, IsOnOpened, IsProgram};
+
+use crate::job::Job;
+use crate::open::Open;
+use crate::running::{Status, run};
+use crate::start::Start;
+use crate::words::request;
+use qbf_text::{Sink, SliceSource, Source, put_bytes};
+use std::alloc::Global;
+
+/// Ends before a job begins. The status stays whether or not the line went out.
+fn stop<S: Sink>(sink: &mut S, start: Start) -> Status
+    ensures { IsSent S.Sink sink.old sink.new (start_line start) (start_status start)
+        (start_status start) result }
+{
+    if put_bytes(sink, start.line().as_bytes()).is_ok() {
+        let _ = sink.finish();
+    }
+    start.status()
+}
+
+/// Ends before a job begins, where the refusals of the job go.
+fn refuse<O: Sink, E: Sink>(job: Job, start: Start, out: &mut O, err: &mut E) -> Status
+    ensures { IsReported O.Sink out.old out.new E.Sink err.old err.new
+        (start_report (refusals job) start) result }
+{
+    match job {
+        Job::Check(_) => stop(out, start),
+        Job::Trim(_) | Job::Format => stop(err, start),
+    }
+}
+
+/// Opens a file.
+///
+/// # Errors
+/// How the program ends where it is not opened; `no_file` if it cannot be.
+fn open_file<F: Open>(files: &F, path: &str, no_file: Start) -> Result<F::File, Start>
+    ensures file { IfOk result (λ f. F.opens files.now path.now (Ok (F.File.remaining f))) }
+    ensures failures { IfOk result (λ f. F.File.failures f ≡ 0) }
+    ensures refused { IfErr result (λ start. (e : OpenFault)
+        × F.opens files.now path.now (Err e) × (start ≡ start_without_file no_file e)) }
+{
+    match files.open(path) {
+        Ok(file) => Ok(file),
+        Err(fault) => Err(fault.start(no_file)),
+    }
+}
+
+/// Opens the files of a formula and a trace, the formula first.
+///
+/// # Errors
+/// How the program ends where one of them is not opened.
+fn open_both<F: Open>(files: &F, formula: &str, trace: &str) -> Result<(F::File, F::File), Start>
+    ensures opened { IfOk result (λ f. (job : Job) (r : Report)
+        → IsOnBoth job (F.File.remaining f.0) (F.File.remaining f.1) r
+        → IsOnFiles (F.opens files.now) job formula.now (Some trace.now) r) }
+    ensures failures { IfOk result
+        (λ f. (F.File.failures f.0 ≡ 0) × (F.File.failures f.1 ≡ 0)) }
+    ensures refused { IfErr result (λ start. (job : Job) → IsOnFiles (F.opens files.now) job
+        formula.now (Some trace.now) (start_report (refusals job) start)) }
+{
+    let formula = open_file(files, formula, Start::NoFormula)?;
+    let trace = open_file(files, trace, Start::NoTrace)?;
+    Ok((formula, trace))
+}
+
+/// Opens the file of a formula, for a job that has no trace.
+///
+/// # Errors
+/// How the program ends where it is not opened.
+fn open_formula<'a, F: Open>(files: &F, path: &str) -> Result<(F::File, SliceSource<'a>), Start>
+    ensures opened { IfOk result (λ f. (job : Job) (r : Report)
+        → IsOnBoth job (F.File.remaining f.0) (Some f.1) r
+        → IsOnFiles (F.opens files.now) job path.now None r) }
+    ensures failures { IfOk result (λ f. F.File.failures f.0 ≡ 0) }
+    ensures refused { IfErr result (λ start. (job : Job) → IsOnFiles (F.opens files.now) job
+        path.now None (start_report (refusals job) start)) }
+{
+    let file = open_file(files, path, Start::NoFormula)?;
+    Ok((file, SliceSource::new(&[])))
+}
+
+/// A job, and where it takes its memory from.
+#[derive(Clone, Copy)]
+struct Task {
+    alloc: Global,
+    job: Job,
+}
+
+/// Does a job on the opened files, or reports why they are not opened.
+fn run_opened<F: Source + Drop, T: Source + Drop, O: Sink, E: Sink>(
+    task: Task,
+    opened: Result<(F, T), Start>,
+    out: &mut O,
+    err: &mut E,
+) -> Status
+    requires fresh { IfOk opened (λ f. (F.failures f.0 ≡ 0) × (T.failures f.1 ≡ 0)) }
+    ensures { (r : Report) × IsOnOpened F.remaining T.remaining task.job opened r
+        × IsReported O.Sink out.old out.new E.Sink err.old err.new r result }
+{
+    match opened {
+        Ok((mut formula, mut trace)) => {
+            run(task.alloc, task.job, &mut formula, &mut trace, out, err)
+        }
+        Err(start) => refuse(task.job, start, out, err),
+    }
+}
+
+/// The whole program, but for where its arguments, its files and its sinks come from: does what the
+/// arguments ask for, over the files that they name, writes the report to `out` or `err`, and
+/// returns the status.
+///
+/// If the arguments are not a command line of the usage, the line `USAGE` goes to `err` with
+/// status 5. A file that cannot be opened is reported in a line with status 3, and out of memory
+/// while it is opened in a line with status 4, where the refusals of the command go; the formula is
+/// opened before the trace, and both before anything is read. If the arguments were not got, the
+/// line for the reason goes to `err`, with its status. These statuses stay whether or not the line
+/// went out. Else the report is that of `run`.
+pub fn program<F: Open, O: Sink, E: Sink>(
+    alloc: Global,
+    files: &F,
+    words: Result<Vec<String>, Start>,
+    out: &mut O,
+    err: &mut E,
+) -> Status
+    ensures words { IfOk words (λ words. (r : Report)
+        × IsProgram (F.opens files.now) (map (λ w. string_bytes w) words.items) r
+        × IsReported O.Sink out.old out.new E.Sink err.old err.new r result) }
+    ensures no_words { IfErr words (λ start. IsReported O.Sink out.old out.new E.Sink err.old
+        err.new (start_report Errors start) result) }
+{
+    let words = match words {
+        Ok(words) => words,
+        Err(start) => return stop(err, start),
+    };
+    let texts = words.as_slice();
+    match request(texts) {
+        Some((job, formula, Some(trace))) => {
+            let opened = open_both(files, texts[formula].as_str(), texts[trace].as_str());
+            run_opened(Task { alloc, job }, opened, out, err)
+        }
+        Some((job, formula, None)) => {
+            let opened = open_formula(files, texts[formula].as_str());
+            run_opened(Task { alloc, job }, opened, out, err)
+        }
+        None => stop(err, Start::Usage),
+    }
+}

@@ -1,0 +1,162 @@
+//! A job from its sources to its sinks.
+
+ghost use Rattle.std.specs.Prelude.{◌≡◌, ◌<◌, List, ℕ, Result, IfOk, length};
+ghost use Rattle.std.specs.List.{AllByRecursion};
+ghost use Rattle.qbf_core.specs.Qbf.{Qbf};
+ghost use Rattle.qbf_text.specs.Written.{IsPut};
+ghost use Rattle.qdimacs.specs.declared.fault.FormulaFault.{FormulaFault};
+ghost use Rattle.qdimacs.specs.Grammar.{text};
+ghost use Rattle.qrp.specs.Grammar.{text as trace_text};
+ghost use Rattle.qrp_check.specs.Checked.{call_of};
+ghost use Rattle.qrp_check.specs.Trim.{trimmed_trace};
+ghost use Rattle.qrp_report.specs.Lines.{fault_line, verdict_line};
+ghost use Rattle.qrp_report.specs.Refusals.{fault_status};
+ghost use Rattle.qrp_report.specs.Results.{IsFormulaRead};
+ghost use Rattle.qrp_rules.specs.declared.rules.Rules.{Rules};
+ghost use Rattle.qrp_cli.specs.declared.job.Job.TheVariants.{Format};
+ghost use Rattle.qrp_cli.specs.Output.{Report, IsOutput, IsSent, IsReported, IsReportedTo};
+ghost use Rattle.qrp_cli.specs.Output.{check_report, trim_report, trimmed_result, format_report};
+
+use crate::job::Job;
+use qbf_core::Formula;
+use qbf_text::{Sink, SinkFault, Source};
+use qdimacs::{read_formula, write_formula};
+use qrp::{Trace, write_steps_at};
+use qrp_check::{Fault, Verified, find_proof, verify};
+use qrp_report::{Refusal, put_refusal, put_verdict};
+use std::alloc::Global;
+
+/// The status of the program: 0 done, 1 the proof is refused, 2 a text is refused, 3 a device
+/// failed, 4 an allocation failed.
+pub type Status = u8;
+
+/// The status where a device failed.
+const DEVICE_FAILED: Status = 3;
+
+/// Finishes a sink if the text that was to go out to it did, and returns the status.
+fn finish_sent<S: Sink>(sink: &mut S, sent: Result<(), SinkFault>, status: Status) -> Status
+    ensures { (before : S) (text : List ℕ)
+        → IsPut S.written S.failures before sink.old text sent
+        → IsSent S.Sink before sink.new text status 3 result }
+{
+    match sent {
+        Ok(()) => match sink.finish() {
+            Ok(()) => status,
+            Err(_) => DEVICE_FAILED,
+        },
+        Err(_) => DEVICE_FAILED,
+    }
+}
+
+/// Sends the canonical text of a formula.
+fn send_formula<S: Sink>(sink: &mut S, formula: &Formula) -> Status
+    ensures { IsSent S.Sink sink.old sink.new (text formula.now) 0 3 result }
+{
+    let sent = write_formula(formula, sink);
+    finish_sent(sink, sent, 0)
+}
+
+/// Sends the line for a fault.
+fn send_fault<S: Sink>(sink: &mut S, fault: &Fault) -> Status
+    ensures { IsSent S.Sink sink.old sink.new (fault_line fault.now)
+        (fault_status fault.now) 3 result }
+{
+    let refusal = Refusal::of(fault);
+    let sent = put_refusal(sink, &refusal);
+    finish_sent(sink, sent, refusal.status())
+}
+
+/// Sends the line of a verdict.
+fn send_verdict<S: Sink>(sink: &mut S, truth: bool) -> Status
+    ensures { IsSent S.Sink sink.old sink.new (verdict_line truth) 0 3 result }
+{
+    let sent = put_verdict(sink, truth);
+    finish_sent(sink, sent, 0)
+}
+
+/// Sends the canonical text of a trace without the steps outside the core.
+fn send_trimmed<S: Sink>(sink: &mut S, trace: &Trace, verified: &Verified) -> Status
+    requires { AllByRecursion (λ i. i < length trace.now.steps) verified.now.core.items }
+    ensures { IsSent S.Sink sink.old sink.new
+        (trace_text (trimmed_trace trace.now verified.now.core.items)) 0 3 result }
+{
+    let sent = write_steps_at(trace, &verified.core, sink);
+    finish_sent(sink, sent, 0)
+}
+
+/// Sends the line of the verdict, or for the first fault.
+fn send_checked<O: Sink>(out: &mut O, checked: Result<Verified, Fault>) -> Status
+    ensures { (rules : Rules)
+        → IsReportedTo O.Sink out.old out.new (check_report rules checked) result }
+{
+    match checked {
+        Ok(verified) => send_verdict(out, verified.truth),
+        Err(fault) => send_fault(out, &fault),
+    }
+}
+
+/// Sends the trimmed trace to `out`, or the line for the first fault to `err`.
+fn send_proof<O: Sink, E: Sink>(
+    out: &mut O,
+    err: &mut E,
+    proof: Result<(Trace, Verified), Fault>,
+) -> Status
+    requires within { IfOk proof (λ r.
+        AllByRecursion (λ i. i < length r.0.steps) r.1.core.items) }
+    ensures { (rules : Rules) → IsReported O.Sink out.old out.new E.Sink err.old err.new
+        (trim_report rules (trimmed_result proof)) result }
+{
+    match proof {
+        Ok((whole, verified)) => send_trimmed(out, &whole, &verified),
+        Err(fault) => send_fault(err, &fault),
+    }
+}
+
+/// Does the job `Format`: sends the canonical text to `out`, or the line for the fault to `err`.
+fn run_format<F: Source, O: Sink, E: Sink>(
+    alloc: Global,
+    formula: &mut F,
+    out: &mut O,
+    err: &mut E,
+) -> Status
+    ensures { (reading : Result Qbf (FormulaFault × ℕ))
+        × IsFormulaRead (call_of F.Source formula.old formula.new) reading
+        × IsReported O.Sink out.old out.new E.Sink err.old err.new
+        (format_report reading) result }
+{
+    match read_formula(alloc, formula) {
+        Ok(read) => send_formula(out, &read),
+        Err((fault, line)) => send_fault(err, &Fault::Formula(fault, line)),
+    }
+}
+
+/// Does a job: reads the formula and, where the job asks for it, the trace, and writes the report
+/// to `out` or `err`.
+///
+/// Where the bytes of the sources are known, the report is the one for what they spell. A source
+/// that fails is reported in a line with status 3, out of memory in a line with status 4, on the
+/// sink that takes the refusals of the job: `out` for `Check`, `err` for the others. The other sink
+/// gets nothing. Where the sink of the report fails, in a write or in `finish`, the status is 3 and
+/// a beginning of the text went out. For `Format`, and with a fault of the formula, the trace is
+/// not pulled.
+pub fn run<F: Source, T: Source, O: Sink, E: Sink>(
+    alloc: Global,
+    job: Job,
+    formula: &mut F,
+    trace: &mut T,
+    out: &mut O,
+    err: &mut E,
+) -> Status
+    ensures report { (r : Report)
+        × IsOutput job
+        (call_of F.Source formula.old formula.new)
+        (call_of T.Source trace.old trace.new) r
+        × IsReported O.Sink out.old out.new E.Sink err.old err.new r result }
+    ensures not_pulled { job ≡ Format → trace.new ≡ trace.old }
+{
+    match job {
+        Job::Check(rules) => send_checked(out, verify(alloc, formula, trace, rules)),
+        Job::Trim(rules) => send_proof(out, err, find_proof(alloc, formula, trace, rules)),
+        Job::Format => run_format(alloc, formula, out, err),
+    }
+}

@@ -1,0 +1,59 @@
+//! The arguments of the command line.
+
+ghost use Rattle.std.specs.Prelude.{◌≡◌, map, IsTrue, IfSome, IfNone, ◌↔◌, ◌<◌, length};
+ghost use Rattle.std.specs.String.{string_bytes};
+ghost use Rattle.qrp_cli.specs.Words.{Request, IsRow, Texts, HasTexts};
+
+use crate::job::Job;
+use qrp_check::Rules;
+
+/// Whether the word is this one.
+fn is_word(word: &String, name: &str) -> bool
+    ensures { IsTrue result ↔ (string_bytes word.now ≡ name.now) }
+{
+    word.as_str() == name
+}
+
+/// The rules and the places of a formula and a trace, where the arguments are this command on the
+/// two.
+fn texts(words: &[String], command: &str) -> Option<(Rules, usize, usize)>
+    ensures row { IfSome result (λ r. HasTexts command.now (map (λ w. string_bytes w) words.now)
+        (record { rules = r.0; formula = r.1; trace = r.2 })) }
+    ensures within { IfSome result (λ r. (r.1 < length words.now) × (r.2 < length words.now)) }
+    ensures none { IfNone result
+        ((t : Texts) → HasTexts command.now (map (λ w. string_bytes w) words.now) t → ⊥) }
+{
+    match words {
+        [first, _, _] if is_word(first, command) => Some((Rules::plain(), 1, 2)),
+        [first, flag, _, _] if is_word(first, command) && is_word(flag, "--qu") => {
+            Some((Rules::any_pivot(), 2, 3))
+        }
+        [first, _, _, flag] if is_word(first, command) && is_word(flag, "--qu") => {
+            Some((Rules::any_pivot(), 1, 2))
+        }
+        _ => None,
+    }
+}
+
+/// The job and the places of its formula and its trace among the arguments, counted from 0, where
+/// these are a command line of the usage: `check` and `trim` with a formula and a trace, before or
+/// after which the flag `--qu` may stand, and `format` with a formula.
+pub fn request(words: &[String]) -> Option<(Job, usize, Option<usize>)>
+    ensures row { IfSome result (λ r. IsRow (map (λ w. string_bytes w) words.now)
+        (record { job = r.0; formula = r.1; trace = r.2 })) }
+    ensures within { IfSome result
+        (λ r. (r.1 < length words.now) × IfSome r.2 (λ t. t < length words.now)) }
+    ensures none { IfNone result
+        ((r : Request) → IsRow (map (λ w. string_bytes w) words.now) r → ⊥) }
+{
+    if let Some((rules, formula, trace)) = texts(words, "check") {
+        return Some((Job::Check(rules), formula, Some(trace)));
+    }
+    if let Some((rules, formula, trace)) = texts(words, "trim") {
+        return Some((Job::Trim(rules), formula, Some(trace)));
+    }
+    match words {
+        [command, _] if is_word(command, "format") => Some((Job::Format, 1, None)),
+        [..] => None,
+    }
+}

@@ -1,7 +1,0 @@
-use Rattle.std.proofs.Common.{◌≡◌, take}
-use Rattle.qrp.specs.Derivations.{steps_at}
-use Rattle.qrp.specs.Inferences.{numbers}
-use Rattle.qrp_memory.proofs.proving.numbers_at.Given as goal
-
-abbrev pub invariant-loop-place : goal.invariant-loop-place
-invariant-loop-place l = l.numbers.items ≡ numbers (steps_at l.trace.steps (take l.place-index l.places))
