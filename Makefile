@@ -17,7 +17,8 @@ PROGRAM = bin/qrp_cmd
 # only for the tests
 ECHO = bin/qrp_echo
 PROVED = bin/proved
-SOURCES = $(shell find crates -path '*/out' -prune -o -type f -print) crates.txt
+# what the program and the library are made of: not the mutants of must-fail/, which only the gate tries
+SOURCES = $(shell find crates \( -name out -o -name must-fail \) -prune -o -type f -print) crates.txt
 
 # for programs in C, C++ and Python
 LIBRARY = lib/libqrp.a
@@ -25,24 +26,24 @@ LIBRARY = lib/libqrp.a
 # where `make install` puts things; DESTDIR comes before all of them
 LIBDIR ?= $(PREFIX)/lib
 MANDIR ?= $(PREFIX)/share/man
-INSTALL_FILES = PREFIX='$(PREFIX)' LIBDIR='$(LIBDIR)' MANDIR='$(MANDIR)' DESTDIR='$(DESTDIR)' scripts/install-files
+INSTALL_FILES = PREFIX='$(PREFIX)' LIBDIR='$(LIBDIR)' MANDIR='$(MANDIR)' DESTDIR='$(DESTDIR)' packaging/install-files
 
 .PHONY: all lib demo check test proved-before gate bench dist wheel install uninstall help clean
-.PHONY: test-refusals test-program test-scripts test-examples test-library test-dist test-install test-many test-proofs test-checks
+.PHONY: test-refusals test-program test-tools test-examples test-library test-dist test-install test-many test-proofs test-checks
 
 all: $(PROGRAM)
 
 $(PROGRAM): $(SOURCES)
 	@echo 'proves and builds the program: some fifteen minutes on four processors, from nothing'
-	RT=$(RT) scripts/prove qrp_cmd
+	RT=$(RT) gate/prove qrp_cmd
 	mkdir -p bin
 	cp crates/qrp_cmd/out/qrp_cmd $(PROGRAM)
 
 lib: $(LIBRARY)
 
-$(LIBRARY): $(SOURCES) scripts/build-library
+$(LIBRARY): $(SOURCES) packaging/build-library
 	@echo 'proves and builds the library: a minute more than the program, from nothing'
-	RT=$(RT) scripts/build-library lib
+	RT=$(RT) packaging/build-library lib
 
 demo: all
 	$(PROGRAM) check examples/blind-box/blind-box.qdimacs examples/blind-box/blind-box.qrp
@@ -52,7 +53,7 @@ demo: all
 # Every crate and its tests are proved, and all programs are built.
 $(PROVED): $(SOURCES)
 	@echo 'proves the crates and their tests: from nothing this takes longer than the fifteen minutes of the program'
-	RT=$(RT) scripts/prove --tests
+	RT=$(RT) gate/prove --tests
 	$(MAKE) --no-print-directory proved-before
 
 # The same was done before: only the programs are put in their places.
@@ -63,49 +64,49 @@ proved-before:
 	touch $(PROVED)
 
 test: $(PROVED)
-	RT=$(RT) scripts/build-library lib
-	scripts/check-promises
-	scripts/check-memory-faults
-	scripts/check-adapters
+	RT=$(RT) packaging/build-library lib
+	gate/check-promises
+	gate/check-memory-faults
+	gate/check-adapters
 	$(MAKE) --no-print-directory check
 
 # What is built is tested, side by side: some two minutes.
 check:
 	@for built in $(PROGRAM) $(ECHO) $(LIBRARY); do [ -e $$built ] || { echo "make check: there is no $$built: run 'make test' first"; exit 2; }; done
-	$(MAKE) --jobs --output-sync=target test-refusals test-program test-scripts test-examples test-library test-dist test-install test-many test-proofs test-checks
+	$(MAKE) --jobs --output-sync=target test-refusals test-program test-tools test-examples test-library test-dist test-install test-many test-proofs test-checks
 
 test-refusals:
-	scripts/test-refusals
+	tests/library/test-refusals
 
 test-program:
-	scripts/test-program $(PROGRAM) $(ECHO)
+	tests/program/test-program $(PROGRAM) $(ECHO)
 
-test-scripts:
-	scripts/test-scripts $(PROGRAM)
+test-tools:
+	tests/tools/test-tools $(PROGRAM)
 
 test-examples:
 	examples/check-all $(PROGRAM)
 
 test-library:
-	scripts/test-library $(PROGRAM) lib
+	tests/library/test-library $(PROGRAM) lib
 
 test-dist:
-	scripts/make-dist --check
+	packaging/make-dist --check
 
 test-proofs:
-	scripts/test-proofs
+	tests/gate/test-proofs
 
 test-checks:
-	scripts/test-checks
+	tests/gate/test-checks
 
 gate:
-	RT=$(RT) scripts/gate
+	RT=$(RT) gate/run
 
 bench: all
-	scripts/bench $(PROGRAM)
+	bench/measure $(PROGRAM)
 
 dist: all lib
-	scripts/make-dist
+	packaging/make-dist
 
 wheel: lib
 	python3 python/qrp_wheel.py
@@ -118,11 +119,11 @@ uninstall:
 
 # on the built program and library
 test-install:
-	scripts/test-install
+	tests/packaging/test-install
 
-# what is missing for it is named: scripts/install-tools installs it
+# what is missing for it is named: gate/install-tools installs it
 test-many:
-	scripts/test-many $(PROGRAM)
+	tests/tools/test-many $(PROGRAM)
 
 help:
 	@sed -n 's/^# \(make\)/\1/p' Makefile

@@ -374,7 +374,7 @@ fn letters(rt: HostRuntime) {
 
 // ---- what has an allocation fail, and then tried again
 //
-// With memory these tests try nothing twice. scripts/test-refusals makes each of their allocations
+// With memory these tests try nothing twice. tests/library/test-refusals makes each of their allocations
 // fail in turn.
 
 /// Binds a variable. If an allocation fails, the prefix has no variable more, and the second try

@@ -1,4 +1,4 @@
-//! Which command lines ask for a job. Others are words of scripts/parts/words.
+//! Which command lines ask for a job. Others are words of tests/program/parts/words.
 
 use crate::runs::assert_same;
 use qrp_check::Rules;

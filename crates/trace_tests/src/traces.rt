@@ -274,7 +274,7 @@ fn lends_slices_at_once(rt: HostRuntime) -> Result<(), Fail> {
 
 // ---- what has an allocation fail, and then tried again
 //
-// With memory these tests try nothing twice. scripts/test-refusals makes each of their allocations
+// With memory these tests try nothing twice. tests/library/test-refusals makes each of their allocations
 // fail in turn.
 
 /// Reads the items up to the first fault. If an allocation fails, that is P9 on line 0, which three

@@ -1,0 +1,31 @@
+"""Counts the cases of a test and names those that fail.
+
+A test calls `expect` for each case, and `skip` for a case that this machine has no tool for. It ends with `sys.exit(finish())`, which
+prints 'N passed, M failed' and gives the status: 1 if a case failed, and also if there was none.
+"""
+
+passed = failed = skipped = 0
+
+
+def expect(name, holds, found=""):
+    """Counts a case, and names it and shows what was found if it does not hold."""
+    global passed, failed
+    if holds:
+        passed += 1
+    else:
+        failed += 1
+        print(f"FAILED: {name} {str(found)[:800]}", flush=True)
+    return holds
+
+
+def skip(name, why):
+    """Counts a case that cannot be tried here, and says why."""
+    global skipped
+    skipped += 1
+    print(f"skipped: {name}: {why}", flush=True)
+
+
+def finish():
+    """Prints how many cases passed, failed and were skipped; the status of the test."""
+    print(f"{passed} passed, {failed} failed" + (f", {skipped} skipped" if skipped else ""))
+    return 1 if failed or not passed + skipped else 0

@@ -1,0 +1,365 @@
+"""Tests of gate/prove and gate/try-wrong-bodies. The toolchain here is a script that says what a test has it say."""
+
+import os
+import resource
+import shutil
+import signal
+import subprocess
+import sys
+import tempfile
+import time
+from pathlib import Path
+
+GATE = Path(__file__).resolve().parents[2] / "gate"
+sys.path.insert(0, str(GATE))
+sys.dont_write_bytecode = True
+import wrong_bodies  # noqa: E402
+from wrong_bodies import BadEdit, read_check, read_edit  # noqa: E402
+
+SOURCE = """//! A library.
+mod low;
+pub struct Pair(u64, u64);
+/// A sum, as `sum(1, 2)`; not `fn sum` of anything else.
+pub fn sum(a: u64, b: u64) -> u64 {
+    low::first(a) + b
+}
+pub fn most(a: u64) -> u64 {
+    a
+}
+impl<F> From<(Fault, u64)> for Pair<F> where F: Copy {
+    fn from(given: (Fault, u64)) -> Pair<F> {
+        Pair(given.1, 0)
+    }
+}
+impl Pair {
+    pub fn left(&self) -> u64 {
+        self.0
+    }
+
+    pub fn made(fault: Fault) -> Pair {
+        Pair::from((fault, 0))
+    }
+}
+"""
+LOW = "pub fn first(a: u64) -> u64 {\n    a\n}\n"
+
+# What a check says of each function: by its text.
+RT = r"""#!/usr/bin/env python3
+import re, sys, time, pathlib
+verb, here = sys.argv[1], pathlib.Path.cwd()
+texts = {p: p.read_text() for p in sorted(here.glob("src/*.rt"))}
+log = pathlib.Path(__file__).with_name("log")
+log.open("a").write(" ".join(sys.argv[1:]) + "\n")
+if any("slow" in text for text in texts.values()):
+    time.sleep(60)
+if verb == "lib":
+    if any("unproved" in text for text in texts.values()):
+        print("error: not this"), sys.exit(1)
+    (here / "out/rlib").mkdir(parents=True, exist_ok=True)
+    sys.exit(0)
+said = []
+for file, text in texts.items():
+    module = [] if file.stem == "lib" else [file.stem]
+    for name, body in re.findall(r"\bfn (\w+)(.*?)(?=\bfn \w|\Z)", text, re.S):
+        path, folder = "::".join(["one", *module, name]), "/".join(["proofs", *module, name])
+        answers = here / folder / "Answers.antt"
+        stored = answers.read_text() if answers.exists() else ""
+        refused = f"fn {path}: no proof: expected answers in ./{folder}/Answers.antt; `search` did not prove `returns`"
+        waits = f"fn {path}: no proof: it calls `one::low::first`, which is not proved"
+        is_wrong = "a - b" in body or "a * b" in body or "a.0" in body
+        if "no_answer" in stored:
+            said.append(f"./{folder}/Answers.antt:6:13: error: `no_answer`: the two types differ")
+        if "a * b" in body and "fits" in stored:
+            said.append(f"./{folder}/Answers.antt:4:3: error: `returns`: the two types differ\nfn {path}: not proved")
+        elif "no_answer" in stored:
+            note = "note: src/lib.rt:6:1: it is not proved that what the function ensures holds when it returns (`returns`)\n"
+            said.append(waits if "b + a" in body else f"{note if is_wrong else ''}fn {path}: not proved")
+        elif is_wrong:
+            said.append(refused)
+        elif "b + a" in body:
+            said.append(waits)
+        elif "@" in body:
+            said.append("src/lib.rt:6:1: error: expected an expression")
+print("\n".join(said))
+sys.exit(1 if said else 0)
+"""
+
+EDITS = {
+    "sum_is_a_difference": "file: src/lib.rt\nold: low::first(a) + b\nnew: a - b\n",
+    "sum_is_a_product": "file: src/lib.rt\nold: low::first(a) + b\nnew: a * b\n",
+    "first_is_a_field": "file: src/low.rt\nold:     a\nnew:     a.0\n",
+}
+
+
+class Repository:
+    """A repository of one crate with such wrong bodies, in a folder of its own, with the commands of the gate and a toolchain."""
+
+    def __init__(self, edits, source=SOURCE):
+        self.root = Path(tempfile.mkdtemp(prefix="test-proofs-"))
+        crate = self.root / "crates" / "one"
+        for folder in ("src", "must-fail", "proofs/sum", "out"):
+            (crate / folder).mkdir(parents=True)
+        (crate / "src/lib.rt").write_text(source)
+        (crate / "src/low.rt").write_text(LOW)
+        (crate / "proofs/sum/Answers.antt").write_text("use Rattle.std.{refl}\n\npub returns : goal.returns\nreturns c = fits\n")
+        for name, text in edits.items():
+            (crate / "must-fail" / f"{name}.edit").write_text(text)
+        (self.root / "crates.txt").write_text("# NAME: what it stands on\none: indexmap\n")
+        shutil.copytree(GATE, self.root / "gate")
+        self.rt = self.root / "rt"
+        self.rt.write_text(RT)
+        self.rt.chmod(0o755)
+        self.temporary = self.root / "temporary"
+        self.temporary.mkdir()
+
+    def environment(self, **more):
+        return {**os.environ, "RT": str(self.rt), "TMPDIR": str(self.temporary), "PYTHONDONTWRITEBYTECODE": "1", **more}
+
+    def run(self, *words, script="try-wrong-bodies", **more):
+        how = {"capture_output": True, "text": True, "env": self.environment(**more)}
+        return subprocess.run([str(self.root / "gate" / script), *words], **how)
+
+    def left(self):
+        """What is left: in the folder of temporary files, and of new files in the tree."""
+        return [str(it) for it in self.temporary.iterdir()]
+
+    def __enter__(self):
+        return self
+
+    def __exit__(self, *_):
+        shutil.rmtree(self.root)
+
+
+def is_bad(text, why):
+    with Repository({"one": text}) as repository:
+        crate = repository.root / "crates/one"
+        try:
+            read_edit(crate / "must-fail/one.edit", crate)
+        except BadEdit as error:
+            return why in str(error)
+    return False
+
+
+def names_are_those_of_the_prover():
+    found = [path for path, _, _ in wrong_bodies.functions("one", "src/lib.rt", SOURCE)]
+    return found == ["one::sum", "one::most", "one::PairFromTuple2FaultU64::from", "one::Pair::left", "one::Pair::made"]
+
+
+def edits_that_cannot_be_tried():
+    return all([
+        is_bad("file: src/lib.rt\nold: a: u64\nnew: b: u64\n", "stands 2 times"),
+        is_bad("file: src/lib.rt\nold: low::first(a) + b\nnew: low::first(a) + b\n", "changes nothing"),
+        is_bad("file: src/gone.rt\nold: a\nnew: b\n", "there is no src/gone.rt"),
+        is_bad("file: specs/Lib.antt\nold: a\nnew: b\n", "no source file"),
+        is_bad("file: src/lib.rt\nnew: b\n", "before any"),
+        is_bad("nothing\n", "no pair"),
+    ])
+
+
+def bodies_of_their_own_go_together():
+    with Repository(EDITS) as repository:
+        return repository.run("--list").stdout == "one 1: first_is_a_field sum_is_a_difference sum_is_a_product\n"
+
+
+def a_method_of_a_trait_is_apart_from_its_callers():
+    edits = {
+        "made_of_one": "file: src/lib.rt\nold: (fault, 0)\nnew: (fault, 1)\n",
+        "second_is_one": "file: src/lib.rt\nold: given.1, 0\nnew: given.1, 1\n",
+        "sum_is_a_difference": EDITS["sum_is_a_difference"],
+    }
+    with Repository(edits) as repository:
+        return repository.run("--list").stdout == "one 1: second_is_one sum_is_a_difference\none 2: made_of_one\n"
+
+
+def a_copy_has_the_contract_and_the_proofs():
+    with Repository({"one": EDITS["sum_is_a_product"]}) as repository:
+        crate = repository.root / "crates/one"
+        answers = crate / "proofs/sum/Answers.antt"
+        answers.write_text("use Rattle.one.proofs.sum.Goals as goal\nuse Rattle.one.proofs.summary.{low}\nuse Rattle.two.proofs.sum.{b}\n")
+        edit = read_edit(crate / "must-fail/one.edit", crate)
+        wrong_bodies.find_functions(edit, "one", crate)
+        wrong_bodies.make_copy(edit, 7, "one", crate)
+        wrong_bodies.copy_proofs([edit], "one", crate)
+        whole = "/// A sum, as `sum(1, 2)`; not `fn sum` of anything else.\npub fn sum(a: u64, b: u64) -> u64 {\n    low::first(a) + b\n}\n"
+        copy = "\n/// A sum, as `sum(1, 2)`; not `fn sum` of anything else.\npub fn sum_wrong_7(a: u64, b: u64) -> u64 {\n    a * b\n}\n"
+        text = (crate / "proofs/sum_wrong_7/Answers.antt").read_text()
+        return all([
+            wrong_bodies.together([edit], crate) == {"src/lib.rt": SOURCE.replace(whole, whole + copy)},
+            text == answers.read_text().replace("Rattle.one.proofs.sum.Goals", "Rattle.one.proofs.sum_wrong_7.Goals"),
+            edit.paths() == {"one::sum_wrong_7"},
+        ])
+
+
+def what_is_no_copy():
+    """Wrong bodies that change a contract, a method of a trait, a function that calls itself, or two functions."""
+    edits = {
+        "contract": "file: src/lib.rt\nold: mod low;\nnew: mod high;\n",
+        "method": "file: src/lib.rt\nold: given.1, 0\nnew: given.1, 1\n",
+        "itself": "file: src/lib.rt\nold: low::first(a) + b\nnew: sum(a, b)\n",
+        "both": "file: src/lib.rt\nold: low::first(a) + b\nnew: a - b\nold: self.0\nnew: self.1\n",
+    }
+    with Repository(edits) as repository:
+        crate = repository.root / "crates/one"
+        for name in edits:
+            edit = read_edit(crate / f"must-fail/{name}.edit", crate)
+            wrong_bodies.find_functions(edit, "one", crate)
+            wrong_bodies.make_copy(edit, 1, "one", crate)
+            if edit.copy:
+                return False
+    return True
+
+
+def each_is_refused_by_its_own_function():
+    with Repository(EDITS) as repository:
+        told = repository.run()
+        lines = told.stdout.splitlines()
+        return all([
+            told.returncode == 0,
+            lines[-1] == "3 passed, 0 failed",
+            "refused: one/sum_is_a_difference: one::sum: returns (not shown)" in lines,
+            "refused: one/sum_is_a_product: one::sum: returns (not shown, its stored answer taken out)" in lines,
+            "refused: one/first_is_a_field: one::low::first: returns (not shown)" in lines,
+            # The one with an answer that does not fit is left, and tried in a round of its own.
+            any(line.startswith("one 1: 3 wrong bodies, ") for line in lines),
+            any(line.startswith("one left 1: sum_is_a_product, ") for line in lines),
+            repository.left() == [],
+        ])
+
+
+def fails(new, why):
+    """The wrong body with this text is no wrong body that is refused as it must be."""
+    with Repository({"one": f"file: src/lib.rt\nold: low::first(a) + b\nnew: {new}\n"}) as repository:
+        told = repository.run()
+        lines = told.stdout.splitlines()
+        return told.returncode == 1 and lines[-1] == "0 passed, 1 failed" and any(it.startswith("FAILED: one/one: ") and why in it for it in lines)
+
+
+def bodies_that_are_not_refused():
+    return all([
+        fails("b + low::first(a)", "it is proved with this body"),
+        fails("b + a", "was not looked at"),
+        fails("@", "no check reads it"),
+    ])
+
+
+def stops(told, why):
+    return told.returncode == 2 and why in told.stderr and len(told.stderr.strip().splitlines()) == 1
+
+
+def what_is_wrong_is_said():
+    with Repository(EDITS) as repository:
+        unknown = repository.run("two")
+        missing = repository.run(RT=str(repository.root / "gone"))
+        proved = repository.run("two", script="prove")
+        left = repository.left()
+    with Repository(EDITS, SOURCE + "// unproved\n") as repository:
+        unproved = repository.run()
+    return all([
+        stops(unknown, "there is no crate two"),
+        stops(missing, "there is no"),
+        stops(proved, "names no crate two"),
+        stops(unproved, "one is not proved as it is"),
+        left == [],
+    ])
+
+
+def a_full_disk_is_said():
+    with Repository(EDITS) as repository:
+        # a file that cannot be copied under the limit
+        (repository.root / "crates/one/src/large.rt").write_text(" " * 200_000)
+        limit = lambda: (resource.setrlimit(resource.RLIMIT_FSIZE, (100_000, 100_000)), signal.signal(signal.SIGXFSZ, signal.SIG_IGN))
+        words = [str(repository.root / "gate/try-wrong-bodies")]
+        told = subprocess.run(words, capture_output=True, text=True, env=repository.environment(), preexec_fn=limit)
+        return stops(told, "cannot copy") and repository.left() == []
+
+
+def an_interrupt_leaves_nothing():
+    with Repository(EDITS, SOURCE + "// slow\n") as repository:
+        before = sorted(str(it) for it in (repository.root / "crates").rglob("*"))
+        words = [str(repository.root / "gate/try-wrong-bodies")]
+        child = subprocess.Popen(words, stdout=subprocess.PIPE, stderr=subprocess.PIPE, text=True, env=repository.environment())
+        for _ in range(200):
+            if (repository.root / "log").exists():
+                break
+            time.sleep(0.05)
+        child.send_signal(signal.SIGTERM)
+        _, said = child.communicate(timeout=30)
+        after = sorted(str(it) for it in (repository.root / "crates").rglob("*"))
+        return child.returncode == 2 and "interrupted" in said and repository.left() == [] and before == after
+
+
+def what_is_proved_is_kept():
+    with Repository(EDITS) as repository:
+        told = repository.run(script="prove")
+        kept = (repository.root / "crates/one/out/rlib").is_dir()
+        return told.returncode == 0 and "1 of 1: one is proved" in told.stdout and kept and repository.left() == []
+
+
+def what_a_check_says_is_read():
+    text = "\n".join([
+        "fn one::a: no proof: expected answers in ./proofs/a/Answers.antt; `search` did not prove `returns`, `loop-i-preserved`",
+        "note: `returns` of proofs/a/Answers.antt may be false: the known facts allow `c.x` = `0`",
+        "./proofs/b/Answers.antt:3:1: error: `returns`: the two types differ",
+        "fn one::b: not proved",
+        "fn one::c: no proof: it passes the block `one::Pair`, which is not proved",
+        "fn one::d: proved",
+        "./proofs/e/Answers.antt:7:13: error: `no_answer`: the two types differ",
+        "note: src/lib.rt:7:1: it is not proved that what the function ensures holds when it returns (`returns-in-Ok`); `search` gave up",
+        "note: src/lib.rt:8:1: it is not proved that the invariant of the loop holds (`loop-i`); the values at which this goal is false",
+        "fn one::e: not proved",
+        "note: src/lib.rt:8:9: it is not proved that what the function ensures holds when it returns (`returns`)",
+        "fn one::f: not proved",
+    ])
+    # The last goal stands in `e`, so it is none of `f`.
+    said, faults = read_check(text, lambda file, line: "e" if file == "src/lib.rt" and line in (7, 8) else None)
+    return all([
+        faults == [],
+        sorted(said) == ["one::a", "one::b", "one::c", "one::e", "one::f"],
+        said["one::a"].goals == ["returns", "loop-i-preserved"] and said["one::a"].false == ["returns"],
+        said["one::b"].misfits == [("proofs/b/Answers.antt", 3, "`returns`: the two types differ")],
+        said["one::c"].waits,
+        said["one::e"].goals == ["returns-in-Ok", "loop-i"] and said["one::e"].false == ["loop-i"] and not said["one::e"].misfits,
+        not said["one::f"].goals,
+    ])
+
+
+def answers_are_taken_out():
+    lines = ["use A.{x, y}", "use B.{z}", "", "pub first : goal.first", "first c = x", "", "second : goal.second", "second c =", "    z", ""]
+    return all([
+        wrong_bodies.without(lines, {5}, "`first`: no") == [*lines[:3], *lines[6:]],
+        wrong_bodies.without(lines, {9}, "`second`: no") == lines[:6],
+        wrong_bodies.without(lines, {1}, "module `A` has no `y`") == ["use A.{x}", *lines[1:]],
+        wrong_bodies.without(lines, {2}, "module `B` has no `z`") == [lines[0], "", *lines[2:]],
+    ])
+
+
+TESTS = [
+    names_are_those_of_the_prover,
+    edits_that_cannot_be_tried,
+    bodies_of_their_own_go_together,
+    a_method_of_a_trait_is_apart_from_its_callers,
+    a_copy_has_the_contract_and_the_proofs,
+    what_is_no_copy,
+    each_is_refused_by_its_own_function,
+    bodies_that_are_not_refused,
+    what_is_wrong_is_said,
+    a_full_disk_is_said,
+    an_interrupt_leaves_nothing,
+    what_is_proved_is_kept,
+    what_a_check_says_is_read,
+    answers_are_taken_out,
+]
+
+
+def main():
+    failed = 0
+    for test in TESTS:
+        if not test():
+            failed += 1
+            print(f"FAILED: {test.__name__.replace('_', ' ')}")
+    print(f"{len(TESTS) - failed} passed, {failed} failed")
+    return 1 if failed else 0
+
+
+if __name__ == "__main__":
+    sys.exit(main())

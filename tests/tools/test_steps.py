@@ -1,0 +1,268 @@
+"""Tests what tools/explain finds of steps, and tools/draw-proof. usage: tests/tools/test_steps.py PROGRAM LIST UNREADABLE
+
+tests/tools/test-tools calls it. LIST has rows of flag, formula, trace and line; of these the ones are tried that refuse a step or verify.
+UNREADABLE has the rows that cannot be read, and should be empty.
+"""
+
+import os
+import re
+import subprocess
+import sys
+import tempfile
+from pathlib import Path
+
+ROOT = Path(__file__).resolve().parents[2]
+sys.path[:0] = [str(ROOT / "tests"), str(ROOT / "tools")]
+sys.dont_write_bytecode = True
+from expect import expect, finish  # noqa: E402
+from qrptools.core import Core, is_needed  # noqa: E402
+from qrptools.formula import Formula  # noqa: E402
+from qrptools.step_rules import SIDES, judge  # noqa: E402
+from qrptools.steps import Trace  # noqa: E402
+
+EXPLAIN = ROOT / "tools" / "explain"
+DRAW = ROOT / "tools" / "draw-proof"
+EXAMPLES = sorted(folder for folder in (ROOT / "examples").iterdir() if (folder / "make-formula").exists())
+FAULTS = {f"S{n}" for n in range(1, 13)}
+# Of the damages of a proof the first twenty are tried, and every so many of the others.
+EVERY = 16
+
+
+def run(script, *words, program):
+    environment = dict(os.environ, QRP_CMD=str(program))
+    return subprocess.run([sys.executable, script, *map(str, words)], capture_output=True, text=True, env=environment, check=False)
+
+
+class Kept(Formula):
+    """A formula whose clauses are kept, since they are asked for again and again."""
+
+    def __init__(self, path):
+        super().__init__(Path(path).read_bytes())
+        self.all_clauses = list(super().clauses())
+
+    def clauses(self):
+        return self.all_clauses
+
+
+def read_trace(path):
+    return Trace(Path(path).read_bytes())
+
+
+def first_fault(formula, trace, any_pivot):
+    """The number and the fault of the first needed step that does not follow, None where all do."""
+    core = Core(trace)
+    before = {}
+    for place, step in enumerate(trace.steps()):
+        if core.needed[place]:
+            finding = judge(formula, SIDES[trace.result], any_pivot, step, before)
+            if finding.fault:
+                return step.number, finding.fault
+            before[step.number] = step.literals
+    return None
+
+
+def is_core_found(trace):
+    """Whether it is found of each step alone whether the proof needs it, as it is of all together."""
+    needed = Core(trace).needed
+    return all(is_needed(trace, step.number) == bool(needed[place]) for place, step in enumerate(trace.steps()))
+
+
+def check(program, formula, trace, *flags):
+    return subprocess.run([program, "check", *flags, formula, trace], capture_output=True, text=True, check=False).stdout.strip()
+
+
+def try_rows(program, rows):
+    """What the script finds of each row is what the program says, of a refused step with its number and without."""
+    seen = set()
+    for row in rows:
+        flag, formula, trace, line = row.split("\t")
+        if not line.startswith(("VERIFIED ", "REFUSED step ")):
+            continue
+        flags = [flag] if flag else []
+        expect(f"{flag} {line}, the first fault", agrees(program, formula, trace, flags, Kept(formula)) == (True, line), row)
+        expect(f"{flag} {line}, the needed steps", is_core_found(read_trace(trace)), row)
+        if line.startswith("VERIFIED "):
+            continue
+        number, fault = re.fullmatch(r"REFUSED step (\d+) (S\d+)", line).groups()
+        seen.add(fault)
+        shown = run(EXPLAIN, *flags, formula, trace, program=program)
+        holds = shown.stdout.startswith(f"qrp_cmd says: {line}\n") and f"\nIt does not follow: {fault}. " in shown.stdout
+        expect(f"{flag} {line}", shown.returncode == 0 and holds and not shown.stderr, shown)
+        numbered = run(EXPLAIN, *flags, formula, trace, number, program="/nonexistent")
+        expect(f"{flag} {line}, by its number", numbered.returncode == 0 and numbered.stdout in shown.stdout, numbered)
+        if fault == "S3":
+            drawn = run(DRAW, formula, trace, program=program)
+            nodes, edges = read_graph(f"{flag} {line}, drawn", drawn.stdout)
+            expect(f"{flag} {line}: every step drawn but the last is needed", {n for n, _ in edges} == {n for n, _ in nodes[:-1]}, drawn)
+    expect("the rows have all faults of steps", seen == FAULTS, sorted(FAULTS - seen))
+
+
+def step_damages(steps, place, unbound):
+    """Other forms of a step: literals and antecedents left out, changed and added."""
+    number, literals, antecedents = steps[place]
+    for i in range(0, len(literals), max(1, len(literals) // 3)):
+        rest = literals[:i] + literals[i + 1 :]
+        yield number, rest, antecedents
+        yield number, [*rest, -literals[i]], antecedents
+        yield number, [*literals, -literals[i]], antecedents
+        yield number, [*rest, *rest], antecedents
+    yield number, [*literals, unbound], antecedents
+    yield number, [*literals, -(place % (unbound - 1) + 1)], antecedents
+    yield number, [], antecedents
+    others = [steps[p][0] for p in (place, (place + 1) % len(steps), place // 2, place // 3, place - 1)]
+    for i in range(len(antecedents)):
+        yield number, literals, antecedents[:i] + antecedents[i + 1 :]
+        for other in others:
+            yield number, literals, [*antecedents[:i], other, *antecedents[i + 1 :]]
+    yield number, literals, antecedents[::-1]
+    if len(antecedents) < 2:
+        for other in others:
+            yield number, literals, [*antecedents, other]
+
+
+def damages(formula, trace):
+    """The two texts with one thing changed, without the trace's quantifier sets: the result, each quantifier, a clause, each step."""
+    kept = read_trace(trace)
+    steps = [(step.number, step.literals, step.antecedents) for step in kept.steps()]
+    text = formula.read_text()
+    header = re.search(r"^p cnf (\d+) (\d+)$", text, re.MULTILINE)
+
+    def written(steps, result):
+        words = ([number, *literals, 0, *antecedents, 0] for number, literals, antecedents in steps)
+        return "p qrp 0 0\n" + "".join(" ".join(map(str, line)) + "\n" for line in words) + f"r {result}\n"
+
+    yield text, written(steps, "sat" if kept.result == "unsat" else "unsat")
+    for letter in re.finditer(r"^[ae] ", text, re.MULTILINE):
+        other = "a" if letter[0] == "e " else "e"
+        yield text[: letter.start()] + other + text[letter.start() + 1 :], written(steps, kept.result)
+    more_clauses = text.replace(header[0], f"p cnf {header[1]} {int(header[2]) + 1}")
+    yield f"{more_clauses}\n1 -1 0\n", written(steps, kept.result)
+    for place in range(len(steps)):
+        for step in step_damages(steps, place, int(header[1]) + 1):
+            yield text, written([*steps[:place], step, *steps[place + 1 :]], kept.result)
+
+
+def agrees(program, formula, trace, flags, read):
+    """Whether the program says of the files what the script finds; and the program's line. `read` is the formula."""
+    line = check(program, formula, trace, *flags)
+    found = first_fault(read, read_trace(trace), bool(flags))
+    if found:
+        return line == f"REFUSED step {found[0]} {found[1]}", line
+    return line.startswith("VERIFIED ") or (line == "REFUSED trace C4" and Core(read_trace(trace)).goal is None), line
+
+
+def try_damages(program, pairs):
+    """On damaged proofs the script's first fault is the program's, by both sets of rules."""
+    seen = set()
+    with tempfile.TemporaryDirectory() as folder:
+        changed_formula, changed_trace = Path(folder) / "formula", Path(folder) / "trace"
+        for formula, trace in pairs:
+            last = None
+            for case, (formula_text, trace_text) in enumerate(damages(formula, trace)):
+                if case >= 20 and case % EVERY != 0:
+                    continue
+                if formula_text != last:
+                    changed_formula.write_text(formula_text)
+                    last, read = formula_text, Kept(changed_formula)
+                changed_trace.write_text(trace_text)
+                for flags in [], ["--qu"]:
+                    holds, line = agrees(program, changed_formula, changed_trace, flags, read)
+                    seen.add(line.split()[-1])
+                    expect(f"damage {case} of {trace.name} {flags}: the program says {line}", holds, trace_text)
+    expect("the damaged proofs have all faults of steps", FAULTS <= seen, sorted(FAULTS - seen))
+
+
+def try_proofs(program, pairs):
+    """In real proofs the script finds no fault."""
+    for formula, trace in pairs:
+        holds, line = agrees(program, formula, trace, [], Kept(formula))
+        expect(f"{trace.name}: the program says {line}", holds and line.startswith("VERIFIED "))
+
+
+NODE = re.compile(r"    (\d+) \[shape=(box|ellipse), label=<<B>\1</B><BR/>(?:[- 0-9]|<U>|</U>|<BR/>|empty (?:clause|cube))+>\];")
+EDGE = re.compile(r'    (\d+) -> (\d+) \[label="(?:-?\d+)?(?:, )?(?:reduced)?"\];')
+
+
+def read_graph(name, text):
+    """The nodes and edges of the graph's text, which has to have the form that draw-proof gives it."""
+    lines = text.splitlines()
+    nodes = [(line[1], line[2]) for line in map(NODE.fullmatch, lines) if line]
+    edges = [(line[1], line[2]) for line in map(EDGE.fullmatch, lines) if line]
+    expect(f"{name}: the frame", lines[0] == "digraph proof {" and lines[-1] == "}")
+    expect(f"{name}: no other lines", len(lines) == 4 + len(nodes) + len(edges), lines)
+    expect(f"{name}: tags are closed", text.count("<U>") == text.count("</U>"))
+    return nodes, edges
+
+
+def try_drawings(program):
+    """The graph of a proof has the steps that `trim` keeps as its nodes, and their antecedents as its edges."""
+    pairs = [(f / f"{f.name}.qdimacs", f / f"{f.name}.qrp") for f in EXAMPLES]
+    for formula, trace in [*pairs, (ROOT / "examples" / "two_clauses.qdimacs", ROOT / "examples" / "two_clauses.qrp")]:
+        drawn = run(DRAW, formula, trace, program=program)
+        nodes, edges = read_graph(trace.name, drawn.stdout)
+        expect(f"{trace.name}: status", drawn.returncode == 0, drawn.stderr)
+        expect(f"{trace.name}: a warning where it is large", ("try --last 100" in drawn.stderr) == (len(nodes) > 300), drawn.stderr)
+        end = run(DRAW, "--last", 4, formula, trace, program=program)
+        last_nodes, last_edges = read_graph(f"{trace.name}, the last four", end.stdout)
+        names = {name for name, _ in nodes[-4:]}
+        holds = end.returncode == 0 and not end.stderr and last_nodes == nodes[-4:]
+        expect(f"{trace.name}: the last four steps", holds and last_edges == [edge for edge in edges if names.issuperset(edge)], end)
+        trimmed = subprocess.run([program, "trim", formula, trace], capture_output=True, text=True, check=False).stdout
+        steps = [line.split() for line in trimmed.splitlines() if line[0].isdigit()]
+        shapes = [(step[0], "box" if step[-2:] == ["0", "0"] else "ellipse") for step in steps]
+        expect(f"{trace.name}: the steps that trim keeps", nodes == shapes)
+        wanted = [(n, step[0]) for step in steps for n in step[step.index("0") + 1 : -1]]
+        expect(f"{trace.name}: an edge from each antecedent", edges == wanted)
+        picture = trace.parent / "proof.svg"
+        if picture.exists():
+            titles = re.findall(r"<title>(\d+)(?:&#45;&gt;(\d+))?</title>", picture.read_text())
+            expect(f"{picture}: the nodes", sorted(a for a, b in titles if not b) == sorted(n for n, _ in nodes))
+            expect(f"{picture}: the edges", sorted(pair for pair in titles if pair[1]) == sorted(edges))
+
+
+def try_blanks(program):
+    """Blanks more than one, leading zeros and lines that hold half a step change nothing of what is drawn and said, of more than one block."""
+    formula, steps = ROOT / "examples" / "two_clauses.qdimacs", "".join(f"{number} 1 2 0 0\n" for number in range(6, 30000))
+    text = (ROOT / "examples" / "two_clauses.qrp").read_text().replace("r unsat", f"{steps}r unsat")
+    with tempfile.TemporaryDirectory() as folder:
+        trace, other = Path(folder) / "trace", Path(folder) / "other"
+        trace.write_text(text)
+        for name, changed in ("blanks", text.replace(" ", "  ")), ("zeros", re.sub(r" (-?)([1-9])", r" \g<1>00\2", text)), ("lines", text.replace(" 0 ", "\n0 ")):
+            other.write_text(changed)
+            for words in [DRAW], [EXPLAIN]:
+                wanted, found = (run(*words, formula, path, program=program) for path in (trace, other))
+                expect(f"{words}: {name}", changed != text and found.stdout == wanted.stdout and found.returncode == 0 == wanted.returncode, found)
+
+
+def try_words(program):
+    """Command lines that are wrong end with status 2, and a text that is no trace with 1."""
+    formula, trace = ROOT / "examples" / "two_clauses.qdimacs", ROOT / "examples" / "two_clauses.qrp"
+    for words in [], [formula], [formula, trace, "1"], ["--other", formula, trace], [formula, "/nonexistent"], ["/nonexistent", trace], ["--last", "0", formula, trace]:
+        ended = run(DRAW, *words, program=program)
+        expect(f"usage: draw-proof {words}", ended.returncode == 2 and not ended.stdout and ended.stderr, ended)
+    ended = run(DRAW, formula, formula, program=program)
+    expect("no trace", ended.returncode == 1 and ended.stderr, ended)
+
+
+def main():
+    program, rows, unreadable = sys.argv[1:]
+    for row in Path(unreadable).read_text().splitlines():
+        expect(row, False)
+    folder = ROOT / "tests" / "traces"
+    listed = [row.split("\t") for row in (folder / "expected.tsv").read_text().splitlines()[1:]]
+    real = [(folder / row[0], folder / row[1]) for row in listed]
+    trimmed = [(f / f"{f.name}.qdimacs", f / f"{f.name}.trimmed.qrp") for f in EXAMPLES]
+    small = [pair for pair in trimmed if pair[1].stat().st_size < 10000]
+    few = [pair for pair in real if pair[1].name in ("kbkf2.trad.qrp", "adder2.lazy.qrp")]
+    try_rows(program, Path(rows).read_text().splitlines())
+    try_proofs(program, real + trimmed)
+    expect("six proofs to damage", len(small + few) == 6, small + few)
+    try_damages(program, small + few)
+    try_drawings(program)
+    try_blanks(program)
+    try_words(program)
+    return finish()
+
+
+if __name__ == "__main__":
+    sys.exit(main())

@@ -1,0 +1,320 @@
+"""Explains why a text is refused (F2 to F8, P2 to P8), and why a quantifier set or a whole trace is (C1 to C4).
+
+A part of tools/explain. Each function returns sentences.
+"""
+
+from io import BytesIO
+from itertools import islice, repeat
+from operator import itemgetter
+
+from qrptools.formula import ADJECTIVES, UNBOUND
+from qrptools.looks import looks
+from qrptools.steps import Step
+from qrptools.words import WORD, value
+
+SHOWN = 60  # bytes of a line before and after the marked word
+LISTED = 12  # numbers in a sentence
+
+
+def listed(numbers):
+    """Some of the numbers, as a part of a sentence."""
+    words = [str(number) for number in numbers]
+    return ", ".join(words[:LISTED]) + (f" and {len(words) - LISTED} more" if len(words) > LISTED else "")
+
+
+def counted(count, word):
+    return f"{count} {word}" + ("" if count == 1 else "s")
+
+
+def shown(word):
+    """A word as it may be printed."""
+    text = word[:40].decode("ascii", "backslashreplace") + (".." if len(word) > 40 else "")
+    return "".join(letter if letter.isprintable() else f"\\x{ord(letter):02x}" for letter in text)
+
+
+def marked_line(fault):
+    """The line of the fault with its word marked, as lines to print; none where the text ends."""
+    if fault.at is None:
+        return []
+    word = list(WORD.finditer(fault.text))[fault.at]
+    first, last = max(0, word.start() - SHOWN), min(len(fault.text), max(word.end(), min(word.end() + SHOWN, word.start() + 2 * SHOWN)))
+    last = min(last, word.start() + 2 * SHOWN)
+    cut = fault.text[first:last].rstrip(b"\r\n")
+    text = "".join(chr(byte) if 32 <= byte < 127 else " " if byte == 9 else "?" for byte in cut)
+    before, after = (".. " if first else ""), (" .." if last < len(fault.text.rstrip()) else "")
+    width = max(1, min(word.end(), last) - word.start())
+    return [f"    {before}{text}{after}", " " * (4 + len(before) + word.start() - first) + "^" * width]
+
+
+def word_of(fault):
+    return list(WORD.finditer(fault.text))[fault.at][0]
+
+
+def likely_cause(fault, data):
+    """Which of the causes of docs/REFUSED.md is likely, where the fault has several."""
+    if is_cut(fault, data):
+        return "cut"
+    if fault.name != "P8":
+        return None
+    rest = WORD.findall(fault.text)[fault.at :]
+    return "limit" if rest[0].upper() == b"UNKNOWN" else "answer" if rest[0] == b"s" else "damaged"
+
+
+def is_cut(fault, data):
+    """Whether the text ends in the middle of the word that is refused, as it seems."""
+    return fault.name in ("F3", "P3", "P5", "P8") and fault.at is not None and data.endswith(word_of(fault)) and data.endswith(fault.text)
+
+
+def explain_text(kind, text_fault, data):
+    """Sentences on a fault of a text; `kind` is formula or trace, and `data` the bytes of the text."""
+    sentences = {
+        "F2": wrong_header,
+        "P2": wrong_header,
+        "F3": wrong_word,
+        "P3": wrong_word,
+        "F4": out_of_range,
+        "P4": out_of_range,
+        "F5": bound_twice,
+        "F6": free_variable,
+        "F7": cut_off,
+        "P7": cut_off,
+        "F8": wrong_count,
+        "P5": number_twice,
+        "P6": third_antecedent,
+        "P8": wrong_result,
+    }[text_fault.name](text_fault, data)
+    seen = looks(data, "cnf" if kind == "formula" else "qrp")
+    if is_cut(text_fault, data):
+        sentences.append("The text ends with this word and has no line end: it seems to be cut.")
+    elif text_fault.name in ("P3", "P4", "P5", "P6"):
+        sentences += odd_zeros(text_fault, data)
+    return sentences + ([seen] if seen else [])
+
+
+def odd_zeros(fault, data):
+    """Whether the line of a trace, or the one before it, has one 0 too few or too many for a set or for a step."""
+    first = max(0, fault.line - 2)
+    for number, line in enumerate(islice(BytesIO(data), first, fault.line), first + 1):
+        what, *words = line.split() or [b""]
+        zeros, wanted = sum(1 for word in words if not word.strip(b"0")), 2 if what.isdigit() else 1
+        if (what.isdigit() or what in (b"a", b"e")) and abs(zeros - wanted) == 1:
+            kind, which = ("step", "set")[wanted == 1], "missing" if zeros < wanted else "one too many"
+            return [f"Line {number} has {counted(zeros, 'zero')} where a {kind} has {wanted}: is a 0 {which}?"]
+    return []
+
+
+def wrong_header(fault, _data):
+    wanted = "`p cnf VARIABLES CLAUSES`, with two numbers from 0 to 2147483647"
+    if fault.known["word"] == "qrp":
+        wanted = "`p qrp VARIABLES STEPS`, with two numbers"
+    return [f"The text has to begin with {wanted}; '{shown(word_of(fault))}' does not fit."]
+
+
+# What a word points to that begins a line of a formula or of a trace.
+FIRST_WORDS = {
+    b"p": "It looks like a second header: two texts in one file, or the formula that --pretty-print writes.",
+    b"%": "Some collections end their files with a line of %, which is no part of DIMACS: cut the text there.",
+    b"d": "Lines of this letter belong to other formats (DQDIMACS, DRAT).",
+    b"h": "Lines of this letter belong to other formats.",
+    b"x": "Lines of this letter belong to other formats (xor clauses).",
+    b"s": "Lines of this letter are the solver's answer, which has to go elsewhere.",
+    b"v": "Lines of this letter are the solver's answer, which has to go elsewhere.",
+    b"V": "Lines of this letter are the solver's answer, which has to go elsewhere.",
+}
+
+
+def wrong_word(fault, _data):
+    word, inside = word_of(fault), fault.known["inside"]
+    sentences = [f"'{shown(word)}' is not allowed {BETWEEN.get(inside, f'in {inside}, a list of numbers that 0 closes.')}"]
+    if word in (b"a", b"e") and fault.at == 0:
+        sentences.append(f"Quantifier sets come before all {'clauses' if fault.name == 'F3' else 'steps'}, and 0 closes each list: is a 0 missing?")
+    elif fault.at == 0 and word in FIRST_WORDS:
+        sentences.append(FIRST_WORDS[word])
+    elif word[:1] in (b"+", b"-") and word[1:].isdigit():
+        sentences.append("A number has no plus sign, and 0 no minus.")
+    return sentences
+
+
+BETWEEN = {
+    "between clauses": "here: after a clause comes the next clause, or the end.",
+    "before the first clause": "here: after the header come the quantifier sets, `a` or `e`, and the clauses.",
+    "between steps": "here: a step begins with its number, and after the last one comes `r` with the result.",
+}
+
+
+def out_of_range(fault, _data):
+    number, known = fault.known["number"], fault.known
+    if "variables" in known:
+        limit = f"the header, in line {known['header']}, says that the variables are 1 to {known['variables']}"
+        sentences = [f"{big(number)} is out of range: {limit}."]
+        if number < 0 and -number <= known["variables"]:
+            sentences = ["A quantifier set names variables, without a minus."]
+            if fault.at == 0:
+                sentences.append("The line looks like a clause: is the 0 missing that closes the set before it?")
+        return sentences
+    what = known["inside"]
+    if "literals" in what or "set" in what:
+        sign = "" if "literals" in what else ", without a minus"
+        return [f"{big(number)} is out of range: a variable is a number from 1 to {known['greatest']}{sign}."]
+    return [f"{big(number)} is out of range: the number of a step is from 1 to {known['greatest']}."]
+
+
+def big(number):
+    return str(number) if abs(number) < 10**24 else "A number of so many digits"
+
+
+def bound_twice(fault, _data):
+    place = fault.known["place"]
+    return [f"Variable {fault.known['number']} is bound already, as {ADJECTIVES[place.quantifier]}, in line {place.line}."]
+
+
+def free_variable(fault, _data):
+    sentences = [f"Variable {fault.known['number']} is in no quantifier set, so it is free."]
+    if WORD.match(fault.text.lstrip())[0] in (b"a", b"e"):
+        sentences.append("Its line begins with a quantifier set, which an earlier 0 closes: is that 0 one too many?")
+    return sentences
+
+
+def cut_off(fault, data):
+    inside, begun = fault.known["inside"], fault.known.get("begun")
+    where = f"{inside}, which begins in line {begun}," if begun else inside
+    sentences = [f"The text ends in line {fault.line}, after {counted(len(data), 'byte')}, inside {where}" if inside != "between steps" else ""]
+    if inside == "between steps":
+        sentences = [f"The text ends in line {fault.line}, after {counted(len(data), 'byte')}, before the line `r sat` or `r unsat`"]
+    end = "." if data.endswith(b"\n") or not data else "; its last line has no line end."
+    return [sentences[0].rstrip(",") + end]
+
+
+def wrong_count(fault, data):
+    known = fault.known
+    if fault.at is None:
+        sentences = [f"The header, in line {known['header']}, says {counted(known['count'], 'clause')}, and the text has {known['read']}."]
+        line = first_open_line(data)
+        if line:
+            sentences.append(f"The clause in line {line} does not end with 0, so the next line belongs to it too: is a 0 missing there?")
+        return sentences
+    more = sum(1 for _ in clause_ends(data))
+    sentences = [f"The header, in line {known['header']}, says {counted(known['count'], 'clause')}, and here begins one more."]
+    if more > known["count"]:
+        sentences.append(f"The text has {more}.")
+    return sentences
+
+
+def lines_of_clauses(data):
+    """The lines after the header and the quantifier sets, with their numbers."""
+    for number, text in enumerate(data.splitlines(), 1):
+        words = text.split()
+        if words and words[0][:1] not in (b"c", b"p", b"a", b"e"):
+            yield number, words
+
+
+def first_open_line(data):
+    return next((number for number, words in lines_of_clauses(data) if words[-1].strip(b"0")), None)
+
+
+def clause_ends(data):
+    for _, words in lines_of_clauses(data):
+        yield from (word for word in words if not word.strip(b"0"))
+
+
+def number_twice(fault, _data):
+    return [f"Step {fault.known['number']} is in line {fault.known['earlier']} already. Each step has a number of its own."]
+
+
+def third_antecedent(fault, _data):
+    return [f"'{shown(word_of(fault))}' would be the third of {fault.known['inside']}: a step has two at most."]
+
+
+def wrong_result(fault, data):
+    rest = WORD.findall(fault.text)[fault.at :]
+    said = " ".join(shown(word) for word in rest[:6])
+    sentences = [f"After `r` comes `sat` or `unsat`; here it is '{said}'."]
+    if rest[:2] == [b"s", b"cnf"]:
+        sentences.append("The solver wrote its answer in the form of QDIMACS, as DepQBF does with --qdo.")
+    return sentences
+
+
+def sets_that_fail(formula, trace):
+    """The variables of the trace's sets that do not agree with the formula, in file order: each with its fault, and with the variable
+    of the innermost block before it."""
+    innermost = None
+    for named in trace.sets:
+        place = formula.place(named.variable)
+        if place == UNBOUND:
+            yield "C1", named, innermost
+        elif place.quantifier != named.quantifier:
+            yield "C2", named, innermost
+        elif innermost and place.block < formula.place(innermost.variable).block:
+            yield "C3", named, innermost
+        if place != UNBOUND and (innermost is None or place.block >= formula.place(innermost.variable).block):
+            innermost = named
+
+
+def explain_sets(formula, trace):
+    """The first fault of the sets, None if they agree, its variable, and sentences on it."""
+    failing = list(sets_that_fail(formula, trace))
+    if not failing:
+        return None, None, []
+    fault, named, before = failing[0]
+    v, place = named.variable, formula.place(named.variable)
+    here = f"Variable {v} is {ADJECTIVES[named.quantifier]} in line {named.line} of the trace"
+    if fault == "C1":
+        sentences = [f"{here}, and no quantifier set of the formula binds it."]
+    elif fault == "C2":
+        sentences = [f"{here}, and {ADJECTIVES[place.quantifier]} in line {place.line} of the formula."]
+    else:
+        other = formula.place(before.variable)
+        sentences = [
+            f"Line {named.line} of the trace names variable {v} after variable {before.variable} of line {before.line}.",
+            f"In the formula {v} is in block {place.block} (line {place.line}), further out than {before.variable} in block {other.block} "
+            f"(line {other.line}).",
+        ]
+    rest = {other.variable for _, other, _ in failing} - {v}
+    if rest:
+        sentences.append(f"{counted(len(rest), 'more variable')} of the trace's sets {'does' if len(rest) == 1 else 'do'} not agree either.")
+    return fault, v, sentences
+
+
+def explain_no_goal(trace):
+    """Sentences on a trace without an empty step, and whether it has none."""
+    steps, shortest, goal = 0, None, False
+    for line, texts in trace.pieces():
+        steps += len(texts)
+        heads = map(itemgetter(0), map(bytes.partition, texts, repeat(b" 0 ")))
+        lengths = list(map(bytes.count, heads, repeat(b" ")))
+        goal = goal or 0 in lengths
+        if shortest is None or min(lengths) < shortest[0]:
+            place = lengths.index(min(lengths))
+            shortest = (lengths[place], Step(line + place, texts[place]))
+    word = "clause" if trace.result == "unsat" else "cube"
+    sentences = [f"The trace says `r {trace.result}`, and none of its {counted(steps, 'step')} is the empty {word}, so nothing is proved."]
+    if not steps:
+        sentences = [f"The trace says `r {trace.result}` and has no step, so nothing is proved."]
+    if shortest:
+        sentences.append(f"The shortest is step {shortest[1].number} in line {shortest[1].line}, with {counted(shortest[0], 'literal')}.")
+    return not goal, sentences
+
+
+def free_variables(formula):
+    """The variables of the clauses that no quantifier set binds, in their order."""
+    free, seen = set(), set()
+    words = formula.words.again()
+    rest = words.data[words.start + len(words.text) :].split(b"\n")
+    for text in [b" ".join(words.words[words.at :]), *rest]:
+        if text.lstrip()[:1] == b"c":
+            continue
+        new = {word for word in WORD.findall(text) if word not in seen}
+        seen |= new
+        for number in map(value, new):
+            if isinstance(number, int) and 0 < abs(number) <= formula.variables and abs(number) not in formula.places:
+                free.add(abs(number))
+    return sorted(free)
+
+
+def closed(formula):
+    """The formula's text with its free variables bound outermost, existentially."""
+    free = free_variables(formula)
+    if not free:
+        return formula.data
+    at = formula.header_end
+    return formula.data[:at] + b"\ne " + b" ".join(b"%d" % v for v in free) + b" 0" + formula.data[at:]

@@ -1,0 +1,209 @@
+"""Judges single steps by the rules of docs/RULES.md, in its words. A part of tools/explain.
+
+Nothing here is proved: a verdict comes from qrp_cmd alone.
+"""
+
+from collections import namedtuple
+
+from qrptools.formula import ADJECTIVES, EXISTS, FOR_ALL, UNBOUND, is_clean
+
+# What has to hold of a step, as the table of docs/RULES.md says it.
+CONDITIONS = {
+    "S1": "the step holds no clashing pair",
+    "S2": "its variables are bound",
+    "S3": "each antecedent is the number of an earlier step",
+    "S4": "clauses, no antecedent: some clean clause has the step as a reduct",
+    "S5": "cubes, no antecedent: each clause holds a clashing pair or shares a literal with the step",
+    "S6": "one antecedent: each literal of the step is in it",
+    "S7": "one antecedent: each literal that was left out is reducible in it",
+    "S8": "two antecedents: they clash",
+    "S9": "they clash in only one variable",
+    "S10": "the pivot has the deciding quantifier",
+    "S11": "each literal of the step is in the resolvent",
+    "S12": "each literal of the resolvent is in the step, or reducible in the resolvent, or reducible in the parents",
+}
+
+Side = namedtuple("Side", "word deciding reduced")
+SIDES = {"unsat": Side("clause", EXISTS, FOR_ALL), "sat": Side("cube", FOR_ALL, EXISTS)}
+
+
+def clashes(a, b):
+    """The variables that stand with one sign in a and with the other in b, in the order of a."""
+    return list(dict.fromkeys(abs(literal) for literal in a if -literal in b))
+
+
+def innermost(formula, side, literals):
+    """The literal with the deciding quantifier whose block comes last, None where there is none."""
+    deciding = [l for l in literals if formula.place(l).quantifier == side.deciding]
+    return max(deciding, key=lambda l: (formula.place(l).block, -abs(l)), default=None)
+
+
+def what_keeps(formula, side, last, literal):
+    """Why the literal is not reducible among literals of which this one is innermost, None where it is reducible."""
+    quantifier, block, _ = formula.place(literal)
+    if quantifier is None:
+        return "it is not bound"
+    if quantifier != side.reduced:
+        return f"it is {ADJECTIVES[quantifier]}, and of {side.word}s only {ADJECTIVES[side.reduced]} literals are reduced"
+    if last is not None and formula.place(last).block > block:
+        return f"it is in block {block}, and the {ADJECTIVES[side.deciding]} {last} comes later, in block {formula.place(last).block}"
+    return None
+
+
+def all_kept(formula, side, literals, out):
+    """Of the literals that are left out of these, those that are not reducible, with the reason."""
+    last = innermost(formula, side, literals)
+    return {l: reason for l in sorted(out, key=abs) if (reason := what_keeps(formula, side, last, l))}
+
+
+# What is found of a step: its fault, None where it follows; sentences on why; notes on literals; where the step has no antecedents,
+# the clause of the formula that shows it; and which of the causes of docs/REFUSED.md is likely, where there are several.
+Finding = namedtuple("Finding", "fault reasons notes clause cause", defaults=[None, None])
+
+
+def judge(formula, side, any_pivot, step, before, later=()):
+    """Judges a step. `before` gives the literals of the earlier steps that it names, by their numbers; `later` has those of later ones."""
+    literals = set(step.literals)
+    if not is_clean(literals):
+        both = [literal for literal in dict.fromkeys(step.literals) if -literal in literals]
+        reasons = [f"The step holds {literal} and {-literal}." for literal in both if literal > 0]
+        given = set().union(*(before.get(number, []) for number in step.antecedents))
+        cause = "long" if all(literal in given for literal in both) else "damaged"
+        return Finding("S1", reasons, dict.fromkeys(both, "both signs"), cause=cause)
+    unbound = [literal for literal in dict.fromkeys(step.literals) if formula.place(literal) == UNBOUND]
+    if unbound:
+        reasons = [f"The formula does not bind variable {abs(literal)}." for literal in unbound]
+        return Finding("S2", reasons, dict.fromkeys(unbound, "unbound"))
+    missing = [number for number in dict.fromkeys(step.antecedents) if number not in before]
+    if missing:
+        cause = "order" if all(number in later and number != step.number for number in missing) else "missing"
+        return Finding("S3", [f"No step before this one has the number {number}." for number in missing], {}, cause=cause)
+    if not step.antecedents:
+        initial = initial_clause if side.word == "clause" else initial_cube
+        return initial(formula, side, literals)
+    if len(step.antecedents) == 1:
+        name = f"step {step.antecedents[0]}"
+        return reduct(formula, side, name, set(before[step.antecedents[0]]), literals)
+    a, b = step.antecedents[:2]
+    parents = [(f"step {a}", set(before[a])), (f"step {b}", set(before[b]))]
+    return resolvent(formula, side, any_pivot, parents, literals)
+
+
+def initial_clause(formula, side, literals, with_cause=True):
+    nearest = None
+    for clause in formula.clauses():
+        more, out = literals - clause.literals, clause.literals - literals
+        if nearest and len(more) > nearest[0][0]:
+            continue
+        kept = {} if more else all_kept(formula, side, clause.literals, out)
+        if clause.clean and not more and not kept:
+            text = ", and what is left out of it is reducible in it" if out else ""
+            return Finding(None, [f"It is clause {clause.number} of the formula{text}."], left_out(out, {}), clause)
+        distance = (len(more), not clause.clean, len(kept), len(out))
+        if nearest is None or distance < nearest[0]:
+            nearest = (distance, clause)
+    if nearest is None:
+        return Finding("S4", ["The formula has no clause."], {}, cause=with_cause and of_the_other_side(formula, side, literals))
+    clause = nearest[1]
+    more, out = sorted(literals - clause.literals, key=abs), clause.literals - literals
+    kept = all_kept(formula, side, clause.literals, out)
+    reasons = [f"No clause of the formula gives this step. The nearest is clause {clause.number}:"]
+    reasons += [f"{l} is not in it." for l in more]
+    reasons += [f"{l} is left out, and not reducible in it: {kept[l]}." for l in kept]
+    if not clause.clean:
+        reasons.append("It holds a variable with both signs.")
+    cause = with_cause and of_the_other_side(formula, side, literals)
+    return Finding("S4", reasons, left_out(out, kept) | dict.fromkeys(more, "not in the clause"), clause, cause)
+
+
+def initial_cube(formula, side, literals):
+    missed = [c for c in formula.clauses() if c.clean and literals.isdisjoint(c.literals)]
+    if not missed:
+        return Finding(None, ["Each clause of the formula shares a literal with it, or holds a variable with both signs."], {})
+    reasons = [f"Clause {missed[0].number} of the formula shares no literal with the step."]
+    if len(missed) > 1:
+        reasons.append("Nor does one more." if len(missed) == 2 else f"Nor do {len(missed) - 1} more.")
+    return Finding("S5", reasons, {}, missed[0], of_the_other_side(formula, side, literals))
+
+
+def of_the_other_side(formula, side, literals):
+    """Whether an initial step that fails would be one where the trace has the other result. The empty step would often be by chance."""
+    if not literals:
+        return "formula"
+    if side.word == "clause":
+        return "formula" if any(c.clean and literals.isdisjoint(c.literals) for c in formula.clauses()) else "side"
+    return "side" if initial_clause(formula, SIDES["unsat"], literals, False).fault is None else "formula"
+
+
+def why_left_out(formula, side, kept):
+    """A literal of the deciding quantifier is never reduced, so one that is gone was lost."""
+    return "lost" if any(formula.place(l).quantifier == side.deciding for l in kept) else "scheme"
+
+
+def left_out(literals, kept):
+    return {l: "left out, not reducible" if l in kept else "left out, reducible" for l in literals}
+
+
+def reduct(formula, side, name, antecedent, literals):
+    more = sorted(literals - antecedent, key=abs)
+    if more:
+        cause = "sign" if any(-l in antecedent for l in more) else "more"
+        return Finding("S6", [f"{l} is not in {name}." for l in more], dict.fromkeys(more, f"not in {name}"), cause=cause)
+    out = antecedent - literals
+    kept = all_kept(formula, side, antecedent, out)
+    if kept:
+        reasons = [f"{l} is left out, and not reducible in {name}: {kept[l]}." for l in kept]
+        return Finding("S7", reasons, left_out(out, kept), cause=why_left_out(formula, side, kept))
+    text = f"and what is left out is reducible in {name}" if out else "with nothing left out"
+    return Finding(None, [f"It is a reduct of {name}, {text}."], left_out(out, {}))
+
+
+def resolvent(formula, side, any_pivot, parents, literals):
+    (a_name, a), (b_name, b) = parents
+    variables = clashes(a, b)
+    if not variables:
+        return Finding("S8", [f"No variable stands with one sign in {a_name} and with the other in {b_name}."], {})
+    if len(variables) > 1:
+        among = ", ".join(map(str, sorted(variables)))
+        notes = {l: "clash" for l in a | b if abs(l) in variables}
+        return Finding("S9", [f"They clash in {len(variables)} variables: {among}."], notes)
+    pivot = variables[0]
+    notes = {pivot: "pivot", -pivot: "pivot"}
+    if not any_pivot and formula.place(pivot).quantifier != side.deciding:
+        quantifier = ADJECTIVES.get(formula.place(pivot).quantifier, "not bound")
+        reasons = [
+            f"The pivot is {pivot}, which is {quantifier}.",
+            f"A pivot of {side.word}s is {ADJECTIVES[side.deciding]}; with --qu it may be either.",
+        ]
+        return Finding("S10", reasons, notes)
+    whole = {l for l in a | b if abs(l) != pivot}
+    if literals - whole:
+        return not_resolved(whole, literals, pivot, notes)
+    reasons = []
+    out = sorted(whole - literals, key=abs)
+    in_resolvent = all_kept(formula, side, whole, out)
+    in_parents = [(name, all_kept(formula, side, parent, parent.intersection(out))) for name, parent in parents]
+    for l in out:
+        in_parent = next(((name, kept[l]) for name, kept in in_parents if l in kept), None)
+        if l in in_resolvent and in_parent:
+            notes[l] = "left out, not reducible"
+            reasons.append(f"{l} is left out, and not reducible in the resolvent: {in_resolvent[l]}.")
+            reasons.append(f"Nor is it reducible in {in_parent[0]}: {in_parent[1]}.")
+        else:
+            notes[l] = f"left out, reducible in the {'parents' if l in in_resolvent else 'resolvent'}"
+    if reasons:
+        kept = [l for l in out if notes.get(l) == "left out, not reducible"]
+        return Finding("S12", reasons, notes, cause=why_left_out(formula, side, kept))
+    text = "nothing is left out of it" if whole <= literals else "what is left out of it may be reduced"
+    return Finding(None, [f"It is the resolvent of {a_name} and {b_name} on {pivot}, and {text}."], notes)
+
+
+def not_resolved(whole, literals, pivot, notes):
+    """What is found of a step with literals that its resolvent does not hold."""
+    more, reasons = sorted(literals - whole, key=abs), []
+    for l in more:
+        reasons.append(f"{l} is of the pivot, which the resolvent does not hold." if abs(l) == pivot else f"{l} is in neither antecedent.")
+        notes[l] = "pivot, but in the step" if abs(l) == pivot else "not in the resolvent"
+    signs = [l for l in more if abs(l) != pivot and -l in whole]
+    cause = "pivot" if any(abs(l) == pivot for l in more) else "sign" if signs else "more"
+    return Finding("S11", reasons, notes, cause=cause)
