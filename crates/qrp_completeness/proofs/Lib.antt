@@ -1,0 +1,4 @@
+pub mod Writing
+pub mod Small
+pub mod Traces
+pub mod TextbookSteps

@@ -1,0 +1,211 @@
+-- From a derivation of the empty set to a trace, its text, and its verdict.
+use Rattle.qrp_check.proofs.Words.{◌≡◌, ℕ, ◌+◌, ◌<◌, ◌≤◌, List, [], ◌∷◌, ◌++◌, inl, inr, refl, sym, subst, length, arith, Ok, Result, false}
+use Rattle.qrp_check.proofs.Words.{AllByRecursion, Literal, ◌∈◌, Side, Clauses, Cubes, AreBound, bound_each, pairs, Qbf, IsClosed}
+use Rattle.qrp_check.proofs.Words.{Rules, Inference, numbers, IsGoal, Derivation, Outcome, side_of, SetsAgree, at_place}
+use Rattle.qrp_check.proofs.Words.{slice_get_within}
+use Rattle.std.proofs.Common.{◌^◌, length-append}
+use Rattle.qbf_core.specs.Blocks.{IsVariable, variables}
+use Rattle.qbf_core.specs.Qbf.{IsWellFormed as IsWellFormedFormula}
+use Rattle.qbf_core.specs.Truth.{ResultHolds}
+use Rattle.qbf_core.proofs.Bound.{all_in, in_all, bound_in, pair_var}
+use Rattle.qbf_core.proofs.PushedItems.{pushed_new}
+use Rattle.qbf_text.specs.declared.token.Comments.TheVariants.{Qdimacs, Qrp}
+use Rattle.qbf_text.specs.Lined.{without_lines}
+use Rattle.qbf_text.specs.Tokens.{tokens}
+use Rattle.qbf_text.proofs.TokensEndOnce.{tokens-EndsOnce}
+use Rattle.qdimacs.specs.declared.fault.FormulaFault.{FormulaFault}
+use Rattle.qdimacs.specs.Grammar.{IsFormula}
+use Rattle.qdimacs.specs.Reading.{read_formula}
+use Rattle.qdimacs.specs.Faults as formulas
+use Rattle.qdimacs.proofs.ReadIsSpelled as formulas_sound
+use Rattle.qrp.specs.declared.fault.TraceFault.{TraceFault}
+use Rattle.qrp.specs.declared.item.Outcome.TheVariants.{Sat, Unsat}
+use Rattle.qrp.specs.Derivations.{AreGrammatical, IsWellFormed}
+use Rattle.qrp.specs.Inferences.{IsInference, IsLiteral}
+use Rattle.qrp.specs.Grammar.{IsTrace, text}
+use Rattle.qrp.specs.Reading.{read_trace}
+use Rattle.qrp.specs.Faults as traces
+use Rattle.qrp.proofs.ReadIsSpelled as traces_sound
+use Rattle.qrp.proofs.ReadingLaws.{text_is_read}
+use Rattle.qrp_check.specs.Headline.{IsShown, Headline}
+use Rattle.qrp_check.proofs.HeadlineOfVerdict.{formula_spelled, trace_spelled}
+use Rattle.qrp_check.specs.Unreduced.{ProvesUnreduced}
+use Rattle.qrp_check.specs.Verdict.{IsOutOfMemory, IsFormulaDevice, IsTraceDevice}
+use Rattle.qrp_check.specs.declared.verdict.Verified.{Verified}
+use Rattle.qrp_check.specs.declared.verdict.Fault.{Fault}
+use Rattle.std.specs.Prelude.{IsOk, ◌⊎◌}
+use Rattle.qrp_check.proofs.Marking.{core_within}
+use Rattle.qrp_check.proofs.Soundness.{soundness}
+use Rattle.qrp_check.proofs.WiderRules.{reduced_parents_keep}
+use Rattle.qbf_completeness.specs.Derivations.{IsDerived}
+use Rattle.qbf_completeness.specs.Laws.{step_limit}
+use Rattle.qbf_completeness.proofs.Deriving.{completeness}
+use Rattle.qrp_completeness.specs.Laws.{EachResultHasAProof, ResultsAreProofs, HasTrace, SmallResultsHaveTraces}
+use Rattle.qrp_completeness.specs.Laws.{SmallFormulasAreVerified}
+use Rattle.qrp_completeness.proofs.Writing.{IsPlain, IsSound, Written, write, nothing_written}
+
+closed_of : (f : Qbf) → IsWellFormedFormula f → IsClosed f
+closed_of f formed = record { distinct = formed.prefix.distinct; bound = formed.closed }
+
+-- ---- the steps prove the result
+
+goal_here : (front : List Inference) (last : Inference) → last.lits ≡ [] → IsGoal (front ++ last ∷ []) (length front)
+goal_here front last empty = record {
+  step = last;
+  here = pushed_new front last;
+  empty = empty;
+  last = λ j other at none. omega (arith, slice_get_within (front ++ last ∷ []) j other at, length-append front (last ∷ []));
+}
+
+pub no_sets : (f : Qbf) → SetsAgree f.blocks []
+no_sets f i p e = absurd (cc e)
+
+proves_unreduced : (by : Rules) (f : Qbf) (result : Outcome) (n : ℕ) (w : Written (side_of result) f [] [] n)
+    → ProvesUnreduced by f [] (w.front ++ w.last ∷ []) result
+proves_unreduced by f result n w = record {
+  agree = no_sets f;
+  position = length w.front;
+  is_goal = goal_here w.front w.last w.of_last;
+  each = λ i core. let at = at_place (w.front ++ w.last ∷ []) i (core_within (w.front ++ w.last ∷ []) i core) in
+      w.sound.follows by i at.0 at.1;
+}
+
+-- ---- and are of the grammar
+
+in_range : (f : Qbf) → IsWellFormedFormula f → (lits : List Literal) → AreBound f.blocks lits → AllByRecursion IsLiteral lits
+in_range f formed lits bound = in_all IsLiteral lits (λ l h.
+    let w = bound_in (pairs f.blocks) l.var (bound_each f.blocks lits bound l h) in
+    all_in IsVariable (variables (pairs f.blocks)) formed.prefix.within l.var (pair_var (pairs f.blocks) w.0 l.var w.1))
+
+inference_of : (f : Qbf) → IsWellFormedFormula f → (most : ℕ) (s : Inference) → IsPlain f most s → IsInference s
+inference_of f formed most s is = record {
+  number = is.from;
+  lits = in_range f formed s.lits is.bound;
+  ants = in_all (λ n. 1 ≤ n) s.ants (λ n h. (is.ants n h).0);
+  few = is.few;
+}
+
+grammatical_of : (side : Side) (f : Qbf) (steps : List Inference) → IsWellFormedFormula f → IsSound side f steps → AreGrammatical [] steps
+grammatical_of side f steps formed sound = record {
+  variables = tt;
+  inferences = in_all IsInference steps (λ s h. inference_of f formed (length steps) s (sound.plain s h));
+  distinct = sound.distinct;
+}
+
+-- ---- the laws
+
+-- the steps, and what is known of them
+record Steps (f : Qbf) (result : Outcome) : Type 0 where
+  pub steps : List Inference
+  pub sound : IsSound (side_of result) f steps
+  pub few : length steps < step_limit (side_of result) f
+  pub unreduced : (by : Rules) → ProvesUnreduced by f [] steps result
+
+steps_of : (f : Qbf) (result : Outcome) → IsWellFormedFormula f → ResultHolds (side_of result) f → Steps f result
+steps_of f result formed holds =
+    let w = completeness f (side_of result) (closed_of f formed) holds in
+    let t = write (side_of result) f w.2 [] (nothing_written (side_of result) f) in
+    let count : length (t.front ++ t.last ∷ []) ≡ 0 + w.0 = t.count in
+    record {
+      steps = t.front ++ t.last ∷ [];
+      sound = t.sound;
+      few = omega (arith, count, w.1);
+      unreduced = λ by. proves_unreduced by f result w.0 t;
+    }
+
+pub each_result_has_a_proof : EachResultHasAProof
+each_result_has_a_proof f result formed holds =
+    let w = steps_of f result formed holds in
+    record {
+      steps = w.steps;
+      grammatical = grammatical_of (side_of result) f w.steps formed w.sound;
+      few = w.few;
+      unreduced = w.unreduced;
+      proves = λ by. reduced_parents_keep by f [] w.steps result (w.unreduced by);
+    }
+
+pub results_are_proofs : ResultsAreProofs
+results_are_proofs by f result formed = (
+  (λ holds. let w = each_result_has_a_proof f result formed holds in (w.steps, w.proves by)),
+  (λ w. soundness by f [] w.0 result (closed_of f formed) w.1),
+)
+
+-- numbers of 64 bits
+numbers_all : (P : ℕ → Type 0) (steps : List Inference) → ((s : Inference) → s ∈ steps → P s.number) → AllByRecursion P (numbers steps)
+numbers_all P [] each = tt
+numbers_all P (s ∷ steps) each = (each s (inl refl), numbers_all P steps (λ t h. each t (inr h)))
+
+trace_of : (f : Qbf) (result : Outcome) → List Inference → Derivation
+trace_of f result steps = record {
+  header = record { vars = f.max_var; steps = length steps };
+  sets = [];
+  steps = steps;
+  result = result;
+}
+
+well_formed_trace : (side : Side) (f : Qbf) (result : Outcome) (steps : List Inference) → IsWellFormedFormula f → IsSound side f steps
+    → length steps < 2 ^ 64 → IsWellFormed (trace_of f result steps)
+unfolding trace_of
+well_formed_trace side f result steps formed sound few = record {
+  grammatical = grammatical_of side f steps formed sound;
+  fits = record {
+    vars = let top : f.max_var ≤ 2147483647 = formed.numbers in omega (arith, top);
+    steps = few;
+    numbers_fit = numbers_all (λ n. n < 2 ^ 64) steps (λ s h. let to : s.number ≤ length steps = (sound.plain s h).to in omega (arith, to, few));
+    ants_fit = in_all (λ s. AllByRecursion (λ n. n < 2 ^ 64) s.ants) steps (λ s h. in_all (λ n. n < 2 ^ 64) s.ants
+        (λ n k. let to : n ≤ length steps = ((sound.plain s h).ants n k).1 in omega (arith, to, few)));
+    count = few;
+  };
+}
+
+pub small_results_have_traces : SmallResultsHaveTraces
+unfolding trace_of
+small_results_have_traces f result formed small holds =
+    let w = steps_of f result formed holds in
+    let few : length w.steps < 2 ^ 64 = omega (arith, w.few, small) in
+    let formed_trace = well_formed_trace (side_of result) f result w.steps formed w.sound few in
+    record {
+      trace = trace_of f result w.steps;
+      states = refl;
+      well_formed = formed_trace;
+      reads = text_is_read (trace_of f result w.steps) formed_trace;
+      proves = λ by. reduced_parents_keep by f [] w.steps result (w.unreduced by);
+    }
+
+-- ---- bytes
+
+bytes_shown : (formula : List ℕ) (f : Qbf) → IsFormula (without_lines (tokens Qdimacs formula)) f → (result : Outcome) → (w : HasTrace f result)
+    → (by : Rules) → IsShown by formula (text w.trace)
+bytes_shown formula f spelled result w by = record {
+  f = f;
+  d = w.trace;
+  spelled = record { formula_spelled = spelled; trace_spelled = trace_spelled (text w.trace) w.trace w.reads };
+  proves = w.proves by;
+}
+
+pub small_formulas_are_verified : SmallFormulasAreVerified
+small_formulas_are_verified formula f result is small holds =
+    let spelled = formula_spelled formula f is in
+    let w = small_results_have_traces f result spelled.well_formed small holds in (
+      text w.trace,
+      λ by. let shown = bytes_shown formula f spelled result w by in (shown, λ answer headline. headline.wherever shown),
+    )
+
+-- where no device fails
+pub verified_or_memory : (by : Rules) (formula trace from_formula from_trace : List ℕ) (result : Result Verified Fault) (f : Qbf) (o : Outcome)
+    (has : HasTrace f o)
+    → from_formula ≡ formula → from_trace ≡ trace → read_formula formula ≡ Ok f → trace ≡ text has.trace
+    → Headline by from_formula from_trace result
+    → (IsFormulaDevice result → ⊥) → (IsTraceDevice result → ⊥) → IsOk result ⊎ IsOutOfMemory result
+verified_or_memory by formula trace from_formula from_trace result f o has same_formula same_trace is e headline no_formula no_trace =
+    let at : Headline by formula trace result = subst (λ z. Headline by formula z result) same_trace
+    (subst (λ z. Headline by z from_trace result) same_formula headline) in
+    let shown : IsShown by formula trace = subst (λ z. IsShown by formula z) (sym e)
+    (bytes_shown formula f (formula_spelled formula f is) o has by) in
+    elim (at.wherever shown) [
+      | inl ok ↦ inl ok
+      | inr other ↦ elim other [
+        | inl memory ↦ inr memory
+        | inr device ↦ elim device [ inl d ↦ absurd (no_formula d) | inr d ↦ absurd (no_trace d) ]
+      ]
+    ]
