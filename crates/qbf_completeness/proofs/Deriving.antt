@@ -7,11 +7,11 @@ use Rattle.std.proofs.Common.{◌^◌, ◌*◌, if◌then◌else◌, pow-suc, po
 use Rattle.qbf_core.specs.Blocks.{Binds, IsBefore, is_quantifier}
 use Rattle.qbf_core.specs.Rules.{IsReduct, without}
 use Rattle.qbf_core.proofs.Bound.{apart_of, binds_in, in_binds, in_bound, block, closed_each, Distinct, in_all}
-use Rattle.qbf_core.proofs.Members.{split_each, in_append}
+use Rattle.qbf_core.proofs.Members.{split_each, in_append, lit_is}
 use Rattle.qbf_core.proofs.Game.{Wins, Leaf, leaf_keeps, who}
 use Rattle.qbf_core.proofs.Reduction.{Ascending}
 use Rattle.qbf_core.proofs.Leaves.{leaf_is_clean, pairs_ascend}
-use Rattle.qbf_core.proofs.Sides.{wanted, Reached}
+use Rattle.qbf_core.proofs.Sides.{wanted, wanted_negated, Reached}
 use Rattle.qbf_core.proofs.Inferences.{in_without, from_without}
 use Rattle.qbf_completeness.specs.Derivations.{IsDerived, initial, reduced, resolved}
 use Rattle.qbf_completeness.specs.Laws.{count_of, Completeness}
@@ -89,19 +89,20 @@ module _ (side : Side) (f : Qbf) (apart : Distinct (variables (pairs f.blocks)))
 
 -- ---- before one of the opponent
 
-wanted_back : (side : Side) (l k : Literal) → wanted side l ≡ k → l ≡ wanted side k
-wanted_back side l k e = grind (arith, common_steps)
-
 wanted_of_negated : (side : Side) (l : Literal) → wanted side (negated l) ≡ negated (wanted side l)
 wanted_of_negated Clauses l = refl
 wanted_of_negated Cubes l = refl
 
+pub clash_at : (a b : List Literal) (l : Literal) → l ∈ a → negated l ∈ b → Clashes a b l.var
+clash_at a b l h k = elim (lit_is l l.var refl) [
+  | inl e ↦ inl (subst (λ z. z ∈ a) e h, subst (λ z. z ∈ b) (ap negated e) k)
+  | inr e ↦ inr (subst (λ z. z ∈ a) e h, subst (λ z. z ∈ b) (ap negated e) k)
+]
+
 clash_of : (side : Side) (v : ℕ) (a b : List Literal) (l m : Literal) → l ∈ a → m ∈ b → wanted side l ≡ positive v
     → wanted side m ≡ negative v → Clashes a b v
-clash_of Clauses v a b l m h k is so = inr (subst (λ z. z ∈ a) (wanted_back Clauses l (positive v) is) h,
-    subst (λ z. z ∈ b) (wanted_back Clauses m (negative v) so) k)
-clash_of Cubes v a b l m h k is so = inl (subst (λ z. z ∈ a) (wanted_back Cubes l (positive v) is) h,
-    subst (λ z. z ∈ b) (wanted_back Cubes m (negative v) so) k)
+clash_of side v a b l m h k is so = subst (λ w. Clashes a b w) (ap var_of is)
+    (clash_at a b l h (subst (λ z. z ∈ b) (wanted_negated side l m (ap negated is ∙ sym so)) k))
 
 module _ (side : Side) (f : Qbf) (v : ℕ) (s : List Literal) (clean : IsClean s) (n : ℕ) (a : Found side f (positive v ∷ s) n)
     (b : Found side f (negative v ∷ s) n) where

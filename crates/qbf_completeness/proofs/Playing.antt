@@ -5,12 +5,12 @@ use Rattle.qbf_core.proofs.Words.{Side, Clauses, Cubes, reduced_quantifier, deci
 use Rattle.qbf_core.specs.declared.quantifier.Quantifier.{Quantifier}
 use Rattle.std.proofs.Common.{eq-eqb, ne_eqb}
 use Rattle.qbf_core.proofs.Bound.{apart_of, Distinct}
-use Rattle.qbf_core.proofs.Game.{Wins, who, choose, wins_weaker}
+use Rattle.qbf_core.proofs.Game.{Wins, Chosen, who, choose, chosen_on, wins_weaker}
 use Rattle.qbf_core.proofs.Leaves.{leaf_is_clean}
 use Rattle.qbf_core.proofs.Sides.{Falsified}
-use Rattle.qbf_core.proofs.Inferences.{won_if_true, true_if_won, false_if_won, not_both}
+use Rattle.qbf_core.proofs.Inferences.{true_if_won, false_if_won, not_both}
 use Rattle.qbf_completeness.specs.Strategies.{Strategy, play, literal_of, TruthIsWon, FalsityIsWon}
-use Rattle.qbf_completeness.proofs.Players.{chosen_mine, chosen_theirs, mine_reduces, theirs_reduces, true_or_refuted}
+use Rattle.qbf_completeness.proofs.Players.{chosen_mine, chosen_theirs, mine_reduces, theirs_reduces, won}
 
 -- the same moves give the same end
 same_play : (mine : Quantifier) (rest : List (Quantifier × ℕ)) (e g : Strategy) (u h : ℕ → Bool) (s : List Literal)
@@ -99,38 +99,36 @@ module _ (side : Side) (q : Quantifier) (v : ℕ) (rest : List (Quantifier × �
         (literal_of v b ∷ s) (λ w h p. refl) (λ w h. changed_elsewhere v b u w (apart_from w h))) here,
   )
 
+  -- as the player, or the opponent, moves
+  one_move : Chosen side q (HasStrategy side rest end (positive v ∷ s)) (HasStrategy side rest end (negative v ∷ s))
+      → HasStrategy side ((q, v) ∷ rest) end s
+  one_move w = elim (who side q) [
+    | inl mine ↦ elim (chosen_mine side q _ _ mine w) [ inl a ↦ my_move mine true a | inr a ↦ my_move mine false a ]
+    | inr theirs ↦ (let both = chosen_theirs side q _ _ theirs w in their_move theirs both.0 both.1)
+  ]
+
+  one_move_back : HasStrategy side ((q, v) ∷ rest) end s
+      → Chosen side q (HasStrategy side rest end (positive v ∷ s)) (HasStrategy side rest end (negative v ∷ s))
+  one_move_back has = choose side q _ _ (λ mine. my_move_back mine has)
+      (λ theirs. (their_move_back theirs has true, their_move_back theirs has false))
+
 strategy_of_win : (side : Side) (rest : List (Quantifier × ℕ)) (end : List Literal → Type 0) (s : List Literal) → Distinct (variables rest)
     → Wins side rest end s → HasStrategy side rest end s
 strategy_of_win side [] end s apart w = ((λ v before. true), λ u. w)
-strategy_of_win side ((q, v) ∷ rest) end s apart w = elim (who side q) [
-  | inl mine ↦ elim (chosen_mine side q _ _ mine w) [
-    | inl a ↦ my_move side q v rest end s apart mine true (strategy_of_win side rest end (positive v ∷ s) apart.1 a)
-    | inr a ↦ my_move side q v rest end s apart mine false (strategy_of_win side rest end (negative v ∷ s) apart.1 a)
-  ]
-  | inr theirs ↦ (
-      let both = chosen_theirs side q _ _ theirs w in
-      their_move side q v rest end s apart theirs (strategy_of_win side rest end (positive v ∷ s) apart.1 both.0)
-      (strategy_of_win side rest end (negative v ∷ s) apart.1 both.1))
-]
+strategy_of_win side ((q, v) ∷ rest) end s apart w = one_move side q v rest end s apart (chosen_on side q _ _ _ _
+    (strategy_of_win side rest end (positive v ∷ s) apart.1) (strategy_of_win side rest end (negative v ∷ s) apart.1) w)
 
 win_of_strategy : (side : Side) (rest : List (Quantifier × ℕ)) (end : List Literal → Type 0) (s : List Literal) → Distinct (variables rest)
     → HasStrategy side rest end s → Wins side rest end s
 win_of_strategy side [] end s apart (e, wins) = wins (λ v. true)
-win_of_strategy side ((q, v) ∷ rest) end s apart has = choose side q _ _
-    (λ mine. elim (my_move_back side q v rest end s apart mine has) [
-      | inl a ↦ inl (win_of_strategy side rest end (positive v ∷ s) apart.1 a)
-      | inr a ↦ inr (win_of_strategy side rest end (negative v ∷ s) apart.1 a)
-    ])
-    (λ theirs. (
-      win_of_strategy side rest end (positive v ∷ s) apart.1 (their_move_back side q v rest end s apart theirs has true),
-      win_of_strategy side rest end (negative v ∷ s) apart.1 (their_move_back side q v rest end s apart theirs has false),
-    ))
+win_of_strategy side ((q, v) ∷ rest) end s apart has = chosen_on side q _ _ _ _
+    (win_of_strategy side rest end (positive v ∷ s) apart.1) (win_of_strategy side rest end (negative v ∷ s) apart.1)
+    (one_move_back side q v rest end s apart has)
 
 pub truth_is_won : TruthIsWon
 truth_is_won f closed =
     let apart = apart_of (variables (pairs f.blocks)) closed.distinct in (
-      (λ is. strategy_of_win Cubes (pairs f.blocks) (MatrixHolds f.clauses) [] apart
-          (won_if_true (pairs f.blocks) (MatrixHolds f.clauses) [] is)),
+      (λ is. strategy_of_win Cubes (pairs f.blocks) (MatrixHolds f.clauses) [] apart (won Cubes f closed is)),
       (λ has. true_if_won (pairs f.blocks) (MatrixHolds f.clauses) []
           (win_of_strategy Cubes (pairs f.blocks) (MatrixHolds f.clauses) [] apart has)),
     )
@@ -139,11 +137,9 @@ pub falsity_is_won : FalsityIsWon
 falsity_is_won f closed =
     let apart = apart_of (variables (pairs f.blocks)) closed.distinct in
     let fails : List Literal → Type 0 = λ t. MatrixHolds f.clauses t → ⊥ in (
-      (λ not_true. strategy_of_win Clauses (pairs f.blocks) fails [] apart (elim (true_or_refuted f closed) [
-        | inl is ↦ absurd (not_true is)
-        | inr w ↦ wins_weaker Clauses (pairs f.blocks) [] (Falsified f.clauses) fails
-            (λ t below no holds. not_both f.clauses t (leaf_is_clean f.blocks t apart below) holds no) w
-      ])),
+      (λ not_true. strategy_of_win Clauses (pairs f.blocks) fails [] apart 
+          (wins_weaker Clauses (pairs f.blocks) [] (Falsified f.clauses) fails
+          (λ t below no holds. not_both f.clauses t (leaf_is_clean f.blocks t apart below) holds no) (won Clauses f closed not_true))),
       (λ has is. false_if_won (pairs f.blocks) (MatrixHolds f.clauses) fails [] (λ t below holds no. no holds)
           (win_of_strategy Clauses (pairs f.blocks) fails [] apart has) is),
     )

@@ -54,7 +54,7 @@ number_holds : (P : ℕ → Type 0) (steps : List Inference) → AllByRecursion 
 number_holds P [] all = tt
 number_holds P (s ∷ steps) all = (all.0, number_holds P steps all.1)
 
-holds_number : (P : ℕ → Type 0) (steps : List Inference) → AllByRecursion (λ s. P s.number) steps → AllByRecursion P (numbers steps)
+pub holds_number : (P : ℕ → Type 0) (steps : List Inference) → AllByRecursion (λ s. P s.number) steps → AllByRecursion P (numbers steps)
 holds_number P [] all = tt
 holds_number P (s ∷ steps) all = (all.0, holds_number P steps all.1)
 
