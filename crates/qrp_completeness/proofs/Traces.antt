@@ -35,6 +35,7 @@ use Rattle.qrp_check.specs.declared.verdict.Verified.{Verified}
 use Rattle.qrp_check.specs.declared.verdict.Fault.{Fault}
 use Rattle.std.specs.Prelude.{IsOk, ◌⊎◌}
 use Rattle.qrp_check.proofs.Marking.{core_within}
+use Rattle.qrp_check.proofs.StepsAt.{holds_number}
 use Rattle.qrp_check.proofs.Soundness.{soundness}
 use Rattle.qrp_check.proofs.WiderRules.{reduced_parents_keep}
 use Rattle.qbf_completeness.specs.Derivations.{IsDerived}
@@ -42,12 +43,10 @@ use Rattle.qbf_completeness.specs.Laws.{step_limit}
 use Rattle.qbf_completeness.proofs.Deriving.{completeness}
 use Rattle.qrp_completeness.specs.Laws.{EachResultHasAProof, ResultsAreProofs, HasTrace, SmallResultsHaveTraces}
 use Rattle.qrp_completeness.specs.Laws.{SmallFormulasAreVerified}
-use Rattle.qrp_completeness.proofs.Writing.{IsPlain, IsSound, Written, write, nothing_written}
+use Rattle.qrp_completeness.proofs.TextbookSteps.{no_sets}
+use Rattle.qrp_completeness.proofs.Writing.{Written, write, nothing_written}
 
-closed_of : (f : Qbf) → IsWellFormedFormula f → IsClosed f
-closed_of f formed = record { distinct = formed.prefix.distinct; bound = formed.closed }
-
--- ---- the steps prove the result
+-- ---- the steps, and what they are
 
 goal_here : (front : List Inference) (last : Inference) → last.lits ≡ [] → IsGoal (front ++ last ∷ []) (length front)
 goal_here front last empty = record {
@@ -57,71 +56,97 @@ goal_here front last empty = record {
   last = λ j other at none. omega (arith, slice_get_within (front ++ last ∷ []) j other at, length-append front (last ∷ []));
 }
 
-pub no_sets : (f : Qbf) → SetsAgree f.blocks []
-no_sets f i p e = absurd (cc e)
+module _ (f : Qbf) (result : Outcome) (n : ℕ) (w : Written (side_of result) f [] [] n) where
+  abbrev pub steps : List Inference
+  steps = w.front ++ w.last ∷ []
 
-proves_unreduced : (by : Rules) (f : Qbf) (result : Outcome) (n : ℕ) (w : Written (side_of result) f [] [] n)
-    → ProvesUnreduced by f [] (w.front ++ w.last ∷ []) result
-proves_unreduced by f result n w = record {
-  agree = no_sets f;
-  position = length w.front;
-  is_goal = goal_here w.front w.last w.of_last;
-  each = λ i core. let at = at_place (w.front ++ w.last ∷ []) i (core_within (w.front ++ w.last ∷ []) i core) in
-      w.sound.follows by i at.0 at.1;
-}
+  unreduced : (by : Rules) → ProvesUnreduced by f [] steps result
+  unreduced by = record {
+    agree = no_sets f;
+    position = length w.front;
+    is_goal = goal_here w.front w.last w.of_last;
+    each = λ i core. let at = at_place steps i (core_within steps i core) in w.sound.follows by i at.0 at.1;
+  }
 
--- ---- and are of the grammar
+  proved : (by : Rules) → Proves by f [] steps result
+  proved by = reduced_parents_keep by f [] steps result (unreduced by)
 
-in_range : (f : Qbf) → IsWellFormedFormula f → (lits : List Literal) → AreBound f.blocks lits → AllByRecursion IsLiteral lits
-in_range f formed lits bound = in_all IsLiteral lits (λ l h.
-    let w = bound_in (pairs f.blocks) l.var (bound_each f.blocks lits bound l h) in
-    all_in IsVariable (variables (pairs f.blocks)) formed.prefix.within l.var (pair_var (pairs f.blocks) w.0 l.var w.1))
+  module _ (formed : IsWellFormedFormula f) where
+    in_range : (lits : List Literal) → AreBound f.blocks lits → AllByRecursion IsLiteral lits
+    in_range lits bound = in_all IsLiteral lits (λ l h.
+        let w = bound_in (pairs f.blocks) l.var (bound_each f.blocks lits bound l h) in
+        all_in IsVariable (variables (pairs f.blocks)) formed.prefix.within l.var (pair_var (pairs f.blocks) w.0 l.var w.1))
 
-inference_of : (f : Qbf) → IsWellFormedFormula f → (most : ℕ) (s : Inference) → IsPlain f most s → IsInference s
-inference_of f formed most s is = record {
-  number = is.from;
-  lits = in_range f formed s.lits is.bound;
-  ants = in_all (λ n. 1 ≤ n) s.ants (λ n h. (is.ants n h).0);
-  few = is.few;
-}
+    grammatical : AreGrammatical [] steps
+    grammatical = record {
+      variables = tt;
+      inferences = in_all IsInference steps (λ s h. let p = (w.sound.plain s h).0 in record {
+            number = p.from;
+            lits = in_range s.lits p.bound;
+            ants = in_all (λ n. 1 ≤ n) s.ants (λ n h. (p.ants n h).0);
+            few = p.few;
+          });
+      distinct = w.sound.distinct;
+    }
 
-grammatical_of : (side : Side) (f : Qbf) (steps : List Inference) → IsWellFormedFormula f → IsSound side f steps → AreGrammatical [] steps
-grammatical_of side f steps formed sound = record {
-  variables = tt;
-  inferences = in_all IsInference steps (λ s h. inference_of f formed (length steps) s (sound.plain s h));
-  distinct = sound.distinct;
-}
+    -- with numbers of 64 bits
+    trace : Derivation
+    trace = record {
+      header = record { vars = f.max_var; steps = length steps };
+      sets = [];
+      steps = steps;
+      result = result;
+    }
+
+    fits : length steps < 2 ^ 64 → IsWellFormed trace
+    unfolding trace
+    fits few = record {
+      grammatical = grammatical;
+      fits = record {
+        vars = let top : f.max_var ≤ 2147483647 = formed.numbers in omega (arith, top);
+        steps = few;
+        numbers_fit = holds_number (λ n. n < 2 ^ 64) steps (in_all (λ s. s.number < 2 ^ 64) steps below);
+        ants_fit = in_all (λ s. AllByRecursion (λ n. n < 2 ^ 64) s.ants) steps (λ s h. in_all (λ n. n < 2 ^ 64) s.ants (λ n k.
+            let less : n < s.number = ((w.sound.plain s h).0.ants n k).1 in omega (arith, less, below s h)));
+        count = few;
+      };
+    }
+      where
+        below : (s : Inference) → s ∈ steps → s.number < 2 ^ 64
+        below s h = omega (arith, (w.sound.plain s h).1, few)
+
+    pub with_trace : length steps < 2 ^ 64 → HasTrace f result
+    unfolding trace
+    with_trace few = record {
+      trace = trace;
+      states = refl;
+      well_formed = fits few;
+      reads = text_is_read trace (fits few);
+      proves = proved;
+    }
 
 -- ---- the laws
 
--- the steps, and what is known of them
-record Steps (f : Qbf) (result : Outcome) : Type 0 where
-  pub steps : List Inference
-  pub sound : IsSound (side_of result) f steps
-  pub few : length steps < step_limit (side_of result) f
-  pub unreduced : (by : Rules) → ProvesUnreduced by f [] steps result
+closed_of : (f : Qbf) → IsWellFormedFormula f → IsClosed f
+closed_of f formed = record { distinct = formed.prefix.distinct; bound = formed.closed }
 
-steps_of : (f : Qbf) (result : Outcome) → IsWellFormedFormula f → ResultHolds (side_of result) f → Steps f result
-steps_of f result formed holds =
+-- the derivation, as steps
+written : (f : Qbf) (result : Outcome) → IsWellFormedFormula f → ResultHolds (side_of result) f
+    → (n : ℕ) × (n < step_limit (side_of result) f) × Written (side_of result) f [] [] n
+written f result formed holds =
     let w = completeness f (side_of result) (closed_of f formed) holds in
-    let t = write (side_of result) f w.2 [] (nothing_written (side_of result) f) in
-    let count : length (t.front ++ t.last ∷ []) ≡ 0 + w.0 = t.count in
-    record {
-      steps = t.front ++ t.last ∷ [];
-      sound = t.sound;
-      few = omega (arith, count, w.1);
-      unreduced = λ by. proves_unreduced by f result w.0 t;
-    }
+    (w.0, w.1, write (side_of result) f w.2 [] (nothing_written (side_of result) f))
 
 pub each_result_has_a_proof : EachResultHasAProof
 each_result_has_a_proof f result formed holds =
-    let w = steps_of f result formed holds in
+    let t = written f result formed holds in
+    let count : length (steps f result t.0 t.2) ≡ 0 + t.0 = t.2.count in
     record {
-      steps = w.steps;
-      grammatical = grammatical_of (side_of result) f w.steps formed w.sound;
-      few = w.few;
-      unreduced = w.unreduced;
-      proves = λ by. reduced_parents_keep by f [] w.steps result (w.unreduced by);
+      steps = steps f result t.0 t.2;
+      grammatical = grammatical f result t.0 t.2 formed;
+      few = omega (arith, count, t.1);
+      unreduced = unreduced f result t.0 t.2;
+      proves = proved f result t.0 t.2;
     }
 
 pub results_are_proofs : ResultsAreProofs
@@ -130,47 +155,11 @@ results_are_proofs by f result formed = (
   (λ w. soundness by f [] w.0 result (closed_of f formed) w.1),
 )
 
--- numbers of 64 bits
-numbers_all : (P : ℕ → Type 0) (steps : List Inference) → ((s : Inference) → s ∈ steps → P s.number) → AllByRecursion P (numbers steps)
-numbers_all P [] each = tt
-numbers_all P (s ∷ steps) each = (each s (inl refl), numbers_all P steps (λ t h. each t (inr h)))
-
-trace_of : (f : Qbf) (result : Outcome) → List Inference → Derivation
-trace_of f result steps = record {
-  header = record { vars = f.max_var; steps = length steps };
-  sets = [];
-  steps = steps;
-  result = result;
-}
-
-well_formed_trace : (side : Side) (f : Qbf) (result : Outcome) (steps : List Inference) → IsWellFormedFormula f → IsSound side f steps
-    → length steps < 2 ^ 64 → IsWellFormed (trace_of f result steps)
-unfolding trace_of
-well_formed_trace side f result steps formed sound few = record {
-  grammatical = grammatical_of side f steps formed sound;
-  fits = record {
-    vars = let top : f.max_var ≤ 2147483647 = formed.numbers in omega (arith, top);
-    steps = few;
-    numbers_fit = numbers_all (λ n. n < 2 ^ 64) steps (λ s h. let to : s.number ≤ length steps = (sound.plain s h).to in omega (arith, to, few));
-    ants_fit = in_all (λ s. AllByRecursion (λ n. n < 2 ^ 64) s.ants) steps (λ s h. in_all (λ n. n < 2 ^ 64) s.ants
-        (λ n k. let to : n ≤ length steps = ((sound.plain s h).ants n k).1 in omega (arith, to, few)));
-    count = few;
-  };
-}
-
 pub small_results_have_traces : SmallResultsHaveTraces
-unfolding trace_of
 small_results_have_traces f result formed small holds =
-    let w = steps_of f result formed holds in
-    let few : length w.steps < 2 ^ 64 = omega (arith, w.few, small) in
-    let formed_trace = well_formed_trace (side_of result) f result w.steps formed w.sound few in
-    record {
-      trace = trace_of f result w.steps;
-      states = refl;
-      well_formed = formed_trace;
-      reads = text_is_read (trace_of f result w.steps) formed_trace;
-      proves = λ by. reduced_parents_keep by f [] w.steps result (w.unreduced by);
-    }
+    let t = written f result formed holds in
+    let count : length (steps f result t.0 t.2) ≡ 0 + t.0 = t.2.count in
+    with_trace f result t.0 t.2 formed (omega (arith, count, t.1, small))
 
 -- ---- bytes
 
