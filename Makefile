@@ -17,8 +17,8 @@ PROGRAM = bin/qrp_cmd
 # only for the tests
 ECHO = bin/qrp_echo
 PROVED = bin/proved
-# what the program and the library are made of: not the mutants of must-fail/, which only the gate tries
-SOURCES = $(shell find crates \( -name out -o -name must-fail \) -prune -o -type f -print) crates.txt
+# what the program and the library are made of: not the mutants and the wrong definitions, which only the gate tries
+SOURCES = $(shell find crates \( -name out -o -name must-fail -o -name wrong-definitions \) -prune -o -type f -print) crates.txt
 
 # for programs in C, C++ and Python
 LIBRARY = lib/libqrp.a
@@ -29,7 +29,8 @@ MANDIR ?= $(PREFIX)/share/man
 INSTALL_FILES = PREFIX='$(PREFIX)' LIBDIR='$(LIBDIR)' MANDIR='$(MANDIR)' DESTDIR='$(DESTDIR)' packaging/install-files
 
 .PHONY: all lib demo check test proved-before gate bench dist wheel install uninstall help clean
-.PHONY: test-refusals test-program test-tools test-examples test-library test-dist test-install test-many test-proofs test-checks test-pages
+.PHONY: test-refusals test-program test-derivations test-tools test-examples test-library test-dist test-install test-many test-proofs
+.PHONY: test-definitions test-checks test-pages
 
 all: $(PROGRAM)
 
@@ -74,13 +75,16 @@ test: $(PROVED)
 # What is built is tested, side by side: some two minutes.
 check:
 	@for built in $(PROGRAM) $(ECHO) $(LIBRARY); do [ -e $$built ] || { echo "make check: there is no $$built: run 'make test' first"; exit 2; }; done
-	$(MAKE) --jobs --output-sync=target test-refusals test-program test-tools test-examples test-library test-dist test-install test-many test-proofs test-checks test-pages
+	$(MAKE) --jobs --output-sync=target test-refusals test-program test-derivations test-tools test-examples test-library test-dist test-install test-many test-proofs test-definitions test-checks test-pages
 
 test-refusals:
 	tests/library/test-refusals
 
 test-program:
 	tests/program/test-program $(PROGRAM) $(ECHO)
+
+test-derivations:
+	tests/program/test-derivations $(PROGRAM)
 
 test-tools:
 	tests/tools/test-tools $(PROGRAM)
@@ -96,6 +100,9 @@ test-dist:
 
 test-proofs:
 	tests/gate/test-proofs
+
+test-definitions:
+	tests/gate/test-definitions
 
 test-checks:
 	tests/gate/test-checks

@@ -1,15 +1,14 @@
-//! The rules are complete, and truth is a winning strategy: the definitions of `qbf_core`, held from
-//! the other side.
+//! The rules of Q-resolution and of term resolution are complete, and truth is a winning strategy:
+//! the definitions of `qbf_core`, on which it stands alone, are held from the other side.
 //!
-//! It owns derivations by plain Q-resolution and term resolution (`specs/Derivations.antt`) and the
-//! strategies of two players (`specs/Strategies.antt`). Read `truth_is_a_winning_strategy` in
-//! `laws.rt` first, and then `the_rules_are_complete` there.
-//!
-//! All of this is proved, and nothing only tested: there is no code that derives or plays. Nothing
-//! says how long it takes to find a derivation or a strategy.
-//!
-//! It stands on `qbf_core` alone, on its definitions of truth and of the rules. `qrp_completeness`
-//! stands on it, which writes the derivations as traces.
+//! - Owns: derivations by the plain rules, and strategies of the two players of a formula.
+//! - Offers: the derivations, to `qrp_completeness`; nothing that runs.
+//! - Proved: a formula is true exactly if the existential player has a winning strategy, and false
+//!   exactly if the universal player has one; of a false formula the rules derive the empty clause,
+//!   and of a true one the empty cube.
+//! - Read first: `truth_is_a_winning_strategy`, `the_rules_are_complete`.
+//! - Tested only: nothing: no code derives or plays.
+//! - Trusted: nothing.
 #![tactic(auto)]
 
 mod laws;

@@ -1,17 +1,16 @@
 //! The checker is complete: each step of textbook Q-resolution and term resolution is accepted, and
-//! a result holds of a formula exactly if some steps prove it.
+//! a result holds of a formula exactly if some steps prove it. It stands on `qrp_check`, whose
+//! definitions it holds from the other side, and on the derivations of `qbf_completeness`.
 //!
-//! It owns the rules as the literature states them (`specs/Textbook.antt`), and what it means that a
-//! formula has a proof or a trace (`specs/Laws.antt`). Read `textbook_proofs_are_proofs` in
-//! `laws.rt` first, and then `each_result_has_a_proof` there.
-//!
-//! All of this is proved: the laws, and that `verify_texts` verifies each trace that a small formula
-//! has. It is only tested, by `tests/completeness`, that the program verifies the traces of the
-//! proof, built for random formulas. Nothing says that such a trace is short, or found in a short
-//! time.
-//!
-//! It stands on `qrp_check`, whose definitions it holds from the other side, and on the derivations
-//! of `qbf_completeness`. Nothing stands on it.
+//! - Owns: the rules as the literature states them, and what it means that a formula has a proof or
+//!   a trace.
+//! - Offers: `verify_texts`; nothing stands on it.
+//! - Proved: textbook proofs are proofs; each result has a proof; each result of a small formula has
+//!   a trace, which `verify` verifies.
+//! - Read first: `textbook_proofs_are_proofs`, `each_result_has_a_proof`, `verify_texts`.
+//! - Tested only: `tests/program/test-derivations`: the program verifies the traces of the proof,
+//!   built for random formulas.
+//! - Trusted: nothing.
 #![tactic(auto)]
 
 mod laws;
