@@ -16,9 +16,14 @@ pub resolvent_holds : (by : Rules) (side : Side) (f : Qbf) (a b to : List Litera
     → AllHold (unreduced_conditions by side f.blocks a b to)
 resolvent_holds by side f a b to x clash binds within whole = (
   (x, clash.clashes),
-  (λ y z c d. clash.only y c ∙ sym (clash.only z d)),
-  (λ y c. inr (subst (λ v. Binds f.blocks (deciding_quantifier side) v) (sym (clash.only y c)) binds)),
-  (λ y c l h. subst (λ v. l ∈ resolvent a b v) (sym (clash.only y c)) (within l h)),
-  (λ y c l h. inl (whole l (subst (λ v. l ∈ resolvent a b v) (clash.only y c) h))),
-  tt,
+  (
+    (λ y z c d. clash.only y c ∙ sym (clash.only z d)),
+    (
+      (λ y c. inr (subst (λ v. Binds f.blocks (deciding_quantifier side) v) (sym (clash.only y c)) binds)),
+      (
+        (λ y c l h. subst (λ v. l ∈ resolvent a b v) (sym (clash.only y c)) (within l h)),
+        ((λ y c l h. inl (whole l (subst (λ v. l ∈ resolvent a b v) (clash.only y c) h))), tt),
+      ),
+    ),
+  ),
 )

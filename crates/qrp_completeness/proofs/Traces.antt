@@ -1,7 +1,7 @@
 -- From a derivation of the empty set to a trace, its text, and its verdict.
 use Rattle.qrp_check.proofs.Words.{◌≡◌, ℕ, ◌+◌, ◌<◌, ◌≤◌, List, [], ◌∷◌, ◌++◌, inl, inr, refl, sym, subst, length, arith, Ok, Result, false}
 use Rattle.qrp_check.proofs.Words.{AllByRecursion, Literal, ◌∈◌, Side, Clauses, Cubes, AreBound, bound_each, pairs, Qbf, IsClosed}
-use Rattle.qrp_check.proofs.Words.{Rules, Inference, numbers, IsGoal, Derivation, Outcome, side_of, SetsAgree, at_place}
+use Rattle.qrp_check.proofs.Words.{Rules, Inference, numbers, IsGoal, Derivation, Outcome, side_of, Proves, at_place}
 use Rattle.qrp_check.proofs.Words.{slice_get_within}
 use Rattle.std.proofs.Common.{◌^◌, length-append}
 use Rattle.qbf_core.specs.Blocks.{IsVariable, variables}

@@ -161,7 +161,7 @@ write side f (reduced {n = n} {from = a} {to = t} d reduct) before sound =
     let steps : List Inference = w.front ++ w.last ∷ [] in
     one_more side f before steps n w.sound w.kept w.count t (w.last.number ∷ []) (fit side f (reduced d reduct))
     (all_in (λ k. IsNumberOf steps k) (w.last.number ∷ []) (w.named.0, tt)) (omega arith)
-    (λ by. rw w.named.1 (reduct.within, reduct.each, tt))
+    (λ by. rw w.named.1 (reduct.within, (reduct.each, tt)))
 write side f (resolved {m = m} {n = n} {a = a} {b = b} x d e clash binds) before sound =
     let v = write side f d before sound in
     let w = write side f e (v.front ++ v.last ∷ []) v.sound in
@@ -169,7 +169,7 @@ write side f (resolved {m = m} {n = n} {a = a} {b = b} x d e clash binds) before
     let of_a : HasStep steps v.last.number a = w.kept v.last.number a v.named in
     one_more side f before steps (m + n) w.sound (λ k l h. w.kept k l (v.kept k l h)) (omega (arith, v.count, w.count)) (resolvent a b x)
     (v.last.number ∷ w.last.number ∷ []) (fit side f (resolved x d e clash binds))
-    (all_in (λ k. IsNumberOf steps k) (v.last.number ∷ w.last.number ∷ []) (of_a.0, w.named.0, tt)) (omega arith)
+    (all_in (λ k. IsNumberOf steps k) (v.last.number ∷ w.last.number ∷ []) (of_a.0, (w.named.0, tt))) (omega arith)
     (λ by. rw (of_a.1, w.named.1) (resolvent_holds by side f a b (resolvent a b x) x clash binds (λ l h. h) (λ l h. h)))
 
 pub nothing_written : (side : Side) (f : Qbf) → IsSound side f []
