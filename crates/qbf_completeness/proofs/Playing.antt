@@ -137,7 +137,7 @@ pub falsity_is_won : FalsityIsWon
 falsity_is_won f closed =
     let apart = apart_of (variables (pairs f.blocks)) closed.distinct in
     let fails : List Literal → Type 0 = λ t. MatrixHolds f.clauses t → ⊥ in (
-      (λ not_true. strategy_of_win Clauses (pairs f.blocks) fails [] apart 
+      (λ not_true. strategy_of_win Clauses (pairs f.blocks) fails [] apart
           (wins_weaker Clauses (pairs f.blocks) [] (Falsified f.clauses) fails
           (λ t below no holds. not_both f.clauses t (leaf_is_clean f.blocks t apart below) holds no) (won Clauses f closed not_true))),
       (λ has is. false_if_won (pairs f.blocks) (MatrixHolds f.clauses) fails [] (λ t below holds no. no holds)

@@ -1,12 +1,11 @@
 -- Formulas with few variables have short derivations.
-use Rattle.qrp_check.proofs.Words.{◌≡◌, ℕ, zero, suc, ◌+◌, ◌<◌, ◌≤◌, ◌⊎◌, List, [], ◌∷◌, inl, inr, refl, length, arith, pairs, Qbf}
+use Rattle.qrp_check.proofs.Words.{◌≡◌, ℕ, zero, suc, ◌+◌, ◌≤◌, ◌⊎◌, List, [], ◌∷◌, inl, inr, refl, length, arith, pairs, Qbf}
 use Rattle.qrp_check.proofs.Words.{Side}
 use Rattle.std.proofs.Common.{◌^◌, ◌*◌, cond, pow_mono, pow-suc, pow-add, mul-le-mul}
 use Rattle.std.proofs.lemmas.List.{length-map}
 use Rattle.qbf_core.proofs.PrefixLaws.{variables_few}
 use Rattle.qbf_core.specs.declared.quantifier.Quantifier.{Quantifier}
 use Rattle.qbf_core.specs.Blocks.{variables, is_quantifier}
-use Rattle.qbf_core.specs.Qbf.{IsWellFormed as IsWellFormedFormula}
 use Rattle.qbf_core.specs.Rules.{reduced_quantifier, deciding_quantifier}
 use Rattle.qbf_core.proofs.Game.{who}
 use Rattle.qbf_completeness.specs.Laws.{count_of}

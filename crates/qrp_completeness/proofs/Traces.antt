@@ -1,7 +1,7 @@
 -- From a derivation of the empty set to a trace, its text, and its verdict.
-use Rattle.qrp_check.proofs.Words.{◌≡◌, ℕ, ◌+◌, ◌<◌, ◌≤◌, List, [], ◌∷◌, ◌++◌, inl, inr, refl, sym, subst, length, arith, Ok, Result, false}
-use Rattle.qrp_check.proofs.Words.{AllByRecursion, Literal, ◌∈◌, Side, Clauses, Cubes, AreBound, bound_each, pairs, Qbf, IsClosed}
-use Rattle.qrp_check.proofs.Words.{Rules, Inference, numbers, IsGoal, Derivation, Outcome, side_of, Proves, at_place}
+use Rattle.qrp_check.proofs.Words.{◌≡◌, ℕ, ◌+◌, ◌<◌, ◌≤◌, List, [], ◌∷◌, ◌++◌, inl, inr, refl, sym, subst, length, arith, Ok, Result}
+use Rattle.qrp_check.proofs.Words.{AllByRecursion, Literal, ◌∈◌, AreBound, bound_each, pairs, Qbf, IsClosed}
+use Rattle.qrp_check.proofs.Words.{Rules, Inference, IsGoal, Derivation, Outcome, side_of, Proves, at_place}
 use Rattle.qrp_check.proofs.Words.{slice_get_within}
 use Rattle.std.proofs.Common.{◌^◌, length-append}
 use Rattle.qbf_core.specs.Blocks.{IsVariable, variables}
@@ -9,23 +9,14 @@ use Rattle.qbf_core.specs.Qbf.{IsWellFormed as IsWellFormedFormula}
 use Rattle.qbf_core.specs.Truth.{ResultHolds}
 use Rattle.qbf_core.proofs.Bound.{all_in, in_all, bound_in, pair_var}
 use Rattle.qbf_core.proofs.PushedItems.{pushed_new}
-use Rattle.qbf_text.specs.declared.token.Comments.TheVariants.{Qdimacs, Qrp}
+use Rattle.qbf_text.specs.declared.token.Comments.TheVariants.{Qdimacs}
 use Rattle.qbf_text.specs.Lined.{without_lines}
 use Rattle.qbf_text.specs.Tokens.{tokens}
-use Rattle.qbf_text.proofs.TokensEndOnce.{tokens-EndsOnce}
-use Rattle.qdimacs.specs.declared.fault.FormulaFault.{FormulaFault}
 use Rattle.qdimacs.specs.Grammar.{IsFormula}
 use Rattle.qdimacs.specs.Reading.{read_formula}
-use Rattle.qdimacs.specs.Faults as formulas
-use Rattle.qdimacs.proofs.ReadIsSpelled as formulas_sound
-use Rattle.qrp.specs.declared.fault.TraceFault.{TraceFault}
-use Rattle.qrp.specs.declared.item.Outcome.TheVariants.{Sat, Unsat}
 use Rattle.qrp.specs.Derivations.{AreGrammatical, IsWellFormed}
 use Rattle.qrp.specs.Inferences.{IsInference, IsLiteral}
-use Rattle.qrp.specs.Grammar.{IsTrace, text}
-use Rattle.qrp.specs.Reading.{read_trace}
-use Rattle.qrp.specs.Faults as traces
-use Rattle.qrp.proofs.ReadIsSpelled as traces_sound
+use Rattle.qrp.specs.Grammar.{text}
 use Rattle.qrp.proofs.ReadingLaws.{text_is_read}
 use Rattle.qrp_check.specs.Headline.{IsShown, Headline}
 use Rattle.qrp_check.proofs.HeadlineOfVerdict.{formula_spelled, trace_spelled}
@@ -38,7 +29,6 @@ use Rattle.qrp_check.proofs.Marking.{core_within}
 use Rattle.qrp_check.proofs.StepsAt.{holds_number}
 use Rattle.qrp_check.proofs.Soundness.{soundness}
 use Rattle.qrp_check.proofs.WiderRules.{reduced_parents_keep}
-use Rattle.qbf_completeness.specs.Derivations.{IsDerived}
 use Rattle.qbf_completeness.specs.Laws.{step_limit}
 use Rattle.qbf_completeness.proofs.Deriving.{completeness}
 use Rattle.qrp_completeness.specs.Laws.{EachResultHasAProof, ResultsAreProofs, HasTrace, SmallResultsHaveTraces}
@@ -81,11 +71,11 @@ module _ (f : Qbf) (result : Outcome) (n : ℕ) (w : Written (side_of result) f 
     grammatical = record {
       variables = tt;
       inferences = in_all IsInference steps (λ s h. let p = (w.sound.plain s h).0 in record {
-            number = p.from;
-            lits = in_range s.lits p.bound;
-            ants = in_all (λ n. 1 ≤ n) s.ants (λ n h. (p.ants n h).0);
-            few = p.few;
-          });
+        number = p.from;
+        lits = in_range s.lits p.bound;
+        ants = in_all (λ n. 1 ≤ n) s.ants (λ n h. (p.ants n h).0);
+        few = p.few;
+      });
       distinct = w.sound.distinct;
     }
 
