@@ -15,7 +15,7 @@ use Rattle.qbf_core.proofs.Sides.{wanted, wanted_negated, Reached}
 use Rattle.qbf_core.proofs.Inferences.{in_without, from_without}
 use Rattle.qbf_completeness.specs.Derivations.{IsDerived, initial, reduced, resolved}
 use Rattle.qbf_completeness.specs.Laws.{count_of, Completeness}
-use Rattle.qbf_completeness.proofs.Players.{chosen_mine, chosen_theirs, mine_reduces, theirs_reduces, mine_decides, theirs_decides, ends, won}
+use Rattle.qbf_completeness.proofs.Players.{chosen_mine, chosen_theirs, mine_is, theirs_is, ends, won}
 use Rattle.qbf_completeness.proofs.SameBlock.{stands_before}
 
 -- what is derived at a place of the game: all that it wants set is set there
@@ -165,8 +165,8 @@ tree_limit side ((q, v) ∷ rest) = by (count_of (reduced_quantifier side) rest)
         → tree_steps side rest < (2 + p) * 2 ^ d
         → cond (is_quantifier q (reduced_quantifier side)) (suc (tree_steps side rest)) (suc (tree_steps side rest + tree_steps side rest))
         < (2 + cond (is_quantifier q (reduced_quantifier side)) (suc p) p) * 2 ^ cond (is_quantifier q (deciding_quantifier side)) (suc d) d
-    by p d (inl mine) less = rw (mine_reduces side q mine, mine_decides side q mine) (omega (arith, less, pow_pos d))
-    by p d (inr theirs) less = rw (theirs_reduces side q theirs, theirs_decides side q theirs)
+    by p d (inl mine) less = rw ((mine_is side q mine).0, (mine_is side q mine).1) (omega (arith, less, pow_pos d))
+    by p d (inr theirs) less = rw ((theirs_is side q theirs).0, (theirs_is side q theirs).1)
         (let twice : (2 + p) * 2 ^ suc d ≡ (2 + p) * (2 ^ d * 2) = ap (λ x. (2 + p) * x) (pow-suc 2 d) in omega (arith, less, twice))
 
 -- a place of the game: s is set, and the rest of the prefix is left
@@ -224,12 +224,12 @@ module _ (side : Side) (f : Qbf) (apart : Distinct (variables (pairs f.blocks)))
 
       by_one : q ≡ reduced_quantifier side → (x : Literal) → x.var ≡ v → Found side f (x ∷ s) (tree_steps side rest)
           → Found side f s (tree_steps side ((q, v) ∷ rest))
-      by_one mine x is a = rw (mine_reduces side q mine)
+      by_one mine x is a = rw (mine_is side q mine).0
           (reduce side f apart v s (λ l h. place.before l h q v (inl refl)) x is (is_in (reduced_quantifier side) mine) (tree_steps side rest) a)
 
       by_both : q ≡ deciding_quantifier side → Found side f (positive v ∷ s) (tree_steps side rest)
           → Found side f (negative v ∷ s) (tree_steps side rest) → Found side f s (tree_steps side ((q, v) ∷ rest))
-      by_both theirs a b = rw (theirs_reduces side q theirs)
+      by_both theirs a b = rw (theirs_is side q theirs).0
           (resolve side f v s (clean_here f ((q, v) ∷ rest) s place) (tree_steps side rest) a b (is_in (deciding_quantifier side) theirs) apart)
 
 none_left : (side : Side) (lits : List Literal) → Reached side lits [] → lits ≡ []

@@ -18,17 +18,13 @@ chosen_mine side q A B mine w = grind (arith, common_steps)
 pub chosen_theirs : (side : Side) (q : Quantifier) (A B : Type 0) → q ≡ deciding_quantifier side → Chosen side q A B → A × B
 chosen_theirs side q A B theirs w = grind (arith, common_steps)
 
-pub mine_reduces : (side : Side) (q : Quantifier) → q ≡ reduced_quantifier side → is_quantifier q (reduced_quantifier side) ≡ true
-mine_reduces side q e = grind (arith, common_steps)
+pub mine_is : (side : Side) (q : Quantifier) → q ≡ reduced_quantifier side
+    → (is_quantifier q (reduced_quantifier side) ≡ true) × (is_quantifier q (deciding_quantifier side) ≡ false)
+mine_is side q e = (grind (arith, common_steps), grind (arith, common_steps))
 
-pub theirs_reduces : (side : Side) (q : Quantifier) → q ≡ deciding_quantifier side → is_quantifier q (reduced_quantifier side) ≡ false
-theirs_reduces side q e = grind (arith, common_steps)
-
-pub mine_decides : (side : Side) (q : Quantifier) → q ≡ reduced_quantifier side → is_quantifier q (deciding_quantifier side) ≡ false
-mine_decides side q e = grind (arith, common_steps)
-
-pub theirs_decides : (side : Side) (q : Quantifier) → q ≡ deciding_quantifier side → is_quantifier q (deciding_quantifier side) ≡ true
-theirs_decides side q e = grind (arith, common_steps)
+pub theirs_is : (side : Side) (q : Quantifier) → q ≡ deciding_quantifier side
+    → (is_quantifier q (reduced_quantifier side) ≡ false) × (is_quantifier q (deciding_quantifier side) ≡ true)
+theirs_is side q e = (grind (arith, common_steps), grind (arith, common_steps))
 
 -- the end that the player of a side is to bring about
 abbrev pub ends : Side → Qbf → List Literal → Type 0

@@ -10,7 +10,7 @@ use Rattle.qbf_core.proofs.Leaves.{leaf_is_clean}
 use Rattle.qbf_core.proofs.Sides.{Falsified}
 use Rattle.qbf_core.proofs.Inferences.{true_if_won, false_if_won, not_both}
 use Rattle.qbf_completeness.specs.Strategies.{Strategy, play, literal_of, TruthIsWon, FalsityIsWon}
-use Rattle.qbf_completeness.proofs.Players.{chosen_mine, chosen_theirs, mine_reduces, theirs_reduces, won}
+use Rattle.qbf_completeness.proofs.Players.{chosen_mine, chosen_theirs, mine_is, theirs_is, won}
 
 -- the same moves give the same end
 same_play : (mine : Quantifier) (rest : List (Quantifier × ℕ)) (e g : Strategy) (u h : ℕ → Bool) (s : List Literal)
@@ -62,7 +62,7 @@ module _ (side : Side) (q : Quantifier) (v : ℕ) (rest : List (Quantifier × �
   my_move mine b (e, wins) =
       let moves : Strategy = changed_at v (λ before. b) e in (
         moves,
-        λ u. rw (mine_reduces side q mine)
+        λ u. rw (mine_is side q mine).0
             (subst end (sym (ap (λ m. play (reduced_quantifier side) rest moves u (literal_of v (m []) ∷ s)) (changed_here v (λ before. b) e)
             ∙ same_play (reduced_quantifier side) rest moves e u u (literal_of v b ∷ s)
             (λ w h p. ap (λ m. m p) (changed_elsewhere v (λ before. b) e w (apart_from w h))) (λ w h. refl))) (wins u)),
@@ -71,7 +71,7 @@ module _ (side : Side) (q : Quantifier) (v : ℕ) (rest : List (Quantifier × �
   their_move : q ≡ deciding_quantifier side → HasStrategy side rest end (positive v ∷ s) → HasStrategy side rest end (negative v ∷ s)
       → HasStrategy side ((q, v) ∷ rest) end s
   unfolding after_value
-  their_move theirs (e, wins) (g, wins_too) = (after_value e g, λ u. rw (theirs_reduces side q theirs) (by u (u v)))
+  their_move theirs (e, wins) (g, wins_too) = (after_value e g, λ u. rw (theirs_is side q theirs).0 (by u (u v)))
     where
       by : (u : ℕ → Bool) (b : Bool)
           → end (play (reduced_quantifier side) rest (λ w before. after_value e g w (b ∷ before)) u (literal_of v b ∷ s))
@@ -80,7 +80,7 @@ module _ (side : Side) (q : Quantifier) (v : ℕ) (rest : List (Quantifier × �
 
   my_move_back : q ≡ reduced_quantifier side → HasStrategy side ((q, v) ∷ rest) end s
       → HasStrategy side rest end (positive v ∷ s) ⊎ HasStrategy side rest end (negative v ∷ s)
-  my_move_back mine (e, wins) = by (e v []) (λ u. rw (mine_reduces side q mine) at wins u)
+  my_move_back mine (e, wins) = by (e v []) (λ u. rw (mine_is side q mine).0 at wins u)
     where
       by : (b : Bool) → ((u : ℕ → Bool) → end (play (reduced_quantifier side) rest e u (literal_of v b ∷ s)))
           → HasStrategy side rest end (positive v ∷ s) ⊎ HasStrategy side rest end (negative v ∷ s)
@@ -92,7 +92,7 @@ module _ (side : Side) (q : Quantifier) (v : ℕ) (rest : List (Quantifier × �
   their_move_back theirs (e, wins) b = (
     (λ w before. e w (b ∷ before)),
     λ u.
-        let here = rw (theirs_reduces side q theirs) at wins (changed_at v b u) in
+        let here = rw (theirs_is side q theirs).0 at wins (changed_at v b u) in
         subst end (ap (λ c. play (reduced_quantifier side) rest (λ w before. e w (c ∷ before)) (changed_at v b u) (literal_of v c ∷ s))
         (changed_here v b u)
         ∙ same_play (reduced_quantifier side) rest (λ w before. e w (b ∷ before)) (λ w before. e w (b ∷ before)) (changed_at v b u) u

@@ -25,6 +25,7 @@ use Rattle.qrp_check.specs.Verdict.{IsOutOfMemory, IsFormulaDevice, IsTraceDevic
 use Rattle.qrp_check.specs.declared.verdict.Verified.{Verified}
 use Rattle.qrp_check.specs.declared.verdict.Fault.{Fault}
 use Rattle.std.specs.Prelude.{IsOk, ◌⊎◌}
+use Rattle.qrp_check.proofs.CheckAnswers.{closed_of}
 use Rattle.qrp_check.proofs.Marking.{core_within}
 use Rattle.qrp_check.proofs.StepsAt.{holds_number}
 use Rattle.qrp_check.proofs.Soundness.{soundness}
@@ -116,9 +117,6 @@ module _ (f : Qbf) (result : Outcome) (n : ℕ) (w : Written (side_of result) f 
     }
 
 -- ---- the laws
-
-closed_of : (f : Qbf) → IsWellFormedFormula f → IsClosed f
-closed_of f formed = record { distinct = formed.prefix.distinct; bound = formed.closed }
 
 -- the derivation, as steps
 written : (f : Qbf) (result : Outcome) → IsWellFormedFormula f → ResultHolds (side_of result) f
