@@ -1,4 +1,4 @@
--- The conditions of the three rules, where a set follows by one of them as the literature has it.
+-- The conditions of a rule hold, if a set follows by it as the literature has it.
 use Rattle.qrp_check.proofs.Words.{ℕ, List, [], sym, ◌∙◌, subst, inl, inr, Literal, ◌∈◌, ◌⊆◌, IsInitial, Side, Clauses, Cubes}
 use Rattle.qrp_check.proofs.Words.{resolvent, Qbf, Rules, Inference, AllHold}
 use Rattle.qbf_core.specs.Blocks.{Binds}

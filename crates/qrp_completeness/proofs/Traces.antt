@@ -168,7 +168,7 @@ small_formulas_are_verified formula f result is small holds =
       λ by. let shown = bytes_shown formula f spelled result w by in (shown, λ answer headline. headline.wherever shown),
     )
 
--- where no device fails
+-- if no device fails
 pub verified_or_memory : (by : Rules) (formula trace from_formula from_trace : List ℕ) (result : Result Verified Fault) (f : Qbf) (o : Outcome)
     (has : HasTrace f o)
     → from_formula ≡ formula → from_trace ≡ trace → read_formula formula ≡ Ok f → trace ≡ text has.trace

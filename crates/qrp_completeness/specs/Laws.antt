@@ -1,4 +1,4 @@
--- The checker is complete: where a result holds, steps prove it, and of a small formula a trace does.
+-- The checker is complete: if a result holds, steps prove it, and of a small formula a trace does.
 use Rattle.std.specs.Prelude.{◌≡◌, ◌↔◌, ◌⊎◌, ℕ, ◌<◌, ◌≤◌, ◌^◌, List, [], length, Ok, IsOk, Result}
 use Rattle.qbf_core.specs.Blocks.{pairs}
 use Rattle.qbf_core.specs.Rules.{Side, deciding_quantifier}
@@ -28,11 +28,11 @@ pub record HasProof (f : Qbf) (result : Outcome) : Type 0 where
   pub unreduced : (rules : Rules) → ProvesUnreduced rules f [] steps result
   pub proves : (rules : Rules) → Proves rules f [] steps result
 
--- where a result holds, there are steps that prove it
+-- if a result holds, there are steps that prove it
 abbrev pub EachResultHasAProof : Type 0
 EachResultHasAProof = (f : Qbf) (result : Outcome) → IsWellFormedFormula f → ResultHolds (side_of result) f → HasProof f result
 
--- a result holds exactly where some steps prove it
+-- a result holds exactly if some steps prove it
 abbrev pub ResultsAreProofs : Type 0
 ResultsAreProofs = (rules : Rules) (f : Qbf) (result : Outcome) → IsWellFormedFormula f
     → ResultHolds (side_of result) f ↔ ((steps : List Inference) × Proves rules f [] steps result)
@@ -55,7 +55,7 @@ pub record HasTrace (f : Qbf) (result : Outcome) : Type 0 where
   pub reads : read_trace (text trace) ≡ Ok trace
   pub proves : (rules : Rules) → IsProof rules f trace
 
--- where a result holds of a small formula, there is such a trace
+-- if a result holds of a small formula, there is such a trace
 abbrev pub SmallResultsHaveTraces : Type 0
 SmallResultsHaveTraces = (f : Qbf) (result : Outcome) → IsWellFormedFormula f → IsSmall (side_of result) f
     → ResultHolds (side_of result) f → HasTrace f result

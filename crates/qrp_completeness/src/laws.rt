@@ -5,10 +5,10 @@ ghost use Rattle.qrp_completeness.specs.Laws.{ResultsAreProofs, SmallFormulasAre
 ghost use Rattle.qrp_completeness.specs.Laws.{SmallResultsHaveTraces};
 ghost use Rattle.qrp_completeness.specs.Textbook.{TextbookProofsAreProofs};
 
-/// A proof by the rules as the literature states them is a proof to this checker, step by step:
-/// Q-resolution (Kleine Büning, Karpinski, Flögel 1995) and term resolution (Giunchiglia, Narizzano,
-/// Tacchella 2006), where each step reduces one literal, or takes the whole resolvent. It does
-/// nothing when it runs.
+/// A proof by the rules as the literature states them is a proof to this checker, step by step. They
+/// are Q-resolution (Kleine Büning, Karpinski, Flögel 1995) and term resolution (Giunchiglia,
+/// Narizzano, Tacchella 2006): a step is an axiom, reduces one literal, or is a whole resolvent. It
+/// does nothing when it runs.
 pub fn textbook_proofs_are_proofs()
     ensures { TextbookProofsAreProofs }
 {}
