@@ -1,5 +1,5 @@
 -- What the check of a formula and a trace at their sources returns, and what it leaves of these.
-use Rattle.std.specs.Prelude.{◌≡◌, ◌↔◌, ℕ, ◌-◌, ◌^◌, ◌<◌, List, Option, length, IfSome, IfOk, IfErr, OnOk, Result, Ok, Err}
+use Rattle.std.specs.Prelude.{◌≡◌, ◌↔◌, ℕ, ◌-◌, ◌^◌, ◌<◌, Bool, List, Option, length, IfSome, IfOk, IfErr, OnOk, Result, Ok, Err}
 use Rattle.std.specs.List.{AllByRecursion}
 use Rattle.qbf_core.specs.Qbf.{Qbf}
 use Rattle.qbf_text.specs.declared.source.Source as source
@@ -27,6 +27,15 @@ call_of s old new = record { bytes = s.remaining old; before = s.failures old; a
 abbrev pub verdict_of : Result (Derivation × Verified) Fault → Result Verified Fault
 verdict_of (Ok r) = Ok r.1
 verdict_of (Err e) = Err e
+
+-- the truth that a verdict has, or its fault
+abbrev pub truth_of : Result Verified Fault → Result Bool Fault
+truth_of (Ok v) = Ok v.truth
+truth_of (Err e) = Err e
+
+-- the result is the truth of a verdict of which this holds, or its fault
+abbrev pub IsTruthOf : (Result Verified Fault → Type 0) → Result Bool Fault → Type 0
+IsTruthOf Holds result = (verdict : Result Verified Fault) × Holds verdict × (result ≡ truth_of verdict)
 
 -- a trace that was read is well formed, and what these bytes read as, where they are known
 abbrev pub WasReadFrom : Option (List ℕ) → Derivation → Type 0
