@@ -28,7 +28,7 @@ ROWS = [
         "P3",
         None,
         "a word that is not allowed there",
-        "take out what is no part of the trace, such as messages; the solver should write nothing else to its standard output",
+        "take out the words that do not belong to the trace, such as messages; the solver should write nothing else to its standard output",
     ),
     (
         "P3",
