@@ -2,10 +2,16 @@
 
 import os
 import shutil
+import signal
 import stat
 import subprocess
 import sys
 from pathlib import Path
+
+from qrptools.command import called_as, finding, not_read, not_written, started, unusable, writing
+
+AS_THE_TRACE = "it needs up to the size of the trace"
+AS_THE_FORMULA = "it needs up to the size of the formula"
 
 
 def find_program():
@@ -14,14 +20,19 @@ def find_program():
     built = next((str(path) for path in beside if path.is_file()), None)
     program = os.environ.get("QRP_CMD") or built or shutil.which("qrp_cmd")
     if not program:
-        raise FileNotFoundError("there is no bin/qrp_cmd: build it with make, or name it by QRP_CMD")
+        raise unusable("there is no bin/qrp_cmd: build it with make, or name it by QRP_CMD")
     return program
 
 
 def run_program(words, out=subprocess.PIPE):
     """What it prints as its one line, empty where it prints none, and its status."""
-    ran = subprocess.run([find_program(), *words], stdout=out, stderr=subprocess.PIPE, check=False)
-    return ((ran.stdout or b"") + ran.stderr).decode().strip(), ran.returncode
+    program = find_program()
+    try:
+        with started([program, *words], stdout=out, stderr=subprocess.PIPE) as process:
+            printed, complained = process.communicate()
+    except OSError as fault:
+        raise unusable(f"the program {program} cannot be run: {fault.strerror}") from fault
+    return ((printed or b"") + complained).decode(errors="replace").strip(), process.returncode
 
 
 def keep(path, folder):
@@ -29,14 +40,45 @@ def keep(path, folder):
     if path is None or not os.path.exists(path) or stat.S_ISREG(os.stat(path).st_mode) or os.path.isdir(path):
         return path
     kept = os.path.join(folder, os.path.basename(path))
-    with open(path, "rb") as source, open(kept, "wb") as copy:
+    try:
+        source = open(path, "rb")
+    except OSError as fault:
+        raise unusable(not_read(path, fault)) from fault
+    with source, writing(f"a copy of {path}", "it needs the size of the file"), open(kept, "wb") as copy:
         shutil.copyfileobj(source, copy)
     return kept
 
 
 def trimmed(formula, trace, flags, folder):
-    """The file of the trimmed trace, None where the program refuses it; and the line that it then prints."""
+    """The file of the trimmed trace. The command ends where the program refuses the proof, or cannot do it."""
     path = os.path.join(folder, "trimmed.qrp")
-    with open(path, "wb") as out:
+    with writing("the trimmed trace", AS_THE_TRACE), open(path, "wb") as out:
         line, status = run_program(["trim", *flags, formula, trace], out)
-    return (path, "") if status == 0 else (None, line)
+        if not line and status > 0:
+            out.write(bytes(1 << 16))  # fails as the program's output did
+    if line.startswith("REFUSED "):
+        raise finding(f"qrp_cmd refuses the proof: {line}; '{called_as('explain')} FORMULA TRACE' says why")
+    if status == 0:
+        return path
+    raise unusable(why_not(line, status, formula, trace))
+
+
+def why_not(line, status, formula, trace):
+    """Why the program wrote no trimmed trace, where it does not refuse the proof."""
+    if line in ("DEVICE formula", "DEVICE trace"):
+        path = formula if line == "DEVICE formula" else trace
+        return f"{line}: {reason_not_read(path)}"
+    if line == "NO MEMORY":
+        return f"{line}: raise the limit (`ulimit -v`), or take a machine with more memory"
+    if status < 0:
+        return f"signal {-status} ({signal.Signals(-status).name}) ended qrp_cmd"
+    return f"qrp_cmd says: {line}" if line else not_written("the trimmed trace", f"qrp_cmd ended with status {status}", AS_THE_TRACE)
+
+
+def reason_not_read(path):
+    try:
+        with open(path, "rb") as file:
+            file.read(1)
+    except OSError as fault:
+        return not_read(path, fault)
+    return f"qrp_cmd cannot read {path}"
