@@ -5,9 +5,11 @@ the rows that cannot be read, and should be empty.
 """
 
 import contextlib
+import gzip
 import importlib.machinery
 import importlib.util
 import io
+import json
 import os
 import re
 import subprocess
@@ -20,7 +22,7 @@ sys.path[:0] = [str(ROOT / "tests"), str(ROOT / "tools")]
 sys.dont_write_bytecode = True
 from damaged_pairs import damaged_pairs  # noqa: E402
 from expect import expect, finish  # noqa: E402
-from qrptools.advice import ADVICE, ROWS  # noqa: E402
+from qrptools.advice import ADVICE, KINDS, NEXT, ROWS, advice_for  # noqa: E402
 from qrptools.step_rules import CONDITIONS  # noqa: E402
 
 EXPLAIN = ROOT / "tools" / "explain"
@@ -28,7 +30,7 @@ LINES = {*(f"F{n}" for n in range(2, 9)), *(f"P{n}" for n in range(2, 9)), *(f"C
 
 # What the explanation of a damaged pair has to say, by its name: read by hand once.
 SENTENCES = {
-    "empty as formula": "The file is empty.",
+    "empty as formula": "The formula is empty.",
     "gzip as formula": "It is compressed by gzip",
     "gzip as trace": "It is compressed by gzip",
     "bzip2 as trace": "It is compressed by bzip2",
@@ -37,9 +39,9 @@ SENTENCES = {
     "QCIR as formula": "It is a formula in QCIR",
     "AIGER as formula": "It is a circuit in AIGER",
     "UTF-16 as formula": "It is in UTF-16",
-    "binary QRP as trace": "It is a trace in the binary form of QRP: have the solver write --trace=qrp.",
+    "binary QRP as trace": "It is a trace in the binary form of QRP.",
     "DRAT as trace": "It looks like a proof in DRAT",
-    "binary DRAT as trace": "A proof in the binary form of DRAT looks so.",
+    "binary DRAT as trace": "It is not a text: it has zero bytes, as a proof in the binary form of DRAT.",
     "QRAT as trace": "It looks like a proof in QRAT",
     "an answer as trace": "It is the solver's answer, not a trace",
     "exchanged": "It is a trace, not a formula. Were the two files exchanged?",
@@ -51,7 +53,7 @@ SENTENCES = {
     "trace without its last 2 bytes": "it seems to be cut.",
     "trace without its result": "before the line `r sat` or `r unsat`.",
     "'%' before a clause": "Some collections end their files with a line of %",
-    "'p' before a step": "It looks like a second header",
+    "'p' before a step": "It looks like another header",
     "'-0' in a clause": "A number has no plus sign, and 0 no minus.",
     "'0' in a set": "an earlier 0 closes: is that 0 one too many?",
     "'0' among antecedents": " has 3 zeros where a step has 2: is a 0 one too many?",
@@ -64,7 +66,7 @@ SENTENCES = {
     "set 0 binds its first variable twice": " is bound already, as ",
     "set 0 without its last variable": " is in no quantifier set, so it is free.",
     "clause 0 without its 0": "does not end with 0, so the next line belongs to it too",
-    "no quantifier set": "keeps the meaning: `tools/explain --close FORMULA > CLOSED` does that.",
+    "no quantifier set": f"keeps the meaning: `{EXPLAIN} --close FORMULA > CLOSED` does that.",
     "the other result": "its result is wrong",
     "the result UNKNOWN": "a limit of the solver was reached",
     "the result of --qdo": "leave out `--qdo`",
@@ -86,11 +88,30 @@ def load():
 
 def explained(module, *words):
     """The status, and what is printed."""
-    sys.argv = ["explain", *map(str, words)]
+    sys.argv = [str(EXPLAIN), *map(str, words)]
     out, err = io.StringIO(), io.StringIO()
     with contextlib.redirect_stdout(out), contextlib.redirect_stderr(err):
         status = module.main()
     return status, out.getvalue(), err.getvalue()
+
+
+def note_topics(module):
+    """The topics of the advice that is given from here on."""
+    topics = set()
+
+    def noted(fault, cause, number=None):
+        topics.add((fault, cause))
+        return advice_for(fault, cause, number)
+
+    module.advice_for = noted
+    return topics
+
+
+def ends_with_advice(out, fault):
+    """Whether a text ends with an advice for this fault, or for a kind of file; or if nothing is refused, for what is next."""
+    texts = [advice for (named, _), advice in ADVICE.items() if named in ((fault, "kind") if fault else ("VERIFIED",))]
+    patterns = (re.sub(r"\bN\b", r"\\d+", re.escape(text.replace("tools/", f"{EXPLAIN.parent}/"))) for text in texts)
+    return any(re.search(f"What you can do:\n  {pattern}\\.\n\\Z", out) for pattern in patterns)
 
 
 def run(*words, program, **options):
@@ -119,10 +140,33 @@ def try_line(module, name, line, flags, files):
     first = f"qrp_cmd says: {line}\n\n" if line else "qrp_cmd prints no line.\n\n"
     expect(f"{name}: {line}", status == 0 and out.startswith(first) and not err, (status, out, err))
     expect(f"{name}: {line}, read from the beginning", reads_alike(module, line, files[0], files[-1]))
-    fault = fault_of(line)
-    rows = [advice for (named, _), advice in ADVICE.items() if named == fault]
-    expect(f"{name}: {line}, the advice", any(out.endswith(f"What you can do:\n  {advice}.\n") for advice in rows) if fault else "What you" not in out, out)
+    expect(f"{name}: {line}, the advice", ends_with_advice(out, fault_of(line)) if line else "What you" not in out, out)
     return out
+
+
+def try_json(module, name, line, files):
+    """The explanation as JSON says what the text says, and the place that the program names."""
+    _, text, _ = explained(module, *files)
+    status, out, err = explained(module, "--json", *files)
+    found = json.loads(out)
+    expect(f"{name}: JSON", status == 0 and out.count("\n") == 1 and not err and found["says"] == line, (status, out, err))
+    advice = text.rpartition("What you can do:\n  ")[2][:-2]
+    expect(f"{name}: JSON, what is said", found["advice"] == advice and all(sentence in text for sentence in found["found"][:6]), (text, out))
+    words = line.split()
+    wanted = {"fault": fault_of(line)}
+    if words[1:2] in (["formula"], ["trace"]) and "line" in words:
+        wanted |= {"file": words[1], "line": int(words[-1])}
+    elif words[1:2] == ["step"]:
+        lines = Path(files[1]).read_text().split("\n")
+        wanted |= {"file": "trace", "step": int(words[2]), "line": 1 + [text.split(" ")[0] for text in lines].index(words[2]), "column": None}
+    elif words[1:2] == ["set"]:
+        wanted |= {"file": "trace", "variable": int(words[-1]), "column": None}
+    expect(f"{name}: JSON, the place", wanted.items() <= found.items(), (wanted, found))
+    if found["column"] and "^" in text:
+        shown, marks = text.split("\n")[3:5]
+        shown = shown[marks.index("^") : marks.rindex("^") + 1].partition("?")[0]
+        there = Path(files[0 if found["file"] == "formula" else 1]).read_bytes().split(b"\n")[found["line"] - 1][found["column"] - 1 :]
+        expect(f"{name}: JSON, the column", there.startswith(shown.encode()), (text, found))
 
 
 def try_rows(module, rows):
@@ -146,6 +190,8 @@ def try_damages(module, program, pairs):
                     file.write_bytes(text)
                 line = subprocess.run([program, "check", *files], capture_output=True, text=True, check=False).stdout.strip()
                 out = try_line(module, f"{trace.name}, {name}", line, [], files)
+                if tried % 8 == 0:
+                    try_json(module, f"{trace.name}, {name}", line, files)
                 if name in SENTENCES:
                     said.add(name)
                     expect(f"{trace.name}, {name}: '{SENTENCES[name]}'", SENTENCES[name] in out, out)
@@ -156,24 +202,32 @@ def try_damages(module, program, pairs):
     expect("each sentence was looked for", said == set(SENTENCES), set(SENTENCES) - said)
 
 
-def try_devices(program):
+def advised(module, fault, cause):
+    """The end of a text with this advice, which is noted as given."""
+    return f"What you can do:\n  {module.advice_for(fault, cause)}.\n"
+
+
+def try_devices(program, module):
     """Files that cannot be read, names that are no text, and memory that is refused."""
     formula, trace = ROOT / "examples" / "two_clauses.qdimacs", ROOT / "examples" / "two_clauses.qrp"
     with tempfile.TemporaryDirectory() as folder:
-        for name, words, line, sentence in (
-            ("no formula", ["/nonexistent", trace], "DEVICE formula", "No such file or directory."),
-            ("a folder", [formula, folder], "DEVICE trace", "Is a directory."),
-            ("a folder to be formatted", [folder], "DEVICE formula", "Is a directory."),
+        for name, words, line, sentence, cause in (
+            ("no formula", ["/nonexistent", trace], "DEVICE formula", "No such file or directory.", None),
+            ("a folder", [formula, folder], "DEVICE trace", "Is a directory.", None),
+            ("a folder to be formatted", [folder], "DEVICE formula", "Is a directory.", None),
+            ("a minus", [formula, "-"], "DEVICE trace", "No such file or directory.", "minus"),
         ):
             ended = run(*words, program=program)
             holds = ended.stdout.startswith(f"qrp_cmd says: {line}\n") and f"It cannot be opened and read: {sentence}\n" in ended.stdout
-            expect(name, ended.returncode == 0 and holds, ended)
+            expect(name, ended.returncode == 0 and holds and ended.stdout.endswith(advised(module, "DEVICE", cause)), ended)
+            found = json.loads(run("--json", *words, program=program).stdout)
+            expect(f"{name}: JSON", (found["fault"], found["file"], found["line"]) == ("DEVICE", line.split()[1], None), found)
         odd = os.fsencode(folder) + b"/\xff"
         Path(os.fsdecode(odd)).write_bytes(formula.read_bytes())
         environment = dict(os.environ, QRP_CMD=str(program))
         ended = subprocess.run([sys.executable, EXPLAIN, odd, trace], capture_output=True, env=environment, check=False)
         holds = ended.stdout.startswith(b"qrp_cmd says: USAGE\n") and b"is not valid UTF-8 text: b'" in ended.stdout
-        expect("a name that is no text", ended.returncode == 0 and holds, ended)
+        expect("a name that is no text", ended.returncode == 0 and holds and ended.stdout.endswith(advised(module, "USAGE", None).encode()), ended)
         limited = Path(folder) / "limited"
         limited.write_text(f'#!/bin/sh\nulimit -v 10000\nexec "{program}" "$@"\n')
         limited.chmod(0o755)
@@ -181,7 +235,7 @@ def try_devices(program):
         large.write_text("p qrp 0 0\n" + "".join(f"{n} 1 2 3 4 5 6 7 8 9 0 0\n" for n in range(1, 500000)) + "r unsat\n")
         ended = run(formula, large, program=limited)
         holds = ended.stdout.startswith("qrp_cmd says: NO MEMORY\n\nThe program had up to ")
-        expect("memory is refused", ended.returncode == 0 and holds, ended)
+        expect("memory is refused", ended.returncode == 0 and holds and ended.stdout.endswith(advised(module, "NO MEMORY", None)), ended)
         killed = Path(folder) / "killed"
         killed.write_text("#!/bin/sh\nkill -KILL $$\n")
         killed.chmod(0o755)
@@ -199,7 +253,7 @@ def try_disagreement(program):
             liar.write_text(f"#!/bin/sh\necho '{line}'\nexit 1\n")
             liar.chmod(0o755)
             ended = run(formula, trace, program=liar)
-            expect(f"a program that says {line}", ended.returncode == 1 and ended.stderr.startswith("explain: qrp_cmd "), ended)
+            expect(f"a program that says {line}", ended.returncode == 1 and ended.stderr.startswith(f"{EXPLAIN}: qrp_cmd "), ended)
 
 
 def try_words(program):
@@ -216,7 +270,7 @@ def try_words(program):
     wanted = "qrp_cmd says: VERIFIED false\n\nThe trace proves that the formula is false."
     expect("nothing is refused", ended.returncode == 0 and ended.stdout.startswith(wanted), ended)
     ended = run(formula, trace, "6", program=program)
-    expect("no such step", ended.returncode == 1 and ended.stdout == "The trace has no step 6.\n", ended)
+    expect("no such step", ended.returncode == 1 and not ended.stdout and ended.stderr == f"{EXPLAIN}: the trace has no step 6\n", ended)
     ended = run(trace, formula, "1", program=program)
     expect("a step of no formula", ended.returncode == 1 and not ended.stdout and ended.stderr, ended)
     ended = run(formula, "/dev/stdin", program=program, input=trace.read_text().replace("3 1 0 1 0", "3 2 0 1 0"))
@@ -247,6 +301,9 @@ def try_pages(program):
     text = (ROOT / "docs" / "REFUSED.md").read_text()
     rows = re.findall(r"^\| ((?:[SFPC]\d+|DEVICE|NO MEMORY|USAGE)) \| (.*) \| (.*) \|$", text, re.MULTILINE)
     expect("docs/REFUSED.md: the tables", sorted(rows) == sorted((fault, found, advice) for fault, _, found, advice in ROWS), rows)
+    for title, wanted in ("What the file is | What you can do", [row[1:] for row in KINDS]), ("Line | What you can do next", NEXT):
+        table = re.search(rf"^\| {re.escape(title)} \|\n\|---\|---\|\n((?:\|.*\n)+)", text, re.MULTILINE)[1]
+        expect(f"docs/REFUSED.md: {title}", table.splitlines() == [f"| {found} | {advice} |" for found, advice in wanted], table)
     rules = (ROOT / "docs" / "RULES.md").read_text()
     for fault, condition in CONDITIONS.items():
         expect(f"docs/RULES.md: {fault}", re.search(rf"^\| {fault} \| {re.escape(condition)}(;.*)? \|$", rules, re.MULTILINE))
@@ -263,7 +320,107 @@ def try_pages(program):
             page = "\n".join(line for line in lines if not line.startswith("$ "))
             printed = subprocess.run(["bash", "-c", "\n".join(commands)], cwd=folder, capture_output=True, text=True, env=environment, check=False)
             expect("docs/REFUSED.md, a block of commands", page == printed.stdout.rstrip(), (page, printed))
-    expect("docs/REFUSED.md: two blocks of commands", len(blocks) == 2, blocks)
+    expect("docs/REFUSED.md: three blocks of commands", len(blocks) == 3, blocks)
+
+
+# A formula that is false with its proof, and what users do to them: a name, the bytes of both, what is said, and what is not.
+FORMULA = b"c a formula\np cnf 3 2\ne 1 2 3 0\n1 2 0\n-1 3 0\n"
+GOOD = b"p cnf 1 2\ne 1 0\n1 0\n-1 0\n"
+TRACE = b"p qrp 1 3\ne 1 0\n1 1 0 0\n2 -1 0 0\n3 0 1 2 0\nr unsat\n"
+LONG = b"p cnf 3 2\ne 1 3 0\na 2 0\n1 2 0\n-1 -2 0\n"
+LONG_STEPS = b"p qrp 3 4\n1 1 2 0 0\n2 -1 -2 0 0\n%b\n4 0 3 0\nr unsat\n"
+GIVE = ["give a formula in QDIMACS", "give a trace in the text form of QRP"]
+MISTAKES = [
+    ("the solver's default options", GOOD, b"", ["DepQBF writes a trace only with `--trace=qrp --dep-man=simple --no-qbce-dynamic`", "docs/DEPQBF.md"], GIVE),
+    (
+        "messages before the header",
+        GOOD,
+        b"DM simple: init-time: 0.0\ns cnf 0\n" + TRACE,
+        ["Its header is in line 3.", "take out what comes before line 3, and do not join the standard error", "`2>&1`"],
+        GIVE,
+    ),
+    (
+        "messages before the formula",
+        b"reading\n" + GOOD,
+        TRACE,
+        ["Its header is in line 2.", "take out what comes before line 2,"],
+        GIVE,
+    ),
+    (
+        "clauses without their 0",
+        b"p cnf 2 2\ne 1 2 0\n1 2\n-1 2\n",
+        TRACE,
+        ["The clause in line 3 does not end with 0, so the next line belongs to it too: is a 0 missing there?", "close each clause by 0"],
+        [],
+    ),
+    ("a formula that is cut", b"p cnf 2 2\ne 1 2 0\n1 2 0\n-1 2\n", TRACE, ["What you can do:\n  give the whole file.\n"], ["is a 0 missing"]),
+    (
+        "line ends of an old system",
+        FORMULA.replace(b"\n", b"\r"),
+        TRACE,
+        [f"It has no byte 10, and {FORMULA.count(10)} bytes 13 that end no line here.", "turn the line ends: `tr '\\r' '\\n' < FILE > NEW`"],
+        ["give the whole file"],
+    ),
+    ("such line ends of a trace", GOOD, b"c one\r" + TRACE.replace(b"\n", b"\r"), ["It has no byte 10, and 7 bytes 13", "turn the line ends"], ["the trace was cut"]),
+    ("a trace appended to one that is cut", GOOD, TRACE[:-9] + TRACE, ["'0p' is not allowed", "two traces are in one file, and the first was cut", "`>>`"], ["messages"]),
+    ("a trace appended to one without its result", GOOD, TRACE[:-8] + TRACE, ["two traces are in one file"], ["messages"]),
+    ("a trace appended to a part of the result", GOOD, TRACE[:-3] + TRACE, ["here it is 'unsp qrp", "two traces are in one file"], ["damaged"]),
+    ("a list of clauses as trace", GOOD, b"1 2 0\n0\n", ["It looks like a list of clauses", "`--trace=qrp`"], GIVE),
+    ("another alphabet", b"\xe4\xf6\xfc\n", TRACE, ["It is not a plain text.", "give the file as plain ASCII"], [*GIVE, "^"]),
+    ("gzip", gzip.compress(GOOD), TRACE, ["It is compressed by gzip.\nWhat you can do:\n  unpack it, or give `<(zcat FILE)`.\n"], [*GIVE, "^", "?"]),
+    ("UTF-16", GOOD.decode().encode("utf-16"), TRACE, ["It is in UTF-16.\nWhat you can do:\n  write it as plain ASCII"], [*GIVE, "^", "?"]),
+    ("a byte order mark", b"\xef\xbb\xbf" + GOOD, TRACE, ["It begins with a byte order mark", "take out the first three bytes"], GIVE),
+    ("exchanged", TRACE, GOOD, ["Were the two files exchanged?", "give the formula first, and then the trace"], GIVE),
+    ("long-distance resolution", LONG, LONG_STEPS % b"3 2 -2 0 1 2 0", ["It does not follow: S1", "(`--long-dist-res`)"], []),
+    ("a literal too many in a reduct", LONG, LONG_STEPS % b"3 1 2 3 0 1 0", ["It does not follow: S6", "weakening is no rule here"], []),
+    ("a pivot that stays", GOOD, b"p qrp 1 4\n1 1 0 0\n2 -1 0 0\n3 1 0 1 2 0\n4 0 3 2 0\nr unsat\n", ["It does not follow: S11", "the resolvent does not hold the pivot"], []),
+    ("nothing is refused", GOOD, TRACE, ["is false", "`qrp_cmd trim`", "/proof-stats`", "/used-clauses`"], ["nothing to explain"]),
+]
+
+
+def try_mistakes(module):
+    """What a user does wrong is said, and what is said is of use."""
+    with tempfile.TemporaryDirectory() as folder:
+        files = Path(folder) / "formula", Path(folder) / "trace"
+        for name, formula, trace, said, unsaid in MISTAKES:
+            files[0].write_bytes(formula)
+            files[1].write_bytes(trace)
+            status, out, err = explained(module, *files)
+            expect(f"mistake: {name}", status == 0 and not err and all(text in out for text in said), (out, said))
+            expect(f"mistake: {name}: no more than that", not any(text in out for text in unsaid), (out, unsaid))
+
+
+def try_names(program):
+    """What is advised is written as the command is called: from the sources, by a whole path, installed, and by a link."""
+    free = b"p cnf 1 1\n1 0\n"
+    with tempfile.TemporaryDirectory() as name:
+        folder = Path(name)
+        (folder / "free").write_bytes(free)
+        (folder / "bin").mkdir()
+        (folder / "tools").symlink_to(EXPLAIN.parent)
+        for tool in "explain", "used-clauses":
+            (folder / "bin" / f"qrp-{tool}").symlink_to(f"../tools/{tool}")
+        (folder / "bin" / "why").symlink_to("../tools/explain")
+        environment = dict(os.environ, QRP_CMD=str(program), PATH=f"{folder}/bin:{os.environ['PATH']}")
+
+        def ask(*words):
+            return subprocess.run(words, cwd=folder, capture_output=True, text=True, env=environment, check=False)
+
+        for words, wanted in (
+            (["tools/explain"], "tools/explain"),
+            (["./tools/explain"], "./tools/explain"),
+            (["qrp-explain"], "qrp-explain"),
+            ([f"{folder}/bin/qrp-explain"], "qrp-explain"),
+            (["bin/qrp-explain"], "bin/qrp-explain"),
+        ):
+            expect(f"{words}: the advice", f"`{wanted} --close FORMULA > CLOSED`" in ask(*words, "free").stdout, ask(*words, "free"))
+            expect(f"{words}: the usage", f"\n    {wanted} --close FORMULA  " in ask(*words, "--help").stdout, ask(*words, "--help"))
+            expect(f"{words}: the message", ask(*words, "--close", "none").stderr.startswith(f"{wanted}: none cannot be read"), ask(*words, "--close", "none"))
+        for words, wanted in (["qrp-used-clauses"], "'qrp-explain FORMULA TRACE' says why"), (["tools/used-clauses"], "'tools/explain FORMULA TRACE' says why"):
+            expect(f"{words}: another tool", wanted in ask(*words, "free", "free").stderr, ask(*words, "free", "free"))
+        (folder / "bad").write_bytes(b"p cnf 1 1\ne 2 0\n1 0\n")
+        ended = ask("qrp-explain", "--close", "bad")
+        expect("--close of a fault", (ended.returncode, ended.stderr) == (1, "qrp-explain: the formula has F4 in line 2: 'qrp-explain FORMULA' says why\n"), ended)
 
 
 def main():
@@ -272,10 +429,14 @@ def main():
         expect(row, False)
     os.environ["QRP_CMD"] = program
     module = load()
+    topics = note_topics(module)
     folder = ROOT / "tests" / "traces"
     try_rows(module, Path(rows).read_text().splitlines())
     try_damages(module, program, [(folder / "kbkf2.qdimacs", folder / "kbkf2.trad.qrp"), (folder / "adder1.qdimacs", folder / "adder1.lazy.qrp")])
-    try_devices(program)
+    try_mistakes(module)
+    try_devices(program, module)
+    expect("each advice is given", topics == set(ADVICE), set(ADVICE) ^ topics)
+    try_names(program)
     try_disagreement(program)
     try_words(program)
     try_closing(program)

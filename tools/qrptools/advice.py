@@ -1,8 +1,12 @@
-"""What each line of the program points to, and what you can do. A part of tools/explain; docs/REFUSED.md has the same tables.
+"""What each line of the program points to, and what you can do. A part of tools/explain; docs/REFUSED.md has these tables too.
 
-A row has the name of the fault, a word that tools/explain chooses the row by where a fault has several, what was found, and what
-to do.
+A row of ROWS has the name of the fault, a word that tools/explain chooses the row by if a fault has several, what was found, and what
+to do. A row of KINDS has a word for a kind of file, what such a file is, and what to do. N stands for a number that is put in.
 """
+
+import re
+
+from qrptools.command import called_as
 
 ROWS = [
     ("F2", None, "the header is wrong", "give a formula in QDIMACS, which begins with `p cnf VARIABLES CLAUSES`"),
@@ -12,6 +16,7 @@ ROWS = [
     ("F5", None, "a variable is bound twice", "leave one of its places out of the quantifier sets"),
     ("F6", None, "a variable is free", "bind it outermost by `e`, which keeps the meaning: `tools/explain --close FORMULA > CLOSED` does that"),
     ("F7", None, "the formula was cut off", "give the whole file"),
+    ("F7", "open", "the clause that is cut off has lines that do not end with 0", "close each clause by 0, or give the whole file"),
     (
         "F8",
         None,
@@ -23,7 +28,13 @@ ROWS = [
         "P3",
         None,
         "a word that is not allowed there",
-        "take out what is no part of the trace, such as messages; the solver should write nothing else to its standard output",
+        "take out the words that do not belong to the trace, such as messages; the solver should write nothing else to its standard output",
+    ),
+    (
+        "P3",
+        "second",
+        "a second header `p qrp`",
+        "two traces are in one file, and the first was cut: have the solver write it again, into a new file (`>`, not `>>`)",
     ),
     ("P3", "cut", "the end of the text looks like a part of a word", "give the whole file; see what the solver printed on its standard error"),
     ("P4", None, "a number is out of range", "the trace is damaged: have the solver write it again"),
@@ -49,6 +60,12 @@ ROWS = [
     ),
     ("P8", "answer", "the result is `r s cnf ..`", "leave out `--qdo`, by which the solver writes its answer in another form"),
     ("P8", "cut", "the end of the text looks like a part of the word", "give the whole file"),
+    (
+        "P8",
+        "second",
+        "a second header `p qrp` after a part of the result",
+        "two traces are in one file, and the first was cut: have the solver write it again, into a new file (`>`, not `>>`)",
+    ),
     ("P8", "damaged", "the result is another word", "the trace is damaged: have the solver write it again"),
     ("C1", None, "the trace names a variable that the formula does not bind", "give the formula that the solver read: this is likely another one"),
     ("C2", None, "a variable has the other quantifier in the formula", "give the formula that the solver read: this is likely another one"),
@@ -113,8 +130,73 @@ ROWS = [
         "an antecedent or a literal was lost, and no prefix explains that, so the trace is damaged: have the solver write it again",
     ),
     ("DEVICE", None, "a file cannot be opened or read", "give the file's name, and the right to read it"),
+    ("DEVICE", "minus", "the name is `-`", "`-` is a name like any other here: give `/dev/stdin` for the standard input"),
     ("NO MEMORY", None, "memory was refused", "raise the limit (`ulimit -v`), or take a machine with more memory"),
     ("USAGE", None, "wrong arguments", "give the arguments as in the usage; names of files have to be valid UTF-8"),
 ]
 
+NEXT = [
+    ("VERIFIED true", "`qrp_cmd trim` writes the steps that the proof needs, and `tools/proof-stats` says how large it is"),
+    (
+        "VERIFIED false",
+        "`qrp_cmd trim` writes the steps that the proof needs, `tools/proof-stats` says how large it is, and `tools/used-clauses` which "
+        "clauses it uses",
+    ),
+]
+
+TRACE_OPTIONS = "DepQBF writes a trace only with `--trace=qrp --dep-man=simple --no-qbce-dynamic` and a learning mode: docs/DEPQBF.md"
+SAY_TRACE = "have the solver write a trace in QRP: `--trace=qrp`"
+QDIMACS = "turn it into QDIMACS"
+TEXT_FORM = "have the solver write the text form: `--trace=qrp`"
+KINDS = [
+    ("no formula", "The formula is empty", "give the whole file: what wrote this one wrote nothing"),
+    ("no trace", "The trace is empty", f"{TRACE_OPTIONS}. If they were given, see what the solver printed on its standard error"),
+    ("gzip", "It is compressed by gzip", "unpack it, or give `<(zcat FILE)`"),
+    ("bzip2", "It is compressed by bzip2", "unpack it, or give `<(bzcat FILE)`"),
+    ("xz", "It is compressed by xz", "unpack it, or give `<(xzcat FILE)`"),
+    ("zstd", "It is compressed by zstd", "unpack it, or give `<(zstdcat FILE)`"),
+    ("zip", "It is a zip archive", "unpack it"),
+    ("program", "It is a program", "give the file that the program reads or writes"),
+    ("mark", "It begins with a byte order mark, which an editor wrote", "take out the first three bytes: `tail -c +4 FILE > NEW`"),
+    ("UTF-16", "It is in UTF-16", "write it as plain ASCII: `iconv -f UTF-16 -t ASCII FILE > NEW`"),
+    ("binary QRP", "It is a trace in the binary form of QRP", TEXT_FORM),
+    ("QCIR", "It is a formula in QCIR, which has no clauses", QDIMACS),
+    ("AIGER", "It is a circuit in AIGER", QDIMACS),
+    ("page", "It looks like a web page, not the file that was to be downloaded", "download the file itself"),
+    ("returns", "It has no byte 10, and N bytes 13 that end no line here", "turn the line ends: `tr '\\r' '\\n' < FILE > NEW`"),
+    ("zeros", "It is not a text: it has zero bytes, as a proof in the binary form of DRAT", SAY_TRACE),
+    ("formula", "It is a formula, not a trace. Were the two files exchanged?", "give the formula first, and then the trace"),
+    ("trace", "It is a trace, not a formula. Were the two files exchanged?", "give the formula first, and then the trace"),
+    (
+        "late",
+        "Its header is in line N. What comes before it is no part of it: messages, or the formula that --pretty-print writes?",
+        "take out what comes before line N, and do not join the standard error to the standard output (`2>&1`)",
+    ),
+    ("DRAT", "It looks like a proof in DRAT (clauses to add, `d` for those to delete): that is a proof for SAT", SAY_TRACE),
+    ("clauses", "It looks like a list of clauses, or a proof in DRAT, which is one for SAT", SAY_TRACE),
+    ("QRAT", "It looks like a proof in QRAT, which is another calculus", SAY_TRACE),
+    ("answer", "It is the solver's answer, not a trace: was --trace=qrp left out?", TRACE_OPTIONS),
+    ("no qrp", "The header `p qrp` is missing; the rest looks like a trace", "put `p qrp 0 0` before it, or give the whole file"),
+    (
+        "no cnf",
+        "The header `p cnf VARIABLES CLAUSES` is missing; the rest looks like a formula",
+        "put the header before it, with the greatest variable and the number of clauses, or give the whole file",
+    ),
+    ("odd", "It is not a plain text", "give the file as plain ASCII"),
+]
+
 ADVICE = {(fault, cause): advice for fault, cause, _, advice in ROWS}
+ADVICE |= {("VERIFIED", truth.split()[1]): advice for truth, advice in NEXT}
+ADVICE |= {("kind", kind): advice for kind, _, advice in KINDS}
+LOOKS = {kind: sentence for kind, sentence, _ in KINDS}
+
+
+def with_number(text, number):
+    """A sentence or an advice with the number that it has N for."""
+    return re.sub(r"\bN\b", str(number), text)
+
+
+def advice_for(fault, cause, number=None):
+    """What to do about a fault, or by a kind of file, as a user of this command types it; None if there is nothing to say."""
+    advice = ADVICE.get((fault, cause))
+    return advice and re.sub(r"tools/([a-z-]+)", lambda tool: called_as(tool[1]), with_number(advice, number))

@@ -10,7 +10,6 @@ A process that `started` gives and a folder that `temporary_folder` gives do not
 """
 
 import argparse
-import errno
 import io
 import os
 import shutil
@@ -170,12 +169,12 @@ def temporary_place():
 # Files
 
 
-def read_file(path):
-    """The bytes of a file."""
+def read_file(path, kind=""):
+    """The bytes of a file, of this kind."""
     try:
         return Path(path).read_bytes()
     except OSError as fault:
-        raise unusable(not_read(path, fault)) from fault
+        raise unusable(not_read(f"{kind} {path}".strip(), fault)) from fault
 
 
 def not_read(path, fault):
@@ -241,7 +240,7 @@ def run(main):
     try:
         take_signals()
         if is_closed:
-            raise NoOutput(f"the standard output cannot be written: {os.strerror(errno.EBADF)}")
+            raise NoOutput("the standard output cannot be written: it is closed")
         return ended(main)
     except (Signalled, KeyboardInterrupt) as fault:
         drop_output()

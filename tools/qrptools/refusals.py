@@ -7,8 +7,9 @@ from io import BytesIO
 from itertools import islice, repeat
 from operator import itemgetter
 
+from qrptools.advice import LOOKS, with_number
 from qrptools.formula import ADJECTIVES, UNBOUND
-from qrptools.looks import looks
+from qrptools.looks import NO_TEXTS
 from qrptools.steps import Step
 from qrptools.words import WORD, value
 
@@ -52,12 +53,28 @@ def word_of(fault):
 
 def likely_cause(fault, data):
     """Which of the causes of docs/REFUSED.md is likely, where the fault has several."""
+    if is_second_header(fault):
+        return "second"
     if is_cut(fault, data):
         return "cut"
+    if fault.name == "F7":
+        return "open" if open_line_of(fault, data) else None
     if fault.name != "P8":
         return None
     rest = WORD.findall(fault.text)[fault.at :]
     return "limit" if rest[0].upper() == b"UNKNOWN" else "answer" if rest[0] == b"s" else "damaged"
+
+
+def is_second_header(fault):
+    """Whether a trace is refused in another header, which a word of the first trace that was cut may stand directly before."""
+    words = WORD.findall(fault.text)[fault.at or 0 :]
+    return fault.name in ("P3", "P8") and fault.at is not None and words[0].endswith(b"p") and words[1:2] == [b"qrp"]
+
+
+def open_line_of(fault, data):
+    """The first line of clauses that does not end with 0, if the text is cut off in a clause and another line comes after that one."""
+    line = first_open_line(data) if fault.known.get("inside", "").startswith("clause ") else None
+    return line if line and line < max((number for number, _ in lines_of_clauses(data)), default=0) else None
 
 
 def is_cut(fault, data):
@@ -65,8 +82,12 @@ def is_cut(fault, data):
     return fault.name in ("F3", "P3", "P5", "P8") and fault.at is not None and data.endswith(word_of(fault)) and data.endswith(fault.text)
 
 
-def explain_text(kind, text_fault, data):
-    """Sentences on a fault of a text; `kind` is formula or trace, and `data` the bytes of the text."""
+def explain_text(text_fault, data, look):
+    """Sentences on a fault of a text, of which `data` are the bytes; `look` is as looks.looks gives it."""
+    kind, number = look
+    seen = [f"{with_number(LOOKS[kind], number)}.".replace("?.", "?")] if kind else []
+    if kind in NO_TEXTS:
+        return seen
     sentences = {
         "F2": wrong_header,
         "P2": wrong_header,
@@ -83,12 +104,13 @@ def explain_text(kind, text_fault, data):
         "P6": third_antecedent,
         "P8": wrong_result,
     }[text_fault.name](text_fault, data)
-    seen = looks(data, "cnf" if kind == "formula" else "qrp")
-    if is_cut(text_fault, data):
+    if is_second_header(text_fault):
+        sentences.append("A second header follows: two traces are in one file, and the first was cut.")
+    elif is_cut(text_fault, data):
         sentences.append("The text ends with this word and has no line end: it seems to be cut.")
     elif text_fault.name in ("P3", "P4", "P5", "P6"):
         sentences += odd_zeros(text_fault, data)
-    return sentences + ([seen] if seen else [])
+    return sentences + seen
 
 
 def odd_zeros(fault, data):
@@ -112,7 +134,7 @@ def wrong_header(fault, _data):
 
 # What a word points to that begins a line of a formula or of a trace.
 FIRST_WORDS = {
-    b"p": "It looks like a second header: two texts in one file, or the formula that --pretty-print writes.",
+    b"p": "It looks like another header: two texts in one file, or the formula that --pretty-print writes.",
     b"%": "Some collections end their files with a line of %, which is no part of DIMACS: cut the text there.",
     b"d": "Lines of this letter belong to other formats (DQDIMACS, DRAT).",
     b"h": "Lines of this letter belong to other formats.",
@@ -128,7 +150,7 @@ def wrong_word(fault, _data):
     sentences = [f"'{shown(word)}' is not allowed {BETWEEN.get(inside, f'in {inside}, a list of numbers that 0 closes.')}"]
     if word in (b"a", b"e") and fault.at == 0:
         sentences.append(f"Quantifier sets come before all {'clauses' if fault.name == 'F3' else 'steps'}, and 0 closes each list: is a 0 missing?")
-    elif fault.at == 0 and word in FIRST_WORDS:
+    elif fault.at == 0 and word in FIRST_WORDS and not is_second_header(fault):
         sentences.append(FIRST_WORDS[word])
     elif word[:1] in (b"+", b"-") and word[1:].isdigit():
         sentences.append("A number has no plus sign, and 0 no minus.")
@@ -182,17 +204,18 @@ def cut_off(fault, data):
     if inside == "between steps":
         sentences = [f"The text ends in line {fault.line}, after {counted(len(data), 'byte')}, before the line `r sat` or `r unsat`"]
     end = "." if data.endswith(b"\n") or not data else "; its last line has no line end."
-    return [sentences[0].rstrip(",") + end]
+    return [sentences[0].rstrip(",") + end, *not_closed(open_line_of(fault, data))]
+
+
+def not_closed(line):
+    return [f"The clause in line {line} does not end with 0, so the next line belongs to it too: is a 0 missing there?"] if line else []
 
 
 def wrong_count(fault, data):
     known = fault.known
     if fault.at is None:
         sentences = [f"The header, in line {known['header']}, says {counted(known['count'], 'clause')}, and the text has {known['read']}."]
-        line = first_open_line(data)
-        if line:
-            sentences.append(f"The clause in line {line} does not end with 0, so the next line belongs to it too: is a 0 missing there?")
-        return sentences
+        return sentences + not_closed(first_open_line(data))
     more = sum(1 for _ in clause_ends(data))
     sentences = [f"The header, in line {known['header']}, says {counted(known['count'], 'clause')}, and here begins one more."]
     if more > known["count"]:
@@ -251,7 +274,7 @@ def sets_that_fail(formula, trace):
 
 
 def explain_sets(formula, trace):
-    """The first fault of the sets, None if they agree, its variable, and sentences on it."""
+    """The first fault of the sets, None if they agree, its variable in the trace, and sentences on it."""
     failing = list(sets_that_fail(formula, trace))
     if not failing:
         return None, None, []
@@ -272,7 +295,7 @@ def explain_sets(formula, trace):
     rest = {other.variable for _, other, _ in failing} - {v}
     if rest:
         sentences.append(f"{counted(len(rest), 'more variable')} of the trace's sets {'does' if len(rest) == 1 else 'do'} not agree either.")
-    return fault, v, sentences
+    return fault, named, sentences
 
 
 def explain_no_goal(trace):

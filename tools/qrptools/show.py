@@ -1,5 +1,7 @@
 """Shows a step of a trace with its antecedents, and says whether it follows. A part of tools/explain."""
 
+from collections import namedtuple
+
 from qrptools.step_rules import CONDITIONS, SIDES, judge
 
 # no more sentences than this on literals; the table has them all
@@ -23,7 +25,7 @@ def find_step(trace, number):
     return found, before, later
 
 
-def print_table(formula, columns, notes):
+def table(formula, columns, notes):
     """A row for each literal: its quantifier and block, which of the columns hold it, and a note."""
     literals = dict.fromkeys(literal for _, held in columns for literal in held)
     if not literals:
@@ -36,40 +38,45 @@ def print_table(formula, columns, notes):
     widths = [max(map(len, column)) for column in zip(*rows)]
     for row in rows:
         cells = [cell.rjust(width) if place in (0, 2) else cell.ljust(width) for place, (cell, width) in enumerate(zip(row, widths))]
-        print(("  " + "  ".join(cells)).rstrip())
-    print()
+        yield ("  " + "  ".join(cells)).rstrip()
+    yield ""
 
 
-def show_step(formula, trace, any_pivot, number):
-    """Prints the step and what is found of it, and returns the finding; None if the trace has no such step."""
+# A step as it is found: the step, the literals of the earlier steps that it names, the lines of the later ones, and the finding.
+Judged = namedtuple("Judged", "step before later finding")
+
+
+def judged_step(formula, trace, any_pivot, number):
+    """The step with this number, judged; None if the trace has no such step."""
     step, before, later = find_step(trace, number)
     if step is None:
         return None
-    side = SIDES[trace.result]
-    finding = judge(formula, side, any_pivot, step, before, later)
-    antecedents = step.antecedents
-    names = " and ".join(map(str, antecedents))
-    from_what = {0: "without antecedents", 1: f"with the antecedent {names}"}.get(len(antecedents), f"with the antecedents {names}")
+    return Judged(step, before, later, judge(formula, SIDES[trace.result], any_pivot, step, before, later))
+
+
+def reasons(judged):
+    """Sentences on why the step follows or not."""
+    own = judged.step.number
+    return [*judged.finding.reasons, *(f"Step {n} " + ("is this step." if n == own else f"comes later, in line {line}.") for n, line in judged.later.items())]
+
+
+def lines_of(formula, side, judged):
+    """The step and what is found of it, as lines to print."""
+    step, before, later, finding = judged
+    names = " and ".join(map(str, step.antecedents))
+    from_what = {0: "without antecedents", 1: f"with the antecedent {names}"}.get(len(step.antecedents), f"with the antecedents {names}")
     literals = " ".join(map(str, step.literals)) or f"the empty {side.word}"
-    print(f"Step {number}, in line {step.line} of the trace, is a {side.word} {from_what}: {literals}")
-    print()
-    columns = [(f"step {number}", set(step.literals))]
-    columns += [(f"step {n}", set(before[n])) for n in dict.fromkeys(antecedents) if n in before]
+    yield from (f"Step {step.number}, in line {step.line} of the trace, is a {side.word} {from_what}: {literals}", "")
+    columns = [(f"step {step.number}", set(step.literals))]
+    columns += [(f"step {n}", set(before[n])) for n in dict.fromkeys(step.antecedents) if n in before]
     if finding.clause:
         columns.append((f"clause {finding.clause.number}", finding.clause.literals))
-        print(f"Clause {finding.clause.number} stands in line {finding.clause.line} of the formula.")
-        print()
-    print_table(formula, columns, finding.notes)
-    if finding.fault:
-        print(f"It does not follow: {finding.fault}. What must hold:")
-        print(f"  {CONDITIONS[finding.fault]}")
-        print("What is found:")
-    else:
-        print("It follows:")
-    for sentence in finding.reasons[:SENTENCES]:
-        print(f"  {sentence}")
-    if len(finding.reasons) > SENTENCES:
-        print(f"  And {len(finding.reasons) - SENTENCES} more.")
-    for name, line in later.items():
-        print(f"  Step {name} " + ("is this step." if name == number else f"comes later, in line {line}."))
-    return finding
+        yield from (f"Clause {finding.clause.number} stands in line {finding.clause.line} of the formula.", "")
+    yield from table(formula, columns, finding.notes)
+    yield from [f"It does not follow: {finding.fault}. What must hold:", f"  {CONDITIONS[finding.fault]}", "What is found:"] if finding.fault else ["It follows:"]
+    said = reasons(judged)
+    shown, rest = finding.reasons[:SENTENCES], finding.reasons[SENTENCES:]
+    yield from (f"  {sentence}" for sentence in shown)
+    if rest:
+        yield f"  And {len(rest)} more."
+    yield from (f"  {sentence}" for sentence in said[len(finding.reasons) :])

@@ -25,7 +25,7 @@ def trimmed_blocks(path):
 
 
 def trimmed_steps(path):
-    """The lists of the steps in file order, some at a time, as qrp_steps.lists_of gives them."""
+    """The lists of the steps in file order, some at a time, as steps.lists_of gives them."""
     return map(lists_of, trimmed_blocks(path))
 
 

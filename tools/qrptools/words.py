@@ -29,6 +29,11 @@ class Fault(Exception):
         self.at = words.at - 1 if words.at else None
         self.known = known
 
+    @property
+    def column(self):
+        """Where the word begins in its line, counted from 1; None for the end."""
+        return None if self.at is None else list(WORD.finditer(self.text))[self.at].start() + 1
+
 
 def value(word):
     """A number as such, and any other word as it is. A magnitude that is too big is one that is above GREATEST."""

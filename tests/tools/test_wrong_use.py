@@ -1,0 +1,328 @@
+"""Uses each tool in wrong ways. usage: tests/tools/test_wrong_use.py PROGRAM ..; tests/tools/test-tools calls it.
+
+Each of them has to end with the status that its --help says, with a line on the standard error, without a traceback, and with no file and
+no process left behind. TOOLS says of each tool how it is used; the rest is tried on all of them.
+"""
+
+import contextlib
+import os
+import resource
+import shutil
+import signal
+import socket
+import subprocess
+import sys
+import tempfile
+import time
+from collections import namedtuple
+from pathlib import Path
+from types import SimpleNamespace
+
+ROOT = Path(__file__).resolve().parents[2]
+sys.path[:0] = [str(ROOT / "tests")]
+sys.dont_write_bytecode = True
+from expect import expect, finish, skip  # noqa: E402
+
+FORMULA, TRACE = ROOT / "examples" / "two_clauses.qdimacs", ROOT / "examples" / "two_clauses.qrp"
+REFUSED = "p qrp 0 0\nr unsat\n"  # by C4
+
+# A tool: its words after the name, in which FORMULA, TRACE and LIST are files; how many files it takes; the statuses of a file that cannot
+# be read, of a refused proof, and of the formula in the place of the trace; and whether it runs the program, and keeps pipes.
+Tool = namedtuple("Tool", "name words unread refused mistaken runs keeps")
+TOOLS = [
+    Tool("explain", ["FORMULA", "TRACE"], 0, 0, 0, True, True),
+    Tool("explain", ["FORMULA", "TRACE", "1"], 2, 0, 1, False, True),
+    Tool("explain", ["--json", "FORMULA", "TRACE"], 0, 0, 0, True, True),
+    Tool("explain", ["--close", "FORMULA"], 2, None, None, False, True),
+    Tool("draw-proof", ["FORMULA", "TRACE"], 2, 1, 1, False, False),
+    Tool("used-clauses", ["FORMULA", "TRACE"], 2, 1, 1, True, True),
+    Tool("used-clauses", ["--lines", "FORMULA", "TRACE"], 2, 1, 1, True, True),
+    Tool("proof-stats", ["FORMULA", "TRACE"], 2, 1, 1, True, True),
+    Tool("proof-stats", ["--json", "FORMULA", "TRACE"], 2, 1, 1, True, True),
+    Tool("check-many", ["LIST"], 2, 1, 1, True, False),
+    Tool("check-many", ["--json", "LIST"], 2, 1, 1, True, False),
+]
+
+
+class Trial:
+    """One use of a tool in a folder of its own, where its temporary files are too."""
+
+    def __init__(self, tool, program, folder):
+        self.tool, self.program, self.folder = tool, program, Path(folder)
+        self.temporary = self.folder / "temporary"
+        self.temporary.mkdir()
+        self.environment = dict(os.environ, QRP_CMD=str(program), TMPDIR=str(self.temporary), PYTHONDONTWRITEBYTECODE="1")
+
+    def words(self, formula=FORMULA, trace=TRACE, rows=None):
+        """The command line, with these files."""
+        if "LIST" in self.tool.words and rows is None:
+            rows = self.folder / "list"
+            rows.write_text(f"name\t{formula}\t{trace}\n")
+        files = {"FORMULA": formula, "TRACE": trace, "LIST": rows}
+        return [sys.executable, str(ROOT / "tools" / self.tool.name), *(str(files.get(word, word)) for word in self.tool.words)]
+
+    def run(self, words, **options):
+        """What it ends with, without what a list left for the next use."""
+        options = {"stdout": subprocess.PIPE, "stderr": subprocess.PIPE, **options}
+        ended = subprocess.run(words, env=self.environment, check=False, text=True, timeout=60, **options)
+        for log in self.folder.glob("list*.log"):
+            log.unlink()
+        return ended
+
+    def in_shell(self, redirection):
+        """The right command line with a redirection of the shell."""
+        return self.run(["bash", "-c", f'"$@" {redirection}', "bash", *self.words()])
+
+    def expect(self, name, ended, status, said=()):
+        """Expects a status and words on the standard error, no traceback, and no temporary file."""
+        err = ended.stderr or ""
+        holds = ended.returncode == status and all(word in err for word in said) and "Traceback" not in err and "Exception" not in err
+        expect(f"{self.tool.name} {self.tool.words}: {name}", holds, (status, said, ended))
+        left = list(self.temporary.iterdir())
+        expect(f"{self.tool.name} {self.tool.words}: {name}: nothing is left", not left, left)
+
+
+def own(trial):
+    """How a message of the tool begins."""
+    return f"{trial.words()[1]}: "
+
+
+def try_arguments(trial):
+    words = trial.words()
+    for name, wrong in ("no argument", words[:2]), ("a wrong option", [*words, "--other"]), ("one file too many", [*words, "1", "2", "3"]):
+        ended = trial.run(wrong)
+        trial.expect(name, ended, 2, ["usage: ", own(trial) + "error: "])
+        expect(f"{trial.tool.name}: {name}: no output", not ended.stdout, ended)
+    ended = trial.run([*words[:2], "--help"])
+    trial.expect("--help", ended, 0)
+    said = ["usage: " + words[1], "Exit status: 0 if", "2 if", "the output cannot be written; 130, 143 after an interrupt and after SIGTERM"]
+    text = " ".join(ended.stdout.split())
+    expect(f"{trial.tool.name}: --help has the statuses", all(word in text for word in said) and not ended.stderr, ended)
+
+
+def unreadable(folder):
+    """Names of files that cannot be opened or read, also by root, with the reason."""
+    (folder / "loop").symlink_to(folder / "loop")
+    with socket.socket(socket.AF_UNIX) as bound:
+        bound.bind(str(folder / "socket"))
+    return [
+        ("a missing file", folder / "none", "No such file or directory"),
+        ("a folder", folder, "Is a directory"),
+        ("a link to itself", folder / "loop", "Too many levels of symbolic links"),
+        ("a name too long", folder / ("n" * 300), "File name too long"),
+        ("a file in a file", FORMULA / "x", "Not a directory"),
+        ("a socket", folder / "socket", "No such device or address"),
+    ]
+
+
+def try_files(trial):
+    tool = trial.tool
+    for name, path, reason in unreadable(trial.folder):
+        if "LIST" in tool.words:
+            trial.expect(f"{name} as list", trial.run(trial.words(rows=path)), 2, [f"{own(trial)}the list {path} cannot be read: {reason}\n"])
+            continue
+        for place in "formula", "trace":
+            if place.upper() not in tool.words:
+                continue
+            ended = trial.run(trial.words(**{place: path}))
+            status = 2 if name == "a socket" and tool.keeps else tool.unread
+            trial.expect(f"{name} as {place}", ended, status, [own(trial), f"{path} cannot be read: {reason}\n"] if status else [])
+            if not status:
+                expect(f"{tool.name}: {name} is explained", reason in ended.stdout, ended)
+    if "TRACE" not in tool.words and "LIST" not in tool.words:
+        return
+    refused = trial.folder / "refused"
+    refused.write_text(REFUSED)
+    if tool.refused != 0:
+        trial.expect("a refused proof", trial.run(trial.words(trace=refused)), tool.refused)
+    trial.expect("the formula as trace", trial.run(trial.words(trace=FORMULA)), tool.mistaken)
+    trial.expect("the files exchanged", trial.run(trial.words(TRACE, FORMULA)), tool.mistaken)
+
+
+def try_outputs(trial):
+    """An output that is closed, full, or read by nobody."""
+    cannot = own(trial) + "the standard output cannot be written: "
+    trial.expect("a closed output", trial.in_shell(">&-"), 2, [cannot + "it is closed\n"])
+    trial.expect("a full output", trial.in_shell(">/dev/full"), 2, [cannot + "No space left on device\n"])
+    trial.expect("a pipe that nobody reads", trial.in_shell('> >(exec <&-; sleep 0.1) ; status=$?; wait; exit $status'), 2, [cannot + "Broken pipe\n"])
+    trial.expect("a closed input", trial.in_shell("<&- >/dev/null"), 0)
+    ended = trial.in_shell("2>&- 2>&-")
+    trial.expect("a closed standard error", ended, 0)
+    ended = trial.run(["bash", "-c", '"$@" 2>&-', "bash", *trial.words(), "--other"])
+    trial.expect("a wrong option and a closed standard error", ended, 2)
+    expect(f"{trial.tool.name}: what is for the standard error stays out of the output", not ended.stdout, ended)
+    ended = trial.run(["bash", "-c", '"$@" --help >/dev/full', "bash", *trial.words()[:2]])
+    trial.expect("--help to a full output", ended, 2, [cannot + "No space left on device\n"])
+
+
+def sleeper(folder):
+    """A program that does not end by itself, and says in a file which process it is."""
+    path = folder / "sleeper"
+    path.write_text(f"#!/bin/sh\necho $$ >{folder}/pid.new\nmv {folder}/pid.new {folder}/pid\nexec sleep 100\n")
+    path.chmod(0o755)
+    return path
+
+
+def runs(pid):
+    """Whether a process runs; one that has ended and was not waited for does not."""
+    try:
+        return Path(f"/proc/{pid}/stat").read_text().rpartition(")")[2].split()[0] != "Z"
+    except OSError:
+        return False
+
+
+def wait_for(condition):
+    """Whether this holds within some seconds."""
+    for _ in range(400):
+        if condition():
+            return True
+        time.sleep(0.02)
+    return False
+
+
+def try_signals(trial):
+    """A signal in the middle: while the program runs, or while a pipe is read into which nobody writes."""
+    if trial.tool.runs:
+        trial.environment["QRP_CMD"] = str(sleeper(trial.folder))
+        try_signals_on(trial, "the program runs", trial.words(), (trial.folder / "pid").exists)
+        trial.environment["QRP_CMD"] = str(trial.program)
+    pipe = trial.folder / "pipe"
+    os.mkfifo(pipe)
+    words = trial.words(rows=pipe) if "LIST" in trial.tool.words else trial.words(formula=pipe)
+    with open_ends() as ends:
+        try_signals_on(trial, "a pipe is read", words, lambda: ends.open(pipe))
+    try_early(trial)
+
+
+@contextlib.contextmanager
+def open_ends():
+    """Opens the ends of pipes to write, which can be done as soon as another process reads."""
+    ends = []
+
+    def attempt(path):
+        try:
+            ends.append(os.open(path, os.O_WRONLY | os.O_NONBLOCK))
+            return True
+        except OSError:
+            return False
+
+    try:
+        yield SimpleNamespace(open=attempt)
+    finally:
+        for end in ends:
+            os.close(end)
+
+
+def try_early(trial):
+    """A signal while the tool still imports its modules, of which one is made slow."""
+    slow = trial.folder / "slow"
+    slow.mkdir()
+    (slow / "argparse.py").write_text(f"import pathlib, time\npathlib.Path({str(slow / 'begun')!r}).touch()\ntime.sleep(100)\n")
+    trial.environment["PYTHONPATH"] = str(slow)
+    for number in signal.SIGTERM, signal.SIGINT:
+        with subprocess.Popen(trial.words(), env=trial.environment, stdout=subprocess.PIPE, stderr=subprocess.PIPE, text=True) as process:
+            ready = wait_for((slow / "begun").exists)
+            process.send_signal(number)
+            out, err = process.communicate(timeout=60)
+        (slow / "begun").unlink()
+        expect(f"{trial.tool.name}: {number.name} at once", ready and process.returncode == -number and not out + err, (process.returncode, out, err))
+    del trial.environment["PYTHONPATH"]
+
+
+def try_signals_on(trial, name, words, begun):
+    pid = trial.folder / "pid"
+    for number in signal.SIGTERM, signal.SIGINT, signal.SIGHUP:
+        pid.unlink(missing_ok=True)
+        with subprocess.Popen(words, env=trial.environment, stdout=subprocess.PIPE, stderr=subprocess.PIPE, text=True) as process:
+            ready = wait_for(begun)
+            process.send_signal(number)
+            out, err = process.communicate(timeout=60)
+        for log in trial.folder.glob("list*.log"):
+            log.unlink()
+        ended = subprocess.CompletedProcess(words, process.returncode, out, err)
+        said = own(trial) + "interrupted; --resume goes on\n" if "LIST" in trial.tool.words and pid.exists() else ""
+        title = f"{number.name} while {name}"
+        trial.expect(title, ended, 128 + number)
+        expect(f"{trial.tool.name} {trial.tool.words}: {title}: no word but that", ready and not out and err == said, ended)
+        if pid.exists():
+            left = int(pid.read_text())
+            expect(f"{trial.tool.name} {trial.tool.words}: {title}: no process is left", wait_for(lambda: not runs(left)), left)
+
+
+def try_program(trial):
+    """A program that is not there, is none, is killed, has no memory, or says what no program says."""
+    for name, text, status, said in (
+        ("no program", None, 2, "cannot be run: "),
+        ("a program that is none", "", 2, "cannot be run: "),
+        ("a program that is killed", "#!/bin/sh\nkill -KILL $$\n", 2, "signal 9 (SIGKILL) ended qrp_cmd"),
+        ("a program without memory", "#!/bin/sh\necho 'NO MEMORY' >&2\nexit 4\n", 2, "NO MEMORY: "),
+        ("a program that says something else", "#!/bin/sh\necho 'hello' >&2\nexit 7\n", 2, "hello"),
+    ):
+        other = trial.folder / "other"
+        other.unlink(missing_ok=True)
+        if text is not None:
+            other.write_text(text)
+            other.chmod(0o755 if text else 0o644)
+        trial.environment["QRP_CMD"] = str(other)
+        if trial.tool.name == "explain" and text:  # which explains it
+            status, said = (1, "unknown line") if "hello" in text else (0, "")
+        if trial.tool.name == "check-many" and text:  # which makes a row of it
+            status, said = 1, ""
+        trial.expect(name, trial.run(trial.words()), status, [said])
+    trial.environment["QRP_CMD"] = str(trial.program)
+
+
+def try_memory(trial):
+    """Memory that is refused to the tool itself, or to the program that it runs."""
+    large = trial.folder / "large"
+    with open(large, "wb") as file:
+        file.truncate(2000000000)
+    limit = 400000000
+    words = trial.words(rows=large) if "LIST" in trial.tool.words else trial.words(formula=large)
+    ended = trial.run(words, preexec_fn=lambda: resource.setrlimit(resource.RLIMIT_AS, (limit, limit)))
+    explained = trial.tool.name == "explain" and trial.tool.runs
+    trial.expect("no memory", ended, 0 if explained else 2, [] if explained else [own(trial), "emory was refused" if trial.tool.name in ("explain", "draw-proof", "check-many") else "NO MEMORY"])
+
+
+def try_full_folder(trial):
+    """A folder for temporary files that is full. It needs a file system of its own, which a user may make in a name space of its own."""
+    trace = trial.folder / "large"
+    trace.write_text("p qrp 0 0\n1 1 2 0 0\n2 1 0 1 0\n3 -1 0 0\n" + "".join(f"{n} -1 0 {n - 1} 0\n" for n in range(4, 3000)) + "3000 0 2 2999 0\nr unsat\n")
+    mount = 'mount -t tmpfs -o size=16k none "$TMPDIR" && exec "$@"'
+    make = ["unshare", "--user", "--map-root-user", "--mount", "bash", "-c", mount, "bash"]
+    if not shutil.which("unshare") or subprocess.run([*make, "true"], env=trial.environment, check=False, capture_output=True).returncode:
+        skip(f"{trial.tool.name}: a full TMPDIR", "no file system can be mounted here")
+        return
+    full = f"cannot be written to TMPDIR={trial.temporary}: No space left on device ("
+    ended = trial.run([*make, *trial.words(trace=trace)])
+    if trial.tool.name == "explain":
+        trial.expect("a full TMPDIR that is not needed", ended, 0)
+    else:
+        trial.expect("a full TMPDIR", ended, 2, [f"{own(trial)}the trimmed trace {full}it needs up to the size of the trace)\n"])
+    piped = [*make, "bash", "-c", f'cat "{trace}" | "$@"', "bash", *trial.words(trace="/dev/stdin")]
+    trial.expect("a pipe and a full TMPDIR", trial.run(piped), 2, [f"{own(trial)}a copy of /dev/stdin {full}it needs the size of the file)\n"])
+
+
+def main():
+    program = os.path.abspath(sys.argv[1])
+    # A run in the background ignores interrupts, and so would all that it starts: these are tested here.
+    signal.signal(signal.SIGINT, signal.default_int_handler)
+    seen = set()
+    for tool in TOOLS:
+        if tool.name == "check-many" and not shutil.which("parallel"):
+            skip(tool.name, "there is no parallel on this machine")
+            continue
+        trials = [try_files, try_outputs]
+        if tool.name not in seen:
+            trials += [try_arguments, try_signals, try_memory]
+            trials += [try_program] if tool.runs else []
+            trials += [try_full_folder] if tool.runs and "LIST" not in tool.words else []
+        seen.add(tool.name)
+        for trial in trials:
+            with tempfile.TemporaryDirectory() as folder:
+                trial(Trial(tool, program, folder))
+    return finish()
+
+
+if __name__ == "__main__":
+    sys.exit(main())
