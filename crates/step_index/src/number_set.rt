@@ -1,6 +1,7 @@
 //! A set of numbers, with a bit for each.
 
-ghost use Rattle.std.specs.Prelude.{◌≡◌, ◌↔◌, ◌⊎◌, ◌+◌, ◌/◌, ◌<◌, ◌^◌, ℕ, IsTrue, OnOk, OnErr, length};
+ghost use Rattle.std.specs.Prelude.{◌≡◌, ◌↔◌, ◌⊎◌, ◌+◌, ◌/◌, ◌<◌, ◌^◌, ℕ};
+ghost use Rattle.std.specs.Prelude.{IsTrue, OnOk, OnErr, length};
 ghost use Rattle.step_index.specs.NumberSets.{HasBit};
 
 use crate::reach::reach;

@@ -1,7 +1,9 @@
 //! Numbers in the order in which they come, found by value.
 
-ghost use Rattle.std.specs.Prelude.{◌≡◌, ◌≢◌, ℕ, ◌+◌, ◌-◌, ◌*◌, ◌^◌, ◌<◌, ◌≤◌, List, [], ◌∷◌, ◌++◌, suc, length};
-ghost use Rattle.std.specs.Prelude.{get_or, slice_get, max, Some, IfSome, IfNone, IsTrue, IfOk, OnOk, OnErr, false};
+ghost use Rattle.std.specs.Prelude.{◌≡◌, ◌≢◌, ℕ, ◌+◌, ◌-◌, ◌*◌, ◌^◌, ◌<◌, ◌≤◌};
+ghost use Rattle.std.specs.Prelude.{List, [], ◌∷◌, ◌++◌, suc, length};
+ghost use Rattle.std.specs.Prelude.{get_or, slice_get, max, Some, IfSome, IfNone, IsTrue, false};
+ghost use Rattle.std.specs.Prelude.{IfOk, OnOk, OnErr};
 ghost use Rattle.step_index.specs.Numbers.{is_used};
 ghost use Rattle.step_index.specs.Sparse.{ArePlaced, ArePlaces, AreNoted};
 
