@@ -208,7 +208,7 @@ class Memory:
         return "below no failed allocation"
 
     def why_on_arm(self, code, n):
-        text = re.sub(r" =>.*", "", code.lines[n].strip())
+        text = re.sub(r"\s*=>.*", "", code.lines[n].strip())
         m = n
         while re.match(r"[|] ", code.lines[m].strip()):
             m -= 1

@@ -3,7 +3,7 @@
 A request that cannot be met is a way to return out of memory, and no clause speaks of it. So each request is written down with the expression
 of its size: the names in it with their `let`, assignments, patterns and constants, and where a name is a number that the function is passed, the
 same of each call of that function. Of a request in a loop, and of a call in a loop that fails only out of memory, the head of the loop is
-written down.
+written down; and of a file that asks for memory its constant numbers.
 """
 
 import re
@@ -55,6 +55,9 @@ class Requests:
             for found in REQUEST.finditer(body):
                 self.ask(path, it, body, found)
             self.ask_in_loops(path, it, body, growing)
+        asking = {path for path, _, _ in self.found}
+        for of in self.constants.values():
+            self.found += [(path, "-", text) for path, text in of.items() if path in asking and is_number(text)]
         return sorted(self.found)
 
     def ask(self, path, it, body, found):
@@ -128,6 +131,10 @@ def values(before, name):
         yield words(before[found.start() : find_outside(before, found.end(), len(before), "{;")])
     for found in re.finditer(rf"(?<=[{{,}}])(?P<pattern>[^,{{}};]*\b{name}\b[^,{{}};]*)=>", before):
         yield words(f"{head_around(before, found.start())} {{ {found['pattern'].strip()} }}")
+
+
+def is_number(constant):
+    return NUMBER.fullmatch(re.sub(r"^[^:]*:\s*|\s*=.*$", "", constant)) is not None
 
 
 def head_around(body, place):

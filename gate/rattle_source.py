@@ -1,6 +1,7 @@
 """Reads sources of Rattle as the compiler reads them: comments and texts first, then items, then each function with its contract and body.
 
-Everything here goes by places in the text as it stands. `blanked` has blanks in place of comments and texts, so that the places stay.
+Everything here goes by places in the text as it stands. `blanked` has blanks in place of comments, and of what stands in the two quotes that
+are left of a text, so that the places stay.
 """
 
 import re
@@ -8,11 +9,11 @@ from bisect import bisect_left
 from dataclasses import dataclass, field
 from pathlib import Path
 
-# What a comment or a text begins with, in the order in which the compiler tries them.
-BEGINNINGS = re.compile(
-    r"""(?P<line>//)|(?P<block>/\*)|(?P<raw>\b[bc]?r(?P<hashes>\#*)")|(?P<string>(?:\b[bc])?")|(?P<letter>(?:\bb)?'(?:\\(?:u\{[^}']*\}|x[^']{2}|.)|[^'\\\n])')""",
-    re.S,
-)
+# What a comment or a text begins with, and the letters that may stand before the quote of a text.
+BEGINNINGS = re.compile(r"""//|/\*|["']""")
+PREFIX = re.compile(r"(?<!\w)(?:[bc]?(?P<raw>r)(?P<hashes>#*)|[bc])$")
+LETTER = re.compile(r"'(?:\\(?:u\{[^}']*\}|x[^']{2}|.)|[^'\\\n])'", re.S)
+STRING = re.compile(r'"(?:[^"\\]|\\.)*"?', re.S)
 OPENING = "([{"
 
 
@@ -23,21 +24,33 @@ def marks(text):
     """Where each comment and each text stands: (is it a comment, place, place after it)."""
     at = 0
     while found := BEGINNINGS.search(text, at):
-        at = end_of_mark(text, found)
-        yield bool(found["line"] or found["block"]), found.start(), at
+        start, at = found.start(), end_of_mark(text, found)
+        if found[0] in ("//", "/*"):
+            yield True, start, at
+        elif at > start + 1:
+            before = prefix(text, start)
+            yield False, start - (len(before[0]) if before else 0), at
+
+
+def prefix(text, place):
+    """The letters of a text that stand before its quote, or None."""
+    return PREFIX.search(text[max(0, place - 20) : place])
 
 
 def end_of_mark(text, found):
-    if found["line"]:
-        return end_at(text, "\n", found.end(), 0)
-    if found["block"]:
-        return end_of_block_comment(text, found.start())
-    if found["raw"]:
-        return end_at(text, '"' + found["hashes"], found.end(), 1 + len(found["hashes"]))
-    if found["string"]:
-        inside = re.compile(r'(?:[^"\\]|\\.)*"?', re.S).match(text, found.end())
-        return inside.end()
-    return found.end()
+    """The place after a comment or a text that begins at a place; after the quote of a lifetime, which is neither."""
+    place = found.start()
+    if found[0] == "//":
+        return end_at(text, "\n", place, 0)
+    if found[0] == "/*":
+        return end_of_block_comment(text, place)
+    if found[0] == "'":
+        letter = LETTER.match(text, place)
+        return letter.end() if letter else place + 1
+    before = prefix(text, place)
+    if before and before["raw"]:
+        return end_at(text, '"' + before["hashes"], place + 1, 1 + len(before["hashes"]))
+    return STRING.match(text, place).end()
 
 
 def end_at(text, word, start, length):
@@ -64,8 +77,17 @@ def with_blanks(text, places):
 
 
 def blanked(text):
-    """The text with blanks in place of comments and of texts."""
-    return with_blanks(text, [(start, end) for _, start, end in marks(text)])
+    """The text with blanks in place of comments and within texts."""
+    return with_blanks(quoted(text), [(start, end) if is_comment else (start + 1, end - 1) for is_comment, start, end in marks(text)])
+
+
+def quoted(text):
+    """The text with a quote as the first and the last letter of each text."""
+    letters = list(text)
+    for is_comment, start, end in marks(text):
+        if not is_comment:
+            letters[start] = letters[end - 1] = '"'
+    return "".join(letters)
 
 
 def without_comments(text):
@@ -162,7 +184,7 @@ class Function(Item):
 
 WORDS = re.compile(r"(?:pub(?:\s*\([^)]*\))?\s+|unsafe\s+|default\s+)*")
 HEAD = re.compile(
-    r"(?P<fn>(?:(?:const|async|extern)\s+)*fn)\b\s*(?P<name>\w+)|(?P<kind>impl|trait|struct|enum|union|const|static|type|use|mod|ghost\s+use|ghost"
+    r'(?P<fn>(?:(?:const|async|extern(?:\s*"[^"]*")?)\s+)*fn)\b\s*(?P<name>\w+)|(?P<kind>impl|trait|struct|enum|union|const|static|type|use|mod|ghost\s+use|ghost'
     r"|extern|macro_rules)\b!?\s*(?P<other>\w*)"
 )
 # In a signature: a bracket, or what comes after it.
