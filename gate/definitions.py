@@ -17,6 +17,10 @@ def without_comments(text):
     return re.sub(r"(?m)(^|\s)--.*$", r"\1", text)
 
 
+def words_in(text):
+    return NAME.findall(text)
+
+
 def parts_of(name):
     """The words of a name with places for its arguments, such as ◌∈◌."""
     return [it for it in name.split("◌") if it]
@@ -85,6 +89,17 @@ class Definitions:
                 if found := self.find(of, name):
                     names[called or name] = found
         return names, modules
+
+    def brought_by(self, lines):
+        """The definitions that `ghost use` lines of a source bring, by the words that name them there."""
+        found = {}
+        for line in lines:
+            use = USE.match(line.removeprefix("ghost ").rstrip(";").strip())
+            for one in use[3].split(",") if use and use[3] else ():
+                name, _, called = one.strip().partition(" as ")
+                if it := self.find(use[2], name):
+                    found.update({word: it for word in parts_of(called or name)})
+        return found
 
     def used_by(self, module, name):
         """The definitions that one is made of."""
