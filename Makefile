@@ -43,7 +43,7 @@ $(PROGRAM): $(SOURCES)
 lib: $(LIBRARY)
 
 $(LIBRARY): $(SOURCES) packaging/build-library
-	@echo 'proves and builds the library: a minute more than the program, from nothing'
+	@echo 'proves and builds the library: some minutes of processor time more than the program, from nothing'
 	RT=$(RT) packaging/build-library lib
 
 demo: all
