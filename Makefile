@@ -3,7 +3,7 @@
 # make lib      proves and builds the library for C: lib/libqrp.a and lib/libqrp.so
 # make check    tests what is built
 # make test     proves what has changed, builds it, and runs all tests
-# make gate     the whole: every proof from nothing, the wrong bodies, all tests
+# make gate     the whole: every proof from nothing, the mutants, all tests
 # make bench    measures time and memory
 # make static   links the program once more, with the C library inside: bin/qrp_cmd.static
 # make wheel    packs the Python module with the library inside, below dist/, for pip; and its source distribution
@@ -37,12 +37,12 @@ LIBDIR ?= $(PREFIX)/lib
 MANDIR ?= $(PREFIX)/share/man
 
 .PHONY: all lib static demo check test proved-before gate bench dist wheel deb image install uninstall help clean
-.PHONY: test-refusals test-program test-tools test-examples test-library test-dist test-install test-many test-proofs test-checks
+.PHONY: test-refusals test-program test-tools test-examples test-library test-dist test-install test-many test-proofs test-checks test-pages
 
 all: $(PROGRAM)
 
 $(PROGRAM): $(SOURCES)
-	@echo 'proves and builds the program: some fifteen minutes on four processors, from nothing'
+	@echo 'proves and builds the program: 7 to 17 minutes on four processors from nothing, 4 GB of memory, and 2.8 GB of disk for what is kept'
 	RT=$(RT) gate/prove qrp_cmd
 	mkdir -p bin
 	cp crates/qrp_cmd/out/qrp_cmd $(PROGRAM)
@@ -65,7 +65,7 @@ demo: all
 
 # Every crate and its tests are proved, and all programs are built.
 $(PROVED): $(SOURCES)
-	@echo 'proves the crates and their tests: from nothing this takes longer than the fifteen minutes of the program'
+	@echo 'proves the crates and their tests: some minutes more than the program alone, from nothing'
 	RT=$(RT) gate/prove --tests
 	$(MAKE) --no-print-directory proved-before
 
@@ -81,6 +81,7 @@ test: $(PROVED)
 	gate/check-promises
 	gate/check-memory-faults
 	gate/check-adapters
+	gate/describe-crates --check
 	$(MAKE) --no-print-directory check
 
 # What is built is tested, side by side: some two minutes. The static program is only linked. `make all lib` is enough to run this; what
@@ -88,7 +89,7 @@ test: $(PROVED)
 check:
 	@for built in $(PROGRAM) $(LIBRARY); do [ -e $$built ] || { echo "make check: there is no $$built: run 'make all lib' first"; exit 2; }; done
 	@[ -e $(STATIC) ] || RT=$(RT) packaging/build-static $(STATIC) || true
-	$(MAKE) --jobs --output-sync=target test-refusals test-program test-tools test-examples test-library test-dist test-install test-many test-proofs test-checks
+	$(MAKE) --jobs --output-sync=target test-refusals test-program test-tools test-examples test-library test-dist test-install test-many test-proofs test-checks test-pages
 	@for built in $(ECHO) $(LIBRARY_TESTS) $(STATIC); do [ -e $$built ] || echo "make check: there is no $$built, so what needs it was left out; 'make test' builds it"; done
 
 test-refusals:
@@ -114,6 +115,9 @@ test-proofs:
 
 test-checks:
 	tests/gate/test-checks
+
+test-pages:
+	tests/gate/test-pages
 
 gate:
 	RT=$(RT) gate/run

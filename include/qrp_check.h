@@ -62,14 +62,15 @@ enum qrp_status {
     QRP_NO_MEMORY = 4      /* out of memory: nothing is known */
 };
 
-/* What was found. It needs no value before a call, which writes each field. A struct of zeros tells no verdict: its letter is not 'V'. */
+/* What was found. It needs no value before a call, which writes each field. A struct of zeros is not a verdict: its letter is not 'V'. */
 struct qrp_verdict {
-    uint64_t place; /* for C6 the number of the step, for C1, C2 and C3 the variable, for F and P the line; else 0 */
-    uint8_t status; /* one of enum qrp_status */
-    uint8_t truth;  /* 1 if the formula was verified to be true, else 0 */
-    uint8_t letter; /* 'V' if it was verified, or of the fault: 'F' of the formula's text, 'P' of the trace's, 'C' of the check */
-    uint8_t number; /* of the fault, for example 4 for C4; 0 if it was verified */
-    uint8_t rule;   /* for C6 the number of the step's fault, for example 7 for S7; else 0 */
+    uint64_t position;   /* for C6 the number of the step, for C1, C2 and C3 the variable, for F and P the line; else 0 */
+    uint8_t status;      /* one of enum qrp_status */
+    uint8_t truth;       /* 1 if the formula was verified to be true, else 0 */
+    uint8_t letter;      /* 'V' if it was verified, or of the fault: 'F' of the formula's text, 'P' of the trace's, 'C' of the check */
+    uint8_t number;      /* of the fault, for example 4 for C4; 0 if it was verified */
+    uint8_t rule;        /* for C6 the number of the step's fault, for example 7 for S7; else 0 */
+    uint8_t reserved[3]; /* 0 */
 };
 
 /* A buffer of this size has room for every line, with its zero. */
@@ -108,7 +109,7 @@ size_t qrp_fault_text(const struct qrp_verdict *verdict, char *buffer, size_t ro
 size_t qrp_trim(const void *formula, size_t formula_length, const void *trace, size_t trace_length, bool any_pivot, char *buffer,
                 size_t room, struct qrp_verdict *out) QRP_NONNULL;
 
-/* Writes the formula in canonical form, as `qrp_cmd format` prints it, and zeros to *out, which tell no verdict, since nothing was
+/* Writes the formula in canonical form, as `qrp_cmd format` prints it, and zeros to *out, which are not a verdict, since nothing was
  * checked. If the formula is refused or there is no memory, *out has the fault, and the text is empty, and its length 0. A room of
  * formula_length + 32 has been enough for every formula that was tried. */
 size_t qrp_format(const void *formula, size_t formula_length, char *buffer, size_t room, struct qrp_verdict *out) QRP_NONNULL;

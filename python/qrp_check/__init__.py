@@ -41,19 +41,21 @@ Path = typing.Union[str, "os.PathLike[str]"]
 class _Verdict(ctypes.Structure):
     """`struct qrp_verdict` of qrp_check.h."""
 
-    place: int
+    position: int
     status: int
     truth: int
     letter: int
     number: int
     rule: int
+    reserved: bytes
     _fields_ = [
-        ("place", ctypes.c_uint64),
+        ("position", ctypes.c_uint64),
         ("status", ctypes.c_uint8),
         ("truth", ctypes.c_uint8),
         ("letter", ctypes.c_uint8),
         ("number", ctypes.c_uint8),
         ("rule", ctypes.c_uint8),
+        ("reserved", ctypes.c_uint8 * 3),
     ]
 
 
@@ -67,7 +69,7 @@ class Verdict:
     """The truth of the formula if it was verified, else None."""
     fault: typing.Optional[str]
     """The name of the fault, for example 'F6', 'P7', 'C4' or 'S10', else None."""
-    place: typing.Optional[int]
+    position: typing.Optional[int]
     """The line of a fault in a text, the variable of C1 to C3, or the number of the step of S1 to S12, else None."""
     meaning: typing.Optional[str] = dataclasses.field(repr=False)
     """What the fault means, in one sentence, else None."""
@@ -191,8 +193,8 @@ def _verdict(found: _Verdict) -> Verdict:
     fault = chr(found.letter) + str(found.number)
     if fault == "C6":
         fault = f"S{found.rule}"
-    place = None if fault == "C4" else found.place
-    return Verdict(found.status, None, fault, place, _written(_library.qrp_fault_text, found, _FAULT_ROOM), line)
+    position = None if fault == "C4" else found.position
+    return Verdict(found.status, None, fault, position, _written(_library.qrp_fault_text, found, _FAULT_ROOM), line)
 
 
 def verify(formula: Text, trace: Text, any_pivot: bool = False) -> Verdict:

@@ -65,13 +65,13 @@ void __wrap_free(void *old) {
 
 /* The line that the fields say, by the table of the manual page. */
 static void line_of(const struct qrp_verdict *v, char *line) {
-    unsigned long long place = v->place;
+    unsigned long long position = v->position;
     if (v->status == QRP_VERIFIED) sprintf(line, "VERIFIED %s\n", v->truth ? "true" : "false");
     else if (v->status == QRP_NO_MEMORY) sprintf(line, "NO MEMORY\n");
-    else if (v->letter == 'C' && v->number == 6) sprintf(line, "REFUSED step %llu S%d\n", place, v->rule);
+    else if (v->letter == 'C' && v->number == 6) sprintf(line, "REFUSED step %llu S%d\n", position, v->rule);
     else if (v->letter == 'C' && v->number == 4) sprintf(line, "REFUSED trace C4\n");
-    else if (v->letter == 'C') sprintf(line, "REFUSED set C%d variable %llu\n", v->number, place);
-    else sprintf(line, "REFUSED %s %c%d line %llu\n", v->letter == 'F' ? "formula" : "trace", v->letter, v->number, place);
+    else if (v->letter == 'C') sprintf(line, "REFUSED set C%d variable %llu\n", v->number, position);
+    else sprintf(line, "REFUSED %s %c%d line %llu\n", v->letter == 'F' ? "formula" : "trace", v->letter, v->number, position);
 }
 
 /* Makes a call with these texts, and returns the status in the struct. */
@@ -98,7 +98,8 @@ static bool is_answer(int status, const struct qrp_verdict *v, int wanted, const
     line_of(v, fields);
     return status == wanted && v->status == wanted && length == strlen(line) && !strcmp(own, line) && !strcmp(fields, line)
         && long_meaning == strlen(meaning) && (status == 0 ? long_meaning == 0 : meaning[long_meaning - 1] == '.')
-        && (v->status == 0 ? v->truth <= 1 && !v->place && v->letter == 'V' && !v->number && !v->rule : v->truth == 0);
+        && (v->status == 0 ? v->truth <= 1 && !v->position && v->letter == 'V' && !v->number && !v->rule : v->truth == 0)
+        && !v->reserved[0] && !v->reserved[1] && !v->reserved[2];
 }
 
 /* Whether a text that a call wrote is this one, with a zero after it. */
@@ -106,11 +107,11 @@ static bool is_text(const struct written *w, const struct text *wanted) {
     return w->returned == wanted->length && !memcmp(w->text, wanted->bytes, wanted->length) && !w->text[wanted->length];
 }
 
-/* Whether a call did what the case says. Where a formula was formatted, all is zero, which tells no verdict. */
+/* Whether a call did what the case says. Where a formula was formatted, all is zero, which is not a verdict. */
 static bool is_done(enum call call, int status, const struct example *of, const struct qrp_verdict *v, const struct written *w) {
     char line[QRP_LINE_ROOM];
     if (call == FORMAT && of->formatted.length)
-        return !status && !v->place && !v->truth && !v->letter && !v->number && !v->rule && is_text(w, &of->formatted)
+        return !status && !v->reserved[0] && !v->reserved[1] && !v->reserved[2] && !v->position && !v->truth && !v->letter && !v->number && !v->rule && is_text(w, &of->formatted)
             && qrp_verdict_line(v, line, sizeof line) == 0 && !*line;
     if (call == FORMAT && of->status != QRP_TEXT_REFUSED) return false;
     if (!is_answer(status, v, of->status, of->line)) return false;
@@ -274,7 +275,7 @@ static void other_structs(void) {
     char line[QRP_LINE_ROOM];
     memset(&changed, 0, sizeof changed);
     for (size_t i = 0; i < count; i++)
-        for (int field = 0; field < 5; field++) {
+        for (int field = 0; field < 6; field++) {
             memset(line, 'x', sizeof line);
             if (i || field) {
                 verify(&examples[i], examples[i].formula.bytes, examples[i].trace.bytes, &v);
@@ -284,6 +285,7 @@ static void other_structs(void) {
                 if (field == 2) changed.letter ^= 64;
                 if (field == 3) changed.number += 100;
                 if (field == 4) changed.rule += 100;
+                if (field == 5) changed.reserved[2] = 1;
             }
             is &= qrp_verdict_line(&changed, line, sizeof line) == 0 && !*line && qrp_fault_text(&changed, line, sizeof line) == 0;
             for (size_t k = 1; k < sizeof line; k++) is &= line[k] == 'x';

@@ -49,9 +49,9 @@ def is_verdict(verdict, example):
     words = example.line.split()
     fault = None if example.status == 0 else words[-1] if words[1] == "step" else words[2]
     number = [int(word) for word in words if word.isdigit()]
-    place = number[0] if number else None
-    found = (verdict.status, verdict.truth, verdict.fault, verdict.place, str(verdict), verdict.verified)
-    return found == (example.status, truth, fault, place, example.line, truth is not None) and (verdict.meaning is None) == verdict.verified
+    position = number[0] if number else None
+    found = (verdict.status, verdict.truth, verdict.fault, verdict.position, str(verdict), verdict.verified)
+    return found == (example.status, truth, fault, position, example.line, truth is not None) and (verdict.meaning is None) == verdict.verified
 
 
 def text_or_verdict(call, *words):

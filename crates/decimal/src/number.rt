@@ -20,7 +20,7 @@ fn fits(value: u64, digit: u64) -> bool
     value < 1844674407370955161 || (value == 1844674407370955161 && digit <= 5)
 }
 
-/// The same as `digits`, by a loop.
+/// Finds the digits as `digits` does, byte by byte: for any length, and at the end of the bytes.
 #[cold]
 #[inline(never)]
 fn by_digit(bytes: &[u8], from: usize) -> (u64, usize)
@@ -41,7 +41,7 @@ fn by_digit(bytes: &[u8], from: usize) -> (u64, usize)
     (value, from + i)
 }
 
-/// The same as `digits` where they stand among the first eight bytes with a byte after them there.
+/// Finds the digits as `digits` does if they end within the first eight bytes, else `None`.
 #[inline(always)]
 fn by_word(bytes: &[u8], from: usize) -> Option<(u64, usize)>
     ensures { IfSome result (λ r. AreDigits bytes.now from r.1 r.0) }
@@ -65,8 +65,7 @@ fn by_word(bytes: &[u8], from: usize) -> Option<(u64, usize)>
 /// What makes a zero digit of a minus in the lowest byte of a word.
 const MINUS_TO_ZERO: u64 = 3;
 
-/// The first eight bytes as one word, from the first of them on or with a zero digit in place of a
-/// minus there.
+/// The first eight bytes as a word, a leading minus replaced by the digit 0.
 #[inline(always)]
 fn without_sign(bytes: &[u8], from: usize) -> Option<u64>
     ensures { IfSome result (IsWithZeros bytes.now from) }

@@ -1,5 +1,14 @@
-//! How texts of QDIMACS and of QRP spell literals, variables, quantifiers and sets: what a token
-//! says, and how these are written.
+//! The syntax that QDIMACS and QRP share: headers, literals, variables, quantifiers and sets.
+//!
+//! - Owns: the syntax that both formats share: headers, literals, variables, quantifiers, sets.
+//! - Offers: `header_move`, `HeaderForm`, `member`, `literal`, `quantifier`, `Faults`, `Put`,
+//!   `Bytes`, `Bare`, `HeaderLine`.
+//! - Proved: the meaning of a token, with the faults of either format; headers, literals and sets
+//!   go out whole, or a beginning of them.
+//! - Read first: `header_move`, `member`, `literal`; `Put`.
+//! - Tested only: by the tests of `qdimacs` and `qrp`.
+//! - Trusted: nothing.
+//! - On the map: headers, literals, sets: | the syntax of both formats.
 #![tactic(auto)]
 
 mod decode;

@@ -152,7 +152,7 @@ fn trim_on(alloc: Global, rules: Rules, formula: &Formula, whole: &Trace) -> Res
     }
 }
 
-/// The same of two texts.
+/// The trimmed trace of two texts.
 fn trim_text(alloc: Global, rules: Rules, texts: Texts<'_>) -> Result<Trace, Fail> {
     let formula = formula_of(alloc, texts.0)?;
     let whole = trace_of(alloc, texts.1)?;

@@ -6,8 +6,8 @@ ghost use Rattle.qbf_core.specs.Blocks.{IsVariable};
 
 use crate::literal::{Lit, Var};
 
-/// What keeps within a range. Of the items of a slice the prover does not know it before each is
-/// read.
+/// Values that keep within a range. A workaround: it tells the prover that each item of a slice is
+/// in range, which it does not know before the item is read. It does nothing when it runs.
 pub trait InRange: Copy {
     /// Its range.
     ghost range: { Self → Type 0 };

@@ -123,7 +123,7 @@ module _ {S : Type 0} {written : S → Option (List ℕ)} {failures : S → ℕ}
     part_then {more = more} p q = put_then more refl p q
 
   module _ {T U E F : Type 0} where
-    -- the same of what is left
+    -- if the rest of a text is sent and the device fails, a beginning of the whole text went out
     pub sent_fails : {a b c : S} {whole rest part : List ℕ} {e : E} {r : Result U F} (Q : F → Type 0) (more : List ℕ)
         → IsSent written failures a b whole rest → rest ≡ part ++ more → IsErrAnd r Q → IsPut {T = T} written failures b c part (Err e)
         → IsPut written failures a c whole r

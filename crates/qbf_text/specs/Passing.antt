@@ -125,7 +125,7 @@ pub record ReadsLast {P A F : Type 0} (row : P → Token → Row P A F) (first n
   pub less : length s.pending < length r.pending
   pub few : length s.pending ≤ 4096
 
--- the same of a scanner
+-- what a scanner read of the bytes at hand: it led from one state to another, or its last token ended the text with a result
 abbrev pub ReadsAtHand : {P A F : Type 0} → (P → Token → Row P A F) → (first next : P) → (r s : Reading) → Option (List ℕ) → Option A
     → Type 0
 ReadsAtHand row first next r s remaining None = LeadsOver row first next r s remaining

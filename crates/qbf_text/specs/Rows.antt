@@ -34,7 +34,7 @@ read_from row state (t ∷ ts) =
       | Fails fault ↦ Fault fault t.1
     ]
 
--- The same, where the tokens are known.
+-- What reading by rows gives of known tokens, from a state on; nothing is said of unknown ones.
 abbrev pub reads_from : {P A F : Type 0} → (P → Token → Row P A F) → P → Known → Option (Read P A F)
 reads_from row state None = None
 reads_from row state (Some ts) = Some (read_from row state ts)

@@ -29,8 +29,7 @@ IsAtMostASeparator [] = ⊤
 IsAtMostASeparator (b ∷ []) = is_separator b ≡ true
 IsAtMostASeparator (b ∷ c ∷ cs) = ⊥
 
--- Bytes were taken: whether the text goes on as it does or ends there, `there` says of the rest what `here` says of it and these. Where
--- these two say what tokens bytes have, the bytes taken have none.
+-- Skipping bytes yields no token: `here` of them and the rest is `there` of the rest, for the rest that follows and for an empty one.
 pub record Skips {R : Type 0} (here there : List ℕ → R) (old new : List ℕ) : Type 0 where
   pub skipped : List ℕ
   pub taken : old ≡ skipped ++ new
@@ -80,7 +79,7 @@ pub record FindsEnd (p : Place) (before : Option (List ℕ)) (q : Place) (after 
   pub left : IfSome (left_at q after) (λ left. left ≡ (End, q.line) ∷ [])
   pub at_end : IsAtEnd after
 
--- the same of a scanner
+-- `Takes` of a scanner's text: of the reading before and after, and of the bytes that remain in the source
 abbrev pub ScannerTakes : Reading → Option (List ℕ) → Reading → Option (List ℕ) → Lined → Type 0
 ScannerTakes r before s after token =
     IfKnown (TakesToken (tokens_next r) (tokens_next s) token) (ahead r.pending before) (ahead s.pending after)

@@ -44,7 +44,7 @@ Counts old new (Err error.Device) = old < 2 ^ 64 - 1 → old < new
 Counts old new (Err error.Memory) = new ≡ old
 Counts old new (Err (error.Text f line)) = new ≡ old
 
--- the same of known tokens
+-- of known tokens a call returns what reading them by rows gives; of a failed source or allocation nothing is said
 abbrev pub ReadsKnown : {P A F : Type 0} → Read P A F → P → Result A (ReadError F) → Type 0
 ReadsKnown whole next (Ok a) = (rest : List Lined) × (whole ≡ Whole a next rest)
 ReadsKnown whole next (Err error.Device) = ⊤

@@ -28,7 +28,7 @@ abbrev pub Unless : Bool → Type 0 → Type 0
 Unless true A = Unit {0}
 Unless false A = A
 
--- The same, where some faults are not of the text: the source failed, or an allocation failed.
+-- A result says what the tokens spell, or the fault that stands, or that something outside the text failed: the source or an allocation.
 abbrev pub IsReadAs : {A F : Type 0} → (F → Bool) → (List Token → A → Type 0) → (List Lined → F → ℕ → Type 0) → List Lined
     → Result A (F × ℕ) → Type 0
 IsReadAs outside Spelled Stands ts (Ok a) = Spelled (without_lines ts) a

@@ -56,7 +56,7 @@ fn zero(ends_line: bool) -> Found
     }
 }
 
-/// The same as `number_in_front`, with any number of digits up to 20 that has 64 bits.
+/// Finds the number at the front as `number_in_front` does, with up to 20 digits if it has 64 bits.
 #[inline(never)]
 fn signed_number(bytes: &[u8]) -> Option<Found>
     ensures { IfSome result (λ f. BeginsWithNumber bytes.now f.negative f.value f.len f.ends_line) }
@@ -216,7 +216,7 @@ impl Cursor {
         Some(self.pass(found, ends))
     }
 
-    /// The same for any number of at most 20 digits that has 64 bits.
+    /// The next number and the position after it, with up to 20 digits if it has 64 bits.
     #[inline(always)]
     pub fn any_number(self, bytes: &[u8]) -> Option<Passed>
         requires { self.at ≤ length bytes.now }

@@ -1,4 +1,15 @@
 //! Bytes in and out, and the tokens of QDIMACS and QRP texts.
+//!
+//! - Owns: bytes in and out, tokens, lines, numbers as they are written.
+//! - Offers: `Source`, `Sink`, `Scanner::next_token`, `Grammar`, `Cursor`, `read_by`, `read_text`,
+//!   `put_number`, `put_bytes`, `put_byte`, `put_spaced`, `put_signed`, `put_spaced_signed`.
+//! - Proved: a scanner with a fixed buffer gives exactly the tokens, however its input is cut;
+//!   numbers and bytes go out whole, or a beginning of them.
+//! - Read first: `Scanner::next_token`, `read_by`; `put_number`, `put_bytes`.
+//! - Tested only: the crate `formula_tests`: worked texts and long tokens in pieces of 1, 2, 3 and
+//!   4,096 bytes, sources and sinks that fail.
+//! - Trusted: `itoa`.
+//! - On the map: Source, Sink, Scanner | the tokens of bytes, however they are cut.
 #![tactic(auto)]
 
 mod buffered;

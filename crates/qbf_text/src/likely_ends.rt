@@ -55,7 +55,7 @@ impl LikelyEnds {
         }
     }
 
-    /// The same, where the first of the bytes is one that has so many before it.
+    /// These guesses after `count` bytes were dropped from the front.
     #[inline(always)]
     pub fn after(self, count: usize) -> LikelyEnds {
         LikelyEnds {

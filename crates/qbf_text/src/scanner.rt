@@ -58,7 +58,7 @@ fn read_as<R: Run, S: Source>(
     Ok(run.kind())
 }
 
-/// The same, for any first byte.
+/// Reads a run that begins with this byte, which may be any.
 fn read_run<S: Source>(first: u8, window: &mut Window, source: &mut S) -> Result<Token, SourceFault>
     ensures run { IfOk result (ReadsRun first (ahead window.old (S.remaining source.old))
         (ahead window.new (S.remaining source.new))) }

@@ -182,7 +182,7 @@ read_from state ts = result_of (rows.read_from row state ts)
 abbrev pub read : List Lined → ReadResult
 read ts = read_from AtP ts
 
--- The same of bytes.
+-- What reading these bytes gives: the formula, or the first fault.
 abbrev pub read_formula : List ℕ → ReadResult
 read_formula bytes = read (text.tokens Qdimacs bytes)
 

@@ -29,7 +29,7 @@ pub fn read_formula<S: Source>(alloc: Global, source: &mut S) -> Result<Formula,
     // The formula where the bytes spell one, else the fault that stands.
     ensures reads { IfSome (S.remaining source.old)
         (λ bytes. IsReadAs (tokens Qdimacs bytes) result) }
-    // The same by the function that reads.
+    // The result is that of the function `reads_bytes`.
     ensures exact { Gives result (reads_bytes (S.remaining source.old)) }
     // No byte remains after a formula.
     ensures rest { OnOk result (IsAtEnd (S.remaining source.new)) }

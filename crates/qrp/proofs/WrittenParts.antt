@@ -19,7 +19,7 @@ pub text_parts : (d : Derivation)
     → text d ≡ line_text (header d.header) ++ (flat_map set_text d.sets ++ (steps_text d.steps ++ line_text (result d.result)))
 text_parts d = grind (arith, common_steps, append-nil, flat_map-append, flat_map-map, append_assoc, set_line, step_line)
 
--- the same of the text with the steps at some positions alone
+-- the text of a trace with the steps at some positions alone, in parts
 pub text_parts_at : (d : Derivation) (positions : List ℕ) (h : Header) → AllByRecursion (λ i. i < length d.steps) positions → h ≡ d.header
     → text (with_steps_at d positions) ≡ line_text (header (record { vars = h.vars; steps = length positions }))
     ++ (flat_map set_text d.sets ++ (steps_text (steps_at d.steps positions) ++ line_text (result d.result)))

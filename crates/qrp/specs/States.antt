@@ -82,7 +82,7 @@ IsSound at.Result b = ⊤
 IsSound (at.ItemComplete p) b = IsComplete p b
 IsSound (at.Whole o) b = ⊤
 
--- at the state that a token leads to, where whole lists stay; where it is not taken, what held stays
+-- after a token: the invariant of the new state, with the complete lists unchanged; on a fault the old invariant
 abbrev pub Leads : At → Partial → Partial → Result At (Stop TraceFault) → Type 0
 Leads here old new (Ok next) = Stays old new × IsSound next new
 Leads here old new (Err e) = Stays old new × (IsSound here old → IsSound here new)

@@ -1,5 +1,17 @@
-//! Traces of Q-resolution proofs: reading them from bytes, keeping them, and writing their
+//! Traces of Q-resolution proofs (QRP): reading them from bytes, keeping them, and writing their
 //! canonical text.
+//!
+//! - Owns: texts of traces, steps.
+//! - Offers: `TraceReader`, `read_trace`, `read_flat`, `write_trace`, `write_steps_at`, `Steps`,
+//!   `Trace`.
+//! - Proved: exactly the trace that the bytes spell, or exactly the first fault and its line, whole
+//!   and item by item; the canonical text; one contract for steps however they are kept.
+//! - Read first: `TraceReader::next_item`, `read_trace`, `write_trace`, `write_steps_at`,
+//!   `trace_laws`, `item_laws`, `Steps`.
+//! - Tested only: the crate `trace_tests`: worked texts, their canonical texts, each fault with its
+//!   line, sources and sinks that fail.
+//! - Trusted: nothing.
+//! - On the map: read_trace, write_trace | the trace, or its first fault, P1 to P9.
 #![tactic(auto)]
 
 mod buffered;

@@ -49,8 +49,8 @@ refusal_short r of small = let low = numbers_low r (has_numbers r of) in by_numb
 verdict_short : (b : Bool) → length (verdict_line b) < 47
 verdict_short b = search rules
 
--- by the place that was encoded
-pub line_short : (outcome : Result Verified Fault) → IfErr outcome NamesVariable → (encoding outcome).place < 2 ^ 64
+-- by the position that was encoded
+pub line_short : (outcome : Result Verified Fault) → IfErr outcome NamesVariable → (encoding outcome).position < 2 ^ 64
     → length (result_line outcome) < 47
 line_short outcome names small = grind (arith, common_steps, verdict_short, refusal_short)
 

@@ -9,7 +9,7 @@ IsWritten text old new returned =
     × (length text < length old → new ≡ text ++ 0 ∷ drop (1 + length text) old)
     × (length old ≤ length text → new ≡ old)
 
--- The same of numbers in a list of their own, with nothing after them: they are at its front, if there is room for all of them.
+-- Numbers are at the front of a list if it has room for all of them, else the list stays as it was.
 abbrev pub IsListed : List ℕ → List ℕ → List ℕ → ℕ → Type 0
 IsListed numbers old new returned =
     (returned ≡ length numbers)

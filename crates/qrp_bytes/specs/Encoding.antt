@@ -1,5 +1,5 @@
 -- The struct that a caller in C gets for a result.
-use Rattle.std.specs.Prelude.{◌≡◌, ◌⊎◌, ℕ, Bool, if◌then◌else◌, List, IfErr, Result, Ok, Err}
+use Rattle.std.specs.Prelude.{◌≡◌, ◌⊎◌, ℕ, Bool, if◌then◌else◌, List, ◌∷◌, [], IfErr, Result, Ok, Err}
 use Rattle.qrp_check.specs.declared.verdict.Verified.{Verified}
 use Rattle.qrp_check.specs.declared.verdict.Fault.{Fault}
 use Rattle.qrp_report.specs.declared.refusal.Refusal.{Refusal}
@@ -11,7 +11,15 @@ use Rattle.qrp_bytes.specs.declared.verdict.QrpVerdict.{QrpVerdict}
 -- the struct for a refusal
 abbrev pub encoded_refusal : Refusal → QrpVerdict
 encoded_refusal r =
-    record { place = r.position; status = status r; truth = 0; letter = r.letter; number = r.number; rule = r.rule }
+    record {
+      position = r.position;
+      status = status r;
+      truth = 0;
+      letter = r.letter;
+      number = r.number;
+      rule = r.rule;
+      reserved = 0 ∷ 0 ∷ 0 ∷ [];
+    }
 
 -- the struct for a fault
 abbrev pub encoded_fault : Fault → QrpVerdict
@@ -19,7 +27,7 @@ encoded_fault e = encoded_refusal (refusal_of e)
 
 -- the struct for a formula that was verified to have this truth; the letter V, 86
 abbrev pub encoded_truth : Bool → QrpVerdict
-encoded_truth b = record { place = 0; status = 0; truth = if b then 1 else 0; letter = 86; number = 0; rule = 0 }
+encoded_truth b = record { position = 0; status = 0; truth = if b then 1 else 0; letter = 86; number = 0; rule = 0; reserved = 0 ∷ 0 ∷ 0 ∷ [] }
 
 -- the struct for a result
 abbrev pub encoding : Result Verified Fault → QrpVerdict

@@ -1,6 +1,6 @@
 -- What a caller in C gets of a formula or a trace that is written, and of a core. The bytes are in memory, so only an allocation can
 -- fail.
-use Rattle.std.specs.Prelude.{◌≡◌, ℕ, List, [], Some, IfErr, Result, Ok, Err}
+use Rattle.std.specs.Prelude.{◌≡◌, ℕ, List, ◌∷◌, [], Some, IfErr, Result, Ok, Err}
 use Rattle.qbf_core.specs.Qbf.{Qbf}
 use Rattle.qdimacs.specs.declared.fault.FormulaFault.{FormulaFault}
 use Rattle.qdimacs.specs.Grammar as formulas
@@ -57,7 +57,7 @@ CoreReturns rules formula trace old new out returned =
 
 -- the struct where nothing was verified or refused: all zeros
 abbrev pub encoded_nothing : QrpVerdict
-encoded_nothing = record { place = 0; status = 0; truth = 0; letter = 0; number = 0; rule = 0 }
+encoded_nothing = record { position = 0; status = 0; truth = 0; letter = 0; number = 0; rule = 0; reserved = 0 ∷ 0 ∷ 0 ∷ [] }
 
 -- the struct for a formula's text
 abbrev pub encoded_formula : Result Qbf (FormulaFault × ℕ) → QrpVerdict

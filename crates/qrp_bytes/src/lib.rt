@@ -1,5 +1,15 @@
-//! What the library for C does, on texts in memory: checks, trims and formats them, and writes
-//! what comes of it to a struct and to buffers.
+//! Checks, trims and formats texts in memory, for callers that lend bytes: results go to a struct
+//! and to buffers.
+//!
+//! - Owns: the jobs of the program on bytes in memory, with results in a struct and in buffers.
+//! - Offers: `verify_bytes`, `trim_bytes`, `list_core`, `format_bytes`, `line_of`, `meaning_of`,
+//!   `put_text`, `put_numbers`.
+//! - Proved: the headline over the bytes lent, each field of the struct, the line, the meaning, the
+//!   trimmed trace, the core and the canonical formula.
+//! - Read first: `verify_bytes`, `trim_bytes`, `list_core`, `format_bytes`, `line_of`.
+//! - Tested only: by the tests of `qrp_c`.
+//! - Trusted: nothing.
+//! - On the map: the jobs on bytes in memory, | results in a struct and buffers.
 #![tactic(auto)]
 
 mod buffer;

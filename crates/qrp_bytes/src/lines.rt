@@ -34,8 +34,8 @@ pub fn line_of(verdict: &QrpVerdict) -> Line
         → ⟦<Line as Sink>⟧.written result ≡ Some (result_line outcome) }
     ensures none { ¬ EncodesSome verdict.now → ⟦<Line as Sink>⟧.written result ≡ Some [] }
 {
-    // The place comes with the fact that it has at most 20 digits.
-    let _place = verdict.place;
+    // Reading the position tells the prover that it has at most 20 digits.
+    let _position = verdict.position;
     let mut line = Line::new();
     let _ = put_line(&mut line, verdict);
     line

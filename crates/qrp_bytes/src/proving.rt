@@ -101,7 +101,8 @@ pub fn trim_bytes(
     }
 }
 
-/// The same with the numbers of the core's steps, in the order of the trace.
+/// Checks as `verify_bytes` does, and returns the numbers of the core's steps, in the order of the
+/// trace.
 ///
 /// # Errors
 /// As those of `trim_bytes`.

@@ -14,10 +14,10 @@ use qrp_report::{Refusal, is_of_fault};
 #[derive(Clone, Copy, Debug, PartialEq, Eq)]
 pub struct QrpVerdict {
     /// The step (C6), the variable (C1, C2, C3) or the line (F, P), and else 0.
-    pub place: u64,
+    pub position: u64,
     /// 0: verified. 1: the proof is refused. 2: a text is refused. 4: an allocation failed.
     pub status: u8,
-    /// 1 where the formula was verified to be true, and else 0.
+    /// 1 if the formula was verified to be true, and else 0.
     pub truth: u8,
     /// `V` if the formula was verified, or the letter of the fault: `F`, `P` or `C`.
     pub letter: u8,
@@ -25,6 +25,8 @@ pub struct QrpVerdict {
     pub number: u8,
     /// Of C6 the number of the step's fault, as 7 of S7, and else 0.
     pub rule: u8,
+    /// Zeros: the room that is left in the 16 bytes.
+    pub reserved: [u8; 3],
 }
 
 /// What a caller in C gets of a formula that was verified to have this truth.
@@ -32,12 +34,13 @@ pub fn encode_truth(truth: bool) -> QrpVerdict
     ensures { result ≡ encoded_truth truth }
 {
     QrpVerdict {
-        place: 0,
+        position: 0,
         status: 0,
         truth: if truth { 1 } else { 0 },
         letter: b'V',
         number: 0,
         rule: 0,
+        reserved: [0; 3],
     }
 }
 
@@ -46,12 +49,13 @@ pub fn encode_nothing() -> QrpVerdict
     ensures { result ≡ encoded_nothing }
 {
     QrpVerdict {
-        place: 0,
+        position: 0,
         status: 0,
         truth: 0,
         letter: 0,
         number: 0,
         rule: 0,
+        reserved: [0; 3],
     }
 }
 
@@ -60,12 +64,13 @@ fn encode_refusal(refusal: &Refusal) -> QrpVerdict
     ensures { result ≡ encoded_refusal refusal.now }
 {
     QrpVerdict {
-        place: refusal.position,
+        position: refusal.position,
         status: refusal.status(),
         truth: 0,
         letter: refusal.letter,
         number: refusal.number,
         rule: refusal.rule,
+        reserved: [0; 3],
     }
 }
 
@@ -109,7 +114,7 @@ pub fn decode_refusal(verdict: &QrpVerdict) -> Option<Refusal>
         letter: verdict.letter,
         number: verdict.number,
         rule: verdict.rule,
-        position: verdict.place,
+        position: verdict.position,
     };
     if *verdict != encode_refusal(&refusal) {
         return None;

@@ -1,5 +1,18 @@
-//! The check of a trace against a formula for callers in C: the library `libqrp`, with the header
-//! `include/qrp_check.h`.
+//! The library for C, `libqrp`, with the header `include/qrp_check.h`: its exported functions
+//! alone.
+//!
+//! - Owns: the exported functions of the library for C, C++ and Python.
+//! - Offers: the functions of `include/qrp_check.h`.
+//! - Proved: the headline over the bytes lent, each field of the struct, the line, the meaning, the
+//!   trimmed trace, the core and the canonical formula in the buffer.
+//! - Read first: `qrp_verify`, `qrp_verdict_line`, `qrp_fault_text`, `qrp_trim`, `qrp_core`,
+//!   `qrp_format`.
+//! - Tested only: over the built library: rows and real traces by each call from C and from Python,
+//!   each allocation made to fail, texts at each alignment and buffers of each size between pages
+//!   that cannot be read, eight threads, structs that no call wrote, the struct, names and version
+//!   of the header.
+//! - Trusted: the demands of `include/qrp_check.h` on the caller; malloc, realloc and free.
+//! - On the map: the library for C, C++ and Python.
 #![tactic(auto)]
 
 ghost use Rattle.std.specs.Prelude.{◌≡◌, ◌≤◌, ◌+◌, [], pos, drop, Result};

@@ -19,7 +19,7 @@ pub record SourceCall : Type 1 where
   pub after : ℕ
   pub unpulled : Type 0
 
--- the same of a source that went from `old` to `new`
+-- the call of a source that went from `old` to `new`
 abbrev pub call_of : {S : Type 0} → source.Ghosts S → S → S → SourceCall
 call_of s old new = record { bytes = s.remaining old; before = s.failures old; after = s.failures new; unpulled = new ≡ old }
 
@@ -49,7 +49,7 @@ pub record IsChecked (rules : Rules) (formula trace : SourceCall) (result : Resu
   pub lines : IfErr result StandsOnLine
   pub not_pulled : IsFormulaFault result → trace.unpulled
 
--- the same of the check of a trace against a formula that was read
+-- what the check of a trace against a formula that was read returns, and what it leaves of the source
 pub record IsCheckedOf (rules : Rules) (f : Qbf) (trace : SourceCall) (result : Result Verified Fault) : Type 0 where
   pub verdict : IsVerdictOf rules f trace.bytes result
   pub failed : trace.before < 2 ^ 64 - 1 → IsTraceDevice result ↔ (trace.before < trace.after)

@@ -18,7 +18,7 @@ use Rattle.qrp_check.specs.declared.premises.Premises.TheVariants.{Initial, One,
 abbrev pub IsPremise : List Inference → ℕ → List Literal → Type 0
 IsPremise before n lits = IsNumberOf before n × (lits ≡ lits_of before n)
 
--- the same of each antecedent, or some antecedent is no earlier step
+-- the premises are the literals of each antecedent; there are none if some antecedent is not an earlier step
 abbrev pub ArePremises : List Inference → List ℕ → Option Premises → Type 0
 ArePremises before ants None = ((n : ℕ) → n ∈ ants → IsNumberOf before n) → ⊥
 ArePremises before ants (Some Initial) = ants ≡ []
@@ -30,7 +30,7 @@ ArePremises before ants (Some (Two a b)) =
 abbrev pub IsFit : List Block → List Literal → Type 0
 IsFit blocks lits = IsClean lits × AreBound blocks lits
 
--- the same of each antecedent
+-- the literals of each antecedent are clean and bound
 abbrev pub AreFit : List Block → Premises → Type 0
 AreFit blocks Initial = Unit {0}
 AreFit blocks (One from) = IsFit blocks from.now

@@ -1,5 +1,13 @@
-//! The program `qrp_cmd`: formulas of quantified Boolean logic in canonical form, and the check of
-//! their proofs.
+//! The program `qrp_cmd`: the system's arguments, files and streams.
+//!
+//! - Owns: the system's arguments, files and streams, and `main`.
+//! - Offers: the program.
+//! - Proved: the arguments without the program's name; the files of the system keep to `Open`.
+//! - Read first: `words_after_name`, `SystemFiles`.
+//! - Tested only: over the built program: rows and damaged texts, whole and byte by byte, real
+//!   traces, failed allocations, files and devices, large inputs.
+//! - Trusted: std's files, arguments and streams, as `main` uses them.
+//! - On the map: the program.
 #![tactic(auto)]
 
 ghost use Rattle.std.specs.Prelude.{◌≡◌, ◌≢◌, ◌⊎◌, IfOk, IfErr, drop};

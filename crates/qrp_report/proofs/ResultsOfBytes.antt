@@ -66,7 +66,7 @@ pub trims : (rules : Rules) (formula trace : SourceCall) (d : Derivation) (v : V
 trims rules formula trace d v checked works reads =
     (by_bytes rules formula.bytes trace.bytes d v checked.verdict reads, works.0, works.1)
 
--- The same of texts in memory.
+-- What is trimmed of texts in memory.
 pub found_trimmed : (rules : Rules) (a b : List ℕ) (answer : Result (Derivation × Verified) Fault)
     → IsVerdictUnless rules (Some a) (Some b) (verdict_of answer) → IfOk answer (λ r. WasReadFrom (Some b) r.0)
     → IfOk answer (λ r. IsTrimmedFrom rules a b (trimmed_trace r.0 r.1.core.items))

@@ -15,7 +15,7 @@ CheckNamesVariable (C2 v) = IsVariable v
 CheckNamesVariable (C3 v) = IsVariable v
 CheckNamesVariable other = Unit {0}
 
--- the same of any fault
+-- a fault of any kind names a variable that there can be
 abbrev pub NamesVariable : Fault → Type 0
 NamesVariable (fault.Check c) = CheckNamesVariable c
 NamesVariable other = Unit {0}

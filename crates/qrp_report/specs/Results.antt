@@ -25,7 +25,7 @@ IsFormulaRefused bytes before after F1 n = (n ≡ 0) × DeviceFailed before afte
 IsFormulaRefused bytes before after F9 n = (n ≡ 0) × (after ≡ before)
 IsFormulaRefused bytes before after e n = IfSome bytes (λ b. read_formula b ≡ Err (e, n)) × (after ≡ before)
 
--- the same where it is a formula: the one that the bytes spell, with no failure of the source
+-- a formula that was read is the one that the bytes spell, with no failure of the source
 abbrev pub IsFormulaRead : SourceCall → Result Qbf (FormulaFault × ℕ) → Type 0
 IsFormulaRead formula (Ok f) = IfSome formula.bytes (λ b. read_formula b ≡ Ok f) × (formula.after ≡ formula.before)
 IsFormulaRead formula (Err e) = IsFormulaRefused formula.bytes formula.before formula.after e.0 e.1

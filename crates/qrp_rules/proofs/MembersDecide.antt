@@ -5,7 +5,7 @@ use Rattle.qrp_rules.proofs.Words.{IsInitial, HasMembersOf, in_without, from_wit
 use Rattle.qrp_rules.proofs.Words.{IsJudgement, IsReducibleInParents, reduct_conditions, resolvent_conditions, initial_condition, in_append}
 use Rattle.qrp_rules.proofs.Words.{append_left, append_right}
 
--- the same names, and each condition of the one list follows from that of the other
+-- two lists of conditions have equal names, and each condition of the one follows from that of the other
 abbrev pub AreImplied : List (Condition RuleFault) → List (Condition RuleFault) → Type 0
 AreImplied [] [] = Unit {0}
 AreImplied [] (r ∷ rs) = ⊥

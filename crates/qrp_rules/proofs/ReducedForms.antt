@@ -164,7 +164,7 @@ pub unfiled : (f : Qbf) (index : List IndexEntry) (n : ℕ) (clause : List Liter
     → slice_get f.clauses n ≡ Some clause → (IsClean clause → ⊥) → IsIndexBelow f index n → IsIndexBelow f index (n + 1)
 unfiled f index n clause at out before i c less got clean = search (rules, cases_lt)
 
--- the same in another order
+-- an index in another order is an index
 pub filed_sorted : (f : Qbf) (index sorted : List IndexEntry) → IsPermutation index sorted → IsIndex f index → IsIndex f sorted
 filed_sorted f index sorted moved is n i c less got clean =
     let w = is n i c less got clean in

@@ -58,7 +58,7 @@ resolution_conditions rules side blocks a b to may_omit =
     ∷ (S12, ((x : ℕ) → Clashes a b x → (l : Literal) → l ∈ resolvent a b x → (l ∈ to) ⊎ may_omit (resolvent a b x) l))
     ∷ []
 
--- the same, where what is reducible in the resolvent, or in the parents, may be left out
+-- the conditions of a resolvent from which literals may be left out that are reducible in it or in the parents
 abbrev pub resolvent_conditions : Rules → Side → List Block → List Literal → List Literal → List Literal → List (Condition RuleFault)
 resolvent_conditions rules side blocks a b to =
     resolution_conditions rules side blocks a b to (λ whole l. IsReducible side blocks whole l ⊎ IsReducibleInParents side blocks a b l)

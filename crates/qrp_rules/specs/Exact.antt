@@ -28,7 +28,7 @@ pub record IsMergeBut (a b to rest_a rest_b : List Literal) : Type 0 where
   pub left : (l : Literal) → l ∈ a → (l ∈ to) ⊎ (l ∈ rest_a)
   pub right : (l : Literal) → l ∈ b → (l ∈ to) ⊎ (l ∈ rest_b)
 
--- the same, but for a literal x of a, whose negation is in b
+-- each literal of `to` is in a or b; each of a and b is in `to`, is left, or has the variable of x, which is in a and negated in b
 pub record IsResolvedBut (a b to rest_a rest_b : List Literal) (x : Literal) : Type 0 where
   pub in_a : x ∈ a
   pub in_b : negated x ∈ b

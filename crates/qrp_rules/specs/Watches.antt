@@ -15,7 +15,7 @@ pub record IsWatchedBy (lists : List Watch) (k : ℕ) (l : Literal) (i : ℕ) : 
   pub by : watch.lit ≡ l
   pub listed : Contains watch.clauses.items i
 
--- all that was watched still is, by the same lists
+-- each clause that was watched still is, by its old list
 pub record KeepsWatches (old new : List Watch) : Type 0 where
   pub watched : (k : ℕ) (l : Literal) (i : ℕ) → IsWatchedBy old k l i → IsWatchedBy new k l i
   pub longer : length old ≤ length new
@@ -26,13 +26,13 @@ IsWatched f lists i =
     (clause : List Literal) → slice_get f.clauses i ≡ Some clause
     → IsTautology clause ⊎ ((l : Literal) × (l ∈ clause) × (k : ℕ) × IsWatchedBy lists k l i)
 
--- the same, where only the lists before position n may be those of literals that were not seen
+-- each clause is watched, and only the lists before position n may be those of literals that were not seen
 abbrev pub IsMet : ℕ → Qbf → List Bool → List Watch → ℕ → Type 0
 IsMet n f seen lists i =
     (clause : List Literal) → slice_get f.clauses i ≡ Some clause
     → IsTautology clause ⊎ ((l : Literal) × (l ∈ clause) × (k : ℕ) × IsWatchedBy lists k l i × ((k < n) ⊎ Has seen l))
 
--- what was watched is, but for the clauses that were taken: those of the list at position n, where no list from before it comes
+-- each clause that was watched still is, or is in `taken`; a list that moved to position n came from after n
 abbrev pub IsTakenOut : List Watch → ℕ → List ℕ → List Watch → Type 0
 IsTakenOut old n taken new =
     (k : ℕ) (l : Literal) (i : ℕ) → IsWatchedBy old k l i

@@ -44,7 +44,7 @@ fn put_left_out(seen: &mut SeenLits, reducible: Reducible, pivot: Var, lit: Lit)
     seen.insert(lit)
 }
 
-/// The same of each literal of a list.
+/// Puts each literal of a list that may be left out.
 fn put_each_left_out(seen: &mut SeenLits, reducible: Reducible, pivot: Var, lits: &[Lit]) -> bool
     ensures put { IsPutBy seen.old seen.new (λ l. TakesOut reducible.entry l.var) }
     ensures each { IsTrue result → (l : Literal) → l ∈ lits.now

@@ -49,7 +49,7 @@ fn reduced_hash(prefix: &Prefix, lits: &[Lit]) -> u64
     hash
 }
 
-/// The same of a clause as written, or `None` where it is not clean.
+/// The hash of a clause as it is written, or `None` if it is not clean.
 fn clause_hash(alloc: Global, prefix: &Prefix, clause: &[Lit]) -> Result<Option<u64>, AllocError>
     requires { AreBound prefix.now clause.now }
     ensures { IfOk result (λ hash. IsClean clause.now →

@@ -1,4 +1,15 @@
 //! The rules of a step, on sets of literals: initial clauses and cubes, reducts and resolvents.
+//!
+//! - Owns: the rules of a step, on sets of literals and on literals as they are written.
+//! - Offers: `Side`, `Rules`, `RuleFault`; `reduct_fault`, `resolvent_fault` and the same on
+//!   ordered lists; `Resolution`; `InitialSteps`; `is_exact_reduct`, `is_resolvent`, `SeenLits`;
+//!   `normalize`.
+//! - Proved: each rule test decides its definition, and names the first fault.
+//! - Read first: `reduct_fault`, `resolvent_fault`, `Side::initial_fault`, `InitialSteps::fault`.
+//! - Tested only: the crate `trace_tests`: worked steps of both sides, each rule with each of its
+//!   faults.
+//! - Trusted: nothing.
+//! - On the map: the rules of a step | each test decides its rule, S4 to S12.
 #![tactic(auto)]
 
 mod any_order;

@@ -106,8 +106,8 @@ impl SeenLits {
         true
     }
 
-    /// Whether the literals have variables of their own, other than this one. `false` says nothing,
-    /// and nothing is known then of what the set holds.
+    /// Whether the variables are pairwise distinct and none is `other`. `false` says nothing, and
+    /// nothing is known then of what the set holds.
     pub(crate) fn are_distinct(&mut self, lits: &[Lit], other: Var) -> bool
         ensures clean { IsTrue result → IsClean lits.now }
         ensures apart { IsTrue result → IsApart lits.now other }
@@ -133,7 +133,7 @@ fn stamp_var(stamps: &mut [u32], stamp: u32, var: Var) -> bool
     true
 }
 
-/// Gives the variables of literals a stamp, and another one before. `false` if one comes twice.
+/// Stamps `other`, then each variable; `false` at the first repetition.
 fn stamp_vars(stamps: &mut [u32], stamp: u32, lits: &[Lit], other: Var) -> bool
     ensures clean { IsTrue result → IsClean lits.now }
     ensures apart { IsTrue result → IsApart lits.now other }
@@ -150,7 +150,7 @@ fn stamp_vars(stamps: &mut [u32], stamp: u32, lits: &[Lit], other: Var) -> bool
     true
 }
 
-/// Makes a set that of the literals of a list, where they are clean. `false` says nothing.
+/// Replaces the set by these literals, if they are clean. `false` says nothing.
 pub(crate) fn set_if_clean(seen: &mut SeenLits, lits: &[Lit]) -> bool
     ensures clean { IsTrue result → IsClean lits.now }
     ensures members { IsTrue result → (l : Literal) → Has seen.new l ↔ l ∈ lits.now }

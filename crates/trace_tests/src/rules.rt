@@ -111,7 +111,7 @@ const INITIAL_CLAUSES: [(&str, &[i32], Option<RuleFault>); 5] = [
     (UNCLEAN, &[], Some(RuleFault::S4)),
 ];
 
-/// The same for cubes.
+/// A formula, a set, and its fault as an initial cube.
 const INITIAL_CUBES: [(&str, &[i32], Option<RuleFault>); 4] = [
     (ALL_EXISTS, &[1, 2], None),
     ("p cnf 0 0\n", &[], None),
@@ -138,7 +138,7 @@ const CLAUSE_REDUCTS: [(&str, &[i32], &[i32], Option<RuleFault>); 3] = [
     (TURNED, &[1, 2], &[1], Some(RuleFault::S7)),
 ];
 
-/// The same for cubes.
+/// A formula, a cube, another, and its fault as a reduct of the first.
 const CUBE_REDUCTS: [(&str, &[i32], &[i32], Option<RuleFault>); 2] = [
     (ALL_EXISTS, &[1, 2], &[1], None),
     // Universal 1 is not reducible in a cube.
