@@ -88,7 +88,7 @@ test: $(PROVED)
 # needs more is named at the end.
 check:
 	@for built in $(PROGRAM) $(LIBRARY); do [ -e $$built ] || { echo "make check: there is no $$built: run 'make all lib' first"; exit 2; }; done
-	@[ -e $(STATIC) ] || RT=$(RT) packaging/build-static $(STATIC) || true
+	@[ $(STATIC) -nt $(PROGRAM) ] || { rm -f $(STATIC) && RT=$(RT) packaging/build-static $(STATIC); } || true
 	$(MAKE) --jobs --output-sync=target test-refusals test-program test-tools test-examples test-library test-dist test-install test-many test-proofs test-checks test-pages
 	@for built in $(ECHO) $(LIBRARY_TESTS) $(STATIC); do [ -e $$built ] || echo "make check: there is no $$built, so what needs it was left out; 'make test' builds it"; done
 
