@@ -1,16 +1,18 @@
 -- From a run over opened files to the report of the program.
-use Rattle.std.proofs.Common.{arith, rules, ◌≡◌, ◌∙◌, ◌<◌, ℕ, List, [], Option, Some, None, IfSome, inr, sym, ap, map, length, get_or}
+use Rattle.std.proofs.Common.{arith, rules, ◌≡◌, ◌∙◌, ◌<◌, ℕ, Bool, List, [], Option, Some, None, IfSome, inr, sym, ap, map, length, get_or}
 use Rattle.std.proofs.Common.{Result, Ok, Err, IfOk, IfErr, OnOk}
 use Rattle.std.proofs.lemmas.Grind.{common_steps}
 use Rattle.std.proofs.lemmas.List.{get_or-map}
 use Rattle.qrp_cli.specs.declared.job.Job.{Job}
+use Rattle.qrp_cli.specs.declared.job.Job.TheVariants as job
 use Rattle.qrp_rules.specs.declared.rules.Rules.{Rules}
 use Rattle.qrp_check.specs.declared.verdict.Verified.{Verified}
 use Rattle.qrp_check.specs.declared.verdict.Fault.{Fault}
 use Rattle.qrp_cli.specs.declared.start.Start.{Start}
-use Rattle.qrp_cli.specs.Output.{IsOn, IsOutput, Report, check_report, refusals, trimmed_result}
+use Rattle.qrp_cli.specs.Output.{IsOn, IsOutput, Report, check_report, refusal, refusals, success, trimmed_result}
 use Rattle.qrp.specs.Derivations.{Derivation}
-use Rattle.qrp_check.specs.Checked.{SourceCall, IsChecked, WasReadFrom, verdict_of}
+use Rattle.qrp_check.specs.Checked.{SourceCall, IsChecked, WasReadFrom, truth_of, verdict_of}
+use Rattle.qrp_report.specs.Lines.{verdict_line}
 use Rattle.qrp_report.specs.Results.{IsTrimmed}
 use Rattle.qrp_report.proofs.ResultsOfBytes.{trims}
 use Rattle.qrp_cli.specs.Program.{call_of_file, start_report, word, IsOnBoth, IsOnFiles, IsOnOpened, IsProgram, Opens}
@@ -64,6 +66,17 @@ module _ {A : Type 0} (opens : Opens) (bytes : A → List ℕ) (xs : List A) (r 
 pub on_out : (rules : Rules) (answer : Result Verified Fault) (out errors : Type 0) → out → IsOn (check_report rules answer).sink out errors
 on_out rules (Ok v) out errors h = h
 on_out rules (Err e) out errors h = h
+
+-- what is reported of a truth, and of a fault, is what is reported of a verdict that has it
+pub truth_report : (rules : Rules) (truth : Bool) (verdict : Result Verified Fault) → ◌≡◌ {A = Result Bool Fault} (Ok truth) (truth_of verdict)
+    → check_report rules verdict ≡ success (verdict_line truth)
+truth_report by truth (Ok v) is = let same : truth ≡ v.truth = cc is in ap (λ b. success (verdict_line b)) (sym same)
+truth_report by truth (Err e) is = absurd (cc is)
+
+pub fault_report : (rules : Rules) (e : Fault) (verdict : Result Verified Fault) → ◌≡◌ {A = Result Bool Fault} (Err e) (truth_of verdict)
+    → check_report rules verdict ≡ refusal (job.Check rules) e
+fault_report by e (Ok v) is = absurd (cc is)
+fault_report by e (Err f) is = let same : e ≡ f = cc is in ap (refusal (job.Check by)) (sym same)
 
 -- the report on what was opened is the one on the files
 pub on_files : {F T : Type 0} (opens : Opens) (first : List ℕ) (second : Option (List ℕ)) (formula : F → Option (List ℕ))

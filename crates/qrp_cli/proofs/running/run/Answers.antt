@@ -5,23 +5,12 @@ use Rattle.qrp_cli.proofs.running.run.Goals as goal
 
 pub returns-in-Check-clause-report : goal.returns-in-Check-clause-report
 returns-in-Check-clause-report g c =
-    let checked = c.verify.result in
-    let w = c.verify.ensures in
+    let w = c.find_truth.ensures.checked in
     let rules = c.in-Check.rules in
     rw c.in-Check.is (
-      check_report rules checked,
-      (
-        checked,
-        record {
-          verdict = w.verdict;
-          formula_failed = w.formula_failed;
-          trace_failed = w.trace_failed;
-          lines = w.lines;
-          not_pulled = w.not_pulled;
-        },
-        refl,
-      ),
-      on_out rules checked _ _ (c.send_checked.ensures rules, refl),
+      check_report rules w.0,
+      (w.0, w.1, refl),
+      on_out rules w.0 _ _ (c.send_checked.ensures rules w.0 w.2, refl),
     )
 
 pub returns-in-Trim-clause-report : goal.returns-in-Trim-clause-report
