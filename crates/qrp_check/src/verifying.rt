@@ -3,7 +3,7 @@
 ghost use Rattle.std.specs.Prelude.{◌≡◌, ◌-◌, ◌^◌, ◌<◌, ◌↔◌, OnOk, IfErr, IfSome};
 ghost use Rattle.qbf_text.specs.Stopping.{IfKnown};
 ghost use Rattle.qrp_check.specs.Checked.{IsChecked, IsCheckedOf, IsOfSource, IsTruthOf};
-ghost use Rattle.qrp_check.specs.Checked.{call_of, verdict_of};
+ghost use Rattle.qrp_check.specs.Checked.{StopsOnceRead, call_of, verdict_of};
 ghost use Rattle.qrp_check.specs.Headline.{Headline};
 ghost use Rattle.qrp_check.specs.Verdict.{IsVerdictUnless, IsFormulaDevice, IsTraceDevice};
 ghost use Rattle.qrp_check.specs.Verdict.{IsFormulaFault, StandsOnLine, WasRead, StopsAfterTrace};
@@ -100,8 +100,7 @@ fn find_truth_of<B: Source>(
 ) -> Result<bool, Fault>
     ensures { IsTruthOf (λ v.
         IsCheckedOf rules formula.now (call_of B.Source trace.old trace.new) v
-        × (WasRead v
-        → IfKnown StopsAfterTrace (B.remaining trace.old) (B.remaining trace.new))) result }
+        × StopsOnceRead (B.remaining trace.old) (B.remaining trace.new) v) result }
 {
     let whole = read_trace(alloc, trace)?;
     let marks = check_marked(alloc, formula, &whole, whole.sets(), whole.result(), rules)?;
@@ -122,10 +121,10 @@ pub fn find_truth<A: Source, B: Source>(
 ) -> Result<bool, Fault>
     ensures headline { IsTruthOf (λ v. IfSome (A.remaining formula.old)
         (λ a. IfSome (B.remaining trace.old) (λ b. Headline rules a b v))) result }
-    ensures checked { IsTruthOf (IsChecked rules (call_of A.Source formula.old formula.new)
-        (call_of B.Source trace.old trace.new)) result }
-    ensures stops { IsTruthOf (λ v. WasRead v
-        → IfKnown StopsAfterTrace (B.remaining trace.old) (B.remaining trace.new)) result }
+    // Once the trace was read, nothing is read past its result word but at most 4,096 bytes.
+    ensures checked { IsTruthOf (λ v. IsChecked rules (call_of A.Source formula.old formula.new)
+        (call_of B.Source trace.old trace.new) v
+        × StopsOnceRead (B.remaining trace.old) (B.remaining trace.new) v) result }
 {
     let whole = read_formula(alloc, formula)?;
     find_truth_of(alloc, &whole, trace, rules)

@@ -1,5 +1,5 @@
 -- From a run over opened files to the report of the program.
-use Rattle.std.proofs.Common.{arith, rules, nat_eq, if◌then◌else◌, ◌≡◌, ◌∙◌, ◌<◌, ℕ, List, [], Option, Some, None, IfSome, inl, inr, sym, ap, map, length, get_or}
+use Rattle.std.proofs.Common.{arith, rules, nat_eq, if◌then◌else◌, ◌≡◌, ◌∙◌, ◌<◌, ℕ, Bool, List, [], Option, Some, None, IfSome, inl, inr, sym, ap, map, length, get_or}
 use Rattle.std.proofs.Common.{Result, Ok, Err, IfOk, IfErr, OnOk}
 use Rattle.std.proofs.lemmas.Grind.{common_steps}
 use Rattle.std.proofs.lemmas.List.{get_or-map}
@@ -15,9 +15,9 @@ use Rattle.qrp_check.specs.declared.fault.CheckFault.TheVariants.{C1, C2, C3, C4
 use Rattle.qrp_check.specs.Headline.{Headline}
 use Rattle.qrp_report.specs.Lines.{fault_line, verdict_line}
 use Rattle.qrp_report.specs.Refusals.{fault_status, formula_number, trace_number}
-use Rattle.qrp_cli.specs.Output.{IsOn, IsReportedTo, IsSent, PrintsVerdict, Report, check_report, refusals, trimmed_result}
+use Rattle.qrp_cli.specs.Output.{IsOn, IsReportedTo, IsSent, PrintsVerdict, Report, check_report, refusal, refusals, success, trimmed_result}
 use Rattle.qrp.specs.Derivations.{Derivation}
-use Rattle.qrp_check.specs.Checked.{SourceCall, IsChecked, StopsOnceRead, WasReadFrom, verdict_of}
+use Rattle.qrp_check.specs.Checked.{SourceCall, IsChecked, StopsOnceRead, WasReadFrom, truth_of, verdict_of}
 use Rattle.qrp_check.specs.declared.verdict.Fault.TheVariants as fault
 use Rattle.qrp_report.specs.Results.{IsTrimmed}
 use Rattle.qrp_report.proofs.ResultsOfBytes.{trims}
@@ -67,6 +67,17 @@ module _ {A F : Type 0} (files : source.Ghosts F) (opens : Opens) (bytes : A →
 pub on_out : (rules : Rules) (answer : Result Verified Fault) (out errors : Type 0) → out → IsOn (check_report rules answer).sink out errors
 on_out rules (Ok v) out errors h = h
 on_out rules (Err e) out errors h = h
+
+-- what is reported of a truth, and of a fault, is what is reported of a verdict that has it
+pub truth_report : (rules : Rules) (truth : Bool) (verdict : Result Verified Fault) → ◌≡◌ {A = Result Bool Fault} (Ok truth) (truth_of verdict)
+    → check_report rules verdict ≡ success (verdict_line truth)
+truth_report by truth (Ok v) is = let same : truth ≡ v.truth = cc is in ap (λ b. success (verdict_line b)) (sym same)
+truth_report by truth (Err e) is = absurd (cc is)
+
+pub fault_report : (rules : Rules) (e : Fault) (verdict : Result Verified Fault) → ◌≡◌ {A = Result Bool Fault} (Err e) (truth_of verdict)
+    → check_report rules verdict ≡ refusal (job.Check rules) e
+fault_report by e (Ok v) is = absurd (cc is)
+fault_report by e (Err f) is = let same : e ≡ f = cc is in ap (refusal (job.Check by)) (sym same)
 
 -- the report on what was opened is the one on the files
 pub on_files : {F : Type 0} (files : source.Ghosts F) (opens : Opens) (first second : List ℕ) (j : Job) (opened left : Result (F × F) Start)

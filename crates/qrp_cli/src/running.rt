@@ -7,7 +7,9 @@ ghost use Rattle.qbf_text.specs.Written.{IsPut};
 ghost use Rattle.qdimacs.specs.declared.fault.FormulaFault.{FormulaFault};
 ghost use Rattle.qdimacs.specs.Grammar.{text};
 ghost use Rattle.qrp.specs.Grammar.{text as trace_text};
-ghost use Rattle.qrp_check.specs.Checked.{call_of};
+ghost use Rattle.qrp_check.specs.Checked.{call_of, truth_of};
+ghost use Rattle.qrp_check.specs.declared.verdict.Fault.{Fault};
+ghost use Rattle.qrp_check.specs.declared.verdict.Verified.{Verified};
 ghost use Rattle.qrp_check.specs.Trim.{trimmed_trace};
 ghost use Rattle.qrp_report.specs.Lines.{fault_line, verdict_line};
 ghost use Rattle.qrp_report.specs.Refusals.{fault_status};
@@ -23,7 +25,7 @@ use qbf_core::Formula;
 use qbf_text::{Sink, SinkFault, Source};
 use qdimacs::{read_formula, write_formula};
 use qrp::{Trace, write_steps_at};
-use qrp_check::{Fault, Verified, find_proof, verify};
+use qrp_check::{Fault, Verified, find_proof, find_truth};
 use qrp_report::{Refusal, put_refusal, put_verdict};
 use std::alloc::Global;
 
@@ -86,12 +88,12 @@ fn send_trimmed<S: Sink>(sink: &mut S, trace: &Trace, verified: &Verified) -> St
 }
 
 /// Sends the line of the verdict, or for the first fault.
-fn send_checked<O: Sink>(out: &mut O, checked: Result<Verified, Fault>) -> Status
-    ensures { (rules : Rules)
-        → IsReportedTo O.Sink out.old out.new (check_report rules checked) result }
+fn send_checked<O: Sink>(out: &mut O, checked: Result<bool, Fault>) -> Status
+    ensures { (rules : Rules) (verdict : Result Verified Fault) → checked ≡ truth_of verdict
+        → IsReportedTo O.Sink out.old out.new (check_report rules verdict) result }
 {
     match checked {
-        Ok(verified) => send_verdict(out, verified.truth),
+        Ok(truth) => send_verdict(out, truth),
         Err(fault) => send_fault(out, &fault),
     }
 }
@@ -160,7 +162,7 @@ pub fn run<F: Source, T: Source, O: Sink, E: Sink>(
     ensures not_pulled { job ≡ Format → trace.new ≡ trace.old }
 {
     match job {
-        Job::Check(rules) => send_checked(out, verify(alloc, formula, trace, rules)),
+        Job::Check(rules) => send_checked(out, find_truth(alloc, formula, trace, rules)),
         Job::Trim(rules) => send_proof(out, err, find_proof(alloc, formula, trace, rules)),
         Job::Format => run_format(alloc, formula, out, err),
     }

@@ -12,33 +12,26 @@ returns-in_err-whole-clause-checked g c =
     let refused : IsChecked c.args.rules (call_of g.A.Source c.args.formula.now c.read_formula.new.source)
     (call_of g.B.Source c.args.trace.now c.args.trace.now)
     (Err (fault.Formula c.in_err-whole.field-0.0.0 c.in_err-whole.field-0.0.1)) = search rules in
-    (Err p.0, rw p.2 refused, p.1)
+    (Err p.0, (rw p.2 refused, rw p.2 (λ is. absurd is)), p.1)
 
 pub returns-in_err-whole-clause-headline : goal.returns-in_err-whole-clause-headline
 returns-in_err-whole-clause-headline g c =
     let w = returns-in_err-whole-clause-checked g c in
-    (w.0, headline c.args.rules (g.A.Source.remaining c.args.formula.now) (g.B.Source.remaining c.args.trace.now) w.0 w.1.verdict, w.2)
-
-pub returns-in_err-whole-clause-stops : goal.returns-in_err-whole-clause-stops
-returns-in_err-whole-clause-stops g c =
-    let p = err_from_is_err_and c.from_residual.result c.from_residual.ensures.1 in
-    (Err p.0, rw p.2 (λ is. absurd is), p.1)
+    (w.0, headline c.args.rules (g.A.Source.remaining c.args.formula.now) (g.B.Source.remaining c.args.trace.now) w.0 w.1.0.verdict, w.2)
 
 pub returns-clause-checked : goal.returns-clause-checked
 returns-clause-checked g c =
     let w = c.find_truth_of.ensures in (
       w.0,
-      checked_both c.args.rules (call_of g.A.Source c.args.formula.now c.read_formula.new.source) _ c.in_ok-whole.whole w.0
-          c.in_ok-whole.ensures.exact c.in_ok-whole.ensures.works w.1.0,
+      (
+        checked_both c.args.rules (call_of g.A.Source c.args.formula.now c.read_formula.new.source) _ c.in_ok-whole.whole w.0
+            c.in_ok-whole.ensures.exact c.in_ok-whole.ensures.works w.1.0,
+        w.1.1,
+      ),
       w.2,
     )
 
 pub returns-clause-headline : goal.returns-clause-headline
 returns-clause-headline g c =
     let w = returns-clause-checked g c in
-    (w.0, headline c.args.rules (g.A.Source.remaining c.args.formula.now) (g.B.Source.remaining c.args.trace.now) w.0 w.1.verdict, w.2)
-
-pub returns-clause-stops : goal.returns-clause-stops
-returns-clause-stops g c =
-    let w = c.find_truth_of.ensures in
-    (w.0, w.1.1, w.2)
+    (w.0, headline c.args.rules (g.A.Source.remaining c.args.formula.now) (g.B.Source.remaining c.args.trace.now) w.0 w.1.0.verdict, w.2)

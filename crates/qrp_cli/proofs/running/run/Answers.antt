@@ -7,24 +7,12 @@ use Rattle.qrp_cli.proofs.running.run.Goals as goal
 
 pub returns-in-Check-clause-report : goal.returns-in-Check-clause-report
 returns-in-Check-clause-report g c =
-    let checked = c.verify.result in
-    let w = c.verify.ensures in
+    let w = c.find_truth.ensures.checked in
     let rules = c.in-Check.rules in
     rw c.in-Check.is (
-      check_report rules checked,
-      (
-        checked,
-        record {
-          verdict = w.verdict;
-          formula_failed = w.formula_failed;
-          trace_failed = w.trace_failed;
-          lines = w.lines;
-          not_pulled = w.not_pulled;
-        },
-        w.stops,
-        refl,
-      ),
-      on_out rules checked _ _ (c.send_checked.ensures rules, refl),
+      check_report rules w.0,
+      (w.0, w.1.0, w.1.1, refl),
+      on_out rules w.0 _ _ (c.send_checked.ensures rules w.0 w.2, refl),
     )
 
 pub returns-in-Trim-clause-report : goal.returns-in-Trim-clause-report
@@ -46,7 +34,8 @@ returns-in-Format-clause-report g c =
 
 pub returns-in-Check-clause-headline : goal.returns-in-Check-clause-headline
 returns-in-Check-clause-headline g c = λ rules a b is is_a is_b zero.
-    prints_verdict g.O.Sink _ _ rules _ _ a b c.verify.result _
+    let w = c.find_truth.ensures.headline in
+    prints_verdict g.O.Sink _ _ rules _ _ a b w.0 _
     (subst (λ (r : Rules). IfSome (g.F.Source.remaining c.args.formula.now) (λ a. IfSome (g.T.Source.remaining c.args.trace.now)
-    (λ b. Headline r a b c.verify.result))) (same_rules c.in-Check.rules rules (sym c.in-Check.is ∙ is)) c.verify.ensures.headline)
-    is_a is_b (c.send_checked.ensures rules) zero
+    (λ b. Headline r a b w.0))) (same_rules c.in-Check.rules rules (sym c.in-Check.is ∙ is)) w.1)
+    is_a is_b (c.send_checked.ensures rules w.0 w.2) zero
