@@ -15,9 +15,9 @@ tool_modules() {
     find tools -mindepth 2 -type f -name '*.py' | sort
 }
 
-# The Python module and the command beside it.
+# The Python module.
 python_files() {
-    { find python/qrp_check -type f \( -name '*.py' -o -name py.typed \) && echo python/check_depqbf.py; } | sort
+    find python/qrp_check -type f \( -name '*.py' -o -name py.typed \) | sort
 }
 
 # Documents and examples.

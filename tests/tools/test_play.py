@@ -420,7 +420,8 @@ def try_signals():
 
 
 def main():
-    os.environ["QRP_CMD"] = sys.argv[1]
+    os.environ["QRP_CMD"] = os.path.abspath(sys.argv[1])
+    signal.signal(signal.SIGINT, signal.default_int_handler)  # a run in the background ignores interrupts, and so would all that it starts
     with ProcessPoolExecutor(4) as pool:
         try_games(pool)
         try_damages(pool)
