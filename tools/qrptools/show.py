@@ -2,6 +2,7 @@
 
 from collections import namedtuple
 
+from qrptools.find_steps import find_near
 from qrptools.step_rules import CONDITIONS, SIDES, judge
 
 # no more sentences than this on literals; the table has them all
@@ -46,9 +47,9 @@ def table(formula, columns, notes):
 Judged = namedtuple("Judged", "step before later finding")
 
 
-def judged_step(formula, trace, any_pivot, number):
-    """The step with this number, judged; None if the trace has no such step."""
-    step, before, later = find_step(trace, number)
+def judged_step(formula, trace, any_pivot, number, is_right=False):
+    """The step with this number, judged; None if the trace has no such step. `is_right` says that the program has read the text to its end."""
+    step, before, later = is_right and find_near(trace, number) or find_step(trace, number)
     if step is None:
         return None
     return Judged(step, before, later, judge(formula, SIDES[trace.result], any_pivot, step, before, later))
