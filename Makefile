@@ -5,8 +5,11 @@
 # make test     proves what has changed, builds it, and runs all tests
 # make gate     the whole: every proof from nothing, the mutants, all tests
 # make bench    measures time and memory
-# make wheel    packs the Python module with the library inside, below dist/, for pip
-# make dist     packs the program, the library and the documents below dist/
+# make static   links the program once more, with the C library inside: bin/qrp_cmd.static
+# make wheel    packs the Python module with the library inside, below dist/, for pip; and its source distribution
+# make dist     packs a release below dist/: the archive, and the same as `make wheel`
+# make deb      packs a package for Debian and Ubuntu below dist/
+# make image    packs an image for containers below dist/, with the static program alone
 # make install  copies what `make all lib` built below $(PREFIX): program, library, header, manual pages, tools, documents, examples
 # make uninstall  takes that away again
 # make help     prints these lines
@@ -17,19 +20,25 @@ PROGRAM = bin/qrp_cmd
 # only for the tests
 ECHO = bin/qrp_echo
 PROVED = bin/proved
-# what the program and the library are made of: not the mutants of must-fail/, which only the gate tries
-SOURCES = $(shell find crates \( -name out -o -name must-fail \) -prune -o -type f -print) crates.txt
+# what the program and the library are made of: not the mutants and the wrong definitions, which only the gate tries
+SOURCES = $(shell find crates \( -name out -o -name must-fail -o -name wrong-definitions \) -prune -o -type f -print) crates.txt
 
 # for programs in C, C++ and Python
 LIBRARY = lib/libqrp.a
 
+# for any Linux
+STATIC = bin/qrp_cmd.static
+
+# the tests of the libraries, as programs
+LIBRARY_TESTS = crates/formula_tests/out/formula_tests_tests crates/trace_tests/out/trace_tests_tests
+
 # where `make install` puts things; DESTDIR comes before all of them
 LIBDIR ?= $(PREFIX)/lib
 MANDIR ?= $(PREFIX)/share/man
-INSTALL_FILES = PREFIX='$(PREFIX)' LIBDIR='$(LIBDIR)' MANDIR='$(MANDIR)' DESTDIR='$(DESTDIR)' packaging/install-files
 
-.PHONY: all lib demo check test proved-before gate bench dist wheel install uninstall help clean
-.PHONY: test-refusals test-program test-tools test-examples test-library test-dist test-install test-many test-proofs test-checks test-pages
+.PHONY: all lib static demo check test proved-before gate bench dist wheel deb image install uninstall help clean
+.PHONY: test-refusals test-program test-derivations test-tools test-examples test-library test-dist test-install test-many test-proofs
+.PHONY: test-definitions test-checks test-pages
 
 all: $(PROGRAM)
 
@@ -42,8 +51,13 @@ $(PROGRAM): $(SOURCES)
 lib: $(LIBRARY)
 
 $(LIBRARY): $(SOURCES) packaging/build-library
-	@echo 'proves and builds the library: a minute more than the program, from nothing'
+	@echo 'proves and builds the library: some minutes of processor time more than the program, from nothing'
 	RT=$(RT) packaging/build-library lib
+
+static: $(STATIC)
+
+$(STATIC): $(PROGRAM) packaging/build-static VERSION
+	RT=$(RT) packaging/build-static $(STATIC)
 
 demo: all
 	$(PROGRAM) check examples/blind-box/blind-box.qdimacs examples/blind-box/blind-box.qrp
@@ -71,16 +85,22 @@ test: $(PROVED)
 	gate/describe-crates --check
 	$(MAKE) --no-print-directory check
 
-# What is built is tested, side by side: some two minutes.
+# What is built is tested, side by side: some two minutes. The static program is only linked. `make all lib` is enough to run this; what
+# needs more is named at the end.
 check:
-	@for built in $(PROGRAM) $(ECHO) $(LIBRARY); do [ -e $$built ] || { echo "make check: there is no $$built: run 'make test' first"; exit 2; }; done
-	$(MAKE) --jobs --output-sync=target test-refusals test-program test-tools test-examples test-library test-dist test-install test-many test-proofs test-checks test-pages
+	@for built in $(PROGRAM) $(LIBRARY); do [ -e $$built ] || { echo "make check: there is no $$built: run 'make all lib' first"; exit 2; }; done
+	@[ $(STATIC) -nt $(PROGRAM) ] || { rm -f $(STATIC) && RT=$(RT) packaging/build-static $(STATIC); } || true
+	$(MAKE) --jobs --output-sync=target test-refusals test-program test-derivations test-tools test-examples test-library test-dist test-install test-many test-proofs test-definitions test-checks test-pages
+	@for built in $(ECHO) $(LIBRARY_TESTS) $(STATIC); do [ -e $$built ] || echo "make check: there is no $$built, so what needs it was left out; 'make test' builds it"; done
 
 test-refusals:
-	tests/library/test-refusals
+	$(if $(wildcard $(LIBRARY_TESTS)),tests/library/test-refusals,@echo 'left out: test-refusals')
 
 test-program:
-	tests/program/test-program $(PROGRAM) $(ECHO)
+	tests/program/test-program $(PROGRAM) $(wildcard $(ECHO))
+
+test-derivations:
+	tests/program/test-derivations $(PROGRAM)
 
 test-tools:
 	tests/tools/test-tools $(PROGRAM)
@@ -92,10 +112,13 @@ test-library:
 	tests/library/test-library $(PROGRAM) lib
 
 test-dist:
-	packaging/make-dist --check
+	$(if $(wildcard $(STATIC)),packaging/make-dist --check,@echo 'left out: test-dist')
 
 test-proofs:
 	tests/gate/test-proofs
+
+test-definitions:
+	tests/gate/test-definitions
 
 test-checks:
 	tests/gate/test-checks
@@ -109,17 +132,28 @@ gate:
 bench: all
 	bench/measure $(PROGRAM)
 
-dist: all lib
+dist: all lib static
 	packaging/make-dist
 
 wheel: lib
 	python3 python/qrp_wheel.py
 
+deb: all lib
+	packaging/make-deb
+
+image: static
+	packaging/make-image
+
+install uninstall: export PREFIX := $(PREFIX)
+install uninstall: export LIBDIR := $(LIBDIR)
+install uninstall: export MANDIR := $(MANDIR)
+install uninstall: export DESTDIR := $(DESTDIR)
+
 install:
-	$(INSTALL_FILES) install
+	@packaging/install-files install
 
 uninstall:
-	$(INSTALL_FILES) uninstall
+	@packaging/install-files uninstall
 
 # on the built program and library
 test-install:

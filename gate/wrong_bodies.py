@@ -4,10 +4,13 @@ A wrong body is a file crates/NAME/must-fail/*.edit: lines `file: PATH`, `old: T
 file as the pairs before it left it.
 """
 
+import functools
 import re
 import shutil
 from dataclasses import dataclass, field
 from pathlib import Path
+
+from rattle_source import Source, apart, blanked, end_of_group, one_line, owner_of
 
 
 class BadEdit(Exception):
@@ -24,6 +27,10 @@ class Copy:
     place: int
     text: str
 
+    @property
+    def name(self):
+        return self.path.rsplit("::", 1)[1]
+
 
 @dataclass
 class Edit:
@@ -33,19 +40,40 @@ class Edit:
     files: dict
     functions: set = field(default_factory=set)
     added: set = field(default_factory=set)
+    # where it changes no function but a constant: the functions that name it
+    users: set = field(default_factory=set)
     copy: Copy | None = None
+    # the right body in the same way, and whether it stands beside the wrong one
+    right: Copy | None = None
+    control: Copy | None = None
     # for each check in which some did not fit: the changed files of stored answers by their paths in the crate
     answers: list = field(default_factory=list)
 
     def paths(self):
         """The functions that a check has to refuse for it."""
-        return {self.copy.path} if self.copy else self.functions | self.added
+        return {self.copy.path} if self.copy else self.functions or self.users
+
+    def copies(self):
+        return [it for it in (self.copy, self.control) if it]
 
     def put_answers(self, crate):
-        """Takes out of a copy of the crate the stored answers that did not fit in the checks before."""
-        for files in self.answers:
-            for file, text in files.items():
+        """Takes out of a copy of the crate the stored answers that did not fit in the checks before, of the wrong body and of the right one
+        beside it."""
+        for file, text in self.taken_out().items():
+            (crate / file).write_text(text, encoding="utf-8")
+            if self.control and self.copy.name in file:
+                file, text = (it.replace(self.copy.name, self.control.name) for it in (file, text))
                 (crate / file).write_text(text, encoding="utf-8")
+
+    def taken_out(self):
+        """The files of stored answers as they are without those that did not fit."""
+        return {file: text for files in self.answers for file, text in files.items()}
+
+    def of_right(self):
+        """What a right body has to be checked without, to compare with it: the same for all edits that lost the same answers."""
+        name = self.copy.name if self.copy else ""
+        as_right = lambda text: text.replace(name, "RIGHT") if name else text
+        return tuple(sorted(self.functions)), tuple(sorted((as_right(file), as_right(text)) for file, text in self.taken_out().items()))
 
 
 def read_edit(path, crate):
@@ -88,125 +116,89 @@ def replaced(file, text, old, new):
 # ---- functions of a source file
 
 
-def blanked(text):
-    """The text with blanks for what stands in comments, characters and strings."""
-    spaces = lambda found: re.sub(r"[^\n]", " ", found[0])
-    text = re.sub(r"//[^\n]*", spaces, text)
-    text = re.sub(r"'(\\.|[^'\\\n])'", spaces, text)
-    return re.sub(r'"(\\.|[^"\\])*"', spaces, text, flags=re.S)
+@functools.lru_cache(maxsize=256)
+def source_of(crate_name, file, text):
+    return Source(crate_name, file, text)
 
 
-def end_of_block(text, start):
-    """The place after the brace that closes the one at `start`."""
-    depth = 0
-    for at in range(start, len(text)):
-        depth += {"{": 1, "}": -1}.get(text[at], 0)
-        if depth == 0:
-            return at + 1
-    return len(text)
+def functions_of(crate_name, file, text):
+    """The functions of a source file by the paths that the prover gives them."""
+    return {it.path: it for it in source_of(crate_name, file, text).functions}
 
 
-def type_name(words):
-    """`a::Name<..>` without its path and its parameters, after which stand the types that are given for them."""
-    name = re.sub(r"^&?\s*(?:\w+::)*", "", words.strip())
-    return re.match(r"\w*", name)[0]
-
-
-def given_name(words):
-    """How the prover names a type that is given for a parameter: of a tuple its length and its parts."""
-    words = words.strip()
-    if words.startswith("("):
-        parts = apart(words[1 : words.rindex(")")])
-        return f"Tuple{len(parts)}" + "".join(map(given_name, parts))
-    name = type_name(words)
-    return name[:1].upper() + name[1:]
-
-
-def apart(words):
-    """The parts of a text between commas that stand in no bracket."""
-    parts, depth = [""], 0
-    for letter in words:
-        depth += {"<": 1, "(": 1, "[": 1, ">": -1, ")": -1, "]": -1}.get(letter, 0)
-        if letter == "," and depth == 0:
-            parts.append("")
-        else:
-            parts[-1] += letter
-    return [part for part in parts if part.strip()]
-
-
-def arguments(words):
-    """The text between the first `<` and the `>` that closes it."""
-    start = words.find("<")
-    if start < 0:
-        return ""
-    depth = 0
-    for at in range(start, len(words)):
-        depth += {"<": 1, ">": -1}.get(words[at], 0)
-        if depth == 0:
-            return words[start + 1 : at]
-    return ""
-
-
-def owner_of(head):
-    """How the prover names the `impl` or `trait` with this head, which stands in front of its brace."""
-    head = head.strip()
-    if head.startswith(("trait", "pub trait")):
-        return type_name(head.split("trait", 1)[1])
-    rest = head[len("impl") :].strip()
-    generics = set()
-    if rest.startswith("<"):
-        inner = arguments(rest)
-        generics = {type_name(it.split(":")[0]) for it in apart(inner)}
-        rest = rest[len(inner) + 2 :].strip()
-    rest = rest.split(" where ")[0]
-    if " for " not in rest:
-        return type_name(rest)
-    of_trait, of_type = rest.split(" for ", 1)
-    given = [it for it in apart(arguments(of_trait)) if type_name(it) not in generics]
-    name = type_name(of_type)
-    # a primitive type, too, is written with a capital
-    return name[:1].upper() + name[1:] + type_name(of_trait) + "".join(map(given_name, given))
-
-
-# The head of an `impl` or a trait.
-BLOCK = re.compile(r"(?m)^(?:unsafe )?(?:impl\b|(?:pub(?:\([a-z]+\))? )?trait\b)[^{]*")
-
-
-def functions(crate_name, file, text):
-    """The functions of a source file: (path as the prover has it, where its text begins and ends)."""
-    plain = blanked(text)
-    blocks = []
-    for found in BLOCK.finditer(plain):
-        if found.end() < len(plain):
-            blocks.append((found.start(), end_of_block(plain, found.end()), owner_of(found[0])))
-    inside = file[len("src/") : -len(".rt")].split("/")
-    here = [] if inside in (["lib"], ["main"]) else inside
-    # The methods of a type stand, for the prover, in the module of the type.
-    imported = {name: module.split("::") for module, name in re.findall(r"(?m)^use crate::([a-z_:]+)::([A-Z]\w*);", plain)}
-    heads = list(re.finditer(r"\bfn\s+(\w+)", plain))
-    found = []
-    for at, head in enumerate(heads):
-        owner = [name for start, end, name in blocks if start <= head.start() < end]
-        end = heads[at + 1].start() if at + 1 < len(heads) else len(plain)
-        end = min([end, *[stop for start, stop, _ in blocks if start <= head.start() < stop]])
-        path = [crate_name, *(imported.get(owner[0], here) if owner else here), *owner, head[1]]
-        found.append(("::".join(path), head.start(), end))
-    return found
-
-
-def bodies(crate_name, file, text):
-    """The text of each function by its path, from its name to the next function, without comments."""
-    plain = re.sub(r"//[^\n]*", lambda found: " " * len(found[0]), text)
-    return {path: " ".join(plain[start:end].split()) for path, start, end in functions(crate_name, file, text)}
+def words_of(it, text):
+    """What a function is, from its attributes to the end of its body, without comments and layout."""
+    return one_line(text[it.first : it.end])
 
 
 def find_functions(edit, crate_name, crate):
-    """Notes which functions of the crate the edit changes, and which it adds."""
+    """Notes which functions of the crate the edit changes, and which it adds; if it changes none, those that use what it changes. Raises
+    BadEdit where it changes a contract, or nothing that is proved."""
+    changed = set()
     for file, text in edit.files.items():
-        before = bodies(crate_name, file, read_source(crate, file))
-        after = bodies(crate_name, file, text)
-        edit.functions |= {path for path, body in before.items() if path in after and after[path] != body}
+        text_before = read_source(crate, file)
+        before, after = (functions_of(crate_name, file, it) for it in (text_before, text))
+        for path, it in before.items():
+            if path in after and words_of(after[path], text) != words_of(it, text_before):
+                check_contract(it, after[path])
+                edit.functions.add(path)
         edit.added |= set(after) - set(before)
+        changed |= constants_changed(source_of(crate_name, file, text_before), source_of(crate_name, file, text))
+    if not edit.functions and edit.added:
+        raise BadEdit("it adds a function, and changes none")
+    if not edit.functions and not changed:
+        raise BadEdit("it changes no function and no constant")
+    if not edit.functions:
+        edit.users = users_of(changed, crate_name, crate)
+
+
+def check_contract(before, after):
+    """Raises BadEdit where a function has another contract than before, or a public one other arguments."""
+    is_private = not before.signature.startswith("pub fn") and not before.is_of_trait
+    if before.contract() != after.contract():
+        raise BadEdit(f"it changes the contract of {before.name}")
+    if before.signature != after.signature and not (is_private and only_takes_more(before.signature, after.signature)):
+        raise BadEdit(f"it changes the signature of {before.name}")
+
+
+def only_takes_more(before, after):
+    """Whether a signature is another one with arguments more."""
+    left = iter(arguments_of(after))
+    return result_of(before) == result_of(after) and all(it in left for it in arguments_of(before))
+
+
+def arguments_of(signature):
+    start = signature.find("(", signature.find("fn "))
+    return [" ".join(it.split()) for it in apart(signature[start + 1 : end_of_group(signature, start) - 1])]
+
+
+def result_of(signature):
+    start = signature.find("(", signature.find("fn "))
+    return signature[end_of_group(signature, start) :].strip()
+
+
+def constants_changed(before, after):
+    """The names of the constants that are others than before. Raises BadEdit where a definition for the prover is another one."""
+    texts = [{}, {}]
+    for found, source in zip(texts, (before, after)):
+        for it in source.items:
+            if it.kind in ("const", "static", "ghost"):
+                within = owner_of(it.within.head) if it.within is not None and it.within.kind in ("impl", "trait") else ""
+                found[it.kind, within, it.name] = found.get((it.kind, within, it.name), "") + one_line(source.text[it.start : it.end])
+    changed = {key for key in {*texts[0], *texts[1]} if texts[0].get(key) != texts[1].get(key)}
+    for kind, within, name in sorted(changed):
+        if kind == "ghost":
+            raise BadEdit(f"it changes {name} of {within}, which only the prover reads")
+    return {name for _, _, name in changed}
+
+
+def users_of(names, crate_name, crate):
+    """The functions of the crate that name one of some constants."""
+    found = set()
+    for file in sorted((crate / "src").rglob("*.rt")):
+        source = source_of(crate_name, str(file.relative_to(crate)), file.read_text(encoding="utf-8"))
+        found |= {it.path for it in source.functions if any(re.search(rf"\b{name}\b", source.body(it)) for name in names)}
+    return found
 
 
 # ---- wrong bodies as functions of their own
@@ -218,39 +210,33 @@ def make_copy(edit, number, crate_name, crate):
     if len(edit.functions) != 1 or edit.added or len(edit.files) != 1:
         return
     (path,), ((file, text),) = edit.functions, edit.files.items()
-    before, name = read_source(crate, file), path.rsplit("::", 1)[1]
-    old, new = (lines_of(path, functions(crate_name, file, it), it) for it in (before, text))
-    if not old or not new or name == "main" or is_of_trait(before, old[2]):
+    before = read_source(crate, file)
+    old, new = (functions_of(crate_name, file, it)[path] for it in (before, text))
+    if old.name == "main" or old.is_of_trait:
         return
-    (start, end, _), (first, last, place) = old, new
-    is_all = before[:start] == text[:first] and before[end:] == text[last:]
-    body = text[first:place] + re.sub(rf"\bfn {name}\b", f"fn {name}_wrong_{number}", text[place:last], count=1)
-    if is_all and not re.search(rf"(?<![.:\w]){name}\(|\b[Ss]elf(?:\.|::){name}\(|#\[cycle", blanked(body)):
-        edit.copy = Copy(path, f"{path}_wrong_{number}", file, end, f"\n\n{body}")
+    start, first = (first_line(it, text) for it, text in ((old, before), (new, text)))
+    is_all = before[:start] == text[:first] and before[old.end :] == text[new.end :]
+    body = named(text, new, first, f"{new.name}_wrong_{number}")
+    if is_all and not re.search(rf"(?<![.:\w]){new.name}\(|\b[Ss]elf(?:\.|::){new.name}\(|#\[cycle", blanked(body)):
+        edit.copy = Copy(path, f"{path}_wrong_{number}", file, old.end, f"\n\n{body}")
+        edit.right = Copy(path, f"{path}_right_{number}", file, old.end, "\n\n" + named(before, old, start, f"{old.name}_right_{number}"))
 
 
-def lines_of(path, found, text):
-    """Where the lines of a function begin and end, with its attributes and comments, and where its `fn` stands; None if it is not one."""
-    places = [start for it, start, _ in found if it == path]
-    if len(places) != 1:
-        return None
-    line = text.rfind("\n", 0, places[0]) + 1
-    indent = re.match(" *", text[line:])[0]
-    close = text.find(f"\n{indent}}}\n", line)
-    above = re.search(rf"(?:^{indent}(?:#\[|///).*\n)*\Z", text[:line], re.M)
-    return (above.start(), close + len(f"\n{indent}}}"), places[0]) if close >= 0 else None
+def first_line(it, text):
+    """Where the lines of a function begin, with its attributes and the comments above them."""
+    line = text.rfind("\n", 0, it.first) + 1
+    return re.search(r"(?:^ *///.*\n)*\Z", text[:line], re.M).start()
 
 
-def is_of_trait(text, place):
-    """Whether the function at this place is a method that a trait has or asks for."""
-    plain = blanked(text)
-    heads = [it for it in BLOCK.finditer(plain) if it.end() < len(plain) and it.start() <= place < end_of_block(plain, it.end())]
-    return any("trait" in it[0].split() or " for " in it[0].split(" where ")[0] for it in heads)
+def named(text, it, start, name):
+    """The text of a function from a place on, under another name."""
+    place = it.name_end - len(it.name)
+    return text[start:place] + name + text[it.name_end : it.end]
 
 
 def copy_proofs(edits, crate_name, crate):
     """Gives the copies of functions the stored proofs of these, in the crate's folder."""
-    for copy in (edit.copy for edit in edits if edit.copy):
+    for copy in (copy for edit in edits for copy in edit.copies()):
         source, target = (crate / "proofs" / Path(*it.split("::")[1:]) for it in (copy.of, copy.path))
         if source.is_dir():
             shutil.copytree(source, target)
@@ -298,9 +284,8 @@ def calls(crate_name, crate):
     an edit that the check does not reach, since a function that it calls is refused, is tried again."""
     texts = {}
     for file in sorted((crate / "src").rglob("*.rt")):
-        plain = blanked(file.read_text(encoding="utf-8"))
-        for path, start, end in functions(crate_name, str(file.relative_to(crate)), plain):
-            texts[path] = plain[start + len("fn ") : end]
+        source = source_of(crate_name, str(file.relative_to(crate)), file.read_text(encoding="utf-8"))
+        texts.update({it.path: source.body(it) for it in source.functions})
     by_name = {}
     for path in texts:
         by_name.setdefault(path.rsplit("::", 1)[1], []).append(path)
@@ -350,7 +335,7 @@ def rounds(edits, reach):
 
 
 def has_room(group, edit):
-    return len(group) < MOST and sum(edit.functions == other.functions for other in group) < MOST_OF_ONE
+    return sum(1 + bool(it.control) for it in [*group, edit]) <= MOST and sum(edit.functions == other.functions for other in group) < MOST_OF_ONE
 
 
 def are_apart(one, other, reach):
@@ -367,7 +352,8 @@ def together(edits, crate):
     changes = {}
     for edit in edits:
         if edit.copy:
-            changes.setdefault(edit.copy.file, []).append((edit.copy.place, edit.copy.place, edit.copy.text))
+            text = "".join(it.text for it in edit.copies())
+            changes.setdefault(edit.copy.file, []).append((edit.copy.place, edit.copy.place, text))
             continue
         for file, text in edit.files.items():
             changes.setdefault(file, []).append(change(read_source(crate, file), text))
@@ -397,23 +383,25 @@ def change(before, after):
 class Refusal:
     """What a check says of a function that it does not prove."""
 
-    goals: list  # of its contract and its loops, which the prover could not show
+    goals: list  # which the prover could not show, of any kind
     false: list  # those of them that it found to be false for some values
     waits: bool  # it was not looked at, since what it calls is not proved
     misfits: list  # places of its stored proofs that no longer fit: (file, line, why)
 
+    def of_contract(self):
+        """Those of what it ensures, of the invariant of its type, and of its loops, which a loop with a label has under that name. The
+        others are of safety, of a `prove!`, or of what the functions that it calls require, and say nothing of its own contract."""
+        own = re.compile(r"(?:returns|loop|invariant_of)(?:-|$)|[\w-]*-(?:init|preserved)(?:-|$)")
+        return [it for it in self.goals if own.match(it) and "-requires" not in it]
+
 
 def function_at(crate, file, line):
     """The name of the function that a line of a source file is of, from its comments and attributes to the next function; None above all."""
-    text, name = read_source(crate, file), None
-    lines = text.split("\n")
-    for head in re.finditer(r"\bfn\s+(\w+)", blanked(text)):
-        first = text.count("\n", 0, head.start()) + 1
-        while first > 1 and re.match(r" *(#\[|//)", lines[first - 2]):
-            first -= 1
-        if first > line:
+    source, name = source_of("", file, read_source(crate, file)), None
+    for it in source.functions:
+        if source.line(first_line(it, source.text)) > line:
             break
-        name = head[1]
+        name = it.name
     return name
 
 

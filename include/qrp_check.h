@@ -11,8 +11,9 @@
  * `objcopy` and the linker that packed it, and on the C library: on its malloc, realloc and free, and on memcpy, memmove and
  * memset. Link with -lqrp, or with libqrp.a; nothing else is needed. The manual page is qrp_check(3).
  *
- * What every caller must do; nothing checks it:
- *   - No pointer is NULL, even if a length or a room is 0 (then any address will do, such as that of "").
+ * What every caller must do; the library checks none of it:
+ *   - No pointer is NULL, even if a length or a room is 0 (then any address will do, such as that of ""). GCC and Clang warn of a NULL
+ *     that they see (-Wnonnull), and -fsanitize=undefined finds each at run time.
  *   - A text has the length that is given, and nothing writes to it during the call. The texts may have any alignment, need not be
  *     NUL-terminated, may overlap each other, and stay the caller's.
  *   - What is written to (a buffer, a list of steps, a verdict) has the room that is given, is properly aligned, and overlaps
@@ -41,6 +42,13 @@
 #define QRP_VERSION_MINOR 0
 #define QRP_VERSION_PATCH 0
 #define QRP_VERSION (QRP_VERSION_MAJOR * 10000 + QRP_VERSION_MINOR * 100 + QRP_VERSION_PATCH)
+
+/* No pointer that is passed to a call is NULL. */
+#if defined(__GNUC__)
+#define QRP_NONNULL __attribute__((nonnull))
+#else
+#define QRP_NONNULL
+#endif
 
 #ifdef __cplusplus
 extern "C" {
@@ -80,7 +88,7 @@ uint32_t qrp_version(void);
  *   program.
  */
 int32_t qrp_verify(const void *formula, size_t formula_length, const void *trace, size_t trace_length, bool any_pivot,
-                   struct qrp_verdict *out);
+                   struct qrp_verdict *out) QRP_NONNULL;
 
 /* The calls below that write a text work alike: they return its length without the zero that comes after it. If `room` is greater
  * than that length, the text and its zero are written to the front of the buffer, and else nothing is. The rest of the buffer is left
@@ -89,28 +97,28 @@ int32_t qrp_verify(const void *formula, size_t formula_length, const void *trace
 
 /* Writes the line of a verdict, as the program prints it, with its line end. The line is empty if the fields are not, all of them, those
  * of a verified verdict or of a fault, as in a struct of zeros. It takes no memory, so it also works after QRP_NO_MEMORY. */
-size_t qrp_verdict_line(const struct qrp_verdict *verdict, char *buffer, size_t room);
+size_t qrp_verdict_line(const struct qrp_verdict *verdict, char *buffer, size_t room) QRP_NONNULL;
 
 /* Writes what the fault of a verdict means: one sentence, always the same for the same fault. It is empty if there is no fault. It
  * takes no memory. */
-size_t qrp_fault_text(const struct qrp_verdict *verdict, char *buffer, size_t room);
+size_t qrp_fault_text(const struct qrp_verdict *verdict, char *buffer, size_t room) QRP_NONNULL;
 
 /* Checks as qrp_verify does and writes the same to *out. If the trace is verified, it writes the trace with only the steps that the
  * proof needs, in canonical form, as `qrp_cmd trim` prints it; else the text is empty, and the length 0. The trimmed trace is itself
  * verified. A room of trace_length + 32 has been enough for every trace that was tried. */
 size_t qrp_trim(const void *formula, size_t formula_length, const void *trace, size_t trace_length, bool any_pivot, char *buffer,
-                size_t room, struct qrp_verdict *out);
+                size_t room, struct qrp_verdict *out) QRP_NONNULL;
 
 /* Writes the formula in canonical form, as `qrp_cmd format` prints it, and zeros to *out, which are not a verdict, since nothing was
  * checked. If the formula is refused or there is no memory, *out has the fault, and the text is empty, and its length 0. A room of
  * formula_length + 32 has been enough for every formula that was tried. */
-size_t qrp_format(const void *formula, size_t formula_length, char *buffer, size_t room, struct qrp_verdict *out);
+size_t qrp_format(const void *formula, size_t formula_length, char *buffer, size_t room, struct qrp_verdict *out) QRP_NONNULL;
 
 /* Checks as qrp_verify does and writes the same to *out. If the trace is verified, it returns how many steps the proof needs, and if
  * `room` is not less than that, writes their numbers to the front of `steps`, in the order of the trace; else it returns 0. The rest
  * of `steps` is left as it was. */
 size_t qrp_core(const void *formula, size_t formula_length, const void *trace, size_t trace_length, bool any_pivot, uint64_t *steps,
-                size_t room, struct qrp_verdict *out);
+                size_t room, struct qrp_verdict *out) QRP_NONNULL;
 
 #ifdef __cplusplus
 }

@@ -24,7 +24,7 @@ pub fn sum(a: u64, b: u64) -> u64 {
     low::first(a) + b
 }
 pub fn most(a: u64) -> u64 {
-    a
+    a + 0
 }
 impl<F> From<(Fault, u64)> for Pair<F> where F: Copy {
     fn from(given: (Fault, u64)) -> Pair<F> {
@@ -41,7 +41,7 @@ impl Pair {
     }
 }
 """
-LOW = "pub fn first(a: u64) -> u64 {\n    a\n}\n"
+LOW = "pub fn first(a: u64) -> u64\n    ensures { result ≡ a }\n{\n    a\n}\n"
 
 # What a check says of each function: by its text.
 RT = r"""#!/usr/bin/env python3
@@ -57,29 +57,40 @@ if verb == "lib":
         print("error: not this"), sys.exit(1)
     (here / "out/rlib").mkdir(parents=True, exist_ok=True)
     sys.exit(0)
+
+
+def say(path, folder, place, name, body, stored):
+    # `sum` does not need its stored answer, and `most` does.
+    if "@" in body:
+        return [f"{place}:1: error: expected an expression"]
+    misfit = f"./{folder}/Answers.antt:4:3: error: `returns`: the two types differ"
+    waits = f"fn {path}: no proof: it calls `one::low::first`, which is not proved"
+    is_most = name.startswith("most")
+    fits = not stored or "fits" not in stored or not ("a * b" in body or is_most and "a + 0" not in body)
+    goals = ["returns"] if "a - b" in body or "a * b" in body or "a.0" in body or is_most and "fits" not in stored else []
+    goals += ["bounds-a-b"] if "a[b]" in body else []
+    goals += ["prove-unreachable-requires"] if "prove!" in body else []
+    said = [f"./{folder}/Answers.antt:6:13: error: `no_answer`: the two types differ"] if "no_answer" in stored else []
+    if "b + a" in body:
+        return [*said, waits]
+    if not fits:
+        return [*said, misfit, f"fn {path}: not proved"]
+    if "no_answer" in stored:
+        notes = [f"note: {place}:1: it is not proved that what the function ensures holds when it returns (`{goal}`)" for goal in goals]
+        return [*said, *notes, f"fn {path}: not proved"]
+    names = ", ".join(f"`{goal}`" for goal in goals)
+    return [f"fn {path}: no proof: expected answers in ./{folder}/Answers.antt; `search` did not prove {names}"] if goals else []
+
+
 said = []
 for file, text in texts.items():
     module = [] if file.stem == "lib" else [file.stem]
-    for name, body in re.findall(r"\bfn (\w+)(.*?)(?=\bfn \w|\Z)", text, re.S):
+    for found in re.finditer(r"\bfn (\w+)(.*?)(?=\bfn \w|\Z)", text, re.S):
+        name, body = found.groups()
         path, folder = "::".join(["one", *module, name]), "/".join(["proofs", *module, name])
         answers = here / folder / "Answers.antt"
         stored = answers.read_text() if answers.exists() else ""
-        refused = f"fn {path}: no proof: expected answers in ./{folder}/Answers.antt; `search` did not prove `returns`"
-        waits = f"fn {path}: no proof: it calls `one::low::first`, which is not proved"
-        is_wrong = "a - b" in body or "a * b" in body or "a.0" in body
-        if "no_answer" in stored:
-            said.append(f"./{folder}/Answers.antt:6:13: error: `no_answer`: the two types differ")
-        if "a * b" in body and "fits" in stored:
-            said.append(f"./{folder}/Answers.antt:4:3: error: `returns`: the two types differ\nfn {path}: not proved")
-        elif "no_answer" in stored:
-            note = "note: src/lib.rt:6:1: it is not proved that what the function ensures holds when it returns (`returns`)\n"
-            said.append(waits if "b + a" in body else f"{note if is_wrong else ''}fn {path}: not proved")
-        elif is_wrong:
-            said.append(refused)
-        elif "b + a" in body:
-            said.append(waits)
-        elif "@" in body:
-            said.append("src/lib.rt:6:1: error: expected an expression")
+        said += say(path, folder, f"{file.relative_to(here)}:{text.count(chr(10), 0, found.start()) + 1}", name, body, stored)
 print("\n".join(said))
 sys.exit(1 if said else 0)
 """
@@ -97,15 +108,19 @@ class Repository:
     def __init__(self, edits, source=SOURCE):
         self.root = Path(tempfile.mkdtemp(prefix="test-proofs-"))
         crate = self.root / "crates" / "one"
-        for folder in ("src", "must-fail", "proofs/sum", "out"):
+        for folder in ("src", "must-fail", "proofs/sum", "proofs/most", "out"):
             (crate / folder).mkdir(parents=True)
         (crate / "src/lib.rt").write_text(source)
         (crate / "src/low.rt").write_text(LOW)
-        (crate / "proofs/sum/Answers.antt").write_text("use Rattle.std.{refl}\n\npub returns : goal.returns\nreturns c = fits\n")
+        for name in ("sum", "most"):
+            (crate / f"proofs/{name}/Answers.antt").write_text("use Rattle.std.{refl}\n\npub returns : goal.returns\nreturns c = fits\n")
         for name, text in edits.items():
             (crate / "must-fail" / f"{name}.edit").write_text(text)
         (self.root / "crates.txt").write_text("# NAME: what it stands on\none: indexmap\n")
         shutil.copytree(GATE, self.root / "gate")
+        (self.root / "gate/needed-answers.tsv").unlink(missing_ok=True)
+        self.table = self.root / "gate/wrong-bodies.tsv"
+        self.table.write_text("# made up\n" + "".join(f"one/{name}\t-\n" for name in edits))
         self.rt = self.root / "rt"
         self.rt.write_text(RT)
         self.rt.chmod(0o755)
@@ -134,14 +149,14 @@ def is_bad(text, why):
     with Repository({"one": text}) as repository:
         crate = repository.root / "crates/one"
         try:
-            read_edit(crate / "must-fail/one.edit", crate)
+            wrong_bodies.find_functions(read_edit(crate / "must-fail/one.edit", crate), "one", crate)
         except BadEdit as error:
             return why in str(error)
     return False
 
 
 def names_are_those_of_the_prover():
-    found = [path for path, _, _ in wrong_bodies.functions("one", "src/lib.rt", SOURCE)]
+    found = list(wrong_bodies.functions_of("one", "src/lib.rt", SOURCE))
     return found == ["one::sum", "one::most", "one::PairFromTuple2FaultU64::from", "one::Pair::left", "one::Pair::made"]
 
 
@@ -153,6 +168,10 @@ def edits_that_cannot_be_tried():
         is_bad("file: specs/Lib.antt\nold: a\nnew: b\n", "no source file"),
         is_bad("file: src/lib.rt\nnew: b\n", "before any"),
         is_bad("nothing\n", "no pair"),
+        is_bad("file: src/low.rt\nold: result ≡ a\nnew: result ≡ 97\n", "it changes the contract of first"),
+        is_bad("file: src/low.rt\nold: a: u64\nnew: a: u8\n", "it changes the signature of first"),
+        is_bad("file: src/lib.rt\nold: mod low;\nnew: mod low; fn extra(a: u64) -> u64 ensures { result ≡ 1 } { a.0 }\n", "it adds a function, and changes none"),
+        is_bad("file: src/lib.rt\nold: of anything else\nnew: of anything\n", "it changes no function and no constant"),
     ])
 
 
@@ -191,9 +210,8 @@ def a_copy_has_the_contract_and_the_proofs():
 
 
 def what_is_no_copy():
-    """Wrong bodies that change a contract, a method of a trait, a function that calls itself, or two functions."""
+    """Wrong bodies that change a method of a trait, a function that calls itself, or two functions."""
     edits = {
-        "contract": "file: src/lib.rt\nold: mod low;\nnew: mod high;\n",
         "method": "file: src/lib.rt\nold: given.1, 0\nnew: given.1, 1\n",
         "itself": "file: src/lib.rt\nold: low::first(a) + b\nnew: sum(a, b)\n",
         "both": "file: src/lib.rt\nold: low::first(a) + b\nnew: a - b\nold: self.0\nnew: self.1\n",
@@ -217,7 +235,7 @@ def each_is_refused_by_its_own_function():
             told.returncode == 0,
             lines[-1] == "3 passed, 0 failed",
             "refused: one/sum_is_a_difference: one::sum: returns (not shown)" in lines,
-            "refused: one/sum_is_a_product: one::sum: returns (not shown, its stored answer taken out)" in lines,
+            "refused: one/sum_is_a_product: one::sum: returns (not shown, and the right body needs none of the answers taken out for it)" in lines,
             "refused: one/first_is_a_field: one::low::first: returns (not shown)" in lines,
             # The one with an answer that does not fit is left, and tried in a round of its own.
             any(line.startswith("one 1: 3 wrong bodies, ") for line in lines),
@@ -232,6 +250,103 @@ def fails(new, why):
         told = repository.run()
         lines = told.stdout.splitlines()
         return told.returncode == 1 and lines[-1] == "0 passed, 1 failed" and any(it.startswith("FAILED: one/one: ") and why in it for it in lines)
+
+
+def is_without_evidence(old, new, goal, why):
+    """The body with this text is not counted as a wrong body that was refused, nor does it fail."""
+    with Repository({"one": f"file: src/lib.rt\nold: {old}\nnew: {new}\n"}) as repository:
+        told = repository.run()
+        lines = told.stdout.splitlines()
+        written = (repository.root / "bin/without-evidence.tsv").read_text()
+        return all([
+            told.returncode == 0,
+            lines[-2:] == ["1 without evidence, in bin/without-evidence.tsv", "0 passed, 0 failed"],
+            any(it.startswith("without evidence: one/one: ") and it.endswith(f": {goal}: {why}") for it in lines),
+            written.startswith("one/one\t") and written.endswith(f"\t{goal}\t{why}\n"),
+            not any(it.startswith("refused") for it in lines),
+        ])
+
+
+def right_bodies_do_not_count():
+    """What has the same value, but loses a stored answer, or has something that only safety or a `prove!` is about."""
+    return all([
+        is_without_evidence("a + 0", "0 + a", "returns", "its stored answer is taken out, and the right body needs that one"),
+        is_without_evidence("low::first(a) + b", "a[b]; low::first(a) + b", "bounds-a-b", "no goal of its contract is open"),
+        is_without_evidence("low::first(a) + b", "prove!(a); low::first(a) + b", "prove-unreachable-requires", "no goal of its contract is open"),
+    ])
+
+
+def two_bodies_share_a_right_one():
+    edits = {f"most_{number}": f"file: src/lib.rt\nold: a + 0\nnew: a * {number}\n" for number in (2, 3)}
+    with Repository(edits) as repository:
+        told = repository.run()
+        rights = [line for line in (repository.root / "log").read_text().splitlines() if "most_right" in line]
+        return told.returncode == 0 and "2 without evidence" in told.stdout and len(rights) == 1 and rights[0].count("most_right") == 1
+
+
+def a_right_body_that_needs_its_answers_is_checked_once():
+    edits = {"most_2": "file: src/lib.rt\nold: a + 0\nnew: a * 2\n"}
+    with Repository(edits) as repository:
+        rights = lambda: (repository.root / "log").read_text().count("most_right")
+        first, before = repository.run(), rights()
+        stored = repository.run("--store")
+        second, after = repository.run(), rights()
+        # Its text is another one now, so it is checked again.
+        source = repository.root / "crates/one/src/lib.rt"
+        source.write_text(source.read_text().replace("pub fn most", "/// The most.\npub fn most"))
+        third = repository.run()
+        wanted = "1 without evidence, in bin/without-evidence.tsv\n0 passed, 0 failed\n"
+        told = all(it.stdout.endswith(wanted) for it in (first, second, third))
+        return told and stored.returncode == 0 and (before, after, rights()) == (1, 1, 2)
+
+
+def goals_of_a_contract():
+    kinds = {
+        True: ["returns", "returns-in-Ok", "loop-i-init", "loop-i-preserved-then-is", "tokens-preserved-in-Ok", "invariant_of-self"],
+        False: ["bounds-a-b", "prove-unreachable-requires", "number-requires", "list_at-requires-clause-place", "overflow_add-result", "unreachable-requires-in-Err"],
+    }
+    return all(bool(wrong_bodies.Refusal([goal], [], False, []).of_contract()) == counts for counts, goals in kinds.items() for goal in goals)
+
+
+def a_lost_wrong_body_is_seen():
+    def says(change, why, status=1):
+        with Repository(EDITS) as repository:
+            change(repository)
+            told = repository.run("--list")
+            return told.returncode == status and any(it.startswith("FAILED: ") and why in it for it in told.stdout.splitlines())
+
+    folder = lambda repository: repository.root / "crates/one/must-fail"
+    first = lambda repository: folder(repository) / "first_is_a_field.edit"
+    promise = lambda repository: repository.table.write_text("#   nothing is promised\n" + repository.table.read_text())
+    return all([
+        says(lambda it: first(it).unlink(), "one/first_is_a_field is written down in gate/wrong-bodies.tsv, and there is no such file"),
+        says(lambda it: shutil.rmtree(folder(it)), "one/sum_is_a_product is written down"),
+        says(lambda it: first(it).rename(folder(it) / "first_is_a_field.edits"), "first_is_a_field.edits is not a wrong body"),
+        says(lambda it: shutil.copy(first(it), folder(it) / "new.edit"), "one/new is not written down"),
+        says(promise, "there is no wrong body of the promised kind: nothing is promised"),
+    ])
+
+
+def what_is_stored_keeps_the_promises():
+    with Repository(EDITS) as repository:
+        repository.table.write_text("# made up\n#   a sum is wrong\none/sum_is_a_product\ta sum is wrong\none/gone\t-\n")
+        told = repository.run("--store")
+        wanted = "# made up\n#   a sum is wrong\none/first_is_a_field\t-\none/sum_is_a_difference\t-\none/sum_is_a_product\ta sum is wrong\n"
+        return told.returncode == 0 and repository.table.read_text() == wanted and repository.run("--list").returncode == 0
+
+
+def names_as_the_shell_completes_them():
+    names = ["one/first_is_a_field", "one/first_is_a_field.edit", "crates/one/must-fail/first_is_a_field.edit", "./crates/one/must-fail/first_is_a_field.edit"]
+    with Repository(EDITS) as repository:
+        alone = all(repository.run("--list", name).stdout == "one 1: first_is_a_field\n" for name in names)
+        whole = all(repository.run("--list", name).stdout == repository.run("--list").stdout for name in ("one/", "crates/one", "crates/one/must-fail/"))
+        return alone and whole and "each must be refused by a goal" in " ".join(repository.run("--help").stdout.split())
+
+
+def what_cannot_be_tried_is_said_at_once():
+    with Repository({**EDITS, "gone": "file: src/lib.rt\nold: not there\nnew: b\n"}) as repository:
+        told = repository.run()
+        return told.returncode == 1 and "FAILED: one/gone: an old text stands 0 times" in told.stdout and not (repository.root / "log").exists()
 
 
 def bodies_that_are_not_refused():
@@ -342,6 +457,14 @@ TESTS = [
     what_is_no_copy,
     each_is_refused_by_its_own_function,
     bodies_that_are_not_refused,
+    right_bodies_do_not_count,
+    two_bodies_share_a_right_one,
+    a_right_body_that_needs_its_answers_is_checked_once,
+    goals_of_a_contract,
+    a_lost_wrong_body_is_seen,
+    what_is_stored_keeps_the_promises,
+    names_as_the_shell_completes_them,
+    what_cannot_be_tried_is_said_at_once,
     what_is_wrong_is_said,
     a_full_disk_is_said,
     an_interrupt_leaves_nothing,

@@ -6,6 +6,7 @@ it is how many microseconds the cases of the list take, the best of twenty runs.
 """
 
 import concurrent.futures
+import ctypes
 import dataclasses
 import doctest
 import mmap
@@ -141,6 +142,36 @@ def from_pipe(example):
         os.close(reader)
 
 
+def struct_of(fault):
+    """The struct that the library writes for a fault on line, at step or for variable 1, by its name."""
+    letter, number = fault[0], int(fault[1:])
+    rule = number if letter == "S" else 0
+    letter, number = ("C", 6) if rule else (letter, number)
+    device = letter in "FP" and number == 1
+    memory = (letter, number) in (("F", 9), ("P", 9), ("C", 5))
+    place = 0 if device or memory or (letter, number) == ("C", 4) else 1
+    status = 3 if device else 4 if memory else 1 if letter == "C" else 2
+    return qrp_check._Verdict(place=place, status=status, truth=0, letter=ord(letter), number=number, rule=rule)
+
+
+def sentence_of(fault):
+    """What `qrp_fault_text` writes for a fault."""
+    room = ctypes.create_string_buffer(qrp_check._FAULT_ROOM)
+    verdict = struct_of(fault)
+    length = qrp_check._library.qrp_fault_text(ctypes.byref(verdict), room, len(room))
+    return room.raw[:length].decode() if room.raw[length] == 0 else ""
+
+
+def meanings():
+    """Whether each fault has the sentence that tests/meanings.tsv has for it, and each name stands there once."""
+    rows = [line.split("\t") for line in (ROOT / "tests" / "meanings.tsv").read_text().splitlines()]
+    names = [f"{letter}{number}" for letter, last in (("F", 9), ("P", 9), ("C", 5), ("S", 12)) for number in range(1, last + 1)]
+    wrong = [f"{fault}: {sentence_of(fault)}" for fault, wanted in rows[1:] if sentence_of(fault) != wanted]
+    for line in wrong:
+        print(f"FAILED: the sentence of {line}")
+    return [rows[0] == ["fault", "sentence"] and [fault for fault, _ in rows[1:]] == names, *[True] * (len(rows) - 1 - len(wrong)), *[False] * len(wrong)]
+
+
 def best_time(cases):
     """The best of twenty runs over all cases, in microseconds."""
     best = None
@@ -163,11 +194,11 @@ def main(words):
         if not is_right:
             print(f"FAILED: in Python: wanted {case.status} {case.line}")
     verified = next(case for case in cases if case.status == 0 and len(case.trace) < 4096)
-    rest = [*errors(verified), from_pipe(verified), all(is_lent(case) for case in cases if case.trace)]
+    rest = [*meanings(), *errors(verified), from_pipe(verified), all(is_lent(case) for case in cases if case.trace)]
     with concurrent.futures.ThreadPoolExecutor(8) as pool:
         rest.append(all(pool.map(is_answered, cases * 8)))
     if not all(rest):
-        print(f"FAILED: in Python: errors, pipes, buffers, and eight threads at once: {rest}")
+        print(f"FAILED: in Python: meanings, errors, pipes, buffers, and eight threads at once: {rest}")
     answers = [is_right for is_right, _ in results] + rest
     print(f"in Python: {len(cases)} cases")
     print(answers.count(True), answers.count(False))

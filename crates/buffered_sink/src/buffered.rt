@@ -181,6 +181,7 @@ impl<S: Sink> Buffered<S> {
         ensures ok { OnOk result (S.failures self.new.sink ≡ S.failures self.old.sink) }
         ensures err { OnErr result (S.failures self.old.sink < 2 ^ 64 - 1
             → S.failures self.old.sink < S.failures self.new.sink) }
+        ensures last { OnErr result (S.failed_last self.new.sink) }
         ensures stays { S.failures self.old.sink ≤ S.failures self.new.sink }
         ensures empty { OnOk result (self.new.buffer ≡ []) }
     {
@@ -204,6 +205,7 @@ impl<S: Sink> Buffered<S> {
         ensures ok { OnOk result (S.failures self.new.sink ≡ S.failures self.old.sink) }
         ensures err { OnErr result (S.failures self.old.sink < 2 ^ 64 - 1
             → S.failures self.old.sink < S.failures self.new.sink) }
+        ensures last { OnErr result (S.failed_last self.new.sink) }
         ensures stays { S.failures self.old.sink ≤ S.failures self.new.sink }
     {
         self.flush_buffer()?;
@@ -215,7 +217,8 @@ impl<S: Sink> Buffered<S> {
     #[inline(never)]
     fn flush_then_push_all(&mut self, bytes: &[u8]) -> Result<(), SinkFault>
         ensures { IsPut (⟦<Buffered<S> as Sink>⟧.written)
-            (⟦<Buffered<S> as Sink>⟧.failures) self.old self.new bytes.now result }
+            (⟦<Buffered<S> as Sink>⟧.failures) (⟦<Buffered<S> as Sink>⟧.failed_last)
+            self.old self.new bytes.now result }
     {
         self.flush_buffer()?;
         self.sink.push_all(bytes)
@@ -226,7 +229,8 @@ impl<S: Sink> Buffered<S> {
     #[inline(never)]
     fn flush_then_push_number(&mut self, n: u64) -> Result<(), SinkFault>
         ensures { IsPut (⟦<Buffered<S> as Sink>⟧.written)
-            (⟦<Buffered<S> as Sink>⟧.failures) self.old self.new (decimal n) result }
+            (⟦<Buffered<S> as Sink>⟧.failures) (⟦<Buffered<S> as Sink>⟧.failed_last)
+            self.old self.new (decimal n) result }
     {
         self.flush_buffer()?;
         self.buffer.begin_with(n);
@@ -238,6 +242,7 @@ impl<S: Sink> Buffered<S> {
     #[inline(never)]
     fn flush_then_push_spaced(&mut self, negative: bool, n: u64) -> Result<(), SinkFault>
         ensures { IsPut (⟦<Buffered<S> as Sink>⟧.written) (⟦<Buffered<S> as Sink>⟧.failures)
+            (⟦<Buffered<S> as Sink>⟧.failed_last)
             self.old self.new (32 ∷ token_text (Number negative n)) result }
     {
         self.flush_buffer()?;
@@ -252,6 +257,8 @@ impl<S: Sink> Sink for Buffered<S> {
     ghost failures = { λ b. S.failures b.sink };
 
     ghost finished = { λ b. (b.buffer ≡ []) × S.finished b.sink };
+
+    ghost failed_last = { λ b. S.failed_last b.sink };
 
     #[inline(always)]
     fn push(&mut self, bytes: &[u8]) -> Result<usize, SinkFault> {

@@ -1,5 +1,5 @@
 -- Decimal digits among bytes.
-use Rattle.std.specs.Prelude.{ℕ, ◌≡◌, ◌<◌, ◌≤◌, ◌-◌, ◌+◌, List, ◌++◌, false, take, drop, replicate, length, slice_index}
+use Rattle.std.specs.Prelude.{ℕ, ◌≡◌, ◌<◌, ◌≤◌, ◌-◌, ◌+◌, ◌*◌, ◌^◌, ◌⊎◌, List, ◌++◌, true, false, take, drop, replicate, length, slice_index}
 use Rattle.std.specs.Int.{w64, to_le_bytes}
 use Rattle.std.specs.Char.{is_ascii_digit}
 use Rattle.std.specs.Str.Parse.{digits_value, AllDigits}
@@ -13,12 +13,14 @@ pub record AreDigits (bytes : List ℕ) (from end value : ℕ) : Type 0 where
   pub value_is : value ≡ digits_value 10 (take (end - from) (drop from bytes))
   pub stops : is_ascii_digit (slice_index bytes end) ≡ false
 
--- what was found from a place on: the value of the digits there, at most 20 and as far as it has 64 bits, and the place after them
+-- What was found from a place on: the value of the digits there, at most 20 and as far as it has 64 bits, and the place after them. If
+-- another digit follows, there are 20 already, or the value with it does not fit.
 pub record AreLeadingDigits (bytes : List ℕ) (from : ℕ) (found : ℕ × ℕ) : Type 0 where
   pub within : (from ≤ found.1) × (found.1 ≤ length bytes) × (found.1 ≤ from + 20)
   pub digits : AllDigits 10 (take (found.1 - from) (drop from bytes))
   pub value : found.0 ≡ digits_value 10 (take (found.1 - from) (drop from bytes))
-  pub longest : found.1 < from + 19 → found.1 < length bytes → is_ascii_digit (slice_index bytes found.1) ≡ false
+  pub longest : found.1 < length bytes → is_ascii_digit (slice_index bytes found.1) ≡ true
+      → (found.1 ≡ from + 20) ⊎ (2 ^ 64 ≤ found.0 * 10 + (slice_index bytes found.1 - 48))
 
 -- the word of the first eight bytes, with zero digits in place of those before a place
 pub record IsWithZeros (bytes : List ℕ) (from word : ℕ) : Type 0 where

@@ -21,7 +21,8 @@ pub trait Put {
     /// # Errors
     /// A `SinkFault` where the sink failed. What went out is a beginning of the text then.
     fn put<K: Sink>(&self, sink: &mut K) -> Result<(), SinkFault>
-        ensures { IsPut K.written K.failures sink.old sink.new (text self.now) result };
+        ensures { IsPut K.written K.failures K.failed_last
+            sink.old sink.new (text self.now) result };
 }
 
 /// A literal after a blank.

@@ -81,65 +81,65 @@ module _ {S : Type 0} {written : S → Option (List ℕ)} {failures : S → ℕ}
       → Appends (written b) (written c) (take n rest) → failures c ≡ failures b → IsSent written failures a c whole (drop n rest)
   sent_more {rest = rest} n s p works = sent_step _ _ _ _ rest (take n rest) (drop n rest) s (sym (take-append-drop n rest)) p works
 
-  module _ {T U E F : Type 0} where
+  module _ {failed_last : S → Type 0} {T U E F : Type 0} where
     -- a part that fails, and with it the whole
     pub put_fails : {a b : S} {whole part : List ℕ} {e : E} {f : F} {r : Result U F} (more : List ℕ) → whole ≡ part ++ more → r ≡ Err f
-        → IsPut {T = T} written failures a b part (Err e) → IsPut written failures a b whole r
+        → IsPut {T = T} written failures failed_last a b part (Err e) → IsPut written failures failed_last a b whole r
     put_fails more is fails p = grind (arith, common_steps)
 
     then_by : (a b c : S) (whole part more : List ℕ) (u : T) (r : Result U F) → whole ≡ part ++ more
-        → IsPut {E = E} written failures a b part (Ok u) → IsPut written failures b c more r → IsPut written failures a c whole r
+        → IsPut {E = E} written failures failed_last a b part (Ok u) → IsPut written failures failed_last b c more r → IsPut written failures failed_last a c whole r
     then_by a b c whole part more u r is p q = grind (arith, common_steps)
 
     -- a part that goes out, and then the rest
     pub put_then : {a b c : S} {whole part : List ℕ} {u : T} {r : Result U F} (more : List ℕ) → whole ≡ part ++ more
-        → IsPut {E = E} written failures a b part (Ok u) → IsPut written failures b c more r → IsPut written failures a c whole r
+        → IsPut {E = E} written failures failed_last a b part (Ok u) → IsPut written failures failed_last b c more r → IsPut written failures failed_last a c whole r
     put_then more is p q = then_by _ _ _ _ _ more _ _ is p q
 
-  module _ {T E : Type 0} where
+  module _ {failed_last : S → Type 0} {T E : Type 0} where
     -- what went out of the whole before a call that sends the rest
     pub sent_put : {a b c : S} {whole rest : List ℕ} {r : Result T E} → IsSent written failures a b whole rest
-        → IsPut written failures b c rest r → IsPut written failures a c whole r
+        → IsPut written failures failed_last b c rest r → IsPut written failures failed_last a c whole r
     sent_put = grind (arith, common_steps)
 
     -- what went out before a call that sends a part more
     pub sent_part : {a b c : S} {whole rest part : List ℕ} {u : T} (more : List ℕ) → IsSent written failures a b whole rest
-        → rest ≡ part ++ more → IsPut {E = E} written failures b c part (Ok u) → IsSent written failures a c whole more
+        → rest ≡ part ++ more → IsPut {E = E} written failures failed_last b c part (Ok u) → IsSent written failures a c whole more
     sent_part more s is p = sent_step _ _ _ _ _ _ more s is p.ok p.failures_ok
 
     -- the rest, where the call sends it under another name
     pub sent_last : {a b c : S} {whole rest part : List ℕ} {r : Result T E} → IsSent written failures a b whole rest → rest ≡ part
-        → IsPut written failures b c part r → IsPut written failures a c whole r
-    sent_last {b = b} {c = c} {r = r} s is q = sent_put s (subst (λ k. IsPut written failures b c k r) (sym is) q)
+        → IsPut written failures failed_last b c part r → IsPut written failures failed_last a c whole r
+    sent_last {b = b} {c = c} {r = r} s is q = sent_put s (subst (λ k. IsPut written failures failed_last b c k r) (sym is) q)
 
-  module _ {T U E F : Type 0} where
+  module _ {failed_last : S → Type 0} {T U E F : Type 0} where
     -- a part that fails at the exit of a `?`
     pub part_fails : {a b : S} {part : List ℕ} {e : E} {r : Result U F} (Q : F → Type 0) (more : List ℕ) → IsErrAnd r Q
-        → IsPut {T = T} written failures a b part (Err e) → IsPut written failures a b (part ++ more) r
+        → IsPut {T = T} written failures failed_last a b part (Err e) → IsPut written failures failed_last a b (part ++ more) r
     part_fails {r = r} Q more is p = put_fails more refl (err_from_is_err_and r is).1 p
 
-    pub part_then : {a b c : S} {part more : List ℕ} {u : T} {r : Result U F} → IsPut {E = E} written failures a b part (Ok u)
-        → IsPut written failures b c more r → IsPut written failures a c (part ++ more) r
+    pub part_then : {a b c : S} {part more : List ℕ} {u : T} {r : Result U F} → IsPut {E = E} written failures failed_last a b part (Ok u)
+        → IsPut written failures failed_last b c more r → IsPut written failures failed_last a c (part ++ more) r
     part_then {more = more} p q = put_then more refl p q
 
-  module _ {T U E F : Type 0} where
+  module _ {failed_last : S → Type 0} {T U E F : Type 0} where
     -- if the rest of a text is sent and the device fails, a beginning of the whole text went out
     pub sent_fails : {a b c : S} {whole rest part : List ℕ} {e : E} {r : Result U F} (Q : F → Type 0) (more : List ℕ)
-        → IsSent written failures a b whole rest → rest ≡ part ++ more → IsErrAnd r Q → IsPut {T = T} written failures b c part (Err e)
-        → IsPut written failures a c whole r
+        → IsSent written failures a b whole rest → rest ≡ part ++ more → IsErrAnd r Q → IsPut {T = T} written failures failed_last b c part (Err e)
+        → IsPut written failures failed_last a c whole r
     sent_fails {r = r} Q more s is fails p = sent_put s (put_fails more is (err_from_is_err_and r fails).1 p)
 
   -- ---- the parts of a list
 
-  module _ {X : Type 0} (f : X → List ℕ) (xs : List X) (i : ℕ) (x d : X) {T E : Type 0} where
+  module _ {failed_last : S → Type 0} {X : Type 0} (f : X → List ℕ) (xs : List X) (i : ℕ) (x d : X) {T E : Type 0} where
     -- one more goes out
     pub sent_next : {a b c : S} {whole : List ℕ} {u : T} → IsSent written failures a b whole (flat_map f (drop i xs)) → i < length xs
-        → x ≡ get_or xs i d → IsPut {E = E} written failures b c (f x) (Ok u)
+        → x ≡ get_or xs i d → IsPut {E = E} written failures failed_last b c (f x) (Ok u)
         → IsSent written failures a c whole (flat_map f (drop (i + 1) xs))
     sent_next s lt is p = sent_part _ s (parts_next f xs i x d lt is) p
 
     -- the next fails
     pub next_fails : {U F : Type 0} {a b c : S} {whole : List ℕ} {e : E} {r : Result U F} (Q : F → Type 0)
         → IsSent written failures a b whole (flat_map f (drop i xs)) → i < length xs → x ≡ get_or xs i d → IsErrAnd r Q
-        → IsPut {T = T} written failures b c (f x) (Err e) → IsPut written failures a c whole r
+        → IsPut {T = T} written failures failed_last b c (f x) (Err e) → IsPut written failures failed_last a c whole r
     next_fails Q s lt is fails p = sent_fails Q _ s (parts_next f xs i x d lt is) fails p

@@ -15,20 +15,22 @@ pub record Pulls {S E : Type 0} (remaining : S → Option (List ℕ)) (bound fai
   pub stays : failures old ≤ failures new
 
 -- A push sends some of the bytes, at least one, from the front; none of them if it fails.
-pub record Pushes {S E : Type 0} (written : S → Option (List ℕ)) (failures : S → ℕ) (old new : S) (bytes : List ℕ) (result : Result ℕ E)
-    : Type 0 where
+pub record Pushes {S E : Type 0} (written : S → Option (List ℕ)) (failures : S → ℕ) (failed_last : S → Type 0) (old new : S)
+    (bytes : List ℕ) (result : Result ℕ E) : Type 0 where
   pub some : IfOk result (λ n. 0 < n)
   pub fits : IfOk result (λ n. n ≤ length bytes)
   pub sent : WriteAppends (written old) (written new) result bytes
   pub ok : OnOk result (failures new ≡ failures old)
   pub err : OnErr result (failures old < 2 ^ 64 - 1 → failures old < failures new)
+  pub last : OnErr result (failed_last new)
   pub stays : failures old ≤ failures new
 
 -- What is held back is sent on: what went out stays, and then nothing is held back, unless the sink fails.
-pub record Finishes {S T E : Type 0} (written : S → Option (List ℕ)) (failures : S → ℕ) (finished : S → Type 0) (old new : S)
+pub record Finishes {S T E : Type 0} (written : S → Option (List ℕ)) (failures : S → ℕ) (finished failed_last : S → Type 0) (old new : S)
     (result : Result T E) : Type 0 where
   pub bytes : Keeps (written old) (written new)
   pub ok : OnOk result (failures new ≡ failures old)
   pub err : OnErr result (failures old < 2 ^ 64 - 1 → failures old < failures new)
+  pub last : OnErr result (failed_last new)
   pub stays : failures old ≤ failures new
   pub all : OnOk result (finished new)

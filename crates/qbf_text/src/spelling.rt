@@ -13,7 +13,7 @@ use crate::sink::{Sink, SinkFault, put_byte, put_number};
 /// A `SinkFault` where the sink failed. What went out is a beginning of these bytes then.
 #[inline(always)]
 pub fn put_spaced<S: Sink>(sink: &mut S, n: u64) -> Result<(), SinkFault>
-    ensures { IsPut S.written S.failures sink.old sink.new (spaced_number n) result }
+    ensures { IsPut S.written S.failures S.failed_last sink.old sink.new (spaced_number n) result }
 {
     sink.push_spaced(false, n)
 }
@@ -24,7 +24,7 @@ pub fn put_spaced<S: Sink>(sink: &mut S, n: u64) -> Result<(), SinkFault>
 /// A `SinkFault` where the sink failed. What went out is a beginning of these bytes then.
 #[inline(always)]
 pub fn put_spaced_signed<S: Sink>(sink: &mut S, negative: bool, n: u64) -> Result<(), SinkFault>
-    ensures { IsPut S.written S.failures sink.old sink.new
+    ensures { IsPut S.written S.failures S.failed_last sink.old sink.new
         (32 ∷ token_text (Number negative n)) result }
 {
     sink.push_spaced(negative, n)
@@ -33,7 +33,7 @@ pub fn put_spaced_signed<S: Sink>(sink: &mut S, negative: bool, n: u64) -> Resul
 /// Sends a number after a minus.
 #[inline(always)]
 fn put_minus<S: Sink>(sink: &mut S, n: u64) -> Result<(), SinkFault>
-    ensures { IsPut S.written S.failures sink.old sink.new (45 ∷ decimal n) result }
+    ensures { IsPut S.written S.failures S.failed_last sink.old sink.new (45 ∷ decimal n) result }
 {
     put_byte(sink, b'-')?;
     put_number(sink, n)
@@ -45,7 +45,8 @@ fn put_minus<S: Sink>(sink: &mut S, n: u64) -> Result<(), SinkFault>
 /// A `SinkFault` where the sink failed. What went out is a beginning of these bytes then.
 #[inline(always)]
 pub fn put_signed<S: Sink>(sink: &mut S, negative: bool, n: u64) -> Result<(), SinkFault>
-    ensures { IsPut S.written S.failures sink.old sink.new (token_text (Number negative n)) result }
+    ensures { IsPut S.written S.failures S.failed_last
+        sink.old sink.new (token_text (Number negative n)) result }
 {
     if negative {
         return put_minus(sink, n);

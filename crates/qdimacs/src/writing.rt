@@ -15,7 +15,8 @@ use qbf_text::{Sink, SinkFault, put_bytes};
 #[inline(always)]
 #[tactic(auto, using(crate::proofs::WrittenParts::no_literals))]
 fn put_clause<K: Sink>(sink: &mut K, lits: &[Lit]) -> Result<(), SinkFault>
-    ensures { IsPut K.written K.failures sink.old sink.new (line_text (clause lits.now)) result }
+    ensures { IsPut K.written K.failures K.failed_last
+        sink.old sink.new (line_text (clause lits.now)) result }
 {
     match lits {
         [] => put_bytes(sink, b"0\n"),
@@ -48,7 +49,7 @@ fn put_variable<K: Sink>(
     quantifier: Quantifier,
     var: Var,
 ) -> Result<(), SinkFault>
-    ensures { IsPut K.written K.failures sink.old sink.new
+    ensures { IsPut K.written K.failures K.failed_last sink.old sink.new
         (opening last quantifier ++ spaced_number var) result }
 {
     match last {
@@ -89,7 +90,8 @@ impl<'a> Put for BlockLines<'a> {
 /// A `SinkFault` where the sink failed. What went out is a beginning of the text then.
 #[tactic(auto, using(crate::proofs::ReadingLaws::text_is_read))]
 pub fn write_formula<K: Sink>(formula: &Formula, sink: &mut K) -> Result<(), SinkFault>
-    ensures put { IsPut K.written K.failures sink.old sink.new (text formula.now) result }
+    ensures put { IsPut K.written K.failures K.failed_last
+        sink.old sink.new (text formula.now) result }
     // The text is read as the formula.
     ensures reads_back { read_formula (text formula.now) ≡ Ok formula.now }
 {

@@ -44,7 +44,7 @@ impl Put for Outcome {
 fn put_step<K: Sink>(sink: &mut K, trace: &Trace, position: usize) -> Result<(), SinkFault>
     requires { position < length trace.now.steps }
     ensures { (step : Inference) → IsAt trace.now.steps position step
-        → IsPut K.written K.failures sink.old sink.new (step_text step) result }
+        → IsPut K.written K.failures K.failed_last sink.old sink.new (step_text step) result }
 {
     let lists = (
         trace.lits(position),
@@ -98,7 +98,8 @@ impl<'a> Put for StepLinesAt<'a> {
 /// A `SinkFault` where the sink failed. What went out is a beginning of the text then.
 #[tactic(auto, using(crate::proofs::ReadingLaws::text_is_read))]
 pub fn write_trace<K: Sink>(trace: &Trace, sink: &mut K) -> Result<(), SinkFault>
-    ensures put { IsPut K.written K.failures sink.old sink.new (text trace.now) result }
+    ensures put { IsPut K.written K.failures K.failed_last
+        sink.old sink.new (text trace.now) result }
     // Reading the text gives the trace.
     ensures reads_back { read_trace (text trace.now) ≡ Ok trace.now }
 {
@@ -122,7 +123,7 @@ pub fn write_steps_at<K: Sink>(
     sink: &mut K,
 ) -> Result<(), SinkFault>
     requires { AllByRecursion (λ i. i < length trace.now.steps) positions.now }
-    ensures { IsPut K.written K.failures sink.old sink.new
+    ensures { IsPut K.written K.failures K.failed_last sink.old sink.new
         (text (with_steps_at trace.now positions.now)) result }
 {
     let header = HeaderLine(b"p qrp", trace.header().vars, positions.len() as u64);

@@ -58,8 +58,8 @@ full_is_long : (text sent unsent : List ℕ) → text ≡ sent ++ unsent → len
 full_is_long text sent unsent parts full small = grind (arith, common_steps)
 
 -- A text that is shorter than the room was kept whole, since a sink that failed is full.
-pub kept_whole : {S T E : Type 0} (written : S → Option (List ℕ)) (failures : S → ℕ) (old new : S) (text : List ℕ) (result : Result T E)
-    (bytes : List ℕ)
-    → IsPut written failures old new text result → written old ≡ Some [] → failures old ≡ 0 → written new ≡ Some bytes
+pub kept_whole : {S T E : Type 0} (written : S → Option (List ℕ)) (failures : S → ℕ) (failed_last : S → Type 0) (old new : S)
+    (text : List ℕ) (result : Result T E) (bytes : List ℕ)
+    → IsPut written failures failed_last old new text result → written old ≡ Some [] → failures old ≡ 0 → written new ≡ Some bytes
     → (0 < failures new → length bytes ≡ 47) → length text < 47 → written new ≡ Some text
-kept_whole written failures old new text result bytes put none never is full small = grind (arith, common_steps, full_is_long)
+kept_whole written failures failed_last old new text result bytes put none never is full small = grind (arith, common_steps, full_is_long)

@@ -1,6 +1,6 @@
 -- What a caller in C gets of a formula or a trace that is written, and of a core. The bytes are in memory, so only an allocation can
 -- fail.
-use Rattle.std.specs.Prelude.{◌≡◌, ℕ, List, ◌∷◌, [], Some, IfErr, Result, Ok, Err}
+use Rattle.std.specs.Prelude.{◌≡◌, ℕ, List, ◌∷◌, [], Some, None, IfErr, Result, Ok, Err}
 use Rattle.qbf_core.specs.Qbf.{Qbf}
 use Rattle.qdimacs.specs.declared.fault.FormulaFault.{FormulaFault}
 use Rattle.qdimacs.specs.Grammar as formulas
@@ -18,9 +18,9 @@ use Rattle.qrp_bytes.specs.declared.verdict.QrpVerdict.{QrpVerdict}
 use Rattle.qrp_bytes.specs.Buffers.{IsWritten, IsListed}
 use Rattle.qrp_bytes.specs.Encoding.{encoded_fault, encoded_truth}
 
--- bytes that are lent_bytes
+-- bytes that are lent; nothing is said of what is left of them
 abbrev pub lent_bytes : List ℕ → SourceCall
-lent_bytes bytes = record { bytes = Some bytes; before = 0; after = 0; unpulled = Unit {0} }
+lent_bytes bytes = record { bytes = Some bytes; rest = None; before = 0; after = 0; unpulled = Unit {0} }
 
 -- the struct for a trimmed trace, or for what was refused
 abbrev pub encoded_trace : Result Derivation Fault → QrpVerdict

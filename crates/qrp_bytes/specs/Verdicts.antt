@@ -1,14 +1,14 @@
 -- What a caller in C may take from a verdict on the bytes that it lends. They are in memory, so only an allocation can fail.
 use Rattle.std.specs.Prelude.{◌≡◌, ◌↔◌, ◌⊎◌, ℕ, if◌then◌else◌, List, Some, IfErr, Result}
 use Rattle.qbf_core.specs.Qbf.{Qbf}
-use Rattle.qbf_core.specs.Truth.{IsTrueFormula}
+use Rattle.qbf_core.specs.Truth.{IsTrueFormula, ResultHolds}
 use Rattle.qdimacs.specs.Reading.{read_formula}
 use Rattle.qrp.specs.Derivations.{Derivation}
 use Rattle.qrp.specs.Reading.{read_trace}
 use Rattle.qrp_rules.specs.declared.rules.Rules.{Rules}
 use Rattle.qrp_check.specs.declared.verdict.Verified.{Verified}
 use Rattle.qrp_check.specs.declared.verdict.Fault.{Fault}
-use Rattle.qrp_check.specs.Proof.{side_of, ResultHolds}
+use Rattle.qrp_check.specs.Proof.{side_of}
 use Rattle.qrp_check.specs.Verdict.{is_sat, IsVerdict, IsOutOfMemory, IsFormulaDevice, IsTraceDevice, StandsOnLine}
 use Rattle.qrp_check.specs.Headline.{Spell, IsShown}
 use Rattle.qrp_bytes.specs.declared.verdict.QrpVerdict.{QrpVerdict}

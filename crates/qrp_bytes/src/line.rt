@@ -47,6 +47,8 @@ impl Sink for Line {
 
     ghost finished = { λ _. ⊤ };
 
+    ghost failed_last = { λ _. ⊤ };
+
     fn push(&mut self, bytes: &[u8]) -> Result<usize, SinkFault> {
         let n = bytes.len().min(ROOM - self.end);
         if n == 0 {

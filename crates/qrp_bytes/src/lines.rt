@@ -16,7 +16,7 @@ use qrp_report::{put_refusal, put_verdict};
 /// Sends the line of a verdict, and nothing if the struct encodes no result.
 fn put_line<S: Sink>(sink: &mut S, verdict: &QrpVerdict) -> Result<(), SinkFault>
     ensures encoded { (outcome : Result Verified Fault) → IsEncoded outcome verdict.now
-        → IsPut S.written S.failures sink.old sink.new (result_line outcome) result }
+        → IsPut S.written S.failures S.failed_last sink.old sink.new (result_line outcome) result }
     ensures none { ¬ EncodesSome verdict.now → sink.new ≡ sink.old }
 {
     if let Some(truth) = decode_truth(verdict) {

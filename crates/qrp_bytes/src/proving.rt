@@ -15,7 +15,7 @@ ghost use Rattle.qrp_bytes.specs.Verdicts.{StructHeadline, VerifyReturns};
 use crate::verdict::{QrpVerdict, encode};
 use qbf_text::{SliceSource, VecSink};
 use qrp::{Steps, Trace, write_steps_at};
-use qrp_check::{CheckFault, Fault, Rules, Verified, find_proof, verify};
+use qrp_check::{CheckFault, Fault, Rules, Verified, find_proof, find_truth};
 use std::alloc::{AllocError, Global};
 
 /// Whether the trace in these bytes proves its result of the formula in those, as `verify` returns
@@ -26,7 +26,7 @@ pub fn verify_bytes(alloc: Global, formula: &[u8], trace: &[u8], rules: Rules) -
 {
     let mut formula_source = SliceSource::new(formula);
     let mut trace_source = SliceSource::new(trace);
-    let outcome = verify(alloc, &mut formula_source, &mut trace_source, rules);
+    let outcome = find_truth(alloc, &mut formula_source, &mut trace_source, rules);
     encode(&outcome)
 }
 

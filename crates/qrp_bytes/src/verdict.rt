@@ -1,12 +1,15 @@
 //! What a caller in C gets: a result as numbers, and back.
 
-ghost use Rattle.std.specs.Prelude.{◌≡◌, Bool, Some, IfSome};
+ghost use Rattle.std.specs.Prelude.{◌≡◌, Bool, Result, Some, IfSome};
+ghost use Rattle.qrp_check.specs.declared.verdict.Fault.{Fault};
+ghost use Rattle.qrp_check.specs.declared.verdict.Verified.{Verified};
+ghost use Rattle.qrp_check.specs.Checked.{truth_of};
 ghost use Rattle.qrp_report.specs.declared.refusal.Refusal.{Refusal};
 ghost use Rattle.qrp_report.specs.OfFaults.{NamesVariable, IsOfFault};
 ghost use Rattle.qrp_bytes.specs.Texts.{encoded_nothing};
 ghost use Rattle.qrp_bytes.specs.Encoding.{IsEncoded, encoded_truth, encoded_fault, encoded_refusal};
 
-use qrp_check::{Fault, Verified};
+use qrp_check::Fault;
 use qrp_report::{Refusal, is_of_fault};
 
 /// What a caller in C gets of a result: `struct qrp_verdict`, 16 bytes.
@@ -83,11 +86,13 @@ pub fn encode_fault(fault: &Fault) -> QrpVerdict
 }
 
 /// What a caller in C gets of a result.
-pub fn encode(outcome: &Result<Verified, Fault>) -> QrpVerdict
-    ensures { IsEncoded outcome.now result }
+#[tactic(auto, using(crate::proofs::HeadlineOfStruct::truth_encoded, crate::proofs::HeadlineOfStruct::fault_encoded))]
+pub fn encode(outcome: &Result<bool, Fault>) -> QrpVerdict
+    ensures { (verdict : Result Verified Fault) → outcome.now ≡ truth_of verdict
+        → IsEncoded verdict result }
 {
     match outcome {
-        Ok(verified) => encode_truth(verified.truth),
+        Ok(truth) => encode_truth(*truth),
         Err(fault) => encode_fault(fault),
     }
 }

@@ -1,10 +1,11 @@
 -- What a check answers, from what is told of the core.
-use Rattle.qrp_check.proofs.Words.{common_steps, ◌≡◌, ◌≢◌, ◌↔◌, Bool, true, false, List, refl, subst, IsTrue, arith, Result, Ok, Err, IfOk}
+use Rattle.qrp_check.proofs.Words.{common_steps, ◌≡◌, ◌≢◌, ◌↔◌, Bool, true, false, List, refl, subst, IsTrue, arith, Result, Ok, Err}
 use Rattle.qrp_check.proofs.Words.{Block, Qbf, IsClosed, IsTrueFormula, Side, Clauses, Cubes, Inference, Outcome, CheckFault, C1, C2, C3}
-use Rattle.qrp_check.proofs.Words.{C4, C5, C6, Rules, side_of, Derives, Proves, IsFirstFault, ResultHolds, SetsAgree, Verified}
+use Rattle.qrp_check.proofs.Words.{C4, C5, C6, Rules, side_of, Derives, Proves, IsFirstFault, ResultHolds, SetsAgree}
 use Rattle.std.specs.Prelude.{OnOk, IfErr}
 use Rattle.qbf_core.specs.Qbf.{IsWellFormed}
 use Rattle.qrp_check.specs.Followed.{IsCoreFault}
+use Rattle.qrp_check.specs.Verdict.{is_sat}
 use Rattle.qrp_check.proofs.Soundness.{soundness}
 
 -- a fault of the core is the first fault
@@ -27,25 +28,25 @@ claims_true f holds = ((λ t. holds), (λ is. refl))
 
 -- ---- from the core to the trace
 
-pub proves : (rules : Rules) (f : Qbf) (sets : List Block) (steps : List Inference) (outcome : Outcome) (side : Side)
-    (r : Result Verified CheckFault) → side_of outcome ≡ side
+pub proves : {V : Type 0} (rules : Rules) (f : Qbf) (sets : List Block) (steps : List Inference) (outcome : Outcome) (side : Side)
+    (r : Result V CheckFault) → side_of outcome ≡ side
     → SetsAgree f.blocks sets → OnOk r (Derives rules side f steps) → OnOk r (Proves rules f sets steps outcome)
 proves rules f sets steps outcome side (Ok v) is agree derives = grind (arith, common_steps)
 proves rules f sets steps outcome side (Err e) is agree derives = tt
 
-pub refuses : (rules : Rules) (f : Qbf) (sets : List Block) (steps : List Inference) (outcome : Outcome) (side : Side)
-    (r : Result Verified CheckFault) → side_of outcome ≡ side
+pub refuses : {V : Type 0} (rules : Rules) (f : Qbf) (sets : List Block) (steps : List Inference) (outcome : Outcome) (side : Side)
+    (r : Result V CheckFault) → side_of outcome ≡ side
     → SetsAgree f.blocks sets → IfErr r (IsCoreFault rules side f steps) → IfErr r (λ e. e ≢ C5 → IsFirstFault rules f sets steps outcome e)
 refuses rules f sets steps outcome side (Ok v) is agree fault = tt
 refuses rules f sets steps outcome side (Err e) is agree fault = core_fault rules f sets steps outcome side e is agree fault
 
-pub shows : (rules : Rules) (f : Qbf) (sets : List Block) (steps : List Inference) (outcome : Outcome) (side : Side) (truth : Bool)
-    (r : Result Verified CheckFault) → side_of outcome ≡ side → (ResultHolds side f → IsTrue truth ↔ IsTrueFormula f)
-    → IsClosed f → OnOk r (Proves rules f sets steps outcome) → IfOk r (λ v. v.truth ≡ truth)
-    → IfOk r (λ v. IsTrue v.truth ↔ IsTrueFormula f)
-shows rules f sets steps outcome side truth (Ok v) is claims closed shown claim =
+pub shows : {V : Type 0} (rules : Rules) (f : Qbf) (sets : List Block) (steps : List Inference) (outcome : Outcome) (side : Side)
+    (truth : Bool) (r : Result V CheckFault) → side_of outcome ≡ side → is_sat outcome ≡ truth
+    → (ResultHolds side f → IsTrue truth ↔ IsTrueFormula f) → IsClosed f → OnOk r (Proves rules f sets steps outcome)
+    → OnOk r (IsTrue (is_sat outcome) ↔ IsTrueFormula f)
+shows rules f sets steps outcome side truth (Ok v) is claim claims closed shown =
     rw claim (claims (subst (λ (s : Side). ResultHolds s f) is (soundness rules f sets steps outcome closed shown)))
-shows rules f sets steps outcome side truth (Err e) is claims closed shown claim = tt
+shows rules f sets steps outcome side truth (Err e) is claim claims closed shown = tt
 
 pub closed_of : (f : Qbf) → IsWellFormed f → IsClosed f
 closed_of f formed = record { distinct = formed.prefix.distinct; bound = formed.closed }

@@ -24,12 +24,12 @@ use Rattle.qrp.proofs.ReadIsSpelled as traces_sound
 use Rattle.qrp.proofs.SpelledIsRead as traces_complete
 use Rattle.qrp_check.specs.declared.verdict.Fault.TheVariants as fault
 
-formula_spelled : (bytes : List ℕ) (f : Qbf) → read_formula bytes ≡ Ok f → IsFormula (without_lines (tokens Qdimacs bytes)) f
+pub formula_spelled : (bytes : List ℕ) (f : Qbf) → read_formula bytes ≡ Ok f → IsFormula (without_lines (tokens Qdimacs bytes)) f
 formula_spelled bytes f is =
     let Spelled : Result Qbf (FormulaFault × ℕ) → Type 0 = λ r. formulas.Reads (tokens Qdimacs bytes) r in
     subst Spelled is (formulas_sound.read_explained (tokens Qdimacs bytes) (tokens-EndsOnce Qdimacs bytes))
 
-trace_spelled : (bytes : List ℕ) (d : Derivation) → read_trace bytes ≡ Ok d → IsTrace (without_lines (tokens Qrp bytes)) d
+pub trace_spelled : (bytes : List ℕ) (d : Derivation) → read_trace bytes ≡ Ok d → IsTrace (without_lines (tokens Qrp bytes)) d
 trace_spelled bytes d is =
     let Spelled : Result Derivation (TraceFault × ℕ) → Type 0 = λ r. traces.Reads (tokens Qrp bytes) r in
     subst Spelled is (traces_sound.read_explained (tokens Qrp bytes) (tokens-EndsOnce Qrp bytes))

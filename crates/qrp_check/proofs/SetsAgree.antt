@@ -11,7 +11,7 @@ use Rattle.qrp_check.specs.Sets.{set_conditions, PairsAgree, IsPairFault}
 use Rattle.qrp_check.specs.Passed.{IsPassed}
 
 -- positions of a list with more after it
-push_at : {A : Type 0} (xs : List A) (y r : A) (i : ℕ) → slice_get (xs ++ y ∷ []) i ≡ Some r
+pub push_at : {A : Type 0} (xs : List A) (y r : A) (i : ℕ) → slice_get (xs ++ y ∷ []) i ≡ Some r
     → ((slice_get xs i ≡ Some r) × (take i (xs ++ y ∷ []) ≡ take i xs)) ⊎ ((r ≡ y) × (take i (xs ++ y ∷ []) ≡ xs))
 push_at [] y r zero e = inr ((let s : r ≡ y = cc e in s), refl)
 push_at [] y r (suc i) e = cc e

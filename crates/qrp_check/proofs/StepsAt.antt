@@ -1,8 +1,8 @@
 -- The steps at some places: what holds of them, and that rising places give steps of different numbers.
 use Rattle.qrp_check.proofs.Words.{◌≡◌, ℕ, suc, ◌+◌, ◌<◌, false, List, [], ◌∷◌, ◌++◌, inr, refl, ap, ◌∙◌, length, rules, take, get_or, Some}
-use Rattle.qrp_check.proofs.Words.{arith, nat_eq, slice_get, Result, Ok, Err, IfOk, AllByRecursion, take_more, slice_get_cases}
+use Rattle.qrp_check.proofs.Words.{arith, nat_eq, slice_get, AllByRecursion, take_more, slice_get_cases}
 use Rattle.qrp_check.proofs.Words.{slice_get-get_or, get_or_from_slice_get, ◌∈◌, Inference, IsAt, numbers, HasOwnNumbers, ListsCore}
-use Rattle.qrp_check.proofs.Words.{steps_at, CheckFault, Verified, in_take}
+use Rattle.qrp_check.proofs.Words.{steps_at, in_take}
 use Rattle.std.proofs.Common.{◌||◌}
 use Rattle.std.specs.List.{cons_option}
 use Rattle.std.specs.List.Sorted.{IsStrictlyIncreasing}
@@ -54,7 +54,7 @@ number_holds : (P : ℕ → Type 0) (steps : List Inference) → AllByRecursion 
 number_holds P [] all = tt
 number_holds P (s ∷ steps) all = (all.0, number_holds P steps all.1)
 
-holds_number : (P : ℕ → Type 0) (steps : List Inference) → AllByRecursion (λ s. P s.number) steps → AllByRecursion P (numbers steps)
+pub holds_number : (P : ℕ → Type 0) (steps : List Inference) → AllByRecursion (λ s. P s.number) steps → AllByRecursion P (numbers steps)
 holds_number P [] all = tt
 holds_number P (s ∷ steps) all = (all.0, holds_number P steps all.1)
 
@@ -77,15 +77,3 @@ pub fresh_at : (steps : List Inference) (core : List ℕ) (k : ℕ) (s : Inferen
     → k < length core
     → IsAt steps (get_or core k 0) s → is_used s.number (numbers (steps_at steps (take k core))) ≡ false
 fresh_at steps core k s own rises less here = search (rules, is_unused, others_at, not_before)
-
--- ---- what a check answers
-
-pub answer_rises : (steps : List Inference) (r : Result Verified CheckFault) → IfOk r (λ v. ListsCore steps v.core.items)
-    → IfOk r (λ v. IsStrictlyIncreasing v.core.items)
-answer_rises steps (Ok v) h = core_rises steps v.core.items h
-answer_rises steps (Err e) h = tt
-
-pub answer_inside : (steps : List Inference) (r : Result Verified CheckFault) → IfOk r (λ v. ListsCore steps v.core.items)
-    → IfOk r (λ v. AllByRecursion (λ i. i < length steps) v.core.items)
-answer_inside steps (Ok v) h = core_inside steps v.core.items h
-answer_inside steps (Err e) h = tt

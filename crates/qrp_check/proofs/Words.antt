@@ -6,7 +6,7 @@ pub use Rattle.qbf_core.specs.Literal.{Literal}
 pub use Rattle.qbf_core.specs.Members.{◌∈◌, ◌⊆◌}
 pub use Rattle.qbf_core.specs.Qbf.{IsClosed, Qbf}
 pub use Rattle.qbf_core.specs.Rules.{Clashes, Clauses, Cubes, IsClean, IsInitial, IsReduct, Side, resolvent}
-pub use Rattle.qbf_core.specs.Truth.{IsTrueFormula}
+pub use Rattle.qbf_core.specs.Truth.{IsTrueFormula, ResultHolds}
 pub use Rattle.qbf_core.specs.declared.quantifier.Quantifier.{Quantifier}
 pub use Rattle.qrp.proofs.Positions.{HasOwnNumbers, own_numbers}
 pub use Rattle.qrp.specs.Derivations.{Derivation, steps_at}
@@ -18,7 +18,7 @@ pub use Rattle.qrp_check.specs.Laws.{AreOfCore, CoreKeepsTheTruth, IsTrueWithSet
 pub use Rattle.qrp_check.specs.Marks.{IsMarked, ListsMarked}
 pub use Rattle.qrp_check.specs.Passed.{FailsIn, Passes}
 pub use Rattle.qrp_check.specs.Premises.{premise_conditions}
-pub use Rattle.qrp_check.specs.Proof.{Derives, IsFirstFault, Proves, ResultHolds, side_of}
+pub use Rattle.qrp_check.specs.Proof.{Derives, IsFirstFault, Proves, side_of}
 pub use Rattle.qrp_check.specs.Sets.{SetsAgree}
 pub use Rattle.qrp_check.specs.Verdict.{IsVerdict}
 pub use Rattle.qrp_check.specs.declared.fault.CheckFault.{CheckFault}

@@ -1,5 +1,5 @@
 -- What the check of a formula and a trace at their sources returns, and what it leaves of these.
-use Rattle.std.specs.Prelude.{◌≡◌, ◌↔◌, ℕ, ◌-◌, ◌^◌, ◌<◌, List, Option, length, IfSome, IfOk, IfErr, OnOk, Result, Ok, Err}
+use Rattle.std.specs.Prelude.{◌≡◌, ◌↔◌, ℕ, ◌-◌, ◌^◌, ◌<◌, Bool, List, Option, length, IfSome, IfOk, IfErr, OnOk, Result, Ok, Err}
 use Rattle.std.specs.List.{AllByRecursion}
 use Rattle.qbf_core.specs.Qbf.{Qbf}
 use Rattle.qbf_text.specs.declared.source.Source as source
@@ -12,25 +12,41 @@ use Rattle.qrp_check.specs.declared.verdict.Fault.{Fault}
 use Rattle.qrp_check.specs.Verdict.{IsVerdictOf, IsVerdictUnless, IsFormulaDevice, IsTraceDevice, IsFormulaFault, StandsOnLine}
 use Rattle.qrp_check.specs.Verdict.{WasRead, StopsAfterTrace}
 
--- what a call does with a source: its bytes, where they are known, its count of failures before and after, and that it was not pulled
+-- what a call does with a source: its bytes, and what it leaves of them, where they are known, its count of failures before and after, and
+-- that it was not pulled
 pub record SourceCall : Type 1 where
   pub bytes : Option (List ℕ)
+  pub rest : Option (List ℕ)
   pub before : ℕ
   pub after : ℕ
   pub unpulled : Type 0
 
 -- the call of a source that went from `old` to `new`
 abbrev pub call_of : {S : Type 0} → source.Ghosts S → S → S → SourceCall
-call_of s old new = record { bytes = s.remaining old; before = s.failures old; after = s.failures new; unpulled = new ≡ old }
+call_of s old new =
+    record { bytes = s.remaining old; rest = s.remaining new; before = s.failures old; after = s.failures new; unpulled = new ≡ old }
 
 -- the verdict alone, of a trace and its verdict
 abbrev pub verdict_of : Result (Derivation × Verified) Fault → Result Verified Fault
 verdict_of (Ok r) = Ok r.1
 verdict_of (Err e) = Err e
 
+-- the truth that a verdict has, or its fault
+abbrev pub truth_of : Result Verified Fault → Result Bool Fault
+truth_of (Ok v) = Ok v.truth
+truth_of (Err e) = Err e
+
+-- the result is the truth of a verdict of which this holds, or its fault
+abbrev pub IsTruthOf : (Result Verified Fault → Type 0) → Result Bool Fault → Type 0
+IsTruthOf Holds result = (verdict : Result Verified Fault) × Holds verdict × (result ≡ truth_of verdict)
+
 -- a trace that was read is well formed, and what these bytes read as, where they are known
 abbrev pub WasReadFrom : Option (List ℕ) → Derivation → Type 0
 WasReadFrom bytes d = IsWellFormed d × IfSome (reads_bytes bytes) (λ read. read ≡ Ok d)
+
+-- once the trace was read, nothing was taken past its result word but what is held
+abbrev pub StopsOnceRead : {V : Type 0} → Option (List ℕ) → Option (List ℕ) → Result V Fault → Type 0
+StopsOnceRead before after result = WasRead result → IfKnown StopsAfterTrace before after
 
 -- What is known of a trace that is returned with its verdict, where its source had these bytes still to give before and after: it was read
 -- from there, and each position of its core is one of its steps; and once it was read, nothing was taken past its result word but what is
@@ -38,7 +54,7 @@ WasReadFrom bytes d = IsWellFormed d × IfSome (reads_bytes bytes) (λ read. rea
 pub record IsOfSource (before after : Option (List ℕ)) (result : Result (Derivation × Verified) Fault) : Type 0 where
   pub reads : IfOk result (λ r. WasReadFrom before r.0)
   pub within : IfOk result (λ r. AllByRecursion (λ i. i < length r.0.steps) r.1.core.items)
-  pub stops : WasRead (verdict_of result) → IfKnown StopsAfterTrace before after
+  pub stops : StopsOnceRead before after (verdict_of result)
 
 -- What the check of two texts by these rules returns: the verdict on their bytes, or that a source failed, exactly where it did, or
 -- that an allocation failed; the latter two on line 0. With a fault of the formula the trace was not pulled.

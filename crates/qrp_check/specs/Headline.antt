@@ -4,7 +4,7 @@
 -- says `r sat`. This holds unless an allocation or a device failed.
 use Rattle.std.specs.Prelude.{◌≡◌, ◌↔◌, ◌⊎◌, ℕ, IsTrue, List, IsOk, IfOk, Result}
 use Rattle.qbf_core.specs.Qbf.{Qbf}
-use Rattle.qbf_core.specs.Truth.{IsTrueFormula}
+use Rattle.qbf_core.specs.Truth.{IsTrueFormula, ResultHolds}
 use Rattle.qbf_text.specs.declared.token.Comments.TheVariants.{Qdimacs, Qrp}
 use Rattle.qbf_text.specs.Lined.{without_lines}
 use Rattle.qbf_text.specs.Tokens.{tokens}
@@ -14,7 +14,7 @@ use Rattle.qrp.specs.Grammar.{IsTrace}
 use Rattle.qrp_rules.specs.declared.rules.Rules.{Rules}
 use Rattle.qrp_check.specs.declared.verdict.Verified.{Verified}
 use Rattle.qrp_check.specs.declared.verdict.Fault.{Fault}
-use Rattle.qrp_check.specs.Proof.{side_of, IsProof, ResultHolds}
+use Rattle.qrp_check.specs.Proof.{side_of, IsProof}
 use Rattle.qrp_check.specs.Verdict.{is_sat, IsOutOfMemory, IsFormulaDevice, IsTraceDevice}
 
 -- the bytes spell f, a closed prenex formula, and the trace d

@@ -7,6 +7,7 @@ ghost use Rattle.qbf_core.specs.Truth.{IsTrueFormula};
 ghost use Rattle.qrp_check.specs.declared.fault.CheckFault.TheVariants.{C5};
 ghost use Rattle.qrp_check.specs.Core.{IsGoal, ListsCore};
 ghost use Rattle.qrp_check.specs.Followed.{IsCoreFault};
+ghost use Rattle.qrp_check.specs.Marks.{MarksCore};
 ghost use Rattle.qrp_check.specs.Proof.{Derives, Proves, IsFirstFault};
 ghost use Rattle.qrp_check.specs.Verdict.{is_sat};
 
@@ -22,19 +23,23 @@ use qrp::{Outcome, QuantSet, Steps};
 use qrp_rules::{Clauses, Cubes, Rules, Side};
 use std::alloc::Global;
 
-/// The positions of the core beside what they show, where each of its steps follows from those
-/// before it.
+/// Whether a trace claims that its formula is true.
+pub(crate) fn is_sat(outcome: Outcome) -> bool
+    ensures { result ≡ is_sat outcome }
+{
+    outcome == Outcome::Sat
+}
+
+/// The marks of the core, where each of its steps follows from those before it.
 fn check_core<S: Side, T: Steps>(
     context: Context,
     trace: &T,
     goal: usize,
-    truth: bool,
-) -> Result<Verified, CheckFault>
+) -> Result<Vec<bool>, CheckFault>
     requires { IsGoal (T.steps trace.now) goal }
     ensures derives { OnOk result
         (Derives context.entry.rules S.side context.entry.formula.now (T.steps trace.now)) }
-    ensures core { IfOk result (λ v. ListsCore (T.steps trace.now) v.core.items) }
-    ensures claim { IfOk result (λ v. v.truth ≡ truth) }
+    ensures core { IfOk result (λ marks. MarksCore (T.steps trace.now) marks.items) }
     ensures refused { IfErr result
         (IsCoreFault context.entry.rules S.side context.entry.formula.now (T.steps trace.now)) }
 {
@@ -43,9 +48,41 @@ fn check_core<S: Side, T: Steps>(
         return Err(CheckFault::C5);
     };
     follow_core::<S, T>(context, trace, &marks, hints)?;
-    match marked_positions(context.alloc, &marks) {
-        Ok(core) => Ok(Verified { truth, core }),
-        Err(_) => Err(CheckFault::C5),
+    Ok(marks)
+}
+
+/// The marks of the core, where sets, steps and outcome of a trace prove the outcome of the formula.
+///
+/// # Errors
+/// As of `check`.
+pub(crate) fn check_marked<T: Steps>(
+    alloc: Global,
+    formula: &Formula,
+    trace: &T,
+    sets: &[QuantSet],
+    outcome: Outcome,
+    rules: Rules,
+) -> Result<Vec<bool>, CheckFault>
+    ensures proves { OnOk result (Proves rules formula.now sets.now (T.steps trace.now) outcome) }
+    ensures core { IfOk result (λ marks. MarksCore (T.steps trace.now) marks.items) }
+    ensures truth { OnOk result (IsTrue (is_sat outcome) ↔ IsTrueFormula formula.now) }
+    ensures refused { IfErr result
+        (λ e. e ≢ C5 → IsFirstFault rules formula.now sets.now (T.steps trace.now) outcome e) }
+{
+    if let Some(fault) = sets_fault(formula.prefix(), sets) {
+        return Err(fault);
+    }
+    let Some(goal) = find_goal(trace) else {
+        return Err(CheckFault::C4);
+    };
+    let context = Context {
+        alloc,
+        formula,
+        rules,
+    };
+    match outcome {
+        Outcome::Unsat => check_core::<Clauses, T>(context, trace, goal),
+        Outcome::Sat => check_core::<Cubes, T>(context, trace, goal),
     }
 }
 
@@ -80,19 +117,12 @@ pub fn check<T: Steps>(
     ensures refused { IfErr result
         (λ e. e ≢ C5 → IsFirstFault rules formula.now sets.now (T.steps trace.now) outcome e) }
 {
-    if let Some(fault) = sets_fault(formula.prefix(), sets) {
-        return Err(fault);
-    }
-    let Some(goal) = find_goal(trace) else {
-        return Err(CheckFault::C4);
-    };
-    let context = Context {
-        alloc,
-        formula,
-        rules,
-    };
-    match outcome {
-        Outcome::Unsat => check_core::<Clauses, T>(context, trace, goal, false),
-        Outcome::Sat => check_core::<Cubes, T>(context, trace, goal, true),
+    let marks = check_marked(alloc, formula, trace, sets, outcome, rules)?;
+    match marked_positions(alloc, &marks) {
+        Ok(core) => Ok(Verified {
+            truth: is_sat(outcome),
+            core,
+        }),
+        Err(_) => Err(CheckFault::C5),
     }
 }

@@ -2,13 +2,13 @@
 
 ghost use Rattle.std.specs.Prelude.{◌≡◌, ◌-◌, ◌^◌, ◌<◌, ◌↔◌, OnOk, IfErr, IfSome};
 ghost use Rattle.qbf_text.specs.Stopping.{IfKnown};
-ghost use Rattle.qrp_check.specs.Checked.{IsChecked, IsCheckedOf, IsOfSource};
-ghost use Rattle.qrp_check.specs.Checked.{call_of, verdict_of};
+ghost use Rattle.qrp_check.specs.Checked.{IsChecked, IsCheckedOf, IsOfSource, IsTruthOf};
+ghost use Rattle.qrp_check.specs.Checked.{StopsOnceRead, call_of, verdict_of};
 ghost use Rattle.qrp_check.specs.Headline.{Headline};
 ghost use Rattle.qrp_check.specs.Verdict.{IsVerdictUnless, IsFormulaDevice, IsTraceDevice};
 ghost use Rattle.qrp_check.specs.Verdict.{IsFormulaFault, StandsOnLine, WasRead, StopsAfterTrace};
 
-use crate::checking::check;
+use crate::checking::{check, check_marked, is_sat};
 use crate::verdict::{Fault, Verified};
 use qbf_core::Formula;
 use qbf_text::Source;
@@ -89,4 +89,43 @@ pub fn verify<A: Source, B: Source>(
 {
     let (_, verified) = find_proof(alloc, formula, trace, rules)?;
     Ok(verified)
+}
+
+/// The truth that the trace at a source shows of a formula that was read.
+fn find_truth_of<B: Source>(
+    alloc: Global,
+    formula: &Formula,
+    trace: &mut B,
+    rules: Rules,
+) -> Result<bool, Fault>
+    ensures { IsTruthOf (λ v.
+        IsCheckedOf rules formula.now (call_of B.Source trace.old trace.new) v
+        × StopsOnceRead (B.remaining trace.old) (B.remaining trace.new) v) result }
+{
+    let whole = read_trace(alloc, trace)?;
+    let marks = check_marked(alloc, formula, &whole, whole.sets(), whole.result(), rules)?;
+    Ok(is_sat(whole.result()))
+}
+
+/// The truth that `verify` returns, without the list of the steps that show it.
+///
+/// What it returns is the truth of a verdict of which each clause of `verify` holds.
+///
+/// # Errors
+/// As of `verify`.
+pub fn find_truth<A: Source, B: Source>(
+    alloc: Global,
+    formula: &mut A,
+    trace: &mut B,
+    rules: Rules,
+) -> Result<bool, Fault>
+    ensures headline { IsTruthOf (λ v. IfSome (A.remaining formula.old)
+        (λ a. IfSome (B.remaining trace.old) (λ b. Headline rules a b v))) result }
+    // Once the trace was read, nothing is read past its result word but at most 4,096 bytes.
+    ensures checked { IsTruthOf (λ v. IsChecked rules (call_of A.Source formula.old formula.new)
+        (call_of B.Source trace.old trace.new) v
+        × StopsOnceRead (B.remaining trace.old) (B.remaining trace.new) v) result }
+{
+    let whole = read_formula(alloc, formula)?;
+    find_truth_of(alloc, &whole, trace, rules)
 }

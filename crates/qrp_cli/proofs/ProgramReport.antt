@@ -1,37 +1,35 @@
 -- From a run over opened files to the report of the program.
-use Rattle.std.proofs.Common.{arith, rules, ◌≡◌, ◌∙◌, ◌<◌, ℕ, List, [], Option, Some, None, IfSome, inr, sym, ap, map, length, get_or}
+use Rattle.std.proofs.Common.{arith, rules, nat_eq, if◌then◌else◌, ◌≡◌, ◌∙◌, ◌<◌, ℕ, Bool, List, [], Option, Some, None, IfSome, inl, inr, sym, ap, map, length, get_or}
 use Rattle.std.proofs.Common.{Result, Ok, Err, IfOk, IfErr, OnOk}
 use Rattle.std.proofs.lemmas.Grind.{common_steps}
 use Rattle.std.proofs.lemmas.List.{get_or-map}
 use Rattle.qrp_cli.specs.declared.job.Job.{Job}
+use Rattle.qrp_cli.specs.declared.job.Job.TheVariants as job
 use Rattle.qrp_rules.specs.declared.rules.Rules.{Rules}
 use Rattle.qrp_check.specs.declared.verdict.Verified.{Verified}
 use Rattle.qrp_check.specs.declared.verdict.Fault.{Fault}
 use Rattle.qrp_cli.specs.declared.start.Start.{Start}
-use Rattle.qrp_cli.specs.Output.{IsOn, IsOutput, Report, check_report, refusals, trimmed_result}
+use Rattle.std.specs.Io.KnownBytes.{Appends}
+use Rattle.qbf_text.specs.declared.sink.Sink as sinks
+use Rattle.qrp_check.specs.declared.fault.CheckFault.TheVariants.{C1, C2, C3, C4, C5, C6}
+use Rattle.qrp_check.specs.Headline.{Headline}
+use Rattle.qrp_report.specs.Lines.{fault_line, verdict_line}
+use Rattle.qrp_report.specs.Refusals.{fault_status, formula_number, trace_number}
+use Rattle.qrp_cli.specs.Output.{IsOn, IsReportedTo, IsSent, PrintsVerdict, Report, check_report, refusal, refusals, success, trimmed_result}
 use Rattle.qrp.specs.Derivations.{Derivation}
-use Rattle.qrp_check.specs.Checked.{SourceCall, IsChecked, WasReadFrom, verdict_of}
+use Rattle.qrp_check.specs.Checked.{SourceCall, IsChecked, StopsOnceRead, WasReadFrom, truth_of, verdict_of}
+use Rattle.qrp_check.specs.declared.verdict.Fault.TheVariants as fault
 use Rattle.qrp_report.specs.Results.{IsTrimmed}
 use Rattle.qrp_report.proofs.ResultsOfBytes.{trims}
-use Rattle.qrp_cli.specs.Program.{call_of_file, start_report, word, IsOnBoth, IsOnFiles, IsOnOpened, IsProgram, Opens}
-use Rattle.qrp_cli.specs.Words.{IsRow}
+use Rattle.qrp_cli.specs.Program.{start_report, word, IsOnBoth, IsOnFormula, IsOnFiles, IsOnOpened, IsProgram, Opens}
+use Rattle.qbf_text.specs.declared.source.Source as source
+use Rattle.qrp_cli.specs.Words.{IsRow, Request}
 
--- what a run does with a source that failed `before` times until then
-abbrev pub from : Option (List ℕ) → ℕ → ℕ → Type 0 → SourceCall
-from bytes before after unpulled = record { bytes = bytes; before = before; after = after; unpulled = unpulled }
-
-module _ (f t : Option (List ℕ)) (m n : ℕ) (p q : Type 0) where
-  same_check : (rules : Rules) (answer : Result Verified Fault) → IsChecked rules (from f 0 m p) (from t 0 n q) answer
-      → IsChecked rules (call_of_file f m) (call_of_file t n) answer
-  same_check rules answer c = search rules
-
-  same_output : (j : Job) (r : Report) → IsOutput j (from f 0 m p) (from t 0 n q) r → IsOutput j (call_of_file f m) (call_of_file t n) r
-  same_output j r o = search rules
-
-  -- the report of a run over files that were just opened
-  pub of_run : (j : Job) (a b : ℕ) (u : Option (List ℕ)) (r : Report) → a ≡ 0 → b ≡ 0 → u ≡ t → IsOutput j (from f a m p) (from u b n q) r
-      → IsOnBoth j f t r
-  of_run j a b u r no_a no_b is o = grind (arith, common_steps, same_output)
+-- a row of the usage without a trace is one of `format`
+only_format : (words : List (List ℕ)) (j : Job) (i : ℕ) → IsRow words (record { job = j; formula = i; trace = None }) → j ≡ job.Format
+only_format words j i (inl (t, has, is)) = let no : None ≡ Some t.trace = ap (λ (r : Request). r.trace) is in absurd (cc no)
+only_format words j i (inr (inl (t, has, is))) = let no : None ≡ Some t.trace = ap (λ (r : Request). r.trace) is in absurd (cc no)
+only_format words j i (inr (inr (f, two, is))) = ap (λ (r : Request). r.job) is
 
 -- the word at a place, as it stands in a list of texts
 word_is : {A : Type 0} (f : A → List ℕ) (xs : List A) (i : ℕ) (x : A) (text : List ℕ) → i < length xs → x ≡ get_or xs i x → text ≡ f x
@@ -39,12 +37,12 @@ word_is : {A : Type 0} (f : A → List ℕ) (xs : List A) (i : ℕ) (x : A) (tex
 word_is f xs i x text below is same = get_or-map f xs i x [] below ∙ ap f (sym is) ∙ sym same
 
 -- the report on the files that the words of a row name
-module _ {A : Type 0} (opens : Opens) (bytes : A → List ℕ) (xs : List A) (r : Report) where
+module _ {A F : Type 0} (files : source.Ghosts F) (opens : Opens) (bytes : A → List ℕ) (xs : List A) (r : Report) where
   pub of_both : (j : Job) (i k : ℕ) (trace : Option ℕ) (x y : A) (first second : List ℕ)
       → IsRow (map bytes xs) (record { job = j; formula = i; trace = trace })
       → (i < length xs) × IfSome trace (λ t. t < length xs) → trace ≡ Some k
       → x ≡ get_or xs i x → first ≡ bytes x → y ≡ get_or xs k y → second ≡ bytes y
-      → IsOnFiles opens j first (Some second) r → IsProgram opens (map bytes xs) r
+      → IsOnFiles files opens j first (Some second) r → IsProgram files opens (map bytes xs) r
   of_both j i k trace x y first second row within is is_x same_x is_y same_y on =
       let inside = rw is at within in
       inr (
@@ -56,23 +54,90 @@ module _ {A : Type 0} (opens : Opens) (bytes : A → List ℕ) (xs : List A) (r 
   pub of_formula : (j : Job) (i : ℕ) (trace : Option ℕ) (x : A) (first : List ℕ)
       → IsRow (map bytes xs) (record { job = j; formula = i; trace = trace })
       → (i < length xs) × IfSome trace (λ t. t < length xs) → trace ≡ None → x ≡ get_or xs i x → first ≡ bytes x
-      → IsOnFiles opens j first None r → IsProgram opens (map bytes xs) r
+      → (j ≡ job.Format → IsOnFiles files opens j first None r) → IsProgram files opens (map bytes xs) r
   of_formula j i trace x first row within is is_x same_x on =
-      inr (record { job = j; formula = i; trace = None }, rw is at row, rw (word_is bytes xs i x first within.0 is_x same_x) on)
+      let formats = only_format (map bytes xs) j i (rw is at row) in
+      inr (
+        record { job = j; formula = i; trace = None },
+        rw is at row,
+        rw (word_is bytes xs i x first within.0 is_x same_x) (on formats),
+      )
 
 -- a check is reported on the first sink
 pub on_out : (rules : Rules) (answer : Result Verified Fault) (out errors : Type 0) → out → IsOn (check_report rules answer).sink out errors
 on_out rules (Ok v) out errors h = h
 on_out rules (Err e) out errors h = h
 
+-- what is reported of a truth, and of a fault, is what is reported of a verdict that has it
+pub truth_report : (rules : Rules) (truth : Bool) (verdict : Result Verified Fault) → ◌≡◌ {A = Result Bool Fault} (Ok truth) (truth_of verdict)
+    → check_report rules verdict ≡ success (verdict_line truth)
+truth_report by truth (Ok v) is = let same : truth ≡ v.truth = cc is in ap (λ b. success (verdict_line b)) (sym same)
+truth_report by truth (Err e) is = absurd (cc is)
+
+pub fault_report : (rules : Rules) (e : Fault) (verdict : Result Verified Fault) → ◌≡◌ {A = Result Bool Fault} (Err e) (truth_of verdict)
+    → check_report rules verdict ≡ refusal (job.Check rules) e
+fault_report by e (Ok v) is = absurd (cc is)
+fault_report by e (Err f) is = let same : e ≡ f = cc is in ap (refusal (job.Check by)) (sym same)
+
 -- the report on what was opened is the one on the files
-pub on_files : {F T : Type 0} (opens : Opens) (first : List ℕ) (second : Option (List ℕ)) (formula : F → Option (List ℕ))
-    (trace : T → Option (List ℕ)) (j : Job) (opened : Result (F × T) Start) (r : Report)
-    → IfOk opened (λ f. (job : Job) (r : Report) → IsOnBoth job (formula f.0) (trace f.1) r → IsOnFiles opens job first second r)
-    → IfErr opened (λ start. (job : Job) → IsOnFiles opens job first second (start_report (refusals job) start))
-    → IsOnOpened formula trace j opened r → IsOnFiles opens j first second r
-on_files opens first second formula trace j (Ok f) r ok err on = ok j r on
-on_files opens first second formula trace j (Err start) r ok err on = rw on (err j)
+pub on_files : {F : Type 0} (files : source.Ghosts F) (opens : Opens) (first second : List ℕ) (j : Job) (opened left : Result (F × F) Start)
+    (r : Report)
+    → IfOk opened (λ f. (job : Job) (r : Report) → IsOnBoth files files job f.0 f.1 r → IsOnFiles files opens job first (Some second) r)
+    → IfErr opened (λ start. (job : Job) → IsOnFiles files opens job first (Some second) (start_report (refusals job) start))
+    → IsOnOpened files files j opened left r → IsOnFiles files opens j first (Some second) r
+on_files files opens first second j (Ok f) (Ok g) r ok err on = ok j r (g.0, g.1, on)
+on_files files opens first second j (Ok f) (Err start) r ok err on = absurd on
+on_files files opens first second j (Err start) left r ok err on = rw on (err j)
+
+-- the same of `format`, whatever the bound of the other source is
+pub on_formula : {F T : Type 0} (files : source.Ghosts F) (remaining : T → Option (List ℕ)) (failures : T → ℕ) (opens : Opens)
+    (first : List ℕ) (j : Job) (opened left : Result (F × T) Start) (r : Report) → j ≡ job.Format
+    → IfOk opened (λ f. (job : Job) (r : Report) → IsOnFormula files f.0 r → IsOnFiles files opens job first None r)
+    → IfErr opened (λ start. (job : Job) → IsOnFiles files opens job first None (start_report (refusals job) start))
+    → IsOnOpened files (record { remaining = remaining; bound = λ t. 0; failures = failures }) j opened left r
+    → IsOnFiles files opens j first None r
+on_formula files remaining failures opens first job.Format (Ok f) (Ok g) r formats ok err on = ok job.Format r (g.0, on)
+on_formula files remaining failures opens first job.Format (Ok f) (Err start) r formats ok err on = absurd on
+on_formula files remaining failures opens first job.Format (Err start) left r formats ok err on = rw on (err job.Format)
+on_formula files remaining failures opens first (job.Check rules) opened left r formats ok err on = absurd (cc formats)
+on_formula files remaining failures opens first (job.Trim rules) opened left r formats ok err on = absurd (cc formats)
+
+-- the status of a refusal is not 0
+abbrev text_status : ℕ → ℕ
+text_status n = if nat_eq n 1 then 3 else (if nat_eq n 9 then 4 else 2)
+
+text_refused : (n : ℕ) → text_status n ≡ 0 → ⊥
+text_refused n is = grind (arith, common_steps)
+
+is_refused : (e : Fault) → fault_status e ≡ 0 → ⊥
+is_refused (fault.Formula e line) is = text_refused (formula_number e) is
+is_refused (fault.Trace e line) is = text_refused (trace_number e) is
+is_refused (fault.Check C5) is = omega (arith, is)
+is_refused (fault.Check C4) is = omega (arith, is)
+is_refused (fault.Check (C1 v)) is = omega (arith, is)
+is_refused (fault.Check (C2 v)) is = omega (arith, is)
+is_refused (fault.Check (C3 v)) is = omega (arith, is)
+is_refused (fault.Check (C6 n s)) is = omega (arith, is)
+
+-- the rules of a check
+pub same_rules : (a b : Rules) → job.Check a ≡ job.Check b → a ≡ b
+same_rules a b e = cc e
+
+-- a text that was sent with status 0 went out whole
+sent_whole : {S : Type 0} (sink : sinks.Ghosts S) (old new : S) (text : List ℕ) (status returned : ℕ)
+    → IsSent sink old new text status 3 returned → returned ≡ 0 → Appends (sink.written old) (sink.written new) text × (status ≡ 0)
+sent_whole sink old new text status returned (inl sent) zero = (sent.0, sym sent.3 ∙ zero)
+sent_whole sink old new text status returned (inr failed) zero = absurd (omega (arith, failed.3, zero))
+
+-- what a check prints with status 0 is the line of a verdict, for which the headline holds
+pub prints_verdict : {S : Type 0} (sink : sinks.Ghosts S) (old new : S) (rules : Rules) (formula trace : Option (List ℕ)) (a b : List ℕ)
+    (checked : Result Verified Fault) (returned : ℕ) → IfSome formula (λ a. IfSome trace (λ b. Headline rules a b checked))
+    → formula ≡ Some a → trace ≡ Some b → IsReportedTo sink old new (check_report rules checked) returned → returned ≡ 0
+    → PrintsVerdict sink old new rules a b
+prints_verdict sink old new rules formula trace a b (Ok v) returned holds is_a is_b sent zero =
+    (v, rw is_b at (rw is_a at holds), (sent_whole sink old new (verdict_line v.truth) 0 returned sent zero).0)
+prints_verdict sink old new rules formula trace a b (Err e) returned holds is_a is_b sent zero =
+    absurd (is_refused e (sent_whole sink old new (fault_line e) (fault_status e) returned sent zero).1)
 
 -- what was read and verified is trimmed, and a fault is that of the check
 pub trims_result : (rules : Rules) (formula trace : SourceCall) (proof : Result (Derivation × Verified) Fault)
@@ -80,3 +145,11 @@ pub trims_result : (rules : Rules) (formula trace : SourceCall) (proof : Result 
     → IfOk proof (λ r. WasReadFrom trace.bytes r.0) → IsTrimmed rules formula trace (trimmed_result proof)
 trims_result rules formula trace (Ok r) checked works reads = trims rules formula trace r.0 r.1 checked works reads
 trims_result rules formula trace (Err e) checked works reads = checked
+
+-- what was taken of the trace is the same for the trimmed trace
+pub trimmed_stops : (before after : Option (List ℕ)) (proof : Result (Derivation × Verified) Fault)
+    → StopsOnceRead before after (verdict_of proof) → StopsOnceRead before after (trimmed_result proof)
+trimmed_stops before after (Ok r) stops = stops
+trimmed_stops before after (Err (fault.Formula e line)) stops = λ no. absurd no
+trimmed_stops before after (Err (fault.Trace e line)) stops = λ no. absurd no
+trimmed_stops before after (Err (fault.Check e)) stops = stops

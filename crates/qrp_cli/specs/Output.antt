@@ -14,7 +14,8 @@ use Rattle.qrp_check.specs.declared.verdict.Fault.{Fault}
 use Rattle.qrp_check.specs.declared.verdict.Fault.TheVariants as fault
 use Rattle.qrp.specs.Derivations.{Derivation}
 use Rattle.qrp.specs.Grammar as trace
-use Rattle.qrp_check.specs.Checked.{SourceCall, IsChecked}
+use Rattle.qrp_check.specs.Checked.{SourceCall, IsChecked, StopsOnceRead}
+use Rattle.qrp_check.specs.Headline.{Headline}
 use Rattle.qrp_check.specs.Trim.{trimmed_trace}
 use Rattle.qrp_report.specs.Lines.{fault_line, verdict_line}
 use Rattle.qrp_report.specs.Refusals.{fault_status}
@@ -65,21 +66,28 @@ abbrev pub trim_report : Rules → Result Derivation Fault → Report
 trim_report rules (Ok t) = success (trace.text t)
 trim_report rules (Err e) = refusal (job.Trim rules) e
 
--- the report of a job on its texts
+-- the report of `format` on a formula's text
+abbrev pub IsFormatted : SourceCall → Report → Type 0
+IsFormatted formula r = (reading : Result Qbf (FormulaFault × ℕ)) × IsFormulaRead formula reading × (r ≡ format_report reading)
+
+-- the report of a job on its texts; once a trace was read, nothing is taken past its result word but what is held
 abbrev pub IsOutput : Job → SourceCall → SourceCall → Report → Type 0
-IsOutput job.Format formula trace r =
-    (reading : Result Qbf (FormulaFault × ℕ)) × IsFormulaRead formula reading × (r ≡ format_report reading)
+IsOutput job.Format formula trace r = IsFormatted formula r
 IsOutput (job.Check rules) formula trace r =
-    (result : Result Verified Fault) × IsChecked rules formula trace result × (r ≡ check_report rules result)
+    (result : Result Verified Fault) × IsChecked rules formula trace result × StopsOnceRead trace.bytes trace.rest result
+    × (r ≡ check_report rules result)
 IsOutput (job.Trim rules) formula trace r =
-    (result : Result Derivation Fault) × IsTrimmed rules formula trace result × (r ≡ trim_report rules result)
+    (result : Result Derivation Fault) × IsTrimmed rules formula trace result × StopsOnceRead trace.bytes trace.rest result
+    × (r ≡ trim_report rules result)
 
 -- A text is to go out to a sink, which went from `old` to `new`: all of the text went out, nothing of it is held back, and the
--- status is returned; or the sink failed, a beginning of the text went out, and the status for that is returned.
+-- status is returned; or the sink failed, a beginning of the text went out, the sink was not called again, and the status for that is
+-- returned.
 abbrev pub IsSent : {S : Type 0} → Ghosts S → S → S → List ℕ → ℕ → ℕ → ℕ → Type 0
 IsSent sink old new text status failed returned =
     (Appends (sink.written old) (sink.written new) text × (sink.failures new ≡ sink.failures old) × sink.finished new × (returned ≡ status))
-    ⊎ (AppendsFront (sink.written old) (sink.written new) text × DeviceFailed (sink.failures old) (sink.failures new) × (returned ≡ failed))
+    ⊎ (AppendsFront (sink.written old) (sink.written new) text × DeviceFailed (sink.failures old) (sink.failures new) × sink.failed_last new
+    × (returned ≡ failed))
 
 -- the report is to go out to a sink, which went from `old` to `new`
 abbrev pub IsReportedTo : {S : Type 0} → Ghosts S → S → S → Report → ℕ → Type 0
@@ -95,3 +103,8 @@ IsOn Errors on_out on_errors = on_errors
 abbrev pub IsReported : {O E : Type 0} → Ghosts O → O → O → Ghosts E → E → E → Report → ℕ → Type 0
 IsReported o out out2 e errors errors2 r returned =
     IsOn r.sink (IsReportedTo o out out2 r returned × (errors2 ≡ errors)) (IsReportedTo e errors errors2 r returned × (out2 ≡ out))
+
+-- What went out to a sink is the line of a verdict on these bytes, and the headline holds for it.
+abbrev pub PrintsVerdict : {S : Type 0} → Ghosts S → S → S → Rules → List ℕ → List ℕ → Type 0
+PrintsVerdict sink old new rules formula trace =
+    (v : Verified) × Headline rules formula trace (Ok v) × Appends (sink.written old) (sink.written new) (verdict_line v.truth)

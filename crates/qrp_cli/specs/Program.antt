@@ -6,8 +6,9 @@ use Rattle.qrp_cli.specs.declared.start.Start.TheVariants as start
 use Rattle.qrp_cli.specs.declared.open_fault.OpenFault.{OpenFault}
 use Rattle.qrp_cli.specs.declared.open_fault.OpenFault.TheVariants.{NoFile, NoMemory}
 use Rattle.qrp_cli.specs.Lines.{start_line, start_status}
-use Rattle.qrp_cli.specs.Output.{Sink, Errors, Report, IsOutput, refusals}
-use Rattle.qrp_check.specs.Checked.{SourceCall}
+use Rattle.qrp_cli.specs.Output.{Sink, Errors, Report, IsOutput, IsFormatted, refusals}
+use Rattle.qbf_text.specs.declared.source.Source as source
+use Rattle.qrp_check.specs.Checked.{call_of}
 use Rattle.qrp_cli.specs.Words.{Request, IsRow}
 
 -- a line that ends the program before its job begins; the status stays where the line does not go out
@@ -23,32 +24,34 @@ start_without_file no_file NoMemory = start.NoMemory
 abbrev pub Opens : Type 1
 Opens = List ℕ → Result (Option (List ℕ)) OpenFault → Type 0
 
--- The report on a file: the end for this sink where it is not opened, or what is said of the bytes of the opened file.
-abbrev pub IsOnFile : Opens → Sink → Start → List ℕ → (Option (List ℕ) → Type 0) → Report → Type 0
-IsOnFile opens sink no_file path says r =
+-- The report on a file: the end for this sink where it is not opened, or what is said of the opened file, which has not failed.
+abbrev pub IsOnFile : {F : Type 0} → source.Ghosts F → Opens → Sink → Start → List ℕ → (F → Type 0) → Report → Type 0
+IsOnFile {F = F} files opens sink no_file path says r =
     ((e : OpenFault) × opens path (Err e) × (r ≡ start_report sink (start_without_file no_file e)))
-    ⊎ ((bytes : Option (List ℕ)) × opens path (Ok bytes) × says bytes)
+    ⊎ ((f : F) × opens path (Ok (files.remaining f)) × (files.failures f ≡ 0) × says f)
 
--- what a run does with an opened file that has these bytes, and that failed this often
-abbrev pub call_of_file : Option (List ℕ) → ℕ → SourceCall
-call_of_file bytes failures = record { bytes = bytes; before = 0; after = failures; unpulled = Unit {0} }
+-- the report of `format` on an opened formula, which the run leaves as it is in the end
+abbrev pub IsOnFormula : {F : Type 0} → source.Ghosts F → F → Report → Type 0
+IsOnFormula {F = F} formula f r = (f2 : F) × IsFormatted (call_of formula f f2) r
 
--- the report of a job on an opened formula and an opened trace
-abbrev pub IsOnBoth : Job → Option (List ℕ) → Option (List ℕ) → Report → Type 0
-IsOnBoth j f t r = (m : ℕ) × (n : ℕ) × IsOutput j (call_of_file f m) (call_of_file t n) r
+-- The report of a job on an opened formula and an opened trace, which the run leaves as they are in the end: so a failure that is reported
+-- is one of an opened file.
+abbrev pub IsOnBoth : {F T : Type 0} → source.Ghosts F → source.Ghosts T → Job → F → T → Report → Type 0
+IsOnBoth {F = F} {T = T} formula trace j f t r = (f2 : F) × (t2 : T) × IsOutput j (call_of formula f f2) (call_of trace t t2) r
 
--- the report of a job on an opened formula and an opened trace, or on why they are not opened
-abbrev pub IsOnOpened : {F T : Type 0} → (F → Option (List ℕ)) → (T → Option (List ℕ)) → Job → Result (F × T) Start → Report → Type 0
-IsOnOpened formula trace j (Ok f) r = IsOnBoth j (formula f.0) (trace f.1) r
-IsOnOpened formula trace j (Err start) r = r ≡ start_report (refusals j) start
+-- The report of a job on an opened formula and an opened trace, each as it was before and as it is left, or on why they are not opened.
+abbrev pub IsOnOpened : {F T : Type 0} → source.Ghosts F → source.Ghosts T → Job → Result (F × T) Start → Result (F × T) Start → Report → Type 0
+IsOnOpened formula trace j (Ok f) (Ok g) r = IsOutput j (call_of formula f.0 g.0) (call_of trace f.1 g.1) r
+IsOnOpened formula trace j (Ok f) (Err start) r = ⊥
+IsOnOpened formula trace j (Err start) left r = r ≡ start_report (refusals j) start
 
--- The report on a request: the formula is opened, then the trace, and both before anything is read.
-abbrev pub IsOnFiles : Opens → Job → List ℕ → Option (List ℕ) → Report → Type 0
-IsOnFiles opens j formula None r =
-    IsOnFile opens (refusals j) start.NoFormula formula (λ f. IsOnBoth j f (Some []) r) r
-IsOnFiles opens j formula (Some trace) r =
-    IsOnFile opens (refusals j) start.NoFormula formula (λ f.
-    IsOnFile opens (refusals j) start.NoTrace trace (λ t. IsOnBoth j f t r) r) r
+-- The report on a request: the formula is opened, then the trace, and both before anything is read. Only `format` has no trace.
+abbrev pub IsOnFiles : {F : Type 0} → source.Ghosts F → Opens → Job → List ℕ → Option (List ℕ) → Report → Type 0
+IsOnFiles files opens j formula None r =
+    IsOnFile files opens (refusals j) start.NoFormula formula (λ f. IsOnFormula files f r) r
+IsOnFiles files opens j formula (Some trace) r =
+    IsOnFile files opens (refusals j) start.NoFormula formula (λ f.
+    IsOnFile files opens (refusals j) start.NoTrace trace (λ t. IsOnBoth files files j f t r) r) r
 
 -- the word at a place
 abbrev pub word : List (List ℕ) → ℕ → List ℕ
@@ -60,7 +63,7 @@ word_at words None = None
 word_at words (Some i) = Some (word words i)
 
 -- The report of the program: USAGE where the words are no row of the usage, or the report on the files that they name.
-abbrev pub IsProgram : Opens → List (List ℕ) → Report → Type 0
-IsProgram opens words r =
+abbrev pub IsProgram : {F : Type 0} → source.Ghosts F → Opens → List (List ℕ) → Report → Type 0
+IsProgram files opens words r =
     (((q : Request) → IsRow words q → ⊥) × (r ≡ start_report Errors start.Usage))
-    ⊎ ((q : Request) × IsRow words q × IsOnFiles opens q.job (word words q.formula) (word_at words q.trace) r)
+    ⊎ ((q : Request) × IsRow words q × IsOnFiles files opens q.job (word words q.formula) (word_at words q.trace) r)

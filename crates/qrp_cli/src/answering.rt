@@ -7,7 +7,7 @@ ghost use Rattle.qrp_cli.specs.declared.open_fault.OpenFault.{OpenFault};
 ghost use Rattle.qrp_cli.specs.Lines.{start_line, start_status};
 ghost use Rattle.qrp_cli.specs.Output.{Report, Errors, IsSent, IsReported, refusals};
 ghost use Rattle.qrp_cli.specs.Program.{start_without_file, start_report};
-ghost use Rattle.qrp_cli.specs.Program.{IsOnBoth, IsOnFiles, IsOnOpened, IsProgram};
+ghost use Rattle.qrp_cli.specs.Program.{IsOnBoth, IsOnFormula, IsOnFiles, IsOnOpened, IsProgram};
 
 use crate::job::Job;
 use crate::open::Open;
@@ -61,12 +61,11 @@ fn open_file<F: Open>(files: &F, path: &str, no_file: Start) -> Result<F::File, 
 /// How the program ends where one of them is not opened.
 fn open_both<F: Open>(files: &F, formula: &str, trace: &str) -> Result<(F::File, F::File), Start>
     ensures opened { IfOk result (λ f. (job : Job) (r : Report)
-        → IsOnBoth job (F.File.remaining f.0) (F.File.remaining f.1) r
-        → IsOnFiles (F.opens files.now) job formula.now (Some trace.now) r) }
-    ensures failures { IfOk result
-        (λ f. (F.File.failures f.0 ≡ 0) × (F.File.failures f.1 ≡ 0)) }
-    ensures refused { IfErr result (λ start. (job : Job) → IsOnFiles (F.opens files.now) job
-        formula.now (Some trace.now) (start_report (refusals job) start)) }
+        → IsOnBoth F.File.Source F.File.Source job f.0 f.1 r
+        → IsOnFiles F.File.Source (F.opens files.now) job formula.now (Some trace.now) r) }
+    ensures refused { IfErr result (λ start. (job : Job)
+        → IsOnFiles F.File.Source (F.opens files.now) job formula.now (Some trace.now)
+        (start_report (refusals job) start)) }
 {
     let formula = open_file(files, formula, Start::NoFormula)?;
     let trace = open_file(files, trace, Start::NoTrace)?;
@@ -79,11 +78,11 @@ fn open_both<F: Open>(files: &F, formula: &str, trace: &str) -> Result<(F::File,
 /// How the program ends where it is not opened.
 fn open_formula<'a, F: Open>(files: &F, path: &str) -> Result<(F::File, SliceSource<'a>), Start>
     ensures opened { IfOk result (λ f. (job : Job) (r : Report)
-        → IsOnBoth job (F.File.remaining f.0) (Some f.1) r
-        → IsOnFiles (F.opens files.now) job path.now None r) }
-    ensures failures { IfOk result (λ f. F.File.failures f.0 ≡ 0) }
-    ensures refused { IfErr result (λ start. (job : Job) → IsOnFiles (F.opens files.now) job
-        path.now None (start_report (refusals job) start)) }
+        → IsOnFormula F.File.Source f.0 r
+        → IsOnFiles F.File.Source (F.opens files.now) job path.now None r) }
+    ensures refused { IfErr result (λ start. (job : Job)
+        → IsOnFiles F.File.Source (F.opens files.now) job path.now None
+        (start_report (refusals job) start)) }
 {
     let file = open_file(files, path, Start::NoFormula)?;
     Ok((file, SliceSource::new(&[])))
@@ -97,21 +96,19 @@ struct Task {
 }
 
 /// Does a job on the opened files, or reports why they are not opened.
-fn run_opened<F: Source + Drop, T: Source + Drop, O: Sink, E: Sink>(
+fn run_opened<F: Source, T: Source, O: Sink, E: Sink>(
     task: Task,
-    opened: Result<(F, T), Start>,
+    opened: &mut Result<(F, T), Start>,
     out: &mut O,
     err: &mut E,
 ) -> Status
-    requires fresh { IfOk opened (λ f. (F.failures f.0 ≡ 0) × (T.failures f.1 ≡ 0)) }
-    ensures { (r : Report) × IsOnOpened F.remaining T.remaining task.job opened r
+    ensures { (r : Report)
+        × IsOnOpened F.Source T.Source task.job opened.old opened.new r
         × IsReported O.Sink out.old out.new E.Sink err.old err.new r result }
 {
     match opened {
-        Ok((mut formula, mut trace)) => {
-            run(task.alloc, task.job, &mut formula, &mut trace, out, err)
-        }
-        Err(start) => refuse(task.job, start, out, err),
+        Ok((formula, trace)) => run(task.alloc, task.job, formula, trace, out, err),
+        Err(start) => refuse(task.job, *start, out, err),
     }
 }
 
@@ -133,7 +130,7 @@ pub fn program<F: Open, O: Sink, E: Sink>(
     err: &mut E,
 ) -> Status
     ensures words { IfOk words (λ words. (r : Report)
-        × IsProgram (F.opens files.now) (map (λ w. string_bytes w) words.items) r
+        × IsProgram F.File.Source (F.opens files.now) (map (λ w. string_bytes w) words.items) r
         × IsReported O.Sink out.old out.new E.Sink err.old err.new r result) }
     ensures no_words { IfErr words (λ start. IsReported O.Sink out.old out.new E.Sink err.old
         err.new (start_report Errors start) result) }
@@ -145,12 +142,12 @@ pub fn program<F: Open, O: Sink, E: Sink>(
     let texts = words.as_slice();
     match request(texts) {
         Some((job, formula, Some(trace))) => {
-            let opened = open_both(files, texts[formula].as_str(), texts[trace].as_str());
-            run_opened(Task { alloc, job }, opened, out, err)
+            let mut opened = open_both(files, texts[formula].as_str(), texts[trace].as_str());
+            run_opened(Task { alloc, job }, &mut opened, out, err)
         }
         Some((job, formula, None)) => {
-            let opened = open_formula(files, texts[formula].as_str());
-            run_opened(Task { alloc, job }, opened, out, err)
+            let mut opened = open_formula(files, texts[formula].as_str());
+            run_opened(Task { alloc, job }, &mut opened, out, err)
         }
         None => stop(err, Start::Usage),
     }

@@ -1,28 +1,31 @@
 //! A job from its sources to its sinks.
 
-ghost use Rattle.std.specs.Prelude.{◌≡◌, ◌<◌, List, ℕ, Result, IfOk, length};
+ghost use Rattle.std.specs.Prelude.{◌≡◌, ◌<◌, List, ℕ, Some, Result, IfOk, length};
 ghost use Rattle.std.specs.List.{AllByRecursion};
 ghost use Rattle.qbf_core.specs.Qbf.{Qbf};
 ghost use Rattle.qbf_text.specs.Written.{IsPut};
 ghost use Rattle.qdimacs.specs.declared.fault.FormulaFault.{FormulaFault};
 ghost use Rattle.qdimacs.specs.Grammar.{text};
 ghost use Rattle.qrp.specs.Grammar.{text as trace_text};
-ghost use Rattle.qrp_check.specs.Checked.{call_of};
+ghost use Rattle.qrp_check.specs.Checked.{call_of, truth_of};
+ghost use Rattle.qrp_check.specs.declared.verdict.Fault.{Fault};
+ghost use Rattle.qrp_check.specs.declared.verdict.Verified.{Verified};
 ghost use Rattle.qrp_check.specs.Trim.{trimmed_trace};
 ghost use Rattle.qrp_report.specs.Lines.{fault_line, verdict_line};
 ghost use Rattle.qrp_report.specs.Refusals.{fault_status};
 ghost use Rattle.qrp_report.specs.Results.{IsFormulaRead};
 ghost use Rattle.qrp_rules.specs.declared.rules.Rules.{Rules};
-ghost use Rattle.qrp_cli.specs.declared.job.Job.TheVariants.{Format};
+ghost use Rattle.qrp_cli.specs.declared.job.Job.TheVariants.{Check, Format};
 ghost use Rattle.qrp_cli.specs.Output.{Report, IsOutput, IsSent, IsReported, IsReportedTo};
 ghost use Rattle.qrp_cli.specs.Output.{check_report, trim_report, trimmed_result, format_report};
+ghost use Rattle.qrp_cli.specs.Output.{PrintsVerdict};
 
 use crate::job::Job;
 use qbf_core::Formula;
 use qbf_text::{Sink, SinkFault, Source};
 use qdimacs::{read_formula, write_formula};
 use qrp::{Trace, write_steps_at};
-use qrp_check::{Fault, Verified, find_proof, verify};
+use qrp_check::{Fault, Verified, find_proof, find_truth};
 use qrp_report::{Refusal, put_refusal, put_verdict};
 use std::alloc::Global;
 
@@ -36,7 +39,7 @@ const DEVICE_FAILED: Status = 3;
 /// Finishes a sink if the text that was to go out to it did, and returns the status.
 fn finish_sent<S: Sink>(sink: &mut S, sent: Result<(), SinkFault>, status: Status) -> Status
     ensures { (before : S) (text : List ℕ)
-        → IsPut S.written S.failures before sink.old text sent
+        → IsPut S.written S.failures S.failed_last before sink.old text sent
         → IsSent S.Sink before sink.new text status 3 result }
 {
     match sent {
@@ -85,12 +88,12 @@ fn send_trimmed<S: Sink>(sink: &mut S, trace: &Trace, verified: &Verified) -> St
 }
 
 /// Sends the line of the verdict, or for the first fault.
-fn send_checked<O: Sink>(out: &mut O, checked: Result<Verified, Fault>) -> Status
-    ensures { (rules : Rules)
-        → IsReportedTo O.Sink out.old out.new (check_report rules checked) result }
+fn send_checked<O: Sink>(out: &mut O, checked: Result<bool, Fault>) -> Status
+    ensures { (rules : Rules) (verdict : Result Verified Fault) → checked ≡ truth_of verdict
+        → IsReportedTo O.Sink out.old out.new (check_report rules verdict) result }
 {
     match checked {
-        Ok(verified) => send_verdict(out, verified.truth),
+        Ok(truth) => send_verdict(out, truth),
         Err(fault) => send_fault(out, &fault),
     }
 }
@@ -138,7 +141,7 @@ fn run_format<F: Source, O: Sink, E: Sink>(
 /// sink that takes the refusals of the job: `out` for `Check`, `err` for the others. The other sink
 /// gets nothing. Where the sink of the report fails, in a write or in `finish`, the status is 3 and
 /// a beginning of the text went out. For `Format`, and with a fault of the formula, the trace is
-/// not pulled.
+/// not pulled. Once a trace was read, nothing is read past its result word but at most 4,096 bytes.
 pub fn run<F: Source, T: Source, O: Sink, E: Sink>(
     alloc: Global,
     job: Job,
@@ -152,10 +155,14 @@ pub fn run<F: Source, T: Source, O: Sink, E: Sink>(
         (call_of F.Source formula.old formula.new)
         (call_of T.Source trace.old trace.new) r
         × IsReported O.Sink out.old out.new E.Sink err.old err.new r result }
+    // What `check` prints with status 0 is the line of a verdict for which the headline holds.
+    ensures headline { (rules : Rules) (a b : List ℕ) → job ≡ Check rules
+        → F.remaining formula.old ≡ Some a → T.remaining trace.old ≡ Some b → result ≡ 0
+        → PrintsVerdict O.Sink out.old out.new rules a b }
     ensures not_pulled { job ≡ Format → trace.new ≡ trace.old }
 {
     match job {
-        Job::Check(rules) => send_checked(out, verify(alloc, formula, trace, rules)),
+        Job::Check(rules) => send_checked(out, find_truth(alloc, formula, trace, rules)),
         Job::Trim(rules) => send_proof(out, err, find_proof(alloc, formula, trace, rules)),
         Job::Format => run_format(alloc, formula, out, err),
     }

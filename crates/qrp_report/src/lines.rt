@@ -10,7 +10,8 @@ use qbf_text::{Sink, SinkFault, put_byte, put_bytes, put_number};
 
 /// Sends a text and a number after it.
 fn put_numbered<S: Sink>(sink: &mut S, text: &[u8], number: u64) -> Result<(), SinkFault>
-    ensures { IsPut S.written S.failures sink.old sink.new (text.now ++ decimal number) result }
+    ensures { IsPut S.written S.failures S.failed_last
+        sink.old sink.new (text.now ++ decimal number) result }
 {
     put_bytes(sink, text)?;
     put_number(sink, number)
@@ -22,7 +23,8 @@ fn put_numbers_line<S: Sink>(
     first: (&[u8], u64),
     second: (&[u8], u64),
 ) -> Result<(), SinkFault>
-    ensures { IsPut S.written S.failures sink.old sink.new (numbers_line first.entry.0.now
+    ensures { IsPut S.written S.failures S.failed_last
+        sink.old sink.new (numbers_line first.entry.0.now
         first.entry.1 second.entry.0.now second.entry.1) result }
 {
     put_numbered(sink, first.0, first.1)?;
@@ -38,7 +40,7 @@ fn put_text_line<S: Sink>(
     beginning: &[u8],
     refusal: &Refusal,
 ) -> Result<(), SinkFault>
-    ensures { IsPut S.written S.failures sink.old sink.new
+    ensures { IsPut S.written S.failures S.failed_last sink.old sink.new
         (text_line device.now beginning.now refusal.now) result }
 {
     match refusal.number {
@@ -54,7 +56,8 @@ fn put_text_line<S: Sink>(
 
 /// Sends the line for a fault of a check.
 fn put_check_line<S: Sink>(sink: &mut S, refusal: &Refusal) -> Result<(), SinkFault>
-    ensures { IsPut S.written S.failures sink.old sink.new (check_line refusal.now) result }
+    ensures { IsPut S.written S.failures S.failed_last
+        sink.old sink.new (check_line refusal.now) result }
 {
     match refusal.number {
         4 => put_bytes(sink, b"REFUSED trace C4\n"),
@@ -77,7 +80,8 @@ fn put_check_line<S: Sink>(sink: &mut S, refusal: &Refusal) -> Result<(), SinkFa
 /// # Errors
 /// If the sink failed. What went out is a beginning of the line then.
 pub fn put_refusal<S: Sink>(sink: &mut S, refusal: &Refusal) -> Result<(), SinkFault>
-    ensures { IsPut S.written S.failures sink.old sink.new (refusal_line refusal.now) result }
+    ensures { IsPut S.written S.failures S.failed_last
+        sink.old sink.new (refusal_line refusal.now) result }
 {
     match refusal.letter {
         b'F' => put_text_line(sink, b"DEVICE formula\n", b"REFUSED formula F", refusal),
@@ -91,7 +95,8 @@ pub fn put_refusal<S: Sink>(sink: &mut S, refusal: &Refusal) -> Result<(), SinkF
 /// # Errors
 /// If the sink failed. What went out is a beginning of the line then.
 pub fn put_verdict<S: Sink>(sink: &mut S, truth: bool) -> Result<(), SinkFault>
-    ensures { IsPut S.written S.failures sink.old sink.new (verdict_line truth) result }
+    ensures { IsPut S.written S.failures S.failed_last
+        sink.old sink.new (verdict_line truth) result }
 {
     if truth {
         return put_bytes(sink, b"VERIFIED true\n");

@@ -50,15 +50,15 @@ pub const STEP: [&str; 13] = [
     "The step holds both signs of a variable.",
     "The step holds a variable that the formula does not bind.",
     "An antecedent of the step is not the number of an earlier step.",
-    "The step is a clause without antecedents, and no clause of the formula gives it by reduction.",
-    "The step is a cube without antecedents, and shares no literal with some clause of the formula.",
+    "The step is a clause without antecedents, and no clean clause of the formula reduces to it.",
+    "The step is a cube without antecedents, and some clean clause shares no literal with it.",
     "The step holds a literal that is not in its antecedent.",
     "The step leaves out a literal of its antecedent that is not reducible.",
     "The antecedents of the step do not clash.",
     "The antecedents of the step clash in several variables.",
     "The pivot of the step has the wrong quantifier.",
     "The step holds a literal that is not in the resolvent.",
-    "The step leaves out a literal of the resolvent that is not reducible.",
+    "The step leaves out a literal that is reducible neither in the resolvent nor in the parents.",
 ];
 
 /// The sentence of this number in a table, and none if there is no such number.

@@ -64,15 +64,32 @@ pub(crate) fn is_among(clause: &[Lit], lit: Lit) -> bool
     clause.contains(&lit)
 }
 
-/// Whether a clause as written holds a variable with both signs.
-pub(crate) fn is_tautology(clause: &[Lit]) -> bool
+/// As `is_tautology`, by comparing all literals with each other. It takes no memory.
+#[cold]
+fn has_clash(clause: &[Lit]) -> bool
     ensures { IsTrue result ↔ IsTautology clause.now }
 {
     clause.iter().any(|lit| is_among(clause, lit.negated()))
 }
 
-/// Why the set is no initial cube.
-pub(crate) fn initial_cube_fault(formula: &Formula, set: &[Lit]) -> Option<RuleFault>
+/// Whether a clause as written holds a variable with both signs. Its set says so, if it is not in
+/// order and an allocation does not fail.
+pub(crate) fn is_tautology(alloc: Global, prefix: &Prefix, clause: &[Lit]) -> bool
+    ensures { IsTrue result ↔ IsTautology clause.now }
+{
+    if is_ordered(clause) {
+        return false;
+    }
+    match LitSet::from_slice(alloc, clause, prefix) {
+        Ok(_set) => false,
+        Err(SetFault::E1) => true,
+        Err(SetFault::E2) => false,
+        Err(SetFault::E3) => has_clash(clause),
+    }
+}
+
+/// Why the set is no initial cube. It is never out of memory.
+pub(crate) fn initial_cube_fault(alloc: Global, formula: &Formula, set: &[Lit]) -> Option<RuleFault>
     requires { IsOrdered set.now }
     ensures { IsJudgement (initial_condition Cubes formula.now set.now ∷ []) result }
 {
@@ -81,7 +98,7 @@ pub(crate) fn initial_cube_fault(formula: &Formula, set: &[Lit]) -> Option<RuleF
         if has_common_literal(clause, set) {
             continue;
         }
-        if !is_tautology(clause) {
+        if !is_tautology(alloc, formula.prefix(), clause) {
             return Some(RuleFault::S5);
         }
     }

@@ -166,7 +166,7 @@ impl InitialCubes {
                 return Ok(true);
             }
         }
-        Ok(is_tautology(lits))
+        Ok(is_tautology(self.alloc, formula.prefix(), lits))
     }
 
     /// Watches each clause of the formula.

@@ -78,7 +78,7 @@ impl InitialSteps {
     {
         match S::REDUCED {
             Quantifier::All => self.clauses.fault(alloc, formula, set),
-            Quantifier::Exists => Ok(initial_cube_fault(formula, set)),
+            Quantifier::Exists => Ok(initial_cube_fault(alloc, formula, set)),
         }
     }
 }

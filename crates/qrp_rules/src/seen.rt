@@ -1,6 +1,8 @@
 //! Literals that were met since the last time that all were forgotten.
 
-ghost use Rattle.std.specs.Prelude.{◌≡◌, ◌≢◌, ◌↔◌, ℕ, ◌⊎◌, IsTrue, IfOk, IfSome, get_or};
+ghost use Rattle.std.specs.Prelude.{◌≡◌, ◌≢◌, ◌↔◌, ◌+◌, ◌*◌, ◌≤◌, ℕ, ◌⊎◌};
+ghost use Rattle.std.specs.Prelude.{IsTrue, IfOk, IfSome, get_or, length};
+ghost use Rattle.qbf_core.specs.Blocks.{pairs};
 ghost use Rattle.qbf_core.specs.Literal.{Literal, negated};
 ghost use Rattle.qbf_core.specs.Members.{◌∈◌};
 ghost use Rattle.qbf_core.specs.Rules.{IsClean};
@@ -57,7 +59,10 @@ impl SeenLits {
     ///
     /// # Errors
     /// If an allocation fails.
-    pub(crate) fn make_room(&mut self, prefix: &Prefix) -> Result<(), AllocError> {
+    pub(crate) fn make_room(&mut self, prefix: &Prefix) -> Result<(), AllocError>
+        ensures few { (length self.new ≡ length self.old)
+            ⊎ (length self.new ≤ 4 * length (pairs prefix.now) + 4) }
+    {
         if self.stamps.is_empty() {
             let width = prefix.len().saturating_mul(4).saturating_add(4);
             self.stamps = vec![in self.alloc; 0; width]?;

@@ -38,7 +38,7 @@ pub trait Side {
     /// shares a literal with the cube, and its fault is `S5`.
     ///
     /// # Errors
-    /// If an allocation fails; never on cubes, which take no memory.
+    /// If an allocation fails; never on cubes, which need no memory.
     fn initial_fault(alloc: Global, formula: &Formula, set: &LitSet) -> Judgement
         requires { AreBound formula.now.blocks set.now }
         ensures { IfOk result
@@ -90,13 +90,13 @@ impl Side for Cubes {
 
     const DECIDING: Quantifier = Quantifier::All;
 
-    fn initial_fault(_alloc: Global, formula: &Formula, set: &LitSet) -> Judgement
+    fn initial_fault(alloc: Global, formula: &Formula, set: &LitSet) -> Judgement
         ensures answer { IfOk result (λ fault.
             IsJudgement (initial_condition Rattle.qbf_core.specs.Rules.Cubes formula.now set.now ∷ [])
             fault) }
         ensures always { IsOk result }
     {
-        Ok(initial_cube_fault(formula, set.as_slice()))
+        Ok(initial_cube_fault(alloc, formula, set.as_slice()))
     }
 
     ghost reduces = { Prim.cc };

@@ -20,6 +20,22 @@ below_more (n ∷ ns) g top more h = (omega (arith, more, h.0), below_more ns g 
 pub below_raised : (ns : List ℕ) (m g top : ℕ) → top ≡ max g m → AllByRecursion (λ n. n ≤ g) ns → AllByRecursion (λ n. n ≤ top) (ns ++ m ∷ [])
 below_raised ns m g top is h = AllByRecursion-push (λ n. n ≤ top) ns m (below_more ns g top (omega (arith, is)) h) (omega (arith, is))
 
+-- ---- a table that grew
+
+pub found_grown : (near table grown : List ℕ) (far : List (ℕ × ℕ)) (numbers : List ℕ) (placed : ℕ) → AreFound near table far numbers placed
+    → ((n : ℕ) → get_or grown n 0 ≡ get_or table n 0) → AreFound near grown far numbers placed
+found_grown near table grown far numbers placed found same = record {
+  table_sound = λ n i e. found.table_sound n i (sym (same n) ∙ e);
+  far_sound = found.far_sound;
+  near_sound = found.near_sound;
+  noted = found.noted;
+  first = λ n i less here. elim (found.first n i less here) [
+    | inl some ↦ inl (λ e. some (sym (same n) ∙ e))
+    | inr h ↦ inr h
+  ];
+  few = found.few;
+}
+
 -- ---- one more number
 
 module _ (near table : List ℕ) (far : List (ℕ × ℕ)) (numbers : List ℕ) (placed m : ℕ) (found : AreFound near table far numbers placed) where

@@ -1,6 +1,7 @@
 //! A set of numbers, with a bit for each.
 
-ghost use Rattle.std.specs.Prelude.{◌≡◌, ◌↔◌, ◌⊎◌, ◌<◌, ◌^◌, ℕ, IsTrue, OnOk, OnErr};
+ghost use Rattle.std.specs.Prelude.{◌≡◌, ◌↔◌, ◌⊎◌, ◌+◌, ◌/◌, ◌<◌, ◌^◌, ℕ};
+ghost use Rattle.std.specs.Prelude.{IsTrue, OnOk, OnErr, length};
 ghost use Rattle.step_index.specs.NumberSets.{HasBit};
 
 use crate::reach::reach;
@@ -50,6 +51,8 @@ impl NumberSet {
         requires { number < 2 ^ 37 }
         ensures inserted { OnOk result
             ((n : ℕ) → HasBit self.new n ↔ (HasBit self.old n ⊎ (n ≡ number))) }
+        ensures few { OnOk result ((length self.new ≡ length self.old)
+            ⊎ (length self.new ≡ number / 64 + 1)) }
         ensures err { OnErr result (self.new ≡ self.old) }
     {
         let index = (number / 64) as usize;

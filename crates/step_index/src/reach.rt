@@ -1,6 +1,6 @@
 //! Tables that grow to reach an index.
 
-ghost use Rattle.std.specs.Prelude.{◌≡◌, ◌^◌, ◌<◌, ℕ, OnOk, OnErr, get_or, length};
+ghost use Rattle.std.specs.Prelude.{◌≡◌, ◌+◌, ◌⊎◌, ◌^◌, ◌<◌, ℕ, OnOk, OnErr, get_or, length};
 
 use std::alloc::AllocError;
 
@@ -14,6 +14,8 @@ pub(crate) fn reach<T: Copy + Drop>(
 ) -> Result<(), AllocError>
     requires { index < 2 ^ 37 }
     ensures reached { OnOk result (index < length table.new.items) }
+    ensures few { OnOk result ((length table.new.items ≡ length table.old.items)
+        ⊎ (length table.new.items ≡ index + 1)) }
     ensures kept { (n : ℕ) → get_or table.new.items n empty ≡ get_or table.old.items n empty }
     ensures err { OnErr result (table.new.items ≡ table.old.items) }
 {

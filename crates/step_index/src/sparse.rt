@@ -1,7 +1,9 @@
 //! Numbers in the order in which they come, found by value.
 
-ghost use Rattle.std.specs.Prelude.{◌≡◌, ◌≢◌, ℕ, ◌+◌, ◌-◌, ◌^◌, ◌<◌, ◌≤◌, List, [], ◌∷◌, ◌++◌, suc, length};
-ghost use Rattle.std.specs.Prelude.{get_or, slice_get, Some, IfSome, IfNone, IsTrue, OnOk, OnErr, false};
+ghost use Rattle.std.specs.Prelude.{◌≡◌, ◌≢◌, ℕ, ◌+◌, ◌-◌, ◌*◌, ◌^◌, ◌<◌, ◌≤◌};
+ghost use Rattle.std.specs.Prelude.{List, [], ◌∷◌, ◌++◌, suc, length};
+ghost use Rattle.std.specs.Prelude.{get_or, slice_get, max, Some, IfSome, IfNone, IsTrue, false};
+ghost use Rattle.std.specs.Prelude.{IfOk, OnOk, OnErr};
 ghost use Rattle.step_index.specs.Numbers.{is_used};
 ghost use Rattle.step_index.specs.Sparse.{ArePlaced, ArePlaces, AreNoted};
 
@@ -40,7 +42,7 @@ pub(crate) struct SparseNumbers {
 }
 
 impl Model for SparseNumbers {
-    ghost use Rattle.std.specs.Prelude.{ℕ, List, ◌≤◌};
+    ghost use Rattle.std.specs.Prelude.{◌+◌, ◌*◌, ◌^◌, ℕ, List, ◌≤◌, length};
     ghost use Rattle.std.specs.List.{AllByRecursion};
     ghost use Rattle.step_index.specs.Sparse.{AreFound};
 
@@ -50,7 +52,8 @@ impl Model for SparseNumbers {
 
     ghost invariant = { λ s.
         AreFound s.near s.table.items s.far.entries s.numbers.items s.placed
-        × AllByRecursion (λ n. n ≤ s.greatest) s.numbers.items };
+        × AllByRecursion (λ n. n ≤ s.greatest) s.numbers.items
+        × (length s.table.items ≤ 2 ^ 20 + 16 * length s.numbers.items) };
 }
 
 /// Whether the table may reach a number, where the next place is this one. A place in the table has
@@ -58,8 +61,29 @@ impl Model for SparseNumbers {
 fn is_near(place: usize, number: u64) -> bool
     ensures place { IsTrue result → place + 1 < 2 ^ 32 }
     ensures number { IsTrue result → number < 2 ^ 37 }
+    ensures few { IsTrue result → number < 2 ^ 20 + 16 * place }
 {
     place < u32::MAX as usize && number < (REACH + REACH_OF_EACH * place) as u64
+}
+
+/// Makes a table reach a number that is near, where the next place is this one. `false` if it is
+/// not near.
+///
+/// # Errors
+/// If an allocation fails. The table has the entries that it had then.
+#[inline(always)]
+fn reach_near(table: &mut Vec<u32>, place: usize, number: u64) -> Result<bool, AllocError>
+    ensures near { IfOk result (λ near. IsTrue near → number < 2 ^ 37) }
+    ensures few { OnOk result
+        (length table.new.items ≤ max (length table.old.items) (2 ^ 20 + 16 * place)) }
+    ensures kept { (n : ℕ) → get_or table.new.items n 0 ≡ get_or table.old.items n 0 }
+    ensures err { OnErr result (table.new.items ≡ table.old.items) }
+{
+    if !is_near(place, number) {
+        return Ok(false);
+    }
+    reach(table, number as usize, 0)?;
+    Ok(true)
 }
 
 /// The place that a table has of a number.
@@ -205,8 +229,7 @@ impl SparseNumbers {
         let greatest = self.greatest.max(number);
         self.numbers.reserve(1)?;
         let place = self.numbers.len();
-        if is_near(place, number) {
-            reach(&mut self.table, number as usize, 0)?;
+        if reach_near(&mut self.table, place, number)? {
             self.near.insert(number)?;
         } else {
             self.far.insert(number, place)?;

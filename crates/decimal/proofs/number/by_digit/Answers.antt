@@ -1,34 +1,21 @@
 use Rattle.std.proofs.lemmas.Grind.{common_steps}
-use Rattle.std.proofs.Common.{false, sym, ap, subst, ◌∙◌, ℕ, List, ◌≡◌, ◌+◌, ◌-◌, ◌*◌, ◌^◌, ◌<◌, ◌≤◌, length, take, drop, get_or, arith, length-take}
+use Rattle.std.proofs.Common.{true≢false, inl, inr, false, sym, ap, subst, ◌∙◌, ℕ, List, ◌≡◌, ◌+◌, ◌-◌, ◌*◌, ◌^◌, ◌<◌, ◌≤◌, length, take, drop, get_or, arith}
 use Rattle.std.specs.Str.Parse.{digits_value, AllDigits}
 use Rattle.std.specs.Char.{digit_value, is_ascii_digit}
 use Rattle.std.proofs.lemmas.List.{get_or-drop, length-drop, take_all}
 use Rattle.std.specs.Int.{IsInRange}
-use Rattle.std.proofs.lemmas.Int.Digits.{digits_more, digits_value_more, digits_value-lt}
-use Rattle.std.proofs.Math.Nat.{pow-le-pow_right}
+use Rattle.std.proofs.lemmas.Int.Digits.{digits_more, digits_value_more}
 use Rattle.std.proofs.lemmas.Str.{digit_value_digit}
 use Rattle.decimal.proofs.number.by_digit.Goals as goal
 use Rattle.decimal.proofs.number.by_digit.Goals.{then-loop-i-test+then-i-rest+else-is_ascii_digit, then-loop-i-test+else-i-rest}
 use Rattle.decimal.proofs.number.by_digit.Goals.{else-loop-i-test, then-loop-i-test+then-i-rest+then-is_ascii_digit+then-not-fits}
 
-short_fits : (ds : List ℕ) → AllDigits 10 ds → length ds ≤ 19 → digits_value 10 ds < 10 ^ 19
-short_fits ds h l = let most : 10 ^ length ds ≤ 10 ^ 19 = pow-le-pow_right (omega arith) l in omega (arith, digits_value-lt 10 ds h)
-
--- one digit more: its list and its value, and that it fits if it is one of the first 19
+-- one digit more: its list and its value
 one_more : (r : List ℕ) (i : ℕ) → i < length r → AllDigits 10 (take i r) → IsInRange 48 57 (get_or r i 0)
     → AllDigits 10 (take (i + 1) r) × (digits_value 10 (take (i + 1) r) ≡ digits_value 10 (take i r) * 10 + (get_or r i 0 - 48))
-    × (i < 19 → digits_value 10 (take i r) * 10 + (get_or r i 0 - 48) < 10 ^ 19)
 one_more r i within before here =
     let is : digit_value (get_or r i 0) + 48 ≡ get_or r i 0 = digit_value_digit (get_or r i 0) here in
-    let all : AllDigits 10 (take (i + 1) r) = digits_more 10 r i within before (omega arith) in
-    let value : digits_value 10 (take (i + 1) r) ≡ digits_value 10 (take i r) * 10 + (get_or r i 0 - 48) =
-    omega (arith, digits_value_more 10 r i within) in (
-      all,
-      value,
-      λ few.
-          let fits : digits_value 10 (take (i + 1) r) < 10 ^ 19 = short_fits (take (i + 1) r) all (omega (arith, length-take (i + 1) r)) in
-          omega arith,
-    )
+    (digits_more 10 r i within before (omega arith), omega (arith, digits_value_more 10 r i within))
 
 pub loop-i-preserved : goal.loop-i-preserved
 loop-i-preserved c = grind (arith, common_steps, one_more)
@@ -38,25 +25,21 @@ returns c = record {
   within = grind (arith, common_steps);
   digits = grind (arith, common_steps);
   value = grind (arith, common_steps);
-  longest = λ few within.
+  longest = λ within digit.
+      let r = take (length c.args.bytes.now - c.args.from) (drop c.args.from c.args.bytes.now) in
+      let all : length (drop c.args.from c.args.bytes.now) ≤ length c.args.bytes.now - c.args.from =
+      omega (arith, length-drop c.args.from c.args.bytes.now) in
+      let same : get_or r c.loop-i.i 0 ≡ get_or c.args.bytes.now (c.args.from + c.loop-i.i) 0 =
+      ap (λ l. get_or l c.loop-i.i 0) (take_all (length c.args.bytes.now - c.args.from) (drop c.args.from c.args.bytes.now) all)
+      ∙ get_or-drop c.args.from c.args.bytes.now c.loop-i.i 0 in
       elim c.loop-i-test.branch [
         | then-loop-i-test+then-i-rest+else-is_ascii_digit w ↦
-            let r = take (length c.args.bytes.now - c.args.from) (drop c.args.from c.args.bytes.now) in
-            let all : length (drop c.args.from c.args.bytes.now) ≤ length c.args.bytes.now - c.args.from =
-            omega (arith, length-drop c.args.from c.args.bytes.now) in
-            let same : get_or r c.loop-i.i 0 ≡ get_or c.args.bytes.now (c.args.from + c.loop-i.i) 0 =
-            ap (λ l. get_or l c.loop-i.i 0) (take_all (length c.args.bytes.now - c.args.from) (drop c.args.from c.args.bytes.now) all)
-            ∙ get_or-drop c.args.from c.args.bytes.now c.loop-i.i 0 in
             let stop : is_ascii_digit (get_or r c.loop-i.i 0) ≡ false = sym w.is_ascii_digit.ensures.value ∙ w.if-is_ascii_digit.false in
-            subst (λ b. is_ascii_digit b ≡ false) same stop
+            absurd (true≢false (sym digit ∙ subst (λ b. is_ascii_digit b ≡ false) same stop))
         | then-loop-i-test+else-i-rest w ↦ absurd (omega (arith, w.if-i-rest.false))
-        | else-loop-i-test w ↦ absurd (omega (arith, w.loop-i-test.false))
+        | else-loop-i-test w ↦ inl (omega (arith, w.loop-i-test.false, c.loop-i.invariant.most))
         | then-loop-i-test+then-i-rest+then-is_ascii_digit+then-not-fits w ↦
-            let r = take (length c.args.bytes.now - c.args.from) (drop c.args.from c.args.bytes.now) in
-            let more = one_more r c.loop-i.i w.if-i-rest.true c.loop-i.invariant.digits w.if-is_ascii_digit.ensures.cases in
-            let first : c.loop-i.i < 19 = omega arith in
-            let fits : c.loop-i.value * 10 + w.from-digit.result < 10 ^ 19 =
-            omega (arith, more.2 first, c.loop-i.invariant.value, w.from-digit.ensures) in
-            absurd (omega (arith, fits, w.fits.ensures.no w.if-not-fits.true))
+            inr (subst (λ b. 2 ^ 64 ≤ c.loop-i.value * 10 + (b - 48)) same
+            (omega (arith, w.from-digit.ensures, w.fits.ensures.no w.if-not-fits.true)))
       ];
 }

@@ -6,5 +6,5 @@ use Rattle.qrp_bytes.proofs.lines.line_of.Goals as goal
 pub returns-clause-encoded : goal.returns-clause-encoded
 returns-clause-encoded c = λ outcome is.
     let small : c.args.verdict.now.position < 2 ^ 64 = omega arith in
-    kept_whole _ _ c.new-line.result c.put_line.new.sink _ c.put_line.result _ (c.put_line.ensures.encoded outcome is) c.new-line.ensures.written
+    kept_whole _ _ _ c.new-line.result c.put_line.new.sink _ c.put_line.result _ (c.put_line.ensures.encoded outcome is) c.new-line.ensures.written
     c.new-line.ensures.failures refl c.put_line.new.sink.full (line_short outcome is.1 (subst (λ (v : QrpVerdict). v.position < 2 ^ 64) is.0 small))

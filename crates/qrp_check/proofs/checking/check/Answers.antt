@@ -1,44 +1,8 @@
-use Rattle.qrp_check.proofs.Words.{ap, side_of}
-use Rattle.qrp_check.proofs.CheckAnswers.{proves, refuses, shows, claims_false, claims_true, closed_of}
-use Rattle.qrp_check.proofs.StepsAt.{answer_rises, answer_inside}
+use Rattle.qrp_check.proofs.MarkedTruth.{core_listed}
+use Rattle.qrp_check.proofs.StepsAt.{core_inside}
 use Rattle.qrp_check.proofs.checking.check.Goals as goal
 
-pub returns-in_default-find_goal-clause-refused : goal.returns-in_default-find_goal-clause-refused
-returns-in_default-find_goal-clause-refused g c =
-    λ other. (rw c.prefix.ensures.value at c.in_default.ensures.none, c.in_default-find_goal.ensures.none)
-
-pub returns-in-Unsat-clause-proves : goal.returns-in-Unsat-clause-proves
-returns-in-Unsat-clause-proves g c = proves _ _ _ _ _ _ _ (ap side_of c.in-Unsat.is)
-    (rw c.prefix.ensures.value at c.in_default.ensures.none) c.check_core.ensures.derives
-
-pub returns-in-Unsat-clause-truth : goal.returns-in-Unsat-clause-truth
-returns-in-Unsat-clause-truth g c = shows _ _ _ _ _ _ _ _ (ap side_of c.in-Unsat.is) (claims_false c.args.formula.now)
-    (closed_of c.args.formula.now c.prefix.ensures.sound) (returns-in-Unsat-clause-proves g c) c.check_core.ensures.claim
-
-pub returns-in-Unsat-clause-refused : goal.returns-in-Unsat-clause-refused
-returns-in-Unsat-clause-refused g c = refuses _ c.args.formula.now c.args.sets.now _ _ _ _ (ap side_of c.in-Unsat.is)
-    (rw c.prefix.ensures.value at c.in_default.ensures.none) c.check_core.ensures.refused
-
-pub returns-in-Sat-clause-proves : goal.returns-in-Sat-clause-proves
-returns-in-Sat-clause-proves g c = proves _ _ _ _ _ _ _ (ap side_of c.in-Sat.is)
-    (rw c.prefix.ensures.value at c.in_default.ensures.none) c.check_core-in-Sat.ensures.derives
-
-pub returns-in-Sat-clause-truth : goal.returns-in-Sat-clause-truth
-returns-in-Sat-clause-truth g c = shows _ _ _ _ _ _ _ _ (ap side_of c.in-Sat.is) (claims_true c.args.formula.now)
-    (closed_of c.args.formula.now c.prefix.ensures.sound) (returns-in-Sat-clause-proves g c) c.check_core-in-Sat.ensures.claim
-
-pub returns-in-Sat-clause-refused : goal.returns-in-Sat-clause-refused
-returns-in-Sat-clause-refused g c = refuses _ c.args.formula.now c.args.sets.now _ _ _ _ (ap side_of c.in-Sat.is)
-    (rw c.prefix.ensures.value at c.in_default.ensures.none) c.check_core-in-Sat.ensures.refused
-
-pub returns-in-Unsat-clause-rises : goal.returns-in-Unsat-clause-rises
-returns-in-Unsat-clause-rises g c = answer_rises _ _ c.check_core.ensures.core
-
-pub returns-in-Unsat-clause-within : goal.returns-in-Unsat-clause-within
-returns-in-Unsat-clause-within g c = answer_inside _ _ c.check_core.ensures.core
-
-pub returns-in-Sat-clause-rises : goal.returns-in-Sat-clause-rises
-returns-in-Sat-clause-rises g c = answer_rises _ _ c.check_core-in-Sat.ensures.core
-
-pub returns-in-Sat-clause-within : goal.returns-in-Sat-clause-within
-returns-in-Sat-clause-within g c = answer_inside _ _ c.check_core-in-Sat.ensures.core
+pub returns-in-Ok-clause-within : goal.returns-in-Ok-clause-within
+returns-in-Ok-clause-within g c =
+    core_inside _ _ (core_listed (g.T.Steps.steps c.args.trace.now) c.in_ok-marks.marks.items c.in-Ok.core.items c.in_ok-marks.ensures.core
+    (rw c.deref.ensures.value at c.in-Ok.ensures))

@@ -9,7 +9,8 @@ returns-in_err-trace-clause-refused g c =
     let why = c.in_err-trace.ensures.refused in
     let p = err_from_is_err_and c.from_residual-in_err-trace.result c.from_residual-in_err-trace.ensures.1 in
     rw p.1 (λ job. inr (
-      g.F.File.Source.remaining c.in_ok-formula.formula,
+      c.in_ok-formula.formula,
       c.in_ok-formula.ensures.file,
+      c.in_ok-formula.ensures.failures,
       inl (why.0, why.1, ap (start_report (refusals job)) (p.2 ∙ why.2)),
     ))

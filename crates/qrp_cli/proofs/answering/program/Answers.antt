@@ -1,5 +1,5 @@
 use Rattle.std.proofs.Common.{inl, refl, Some, None}
-use Rattle.qrp_cli.proofs.ProgramReport.{of_both, of_formula, on_files}
+use Rattle.qrp_cli.proofs.ProgramReport.{of_both, of_formula, on_files, on_formula}
 use Rattle.qrp_cli.specs.declared.start.Start.TheVariants.{Usage}
 use Rattle.qrp_cli.specs.Output.{Errors}
 use Rattle.qrp_cli.specs.Program.{start_report}
@@ -12,10 +12,10 @@ returns-in-Some-default-default-Some-clause-words g c =
     let done = c.run_opened.ensures in
     rw (c.in-Ok.is, ← c.as_slice-texts.ensures.value) (
       done.0,
-      of_both (g.F.Open.opens c.args.files.now) _ c.as_slice-texts.result.now _ q.job _ _ _ _ _ _ _ q.ensures.row q.ensures.within q.field-0-2-is
+      of_both g.F.File.Source (g.F.Open.opens c.args.files.now) _ c.as_slice-texts.result.now _ q.job _ _ _ _ _ _ _ q.ensures.row q.ensures.within q.field-0-2-is
           c.index-texts-formula.is c.as_str.ensures.value c.index-texts-trace.is c.as_str-in-Some-default-default-Some.ensures.value
-          (on_files (g.F.Open.opens c.args.files.now) c.as_str.result.now (Some c.as_str-in-Some-default-default-Some.result.now) _ _ q.job
-          files.result done.0 files.ensures.opened files.ensures.refused done.1),
+          (on_files g.F.File.Source (g.F.Open.opens c.args.files.now) c.as_str.result.now c.as_str-in-Some-default-default-Some.result.now q.job
+          files.result _ done.0 files.ensures.opened files.ensures.refused done.1),
       done.2,
     )
 
@@ -26,10 +26,10 @@ returns-in-Some-default-default-None-clause-words g c =
     let done = c.run_opened-in-Some-default-default-None.ensures in
     rw (c.in-Ok.is, ← c.as_slice-texts.ensures.value) (
       done.0,
-      of_formula (g.F.Open.opens c.args.files.now) _ c.as_slice-texts.result.now _ q.job _ _ _ _ q.ensures.row q.ensures.within q.field-0-2-is
+      of_formula g.F.File.Source (g.F.Open.opens c.args.files.now) _ c.as_slice-texts.result.now _ q.job _ _ _ _ q.ensures.row q.ensures.within q.field-0-2-is
           c.index-texts-formula-in-Some-default-default-None.is c.as_str-in-Some-default-default-None.ensures.value
-          (on_files (g.F.Open.opens c.args.files.now) c.as_str-in-Some-default-default-None.result.now None _ _ q.job
-          files.result done.0 files.ensures.opened files.ensures.refused done.1),
+          (λ formats. on_formula g.F.File.Source _ _ (g.F.Open.opens c.args.files.now) c.as_str-in-Some-default-default-None.result.now q.job
+          files.result _ done.0 formats files.ensures.opened files.ensures.refused done.1),
       done.2,
     )
 

@@ -1,12 +1,14 @@
-use Rattle.qrp_rules.proofs.Words.{rules, tests, cases_from_any, YieldsList-from_slice, Literal, negated, positive, ◌∈◌, any_members}
-use Rattle.qbf_core.proofs.Order.{clash_from}
+use Rattle.std.proofs.Common.{Err}
+use Rattle.qrp_rules.proofs.Words.{common_steps, arith, false≢true, clean_from_same, ap, ◌∙◌}
+use Rattle.qrp_rules.proofs.MembersDecide.{same_self}
+use Rattle.qrp_rules.proofs.ReductsByMembers.{not_clean}
 use Rattle.qrp_rules.proofs.initial.is_tautology.Goals as goal
 
-pub returns : goal.returns
-returns c =
-    let tells = any_members (λ (l : Literal). negated l ∈ c.args.clause.now) c.args.clause.now c.any.result
-    (cases_from_any _ _ _ (λ (l : Literal). negated l ∈ c.args.clause.now) (λ (l : Literal). negated l ∈ c.args.clause.now → ⊥)
-    c.any.ensures.ran (YieldsList-from_slice c.args.clause.now cc) (λ x q k. search (rules, tests)) (λ x q k. search (rules, tests))) in (
-      (λ t. let w = tells.0 t in clash_from c.args.clause.now w.0 w.1 w.2),
-      (λ h. tells.1 (positive h.0, h.1, h.2)),
-    )
+pub returns-then-is_ordered : goal.returns-then-is_ordered
+returns-then-is_ordered c = grind (arith, common_steps, false≢true, not_clean, clean_from_same, same_self)
+
+pub returns-in-Ok : goal.returns-in-Ok
+returns-in-Ok c = (λ t. absurd (false≢true t), λ h. absurd (not_clean c.args.clause.now h c.in-Ok.ensures.fit.0))
+
+pub returns-in-Err-E2 : goal.returns-in-Err-E2
+returns-in-Err-E2 c = (λ t. absurd (false≢true t), λ h. absurd (not_clean c.args.clause.now h (c.from_slice.ensures.clean (c.in-Err-E2.is ∙ ap (λ e. Err e) c.in-Err-E2.field-0-is))))

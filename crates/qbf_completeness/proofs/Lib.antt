@@ -1,0 +1,4 @@
+pub mod SameBlock
+pub mod Players
+pub mod Deriving
+pub mod Playing

@@ -1,0 +1,3 @@
+pub mod Derivations
+pub mod Laws
+pub mod Strategies

@@ -1,0 +1,5 @@
+pub mod RulesHold
+pub mod TextbookSteps
+pub mod Writing
+pub mod Small
+pub mod Traces

@@ -1,0 +1,195 @@
+"""The requests for memory of the sources: how much each asks for at once, and which of them stand in a loop.
+
+A request that cannot be met is a way to return out of memory, and no clause speaks of it. So each request is written down with the expression
+of its size: the names in it with their `let`, assignments, patterns and constants, and where a name is a number that the function is passed, the
+same of each call of that function. Of a request in a loop, and of a call in a loop that fails only out of memory, the head of the loop is
+written down; and of a file that asks for memory its constant numbers.
+"""
+
+import re
+
+from rattle_source import apart, end_of_group, find_outside
+
+# They ask for an amount at once.
+AT_ONCE = (
+    r"with_capacity(?:_in)?|(?:try_)?reserve(?:_exact)?|resize(?:_with)?|extend(?:_from_slice|_from_within)?|from_slice|from_elem|from_fn"
+    r"|repeat|to_vec|to_owned|collect|append|split_off|zeroed"
+)
+# They make room for one more.
+ONE_MORE = r"push|push_str|insert|insert_full|entry|write_all"
+OF_LISTS = {"push", "insert", "get", "pop", "extend", "contains", "position"}
+PARAMETERS = r"\s*(?:::\s*<[^()]*?>\s*)?"
+REQUEST = re.compile(rf"(?<!\w)(?:(?P<name>{AT_ONCE}){PARAMETERS}\(|vec!\s*\[)")
+LOOP = re.compile(r"\b(?:loop|while|for)\b(?!\s*<)")
+NUMBER = re.compile(r"(?:usize|isize|[ui](?:8|16|32|64|128))")
+
+
+def words(text):
+    return " ".join(text.split())
+
+
+def names_in(text):
+    """The names of values in an expression: no method, function, field, type or path."""
+    return [it for it in dict.fromkeys(re.findall(r"(?<![\w:])(?:(?<!\.)|(?<=\.\.))([a-zA-Z_]\w*)\b(?!\s*(?:\(|::|!))", text)) if it not in ("as", "in", "mut", "self")]
+
+
+class Requests:
+    """What the functions of some sources ask for."""
+
+    def __init__(self, sources, alone):
+        self.functions = [(path, it, source.body(it)) for path, source in sources.items() for it in source.functions if not it.is_test]
+        self.constants = {}
+        for path, source in sources.items():
+            for it in source.items:
+                if it.kind in ("const", "static") and not it.is_test:
+                    text = words(source.text[it.start : it.end]).rstrip(";").removeprefix("pub ")
+                    self.constants.setdefault(it.name, {})[path] = text
+        # the functions and methods that fail only out of memory, by their bare names
+        self.alone = {re.split(r"[.:]+", it)[-1] for it in alone} - {"new"}
+        self.found, self.followed = [], set()
+
+    def all(self):
+        """Each request as (file, function, what it asks for), one for each place."""
+        growing = re.compile(rf"(?<!\w)(?:{AT_ONCE}|{ONE_MORE}|{'|'.join(sorted(self.alone))}){PARAMETERS}\(|\bvec!\s*\[")
+        for path, it, body in self.functions:
+            for found in REQUEST.finditer(body):
+                self.ask(path, it, body, found)
+            self.ask_in_loops(path, it, body, growing)
+        asking = {path for path, _, _ in self.found}
+        for of in self.constants.values():
+            self.found += [(path, "-", text) for path, text in of.items() if path in asking and is_number(text)]
+        return sorted(self.found)
+
+    def ask(self, path, it, body, found):
+        """Notes a request with the expression of its size."""
+        name = found["name"] or "vec!"
+        what = words(body[found.end() : end_of_group(body, found.end() - 1) - 1])
+        given = split_arguments(what, ";" if name == "vec!" else ",") or [""]
+        size = given[0] if name.removeprefix("try_").startswith(("reserve", "resize")) else given[-1]
+        self.note(path, it, f"{name}({what})", size, body[: found.start()])
+
+    def note(self, path, it, what, size, before):
+        """Notes a request, or a call that passes its size on, and follows the numbers that the function is passed."""
+        known = self.definitions(path, size, before)
+        self.found.append((path, it.name, "; ".join([what, *known])))
+        for name in dict.fromkeys(names_in(size) + [one for more in known for one in names_in(more)]):
+            self.follow(it, name)
+
+    def definitions(self, path, size, before):
+        """How the names of an expression get their values, down to what the function is passed."""
+        found, left, seen = [], names_in(size), set()
+        while left:
+            name = left.pop(0)
+            if name not in seen:
+                seen.add(name)
+                more = [it for it in [*values(before, name), *self.constant(path, name)] if it not in found]
+                found += more
+                left += [one for it in more for one in names_in(it)]
+        return found
+
+    def constant(self, path, name):
+        of = self.constants.get(name, {})
+        return [of[path]] if path in of else sorted(set(of.values()))
+
+    def follow(self, it, name):
+        """Notes what each call passes for a number that a function takes. Calls of methods that lists have too are not told apart."""
+        at = passed_as(it, name)
+        if at is None or (it.path, name) in self.followed:
+            return
+        self.followed.add((it.path, name))
+        called = re.compile(rf"(?<!\w){it.name}{PARAMETERS}\(")
+        for path, caller, body in self.functions:
+            for found in called.finditer(body):
+                given = split_arguments(body[found.end() : end_of_group(body, found.end() - 1) - 1])
+                if may_be_call(it, body, found.start()) and at < len(given):
+                    size = words(given[at])
+                    self.note(path, caller, f"{name} of {it.name}: {size}", size, body[: found.start()])
+
+    def ask_in_loops(self, path, it, body, growing):
+        """Notes the requests and the calls that fail only out of memory that stand in a loop, each with the head of its innermost loop."""
+        loops = list(loops_of(body))
+        for found in growing.finditer(body) if loops else ():
+            around = [(start, head) for start, end, head in loops if start < found.start() < end]
+            if around:
+                start = re.search(r"[\w.:]*$", body[: found.start()]).start()
+                call = words(body[start : end_of_group(body, found.end() - 1)])
+                start, head = max(around)
+                times = head.partition(" in ")[2] if head.startswith("for ") else ""
+                self.note(path, it, f"{call} in `{head}`", times, body[:start])
+
+
+def values(before, name):
+    """The statements that give a name its value: `let`, assignments, and the heads of loops and matches that bind it."""
+    for found in re.finditer(rf"(?P<if>\b(?:if|while)\s+)?\blet\b(?P<pattern>[^=;{{}}]*\b{name}\b[^=;{{}}]*)=(?!=)", before):
+        end = find_outside(before, found.end(), len(before), "{;" if found["if"] else ";")
+        text = words(before[found.start() : end])
+        yield text.partition(" else {")[0] if "(" in found["pattern"] else text
+    for found in re.finditer(rf"(?<![\w.]){name}(?:\[[^\]]*\])?\s*(?:[-+*/%|&^]|<<|>>)?=(?![=>])", before):
+        if not re.search(r"\blet\b[^;{}]*$", before[: found.start()]):
+            yield words(before[found.start() : find_outside(before, found.end(), len(before), ";")])
+    for found in re.finditer(rf"\bfor\b[^;{{}}]*\b{name}\b[^;{{}}]*\bin\b", before):
+        yield words(before[found.start() : find_outside(before, found.end(), len(before), "{;")])
+    for found in re.finditer(rf"(?<=[{{,}}])(?P<pattern>[^,{{}};]*\b{name}\b[^,{{}};]*)=>", before):
+        yield words(f"{head_around(before, found.start())} {{ {found['pattern'].strip()} }}")
+
+
+def is_number(constant):
+    return NUMBER.fullmatch(re.sub(r"^[^:]*:\s*|\s*=.*$", "", constant)) is not None
+
+
+def head_around(body, place):
+    """The head of the block in which a place stands."""
+    depth = 0
+    for at in range(place - 1, -1, -1):
+        depth += {"}": 1, "{": -1}.get(body[at], 0)
+        if depth < 0:
+            return re.search(r"[^;{}]*$", body[:at])[0].strip()
+    return ""
+
+
+def loops_of(body):
+    """The loops of a body: (where its braces begin and end, its head)."""
+    for found in LOOP.finditer(body):
+        at = found.end()
+        while at < len(body) and body[at] not in "{;":
+            at = end_of_group(body, at) if body[at] in "([" else at + 1
+        if at < len(body) and body[at] == "{":
+            yield at, end_of_group(body, at), words(body[found.start() : at])
+
+
+def split_arguments(text, comma=","):
+    parts, depth = [""], 0
+    for letter in text:
+        depth += {"(": 1, "[": 1, "{": 1, ")": -1, "]": -1, "}": -1}.get(letter, 0)
+        if letter == comma and depth == 0:
+            parts.append("")
+        else:
+            parts[-1] += letter
+    return [it for it in parts if it.strip()]
+
+
+def passed_as(it, name):
+    """The position of a number among the arguments that calls of a function have, or None if it is not passed so."""
+    start = it.signature.find("(", it.signature.find(f"fn {it.name}"))
+    given = apart(it.signature[start + 1 : end_of_group(it.signature, start) - 1])
+    has_self = bool(given) and re.fullmatch(r"\s*(?:&(?:'\w+ )?)?(?:mut )?self\s*", given[0]) is not None
+    for at, one in enumerate(given[1:] if has_self else given):
+        of, _, kind = one.partition(":")
+        if of.strip().removeprefix("mut ") == name and NUMBER.fullmatch(kind.strip()):
+            return at
+    return None
+
+
+def may_be_call(it, body, place):
+    """Whether a call at a place may be one of a function: of a method by its dot, of one of a type by the type, of a free one by neither."""
+    before = body[max(0, place - 80) : place].rstrip()
+    of = it.within if it.within is not None and it.within.kind in ("impl", "trait") else None
+    is_method = re.search(r"\((?:&(?:'\w+ )?|&?(?:'\w+ )?mut )?self\b", it.signature) is not None
+    if before.endswith("."):
+        return is_method and it.name not in OF_LISTS
+    if found := re.search(r"(\w+)(?:<[^<>]*>)?\s*::$", before):
+        name = found[1]
+        if of is None:
+            return name[0].islower()
+        return name[0].isupper() and (name == "Self" or re.search(rf"\b{name}\b", of.head) is not None)
+    return of is None

@@ -1,0 +1,367 @@
+"""Reads sources of Rattle as the compiler reads them: comments and texts first, then items, then each function with its contract and body.
+
+Everything here goes by places in the text as it stands. `blanked` has blanks in place of comments, and of what stands in the two quotes that
+are left of a text, so that the places stay.
+"""
+
+import re
+from bisect import bisect_left
+from dataclasses import dataclass, field
+from pathlib import Path
+
+# What a comment or a text begins with, and the letters that may stand before the quote of a text.
+BEGINNINGS = re.compile(r"""//|/\*|["']""")
+PREFIX = re.compile(r"(?<!\w)(?:[bc]?(?P<raw>r)(?P<hashes>#*)|[bc])$")
+LETTER = re.compile(r"'(?:\\(?:u\{[^}']*\}|x[^']{2}|.)|[^'\\\n])'", re.S)
+STRING = re.compile(r'"(?:[^"\\]|\\.)*"?', re.S)
+OPENING = "([{"
+
+
+# ---- comments and texts
+
+
+def marks(text):
+    """Where each comment and each text stands: (is it a comment, place, place after it)."""
+    at = 0
+    while found := BEGINNINGS.search(text, at):
+        start, at = found.start(), end_of_mark(text, found)
+        if found[0] in ("//", "/*"):
+            yield True, start, at
+        elif at > start + 1:
+            before = prefix(text, start)
+            yield False, start - (len(before[0]) if before else 0), at
+
+
+def prefix(text, place):
+    """The letters of a text that stand before its quote, or None."""
+    return PREFIX.search(text[max(0, place - 20) : place])
+
+
+def end_of_mark(text, found):
+    """The place after a comment or a text that begins at a place; after the quote of a lifetime, which is neither."""
+    place = found.start()
+    if found[0] == "//":
+        return end_at(text, "\n", place, 0)
+    if found[0] == "/*":
+        return end_of_block_comment(text, place)
+    if found[0] == "'":
+        letter = LETTER.match(text, place)
+        return letter.end() if letter else place + 1
+    before = prefix(text, place)
+    if before and before["raw"]:
+        return end_at(text, '"' + before["hashes"], place + 1, 1 + len(before["hashes"]))
+    return STRING.match(text, place).end()
+
+
+def end_at(text, word, start, length):
+    at = text.find(word, start)
+    return len(text) if at < 0 else at + length
+
+
+def end_of_block_comment(text, start):
+    """The place after a block comment, in which others may stand."""
+    depth = 0
+    for found in re.compile(r"/\*|\*/").finditer(text, start):
+        depth += 1 if found[0] == "/*" else -1
+        if depth == 0:
+            return found.end()
+    return len(text)
+
+
+def with_blanks(text, places):
+    parts, last = [], 0
+    for start, end in places:
+        parts += [text[last:start], re.sub(r"[^\n]", " ", text[start:end])]
+        last = end
+    return "".join([*parts, text[last:]])
+
+
+def blanked(text):
+    """The text with blanks in place of comments and within texts."""
+    return with_blanks(quoted(text), [(start, end) if is_comment else (start + 1, end - 1) for is_comment, start, end in marks(text)])
+
+
+def quoted(text):
+    """The text with a quote as the first and the last letter of each text."""
+    letters = list(text)
+    for is_comment, start, end in marks(text):
+        if not is_comment:
+            letters[start] = letters[end - 1] = '"'
+    return "".join(letters)
+
+
+def without_comments(text):
+    """The text with blanks in place of comments."""
+    return with_blanks(text, [(start, end) for is_comment, start, end in marks(text) if is_comment])
+
+
+def one_line(text):
+    """The words of a text, comments left out, with one blank between them."""
+    return " ".join(without_comments(text).split())
+
+
+# ---- brackets, in a text with blanks for comments and texts
+
+
+BRACKETS = re.compile(r"[(\[{)\]}]")
+
+
+def end_of_group(plain, start):
+    """The place after the bracket that closes the one at `start`."""
+    depth = 0
+    for found in BRACKETS.finditer(plain, start):
+        depth += 1 if found[0] in OPENING else -1
+        if depth <= 0:
+            return found.end()
+    return len(plain)
+
+
+def find_outside(plain, start, end, letters):
+    """The first place of one of some letters that stands in no bracket; `end` if there is none."""
+    wanted = re.compile(f"[{re.escape(letters + OPENING)}]")
+    while (found := wanted.search(plain, start, end)) and found[0] not in letters:
+        start = end_of_group(plain, found.start())
+    return found.start() if found else end
+
+
+def apart(words, comma=","):
+    """The parts of a text between commas that stand in no bracket."""
+    parts, depth = [""], 0
+    for at, letter in enumerate(words):
+        is_arrow = letter == ">" and words[at - 1 : at] in ("-", "=")
+        depth += {"<": 1, "(": 1, "[": 1, "{": 1, ">": -1, ")": -1, "]": -1, "}": -1}.get(letter, 0) if not is_arrow else 0
+        if letter == comma and depth == 0:
+            parts.append("")
+        else:
+            parts[-1] += letter
+    return [part for part in parts if part.strip()]
+
+
+# ---- items
+
+
+@dataclass
+class Clause:
+    """One clause of a contract: `ensures`, `requires` or `ghost`, its name or nothing, and what stands in its braces."""
+
+    kind: str
+    name: str
+    text: str
+
+
+@dataclass
+class Item:
+    """An item of a source file, or one of an `impl` or a trait."""
+
+    kind: str  # fn, impl, trait, struct, enum, const, static, type, use, mod, ghost, macro
+    name: str
+    attributes: str
+    first: int  # where its attributes begin
+    start: int  # where it begins after them
+    open: int  # where the brace of its body stands; `end` if it has none
+    end: int
+    head: str  # the text before its body, or all of it; with blanks for comments and texts
+    is_test: bool
+    within: "Item | None" = None
+
+
+@dataclass
+class Function(Item):
+    path: str = ""  # as the prover names it
+    word: int = 0  # where `fn` stands
+    name_end: int = 0  # after its name
+    signature: str = ""
+    clauses: list = field(default_factory=list)
+
+    @property
+    def is_of_trait(self):
+        return self.within is not None and (self.within.kind == "trait" or trait_and_type(self.within.head)[0] != "")
+
+    def contract(self):
+        """The clauses as words, without comments and layout."""
+        return [(it.kind, it.name, one_line(it.text)) for it in self.clauses]
+
+
+WORDS = re.compile(r"(?:pub(?:\s*\([^)]*\))?\s+|unsafe\s+|default\s+)*")
+HEAD = re.compile(
+    r'(?P<fn>(?:(?:const|async|extern(?:\s*"[^"]*")?)\s+)*fn)\b\s*(?P<name>\w+)|(?P<kind>impl|trait|struct|enum|union|const|static|type|use|mod|ghost\s+use|ghost'
+    r"|extern|macro_rules)\b!?\s*(?P<other>\w*)"
+)
+# In a signature: a bracket, or what comes after it.
+BEFORE_BODY = re.compile(r"[(\[{;]|\b(?:requires|ensures|ghost)\b(?=\s*\w*\s*\{)")
+CLAUSE = re.compile(r"\s*(requires|ensures|ghost)\b\s*(\w*)\s*(?=\{)")
+
+
+class Source:
+    """A source file of a crate: its items, and its functions by the names that the prover gives them."""
+
+    def __init__(self, crate, file, text):
+        self.crate, self.file, self.text = crate, file, text  # the file is told from the crate on: src/..
+        self.plain = blanked(text)
+        self.ends = [found.start() for found in re.finditer("\n", text)]
+        self.items = list(self.read_items(0, len(text), None, False))
+        self.functions = [it for it in self.items if isinstance(it, Function)]
+        self.name_functions()
+
+    def read_items(self, start, end, within, is_test):
+        at = start
+        while at < end:
+            found = re.compile(r"\s*").match(self.plain, at, end).end()
+            if found >= end:
+                return
+            item = self.read_item(found, end, within, is_test)
+            yield item
+            if item.kind in ("impl", "trait", "mod") and item.open < item.end:
+                yield from self.read_items(item.open + 1, item.end - 1, item, item.is_test)
+            at = max(item.end, found + 1)
+
+    def read_item(self, first, end, within, is_test):
+        start = first
+        while attribute := re.compile(r"#!?\s*(?=\[)").match(self.plain, start, end):
+            start = re.compile(r"\s*").match(self.plain, end_of_group(self.plain, attribute.end()), end).end()
+        attributes = self.text[first:start]
+        is_test = is_test or re.search(r"\bcfg\(test\)|#\[test\]", blanked(attributes)) is not None
+        word = WORDS.match(self.plain, start, end).end()
+        head = HEAD.match(self.plain, word, end)
+        if head is None:
+            stop = min(find_outside(self.plain, start, end, ";{") + 1, end)
+            stop = end_of_group(self.plain, stop - 1) if self.plain[stop - 1] == "{" else stop
+            return Item("macro", "", attributes, first, start, stop, stop, self.plain[start:stop], is_test, within)
+        if head["fn"]:
+            return self.read_function(head, attributes, first, start, end, is_test, within)
+        kind = head["kind"].split()[0] if head["kind"] != "ghost use" else "use"
+        kind = {"macro_rules": "macro", "union": "struct"}.get(kind, kind)
+        has_body = kind in ("impl", "trait", "struct", "enum", "mod", "macro", "extern")
+        open_ = find_outside(self.plain, head.end(), end, "{;" if has_body else ";")
+        if open_ < end and self.plain[open_] == "{":
+            stop = end_of_group(self.plain, open_)
+        else:
+            open_ = stop = min(open_ + 1, end)
+        return Item(kind, head["other"], attributes, first, start, open_, stop, self.plain[start:open_], is_test, within)
+
+    def read_function(self, head, attributes, first, start, end, is_test, within):
+        plain, at = self.plain, head.end()
+        while found := BEFORE_BODY.search(plain, at, end):
+            at = end_of_group(plain, found.start()) if found[0] in "([" else found.start()
+            if found[0] not in "([":
+                break
+        signature, clauses = " ".join(plain[start:at].split()), []
+        while clause := CLAUSE.match(plain, at, end):
+            stop = end_of_group(plain, clause.end())
+            clauses.append(Clause(clause[1], clause[2], self.text[clause.end() + 1 : stop - 1]))
+            at = stop
+        open_ = re.compile(r"\s*").match(plain, at, end).end()
+        stop = end_of_group(plain, open_) if open_ < end and plain[open_] == "{" else min(open_ + 1, end)
+        open_ = open_ if open_ < end and plain[open_] == "{" else stop
+        item = ("fn", head["name"], attributes, first, start, open_, stop, plain[start:open_], is_test, within)
+        return Function(*item, word=head.end("fn") - 2, name_end=head.end("name"), signature=signature, clauses=clauses)
+
+    def name_functions(self):
+        inside = self.file[len("src/") : -len(".rt")].split("/")
+        here = [] if inside in (["lib"], ["main"]) else inside
+        # The methods of a type stand, for the prover, in the module of the type.
+        imported = {name: module.split("::") for module, name in re.findall(r"(?m)^use crate::([a-z_:]+)::([A-Z]\w*);", self.plain)}
+        for it in self.functions:
+            modules, owner, of = [], None, it.within
+            while of is not None:
+                if of.kind == "mod":
+                    modules.insert(0, of.name)
+                else:
+                    owner = owner_of(of.head)
+                of = of.within
+            owners = [owner] if owner else []
+            it.path = "::".join([self.crate, *(imported.get(owner, here) if owner else here), *modules, *owners, it.name])
+
+    def body(self, function):
+        """What stands in the braces of a function, with blanks for comments and texts."""
+        return self.plain[function.open + 1 : function.end - 1] if function.open < function.end else ""
+
+    def line(self, place):
+        """The number of the line of a place, from 1 on."""
+        return bisect_left(self.ends, place) + 1
+
+
+# ---- names of impls and traits, as the prover has them
+
+
+def arguments(words):
+    """The text between the first `<` and the `>` that closes it."""
+    start = words.find("<")
+    if start < 0:
+        return ""
+    depth = 0
+    for at in range(start, len(words)):
+        depth += {"<": 1, ">": -1}.get(words[at], 0)
+        if depth == 0:
+            return words[start + 1 : at]
+    return ""
+
+
+def type_name(words):
+    """`a::Name<..>` without its path and its parameters."""
+    name = re.sub(r"^(?:\w+\s*::\s*)*", "", words.strip())
+    return re.match(r"\w*", name)[0]
+
+
+def prover_name(words, generics=()):
+    """How the prover names a type: of a reference, a slice or a tuple with the types in it, as far as they are no parameters."""
+    words = words.strip()
+    if words.startswith("&"):
+        return "Ref" + prover_name(re.sub(r"^&\s*(?:'\w+\s+)?", "", words), generics)
+    if words.startswith("mut "):
+        return "Mut" + prover_name(words[4:], generics)
+    if words.startswith("["):
+        return "Slice" + prover_name(words[1:-1], generics)
+    if words.startswith("("):
+        parts = apart(words[1 : words.rindex(")")])
+        return f"Tuple{len(parts)}" + "".join(prover_name(it, generics) for it in parts)
+    name = type_name(words)
+    # a primitive type, too, is written with a capital
+    return "" if name in generics else name[:1].upper() + name[1:]
+
+
+def trait_and_type(head):
+    """The trait of the head of an `impl`, or nothing, its type, and its parameters."""
+    rest = " ".join(head.split()).removeprefix("unsafe ").removeprefix("impl").strip()
+    generics = set()
+    if rest.startswith("<"):
+        inner = arguments(rest)
+        generics = {type_name(it.split(":")[0]) for it in apart(inner)}
+        rest = rest[len(inner) + 2 :].strip()
+    rest = rest.split(" where ")[0]
+    of_trait, _, of_type = rest.rpartition(" for ")
+    return of_trait, of_type, generics
+
+
+def owner_of(head):
+    """How the prover names the `impl` or the trait with this head, which stands before its brace."""
+    if trait := re.match(r"\s*(?:pub(?:\s*\([^)]*\))?\s+)?(?:unsafe\s+)?trait\s+(\w+)", head):
+        return trait[1]
+    of_trait, of_type, generics = trait_and_type(head)
+    if not of_trait:
+        return type_name(of_type)
+    given = [it for it in apart(arguments(of_trait)) if type_name(it) not in generics and not it.strip().startswith("'")]
+    return prover_name(of_type, generics) + type_name(of_trait) + "".join(prover_name(it, generics) for it in given)
+
+
+# ---- the sources of a repository
+
+
+def read_source(root, path):
+    """The source file at a path below a repository: crates/NAME/src/.."""
+    _, crate, *inside = Path(path).parts
+    return Source(crate, "/".join(inside), (Path(root) / path).read_text(encoding="utf-8"))
+
+
+def sources(root):
+    """The source files of all crates by their paths, but for those of modules that are read for tests alone."""
+    root = Path(root)
+    paths = sorted(str(it.relative_to(root)) for it in root.glob("crates/*/src/**/*.rt"))
+    found = {path: read_source(root, path) for path in paths}
+    tests = set()
+    for path, source in found.items():
+        folder = path[: -len(".rt")]
+        folder = folder.rpartition("/")[0] if folder.endswith(("/src/lib", "/src/main")) else folder
+        tests |= {f"{folder}/{it.name}" for it in source.items if it.kind == "mod" and it.is_test and it.open == it.end}
+    is_test = lambda path: any(path == f"{it}.rt" or path.startswith(f"{it}/") for it in tests)
+    return {path: source for path, source in found.items() if not is_test(path)}

@@ -1,0 +1,434 @@
+"""Tests tools/play: whole games, each state of them, and how the command is used. usage: tests/tools/test_play.py PROGRAM ..
+
+tests/tools/test-tools calls it. Every state of a game is compared with the formula as this file restricts it, every move with a search of
+the game if the formula is small, and the end with the matrix. What is verified is what PROGRAM says.
+"""
+
+import importlib.machinery
+import importlib.util
+import itertools
+import json
+import os
+import pty
+import signal
+import subprocess
+import sys
+import tempfile
+import time
+from argparse import Namespace
+from concurrent.futures import ProcessPoolExecutor
+from pathlib import Path
+
+ROOT = Path(__file__).resolve().parents[2]
+sys.path[:0] = [str(ROOT / "tests"), str(ROOT / "tools"), str(ROOT / "tests" / "tools")]
+sys.dont_write_bytecode = True
+from expect import expect, finish  # noqa: E402
+from qrptools.command import Ends  # noqa: E402
+from qrptools.game import State  # noqa: E402
+from qrptools.program import trimmed  # noqa: E402
+from qrptools.replies import Names  # noqa: E402
+from random_proofs import random_case, truth  # noqa: E402
+from test_steps import damages  # noqa: E402
+
+PLAY = ROOT / "tools" / "play"
+EXAMPLES = sorted(folder for folder in (ROOT / "examples").iterdir() if (folder / "make-formula").exists())
+SEEDS = 700  # of random formulas
+SMALL = 12  # variables that a search of the game takes
+EVERY = 7  # of the damages of a proof so many are tried, and the first ones
+
+
+def module_of(tool):
+    """A tool as a module."""
+    loader = importlib.machinery.SourceFileLoader(f"tool_{tool.name}", str(tool))
+    module = importlib.util.module_from_spec(importlib.util.spec_from_loader(loader.name, loader))
+    loader.exec_module(module)
+    return module
+
+
+TOOL = module_of(PLAY)
+
+
+# The formula, read and restricted here
+
+
+def read_formula(text):
+    """The blocks, each a quantifier and its variables, and the clauses of a formula that is known to be right."""
+    words = [word for line in text.splitlines() if not line.startswith("c") for word in line.split()][4:]
+    sets, clauses, row = [], [], []
+    for word in words:
+        if word == "0":
+            (sets if row and row[0] in "ae" else clauses).append(row)
+            row = []
+        else:
+            row.append(word)
+    blocks = []
+    for quantifier, *variables in sets:
+        if blocks and variables and blocks[-1][0] == quantifier:
+            blocks[-1][1].extend(map(int, variables))
+        elif variables:
+            blocks.append((quantifier, list(map(int, variables))))
+    return blocks, [list(map(int, clause)) for clause in clauses]
+
+
+def restricted(blocks, clauses, values):
+    """The formula after values of its outermost block."""
+    left = [[literal for literal in clause if -literal not in values] for clause in clauses if values.isdisjoint(clause)]
+    return blocks[1:], left
+
+
+def pairs_of(blocks):
+    return [(quantifier, variable) for quantifier, variables in blocks for variable in variables]
+
+
+# Whole games
+
+
+class Wrong(Exception):
+    """A game is not as it has to be."""
+
+
+def require(holds, what):
+    if not holds:
+        raise Wrong(what)
+
+
+def played(formula, trace, any_pivot, seed, folder):
+    """What the tool finds of a game with random replies, with the files of all states in a folder."""
+    arguments = Namespace(json=True, reply=[], random=str(seed), write=os.path.join(folder, f"states{seed}"), qu=any_pivot)
+    os.mkdir(arguments.write)
+    path = trimmed(str(formula), str(trace), TOOL.flags_of(arguments), folder)
+    game = TOOL.Play(arguments, State(str(formula), path, any_pivot), Names(), folder)
+    game.to_the_end()
+    return game.found
+
+
+def try_game(formula, trace, any_pivot, seed, folder):
+    """Plays a game and compares it with the formula. Raises Wrong."""
+    found = played(formula, trace, any_pivot, seed, folder)
+    blocks, clauses = read_formula(Path(formula).read_text())
+    is_true = {"VERIFIED true": True, "VERIFIED false": False}[found["verified"]]
+    winner = "e" if is_true else "a"
+    require(found["winner"] == ("existential" if is_true else "universal"), "the winner")
+    require([move["block"] for move in found["moves"]] == list(range(1, len(blocks) + 1)), "the moves to the end")
+    for move in found["moves"]:
+        quantifier, variables = blocks[0]
+        values = frozenset(move["values"])
+        require([abs(literal) for literal in move["values"]] == variables, f"block {move['block']}: a value for each variable")
+        require(move["by"] == ("proof" if quantifier == winner else "other player"), f"block {move['block']}: who moves")
+        require(not move["open"] or quantifier == winner and set(move["open"]) <= set(variables), f"block {move['block']}: open variables")
+        try_open(blocks, clauses, move, is_true)
+        blocks, clauses = restricted(blocks, clauses, values)
+        try_state(blocks, clauses, move, is_true)
+    require(found["matrix"] is is_true and all(not clause for clause in clauses), "the end")
+    require((not clauses) is is_true, "the winner by the matrix")
+    return len(found["moves"]), sum(len(move["open"]) for move in found["moves"])
+
+
+def try_state(blocks, clauses, move, is_true):
+    """The files of a state are the formula that is left, and a proof of it; the winner has not lost it."""
+    require(read_formula(Path(move["formula"]).read_text()) == (blocks, clauses), f"block {move['block']}: the formula that is left")
+    require(move["line"] == f"VERIFIED {str(is_true).lower()}", f"block {move['block']}: verified")
+    require(Path(move["trace"]).read_text().endswith(f"r {'sat' if is_true else 'unsat'}\n"), f"block {move['block']}: the result")
+    if len(pairs_of(blocks)) <= SMALL:
+        require(truth(pairs_of(blocks), clauses) == is_true, f"block {move['block']}: the winner has lost the game")
+
+
+def try_open(blocks, clauses, move, is_true):
+    """Of variables that the proof leaves open every value wins."""
+    if move["open"] and len(pairs_of(blocks)) <= 8:
+        fixed = [literal for literal in move["values"] if abs(literal) not in move["open"]]
+        for signs in itertools.product((1, -1), repeat=len(move["open"])):
+            values = frozenset(fixed + [sign * variable for sign, variable in zip(signs, move["open"])])
+            left, rest = restricted(blocks, clauses, values)
+            require(truth(pairs_of(left), rest) == is_true, f"block {move['block']}: open, but it loses with {sorted(values)}")
+
+
+def outcome(case):
+    """Plays some games. The name of the case, what was wrong if anything, and how many moves and open variables there were."""
+    name, files, any_pivot, seeds = case
+    moves = are_open = 0
+    with tempfile.TemporaryDirectory() as folder:
+        if name.startswith("random "):
+            files = written(folder, int(name.split()[1]))
+        for seed in seeds:
+            try:
+                found = try_game(*files, any_pivot, seed, folder)
+            except (Exception, SystemExit) as fault:  # an exception of the tool is a failure too
+                return name, f"{type(fault).__name__}: {fault}", moves, are_open
+            moves, are_open = moves + found[0], are_open + found[1]
+    return name, None, moves, are_open
+
+
+def written(folder, seed):
+    """The files of a random case."""
+    _, _, _, formula, trace = random_case(seed)
+    paths = Path(folder) / "formula", Path(folder) / "trace"
+    for path, text in zip(paths, (formula, trace)):
+        path.write_text(text)
+    return paths
+
+
+def stored_cases():
+    folder = ROOT / "tests" / "traces"
+    for row in (folder / "expected.tsv").read_text().splitlines()[1:]:
+        formula, trace = row.split("\t")[:2]
+        yield f"tests/traces/{trace}", (folder / formula, folder / trace), False, (1, 2)
+    for example in EXAMPLES:
+        for ending in "qrp", "trimmed.qrp":
+            files = example / f"{example.name}.qdimacs", example / f"{example.name}.{ending}"
+            yield f"{example.name}.{ending}", files, False, (1, 2, 3)
+            yield f"{example.name}.{ending} by any pivot", files, True, (4, 5)
+
+
+def random_cases():
+    for seed in range(SEEDS):
+        yield f"random {seed}", None, random_case(seed)[2], (1, 2)
+
+
+def try_games(pool):
+    for cases in stored_cases(), random_cases():
+        moves = are_open = 0
+        for name, wrong, some, more in pool.map(outcome, cases, chunksize=4):
+            expect(f"the game of {name}", wrong is None, wrong)
+            moves, are_open = moves + some, are_open + more
+        expect("there were moves, and open variables", moves > 400 and are_open > 100, (moves, are_open))
+
+
+# Damaged proofs
+
+
+def try_damaged(case):
+    """A damaged proof is refused, or its game is as it has to be."""
+    name, formula, trace, any_pivot = case
+    with tempfile.TemporaryDirectory() as folder:
+        paths = Path(folder) / "formula", Path(folder) / "trace"
+        for path, text in zip(paths, (formula, trace)):
+            path.write_text(text)
+        try:
+            try_game(*paths, any_pivot, 1, folder)
+            return name, "played"
+        except Ends as fault:
+            return name, "refused" if fault.status == 1 and "refuses the proof" in str(fault) else f"{fault.status} {fault}"
+        except Exception as fault:
+            return name, f"{type(fault).__name__}: {fault}"
+
+
+def damaged_cases():
+    for example in "blind-box", "eight-matches", "carry-from-tables":
+        folder = ROOT / "examples" / example
+        pairs = damages(folder / f"{example}.qdimacs", folder / f"{example}.trimmed.qrp")
+        for number, (formula, trace) in enumerate(pairs):
+            if number < 12 or number % EVERY == 0:
+                yield f"damage {number} of {example}", formula, trace, number % 2 == 1
+
+
+def try_damages(pool):
+    seen = {"played": 0, "refused": 0}
+    for name, found in pool.map(try_damaged, damaged_cases(), chunksize=4):
+        expect(name, found in seen, found)
+        seen[found] = seen.get(found, 0) + 1
+    expect("some damaged proofs are refused and some are not", min(seen.values()) > 10, seen)
+
+
+# The command
+
+
+def play(*words, program=None, **options):
+    environment = dict(os.environ, **({"QRP_CMD": str(program)} if program else {}))
+    options = {"stdin": subprocess.DEVNULL, "stdout": subprocess.PIPE, "stderr": subprocess.PIPE, "text": True, "env": environment, **options}
+    return subprocess.run([sys.executable, PLAY, *map(str, words)], check=False, timeout=60, **options)
+
+
+def example(name):
+    return ROOT / "examples" / name / f"{name}.qdimacs", ROOT / "examples" / name / f"{name}.qrp"
+
+
+MATCHES, BOX, ROBOT = example("eight-matches"), example("blind-box"), example("blind-robot")
+REPLIES = ["--reply", "-1 -2", "--reply", "5, -6"]
+TOLD = """\
+VERIFIED false: the universal player wins
+block 1 (existential), the other player: -1 -2
+    VERIFIED false
+block 2 (universal), by the proof: 3 -4
+    left open by the proof: 4
+    VERIFIED false
+block 3 (existential), the other player: 5 -6
+    VERIFIED false
+block 4 (universal), by the proof: -7 -8
+    VERIFIED false
+block 5 (existential) is the other player's: 9 10
+    give the values by --reply "..", with - before each variable that is false
+"""
+
+
+def try_text():
+    """What is printed of a game, as text and as JSON, by numbers and by names."""
+    told = play(*REPLIES, *MATCHES)
+    expect("the text of a game", (told.returncode, told.stdout, told.stderr) == (0, TOLD, ""), told)
+    as_json = play("--json", *REPLIES, *MATCHES)
+    found = json.loads(as_json.stdout)
+    expect("JSON, one line", as_json.returncode == 0 and as_json.stdout.count("\n") == 1 and found["next"]["variables"] == [9, 10], found)
+    expect("JSON, the moves", [move["values"] for move in found["moves"]] == [[-1, -2], [3, -4], [5, -6], [-7, -8]], found)
+    with tempfile.TemporaryDirectory() as folder:
+        names = Path(folder) / "names"
+        names.write_text("1 high\n\n2 low\n3 answer\n")
+        named = play("--names", names, "--reply", "-high -2", *MATCHES)
+        wanted = "".join(TOLD.replace("-1 -2", "-high -low").replace("3 -4", "answer -4").splitlines(True)[:6])
+        expect("names", named.stdout.startswith(wanted), named)
+        found = json.loads(play("--json", "--names", names, "--reply=-low -high", *MATCHES).stdout)
+        expect("JSON, names", [move["names"] for move in found["moves"]] == [["-high", "-low"], ["answer", "-4"]], found)
+        for text in "1\n", "1 a b\n", "x a\n", "0 a\n", "1 a\n1 b\n", "1 a\n2 a\n", "1 2\n", "1 -a\n":
+            names.write_text(text)
+            refused = play("--names", names, *MATCHES)
+            expect(f"names {text!r}", refused.returncode == 2 and not refused.stdout and f"{names}, line {text.count(chr(10))}" in refused.stderr, refused)
+
+
+def try_replies():
+    """Replies that are wrong, and those at random."""
+    for replies, said in (
+        (["--reply", "1"], "no value of 2"),
+        (["--reply", "1 2", "--reply", "-5"], "no value of 6"),
+        (["--reply", "1 2 3"], "'3' is not a literal of block 1"),
+        (["--reply", "1 -1 2"], "with both values"),
+        (["--reply", "1 x"], "'x' is not a literal"),
+        (["--reply", "0"], "'0' is not a literal"),
+        (["--reply", "99999999999999999999"], "is not a literal"),
+        (["--reply", "1 2"] * 6, "there are 6 replies, and only 5 blocks"),
+    ):
+        refused = play(*replies, *MATCHES)
+        last = refused.stderr.splitlines()[-1:]
+        expect(f"{replies}", refused.returncode == 2 and last and said in last[0] and "Traceback" not in refused.stderr, refused)
+    first, again, other = (play("--random", seed, "--reply", "1", *MATCHES) for seed in ("7", "7", "8"))
+    expect("a seed gives one game", first.stdout == again.stdout != other.stdout and first.returncode == 0, (first, other))
+    expect("to the end", first.stdout.endswith("the matrix does not hold: the universal player has won\n"), first)
+    expect("what is given stays", "the other player: 1 " in first.stdout, first)
+
+
+def try_small():
+    """A goal that is an initial step, a formula without variables, without clauses, and empty sets."""
+    cases = (
+        ("p cnf 3 1\na 1 3 0\n1 -3 0\n", "p qrp 0 0\n7 0 0\nr unsat\n", "block 1 (universal), by the proof: -1 3\n"),
+        ("p cnf 3 1\na 1 3 0\n1 -3 0\n", "p qrp 0 0\n7 1 0 0\n9 0 7 0\nr unsat\n", "block 1 (universal), by the proof: -1 3\n"),
+        ("p cnf 2 3\na 1 2 0\n1 -1 0\n2 -2 1 0\n-2 0\n", "p qrp 0 0\n1 0 0\nr unsat\n", "block 1 (universal), by the proof: -1 2\n    left open by the proof: 1\n"),
+        ("p cnf 0 1\n0\n", "p qrp 0 0\n1 0 0\nr unsat\n", "no variable is left, and the matrix does not hold"),
+        ("p cnf 0 0\n", "p qrp 0 0\n18446744073709551615 0 0\nr sat\n", "no variable is left, and the matrix holds"),
+        ("p cnf 2 1\na 0\ne 1 0\na 0\ne 2 0\n1 2 0\n", "p qrp 0 0\n2 1 0 0\n1 0 2 0\nr sat\n", "block 1 (existential), by the proof: 1 -2\n    left open by the proof: 2\n"),
+    )
+    with tempfile.TemporaryDirectory() as folder:
+        formula, trace = Path(folder) / "f", Path(folder) / "t"
+        for formula_text, trace_text, said in cases:
+            formula.write_text(formula_text)
+            trace.write_text(trace_text)
+            told = play(formula, trace)
+            expect(f"{formula_text!r} {trace_text!r}", told.returncode == 0 and said in told.stdout, told)
+
+
+def try_files():
+    """--write, pipes, and files that cannot be used."""
+    with tempfile.TemporaryDirectory() as folder:
+        states = Path(folder) / "new" / "states"
+        told = play("--write", states, *REPLIES, *MATCHES)
+        names = sorted(path.name for path in states.iterdir())
+        expect("the files of the states", told.stdout == TOLD and names == sorted(f"state{n}.{kind}" for n in range(1, 5) for kind in ("qdimacs", "qrp")), names)
+        again = play("--write", states, *MATCHES)
+        expect("a folder that is not empty", again.returncode == 2 and "is not empty" in again.stderr and not again.stdout, again)
+        full = play("--write", "/dev/null/x", *MATCHES)
+        expect("a folder that cannot be made", full.returncode == 2 and "/dev/null/x cannot be used" in full.stderr, full)
+    piped = subprocess.run(["bash", "-c", f"{sys.executable} {PLAY} <(cat {BOX[0]}) <(cat {BOX[1]})"], capture_output=True, text=True, check=False)
+    expect("pipes", piped.stdout.startswith("VERIFIED false: the universal player wins\nblock 1 (universal), by the proof: -1 2\n"), piped)
+    for words in [], [BOX[0]], [*BOX, "x"], ["--other", *BOX], ["--names"], ["/nonexistent", BOX[1]], [BOX[0], "/nonexistent"], [ROOT, BOX[1]], ["--names", "/nonexistent", *BOX]:
+        ended = play(*words)
+        expect(f"usage: play {words}", ended.returncode == 2 and not ended.stdout and ended.stderr and "Traceback" not in ended.stderr, ended)
+    refused = play(MATCHES[0], BOX[1])
+    expect("a refused proof", refused.returncode == 1 and not refused.stdout and "refuses the proof: REFUSED" in refused.stderr, refused)
+    for redirection, status in (">/dev/full", 2), (">&-", 2):
+        ended = subprocess.run(["bash", "-c", f"{sys.executable} {PLAY} {BOX[0]} {BOX[1]} {redirection}"], capture_output=True, text=True, check=False)
+        expect(f"play .. {redirection}", ended.returncode == status and "cannot be written" in ended.stderr and "Traceback" not in ended.stderr, ended)
+
+
+def try_terminal():
+    """At a terminal the values are asked for, until all are there or the user ends the play."""
+    for lines, shown in (("1\nx\n-2\n\n", 6), ("\n", 2), ("\x04", 2)):
+        master, slave = pty.openpty()
+        with subprocess.Popen([sys.executable, PLAY, *MATCHES], stdin=slave, stdout=subprocess.PIPE, stderr=subprocess.PIPE, text=True) as process:
+            os.close(slave)
+            os.write(master, lines.encode())
+            out, said = process.communicate(timeout=60)
+        os.close(master)
+        expect(f"typed {lines!r}", process.returncode == 0 and out.count("\n") in (shown + 2, shown + 1, shown + 3) and "block 1 (existential): 1 2 (with" in said, (out, said))
+        expect(f"typed {lines!r}: what is missing", ("block 1 (existential): 2 (with" in said and "'x' is not a literal" in said) == ("x" in lines), said)
+
+
+FAKE = """#!/bin/sh
+# The program, but for its check number N of a state, which it does in its own way.
+case $1 in
+check)
+    echo >> "$COUNTS"
+    if [ "$(wc -l < "$COUNTS")" = "$N" ]; then
+        {what}
+    fi ;;
+esac
+exec "$REAL" "$@"
+"""
+
+
+def fake(folder, what, number):
+    """A program that does this in place of a check, and the environment for it."""
+    program, counts = Path(folder) / "fake", Path(folder) / "counts"
+    program.write_text(FAKE.replace("{what}", what))
+    program.chmod(0o755)
+    counts.write_text("")
+    temporary = Path(folder) / "tmp"
+    temporary.mkdir(exist_ok=True)
+    return dict(os.environ, REAL=os.environ["QRP_CMD"], QRP_CMD=str(program), COUNTS=str(counts), N=str(number), TMPDIR=str(temporary)), temporary
+
+
+def try_own_fault():
+    """A state that is not verified is never told as a move; its files are kept."""
+    cases = (("echo REFUSED step 1 S4; exit 1", 3, "(REFUSED step 1 S4)"), ("echo VERIFIED true; exit 0", 3, "(VERIFIED true)"))
+    others = (("echo NO MEMORY; exit 4", 2, "NO MEMORY"), ("kill -9 $$", 2, "SIGKILL"), ("echo VERIFIED false; exit 1", 3, "(VERIFIED false)"), ("exit 0", 2, "state 2"))
+    for what, status, said in cases + others:
+        with tempfile.TemporaryDirectory() as folder:
+            environment, temporary = fake(folder, what, 2)
+            told = play(*REPLIES, *MATCHES, env=environment)
+            holds = told.returncode == status and said in told.stderr and "Traceback" not in told.stderr
+            expect(f"{what}: status and line", holds, told)
+            expect(f"{what}: the move is not told", told.stdout == "".join(TOLD.splitlines(True)[:3]), told)
+            kept = sorted(path.name for path in temporary.glob("*/*"))
+            expect(f"{what}: the files", kept == (["state1.qdimacs", "state1.qrp"] if status == 3 else []), kept)
+            states = Path(folder) / "states"
+            (Path(folder) / "counts").write_text("")
+            told = play("--write", states, *REPLIES, *MATCHES, env=environment)
+            expect(f"{what}: the files of --write", told.returncode == status and len(list(states.iterdir())) == 4, told)
+
+
+def try_signals():
+    """A signal while the program runs ends the tool without a word, and leaves nothing."""
+    for number in signal.SIGINT, signal.SIGTERM:
+        with tempfile.TemporaryDirectory() as folder:
+            environment, temporary = fake(folder, 'echo $$ > "$COUNTS.pid"; exec sleep 50', 2)
+            with subprocess.Popen([sys.executable, PLAY, *REPLIES, *MATCHES], stdout=subprocess.PIPE, stderr=subprocess.PIPE, env=environment) as process:
+                marker = Path(folder) / "counts.pid"
+                waited = time.monotonic()
+                while not (marker.exists() and marker.read_text()) and time.monotonic() < waited + 30:
+                    time.sleep(0.02)
+                process.send_signal(number)
+                _, said = process.communicate(timeout=30)
+            expect(f"{number.name}: status, no word, no file", (process.returncode, said, list(temporary.iterdir())) == (128 + number, b"", []), (process.returncode, said))
+            ended = not Path(f"/proc/{marker.read_text().strip()}").exists()
+            expect(f"{number.name}: the program has ended", ended)
+
+
+def main():
+    os.environ["QRP_CMD"] = os.path.abspath(sys.argv[1])
+    signal.signal(signal.SIGINT, signal.default_int_handler)  # a run in the background ignores interrupts, and so would all that it starts
+    with ProcessPoolExecutor(4) as pool:
+        try_games(pool)
+        try_damages(pool)
+    for part in try_text, try_replies, try_small, try_files, try_terminal, try_own_fault, try_signals:
+        part()
+    return finish()
+
+
+if __name__ == "__main__":
+    sys.exit(main())

@@ -1,0 +1,238 @@
+"""Tests tools/solve, and what BenchExec makes of it. usage: tests/tools/test_solve.py PROGRAM ..; tests/tools/test-tools calls it.
+
+The solver is a script that gives the stored traces; its name says what it does wrong. If depqbf is there, it is tried too.
+"""
+
+import os
+import shutil
+import signal
+import subprocess
+import sys
+import tempfile
+import time
+import types
+from pathlib import Path
+
+ROOT = Path(__file__).resolve().parents[2]
+sys.path[:0] = [str(ROOT / "tests"), str(ROOT / "tools")]
+sys.dont_write_bytecode = True
+from expect import expect, finish, skip  # noqa: E402
+
+SOLVE = ROOT / "tools" / "solve"
+TRACES = ROOT / "tests" / "traces"
+FALSE, TRUE = TRACES / "kbkf3.qdimacs", TRACES / "adder2.qdimacs"
+ROBOT, BOX, MATCHES = (ROOT / "examples" / name / f"{name}.qdimacs" for name in ("blind-robot", "blind-box", "eight-matches"))
+SOLVER = """#!/bin/sh
+for formula; do :; done
+mode=lazy
+for word; do [ "$word" != --traditional-qcdcl ] || mode=trad; done
+trace=${formula%.qdimacs}.$mode.qrp
+[ -f "$trace" ] || trace=${formula%.qdimacs}.qrp
+case $0 in
+*slow) echo $$ >"${0%/*}/pid"; exec sleep 60 ;;
+*silent) exit 0 ;;
+*broken) echo 'it is broken' >&2; exit 134 ;;
+*killed) kill -9 $$ ;;
+*cut) head -n 3 "$trace"; exit 20 ;;
+esac
+cat "$trace"
+case $(tail -n 1 "$trace") in 'r SAT'*) status=10 ;; *) status=20 ;; esac
+case $0 in *liar) status=$((30 - status)) ;; esac
+exit $status
+"""
+
+
+class Use:
+    """Uses of the tool with a folder for its temporary files."""
+
+    def __init__(self, folder, program):
+        self.folder, self.temporary = Path(folder), Path(folder) / "temporary"
+        self.temporary.mkdir()
+        self.environment = dict(os.environ, QRP_CMD=str(program), TMPDIR=str(self.temporary), PYTHONDONTWRITEBYTECODE="1")
+        self.environment.pop("PYTHONPATH", None)
+        for name in "depqbf", "slow", "silent", "broken", "killed", "cut", "liar":
+            path = self.folder / name
+            path.write_text(SOLVER)
+            path.chmod(0o755)
+
+    def words(self, solver, *words):
+        return [sys.executable, str(SOLVE), "--solver", str(self.folder / solver), *map(str, words)]
+
+    def run(self, words, **options):
+        return subprocess.run(words, capture_output=True, text=True, check=False, timeout=60, **{"env": self.environment, **options})
+
+    def expect(self, name, ended, status, out, said=""):
+        """Expects a status, the output and words on the standard error; no traceback, and no temporary file."""
+        holds = ended.returncode == status and ended.stdout == out and said in ended.stderr and "Traceback" not in ended.stderr
+        expect(f"solve, {name}", holds and bool(ended.stderr) == bool(said), (status, out, said, ended))
+        left = list(self.temporary.iterdir())
+        expect(f"solve, {name}: nothing is left", not left, left)
+
+
+def try_answers(use):
+    false, true = "s cnf 0 12 13\n", "s cnf 1 9 33\n"
+    for mode in [], ["--mode", "traditional"], ["--mode=lazy"]:
+        use.expect(f"false {mode}", use.run(use.words("depqbf", *mode, FALSE)), 20, false)
+        use.expect(f"true {mode}", use.run(use.words("depqbf", *mode, TRUE)), 10, true)
+    none = "s cnf -1 12 13\n"
+    for solver, status, said in (
+        ("liar", 1, "the solver answers true, and qrp_cmd says VERIFIED false of its proof"),
+        ("silent", 0, "the solver has no answer, but status 0"),
+        ("broken", 1, "the solver has no answer, but status 134: it is broken"),
+        ("killed", 1, "the solver has no answer, but status -9"),
+        ("cut", 1, "the solver answers false, and qrp_cmd says REFUSED trace P7 line 4 of its proof"),
+        ("none", 2, "cannot be run (No such file or directory): install it"),
+    ):
+        use.expect(solver, use.run(use.words(solver, FALSE)), status, none, said)
+    use.expect("a time", use.run(use.words("slow", "--timeout", "0.5", FALSE)), 0, none, "the solver was given up after 0.5 seconds")
+    pid = int((use.folder / "pid").read_text())
+    expect("solve, a time: the solver has ended", not runs(pid), pid)
+    use.expect("not in the way", use.run(use.words("depqbf", "--timeout", "50", FALSE)), 20, false)
+
+
+def try_moves(use):
+    """--play adds the first move, which has to be verified."""
+    plan = "".join(f"V {literal} 0\n" for literal in (1, -2, -3, 4, 5, -6, 7, -8, -9, -10, -11, -12))
+    use.expect("the winner's block", use.run(use.words("depqbf", "--play", ROBOT)), 10, "s cnf 1 71 217\n" + plan)
+    use.expect("the winner's block, false", use.run(use.words("depqbf", "--play", BOX)), 20, "s cnf 0 28 80\nV -1 0\nV 2 0\n")
+    ended = use.run(use.words("depqbf", "--play", MATCHES))
+    comment = f"c the outermost block is the other player's: '{ROOT}/tools/play' takes its values\n"
+    use.expect("the other player's block", ended, 20, f"s cnf 0 46 76\n{comment}")
+    program = use.folder / "program"
+    program.write_text('#!/bin/sh\ncase $3 in */state1.qrp) echo REFUSED step 1 S4; exit 1 ;; esac\nexec "$REAL" "$@"\n')
+    program.chmod(0o755)
+    environment = dict(use.environment, QRP_CMD=str(program), REAL=use.environment["QRP_CMD"])
+    ended = use.run(use.words("depqbf", "--play", ROBOT), env=environment)
+    holds = (ended.returncode, ended.stdout) == (3, "s cnf -1 71 217\n") and "this is a fault of this tool" in ended.stderr
+    expect("solve, a move that is not verified", holds and list(use.temporary.glob("*/state1.qrp")), ended)
+    shutil.rmtree(use.temporary)
+    use.temporary.mkdir()
+
+
+def try_files(use):
+    kept = use.folder / "kept.qrp"
+    use.expect("a proof that is kept", use.run(use.words("depqbf", "--keep", kept, FALSE)), 20, "s cnf 0 12 13\n")
+    expect("solve, the kept proof", kept.read_bytes() == (TRACES / "kbkf3.trad.qrp").read_bytes())
+    ended = use.run(use.words("depqbf", "--keep", use.folder / "none" / "x", FALSE))
+    use.expect("a proof that cannot be kept", ended, 2, "s cnf -1 12 13\n", "none/x cannot be written: No such file or directory")
+    use.expect("a device", use.run(use.words("depqbf", "--keep", "/dev/full", FALSE)), 2, "s cnf -1 12 13\n", "/dev/full is not a file: the proof is not kept there")
+    missing = use.folder / "none.qdimacs"
+    use.expect("no file", use.run(use.words("depqbf", missing)), 2, "", f"{missing} cannot be read: No such file or directory")
+    use.expect("a folder", use.run(use.words("depqbf", use.folder)), 2, "", f"{use.folder} cannot be read: Is a directory")
+    formula = use.folder / "formula"
+    formula.write_text("p cnf 2 1\ne 1 0\n1 2 0\n")
+    use.expect("a free variable", use.run(use.words("depqbf", formula)), 1, "s cnf -1 2 1\n", "qrp_cmd refuses the formula: REFUSED formula F6 line 3; ")
+    formula.write_text("no formula\n")
+    use.expect("no formula", use.run(use.words("depqbf", formula)), 1, "", "REFUSED formula F2 line 1")
+    piped = use.run(["bash", "-c", f'"$@" <(cat {FALSE})', "bash", *use.words("silent")])
+    use.expect("a pipe", piped, 0, "s cnf -1 12 13\n", "no answer")
+
+
+def try_full_folder(use):
+    """A folder for temporary files that is full. It needs a file system of its own, which a user may make in a name space of its own."""
+    make = ["unshare", "--user", "--map-root-user", "--mount", "bash", "-c", 'mount -t tmpfs -o size=16k none "$TMPDIR" && exec "$@"', "bash"]
+    if not shutil.which("unshare") or subprocess.run([*make, "true"], env=use.environment, check=False, capture_output=True).returncode:
+        skip("solve with a full TMPDIR", "no file system can be mounted here")
+        return
+    ended = use.run([*make, *use.words("depqbf", TRACES / "kbkf6.qdimacs")])
+    use.expect("a full TMPDIR", ended, 2, "s cnf -1 24 25\n", "the proof cannot be written to ")
+
+
+def try_words(use):
+    for words in [], ["--mode", "other", FALSE], ["--timeout", "-1", FALSE], ["--timeout", "inf", FALSE], ["--timeout", "x", FALSE], [FALSE, TRUE], ["--other", FALSE]:
+        ended = use.run(use.words("depqbf", *words))
+        use.expect(f"usage {words}", ended, 2, "", "usage: ")
+    ended = use.run(use.words("depqbf", "--help"))
+    said = ["Exit status: 10 if", "20 if", "0 if", "2 if", "the output cannot be written; 130, 143 after an interrupt and after SIGTERM"]
+    text = " ".join(ended.stdout.split())
+    expect("solve --help", ended.returncode == 0 and all(word in text for word in said), ended)
+    for redirection, status, reason in (">&-", 2, "it is closed"), (">/dev/full", 2, "No space left on device"), ("<&- >/dev/null", 20, ""):
+        ended = use.run(["bash", "-c", f'"$@" {redirection}', "bash", *use.words("depqbf", FALSE)])
+        use.expect(redirection, ended, status, "", reason)
+    for name, text in ("killed", "#!/bin/sh\nkill -KILL $$\n"), ("no program", None):
+        program = use.folder / "other"
+        program.unlink(missing_ok=True)
+        if text:
+            program.write_text(text)
+            program.chmod(0o755)
+        ended = use.run(use.words("depqbf", FALSE), env=dict(use.environment, QRP_CMD=str(program)))
+        use.expect(f"the program: {name}", ended, 2, "s cnf -1 12 13\n", "SIGKILL" if text else "cannot be run")
+
+
+def runs(pid):
+    """Whether a process runs; one that has ended and was not waited for does not."""
+    try:
+        return Path(f"/proc/{pid}/stat").read_text().rpartition(")")[2].split()[0] != "Z"
+    except OSError:
+        return False
+
+
+def try_signals(use):
+    """A signal while the solver runs ends both without a word."""
+    for number in signal.SIGINT, signal.SIGTERM, signal.SIGHUP:
+        pid = use.folder / "pid"
+        pid.unlink(missing_ok=True)
+        with subprocess.Popen(use.words("slow", FALSE), stdout=subprocess.PIPE, stderr=subprocess.PIPE, text=True, env=use.environment) as process:
+            waited = time.monotonic() + 30
+            while not (pid.exists() and pid.read_text()) and time.monotonic() < waited:
+                time.sleep(0.02)
+            process.send_signal(number)
+            out, said = process.communicate(timeout=50)
+        use.expect(number.name, subprocess.CompletedProcess([], process.returncode, out, said), 128 + number, "")
+        solver = int(pid.read_text())
+        while runs(solver) and time.monotonic() < waited + 10:
+            time.sleep(0.02)
+        expect(f"solve, {number.name}: the solver has ended", not runs(solver), solver)
+
+
+def try_depqbf(use):
+    """The solver itself."""
+    if not shutil.which("depqbf"):
+        skip("solve with the solver", "there is no depqbf")
+        return
+    for mode in "traditional", "lazy":
+        for formula, status, line in (FALSE, 20, "s cnf 0 12 13\n"), (TRUE, 10, "s cnf 1 9 33\n"), (MATCHES, 20, "s cnf 0 46 76\n"):
+            ended = use.run([sys.executable, str(SOLVE), "--mode", mode, str(formula)])
+            use.expect(f"depqbf, {mode}, {formula.name}", ended, status, line)
+    ended = use.run([sys.executable, str(SOLVE), "--play", str(BOX)])
+    use.expect("depqbf, --play", ended, 20, "s cnf 0 28 80\nV -1 0\nV 2 0\n")
+
+
+def try_benchexec(use):
+    """The module for BenchExec over a stand-in for it: the answer is that of the first line, and only with its status."""
+    result = types.ModuleType("benchexec.result")
+    result.RESULT_TRUE_PROP, result.RESULT_FALSE_PROP, result.RESULT_UNKNOWN, result.RESULT_ERROR = "true", "false", "unknown", "ERROR"
+    template = types.ModuleType("benchexec.tools.template")
+    template.BaseTool2 = object
+    package, tools = types.ModuleType("benchexec"), types.ModuleType("benchexec.tools")
+    package.result, package.tools, tools.template = result, tools, template
+    sys.modules.update({"benchexec": package, "benchexec.result": result, "benchexec.tools": tools, "benchexec.tools.template": template})
+    from qrptools.benchexec_solve import Tool  # noqa: PLC0415
+
+    tool = Tool()
+    command = tool.cmdline(str(SOLVE), ["--mode", "lazy"], types.SimpleNamespace(single_input_file=str(FALSE)), None)
+    expect("BenchExec, the command", command == [str(SOLVE), "--mode", "lazy", str(FALSE)], command)
+    for output, status, wanted in (
+        (["s cnf 1 9 33\n"], 10, "true"),
+        (["s cnf 0 12 13\n", "V -1 0\n"], 20, "false"),
+        (["s cnf -1 12 13\n"], 0, "unknown"),
+        (["s cnf -1 12 13\n"], 1, "unknown"),
+        (["s cnf 1 9 33\n"], 20, "ERROR"),
+        (["s cnf 1 9 33\n"], 0, "ERROR"),
+        (["hello\n"], 0, "ERROR"),
+        ([], 2, "ERROR"),
+    ):
+        run = types.SimpleNamespace(output=output, exit_code=types.SimpleNamespace(value=status))
+        expect(f"BenchExec, {output} {status}", tool.determine_result(run) == wanted, tool.determine_result(run))
+
+
+def main():
+    signal.signal(signal.SIGINT, signal.default_int_handler)  # a run in the background ignores interrupts, and so would all that it starts
+    for part in try_answers, try_moves, try_files, try_full_folder, try_words, try_signals, try_depqbf, try_benchexec:
+        with tempfile.TemporaryDirectory() as folder:
+            part(Use(folder, os.path.abspath(sys.argv[1])))
+    return finish()
+
+
+if __name__ == "__main__":
+    sys.exit(main())

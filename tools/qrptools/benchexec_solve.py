@@ -1,0 +1,27 @@
+"""How BenchExec runs tools/solve: in its benchmark definition the tool is qrptools.benchexec_solve, with this folder's parent on PYTHONPATH."""
+
+import benchexec.result as result
+import benchexec.tools.template
+
+ANSWERS = {"s cnf 1 ": result.RESULT_TRUE_PROP, "s cnf 0 ": result.RESULT_FALSE_PROP, "s cnf -1 ": result.RESULT_UNKNOWN}
+
+
+class Tool(benchexec.tools.template.BaseTool2):
+    def name(self):
+        return "DepQBF with qrp_cmd"
+
+    def project_url(self):
+        return ""
+
+    def executable(self, tool_locator):
+        return tool_locator.find_executable("solve", subdir="tools")
+
+    def cmdline(self, executable, options, task, rlimits):
+        return [executable, *options, task.single_input_file]
+
+    def determine_result(self, run):
+        """What was verified, by the tool's first line."""
+        first = run.output[0] if run.output else ""
+        verified = next((found for line, found in ANSWERS.items() if first.startswith(line)), result.RESULT_ERROR)
+        statuses = {result.RESULT_TRUE_PROP: 10, result.RESULT_FALSE_PROP: 20}
+        return verified if run.exit_code.value == statuses.get(verified, run.exit_code.value) else result.RESULT_ERROR
