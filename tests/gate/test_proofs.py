@@ -118,6 +118,7 @@ class Repository:
             (crate / "must-fail" / f"{name}.edit").write_text(text)
         (self.root / "crates.txt").write_text("# NAME: what it stands on\none: indexmap\n")
         shutil.copytree(GATE, self.root / "gate")
+        (self.root / "gate/needed-answers.tsv").unlink(missing_ok=True)
         self.table = self.root / "gate/wrong-bodies.tsv"
         self.table.write_text("# made up\n" + "".join(f"one/{name}\t-\n" for name in edits))
         self.rt = self.root / "rt"
@@ -283,6 +284,22 @@ def two_bodies_share_a_right_one():
         return told.returncode == 0 and "2 without evidence" in told.stdout and len(rights) == 1 and rights[0].count("most_right") == 1
 
 
+def a_right_body_that_needs_its_answers_is_checked_once():
+    edits = {"most_2": "file: src/lib.rt\nold: a + 0\nnew: a * 2\n"}
+    with Repository(edits) as repository:
+        rights = lambda: (repository.root / "log").read_text().count("most_right")
+        first, before = repository.run(), rights()
+        stored = repository.run("--store")
+        second, after = repository.run(), rights()
+        # Its text is another one now, so it is checked again.
+        source = repository.root / "crates/one/src/lib.rt"
+        source.write_text(source.read_text().replace("pub fn most", "/// The most.\npub fn most"))
+        third = repository.run()
+        wanted = "1 without evidence, in bin/without-evidence.tsv\n0 passed, 0 failed\n"
+        told = all(it.stdout.endswith(wanted) for it in (first, second, third))
+        return told and stored.returncode == 0 and (before, after, rights()) == (1, 1, 2)
+
+
 def goals_of_a_contract():
     kinds = {
         True: ["returns", "returns-in-Ok", "loop-i-init", "loop-i-preserved-then-is", "tokens-preserved-in-Ok", "invariant_of-self"],
@@ -442,6 +459,7 @@ TESTS = [
     bodies_that_are_not_refused,
     right_bodies_do_not_count,
     two_bodies_share_a_right_one,
+    a_right_body_that_needs_its_answers_is_checked_once,
     goals_of_a_contract,
     a_lost_wrong_body_is_seen,
     what_is_stored_keeps_the_promises,
