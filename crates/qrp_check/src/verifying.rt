@@ -98,10 +98,10 @@ fn find_truth_of<B: Source>(
     trace: &mut B,
     rules: Rules,
 ) -> Result<bool, Fault>
-    ensures { IsTruthOf (λ v.
-        IsCheckedOf rules formula.now (call_of B.Source trace.old trace.new) v
-        × (WasRead v
-        → IfKnown StopsAfterTrace (B.remaining trace.old) (B.remaining trace.new))) result }
+    ensures checked { IsTruthOf
+        (IsCheckedOf rules formula.now (call_of B.Source trace.old trace.new)) result }
+    ensures stops { WasRead result
+        → IfKnown StopsAfterTrace (B.remaining trace.old) (B.remaining trace.new) }
 {
     let whole = read_trace(alloc, trace)?;
     let marks = check_marked(alloc, formula, &whole, whole.sets(), whole.result(), rules)?;
@@ -124,8 +124,8 @@ pub fn find_truth<A: Source, B: Source>(
         (λ a. IfSome (B.remaining trace.old) (λ b. Headline rules a b v))) result }
     ensures checked { IsTruthOf (IsChecked rules (call_of A.Source formula.old formula.new)
         (call_of B.Source trace.old trace.new)) result }
-    ensures stops { IsTruthOf (λ v. WasRead v
-        → IfKnown StopsAfterTrace (B.remaining trace.old) (B.remaining trace.new)) result }
+    ensures stops { WasRead result
+        → IfKnown StopsAfterTrace (B.remaining trace.old) (B.remaining trace.new) }
 {
     let whole = read_formula(alloc, formula)?;
     find_truth_of(alloc, &whole, trace, rules)

@@ -22,14 +22,14 @@ returns-in_err-whole-clause-headline g c =
 pub returns-in_err-whole-clause-stops : goal.returns-in_err-whole-clause-stops
 returns-in_err-whole-clause-stops g c =
     let p = err_from_is_err_and c.from_residual.result c.from_residual.ensures.1 in
-    (Err p.0, rw p.2 (λ is. absurd is), p.1)
+    rw (p.1, p.2) (λ is. absurd is)
 
 pub returns-clause-checked : goal.returns-clause-checked
 returns-clause-checked g c =
-    let w = c.find_truth_of.ensures in (
+    let w = c.find_truth_of.ensures.checked in (
       w.0,
       checked_both c.args.rules (call_of g.A.Source c.args.formula.now c.read_formula.new.source) _ c.in_ok-whole.whole w.0
-          c.in_ok-whole.ensures.exact c.in_ok-whole.ensures.works w.1.0,
+          c.in_ok-whole.ensures.exact c.in_ok-whole.ensures.works w.1,
       w.2,
     )
 
@@ -37,8 +37,3 @@ pub returns-clause-headline : goal.returns-clause-headline
 returns-clause-headline g c =
     let w = returns-clause-checked g c in
     (w.0, headline c.args.rules (g.A.Source.remaining c.args.formula.now) (g.B.Source.remaining c.args.trace.now) w.0 w.1.verdict, w.2)
-
-pub returns-clause-stops : goal.returns-clause-stops
-returns-clause-stops g c =
-    let w = c.find_truth_of.ensures in
-    (w.0, w.1.1, w.2)
