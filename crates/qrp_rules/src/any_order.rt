@@ -145,11 +145,11 @@ fn surely_clean_without(seen: &mut SeenLits, prefix: &Prefix, lits: &[Lit], var:
     Ok(seen.surely_distinct(lits, var))
 }
 
-/// Whether a step follows from its antecedents, which are clean and bound, by resolution: as
+/// Accepts a step that follows from its antecedents, which are clean and bound, by resolution: as
 /// `resolvent_fault`, of literals as they are written.
 ///
-/// `false` says nothing. Where the literals are in the order of the antecedents, and nothing is
-/// left out, only the pivot is looked up. What was seen is forgotten.
+/// It may leave such a step to the judge of sets. If the literals are in the order of the
+/// antecedents, and nothing is left out, only the pivot is looked up. What was seen is forgotten.
 ///
 /// # Errors
 /// If an allocation fails.
