@@ -40,7 +40,7 @@ TOOLS = [
     Tool("proof-stats", ["FORMULA", "TRACE"], 2, 1, 1, True, True),
     Tool("proof-stats", ["--json", "FORMULA", "TRACE"], 2, 1, 1, True, True),
     Tool("play", ["FORMULA", "TRACE"], 2, 1, 1, True, True),
-    Tool("play", ["--json", "FORMULA", "TRACE"], 2, 1, 1, True, True),
+    Tool("play", ["--json", "--random", "1", "FORMULA", "TRACE"], 2, 1, 1, True, True),
     Tool("solve", ["--solver", "SOLVER", "FORMULA"], 2, None, None, True, False, 20),
     Tool("check-many", ["LIST"], 2, 1, 1, True, False),
     Tool("check-many", ["--json", "LIST"], 2, 1, 1, True, False),
