@@ -26,9 +26,9 @@ from expect import expect, finish, skip  # noqa: E402
 FORMULA, TRACE = ROOT / "examples" / "two_clauses.qdimacs", ROOT / "examples" / "two_clauses.qrp"
 REFUSED = "p qrp 0 0\nr unsat\n"  # by C4
 
-# A tool: its words after the name, in which FORMULA, TRACE and LIST are files; how many files it takes; the statuses of a file that cannot
-# be read, of a refused proof, and of the formula in the place of the trace; and whether it runs the program, and keeps pipes.
-Tool = namedtuple("Tool", "name words unread refused mistaken runs keeps")
+# A tool: its words after the name, in which FORMULA, TRACE, LIST and SOLVER are files; the statuses of a file that cannot be read, of a
+# refused proof, and of the formula in the place of the trace; whether it runs the program, and keeps pipes; and the status of right use.
+Tool = namedtuple("Tool", "name words unread refused mistaken runs keeps right", defaults=[0])
 TOOLS = [
     Tool("explain", ["FORMULA", "TRACE"], 0, 0, 0, True, True),
     Tool("explain", ["FORMULA", "TRACE", "1"], 2, 0, 1, False, True),
@@ -41,6 +41,7 @@ TOOLS = [
     Tool("proof-stats", ["--json", "FORMULA", "TRACE"], 2, 1, 1, True, True),
     Tool("play", ["FORMULA", "TRACE"], 2, 1, 1, True, True),
     Tool("play", ["--json", "--random", "1", "FORMULA", "TRACE"], 2, 1, 1, True, True),
+    Tool("solve", ["--solver", "SOLVER", "FORMULA"], 2, None, None, True, False, 20),
     Tool("check-many", ["LIST"], 2, 1, 1, True, False),
     Tool("check-many", ["--json", "LIST"], 2, 1, 1, True, False),
 ]
@@ -60,8 +61,16 @@ class Trial:
         if "LIST" in self.tool.words and rows is None:
             rows = self.folder / "list"
             rows.write_text(f"name\t{formula}\t{trace}\n")
-        files = {"FORMULA": formula, "TRACE": trace, "LIST": rows}
+        files = {"FORMULA": formula, "TRACE": trace, "LIST": rows, "SOLVER": self.solver()}
         return [sys.executable, str(ROOT / "tools" / self.tool.name), *(str(files.get(word, word)) for word in self.tool.words)]
+
+    def solver(self):
+        """A solver that writes the proof of the formula."""
+        path = self.folder / "solver"
+        if not path.exists():
+            path.write_text(f"#!/bin/sh\ncat '{TRACE}'\nexit 20\n")
+            path.chmod(0o755)
+        return path
 
     def run(self, words, **options):
         """What it ends with, without what a list left for the next use."""
@@ -147,9 +156,8 @@ def try_outputs(trial):
     trial.expect("a closed output", trial.in_shell(">&-"), 2, [cannot + "it is closed\n"])
     trial.expect("a full output", trial.in_shell(">/dev/full"), 2, [cannot + "No space left on device\n"])
     trial.expect("a pipe that nobody reads", trial.in_shell('> >(exec <&-; sleep 0.1) ; status=$?; wait; exit $status'), 2, [cannot + "Broken pipe\n"])
-    trial.expect("a closed input", trial.in_shell("<&- >/dev/null"), 0)
-    ended = trial.in_shell("2>&- 2>&-")
-    trial.expect("a closed standard error", ended, 0)
+    trial.expect("a closed input", trial.in_shell("<&- >/dev/null"), trial.tool.right)
+    trial.expect("a closed standard error", trial.in_shell("2>&-"), trial.tool.right)
     ended = trial.run(["bash", "-c", '"$@" 2>&-', "bash", *trial.words(), "--other"])
     trial.expect("a wrong option and a closed standard error", ended, 2)
     expect(f"{trial.tool.name}: what is for the standard error stays out of the output", not ended.stdout, ended)
@@ -275,15 +283,14 @@ def try_program(trial):
 
 
 def try_memory(trial):
-    """Memory that is refused to the tool itself, or to the program that it runs."""
+    """Memory that is refused to a tool that reads a file as a whole."""
     large = trial.folder / "large"
     with open(large, "wb") as file:
         file.truncate(2000000000)
     limit = 400000000
     words = trial.words(rows=large) if "LIST" in trial.tool.words else trial.words(formula=large)
     ended = trial.run(words, preexec_fn=lambda: resource.setrlimit(resource.RLIMIT_AS, (limit, limit)))
-    explained = trial.tool.name == "explain" and trial.tool.runs
-    trial.expect("no memory", ended, 0 if explained else 2, [] if explained else [own(trial), "emory was refused" if trial.tool.name in ("explain", "draw-proof", "check-many") else "NO MEMORY"])
+    trial.expect("no memory", ended, 2, [own(trial) + "memory was refused: raise the limit (`ulimit -v`), or take a machine with more memory\n"])
 
 
 def try_full_folder(trial):
@@ -316,9 +323,10 @@ def main():
             continue
         trials = [try_files, try_outputs]
         if tool.name not in seen:
-            trials += [try_arguments, try_signals, try_memory]
+            trials += [try_arguments, try_signals]
+            trials += [try_memory] if tool.name in ("explain", "draw-proof", "check-many") else []
             trials += [try_program] if tool.runs else []
-            trials += [try_full_folder] if tool.runs and "LIST" not in tool.words else []
+            trials += [try_full_folder] if tool.runs and "TRACE" in tool.words else []
         seen.add(tool.name)
         for trial in trials:
             with tempfile.TemporaryDirectory() as folder:
