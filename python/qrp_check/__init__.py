@@ -12,7 +12,20 @@ r"""The proved checker of QBF proofs, in process: a formula (QDIMACS 1.1) and a 
     'The trace has no step without literals, so it proves nothing.'
 
 A text is anything whose bytes lie together in memory (bytes, bytearray, memoryview, mmap); it is not copied, and must not change during
-the call. Other threads run meanwhile.
+the call. Other threads run meanwhile, and a Verdict or a Refused can be sent from a process to another.
+
+`verify_files`, `trim_files` and `core_files` take names of files. A file of up to 1 GB is read, so another process may write or cut it
+meanwhile. A larger one is mapped: if it is cut meanwhile, the system ends this process (SIGBUS).
+
+`python -m qrp_check [--qu] FORMULA TRACE` prints the line of 'qrp_cmd check' and ends with its status.
+
+Python sees an interrupt (Ctrl-C) only when a call returns, which may take minutes on a trace of 10 GB. A process of its own can be ended
+at any time, and can have a time limit:
+
+    words = [sys.executable, "-m", "qrp_check", "FORMULA", "TRACE"]
+    line = subprocess.run(words, timeout=60, capture_output=True, text=True).stdout  # or subprocess.TimeoutExpired
+
+`from qrp_check import *` does not bring `format`, which would hide Python's own; `qrp_check.format` is there all the same.
 
 The module calls the library libqrp: the file that the environment variable QRP_LIBRARY names, or the one beside this file (in a wheel),
 or lib/libqrp.so.1 in a folder above this file (of the sources after `make lib`, of an unpacked release, or of the prefix where it is
@@ -26,16 +39,23 @@ import os
 import pathlib
 import typing
 
-__all__ = ["Refused", "Verdict", "core", "format", "trim", "verify", "verify_files"]
+__all__ = ["Refused", "Verdict", "core", "core_files", "trim", "trim_files", "verify", "verify_files"]
 
 _LINE_ROOM = 48  # QRP_LINE_ROOM
 _FAULT_ROOM = 128  # QRP_FAULT_ROOM
 _NO_MEMORY = 4  # QRP_NO_MEMORY
 _MORE = 32  # A canonical text is at most so much longer, since its header has the right numbers; if not, the call is made again.
+_READ_UP_TO = 1 << 30  # Larger files are mapped.
 
 # Anything with a buffer; `collections.abc.Buffer` names it from Python 3.12 on.
-Text = typing.Union[bytes, bytearray, memoryview, mmap.mmap]
-Path = typing.Union[str, "os.PathLike[str]"]
+_Text = typing.Union[bytes, bytearray, memoryview, mmap.mmap]
+_Path = typing.Union[str, "os.PathLike[str]"]
+_T = typing.TypeVar("_T")
+
+
+def __dir__() -> "list[str]":
+    """The names for users."""
+    return sorted([*__all__, "format", *(name for name in globals() if name.startswith("__"))])
 
 
 class _Verdict(ctypes.Structure):
@@ -61,20 +81,23 @@ class _Verdict(ctypes.Structure):
 
 @dataclasses.dataclass(frozen=True)
 class Verdict:
-    """What was found. `str()` is the line that the program prints. Ask for `verified`: a verdict has no truth value of its own."""
+    """What was found. `str()` is the line that the program prints. Ask for `verified`: a verdict has no truth value of its own.
+
+    status    0: verified. 1: the proof is refused. 2: a text is refused. These are the program's exit statuses.
+    truth     The truth of the formula if it was verified, else None.
+    fault     The name of the fault, for example 'F6', 'P7', 'C4' or 'S10', else None.
+    position  The line of a fault in a text, the variable of C1 to C3, or the number of the step of S1 to S12, else None.
+    meaning   What the fault means, in one sentence, else None.
+    line      The line that the program prints, without its end.
+    verified  Whether the trace proves its result of the formula.
+    """
 
     status: int
-    """0: verified. 1: the proof is refused. 2: a text is refused. These are the program's exit statuses."""
     truth: typing.Optional[bool]
-    """The truth of the formula if it was verified, else None."""
     fault: typing.Optional[str]
-    """The name of the fault, for example 'F6', 'P7', 'C4' or 'S10', else None."""
     position: typing.Optional[int]
-    """The line of a fault in a text, the variable of C1 to C3, or the number of the step of S1 to S12, else None."""
     meaning: typing.Optional[str] = dataclasses.field(repr=False)
-    """What the fault means, in one sentence, else None."""
     line: str = dataclasses.field(repr=False)
-    """The line that the program prints, without its end."""
 
     @property
     def verified(self) -> bool:
@@ -94,6 +117,9 @@ class Refused(ValueError):
     def __init__(self, verdict: Verdict) -> None:
         super().__init__(f"{verdict}: {verdict.meaning}")
         self.verdict = verdict
+
+    def __reduce__(self) -> "tuple[type[Refused], tuple[Verdict]]":
+        return Refused, (self.verdict,)
 
 
 def _load() -> ctypes.CDLL:
@@ -136,17 +162,23 @@ __version__ = _version(_library.qrp_version())
 
 
 class _Lent:
-    """The address and length of a text's bytes, in a `with`: as long as it lasts, their owner cannot move or free them."""
+    """The address and length of a text's bytes, in a `with`: as long as it lasts, their owner cannot move or free them.
 
-    def __init__(self, name: str, text: Text) -> None:
+    A Python without the calls of C for buffers, such as PyPy, gets a copy of the bytes.
+    """
+
+    def __init__(self, name: str, text: _Text) -> None:
         self._name = name
         self._text = text
         self._buffer = _Buffer()
 
     def __enter__(self) -> "tuple[object, int]":
-        if isinstance(self._text, str):
-            raise TypeError(f"the {self._name} is a str: pass its bytes (text.encode()), or the names of files to verify_files")
+        if isinstance(self._text, (str, os.PathLike)):
+            files = "the names of files to verify_files, trim_files or core_files"
+            raise TypeError(f"the {self._name} is a {type(self._text).__name__}: pass its bytes (text.encode(), path.read_bytes()), or {files}")
         try:
+            if _get_buffer is None:
+                return self._copied()
             _get_buffer(self._text, self._buffer, 0)
         except BufferError:
             raise TypeError(f"the bytes of the {self._name} do not lie together in memory: pass bytes(..) of it") from None
@@ -155,8 +187,15 @@ class _Lent:
             raise TypeError(f"the {self._name} has to be bytes, a bytearray, a memoryview or an mmap, not {kind}") from None
         return self._buffer.address or _nowhere, self._buffer.length
 
+    def _copied(self) -> "tuple[object, int]":
+        with memoryview(self._text) as view:
+            if not view.c_contiguous:
+                raise BufferError
+            return ctypes.create_string_buffer(bytes(view), view.nbytes + 1), view.nbytes
+
     def __exit__(self, *_: object) -> None:
-        _release_buffer(self._buffer)
+        if _release_buffer is not None:
+            _release_buffer(self._buffer)
 
 
 class _Buffer(ctypes.Structure):
@@ -167,12 +206,14 @@ class _Buffer(ctypes.Structure):
     _fields_ = [("address", ctypes.c_void_p), ("owner", ctypes.py_object), ("length", ctypes.c_ssize_t), ("others", ctypes.c_void_p * 16)]
 
 
-_get_buffer = ctypes.pythonapi.PyObject_GetBuffer
-_get_buffer.argtypes = [ctypes.py_object, ctypes.POINTER(_Buffer), ctypes.c_int]
-_get_buffer.restype = ctypes.c_int
-_release_buffer = ctypes.pythonapi.PyBuffer_Release
-_release_buffer.argtypes = [ctypes.POINTER(_Buffer)]
-_release_buffer.restype = None
+_get_buffer = _release_buffer = None
+if hasattr(ctypes, "pythonapi"):
+    _get_buffer = ctypes.pythonapi.PyObject_GetBuffer
+    _get_buffer.argtypes = [ctypes.py_object, ctypes.POINTER(_Buffer), ctypes.c_int]
+    _get_buffer.restype = ctypes.c_int
+    _release_buffer = ctypes.pythonapi.PyBuffer_Release
+    _release_buffer.argtypes = [ctypes.POINTER(_Buffer)]
+    _release_buffer.restype = None
 # An address for a text of no bytes, since no pointer may be null.
 _nowhere = ctypes.cast(ctypes.create_string_buffer(1), ctypes.c_void_p)
 
@@ -197,51 +238,78 @@ def _verdict(found: _Verdict) -> Verdict:
     return Verdict(found.status, None, fault, position, _written(_library.qrp_fault_text, found, _FAULT_ROOM), line)
 
 
-def verify(formula: Text, trace: Text, any_pivot: bool = False) -> Verdict:
+def _flag(any_pivot: bool) -> bool:
+    """The flag, which chooses the calculus: so nothing but a bool is taken for it."""
+    if not isinstance(any_pivot, bool):
+        raise TypeError(f"any_pivot has to be True or False, not {any_pivot!r}")
+    return any_pivot
+
+
+def verify(formula: _Text, trace: _Text, *, any_pivot: bool = False) -> Verdict:
     """Checks the trace against the formula; with `any_pivot` resolution may be on variables of either quantifier.
 
-    Raises MemoryError if it is out of memory, and TypeError if a text is no buffer.
+    Raises MemoryError if it is out of memory, and TypeError if a text is no buffer or the flag is no bool.
     """
+    _flag(any_pivot)
     found = _Verdict()
     with _Lent("formula", formula) as lent_formula, _Lent("trace", trace) as lent_trace:
         _library.qrp_verify(*lent_formula, *lent_trace, any_pivot, ctypes.byref(found))
     return _verdict(found)
 
 
-def verify_files(formula: Path, trace: Path, any_pivot: bool = False) -> Verdict:
-    """The same with the files of these names. They must not be written or cut meanwhile.
+def verify_files(formula: _Path, trace: _Path, *, any_pivot: bool = False) -> Verdict:
+    """Checks as `verify` does, with the files of these names. One of more than 1 GB must not be cut meanwhile.
 
-    Raises OSError as `open` does.
+    Raises OSError as `open` does, and else as `verify` does.
     """
-    with _Mapped(formula) as formula_text, _Mapped(trace) as trace_text:
-        return verify(formula_text, trace_text, any_pivot)
+    return _of_files(verify, formula, trace, any_pivot)
 
 
-class _Mapped:
-    """The bytes of a file, in a `with`: mapped if that can be done, and else read, as of a pipe or an empty file."""
+def _of_files(call: "typing.Callable[..., _T]", formula: _Path, trace: _Path, any_pivot: bool) -> _T:
+    _flag(any_pivot)
+    with _File(formula) as formula_text, _File(trace) as trace_text:
+        return call(formula_text, trace_text, any_pivot=any_pivot)
 
-    def __init__(self, path: Path) -> None:
+
+class _File:
+    """The bytes of a file, in a `with`: read, and if there are very many mapped."""
+
+    def __init__(self, path: _Path) -> None:
         self._path = path
-
-    def __enter__(self) -> Text:
         self._map: "mmap.mmap | None" = None
+
+    def __enter__(self) -> _Text:
         with open(self._path, "rb") as file:
-            try:
+            if os.fstat(file.fileno()).st_size > _READ_UP_TO:
                 self._map = mmap.mmap(file.fileno(), 0, access=mmap.ACCESS_READ)
-            except (OSError, ValueError):
+                return self._map
+            try:
                 return file.read()
-        return self._map
+            except OSError as error:
+                error.filename = os.fspath(self._path)
+                raise
 
     def __exit__(self, *_: object) -> None:
         if self._map is not None:
             self._map.close()
 
 
-def trim(formula: Text, trace: Text, any_pivot: bool = False) -> bytes:
+def trim_files(formula: _Path, trace: _Path, *, any_pivot: bool = False) -> bytes:
+    """The trace as `trim` gives it, with the files of these names. Raises as `trim` and `verify_files` do."""
+    return _of_files(trim, formula, trace, any_pivot)
+
+
+def core_files(formula: _Path, trace: _Path, *, any_pivot: bool = False) -> "list[int]":
+    """The numbers as `core` gives them, with the files of these names. Raises as `core` and `verify_files` do."""
+    return _of_files(core, formula, trace, any_pivot)
+
+
+def trim(formula: _Text, trace: _Text, *, any_pivot: bool = False) -> bytes:
     """The trace with only the steps that its proof needs, in canonical form.
 
     Raises Refused if the trace does not prove its result, and else as `verify` does.
     """
+    _flag(any_pivot)
     found = _Verdict()
     with _Lent("formula", formula) as lent_formula, _Lent("trace", trace) as lent_trace:
 
@@ -251,7 +319,7 @@ def trim(formula: Text, trace: Text, any_pivot: bool = False) -> bytes:
         return _text(call, found, lent_trace[1] + _MORE)
 
 
-def format(formula: Text) -> bytes:
+def format(formula: _Text) -> bytes:
     """The formula in canonical form.
 
     Raises Refused if it is no closed prenex formula, and else as `verify` does.
@@ -277,11 +345,12 @@ def _text(call: "typing.Callable[[ctypes.Array[ctypes.c_char], int], int]", foun
     return buffer.raw[:length]
 
 
-def core(formula: Text, trace: Text, any_pivot: bool = False) -> "list[int]":
+def core(formula: _Text, trace: _Text, *, any_pivot: bool = False) -> "list[int]":
     """The numbers of the steps that the proof needs, in the order of the trace.
 
     Raises Refused if the trace does not prove its result, and else as `verify` does.
     """
+    _flag(any_pivot)
     found = _Verdict()
     with _Lent("formula", formula) as lent_formula, _Lent("trace", trace) as lent_trace:
         # A step takes at least six bytes: its number, two zeros, and what comes after each.

@@ -10,8 +10,11 @@ import ctypes
 import dataclasses
 import doctest
 import mmap
+import multiprocessing
 import os
 import pathlib
+import pickle
+import pydoc
 import subprocess
 import sys
 import tempfile
@@ -55,10 +58,10 @@ def is_verdict(verdict, example):
     return found == (example.status, truth, fault, position, example.line, truth is not None) and (verdict.meaning is None) == verdict.verified
 
 
-def text_or_verdict(call, *words):
+def text_or_verdict(call, *words, **flags):
     """What the call returns, or the verdict with which it refuses."""
     try:
-        return call(*words)
+        return call(*words, **flags)
     except qrp_check.Refused as error:
         assert str(error) == f"{error.verdict}: {error.verdict.meaning}"
         return error.verdict
@@ -72,12 +75,14 @@ def numbers(trimmed):
 
 def is_answered(example):
     """Whether each call of the module answers this case as the list says."""
-    texts = (example.formula, example.trace, example.any_pivot)
-    by_name = qrp_check.verify_files(*example.files, example.any_pivot)
-    if not is_verdict(qrp_check.verify(*texts), example) or not is_verdict(by_name, example):
+    texts, flag = (example.formula, example.trace), {"any_pivot": example.any_pivot}
+    by_name = qrp_check.verify_files(*example.files, **flag)
+    if not is_verdict(qrp_check.verify(*texts, **flag), example) or not is_verdict(by_name, example):
         return False
-    trimmed = text_or_verdict(qrp_check.trim, *texts)
-    core = text_or_verdict(qrp_check.core, *texts)
+    trimmed = text_or_verdict(qrp_check.trim, *texts, **flag)
+    core = text_or_verdict(qrp_check.core, *texts, **flag)
+    if trimmed != text_or_verdict(qrp_check.trim_files, *example.files, **flag) or core != text_or_verdict(qrp_check.core_files, *example.files, **flag):
+        return False
     formatted = text_or_verdict(qrp_check.format, example.formula)
     if example.formatted != (formatted if isinstance(formatted, bytes) else b""):
         return False
@@ -93,7 +98,7 @@ def is_lent(example):
         file.flush()
         with mmap.mmap(file.fileno(), 0) as mapped:
             kinds = [bytearray(example.trace), memoryview(example.trace), memoryview(b"xx" + example.trace)[2:], mapped]
-            right = all(is_verdict(qrp_check.verify(example.formula, kind, example.any_pivot), example) for kind in kinds)
+            right = all(is_verdict(qrp_check.verify(example.formula, kind, any_pivot=example.any_pivot), example) for kind in kinds)
     kinds[0].extend(b"more")
     return right
 
@@ -121,6 +126,9 @@ def errors(example):
     return [
         says(TypeError, ["formula", "str", ".encode()", "verify_files"], lambda: qrp_check.verify("p cnf 0 0\n", b"")),
         says(TypeError, ["trace", "NoneType", "bytearray"], lambda: qrp_check.verify(b"", None)),
+        says(TypeError, ["formula", "Path", "read_bytes", "trim_files"], lambda: qrp_check.trim(pathlib.Path("x"), b"")),
+        *(says(TypeError, ["positional argument"], lambda call=call: call(b"", b"", True)) for call in with_flag()),
+        *(says(TypeError, ["any_pivot", "True or False", repr(flag)], lambda call=call, flag=flag: call(b"", b"", any_pivot=flag)) for call in with_flag() for flag in ("no", 1, None)),
         says(TypeError, ["trace", "bytes(..)"], lambda: qrp_check.verify(b"", text)),
         says(TypeError, ["verdict.verified"], lambda: bool(verdict)),
         says(FileNotFoundError, ["none.qdimacs"], lambda: qrp_check.verify_files("none.qdimacs", "none.qrp")),
@@ -137,7 +145,7 @@ def from_pipe(example):
     os.write(writer, example.trace)
     os.close(writer)
     try:
-        return is_verdict(qrp_check.verify_files(example.files[0], f"/dev/fd/{reader}", example.any_pivot), example)
+        return is_verdict(qrp_check.verify_files(example.files[0], f"/dev/fd/{reader}", any_pivot=example.any_pivot), example)
     finally:
         os.close(reader)
 
@@ -149,9 +157,9 @@ def struct_of(fault):
     letter, number = ("C", 6) if rule else (letter, number)
     device = letter in "FP" and number == 1
     memory = (letter, number) in (("F", 9), ("P", 9), ("C", 5))
-    place = 0 if device or memory or (letter, number) == ("C", 4) else 1
+    position = 0 if device or memory or (letter, number) == ("C", 4) else 1
     status = 3 if device else 4 if memory else 1 if letter == "C" else 2
-    return qrp_check._Verdict(place=place, status=status, truth=0, letter=ord(letter), number=number, rule=rule)
+    return qrp_check._Verdict(position=position, status=status, truth=0, letter=ord(letter), number=number, rule=rule)
 
 
 def sentence_of(fault):
@@ -172,13 +180,132 @@ def meanings():
     return [rows[0] == ["fault", "sentence"] and [fault for fault, _ in rows[1:]] == names, *[True] * (len(rows) - 1 - len(wrong)), *[False] * len(wrong)]
 
 
+def with_flag():
+    return [qrp_check.verify, qrp_check.verify_files, qrp_check.trim, qrp_check.trim_files, qrp_check.core, qrp_check.core_files]
+
+
+def trimmed_of(example):
+    """The trimmed trace, or Refused: what another process is asked for."""
+    return qrp_check.trim(example.formula, example.trace, any_pivot=example.any_pivot)
+
+
+def raised_or_returned(ask):
+    """What is asked for, or the Refused that it raises, as its text and verdict."""
+    try:
+        return ask()
+    except qrp_check.Refused as error:
+        return str(error), error.verdict
+
+
+def in_processes(verified, refused):
+    """Whether verdicts and refusals come from other processes and threads as they are here."""
+    wanted = [raised_or_returned(lambda case=case: trimmed_of(case)) for case in (verified, refused)]
+    verdict = qrp_check.verify(refused.formula, refused.trace, any_pivot=refused.any_pivot)
+    copies = [pickle.loads(pickle.dumps(qrp_check.Refused(verdict), protocol)) for protocol in range(pickle.HIGHEST_PROTOCOL + 1)]
+    answers = [pickle.loads(pickle.dumps(verdict)) == verdict, all((str(copy), copy.verdict) == wanted[1] for copy in copies)]
+    with multiprocessing.Pool(2) as pool:
+        asked = [pool.apply_async(trimmed_of, [case]) for case in (verified, refused)]
+        answers.append([raised_or_returned(lambda one=one: one.get(60)) for one in asked] == wanted)
+    for executor in concurrent.futures.ProcessPoolExecutor, concurrent.futures.ThreadPoolExecutor:
+        with executor(2) as pool:
+            asked = [pool.submit(trimmed_of, case) for case in (verified, refused)]
+            answers.append([raised_or_returned(lambda one=one: one.result(60)) for one in asked] == wanted)
+    return answers
+
+
+def names():
+    """Whether the names for users are all that is seen, and what they mean is told."""
+    wanted = {"Refused", "Verdict", "core", "core_files", "format", "trim", "trim_files", "verify", "verify_files"}
+    starred = {}
+    exec("from qrp_check import *", starred)
+    text = pydoc.plain(pydoc.render_doc(qrp_check.Verdict))
+    fields = [field.name for field in dataclasses.fields(qrp_check.Verdict)]
+    return [
+        {name for name in dir(qrp_check) if not name.startswith("__")} == wanted,
+        set(starred) - {"__builtins__"} == wanted - {"format"},
+        all(f"\n |  {field.ljust(8)}  " in text for field in [*fields, "verified"]),
+    ]
+
+
+def while_cut(example):
+    """Whether a file that is cut while it is checked does no harm, and a large one is mapped."""
+    with tempfile.TemporaryDirectory() as folder:
+        path = pathlib.Path(folder, "trace")
+        path.write_bytes(example.trace)
+        with qrp_check._File(path) as text:
+            os.truncate(path, 0)
+            cut = is_verdict(qrp_check.verify(example.formula, text, any_pivot=example.any_pivot), example)
+    before, qrp_check._READ_UP_TO = qrp_check._READ_UP_TO, 0
+    try:
+        with qrp_check._File(example.files[1]) as text:
+            mapped = isinstance(text, mmap.mmap)
+        return cut and mapped and is_verdict(qrp_check.verify_files(*example.files, any_pivot=example.any_pivot), example)
+    finally:
+        qrp_check._READ_UP_TO = before
+
+
+def as_program(cases):
+    """Whether `python -m qrp_check` prints the line and ends with the status of the program."""
+    environment = {**os.environ, "PYTHONPATH": str(ROOT / "python")}
+
+    def ask(*words):
+        ended = subprocess.run([sys.executable, "-m", "qrp_check", *words], env=environment, check=False, text=True, capture_output=True)
+        return ended.stdout, ended.stderr, ended.returncode
+
+    def ask_shell(redirection, files):
+        words = ["bash", "-c", f'"$@" {redirection}', "bash", sys.executable, "-m", "qrp_check", *files]
+        ended = subprocess.run(words, env=environment, check=False, capture_output=True, text=True)
+        return ended.stderr, ended.returncode
+
+    answers = []
+    for case in cases:
+        flag, wanted = ["--qu"] if case.any_pivot else [], (f"{case.line}\n", "", case.status)
+        answers += [ask(*flag, *case.files) == wanted, ask(*case.files, *flag) == wanted]
+    files = cases[0].files
+    return [
+        *answers,
+        ask("/none", files[1]) == ("DEVICE formula\n", "", 3),
+        ask(files[0], "/") == ("DEVICE trace\n", "", 3),
+        ask(files[0], "/proc/self/mem") == ("DEVICE trace\n", "", 3),
+        *((ended[0], ended[1][:5], ended[2]) == ("", "USAGE", 5) for ended in (ask(), ask(files[0]), ask(*files, "x"), ask("--qu", *files, "--qu"))),
+        ask_shell(">/dev/full", files) == ("", 3) == ask_shell(">&-", files),
+    ]
+
+
+# The module is imported as by a Python that has no calls of C for buffers, as PyPy has none.
+WITHOUT_C = """
+import ctypes, sys
+del ctypes.pythonapi
+import qrp_check
+formula, trace = (open(name, "rb").read() for name in sys.argv[1:])
+for kind in bytes, bytearray, memoryview:
+    print(qrp_check.verify(formula, kind(trace)), qrp_check.core(kind(formula), trace))
+print(qrp_check.verify_files(*sys.argv[1:]), qrp_check.trim(formula, trace) == qrp_check.trim_files(*sys.argv[1:]), len(qrp_check.format(formula)))
+for text in memoryview(trace)[::2], None, "p":
+    try:
+        qrp_check.verify(formula, text)
+    except TypeError as error:
+        print(error)
+"""
+
+
+def without_c(example):
+    """Whether the module gives its answers without the calls of C for buffers."""
+    environment = {**os.environ, "PYTHONPATH": str(ROOT / "python")}
+    ended = subprocess.run([sys.executable, "-c", WITHOUT_C, *example.files], env=environment, capture_output=True, text=True, check=False)
+    wanted = [f"{example.line} {numbers(example.trimmed)}"] * 3 + [f"{example.line} True {len(example.formatted)}"]
+    lines = ended.stdout.splitlines()
+    said = len(lines) == 7 and "bytes(..)" in lines[4] and "NoneType" in lines[5] and ".encode()" in lines[6]
+    return lines[:4] == wanted and said and not ended.stderr
+
+
 def best_time(cases):
     """The best of twenty runs over all cases, in microseconds."""
     best = None
     for _ in range(20):
         began = time.perf_counter()
         for case in cases:
-            qrp_check.verify(case.formula, case.trace, case.any_pivot)
+            qrp_check.verify(case.formula, case.trace, any_pivot=case.any_pivot)
         took = time.perf_counter() - began
         best = took if best is None else min(best, took)
     return round(best * 1e6)
@@ -194,11 +321,14 @@ def main(words):
         if not is_right:
             print(f"FAILED: in Python: wanted {case.status} {case.line}")
     verified = next(case for case in cases if case.status == 0 and len(case.trace) < 4096)
+    refused, faulty = (next(case for case in cases if case.status == status) for status in (1, 2))
     rest = [*meanings(), *errors(verified), from_pipe(verified), all(is_lent(case) for case in cases if case.trace)]
+    rest += [*in_processes(verified, refused), *names(), while_cut(verified), without_c(verified)]
+    rest += as_program([verified, refused, faulty, next(case for case in cases if case.any_pivot and case.status == 0)])
     with concurrent.futures.ThreadPoolExecutor(8) as pool:
         rest.append(all(pool.map(is_answered, cases * 8)))
     if not all(rest):
-        print(f"FAILED: in Python: meanings, errors, pipes, buffers, and eight threads at once: {rest}")
+        print(f"FAILED: in Python: meanings, errors, pipes, buffers, processes, names, files that are cut, python -m, and eight threads at once: {rest}")
     answers = [is_right for is_right, _ in results] + rest
     print(f"in Python: {len(cases)} cases")
     print(answers.count(True), answers.count(False))

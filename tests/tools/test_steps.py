@@ -5,6 +5,7 @@ UNREADABLE has the rows that cannot be read, and should be empty.
 """
 
 import os
+import random
 import re
 import subprocess
 import sys
@@ -16,7 +17,9 @@ sys.path[:0] = [str(ROOT / "tests"), str(ROOT / "tools")]
 sys.dont_write_bytecode = True
 from expect import expect, finish  # noqa: E402
 from qrptools.core import Core, is_needed  # noqa: E402
+from qrptools.find_steps import find_near  # noqa: E402
 from qrptools.formula import Formula  # noqa: E402
+from qrptools.show import find_step  # noqa: E402
 from qrptools.step_rules import SIDES, judge  # noqa: E402
 from qrptools.steps import Trace  # noqa: E402
 
@@ -234,6 +237,57 @@ def try_blanks(program):
                 expect(f"{words}: {name}", changed != text and found.stdout == wanted.stdout and found.returncode == 0 == wanted.returncode, found)
 
 
+def other_layouts(text, dice):
+    """The trace in other layouts, as a name and its text, and whether its steps are lines as DepQBF writes them."""
+    sets, steps, result = re.fullmatch(r"((?:[pae].*\n)+)((?:\d.*\n)*)(r .*\n)", text).groups()
+    lines = steps.splitlines(keepends=True)
+    yield "as it is", text, True
+    yield "capitals", sets + steps + result.replace("r ", "r").upper().replace("R", "r "), True
+    yield "more after the result", text + "".join(dice.sample(lines, len(lines))), True
+    yield "no sets", sets.partition("\n")[0] + "\n" + steps + result, True
+    yield "a set that goes on in the line of the first step", sets.rstrip("\n") + " " + steps + result, True
+    yield "two in a line", sets + re.sub(r"\n(\d.*\n)", r" \1", steps) + result, False
+    yield "lists on lines of their own", sets + steps.replace(" 0 ", " 0\n") + result, False
+    yield "comments", sets + steps.replace("\n", "\nc 1 2 -3 0 4 0\n", 5) + result, False
+    yield "line ends of two bytes", text.replace("\n", "\r\n"), False
+    for share in 0.02, 0.1, 0.5:
+        broken = "".join("\n" if letter == " " and dice.random() < share else letter for letter in steps)
+        yield f"broken at {share}", sets + broken + result, False
+        joined = "".join(" " if letter == "\n" and dice.random() < share else letter for letter in broken)
+        yield f"broken and joined at {share}", sets + joined + result, False
+    yield "no steps", sets + result, False
+
+
+def try_near(pairs):
+    """A step of a right trace that is found without reading those before it is the step that reading finds, with all that it names."""
+    dice, found, all_near = random.Random(2), 0, 0
+    for _, path in pairs:
+        for name, text, is_usual in other_layouts(path.read_text(), dice):
+            trace = Trace(text.encode())
+            numbers = [step.number for step in trace.steps()]
+            for number in [*dice.sample(numbers, min(2, len(numbers))), max(numbers, default=0) + 1]:
+                near, again = find_near(Trace(text.encode()), number), find_step(trace, number)
+                found += near is not None
+                all_near += is_usual
+                expect(f"{path.name}, {name}: step {number}", near is None or near == again, (near, again, text))
+    expect("many are found so", found > all_near / 2 > 50, (found, all_near))
+
+
+def try_odd_steps():
+    """Lines that look like the step that is looked for, and are not it."""
+    for name, text, number in (
+        ("literals", "p qrp 9 9\n1 -2 3 0 0\n4 -1 5\n7 -2 -3 0 0\n7 8 0 0\nr sat\n", 7),
+        ("literals after whole lines", "p qrp 9 9\n1 2 0 0\n4 5\n6 7 0 0\n6 8 0 0\nr sat\n", 6),
+        ("antecedents", "p qrp 9 9\n1 -2 3 0 0\n2 3 0\n5 0 7 0\n1 0\n5 1 0 0\nr sat\n", 5),
+        ("a set", "p qrp 9 9\ne 1 2\n3 4 5 0 6 0\n3 0\n7 5 0 0\n3 6 0 0\nr sat\n", 3),
+        ("after the result", "p qrp 9 9\n1 -2 3 0 0\n2 3 -4 0 0\nr sat\n7 2 -3 0 0\n", 7),
+        ("itself", "p qrp 9 9\n1 -2 3 0 0\n2 3 -4 0 2 0\nr sat\n", 2),
+        ("later", "p qrp 9 9\n1 -2 3 0 0\n2 3 -4 0 3 1 0\n3 1 2 4 0 0\nr sat\n", 2),
+    ):
+        near, again = find_near(Trace(text.encode()), number), find_step(Trace(text.encode()), number)
+        expect(f"a line that looks like a step: {name}", near is None and again is not None or near == again, (near, again))
+
+
 def try_words(program):
     """Command lines that are wrong end with status 2, and a text that is no trace with 1."""
     formula, trace = ROOT / "examples" / "two_clauses.qdimacs", ROOT / "examples" / "two_clauses.qrp"
@@ -258,6 +312,8 @@ def main():
     try_proofs(program, real + trimmed)
     expect("six proofs to damage", len(small + few) == 6, small + few)
     try_damages(program, small + few)
+    try_near([pair for pair in real + trimmed if pair[1].stat().st_size < 2000])
+    try_odd_steps()
     try_drawings(program)
     try_blanks(program)
     try_words(program)

@@ -39,6 +39,8 @@ TOOLS = [
     Tool("used-clauses", ["--lines", "FORMULA", "TRACE"], 2, 1, 1, True, True),
     Tool("proof-stats", ["FORMULA", "TRACE"], 2, 1, 1, True, True),
     Tool("proof-stats", ["--json", "FORMULA", "TRACE"], 2, 1, 1, True, True),
+    Tool("play", ["FORMULA", "TRACE"], 2, 1, 1, True, True),
+    Tool("play", ["--json", "--random", "1", "FORMULA", "TRACE"], 2, 1, 1, True, True),
     Tool("check-many", ["LIST"], 2, 1, 1, True, False),
     Tool("check-many", ["--json", "LIST"], 2, 1, 1, True, False),
 ]

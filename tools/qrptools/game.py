@@ -52,7 +52,7 @@ class State:
         self.result = result(trimmed)
         self.side = SIDES[self.result]
         texts_of_clauses = chain.from_iterable(some for _, _, some in formula.pieces())
-        self.clauses = [b" " + text if text else b"" for text in texts_of_clauses]
+        self.clauses = [b"\n " + text if text else b"\n" for text in texts_of_clauses]
         self.steps = Steps(trimmed)
 
     def is_winners(self, block):
@@ -107,7 +107,7 @@ class State:
     def formula_text(self):
         """The formula, some bytes at a time."""
         yield b"p cnf %d %d\n%b" % (self.variables, len(self.clauses), self.sets())
-        yield from (line[1:] + b" 0\n" if line else b"0\n" for line in self.clauses)
+        yield from (line[2:] + b" 0\n" if len(line) > 1 else b"0\n" for line in self.clauses)
 
     def trace_text(self):
         """The trace, some bytes at a time."""

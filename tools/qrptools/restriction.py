@@ -1,19 +1,19 @@
 """Puts values of the outermost block into a formula, and takes them out of its proof. A part of tools/play.
 
-A line is the first word of a step, its number, or of a clause, which is empty, and then its literals, with single blanks. A clause with
-a true literal is gone, and of the others the false literals go; the same holds of steps that are clauses. Of cubes it is the other way
-round. What is left of the proof is a proof of the formula that is left. Nothing here is proved: qrp_cmd checks each formula that is left
-by the proof that is left.
+A line is a line end, the number of a step, or nothing for a clause, and then the literals, each after a blank. A clause with a true literal
+is gone, and of the others the false literals go; the same holds of steps that are clauses. Of cubes it is the other way round. What is
+left of the proof is a proof of the formula that is left. Nothing here is proved: qrp_cmd checks each formula that is left by the proof that
+is left.
 """
 
 from array import array
-from itertools import accumulate, compress, dropwhile, filterfalse, repeat, takewhile
+from itertools import accumulate, chain, compress, dropwhile, filterfalse, repeat, takewhile
 from operator import contains, itemgetter
 
 from qrptools.steps import integers
 from qrptools.trimmed import trimmed_steps
 
-FEW = 8  # literals: they are looked for one after the other in a whole text
+FEW = 5  # literals: they are looked for one after the other in a whole text
 SOME = 1 << 12  # lines at a time
 MARK = b"!"
 GONE, WHOLE, LESS = range(3)  # of a step, what is left of it: nothing, all that the values leave of it, or less
@@ -31,46 +31,46 @@ class Cut:
         self.out, self.gone = texts(out), texts(gone)
 
     def lines(self, lines):
-        """The lines without the literals that go, and of each whether it stays."""
+        """The lines without the literals that go, and a byte for each that is 1 if it stays."""
         if not lines:
             return [], b""
-        return self.by_literals(lines) if len(self.out) + len(self.gone) <= FEW else self.by_lines(self.without_run(lines))
+        text = self.without_run(joined(lines), lines[len(lines) // 2])
+        return self.by_literals(text) if len(self.out) + len(self.gone) <= FEW else self.by_lines(parted(text))
 
-    def by_literals(self, lines):
-        text = joined(lines)
+    def without_run(self, text, line):
+        """The text without those of the literals that are next to each other in this line: often they are so in many."""
+        goes = self.out.__contains__
+        run = list(takewhile(goes, dropwhile(lambda word: not goes(word), literals(line))))
+        return text.replace(b" %b " % b" ".join(run), b" ") if run else text
+
+    def by_literals(self, text):
         for literal in self.out:
-            while b" %b " % literal in text:
-                text = text.replace(b" %b " % literal, b" ")
+            before = None
+            while before != len(text):  # of a literal that is repeated not all are found at once
+                before, text = len(text), text.replace(b" %b " % literal, b" ")
         for literal in self.gone:
             text = text.replace(b" %b " % literal, b" %b " % MARK)
         lines = parted(text)
-        return lines, bytes(map(b"\1\0".__getitem__, map(contains, lines, repeat(MARK))))
-
-    def without_run(self, lines):
-        """The lines without the literals that go and are next to each other in one of them: often they are so in many."""
-        words, goes = literals(lines[len(lines) // 2]), self.out.__contains__
-        run = list(takewhile(goes, dropwhile(lambda word: not goes(word), words)))
-        return parted(joined(lines).replace(b" %b " % b" ".join(run), b" ")) if run else lines
+        return lines, bytes(map(b"\1\0".__getitem__, map(contains, lines, repeat(MARK)))) if self.gone else all_stay(lines)
 
     def by_lines(self, lines):
-        words = list(map(bytes.split, lines, repeat(b" ")))
-        stay = bytes([self.gone.isdisjoint(row[1:]) for row in words]) if self.gone else bytes(repeat(1, len(lines)))
-        return [self.without(line, row) if stays else line for line, row, stays in zip(lines, words, stay)], stay
+        words, goes = list(map(bytes.split, lines, repeat(b" "))), self.out.__contains__
+        stay = bytes(map(self.gone.isdisjoint, words)) if self.gone else all_stay(lines)
+        rows = zip(lines, words, map(self.out.isdisjoint, words), stay)
+        return [line if same or not stays else b" ".join(filterfalse(goes, row)) for line, row, same, stays in rows], stay
 
-    def without(self, line, row):
-        out = self.out
-        if out.isdisjoint(row[1:]):
-            return line
-        return b" ".join([row[0], *filterfalse(out.__contains__, row[1:])])
+
+def all_stay(lines):
+    return bytes(repeat(1, len(lines)))
 
 
 def joined(lines):
-    """The lines as one text, in which a blank comes before and after each literal."""
-    return b"\n%b " % b" \n".join(lines)
+    """The lines as one text, in which a blank comes after each literal too."""
+    return b" ".join(lines) + b" "
 
 
 def parted(text):
-    return text[1:-1].split(b" \n")
+    return list(map(b"\n".__add__, text[1:-1].split(b" \n")))
 
 
 def negated(line):
@@ -88,14 +88,14 @@ class Steps:
     def __init__(self, path):
         self.lines, self.tails = [], []  # of each its number and literals, and the numbers of its antecedents
         for heads, tails in trimmed_steps(path):
-            self.lines += b"".join(heads)[1:].split(b"\n")
+            self.lines += heads
             self.tails += tails
         self.first = self.second = None  # the places of its antecedents, once all are asked for
 
     def find_antecedents(self):
         """Finds the places of the antecedents of all steps."""
         if self.first is None:
-            numbers = map(int, map(itemgetter(0), map(bytes.partition, self.lines, repeat(b" "))))
+            numbers = map(int, map(itemgetter(0), map(bytes.partition, self.lines, repeat(b" "))))  # which leaves the line end out
             places = dict(zip(numbers, range(len(self.lines))))
             places[0] = NONE
             self.first, self.second = array("q"), array("q")
@@ -108,14 +108,21 @@ class Steps:
         return [self.place_before(place, number) for number in self.tails[place].split()]
 
     def place_before(self, place, number):
-        return next(below for below in range(place - 1, -1, -1) if self.number(below) == number)
+        """The last place before this one of a step with this number."""
+        for end in range(place, 0, -SOME):
+            start = max(end - SOME, 0)
+            text = joined(self.lines[start:end])
+            found = text.rfind(b"\n%b " % number)
+            if found >= 0:
+                return start + text.count(b"\n", 0, found)
+        raise ValueError(number)
 
     @property
     def goal(self):
         return len(self.lines) - 1
 
     def number(self, place):
-        return self.lines[place].partition(b" ")[0]
+        return self.lines[place].partition(b" ")[0][1:]
 
     def end(self, deciding, any_pivot):
         """The place of the first step without literals of the deciding quantifier."""
@@ -138,7 +145,7 @@ class Steps:
         """Leaves out all that comes after this step, and lets the goal be a reduct of it."""
         if place < self.goal:
             self.find_antecedents()
-            line, tail = self.number(self.goal), b" " + self.number(place)
+            line, tail = self.lines[self.goal].partition(b" ")[0], b" " + self.number(place)
             self.keep(needed(self.first, self.second, place, bytes(repeat(WHOLE, place + 1))))
             self.first.append(self.goal)
             self.second.append(NONE)
@@ -168,7 +175,8 @@ class Steps:
     def text(self):
         """The steps as lines of a trace, some at a time."""
         for start in range(0, len(self.lines), SOME):
-            yield b"".join(map(b"%b 0%b 0\n".__mod__, zip(self.lines[start : start + SOME], self.tails[start : start + SOME])))
+            lists = chain.from_iterable(zip(self.lines[start : start + SOME], self.tails[start : start + SOME]))
+            yield (b" 0".join(lists) + b" 0\n")[1:]
 
 
 def antecedents_of(tails):

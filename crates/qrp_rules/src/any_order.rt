@@ -1,11 +1,12 @@
 //! Resolvents as they are written, whatever the order of their literals: a walk or a set of them
 //! finds the pivot and what is left of the antecedents, and a set whether that may be left out.
 
-ghost use Rattle.std.specs.Prelude.{◌≡◌, ◌⊎◌, IsTrue, IfOk, IfSome, List};
+ghost use Rattle.std.specs.Prelude.{◌≡◌, ◌≢◌, ◌<◌, ◌⊎◌, ◌↔◌, IsTrue, IfOk, IfSome, List};
 ghost use Rattle.qbf_core.specs.Literal.{Literal};
 ghost use Rattle.qbf_core.specs.Members.{◌∈◌};
 ghost use Rattle.qbf_core.specs.Blocks.{AreBound};
 ghost use Rattle.qbf_core.specs.Rules.{IsClean};
+ghost use Rattle.qbf_core.specs.Sets.{IsOrdered};
 ghost use Rattle.qrp_rules.specs.declared.rules.Rules.{Rules};
 ghost use Rattle.qrp_rules.specs.Conditions.{AllHold, AllowsPivot, resolvent_conditions};
 ghost use Rattle.qrp_rules.specs.Exact.{IsApart, IsPutBy, IsResolvedBut};
@@ -15,7 +16,6 @@ ghost use Rattle.qrp_rules.specs.Walks.{TakesOut};
 use crate::blocks::{Reducible, reducible_in};
 use crate::exact::{Rests, find_rests, is_apart};
 use crate::fault::Holds;
-use crate::normalizing::is_ordered;
 use crate::resolvent::{Resolution, is_pivot};
 use crate::rules::Rules;
 use crate::seen::{SeenLits, find_negated, put_each, set_if_clean};
@@ -110,12 +110,36 @@ fn find_parents<'a>(
     Some(Rests { pivot, a, b })
 }
 
+/// Whether a number comes after another one, and is not a third.
+#[inline(always)]
+fn is_later_but(last: u32, number: u32, other: u32) -> bool
+    ensures { IsTrue result ↔ ((last < number) × (number ≢ other)) }
+{
+    (last < number) & (number != other)
+}
+
+/// Whether literals stand in the order of their variables, and none has this variable. It looks at
+/// each of them in any case, so that several are compared at once.
+fn is_ordered_without(lits: &[Lit], var: Var) -> bool
+    ensures ordered { IsTrue result → IsOrdered lits.now }
+    ensures apart { IsTrue result → IsApart lits.now var }
+{
+    let mut last = 0;
+    let mut fits = true;
+    for lit in lits {
+        let number = lit.var().number();
+        fits = fits & is_later_but(last, number, var.number());
+        last = number;
+    }
+    fits
+}
+
 /// Whether literals are clean, and none has this variable. `false` says nothing.
 fn is_clean_without(seen: &mut SeenLits, prefix: &Prefix, lits: &[Lit], var: Var) -> Holds
     ensures { IfOk result (λ t. IsTrue t → IsClean lits.now × IsApart lits.now var) }
 {
-    if is_ordered(lits) {
-        return Ok(is_apart(lits, var));
+    if is_ordered_without(lits, var) {
+        return Ok(true);
     }
     seen.make_room(prefix)?;
     Ok(seen.are_distinct(lits, var))

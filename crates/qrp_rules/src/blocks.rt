@@ -42,11 +42,18 @@ pub(crate) fn block_if(
     prefix.block_bound_by(quantifier, var)
 }
 
-/// The inner one of two blocks.
+/// The inner one of two blocks. It takes no branch, since which of them is the inner one cannot be
+/// predicted.
+#[inline(always)]
 pub(crate) fn inner_block(a: Option<usize>, b: Option<usize>) -> Option<usize>
     ensures { (k : ℕ) → IsAfter result k ↔ (IsAfter a k × IsAfter b k) }
 {
-    a.max(b)
+    let inner = a.unwrap_or(0).max(b.unwrap_or(0));
+    if a.is_some() | b.is_some() {
+        Some(inner)
+    } else {
+        None
+    }
 }
 
 /// The outer one of two blocks.

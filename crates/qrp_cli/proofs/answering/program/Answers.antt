@@ -1,4 +1,4 @@
-use Rattle.std.proofs.Common.{inl, refl, Some, None}
+use Rattle.std.proofs.Common.{inl, refl}
 use Rattle.qrp_cli.proofs.ProgramReport.{of_both, of_formula, on_files, on_formula}
 use Rattle.qrp_cli.specs.declared.start.Start.TheVariants.{Usage}
 use Rattle.qrp_cli.specs.Output.{Errors}

@@ -2,10 +2,10 @@ use Rattle.qrp_rules.proofs.Words.{clean_from_same}
 use Rattle.qrp_rules.proofs.MembersDecide.{same_self}
 use Rattle.qrp_rules.proofs.any_order.is_clean_without.Goals as goal
 
-pub returns-then-is_ordered : goal.returns-then-is_ordered
-returns-then-is_ordered c = λ t. (
-  clean_from_same c.args.lits.now c.args.lits.now (c.is_ordered.ensures.0 c.if-is_ordered.true) (same_self c.args.lits.now),
-  c.is_apart.ensures t,
+pub returns-then-is_ordered_without : goal.returns-then-is_ordered_without
+returns-then-is_ordered_without c = λ t. (
+  clean_from_same c.args.lits.now c.args.lits.now (c.is_ordered_without.ensures.ordered c.if-is_ordered_without.true) (same_self c.args.lits.now),
+  c.is_ordered_without.ensures.apart c.if-is_ordered_without.true,
 )
 
 pub returns : goal.returns
