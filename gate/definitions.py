@@ -31,13 +31,16 @@ class Module:
 
     def __init__(self, path, text):
         self.path = path  # CRATE/specs/FILE
-        self.own, self.uses, self.constructors = {}, [], {}
+        self.own, self.uses, self.constructors, self.imports = {}, [], {}, ""
         name = None
         for line in without_comments(text).split("\n"):
             if use := USE.match(line.strip()) if not line.startswith(" ") else None:
+                self.imports += line + "\n"
                 self.uses.append((bool(use[1]), use[2], [it.strip() for it in (use[3] or "").split(",") if it.strip()], use[4]))
                 name = None
-            elif line[:1] not in ("", " ") and not line.startswith("infix"):
+            elif line.startswith("infix"):
+                self.imports += line + "\n"
+            elif line[:1] not in ("", " "):
                 found = HEAD.match(line)[1].rstrip(":")
                 # An equation begins with the name, or with an argument of an infix one.
                 starts = re.match(r"(?:abbrev|pub|record|data|opaque|private|unfolding)\s", line)

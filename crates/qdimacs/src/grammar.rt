@@ -52,7 +52,7 @@ struct Parts {
 }
 
 /// Whether a prefix binds each variable up to this one.
-fn is_full(prefix: &Prefix, max_var: u32) -> bool
+fn surely_full(prefix: &Prefix, max_var: u32) -> bool
     requires top { AllByRecursion (λ v. v ≤ max_var) (variables (pairs prefix.now)) }
     ensures full { result ≡ true → IsFull max_var (pairs prefix.now) }
     ensures sound { IsPrefix prefix.now }
@@ -76,7 +76,7 @@ fn take_member(parts: &mut Parts, quantifier: Quantifier, token: Token) -> Next
             if parts.prefix.widen().is_err() {
                 return Err(Stop::Memory);
             }
-            parts.full = is_full(&parts.prefix, parts.max_var);
+            parts.full = surely_full(&parts.prefix, parts.max_var);
             Ok(At::Between)
         }
     }
@@ -141,7 +141,7 @@ fn take_at(here: At, parts: &mut Parts, token: Token) -> Next
             HeaderMove::Ends(max_var, count) => {
                 parts.max_var = max_var as u32;
                 parts.count = count as u32;
-                parts.full = is_full(&parts.prefix, parts.max_var);
+                parts.full = surely_full(&parts.prefix, parts.max_var);
                 Ok(At::Between)
             }
         },

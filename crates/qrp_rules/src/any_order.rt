@@ -14,7 +14,7 @@ ghost use Rattle.qrp_rules.specs.Seen.{Has};
 ghost use Rattle.qrp_rules.specs.Walks.{TakesOut};
 
 use crate::blocks::{Reducible, reducible_in};
-use crate::exact::{Rests, find_rests, is_apart};
+use crate::exact::{Rests, find_rests, surely_apart};
 use crate::fault::Holds;
 use crate::resolvent::{Resolution, is_pivot};
 use crate::rules::Rules;
@@ -58,8 +58,8 @@ fn put_each_left_out(seen: &mut SeenLits, reducible: Reducible, pivot: Var, lits
     true
 }
 
-/// Whether each literal of a list is one of the pivot or in a set.
-fn has_each_but(seen: &SeenLits, lits: &[Lit], pivot: Var) -> bool
+/// Whether each literal of a list is seen to be one of the pivot or in a set.
+fn surely_has_each_but(seen: &SeenLits, lits: &[Lit], pivot: Var) -> bool
     ensures { IsTrue result → (l : Literal) → l ∈ lits.now → (l.var ≡ pivot) ⊎ Has seen.now l }
 {
     lits.iter().all(|lit| lit.var().number() == pivot.number() || seen.contains(*lit))
@@ -73,14 +73,14 @@ fn leaves_out_rests<S: Side>(seen: &mut SeenLits, prefix: &Prefix, to: &[Lit], r
         → AllHold (resolvent_conditions rules S.side prefix.now a b to.now) }
 {
     let pivot = rests.pivot.var();
-    if !is_apart(to, pivot) {
+    if !surely_apart(to, pivot) {
         return false;
     }
     if !set_if_clean(seen, to) {
         return false;
     }
     // Where nothing is left out, no block matters.
-    if has_each_but(seen, rests.a, pivot) && has_each_but(seen, rests.b, pivot) {
+    if surely_has_each_but(seen, rests.a, pivot) && surely_has_each_but(seen, rests.b, pivot) {
         return true;
     }
     // What is left out has the other quantifier, so the literals that are kept say the block.
@@ -89,8 +89,8 @@ fn leaves_out_rests<S: Side>(seen: &mut SeenLits, prefix: &Prefix, to: &[Lit], r
         && put_each_left_out(seen, reducible, pivot, rests.b)
 }
 
-/// Two lists, whatever their order, where a third one has no other literals, and a literal of the
-/// one whose negation is in the other. `None` says nothing.
+/// Two lists, whatever their order, if a third one has no other literals, and a literal of the one
+/// whose negation is in the other; `None` if that is not seen.
 fn find_parents<'a>(
     seen: &mut SeenLits,
     a: &'a [Lit],
@@ -104,7 +104,7 @@ fn find_parents<'a>(
     put_each(seen, a);
     let pivot = find_negated(seen, b)?.negated();
     put_each(seen, b);
-    if !has_each_but(seen, to, pivot.var()) {
+    if !surely_has_each_but(seen, to, pivot.var()) {
         return None;
     }
     Some(Rests { pivot, a, b })
@@ -120,7 +120,7 @@ fn is_later_but(last: u32, number: u32, other: u32) -> bool
 
 /// Whether literals stand in the order of their variables, and none has this variable. It looks at
 /// each of them in any case, so that several are compared at once.
-fn is_ordered_without(lits: &[Lit], var: Var) -> bool
+fn surely_ordered_without(lits: &[Lit], var: Var) -> bool
     ensures ordered { IsTrue result → IsOrdered lits.now }
     ensures apart { IsTrue result → IsApart lits.now var }
 {
@@ -134,26 +134,26 @@ fn is_ordered_without(lits: &[Lit], var: Var) -> bool
     fits
 }
 
-/// Whether literals are clean, and none has this variable. `false` says nothing.
-fn is_clean_without(seen: &mut SeenLits, prefix: &Prefix, lits: &[Lit], var: Var) -> Holds
+/// Whether literals are seen to be clean, and none to have this variable.
+fn surely_clean_without(seen: &mut SeenLits, prefix: &Prefix, lits: &[Lit], var: Var) -> Holds
     ensures { IfOk result (λ t. IsTrue t → IsClean lits.now × IsApart lits.now var) }
 {
-    if is_ordered_without(lits, var) {
+    if surely_ordered_without(lits, var) {
         return Ok(true);
     }
     seen.make_room(prefix)?;
-    Ok(seen.are_distinct(lits, var))
+    Ok(seen.surely_distinct(lits, var))
 }
 
-/// Whether a step follows from its antecedents, which are clean and bound, by resolution: as
+/// Accepts a step that follows from its antecedents, which are clean and bound, by resolution: as
 /// `resolvent_fault`, of literals as they are written.
 ///
-/// `false` says nothing. Where the literals are in the order of the antecedents, and nothing is
-/// left out, only the pivot is looked up. What was seen is forgotten.
+/// It may leave such a step to the judge of sets. If the literals are in the order of the
+/// antecedents, and nothing is left out, only the pivot is looked up. What was seen is forgotten.
 ///
 /// # Errors
 /// If an allocation fails.
-pub fn is_resolvent<S: Side>(
+pub fn accepts_resolvent<S: Side>(
     seen: &mut SeenLits,
     prefix: &Prefix,
     step: Resolution,
@@ -184,7 +184,7 @@ pub fn is_resolvent<S: Side>(
         return Ok(false);
     }
     if rests.a.is_empty() && rests.b.is_empty() {
-        return is_clean_without(seen, prefix, to, pivot);
+        return surely_clean_without(seen, prefix, to, pivot);
     }
     seen.make_room(prefix)?;
     Ok(leaves_out_rests::<S>(seen, prefix, to, rests))

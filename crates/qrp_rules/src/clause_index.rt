@@ -13,11 +13,11 @@ ghost use Rattle.qrp_rules.specs.Index.{HasReductAt, IsIndex, IsIndexed, IsReduc
 ghost use Rattle.qrp_rules.specs.Index.{hash_from};
 
 use crate::blocks::reducible_in;
-use crate::exact::is_exact_reduct;
+use crate::exact::accepts_reduct;
 use crate::fault::{Holds, Judgement, RuleFault};
 use crate::initial::has_reduct;
 use crate::normalizing::is_ordered;
-use crate::seen::{SeenLits, is_clean};
+use crate::seen::{SeenLits, surely_clean};
 use qbf_core::{Formula, Lit, LitSet, Prefix, Quantifier, SetFault};
 use std::alloc::{AllocError, Global};
 
@@ -178,9 +178,14 @@ impl InitialClauses {
         }
     }
 
-    /// Whether literals are, as they are written, a reduct of the clause after the one that was found
-    /// last, clean and bound. `false` says nothing.
-    pub(crate) fn is_next(&mut self, formula: &Formula, seen: &mut SeenLits, lits: &[Lit]) -> Holds
+    /// Accepts literals that are, as they are written, a reduct of the clause after the one that was
+    /// found last, clean and bound.
+    pub(crate) fn accepts_next(
+        &mut self,
+        formula: &Formula,
+        seen: &mut SeenLits,
+        lits: &[Lit],
+    ) -> Holds
         requires { IsIndexed formula.now self.old }
         ensures initial { IfOk result (λ t. IsTrue t → IsInitial Clauses formula.now lits.now) }
         ensures clean { IfOk result (λ t. IsTrue t → IsClean lits.now) }
@@ -196,10 +201,10 @@ impl InitialClauses {
         if clause.first() != lits.first() {
             return Ok(false);
         }
-        if !is_clean(seen, prefix, clause)? {
+        if !surely_clean(seen, prefix, clause)? {
             return Ok(false);
         }
-        if !is_exact_reduct(prefix, Quantifier::All, clause, lits) {
+        if !accepts_reduct(prefix, Quantifier::All, clause, lits) {
             return Ok(false);
         }
         self.next = self.next.saturating_add(1);

@@ -104,7 +104,7 @@ pub(crate) struct Rests<'a> {
 
 /// What is left of two lists of which a third has literals in their order.
 ///
-/// `None` says nothing. Where the third one has just the literals that are not the pivot, nothing
+/// `None` if that is not seen. If the third one has just the literals that are not the pivot, nothing
 /// is left. Each literal is looked at once.
 pub(crate) fn find_rests<'a>(a: &'a [Lit], b: &'a [Lit], to: &[Lit]) -> Option<Rests<'a>>
     ensures { IfSome result (λ rests. IsResolvedBut a.now b.now to.now rests.a.now rests.b.now
@@ -126,15 +126,15 @@ pub(crate) fn find_rests<'a>(a: &'a [Lit], b: &'a [Lit], to: &[Lit]) -> Option<R
     Some(Rests { pivot, a, b })
 }
 
-/// Whether no literal has this variable.
-pub(crate) fn is_apart(lits: &[Lit], var: Var) -> bool
+/// Whether each literal is seen to have another variable.
+pub(crate) fn surely_apart(lits: &[Lit], var: Var) -> bool
     ensures { IsTrue result → IsApart lits.now var }
 {
     lits.iter().all(|lit| lit.var().number() != var.number())
 }
 
-/// Whether a list is what is left of another without some literals that a reduction may take out.
-fn is_reduct_as_written(reducible: Reducible, from: &[Lit], to: &[Lit]) -> bool
+/// Accepts a list that is left of another without some literals that a reduction may take out.
+fn accepts_reduct_as_written(reducible: Reducible, from: &[Lit], to: &[Lit]) -> bool
     ensures within { IsTrue result → to.now ⊆ from.now }
     ensures each { IsTrue result → (l : Literal) → l ∈ from.now
         → (l ∈ to.now) ⊎ TakesOut reducible.entry l.var }
@@ -150,10 +150,10 @@ fn is_reduct_as_written(reducible: Reducible, from: &[Lit], to: &[Lit]) -> bool
     in_to == to.len()
 }
 
-/// Whether a list is, as it is written, a clean and bound one without some reducible literals, for
-/// the side that reduces this quantifier. `false` says nothing. It takes no memory.
+/// Accepts a list that is, as it is written, a clean and bound one without some reducible literals,
+/// for the side that reduces this quantifier. It takes no memory.
 #[inline(always)]
-pub fn is_exact_reduct(prefix: &Prefix, reduced: Quantifier, from: &[Lit], to: &[Lit]) -> bool
+pub fn accepts_reduct(prefix: &Prefix, reduced: Quantifier, from: &[Lit], to: &[Lit]) -> bool
     requires clean { IsClean from.now }
     requires bound { AreBound prefix.now from.now }
     ensures follows { IsTrue result → (side : Side) → reduced ≡ reduced_quantifier side
@@ -166,5 +166,5 @@ pub fn is_exact_reduct(prefix: &Prefix, reduced: Quantifier, from: &[Lit], to: &
         return true;
     }
     // What is left out has the other quantifier, so the literals that are kept say the block.
-    is_reduct_as_written(reducible_in(prefix, reduced, to), from, to)
+    accepts_reduct_as_written(reducible_in(prefix, reduced, to), from, to)
 }

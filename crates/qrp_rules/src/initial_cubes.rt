@@ -232,8 +232,8 @@ impl InitialCubes {
         self.watch_all(formula, seen)
     }
 
-    /// Whether literals are an initial cube, clean and bound. `false` says nothing.
-    pub(crate) fn is_initial(
+    /// Accepts literals that are an initial cube, clean and bound.
+    pub(crate) fn accepts_initial(
         &mut self,
         formula: &Formula,
         seen: &mut SeenLits,

@@ -36,16 +36,14 @@ impl InitialSteps {
         }
     }
 
-    /// Whether literals are, as they are written, those of an initial step, clean and bound: a
+    /// Accepts literals that are, as they are written, those of an initial step, clean and bound: a
     /// reduct of the clause after the one that was found last, or an initial cube.
-    ///
-    /// `false` says nothing.
     ///
     /// # Errors
     /// If an allocation fails.
     #[inline(never)]
     #[tactic(auto, using(crate::proofs::WatchedClauses::initial_cube))]
-    pub fn is_initial<S: Side>(
+    pub fn accepts_initial<S: Side>(
         &mut self,
         formula: &Formula,
         seen: &mut SeenLits,
@@ -59,8 +57,8 @@ impl InitialSteps {
         ensures known { OnOk result (AreKnown formula.now self.new) }
     {
         match S::REDUCED {
-            Quantifier::All => self.clauses.is_next(formula, seen, lits),
-            Quantifier::Exists => self.cubes.is_initial(formula, seen, lits),
+            Quantifier::All => self.clauses.accepts_next(formula, seen, lits),
+            Quantifier::Exists => self.cubes.accepts_initial(formula, seen, lits),
         }
     }
 

@@ -2,7 +2,7 @@
 //!
 //! - Owns: the rules of a step, on sets of literals and on literals as they are written.
 //! - Offers: `Side`, `Rules`, `RuleFault`; `reduct_fault`, `resolvent_fault` and the same on
-//!   ordered lists; `Resolution`; `InitialSteps`; `is_exact_reduct`, `is_resolvent`, `SeenLits`;
+//!   ordered lists; `Resolution`; `InitialSteps`; `accepts_reduct`, `accepts_resolvent`, `SeenLits`;
 //!   `normalize`.
 //! - Proved: each rule test decides its definition, and names the first fault.
 //! - Read first: `reduct_fault`, `resolvent_fault`, `Side::initial_fault`, `InitialSteps::fault`.
@@ -28,9 +28,9 @@ mod seen;
 mod side;
 mod walks;
 
-pub use any_order::is_resolvent;
+pub use any_order::accepts_resolvent;
 pub use blocks::is_bound_by;
-pub use exact::is_exact_reduct;
+pub use exact::accepts_reduct;
 pub use fault::{Judgement, RuleFault};
 pub use initial_steps::InitialSteps;
 pub use normalizing::{normal_form, normalize};

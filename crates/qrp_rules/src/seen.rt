@@ -111,9 +111,9 @@ impl SeenLits {
         true
     }
 
-    /// Whether the variables are pairwise distinct and none is `other`. `false` says nothing, and
-    /// nothing is known then of what the set holds.
-    pub(crate) fn are_distinct(&mut self, lits: &[Lit], other: Var) -> bool
+    /// Whether the variables are seen to be pairwise distinct and none to be `other`. If not, nothing
+    /// is known of what the set holds.
+    pub(crate) fn surely_distinct(&mut self, lits: &[Lit], other: Var) -> bool
         ensures clean { IsTrue result → IsClean lits.now }
         ensures apart { IsTrue result → IsApart lits.now other }
     {
@@ -155,7 +155,7 @@ fn stamp_vars(stamps: &mut [u32], stamp: u32, lits: &[Lit], other: Var) -> bool
     true
 }
 
-/// Replaces the set by these literals, if they are clean. `false` says nothing.
+/// Replaces the set by these literals if they are seen to be clean, and says whether it did.
 pub(crate) fn set_if_clean(seen: &mut SeenLits, lits: &[Lit]) -> bool
     ensures clean { IsTrue result → IsClean lits.now }
     ensures members { IsTrue result → (l : Literal) → Has seen.new l ↔ l ∈ lits.now }
@@ -195,8 +195,8 @@ pub(crate) fn find_negated(seen: &SeenLits, lits: &[Lit]) -> Option<Lit>
     None
 }
 
-/// Whether literals are clean. `false` says nothing.
-pub(crate) fn is_clean(seen: &mut SeenLits, prefix: &Prefix, lits: &[Lit]) -> Holds
+/// Whether literals are seen to be clean.
+pub(crate) fn surely_clean(seen: &mut SeenLits, prefix: &Prefix, lits: &[Lit]) -> Holds
     ensures { IfOk result (λ t. IsTrue t → IsClean lits.now) }
 {
     if is_ordered(lits) {

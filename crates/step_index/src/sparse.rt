@@ -58,7 +58,7 @@ impl Model for SparseNumbers {
 
 /// Whether the table may reach a number, where the next place is this one. A place in the table has
 /// 32 bits.
-fn is_near(place: usize, number: u64) -> bool
+fn surely_near(place: usize, number: u64) -> bool
     ensures place { IsTrue result → place + 1 < 2 ^ 32 }
     ensures number { IsTrue result → number < 2 ^ 37 }
     ensures few { IsTrue result → number < 2 ^ 20 + 16 * place }
@@ -79,7 +79,7 @@ fn reach_near(table: &mut Vec<u32>, place: usize, number: u64) -> Result<bool, A
     ensures kept { (n : ℕ) → get_or table.new.items n 0 ≡ get_or table.old.items n 0 }
     ensures err { OnErr result (table.new.items ≡ table.old.items) }
 {
-    if !is_near(place, number) {
+    if !surely_near(place, number) {
         return Ok(false);
     }
     reach(table, number as usize, 0)?;

@@ -5,4 +5,4 @@ pub returns : goal.returns
 returns c =
     resolved_whole c.args.a.now c.args.b.now c.args.to.now _ _ _ c.negated-pivot.result _ c.negated-pivot.ensures c.clear.ensures
     c.put_each.ensures c.in_ok-find_negated.ensures c.put_each-2.ensures
-    (rw c.var.ensures at c.has_each_but.ensures c.if-not-has_each_but.false)
+    (rw c.var.ensures at c.surely_has_each_but.ensures c.if-not-surely_has_each_but.false)

@@ -11,7 +11,7 @@ returns-then-put_each_left_out g c = λ t rules a b is allowed.
     let of_to = c.set_if_clean.ensures.members c.if-not-set_if_clean.false in
     let put = put_then _ _ _ _ c.put_each_left_out.ensures.put c.put_each_left_out-then-put_each_left_out.ensures.put in
     left_follows rules g.S.Side.side c.args.prefix.now a b to c.args.rests.a.now c.args.rests.b.now c.args.rests.pivot is
-    (rw c.var-pivot.ensures at c.is_apart.ensures c.if-not-is_apart.false)
+    (rw c.var-pivot.ensures at c.surely_apart.ensures c.if-not-surely_apart.false)
     (Has last) May
     (put.clean (λ l h k. c.set_if_clean.ensures.clean c.if-not-set_if_clean.false l ((of_to l).0 h) ((of_to _).0 k)))
     (λ l h. put.kept l ((of_to l).1 h))
@@ -25,15 +25,15 @@ returns-then-put_each_left_out g c = λ t rules a b is allowed.
     (reducible_wider g.S.Side.side c.args.prefix.now May _ to
     (c.reducible_in-reducible.ensures g.S.Side.side (c.REDUCED.ensures ∙ g.met.S.Side.reduces)))
 
-pub returns-then-has_each_but-2 : goal.returns-then-has_each_but-2
-returns-then-has_each_but-2 g c = λ _ rules a b is allowed.
+pub returns-then-surely_has_each_but-2 : goal.returns-then-surely_has_each_but-2
+returns-then-surely_has_each_but-2 g c = λ _ rules a b is allowed.
     let to = c.args.to.now in
     let of_to = c.set_if_clean.ensures.members c.if-not-set_if_clean.false in
     left_follows rules g.S.Side.side c.args.prefix.now a b to c.args.rests.a.now c.args.rests.b.now c.args.rests.pivot is
-    (rw c.var-pivot.ensures at c.is_apart.ensures c.if-not-is_apart.false)
+    (rw c.var-pivot.ensures at c.surely_apart.ensures c.if-not-surely_apart.false)
     (Has c.set_if_clean.new.seen) (λ _. ⊥)
     (λ l h k. c.set_if_clean.ensures.clean c.if-not-set_if_clean.false l ((of_to l).0 h) ((of_to _).0 k))
     (λ l h. (of_to l).1 h)
-    (rw c.var-pivot.ensures at c.has_each_but.ensures c.if-has_each_but.true)
-    (rw c.var-pivot.ensures at c.has_each_but-then-has_each_but.ensures c.if-has_each_but-2.true)
+    (rw c.var-pivot.ensures at c.surely_has_each_but.ensures c.if-surely_has_each_but.true)
+    (rw c.var-pivot.ensures at c.surely_has_each_but-then-surely_has_each_but.ensures c.if-surely_has_each_but-2.true)
     (λ l h. inl ((of_to l).0 h)) allowed (λ each l none. absurd none)

@@ -1,8 +1,8 @@
 use Rattle.qrp_rules.proofs.Words.{rules, eqb-true, TakesOut}
 use Rattle.qrp_rules.proofs.Merging.{rest_more, rest_within}
-use Rattle.qrp_rules.proofs.exact.is_reduct_as_written.Goals.{else-next-in_to-via-then-next-in_to+else-not-has}
-use Rattle.qrp_rules.proofs.exact.is_reduct_as_written.Goals.{else-next-in_to-via-else-next-in_to}
-use Rattle.qrp_rules.proofs.exact.is_reduct_as_written.Goals as goal
+use Rattle.qrp_rules.proofs.exact.accepts_reduct_as_written.Goals.{else-next-in_to-via-then-next-in_to+else-not-has}
+use Rattle.qrp_rules.proofs.exact.accepts_reduct_as_written.Goals.{else-next-in_to-via-else-next-in_to}
+use Rattle.qrp_rules.proofs.exact.accepts_reduct_as_written.Goals as goal
 
 pub loop-lit-preserved : goal.loop-lit-preserved
 loop-lit-preserved c =

@@ -1,5 +1,5 @@
 use Rattle.qrp_rules.proofs.WatchedClauses.{all_met, all_watched}
-use Rattle.qrp_rules.proofs.initial_cubes.InitialCubes.is_initial.Goals as goal
+use Rattle.qrp_rules.proofs.initial_cubes.InitialCubes.accepts_initial.Goals as goal
 
 pub returns-clause-initial : goal.returns-clause-initial
 returns-clause-initial c = λ t.

@@ -7,27 +7,27 @@ use Rattle.qbf_core.specs.Blocks.{AreBound}
 use Rattle.qbf_core.specs.Rules.{IsClean}
 use Rattle.qbf_core.proofs.Members.{lit_decides}
 use Rattle.qrp_rules.specs.Conditions.{AllHold, reduct_conditions}
-use Rattle.qrp_rules.proofs.exact.is_exact_reduct.Goals as goal
+use Rattle.qrp_rules.proofs.exact.accepts_reduct.Goals as goal
 use Rattle.qbf_core.proofs.Bound.{bound_within}
 
 pub returns-clause-follows : goal.returns-clause-follows
 returns-clause-follows c = λ t side reduces. (
-  c.is_reduct_as_written.ensures.within t,
+  c.accepts_reduct_as_written.ensures.within t,
   (
-    (λ l h. elim (c.is_reduct_as_written.ensures.each t l h) [
+    (λ l h. elim (c.accepts_reduct_as_written.ensures.each t l h) [
       | inl k ↦ inl k
       | inr may ↦ inr (reducible_wider side c.args.prefix.now (λ m. TakesOut c.reducible_in.result m.var) c.args.from.now c.args.to.now
-          (c.reducible_in.ensures side reduces) (c.is_reduct_as_written.ensures.each t) l may)
+          (c.reducible_in.ensures side reduces) (c.accepts_reduct_as_written.ensures.each t) l may)
     ]),
     tt,
   ),
 )
 
 pub returns-clause-bound : goal.returns-clause-bound
-returns-clause-bound c = λ t. bound_within c.args.prefix.now c.args.from.now c.args.to.now c.requires.bound (c.is_reduct_as_written.ensures.within t)
+returns-clause-bound c = λ t. bound_within c.args.prefix.now c.args.from.now c.args.to.now c.requires.bound (c.accepts_reduct_as_written.ensures.within t)
 
 pub returns-clause-clean : goal.returns-clause-clean
-returns-clause-clean c = λ t. clean_within c.args.from.now c.args.to.now c.requires.clean (c.is_reduct_as_written.ensures.within t)
+returns-clause-clean c = λ t. clean_within c.args.from.now c.args.to.now c.requires.clean (c.accepts_reduct_as_written.ensures.within t)
 
 same : (c : goal.Then-eq) → c.args.from.now ≡ c.args.to.now
 same c = (slice_eq-Decides lit_decides c.args.from.now c.args.to.now c.eq.result c.eq.ensures).0 c.if-eq.true

@@ -2,7 +2,7 @@ use Rattle.qrp_rules.proofs.Words.{◌≡◌, rules, tests, YieldsList-from_slic
 use Rattle.std.proofs.lemmas.Bool.{MatchBool-at_true}
 use Rattle.std.proofs.lemmas.Iterator.{cases_from_all}
 use Rattle.qbf_core.proofs.Members.{each_within}
-use Rattle.qrp_rules.proofs.exact.is_apart.Goals as goal
+use Rattle.qrp_rules.proofs.exact.surely_apart.Goals as goal
 
 pub returns : goal.returns
 returns c = λ t. each_within (λ (l : Literal). l.var ≡ c.args.var → ⊥) c.args.lits.now

@@ -1,7 +1,7 @@
 use Rattle.qrp_rules.proofs.Words.{◌≡◌, ◌<◌, ◌≤◌, ℕ, Bool, true, false, sym, ap, ◌∙◌, refl, inl, inr, arith, IsTrue, Literal, in_take_all, in_take_more}
 use Rattle.std.proofs.Common.{◌&&◌}
 use Rattle.qrp_rules.proofs.OrderedLists.{ordered_taken}
-use Rattle.qrp_rules.proofs.any_order.is_ordered_without.Goals as goal
+use Rattle.qrp_rules.proofs.any_order.surely_ordered_without.Goals as goal
 
 both_hold : (a b : Bool) → IsTrue (a && b) → IsTrue a × IsTrue b
 both_hold true b t = (refl, t)

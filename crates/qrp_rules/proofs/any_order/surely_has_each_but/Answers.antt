@@ -4,7 +4,7 @@ use Rattle.std.proofs.lemmas.Iterator.{cases_from_all, YieldsList-from_slice}
 use Rattle.qbf_core.specs.Literal.{Literal}
 use Rattle.qbf_core.proofs.Members.{each_within}
 use Rattle.qrp_rules.specs.Seen.{Has}
-use Rattle.qrp_rules.proofs.any_order.has_each_but.Goals as goal
+use Rattle.qrp_rules.proofs.any_order.surely_has_each_but.Goals as goal
 
 pub returns : goal.returns
 returns c = λ t. let Is : Literal → Type 0 = λ l. (l.var ≡ c.args.pivot) ⊎ Has c.args.seen.now l in
