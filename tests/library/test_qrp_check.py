@@ -267,6 +267,7 @@ def as_program(cases):
         ask("/none", files[1]) == ("DEVICE formula\n", "", 3),
         ask(files[0], "/") == ("DEVICE trace\n", "", 3),
         ask(files[0], "/proc/self/mem") == ("DEVICE trace\n", "", 3),
+        ask("/proc/self/mem", files[1]) == ("DEVICE formula\n", "", 3),
         *((ended[0], ended[1][:5], ended[2]) == ("", "USAGE", 5) for ended in (ask(), ask(files[0]), ask(*files, "x"), ask("--qu", *files, "--qu"))),
         ask_shell(">/dev/full", files) == ("", 3) == ask_shell(">&-", files),
     ]

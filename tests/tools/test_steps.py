@@ -263,13 +263,12 @@ def try_near(pairs):
     dice, found, all_near = random.Random(2), 0, 0
     for _, path in pairs:
         for name, text, is_usual in other_layouts(path.read_text(), dice):
-            trace = Trace(text.encode())
-            numbers = [step.number for step in trace.steps()]
+            numbers = [step.number for step in Trace(text.encode()).steps()]
             for number in [*dice.sample(numbers, min(2, len(numbers))), max(numbers, default=0) + 1]:
-                near, again = find_near(Trace(text.encode()), number), find_step(trace, number)
+                (near, result), (again, wanted) = near_and_read(text, number)
                 found += near is not None
                 all_near += is_usual
-                expect(f"{path.name}, {name}: step {number}", near is None or near == again, (near, again, text))
+                expect(f"{path.name}, {name}: step {number}", near is None or (near, result) == (again, wanted), (near, result, again, wanted, text))
     expect("many are found so", found > all_near / 2 > 50, (found, all_near))
 
 
@@ -280,12 +279,25 @@ def try_odd_steps():
         ("literals after whole lines", "p qrp 9 9\n1 2 0 0\n4 5\n6 7 0 0\n6 8 0 0\nr sat\n", 6),
         ("antecedents", "p qrp 9 9\n1 -2 3 0 0\n2 3 0\n5 0 7 0\n1 0\n5 1 0 0\nr sat\n", 5),
         ("a set", "p qrp 9 9\ne 1 2\n3 4 5 0 6 0\n3 0\n7 5 0 0\n3 6 0 0\nr sat\n", 3),
-        ("after the result", "p qrp 9 9\n1 -2 3 0 0\n2 3 -4 0 0\nr sat\n7 2 -3 0 0\n", 7),
+        ("antecedents after antecedents", "p qrp 9 9\n1 2 0 0 6 -2 0 0\n2 3 0\n5 0 7 0\n6 0 8 0\n8 0 10 0\n1 0\n5 4 0 0\nr sat\n", 6),
+        ("antecedents after two of them", "p qrp 9 9\n1 2 0 0 6 -2 0 0\n2 3 0\n5 1 0 7 0\n6 0 8 0\n8 0 10 0\n1 0\n5 4 0 0\nr sat\n", 6),
+        ("the end of a set", "p qrp 9 9\ne 1 2\n3 0 6 0\n6 0 9 0\n4 0 3 5 0 0\n4 1 0 0\nr sat\n", 3),
+        ("antecedents after a set", "p qrp 9 9\ne 1 2\n3 4 5 0 6 0\n3 0 7 0\n7 0 9 0\n1 0 3 8 0 0\n1 1 0 0\nr sat\n", 3),
+        ("after the result", "p qrp 9 9\n1 -2 3 0 0\n2 3 -4 0 0\nr sat\n5 1 -2 0 0\n7 2 -3 0 0\nr sat\n", 7),
+        ("a result in a comment", "p qrp 9 9\n1 -2 3 0 0\n2 3 -4 0 0\nc r unsat\n7 2 -3 0 1 0\nr sat\n", 2),
         ("itself", "p qrp 9 9\n1 -2 3 0 0\n2 3 -4 0 2 0\nr sat\n", 2),
         ("later", "p qrp 9 9\n1 -2 3 0 0\n2 3 -4 0 3 1 0\n3 1 2 4 0 0\nr sat\n", 2),
     ):
-        near, again = find_near(Trace(text.encode()), number), find_step(Trace(text.encode()), number)
-        expect(f"a line that looks like a step: {name}", near is None and again is not None or near == again, (near, again))
+        (near, result), (again, wanted) = near_and_read(text, number)
+        expect(f"a line that looks like a step: {name}", near is None or (near, result) == (again, wanted), (near, result, again, wanted))
+
+
+def near_and_read(text, number):
+    """A step as it is found without those before it, and as it is read, each with the result that is then known."""
+    traces = Trace(text.encode()), Trace(text.encode())
+    found = [find(trace, number) for find, trace in zip((find_near, find_step), traces)]
+    list(traces[1].steps())
+    return zip(found, [trace.result for trace in traces])
 
 
 def try_words(program):

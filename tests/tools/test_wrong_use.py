@@ -286,8 +286,8 @@ def try_memory(trial):
     """Memory that is refused to a tool that reads a file as a whole."""
     large = trial.folder / "large"
     with open(large, "wb") as file:
-        file.truncate(2000000000)
-    limit = 400000000
+        file.truncate(300000000)
+    limit = 200000000
     words = trial.words(rows=large) if "LIST" in trial.tool.words else trial.words(formula=large)
     ended = trial.run(words, preexec_fn=lambda: resource.setrlimit(resource.RLIMIT_AS, (limit, limit)))
     trial.expect("no memory", ended, 2, [own(trial) + "memory was refused: raise the limit (`ulimit -v`), or take a machine with more memory\n"])

@@ -136,11 +136,11 @@ ROWS = [
 ]
 
 NEXT = [
-    ("VERIFIED true", "`qrp_cmd trim` writes the steps that the proof needs, and `tools/proof-stats` says how large it is"),
+    ("VERIFIED true", "`qrp_cmd trim` writes the steps that the proof needs, `tools/proof-stats` says how large it is, and `tools/play` the winner's moves"),
     (
         "VERIFIED false",
-        "`qrp_cmd trim` writes the steps that the proof needs, `tools/proof-stats` says how large it is, and `tools/used-clauses` which "
-        "clauses it uses",
+        "`qrp_cmd trim` writes the steps that the proof needs, `tools/proof-stats` says how large it is, `tools/used-clauses` which clauses it "
+        "uses, and `tools/play` the winner's moves",
     ),
 ]
 
