@@ -203,8 +203,8 @@ def needed(first, second, goal, left):
 class Restriction:
     """What is left of the steps of a proof after values are put in.
 
-    A step of which a literal is deciding for the values is gone. Of each other one it is found which of its literals can still be derived, and how.
-    Where both antecedents are left as a whole nothing changes.
+    Of each step that is not gone it is found which of its literals can still be derived, and from which antecedents. Nothing changes if both
+    antecedents are left as a whole.
     """
 
     def __init__(self, steps, cut):
