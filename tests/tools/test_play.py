@@ -23,6 +23,7 @@ ROOT = Path(__file__).resolve().parents[2]
 sys.path[:0] = [str(ROOT / "tests"), str(ROOT / "tools"), str(ROOT / "tests" / "tools")]
 sys.dont_write_bytecode = True
 from expect import expect, finish  # noqa: E402
+from qrptools import restriction  # noqa: E402
 from qrptools.command import Ends  # noqa: E402
 from qrptools.game import State  # noqa: E402
 from qrptools.program import trimmed  # noqa: E402
@@ -94,6 +95,7 @@ def require(holds, what):
 
 def played(formula, trace, any_pivot, seed, folder):
     """What the tool finds of a game with random replies, with the files of all states in a folder."""
+    restriction.SOME = 3 if seed % 2 else 1 << 12  # lines at a time
     arguments = Namespace(json=True, reply=[], random=str(seed), write=os.path.join(folder, f"states{seed}"), qu=any_pivot)
     os.mkdir(arguments.write)
     path = trimmed(str(formula), str(trace), TOOL.flags_of(arguments), folder)
@@ -323,6 +325,22 @@ def try_small():
             expect(f"{formula_text!r} {trace_text!r}", told.returncode == 0 and said in told.stdout, told)
 
 
+def try_any_pivot():
+    """By any pivot steps that could be reduced to nothing are used as antecedents, and literals of the outermost block are reduced in them."""
+    clauses = [[-1, 3], [2, -3], [1, 5], [-5, 6, -2], [-6, -2]]
+    formula_text = "p cnf 6 5\na 1 0\ne 2 0\na 3 5 0\ne 6 0\n" + "".join(" ".join(map(str, [*clause, 0])) + "\n" for clause in clauses)
+    steps = ["1 -1 3 0 0", "2 2 -3 0 0", "3 2 0 1 2 0", "4 1 5 0 0", "5 -5 6 -2 0 0", "6 6 -2 0 4 5 0", "7 -6 -2 0 0", "8 -2 0 6 7 0", "9 0 3 8 0"]
+    with tempfile.TemporaryDirectory() as folder:
+        formula, trace = Path(folder) / "f", Path(folder) / "t"
+        formula.write_text(formula_text)
+        trace.write_text("\n".join(["p qrp 0 0", *steps, "r unsat", ""]))
+        told = play("--qu", "--random", "1", formula, trace)
+        wanted = "VERIFIED false: the universal player wins\nblock 1 (universal), by the proof: 1\n    VERIFIED false\n"
+        expect("any pivot", told.returncode == 0 and told.stdout.startswith(wanted) and told.stdout.count("    VERIFIED false\n") == 4, told)
+        plain = play(formula, trace)
+        expect("any pivot, without --qu", plain.returncode == 1 and "REFUSED step 3 S10" in plain.stderr, plain)
+
+
 def try_files():
     """--write, pipes, and files that cannot be used."""
     with tempfile.TemporaryDirectory() as folder:
@@ -422,10 +440,10 @@ def try_signals():
 def main():
     os.environ["QRP_CMD"] = os.path.abspath(sys.argv[1])
     signal.signal(signal.SIGINT, signal.default_int_handler)  # a run in the background ignores interrupts, and so would all that it starts
-    with ProcessPoolExecutor(4) as pool:
+    with ProcessPoolExecutor(min(4, os.cpu_count() or 1)) as pool:
         try_games(pool)
         try_damages(pool)
-    for part in try_text, try_replies, try_small, try_files, try_terminal, try_own_fault, try_signals:
+    for part in try_text, try_replies, try_small, try_any_pivot, try_files, try_terminal, try_own_fault, try_signals:
         part()
     return finish()
 

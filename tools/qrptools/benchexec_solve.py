@@ -1,4 +1,4 @@
-"""How BenchExec runs tools/solve: in its benchmark definition the tool is qrptools.benchexec_solve, with this folder's parent on PYTHONPATH."""
+"""How BenchExec runs tools/solve. In a benchmark definition the tool is qrptools.benchexec_solve; tools/ has to be on PYTHONPATH."""
 
 import benchexec.result as result
 import benchexec.tools.template

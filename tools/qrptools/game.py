@@ -85,7 +85,7 @@ class State:
         return texts(variables) | texts(-variable for variable in variables)
 
     def clause_with(self, found, deciding):
-        """The literals of the clause that an initial step comes from, which may leave out some of them. None is of the deciding quantifier."""
+        """The literals of the clause that an initial step with these comes from. None of them is of the deciding quantifier."""
         rows = map(set, map(literals, self.clauses))
         return next(row for row in rows if row >= found and row.isdisjoint(deciding) and is_clean(set(map(int, row))))
 
@@ -150,4 +150,5 @@ class Checker:
                 folder = tempfile.mkdtemp(prefix="qrp-not-verified-")
                 for path in paths:
                     shutil.move(path, folder)
-        return Ends(f"state {self.count} is not verified ({line}): this is a fault of this tool, and says nothing of the proof; see {folder}", OWN_FAULT)
+        fault = "this is a fault of this tool, and says nothing of the proof"
+        return Ends(f"state {self.count} is not verified ({line}): {fault}; see {folder}", OWN_FAULT)

@@ -53,7 +53,7 @@ def is_variable(word):
 
 
 class Replies:
-    """The other player's values: those of the command line, one text for each block of this player, and what is asked for or taken at random."""
+    """The other player's values: texts for blocks of this player in order, and what else is asked for or taken at random."""
 
     def __init__(self, replies, blocks, names, seed):
         if len(replies) > len(blocks):
@@ -68,7 +68,8 @@ class Replies:
         for word in text.replace(",", " ").split():
             literal = self.names.literal(word)
             if abs(literal) not in variables:
-                raise unusable(f"'{word}' is not a literal of {described(block)}, which has the variables {self.names.listed(block.variables)}")
+                known = self.names.listed(block.variables)
+                raise unusable(f"'{word}' is not a literal of {described(block)}, which has the variables {known}")
             if values.setdefault(abs(literal), literal) != literal:
                 raise unusable(f"the reply for {described(block)} has {self.names.shown([abs(literal)])} with both values")
         return values
@@ -90,7 +91,8 @@ class Replies:
     def asked(self, block, values):
         """The values after the user was asked for those that are missing, None if the user ends the play."""
         while missing := [variable for variable in block.variables if variable not in values]:
-            print(f"{described(block)}: {self.names.listed(missing)} (with - what is false; an empty line ends): ", end="", file=sys.stderr, flush=True)
+            question = f"{described(block)}: {self.names.listed(missing)} (with - what is false; an empty line ends): "
+            print(question, end="", file=sys.stderr, flush=True)
             line = sys.stdin.readline()
             if not line.strip():
                 return None

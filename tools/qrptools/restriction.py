@@ -203,24 +203,16 @@ def needed(first, second, goal, left):
 class Restriction:
     """What is left of the steps of a proof after values are put in.
 
-    A step of which a literal is deciding for the values is gone. Of each other one it is found which of its literals can still be derived, and how.
-    Where both antecedents are left as a whole nothing changes.
+    Of each step that is not gone it is found which of its literals can still be derived, and from which antecedents. Nothing changes if both
+    antecedents are left as a whole.
     """
 
     def __init__(self, steps, cut):
         self.steps, self.left = steps, steps.cut(cut)
         self.lines = steps.lines
-        self.goal = self.first_empty()
+        self.goal = bytes(map(contains, self.lines, repeat(b" "))).find(0)  # the first without literals; one that is gone has some
         self.left.append(WHOLE)  # of an antecedent that is none
         self.rest, self.stand = {}, {}  # lines of which less is left, and the places of steps that are as another one
-
-    def first_empty(self):
-        """The place of the first step that is left and has no literal."""
-        have_literals = bytes(map(contains, self.lines, repeat(b" ")))
-        place = have_literals.find(0)
-        while self.left[place] == GONE:
-            place = have_literals.find(0, place + 1)
-        return place
 
     def follow(self):
         """Goes through the steps in file order up to the first one of which no literal is left; it and those that it needs are marked."""
