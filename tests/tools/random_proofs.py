@@ -24,9 +24,9 @@ def random_formula(draw):
     pairs = [(draw.choice("ae"), variable) for variable in variables]
     if draw.random() < 0.5:
         pairs.sort(key=lambda pair: pair[1] // 4)  # longer blocks
-    clauses = []
-    for _ in range(draw.randint(0, 9)):
-        length = draw.randint(1, 4) if draw.random() < 0.95 else 0
+    clauses, is_dense = [], draw.random() < 0.5  # many long clauses make longer proofs
+    for _ in range(draw.randint(12, 40) if is_dense else draw.randint(0, 9)):
+        length = draw.randint(3, 4) if is_dense else draw.randint(1, 4) if draw.random() < 0.95 else 0
         clauses.append([draw.choice((1, -1)) * variable for variable in draw.choices(variables, k=length)] if variables else [])
     return pairs, clauses
 
