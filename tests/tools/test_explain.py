@@ -372,7 +372,7 @@ MISTAKES = [
     ("a byte order mark", b"\xef\xbb\xbf" + GOOD, TRACE, ["It begins with a byte order mark", "take out the first three bytes"], GIVE),
     ("exchanged", TRACE, GOOD, ["Were the two files exchanged?", "give the formula first, and then the trace"], GIVE),
     ("long-distance resolution", LONG, LONG_STEPS % b"3 2 -2 0 1 2 0", ["It does not follow: S1", "(`--long-dist-res`)"], []),
-    ("a literal too many in a reduct", LONG, LONG_STEPS % b"3 1 2 3 0 1 0", ["It does not follow: S6", "weakening is no rule here"], []),
+    ("a literal too many in a reduct", LONG, LONG_STEPS % b"3 1 2 3 0 1 0", ["It does not follow: S6", "weakening is not a rule here"], []),
     ("a pivot that stays", GOOD, b"p qrp 1 4\n1 1 0 0\n2 -1 0 0\n3 1 0 1 2 0\n4 0 3 2 0\nr unsat\n", ["It does not follow: S11", "the resolvent does not hold the pivot"], []),
     ("nothing is refused", GOOD, TRACE, ["is false", "`qrp_cmd trim`", "/proof-stats`", "/used-clauses`", "/play`"], ["nothing to explain"]),
 ]

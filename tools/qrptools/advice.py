@@ -96,7 +96,7 @@ ROWS = [
         "already reduced: write the full cube, and the reduced one as a step with the full one as antecedent, as DepQBF does",
     ),
     ("S5", "side", "the step is a clause of the formula", "the trace says `sat` over clauses: its result is wrong"),
-    ("S6", "more", "a literal too many", "weakening is no rule here: leave the literal out"),
+    ("S6", "more", "a literal too many", "weakening is not a rule here: leave the literal out"),
     ("S6", "sign", "a literal whose negation is in the antecedent", "a sign was flipped, here or there, so the trace is damaged: have the solver write it again"),
     ("S7", "scheme", "a reducible quantifier, too far out", "the prefix is another one, or a dependency scheme was used: `--dep-man=simple`"),
     (
@@ -119,7 +119,7 @@ ROWS = [
         "the pivot has the other quantifier",
         "use `--qu`, which allows a pivot of either quantifier (QU-resolution and its dual)",
     ),
-    ("S11", "more", "a literal too many", "weakening is no rule here: leave the literal out"),
+    ("S11", "more", "a literal too many", "weakening is not a rule here: leave the literal out"),
     ("S11", "sign", "a literal whose negation is in the resolvent", "a sign was flipped, here or in an antecedent, so the trace is damaged: have the solver write it again"),
     ("S11", "pivot", "a literal of the pivot", "leave the literal out: the resolvent does not hold the pivot"),
     ("S12", "scheme", "a reducible quantifier, too far out", "the prefix is another one, or a dependency scheme was used: `--dep-man=simple`"),

@@ -1,4 +1,4 @@
--- One mask marks the first byte of a word that is no digit.
+-- One mask marks the first byte of a word that is not a digit.
 use Rattle.std.proofs.Common.{rules, ℕ, zero, suc, ◌≡◌, ◌+◌, ◌*◌, ◌/◌, ◌%◌, ◌^◌, ◌<◌, ◌≤◌, min, Bool, true, cond, ltb, eqb, List, [], ◌∷◌}
 use Rattle.std.proofs.Common.{length, arith, bit_and, bit_or, refl, sym, ap, ◌∙◌, inl, inr, eqb-true, lt-ltb, le-ltb}
 use Rattle.std.proofs.lemmas.Grind.{common_steps}

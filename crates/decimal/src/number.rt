@@ -82,7 +82,8 @@ fn without_sign(bytes: &[u8], from: usize) -> Option<u64>
 }
 
 /// The number that is written before a place among the first eight bytes, from the first of them on
-/// or after a minus there. `None` if one of the bytes is no decimal digit, or not all eight are there.
+/// or after a minus there. `None` if one of the bytes is not a decimal digit, or not all eight are
+/// there.
 ///
 /// It looks at no byte after these, so that the next place does not wait for what stands here.
 #[inline(always)]

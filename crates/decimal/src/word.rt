@@ -15,9 +15,9 @@ const FIRST_OF_FOUR: u64 = 0x000000FF000000FF;
 
 /// How many of the word's eight bytes, from the lowest on, are decimal digits.
 ///
-/// A byte that is no digit gets its highest bit marked: its digit, or what `^` makes of it, is 10
-/// or more, so that adding 118 reaches 128, or has that bit already. A carry goes only beyond such
-/// a byte.
+/// The highest bit of a byte that is not a digit gets marked: its digit, or what `^` makes of it, is
+/// 10 or more, so that adding 118 reaches 128, or has that bit already. A carry goes only beyond
+/// such a byte.
 #[inline(always)]
 fn digit_run(word: u64) -> u32
     ensures { result ≡ prefix_len is_ascii_digit (to_le_bytes w64 word) }
@@ -49,7 +49,7 @@ fn are_digits(word: u64) -> bool
 }
 
 /// The decimal number of `len` digits that the word's bytes begin with, from the lowest on, or
-/// `None` if one of them is no digit.
+/// `None` if one of them is not a digit.
 #[inline(always)]
 pub fn number_of_len(word: u64, len: u32) -> Option<u64>
     requires { (0 < len) × (len ≤ 8) }

@@ -4,7 +4,7 @@ use Rattle.qbf_text.proofs.Words.{eqb-true, common_steps, Comments, Number, kind
 use Rattle.qbf_text.proofs.Words.{tokens_left, BeginsWithNumber}
 use Rattle.qbf_text.proofs.ByteByByte.{left_run, left_line_end, left_blank, or_cases, IsToken, tokens_left-counted}
 
--- what begins as a number does is no comment
+-- what begins as a number does is not a comment
 number_token : (f : Comments) (begun : Bool) (run : List ℕ) → begins_number run ≡ true → IsToken f begun run
 number_token f begun run h = search rules
 

@@ -155,7 +155,7 @@ fn take_at(here: At, parts: &mut Parts, token: Token) -> Next
 type Reached = (At, Result<Cursor, AllocError>);
 
 /// Takes the usual numbers of a clause from the bytes at hand, and the number after them, which is
-/// mostly the zero that closes the clause, as far as they stand there whole and are no fault.
+/// mostly the zero that closes the clause, as far as they stand there whole and are not a fault.
 ///
 /// # Errors
 /// Out of memory.
@@ -187,7 +187,7 @@ fn take_clause(parts: &mut Parts, bytes: &[u8], from: Cursor) -> Reached
     }
 }
 
-/// Takes numbers from the bytes at hand, as far as they stand there whole and are no fault.
+/// Takes numbers from the bytes at hand, as far as they stand there whole and are not a fault.
 ///
 /// # Errors
 /// Out of memory.

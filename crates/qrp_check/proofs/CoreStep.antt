@@ -179,7 +179,7 @@ pub ok_all : {E : Type 0} (r : Result Bool E) (p q s : Type 0) → IfOk r (λ t.
 ok_all (Ok t) p q s a b c = λ h. (a h, (b h, c h))
 ok_all (Err e) p q s a b c = tt
 
--- the number of an antecedent that is no earlier step
+-- the number of an antecedent that is not an earlier step
 pub not_earlier : (before : List Inference) (ants numbers : List ℕ) (n : ℕ) → ants ≡ numbers → n ∈ numbers → (IsNumberOf before n → ⊥)
     → ((m : ℕ) → m ∈ ants → IsNumberOf before m) → ⊥
 not_earlier before ants numbers n e h not all = not (all n (subst (λ (ns : List ℕ). n ∈ ns) (sym e) h))

@@ -47,7 +47,7 @@ abbrev pub written_conditions : Rules → Side → Qbf → Premises → List Lit
 written_conditions rules side f premises lits =
     (S1, IsClean lits) ∷ (S2, AreBound f.blocks lits) ∷ premise_conditions rules side f premises lits
 
--- the conditions of a step, where no antecedents are found if one is no earlier step
+-- the conditions of a step, where no antecedents are found if one is not an earlier step
 abbrev pub found_conditions : Rules → Side → Qbf → Option Premises → List Literal → List (Condition RuleFault)
 found_conditions rules side f None lits = (S1, IsClean lits) ∷ (S2, AreBound f.blocks lits) ∷ (S3, ⊥) ∷ []
 found_conditions rules side f (Some premises) lits = written_conditions rules side f premises lits

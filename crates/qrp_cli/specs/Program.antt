@@ -62,7 +62,7 @@ abbrev pub word_at : List (List ℕ) → Option ℕ → Option (List ℕ)
 word_at words None = None
 word_at words (Some i) = Some (word words i)
 
--- The report of the program: USAGE where the words are no row of the usage, or the report on the files that they name.
+-- The report of the program: USAGE where the words are not a row of the usage, or the report on the files that they name.
 abbrev pub IsProgram : {F : Type 0} → source.Ghosts F → Opens → List (List ℕ) → Report → Type 0
 IsProgram files opens words r =
     (((q : Request) → IsRow words q → ⊥) × (r ≡ start_report Errors start.Usage))

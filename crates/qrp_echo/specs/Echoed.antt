@@ -9,7 +9,7 @@ use Rattle.qrp.specs.Returns.{Gives, reads_bytes}
 use Rattle.qrp.specs.Derivations.{Derivation}
 use Rattle.qrp.specs.Reading.{Fault}
 
--- 1: the bytes are no trace; 3: the source failed; 4: an allocation failed
+-- 1: the bytes are not a trace; 3: the source failed; 4: an allocation failed
 abbrev pub status_of : TraceFault → ℕ
 status_of P1 = 3
 status_of P9 = 4

@@ -1,6 +1,6 @@
 //! The program `qrp_echo` reads a trace from its input and writes its canonical text. It is for
 //! tests alone: a trace that is written and read again is to be the same.  Status 0: done; 1: the
-//! bytes are no trace, and nothing was written; 3: a device failed; 4: an allocation failed.
+//! bytes are not a trace, and nothing was written; 3: a device failed; 4: an allocation failed.
 //!
 //! - Owns: a second program, for tests alone: traces read and written again.
 //! - Proved: `echo` writes exactly the canonical text of the trace that its bytes spell, and

@@ -229,7 +229,7 @@ impl InitialClauses {
         Ok(found)
     }
 
-    /// Why the set is no initial clause, or `None` where it is one.
+    /// Why the set is not an initial clause, or `None` where it is one.
     pub(crate) fn fault(&mut self, alloc: Global, formula: &Formula, set: &[Lit]) -> Judgement
         requires indexed { IsIndexed formula.now self.old }
         requires ordered { IsOrdered set.now }

@@ -30,7 +30,7 @@ pub(crate) fn has_reduct(alloc: Global, prefix: &Prefix, clause: &[Lit], set: &[
     ensures { IfOk result
         (λ t. IsTrue t ↔ (IsClean clause.now × IsReduct Clauses prefix.now clause.now set.now)) }
 {
-    // Most clauses miss the first literal already, and are no set yet.
+    // Most clauses miss the first literal already, and are not a set yet.
     if let Some(lit) = set.first() {
         if !is_among(clause, *lit) {
             return Ok(false);
@@ -88,7 +88,7 @@ pub(crate) fn is_tautology(alloc: Global, prefix: &Prefix, clause: &[Lit]) -> bo
     }
 }
 
-/// Why the set is no initial cube. It is never out of memory.
+/// Why the set is not an initial cube. It is never out of memory.
 pub(crate) fn initial_cube_fault(alloc: Global, formula: &Formula, set: &[Lit]) -> Option<RuleFault>
     requires { IsOrdered set.now }
     ensures { IsJudgement (initial_condition Cubes formula.now set.now ∷ []) result }

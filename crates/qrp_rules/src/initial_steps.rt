@@ -62,7 +62,7 @@ impl InitialSteps {
         }
     }
 
-    /// Why a set in order is no initial step, or `None` where it is one: `S4` for clauses, `S5` for
+    /// Why a set in order is not an initial step, or `None` if it is one: `S4` for clauses, `S5` for
     /// cubes, as `Side::initial_fault` says.
     ///
     /// # Errors

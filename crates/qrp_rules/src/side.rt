@@ -31,7 +31,7 @@ pub trait Side {
     /// not `REDUCED`.
     const DECIDING: Quantifier;
 
-    /// Why a set over the prefix of the formula is no initial step, or `None` where it is one.
+    /// Why a set over the prefix of the formula is not an initial step, or `None` where it is one.
     ///
     /// A clause is initial if it is a reduct of a clean clause of the formula, and its fault is
     /// `S4`. A cube is initial if each clause of the formula holds a variable with both signs or

@@ -88,7 +88,7 @@ pub(crate) fn is_subset_up_to(
     true
 }
 
-/// Why one ordered list is no reduct of the other, for the side that reduces this quantifier.
+/// Why one ordered list is not a reduct of the other, for the side that reduces this quantifier.
 pub(crate) fn ordered_reduct_fault_by(
     prefix: &Prefix,
     reduced: Quantifier,
