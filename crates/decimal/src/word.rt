@@ -15,8 +15,8 @@ const FIRST_OF_FOUR: u64 = 0x000000FF000000FF;
 
 /// How many of the word's eight bytes, from the lowest on, are decimal digits.
 ///
-/// The highest bit of a byte that is not a digit gets marked: its digit, or what `^` makes of it, is
-/// 10 or more, so that adding 118 reaches 128, or has that bit already. A carry goes only beyond
+/// The highest bit of a byte that is not a digit gets marked: its digit, or what `^` makes of it,
+/// is 10 or more, so that adding 118 reaches 128, or has that bit already. A carry goes only beyond
 /// such a byte.
 #[inline(always)]
 fn digit_run(word: u64) -> u32

@@ -206,8 +206,8 @@ fn literals(rt: &impl Abort, alloc: Global, numbers: &[i32]) -> Result<Vec<Lit>,
     Ok(lits)
 }
 
-/// Variables that are bound in turn, literals, and why they are not a set; else the set in order and
-/// literals that are not in it.
+/// Variables that are bound in turn, literals, and why they are not a set; else the set in order
+/// and literals that are not in it.
 type SetRow = (
     &'static [u32],
     &'static [i32],

@@ -10,7 +10,7 @@ use qbf_text::{Sink, Source};
 use qrp::{Trace, TraceFault, read_trace, write_trace};
 use std::alloc::Global;
 
-/// The status of the program: 0 done, 1 not the bytes of a trace, 3 a device failed, 4 an allocation
+/// The status of the program: 0 done, 1 not a trace, 3 a device failed, 4 an allocation
 /// failed.
 pub type Status = u8;
 

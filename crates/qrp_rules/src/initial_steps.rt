@@ -62,8 +62,8 @@ impl InitialSteps {
         }
     }
 
-    /// Why a set in order is not an initial step, or `None` if it is one: `S4` for clauses, `S5` for
-    /// cubes, as `Side::initial_fault` says.
+    /// Why a set in order is not an initial step, or `None` if it is one: `S4` for clauses, `S5`
+    /// for cubes, as `Side::initial_fault` says.
     ///
     /// # Errors
     /// If an allocation fails.
