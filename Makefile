@@ -159,7 +159,7 @@ uninstall:
 test-install:
 	tests/packaging/test-install
 
-# what is missing for it is named: gate/install-tools installs it
+# what is missing for it is named: tests/install-tools installs it
 test-many:
 	tests/tools/test-many $(PROGRAM)
 
