@@ -4,7 +4,15 @@ A test calls `expect` for each case, and `skip` for a case that this machine has
 prints 'N passed, M failed' and gives the status: 1 if a case failed, and also if there was none.
 """
 
+import signal
+
 passed = failed = skipped = 0
+
+# A command that a shell starts in the background ignores an interrupt, and so would each command that a test starts. The tests want what
+# a user has: each signal ends the command.
+for number, handler in ((signal.SIGINT, signal.default_int_handler), (signal.SIGTERM, signal.SIG_DFL), (signal.SIGHUP, signal.SIG_DFL)):
+    if signal.getsignal(number) == signal.SIG_IGN:
+        signal.signal(number, handler)
 
 
 def expect(name, holds, found=""):
