@@ -85,7 +85,7 @@ test: $(PROVED)
 	gate/describe-crates --check
 	$(MAKE) --no-print-directory check
 
-# What is built is tested, side by side: some two minutes. The static program is only linked. `make all lib` is enough to run this; what
+# What is built is tested, side by side: some four minutes. The static program is only linked. `make all lib` is enough to run this; what
 # needs more is named at the end.
 check:
 	@for built in $(PROGRAM) $(LIBRARY); do [ -e $$built ] || { echo "make check: there is no $$built: run 'make all lib' first"; exit 2; }; done
