@@ -23,7 +23,7 @@ ROOT = Path(__file__).resolve().parents[2]
 sys.path[:0] = [str(ROOT / "tests"), str(ROOT / "tools"), str(ROOT / "tests" / "tools")]
 sys.dont_write_bytecode = True
 from expect import expect, finish  # noqa: E402
-from qrptools import restriction  # noqa: E402
+from qrptools import cut, restriction, trimmed as reading  # noqa: E402
 from qrptools.command import Ends  # noqa: E402
 from qrptools.game import State  # noqa: E402
 from qrptools.program import trimmed  # noqa: E402
@@ -95,7 +95,8 @@ def require(holds, what):
 
 def played(formula, trace, any_pivot, seed, folder):
     """What the tool finds of a game with random replies, with the files of all states in a folder."""
-    restriction.SOME = 3 if seed % 2 else 1 << 12  # lines at a time
+    restriction.SOME, reading.BLOCK = (3, 40) if seed % 2 else (1 << 12, 1 << 18)  # small pieces and large ones
+    cut.FEW = 1 if seed == 2 else 12  # both ways to look for literals
     arguments = Namespace(json=True, reply=[], random=str(seed), write=os.path.join(folder, f"states{seed}"), qu=any_pivot)
     os.mkdir(arguments.write)
     path = trimmed(str(formula), str(trace), TOOL.flags_of(arguments), folder)

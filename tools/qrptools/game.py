@@ -13,7 +13,8 @@ from itertools import chain
 from qrptools.command import Ends, unusable, writing
 from qrptools.formula import EXISTS, FOR_ALL, Formula, is_clean
 from qrptools.program import run_program, why_not
-from qrptools.restriction import Cut, Steps, literals, texts
+from qrptools.restriction import Steps, antecedents
+from qrptools.cut import Cut, count_lines, literals, spelled
 from qrptools.step_rules import SIDES
 from qrptools.trimmed import result
 from qrptools.words import read
@@ -51,8 +52,7 @@ class State:
         self.variables, self.blocks, self.any_pivot = formula.variables, blocks_of(formula), any_pivot
         self.result = result(trimmed)
         self.side = SIDES[self.result]
-        texts_of_clauses = chain.from_iterable(some for _, _, some in formula.pieces())
-        self.clauses = [b"\n " + text if text else b"\n" for text in texts_of_clauses]
+        self.clauses = [b"\n" + b"".join(map(line_of, some)) for _, _, some in formula.pieces()]  # texts as cut.py has them
         self.steps = Steps(trimmed)
 
     def is_winners(self, block):
@@ -72,31 +72,30 @@ class State:
     def binding_literals(self):
         """The literals of the first step that can be reduced to nothing. By any pivot the proof may go on after it: this is left out."""
         deciding, steps = self.deciding_literals(), self.steps
-        place = steps.end(deciding, self.any_pivot)
-        found = steps.literals_before(place)
-        if self.result == "unsat" and steps.is_initial(place):
+        line = steps.end(deciding, self.any_pivot)
+        found = steps.literals_before(line)
+        if self.result == "unsat" and not antecedents(line):
             found = self.clause_with(found, deciding)
         if self.any_pivot:
-            steps.end_with(place)
+            steps.end_with(line)
         return found
 
     def deciding_literals(self):
         variables = [variable for block in self.blocks if not self.is_winners(block) for variable in block.variables]
-        return texts(variables) | texts(-variable for variable in variables)
+        return spelled(variables) | spelled(-variable for variable in variables)
 
     def clause_with(self, found, deciding):
         """The literals of the clause that an initial step with these comes from. None of them is of the deciding quantifier."""
-        rows = map(set, map(literals, self.clauses))
+        rows = map(set, map(literals, chain.from_iterable(text.split(b"\n")[1:-1] for text in self.clauses)))
         return next(row for row in rows if row >= found and row.isdisjoint(deciding) and is_clean(set(map(int, row))))
 
     def put_in(self, values):
         """Puts values of the outermost block in, as literals: by the proof if it is the winner's."""
         false = [-literal for literal in values]
-        lines, stay = Cut(false, values).lines(self.clauses)
-        self.clauses = [line for line, stays in zip(lines, stay) if stays]
+        self.clauses = list(map(Cut(false, values).clauses, self.clauses))
         out, gone = (values, false) if self.result == "sat" else (false, values)
         if self.is_winners(self.blocks[0]) and not self.any_pivot:
-            self.steps.cut(Cut(out))  # no step is gone
+            self.steps.leave_out(Cut(out))
         else:
             self.steps.take_out(Cut(out, gone))
         del self.blocks[0]
@@ -106,14 +105,19 @@ class State:
 
     def formula_text(self):
         """The formula, some bytes at a time."""
-        yield b"p cnf %d %d\n%b" % (self.variables, len(self.clauses), self.sets())
-        yield from (line[2:] + b" 0\n" if len(line) > 1 else b"0\n" for line in self.clauses)
+        yield b"p cnf %d %d\n%b" % (self.variables, count_lines(self.clauses), self.sets())
+        yield from (text.replace(b"\n ", b"\n")[1:] for text in self.clauses)
 
     def trace_text(self):
         """The trace, some bytes at a time."""
-        yield b"p qrp %d %d\n%b" % (self.variables, len(self.steps.lines), self.sets())
-        yield from self.steps.text()
+        yield b"p qrp %d %d\n%b" % (self.variables, count_lines(self.steps.texts), self.sets())
+        yield from (text[1:] for text in self.steps.texts)
         yield b"r %b\n" % self.result.encode()
+
+
+def line_of(text):
+    """The line of a clause, of the text of its literals."""
+    return b" %b 0\n" % text if text else b" 0\n"
 
 
 class Checker:
