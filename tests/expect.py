@@ -1,7 +1,8 @@
 """Counts the cases of a test and names those that fail.
 
-A test calls `expect` for each case, and `skip` for a case that this machine has no tool for. It ends with `sys.exit(finish())`, which
-prints 'N passed, M failed' and gives the status: 1 if a case failed, and also if there was none.
+A test calls `expect` for each case, and `skip` for cases that this machine has no tool for. It ends with `sys.exit(finish(LEAST))`, which
+prints 'N passed, M failed' and gives the status: 1 if a case failed, and also if nothing was skipped and fewer than LEAST passed. That number
+goes up with each case.
 """
 
 import signal
@@ -33,7 +34,11 @@ def skip(name, why):
     print(f"skipped: {name}: {why}", flush=True)
 
 
-def finish():
+def finish(least):
     """Prints how many cases passed, failed and were skipped; the status of the test."""
+    global failed
+    if not skipped and not failed and passed < least:
+        failed += 1
+        print(f"FAILED: only {passed} passed, where there were {least}")
     print(f"{passed} passed, {failed} failed" + (f", {skipped} skipped" if skipped else ""))
-    return 1 if failed or not passed + skipped else 0
+    return 1 if failed else 0

@@ -217,7 +217,7 @@ def main():
     for name in FALSE + TRUE:
         try_stats(program, *pair(name))
     try_refusals(program)
-    return finish()
+    return finish(781)
 
 
 if __name__ == "__main__":

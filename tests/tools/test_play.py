@@ -446,7 +446,7 @@ def main():
         try_damages(pool)
     for part in try_text, try_replies, try_small, try_any_pivot, try_files, try_terminal, try_own_fault, try_signals:
         part()
-    return finish()
+    return finish(1358)
 
 
 if __name__ == "__main__":

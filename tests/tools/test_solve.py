@@ -231,7 +231,7 @@ def main():
     for part in try_answers, try_moves, try_files, try_full_folder, try_words, try_signals, try_depqbf, try_benchexec:
         with tempfile.TemporaryDirectory() as folder:
             part(Use(folder, os.path.abspath(sys.argv[1])))
-    return finish()
+    return finish(112)
 
 
 if __name__ == "__main__":

@@ -329,7 +329,7 @@ def main():
     try_drawings(program)
     try_blanks(program)
     try_words(program)
-    return finish()
+    return finish(3795)
 
 
 if __name__ == "__main__":

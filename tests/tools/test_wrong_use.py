@@ -331,7 +331,7 @@ def main():
         for trial in trials:
             with tempfile.TemporaryDirectory() as folder:
                 trial(Trial(tool, program, folder))
-    return finish()
+    return finish(899)
 
 
 if __name__ == "__main__":
