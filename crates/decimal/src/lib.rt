@@ -10,9 +10,12 @@
 //! - On the map: digits of numbers.
 #![tactic(auto)]
 
+mod four;
+mod lanes;
 mod number;
 mod word;
 mod writing;
 
+pub use four::{FourNumbers, four_numbers};
 pub use number::{digits, number_between};
 pub use writing::put_digits;
