@@ -1,5 +1,5 @@
 -- Words of eight bytes in the lanes of vectors.
-use Rattle.std.specs.Prelude.{ℕ, ◌≡◌, ◌<◌, ◌≤◌, ◌+◌, ◌-◌, ◌==◌, if◌then◌else◌, List, ◌++◌, replicate, drop, slice_index, ℤ, pos, neg_ℤ}
+use Rattle.std.specs.Prelude.{ℕ, ◌≡◌, ◌<◌, ◌≤◌, ◌+◌, ◌-◌, nat_lt, if◌then◌else◌, List, ◌++◌, replicate, drop, slice_index, ℤ, pos, neg_ℤ}
 use Rattle.std.specs.Str.Parse.{digits_value, AllDigits}
 
 -- the mask of the last n bytes of eight
@@ -13,11 +13,11 @@ pub record IsPlace (len from end : ℕ) : Type 0 where
   pub room : 8 ≤ end
   pub within : end < len
 
--- digits of this value and no sign, or a minus, whose sign is not zero, and digits of this value
+-- digits of this value and no sign, or a minus and digits of this value, with all bits of the sign set
 pub record Writes (text : List ℕ) (value sign : ℕ) : Type 0 where
   pub plain : (slice_index text 0 ≡ 45 → ⊥) → AllDigits 10 text × (value ≡ digits_value 10 text) × (sign ≡ 0)
   pub minus : slice_index text 0 ≡ 45 → AllDigits 10 (drop 1 text) × (value ≡ digits_value 10 (drop 1 text)) × (sign ≡ 4294967295)
 
--- a value with its sign, which is zero or not
+-- a value, negative if the highest bit of its sign is set
 abbrev pub with_sign : ℕ → ℕ → ℤ
-with_sign value sign = if sign == 0 then pos value else neg_ℤ (pos value)
+with_sign value sign = if nat_lt 2147483647 sign then neg_ℤ (pos value) else pos value

@@ -70,14 +70,14 @@ pub fn all_below_ten(a: u8x16, b: u8x16, c: u8x16) -> bool
         == 0
 }
 
-/// The values with their signs, where a sign is zero or not.
+/// The values, negative if the highest bit of the sign is set.
 #[inline(always)]
 pub fn signed(values: u32x4, signs: u32x4) -> i32x4
     requires { Each1 (λ v. v < 2 ^ 31) values }
     ensures { result ≡ zip2 with_sign values signs }
 {
     let plain = values.cast::<i32>();
-    signs
-        .simd_eq(u32x4::splat(0))
-        .select(plain, i32x4::splat(0) - plain)
+    u32x4::splat(0x7FFF_FFFF)
+        .simd_lt(signs)
+        .select(i32x4::splat(0) - plain, plain)
 }
