@@ -98,3 +98,6 @@ pub fn four_numbers(bytes: &[u8], from: usize, ends: [usize; 4]) -> Option<FourN
         zeros: zeros.to_bitmask(),
     })
 }
+
+#[cfg(test)]
+mod tests;
