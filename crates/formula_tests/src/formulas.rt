@@ -98,15 +98,15 @@ fn assert_bound(rt: &impl Abort, prefix: &Prefix) {
     assert!(rt; prefix.quantifier(variable(rt, 7)) == Some(Quantifier::Exists));
     assert!(rt; prefix.block(variable(rt, 1)) == Some(1));
     assert!(rt; prefix.is_bound(two));
-    assert!(rt; prefix.block_bound_by(Quantifier::All, two) == Some(1));
-    assert!(rt; prefix.block_bound_by(Quantifier::Exists, two).is_none());
+    assert!(rt; prefix.reach(Quantifier::All, two) == 2);
+    assert!(rt; prefix.reach(Quantifier::Exists, two) == 0);
 }
 
 /// What is known of a variable that is not bound.
 fn assert_unbound(rt: &impl Abort, prefix: &Prefix, unbound: Var) {
     assert!(rt; prefix.quantifier(unbound).is_none());
     assert!(rt; prefix.block(unbound).is_none());
-    assert!(rt; prefix.block_bound_by(Quantifier::All, unbound).is_none());
+    assert!(rt; prefix.reach(Quantifier::All, unbound) == 0);
     assert!(rt; !prefix.is_bound(unbound));
 }
 
