@@ -5,8 +5,7 @@ ghost use Rattle.qbf_core.specs.Blocks.{AreBound, pairs};
 ghost use Rattle.qbf_core.specs.declared.quantifier.Quantifier.TheVariants.{All};
 
 use qbf_core::{
-    Formula, GrowingLists, Lists, Lit, LitSet, Prefix, PrefixFault, Quantifier, SetFault, Var,
-    is_member,
+    Formula, GrowingLists, Lit, LitSet, Prefix, PrefixFault, Quantifier, SetFault, Var, is_member,
 };
 use std::alloc::Global;
 use std::process::Abort;
@@ -99,15 +98,15 @@ fn assert_bound(rt: &impl Abort, prefix: &Prefix) {
     assert!(rt; prefix.quantifier(variable(rt, 7)) == Some(Quantifier::Exists));
     assert!(rt; prefix.block(variable(rt, 1)) == Some(1));
     assert!(rt; prefix.is_bound(two));
-    assert!(rt; prefix.block_bound_by(Quantifier::All, two) == Some(1));
-    assert!(rt; prefix.block_bound_by(Quantifier::Exists, two).is_none());
+    assert!(rt; prefix.reach(Quantifier::All, two) == 2);
+    assert!(rt; prefix.reach(Quantifier::Exists, two) == 0);
 }
 
 /// What is known of a variable that is not bound.
 fn assert_unbound(rt: &impl Abort, prefix: &Prefix, unbound: Var) {
     assert!(rt; prefix.quantifier(unbound).is_none());
     assert!(rt; prefix.block(unbound).is_none());
-    assert!(rt; prefix.block_bound_by(Quantifier::All, unbound).is_none());
+    assert!(rt; prefix.reach(Quantifier::All, unbound) == 0);
     assert!(rt; !prefix.is_bound(unbound));
 }
 
@@ -162,14 +161,14 @@ fn one_variable(alloc: Global, quantifier: Quantifier, var: Var) -> Result<Prefi
 }
 
 /// The list of one literal. Its negation is in a list that is only begun.
-fn one_whole_list(alloc: Global, lit: Lit) -> Result<Lists<Lit>, Fail>
-    ensures { IfOk result (λ lists. lists ≡ (lit ∷ []) ∷ []) }
+fn one_whole_list(alloc: Global, lit: Lit) -> Result<GrowingLists<Lit>, Fail>
+    ensures { IfOk result (λ lists. lists.whole ≡ (lit ∷ []) ∷ []) }
 {
     let mut clauses = GrowingLists::new(alloc);
     clauses.push(lit)?;
     clauses.close()?;
     clauses.push(lit.negated())?;
-    Ok(clauses.into_lists())
+    Ok(clauses)
 }
 
 /// The formula of one existential variable and the clause of this literal.
@@ -278,44 +277,6 @@ fn sets(rt: HostRuntime) -> Result<(), Fail> {
     Ok(())
 }
 
-/// The lists of 7 and 9, of nothing, and of 4.
-fn assert_three_lists(rt: &impl Abort, lists: &Lists<u64>) {
-    assert_eq!(rt; lists.len(), 3);
-    assert!(rt; lists.get(0) == [7, 9].as_slice());
-    assert!(rt; lists.get(1).is_empty());
-    assert!(rt; lists.get(2) == [4].as_slice());
-}
-
-/// The lists of 7 and 9, and of 5.
-fn assert_two_lists(rt: &impl Abort, lists: &Lists<u64>) {
-    assert_eq!(rt; lists.len(), 2);
-    assert!(rt; lists.get(0) == [7, 9].as_slice());
-    assert!(rt; lists.get(1) == [5].as_slice());
-}
-
-/// These lists, after none was taken away.
-fn three_lists(rt: &impl Abort, alloc: Global) -> Result<Lists<u64>, Fail> {
-    let mut lists = Lists::new(alloc);
-    lists.pop();
-    assert_eq!(rt; lists.len(), 0);
-    lists.push(&[7u64, 9])?;
-    lists.push(&[])?;
-    lists.push(&[4])?;
-    Ok(lists)
-}
-
-#[test]
-fn lists(rt: HostRuntime) -> Result<(), Fail> {
-    let mut lists = three_lists(&rt, rt.alloc())?;
-    assert_three_lists(&rt, &lists);
-    lists.pop();
-    lists.pop();
-    assert_eq!(rt; lists.len(), 1);
-    lists.push(&[5])?;
-    assert_two_lists(&rt, &lists);
-    Ok(())
-}
-
 /// Adds the lists of 7 and 9, and of nothing.
 fn grow_two(rt: &impl Abort, growing: &mut GrowingLists<u64>) -> Result<(), Fail> {
     growing.push(7u64)?;
@@ -346,23 +307,20 @@ fn lists_that_grow(rt: &impl Abort, alloc: Global) -> Result<GrowingLists<u64>, 
 }
 
 #[test]
-fn growing_lists(rt: HostRuntime) -> Result<(), Fail> {
-    let growing = lists_that_grow(&rt, rt.alloc())?;
-    assert_eq!(rt; growing.unfinished_len(), 1);
-    assert_eq!(rt; growing.whole_len(), 3);
-    assert_three_lists(&rt, &growing.into_lists());
-    Ok(())
-}
-
-#[test]
 fn whole_lists(rt: HostRuntime) -> Result<(), Fail> {
     let mut growing = lists_that_grow(&rt, rt.alloc())?;
     assert_eq!(rt; growing.whole_len(), 3);
+    assert!(rt; growing.unfinished() == [5].as_slice());
     assert!(rt; growing.get(0) == [7, 9].as_slice());
+    assert!(rt; growing.get(1).is_empty());
     assert!(rt; growing.get(2) == [4].as_slice());
     growing.pop();
-    assert_eq!(rt; growing.whole_len(), 2);
+    growing.pop();
+    assert_eq!(rt; growing.whole_len(), 1);
     assert!(rt; growing.unfinished().is_empty());
+    growing.pop();
+    growing.pop();
+    assert_eq!(rt; growing.whole_len(), 0);
     Ok(())
 }
 

@@ -1,9 +1,8 @@
 -- Lists in one buffer.
-use Rattle.qbf_core.proofs.Words.{rules, common_steps, ◌≡◌, ◌≤◌, ◌<◌, ◌-◌, ℕ, zero, suc, List, [], ◌∷◌, ◌++◌, length, take, drop, slice_get}
+use Rattle.qbf_core.proofs.Words.{common_steps, ◌≡◌, ◌≤◌, ◌<◌, ◌-◌, ℕ, zero, suc, List, [], ◌∷◌, ◌++◌, length, take, drop, slice_get}
 use Rattle.qbf_core.proofs.Words.{Option, Some, refl, sym, ap, ◌∙◌, arith, take-append-drop}
 use Rattle.std.proofs.lemmas.List.{drop_all, drop-append-le, length-take-le}
 use Rattle.std.proofs.Common.{slice_range}
-use Rattle.std.proofs.Math.Seq.{drop-append_seam}
 use Rattle.std.specs.Option.{unwrap_or}
 use Rattle.qbf_core.specs.Lists.{parts, Reaches, start_of, end_of}
 
@@ -28,23 +27,6 @@ pub closed_parts : {X : Type 0} (xs : List X) (from : ℕ) (es : List ℕ) (n : 
     → parts xs from (es ++ length xs ∷ []) ≡ parts xs from es ++ drop n xs ∷ []
 closed_parts xs from [] n r = grind (arith, common_steps)
 closed_parts xs from (e ∷ es) n r = ap (λ (cs : List (List _)). slice_range xs from e ∷ cs) (closed_parts xs e es n r.1)
-
-more_parts : {X : Type 0} (lits more : List X) (from : ℕ) (es : List ℕ) → Reaches from es (length lits)
-    → parts (lits ++ more) from (es ++ length (lits ++ more) ∷ []) ≡ parts lits from es ++ more ∷ []
-more_parts lits more from es r =
-    let old = grown_parts lits more from es (length lits) r (omega arith) in
-    let new : drop (length lits) (lits ++ more) ≡ more = drop-append_seam lits more in
-    closed_parts (lits ++ more) from es (length lits) r ∙ (λ i. old i ++ new i ∷ [])
-
-pub parts_pushed : {X : Type 0} (lits lits' more : List X) (es es' : List ℕ) (n : ℕ) → lits' ≡ lits ++ more → n ≡ length lits'
-    → es' ≡ es ++ n ∷ []
-    → Reaches 0 es (length lits) → parts lits' 0 es' ≡ parts lits 0 es ++ more ∷ []
-parts_pushed lits lits' more es es' n a p e r = rw (e, p, a) (more_parts lits more 0 es r)
-
-pub parts_reach : {X : Type 0} (lits lits' more : List X) (es es' : List ℕ) (n : ℕ) → lits' ≡ lits ++ more → n ≡ length lits'
-    → es' ≡ es ++ n ∷ []
-    → Reaches 0 es (length lits) → Reaches 0 es' (length lits')
-parts_reach lits lits' more es es' n a p e r = grind (arith, common_steps, reach_more)
 
 -- ---- the part at a place
 
@@ -99,14 +81,6 @@ kept_parts xs m from es n r h le =
     sym (grown_parts (take m xs) (drop m xs) from es n r (omega (arith, h, length-take-le m xs le)))
     ∙ ap (λ (ys : List _). parts ys from es) (take-append-drop m xs)
 
-pub parts_popped : {X : Type 0} (xs xs' : List X) (es es' : List ℕ) (n : ℕ) → xs' ≡ take (end_of 0 es') xs → es' ≡ take n es
-    → Reaches 0 es (length xs) → parts xs' 0 es' ≡ take n (parts xs 0 es)
-parts_popped xs xs' es es' n a e r = grind (arith, common_steps, kept_parts, reach_less, fewer_parts)
-
-pub popped_reach : {X : Type 0} (xs xs' : List X) (es es' : List ℕ) (n : ℕ) → xs' ≡ take (end_of 0 es') xs → es' ≡ take n es
-    → Reaches 0 es (length xs) → Reaches 0 es' (length xs')
-popped_reach xs xs' es es' n a e r = search (rules, length-take-le, end_within, reach_less)
-
 -- so many ends reach to the last of them, which is in the buffer
 pub fewer_reach : (es es' : List ℕ) (start m k end : ℕ) → es' ≡ take k es → end ≡ end_of 0 es' → Reaches 0 es start → start ≤ m
     → Reaches 0 es' end × (end ≤ m)
@@ -134,7 +108,5 @@ drop_kept xs n = grind (arith, common_steps)
 pub drop_grown : {X : Type 0} (xs more : List X) (n : ℕ) → n ≤ length xs → drop n (xs ++ more) ≡ drop n xs ++ more
 drop_grown xs more n h = drop-append-le n xs more h
 
--- what holds after the last list is taken away, and after one is whole
-pub ruleset popped = (parts_popped, popped_reach, same_count)
-
+-- what holds after a list is whole
 pub ruleset closed = (closed_parts, closed_reach, drop_all)

@@ -8,25 +8,6 @@ use crate::offsets::Offsets;
 use std::alloc::{AllocError, Global};
 use std::marker::Model;
 
-/// Lists, kept in two buffers whatever their number is. Contracts see the list of them.
-#[derive(Drop)]
-pub struct Lists<T> {
-    items: Vec<T>,
-    /// Where each list ends. It begins where the one before ends.
-    ends: Offsets,
-}
-
-impl<T> Model for Lists<T> {
-    ghost use Rattle.std.specs.Prelude.{List, length};
-    ghost use Rattle.qbf_core.specs.Lists.{parts, Reaches};
-
-    ghost Value = { List (List T) };
-
-    ghost view = { λ s. parts s.items.items 0 s.ends };
-
-    ghost invariant = { λ s. Reaches 0 s.ends (length s.items.items) };
-}
-
 /// Where the list at place `i` begins.
 #[inline(always)]
 fn start(ends: &Offsets, i: usize) -> usize
@@ -57,63 +38,6 @@ fn list_at<'a, T>(buffer: &'a [T], ends: &Offsets, i: usize) -> &'a [T]
     ensures { slice_get (parts buffer.now 0 ends.now) i ≡ Some result.now }
 {
     part(buffer, start(ends, i), ends.get(i))
-}
-
-impl<T: Copy + Drop> Lists<T> {
-    /// No lists. It takes no memory yet.
-    pub fn new(alloc: Global) -> Lists<T>
-        ensures { result ≡ [] }
-    {
-        Lists {
-            items: Vec::new(alloc),
-            ends: Offsets::new(alloc),
-        }
-    }
-
-    /// How many lists there are.
-    #[tactic(auto, using(crate::proofs::Flats::same_count))]
-    pub fn len(&self) -> usize
-        ensures { result ≡ length self.now }
-    {
-        self.ends.len()
-    }
-
-    /// The list at place `i`, counted from 0; `i` is below `len()`.
-    pub fn get(&self, i: usize) -> &[T]
-        requires { i < length self.now }
-        ensures { slice_get self.now i ≡ Some result.now }
-    {
-        list_at(&self.items, &self.ends, i)
-    }
-
-    /// Adds a list at the end.
-    ///
-    /// # Errors
-    /// Out of memory. Nothing is changed then.
-    #[tactic(auto, using(crate::proofs::Flats::parts_reach, crate::proofs::Flats::parts_pushed))]
-    pub fn push(&mut self, list: &[T]) -> Result<(), AllocError>
-        ensures pushed { OnOk result (self.new ≡ self.old ++ list.now ∷ []) }
-        ensures err { OnErr result (self.new ≡ self.old) }
-    {
-        let end = self.items.len();
-        self.items.extend_from_slice(list)?;
-        match self.ends.push(self.items.len()) {
-            Ok(()) => Ok(()),
-            Err(error) => {
-                self.items.truncate(end);
-                Err(error)
-            }
-        }
-    }
-
-    /// Takes the last list away, if there is one.
-    #[tactic(auto, using(crate::proofs::Flats::popped))]
-    pub fn pop(&mut self)
-        ensures { self.new ≡ take (length self.old - 1) self.old }
-    {
-        self.ends.pop();
-        self.items.truncate(self.ends.last());
-    }
 }
 
 /// Lists in one buffer, and after them one more that is unfinished. Contracts see both.
@@ -255,18 +179,5 @@ impl<T: Copy + Drop> GrowingLists<T> {
         let start = self.ends.last();
         self.start = start;
         self.begin();
-    }
-
-    /// The whole lists, where they lie. It takes no memory.
-    #[tactic(auto, using(crate::proofs::Flats::kept_parts))]
-    pub fn into_lists(self) -> Lists<T>
-        ensures { result ≡ self.whole }
-    {
-        let mut items = self.items;
-        items.truncate(self.start);
-        Lists {
-            items,
-            ends: self.ends,
-        }
     }
 }

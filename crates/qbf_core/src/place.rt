@@ -1,6 +1,7 @@
 //! Where a prefix has a variable, and the same in four bytes.
 
 ghost use Rattle.std.specs.Prelude.{◌≡◌, ◌<◌, IfSome};
+ghost use Rattle.qbf_core.specs.Places.{reach_of};
 ghost use Rattle.qbf_core.specs.declared.literal.TheConstants.{LAST_VARIABLE};
 
 use crate::quantifier::Quantifier;
@@ -66,5 +67,22 @@ impl Entry {
             quantifier,
             block: number / 2,
         })
+    }
+
+    /// One more than the number of the block, if the place has this quantifier, and else 0.
+    #[inline(always)]
+    pub fn reach(self, quantifier: Quantifier) -> u32
+        ensures { result ≡ reach_of quantifier self }
+    {
+        // The packed number is odd for `All`, and even for `Exists` and for none.
+        let odd = match quantifier {
+            Quantifier::All => 1,
+            Quantifier::Exists => 0,
+        };
+        if self.packed % 2 == odd {
+            self.packed / 2 + odd
+        } else {
+            0
+        }
     }
 }

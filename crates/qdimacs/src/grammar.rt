@@ -267,7 +267,7 @@ impl FormulaGrammar {
         match self.at {
             At::Whole => {
                 let parts = self.parts;
-                Formula::from_parts(parts.max_var, parts.prefix, parts.clauses.into_lists())
+                Formula::from_parts(parts.max_var, parts.prefix, parts.clauses)
             }
             _ => unreachable!(),
         }

@@ -1,8 +1,9 @@
 -- Reducible literals by one innermost block.
-use Rattle.qrp_rules.proofs.Words.{◌≡◌, ◌∙◌, ℕ, List, ◌++◌, ◌⊎◌, ◌↔◌, Option, Some, None, refl, sym, subst, inl, inr, rules, cases_eq}
+use Rattle.std.proofs.Common.{max, min}
+use Rattle.qrp_rules.proofs.Words.{arith, ◌≡◌, ◌∙◌, ◌<◌, ℕ, zero, suc, List, ◌++◌, ◌⊎◌, ◌↔◌, ◌≤◌, Option, Some, None, refl, sym, subst, inl, inr, rules, cases_eq}
 use Rattle.qrp_rules.proofs.Words.{Quantifier, Literal, ◌∈◌, Block, Binds, Side, Clauses, Cubes, reduced_quantifier, deciding_quantifier}
 use Rattle.qrp_rules.proofs.Words.{Clashes, IsReducible, resolvent, in_append, append_left, append_right, in_without, from_without}
-use Rattle.qrp_rules.proofs.Words.{IsReducibleInParents, Accounts, IsAfter, IsHeldBefore, IsInnermost, StandsAfter, TakesOut}
+use Rattle.qrp_rules.proofs.Words.{IsReducibleInParents, Accounts, IsHeldBefore, IsInnermost, StandsAfter, TakesOut}
 use Rattle.qbf_core.specs.Blocks.{block_in, pairs}
 use Rattle.qbf_core.proofs.Bound.{binds_in, in_bound, block_found}
 use Rattle.qbf_core.proofs.Members.{in_or_not}
@@ -16,17 +17,53 @@ binds_block blocks q v binds none =
     let found = block_found blocks v (in_bound (pairs blocks) q v (binds_in (pairs blocks) q v binds)) in
     cc (found, none)
 
+-- a position is after the blocks that reach to a variable's exactly where it is after that block
+module _ (blocks : List Block) (q : Quantifier) (v : ℕ) where
+  abbrev Some_block : ℕ → Type 0
+  Some_block reach = (i : ℕ) → reach ≡ suc i → Binds blocks q v × (block_in v blocks ≡ Some i)
+
+  pub reach_held : (reach : ℕ) → Some_block reach → (reach ≡ 0 → Binds blocks q v → ⊥) → (k : ℕ)
+      → reach ≤ k ↔ (Binds blocks q v → (i : ℕ) → block_in v blocks ≡ Some i → i < k)
+  reach_held zero some none k = ((λ le binds. absurd (none refl binds)), (λ all. omega arith))
+  reach_held (suc n) some none k =
+      let here = some n refl in (
+        (λ le _ i e. let both : Some n ≡ Some i = sym here.1 ∙ e in let same : n ≡ i = cc both in subst (λ j. j < k) same le),
+        (λ all. all here.0 n here.1),
+      )
+
+  pub reach_stands : (reach limit : ℕ) → Some_block reach → (reach ≡ 0 → Binds blocks q v → ⊥)
+      → limit < reach ↔ StandsAfter blocks q limit v
+  reach_stands zero limit some none = ((λ less. absurd (omega (arith, less))), (λ stands. absurd (none refl stands.0)))
+  reach_stands (suc n) limit some none =
+      let here = some n refl in (
+        (λ less. (here.0, λ k e. let both : Some n ≡ Some k = sym here.1 ∙ e in let same : n ≡ k = cc both in omega (arith, less, same))),
+        (λ stands. omega (arith, stands.1 n here.1)),
+      )
+
+-- what is after the farther one of two reaches, and after the nearer one
+pub after_max : (a b both : ℕ) → both ≡ max a b → (k : ℕ) → both ≤ k ↔ (a ≤ k × b ≤ k)
+after_max a b both e k = ((λ le. (omega (arith, e, le), omega (arith, e, le))), (λ h. omega (arith, e, h.0, h.1)))
+
+pub after_min : (a b both : ℕ) → both ≡ min a b → (k : ℕ) → both ≤ k ↔ (a ≤ k ⊎ b ≤ k)
+after_min a b both e k = search (rules, e)
+
 -- one more literal
-pub innermost_more : (blocks : List Block) (q : Quantifier) (pivot old one new : Option ℕ) (xs zs : List Literal) (x : Literal)
+pub innermost_more : (blocks : List Block) (q : Quantifier) (pivot : Option ℕ) (old one new : ℕ) (xs zs : List Literal) (x : Literal)
     → ((m : Literal) → m ∈ zs → (m ∈ xs) ⊎ (m ≡ x)) → ((m : Literal) → (m ∈ xs) ⊎ (m ≡ x) → m ∈ zs)
-    → ((k : ℕ) → IsAfter one k ↔ IsHeldBefore blocks q pivot x.var k) → ((k : ℕ) → IsAfter new k ↔ (IsAfter old k × IsAfter one k))
+    → ((k : ℕ) → one ≤ k ↔ IsHeldBefore blocks q pivot x.var k) → ((k : ℕ) → new ≤ k ↔ (old ≤ k × one ≤ k))
     → IsInnermost blocks q pivot xs old → IsInnermost blocks q pivot zs new
-innermost_more blocks q pivot old one new xs zs x cases wider held both is k = search rules
+innermost_more blocks q pivot old one new xs zs x cases wider held both is k = (
+  (λ le m h. let w = (both k).0 le in elim (cases m h) [
+    | inl i ↦ (is k).0 w.0 m i
+    | inr e ↦ subst (λ (l : Literal). IsHeldBefore blocks q pivot l.var k) (sym e) ((held k).0 w.1)
+  ]),
+  (λ all. (both k).1 ((is k).1 (λ m i. all m (wider m (inl i))), (held k).1 (all x (wider x (inr refl))))),
+)
 
 -- of a resolvent, by those of its antecedents without the pivot
-pub innermost_resolvent : (blocks : List Block) (q : Quantifier) (a b : List Literal) (x : ℕ) (in_a in_b whole : Option ℕ)
+pub innermost_resolvent : (blocks : List Block) (q : Quantifier) (a b : List Literal) (x : ℕ) (in_a in_b whole : ℕ)
     → IsInnermost blocks q (Some x) a in_a → IsInnermost blocks q (Some x) b in_b
-    → ((k : ℕ) → IsAfter whole k ↔ (IsAfter in_a k × IsAfter in_b k))
+    → ((k : ℕ) → whole ≤ k ↔ (in_a ≤ k × in_b ≤ k))
     → IsInnermost blocks q None (resolvent a b x) whole
 innermost_resolvent blocks q a b x in_a in_b whole is_a is_b both k = (
   (λ after m h. λ _.
@@ -43,7 +80,7 @@ innermost_resolvent blocks q a b x in_a in_b whole is_a is_b both k = (
 )
 
 -- a literal stands after the innermost block exactly where it is reducible
-pub reducible_after : (side : Side) (blocks : List Block) (reduced deciding : Quantifier) (lits : List Literal) (block : Option ℕ)
+pub reducible_after : (side : Side) (blocks : List Block) (reduced deciding : Quantifier) (lits : List Literal) (block : ℕ)
     → reduced ≡ reduced_quantifier side → deciding ≡ deciding_quantifier side → IsInnermost blocks deciding None lits block
     → (l : Literal) → StandsAfter blocks reduced block l.var ↔ IsReducible side blocks lits l
 reducible_after side blocks reduced deciding lits block er ed is l = (
@@ -77,8 +114,8 @@ each_reducible side blocks reducible from to same = (
 )
 
 -- a variable stands after the outer one of two blocks exactly where it stands after one of them
-stands_outer : (blocks : List Block) (q : Quantifier) (one other both : Option ℕ) (v : ℕ)
-    → ((k : ℕ) → IsAfter both k ↔ (IsAfter one k ⊎ IsAfter other k))
+stands_outer : (blocks : List Block) (q : Quantifier) (one other both : ℕ) (v : ℕ)
+    → ((k : ℕ) → both ≤ k ↔ (one ≤ k ⊎ other ≤ k))
     → StandsAfter blocks q both v ↔ (StandsAfter blocks q one v ⊎ StandsAfter blocks q other v)
 stands_outer blocks q one other both v outer = ((λ stands. at_block stands (block_in v blocks) refl), by_one)
   where
@@ -86,8 +123,8 @@ stands_outer blocks q one other both v outer = ((λ stands. at_block stands (blo
     by_one (inl stands) = (stands.0, λ k e. (outer k).1 (inl (stands.1 k e)))
     by_one (inr stands) = (stands.0, λ k e. (outer k).1 (inr (stands.1 k e)))
 
-    at_one : (block : Option ℕ) (k : ℕ) → block_in v blocks ≡ Some k → IsAfter block k → (j : ℕ) → block_in v blocks ≡ Some j → IsAfter block j
-    at_one block k e h j f = let both : Some k ≡ Some j = sym e ∙ f in let same : k ≡ j = cc both in subst (IsAfter block) same h
+    at_one : (block : ℕ) (k : ℕ) → block_in v blocks ≡ Some k → block ≤ k → (j : ℕ) → block_in v blocks ≡ Some j → block ≤ j
+    at_one block k e h j f = let both : Some k ≡ Some j = sym e ∙ f in let same : k ≡ j = cc both in subst (λ i. block ≤ i) same h
 
     at_block : StandsAfter blocks q both v → (found : Option ℕ) → block_in v blocks ≡ found
         → StandsAfter blocks q one v ⊎ StandsAfter blocks q other v
@@ -98,13 +135,13 @@ stands_outer blocks q one other both v outer = ((λ stands. at_block stands (blo
     ]
 
 -- the innermost block of a whole list, by that without one variable of it
-innermost_whole : (blocks : List Block) (q : Quantifier) (lits : List Literal) (x : ℕ) (beside own whole : Option ℕ)
+innermost_whole : (blocks : List Block) (q : Quantifier) (lits : List Literal) (x : ℕ) (beside own whole : ℕ)
     → (l : Literal) × (l ∈ lits) × (l.var ≡ x) → IsInnermost blocks q (Some x) lits beside
-    → ((k : ℕ) → IsAfter own k ↔ IsHeldBefore blocks q None x k)
-    → ((k : ℕ) → IsAfter whole k ↔ (IsAfter beside k × IsAfter own k)) → IsInnermost blocks q None lits whole
+    → ((k : ℕ) → own ≤ k ↔ IsHeldBefore blocks q None x k)
+    → ((k : ℕ) → whole ≤ k ↔ (beside ≤ k × own ≤ k)) → IsInnermost blocks q None lits whole
 innermost_whole blocks q lits x beside own whole (m, h, is) is_beside is_own both k = (
   (λ after l i. λ _ binds j e. let w = (both k).0 after in elim (cases_eq l.var x) [
-    | inl same ↦ search rules
+    | inl same ↦ subst (λ (v : ℕ). IsHeldBefore blocks q None v k) (sym same) ((is_own k).0 w.1) (λ none. none) binds j e
     | inr other ↦ (is_beside k).0 w.0 l i other binds j e
   ]),
   (λ all. (both k).1 (
@@ -115,11 +152,11 @@ innermost_whole blocks q lits x beside own whole (m, h, is) is_beside is_own bot
 
 -- the blocks that are found of an antecedent: beside the pivot, its own, and the outer one of that and of the resolvent's
 pub record FoundBlocks (blocks : List Block) (deciding : Quantifier) (from : List Literal) (x : ℕ)
-    (beside of_pivot own whole both : Option ℕ) : Type 0 where
+    (beside of_pivot own whole both : ℕ) : Type 0 where
   pub is_beside : IsInnermost blocks deciding (Some x) from beside
-  pub is_of_pivot : (k : ℕ) → IsAfter of_pivot k ↔ IsHeldBefore blocks deciding None x k
-  pub is_own : (k : ℕ) → IsAfter own k ↔ (IsAfter beside k × IsAfter of_pivot k)
-  pub is_both : (k : ℕ) → IsAfter both k ↔ (IsAfter whole k ⊎ IsAfter own k)
+  pub is_of_pivot : (k : ℕ) → of_pivot ≤ k ↔ IsHeldBefore blocks deciding None x k
+  pub is_own : (k : ℕ) → own ≤ k ↔ (beside ≤ k × of_pivot ≤ k)
+  pub is_both : (k : ℕ) → both ≤ k ↔ (whole ≤ k ⊎ own ≤ k)
 
 -- what may be left out of the antecedents is reducible in the resolvent or in them
 module _ (side : Side) (blocks : List Block) (reduced deciding : Quantifier) (er : reduced ≡ reduced_quantifier side)
@@ -128,13 +165,13 @@ module _ (side : Side) (blocks : List Block) (reduced deciding : Quantifier) (er
   Red from l = IsReducible side blocks from l
 
   -- one antecedent, after its block
-  abbrev IsCovered : List Literal → Option ℕ → Type 0
+  abbrev IsCovered : List Literal → ℕ → Type 0
   IsCovered from block = (l : Literal) → l ∈ from → (l ∈ to) ⊎ ((l.var ≡ x) ⊎ StandsAfter blocks reduced block l.var)
 
-  abbrev IsSplit : List Literal → Option ℕ → Type 0
+  abbrev IsSplit : List Literal → ℕ → Type 0
   IsSplit from block = (l : Literal) → StandsAfter blocks reduced block l.var ↔ (Red (resolvent a b x) l ⊎ Red from l)
 
-  split : (from : List Literal) (beside of_pivot own whole both : Option ℕ) → IsInnermost blocks deciding None (resolvent a b x) whole
+  split : (from : List Literal) (beside of_pivot own whole both : ℕ) → IsInnermost blocks deciding None (resolvent a b x) whole
       → FoundBlocks blocks deciding from x beside of_pivot own whole both → (m : Literal) × (m ∈ from) × (m.var ≡ x) → IsSplit from both
   split from beside of_pivot own whole both is_whole found pivot l =
       let outer = stands_outer blocks reduced whole own both l.var found.is_both in
@@ -145,7 +182,7 @@ module _ (side : Side) (blocks : List Block) (reduced deciding : Quantifier) (er
         (λ red. outer.1 (elim red [ inl r ↦ inl (of_whole.1 r) | inr r ↦ inr (of_own.1 r) ])),
       )
 
-  covered : (from : List Literal) (block : Option ℕ) → IsSplit from block → ((l : Literal) → l ∈ from → l ∈ (a ++ b))
+  covered : (from : List Literal) (block : ℕ) → IsSplit from block → ((l : Literal) → l ∈ from → l ∈ (a ++ b))
       → ((l : Literal) → l ∈ from → IsReducibleInParents side blocks a b l → Red from l) → Accounts side blocks a b to x → IsCovered from block
   covered from block is within parent all l h = elim (cases_eq l.var x) [
     | inl e ↦ inr (inl e)
@@ -157,12 +194,12 @@ module _ (side : Side) (blocks : List Block) (reduced deciding : Quantifier) (er
   ]
 
   -- a literal of the resolvent is kept or reducible there, or reducible in the antecedent if that has it
-  one_accounts : (from : List Literal) (block : Option ℕ) → IsSplit from block → IsCovered from block → (l : Literal) → (l.var ≡ x → ⊥)
+  one_accounts : (from : List Literal) (block : ℕ) → IsSplit from block → IsCovered from block → (l : Literal) → (l.var ≡ x → ⊥)
       → ((l ∈ to) ⊎ Red (resolvent a b x) l) ⊎ (l ∈ from → Red from l)
   one_accounts from block is all l ne = search (rules, in_or_not)
 
-  pub parents_account : (beside_a beside_b of_pivot own_a own_b whole in_a in_b : Option ℕ) → Clashes a b x
-      → ((k : ℕ) → IsAfter whole k ↔ (IsAfter beside_a k × IsAfter beside_b k))
+  pub parents_account : (beside_a beside_b of_pivot own_a own_b whole in_a in_b : ℕ) → Clashes a b x
+      → ((k : ℕ) → whole ≤ k ↔ (beside_a ≤ k × beside_b ≤ k))
       → FoundBlocks blocks deciding a x beside_a of_pivot own_a whole in_a → FoundBlocks blocks deciding b x beside_b of_pivot own_b whole in_b
       → Accounts side blocks a b to x ↔ (IsCovered a in_a × IsCovered b in_b)
   parents_account beside_a beside_b of_pivot own_a own_b whole in_a in_b clash both found_a found_b = (

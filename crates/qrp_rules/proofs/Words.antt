@@ -18,7 +18,7 @@ pub use Rattle.qrp_rules.specs.Conditions.{initial_condition, reduct_conditions,
 pub use Rattle.qrp_rules.specs.Exact.{IsApart, IsMergeSoFar, IsNext, IsPutBy}
 pub use Rattle.qrp_rules.specs.Index.{HasReductAt, IsIndexBelow, IsReducedForm, hash_from, hash_of}
 pub use Rattle.qrp_rules.specs.Seen.{AreUpTo, Has, code}
-pub use Rattle.qrp_rules.specs.Walks.{Accounts, IsAfter, IsHeldBefore, IsInnermost, MayOmit, StandsAfter, TakesOut}
+pub use Rattle.qrp_rules.specs.Walks.{Accounts, IsHeldBefore, IsInnermost, MayOmit, StandsAfter, TakesOut}
 pub use Rattle.qrp_rules.specs.Watches.{IsMet, IsWatchedBy}
 pub use Rattle.qrp_rules.specs.declared.clause_index.IndexEntry.{IndexEntry}
 pub use Rattle.qrp_rules.specs.declared.fault.RuleFault.{RuleFault}

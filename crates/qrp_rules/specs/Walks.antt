@@ -1,5 +1,5 @@
 -- What walks over ordered sets find: clashes, and innermost blocks.
-use Rattle.std.specs.Prelude.{◌≡◌, ℕ, ◌<◌, ◌↔◌, ◌⊎◌, List, Option, Some, None}
+use Rattle.std.specs.Prelude.{◌≡◌, ℕ, ◌<◌, ◌≤◌, ◌↔◌, ◌⊎◌, List, Option, Some, None}
 use Rattle.qbf_core.specs.declared.quantifier.Quantifier.{Quantifier}
 use Rattle.qbf_core.specs.Literal.{Literal}
 use Rattle.qbf_core.specs.Members.{◌∈◌}
@@ -21,28 +21,23 @@ abbrev pub IsThePivot : Option ℕ → ℕ → Type 0
 IsThePivot None v = ⊥
 IsThePivot (Some x) v = v ≡ x
 
--- the position k is after the block, if there is one
-abbrev pub IsAfter : Option ℕ → ℕ → Type 0
-IsAfter None k = Unit {0}
-IsAfter (Some block) k = block < k
-
 -- the block of v is before k, where v has the quantifier q and is not the pivot
 abbrev pub IsHeldBefore : List Block → Quantifier → Option ℕ → ℕ → ℕ → Type 0
 IsHeldBefore blocks q pivot v k =
     (IsThePivot pivot v → ⊥) → Binds blocks q v → (i : ℕ) → block_in v blocks ≡ Some i → i < k
 
--- the innermost block of these literals: what is after it is after the block of each
-abbrev pub IsInnermost : List Block → Quantifier → Option ℕ → List Literal → Option ℕ → Type 0
-IsInnermost blocks q pivot lits block =
-    (k : ℕ) → IsAfter block k ↔ ((l : Literal) → l ∈ lits → IsHeldBefore blocks q pivot l.var k)
+-- so many blocks reach to the innermost one of these literals: what is after them is after the block of each
+abbrev pub IsInnermost : List Block → Quantifier → Option ℕ → List Literal → ℕ → Type 0
+IsInnermost blocks q pivot lits reach =
+    (k : ℕ) → reach ≤ k ↔ ((l : Literal) → l ∈ lits → IsHeldBefore blocks q pivot l.var k)
 
--- v has the quantifier q, and its block is after this one
-abbrev pub StandsAfter : List Block → Quantifier → Option ℕ → ℕ → Type 0
-StandsAfter blocks q block v = Binds blocks q v × ((k : ℕ) → block_in v blocks ≡ Some k → IsAfter block k)
+-- v has the quantifier q, and its block is after so many
+abbrev pub StandsAfter : List Block → Quantifier → ℕ → ℕ → Type 0
+StandsAfter blocks q reach v = Binds blocks q v × ((k : ℕ) → block_in v blocks ≡ Some k → reach ≤ k)
 
 -- a reduction may take out the literals of v
 abbrev pub TakesOut : Reducible → ℕ → Type 0
-TakesOut reducible v = StandsAfter reducible.prefix.now reducible.quantifier reducible.block v
+TakesOut reducible v = StandsAfter reducible.prefix.now reducible.quantifier reducible.reach v
 
 -- a literal of v may be missing: v is the pivot, or a reduction may take the literal out
 abbrev pub MayOmit : Option Reducible → Option ℕ → ℕ → Type 0

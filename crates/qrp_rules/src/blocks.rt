@@ -1,11 +1,11 @@
 //! The blocks of literals: the innermost of some, and what a reduction may take out.
 
-ghost use Rattle.std.specs.Prelude.{◌≡◌, ◌↔◌, ℕ, ◌⊎◌, IsTrue};
+ghost use Rattle.std.specs.Prelude.{◌≡◌, ◌≤◌, ◌↔◌, ℕ, IsTrue};
 ghost use Rattle.qbf_core.specs.Literal.{Literal};
 ghost use Rattle.qbf_core.specs.Blocks.{Binds};
 ghost use Rattle.qbf_core.specs.Rules.{Side, IsReducible, deciding_quantifier};
 ghost use Rattle.qbf_core.specs.Rules.{reduced_quantifier};
-ghost use Rattle.qrp_rules.specs.Walks.{IsAfter, IsHeldBefore, IsInnermost, IsThePivot, TakesOut};
+ghost use Rattle.qrp_rules.specs.Walks.{IsHeldBefore, IsInnermost, IsThePivot, TakesOut};
 
 use qbf_core::{Lit, Prefix, Quantifier, Var};
 
@@ -26,77 +26,49 @@ pub fn is_bound_by(prefix: &Prefix, quantifier: Quantifier, var: Var) -> bool
     prefix.quantifier(var) == Some(quantifier)
 }
 
-/// The block of a variable that has the quantifier and is not the pivot.
+/// How many blocks reach to that of a variable, if it has the quantifier and is not the pivot, and
+/// else 0.
 #[inline(always)]
-pub(crate) fn block_if(
+pub(crate) fn reach_if(
     prefix: &Prefix,
     quantifier: Quantifier,
     pivot: Option<u32>,
     var: Var,
-) -> Option<usize>
-    ensures { (k : ℕ) → IsAfter result k ↔ IsHeldBefore prefix.now quantifier pivot var k }
+) -> usize
+    ensures { (k : ℕ) → result ≤ k ↔ IsHeldBefore prefix.now quantifier pivot var k }
 {
     if is_the_pivot(pivot, var) {
-        return None;
+        return 0;
     }
-    prefix.block_bound_by(quantifier, var)
+    prefix.reach(quantifier, var)
 }
 
-/// The inner one of two blocks. It takes no branch, since which of them is the inner one cannot be
-/// predicted.
+/// How many blocks reach to the innermost one of the literals that have the quantifier and are not
+/// of the pivot.
 #[inline(always)]
-pub(crate) fn inner_block(a: Option<usize>, b: Option<usize>) -> Option<usize>
-    ensures { (k : ℕ) → IsAfter result k ↔ (IsAfter a k × IsAfter b k) }
-{
-    let inner = a.unwrap_or(0).max(b.unwrap_or(0));
-    if a.is_some() | b.is_some() {
-        Some(inner)
-    } else {
-        None
-    }
-}
-
-/// The outer one of two blocks.
-pub(crate) fn outer_block(a: Option<usize>, b: Option<usize>) -> Option<usize>
-    ensures { (k : ℕ) → IsAfter result k ↔ (IsAfter a k ⊎ IsAfter b k) }
-{
-    a.min(b)
-}
-
-/// The innermost block of the literals that have the quantifier and are not of the pivot.
-#[inline(always)]
-pub(crate) fn innermost_block(
+pub(crate) fn innermost_reach(
     prefix: &Prefix,
     quantifier: Quantifier,
     pivot: Option<u32>,
     lits: &[Lit],
-) -> Option<usize>
+) -> usize
     ensures { IsInnermost prefix.now quantifier pivot lits.now result }
 {
-    let mut found = None;
+    let mut found = 0usize;
     for lit in lits {
-        found = inner_block(found, block_if(prefix, quantifier, pivot, lit.var()));
+        // No branch, since which of two blocks is the inner one cannot be predicted.
+        found = found.max(reach_if(prefix, quantifier, pivot, lit.var()));
     }
     found
 }
 
-/// Whether a position is after the block, if there is one.
-fn is_after(block: Option<usize>, position: usize) -> bool
-    ensures { IsTrue result ↔ IsAfter block position }
-{
-    match block {
-        Some(block) => block < position,
-        None => true,
-    }
-}
-
-/// The literals that a reduction may take out: those of a quantifier after a block of a prefix, or
-/// all of that quantifier if there is no block.
+/// The literals that a reduction may take out: those of a quantifier whose blocks come after so
+/// many blocks of a prefix.
 #[derive(Clone, Copy)]
 pub(crate) struct Reducible<'a> {
     pub prefix: &'a Prefix,
     pub quantifier: Quantifier,
-    pub block: Option<usize>,
+    pub reach: usize,
 }
 
 impl<'a> Reducible<'a> {
@@ -105,10 +77,7 @@ impl<'a> Reducible<'a> {
     pub(crate) fn has(self, var: Var) -> bool
         ensures { IsTrue result ↔ TakesOut self.entry var }
     {
-        match self.prefix.block_bound_by(self.quantifier, var) {
-            Some(block) => is_after(self.block, block),
-            None => false,
-        }
+        self.prefix.reach(self.quantifier, var) > self.reach
     }
 }
 
@@ -136,6 +105,6 @@ pub(crate) fn reducible_in<'a>(
     Reducible {
         prefix,
         quantifier: reduced,
-        block: innermost_block(prefix, other_quantifier(reduced), None, lits),
+        reach: innermost_reach(prefix, other_quantifier(reduced), None, lits),
     }
 }

@@ -10,7 +10,7 @@ ghost use Rattle.qrp_rules.specs.Conditions.{AllHold, AllowsPivot, IsJudgement, 
 ghost use Rattle.qrp_rules.specs.Unreduced.{unreduced_conditions};
 ghost use Rattle.qrp_rules.specs.Walks.{Accounts, Covers, IsClashOf};
 
-use crate::blocks::{Reducible, block_if, inner_block, innermost_block, is_bound_by, outer_block};
+use crate::blocks::{Reducible, innermost_reach, is_bound_by, reach_if};
 use crate::fault::RuleFault;
 use crate::rules::Rules;
 use crate::side::Side;
@@ -106,19 +106,19 @@ pub(crate) fn reducible_in_parents<'a, S: Side>(
     let reduced = S::REDUCED;
     let deciding = S::DECIDING;
     let number = Some(pivot.number());
-    let beside_a = innermost_block(prefix, deciding, number, a);
-    let beside_b = innermost_block(prefix, deciding, number, b);
-    let of_pivot = block_if(prefix, deciding, None, pivot);
-    let whole = inner_block(beside_a, beside_b);
+    let beside_a = innermost_reach(prefix, deciding, number, a);
+    let beside_b = innermost_reach(prefix, deciding, number, b);
+    let of_pivot = reach_if(prefix, deciding, None, pivot);
+    let whole = beside_a.max(beside_b);
     let in_a = Reducible {
         prefix,
         quantifier: reduced,
-        block: outer_block(whole, inner_block(beside_a, of_pivot)),
+        reach: whole.min(beside_a.max(of_pivot)),
     };
     let in_b = Reducible {
         prefix,
         quantifier: reduced,
-        block: outer_block(whole, inner_block(beside_b, of_pivot)),
+        reach: whole.min(beside_b.max(of_pivot)),
     };
     (in_a, in_b)
 }
