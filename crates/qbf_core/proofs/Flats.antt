@@ -134,7 +134,9 @@ drop_kept xs n = grind (arith, common_steps)
 pub drop_grown : {X : Type 0} (xs more : List X) (n : ℕ) → n ≤ length xs → drop n (xs ++ more) ≡ drop n xs ++ more
 drop_grown xs more n h = drop-append-le n xs more h
 
--- what holds after the last list is taken away, and after one is whole
+-- what holds after the last list is taken away, of lists of either kind, and after one is whole
 pub ruleset popped = (parts_popped, popped_reach, same_count)
+
+pub ruleset fewer = (fewer_parts, same_count)
 
 pub ruleset closed = (closed_parts, closed_reach, drop_all)
