@@ -105,7 +105,7 @@ EDITS = {
 class Repository:
     """A repository of one crate with such wrong bodies, in a folder of its own, with the commands of the gate and a toolchain."""
 
-    def __init__(self, edits, source=SOURCE):
+    def __init__(self, edits, source=SOURCE, without=False):
         self.root = Path(tempfile.mkdtemp(prefix="test-proofs-"))
         crate = self.root / "crates" / "one"
         for folder in ("src", "must-fail", "proofs/sum", "proofs/most", "out"):
@@ -120,7 +120,8 @@ class Repository:
         shutil.copytree(GATE, self.root / "gate")
         (self.root / "gate/needed-answers.tsv").unlink(missing_ok=True)
         self.table = self.root / "gate/wrong-bodies.tsv"
-        self.table.write_text("# made up\n" + "".join(f"one/{name}\t-\n" for name in edits))
+        end = "\twithout evidence" if without else ""
+        self.table.write_text("# made up\n" + "".join(f"one/{name}\t-{end}\n" for name in edits))
         self.rt = self.root / "rt"
         self.rt.write_text(RT)
         self.rt.chmod(0o755)
@@ -253,17 +254,37 @@ def fails(new, why):
 
 
 def is_without_evidence(old, new, goal, why):
-    """The body with this text is not counted as a wrong body that was refused, nor does it fail."""
+    """The body with this text is not counted as a wrong body that was refused. It fails, unless it is written down as without evidence."""
     with Repository({"one": f"file: src/lib.rt\nold: {old}\nnew: {new}\n"}) as repository:
-        told = repository.run()
-        lines = told.stdout.splitlines()
+        first, stored, second = repository.run(), repository.run("--store"), repository.run()
+        says = lambda told, begin: any(it.startswith(f"{begin}: one/one: ") and it.endswith(f": {goal}: {why}") for it in told.stdout.splitlines())
+        ends = lambda told: told.stdout.splitlines()[-2:]
         written = (repository.root / "bin/without-evidence.tsv").read_text()
         return all([
-            told.returncode == 0,
-            lines[-2:] == ["1 without evidence, in bin/without-evidence.tsv", "0 passed, 0 failed"],
-            any(it.startswith("without evidence: one/one: ") and it.endswith(f": {goal}: {why}") for it in lines),
+            (first.returncode, stored.returncode, second.returncode) == (1, 0, 0),
+            ends(first) == ["1 without evidence, in bin/without-evidence.tsv", "0 passed, 1 failed"],
+            ends(second) == ["1 without evidence, in bin/without-evidence.tsv", "0 passed, 0 failed"],
+            says(first, "FAILED") and says(second, "without evidence"),
+            repository.table.read_text() == "# made up\none/one\t-\twithout evidence\n",
             written.startswith("one/one\t") and written.endswith(f"\t{goal}\t{why}\n"),
-            not any(it.startswith("refused") for it in lines),
+            "refused" not in first.stdout + second.stdout,
+        ])
+
+
+def one_that_has_evidence_is_not_written_down_as_without():
+    with Repository(EDITS, without=True) as repository:
+        first, stored = repository.run("one/sum_is_a_product"), repository.run("--store")
+        # The others were not tried, so what is written down of them stays.
+        lines = repository.table.read_text().splitlines()
+        second = repository.run("one/sum_is_a_product")
+        repository.table.write_text(repository.table.read_text() + "one/more\t-\tsome evidence\n")
+        third = repository.run("--list")
+        return all([
+            (first.returncode, stored.returncode, second.returncode) == (1, 0, 0),
+            "FAILED: one/sum_is_a_product: it has evidence, one::sum: returns, and is written down as without" in first.stdout,
+            "0 without evidence\n0 passed, 1 failed\n" in first.stdout and "0 without evidence\n1 passed, 0 failed\n" in second.stdout,
+            lines[1:] == ["one/first_is_a_field\t-\twithout evidence", "one/sum_is_a_difference\t-\twithout evidence", "one/sum_is_a_product\t-"],
+            stops(third, "this line has other columns than it must: one/more"),
         ])
 
 
@@ -278,7 +299,7 @@ def right_bodies_do_not_count():
 
 def two_bodies_share_a_right_one():
     edits = {f"most_{number}": f"file: src/lib.rt\nold: a + 0\nnew: a * {number}\n" for number in (2, 3)}
-    with Repository(edits) as repository:
+    with Repository(edits, without=True) as repository:
         told = repository.run()
         rights = [line for line in (repository.root / "log").read_text().splitlines() if "most_right" in line]
         return told.returncode == 0 and "2 without evidence" in told.stdout and len(rights) == 1 and rights[0].count("most_right") == 1
@@ -286,7 +307,7 @@ def two_bodies_share_a_right_one():
 
 def a_right_body_that_needs_its_answers_is_checked_once():
     edits = {"most_2": "file: src/lib.rt\nold: a + 0\nnew: a * 2\n"}
-    with Repository(edits) as repository:
+    with Repository(edits, without=True) as repository:
         rights = lambda: (repository.root / "log").read_text().count("most_right")
         first, before = repository.run(), rights()
         stored = repository.run("--store")
@@ -461,6 +482,7 @@ TESTS = [
     each_is_refused_by_its_own_function,
     bodies_that_are_not_refused,
     right_bodies_do_not_count,
+    one_that_has_evidence_is_not_written_down_as_without,
     two_bodies_share_a_right_one,
     a_right_body_that_needs_its_answers_is_checked_once,
     goals_of_a_contract,

@@ -4,12 +4,10 @@ use Rattle.std.proofs.Common.{ℕ, zero, suc, ◌≡◌, ◌+◌, ◌-◌, ◌*�
 use Rattle.std.proofs.Common.{length, get_or, arith, refl, sym, ap, ◌∙◌, inl, inr, subst}
 use Rattle.std.specs.List.{prefix_len}
 use Rattle.std.specs.Char.{is_ascii_digit, digit_value}
-use Rattle.std.specs.Int.{w64, to_le_bytes, from_le_bytes}
-use Rattle.std.specs.Array.{IsFirstChunk}
+use Rattle.std.specs.Int.{w64, to_le_bytes}
 use Rattle.std.specs.Str.Parse.{digits_value, AllDigits}
-use Rattle.std.proofs.lemmas.Bool.{cond-true, cond-false, cases_Bool, cases_lt, agree_below_at, ltb-true}
-use Rattle.std.proofs.lemmas.Nat.{le_bytes_8}
-use Rattle.std.proofs.lemmas.List.{length-take-le, take-take, drop-take, get_or-take, get_or-drop, get_or_past, length-drop}
+use Rattle.std.proofs.lemmas.Bool.{cond-true, cond-false, cases_Bool, agree_below_at, ltb-true}
+use Rattle.std.proofs.lemmas.List.{length-take-le, take-take, drop-take, get_or-take, get_or-drop, length-drop}
 use Rattle.std.proofs.lemmas.List.Sums.{prefix_len_stops}
 use Rattle.decimal.proofs.Masks.{Bytes, is_small}
 use Rattle.decimal.specs.Digits.{AreDigits}
@@ -38,27 +36,17 @@ front_of n xs ys h = grind (arith, common_steps)
 byte_of : (n : ℕ) (xs ys : List ℕ) → n < length xs → get_or (xs ++ ys) n 0 ≡ get_or xs n 0
 byte_of n xs ys h = grind (arith, common_steps)
 
-front_fits : (xs : List ℕ) → ((i : ℕ) → get_or xs i 0 < 256) → 8 ≤ length xs → (i : ℕ) → get_or (take 8 xs) i 0 < 256
-front_fits xs fits room i =
-    elim (cases_lt i 8) [
-      | inl low ↦ subst (λ b. b < 256) (sym (get_or-take 8 xs i 0 low)) (fits i)
-      | inr high ↦ subst (λ b. b < 256) (sym (get_or_past (take 8 xs) i 0 (omega (arith, length-take-le 8 xs room)))) (omega arith)
-    ]
-
 -- n bytes from a place on among the first eight, read as one word
-module _ (bytes e : List ℕ) (from w n : ℕ) (fits : (i : ℕ) → get_or bytes i 0 < 256) (chunk : IsFirstChunk bytes e 8)
-    (read : w ≡ from_le_bytes w64 e) (range : w < 2 ^ 64) (few : from + n ≤ 8) where
+module _ (bytes : List ℕ) (from w n : ℕ) (enough : 8 ≤ length bytes) (same : to_le_bytes w64 w ≡ take 8 bytes) (range : w < 2 ^ 64)
+    (few : from + n ≤ 8) where
   abbrev eight : List ℕ
   eight = take 8 bytes
 
   long : length eight ≡ 8
-  long = length-take-le 8 bytes chunk.enough
+  long = length-take-le 8 bytes enough
 
   abbrev shifted : List ℕ
   shifted = to_le_bytes w64 (w / 2 ^ (8 * from))
-
-  same : to_le_bytes w64 w ≡ eight
-  same = le_bytes_8 eight w long (front_fits bytes fits chunk.enough) (read ∙ ap (from_le_bytes w64) chunk.same)
 
   moved : shifted ≡ drop from eight ++ replicate from 0
   moved = bytes_from w from range (omega arith) ∙ ap (λ l. drop from l ++ replicate from 0) same
@@ -93,5 +81,11 @@ module _ (bytes e : List ℕ) (from w n : ℕ) (fits : (i : ℕ) → get_or byte
     back : from + n - from ≡ n
     back = omega arith
 
-    pub read_as_word : AreDigits bytes from (from + n) v
+    read_as_word : AreDigits bytes from (from + n) v
     read_as_word = grind (arith, common_steps, back, all_read, front, there, stop)
+
+pub word_read : (bytes : List ℕ) (from w n v : ℕ) → 8 ≤ length bytes → to_le_bytes w64 w ≡ take 8 bytes → w < 2 ^ 64 → from + n < 8
+    → n ≡ prefix_len is_ascii_digit (to_le_bytes w64 (w / 2 ^ (8 * from))) → v ≡ digits_value 10 (take n (to_le_bytes w64 (w / 2 ^ (8 * from))))
+    → AreDigits bytes from (from + n) v
+word_read bytes from w n v enough same range fewer run value =
+    read_as_word bytes from w n enough same range (omega (arith, fewer)) v run fewer value

@@ -140,3 +140,5 @@ module _ (w n : ℕ) (fits : w < 2 ^ 64) (few : n ≤ 8) where
         let bs = to_le_bytes w64 w in
         ap (number_from_digits 10) bytes_moved ∙ zeros_before (8 - n) (take n (map turned bs))
         ∙ ap (number_from_digits 10) (front n bs (bytes_fit w) run).0 ∙ sym (digits_value_is 10 (take n bs))
+
+pub ruleset short = (at_most, moved_value)

@@ -2,6 +2,7 @@
 
 ghost use Rattle.std.specs.Prelude.{◌≡◌, ◌+◌, ◌-◌, ◌*◌, ◌^◌, ◌≤◌, ◌<◌, length, take, drop};
 ghost use Rattle.std.specs.Prelude.{true, false, IfSome};
+ghost use Rattle.std.specs.Int.{w64, to_le_bytes};
 ghost use Rattle.std.specs.Str.Parse.{digits_value, AllDigits};
 ghost use Rattle.decimal.specs.Digits.{AreDigits, AreLeadingDigits, IsWithZeros};
 
@@ -23,6 +24,7 @@ fn fits(value: u64, digit: u64) -> bool
 /// Finds the digits as `digits` does, byte by byte: for any length, and at the end of the bytes.
 #[cold]
 #[inline(never)]
+#[tactic(auto, using(crate::proofs::OneMore::one_more))]
 fn by_digit(bytes: &[u8], from: usize) -> (u64, usize)
     requires { from ≤ length bytes.now }
     ensures { AreLeadingDigits bytes.now from result }
@@ -41,6 +43,17 @@ fn by_digit(bytes: &[u8], from: usize) -> (u64, usize)
     (value, from + i)
 }
 
+/// The first eight bytes as a word, if there are so many.
+#[inline(always)]
+fn first_word(bytes: &[u8]) -> Option<u64>
+    ensures within { IfSome result (λ _. 8 ≤ length bytes.now) }
+    ensures bytes { IfSome result (λ w. to_le_bytes w64 w ≡ take 8 bytes.now) }
+    ensures fits { IfSome result (λ w. w < 2 ^ 64) }
+{
+    let eight = bytes.first_chunk::<8>()?;
+    Some(u64::from_le_bytes(*eight))
+}
+
 /// Finds the digits as `digits` does if they end within the first eight bytes, else `None`.
 #[inline(always)]
 fn by_word(bytes: &[u8], from: usize) -> Option<(u64, usize)>
@@ -49,12 +62,8 @@ fn by_word(bytes: &[u8], from: usize) -> Option<(u64, usize)>
     if from >= 8 {
         return None;
     }
-    let Some(eight) = bytes.first_chunk::<8>() else {
-        return None;
-    };
-    let Some((len, value)) = short_number(u64::from_le_bytes(*eight) >> (8 * from)) else {
-        return None;
-    };
+    let word = first_word(bytes)?;
+    let (len, value) = short_number(word >> (8 * from))?;
     let end = from + len as usize;
     if end >= 8 {
         return None;
@@ -70,10 +79,7 @@ const MINUS_TO_ZERO: u64 = 3;
 fn without_sign(bytes: &[u8], from: usize) -> Option<u64>
     ensures { IfSome result (IsWithZeros bytes.now from) }
 {
-    let Some(eight) = bytes.first_chunk::<8>() else {
-        return None;
-    };
-    let word = u64::from_le_bytes(*eight);
+    let word = first_word(bytes)?;
     match from {
         0 => Some(word),
         1 if bytes[0] == b'-' => Some(word.wrapping_add(MINUS_TO_ZERO)),
@@ -87,6 +93,7 @@ fn without_sign(bytes: &[u8], from: usize) -> Option<u64>
 ///
 /// It looks at no byte after these, so that the next place does not wait for what stands here.
 #[inline(always)]
+#[tactic(auto, using(crate::proofs::Signs::digits_read, crate::proofs::Signs::value_read))]
 pub fn number_between(bytes: &[u8], from: usize, end: usize) -> Option<u64>
     requires { (0 < end) × (end ≤ 8) }
     ensures within { IfSome result (λ _. 8 ≤ length bytes.now) }

@@ -1,6 +1,6 @@
 //! Decimal digits in a machine word of eight bytes, the first of them the lowest.
 
-ghost use Rattle.std.specs.Prelude.{◌⊎◌, MatchOption, IfSome, ◌≡◌, ◌<◌, ◌≤◌, true, take};
+ghost use Rattle.std.specs.Prelude.{◌⊎◌, IfSome, IfNone, ◌≡◌, ◌<◌, ◌≤◌, true, take};
 ghost use Rattle.std.specs.Char.{is_ascii_digit};
 ghost use Rattle.std.specs.List.{prefix_len};
 ghost use Rattle.std.specs.Int.{w64, to_le_bytes};
@@ -66,12 +66,13 @@ pub fn number_of_len(word: u64, len: u32) -> Option<u64>
 /// The decimal number that the word's bytes begin with, from the lowest on, and how many digits it
 /// has: one to seven.
 #[inline(always)]
+#[tactic(auto, using(std::proofs::lemmas::Grind::common_steps, crate::proofs::Moved::short))]
 pub fn short_number(word: u64) -> Option<(u32, u64)>
-    ensures { MatchOption result
-        ((prefix_len is_ascii_digit (to_le_bytes w64 word) ≡ 0)
-        ⊎ (prefix_len is_ascii_digit (to_le_bytes w64 word) ≡ 8))
-        (λ r. (r.0 ≡ prefix_len is_ascii_digit (to_le_bytes w64 word)) × (0 < r.0) × (r.0 < 8)
-        × (r.1 ≡ digits_value 10 (take r.0 (to_le_bytes w64 word)))) }
+    ensures none { IfNone result ((prefix_len is_ascii_digit (to_le_bytes w64 word) ≡ 0)
+        ⊎ (prefix_len is_ascii_digit (to_le_bytes w64 word) ≡ 8)) }
+    ensures len { IfSome result (λ r. r.0 ≡ prefix_len is_ascii_digit (to_le_bytes w64 word)) }
+    ensures short { IfSome result (λ r. (0 < r.0) × (r.0 < 8)) }
+    ensures value { IfSome result (λ r. r.1 ≡ digits_value 10 (take r.0 (to_le_bytes w64 word))) }
 {
     let len = digit_run(word);
     if len == 0 || len == 8 {

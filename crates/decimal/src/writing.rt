@@ -7,6 +7,7 @@ use itoa::write_digits;
 
 /// How many digits a number below 10,000 has.
 #[inline(always)]
+#[tactic(auto, using(crate::proofs::Counts::short_counts))]
 fn short_count(n: u64) -> usize
     requires { n < 10000 }
     ensures { result ≡ length (decimal n) }

@@ -108,5 +108,7 @@ drop_kept xs n = grind (arith, common_steps)
 pub drop_grown : {X : Type 0} (xs more : List X) (n : ℕ) → n ≤ length xs → drop n (xs ++ more) ≡ drop n xs ++ more
 drop_grown xs more n h = drop-append-le n xs more h
 
--- what holds after a list is whole
+-- what holds after the last list is taken away, and after one is whole
+pub ruleset fewer = (fewer_parts, same_count)
+
 pub ruleset closed = (closed_parts, closed_reach, drop_all)

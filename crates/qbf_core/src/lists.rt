@@ -10,6 +10,7 @@ use std::marker::Model;
 
 /// Where the list at place `i` begins.
 #[inline(always)]
+#[tactic(auto, using(crate::proofs::Flats::start_after))]
 fn start(ends: &Offsets, i: usize) -> usize
     requires { i < length ends.now }
     ensures { result ≡ start_of 0 ends.now i }
@@ -169,6 +170,7 @@ impl<T: Copy + Drop> GrowingLists<T> {
     }
 
     /// Takes the last whole list away, if there is one. The unfinished list is empty then.
+    #[tactic(auto, using(crate::proofs::Flats::fewer))]
     pub fn pop(&mut self)
         ensures { self.new ≡ record {
           whole = take (length self.old.whole - 1) self.old.whole;

@@ -1,6 +1,6 @@
 -- What is taken ends with a token and at most one separator.
 use Rattle.qbf_text.proofs.Words.{common_steps, rules, ◌≡◌, ℕ, ◌+◌, ◌^◌, ◌<◌, Bool, true, false, List, [], ◌∷◌, ◌++◌, Option, Some, None}
-use Rattle.qbf_text.proofs.Words.{IfSome, refl, sym, ap, ◌∙◌, arith, append_assoc, append-nil, ⊤, Consumes, Comments, Token, End}
+use Rattle.qbf_text.proofs.Words.{IfSome, refl, sym, ap, ◌∙◌, arith, append_assoc, append-nil, ⊤, Consumes, Consumes-nil, Comments, Token, End}
 use Rattle.qbf_text.proofs.Words.{is_separator, is_end, tokens_left, IsUnbroken, IsWithinLine, EndsRun, EndsLine, known_left, Lined, Row}
 use Rattle.qbf_text.proofs.Words.{Goes, Ends, Whole, read_from, Fails, Fault, IfKnown, TakesToken, PlaceSkips, SoFar, kind, is_blank}
 use Rattle.qbf_text.proofs.Words.{is_line_end, is_comment_byte, line_number, GivesNext}
@@ -8,7 +8,7 @@ use Rattle.std.proofs.KnownBytes.{Consumes-trans}
 use Rattle.qbf_text.specs.declared.scanner.Place.{Place}
 use Rattle.qbf_text.specs.Stopping.{BeginsAs, Skips, PlaceTakes, FindsToken, StopsAfter}
 use Rattle.qbf_text.proofs.OneToken.{after, read-one}
-use Rattle.qbf_text.proofs.KnownLeft.{always}
+use Rattle.qbf_text.proofs.KnownLeft.{always, took_at}
 use Rattle.qbf_text.proofs.ByteByByte.{left_nothing, left_line_end, left_blank, left_comment, left_run, IsToken, tokens_left-counted}
 use Rattle.qbf_text.specs.Rows as rows
 use Rattle.qbf_text.specs.declared.token.Token.TheVariants as token
@@ -266,3 +266,6 @@ module _ (f : Comments) (begun : Bool) (n : ℕ) (f' : Comments) (begun' : Bool)
       → IfKnown (TakesToken (tokens_left f begun n) (tokens_left f' begun' n') token) t t' → is_end token.0 ≡ false
       → GivesNext (known_left f begun n t) (known_left f' begun' n' t') token
   next_taken token t t' h k = search rules
+
+-- what holds after a line end
+pub ruleset line_ends = (Consumes-nil, skips_line_end, took_at)

@@ -136,6 +136,7 @@ impl Place {
     }
 
     /// Goes past a separator, the next byte of those that were pulled.
+    #[tactic(auto, using(std::proofs::lemmas::Grind::common_steps, crate::proofs::Stops::line_ends))]
     fn pass_separator(&mut self, byte: u8)
         requires next { Some byte ≡ first_of self.old.window }
         requires separates { is_separator byte ≡ true }

@@ -1,15 +1,24 @@
 //! The canonical text of a formula.
 
-ghost use Rattle.std.specs.Prelude.{Ok, ◌≡◌, ◌++◌};
+ghost use Rattle.std.specs.Prelude.{Ok, ◌≡◌, ◌++◌, length};
 ghost use Rattle.qbf_text.specs.Written.{IsPut};
 ghost use Rattle.qbf_text.specs.Canonical.{line_text, spaced_number};
-ghost use Rattle.qdimacs.specs.Grammar.{text, clause};
+ghost use Rattle.qdimacs.specs.Grammar.{text, clause, header};
 ghost use Rattle.qdimacs.specs.Reading.{read_formula};
 ghost use Rattle.qdimacs.specs.Texts.{opening, sets_text, clauses_text};
 
 use dimacs_syntax::{Bare, Bytes, HeaderLine, Put};
 use qbf_core::{Formula, Lit, Prefix, Quantifier, Var};
 use qbf_text::{Sink, SinkFault, put_bytes};
+
+/// A literal with nothing before it.
+#[inline(always)]
+fn bare(lit: Lit) -> Bare
+    ensures sign { result.0 ≡ lit.negative }
+    ensures number { result.1 ≡ lit.var }
+{
+    Bare(lit.is_negative(), u64::from(lit.var().number()))
+}
 
 /// A clause and its zero.
 #[inline(always)]
@@ -20,10 +29,7 @@ fn put_clause<K: Sink>(sink: &mut K, lits: &[Lit]) -> Result<(), SinkFault>
 {
     match lits {
         [] => put_bytes(sink, b"0\n"),
-        [first, rest @ ..] => {
-            let first = Bare(first.is_negative(), u64::from(first.var().number()));
-            (first, (rest, Bytes(b" 0\n"))).put(sink)
-        }
+        [first, rest @ ..] => { (bare(*first), (rest, Bytes(b" 0\n"))).put(sink) }
     }
 }
 
@@ -80,6 +86,18 @@ impl<'a> Put for BlockLines<'a> {
     }
 }
 
+/// The header of a formula's text.
+fn header_line<'a>(formula: &Formula) -> HeaderLine<'a>
+    ensures { ⟦<HeaderLine<'a> as Put>⟧.text result
+        ≡ line_text (header formula.now.max_var (length formula.now.clauses)) }
+{
+    HeaderLine(
+        b"p cnf",
+        u64::from(formula.max_var()),
+        formula.clauses() as u64,
+    )
+}
+
 /// Writes the canonical text of the formula in QDIMACS 1.1, and does not `finish` the sink.
 ///
 /// The lines are the header, each block as a set, outermost first, and each clause with its
@@ -95,7 +113,6 @@ pub fn write_formula<K: Sink>(formula: &Formula, sink: &mut K) -> Result<(), Sin
     // The text is read as the formula.
     ensures reads_back { read_formula (text formula.now) ≡ Ok formula.now }
 {
-    let max_var = u64::from(formula.max_var());
-    let header = HeaderLine(b"p cnf", max_var, formula.clauses() as u64);
+    let header = header_line(formula);
     (header, (BlockLines(formula.prefix()), ClauseLines(formula))).put(sink)
 }

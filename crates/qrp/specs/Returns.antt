@@ -29,8 +29,8 @@ Gives result whole = whole_texts.Gives is_outside result whole
 abbrev pub IsReadAs : List Lined → Result Derivation Fault → Type 0
 IsReadAs ts result = whole_texts.IsReadAs is_outside IsTrace IsFault ts result
 
--- What was consumed of the bytes ends with the result word and at most one separator, but for at most 4,096 bytes that were pulled
--- with it. These are held and not looked at, and lost with the reader.
+-- What was consumed of the bytes ends with the result word and at most one separator after it. Only up to 4,096 bytes that come next may be
+-- consumed too, since a source is pulled for many bytes at once: they are held, no token is made of them, and they are lost with the reader.
 pub record StopsAfterResult (d : Derivation) (bytes rest : List ℕ) : Type 0 where
   pub before : List ℕ
   pub word : List ℕ

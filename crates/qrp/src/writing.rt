@@ -108,6 +108,16 @@ pub fn write_trace<K: Sink>(trace: &Trace, sink: &mut K) -> Result<(), SinkFault
     (header, (trace.sets(), (StepLines(trace), trace.result()))).put(sink)
 }
 
+/// A header that says that there are so many steps.
+fn counted(header: Header, steps: usize) -> Header
+    ensures { result ≡ record header { steps = steps } }
+{
+    Header {
+        vars: header.vars,
+        steps: steps as u64,
+    }
+}
+
 /// Writes the canonical text of the trace with the steps at these positions alone, as `write_trace`
 /// does. It takes no memory.
 ///
@@ -126,7 +136,8 @@ pub fn write_steps_at<K: Sink>(
     ensures { IsPut K.written K.failures K.failed_last sink.old sink.new
         (text (with_steps_at trace.now positions.now)) result }
 {
-    let header = HeaderLine(b"p qrp", trace.header().vars, positions.len() as u64);
-    let steps = StepLinesAt { trace, positions };
-    (header, (trace.sets(), (steps, trace.result()))).put(sink)
+    let Header { vars, steps } = counted(trace.header(), positions.len());
+    let header = HeaderLine(b"p qrp", vars, steps);
+    let lines = StepLinesAt { trace, positions };
+    (header, (trace.sets(), (lines, trace.result()))).put(sink)
 }

@@ -24,7 +24,8 @@ pub fn put_text(buffer: &mut [u8], text: &[u8]) -> usize
 ///
 /// Returns how many numbers they are.
 pub fn put_numbers(list: &mut [u64], numbers: &[u64]) -> usize
-    ensures { IsListed numbers.now list.old list.new result }
+    ensures listed { IsListed numbers.now list.old list.new result }
+    ensures kept { drop result list.new ≡ drop result list.old }
 {
     let n = numbers.len();
     if n <= list.len() {

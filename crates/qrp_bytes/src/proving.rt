@@ -7,7 +7,7 @@ ghost use Rattle.qrp.specs.Grammar.{text};
 ghost use Rattle.qrp.specs.Inferences.{numbers};
 ghost use Rattle.qrp_check.specs.Trim.{trimmed_trace};
 ghost use Rattle.qrp_check.specs.Verdict.{is_sat};
-ghost use Rattle.qrp_check.specs.Checked.{IsChecked};
+ghost use Rattle.qrp_check.specs.Checked.{IsChecked, IsTruthOf};
 ghost use Rattle.qrp_report.specs.Results.{IsTrimmedFrom};
 ghost use Rattle.qrp_bytes.specs.Texts.{lent_bytes};
 ghost use Rattle.qrp_bytes.specs.Verdicts.{StructHeadline, VerifyReturns};
@@ -18,15 +18,26 @@ use qrp::{Steps, Trace, write_steps_at};
 use qrp_check::{CheckFault, Fault, Rules, Verified, find_proof, find_truth};
 use std::alloc::{AllocError, Global};
 
+/// The truth that the trace in these bytes shows of the formula in those.
+///
+/// # Errors
+/// The first fault.
+fn lent_truth(alloc: Global, formula: &[u8], trace: &[u8], rules: Rules) -> Result<bool, Fault>
+    ensures { IsTruthOf (λ v. IsChecked rules (lent_bytes formula.now) (lent_bytes trace.now) v)
+        result }
+{
+    let mut formula_source = SliceSource::new(formula);
+    let mut trace_source = SliceSource::new(trace);
+    find_truth(alloc, &mut formula_source, &mut trace_source, rules)
+}
+
 /// Whether the trace in these bytes proves its result of the formula in those, as `verify` returns
 /// it.
 pub fn verify_bytes(alloc: Global, formula: &[u8], trace: &[u8], rules: Rules) -> QrpVerdict
     ensures headline { StructHeadline rules formula.now trace.now result }
     ensures verdict { VerifyReturns rules formula.now trace.now result }
 {
-    let mut formula_source = SliceSource::new(formula);
-    let mut trace_source = SliceSource::new(trace);
-    let outcome = find_truth(alloc, &mut formula_source, &mut trace_source, rules);
+    let outcome = lent_truth(alloc, formula, trace, rules);
     encode(&outcome)
 }
 

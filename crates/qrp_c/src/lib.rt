@@ -109,8 +109,9 @@ pub extern "C" fn qrp_trim(
     buffer: &mut [u8],
     out: &mut QrpVerdict,
 ) -> usize
-    ensures { TrimReturns (record { any_pivot = any_pivot }) formula.now trace.now
+    ensures trims { TrimReturns (record { any_pivot = any_pivot }) formula.now trace.now
         buffer.old buffer.new out.new result }
+    ensures kept { drop (1 + result) buffer.new ≡ drop (1 + result) buffer.old }
 {
     match trim_bytes(alloc, formula, trace, Rules { any_pivot }) {
         Ok((truth, text)) => {
@@ -142,8 +143,9 @@ pub extern "C" fn qrp_core(
     steps: &mut [u64],
     out: &mut QrpVerdict,
 ) -> usize
-    ensures { CoreReturns (record { any_pivot = any_pivot }) formula.now trace.now
+    ensures lists { CoreReturns (record { any_pivot = any_pivot }) formula.now trace.now
         steps.old steps.new out.new result }
+    ensures kept { drop result steps.new ≡ drop result steps.old }
 {
     match list_core(alloc, formula, trace, Rules { any_pivot }) {
         Ok((truth, numbers)) => {
@@ -171,7 +173,8 @@ pub extern "C" fn qrp_format(
     buffer: &mut [u8],
     out: &mut QrpVerdict,
 ) -> usize
-    ensures { FormatReturns formula.now buffer.old buffer.new out.new result }
+    ensures formats { FormatReturns formula.now buffer.old buffer.new out.new result }
+    ensures kept { drop (1 + result) buffer.new ≡ drop (1 + result) buffer.old }
 {
     match format_bytes(alloc, formula) {
         Ok(text) => {

@@ -7,13 +7,13 @@ ghost use Rattle.qbf_text.specs.Written.{IsPut};
 ghost use Rattle.qdimacs.specs.declared.fault.FormulaFault.{FormulaFault};
 ghost use Rattle.qdimacs.specs.Grammar.{text};
 ghost use Rattle.qrp.specs.Grammar.{text as trace_text};
-ghost use Rattle.qrp_check.specs.Checked.{call_of, truth_of};
+ghost use Rattle.qrp_check.specs.Checked.{IsChecked, StopsOnceRead, call_of, truth_of};
 ghost use Rattle.qrp_check.specs.declared.verdict.Fault.{Fault};
 ghost use Rattle.qrp_check.specs.declared.verdict.Verified.{Verified};
 ghost use Rattle.qrp_check.specs.Trim.{trimmed_trace};
 ghost use Rattle.qrp_report.specs.Lines.{fault_line, verdict_line};
 ghost use Rattle.qrp_report.specs.Refusals.{fault_status};
-ghost use Rattle.qrp_report.specs.Results.{IsFormulaRead};
+ghost use Rattle.qrp_report.specs.Results.{IsFormulaRead, IsTrimmed};
 ghost use Rattle.qrp_rules.specs.declared.rules.Rules.{Rules};
 ghost use Rattle.qrp_cli.specs.declared.job.Job.TheVariants.{Check, Format};
 ghost use Rattle.qrp_cli.specs.Output.{Report, IsOutput, IsSent, IsReported, IsReportedTo};
@@ -25,7 +25,7 @@ use qbf_core::Formula;
 use qbf_text::{Sink, SinkFault, Source};
 use qdimacs::{read_formula, write_formula};
 use qrp::{Trace, write_steps_at};
-use qrp_check::{Fault, Verified, find_proof, find_truth};
+use qrp_check::{Fault, Rules, Verified, find_proof, find_truth};
 use qrp_report::{Refusal, put_refusal, put_verdict};
 use std::alloc::Global;
 
@@ -115,6 +115,44 @@ fn send_proof<O: Sink, E: Sink>(
     }
 }
 
+/// Does the job `Check`: sends the line of the verdict, or for the first fault, to `out`.
+fn run_check<F: Source, T: Source, O: Sink>(
+    alloc: Global,
+    rules: Rules,
+    formula: &mut F,
+    trace: &mut T,
+    out: &mut O,
+) -> Status
+    ensures report { (checked : Result Verified Fault)
+        × IsChecked rules (call_of F.Source formula.old formula.new)
+        (call_of T.Source trace.old trace.new) checked
+        × StopsOnceRead (T.remaining trace.old) (T.remaining trace.new) checked
+        × IsReportedTo O.Sink out.old out.new (check_report rules checked) result }
+    ensures headline { (a b : List ℕ) → F.remaining formula.old ≡ Some a
+        → T.remaining trace.old ≡ Some b → result ≡ 0
+        → PrintsVerdict O.Sink out.old out.new rules a b }
+{
+    send_checked(out, find_truth(alloc, formula, trace, rules))
+}
+
+/// The proof that the job `Trim` sends without the steps outside the core, or the first fault.
+#[tactic(auto, using(crate::proofs::ProgramReport::trimmed_stops))]
+fn find_trimmed<F: Source, T: Source>(
+    alloc: Global,
+    rules: Rules,
+    formula: &mut F,
+    trace: &mut T,
+) -> Result<(Trace, Verified), Fault>
+    ensures trims { IsTrimmed rules (call_of F.Source formula.old formula.new)
+        (call_of T.Source trace.old trace.new) (trimmed_result result) }
+    ensures stops { StopsOnceRead (T.remaining trace.old) (T.remaining trace.new)
+        (trimmed_result result) }
+    ensures within { IfOk result (λ r.
+        AllByRecursion (λ i. i < length r.0.steps) r.1.core.items) }
+{
+    find_proof(alloc, formula, trace, rules)
+}
+
 /// Does the job `Format`: sends the canonical text to `out`, or the line for the fault to `err`.
 fn run_format<F: Source, O: Sink, E: Sink>(
     alloc: Global,
@@ -162,8 +200,8 @@ pub fn run<F: Source, T: Source, O: Sink, E: Sink>(
     ensures not_pulled { job ≡ Format → trace.new ≡ trace.old }
 {
     match job {
-        Job::Check(rules) => send_checked(out, find_truth(alloc, formula, trace, rules)),
-        Job::Trim(rules) => send_proof(out, err, find_proof(alloc, formula, trace, rules)),
+        Job::Check(rules) => run_check(alloc, rules, formula, trace, out),
+        Job::Trim(rules) => send_proof(out, err, find_trimmed(alloc, rules, formula, trace)),
         Job::Format => run_format(alloc, formula, out, err),
     }
 }

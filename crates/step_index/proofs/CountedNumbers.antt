@@ -109,3 +109,8 @@ numbers_pushed ns m are new fit few = grind (arith, common_steps, push_distinct)
 pub counted_pushed : (f n m : ℕ) (ks : List ℕ) → length ks ≡ 0 → (n ≡ 0) ⊎ (f + n ≡ m) → (g : ℕ) → (n ≡ 0 → g ≡ m) → ((n ≡ 0 → ⊥) → g ≡ f)
     → count_from g (n + 1) ++ ks ≡ (count_from f n ++ ks) ++ m ∷ []
 counted_pushed f n m ks none next g first later = grind (arith, common_steps, append-nil, count_more)
+
+-- what stands at a place, and the place of a number
+pub ruleset number_at = (count_length, front_at, late_at)
+
+pub ruleset place_of_number = (front_at, none_there, sparse_at)

@@ -4,6 +4,7 @@ use Rattle.std.proofs.Common.{get_or-set_same, get_or-set_other}
 use Rattle.std.specs.Prelude.{◌↔◌}
 use Rattle.std.specs.Int.{w64, bit_at}
 use Rattle.std.proofs.lemmas.Bool.{cases_eq}
+use Rattle.std.proofs.lemmas.Grind.{get_or_default_zero}
 use Rattle.std.proofs.lemmas.Nat.Bits.{bit_at_set_same, bit_at_set_other}
 use Rattle.step_index.specs.NumberSets.{HasBit}
 
@@ -39,3 +40,5 @@ module _ (words grown : List ℕ) (m : ℕ) (same : (n : ℕ) → get_or grown n
       ],
     )
   ]
+
+pub ruleset inserted = (get_or_default_zero, has_one_more)

@@ -1,6 +1,6 @@
 //! The places of step numbers.
 
-ghost use Rattle.std.specs.Prelude.{◌≡◌, ℕ, ◌+◌, ◌^◌, ◌<◌, ◌⊎◌, false, [], ◌∷◌, ◌++◌, length};
+ghost use Rattle.std.specs.Prelude.{◌≡◌, ◌≢◌, ℕ, ◌+◌, ◌^◌, ◌<◌, ◌⊎◌, false, [], ◌∷◌, ◌++◌, length};
 ghost use Rattle.std.specs.Prelude.{nat_eq, slice_get, Some, IfSome, IfNone, IsTrue, OnOk, OnErr};
 ghost use Rattle.std.specs.List.{AllByRecursion, IsDistinct};
 ghost use Rattle.step_index.specs.Numbers.{is_used, AreStepNumbers};
@@ -30,6 +30,14 @@ fn continues_count(first: u64, counted: usize, number: u64) -> bool
     ensures next { IsTrue result → (counted ≡ 0) ⊎ (first + counted ≡ number) }
 {
     counted < LIMIT && (counted == 0 || number >= first && number - first == counted as u64)
+}
+
+/// The first number of a count that goes on with a number.
+fn first_counted(first: u64, counted: usize, number: u64) -> u64
+    ensures begun { counted ≡ 0 → result ≡ number }
+    ensures kept { counted ≢ 0 → result ≡ first }
+{
+    if counted == 0 { number } else { first }
 }
 
 /// The numbers of steps in the order of a file, no two of them the same, with the place of each.
@@ -80,6 +88,7 @@ impl StepIndex {
     }
 
     /// The number of the step at place `i`, counted from 0; `i` is below `len()`.
+    #[tactic(auto, using(crate::proofs::CountedNumbers::number_at))]
     pub fn number(&self, i: usize) -> u64
         requires { i < length self.now }
         ensures { slice_get self.now i ≡ Some result }
@@ -91,6 +100,7 @@ impl StepIndex {
     }
 
     /// The place of the step with this number: `Some(i)` exactly where `number(i)` is it.
+    #[tactic(auto, using(crate::proofs::CountedNumbers::place_of_number))]
     pub fn position(&self, number: u64) -> Option<usize>
         ensures found { IfSome result (λ i. slice_get self.now i ≡ Some number) }
         ensures only { (i : ℕ) → slice_get self.now i ≡ Some number → result ≡ Some i }
@@ -124,9 +134,7 @@ impl StepIndex {
         ensures err { OnErr result (self.new ≡ self.old) }
     {
         if self.sparse.len() == 0 && continues_count(self.first, self.counted, number) {
-            if self.counted == 0 {
-                self.first = number;
-            }
+            self.first = first_counted(self.first, self.counted, number);
             self.counted += 1;
             return Ok(());
         }

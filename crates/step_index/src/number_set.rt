@@ -47,6 +47,7 @@ impl NumberSet {
     }
 
     /// Puts a number in. An `Err` means that an allocation failed, and changes nothing.
+    #[tactic(auto, using(crate::proofs::NumberSets::inserted))]
     pub(crate) fn insert(&mut self, number: u64) -> Result<(), AllocError>
         requires { number < 2 ^ 37 }
         ensures inserted { OnOk result

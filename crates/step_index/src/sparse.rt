@@ -148,6 +148,14 @@ fn find_from(numbers: &[u64], from: usize, number: u64) -> Option<usize>
     None
 }
 
+/// Whether a number is above the greatest of those that came.
+#[inline(always)]
+fn is_above(greatest: u64, number: u64) -> bool
+    ensures { IsTrue result → greatest < number }
+{
+    number > greatest
+}
+
 impl SparseNumbers {
     /// No numbers. It takes no memory.
     pub(crate) fn new(alloc: Global) -> SparseNumbers
@@ -201,7 +209,7 @@ impl SparseNumbers {
     pub(crate) fn contains(&self, number: u64) -> bool
         ensures { result ≡ is_used number self.now }
     {
-        if number > self.greatest {
+        if is_above(self.greatest, number) {
             return false;
         }
         if self.near.contains(number) {

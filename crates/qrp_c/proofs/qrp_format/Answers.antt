@@ -1,8 +1,8 @@
 use Rattle.std.proofs.Common.{Ok, Err}
 use Rattle.qrp_c.proofs.qrp_format.Goals as goal
 
-pub returns-in-Ok : goal.returns-in-Ok
-returns-in-Ok c =
+pub returns-in-Ok-clause-formats : goal.returns-in-Ok-clause-formats
+returns-in-Ok-clause-formats c =
     let found = c.in-Ok.ensures.ok in
     record {
       outcome = Ok found.0;
@@ -11,8 +11,8 @@ returns-in-Ok c =
       written = rw (c.bytes.ensures.bytes, found.2) at c.put_text.ensures.written;
     }
 
-pub returns-in-Err : goal.returns-in-Err
-returns-in-Err c = record {
+pub returns-in-Err-clause-formats : goal.returns-in-Err-clause-formats
+returns-in-Err-clause-formats c = record {
   outcome = Err (c.in-Err.fault, c.in-Err.line);
   reads = c.in-Err.ensures.err;
   encoded = c.encode_fault.ensures.encoded;

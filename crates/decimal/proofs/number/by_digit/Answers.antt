@@ -1,24 +1,10 @@
 use Rattle.std.proofs.lemmas.Grind.{common_steps}
-use Rattle.std.proofs.Common.{true≢false, inl, inr, false, sym, ap, subst, ◌∙◌, ℕ, List, ◌≡◌, ◌+◌, ◌-◌, ◌*◌, ◌^◌, ◌<◌, ◌≤◌, length, take, drop, get_or, arith}
-use Rattle.std.specs.Str.Parse.{digits_value, AllDigits}
-use Rattle.std.specs.Char.{digit_value, is_ascii_digit}
+use Rattle.std.proofs.Common.{true≢false, inl, inr, false, sym, ap, subst, ◌∙◌, ◌≡◌, ◌+◌, ◌-◌, ◌*◌, ◌^◌, ◌≤◌, length, take, drop, get_or, arith}
+use Rattle.std.specs.Char.{is_ascii_digit}
 use Rattle.std.proofs.lemmas.List.{get_or-drop, length-drop, take_all}
-use Rattle.std.specs.Int.{IsInRange}
-use Rattle.std.proofs.lemmas.Int.Digits.{digits_more, digits_value_more}
-use Rattle.std.proofs.lemmas.Str.{digit_value_digit}
 use Rattle.decimal.proofs.number.by_digit.Goals as goal
 use Rattle.decimal.proofs.number.by_digit.Goals.{then-loop-i-test+then-i-rest+else-is_ascii_digit, then-loop-i-test+else-i-rest}
 use Rattle.decimal.proofs.number.by_digit.Goals.{else-loop-i-test, then-loop-i-test+then-i-rest+then-is_ascii_digit+then-not-fits}
-
--- one digit more: its list and its value
-one_more : (r : List ℕ) (i : ℕ) → i < length r → AllDigits 10 (take i r) → IsInRange 48 57 (get_or r i 0)
-    → AllDigits 10 (take (i + 1) r) × (digits_value 10 (take (i + 1) r) ≡ digits_value 10 (take i r) * 10 + (get_or r i 0 - 48))
-one_more r i within before here =
-    let is : digit_value (get_or r i 0) + 48 ≡ get_or r i 0 = digit_value_digit (get_or r i 0) here in
-    (digits_more 10 r i within before (omega arith), omega (arith, digits_value_more 10 r i within))
-
-pub loop-i-preserved : goal.loop-i-preserved
-loop-i-preserved c = grind (arith, common_steps, one_more)
 
 pub returns : goal.returns
 returns c = record {

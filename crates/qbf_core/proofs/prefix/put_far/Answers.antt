@@ -1,11 +1,8 @@
-use Rattle.qbf_core.proofs.Words.{common_steps, ◌≡◌, ◌∙◌, None, sym, ap, subst, arith, is_some, nat_eq, lookup, IsVariable}
+use Rattle.qbf_core.proofs.Words.{◌≡◌, ◌∙◌, None, sym, ap, subst, arith, is_some, nat_eq, lookup, IsVariable}
 use Rattle.qbf_core.proofs.PrefixLaws.{added, AllByRecursion-push}
-use Rattle.qbf_core.proofs.TableLaws.{beyond_noted, beyond_added}
+use Rattle.qbf_core.proofs.TableLaws.{beyond_added}
 use Rattle.qbf_core.specs.Places.{FitsTable}
 use Rattle.qbf_core.proofs.prefix.put_far.Goals as goal
-
-pub returns-then-reached-number-clause-kept : goal.returns-then-reached-number-clause-kept
-returns-then-reached-number-clause-kept c = grind (arith, common_steps, beyond_noted)
 
 pub returns-clause-kept : goal.returns-clause-kept
 returns-clause-kept c = λ es index none.

@@ -1,5 +1,4 @@
-use Rattle.qbf_core.proofs.Words.{arith, common_steps}
-use Rattle.qbf_core.proofs.Flats.{fewer_parts, fewer_reach, same_count}
+use Rattle.qbf_core.proofs.Flats.{fewer_reach}
 use Rattle.qbf_core.proofs.lists.GrowingLists.pop.Goals as goal
 
 pub invariant_of-self : goal.invariant_of-self
@@ -7,6 +6,3 @@ invariant_of-self g c =
     let inside = c.self.inside in
     let r = c.self.invariant in
     fewer_reach inside.ends _ inside.start _ _ _ c.pop.ensures c.last-start.ensures r.0 r.1
-
-pub returns : goal.returns
-returns g c = grind (arith, common_steps, fewer_parts, same_count)

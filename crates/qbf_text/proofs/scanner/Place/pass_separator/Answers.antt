@@ -1,11 +1,8 @@
-use Rattle.qbf_text.proofs.Words.{arith, common_steps, Consumes-nil, ahead, is_blank, is_line_end}
+use Rattle.qbf_text.proofs.Words.{Consumes-nil, ahead, is_blank, is_line_end}
 use Rattle.qbf_text.proofs.KnownLeft.{took_at, no_line_end_at}
 use Rattle.qbf_text.proofs.ByteByByte.{or_cases}
-use Rattle.qbf_text.proofs.Stops.{skips_line_end, skips_blank}
+use Rattle.qbf_text.proofs.Stops.{skips_blank}
 use Rattle.qbf_text.proofs.scanner.Place.pass_separator.Goals as goal
-
-pub returns-then-byte-eq10-clause-none : goal.returns-then-byte-eq10-clause-none
-returns-then-byte-eq10-clause-none c remaining = grind (arith, common_steps, took_at, Consumes-nil, skips_line_end)
 
 pub returns-else-byte-eq10-clause-none : goal.returns-else-byte-eq10-clause-none
 returns-else-byte-eq10-clause-none c remaining =

@@ -1,23 +1,17 @@
 use Rattle.std.proofs.lemmas.Grind.{common_steps}
-use Rattle.std.proofs.Common.{nat_eq, ℕ, Some, ap, ◌++◌, ◌+◌, arith}
+use Rattle.std.proofs.Common.{nat_eq, ◌≡◌, ℕ, Some, ap, slice_get, ◌++◌, ◌+◌, arith}
 use Rattle.std.specs.List.{IsDistinct}
 use Rattle.std.proofs.lemmas.Option.{slice_get_within}
 use Rattle.step_index.specs.Numbers.{count_from}
 use Rattle.qbf_core.proofs.DistinctNumbers.{one_place}
-use Rattle.step_index.proofs.CountedNumbers.{front_at, sparse_at, none_there}
+use Rattle.step_index.proofs.CountedNumbers.{front_at, sparse_at}
 use Rattle.step_index.proofs.index.StepIndex.position.Goals as goal
-
-pub returns-in-Some-clause-found : goal.returns-in-Some-clause-found
-returns-in-Some-clause-found c = grind (arith, common_steps, front_at)
 
 pub returns-in-Some-clause-only : goal.returns-in-Some-clause-only
 returns-in-Some-clause-only c = λ i here.
     let distinct : IsDistinct nat_eq c.args.self.now = rw (← c.self.view_is) c.self.invariant.numbers.distinct in
-    ap (λ (k : ℕ). Some k)
-    (one_place c.args.self.now distinct c.in-Some.i i c.args.number (returns-in-Some-clause-found c) here)
-
-pub returns-in_err-i-clause-only : goal.returns-in_err-i-clause-only
-returns-in_err-i-clause-only c = grind (arith, common_steps, none_there)
+    let there : slice_get c.args.self.now c.in-Some.i ≡ Some c.args.number = grind (arith, common_steps, front_at) in
+    ap (λ (k : ℕ). Some k) (one_place c.args.self.now distinct c.in-Some.i i c.args.number there here)
 
 pub overflow_add-result : goal.overflow_add-result
 overflow_add-result c =
@@ -26,10 +20,8 @@ overflow_add-result c =
     c.args.number c.in_ok-i.i c.in_ok-i.ensures.some) in
     omega (arith, within, c.self.invariant.numbers.count)
 
-pub returns-clause-found : goal.returns-clause-found
-returns-clause-found c = grind (arith, common_steps, sparse_at)
-
 pub returns-clause-only : goal.returns-clause-only
 returns-clause-only c = λ i here.
     let distinct : IsDistinct nat_eq c.args.self.now = rw (← c.self.view_is) c.self.invariant.numbers.distinct in
-    ap (λ (k : ℕ). Some k) (one_place c.args.self.now distinct _ i c.args.number (returns-clause-found c) here)
+    let there : slice_get c.args.self.now (c.self.inside.counted + c.in_ok-i.i) ≡ Some c.args.number = grind (arith, common_steps, sparse_at) in
+    ap (λ (k : ℕ). Some k) (one_place c.args.self.now distinct _ i c.args.number there here)

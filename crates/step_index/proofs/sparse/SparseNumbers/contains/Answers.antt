@@ -3,9 +3,9 @@ use Rattle.std.proofs.lemmas.Bool.{false≢true}
 use Rattle.step_index.proofs.CountedNumbers.{far_used, near_used, unused_above}
 use Rattle.step_index.proofs.sparse.SparseNumbers.contains.Goals as goal
 
-pub returns-then-number-self : goal.returns-then-number-self
-returns-then-number-self c = rw (← c.self.view_is) (
-    sym (unused_above c.self.inside.numbers.items c.args.number c.self.inside.greatest c.self.invariant.1 c.if-number-self.true))
+pub returns-then-is_above : goal.returns-then-is_above
+returns-then-is_above c = rw (← c.self.view_is) (
+    sym (unused_above c.self.inside.numbers.items c.args.number c.self.inside.greatest c.self.invariant.1 (c.if-is_above.ensures refl)))
 
 pub returns-then-contains : goal.returns-then-contains
 returns-then-contains c = rw (← c.self.view_is) (near_used _ _ _ _ _ _ c.self.invariant.0 (c.if-contains.ensures.0 refl))
