@@ -1,12 +1,12 @@
 -- Three steps make two numbers of sixteen digits: each reads two lanes as one of twice the width, and puts them together.
-use Rattle.std.proofs.Common.{ℕ, zero, suc, ◌≡◌, ◌+◌, ◌*◌, ◌/◌, ◌%◌, ◌^◌, ◌<◌, List, [], ◌∷◌, map, length, arith, bit_and, refl, sym, ap, ap₂, ◌∙◌, subst}
+use Rattle.std.proofs.Common.{Fits, w8, ℕ, zero, suc, ◌≡◌, ◌+◌, ◌*◌, ◌/◌, ◌%◌, ◌^◌, ◌<◌, List, [], ◌∷◌, map, length, arith, bit_and, refl, sym, ap, ap₂, ◌∙◌, subst}
 use Rattle.std.specs.Int.Digits.{number_from_digits}
 use Rattle.std.specs.Simd.Lanes.{Each1, number_l, digits_l, chunk}
 use Rattle.std.proofs.Math.Arith.{digits_lt}
 use Rattle.std.proofs.Common.{pow-suc, mul_comm}
 use Rattle.std.proofs.Math.Nat.{pow-zero}
 use Rattle.std.proofs.lemmas.Nat.{and_mask, mod_below}
-use Rattle.std.proofs.lemmas.Simd.{pick_l_whole}
+use Rattle.std.proofs.lemmas.Simd.{pick_l_whole, below_from_Fits}
 
 -- a lane of two digits to the base p, of which the lower counts k times
 abbrev act : (p q m k v : ℕ) → ℕ
@@ -106,9 +106,11 @@ put_together xs e =
     subst (λ l. joined 10000 (joined 100 (joined 10 l)) ≡ number_from_digits 10 (chunk 0 8 l) ∷ number_from_digits 10 (chunk 8 8 l) ∷ [])
     (pick_l_whole 0 xs 16 e) (ap₂ (λ a b. a ∷ b ∷ []) (one _ _ _ _ _ _ _ _) (one _ _ _ _ _ _ _ _))
 
-pub numbers_are : (ds : List ℕ) → length ds ≡ 16 → Each1 (λ x. x < 256) ds
+pub numbers_are : (ds : List ℕ) → (length ds ≡ 16) × Each1 (Fits w8) ds
     → numbers (fours (pairs ds)) ≡ number_from_digits 10 (chunk 0 8 ds) ∷ number_from_digits 10 (chunk 8 8 ds) ∷ []
-numbers_are ds e h =
+numbers_are ds fits =
+    let e = fits.0 in
+    let h = below_from_Fits w8 ds fits.1 in
     let ps = given 256 65536 255 10 8 (number_l 256 ds) (omega arith) in
     let qs = given 65536 4294967296 65535 100 4 (number_l 256 (digits_l 256 16 (number_l 65536 (pairs ds)))) (omega arith) in
     eights_are (fours (pairs ds)) qs.0 qs.1

@@ -1,11 +1,13 @@
 //! Four signed numbers in a row, all at once.
 
-ghost use Rattle.std.specs.Prelude.{◌≡◌, ◌<◌, ◌≤◌, ◌+◌, ◌^◌, IfSome, length, map, true, slice_index};
+ghost use Rattle.std.specs.Prelude.{◌≡◌, ◌⊎◌, ◌<◌, ◌≤◌, ◌+◌, ◌^◌, IfSome, length, map, true, slice_index};
 ghost use Rattle.std.specs.Simd.Lanes.{Each1, mask_l};
 ghost use Rattle.decimal.specs.Lanes.{IsPlace, Writes};
 ghost use Rattle.decimal.specs.Numbers.{AreInARow, between, is_zero};
 
-use crate::lanes::{all_below_ten, low_halves, signed, two_masks, two_numbers, two_words};
+use crate::lanes::{
+    all_below_ten, low_halves, signed, signs_of_zeros, two_masks, two_numbers, two_signs, two_words,
+};
 use std::simd::prelude::*;
 
 /// Four numbers in a row.
@@ -42,11 +44,17 @@ fn two_at(bytes: &[u8], from: [usize; 2], end: [usize; 2]) -> Two
     let digits = (word ^ u8x16::splat(b'0')) & keep;
     Two {
         values: two_numbers(digits),
-        signs: u64x2::from_le_bytes(keep)
-            .simd_eq(u64x2::from_le_bytes(whole))
-            .select(u64x2::splat(0), u64x2::splat(0xFFFF_FFFF)),
+        signs: two_signs(keep, whole),
         digits,
     }
+}
+
+/// Whether a place is at most seven after another.
+#[inline(always)]
+fn is_near(before: usize, place: usize) -> bool
+    ensures { result ≡ true → (before + 8 ≤ 2 ^ 64) ⊎ (8 ≤ place) → (before ≤ place) × (place < before + 8) }
+{
+    place.wrapping_sub(before) < 8
 }
 
 /// Whether four numbers in a row may end there: each has one to eight bytes, the first end has eight
@@ -61,11 +69,10 @@ fn is_row(len: usize, from: usize, ends: [usize; 4]) -> bool
     if e0 < 8 || e0 >= len || e3 >= len {
         return false;
     }
-    let gaps = e0.wrapping_sub(from.wrapping_add(1))
-        | e1.wrapping_sub(e0.wrapping_add(2))
-        | e2.wrapping_sub(e1.wrapping_add(2))
-        | e3.wrapping_sub(e2.wrapping_add(2));
-    gaps < 8
+    is_near(from.wrapping_add(1), e0)
+        & is_near(e0.wrapping_add(2), e1)
+        & is_near(e1.wrapping_add(2), e2)
+        & is_near(e2.wrapping_add(2), e3)
 }
 
 /// The four numbers of which the first begins at a place, and each other one byte after the end of the
@@ -88,14 +95,12 @@ pub fn four_numbers(bytes: &[u8], from: usize, ends: [usize; 4]) -> Option<FourN
     let b = two_at(bytes, [e1 + 1, e2 + 1], [e2, e3]);
     let values = low_halves(a.values, b.values);
     let signs = low_halves(a.signs, b.signs);
-    let zeros = values.simd_eq(u32x4::splat(0));
-    let wrong = zeros.select(signs, u32x4::splat(0));
-    if !all_below_ten(a.digits, b.digits, wrong.to_le_bytes()) {
+    if !all_below_ten(a.digits, b.digits, signs_of_zeros(values, signs)) {
         return None;
     }
     Some(FourNumbers {
         values: signed(values, signs),
-        zeros: zeros.to_bitmask(),
+        zeros: values.simd_eq(u32x4::splat(0)).to_bitmask(),
     })
 }
 

@@ -24,7 +24,7 @@ returns-clause-numbers c =
     let long : length c.args.ends ≡ 4 = search rules in
     numbers_are x.bytes.now x.ends c.two_at-a.result.values c.two_at-a.result.signs c.two_at-b.result.values c.two_at-b.result.signs x.from
     (row.0, a.0) (row.1, a.1) (row.2, b.0) (row.3, b.1) c.low_halves-values.result c.low_halves-signs.result c.signed.result
-    c.low_halves-values.ensures c.low_halves-signs.ensures c.signed.ensures long small.2
+    c.low_halves-values.ensures c.low_halves-signs.ensures c.signed.ensures long (c.signs_of_zeros.ensures small.2)
 
 pub returns-clause-zeros : goal.returns-clause-zeros
 returns-clause-zeros c =
