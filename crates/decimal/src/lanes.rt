@@ -10,6 +10,7 @@ use std::simd::prelude::*;
 
 /// Eight bytes from one place on, and eight from another.
 #[inline(always)]
+#[tactic(auto, using(crate::proofs::Windows::all_bytes))]
 pub fn two_words(bytes: &[u8], p: usize, q: usize) -> u8x16
     requires { (p + 8 ≤ length bytes.now) × (q + 8 ≤ length bytes.now) }
     ensures { result ≡ chunk p 8 bytes.now ++ chunk q 8 bytes.now }
