@@ -1,6 +1,7 @@
 -- From lanes to the numbers that they are.
 use Rattle.std.proofs.lemmas.Grind.{common_steps}
-use Rattle.std.proofs.Common.{suc, zero, ℕ, ◌≡◌, ◌+◌, ◌-◌, ◌%◌, ◌^◌, ◌<◌, ◌≤◌, cond, eqb, List, [], ◌∷◌, map, take, drop, length, get_or, replicate, arith, refl, sym, ap, ap₂, ◌∙◌, subst, w32, inl, inr}
+use Rattle.std.proofs.Common.{suc, zero, ℕ, ◌≡◌, ◌+◌, ◌-◌, ◌%◌, ◌^◌, ◌<◌, ◌≤◌, cond, eqb, List, [], ◌∷◌, map, take, drop, length, get_or}
+use Rattle.std.proofs.Common.{replicate, arith, refl, sym, ap, ap₂, ◌∙◌, subst, w32, inl, inr}
 use Rattle.std.specs.Prelude.{ℤ, pos, neg_ℤ}
 use Rattle.std.specs.Int.{cast_signed, cast_unsigned}
 use Rattle.std.specs.Simd.Lanes.{zip2, Each1, top, mask_l}
@@ -49,13 +50,16 @@ module _ (bytes : List ℕ) (from end v s : ℕ) (place : IsPlace (length bytes)
       omega (arith, digits_value-lt 10 ds h, more)
 
   text_few : length (between bytes from end) ≤ 8
-  text_few = let cut : length (between bytes from end) ≤ end - from = omega (arith, length-take (end - from) (drop from bytes)) in omega (arith, cut, place.few)
+  text_few =
+      let cut : length (between bytes from end) ≤ end - from = omega (arith, length-take (end - from) (drop from bytes)) in
+      omega (arith, cut, place.few)
 
   pub small : v < 2 ^ 31
   small = elim (cases_Bool (eqb (get_or (between bytes from end) 0 0) 45)) [
     | inl here ↦
         let w = is.minus (eqb-true _ _ here) in
-        omega (arith, w.1, few_digits (drop 1 (between bytes from end)) (omega (arith, length-drop 1 (between bytes from end), text_few)) w.0)
+        let few : length (drop 1 (between bytes from end)) ≤ 8 = omega (arith, length-drop 1 (between bytes from end), text_few) in
+        omega (arith, w.1, few_digits (drop 1 (between bytes from end)) few w.0)
     | inr other ↦
         let w = is.plain (eqb-false _ _ other) in
         omega (arith, w.1, few_digits (between bytes from end) text_few w.0)
@@ -80,7 +84,8 @@ module _ (bytes : List ℕ) (from end v s : ℕ) (place : IsPlace (length bytes)
   }
 
 -- ---- four of them
-same_lanes : (vs ss : List ℕ) → Each1 (λ v. v < 2 ^ 31) vs → map (cast_signed w32) (map (cast_unsigned w32) (zip2 with_sign vs ss)) ≡ zip2 with_sign vs ss
+same_lanes : (vs ss : List ℕ) → Each1 (λ v. v < 2 ^ 31) vs
+    → map (cast_signed w32) (map (cast_unsigned w32) (zip2 with_sign vs ss)) ≡ zip2 with_sign vs ss
 same_lanes [] ss h = refl
 same_lanes (v ∷ vs) [] h = refl
 same_lanes (v ∷ vs) (s ∷ ss) h = ap₂ (λ z zs. z ∷ zs) (same_lane v s h.0) (same_lanes vs ss h.1)

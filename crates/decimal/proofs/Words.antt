@@ -1,5 +1,6 @@
 -- One word of eight bytes, of which the last few are a number.
-use Rattle.std.proofs.Common.{ℕ, zero, suc, ◌≡◌, ◌+◌, ◌-◌, ◌%◌, ◌<◌, ◌≤◌, Bool, true, false, cond, eqb, lt-ltb, List, [], ◌∷◌, ◌++◌, map, drop, length, get_or, replicate, arith, refl, sym, ap, ap₂, ◌∙◌, subst, bit_and, bit_xor, w8}
+use Rattle.std.proofs.Common.{ℕ, zero, suc, ◌≡◌, ◌+◌, ◌-◌, ◌%◌, ◌<◌, ◌≤◌, Bool, true, false, cond, eqb, lt-ltb, List, [], ◌∷◌, ◌++◌, map}
+use Rattle.std.proofs.Common.{drop, length, get_or, replicate, arith, refl, sym, ap, ap₂, ◌∙◌, subst, bit_and, bit_xor, w8}
 use Rattle.std.specs.Simd.Lanes.{zip2, Each1, sel_l, top, number_l}
 use Rattle.std.specs.Char.{digit_value}
 use Rattle.std.specs.Str.Parse.{digits_value, AllDigits}
@@ -50,9 +51,9 @@ masked zero (suc n) (b ∷ w) e h =
 masked (suc z) n [] e h = absurd (omega arith)
 masked (suc z) n (b ∷ w) e h = ap₂ (λ x xs. x ∷ xs) (and_zero (turned b)) (masked z n w (omega (arith, e)) h.1)
 
-after_zeros : (z : ℕ) (ds : List ℕ) → Below 10 (replicate z 0 ++ ds) → Below 10 ds
-after_zeros zero ds h = h
-after_zeros (suc z) ds h = after_zeros z ds h.1
+below_after_zeros : (z : ℕ) (ds : List ℕ) → Below 10 (replicate z 0 ++ ds) → Below 10 ds
+below_after_zeros zero ds h = h
+below_after_zeros (suc z) ds h = below_after_zeros z ds h.1
 
 below_drop : (z k : ℕ) (w : List ℕ) → Below k w → Below k (drop z w)
 below_drop zero k w h = h
@@ -64,10 +65,12 @@ module _ (w : List ℕ) (long : length w ≡ 8) (bytes : Below 256 w) where
       × (number_from_digits 10 (zip2 bit_and (map turned w) (mask_of n)) ≡ digits_value 10 (drop (8 - n) w))
   reads n few small =
       let text = drop (8 - n) w in
-      let parts : zip2 bit_and (map turned w) (mask_of n) ≡ replicate (8 - n) 0 ++ map turned text = masked (8 - n) n w (omega (arith, long, few)) bytes in
-      let last = turned_are text (below_drop (8 - n) 256 w bytes) (after_zeros (8 - n) _ (subst (Below 10) parts small)) in (
+      let parts : zip2 bit_and (map turned w) (mask_of n) ≡ replicate (8 - n) 0 ++ map turned text =
+      masked (8 - n) n w (omega (arith, long, few)) bytes in
+      let last = turned_are text (below_drop (8 - n) 256 w bytes) (below_after_zeros (8 - n) _ (subst (Below 10) parts small)) in (
         last.1,
-        ap (number_from_digits 10) parts ∙ zeros_before (8 - n) (map turned text) ∙ ap (number_from_digits 10) last.0 ∙ sym (digits_value_is 10 text),
+        ap (number_from_digits 10) parts ∙ zeros_before (8 - n) (map turned text) ∙ ap (number_from_digits 10) last.0
+            ∙ sym (digits_value_is 10 text),
       )
 
 -- ---- which of the two masks is taken
@@ -97,14 +100,16 @@ chosen (suc z) m (b ∷ w) e = ap₂ (λ x xs. x ∷ xs) (either (is_minus b) 0)
 -- the masks' numbers differ, by computing
 other_sign : (m : ℕ) → m < 8 → sign_of (mask_of m) (mask_of (suc m)) ≡ 4294967295
 unfolding sign_of
-other_sign m few = cond-false _ _ _ (agree_below_at (λ x. eqb (number_l 256 (mask_of x)) (number_l 256 (mask_of (suc x)))) (λ _. false) 8 m refl few)
+other_sign m few =
+    cond-false _ _ _
+    (agree_below_at (λ x. eqb (number_l 256 (mask_of x)) (number_l 256 (mask_of (suc x)))) (λ _. false) 8 m refl few)
 
 same_sign : (xs : List ℕ) → sign_of xs xs ≡ 0
 unfolding sign_of
 same_sign xs = cond-true _ _ _ (eq-eqb (number_l 256 xs) (number_l 256 xs) refl)
 
-module _ (w rest whole : List ℕ) (n m : ℕ) (long : length w ≡ 8) (bytes : Below 256 w) (one : n ≡ suc m) (few : n ≤ 8) (rest_is : rest ≡ mask_of m)
-    (whole_is : whole ≡ mask_of n) (small : Below 10 (digits 8 w rest whole)) where
+module _ (w rest whole : List ℕ) (n m : ℕ) (long : length w ≡ 8) (bytes : Below 256 w) (one : n ≡ suc m) (few : n ≤ 8)
+    (rest_is : rest ≡ mask_of m) (whole_is : whole ≡ mask_of n) (small : Below 10 (digits 8 w rest whole)) where
   abbrev text : List ℕ
   text = drop (8 - n) w
 
@@ -128,12 +133,14 @@ module _ (w rest whole : List ℕ) (n m : ℕ) (long : length w ≡ 8) (bytes : 
   pub writes : Writes text (number_from_digits 10 (digits 8 w rest whole)) (sign_of (kept 8 w rest whole) whole)
   writes = record {
     plain = λ other.
-        let is : kept 8 w rest whole ≡ mask_of n = now_is ∙ ap (λ t. replicate (8 - n) 0 ++ (cond t 0 255 ∷ replicate m 255)) (ne_eqb _ _ other)
+        let is : kept 8 w rest whole ≡ mask_of n = now_is
+        ∙ ap (λ t. replicate (8 - n) 0 ++ (cond t 0 255 ∷ replicate m 255)) (ne_eqb _ _ other)
         ∙ ap (λ k. replicate (8 - n) 0 ++ replicate k 255) (sym one) in
         let read = taken n few is in
         (read.0, read.1, ap (λ l. sign_of l whole) (is ∙ sym whole_is) ∙ same_sign whole);
     minus = λ here.
-        let is : kept 8 w rest whole ≡ mask_of m = now_is ∙ ap (λ t. replicate (8 - n) 0 ++ (cond t 0 255 ∷ replicate m 255)) (eq-eqb _ _ here)
+        let is : kept 8 w rest whole ≡ mask_of m = now_is
+        ∙ ap (λ t. replicate (8 - n) 0 ++ (cond t 0 255 ∷ replicate m 255)) (eq-eqb _ _ here)
         ∙ sym (one_less (8 - n) (replicate m 255)) ∙ ap (λ z. replicate z 0 ++ replicate m 255) (sym more) in
         let read = taken m (omega (arith, one, few)) is in
         let after : drop (8 - m) w ≡ drop 1 text = ap (λ k. drop k w) (more ∙ omega arith) ∙ sym (drop-drop 1 (8 - n) w) in (

@@ -1,5 +1,6 @@
 -- Words of eight bytes in the lanes of vectors.
-use Rattle.std.specs.Prelude.{ℕ, ◌≡◌, ◌<◌, ◌≤◌, ◌+◌, ◌-◌, ◌==◌, nat_lt, if◌then◌else◌, List, ◌++◌, replicate, drop, slice_index, ℤ, pos, neg_ℤ}
+use Rattle.std.specs.Prelude.{ℕ, ◌≡◌, ◌<◌, ◌≤◌, ◌+◌, ◌-◌, ◌==◌, nat_lt, if◌then◌else◌, List, ◌++◌, replicate, drop, slice_index}
+use Rattle.std.specs.Prelude.{ℤ, pos, neg_ℤ}
 use Rattle.std.specs.Simd.Lanes.{number_l}
 use Rattle.std.specs.Str.Parse.{digits_value, AllDigits}
 

@@ -1,6 +1,7 @@
 //! Four signed numbers in a row, all at once.
 
-ghost use Rattle.std.specs.Prelude.{◌≡◌, ◌⊎◌, ◌<◌, ◌≤◌, ◌+◌, ◌^◌, IfSome, length, map, true, slice_index};
+ghost use Rattle.std.specs.Prelude.{◌≡◌, ◌⊎◌, ◌<◌, ◌≤◌, ◌+◌, ◌^◌, IfSome, true};
+ghost use Rattle.std.specs.Prelude.{length, map, slice_index};
 ghost use Rattle.std.specs.Simd.Lanes.{Each1, mask_l};
 ghost use Rattle.decimal.specs.Lanes.{IsPlace, Writes};
 ghost use Rattle.decimal.specs.Numbers.{AreInARow, between, is_zero};
@@ -19,7 +20,8 @@ pub struct FourNumbers {
     pub zeros: u64,
 }
 
-/// What two numbers are, if each of the bytes is a digit's value.
+/// The values and signs of two numbers, and the values of all their digits: if one of these is not
+/// below ten, the others say nothing.
 #[derive(Clone, Copy)]
 struct Two {
     values: u64x2,
@@ -27,14 +29,16 @@ struct Two {
     digits: u8x16,
 }
 
-/// The numbers between two places each.
+/// Two numbers, each between two places.
 #[inline(always)]
 fn two_at(bytes: &[u8], from: [usize; 2], end: [usize; 2]) -> Two
     requires first { IsPlace (length bytes.now) (slice_index from 0) (slice_index end 0) }
     requires second { IsPlace (length bytes.now) (slice_index from 1) (slice_index end 1) }
     ensures { Each1 (λ x. x < 10) result.digits
-        → Writes (between bytes.now (slice_index from 0) (slice_index end 0)) (slice_index result.values 0) (slice_index result.signs 0)
-        × Writes (between bytes.now (slice_index from 1) (slice_index end 1)) (slice_index result.values 1) (slice_index result.signs 1) }
+        → Writes (between bytes.now (slice_index from 0) (slice_index end 0))
+        (slice_index result.values 0) (slice_index result.signs 0)
+        × Writes (between bytes.now (slice_index from 1) (slice_index end 1))
+        (slice_index result.values 1) (slice_index result.signs 1) }
 {
     let [n, m] = [end[0] - from[0], end[1] - from[1]];
     let word = two_words(bytes, end[0] - 8, end[1] - 8);
@@ -52,18 +56,21 @@ fn two_at(bytes: &[u8], from: [usize; 2], end: [usize; 2]) -> Two
 /// Whether a place is at most seven after another.
 #[inline(always)]
 fn is_near(before: usize, place: usize) -> bool
-    ensures { result ≡ true → (before + 8 ≤ 2 ^ 64) ⊎ (8 ≤ place) → (before ≤ place) × (place < before + 8) }
+    ensures { result ≡ true → (before + 8 ≤ 2 ^ 64) ⊎ (8 ≤ place)
+        → (before ≤ place) × (place < before + 8) }
 {
     place.wrapping_sub(before) < 8
 }
 
-/// Whether four numbers in a row may end there: each has one to eight bytes, the first end has eight
-/// bytes before it, and the last is a place among the bytes.
+/// Whether four numbers in a row may end there: each has one to eight bytes, eight bytes come before
+/// the first end, and one after the last.
 #[inline(always)]
 fn is_row(len: usize, from: usize, ends: [usize; 4]) -> bool
     requires { len < 2 ^ 63 }
-    ensures { result ≡ true → IsPlace len from (slice_index ends 0) × IsPlace len (slice_index ends 0 + 1) (slice_index ends 1)
-        × IsPlace len (slice_index ends 1 + 1) (slice_index ends 2) × IsPlace len (slice_index ends 2 + 1) (slice_index ends 3) }
+    ensures { result ≡ true → IsPlace len from (slice_index ends 0)
+        × IsPlace len (slice_index ends 0 + 1) (slice_index ends 1)
+        × IsPlace len (slice_index ends 1 + 1) (slice_index ends 2)
+        × IsPlace len (slice_index ends 2 + 1) (slice_index ends 3) }
 {
     let [e0, e1, e2, e3] = ends;
     if e0 < 8 || e0 >= len || e3 >= len {
@@ -75,12 +82,12 @@ fn is_row(len: usize, from: usize, ends: [usize; 4]) -> bool
         & is_near(e2.wrapping_add(2), e3)
 }
 
-/// The four numbers of which the first begins at a place, and each other one byte after the end of the
-/// last: each an optional minus and digits, of one to eight bytes. `None` if they are not so, if
-/// one is 0 after a minus, or if less than eight bytes come before the first end, or none after the
-/// last.
+/// The four numbers in a row of which the first begins at a place, and each other one byte after the
+/// end of the last. Each is digits, or a minus and digits, of one to eight bytes in all.
 ///
-/// Which bytes stand at the ends is left to the caller.
+/// `None` if they are not so, for a 0 after a minus, and if less than eight bytes come before the
+/// first end or none after the last. The bytes at the ends and before the first number are not looked
+/// at: whether they part tokens is left to the caller.
 #[inline(always)]
 pub fn four_numbers(bytes: &[u8], from: usize, ends: [usize; 4]) -> Option<FourNumbers>
     ensures numbers { IfSome result (λ r. AreInARow bytes.now from ends r.values) }

@@ -1,7 +1,7 @@
 //! Words of eight bytes in the lanes of vectors, and the numbers that they end with.
 
-ghost use Rattle.std.specs.Prelude.{ℕ, ◌≡◌, ◌<◌, ◌≤◌, ◌+◌, ◌%◌, ◌^◌, ◌++◌, [], ◌∷◌, length, true};
-ghost use Rattle.std.specs.Prelude.{slice_index};
+ghost use Rattle.std.specs.Prelude.{ℕ, ◌≡◌, ◌<◌, ◌≤◌, ◌+◌, ◌%◌, ◌^◌, ◌++◌, [], ◌∷◌};
+ghost use Rattle.std.specs.Prelude.{length, slice_index, true};
 ghost use Rattle.std.specs.Int.Digits.{number_from_digits};
 ghost use Rattle.std.specs.Simd.Lanes.{zip2, Each1, chunk};
 ghost use Rattle.decimal.specs.Lanes.{mask_of, sign_of, with_sign};
@@ -40,7 +40,8 @@ pub fn two_masks(n: usize, m: usize) -> u8x16
 #[inline(always)]
 #[tactic(auto, using(crate::proofs::Steps::numbers_are))]
 pub fn two_numbers(digits: u8x16) -> u64x2
-    ensures { result ≡ number_from_digits 10 (chunk 0 8 digits) ∷ number_from_digits 10 (chunk 8 8 digits) ∷ [] }
+    ensures { result ≡ number_from_digits 10 (chunk 0 8 digits)
+        ∷ number_from_digits 10 (chunk 8 8 digits) ∷ [] }
 {
     let x = u16x8::from_le_bytes(digits);
     let pairs = (x & u16x8::splat(0xFF)) * u16x8::splat(10) + (x >> 8);
@@ -53,7 +54,8 @@ pub fn two_numbers(digits: u8x16) -> u64x2
 /// The low halves of all four.
 #[inline(always)]
 pub fn low_halves(a: u64x2, b: u64x2) -> u32x4
-    ensures { result ≡ slice_index a 0 % 2 ^ 32 ∷ slice_index a 1 % 2 ^ 32 ∷ slice_index b 0 % 2 ^ 32 ∷ slice_index b 1 % 2 ^ 32 ∷ [] }
+    ensures { result ≡ slice_index a 0 % 2 ^ 32 ∷ slice_index a 1 % 2 ^ 32
+        ∷ slice_index b 0 % 2 ^ 32 ∷ slice_index b 1 % 2 ^ 32 ∷ [] }
 {
     u32x4::from_le_bytes(a.to_le_bytes()).shuffle(
         u32x4::from_le_bytes(b.to_le_bytes()),
@@ -73,7 +75,8 @@ fn is_below_ten(bytes: u8x16) -> bool
 /// Whether all bytes are below ten.
 #[inline(always)]
 pub fn all_below_ten(a: u8x16, b: u8x16, c: u8x16) -> bool
-    ensures { result ≡ true → Each1 (λ x. x < 10) a × Each1 (λ x. x < 10) b × Each1 (λ x. x < 10) c }
+    ensures { result ≡ true → Each1 (λ x. x < 10) a × Each1 (λ x. x < 10) b
+        × Each1 (λ x. x < 10) c }
 {
     is_below_ten(a.simd_max(b).simd_max(c))
 }
