@@ -62,8 +62,8 @@ fn is_near(before: usize, place: usize) -> bool
     place.wrapping_sub(before) < 8
 }
 
-/// Whether four numbers in a row may end there: each has one to eight bytes, eight bytes come before
-/// the first end, and one after the last.
+/// Whether four numbers in a row may end there: each has one to eight bytes, eight bytes come
+/// before the first end, and one after the last.
 #[inline(always)]
 fn is_row(len: usize, from: usize, ends: [usize; 4]) -> bool
     requires { len < 2 ^ 63 }
@@ -82,12 +82,12 @@ fn is_row(len: usize, from: usize, ends: [usize; 4]) -> bool
         & is_near(e2.wrapping_add(2), e3)
 }
 
-/// The four numbers in a row of which the first begins at a place, and each other one byte after the
-/// end of the last. Each is digits, or a minus and digits, of one to eight bytes in all.
+/// The four numbers in a row of which the first begins at a place, and each other one byte after
+/// the end of the last. Each is digits, or a minus and digits, of one to eight bytes in all.
 ///
 /// `None` if they are not so, for a 0 after a minus, and if less than eight bytes come before the
-/// first end or none after the last. The bytes at the ends and before the first number are not looked
-/// at: whether they part tokens is left to the caller.
+/// first end or none after the last. The bytes at the ends and before the first number are not
+/// looked at: whether they part tokens is left to the caller.
 #[inline(always)]
 pub fn four_numbers(bytes: &[u8], from: usize, ends: [usize; 4]) -> Option<FourNumbers>
     ensures numbers { IfSome result (λ r. AreInARow bytes.now from ends r.values) }

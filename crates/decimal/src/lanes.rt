@@ -72,7 +72,7 @@ fn is_below_ten(bytes: u8x16) -> bool
     bytes.simd_gt(u8x16::splat(9)).to_bitmask() == 0
 }
 
-/// Whether all bytes are below ten.
+/// Whether each byte of all three is below ten.
 #[inline(always)]
 pub fn all_below_ten(a: u8x16, b: u8x16, c: u8x16) -> bool
     ensures { result ≡ true → Each1 (λ x. x < 10) a × Each1 (λ x. x < 10) b
