@@ -245,6 +245,13 @@ def each_is_refused_by_its_own_function():
         ])
 
 
+def the_lowest_changed_function_comes_first():
+    edits = {"both": "file: src/lib.rt\nold: low::first(a) + b\nnew: a - b\nold: sum(a, 1)\nnew: sum(a, a - b)\n"}
+    with Repository(edits, SOURCE + "pub fn again(a: u64) -> u64 {\n    sum(a, 1)\n}\n") as repository:
+        told = repository.run()
+        return told.returncode == 0 and "refused: one/both: one::sum: returns (not shown)\n" in told.stdout
+
+
 def fails(new, why):
     """The wrong body with this text is no wrong body that is refused as it must be."""
     with Repository({"one": f"file: src/lib.rt\nold: low::first(a) + b\nnew: {new}\n"}) as repository:
@@ -480,6 +487,7 @@ TESTS = [
     a_copy_has_the_contract_and_the_proofs,
     what_is_no_copy,
     each_is_refused_by_its_own_function,
+    the_lowest_changed_function_comes_first,
     bodies_that_are_not_refused,
     right_bodies_do_not_count,
     one_that_has_evidence_is_not_written_down_as_without,
