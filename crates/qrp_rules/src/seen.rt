@@ -111,6 +111,15 @@ impl SeenLits {
         true
     }
 
+    /// Puts the literal in if there is room for it, and says whether it was not seen there.
+    pub(crate) fn is_new(&mut self, lit: Lit) -> bool {
+        if self.contains(lit) {
+            return false;
+        }
+        self.insert(lit);
+        true
+    }
+
     /// Whether the variables are seen to be pairwise distinct and none to be `other`. If not, nothing
     /// is known of what the set holds.
     pub(crate) fn surely_distinct(&mut self, lits: &[Lit], other: Var) -> bool
