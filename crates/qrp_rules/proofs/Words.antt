@@ -17,7 +17,7 @@ pub use Rattle.qrp_rules.specs.Conditions.{AllHold, AllowsPivot, Condition, IsJu
 pub use Rattle.qrp_rules.specs.Conditions.{initial_condition, reduct_conditions, resolvent_conditions}
 pub use Rattle.qrp_rules.specs.Exact.{IsApart, IsMergeSoFar, IsNext, IsPutBy}
 pub use Rattle.qrp_rules.specs.Initial.{IsAccepted, IsAcceptedIf}
-pub use Rattle.qrp_rules.specs.Seen.{AreUpTo, Has, code}
+pub use Rattle.qrp_rules.specs.Seen.{AreUpTo, Has, IsFar, Members, code}
 pub use Rattle.qrp_rules.specs.Walks.{Accounts, IsHeldBefore, IsInnermost, MayOmit, StandsAfter, TakesOut}
 pub use Rattle.qrp_rules.specs.Watches.{IsMet, IsWatchedBy}
 pub use Rattle.qrp_rules.specs.declared.fault.RuleFault.{RuleFault}
