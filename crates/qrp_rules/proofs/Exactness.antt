@@ -4,7 +4,7 @@ use Rattle.qrp_rules.proofs.Words.{slice_get, Some, None, refl, rules, sym, ap, 
 use Rattle.qrp_rules.proofs.Words.{Literal, negated, positive, negative, ◌∈◌, ◌⊆◌, Block, Side, Clashes, IsClean, IsOnlyClash, IsReducible}
 use Rattle.qrp_rules.proofs.Words.{resolvent, in_without, from_without, in_take_all, in_take_more, in_append, append_left, append_right}
 use Rattle.qrp_rules.proofs.Words.{take_more_in, take_within, got_in, Rules, AllHold, AllowsPivot, resolvent_conditions, IsApart}
-use Rattle.qrp_rules.proofs.Words.{IsMergeSoFar, IsNext, IsPutBy, Has, clash_here, clean_within, slice_get_read}
+use Rattle.qrp_rules.proofs.Words.{IsMergeSoFar, IsNext, IsPutBy, Has, Members, clash_here, clean_within, slice_get_read}
 use Rattle.std.proofs.lemmas.List.{take_all}
 use Rattle.qbf_core.specs.Blocks.{AreBound}
 use Rattle.qbf_core.proofs.Inferences.{resolvent_clean, resolvent_bound}
@@ -120,7 +120,7 @@ pub this_or_opposite : (l x : Literal) → l.var ≡ x.var → (l ≡ x) ⊎ (l 
 this_or_opposite l x e = grind (arith, common_steps)
 
 -- the members of `to` are those of two lists, or of the pivot
-pub resolved_whole : (a b to : List Literal) (none one both : List Bool) (x y : Literal) → x ≡ negated y → ((l : Literal) → Has none l → ⊥)
+pub resolved_whole : (a b to : List Literal) (none one both : Members) (x y : Literal) → x ≡ negated y → ((l : Literal) → Has none l → ⊥)
     → ((l : Literal) → Has one l → Has none l ⊎ (l ∈ a)) → (y ∈ b) × Has one (negated y)
     → ((l : Literal) → Has both l → Has one l ⊎ (l ∈ b)) → ((l : Literal) → l ∈ to → (l.var ≡ x.var) ⊎ Has both l)
     → IsResolvedBut a b to a b x
@@ -250,7 +250,7 @@ exact_follows rules side blocks a b to rest_a rest_b x is allowed none_a none_b 
 
 -- ---- a set of literals that grows
 
-pub put_one : (s t : List Bool) (x : Literal) (May : Literal → Type 0) (ok : Bool)
+pub put_one : (s t : Members) (x : Literal) (May : Literal → Type 0) (ok : Bool)
     → ((l : Literal) → Has t l ↔ (Has s l ⊎ ((l ≡ x) × IsTrue ok))) → (Has s (negated x) → ⊥) → May x → IsPutBy s t May
 put_one s t x May ok is out may = record {
   kept = λ l h. (is l).1 (inl h);
@@ -270,5 +270,9 @@ put_one s t x May ok is out may = record {
     negation : Literal → Literal
     negation z = negated z
 
-pub put_then : (r s t : List Bool) (May : Literal → Type 0) → IsPutBy r s May → IsPutBy s t May → IsPutBy r t May
-put_then r s t May p q = search rules
+pub put_then : (r s t : Members) (May : Literal → Type 0) → IsPutBy r s May → IsPutBy s t May → IsPutBy r t May
+put_then r s t May a b = record {
+  kept = λ l h. b.kept l (a.kept l h);
+  only = λ l h. elim (b.only l h) [ inl k ↦ a.only l k | inr m ↦ inr m ];
+  clean = λ apart. b.clean (a.clean apart);
+}

@@ -6,7 +6,6 @@ pub mod Reducing
 pub mod ResolventRows
 pub mod ReductsByMembers
 pub mod MembersDecide
-pub mod ReducedForms
 pub mod OrderedLists
 pub mod Merging
 pub mod Exactness

@@ -3,7 +3,7 @@ use Rattle.std.proofs.Common.{max, min}
 use Rattle.qrp_rules.proofs.Words.{arith, ◌≡◌, ◌∙◌, ◌<◌, ℕ, zero, suc, List, ◌++◌, ◌⊎◌, ◌↔◌, ◌≤◌, Option, Some, None, refl, sym, subst, inl, inr, rules, cases_eq}
 use Rattle.qrp_rules.proofs.Words.{Quantifier, Literal, ◌∈◌, Block, Binds, Side, Clauses, Cubes, reduced_quantifier, deciding_quantifier}
 use Rattle.qrp_rules.proofs.Words.{Clashes, IsReducible, resolvent, in_append, append_left, append_right, in_without, from_without}
-use Rattle.qrp_rules.proofs.Words.{IsReducibleInParents, Accounts, IsHeldBefore, IsInnermost, StandsAfter, TakesOut}
+use Rattle.qrp_rules.proofs.Words.{IsReducibleInParents, Accounts, IsHeldBefore, IsInnermost, StandsAfter, TakesOut, ◌⊆◌, AllHold, reduct_conditions}
 use Rattle.qbf_core.specs.Blocks.{block_in, pairs}
 use Rattle.qbf_core.proofs.Bound.{binds_in, in_bound, block_found}
 use Rattle.qbf_core.proofs.Members.{in_or_not}
@@ -103,6 +103,15 @@ pub reducible_wider : (side : Side) (blocks : List Block) (May : Literal → Typ
     → ((l : Literal) → May l ↔ IsReducible side blocks to l) → ((l : Literal) → l ∈ from → (l ∈ to) ⊎ May l)
     → (l : Literal) → May l → IsReducible side blocks from l
 reducible_wider side blocks May from to same each l may = search (rules, quantifiers_differ)
+
+-- so a list within another, without what may be left out, is a reduct
+pub reduct_without : (side : Side) (blocks : List Block) (May : Literal → Type 0) (from to : List Literal)
+    → ((l : Literal) → May l ↔ IsReducible side blocks to l) → to ⊆ from → ((l : Literal) → l ∈ from → (l ∈ to) ⊎ May l)
+    → AllHold (reduct_conditions side blocks from to)
+reduct_without side blocks May from to same within each = (
+  within,
+  ((λ l h. elim (each l h) [ inl k ↦ inl k | inr may ↦ inr (reducible_wider side blocks May from to same each l may) ]), tt),
+)
 
 -- so what may be left out is reducible, where there is no pivot
 pub each_reducible : (side : Side) (blocks : List Block) (reducible : Reducible) (from to : List Literal)

@@ -2,7 +2,7 @@
 use Rattle.qrp_rules.proofs.Words.{◌⊎◌, ◌≡◌, ◌<◌, ◌+◌, ◌-◌, ℕ, zero, suc, List, [], ◌∷◌, ◌++◌, length, get_or, slice_get, Some, Contains}
 use Rattle.qrp_rules.proofs.Words.{Bool, true, false, refl, sym, ap, subst, ◌∙◌, inl, inr, arith, take, rules, set, cases_eq, length-set}
 use Rattle.qrp_rules.proofs.Words.{slice_get_within, get_or_from_slice_get, Literal, ◌∈◌, Qbf, Side, Clauses, Cubes, IsInitial, IsTautology}
-use Rattle.qrp_rules.proofs.Words.{reduced_quantifier, Exists, AllHold, initial_condition, Has, IsMet, IsWatchedBy, Watch, in_got}
+use Rattle.qrp_rules.proofs.Words.{reduced_quantifier, Exists, AllHold, initial_condition, Has, IsMet, IsWatchedBy, Members, Watch, in_got}
 use Rattle.qrp_rules.proofs.Words.{Contains-push}
 use Rattle.std.proofs.Common.{◌≢◌, Result, Ok, Err}
 use Rattle.std.specs.Prelude.{⊤, IfOk, IsTrue, OnOk, OnErr}
@@ -102,7 +102,7 @@ taken_out lists new n watch inside is items k l i w = elim (cases_eq k n) [
       )
 ]
 
-pub met_keeps : (n : ℕ) (f : Qbf) (seen : List Bool) (old new : List Watch) (i : ℕ) → KeepsWatches old new → IsMet n f seen old i
+pub met_keeps : (n : ℕ) (f : Qbf) (seen : Members) (old new : List Watch) (i : ℕ) → KeepsWatches old new → IsMet n f seen old i
     → IsMet n f seen new i
 met_keeps n f seen old new i kept met = λ clause at. elim (met clause at) [
   | inl t ↦ inl t
@@ -110,12 +110,12 @@ met_keeps n f seen old new i kept met = λ clause at. elim (met clause at) [
 ]
 
 -- a clause that a literal of it watches, which was seen
-pub met_by : (f : Qbf) (seen : List Bool) (lists : List Watch) (i : ℕ) (clause : List Literal) (l : Literal) → slice_get f.clauses i ≡ Some clause
+pub met_by : (f : Qbf) (seen : Members) (lists : List Watch) (i : ℕ) (clause : List Literal) (l : Literal) → slice_get f.clauses i ≡ Some clause
     → l ∈ clause → Has seen l → (k : ℕ) × IsWatchedBy lists k l i → IsMet 0 f seen lists i
 met_by f seen lists i clause l at held has by = search rules
 
 -- one more clause of the formula is looked at
-pub met_next : (f : Qbf) (seen : List Bool) (old new : List Watch) (n : ℕ) → KeepsWatches old new → IsMet 0 f seen new n
+pub met_next : (f : Qbf) (seen : Members) (old new : List Watch) (n : ℕ) → KeepsWatches old new → IsMet 0 f seen new n
     → ((i : ℕ) → i < n → IsMet 0 f seen old i) → (i : ℕ)
     → i < n + 1 → IsMet 0 f seen new i
 met_next f seen old new n kept here before i less = elim (cases_eq i n) [
@@ -124,13 +124,13 @@ met_next f seen old new n kept here before i less = elim (cases_eq i n) [
 ]
 
 -- the clause at position i, if there is one, is still to be watched, or is met
-abbrev pub IsPending : ℕ → Qbf → List Bool → List ℕ → List Watch → ℕ → Type 0
+abbrev pub IsPending : ℕ → Qbf → Members → List ℕ → List Watch → ℕ → Type 0
 IsPending n f seen left lists i =
     (clause : List Literal) → slice_get f.clauses i ≡ Some clause
     → Contains left i ⊎ (IsTautology clause ⊎ ((l : Literal) × (l ∈ clause) × (k : ℕ) × IsWatchedBy lists k l i × ((k < n) ⊎ Has seen l)))
 
 -- a list was taken out
-pub pending_taken : (n : ℕ) (f : Qbf) (seen : List Bool) (old new : List Watch) (taken : List ℕ) → IsTakenOut old n taken new → (i : ℕ)
+pub pending_taken : (n : ℕ) (f : Qbf) (seen : Members) (old new : List Watch) (taken : List ℕ) → IsTakenOut old n taken new → (i : ℕ)
     → IsMet (n + 1) f seen old i → IsPending n f seen taken new i
 pending_taken n f seen old new taken out i was = λ clause at. elim (was clause at) [
   | inl t ↦ inr (inl t)
@@ -141,7 +141,7 @@ pending_taken n f seen old new taken out i was = λ clause at. elim (was clause 
 ]
 
 -- one clause of it is met
-pub pending_met : (n : ℕ) (f : Qbf) (seen : List Bool) (left rest : List ℕ) (last : ℕ) (old new : List Watch) → left ≡ rest ++ last ∷ []
+pub pending_met : (n : ℕ) (f : Qbf) (seen : Members) (left rest : List ℕ) (last : ℕ) (old new : List Watch) → left ≡ rest ++ last ∷ []
     → KeepsWatches old new → IsMet 0 f seen new last → (i : ℕ) → IsPending n f seen left old i → IsPending n f seen rest new i
 pending_met n f seen left rest last old new split kept met i was = λ clause at. elim (was clause at) [
   | inl h ↦ elim (Contains-push_cases rest last i (subst (λ (xs : List ℕ). Contains xs i) split h)) [
@@ -162,22 +162,22 @@ pending_met n f seen left rest last old new split kept met i was = λ clause at.
 ]
 
 -- at last none is left
-pub pending_done : (n : ℕ) (f : Qbf) (seen : List Bool) (left : List ℕ) (lists : List Watch) → length left ≡ 0 → (i : ℕ)
+pub pending_done : (n : ℕ) (f : Qbf) (seen : Members) (left : List ℕ) (lists : List Watch) → length left ≡ 0 → (i : ℕ)
     → IsPending n f seen left lists i → IsMet n f seen lists i
 pending_done n f seen left lists none i was = search rules
 
 -- what was watched by any literals
-pub watched_before : (f : Qbf) (seen : List Bool) (lists : List Watch) (n : ℕ) → n ≡ length lists → ((i : ℕ) → IsWatched f lists i)
+pub watched_before : (f : Qbf) (seen : Members) (lists : List Watch) (n : ℕ) → n ≡ length lists → ((i : ℕ) → IsWatched f lists i)
     → (i : ℕ) → IsMet n f seen lists i
 watched_before f seen lists n e all i clause at = search (rules, slice_get_within)
 
 -- where each clause is met, the cube of which the literals were seen is an initial one
-pub all_met : (f : Qbf) (cube : List Literal) (seen : List Bool) (lists : List Watch) → ((l : Literal) → Has seen l → l ∈ cube)
+pub all_met : (f : Qbf) (cube : List Literal) (seen : Members) (lists : List Watch) → ((l : Literal) → Has seen l → l ∈ cube)
     → ((i : ℕ) → IsMet 0 f seen lists i) → IsInitial Cubes f cube
 all_met f cube seen lists within met = search (rules, in_got)
 
 -- and each is watched
-pub all_watched : (f : Qbf) (seen : List Bool) (lists : List Watch) (t : Bool) → (IsTrue t → (i : ℕ) → IsMet 0 f seen lists i) → IsWatchedIf t f lists
+pub all_watched : (f : Qbf) (seen : Members) (lists : List Watch) (t : Bool) → (IsTrue t → (i : ℕ) → IsMet 0 f seen lists i) → IsWatchedIf t f lists
 all_watched f seen lists true met = λ i clause at. elim (met refl i clause at) [ inl t ↦ inl t | inr w ↦ inr (w.0, w.1, w.2, w.3) ]
 all_watched f seen lists false met = tt
 

@@ -16,11 +16,10 @@ pub use Rattle.qbf_core.specs.declared.quantifier.Quantifier.TheVariants.{All, E
 pub use Rattle.qrp_rules.specs.Conditions.{AllHold, AllowsPivot, Condition, IsJudgement, IsFirstFailure, IsReducibleInParents}
 pub use Rattle.qrp_rules.specs.Conditions.{initial_condition, reduct_conditions, resolvent_conditions}
 pub use Rattle.qrp_rules.specs.Exact.{IsApart, IsMergeSoFar, IsNext, IsPutBy}
-pub use Rattle.qrp_rules.specs.Index.{HasReductAt, IsIndexBelow, IsReducedForm, hash_from, hash_of}
-pub use Rattle.qrp_rules.specs.Seen.{AreUpTo, Has, code}
+pub use Rattle.qrp_rules.specs.Initial.{IsAccepted, IsAcceptedIf}
+pub use Rattle.qrp_rules.specs.Seen.{AreUpTo, Has, IsFar, Members, code}
 pub use Rattle.qrp_rules.specs.Walks.{Accounts, IsHeldBefore, IsInnermost, MayOmit, StandsAfter, TakesOut}
 pub use Rattle.qrp_rules.specs.Watches.{IsMet, IsWatchedBy}
-pub use Rattle.qrp_rules.specs.declared.clause_index.IndexEntry.{IndexEntry}
 pub use Rattle.qrp_rules.specs.declared.fault.RuleFault.{RuleFault}
 pub use Rattle.qrp_rules.specs.declared.fault.RuleFault.TheVariants.{S10, S11, S12}
 pub use Rattle.qrp_rules.specs.declared.initial_cubes.Watch.{Watch}

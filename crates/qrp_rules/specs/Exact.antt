@@ -1,9 +1,9 @@
 -- What walks find over steps that are written exactly as they follow, whatever the order of their literals.
-use Rattle.std.specs.Prelude.{◌≡◌, ℕ, ◌+◌, ◌≤◌, ◌⊎◌, List, Bool, Some, take, length, slice_get}
+use Rattle.std.specs.Prelude.{◌≡◌, ℕ, ◌+◌, ◌≤◌, ◌⊎◌, List, Some, take, length, slice_get}
 use Rattle.qbf_core.specs.Literal.{Literal, negated}
 use Rattle.qbf_core.specs.Members.{◌∈◌, ◌⊆◌}
 use Rattle.qrp_rules.specs.declared.exact.Cursors.{Cursors}
-use Rattle.qrp_rules.specs.Seen.{Has}
+use Rattle.qrp_rules.specs.Seen.{Has, Members}
 
 -- the position after a literal that stands at a position, or the position itself
 abbrev pub IsNext : List Literal → ℕ → Literal → ℕ → Type 0
@@ -37,7 +37,7 @@ pub record IsResolvedBut (a b to rest_a rest_b : List Literal) (x : Literal) : T
   pub right : (l : Literal) → l ∈ b → (l.var ≡ x.var) ⊎ ((l ∈ to) ⊎ (l ∈ rest_b))
 
 -- a set only grows, by literals of which this holds, and no clash comes
-pub record IsPutBy (old new : List Bool) (May : Literal → Type 0) : Type 0 where
+pub record IsPutBy (old new : Members) (May : Literal → Type 0) : Type 0 where
   pub kept : (l : Literal) → Has old l → Has new l
   pub only : (l : Literal) → Has new l → Has old l ⊎ May l
   pub clean : ((l : Literal) → Has old l → Has old (negated l) → ⊥) → (l : Literal) → Has new l → Has new (negated l) → ⊥

@@ -3,7 +3,6 @@ pub mod Unreduced
 pub mod Walks
 pub mod Exact
 pub mod Seen
-pub mod Index
 pub mod Watches
 pub mod Initial
 pub mod Normal

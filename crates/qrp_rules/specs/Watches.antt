@@ -6,7 +6,7 @@ use Rattle.qbf_core.specs.Qbf.{Qbf}
 use Rattle.qbf_core.specs.Rules.{IsTautology}
 use Rattle.qrp_rules.specs.declared.initial_cubes.Watch.{Watch}
 use Rattle.qrp_rules.specs.declared.initial_cubes.InitialCubes.{InitialCubes}
-use Rattle.qrp_rules.specs.Seen.{Has}
+use Rattle.qrp_rules.specs.Seen.{Has, Members}
 
 -- the clause at position i is among those that l watches, whose list is at position k
 pub record IsWatchedBy (lists : List Watch) (k : ℕ) (l : Literal) (i : ℕ) : Type 0 where
@@ -27,7 +27,7 @@ IsWatched f lists i =
     → IsTautology clause ⊎ ((l : Literal) × (l ∈ clause) × (k : ℕ) × IsWatchedBy lists k l i)
 
 -- each clause is watched, and only the lists before position n may be those of literals that were not seen
-abbrev pub IsMet : ℕ → Qbf → List Bool → List Watch → ℕ → Type 0
+abbrev pub IsMet : ℕ → Qbf → Members → List Watch → ℕ → Type 0
 IsMet n f seen lists i =
     (clause : List Literal) → slice_get f.clauses i ≡ Some clause
     → IsTautology clause ⊎ ((l : Literal) × (l ∈ clause) × (k : ℕ) × IsWatchedBy lists k l i × ((k < n) ⊎ Has seen l))

@@ -3,18 +3,19 @@
 
 ghost use Rattle.std.specs.Prelude.{◌≡◌, ◌≢◌, ◌<◌, ◌⊎◌, ◌↔◌, IsTrue, IfOk, IfSome, List};
 ghost use Rattle.qbf_core.specs.Literal.{Literal};
-ghost use Rattle.qbf_core.specs.Members.{◌∈◌};
+ghost use Rattle.qbf_core.specs.Members.{◌∈◌, ◌⊆◌};
 ghost use Rattle.qbf_core.specs.Blocks.{AreBound};
 ghost use Rattle.qbf_core.specs.Rules.{IsClean};
 ghost use Rattle.qbf_core.specs.Sets.{IsOrdered};
 ghost use Rattle.qrp_rules.specs.declared.rules.Rules.{Rules};
-ghost use Rattle.qrp_rules.specs.Conditions.{AllHold, AllowsPivot, resolvent_conditions};
+ghost use Rattle.qrp_rules.specs.Conditions.{AllHold, AllowsPivot, reduct_conditions};
+ghost use Rattle.qrp_rules.specs.Conditions.{resolvent_conditions};
 ghost use Rattle.qrp_rules.specs.Exact.{IsApart, IsPutBy, IsResolvedBut};
 ghost use Rattle.qrp_rules.specs.Seen.{Has};
 ghost use Rattle.qrp_rules.specs.Walks.{TakesOut};
 
 use crate::blocks::{Reducible, reducible_in};
-use crate::exact::{Rests, find_rests, surely_apart};
+use crate::exact::{Rests, accepts_reduct_in_order, find_rests, surely_apart};
 use crate::fault::Holds;
 use crate::resolvent::{Resolution, is_pivot};
 use crate::rules::Rules;
@@ -143,6 +144,75 @@ fn surely_clean_without(seen: &mut SeenLits, prefix: &Prefix, lits: &[Lit], var:
     }
     seen.make_room(prefix)?;
     Ok(seen.surely_distinct(lits, var))
+}
+
+/// Whether each literal of a list is seen to be in another one.
+fn surely_within(seen: &mut SeenLits, lits: &[Lit], whole: &[Lit]) -> bool
+    ensures { IsTrue result → lits.now ⊆ whole.now }
+{
+    seen.clear();
+    put_each(seen, whole);
+    lits.iter().all(|lit| seen.contains(*lit))
+}
+
+/// Whether each literal of a list is seen to be in another one, or may be taken out.
+fn surely_covers(seen: &mut SeenLits, reducible: Reducible, from: &[Lit], to: &[Lit]) -> bool
+    ensures { IsTrue result → (l : Literal) → l ∈ from.now
+        → (l ∈ to.now) ⊎ TakesOut reducible.entry l.var }
+{
+    seen.clear();
+    put_each(seen, to);
+    from.iter()
+        .all(|lit| seen.contains(*lit) || reducible.has(lit.var()))
+}
+
+/// As `accepts_reduct`, by a set of literals.
+#[cold]
+#[inline(never)]
+fn accepts_reduct_by_set<S: Side>(
+    seen: &mut SeenLits,
+    prefix: &Prefix,
+    from: &[Lit],
+    to: &[Lit],
+) -> Holds
+    requires clean { IsClean from.now }
+    requires bound { AreBound prefix.now from.now }
+    ensures follows { IfOk result (λ t. IsTrue t
+        → AllHold (reduct_conditions S.side prefix.now from.now to.now)) }
+    ensures clean { IfOk result (λ t. IsTrue t → IsClean to.now) }
+    ensures bound { IfOk result (λ t. IsTrue t → AreBound prefix.now to.now) }
+{
+    seen.make_room(prefix)?;
+    if !surely_within(seen, to, from) {
+        return Ok(false);
+    }
+    // What is left out has the other quantifier, so the literals that are kept say the block.
+    Ok(surely_covers(seen, reducible_in(prefix, S::REDUCED, to), from, to))
+}
+
+/// Accepts a step that is a reduct of its antecedent, which is clean and bound: as `reduct_fault`,
+/// of literals as they are written, whatever their order and how often each is written.
+///
+/// # Errors
+/// If an allocation fails.
+#[inline(always)]
+pub fn accepts_reduct<S: Side>(
+    seen: &mut SeenLits,
+    prefix: &Prefix,
+    from: &[Lit],
+    to: &[Lit],
+) -> Holds
+    requires clean { IsClean from.now }
+    requires bound { AreBound prefix.now from.now }
+    ensures follows { IfOk result (λ t. IsTrue t
+        → AllHold (reduct_conditions S.side prefix.now from.now to.now)) }
+    ensures clean { IfOk result (λ t. IsTrue t → IsClean to.now) }
+    ensures bound { IfOk result (λ t. IsTrue t → AreBound prefix.now to.now) }
+{
+    if accepts_reduct_in_order::<S>(prefix, from, to) {
+        return Ok(true);
+    }
+    accepts_reduct_by_set::<S>(seen, prefix, from, to)
 }
 
 /// Accepts a step that follows from its antecedents, which are clean and bound, by resolution: as

@@ -1,166 +1,180 @@
-//! The clauses of a formula, found by the literals that universal reduction cannot take out of
-//! them.
+//! The clauses of a formula, found by their literals as they are written, whatever their order.
 
-ghost use Rattle.std.specs.Prelude.{◌≡◌, ◌↔◌, ℕ, List, [], ◌∷◌, Some, Contains, IsTrue, OnOk, IfOk};
-ghost use Rattle.std.specs.Prelude.{IfSome, IfNone};
-ghost use Rattle.qbf_core.specs.Literal.{Literal};
-ghost use Rattle.qbf_core.specs.Blocks.{AreBound};
-ghost use Rattle.qbf_core.specs.Rules.{Clauses, IsClean, IsInitial};
-ghost use Rattle.qbf_core.specs.Qbf.{Qbf};
-ghost use Rattle.qbf_core.specs.Sets.{IsOrdered};
-ghost use Rattle.qrp_rules.specs.Conditions.{IsJudgement, initial_condition};
-ghost use Rattle.qrp_rules.specs.Index.{HasReductAt, IsIndex, IsIndexed, IsReducedForm, hash_with};
-ghost use Rattle.qrp_rules.specs.Index.{hash_from};
+ghost use Rattle.std.specs.Prelude.{IfOk, IfSome};
+ghost use Rattle.qrp_rules.specs.Initial.{IsAccepted, IsAcceptedIf};
 
+use crate::any_order::accepts_reduct;
 use crate::blocks::reducible_in;
-use crate::exact::accepts_reduct;
-use crate::fault::{Holds, Judgement, RuleFault};
-use crate::initial::has_reduct;
+use crate::fault::Holds;
+use crate::initial::is_among;
 use crate::normalizing::is_ordered;
-use crate::seen::{SeenLits, surely_clean};
-use qbf_core::{Formula, Lit, LitSet, Prefix, Quantifier, SetFault};
+use crate::seen::{SeenLits, code, surely_clean};
+use crate::side::Clauses;
+use qbf_core::{Formula, Lit, Prefix, Quantifier};
 use std::alloc::{AllocError, Global};
 
-/// The prime of the FNV hash of 64 bits. It is odd, so that multiplying by it loses nothing.
-const FNV_PRIME: u64 = 1099511628211;
-
-/// A hash with one literal more.
-fn hash_with(hash: u64, lit: Lit) -> u64
-    ensures { result ≡ hash_with hash lit }
-{
-    let sign = if lit.is_negative() { 1 } else { 0 };
-    let code = 2 * u64::from(lit.var().number()) + sign;
-    hash.wrapping_mul(FNV_PRIME).wrapping_add(code)
+/// What a literal adds to a sum: its number, multiplied by two odd constants.
+fn mixed(lit: Lit) -> u64 {
+    let word = (code(lit) as u64).wrapping_mul(0x9E3779B97F4A7C15);
+    (word ^ (word >> 29)).wrapping_mul(0xBF58476D1CE4E5B9)
 }
 
-/// The hash of the literals of a clause that are not reducible in it.
-fn reduced_hash(prefix: &Prefix, lits: &[Lit]) -> u64
-    requires { IsOrdered lits.now }
-    ensures { (form : List Literal) × IsReducedForm Clauses prefix.now lits.now form
-        × (result ≡ hash_from 0 form) }
-{
+/// Sums of literals, in which their order does not matter.
+#[derive(Clone, Copy)]
+struct Sums {
+    /// Of all literals of a list.
+    all: u64,
+    /// Of those that are not reducible in it. A reduct has the same.
+    kept: u64,
+}
+
+/// The sums of a list, of each literal once.
+fn sums_of(seen: &mut SeenLits, prefix: &Prefix, lits: &[Lit]) -> Sums {
     let reducible = reducible_in(prefix, Quantifier::All, lits);
-    let mut hash = 0u64;
+    let ordered = is_ordered(lits);
+    let mut sums = Sums { all: 0, kept: 0 };
+    seen.clear();
     for lit in lits {
-        if !reducible.has(lit.var()) {
-            hash = hash_with(hash, *lit);
+        if ordered || seen.is_new(*lit) {
+            let share = mixed(*lit);
+            sums.all = sums.all.wrapping_add(share);
+            if !reducible.has(lit.var()) {
+                sums.kept = sums.kept.wrapping_add(share);
+            }
         }
     }
-    hash
+    sums
 }
 
-/// The hash of a clause as it is written, or `None` if it is not clean.
-fn clause_hash(alloc: Global, prefix: &Prefix, clause: &[Lit]) -> Result<Option<u64>, AllocError>
-    requires { AreBound prefix.now clause.now }
-    ensures { IfOk result (λ hash. IsClean clause.now →
-        (form : List Literal) × IsReducedForm Clauses prefix.now clause.now form
-        × (hash ≡ Some (hash_from 0 form))) }
-{
-    if is_ordered(clause) {
-        return Ok(Some(reduced_hash(prefix, clause)));
-    }
-    match LitSet::from_slice(alloc, clause, prefix) {
-        Ok(set) => Ok(Some(reduced_hash(prefix, set.as_slice()))),
-        Err(SetFault::E1) => Ok(None),
-        // The clause is bound, so this is not met.
-        Err(SetFault::E2) => Ok(None),
-        Err(SetFault::E3) => Err(AllocError),
-    }
-}
-
-/// Whether the clause at a position, if there is one, is clean and has the set as a reduct.
-fn has_reduct_at(alloc: Global, formula: &Formula, position: usize, set: &[Lit]) -> Holds
-    requires { IsOrdered set.now }
-    ensures { IfOk result (λ t. IsTrue t ↔ HasReductAt formula.now set.now position) }
+/// Accepts literals that are, as they are written, a reduct of the clause at a position, which is
+/// clean, if there is one.
+fn accepts_at(seen: &mut SeenLits, formula: &Formula, position: usize, lits: &[Lit]) -> Holds
+    ensures { IfOk result (IsAcceptedIf formula.now lits.now) }
 {
     if position >= formula.clauses() {
         return Ok(false);
     }
-    has_reduct(alloc, formula.prefix(), formula.clause(position), set)
-}
-
-/// A clause of the formula, and the hash that it shares with its reducts.
-#[derive(Clone, Copy)]
-struct IndexEntry {
-    hash: u64,
-    position: usize,
-}
-
-/// The clean clauses of a formula in their order, each with its hash.
-fn hashed_clauses(alloc: Global, formula: &Formula) -> Result<Vec<IndexEntry>, AllocError>
-    ensures { IfOk result (λ entries. IsIndex formula.now entries.items) }
-{
-    let mut entries = Vec::with_capacity(alloc, formula.clauses())?;
-    for position in 0..formula.clauses() {
-        if let Some(hash) = clause_hash(alloc, formula.prefix(), formula.clause(position))? {
-            entries.push(IndexEntry { hash, position })?;
+    let prefix = formula.prefix();
+    let clause = formula.clause(position);
+    // Most other clauses miss the first literal already.
+    if let Some(lit) = lits.first() {
+        if !is_among(clause, *lit) {
+            return Ok(false);
         }
     }
-    Ok(entries)
+    if !surely_clean(seen, prefix, clause)? {
+        return Ok(false);
+    }
+    accepts_reduct::<Clauses>(seen, prefix, clause, lits)
 }
 
 /// The position of a clause that was looked for, unless an allocation fails.
 type Found = Result<Option<usize>, AllocError>;
 
-/// The clean clauses of a formula, found by their hashes.
+/// Where a chain ends.
+const END: u32 = u32::MAX;
+
+/// Positions in chains, by their sums.
+#[derive(Drop)]
+struct Chains {
+    heads: Vec<u32>,
+    /// The position after each one in its chain.
+    nexts: Vec<u32>,
+}
+
+impl Chains {
+    /// Empty chains, for so many positions.
+    fn new(alloc: Global, count: usize) -> Result<Chains, AllocError> {
+        Ok(Chains {
+            heads: vec![in alloc; END; count]?,
+            nexts: vec![in alloc; END; count]?,
+        })
+    }
+
+    /// Which chain a sum belongs to, by its upper half.
+    fn chain_of(&self, sum: u64) -> usize {
+        ((sum >> 32).wrapping_mul(self.heads.len() as u64) >> 32) as usize
+    }
+
+    /// Puts a position at the beginning of its chain. Those that are too great are left out.
+    fn push(&mut self, sum: u64, position: usize) {
+        let chain = self.chain_of(sum);
+        if chain < self.heads.len() && position < self.nexts.len() && position < END as usize {
+            self.nexts[position] = self.heads[chain];
+            self.heads[chain] = position as u32;
+        }
+    }
+
+    /// The position after another one in its chain, or `END`.
+    fn next(&self, position: u32) -> u32 {
+        match self.nexts.get(position as usize) {
+            Some(next) => *next,
+            None => END,
+        }
+    }
+
+    /// The position of a clause in the chain of a sum that accepts the literals.
+    fn find(&self, seen: &mut SeenLits, formula: &Formula, sum: u64, lits: &[Lit]) -> Found
+        ensures { IfOk result (λ found. IfSome found (λ _. IsAccepted formula.now lits.now)) }
+    {
+        let mut position = match self.heads.get(self.chain_of(sum)) {
+            Some(head) => *head,
+            None => END,
+        };
+        for _ in 0..self.nexts.len() {
+            if position == END {
+                return Ok(None);
+            }
+            if accepts_at(seen, formula, position as usize, lits)? {
+                return Ok(Some(position as usize));
+            }
+            position = self.next(position);
+        }
+        Ok(None)
+    }
+}
+
+/// The clauses of a formula in their chains.
 #[derive(Drop)]
 struct ClauseIndex {
-    /// In the order of the hashes.
-    entries: Vec<IndexEntry>,
+    all: Chains,
+    kept: Chains,
 }
 
 impl ClauseIndex {
-    ghost use Rattle.std.specs.List.Sorted.{IsNonDecreasingBy};
-    ghost use Rattle.qrp_rules.specs.Index.{hash_of};
-
     /// The index of a formula.
-    fn new(alloc: Global, formula: &Formula) -> Result<ClauseIndex, AllocError>
-        ensures index { IfOk result (λ index. IsIndex formula.now index.entries.items) }
-        ensures sorted { IfOk result (λ index. IsNonDecreasingBy hash_of index.entries.items) }
-    {
-        let mut entries = hashed_clauses(alloc, formula)?;
-        entries.sort_unstable_by_key(|entries| entries.hash);
-        Ok(ClauseIndex { entries })
-    }
-
-    /// The clauses from the first with a hash on.
-    fn from_hash(&self, hash: u64) -> &[IndexEntry]
-        requires { IsNonDecreasingBy hash_of self.now.entries.items }
-        ensures sorted { IsNonDecreasingBy hash_of result.now }
-        ensures all { (position : ℕ)
-            → Contains self.now.entries.items (record { hash = hash; position = position })
-            → Contains result.now (record { hash = hash; position = position }) }
-    {
-        let first = self.entries.partition_point(|entries| entries.hash < hash);
-        &self.entries[first..]
-    }
-
-    /// The position of a clean clause with the set as a reduct. Only those with its hash are tried.
-    fn find(&self, alloc: Global, formula: &Formula, set: &[Lit]) -> Found
-        requires index { IsIndex formula.now self.now.entries.items }
-        requires sorted { IsNonDecreasingBy hash_of self.now.entries.items }
-        requires ordered { IsOrdered set.now }
-        ensures some { IfOk result (λ found. IfSome found (HasReductAt formula.now set.now)) }
-        ensures none { IfOk result
-            (λ found. IfNone found (IsInitial Clauses formula.now set.now → ⊥)) }
-    {
-        let hash = reduced_hash(formula.prefix(), set);
-        let rest = self.from_hash(hash);
-        for entry in rest {
-            if entry.hash > hash {
-                return Ok(None);
-            }
-            if has_reduct_at(alloc, formula, entry.position, set)? {
-                return Ok(Some(entry.position));
-            }
+    fn new(
+        alloc: Global,
+        seen: &mut SeenLits,
+        formula: &Formula,
+    ) -> Result<ClauseIndex, AllocError> {
+        let count = formula.clauses();
+        let mut all = Chains::new(alloc, count)?;
+        let mut kept = Chains::new(alloc, count)?;
+        for position in (0..count).rev() {
+            let sums = sums_of(seen, formula.prefix(), formula.clause(position));
+            all.push(sums.all, position);
+            kept.push(sums.kept, position);
         }
-        Ok(None)
+        Ok(ClauseIndex { all, kept })
+    }
+
+    /// The position of a clause that accepts the literals: of one with no others, if there is one.
+    fn find(&self, seen: &mut SeenLits, formula: &Formula, lits: &[Lit]) -> Found
+        ensures { IfOk result (λ found. IfSome found (λ _. IsAccepted formula.now lits.now)) }
+    {
+        let sums = sums_of(seen, formula.prefix(), lits);
+        if let Some(position) = self.all.find(seen, formula, sums.all, lits)? {
+            return Ok(Some(position));
+        }
+        self.kept.find(seen, formula, sums.kept, lits)
     }
 }
 
 /// How the initial clauses of a trace are found in the formula.
 #[derive(Drop)]
 pub(crate) struct InitialClauses {
+    alloc: Global,
     /// The position after the clause that was found last: solvers mostly write them in their order.
     next: usize,
     /// Made when a clause is first not found there.
@@ -169,84 +183,48 @@ pub(crate) struct InitialClauses {
 
 impl InitialClauses {
     /// Nothing is known of the formula, and no memory taken.
-    pub(crate) fn new() -> InitialClauses
-        ensures { (f : Qbf) → IsIndexed f result }
-    {
+    pub(crate) fn new(alloc: Global) -> InitialClauses {
         InitialClauses {
+            alloc,
             next: 0,
             index: None,
         }
     }
 
-    /// Accepts literals that are, as they are written, a reduct of the clause after the one that was
-    /// found last, clean and bound.
-    pub(crate) fn accepts_next(
+    /// The position of a clause that accepts the literals, by the index.
+    fn find(&mut self, seen: &mut SeenLits, formula: &Formula, lits: &[Lit]) -> Found
+        ensures { IfOk result (λ found. IfSome found (λ _. IsAccepted formula.now lits.now)) }
+    {
+        if let Some(index) = &self.index {
+            return index.find(seen, formula, lits);
+        }
+        seen.make_room(formula.prefix())?;
+        let index = ClauseIndex::new(self.alloc, seen, formula)?;
+        let found = index.find(seen, formula, lits)?;
+        self.index = Some(index);
+        Ok(found)
+    }
+
+    /// Accepts literals that are, as they are written, a reduct of a clean clause of the formula,
+    /// clean and bound.
+    pub(crate) fn accepts_initial(
         &mut self,
         formula: &Formula,
         seen: &mut SeenLits,
         lits: &[Lit],
     ) -> Holds
-        requires { IsIndexed formula.now self.old }
-        ensures initial { IfOk result (λ t. IsTrue t → IsInitial Clauses formula.now lits.now) }
-        ensures clean { IfOk result (λ t. IsTrue t → IsClean lits.now) }
-        ensures bound { IfOk result (λ t. IsTrue t → AreBound formula.now.blocks lits.now) }
-        ensures kept { OnOk result (IsIndexed formula.now self.new) }
+        ensures { IfOk result (IsAcceptedIf formula.now lits.now) }
     {
-        if self.next >= formula.clauses() {
-            return Ok(false);
-        }
-        let prefix = formula.prefix();
-        let clause = formula.clause(self.next);
-        // Most other clauses differ in the first literal already.
-        if clause.first() != lits.first() {
-            return Ok(false);
-        }
-        if !surely_clean(seen, prefix, clause)? {
-            return Ok(false);
-        }
-        if !accepts_reduct(prefix, Quantifier::All, clause, lits) {
-            return Ok(false);
-        }
-        self.next = self.next.saturating_add(1);
-        Ok(true)
-    }
-
-    /// The position of a clean clause that has the set as a reduct, by the index.
-    fn find(&mut self, alloc: Global, formula: &Formula, set: &[Lit]) -> Found
-        requires indexed { IsIndexed formula.now self.old }
-        requires ordered { IsOrdered set.now }
-        ensures some { IfOk result (λ found. IfSome found (HasReductAt formula.now set.now)) }
-        ensures none { IfOk result
-            (λ found. IfNone found (IsInitial Clauses formula.now set.now → ⊥)) }
-        ensures kept { OnOk result (IsIndexed formula.now self.new) }
-    {
-        if let Some(index) = &self.index {
-            return index.find(alloc, formula, set);
-        }
-        let index = ClauseIndex::new(alloc, formula)?;
-        let found = index.find(alloc, formula, set)?;
-        self.index = Some(index);
-        Ok(found)
-    }
-
-    /// Why the set is not an initial clause, or `None` where it is one.
-    pub(crate) fn fault(&mut self, alloc: Global, formula: &Formula, set: &[Lit]) -> Judgement
-        requires indexed { IsIndexed formula.now self.old }
-        requires ordered { IsOrdered set.now }
-        ensures fault { IfOk result
-            (λ fault. IsJudgement (initial_condition Clauses formula.now set.now ∷ []) fault) }
-        ensures kept { OnOk result (IsIndexed formula.now self.new) }
-    {
-        if has_reduct_at(alloc, formula, self.next, set)? {
+        if accepts_at(seen, formula, self.next, lits)? {
             self.next = self.next.saturating_add(1);
-            return Ok(None);
+            return Ok(true);
         }
-        match self.find(alloc, formula, set)? {
+        match self.find(seen, formula, lits)? {
             Some(position) => {
                 self.next = position.saturating_add(1);
-                Ok(None)
+                Ok(true)
             }
-            None => Ok(Some(RuleFault::S4)),
+            None => Ok(false),
         }
     }
 }

@@ -5,14 +5,15 @@ ghost use Rattle.std.specs.Prelude.{◌≡◌, ◌⊎◌, ◌↔◌, IsTrue, IfS
 ghost use Rattle.qbf_core.specs.Literal.{Literal, negated};
 ghost use Rattle.qbf_core.specs.Members.{◌∈◌, ◌⊆◌};
 ghost use Rattle.qbf_core.specs.Blocks.{AreBound};
-ghost use Rattle.qbf_core.specs.Rules.{Side, IsClean, reduced_quantifier};
+ghost use Rattle.qbf_core.specs.Rules.{IsClean};
 ghost use Rattle.qrp_rules.specs.Conditions.{AllHold, reduct_conditions};
 ghost use Rattle.qrp_rules.specs.Exact.{IsApart, IsMergeBut, IsMerged, IsNext, IsResolvedBut};
 ghost use Rattle.qrp_rules.specs.Walks.{TakesOut};
 
 use crate::blocks::{Reducible, reducible_in};
 use crate::initial::is_among;
-use qbf_core::{Lit, Prefix, Quantifier, Var};
+use crate::side::Side;
+use qbf_core::{Lit, Prefix, Var};
 
 /// The position after the literal where a list has it at this position, and else the same position.
 #[inline(always)]
@@ -150,14 +151,14 @@ fn accepts_reduct_as_written(reducible: Reducible, from: &[Lit], to: &[Lit]) -> 
     in_to == to.len()
 }
 
-/// Accepts a list that is, as it is written, a clean and bound one without some reducible literals,
-/// for the side that reduces this quantifier. It takes no memory.
+/// Accepts a list that is a clean and bound one without some reducible literals, in its order. It
+/// takes no memory.
 #[inline(always)]
-pub fn accepts_reduct(prefix: &Prefix, reduced: Quantifier, from: &[Lit], to: &[Lit]) -> bool
+pub(crate) fn accepts_reduct_in_order<S: Side>(prefix: &Prefix, from: &[Lit], to: &[Lit]) -> bool
     requires clean { IsClean from.now }
     requires bound { AreBound prefix.now from.now }
-    ensures follows { IsTrue result → (side : Side) → reduced ≡ reduced_quantifier side
-        → AllHold (reduct_conditions side prefix.now from.now to.now) }
+    ensures follows { IsTrue result
+        → AllHold (reduct_conditions S.side prefix.now from.now to.now) }
     ensures clean { IsTrue result → IsClean to.now }
     ensures bound { IsTrue result → AreBound prefix.now to.now }
 {
@@ -166,5 +167,5 @@ pub fn accepts_reduct(prefix: &Prefix, reduced: Quantifier, from: &[Lit], to: &[
         return true;
     }
     // What is left out has the other quantifier, so the literals that are kept say the block.
-    accepts_reduct_as_written(reducible_in(prefix, reduced, to), from, to)
+    accepts_reduct_as_written(reducible_in(prefix, S::REDUCED, to), from, to)
 }

@@ -8,7 +8,7 @@ ghost use Rattle.qbf_core.specs.Rules.{Clauses, Cubes, IsClean, IsReduct, IsTaut
 ghost use Rattle.qbf_core.specs.Sets.{IsOrdered};
 ghost use Rattle.qrp_rules.specs.Conditions.{IsJudgement, initial_condition};
 
-use crate::fault::{Holds, RuleFault};
+use crate::fault::{Holds, Judgement, RuleFault};
 use crate::normalizing::is_ordered;
 use crate::walks::ordered_reduct_fault_by;
 use qbf_core::{Formula, Lit, LitSet, Prefix, Quantifier, SetFault, is_member};
@@ -24,7 +24,7 @@ fn has_ordered_reduct(prefix: &Prefix, clause: &[Lit], set: &[Lit]) -> bool
 }
 
 /// Whether a clause as written is clean and has the set as a reduct.
-pub(crate) fn has_reduct(alloc: Global, prefix: &Prefix, clause: &[Lit], set: &[Lit]) -> Holds
+fn has_reduct(alloc: Global, prefix: &Prefix, clause: &[Lit], set: &[Lit]) -> Holds
     requires bound { AreBound prefix.now clause.now }
     requires ordered { IsOrdered set.now }
     ensures { IfOk result
@@ -46,6 +46,20 @@ pub(crate) fn has_reduct(alloc: Global, prefix: &Prefix, clause: &[Lit], set: &[
         Err(SetFault::E2) => Ok(false),
         Err(SetFault::E3) => Err(AllocError),
     }
+}
+
+/// Why the set is not an initial clause, or `None` if it is one.
+pub(crate) fn initial_clause_fault(alloc: Global, formula: &Formula, set: &[Lit]) -> Judgement
+    requires { IsOrdered set.now }
+    ensures { IfOk result
+        (λ fault. IsJudgement (initial_condition Clauses formula.now set.now ∷ []) fault) }
+{
+    for i in 0..formula.clauses() {
+        if has_reduct(alloc, formula.prefix(), formula.clause(i), set)? {
+            return Ok(None);
+        }
+    }
+    Ok(Some(RuleFault::S4))
 }
 
 /// Whether a clause as written has a literal of the set.

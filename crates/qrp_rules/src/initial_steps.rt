@@ -10,7 +10,7 @@ ghost use Rattle.qrp_rules.specs.Initial.{AreKnown};
 
 use crate::clause_index::InitialClauses;
 use crate::fault::Judgement;
-use crate::initial::initial_cube_fault;
+use crate::initial::{initial_clause_fault, initial_cube_fault};
 use crate::initial_cubes::InitialCubes;
 use crate::seen::SeenLits;
 use crate::side::Side;
@@ -31,13 +31,13 @@ impl InitialSteps {
         ensures { (f : Qbf) → AreKnown f result }
     {
         InitialSteps {
-            clauses: InitialClauses::new(),
+            clauses: InitialClauses::new(alloc),
             cubes: InitialCubes::new(alloc),
         }
     }
 
     /// Accepts literals that are, as they are written, those of an initial step, clean and bound: a
-    /// reduct of the clause after the one that was found last, or an initial cube.
+    /// reduct of a clean clause of the formula, or an initial cube.
     ///
     /// # Errors
     /// If an allocation fails.
@@ -57,26 +57,24 @@ impl InitialSteps {
         ensures known { OnOk result (AreKnown formula.now self.new) }
     {
         match S::REDUCED {
-            Quantifier::All => self.clauses.accepts_next(formula, seen, lits),
+            Quantifier::All => self.clauses.accepts_initial(formula, seen, lits),
             Quantifier::Exists => self.cubes.accepts_initial(formula, seen, lits),
         }
     }
+}
 
-    /// Why a set in order is not an initial step, or `None` if it is one: `S4` for clauses, `S5`
-    /// for cubes, as `Side::initial_fault` says.
-    ///
-    /// # Errors
-    /// If an allocation fails.
-    pub fn fault<S: Side>(&mut self, alloc: Global, formula: &Formula, set: &[Lit]) -> Judgement
-        requires known { AreKnown formula.now self.old }
-        requires ordered { IsOrdered set.now }
-        ensures fault { IfOk result
-            (λ fault. IsJudgement (initial_condition S.side formula.now set.now ∷ []) fault) }
-        ensures known { OnOk result (AreKnown formula.now self.new) }
-    {
-        match S::REDUCED {
-            Quantifier::All => self.clauses.fault(alloc, formula, set),
-            Quantifier::Exists => Ok(initial_cube_fault(alloc, formula, set)),
-        }
+/// Why a set in order is not an initial step, or `None` if it is one: `S4` for clauses, `S5` for
+/// cubes, as `Side::initial_fault` says.
+///
+/// # Errors
+/// If an allocation fails.
+pub fn ordered_initial_fault<S: Side>(alloc: Global, formula: &Formula, set: &[Lit]) -> Judgement
+    requires { IsOrdered set.now }
+    ensures { IfOk result
+        (λ fault. IsJudgement (initial_condition S.side formula.now set.now ∷ []) fault) }
+{
+    match S::REDUCED {
+        Quantifier::All => initial_clause_fault(alloc, formula, set),
+        Quantifier::Exists => Ok(initial_cube_fault(alloc, formula, set)),
     }
 }

@@ -5,7 +5,7 @@
 //!   ordered lists; `Resolution`; `InitialSteps`; `accepts_reduct`, `accepts_resolvent`, `SeenLits`;
 //!   `normalize`.
 //! - Proved: each rule test decides its definition, and names the first fault.
-//! - Read first: `reduct_fault`, `resolvent_fault`, `Side::initial_fault`, `InitialSteps::fault`.
+//! - Read first: `reduct_fault`, `resolvent_fault`, `Side::initial_fault`, `ordered_initial_fault`.
 //! - Tested only: the crate `trace_tests`: worked steps of both sides, each rule with each of its
 //!   faults.
 //! - Trusted: nothing.
@@ -28,11 +28,10 @@ mod seen;
 mod side;
 mod walks;
 
-pub use any_order::accepts_resolvent;
+pub use any_order::{accepts_reduct, accepts_resolvent};
 pub use blocks::is_bound_by;
-pub use exact::accepts_reduct;
 pub use fault::{Judgement, RuleFault};
-pub use initial_steps::InitialSteps;
+pub use initial_steps::{InitialSteps, ordered_initial_fault};
 pub use normalizing::{normal_form, normalize};
 pub use reduct::{is_reduct, ordered_reduct_fault, reduct_fault};
 pub use resolvent::{Resolution, ordered_resolvent_fault, resolvent_fault};

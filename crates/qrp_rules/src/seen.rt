@@ -1,16 +1,17 @@
 //! Literals that were met since the last time that all were forgotten.
 
 ghost use Rattle.std.specs.Prelude.{◌≡◌, ◌≢◌, ◌↔◌, ◌+◌, ◌*◌, ◌≤◌, ℕ, ◌⊎◌};
-ghost use Rattle.std.specs.Prelude.{IsTrue, IfOk, IfSome, get_or, length};
+ghost use Rattle.std.specs.Prelude.{[], IsTrue, IfOk, IfSome, get_or, length};
 ghost use Rattle.qbf_core.specs.Blocks.{pairs};
 ghost use Rattle.qbf_core.specs.Literal.{Literal, negated};
 ghost use Rattle.qbf_core.specs.Members.{◌∈◌};
 ghost use Rattle.qbf_core.specs.Rules.{IsClean};
 ghost use Rattle.qrp_rules.specs.Exact.{IsApart};
-ghost use Rattle.qrp_rules.specs.Seen.{AreUpTo, Has, code};
+ghost use Rattle.qrp_rules.specs.Seen.{AreUpTo, Has, IsFar, code};
 
 use crate::fault::Holds;
 use crate::normalizing::is_ordered;
+use indexmap::IndexSet;
 use qbf_core::{Lit, Prefix, Var};
 use std::alloc::{AllocError, Global};
 use std::marker::Model;
@@ -31,17 +32,21 @@ pub struct SeenLits {
     stamps: Vec<u32>,
     /// The stamp of the literals that are in the set. It is never 0.
     stamp: u32,
+    /// The numbers of those that are in the set and have no stamp, since there is no room for one.
+    far: IndexSet<usize>,
 }
 
 impl Model for SeenLits {
-    ghost use Rattle.std.specs.Prelude.{◌≤◌, Bool, List};
-    ghost use Rattle.qrp_rules.specs.Seen.{AreUpTo, members_by_stamp};
+    ghost use Rattle.std.specs.Prelude.{◌≤◌};
+    ghost use Rattle.qrp_rules.specs.Seen.{AreBeyond, AreUpTo, Members, members_by_stamp};
 
-    ghost Value = { List Bool };
+    ghost Value = { Members };
 
-    ghost view = { λ s. members_by_stamp s.stamps.items s.stamp };
+    ghost view = { λ s.
+        record { near = members_by_stamp s.stamps.items s.stamp; far = s.far.keys } };
 
-    ghost invariant = { λ s. (1 ≤ s.stamp) × AreUpTo s.stamps.items s.stamp };
+    ghost invariant = { λ s. (1 ≤ s.stamp) × AreUpTo s.stamps.items s.stamp
+        × AreBeyond s.far.keys s.stamps.items };
 }
 
 impl SeenLits {
@@ -51,6 +56,7 @@ impl SeenLits {
             alloc,
             stamps: Vec::new(alloc),
             stamp: 1,
+            far: IndexSet::new(alloc),
         }
     }
 
@@ -60,10 +66,11 @@ impl SeenLits {
     /// # Errors
     /// If an allocation fails.
     pub(crate) fn make_room(&mut self, prefix: &Prefix) -> Result<(), AllocError>
-        ensures few { (length self.new ≡ length self.old)
-            ⊎ (length self.new ≤ 4 * length (pairs prefix.now) + 4) }
+        ensures few { (length self.new.near ≡ length self.old.near)
+            ⊎ (length self.new.near ≤ 4 * length (pairs prefix.now) + 4) }
     {
         if self.stamps.is_empty() {
+            clear_far(self.alloc, &mut self.far);
             let width = prefix.len().saturating_mul(4).saturating_add(4);
             self.stamps = vec![in self.alloc; 0; width]?;
         }
@@ -79,6 +86,7 @@ impl SeenLits {
     pub(crate) fn clear(&mut self)
         ensures { (l : Literal) → Has self.new l → ⊥ }
     {
+        clear_far(self.alloc, &mut self.far);
         match self.stamp.checked_add(1) {
             Some(next) => self.stamp = next,
             None => {
@@ -92,22 +100,32 @@ impl SeenLits {
     pub(crate) fn contains(&self, lit: Lit) -> bool
         ensures { IsTrue result ↔ Has self.now lit }
     {
-        match self.stamps.get(code(lit)) {
+        let number = code(lit);
+        match self.stamps.get(number) {
             Some(stamp) => *stamp == self.stamp,
-            None => false,
+            None => is_far(&self.far, number),
         }
     }
 
-    /// Puts the literal in, or returns `false` if there is no room for it.
+    /// Puts the literal in, or returns `false` if there is no memory for it.
     #[tactic(auto, using(crate::proofs::Stamps::stamp_more, crate::proofs::Stamps::code_one, crate::proofs::Stamps::more_stamp))]
     pub(crate) fn insert(&mut self, lit: Lit) -> bool
         ensures { (l : Literal) → Has self.new l ↔ (Has self.old l ⊎ ((l ≡ lit) × IsTrue result)) }
     {
-        let position = code(lit);
-        if position >= self.stamps.len() {
+        let number = code(lit);
+        if number >= self.stamps.len() {
+            return put_far(&mut self.far, number);
+        }
+        self.stamps[number] = self.stamp;
+        true
+    }
+
+    /// Puts the literal in, and says whether it was not seen there.
+    pub(crate) fn is_new(&mut self, lit: Lit) -> bool {
+        if self.contains(lit) {
             return false;
         }
-        self.stamps[position] = self.stamp;
+        self.insert(lit);
         true
     }
 
@@ -119,6 +137,37 @@ impl SeenLits {
     {
         self.clear();
         stamp_vars(&mut self.stamps, self.stamp, lits, other)
+    }
+}
+
+/// Whether a number is among those that are far.
+#[cold]
+fn is_far(far: &IndexSet<usize>, number: usize) -> bool
+    ensures { IsTrue result ↔ IsFar far.now.keys number }
+{
+    far.contains(&number)
+}
+
+/// Takes all numbers out of a set, and gives its memory back: clearing it would take time for each
+/// one that it ever had.
+#[inline(always)]
+fn clear_far(alloc: Global, far: &mut IndexSet<usize>)
+    ensures { far.new.keys ≡ [] }
+{
+    if !far.is_empty() {
+        *far = IndexSet::new(alloc);
+    }
+}
+
+/// Puts a number among those that are far, or returns `false` if there is no memory for it.
+#[cold]
+fn put_far(far: &mut IndexSet<usize>, number: usize) -> bool
+    ensures { (n : ℕ) → IsFar far.new.keys n
+        ↔ (IsFar far.old.keys n ⊎ ((n ≡ number) × IsTrue result)) }
+{
+    match far.insert(number) {
+        Ok(_) => true,
+        Err(_) => false,
     }
 }
 
@@ -172,7 +221,7 @@ pub(crate) fn set_if_clean(seen: &mut SeenLits, lits: &[Lit]) -> bool
     true
 }
 
-/// Puts in each literal of a list for which there is room.
+/// Puts in each literal of a list for which there is memory.
 #[tactic(auto, using(qbf_core::proofs::Members::take_within))]
 pub(crate) fn put_each(seen: &mut SeenLits, lits: &[Lit])
     ensures { (l : Literal) → Has seen.new l → Has seen.old l ⊎ (l ∈ lits.now) }

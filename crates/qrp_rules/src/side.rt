@@ -8,9 +8,8 @@ ghost use Rattle.qbf_core.specs.Rules.{Side, Clauses, Cubes, reduced_quantifier}
 ghost use Rattle.qbf_core.specs.Rules.{deciding_quantifier};
 ghost use Rattle.qrp_rules.specs.Conditions.{IsJudgement, initial_condition};
 
-use crate::clause_index::InitialClauses;
 use crate::fault::Judgement;
-use crate::initial::initial_cube_fault;
+use crate::initial::{initial_clause_fault, initial_cube_fault};
 use qbf_core::{Formula, LitSet, Quantifier};
 use std::alloc::Global;
 
@@ -66,7 +65,7 @@ impl Side for Clauses {
     const DECIDING: Quantifier = Quantifier::Exists;
 
     fn initial_fault(alloc: Global, formula: &Formula, set: &LitSet) -> Judgement {
-        InitialClauses::new().fault(alloc, formula, set.as_slice())
+        initial_clause_fault(alloc, formula, set.as_slice())
     }
 
     ghost reduces = { Prim.cc };

@@ -3,21 +3,21 @@ use Rattle.std.proofs.lemmas.Result.{IfOk-weaker}
 use Rattle.qrp_check.proofs.CoreStep.{not_all_bound, not_clean, set_answer}
 use Rattle.qrp_check.proofs.step.fault_by_sets.Goals as goal
 
-pub returns-in-Err-E1-clause-fault : goal.returns-in-Err-E1-clause-fault
-returns-in-Err-E1-clause-fault g c = grind (arith, common_steps, not_clean)
+pub returns-in-Err-E1 : goal.returns-in-Err-E1
+returns-in-Err-E1 g c = grind (arith, common_steps, not_clean)
 
-pub returns-in-Err-E2-clause-fault : goal.returns-in-Err-E2-clause-fault
-returns-in-Err-E2-clause-fault g c =
+pub returns-in-Err-E2 : goal.returns-in-Err-E2
+returns-in-Err-E2 g c =
     not_all_bound c.args.context.rules g.S.Side.side c.args.context.formula.now c.args.premises c.args.lits.now
     (c.in-Err-E2.ensures.clean (cc c.in-Err-E2.field-0-is))
     (rw c.prefix.ensures.value at c.in-Err-E2.ensures.unbound (cc c.in-Err-E2.field-0-is))
 
-pub returns-in-Some-clause-fault : goal.returns-in-Some-clause-fault
-returns-in-Some-clause-fault g c = rw c.in-Some.is (IfOk-weaker c.premises_fault.result
+pub returns-in-Some : goal.returns-in-Some
+returns-in-Some g c = rw c.in-Some.is (IfOk-weaker c.premises_fault.result
     (λ (fault : Option RuleFault). IsJudgement (premise_conditions c.args.context.rules g.S.Side.side c.args.context.formula.now
     c.in-Some.premises c.normal_form.result.now) fault)
     _
     (λ fault a. set_answer c.args.context.rules g.S.Side.side c.args.context.formula.now c.in-Some.premises c.normal_form.result.now
     c.args.lits.now fault (rw c.normal_form.ensures c.in-Ok.ensures.members)
     (c.in-Ok.ensures.fit.0, rw c.prefix.ensures.value at c.in-Ok.ensures.fit.1) a)
-    c.premises_fault.ensures.fault)
+    c.premises_fault.ensures)

@@ -2,6 +2,9 @@ use Rattle.qrp_rules.proofs.Words.{◌≡◌, ◌⊎◌, subst, sym, inl, inr, L
 use Rattle.qrp_rules.proofs.Exactness.{put_then}
 use Rattle.qrp_rules.proofs.any_order.put_each_left_out.Goals as goal
 
+pub returns-then-not-put_left_out-clause-put : goal.returns-then-not-put_left_out-clause-put
+returns-then-not-put_left_out-clause-put c = put_then _ _ _ _ c.loop-lit.invariant.put c.put_left_out.ensures.put
+
 pub loop-lit-preserved : goal.loop-lit-preserved
 loop-lit-preserved c = record {
   put = put_then _ _ _ _ c.loop-lit.invariant.put c.put_left_out.ensures.put;

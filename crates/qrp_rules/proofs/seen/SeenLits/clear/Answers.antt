@@ -1,11 +1,16 @@
-use Rattle.qrp_rules.proofs.Words.{arith, code}
+use Rattle.qrp_rules.proofs.Words.{arith, code, false≢true, inl, inr}
 use Rattle.qrp_rules.proofs.Stamps.{none_later, zeros_upto}
 use Rattle.qrp_rules.proofs.seen.SeenLits.clear.Goals as goal
 
 pub returns-in-Some : goal.returns-in-Some
-returns-in-Some c = λ l.
-    none_later c.self.inside.stamps.items c.self.inside.stamp c.in-Some.next (code l) c.self.invariant.1 (omega (arith, c.in-Some.ensures))
+returns-in-Some c = λ l h. elim h [
+  | inl near ↦ none_later c.self.inside.stamps.items c.self.inside.stamp c.in-Some.next (code l) c.self.invariant.1
+      (omega (arith, c.in-Some.ensures)) near
+  | inr far ↦ false≢true (rw c.clear_far.ensures at far)
+]
 
 pub returns-in-None : goal.returns-in-None
-returns-in-None c = λ l.
-    none_later c.fill.new.self.items 0 1 (code l) (zeros_upto _ _ (c.fill.ensures.items (λ y e. e))) (omega arith)
+returns-in-None c = λ l h. elim h [
+  | inl near ↦ none_later c.fill.new.self.items 0 1 (code l) (zeros_upto _ _ (c.fill.ensures.items (λ y e. e))) (omega arith) near
+  | inr far ↦ false≢true (rw c.clear_far.ensures at far)
+]
