@@ -105,6 +105,11 @@ module _ (n : Numbers) (bytes : List ℕ) (f : StandInFront n bytes) (from : Cur
       let all : length bytes ≡ length f.whole - f.start = ap length f.rest ∙ length-drop f.start f.whole in
       rw next (omega (arith, s.number.within, length-drop (place n (n.first + c)) f.whole, more, front, all))
 
+  -- a cursor after some numbers is within the bytes
+  pub cursor_within : (c : ℕ) → (0 < c → n.first + c ≤ n.known) → (cursor_to n from c).at ≤ length bytes
+  cursor_within zero few = omega (arith, at_front)
+  cursor_within (suc c) few = within (suc c) (few (omega arith))
+
   -- one number stands between two cursors
   step : (c : ℕ) → n.first + c < n.known
       → PassesNumber bytes (cursor_to n from c) (cursor_to n from (suc c)) (token_at n.values (n.first + c))
@@ -117,29 +122,29 @@ module _ (n : Numbers) (bytes : List ℕ) (f : StandInFront n bytes) (from : Cur
       (passes_number bytes (cursor_to n from c) _ _ _ s.ends_line stands (line_small c) (within c (omega (arith, few))))
 
   module _ {P A F : Type 0} (row : P → Token → Row P A F) (first : P) where
-    passes_by : (next : P) (count : ℕ) → n.first + count ≤ n.known → LeadsBy row first next n.values n.first count
+    passes_by : (next : P) (count : ℕ) → (0 < count → n.first + count ≤ n.known) → LeadsBy row first next n.values n.first count
         → Passes (LeadOn row first next) bytes from (cursor_to n from count)
     passes_by next zero few e =
         subst (λ s. Passes (LeadOn row first s) bytes from from) e (passes_none bytes (LeadOn row first first) from (omega (arith, at_front)) (λ ts. refl))
     passes_by next (suc c) few l =
         passes_on row first l.0 next bytes from (cursor_to n from (suc c)) (cursor_to n from c) (token_at n.values (n.first + c)) l.2
-        (passes_by l.0 c (omega (arith, few)) l.1) (step c (omega (arith, few)))
+        (passes_by l.0 c (λ some. omega (arith, few (omega arith))) l.1) (step c (omega (arith, few (omega arith))))
 
     -- what a grammar took of the numbers is what it passed of the bytes
-    pub takes_passes : (next : P) (count : ℕ) (answer : Option A) → n.first + count ≤ n.known
+    pub takes_passes : (next : P) (count : ℕ) (answer : Option A) → (0 < count → n.first + count ≤ n.known)
         → TakesOver row first next n.values n.first (n.first + count) answer
         → PassesAll row first next bytes from (cursor_to n from count) answer
     takes_passes next count None few l =
         let same : l.count ≡ count = omega (arith, l.counted) in
-        subst (λ k. Passes (LeadOn row first next) bytes from (cursor_to n from k)) same (passes_by next l.count (omega (arith, few, same)) l.leads)
+        subst (λ k. Passes (LeadOn row first next) bytes from (cursor_to n from k)) same (passes_by next l.count (λ some. omega (arith, few (omega (arith, same, some)), same)) l.leads)
     takes_passes next count (Some a) few t =
         let same : suc t.leads.count ≡ count = omega (arith, t.to_is, t.leads.counted) in
         subst (λ k. PassesAll row first next bytes from (cursor_to n from k) (Some a)) same (record {
           last = t.last;
           token = token_at n.values (n.first + t.leads.count);
           here = cursor_to n from t.leads.count;
-          leads = passes_by t.last t.leads.count (omega (arith, few, same)) t.leads.leads;
-          passes = step t.leads.count (omega (arith, few, same));
+          leads = passes_by t.last t.leads.count (λ some. omega (arith, few (omega (arith, same)), same)) t.leads.leads;
+          passes = step t.leads.count (omega (arith, few (omega (arith, same)), same));
           ends = ap (λ k. row t.last (token_at n.values k)) (sym t.leads.counted) ∙ t.ends;
         })
 

@@ -253,9 +253,11 @@ impl Numbers {
     /// The cursor after so many numbers, of which the first stands at `from`.
     #[inline(always)]
     pub fn cursor_after(&self, from: Cursor, count: usize) -> Cursor
-        requires within { self.now.first + count ≤ 2048 }
-        requires further { place self.now self.now.first ≤ place self.now (self.now.first + count) }
-        requires lines { line self.now self.now.first ≤ line self.now (self.now.first + count) }
+        requires within { 0 < count → self.now.first + count ≤ 2048 }
+        requires further { 0 < count
+            → place self.now self.now.first ≤ place self.now (self.now.first + count) }
+        requires lines { 0 < count
+            → line self.now self.now.first ≤ line self.now (self.now.first + count) }
         ensures { result ≡ cursor_to self.now from count }
     {
         if count == 0 {
