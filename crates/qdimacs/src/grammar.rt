@@ -3,7 +3,7 @@
 ghost use Rattle.std.specs.Prelude.{◌≡◌, ◌≤◌, true, length, IfOk};
 ghost use Rattle.std.specs.List.{AllByRecursion};
 ghost use Rattle.qbf_core.specs.Blocks.{pairs, variables, IsPrefix};
-ghost use Rattle.qbf_text.specs.Passing.{LeadOn, Passes};
+ghost use Rattle.qbf_text.specs.Numbers.{LeadsOver};
 ghost use Rattle.qdimacs.specs.declared.grammar.At.TheVariants as at;
 ghost use Rattle.qdimacs.specs.declared.grammar.Parts.{Parts};
 ghost use Rattle.qdimacs.specs.States.{state_at, Moves, Leads, IsSound};
@@ -159,16 +159,18 @@ type Reached = (At, Result<usize, AllocError>);
 /// # Errors
 /// Out of memory.
 #[inline(always)]
+#[tactic(auto, using(crate::proofs::FormulaParts::numbers_lead_on))]
 fn take_clause(parts: &mut Parts, values: &[i32], from: usize) -> Reached
     requires within { from ≤ length values.now }
     requires sound { IsSound at.Clause parts.old }
-    ensures leads { IfOk result.1 (λ to. LeadsFrom row (state_at parts.old at.Clause)
+    ensures leads { IfOk result.1 (λ to. LeadsOver row (state_at parts.old at.Clause)
         (state_at parts.new result.0) values.now from to) }
+    ensures within { IfOk result.1 (λ to. to ≤ length values.now) }
     ensures sound { IsSound result.0 parts.new }
 {
     let mut i = from;
     'literals: while i < values.len() {
-        match take_literal(parts, Token::from(values[i])) {
+        match take_literal(parts, Token::number_at(values, i)) {
             Ok(At::Clause) => i += 1,
             Ok(next) => return (next, Ok(i + 1)),
             Err(Stop::Memory) => return (At::Clause, Err(AllocError)),
@@ -183,16 +185,18 @@ fn take_clause(parts: &mut Parts, values: &[i32], from: usize) -> Reached
 /// # Errors
 /// Out of memory.
 #[inline(always)]
+#[tactic(auto, using(crate::proofs::FormulaParts::numbers_lead_on))]
 fn take_numbers(at: At, parts: &mut Parts, values: &[i32]) -> Reached
     requires sound { IsSound at parts.old }
-    ensures leads { IfOk result.1 (λ to. LeadsFrom row (state_at parts.old at)
+    ensures leads { IfOk result.1 (λ to. LeadsOver row (state_at parts.old at)
         (state_at parts.new result.0) values.now 0 to) }
+    ensures within { IfOk result.1 (λ to. to ≤ length values.now) }
     ensures sound { IsSound result.0 parts.new }
 {
     let mut state = at;
     let mut i = 0;
     'numbers: while i < values.len() {
-        match take_at(state, parts, Token::from(values[i])) {
+        match take_at(state, parts, Token::number_at(values, i)) {
             Ok(next) => state = next,
             Err(Stop::Memory) => return (state, Err(AllocError)),
             Err(Stop::Text(_)) => break,

@@ -24,7 +24,7 @@ fn take_literals(partial: &mut Partial, number: u64, values: &[i32], from: usize
 {
     let mut i = from;
     'literals: while i < values.len() {
-        match take_literal(partial, number, Token::from(values[i])) {
+        match take_literal(partial, number, Token::number_at(values, i)) {
             Ok(At::Lits(_)) => i += 1,
             Ok(next) => return (next, Ok((i + 1, None))),
             Err(Stop::Memory) => return (At::Lits(number), Err(AllocError)),
@@ -44,7 +44,7 @@ fn take_antecedents(partial: &mut Partial, number: u64, values: &[i32]) -> Reach
 {
     let mut i = 0;
     'antecedents: while i < values.len() {
-        match take_antecedent(partial, number, Token::from(values[i])) {
+        match take_antecedent(partial, number, Token::number_at(values, i)) {
             Ok(At::Ants(_)) => i += 1,
             Ok(next) => return (next, Ok((i + 1, Some(())))),
             Err(Stop::Memory) => return (At::Ants(number), Err(AllocError)),
@@ -71,7 +71,7 @@ pub fn take_buffered(here: At, partial: &mut Partial, values: &[i32]) -> Reached
     if values.is_empty() {
         return (here, Ok((0, None)));
     }
-    match take_item_start(partial, Token::from(values[0])) {
+    match take_item_start(partial, Token::number_at(values, 0)) {
         Ok(At::Lits(number)) => take_literals(partial, number, values, 1),
         _ => (here, Ok((0, None))),
     }
