@@ -91,7 +91,7 @@ pub fn take_item_start(partial: &mut Partial, token: Token) -> Next
 
 /// Takes a token in the literals of a step.
 #[inline(always)]
-pub fn take_literal(partial: &mut Partial, number: u64, token: Token) -> Next
+fn take_literal(partial: &mut Partial, number: u64, token: Token) -> Next
     requires sound { IsSound (at.Lits number) partial.old }
     ensures row { Moves (row (state_at partial.old (at.Lits number)) token) partial.new result }
     ensures sound { Leads (at.Lits number) partial.old partial.new result }
@@ -110,7 +110,7 @@ pub fn take_literal(partial: &mut Partial, number: u64, token: Token) -> Next
 
 /// Whether another antecedent may come.
 #[inline(always)]
-fn has_room(ants: &GrowingLists<u64>) -> bool
+pub fn has_room(ants: &GrowingLists<u64>) -> bool
     ensures says { result ≡ has_room ants.now.unfinished }
 {
     ants.unfinished_len() < 2
@@ -118,7 +118,7 @@ fn has_room(ants: &GrowingLists<u64>) -> bool
 
 /// Takes a token in the antecedents of a step.
 #[inline(always)]
-pub fn take_antecedent(partial: &mut Partial, number: u64, token: Token) -> Next
+fn take_antecedent(partial: &mut Partial, number: u64, token: Token) -> Next
     requires sound { IsSound (at.Ants number) partial.old }
     ensures row { Moves (row (state_at partial.old (at.Ants number)) token) partial.new result }
     ensures sound { Leads (at.Ants number) partial.old partial.new result }
