@@ -4,12 +4,13 @@ use Rattle.qbf_text.proofs.Words.{ap, ◌∙◌, subst, arith, Option, Some, Non
 use Rattle.qbf_text.proofs.Words.{line_number, nat_tests, Number, bool_byte}
 use Rattle.std.specs.Prelude.{ℤ, pos, slice_index_or, unsigned_abs, int_lt, get_or, set}
 use Rattle.std.proofs.Common.{length-drop, ◌%◌}
-use Rattle.std.proofs.lemmas.List.{get_or-set_same, get_or-set_other}
+use Rattle.std.proofs.lemmas.List.{get_or-set_same, get_or-set_other, length-set}
 use Rattle.qbf_text.specs.declared.buffered.Cursor.{Cursor}
 use Rattle.qbf_text.specs.declared.numbers.Numbers.{Numbers}
+use Rattle.qbf_text.specs.declared.numbers.Usual.{Usual}
 use Rattle.qbf_text.specs.Numbers.{one_if}
 use Rattle.qbf_text.specs.Passing.{cursor_after, LeadOn, Passes, PassesNumber, PassesAll}
-use Rattle.qbf_text.specs.Numbers.{token_of, token_at, LeadsBy, LeadsOver, TakesOver, place, line, Stands, AreHeld, StandInFront, cursor_to}
+use Rattle.qbf_text.specs.Numbers.{token_of, token_at, LeadsBy, LeadsOver, TakesOver, place, line, NumberEnds, Stands, AreHeld, StandInFront, cursor_to}
 use Rattle.qbf_text.proofs.PassedNumbers.{passes_number, passes_none, passes_on, number_takes}
 
 -- a number takes at least one byte, so that its place comes before the next one
@@ -151,16 +152,17 @@ module _ (n : Numbers) (bytes : List ℕ) (f : StandInFront n bytes) (from : Cur
 -- ---- filling
 
 -- what holds while numbers are put one after the other
-pub record FillsTo (n : Numbers) (whole : List ℕ) (start runs k at lines zeros : ℕ) : Type 0 where
+pub record FillsTo (n : Numbers) (whole : List ℕ) (start runs k at lines : ℕ) : Type 0 where
+  pub values_len : length n.values ≡ 2048
+  pub lines_len : length n.lines ≡ 2049
   pub few : runs ≤ 2048
   pub first : n.first ≤ k
-  pub before : k ≤ 2048
+  pub before : k ≤ runs
   pub front : place n n.first ≡ start
   pub at_is : place n k ≡ at
   pub within : at ≤ length whole
   pub lines_are : line n k ≡ lines
   pub few_lines : lines ≤ k
-  pub few_zeros : zeros ≤ k
   pub stand : (j : ℕ) → n.first ≤ j → j < k → Stands n.values n.places n.lines whole j
 
 -- a number that stands keeps to stand if another is put after it
@@ -177,12 +179,6 @@ stands_still values places lines whole j k v more before s =
       line_is = rw (line_here, line_next) s.line_is;
     }
 
--- the place after a number as it was looked for is that after its separator
-pub ends_there : (p at len : ℕ) → p < 2 ^ 64 → len ≤ 4096 → at ≤ len
-    → ((p + (2 ^ 64 - 1)) % 2 ^ 64 + (2 ^ 64 - at)) % 2 ^ 64 + 1 ≤ len - at
-    → (((p + (2 ^ 64 - 1)) % 2 ^ 64 + (2 ^ 64 - at)) % 2 ^ 64 + 1 ≡ p - at) × ((p + (2 ^ 64 - 1)) % 2 ^ 64 + 1 ≡ p) × (p ≤ len)
-ends_there p at len small few within some = (omega (arith, small, few, within, some), omega (arith, small, few, within, some), omega (arith, small, few, within, some))
-
 before_or_last : (j k : ℕ) → j < k + 1 → (j < k) ⊎ (j ≡ k)
 before_or_last j k within = elim (split (nat_eq j k) refl) [
   | inl same ↦ inr (grind (arith, nat_tests, same))
@@ -193,43 +189,101 @@ before_or_last j k within = elim (split (nat_eq j k) refl) [
     split true e = inl e
     split false e = inr e
 
-module _ (n : Numbers) (whole : List ℕ) (start runs k at lines zeros : ℕ) (f : FillsTo n whole start runs k at lines zeros)
-    (values_len : length n.values ≡ 2048) (lines_len : length n.lines ≡ 2049) (next : k < runs) (v : ℤ) (len : ℕ) (ends : Bool)
-    (stands : BeginsWithNumber (drop at whole) (int_lt v (pos 0)) (unsigned_abs v) len ends) (len_is : len ≡ place n (k + 1) - at) where
-  abbrev pub more : ℕ
-  more = lines + one_if ends
+-- the numbers with one more at a place
+abbrev pub with_number : Numbers → ℕ → ℤ → ℕ → Numbers
+with_number n k v more = record n { values = set n.values k v; lines = set n.lines (k + 1) more }
 
-  stands_here : Stands (set n.values k v) n.places (set n.lines (k + 1) more) whole k
+module _ (n : Numbers) (whole : List ℕ) (start runs k at lines : ℕ) (f : FillsTo n whole start runs k at lines)
+    (next : k < runs) (u : Usual) (more : ℕ) (lines_are : more ≡ lines + one_if u.ends_line) (e : NumberEnds whole at (place n (k + 1)) u) where
+  stands_here : Stands (set n.values k u.value) n.places (set n.lines (k + 1) more) whole k
   stands_here =
-      let value : get_or (set n.values k v) k (pos 0) ≡ v = get_or-set_same n.values k v (pos 0) (omega (arith, values_len, next, f.few)) in
+      let value : get_or (set n.values k u.value) k (pos 0) ≡ u.value =
+      get_or-set_same n.values k u.value (pos 0) (omega (arith, f.values_len, next, f.few)) in
       let line_here : get_or (set n.lines (k + 1) more) k 0 ≡ lines =
       get_or-set_other n.lines (k + 1) k more 0 (λ e. omega (arith, e)) ∙ f.lines_are in
       let line_next : get_or (set n.lines (k + 1) more) (k + 1) 0 ≡ more =
-      get_or-set_same n.lines (k + 1) more 0 (omega (arith, lines_len, next, f.few)) in
+      get_or-set_same n.lines (k + 1) more 0 (omega (arith, f.lines_len, next, f.few)) in
       record {
-        ends_line = ends;
-        number = rw (value, f.at_is) (subst (λ l. BeginsWithNumber (drop at whole) (int_lt v (pos 0)) (unsigned_abs v) l ends) len_is stands);
-        line_is = rw (line_here, line_next) refl;
+        ends_line = u.ends_line;
+        number = rw (value, f.at_is) e.1;
+        line_is = rw (line_here, line_next) lines_are;
       }
 
-  more_stand : (j : ℕ) → n.first ≤ j → j < k + 1 → Stands (set n.values k v) n.places (set n.lines (k + 1) more) whole j
+  more_stand : (j : ℕ) → n.first ≤ j → j < k + 1 → Stands (set n.values k u.value) n.places (set n.lines (k + 1) more) whole j
   more_stand j low high = elim (before_or_last j k high) [
-      | inl before ↦ stands_still n.values n.places n.lines whole j k v more before (f.stand j low before)
-      | inr here ↦ rw here stands_here
-    ]
+    | inl before ↦ stands_still n.values n.places n.lines whole j k u.value more before (f.stand j low before)
+    | inr here ↦ rw here stands_here
+  ]
 
-  pub fills_more : (z : List ℕ) (count : ℕ) → count ≤ zeros + 1 → place n (k + 1) ≤ length whole
-      → FillsTo (record n { values = set n.values k v; lines = set n.lines (k + 1) more; zeros = z }) whole start runs (k + 1)
-      (place n (k + 1)) more count
-  fills_more z count few within = record {
+  fills_with : FillsTo (with_number n k u.value more) whole start runs (k + 1) (place n (k + 1)) more
+  fills_with = record {
+    values_len = length-set n.values k u.value ∙ f.values_len;
+    lines_len = length-set n.lines (k + 1) more ∙ f.lines_len;
     few = f.few;
     first = omega (arith, f.first);
-    before = omega (arith, next, f.few);
+    before = omega (arith, next);
     front = f.front;
     at_is = refl;
-    within = within;
-    lines_are = get_or-set_same n.lines (k + 1) more 0 (omega (arith, lines_len, next, f.few));
-    few_lines = omega (arith, f.few_lines, one_at_most ends);
-    few_zeros = omega (arith, f.few_zeros, few);
+    within = e.0;
+    lines_are = get_or-set_same n.lines (k + 1) more 0 (omega (arith, f.lines_len, next, f.few));
+    few_lines = omega (arith, lines_are, f.few_lines, one_at_most u.ends_line);
     stand = more_stand;
   }
+
+  -- one number more
+  pub fills_more : (m : Numbers) → m ≡ with_number n k u.value more → FillsTo m whole start runs (k + 1) (place m (k + 1)) more
+  fills_more m is = rw is fills_with
+
+-- nothing turns on the zeros
+pub fills_still : (n m : Numbers) (z : List ℕ) (whole : List ℕ) (start runs k at lines : ℕ) → m ≡ record n { zeros = z }
+    → FillsTo n whole start runs k at lines → FillsTo m whole start runs k at lines
+fills_still n m z whole start runs k at lines is f = rw is (record {
+  values_len = f.values_len;
+  lines_len = f.lines_len;
+  few = f.few;
+  first = f.first;
+  before = f.before;
+  front = f.front;
+  at_is = f.at_is;
+  within = f.within;
+  lines_are = f.lines_are;
+  few_lines = f.few_lines;
+  stand = f.stand;
+})
+
+-- places stay where they are
+same_places : (n m : Numbers) (k : ℕ) (v : ℤ) (more : ℕ) → m ≡ with_number n k v more → (j : ℕ) → place m j ≡ place n j
+same_places n m k v more is j = ap (λ (x : Numbers). place x j) is
+
+-- a number more, where the places are those of other numbers
+step_on : (n0 n m : Numbers) (whole : List ℕ) (start runs k l lines : ℕ) → ((j : ℕ) → place n j ≡ place n0 j) → l ≡ k + 1
+    → FillsTo n whole start runs k (place n k) lines → k < runs → (u : Usual) (more : ℕ) → more ≡ lines + one_if u.ends_line
+    → NumberEnds whole (place n0 k) (place n0 l) u → m ≡ with_number n k u.value more
+    → FillsTo m whole start runs l (place m l) more
+step_on n0 n m whole start runs k l lines same is f next u more counted e put =
+    let there : place n (k + 1) ≡ place n0 l = same (k + 1) ∙ ap (place n0) (sym is) in
+    let ends : NumberEnds whole (place n k) (place n (k + 1)) u = rw (same k, there) e in
+    subst (λ j. FillsTo m whole start runs j (place m j) more) (sym is)
+    (fills_more n whole start runs k (place n k) lines f next u more counted ends m put)
+
+-- four numbers more
+pub fills_four : (n n1 n2 n3 n4 : Numbers) (whole : List ℕ) (start runs k at lines a1 a2 a3 a4 : ℕ) (u1 u2 u3 u4 : Usual)
+    → FillsTo n whole start runs k at lines → k + 4 ≤ runs
+    → NumberEnds whole at (place n (k + 1)) u1 → NumberEnds whole (place n (k + 1)) (place n (k + 2)) u2
+    → NumberEnds whole (place n (k + 2)) (place n (k + 3)) u3 → NumberEnds whole (place n (k + 3)) (place n (k + 4)) u4
+    → a1 ≡ lines + one_if u1.ends_line → a2 ≡ a1 + one_if u2.ends_line → a3 ≡ a2 + one_if u3.ends_line → a4 ≡ a3 + one_if u4.ends_line
+    → n1 ≡ with_number n k u1.value a1 → n2 ≡ with_number n1 (k + 1) u2.value a2 → n3 ≡ with_number n2 (k + 2) u3.value a3
+    → n4 ≡ with_number n3 (k + 3) u4.value a4 → FillsTo n4 whole start runs (k + 4) (place n4 (k + 4)) a4
+fills_four n n1 n2 n3 n4 whole start runs k at lines a1 a2 a3 a4 u1 u2 u3 u4 f room e1 e2 e3 e4 l1 l2 l3 l4 p1 p2 p3 p4 =
+    let s1 = same_places n n1 k u1.value a1 p1 in
+    let s2 = λ (j : ℕ). same_places n1 n2 (k + 1) u2.value a2 p2 j ∙ s1 j in
+    let s3 = λ (j : ℕ). same_places n2 n3 (k + 2) u3.value a3 p3 j ∙ s2 j in
+    let f1 = fills_more n whole start runs k at lines f (omega (arith, room)) u1 a1 l1 e1 n1 p1 in
+    let f2 = step_on n n1 n2 whole start runs (k + 1) (k + 2) a1 s1 (omega arith) f1 (omega (arith, room)) u2 a2 l2 e2 p2 in
+    let f3 = step_on n n2 n3 whole start runs (k + 2) (k + 3) a2 s2 (omega arith) f2 (omega (arith, room)) u3 a3 l3 e3 p3 in
+    step_on n n3 n4 whole start runs (k + 3) (k + 4) a3 s3 (omega arith) f3 (omega (arith, room)) u4 a4 l4 e4 p4
+
+-- the place that was reached
+pub fills_at : (n : Numbers) (whole : List ℕ) (start runs k at lines : ℕ) → FillsTo n whole start runs k at lines
+    → FillsTo n whole start runs k (place n k) lines
+fills_at n whole start runs k at lines f = subst (λ p. FillsTo n whole start runs k p lines) (sym f.at_is) f

@@ -3,6 +3,7 @@ use Rattle.std.specs.Prelude.{◌≡◌, ℕ, zero, suc, ◌+◌, ◌-◌, ◌<�
 use Rattle.std.specs.Prelude.{slice_index_or}
 use Rattle.qbf_text.specs.declared.buffered.Cursor.{Cursor}
 use Rattle.qbf_text.specs.declared.numbers.Numbers.{Numbers}
+use Rattle.qbf_text.specs.declared.numbers.Usual.{Usual}
 use Rattle.qbf_text.specs.declared.token.Token.{Token}
 use Rattle.qbf_text.specs.declared.token.Token.TheVariants.{Number}
 use Rattle.qbf_text.specs.Left.{is_separator, IsUnbroken}
@@ -72,6 +73,11 @@ place n k = slice_index_or n.places k 0
 -- how many line ends stand before it
 abbrev pub line : Numbers → ℕ → ℕ
 line n k = slice_index_or n.lines k 0
+
+-- a usual number begins at a place of the bytes, and the separator after it comes before another
+abbrev pub NumberEnds : List ℕ → (from to : ℕ) → Usual → Type 0
+NumberEnds bytes from to u = (to ≤ length bytes)
+    × BeginsWithNumber (drop from bytes) (int_lt u.value (pos 0)) (unsigned_abs u.value) (to - from) u.ends_line
 
 -- a number stands at its place among the bytes of the window, and the next place is after its separator
 pub record Stands (values : List ℤ) (places lines whole : List ℕ) (k : ℕ) : Type 0 where

@@ -1,13 +1,14 @@
 //! Numbers of a window, many at a time: first where they seem to end, then what they are.
 
 ghost use Rattle.std.specs.Prelude.{◌≡◌, ℕ, ◌+◌, ◌<◌, ◌≤◌, List, length, IfSome, pos, unsigned_abs};
-ghost use Rattle.std.specs.Prelude.{int_lt, nat_eq, nat_le, slice_set, ◌&&◌, false};
-ghost use Rattle.qbf_text.specs.Numbers.{AreHeld, IsPart, cursor_to, line, place};
+ghost use Rattle.std.specs.Prelude.{int_lt, nat_eq, nat_le, slice_index_or, slice_set, ◌&&◌, false};
+ghost use Rattle.qbf_text.specs.Numbers.{AreHeld, IsPart, NumberEnds, cursor_to, line, one_if, place};
 ghost use Rattle.qbf_text.specs.Numbers.{BeginsWithNumber};
+ghost use Rattle.qbf_text.specs.Tokens.{is_line_end};
 
 use crate::buffered::{Cursor, begins_with_minus, is_minus_zero};
 use crate::separators::is_separator;
-use decimal::number_between;
+use decimal::{four_numbers, number_between};
 use std::simd::prelude::*;
 
 /// How many numbers are kept at most: a window has no more, unless some of them are empty.
@@ -68,6 +69,50 @@ fn number_before(bytes: &[u8], end: usize) -> Option<Usual>
     })
 }
 
+/// The number at a place of these, with this separator after it.
+#[inline(always)]
+fn number_of(values: &[i32], place: usize, separator: u8) -> Usual
+    requires { place < length values.now }
+    ensures value { result.value ≡ slice_index_or values.now place (pos 0) }
+    ensures ends_line { result.ends_line ≡ is_line_end separator }
+{
+    Usual {
+        value: values[place],
+        ends_line: separator == b'\n',
+    }
+}
+
+/// Four numbers one after the other.
+#[derive(Clone, Copy)]
+struct Four {
+    first: Usual,
+    second: Usual,
+    third: Usual,
+    fourth: Usual,
+    /// Which of them are zero, the first by the lowest bit.
+    zeros: u64,
+}
+
+/// The places of the zeros among four numbers, by the bits that mark them.
+const PLACES: [[u16; 4]; 16] = [
+    [0, 0, 0, 0],
+    [0, 0, 0, 0],
+    [1, 0, 0, 0],
+    [0, 1, 0, 0],
+    [2, 0, 0, 0],
+    [0, 2, 0, 0],
+    [1, 2, 0, 0],
+    [0, 1, 2, 0],
+    [3, 0, 0, 0],
+    [0, 3, 0, 0],
+    [1, 3, 0, 0],
+    [0, 1, 3, 0],
+    [2, 3, 0, 0],
+    [0, 2, 3, 0],
+    [1, 2, 3, 0],
+    [0, 1, 2, 3],
+];
+
 /// Numbers that stand one after the other at the front of the bytes at hand.
 #[derive(Drop)]
 pub struct Numbers {
@@ -78,7 +123,7 @@ pub struct Numbers {
     /// How many line ends stand before each.
     pub lines: [u16; MOST + 1],
     /// Which of them are 0.
-    pub zeros: [u16; MOST],
+    pub zeros: [u16; MOST + 4],
     /// The first that was not passed.
     pub first: usize,
     /// The end of those that are known.
@@ -100,7 +145,7 @@ impl Numbers {
             values: [0; MOST],
             places: [0; MOST + 1],
             lines: [0; MOST + 1],
-            zeros: [0; MOST],
+            zeros: [0; MOST + 4],
             first: 0,
             known: 0,
             runs: 0,
@@ -163,7 +208,9 @@ impl Numbers {
         ensures front { place self.new self.new.first ≡ start }
         ensures line { line self.new self.new.first ≡ 0 }
         ensures few { result ≤ 2048 }
-        ensures first { self.new.first ≤ 2048 }
+        ensures first { self.new.first ≤ result }
+        ensures values { length self.new.values ≡ 2048 }
+        ensures lines { length self.new.lines ≡ 2049 }
     {
         let runs = self.runs.min(MOST);
         let mut first = self.first.min(runs);
@@ -176,23 +223,100 @@ impl Numbers {
         runs
     }
 
-    /// Puts a number at the place `k`, before which are so many zeros, and after which are so many line
-    /// ends. Returns how many zeros there are then.
+    /// Puts a number at the place `k`, before which are so many line ends. Returns how many there are after
+    /// it.
     #[inline(always)]
-    fn put(&mut self, k: usize, value: i32, lines: u16, zeros: usize) -> usize
+    fn put(&mut self, k: usize, usual: Usual, lines: u16) -> u16
         requires room { k < 2048 }
-        requires zeros { zeros ≤ k }
+        requires lines { lines ≤ k }
         ensures same { self.new ≡ record self.old {
-          values = slice_set self.old.values k value;
-          lines = slice_set self.old.lines (k + 1) lines;
-          zeros = self.new.zeros;
+          values = slice_set self.old.values k usual.value;
+          lines = slice_set self.old.lines (k + 1) result;
         } }
-        ensures few { result ≤ zeros + 1 }
+        ensures lines { result ≡ lines + one_if usual.ends_line }
     {
-        self.values[k] = value;
-        self.lines[k + 1] = lines;
-        self.zeros[zeros] = k as u16;
-        zeros + usize::from(value == 0)
+        let after = lines + u16::from(usual.ends_line);
+        self.values[k] = usual.value;
+        self.lines[k + 1] = after;
+        after
+    }
+
+    /// Notes which of the numbers from the place `k` on are zero, after so many zeros: a bit for each of
+    /// four. Returns how many are noted.
+    #[inline(always)]
+    fn note_zeros(&mut self, k: usize, marks: u64, zeros: usize) -> usize
+        requires { k ≤ 2048 }
+        ensures same { self.new ≡ record self.old { zeros = self.new.zeros } }
+    {
+        let count = zeros.min(MOST);
+        let places = u16x4::from_array(PLACES[(marks % 16) as usize]) + u16x4::splat(k as u16);
+        places.copy_to_slice(&mut self.zeros[count..]);
+        count + marks.count_ones() as usize
+    }
+
+    /// The place of the separator after the number `k`, as it seems.
+    #[inline(always)]
+    fn end(&self, k: usize) -> usize
+        requires { k < 2048 }
+        ensures { result < 4096 → place self.now (k + 1) ≡ result + 1 }
+    {
+        usize::from(self.places[k + 1]).wrapping_sub(1)
+    }
+
+    /// The number that begins at a place, if it is the number `k` and a usual one.
+    #[inline(always)]
+    fn one_at(&self, bytes: &[u8], k: usize, at: usize) -> Option<Usual>
+        requires room { k < 2048 }
+        requires at { at ≤ length bytes.now }
+        requires small { length bytes.now ≤ 4096 }
+        ensures stands { IfSome result (λ u. NumberEnds bytes.now at (place self.now (k + 1)) u) }
+    {
+        let end = self.end(k);
+        number_before(&bytes[at..], end.wrapping_sub(at))
+    }
+
+    /// The four numbers of which the first begins at a place, if they are those from the number `k` on,
+    /// before the number `runs`, and usual ones.
+    #[inline(always)]
+    fn four_at(&self, bytes: &[u8], k: usize, at: usize, runs: usize) -> Option<Four>
+        requires room { runs ≤ 2048 }
+        requires k { k ≤ runs }
+        requires small { length bytes.now ≤ 4096 }
+        ensures room { IfSome result (λ _. k + 4 ≤ runs) }
+        ensures first { IfSome result (λ f. NumberEnds bytes.now at (place self.now (k + 1)) f.first) }
+        ensures second { IfSome result (λ f.
+            NumberEnds bytes.now (place self.now (k + 1)) (place self.now (k + 2)) f.second) }
+        ensures third { IfSome result (λ f.
+            NumberEnds bytes.now (place self.now (k + 2)) (place self.now (k + 3)) f.third) }
+        ensures fourth { IfSome result (λ f.
+            NumberEnds bytes.now (place self.now (k + 3)) (place self.now (k + 4)) f.fourth) }
+    {
+        if runs - k < 4 {
+            return None;
+        }
+        let ends = [
+            self.end(k),
+            self.end(k + 1),
+            self.end(k + 2),
+            self.end(k + 3),
+        ];
+        let four = four_numbers(bytes, at, ends)?;
+        let [e0, e1, e2, e3] = ends;
+        if !is_separator(bytes[e0])
+            || !is_separator(bytes[e1])
+            || !is_separator(bytes[e2])
+            || !is_separator(bytes[e3])
+        {
+            return None;
+        }
+        let values = four.values.to_array();
+        Some(Four {
+            first: number_of(&values, 0, bytes[e0]),
+            second: number_of(&values, 1, bytes[e1]),
+            third: number_of(&values, 2, bytes[e2]),
+            fourth: number_of(&values, 3, bytes[e3]),
+            zeros: four.zeros,
+        })
     }
 
     /// Makes the numbers known that stand from the place `start` on, as far as they are usual: of at most
@@ -209,14 +333,22 @@ impl Numbers {
         let mut lines = 0;
         let mut zeros = 0;
         'numbers: while k < runs {
-            let end = usize::from(self.places[k + 1]).wrapping_sub(1);
-            let Some(usual) = number_before(&bytes[at..], end.wrapping_sub(at)) else {
-                break;
-            };
-            lines += u16::from(usual.ends_line);
-            zeros = self.put(k, usual.value, lines, zeros);
-            at = end + 1;
-            k += 1;
+            if let Some(four) = self.four_at(bytes, k, at, runs) {
+                lines = self.put(k, four.first, lines);
+                lines = self.put(k + 1, four.second, lines);
+                lines = self.put(k + 2, four.third, lines);
+                lines = self.put(k + 3, four.fourth, lines);
+                zeros = self.note_zeros(k, four.zeros, zeros);
+                k += 4;
+            } else {
+                let Some(usual) = self.one_at(bytes, k, at) else {
+                    break;
+                };
+                lines = self.put(k, usual, lines);
+                zeros = self.note_zeros(k, u64::from(usual.value == 0), zeros);
+                k += 1;
+            }
+            at = usize::from(self.places[k]);
         }
         self.known = k;
         self.zero = 0;

@@ -1,25 +1,52 @@
-use Rattle.qbf_text.proofs.Words.{◌≡◌, ◌≤◌, ◌<◌, ◌+◌, ◌-◌, ◌∙◌, sym, ap, subst, arith, length, get_or, drop}
-use Rattle.std.proofs.Common.{length-drop, SFits, w32}
-use Rattle.std.proofs.lemmas.Int.{to_z-of_z}
-use Rattle.qbf_text.proofs.PassedNumbers.{all_after}
-use Rattle.qbf_text.proofs.HeldNumbers.{FillsTo, fills_more, ends_there, bool_one}
+use Rattle.qbf_text.proofs.Words.{◌≡◌, ◌≤◌, ◌+◌, ◌∙◌, sym, subst, refl, ap, arith, length}
+use Rattle.qbf_text.specs.Numbers.{place}
+use Rattle.qbf_text.proofs.HeldNumbers.{FillsTo, fills_more, fills_four, fills_still, fills_at}
+use Rattle.qbf_text.proofs.numbers.Numbers.fill.Goals.{in-Some, in_default+in-Some-one_at}
 use Rattle.qbf_text.proofs.numbers.Numbers.fill.Goals as goal
+
+pub numbers-init : goal.numbers-init
+numbers-init c =
+    record {
+      values_len = c.seek-runs.ensures.values;
+      lines_len = c.seek-runs.ensures.lines;
+      few = c.seek-runs.ensures.few;
+      first = omega arith;
+      before = c.seek-runs.ensures.first;
+      front = c.seek-runs.ensures.front;
+      at_is = c.seek-runs.ensures.front;
+      within = c.requires.start;
+      lines_are = c.seek-runs.ensures.line;
+      few_lines = omega arith;
+      stand = λ j low high. absurd (omega (arith, low, high));
+    }
 
 pub numbers-preserved : goal.numbers-preserved
 numbers-preserved c =
     let n = c.numbers.self in
     let bytes = c.args.bytes.now in
-    let v = c.in-Some.usual.value in
-    let ends = c.in-Some.usual.ends_line in
-    let i = c.numbers.invariant in
-    let fits : SFits w32 v = search in
-    let value_same = to_z-of_z w32 v fits in
-    let stands = rw (all_after c.numbers.at bytes) at c.in-Some.ensures in
-    let there = ends_there c.from-end.result c.numbers.at (length bytes) c.from-end.type_inv c.requires.small i.within
-        (omega (arith, stands.within, length-drop c.numbers.at bytes)) in
-    let values_len : length n.values ≡ 2048 = search in
-    let lines_len : length n.lines ≡ 2049 = search in
-    let lines = sym (c.from-lines.ensures ∙ bool_one ends) in
-    let more = fills_more n bytes c.args.start c.seek-runs.result c.numbers.k c.numbers.at c.numbers.lines c.numbers.zeros i values_len lines_len
-        c.numbers-test.true v _ ends stands (there.0 ∙ ap (λ p. p - c.numbers.at) c.from-end.ensures) c.put-zeros.new.self.zeros c.put-zeros.result c.put-zeros.ensures.few (subst (λ p. p ≤ length bytes) c.from-end.ensures there.2) in
-    rw (c.put-zeros.ensures.same, value_same, sym lines, there.1 ∙ c.from-end.ensures) more
+    let start = c.args.start in
+    let runs = c.seek-runs.result in
+    let k = c.numbers.k in
+    let f = c.numbers.invariant in
+    elim c.match-four_at.branch [
+      | in-Some w ↦
+          let e = w.in-Some.ensures in
+          let p1 = w.put-lines in
+          let p2 = w.put-lines-in-Some in
+          let p3 = w.put-lines-in-Some-2 in
+          let p4 = w.put-lines-in-Some-3 in
+          let m = w.note_zeros-zeros.new.self in
+          let four = fills_four n p1.new.self p2.new.self p3.new.self p4.new.self bytes start runs k c.numbers.at c.numbers.lines
+              p1.result p2.result p3.result p4.result _ _ _ _ f e.room e.first e.second e.third e.fourth
+              p1.ensures.lines p2.ensures.lines p3.ensures.lines p4.ensures.lines
+              p1.ensures.same p2.ensures.same p3.ensures.same p4.ensures.same in
+          let all = fills_still p4.new.self m m.zeros bytes start runs (k + 4) _ _ w.note_zeros-zeros.ensures.same four in
+          rw c.from-at.ensures (rw (w.self-is, w.k-is, w.lines-is) (fills_at m bytes start runs (k + 4) _ _ all))
+      | in_default+in-Some-one_at w ↦
+          let p = w.put-lines-in_default in
+          let m = w.note_zeros-zeros-in_default.new.self in
+          let one = fills_more n bytes start runs k c.numbers.at c.numbers.lines f c.numbers-test.true w.in-Some-one_at.usual p.result
+              p.ensures.lines w.in-Some-one_at.ensures.stands p.new.self p.ensures.same in
+          let all = fills_still p.new.self m m.zeros bytes start runs (k + 1) _ _ w.note_zeros-zeros-in_default.ensures.same one in
+          rw c.from-at.ensures (rw (w.self-is, w.k-is, w.lines-is) (fills_at m bytes start runs (k + 1) _ _ all))
+    ]
