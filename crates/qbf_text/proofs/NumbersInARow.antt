@@ -13,6 +13,8 @@ use Rattle.qbf_text.specs.declared.numbers.Usual.{Usual}
 use Rattle.qbf_text.specs.Numbers.{NumberEnds}
 use Rattle.std.proofs.Common.{SFits, w32, to_z, of_z, map}
 use Rattle.std.proofs.lemmas.Int.{to_z-of_z}
+use Rattle.std.proofs.lemmas.Nat.{le_or_l, le_or_r}
+use Rattle.std.specs.Prelude.{bit_or}
 use Rattle.qbf_text.proofs.NumberAtHand.{found}
 
 first_minus : (xs : List ℕ) → begins_with_minus xs ≡ nat_eq (get_or xs 0 0) 45
@@ -80,7 +82,7 @@ module _ (bytes : List ℕ) (from end : ℕ) (v : ℤ) (within : end < length by
       let all = subst (AllDigits 10) (sym same) is.0 in
       let few = length-take (end - (from + 1)) (drop (from + 1) bytes) in
       let alone : end - from ≡ 1 → d ≡ 0 = λ e.
-          let none : end - (from + 1) ≡ 0 = omega (arith, e) in ap (λ k. digits_value 10 (take k (drop (from + 1) bytes))) none in
+      let none : end - (from + 1) ≡ 0 = omega (arith, e) in ap (λ k. digits_value 10 (take k (drop (from + 1) bytes))) none in
       rw (is.1, sign.0, sign.1) (found (drop from bytes) true 1 d (end - from) (sym (minus ∙ here)) (omega (arith, n.some))
       (small (between bytes (from + 1) end) is.0 (omega (arith, few, n.few))) all (ap (digits_value 10) (sym same))
       (λ e. omega (arith, alone e, is.2)) len (some_is d is.2) (ap is_separator separator ∙ sep) refl)
@@ -90,7 +92,7 @@ module _ (bytes : List ℕ) (from end : ℕ) (v : ℤ) (within : end < length by
   unfolding Found
   usual =
       let len_is : end - from + 1 ≡ end + 1 - from = omega (arith, n.some) in
-      let either : Found v = elim (equal_or (get_or bytes from 0) 45) [ | inl here ↦ signed here | inr none ↦ plain none ] in
+      let either : Found v = elim (equal_or (get_or bytes from 0) 45) [ inl here ↦ signed here | inr none ↦ plain none ] in
       subst (λ l. BeginsWithNumber (drop from bytes) (int_lt v (pos 0)) (unsigned_abs v) l (nat_eq (get_or bytes end 0) 10)) len_is
       (subst (λ b. BeginsWithNumber (drop from bytes) (int_lt v (pos 0)) (unsigned_abs v) (end - from + 1) (nat_eq b 10)) separator either)
 
@@ -146,3 +148,14 @@ pub ends_at : (bytes : List ℕ) (from end to : ℕ) (u : Usual) → end < lengt
 ends_at bytes from end to u within few is n sep line =
     let there : to ≡ end + 1 = is (omega (arith, within, few)) in
     rw (there, line) (omega (arith, within), usual bytes from end u.value within n sep)
+
+-- if four numbers together have no higher bit, each is below two
+pub each_below_two : (a b c d : ℕ) → bit_or (bit_or (bit_or a b) c) d < 2 → (a < 2) × (b < 2) × (c < 2) × (d < 2)
+each_below_two a b c d small =
+    let l3 = le_or_l (bit_or (bit_or a b) c) d in
+    let l2 = le_or_l (bit_or a b) c in (
+      omega (arith, le_or_l a b, l2, l3, small),
+      omega (arith, le_or_r a b, l2, l3, small),
+      omega (arith, le_or_r (bit_or a b) c, l3, small),
+      omega (arith, le_or_r (bit_or (bit_or a b) c) d, small),
+    )

@@ -1,9 +1,10 @@
 //! Numbers of a window, many at a time: first where they seem to end, then what they are.
 
 ghost use Rattle.std.specs.Prelude.{◌≡◌, ℕ, ◌+◌, ◌<◌, ◌≤◌, List, length, IfSome, pos, unsigned_abs};
-ghost use Rattle.std.specs.Prelude.{int_lt, nat_eq, nat_le, slice_index_or, slice_set, ◌&&◌, false};
+ghost use Rattle.std.specs.Prelude.{int_lt, nat_eq, nat_le, slice_index, slice_index_or, slice_set, ◌&&◌, false, true};
 ghost use Rattle.qbf_text.specs.Numbers.{AreHeld, IsPart, NumberEnds, cursor_to, line, one_if, place};
 ghost use Rattle.qbf_text.specs.Numbers.{BeginsWithNumber};
+ghost use Rattle.qbf_text.specs.Left.{is_separator};
 ghost use Rattle.qbf_text.specs.Tokens.{is_line_end};
 
 use crate::buffered::{Cursor, begins_with_minus, is_minus_zero};
@@ -69,16 +70,48 @@ fn number_before(bytes: &[u8], end: usize) -> Option<Usual>
     })
 }
 
-/// The number at a place of these, with this separator after it.
+/// What each byte is after a number: 0 where it separates tokens within a line, 1 where it ends the
+/// line, and else 2.
+const KINDS: [u8; 256] = [
+    2, 2, 2, 2, 2, 2, 2, 2, 2, 0, 1, 2, 2, 0, 2, 2, 2, 2, 2, 2, 2, 2, 2, 2, 2, 2, 2, 2, 2, 2, 2, 2,
+    0, 2, 2, 2, 2, 2, 2, 2, 2, 2, 2, 2, 2, 2, 2, 2, 2, 2, 2, 2, 2, 2, 2, 2, 2, 2, 2, 2, 2, 2, 2, 2,
+    2, 2, 2, 2, 2, 2, 2, 2, 2, 2, 2, 2, 2, 2, 2, 2, 2, 2, 2, 2, 2, 2, 2, 2, 2, 2, 2, 2, 2, 2, 2, 2,
+    2, 2, 2, 2, 2, 2, 2, 2, 2, 2, 2, 2, 2, 2, 2, 2, 2, 2, 2, 2, 2, 2, 2, 2, 2, 2, 2, 2, 2, 2, 2, 2,
+    2, 2, 2, 2, 2, 2, 2, 2, 2, 2, 2, 2, 2, 2, 2, 2, 2, 2, 2, 2, 2, 2, 2, 2, 2, 2, 2, 2, 2, 2, 2, 2,
+    2, 2, 2, 2, 2, 2, 2, 2, 2, 2, 2, 2, 2, 2, 2, 2, 2, 2, 2, 2, 2, 2, 2, 2, 2, 2, 2, 2, 2, 2, 2, 2,
+    2, 2, 2, 2, 2, 2, 2, 2, 2, 2, 2, 2, 2, 2, 2, 2, 2, 2, 2, 2, 2, 2, 2, 2, 2, 2, 2, 2, 2, 2, 2, 2,
+    2, 2, 2, 2, 2, 2, 2, 2, 2, 2, 2, 2, 2, 2, 2, 2, 2, 2, 2, 2, 2, 2, 2, 2, 2, 2, 2, 2, 2, 2, 2, 2,
+];
+
+/// The entry of a table for a byte.
 #[inline(always)]
-fn number_of(values: &[i32], place: usize, separator: u8) -> Usual
+fn entry(table: &[u8], byte: u8) -> u8
+    requires { byte < length table.now }
+    ensures { result ≡ slice_index table.now byte }
+{
+    table[usize::from(byte)]
+}
+
+/// What this byte is after a number.
+#[inline(always)]
+fn kind_of(byte: u8) -> u8
+    ensures separates { result < 2 → is_separator byte ≡ true }
+    ensures line_end { nat_eq result 1 ≡ is_line_end byte }
+{
+    entry(&KINDS, byte)
+}
+
+/// The number at a place of these, after which a byte of this kind stands.
+#[inline(always)]
+fn number_of(values: &[i32], place: usize, kind: u8) -> Usual
     requires { place < length values.now }
     ensures value { result.value ≡ slice_index_or values.now place (pos 0) }
-    ensures ends_line { result.ends_line ≡ is_line_end separator }
+    ensures ends_line { result.ends_line ≡ nat_eq kind 1 }
 {
+    let ends_line = kind == 1;
     Usual {
         value: values[place],
-        ends_line: separator == b'\n',
+        ends_line,
     }
 }
 
@@ -302,19 +335,21 @@ impl Numbers {
         ];
         let four = four_numbers(bytes, at, ends)?;
         let [e0, e1, e2, e3] = ends;
-        if !is_separator(bytes[e0])
-            || !is_separator(bytes[e1])
-            || !is_separator(bytes[e2])
-            || !is_separator(bytes[e3])
-        {
+        let [k0, k1, k2, k3] = [
+            kind_of(bytes[e0]),
+            kind_of(bytes[e1]),
+            kind_of(bytes[e2]),
+            kind_of(bytes[e3]),
+        ];
+        if (k0 | k1 | k2 | k3) >= 2 {
             return None;
         }
         let values = four.values.to_array();
         Some(Four {
-            first: number_of(&values, 0, bytes[e0]),
-            second: number_of(&values, 1, bytes[e1]),
-            third: number_of(&values, 2, bytes[e2]),
-            fourth: number_of(&values, 3, bytes[e3]),
+            first: number_of(&values, 0, k0),
+            second: number_of(&values, 1, k1),
+            third: number_of(&values, 2, k2),
+            fourth: number_of(&values, 3, k3),
             zeros: four.zeros,
         })
     }

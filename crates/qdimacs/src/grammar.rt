@@ -174,7 +174,7 @@ fn take_clause(parts: &mut Parts, values: &[i32], from: usize) -> Reached
             Ok(At::Clause) => i += 1,
             Ok(next) => return (next, Ok(i + 1)),
             Err(Stop::Memory) => return (At::Clause, Err(AllocError)),
-            Err(Stop::Text(_)) => break,
+            Err(Stop::Text(_)) => return (At::Clause, Ok(i)),
         }
     }
     (At::Clause, Ok(i))

@@ -74,10 +74,7 @@ fn take_antecedents(partial: &mut Partial, number: u64, values: &[i32], from: us
                 Ok(()) => i += 1,
                 Err(_) => return (At::Ants(number), Err(AllocError)),
             },
-            Ok(None) => return (
-                At::ItemComplete(Part::Step(number)),
-                Ok((i + 1, Some(()))),
-            ),
+            Ok(None) => return (At::ItemComplete(Part::Step(number)), Ok((i + 1, Some(())))),
             Err(_) => break,
         }
     }

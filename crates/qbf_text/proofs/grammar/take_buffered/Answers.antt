@@ -41,8 +41,8 @@ returns-clause-reads g c =
     let small : from.line < 2 ^ 64 = search in
     let front : from.at ≡ 0 = ap (λ k. k.at) c.cursor.ensures in
     let passes = takes_passes c.numbers-numbers.result.now r.pending c.numbers-numbers.ensures from front small row
-        (g.G.Grammar.state c.args.grammar.now) (g.G.Grammar.state c.take_lists.new.grammar) c.in_ok-count.count c.in_ok-count.answer
-        c.in_ok-count.ensures.within c.in_ok-count.ensures.takes in
+    (g.G.Grammar.state c.args.grammar.now) (g.G.Grammar.state c.take_lists.new.grammar) c.in_ok-count.count c.in_ok-count.answer
+    c.in_ok-count.ensures.within c.in_ok-count.ensures.takes in
     let first = g.G.Grammar.state c.args.grammar.now in
     let next = g.G.Grammar.state c.take_lists.new.grammar in
     let there = subst (λ to. PassesAll row first next r.pending from to c.in_ok-count.answer) (sym c.cursor_after-here.ensures) passes in

@@ -38,7 +38,7 @@ returns c =
     let sep = sym c.is_separator.ensures ∙ c.if-not-is_separator.false in
     let sign = c.signed.ensures.sign nonzero in
     let stands = found bytes negative c.from-start.result c.in_ok-magnitude.magnitude c.args.end c.begins_with_minus-negative.ensures after fits
-        d.digits d.value (some_digits negative bytes _ _ _ c.from-start.ensures inside.0 d.value nonzero)
-        (omega (arith, d.within, inside.1, c.if-bytes-le8.false)) nonzero sep c.from-start.ensures in
+    d.digits d.value (some_digits negative bytes _ _ _ c.from-start.ensures inside.0 d.value nonzero)
+    (omega (arith, d.within, inside.1, c.if-bytes-le8.false)) nonzero sep c.from-start.ensures in
     let fits_signed : SFits w32 c.signed.result = search in
     rw (to_z-of_z w32 c.signed.result fits_signed, sign, c.signed.ensures.magnitude) stands
