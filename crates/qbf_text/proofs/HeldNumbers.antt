@@ -1,16 +1,16 @@
 -- Numbers that are held of a window, and the cursors between them.
-use Rattle.qbf_text.proofs.Words.{◌≡◌, ℕ, zero, suc, ◌+◌, ◌-◌, ◌^◌, ◌<◌, ◌≤◌, Bool, true, false, nat_eq, List, [], ◌∷◌, ◌++◌, length, drop, refl, sym}
-use Rattle.qbf_text.proofs.Words.{ap, ◌∙◌, subst, arith, Option, Some, None, ◌⊎◌, inl, inr, drop-drop, Token, Row, Goes, BeginsWithNumber}
-use Rattle.qbf_text.proofs.Words.{line_number, nat_tests, Number, bool_byte}
+use Rattle.qbf_text.proofs.Words.{◌≡◌, ℕ, zero, suc, ◌+◌, ◌-◌, ◌^◌, ◌<◌, ◌≤◌, Bool, true, false, nat_eq, List, length, drop, refl, sym}
+use Rattle.qbf_text.proofs.Words.{ap, ◌∙◌, subst, arith, Option, Some, None, ◌⊎◌, inl, inr, drop-drop, Token, Row, BeginsWithNumber}
+use Rattle.qbf_text.proofs.Words.{line_number, nat_tests, bool_byte}
 use Rattle.std.specs.Prelude.{ℤ, pos, slice_index_or, unsigned_abs, int_lt, get_or, set}
-use Rattle.std.proofs.Common.{length-drop, ◌%◌}
+use Rattle.std.proofs.Common.{length-drop}
 use Rattle.std.proofs.lemmas.List.{get_or-set_same, get_or-set_other, length-set}
 use Rattle.qbf_text.specs.declared.buffered.Cursor.{Cursor}
 use Rattle.qbf_text.specs.declared.numbers.Numbers.{Numbers}
 use Rattle.qbf_text.specs.declared.numbers.Usual.{Usual}
 use Rattle.qbf_text.specs.Numbers.{one_if}
 use Rattle.qbf_text.specs.Passing.{cursor_after, LeadOn, Passes, PassesNumber, PassesAll}
-use Rattle.qbf_text.specs.Numbers.{token_of, token_at, LeadsBy, LeadsOver, TakesOver, place, line, NumberEnds, Stands, AreHeld, StandInFront, cursor_to}
+use Rattle.qbf_text.specs.Numbers.{token_at, LeadsBy, TakesOver, place, line, NumberEnds, Stands, AreHeld, StandInFront, cursor_to}
 use Rattle.qbf_text.proofs.PassedNumbers.{passes_number, passes_none, passes_on, number_takes}
 
 -- a number takes at least one byte, so that its place comes before the next one

@@ -1,7 +1,7 @@
 -- Numbers that lead from one state to another.
 use Rattle.qbf_text.proofs.Words.{◌≡◌, ℕ, zero, suc, ◌+◌, ◌<◌, List, refl, sym, ap, ◌∙◌, subst, arith, Option, Some, None, Result, Ok, Err, Token, Row, Goes}
 use Rattle.std.specs.Prelude.{ℤ, pos, slice_index_or, IfOk}
-use Rattle.qbf_text.specs.Numbers.{token_of, token_at, LeadsBy, LeadsOver, EndsOver, TakesOver}
+use Rattle.qbf_text.specs.Numbers.{token_of, token_at, LeadsBy, LeadsOver, TakesOver}
 
 module _ {P A F : Type 0} (row : P → Token → Row P A F) where
   pub leads_none : (first : P) (values : List ℤ) (i : ℕ) → LeadsOver row first first values i i

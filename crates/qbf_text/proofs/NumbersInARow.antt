@@ -1,5 +1,5 @@
 -- Numbers as `decimal` finds them are numbers that stand whole among the bytes.
-use Rattle.qbf_text.proofs.Words.{◌≡◌, ℕ, zero, suc, ◌+◌, ◌-◌, ◌^◌, ◌<◌, ◌≤◌, Bool, true, false, ◌&&◌, nat_eq, ◌==◌, List, [], ◌∷◌, length, take, drop}
+use Rattle.qbf_text.proofs.Words.{◌≡◌, ℕ, zero, suc, ◌+◌, ◌-◌, ◌^◌, ◌<◌, ◌≤◌, Bool, true, false, ◌&&◌, nat_eq, List, [], ◌∷◌, length, take, drop}
 use Rattle.qbf_text.proofs.Words.{get_or, refl, sym, ap, subst, ◌∙◌, arith, drop-drop, nat_tests, common_steps, is_separator, begins_with_minus, digits_value}
 use Rattle.qbf_text.proofs.Words.{BeginsWithNumber, ◌⊎◌, inl, inr}
 use Rattle.std.specs.Prelude.{ℤ, pos, neg_ℤ, unsigned_abs, int_lt}

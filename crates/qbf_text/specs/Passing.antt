@@ -1,5 +1,5 @@
 -- What was passed of the bytes at hand: tokens that stand there whole, whatever bytes follow.
-use Rattle.std.specs.Prelude.{◌≡◌, ℕ, ◌+◌, ◌<◌, ◌≤◌, Bool, true, false, not, nat_eq, List, [], ◌∷◌, ◌++◌, take, drop, length, Option, Some}
+use Rattle.std.specs.Prelude.{◌≡◌, ℕ, ◌+◌, ◌<◌, ◌≤◌, Bool, true, false, not, nat_eq, List, [], ◌∷◌, ◌++◌, drop, length, Option, Some}
 use Rattle.std.specs.Prelude.{None}
 use Rattle.qbf_text.specs.Ahead.{ahead}
 use Rattle.qbf_text.specs.declared.buffered.Cursor.{Cursor}

@@ -1,5 +1,4 @@
-use Rattle.qbf_text.proofs.Words.{◌≡◌, ◌≤◌, ◌<◌, ◌^◌, refl, sym, ap, subst, arith, length, ahead, tokens_next}
-use Rattle.qbf_text.specs.Numbers.{cursor_to}
+use Rattle.qbf_text.proofs.Words.{◌≡◌, ◌<◌, ◌^◌, refl, sym, ap, subst, arith, ahead, tokens_next}
 use Rattle.qbf_text.specs.Passing.{PassesAll}
 use Rattle.qbf_text.specs.Reading.{IsOpen}
 use Rattle.qbf_text.proofs.PassedNumbers.{handed}

@@ -1,5 +1,4 @@
-use Rattle.qbf_text.proofs.Words.{◌≡◌, ◌+◌, ◌<◌, ◌∙◌, length, arith, Option, Some, None}
-use Rattle.qbf_text.specs.Numbers.{LeadsOver, TakesOver}
+use Rattle.qbf_text.proofs.Words.{◌+◌, ◌<◌, ◌∙◌, length, arith, Some, None}
 use Rattle.qbf_text.proofs.LeadingNumbers.{takes_further, part_taken}
 use Rattle.qbf_text.proofs.grammar.take_lists.Goals as goal
 

@@ -1,6 +1,5 @@
-use Rattle.qbf_text.proofs.Words.{◌≡◌, ◌≤◌, ◌+◌, ◌∙◌, sym, subst, refl, ap, arith, length}
-use Rattle.qbf_text.specs.Numbers.{place}
-use Rattle.qbf_text.proofs.HeldNumbers.{FillsTo, fills_more, fills_four, fills_still, fills_at}
+use Rattle.qbf_text.proofs.Words.{◌+◌, arith}
+use Rattle.qbf_text.proofs.HeldNumbers.{fills_more, fills_four, fills_still, fills_at}
 use Rattle.qbf_text.proofs.numbers.Numbers.fill.Goals.{in-Some, in_default+in-Some-one_at}
 use Rattle.qbf_text.proofs.numbers.Numbers.fill.Goals as goal
 

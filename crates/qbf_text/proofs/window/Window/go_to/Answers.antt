@@ -1,5 +1,5 @@
-use Rattle.qbf_text.proofs.Words.{◌≤◌, length, sym, ap, subst}
-use Rattle.qbf_text.proofs.Windows.{part, part_within, part_few}
+use Rattle.qbf_text.proofs.Words.{◌≤◌, length, sym, subst}
+use Rattle.qbf_text.proofs.Windows.{part_within, part_few}
 use Rattle.qbf_text.proofs.window.Window.go_to.Goals as goal
 
 pub pass-requires-clause-small : goal.pass-requires-clause-small
