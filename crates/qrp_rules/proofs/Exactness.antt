@@ -120,12 +120,12 @@ pub this_or_opposite : (l x : Literal) → l.var ≡ x.var → (l ≡ x) ⊎ (l 
 this_or_opposite l x e = grind (arith, common_steps)
 
 -- the members of `to` are those of two lists, or of the pivot
-pub resolved_whole : (a b to : List Literal) (none one both : Members) (x y : Literal) → x ≡ negated y → ((l : Literal) → Has none l → ⊥)
-    → ((l : Literal) → Has one l → Has none l ⊎ (l ∈ a)) → (y ∈ b) × Has one (negated y)
+pub resolved_whole : (a b to : List Literal) (one both : Members) (x y : Literal) → x ≡ negated y
+    → ((l : Literal) → Has one l → l ∈ a) → (y ∈ b) × Has one (negated y)
     → ((l : Literal) → Has both l → Has one l ⊎ (l ∈ b)) → ((l : Literal) → l ∈ to → (l.var ≡ x.var) ⊎ Has both l)
     → IsResolvedBut a b to a b x
-resolved_whole a b to none one both x y is empty of_a (in_b, has) of_b each =
-    let in_a : x ∈ a = subst (λ (z : Literal). z ∈ a) (sym is) (seen_a (negated y) has) in
+resolved_whole a b to one both x y is of_a (in_b, has) of_b each =
+    let in_a : x ∈ a = subst (λ (z : Literal). z ∈ a) (sym is) (of_a (negated y) has) in
     let opposite : negated x ∈ b = subst (λ (z : Literal). z ∈ b) (sym (ap negation is ∙ negated_twice y)) in_b in
     record {
       in_a = in_a;
@@ -135,7 +135,7 @@ resolved_whole a b to none one both x y is empty of_a (in_b, has) of_b each =
           | inl same ↦ inl (subst (λ (z : Literal). z ∈ a) (sym same) in_a)
           | inr other ↦ inr (subst (λ (z : Literal). z ∈ b) (sym other) opposite)
         ]
-        | inr h ↦ elim (of_b l h) [ inl k ↦ inl (seen_a l k) | inr k ↦ inr k ]
+        | inr h ↦ elim (of_b l h) [ inl k ↦ inl (of_a l k) | inr k ↦ inr k ]
       ];
       left = λ l h. inr (inr h);
       right = λ l h. inr (inr h);
@@ -143,9 +143,6 @@ resolved_whole a b to none one both x y is empty of_a (in_b, has) of_b each =
   where
     negation : Literal → Literal
     negation z = negated z
-
-    seen_a : (l : Literal) → Has one l → l ∈ a
-    seen_a l h = elim (of_a l h) [ inl k ↦ absurd (empty l k) | inr k ↦ k ]
 
 -- ---- what a step without the pivot shows, if a set without a clash has it and what is left
 

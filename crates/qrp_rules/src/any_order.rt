@@ -101,8 +101,7 @@ fn find_parents<'a>(
     ensures { IfSome result (λ rests. IsResolvedBut a.now b.now to.now rests.a.now rests.b.now
         rests.pivot) }
 {
-    seen.clear();
-    put_each(seen, a);
+    seen.set_each(a);
     let pivot = find_negated(seen, b)?.negated();
     put_each(seen, b);
     if !surely_has_each_but(seen, to, pivot.var()) {
@@ -150,8 +149,7 @@ fn surely_clean_without(seen: &mut SeenLits, prefix: &Prefix, lits: &[Lit], var:
 fn surely_within(seen: &mut SeenLits, lits: &[Lit], whole: &[Lit]) -> bool
     ensures { IsTrue result → lits.now ⊆ whole.now }
 {
-    seen.clear();
-    put_each(seen, whole);
+    seen.set_each(whole);
     lits.iter().all(|lit| seen.contains(*lit))
 }
 
@@ -160,8 +158,7 @@ fn surely_covers(seen: &mut SeenLits, reducible: Reducible, from: &[Lit], to: &[
     ensures { IsTrue result → (l : Literal) → l ∈ from.now
         → (l ∈ to.now) ⊎ TakesOut reducible.entry l.var }
 {
-    seen.clear();
-    put_each(seen, to);
+    seen.set_each(to);
     from.iter()
         .all(|lit| seen.contains(*lit) || reducible.has(lit.var()))
 }
@@ -254,7 +251,9 @@ pub fn accepts_resolvent<S: Side>(
         return Ok(false);
     }
     if rests.a.is_empty() && rests.b.is_empty() {
-        return surely_clean_without(seen, prefix, to, pivot);
+        if surely_clean_without(seen, prefix, to, pivot)? {
+            return Ok(true);
+        }
     }
     seen.make_room(prefix)?;
     Ok(leaves_out_rests::<S>(seen, prefix, to, rests))

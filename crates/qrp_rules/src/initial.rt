@@ -54,8 +54,8 @@ pub(crate) fn initial_clause_fault(alloc: Global, formula: &Formula, set: &[Lit]
     ensures { IfOk result
         (λ fault. IsJudgement (initial_condition Clauses formula.now set.now ∷ []) fault) }
 {
-    for i in 0..formula.clauses() {
-        if has_reduct(alloc, formula.prefix(), formula.clause(i), set)? {
+    for position in 0..formula.clauses() {
+        if has_reduct(alloc, formula.prefix(), formula.clause(position), set)? {
             return Ok(None);
         }
     }

@@ -129,6 +129,14 @@ impl SeenLits {
         true
     }
 
+    /// Replaces the set by the literals of a list for which there is memory.
+    pub(crate) fn set_each(&mut self, lits: &[Lit])
+        ensures { (l : Literal) → Has self.new l → l ∈ lits.now }
+    {
+        self.clear();
+        put_each(self, lits);
+    }
+
     /// Whether the variables are seen to be pairwise distinct and none to be `other`. If not, nothing
     /// is known of what the set holds.
     pub(crate) fn surely_distinct(&mut self, lits: &[Lit], other: Var) -> bool

@@ -5,15 +5,15 @@ use Rattle.qrp_rules.proofs.initial.initial_clause_fault.Goals as goal
 pub returns-then-branch : goal.returns-then-branch
 returns-then-branch c =
     let found = rw c.prefix.ensures.value at c.in_ok-has_reduct.ensures.0 c.if-branch.true in
-    ((c.clause.result.now, got_in _ c.loop-i.i _ c.clause.ensures, found.0, found.1), tt)
+    ((c.clause.result.now, got_in _ c.loop-position.position _ c.clause.ensures, found.0, found.1), tt)
 
-pub loop-i-preserved : goal.loop-i-preserved
-loop-i-preserved c = each_got (λ (z : List Literal). (IsClean z × IsReduct Clauses c.args.formula.now.blocks z c.args.set.now) → ⊥) _ c.loop-i.i
+pub loop-position-preserved : goal.loop-position-preserved
+loop-position-preserved c = each_got (λ (z : List Literal). (IsClean z × IsReduct Clauses c.args.formula.now.blocks z c.args.set.now) → ⊥) _ c.loop-position.position
     c.clause.result.now c.clause.ensures
-    (λ h. false≢true (sym c.if-branch.false ∙ (rw c.prefix.ensures.value at c.in_ok-has_reduct.ensures).1 h)) c.loop-i.invariant
+    (λ h. false≢true (sym c.if-branch.false ∙ (rw c.prefix.ensures.value at c.in_ok-has_reduct.ensures).1 h)) c.loop-position.invariant
 
 pub returns : goal.returns
 returns c = inl (
-  (λ h. c.loop-i.invariant h.0 (in_take_all c.args.formula.now.clauses c.loop-i.i h.0 (omega arith) h.1) (h.2, h.3)),
+  (λ h. c.loop-position.invariant h.0 (in_take_all c.args.formula.now.clauses c.loop-position.position h.0 (omega arith) h.1) (h.2, h.3)),
   refl,
 )
