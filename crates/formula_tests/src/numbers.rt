@@ -43,8 +43,8 @@ fn assert_read_alike(rt: &(impl Abort + AllocGlobal), text: &[u8], piece: usize)
 /// The first digits of this text, as many as these.
 const DIGITS: &[u8] = b"1234567890123456789012345";
 
-/// A formula whose clause has a number with so many digits, after a comment line of so many bytes.
-/// Its variable is bound if it is one.
+/// A formula whose clause has a number with so many digits, after a comment line of so many bytes. Its
+/// variable is bound if it is one.
 fn text_of(alloc: Global, sign: &[u8], len: usize, pad: usize) -> Result<Vec<u8>, Fail>
     requires len { len ≤ 25 }
     requires pad { pad ≤ 5000 }

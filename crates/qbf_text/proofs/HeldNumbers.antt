@@ -126,8 +126,7 @@ module _ (n : Numbers) (bytes : List ℕ) (f : StandInFront n bytes) (from : Cur
     passes_by : (next : P) (count : ℕ) → (0 < count → n.first + count ≤ n.known) → LeadsBy row first next n.values n.first count
         → Passes (LeadOn row first next) bytes from (cursor_to n from count)
     passes_by next zero few e =
-        subst (λ s. Passes (LeadOn row first s) bytes from from) e
-        (passes_none bytes (LeadOn row first first) from (omega (arith, at_front)) (λ ts. refl))
+        subst (λ s. Passes (LeadOn row first s) bytes from from) e (passes_none bytes (LeadOn row first first) from (omega (arith, at_front)) (λ ts. refl))
     passes_by next (suc c) few l =
         passes_on row first l.0 next bytes from (cursor_to n from (suc c)) (cursor_to n from c) (token_at n.values (n.first + c)) l.2
         (passes_by l.0 c (λ some. omega (arith, few (omega arith))) l.1) (step c (omega (arith, few (omega arith))))
@@ -138,8 +137,7 @@ module _ (n : Numbers) (bytes : List ℕ) (f : StandInFront n bytes) (from : Cur
         → PassesAll row first next bytes from (cursor_to n from count) answer
     takes_passes next count None few l =
         let same : l.count ≡ count = omega (arith, l.counted) in
-        subst (λ k. Passes (LeadOn row first next) bytes from (cursor_to n from k)) same
-        (passes_by next l.count (λ some. omega (arith, few (omega (arith, same, some)), same)) l.leads)
+        subst (λ k. Passes (LeadOn row first next) bytes from (cursor_to n from k)) same (passes_by next l.count (λ some. omega (arith, few (omega (arith, same, some)), same)) l.leads)
     takes_passes next count (Some a) few t =
         let same : suc t.leads.count ≡ count = omega (arith, t.to_is, t.leads.counted) in
         subst (λ k. PassesAll row first next bytes from (cursor_to n from k) (Some a)) same (record {
@@ -171,10 +169,8 @@ pub record FillsTo (n : Numbers) (whole : List ℕ) (start runs k at lines : ℕ
 stands_still : (values : List ℤ) (places lines whole : List ℕ) (j k : ℕ) (v : ℤ) (more : ℕ) → j < k → Stands values places lines whole j
     → Stands (set values k v) places (set lines (k + 1) more) whole j
 stands_still values places lines whole j k v more before s =
-    let value : get_or (set values k v) j (pos 0) ≡ get_or values j (pos 0) =
-    get_or-set_other values k j v (pos 0) (λ e. omega (arith, e, before)) in
-    let line_here : get_or (set lines (k + 1) more) j 0 ≡ get_or lines j 0 =
-    get_or-set_other lines (k + 1) j more 0 (λ e. omega (arith, e, before)) in
+    let value : get_or (set values k v) j (pos 0) ≡ get_or values j (pos 0) = get_or-set_other values k j v (pos 0) (λ e. omega (arith, e, before)) in
+    let line_here : get_or (set lines (k + 1) more) j 0 ≡ get_or lines j 0 = get_or-set_other lines (k + 1) j more 0 (λ e. omega (arith, e, before)) in
     let line_next : get_or (set lines (k + 1) more) (j + 1) 0 ≡ get_or lines (j + 1) 0 =
     get_or-set_other lines (k + 1) (j + 1) more 0 (λ e. omega (arith, e, before)) in
     record {

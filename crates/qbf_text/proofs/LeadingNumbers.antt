@@ -1,6 +1,5 @@
 -- Numbers that lead from one state to another.
-use Rattle.qbf_text.proofs.Words.{◌≡◌, ℕ, zero, suc, ◌+◌, ◌<◌, List, refl, sym, ap, ◌∙◌, subst, arith, Option, Some, None, Result, Ok, Err}
-use Rattle.qbf_text.proofs.Words.{Token, Row, Goes}
+use Rattle.qbf_text.proofs.Words.{◌≡◌, ℕ, zero, suc, ◌+◌, ◌<◌, List, refl, sym, ap, ◌∙◌, subst, arith, Option, Some, None, Result, Ok, Err, Token, Row, Goes}
 use Rattle.std.specs.Prelude.{ℤ, pos, slice_index_or, IfOk}
 use Rattle.qbf_text.specs.Numbers.{token_of, token_at, LeadsBy, LeadsOver, TakesOver}
 
@@ -20,8 +19,7 @@ module _ {P A F : Type 0} (row : P → Token → Row P A F) where
   then_by : (first mid next : P) (values : List ℤ) (from n m total : ℕ) → total ≡ n + m → LeadsBy row first mid values from n
       → LeadsBy row mid next values (from + n) m → LeadsBy row first next values from total
   then_by first mid next values from n zero total is l e =
-      let same : n ≡ total = omega (arith, is) in
-      subst (λ s. LeadsBy row first s values from total) e (subst (λ k. LeadsBy row first mid values from k) same l)
+      let same : n ≡ total = omega (arith, is) in subst (λ s. LeadsBy row first s values from total) e (subst (λ k. LeadsBy row first mid values from k) same l)
   then_by first mid next values from n (suc m) total is l more =
       let same : suc (n + m) ≡ total = omega (arith, is) in
       let place : from + n + m ≡ from + (n + m) = omega arith in

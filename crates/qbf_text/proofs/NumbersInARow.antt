@@ -1,8 +1,6 @@
 -- Numbers as `decimal` finds them are numbers that stand whole among the bytes.
-use Rattle.qbf_text.proofs.Words.{◌≡◌, ℕ, zero, suc, ◌+◌, ◌-◌, ◌^◌, ◌<◌, ◌≤◌, Bool, true, false, ◌&&◌, nat_eq, List, [], ◌∷◌, length, take}
-use Rattle.qbf_text.proofs.Words.{drop}
-use Rattle.qbf_text.proofs.Words.{get_or, refl, sym, ap, subst, ◌∙◌, arith, drop-drop, nat_tests, common_steps, is_separator}
-use Rattle.qbf_text.proofs.Words.{begins_with_minus, digits_value}
+use Rattle.qbf_text.proofs.Words.{◌≡◌, ℕ, zero, suc, ◌+◌, ◌-◌, ◌^◌, ◌<◌, ◌≤◌, Bool, true, false, ◌&&◌, nat_eq, List, [], ◌∷◌, length, take, drop}
+use Rattle.qbf_text.proofs.Words.{get_or, refl, sym, ap, subst, ◌∙◌, arith, drop-drop, nat_tests, common_steps, is_separator, begins_with_minus, digits_value}
 use Rattle.qbf_text.proofs.Words.{BeginsWithNumber, ◌⊎◌, inl, inr}
 use Rattle.std.specs.Prelude.{ℤ, pos, neg_ℤ, unsigned_abs, int_lt}
 use Rattle.std.specs.Str.Parse.{AllDigits}
@@ -39,9 +37,6 @@ plain_is d = grind (arith, common_steps)
 some_is : (d : ℕ) → 0 < d → (true && nat_eq d 0) ≡ false
 some_is d some = grind (arith, nat_tests, some)
 
-no_minus : (b : ℕ) → nat_eq b 45 ≡ false → b ≡ 45 → ⊥
-no_minus b none e = absurd (let never : false ≡ true = sym none ∙ ap (λ x. nat_eq x 45) e in cc never)
-
 equal_or : (a b : ℕ) → (nat_eq a b ≡ true) ⊎ (nat_eq a b ≡ false)
 equal_or a b = split (nat_eq a b) refl
   where
@@ -61,21 +56,18 @@ module _ (bytes : List ℕ) (from end : ℕ) (v : ℤ) (within : end < length by
   minus = first_minus (drop from bytes) ∙ ap (λ b. nat_eq b 45) (get_or-drop from bytes 0 0 ∙ ap (λ k. get_or bytes k 0) (omega arith))
 
   Found : ℤ → Type 0
-  Found w = BeginsWithNumber (drop from bytes) (int_lt w (pos 0)) (unsigned_abs w) (end - from + 1)
-      (nat_eq (get_or (drop from bytes) (end - from) 0) 10)
+  Found w = BeginsWithNumber (drop from bytes) (int_lt w (pos 0)) (unsigned_abs w) (end - from + 1) (nat_eq (get_or (drop from bytes) (end - from) 0) 10)
 
   plain : nat_eq (get_or bytes from 0) 45 ≡ false → Found v
   unfolding Found
   plain none =
-      let is = n.plain (no_minus (get_or bytes from 0) none) in
+      let is = n.plain (λ e. absurd (let never : nat_eq (get_or bytes from 0) 45 ≡ true = rw e refl in let no : true ≡ false = sym never ∙ none in cc no)) in
       let whole : end - from - 0 ≡ end - from = omega arith in
       let same : take (end - from - 0) (drop 0 (drop from bytes)) ≡ between bytes from end = ap (λ k. take k (drop from bytes)) whole in
       let all = subst (AllDigits 10) (sym same) is.0 in
       let few = length-take (end - from) (drop from bytes) in
-      rw (is.1, plain_is (digits_value 10 (between bytes from end))) (
-      found (drop from bytes) false 0 (digits_value 10 (between bytes from end)) (end - from) (sym (minus ∙ none)) (omega arith)
-      (small (between bytes from end) is.0 (omega (arith, few, n.few))) all (ap (digits_value 10) (sym same))
-      (λ e. omega (arith, e, n.some)) len refl
+      rw (is.1, plain_is (digits_value 10 (between bytes from end))) (found (drop from bytes) false 0 (digits_value 10 (between bytes from end)) (end - from) (sym (minus ∙ none)) (omega arith)
+      (small (between bytes from end) is.0 (omega (arith, few, n.few))) all (ap (digits_value 10) (sym same)) (λ e. omega (arith, e, n.some)) len refl
       (ap is_separator separator ∙ sep) refl)
 
   signed : nat_eq (get_or bytes from 0) 45 ≡ true → Found v
@@ -110,7 +102,7 @@ number_fits : (bytes : List ℕ) (from end : ℕ) (v : ℤ) → IsNumber bytes f
 number_fits bytes from end v n = elim (equal_or (get_or bytes from 0) 45) [
   | inl here ↦ let is = n.minus (grind (arith, nat_tests, here)) in
       rw is.1 (negated_fits (digits_value 10 (between bytes (from + 1) end)) (few (from + 1) is.0 (omega arith)))
-  | inr none ↦ let is = n.plain (no_minus (get_or bytes from 0) none) in
+  | inr none ↦ let is = n.plain (λ e. absurd (let never : nat_eq (get_or bytes from 0) 45 ≡ true = rw e refl in let no : true ≡ false = sym never ∙ none in cc no)) in
       rw is.1 (plain_fits (digits_value 10 (between bytes from end)) (few from is.0 (omega arith)))
 ]
   where

@@ -1,6 +1,5 @@
 -- The table of what each byte is after a number.
-use Rattle.qbf_text.proofs.Words.{◌≡◌, ℕ, ◌<◌, ◌∙◌, true, nat_eq, List, ◌∷◌, ◌++◌, get_or, refl, sym, arith, nat_tests, is_separator}
-use Rattle.qbf_text.proofs.Words.{is_line_end}
+use Rattle.qbf_text.proofs.Words.{◌≡◌, ℕ, ◌<◌, ◌∙◌, true, nat_eq, List, ◌∷◌, ◌++◌, get_or, refl, sym, arith, nat_tests, is_separator, is_line_end}
 use Rattle.std.specs.Prelude.{nat_lt, replicate}
 use Rattle.std.proofs.lemmas.Bool.{agree_below_at}
 

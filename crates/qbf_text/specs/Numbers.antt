@@ -1,6 +1,5 @@
 -- Numbers at hand: what a grammar makes of them, and where each stands among the bytes.
-use Rattle.std.specs.Prelude.{◌≡◌, ℕ, zero, suc, ◌+◌, ◌-◌, ◌<◌, ◌≤◌, Bool, true, false, nat_eq, List, [], ◌∷◌, ◌++◌, length, take, drop}
-use Rattle.std.specs.Prelude.{Option, Some, None, ℤ, pos, unsigned_abs, int_lt}
+use Rattle.std.specs.Prelude.{◌≡◌, ℕ, zero, suc, ◌+◌, ◌-◌, ◌<◌, ◌≤◌, Bool, true, false, nat_eq, List, [], ◌∷◌, ◌++◌, length, take, drop, Option, Some, None, ℤ, pos, unsigned_abs, int_lt}
 use Rattle.std.specs.Prelude.{slice_index_or}
 use Rattle.qbf_text.specs.declared.buffered.Cursor.{Cursor}
 use Rattle.qbf_text.specs.declared.numbers.Numbers.{Numbers}

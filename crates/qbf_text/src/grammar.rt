@@ -130,8 +130,8 @@ pub trait Grammar {
     /// What this keeps so.
     ghost kept: { Self → Kept };
 
-    /// Takes numbers from the first of these on, until it is complete, and returns how many, and
-    /// what was read if it is. It may take none: each number that it leaves is handed to `take`.
+    /// Takes numbers from the first of these on, until it is complete, and returns how many, and what
+    /// was read if it is. It may take none: each number that it leaves is handed to `take`.
     ///
     /// They are mostly one list up to its zero.
     ///
@@ -153,8 +153,8 @@ pub trait Grammar {
         ensures kept { kept self.new ≡ kept self.old };
 }
 
-/// Lets a grammar take numbers that are at hand, list after list. Returns how many it took, and
-/// what was read, if it is complete.
+/// Lets a grammar take numbers that are at hand, list after list. Returns how many it took, and what
+/// was read, if it is complete.
 #[inline(always)]
 fn take_lists<G: Grammar>(
     grammar: &mut G,

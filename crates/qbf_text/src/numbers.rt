@@ -1,10 +1,9 @@
 //! Numbers of a window, many at a time: first where they seem to end, then what they are.
 
 ghost use Rattle.std.specs.Prelude.{◌≡◌, ℕ, ◌+◌, ◌<◌, ◌≤◌, List, length, IfSome, pos, unsigned_abs};
-ghost use Rattle.std.specs.Prelude.{int_lt, nat_eq, nat_le, slice_index, slice_index_or, slice_set};
-ghost use Rattle.std.specs.Prelude.{◌&&◌, false, true};
-ghost use Rattle.qbf_text.specs.Numbers.{AreHeld, BeginsWithNumber, IsPart, NumberEnds, cursor_to};
-ghost use Rattle.qbf_text.specs.Numbers.{line, one_if, place};
+ghost use Rattle.std.specs.Prelude.{int_lt, nat_eq, nat_le, slice_index, slice_index_or, slice_set, ◌&&◌, false, true};
+ghost use Rattle.qbf_text.specs.Numbers.{AreHeld, IsPart, NumberEnds, cursor_to, line, one_if, place};
+ghost use Rattle.qbf_text.specs.Numbers.{BeginsWithNumber};
 ghost use Rattle.qbf_text.specs.Left.{is_separator};
 ghost use Rattle.qbf_text.specs.Tokens.{is_line_end};
 
@@ -19,8 +18,8 @@ pub const MOST: usize = 2048;
 /// How many bytes are looked at together for where numbers end.
 const BLOCK: usize = 64;
 
-/// A bit for each of the first 64 bytes, the lowest for the first, whether it is at most a blank,
-/// as separators are.
+/// A bit for each of the first 64 bytes, the lowest for the first, whether it is at most a blank, as
+/// separators are.
 #[inline(always)]
 fn marks_of(block: &[u8]) -> u64
     requires { 64 ≤ length block.now }
@@ -196,8 +195,8 @@ impl Numbers {
         self.known = 0;
     }
 
-    /// Notes where numbers seem to end among the 64 bytes from the place `block` of the window on,
-    /// after those that were noted. Returns how many are noted.
+    /// Notes where numbers seem to end among the 64 bytes from the place `block` of the window on, after
+    /// those that were noted. Returns how many are noted.
     #[inline(always)]
     fn note(&mut self, bytes: &[u8], block: usize, runs: usize) -> usize
         requires block { block + 64 ≤ length bytes.now }
@@ -234,8 +233,8 @@ impl Numbers {
         self.runs = runs;
     }
 
-    /// Goes to the first run that seems to end after the place `start` of the window. Returns the
-    /// end of those whose place seems to be known.
+    /// Goes to the first run that seems to end after the place `start` of the window. Returns the end of
+    /// those whose place seems to be known.
     #[inline(always)]
     fn seek(&mut self, start: usize) -> usize
         requires { start ≤ 4096 }
@@ -257,8 +256,8 @@ impl Numbers {
         runs
     }
 
-    /// Puts a number at the place `k`, before which are so many line ends. Returns how many there
-    /// are after it.
+    /// Puts a number at the place `k`, before which are so many line ends. Returns how many there are after
+    /// it.
     #[inline(always)]
     fn put(&mut self, k: usize, usual: Usual, lines: u16) -> u16
         requires room { k < 2048 }
@@ -275,8 +274,8 @@ impl Numbers {
         after
     }
 
-    /// Notes which of the numbers from the place `k` on are zero, after so many zeros: a bit for
-    /// each of four. Returns how many are noted.
+    /// Notes which of the numbers from the place `k` on are zero, after so many zeros: a bit for each of
+    /// four. Returns how many are noted.
     #[inline(always)]
     fn note_zeros(&mut self, k: usize, marks: u64, zeros: usize) -> usize
         requires { k ≤ 2048 }
@@ -309,8 +308,8 @@ impl Numbers {
         number_before(&bytes[at..], end.wrapping_sub(at))
     }
 
-    /// The four numbers of which the first begins at a place, if they are those from the number `k`
-    /// on, before the number `runs`, and usual ones.
+    /// The four numbers of which the first begins at a place, if they are those from the number `k` on,
+    /// before the number `runs`, and usual ones.
     #[inline(always)]
     fn four_at(&self, bytes: &[u8], k: usize, at: usize, runs: usize) -> Option<Four>
         requires room { runs ≤ 2048 }
@@ -355,8 +354,8 @@ impl Numbers {
         })
     }
 
-    /// Makes the numbers known that stand from the place `start` on, as far as they are usual: of
-    /// at most eight bytes.
+    /// Makes the numbers known that stand from the place `start` on, as far as they are usual: of at most
+    /// eight bytes.
     #[inline(never)]
     pub fn fill(&mut self, bytes: &[u8], start: usize)
         requires start { start ≤ length bytes.now }
@@ -399,8 +398,8 @@ impl Numbers {
         self.known <= self.first
     }
 
-    /// The numbers after so many, mostly up to the next 0: that seems to be the zero with the
-    /// number `zero`.
+    /// The numbers after so many, mostly up to the next 0: that seems to be the zero with the number
+    /// `zero`.
     #[inline(always)]
     pub fn list(&self, taken: usize, zero: usize) -> &[i32]
         requires taken { self.now.first + taken ≤ self.now.known }

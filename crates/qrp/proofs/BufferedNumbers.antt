@@ -1,6 +1,5 @@
 -- Where numbers at hand lead to.
-use Rattle.qrp.proofs.Words.{leads_none, leads_more, leads_further, takes_further, ◌≡◌, ℕ, ◌+◌, List, [], ◌∷◌, ◌++◌, Some, Ok, ap, sym}
-use Rattle.qrp.proofs.Words.{Literal}
+use Rattle.qrp.proofs.Words.{leads_none, leads_more, leads_further, takes_further, ◌≡◌, ℕ, ◌+◌, List, [], ◌∷◌, ◌++◌, Some, Ok, ap, sym, Literal}
 use Rattle.std.specs.Prelude.{ℤ}
 use Rattle.qbf_text.specs.Numbers.{LeadsOver, token_at}
 use Rattle.dimacs_syntax.specs.Decode.{literal_in}

@@ -81,8 +81,8 @@ fn take_antecedents(partial: &mut Partial, number: u64, values: &[i32], from: us
     (At::Ants(number), Ok((i, None)))
 }
 
-/// Takes the number of a step, if one begins here. Returns where the next token stands, and the
-/// place of the next number.
+/// Takes the number of a step, if one begins here. Returns where the next token stands, and the place
+/// of the next number.
 #[inline(always)]
 #[tactic(auto, using(crate::proofs::BufferedNumbers::numbers_lead_on))]
 fn take_number(here: At, partial: &mut Partial, values: &[i32]) -> (At, usize)

@@ -29,8 +29,7 @@ go_to-requires g c =
     let from = c.cursor.result in
     let small : from.line < 2 ^ 64 = search in
     let front : from.at ≡ 0 = ap (λ k. k.at) c.cursor.ensures in
-    rw c.cursor_after-here.ensures (
-    cursor_within c.numbers-numbers.result.now c.prepare.new.self.pending c.numbers-numbers.ensures from front small
+    rw c.cursor_after-here.ensures (cursor_within c.numbers-numbers.result.now c.prepare.new.self.pending c.numbers-numbers.ensures from front small
     c.in_ok-count.count c.in_ok-count.ensures.within)
 
 pub returns-clause-reads : goal.returns-clause-reads

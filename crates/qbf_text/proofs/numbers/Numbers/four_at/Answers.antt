@@ -47,8 +47,7 @@ returns-clause-third c =
     (λ small. ap (λ j. place c.args.self.now j) same ∙ c.end-3.ensures small)
     (subst (λ v. IsNumber bytes (c.end-2.result + 1) c.end-3.result v) (sym c.number_of-3.ensures.value) row.third)
     (c.kind_of-3.ensures.separates small.2) (c.number_of-3.ensures.ends_line ∙ c.kind_of-3.ensures.line_end) in
-    let from_is = ap (λ j. place c.args.self.now j) (let same : k + 2 ≡ k + 1 + 1 = omega arith in same)
-    ∙ c.end-2.ensures (omega (arith, within, row.third.some, c.requires.small)) in
+    let from_is = ap (λ j. place c.args.self.now j) (let same : k + 2 ≡ k + 1 + 1 = omega arith in same) ∙ c.end-2.ensures (omega (arith, within, row.third.some, c.requires.small)) in
     subst (λ f. NumberEnds bytes f to c.number_of-3.result) (sym from_is) here
 
 pub returns-clause-fourth : goal.returns-clause-fourth
@@ -65,6 +64,5 @@ returns-clause-fourth c =
     (λ small. ap (λ j. place c.args.self.now j) same ∙ c.end-4.ensures small)
     (subst (λ v. IsNumber bytes (c.end-3.result + 1) c.end-4.result v) (sym c.number_of-4.ensures.value) row.fourth)
     (c.kind_of-4.ensures.separates small.3) (c.number_of-4.ensures.ends_line ∙ c.kind_of-4.ensures.line_end) in
-    let from_is = ap (λ j. place c.args.self.now j) (let same : k + 3 ≡ k + 2 + 1 = omega arith in same)
-    ∙ c.end-3.ensures (omega (arith, within, row.fourth.some, c.requires.small)) in
+    let from_is = ap (λ j. place c.args.self.now j) (let same : k + 3 ≡ k + 2 + 1 = omega arith in same) ∙ c.end-3.ensures (omega (arith, within, row.fourth.some, c.requires.small)) in
     subst (λ f. NumberEnds bytes f to c.number_of-4.result) (sym from_is) here
