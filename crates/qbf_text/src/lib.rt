@@ -14,7 +14,7 @@
 
 mod buffered;
 mod grammar;
-mod numbers;
+mod likely_ends;
 mod pieces;
 mod run;
 mod scanner;
@@ -25,6 +25,7 @@ mod spelling;
 mod token;
 mod window;
 
+pub use buffered::{Cursor, Passed};
 pub use grammar::{Grammar, Progress, ReadError, Stop, Taken, read_by, read_text};
 pub use pieces::{PieceSink, PieceSource};
 pub use scanner::{ScanFault, Scanner};
