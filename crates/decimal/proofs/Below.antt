@@ -1,7 +1,6 @@
 -- Where no lane of the greatest is marked, each lane is below ten.
 use Rattle.std.proofs.lemmas.Grind.{common_steps}
-use Rattle.std.proofs.Common.{Fits, eqb, eqb-true, true, subst, ℕ, zero, ◌≡◌, ◌<◌, ◌%◌, ◌^◌, cond, ltb, List, [], ◌∷◌, map, length}
-use Rattle.std.proofs.Common.{replicate, arith, refl, ap, ◌∙◌, w8}
+use Rattle.std.proofs.Common.{ℕ, zero, ◌≡◌, ◌<◌, ◌%◌, ◌^◌, cond, ltb, List, [], ◌∷◌, map, length, replicate, arith, refl, ap, ◌∙◌, w8}
 use Rattle.std.specs.Simd.Lanes.{zip2, Each1, sel_l, mask_l, top}
 use Rattle.std.proofs.lemmas.Simd.{tops_compared, zip2_splat_left, mask_l-mod, length-zip2}
 use Rattle.std.proofs.lemmas.List.{length-map}
@@ -46,20 +45,27 @@ both (x ∷ xs) (y ∷ ys) e h =
     let rest = both xs ys (omega (arith, e)) h.1 in
     ((here.0, rest.0), (here.1, rest.1))
 
-pub all_small : (xs : List ℕ) → (length xs ≡ 16) × Each1 (Fits w8) xs
-    → eqb (mask_l (map (top 7) (zip2 less (replicate 16 9) xs)) % 2 ^ 64) 0 ≡ true → Small xs
-all_small xs fits is =
-    let marks : mask_l (map (top 7) (zip2 less (replicate 16 9) xs)) % 2 ^ 64 ≡ mask_l (map (ltb 9) xs) =
-    ap (λ l. mask_l l % 2 ^ 64) (tops_compared w8 ltb (replicate 16 9) xs ∙ zip2_splat_left ltb 9 16 xs fits.0)
-    ∙ mask_l-mod (map (ltb 9) xs) 64 (omega (arith, length-map xs (ltb 9), fits.0)) in
-    none xs (omega (arith, marks, eqb-true _ _ is))
+module _ (a b c : List ℕ) (la : length a ≡ 16) (lb : length b ≡ 16) (lc : length c ≡ 16) where
+  abbrev all : List ℕ
+  all = zip2 greater (zip2 greater a b) c
 
-pub all_three : (a b c : List ℕ) → length a ≡ 16 → length b ≡ 16 → length c ≡ 16 → Small (greatest (greatest a b) c)
-    → Small a × Small b × Small c
-all_three a b c la lb lc small =
-    let lab : length (zip2 greater a b) ≡ 16 = length-zip2 greater a b (omega (arith, la, lb)) ∙ la in
-    let is : greatest (greatest a b) c ≡ zip2 greater (zip2 greater a b) c =
-    ap (λ l. greatest l c) (greatest_is a b) ∙ greatest_is (zip2 greater a b) c in
-    let every = both (zip2 greater a b) c (omega (arith, lab, lc)) (subst Small is small) in
-    let two = both a b (omega (arith, la, lb)) every.0 in
-    (two.0, two.1, every.1)
+  lab : length (zip2 greater a b) ≡ 16
+  lab = length-zip2 greater a b (omega (arith, la, lb)) ∙ la
+
+  long : length all ≡ 16
+  long = length-zip2 greater (zip2 greater a b) c (omega (arith, lab, lc)) ∙ lab
+
+  all_is : greatest (greatest a b) c ≡ all
+  all_is = ap (λ l. greatest l c) (greatest_is a b) ∙ greatest_is (zip2 greater a b) c
+
+  marks_are : mask_l (map (top 7) (zip2 less (replicate 16 9) (greatest (greatest a b) c))) % 2 ^ 64 ≡ mask_l (map (ltb 9) all)
+  marks_are =
+      ap (λ l. mask_l (map (top 7) (zip2 less (replicate 16 9) l)) % 2 ^ 64) all_is
+      ∙ ap (λ l. mask_l l % 2 ^ 64) (tops_compared w8 ltb (replicate 16 9) all ∙ zip2_splat_left ltb 9 16 all long)
+      ∙ mask_l-mod (map (ltb 9) all) 64 (omega (arith, length-map all (ltb 9), long))
+
+  pub all_small : mask_l (map (top 7) (zip2 less (replicate 16 9) (greatest (greatest a b) c))) % 2 ^ 64 ≡ 0 → Small a × Small b × Small c
+  all_small e =
+      let every = both (zip2 greater a b) c (omega (arith, lab, lc)) (none all (omega (arith, marks_are, e))) in
+      let two = both a b (omega (arith, la, lb)) every.0 in
+      (two.0, two.1, every.1)

@@ -1,13 +1,12 @@
 -- Three steps make two numbers of sixteen digits: each reads two lanes as one of twice the width, and puts them together.
-use Rattle.std.proofs.Common.{Fits, w8, ℕ, zero, suc, ◌≡◌, ◌+◌, ◌*◌, ◌/◌, ◌%◌, ◌^◌, ◌<◌, List, [], ◌∷◌, map, length, arith, bit_and, refl}
-use Rattle.std.proofs.Common.{sym, ap, ap₂, ◌∙◌, subst}
+use Rattle.std.proofs.Common.{ℕ, zero, suc, ◌≡◌, ◌+◌, ◌*◌, ◌/◌, ◌%◌, ◌^◌, ◌<◌, List, [], ◌∷◌, map, length, arith, bit_and, refl, sym, ap, ap₂, ◌∙◌, subst}
 use Rattle.std.specs.Int.Digits.{number_from_digits}
 use Rattle.std.specs.Simd.Lanes.{Each1, number_l, digits_l, chunk}
 use Rattle.std.proofs.Math.Arith.{digits_lt}
 use Rattle.std.proofs.Common.{pow-suc, mul_comm}
 use Rattle.std.proofs.Math.Nat.{pow-zero}
 use Rattle.std.proofs.lemmas.Nat.{and_mask, mod_below}
-use Rattle.std.proofs.lemmas.Simd.{pick_l_whole, below_from_Fits}
+use Rattle.std.proofs.lemmas.Simd.{pick_l_whole}
 
 -- a lane of two digits to the base p, of which the lower counts k times
 abbrev act : (p q m k v : ℕ) → ℕ
@@ -35,8 +34,7 @@ module _ (p q m k : ℕ)
       (ap (λ z. map (act p q m k) (digits_l q n z)) (high x y r h.0 h.1.0) ∙ step n xs (omega (arith, e)) h.1.1)
 
 -- the lanes that a step gives
-given : (p q m k n x : ℕ) → 0 < q
-    → (length (map (act p q m k) (digits_l q n x)) ≡ n) × Each1 (λ y. y < q) (map (act p q m k) (digits_l q n x))
+given : (p q m k n x : ℕ) → 0 < q → (length (map (act p q m k) (digits_l q n x)) ≡ n) × Each1 (λ y. y < q) (map (act p q m k) (digits_l q n x))
 given p q m k zero x some = (refl, tt)
 given p q m k (suc n) x some =
     let rest = given p q m k n (x / q) some in
@@ -78,8 +76,7 @@ fours ps = map (act 65536 4294967296 65535 100) (digits_l 4294967296 4 (number_l
 
 abbrev numbers : List ℕ → List ℕ
 numbers qs =
-    map (act 4294967296 18446744073709551616 4294967295 10000)
-    (digits_l 18446744073709551616 2 (number_l 256 (digits_l 256 16 (number_l 4294967296 qs))))
+    map (act 4294967296 18446744073709551616 4294967295 10000) (digits_l 18446744073709551616 2 (number_l 256 (digits_l 256 16 (number_l 4294967296 qs))))
 
 pairs_are : (xs : List ℕ) → length xs ≡ 16 → Each1 (λ x. x < 256) xs → pairs xs ≡ joined 10 xs
 pairs_are xs e h =
@@ -99,21 +96,19 @@ eights_are xs e h =
     ∙ step 4294967296 18446744073709551616 4294967295 10000 (λ x y r a b. omega (arith, a, b)) (λ x y r a b. omega (arith, a, b))
     (λ x y a b. omega (arith, low_four x y a b, a, b)) 2 xs e h
 
-put_eight : (a b c d e f g h : ℕ) → ((a * 10 + b) * 100 + (c * 10 + d)) * 10000 + ((e * 10 + f) * 100 + (g * 10 + h))
+one : (a b c d e f g h : ℕ) → ((a * 10 + b) * 100 + (c * 10 + d)) * 10000 + ((e * 10 + f) * 100 + (g * 10 + h))
     ≡ number_from_digits 10 (a ∷ b ∷ c ∷ d ∷ e ∷ f ∷ g ∷ h ∷ [])
-put_eight a b c d e f g h = omega arith
+one a b c d e f g h = omega arith
 
 put_together : (xs : List ℕ) → length xs ≡ 16
     → joined 10000 (joined 100 (joined 10 xs)) ≡ number_from_digits 10 (chunk 0 8 xs) ∷ number_from_digits 10 (chunk 8 8 xs) ∷ []
 put_together xs e =
     subst (λ l. joined 10000 (joined 100 (joined 10 l)) ≡ number_from_digits 10 (chunk 0 8 l) ∷ number_from_digits 10 (chunk 8 8 l) ∷ [])
-    (pick_l_whole 0 xs 16 e) (ap₂ (λ a b. a ∷ b ∷ []) (put_eight _ _ _ _ _ _ _ _) (put_eight _ _ _ _ _ _ _ _))
+    (pick_l_whole 0 xs 16 e) (ap₂ (λ a b. a ∷ b ∷ []) (one _ _ _ _ _ _ _ _) (one _ _ _ _ _ _ _ _))
 
-pub numbers_are : (ds : List ℕ) → (length ds ≡ 16) × Each1 (Fits w8) ds
+pub numbers_are : (ds : List ℕ) → length ds ≡ 16 → Each1 (λ x. x < 256) ds
     → numbers (fours (pairs ds)) ≡ number_from_digits 10 (chunk 0 8 ds) ∷ number_from_digits 10 (chunk 8 8 ds) ∷ []
-numbers_are ds fits =
-    let e = fits.0 in
-    let h = below_from_Fits w8 ds fits.1 in
+numbers_are ds e h =
     let ps = given 256 65536 255 10 8 (number_l 256 ds) (omega arith) in
     let qs = given 65536 4294967296 65535 100 4 (number_l 256 (digits_l 256 16 (number_l 65536 (pairs ds)))) (omega arith) in
     eights_are (fours (pairs ds)) qs.0 qs.1

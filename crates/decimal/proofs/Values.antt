@@ -1,16 +1,15 @@
 -- From lanes to the numbers that they are.
 use Rattle.std.proofs.lemmas.Grind.{common_steps}
-use Rattle.std.proofs.Common.{suc, zero, ℕ, ◌≡◌, ◌+◌, ◌-◌, ◌%◌, ◌^◌, ◌<◌, ◌≤◌, cond, eqb, List, [], ◌∷◌, map, take, drop, length, get_or}
-use Rattle.std.proofs.Common.{replicate, arith, refl, sym, ap, ap₂, ◌∙◌, subst, w32, inl, inr}
+use Rattle.std.proofs.Common.{ℕ, ◌≡◌, ◌+◌, ◌*◌, ◌-◌, ◌%◌, ◌^◌, ◌<◌, ◌≤◌, cond, eqb, List, [], ◌∷◌, map, take, drop, length, get_or, replicate, arith, refl, sym, ap, ap₂, ◌∙◌, subst, w32, inl, inr}
 use Rattle.std.specs.Prelude.{ℤ, pos, neg_ℤ}
 use Rattle.std.specs.Int.{cast_signed, cast_unsigned}
-use Rattle.std.specs.Simd.Lanes.{zip2, Each1, top, mask_l}
+use Rattle.std.specs.Simd.Lanes.{zip2, Each1, sel_l, top, number_l, digits_l, mask_l}
 use Rattle.std.specs.Str.Parse.{digits_value, AllDigits}
 use Rattle.std.proofs.lemmas.Bool.{cases_Bool, eqb-true, eqb-false}
 use Rattle.std.proofs.lemmas.Int.{to_z-of_z, to_z_pos}
 use Rattle.std.proofs.lemmas.Int.Digits.{digits_value-lt}
 use Rattle.std.proofs.lemmas.List.{length-take, get_or-take, get_or-drop, drop-take, drop-drop, length-drop}
-use Rattle.std.proofs.lemmas.Simd.{bitmask_splat, pick_l_whole}
+use Rattle.std.proofs.lemmas.Simd.{get_or_narrower, Each1-get_or, bitmask_splat, pick_l_whole}
 use Rattle.std.proofs.Math.Nat.{pow-le-pow_right}
 use Rattle.decimal.specs.Lanes.{IsPlace, Writes, with_sign}
 use Rattle.decimal.specs.Numbers.{between, IsNumber, AreInARow, is_zero}
@@ -25,10 +24,12 @@ same_lane v s small = grind (arith, common_steps, to_z-of_z, to_z_pos)
 zero_lane : (v s : ℕ) → is_zero (with_sign v s) ≡ eqb v 0
 zero_lane v s = grind (arith, common_steps)
 
--- a sign of all bits has no low byte below ten
-some : (v s : ℕ) → s ≡ 4294967295 → (v ≡ 0 → s % 4294967296 % 256 < 10) → 0 < v
-some zero s is right = absurd (omega (arith, is, right refl))
-some (suc v) s is right = omega arith
+-- the sign where a value is zero, as the lanes compute it
+abbrev pub wrong : ℕ → ℕ → ℕ
+wrong v s = cond (top 31 (cond (eqb v 0) 4294967295 0)) s 0
+
+some : (v : ℕ) → wrong (v % 4294967296) 4294967295 % 256 < 10 → 0 < v
+some v right = grind (arith, common_steps)
 
 -- ---- one number
 module _ (bytes : List ℕ) (from end v s : ℕ) (place : IsPlace (length bytes) from end) (is : Writes (between bytes from end) v s) where
@@ -50,16 +51,13 @@ module _ (bytes : List ℕ) (from end v s : ℕ) (place : IsPlace (length bytes)
       omega (arith, digits_value-lt 10 ds h, more)
 
   text_few : length (between bytes from end) ≤ 8
-  text_few =
-      let cut : length (between bytes from end) ≤ end - from = omega (arith, length-take (end - from) (drop from bytes)) in
-      omega (arith, cut, place.few)
+  text_few = let cut : length (between bytes from end) ≤ end - from = omega (arith, length-take (end - from) (drop from bytes)) in omega (arith, cut, place.few)
 
   pub small : v < 2 ^ 31
   small = elim (cases_Bool (eqb (get_or (between bytes from end) 0 0) 45)) [
     | inl here ↦
         let w = is.minus (eqb-true _ _ here) in
-        let few : length (drop 1 (between bytes from end)) ≤ 8 = omega (arith, length-drop 1 (between bytes from end), text_few) in
-        omega (arith, w.1, few_digits (drop 1 (between bytes from end)) few w.0)
+        omega (arith, w.1, few_digits (drop 1 (between bytes from end)) (omega (arith, length-drop 1 (between bytes from end), text_few)) w.0)
     | inr other ↦
         let w = is.plain (eqb-false _ _ other) in
         omega (arith, w.1, few_digits (between bytes from end) text_few w.0)
@@ -68,7 +66,7 @@ module _ (bytes : List ℕ) (from end v s : ℕ) (place : IsPlace (length bytes)
   pub value_is : v % 4294967296 ≡ v
   value_is = omega (arith, small)
 
-  pub number : (v % 4294967296 ≡ 0 → s % 4294967296 % 256 < 10) → IsNumber bytes from end (with_sign (v % 4294967296) (s % 4294967296))
+  pub number : wrong (v % 4294967296) (s % 4294967296) % 256 < 10 → IsNumber bytes from end (with_sign (v % 4294967296) (s % 4294967296))
   number right = record {
     some = place.some;
     few = place.few;
@@ -79,13 +77,21 @@ module _ (bytes : List ℕ) (from end v s : ℕ) (place : IsPlace (length bytes)
         let w = is.minus (first_is ∙ here) in (
           subst (AllDigits 10) rest_is w.0,
           ap₂ (λ x y. with_sign x (y % 4294967296)) value_is w.2 ∙ ap (λ x. neg_ℤ (pos x)) (w.1 ∙ ap (digits_value 10) rest_is),
-          subst (λ x. 0 < x) (w.1 ∙ ap (digits_value 10) rest_is) (some v s w.2 (λ e. right (value_is ∙ e))),
+          subst (λ x. 0 < x) (w.1 ∙ ap (digits_value 10) rest_is) (some v (subst (λ k. wrong (v % 4294967296) (k % 4294967296) % 256 < 10) w.2 right)),
         );
   }
 
 -- ---- four of them
-same_lanes : (vs ss : List ℕ) → Each1 (λ v. v < 2 ^ 31) vs
-    → map (cast_signed w32) (map (cast_unsigned w32) (zip2 with_sign vs ss)) ≡ zip2 with_sign vs ss
+low_byte : (ws : List ℕ) → Each1 (λ x. x < 4294967296) ws → Each1 (λ x. x < 10) (digits_l 256 16 (number_l 4294967296 ws)) → (j : ℕ) → j < 4
+    → get_or ws j 0 % 256 < 10
+low_byte ws fits small j few =
+    subst (λ x. x < 10) (get_or_narrower 4294967296 4 256 16 ws j 0 refl fits (omega arith) (omega (arith, few)) ∙ omega arith)
+    (Each1-get_or (λ x. x < 10) (digits_l 256 16 (number_l 4294967296 ws)) (4 * j + 0) 0 (omega (arith, few)) small)
+
+wrong_fits : (v s : ℕ) → wrong v (s % 4294967296) < 4294967296
+wrong_fits v s = grind (arith, common_steps)
+
+same_lanes : (vs ss : List ℕ) → Each1 (λ v. v < 2 ^ 31) vs → map (cast_signed w32) (map (cast_unsigned w32) (zip2 with_sign vs ss)) ≡ zip2 with_sign vs ss
 same_lanes [] ss h = refl
 same_lanes (v ∷ vs) [] h = refl
 same_lanes (v ∷ vs) (s ∷ ss) h = ap₂ (λ z zs. z ∷ zs) (same_lane v s h.0) (same_lanes vs ss h.1)
@@ -99,9 +105,9 @@ zero_lanes (v ∷ vs) (s ∷ ss) e = ap₂ (λ z zs. z ∷ zs) (sym (zero_lane v
 abbrev are_zero : List ℕ → List ℕ
 are_zero vs = zip2 (λ x y. cond (eqb x y) 4294967295 0) vs (replicate 4 0)
 
--- no value that is zero has a sign
-abbrev Unsigned : (vs ss : List ℕ) → Type 0
-Unsigned vs ss = (i : ℕ) → i < 4 → get_or vs i 0 ≡ 0 → get_or ss i 0 % 256 < 10
+-- the signs of the values that are zero
+abbrev marks : List ℕ → List ℕ → List ℕ
+marks vs ss = sel_l (map (top 31) (are_zero vs)) ss (replicate 4 0)
 
 -- the lower halves of the lanes of two vectors
 abbrev halves : List ℕ → List ℕ → List ℕ
@@ -120,13 +126,16 @@ module _ (bytes ends a s b t : List ℕ) (from : ℕ) (w0 : WritesAt bytes from 
   pub values_small : Each1 (λ v. v < 2 ^ 31) (halves a b)
   values_small = (below _ _ _ _ w0, (below _ _ _ _ w1, (below _ _ _ _ w2, (below _ _ _ _ w3, tt))))
 
-  in_a_row : length ends ≡ 4 → Unsigned (halves a b) (halves s t) → AreInARow bytes from ends (zip2 with_sign (halves a b) (halves s t))
-  in_a_row long right =
+  in_a_row : length ends ≡ 4 → Each1 (λ x. x < 10) (digits_l 256 16 (number_l 4294967296 (marks (halves a b) (halves s t))))
+      → AreInARow bytes from ends (zip2 with_sign (halves a b) (halves s t))
+  in_a_row long none =
+      let fits : Each1 (λ x. x < 4294967296) (marks (halves a b) (halves s t)) = (wrong_fits _ _, (wrong_fits _ _, (wrong_fits _ _, (wrong_fits _ _, tt)))) in
+      let byte = low_byte (marks (halves a b) (halves s t)) fits none in
       subst (λ l. AreInARow bytes from l (zip2 with_sign (halves a b) (halves s t))) (pick_l_whole 0 ends 4 long) (
-        number bytes _ _ _ _ w0.0 w0.1 (right 0 (omega arith)),
+        number bytes _ _ _ _ w0.0 w0.1 (byte 0 (omega arith)),
         (
-          number bytes _ _ _ _ w1.0 w1.1 (right 1 (omega arith)),
-          (number bytes _ _ _ _ w2.0 w2.1 (right 2 (omega arith)), (number bytes _ _ _ _ w3.0 w3.1 (right 3 (omega arith)), tt)),
+          number bytes _ _ _ _ w1.0 w1.1 (byte 1 (omega arith)),
+          (number bytes _ _ _ _ w2.0 w2.1 (byte 2 (omega arith)), (number bytes _ _ _ _ w3.0 w3.1 (byte 3 (omega arith)), tt)),
         ),
       )
 
@@ -136,10 +145,11 @@ module _ (bytes ends a s b t : List ℕ) (from : ℕ) (w0 : WritesAt bytes from 
         ap (λ l. map (cast_signed w32) (map (cast_unsigned w32) l)) (zs_are ∙ ap₂ (zip2 with_sign) vs_are ss_are)
         ∙ same_lanes (halves a b) (halves s t) values_small
 
-    pub numbers_are : length ends ≡ 4 → Unsigned vs ss → AreInARow bytes from ends (map (cast_signed w32) (map (cast_unsigned w32) zs))
-    numbers_are long right =
+    pub numbers_are : length ends ≡ 4 → Each1 (λ x. x < 10) (digits_l 256 16 (number_l 4294967296 (marks vs ss)))
+        → AreInARow bytes from ends (map (cast_signed w32) (map (cast_unsigned w32) zs))
+    numbers_are long none =
         subst (AreInARow bytes from ends) (sym zs_passed)
-        (in_a_row long (subst (λ l. Unsigned l (halves s t)) vs_are (subst (Unsigned vs) ss_are right)))
+        (in_a_row long (subst (λ l. Each1 (λ x. x < 10) (digits_l 256 16 (number_l 4294967296 l))) (ap₂ marks vs_are ss_are) none))
 
     pub zeros_are : mask_l (map (top 31) (are_zero vs)) % 2 ^ 64 ≡ mask_l (map is_zero (map (cast_signed w32) (map (cast_unsigned w32) zs)))
     zeros_are =

@@ -1,17 +1,16 @@
 -- One word of eight bytes, of which the last few are a number.
-use Rattle.std.proofs.Common.{ℕ, zero, suc, ◌≡◌, ◌+◌, ◌-◌, ◌%◌, ◌<◌, ◌≤◌, Bool, true, false, cond, eqb, lt-ltb, List, [], ◌∷◌, ◌++◌, map}
-use Rattle.std.proofs.Common.{drop, length, get_or, replicate, arith, refl, sym, ap, ap₂, ◌∙◌, subst, bit_and, bit_xor, w8}
+use Rattle.std.proofs.Common.{ℕ, zero, suc, ◌≡◌, ◌+◌, ◌-◌, ◌%◌, ◌<◌, ◌≤◌, Bool, true, false, cond, eqb, lt-ltb, List, [], ◌∷◌, ◌++◌, map, drop, length, get_or, replicate, arith, refl, sym, ap, ap₂, ◌∙◌, subst, bit_and, bit_xor, w8}
 use Rattle.std.specs.Simd.Lanes.{zip2, Each1, sel_l, top, number_l}
 use Rattle.std.specs.Char.{digit_value}
 use Rattle.std.specs.Str.Parse.{digits_value, AllDigits}
 use Rattle.std.specs.Int.Digits.{number_from_digits}
-use Rattle.std.proofs.lemmas.Bool.{agree_below_at, cond-true, cond-false, eq-eqb, ne_eqb}
+use Rattle.std.proofs.lemmas.Bool.{agree_below_at, eq-eqb, ne_eqb}
 use Rattle.std.proofs.lemmas.List.{drop-drop}
 use Rattle.std.proofs.lemmas.Nat.{and_mask, xor_lt}
 use Rattle.std.proofs.lemmas.Simd.{tops_compared, zip2_splat, length-replicate}
 use Rattle.std.proofs.lemmas.Int.Digits.{digits_value_is}
 use Rattle.decimal.proofs.Lists.{turned, turned_small, turned_value, zeros_before}
-use Rattle.decimal.specs.Lanes.{mask_of, sign_of, Writes}
+use Rattle.decimal.specs.Lanes.{mask_of, Writes}
 
 abbrev pub Below : ℕ → List ℕ → Type 0
 Below n xs = Each1 (λ x. x < n) xs
@@ -51,9 +50,9 @@ masked zero (suc n) (b ∷ w) e h =
 masked (suc z) n [] e h = absurd (omega arith)
 masked (suc z) n (b ∷ w) e h = ap₂ (λ x xs. x ∷ xs) (and_zero (turned b)) (masked z n w (omega (arith, e)) h.1)
 
-below_after_zeros : (z : ℕ) (ds : List ℕ) → Below 10 (replicate z 0 ++ ds) → Below 10 ds
-below_after_zeros zero ds h = h
-below_after_zeros (suc z) ds h = below_after_zeros z ds h.1
+after_zeros : (z : ℕ) (ds : List ℕ) → Below 10 (replicate z 0 ++ ds) → Below 10 ds
+after_zeros zero ds h = h
+after_zeros (suc z) ds h = after_zeros z ds h.1
 
 below_drop : (z k : ℕ) (w : List ℕ) → Below k w → Below k (drop z w)
 below_drop zero k w h = h
@@ -65,12 +64,10 @@ module _ (w : List ℕ) (long : length w ≡ 8) (bytes : Below 256 w) where
       × (number_from_digits 10 (zip2 bit_and (map turned w) (mask_of n)) ≡ digits_value 10 (drop (8 - n) w))
   reads n few small =
       let text = drop (8 - n) w in
-      let parts : zip2 bit_and (map turned w) (mask_of n) ≡ replicate (8 - n) 0 ++ map turned text =
-      masked (8 - n) n w (omega (arith, long, few)) bytes in
-      let last = turned_are text (below_drop (8 - n) 256 w bytes) (below_after_zeros (8 - n) _ (subst (Below 10) parts small)) in (
+      let parts : zip2 bit_and (map turned w) (mask_of n) ≡ replicate (8 - n) 0 ++ map turned text = masked (8 - n) n w (omega (arith, long, few)) bytes in
+      let last = turned_are text (below_drop (8 - n) 256 w bytes) (after_zeros (8 - n) _ (subst (Below 10) parts small)) in (
         last.1,
-        ap (number_from_digits 10) parts ∙ zeros_before (8 - n) (map turned text) ∙ ap (number_from_digits 10) last.0
-            ∙ sym (digits_value_is 10 text),
+        ap (number_from_digits 10) parts ∙ zeros_before (8 - n) (map turned text) ∙ ap (number_from_digits 10) last.0 ∙ sym (digits_value_is 10 text),
       )
 
 -- ---- which of the two masks is taken
@@ -97,19 +94,21 @@ chosen zero m (b ∷ w) e =
 chosen (suc z) m [] e = absurd (omega arith)
 chosen (suc z) m (b ∷ w) e = ap₂ (λ x xs. x ∷ xs) (either (is_minus b) 0) (chosen z m w (omega (arith, e)))
 
+-- zero where two masks are the same, as the lanes compute it
+abbrev pub sign : ℕ → ℕ → ℕ
+sign now whole = cond (top 63 (cond (eqb now whole) 18446744073709551615 0)) 0 4294967295
+
 -- the masks' numbers differ, by computing
-other_sign : (m : ℕ) → m < 8 → sign_of (mask_of m) (mask_of (suc m)) ≡ 4294967295
-unfolding sign_of
+other_sign : (m : ℕ) → m < 8 → sign (number_l 256 (mask_of m)) (number_l 256 (mask_of (suc m))) ≡ 4294967295
 other_sign m few =
-    cond-false _ _ _
+    ap (λ t. cond (top 63 (cond t 18446744073709551615 0)) 0 4294967295)
     (agree_below_at (λ x. eqb (number_l 256 (mask_of x)) (number_l 256 (mask_of (suc x)))) (λ _. false) 8 m refl few)
 
-same_sign : (xs : List ℕ) → sign_of xs xs ≡ 0
-unfolding sign_of
-same_sign xs = cond-true _ _ _ (eq-eqb (number_l 256 xs) (number_l 256 xs) refl)
+same_sign : (x : ℕ) → sign x x ≡ 0
+same_sign x = ap (λ t. cond (top 63 (cond t 18446744073709551615 0)) 0 4294967295) (eq-eqb x x refl)
 
-module _ (w rest whole : List ℕ) (n m : ℕ) (long : length w ≡ 8) (bytes : Below 256 w) (one : n ≡ suc m) (few : n ≤ 8)
-    (rest_is : rest ≡ mask_of m) (whole_is : whole ≡ mask_of n) (small : Below 10 (digits 8 w rest whole)) where
+module _ (w rest whole : List ℕ) (n m : ℕ) (long : length w ≡ 8) (bytes : Below 256 w) (one : n ≡ suc m) (few : n ≤ 8) (rest_is : rest ≡ mask_of m)
+    (whole_is : whole ≡ mask_of n) (small : Below 10 (digits 8 w rest whole)) where
   abbrev text : List ℕ
   text = drop (8 - n) w
 
@@ -130,22 +129,20 @@ module _ (w rest whole : List ℕ) (n m : ℕ) (long : length w ≡ 8) (bytes : 
       let read = reads w long bytes k most (subst (Below 10) same small) in
       (read.0, ap (number_from_digits 10) same ∙ read.1)
 
-  pub writes : Writes text (number_from_digits 10 (digits 8 w rest whole)) (sign_of (kept 8 w rest whole) whole)
+  pub writes : Writes text (number_from_digits 10 (digits 8 w rest whole)) (sign (number_l 256 (kept 8 w rest whole)) (number_l 256 whole))
   writes = record {
     plain = λ other.
-        let is : kept 8 w rest whole ≡ mask_of n = now_is
-        ∙ ap (λ t. replicate (8 - n) 0 ++ (cond t 0 255 ∷ replicate m 255)) (ne_eqb _ _ other)
+        let is : kept 8 w rest whole ≡ mask_of n = now_is ∙ ap (λ t. replicate (8 - n) 0 ++ (cond t 0 255 ∷ replicate m 255)) (ne_eqb _ _ other)
         ∙ ap (λ k. replicate (8 - n) 0 ++ replicate k 255) (sym one) in
         let read = taken n few is in
-        (read.0, read.1, ap (λ l. sign_of l whole) (is ∙ sym whole_is) ∙ same_sign whole);
+        (read.0, read.1, ap (λ l. sign (number_l 256 l) (number_l 256 whole)) (is ∙ sym whole_is) ∙ same_sign (number_l 256 whole));
     minus = λ here.
-        let is : kept 8 w rest whole ≡ mask_of m = now_is
-        ∙ ap (λ t. replicate (8 - n) 0 ++ (cond t 0 255 ∷ replicate m 255)) (eq-eqb _ _ here)
+        let is : kept 8 w rest whole ≡ mask_of m = now_is ∙ ap (λ t. replicate (8 - n) 0 ++ (cond t 0 255 ∷ replicate m 255)) (eq-eqb _ _ here)
         ∙ sym (one_less (8 - n) (replicate m 255)) ∙ ap (λ z. replicate z 0 ++ replicate m 255) (sym more) in
         let read = taken m (omega (arith, one, few)) is in
         let after : drop (8 - m) w ≡ drop 1 text = ap (λ k. drop k w) (more ∙ omega arith) ∙ sym (drop-drop 1 (8 - n) w) in (
           subst (AllDigits 10) after read.0,
           read.1 ∙ ap (digits_value 10) after,
-          ap₂ sign_of is (whole_is ∙ ap mask_of one) ∙ other_sign m (omega (arith, one, few)),
+          ap₂ (λ l k. sign (number_l 256 l) (number_l 256 k)) is (whole_is ∙ ap mask_of one) ∙ other_sign m (omega (arith, one, few)),
         );
   }

@@ -1,6 +1,5 @@
 -- Signed decimal numbers among bytes.
-use Rattle.std.specs.Prelude.{ℕ, ◌≡◌, ◌<◌, ◌≤◌, ◌+◌, ◌-◌, ◌==◌, Bool, List, [], ◌∷◌, take, drop, slice_index, ⊤}
-use Rattle.std.specs.Prelude.{ℤ, pos, neg_ℤ, unsigned_abs}
+use Rattle.std.specs.Prelude.{ℕ, ◌≡◌, ◌<◌, ◌≤◌, ◌+◌, ◌-◌, ◌==◌, Bool, List, [], ◌∷◌, take, drop, slice_index, ℤ, pos, neg_ℤ, unsigned_abs, ⊤}
 use Rattle.std.specs.Str.Parse.{digits_value, AllDigits}
 
 -- the bytes between two places
@@ -11,8 +10,7 @@ between bytes from end = take (end - from) (drop from bytes)
 pub record IsNumber (bytes : List ℕ) (from end : ℕ) (value : ℤ) : Type 0 where
   pub some : from < end
   pub few : end ≤ from + 8
-  pub plain : (slice_index bytes from ≡ 45 → ⊥) → AllDigits 10 (between bytes from end)
-      × (value ≡ pos (digits_value 10 (between bytes from end)))
+  pub plain : (slice_index bytes from ≡ 45 → ⊥) → AllDigits 10 (between bytes from end) × (value ≡ pos (digits_value 10 (between bytes from end)))
   pub minus : slice_index bytes from ≡ 45 → AllDigits 10 (between bytes (from + 1) end)
       × (value ≡ neg_ℤ (pos (digits_value 10 (between bytes (from + 1) end)))) × (0 < digits_value 10 (between bytes (from + 1) end))
 
@@ -23,6 +21,5 @@ AreInARow bytes from [] (value ∷ values) = ⊥
 AreInARow bytes from (end ∷ ends) [] = ⊥
 AreInARow bytes from (end ∷ ends) (value ∷ values) = IsNumber bytes from end value × AreInARow bytes (end + 1) ends values
 
--- whether a number is zero
 abbrev pub is_zero : ℤ → Bool
 is_zero value = unsigned_abs value == 0

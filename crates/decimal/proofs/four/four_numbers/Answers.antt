@@ -11,8 +11,8 @@ signed-requires c =
     let a = c.two_at-a.ensures small.0 in
     let b = c.two_at-b.ensures small.1 in
     subst (Each1 (λ v. v < 2 ^ 31)) (sym c.low_halves-values.ensures)
-    (values_small x.bytes.now x.ends c.two_at-a.result.values c.two_at-a.result.signs c.two_at-b.result.values c.two_at-b.result.signs
-    x.from (row.0, a.0) (row.1, a.1) (row.2, b.0) (row.3, b.1))
+    (values_small x.bytes.now x.ends c.two_at-a.result.values c.two_at-a.result.signs c.two_at-b.result.values c.two_at-b.result.signs x.from
+    (row.0, a.0) (row.1, a.1) (row.2, b.0) (row.3, b.1))
 
 pub returns-clause-numbers : goal.returns-clause-numbers
 returns-clause-numbers c =
@@ -22,9 +22,9 @@ returns-clause-numbers c =
     let a = c.two_at-a.ensures small.0 in
     let b = c.two_at-b.ensures small.1 in
     let long : length c.args.ends ≡ 4 = search rules in
-    numbers_are x.bytes.now x.ends c.two_at-a.result.values c.two_at-a.result.signs c.two_at-b.result.values c.two_at-b.result.signs
-    x.from (row.0, a.0) (row.1, a.1) (row.2, b.0) (row.3, b.1) c.low_halves-values.result c.low_halves-signs.result c.signed.result
-    c.low_halves-values.ensures c.low_halves-signs.ensures c.signed.ensures long (c.signs_of_zeros.ensures small.2)
+    numbers_are x.bytes.now x.ends c.two_at-a.result.values c.two_at-a.result.signs c.two_at-b.result.values c.two_at-b.result.signs x.from
+    (row.0, a.0) (row.1, a.1) (row.2, b.0) (row.3, b.1) c.low_halves-values.result c.low_halves-signs.result c.signed.result
+    c.low_halves-values.ensures c.low_halves-signs.ensures c.signed.ensures long small.2
 
 pub returns-clause-zeros : goal.returns-clause-zeros
 returns-clause-zeros c =
@@ -33,6 +33,6 @@ returns-clause-zeros c =
     let small = c.all_below_ten.ensures c.if-not-all_below_ten.false in
     let a = c.two_at-a.ensures small.0 in
     let b = c.two_at-b.ensures small.1 in
-    zeros_are x.bytes.now x.ends c.two_at-a.result.values c.two_at-a.result.signs c.two_at-b.result.values c.two_at-b.result.signs
-    x.from (row.0, a.0) (row.1, a.1) (row.2, b.0) (row.3, b.1) c.low_halves-values.result c.low_halves-signs.result c.signed.result
+    zeros_are x.bytes.now x.ends c.two_at-a.result.values c.two_at-a.result.signs c.two_at-b.result.values c.two_at-b.result.signs x.from
+    (row.0, a.0) (row.1, a.1) (row.2, b.0) (row.3, b.1) c.low_halves-values.result c.low_halves-signs.result c.signed.result
     c.low_halves-values.ensures c.low_halves-signs.ensures c.signed.ensures

@@ -5,7 +5,6 @@ use Rattle.decimal.proofs.four.two_at.Goals as goal
 pub returns : goal.returns
 returns c small =
     let x = c.args in
-    both_write x.bytes.now c.two_words-word.result c.two_masks-rest.result c.two_masks-whole.result (slice_index x.from 0)
-    (slice_index x.end 0) (slice_index x.from 1) (slice_index x.end 1) c.type_inv.bytes c.requires.first c.requires.second
-    c.two_words-word.ensures c.two_masks-whole.ensures c.two_masks-rest.ensures small
-    c.two_numbers.result c.two_signs.result c.two_numbers.ensures c.two_signs.ensures
+    both_write x.bytes.now c.two_words-word.result c.two_masks-rest.result c.two_masks-whole.result (slice_index x.from 0) (slice_index x.end 0)
+    (slice_index x.from 1) (slice_index x.end 1) c.type_inv.bytes c.requires.first c.requires.second c.two_words-word.ensures
+    c.two_masks-whole.ensures c.two_masks-rest.ensures small c.two_numbers.result c.two_numbers.ensures
