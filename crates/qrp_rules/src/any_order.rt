@@ -1,5 +1,6 @@
-//! Resolvents as they are written, whatever the order of their literals: a walk or a set of them
-//! finds the pivot and what is left of the antecedents, and a set whether that may be left out.
+//! Steps as they are written, whatever the order of their literals and how often each is written:
+//! a walk or a set of literals finds the pivot of a resolvent and what is left of its antecedents,
+//! and a set whether that may be left out.
 
 ghost use Rattle.std.specs.Prelude.{◌≡◌, ◌≢◌, ◌<◌, ◌⊎◌, ◌↔◌, IsTrue, IfOk, IfSome, List};
 ghost use Rattle.qbf_core.specs.Literal.{Literal};
