@@ -1,0 +1,14 @@
+//! A formula and its proof that a caller in C hands over clause by clause and step by step.
+#![tactic(auto)]
+
+mod fault;
+mod handle;
+mod held;
+mod loose;
+mod proof;
+mod written;
+
+pub use fault::AddFault;
+pub use handle::QrpProof;
+pub use proof::Proof;
+pub use written::literals_of;
