@@ -1,5 +1,5 @@
 -- Literals as numbers: that of the variable, below 0 for its negation.
-use Rattle.std.specs.Prelude.{ℤ, pos, unsigned_abs, int_lt, List, map}
+use Rattle.std.specs.Prelude.{ℤ, pos, unsigned_abs, int_lt}
 use Rattle.qbf_core.specs.Literal.{Literal}
 use Rattle.qbf_core.specs.Blocks.{IsVariable}
 

@@ -9,8 +9,6 @@ pub enum AddFault {
     NoMemory,
     /// A number is outside the range of literals, or of step numbers.
     Range,
-    /// A variable of the prefix is bound already.
-    Bound,
     /// A variable of a clause is not bound.
     Unbound,
     /// There are as many clauses as the format allows.

@@ -1,8 +1,8 @@
 //! Literals that are written as numbers.
 
-ghost use Rattle.std.specs.Prelude.{◌≡◌, ℤ, List, map, Option, IfSome, IfNone, IfOk};
-ghost use Rattle.std.specs.Result.{IsErrOf};
+ghost use Rattle.std.specs.Prelude.{◌≡◌, ℤ, List, map, Option, IfSome, IfNone, IfOk, IfErr};
 ghost use Rattle.std.specs.List.{AllByRecursion};
+ghost use Rattle.qrp_handle.specs.Adding.{IsReadFault};
 ghost use Rattle.qrp_handle.specs.Written.{IsWritten, literal_of};
 
 use crate::fault::AddFault;
@@ -25,7 +25,7 @@ fn literal_of(written: i32) -> Option<Lit>
 pub fn literals_of(alloc: Global, written: &[i32]) -> Result<Vec<Lit>, AddFault>
     ensures read { IfOk result (λ lits. (lits.items ≡ map literal_of written.now)
         × AllByRecursion IsWritten written.now) }
-    ensures range { IsErrOf result AddFault.Range → AllByRecursion IsWritten written.now → ⊥ }
+    ensures refused { IfErr result (IsReadFault written.now) }
 {
     let mut lits = Vec::<Lit>::with_capacity(alloc, written.len())?;
     for number in written {
