@@ -9,6 +9,8 @@ pub enum AddFault {
     NoMemory,
     /// A number is outside the range of literals, or of step numbers.
     Range,
+    /// A variable is bound already.
+    Bound,
     /// A variable of a clause is not bound.
     Unbound,
     /// There are as many clauses as the format allows.

@@ -2,18 +2,19 @@
 
 ghost use Rattle.std.specs.Prelude.{◌≡◌, ◌≢◌, ◌≤◌, ◌<◌, ◌↔◌, [], ◌∷◌, ◌++◌, map, length, IsTrue, OnOk, OnErr, IfErr};
 ghost use Rattle.std.specs.List.{AllByRecursion};
+ghost use Rattle.qbf_core.specs.Blocks.{pairs};
 ghost use Rattle.qbf_core.specs.Truth.{IsTrueFormula};
 ghost use Rattle.qrp.specs.Inferences.{IsNumber, numbers};
 ghost use Rattle.step_index.specs.Numbers.{is_used};
 ghost use Rattle.qrp_check.specs.declared.fault.CheckFault.TheVariants.{C5};
 ghost use Rattle.qrp_check.specs.Proof.{Proves, IsFirstFault};
 ghost use Rattle.qrp_check.specs.Verdict.{is_sat};
-ghost use Rattle.qrp_handle.specs.Adding.{IsClauseFault, IsStepFault};
+ghost use Rattle.qrp_handle.specs.Adding.{IsVariableFault, IsClauseFault, IsStepFault};
 ghost use Rattle.qrp_handle.specs.Written.{literal_of};
 
 use crate::fault::AddFault;
 use crate::written::literals_of;
-use qbf_core::{Formula, LAST_VARIABLE, Prefix, are_bound};
+use qbf_core::{Formula, LAST_VARIABLE, Prefix, PrefixFault, Quantifier, Var, are_bound};
 use qrp::{Header, Outcome, Steps, Trace};
 use qrp_check::{CheckFault, check};
 use qrp_rules::Rules;
@@ -29,17 +30,41 @@ pub struct Proof {
 }
 
 impl Proof {
-    /// A formula with this prefix and no clause, and no step. It takes no memory.
-    pub fn new(alloc: Global, prefix: Prefix) -> Proof
+    /// A formula with no variable and no clause, and no step. It takes no memory.
+    pub fn new(alloc: Global) -> Proof
         ensures formula { result.formula
-            ≡ record { max_var = 2147483647; blocks = prefix; clauses = [] } }
+            ≡ record { max_var = 2147483647; blocks = []; clauses = [] } }
         ensures steps { result.trace.steps ≡ [] }
     {
         let header = Header { vars: 0, steps: 0 };
-        let _ = prefix.len();
         Proof {
-            formula: Formula::new(alloc, LAST_VARIABLE, prefix),
+            formula: Formula::new(alloc, LAST_VARIABLE, Prefix::new(alloc)),
             trace: Trace::new(alloc, header, Outcome::Unsat),
+        }
+    }
+
+    /// Binds a variable innermost: in the last block if that has this quantifier, and else in a new
+    /// one.
+    ///
+    /// # Errors
+    /// `Range` and `Bound` only as they say, and `NoMemory` only if an allocation failed. Nothing is
+    /// changed then.
+    pub fn push_variable(&mut self, quantifier: Quantifier, number: u32) -> Result<(), AddFault>
+        ensures pushed { OnOk result (pairs self.new.formula.blocks
+            ≡ pairs self.old.formula.blocks ++ (quantifier, number) ∷ []) }
+        ensures rest { self.new ≡ record self.old {
+          formula = record self.old.formula { blocks = self.new.formula.blocks };
+        } }
+        ensures refused { IfErr result (IsVariableFault self.old.formula number) }
+        ensures err { OnErr result (self.new ≡ self.old) }
+    {
+        let Some(var) = Var::up_to(self.formula.max_var(), u64::from(number)) else {
+            return Err(AddFault::Range);
+        };
+        match self.formula.push_variable(quantifier, var) {
+            Ok(()) => Ok(()),
+            Err(PrefixFault::B1) => Err(AddFault::Bound),
+            Err(PrefixFault::B2) => Err(AddFault::NoMemory),
         }
     }
 
