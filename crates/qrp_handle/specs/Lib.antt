@@ -1,3 +1,4 @@
 pub mod Adding
 pub mod Owned
+pub mod Statuses
 pub mod Written

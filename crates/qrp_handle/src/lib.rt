@@ -6,9 +6,11 @@ mod handle;
 mod held;
 mod loose;
 mod proof;
+mod status;
 mod written;
 
 pub use fault::AddFault;
 pub use handle::QrpProof;
 pub use proof::Proof;
+pub use status::{NOTHING, status_of};
 pub use written::literals_of;
