@@ -5,10 +5,14 @@ ghost use Rattle.std.specs.Prelude.{◌≡◌, ◌≢◌, ◌↔◌, [], ◌∷�
 ghost use Rattle.qbf_core.specs.Blocks.{pairs};
 ghost use Rattle.qbf_core.specs.Truth.{IsTrueFormula};
 ghost use Rattle.qrp_handle.specs.Adding.{IsVariableFault, IsClauseFault, IsStepFault};
+ghost use Rattle.qrp_check.specs.Proof.{Proves};
+ghost use Rattle.qrp_handle.specs.Checks.{outcome_of, quantifier_of, IsRefused};
 ghost use Rattle.qrp_handle.specs.Statuses.{CallReturns};
 ghost use Rattle.qrp_handle.specs.Written.{literal_of};
 
-use qrp_handle::{NOTHING, Proof, QrpProof, status_of};
+use qbf_core::Quantifier;
+use qrp_handle::{NOTHING, Proof, QrpProof, check_status, status_of};
+use qrp_rules::Rules;
 use std::alloc::Global;
 
 /// Makes a proof with no variable, no clause and no step.
@@ -31,6 +35,43 @@ pub extern "C" fn qrp_proof_new(alloc: Global, proof: &mut QrpProof) -> i32
     }
 }
 
+/// Binds a variable innermost: in the last block if that has this quantifier, and else in a new one.
+///
+/// In C: `int32_t qrp_proof_variable(struct qrp_proof *proof, bool universal, uint32_t variable)`.
+#[unsafe(no_mangle)]
+pub extern "C" fn qrp_proof_variable(
+    alloc: Global,
+    proof: &mut QrpProof,
+    universal: bool,
+    variable: u32,
+) -> i32
+    ensures { CallReturns
+        (λ p q. (pairs q.formula.blocks
+        ≡ pairs p.formula.blocks ++ (quantifier_of universal, variable) ∷ [])
+        × (q ≡ record p { formula = record p.formula { blocks = q.formula.blocks } }))
+        (λ p e. IsVariableFault p.formula variable e)
+        proof.old.held.value proof.new.held.value result }
+{
+    match proof.take(alloc) {
+        Some(mut held) => {
+            let status = status_of(held.push_variable(quantifier_of(universal), variable));
+            *proof = QrpProof::of(held);
+            status
+        }
+        None => NOTHING,
+    }
+}
+
+fn quantifier_of(universal: bool) -> Quantifier
+    ensures { result ≡ quantifier_of universal }
+{
+    if universal {
+        Quantifier::All
+    } else {
+        Quantifier::Exists
+    }
+}
+
 /// Adds a clause.
 ///
 /// In C: `int32_t qrp_proof_clause(struct qrp_proof *proof, const int32_t *literals, size_t
@@ -49,6 +90,72 @@ pub extern "C" fn qrp_proof_clause(alloc: Global, proof: &mut QrpProof, literals
     match proof.take(alloc) {
         Some(mut held) => {
             let status = status_of(held.push_clause(alloc, literals));
+            *proof = QrpProof::of(held);
+            status
+        }
+        None => NOTHING,
+    }
+}
+
+/// Adds a step.
+///
+/// In C: `int32_t qrp_proof_step(struct qrp_proof *proof, uint64_t number, const int32_t *literals,
+/// size_t count, const uint64_t *antecedents, size_t antecedents_count)`.
+#[unsafe(no_mangle)]
+pub extern "C" fn qrp_proof_step(
+    alloc: Global,
+    proof: &mut QrpProof,
+    number: u64,
+    literals: &[i32],
+    antecedents: &[u64],
+) -> i32
+    ensures { CallReturns
+        (λ p q. q ≡ record p {
+          trace = record p.trace {
+            steps = p.trace.steps ++ record {
+              number = number;
+              lits = map literal_of literals.now;
+              ants = antecedents.now;
+            } ∷ [];
+          };
+        })
+        (λ p e. IsStepFault p.trace.steps number literals.now antecedents.now e)
+        proof.old.held.value proof.new.held.value result }
+{
+    match proof.take(alloc) {
+        Some(mut held) => {
+            let status = status_of(held.push_step(alloc, number, literals, antecedents));
+            *proof = QrpProof::of(held);
+            status
+        }
+        None => NOTHING,
+    }
+}
+
+/// Whether the steps prove that the formula is true, or that it is false, as `sat` says.
+///
+/// In C: `int32_t qrp_proof_check(struct qrp_proof *proof, bool sat, bool any_pivot)`.
+///
+/// Returns 0 if they do, 1 if they do not, 4 only if an allocation failed, and 11 if there is no
+/// proof. More can be added after it, and be checked.
+#[unsafe(no_mangle)]
+pub extern "C" fn qrp_proof_check(
+    alloc: Global,
+    proof: &mut QrpProof,
+    sat: bool,
+    any_pivot: bool,
+) -> i32
+    ensures proves { result ≡ pos 0 → IsSomeAnd proof.old.held.value (λ p.
+        Proves (record { any_pivot = any_pivot }) p.formula [] p.trace.steps (outcome_of sat)) }
+    ensures truth { result ≡ pos 0 → IsSomeAnd proof.old.held.value (λ p.
+        IsTrue sat ↔ IsTrueFormula p.formula) }
+    ensures refused { result ≡ pos 1 → IsSomeAnd proof.old.held.value (λ p.
+        IsRefused (record { any_pivot = any_pivot }) p.formula p.trace.steps (outcome_of sat)) }
+    ensures kept { proof.new.held.value ≡ proof.old.held.value }
+{
+    match proof.take(alloc) {
+        Some(held) => {
+            let status = check_status(alloc, &held, sat, Rules { any_pivot });
             *proof = QrpProof::of(held);
             status
         }
