@@ -1,5 +1,5 @@
 -- The statuses that a caller in C gets of what it adds.
-use Rattle.std.specs.Prelude.{◌≡◌, ◌≢◌, ℕ, ℤ, pos, Option, Some, None, IsSomeAnd, IfSome}
+use Rattle.std.specs.Prelude.{◌≡◌, ◌≢◌, ℕ, ℤ, pos, Option, None, IsSomeAnd}
 use Rattle.qrp_handle.specs.declared.fault.AddFault.{AddFault}
 use Rattle.qrp_handle.specs.declared.fault.AddFault.TheVariants.{NoMemory, Range, Bound, Unbound, Full, Used, Many}
 
