@@ -13,7 +13,7 @@ use qrp_rules::Rules;
 use std::alloc::Global;
 
 /// What a caller claims of the formula.
-fn outcome_of(sat: bool) -> Outcome
+pub fn outcome_of(sat: bool) -> Outcome
     ensures value { result ≡ outcome_of sat }
     ensures claim { is_sat result ≡ sat }
 {

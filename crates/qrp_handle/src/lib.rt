@@ -10,7 +10,7 @@ mod proof;
 mod status;
 mod written;
 
-pub use checked::check_status;
+pub use checked::{check_status, outcome_of};
 pub use fault::AddFault;
 pub use handle::QrpProof;
 pub use proof::Proof;

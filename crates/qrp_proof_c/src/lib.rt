@@ -1,17 +1,19 @@
 //! The exported functions over a proof that a caller in C hands over.
 #![tactic(auto)]
 
-ghost use Rattle.std.specs.Prelude.{◌≡◌, ◌≢◌, ◌↔◌, [], ◌∷◌, ◌++◌, map, None, IsSomeAnd, IsTrue, pos};
+ghost use Rattle.std.specs.Prelude.{◌≡◌, ◌≢◌, [], ◌∷◌, ◌++◌, map, None, IsSomeAnd, IfSome, IfNone, pos};
 ghost use Rattle.qbf_core.specs.Blocks.{pairs};
-ghost use Rattle.qbf_core.specs.Truth.{IsTrueFormula};
 ghost use Rattle.qrp_handle.specs.Adding.{IsVariableFault, IsClauseFault, IsStepFault};
-ghost use Rattle.qrp_check.specs.Proof.{Proves};
-ghost use Rattle.qrp_handle.specs.Checks.{outcome_of, quantifier_of, IsRefused};
+ghost use Rattle.qrp_bytes.specs.Texts.{encoded_nothing};
+ghost use Rattle.qrp_handle.specs.Checks.{quantifier_of};
 ghost use Rattle.qrp_handle.specs.Statuses.{CallReturns};
+ghost use Rattle.qrp_proof_c.specs.Checked.{IsVerdictOf};
 ghost use Rattle.qrp_handle.specs.Written.{literal_of};
 
 use qbf_core::Quantifier;
-use qrp_handle::{NOTHING, Proof, QrpProof, check_status, status_of};
+use qrp_bytes::{QrpVerdict, encode_fault, encode_nothing, encode_truth};
+use qrp_check::Fault;
+use qrp_handle::{NOTHING, Proof, QrpProof, outcome_of, status_of};
 use qrp_rules::Rules;
 use std::alloc::Global;
 
@@ -134,32 +136,46 @@ pub extern "C" fn qrp_proof_step(
 
 /// Whether the steps prove that the formula is true, or that it is false, as `sat` says.
 ///
-/// In C: `int32_t qrp_proof_check(struct qrp_proof *proof, bool sat, bool any_pivot)`.
+/// In C: `int32_t qrp_proof_check(struct qrp_proof *proof, bool sat, bool any_pivot, struct
+/// qrp_verdict *out)`.
 ///
-/// Returns 0 if they do, 1 if they do not, 4 only if an allocation failed, and 11 if there is no
-/// proof. More can be added after it, and be checked.
+/// Writes the whole of `out`, and returns its status; zeros, and 11, if there is no proof. More can
+/// be added after it, and be checked.
 #[unsafe(no_mangle)]
 pub extern "C" fn qrp_proof_check(
     alloc: Global,
     proof: &mut QrpProof,
     sat: bool,
     any_pivot: bool,
+    out: &mut QrpVerdict,
 ) -> i32
-    ensures proves { result ≡ pos 0 → IsSomeAnd proof.old.held.value (λ p.
-        Proves (record { any_pivot = any_pivot }) p.formula [] p.trace.steps (outcome_of sat)) }
-    ensures truth { result ≡ pos 0 → IsSomeAnd proof.old.held.value (λ p.
-        IsTrue sat ↔ IsTrueFormula p.formula) }
-    ensures refused { result ≡ pos 1 → IsSomeAnd proof.old.held.value (λ p.
-        IsRefused (record { any_pivot = any_pivot }) p.formula p.trace.steps (outcome_of sat)) }
+    ensures checked { IfSome proof.old.held.value (λ p. IsVerdictOf (record { any_pivot = any_pivot })
+        p.formula p.trace.steps sat out.new × (result ≡ pos out.new.status)) }
+    ensures nothing { IfNone proof.old.held.value
+        ((out.new ≡ encoded_nothing) × (result ≡ pos 11)) }
     ensures kept { proof.new.held.value ≡ proof.old.held.value }
 {
     match proof.take(alloc) {
         Some(held) => {
-            let status = check_status(alloc, &held, sat, Rules { any_pivot });
+            let verdict = verdict_of(alloc, &held, sat, Rules { any_pivot });
             *proof = QrpProof::of(held);
-            status
+            *out = verdict;
+            i32::from(verdict.status)
         }
-        None => NOTHING,
+        None => {
+            *out = encode_nothing();
+            NOTHING
+        }
+    }
+}
+
+/// What a caller in C gets of the check.
+fn verdict_of(alloc: Global, proof: &Proof, sat: bool, rules: Rules) -> QrpVerdict
+    ensures { IsVerdictOf rules proof.now.formula proof.now.trace.steps sat result }
+{
+    match proof.check(alloc, outcome_of(sat), rules) {
+        Ok(_) => encode_truth(sat),
+        Err(fault) => encode_fault(&Fault::Check(fault)),
     }
 }
 
