@@ -1,7 +1,7 @@
 //! A formula and its proof that a caller in C hands over clause by clause and step by step.
 #![tactic(auto)]
 
-mod checked;
+mod claim;
 mod fault;
 mod handle;
 mod held;
@@ -10,7 +10,7 @@ mod proof;
 mod status;
 mod written;
 
-pub use checked::{check_status, outcome_of};
+pub use claim::outcome_of;
 pub use fault::AddFault;
 pub use handle::QrpProof;
 pub use proof::Proof;
