@@ -23,8 +23,8 @@
  *   - No call that takes a text comes from a signal handler, nor from the child that a process with several threads has forked,
  *     since it calls malloc.
  *
- * Memory: nothing that the library returns has to be freed, but for what a struct qrp_proof holds: all results go to memory of the
- * caller. The library takes what it needs by malloc and realloc, and has freed all of it when a call returns. It keeps no pointer of the
+ * Memory: nothing that the library returns has to be freed: all results go to memory of the caller. The library takes what it needs by
+ * malloc and realloc, and has freed all of it when a call returns, but for what a struct qrp_proof holds. It keeps no pointer of the
  * caller's and no state (tested, not proved).
  *
  * Threads: several threads may call at once, also on the same texts, since these are only read; each call needs memory of its own
@@ -132,7 +132,7 @@ struct qrp_proof {
 /* What the calls on a struct qrp_proof return. After each but QRP_ADDED the struct holds what it held before. */
 enum qrp_added {
     QRP_ADDED = 0,                 /* done; QRP_NO_MEMORY, 4, is: out of memory, so not done */
-    QRP_OUT_OF_RANGE = 5,          /* a literal is 0 or -2^31, a variable is 0 or above 2^31 - 1, or the number of a step is 0 */
+    QRP_OUT_OF_RANGE = 5,          /* a literal is 0 or -2^31, a variable 0 or above 2^31 - 1, or a step's number or antecedent 0 */
     QRP_BOUND_TWICE = 6,           /* the variable is bound already */
     QRP_NOT_BOUND = 7,             /* a variable of the clause is not bound */
     QRP_TOO_MANY_CLAUSES = 8,      /* there are 2^31 - 1 clauses already */

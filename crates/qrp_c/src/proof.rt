@@ -1,5 +1,4 @@
 //! The exported functions over a proof that a caller in C hands over.
-#![tactic(auto)]
 
 ghost use Rattle.std.specs.Prelude.{◌≡◌, ◌≢◌, [], ◌∷◌, ◌++◌, map, None, IsSomeAnd, IfSome, IfNone, pos};
 ghost use Rattle.qbf_core.specs.Blocks.{pairs};
@@ -7,7 +6,7 @@ ghost use Rattle.qrp_handle.specs.Adding.{IsVariableFault, IsClauseFault, IsStep
 ghost use Rattle.qrp_bytes.specs.Texts.{encoded_nothing};
 ghost use Rattle.qrp_handle.specs.Checks.{quantifier_of};
 ghost use Rattle.qrp_handle.specs.Statuses.{CallReturns};
-ghost use Rattle.qrp_proof_c.specs.Checked.{IsVerdictOf};
+ghost use Rattle.qrp_c.specs.Checked.{IsVerdictOf};
 ghost use Rattle.qrp_handle.specs.Written.{literal_of};
 
 use qbf_core::Quantifier;
