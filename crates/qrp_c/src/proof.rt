@@ -173,7 +173,7 @@ fn verdict_of(alloc: Global, proof: &Proof, sat: bool, rules: Rules) -> QrpVerdi
     ensures { IsVerdictOf rules proof.now.formula proof.now.trace.steps sat result }
 {
     match proof.check(alloc, outcome_of(sat), rules) {
-        Ok(_) => encode_truth(sat),
+        Ok(()) => encode_truth(sat),
         Err(fault) => encode_fault(&Fault::Check(fault)),
     }
 }

@@ -142,19 +142,19 @@ impl Proof {
         Ok(())
     }
 
-    /// The truth of the formula that the steps prove, as `check` returns it.
+    /// Whether the steps prove this outcome of the formula, as `check` says it: no fault then.
     ///
     /// # Errors
     /// As of `check`.
-    pub fn check(&self, alloc: Global, outcome: Outcome, rules: Rules) -> Result<bool, CheckFault>
+    pub fn check(&self, alloc: Global, outcome: Outcome, rules: Rules) -> Result<(), CheckFault>
         ensures proves { OnOk result
             (Proves rules self.now.formula [] self.now.trace.steps outcome) }
         ensures truth { OnOk result (IsTrue (is_sat outcome) ↔ IsTrueFormula self.now.formula) }
         ensures refused { IfErr result (λ e. e ≢ C5
             → IsFirstFault rules self.now.formula [] self.now.trace.steps outcome e) }
     {
-        let verified = check(alloc, &self.formula, &self.trace, &[], outcome, rules)?;
-        Ok(verified.truth)
+        check(alloc, &self.formula, &self.trace, &[], outcome, rules)?;
+        Ok(())
     }
 }
 
