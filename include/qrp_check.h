@@ -156,8 +156,8 @@ int32_t qrp_proof_step(struct qrp_proof *proof, uint64_t number, const int32_t *
                        size_t antecedent_count) QRP_NONNULL;
 
 /* Checks the steps so far as a proof that the formula is true, if `sat`, or false. Writes to *out what qrp_verify would of the same formula
- * and steps as texts, and returns out->status. If the struct holds nothing it writes zeros, which are not a verdict, and returns
- * QRP_NO_PROOF. What the struct holds stays, so that more can be added and checked. */
+ * and steps as texts, if the sets of the trace are the prefix, and returns out->status. If the struct holds nothing it writes zeros, which
+ * are not a verdict, and returns QRP_NO_PROOF. What the struct holds stays, so that more can be added and checked. */
 int32_t qrp_proof_check(struct qrp_proof *proof, bool sat, bool any_pivot, struct qrp_verdict *out) QRP_NONNULL;
 
 /* Gives back what the struct holds; it holds nothing then. It may be called again. */
