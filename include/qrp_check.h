@@ -23,9 +23,9 @@
  *   - No call that takes a text comes from a signal handler, nor from the child that a process with several threads has forked,
  *     since it calls malloc.
  *
- * Memory: nothing that the library returns has to be freed: all results go to memory of the caller. The library takes what it needs
- * by malloc and realloc, and has freed all of it when a call returns. It keeps no pointer of the caller's and no state (tested, not
- * proved).
+ * Memory: nothing that the library returns has to be freed: all results go to memory of the caller. The library takes what it needs by
+ * malloc and realloc, and has freed all of it when a call returns, but for what a struct qrp_proof holds. It keeps no pointer of the
+ * caller's and no state (tested, not proved).
  *
  * Threads: several threads may call at once, also on the same texts, since these are only read; each call needs memory of its own
  * for what it writes (tested, not proved).
@@ -119,6 +119,49 @@ size_t qrp_format(const void *formula, size_t formula_length, char *buffer, size
  * of `steps` is left as it was. */
 size_t qrp_core(const void *formula, size_t formula_length, const void *trace, size_t trace_length, bool any_pivot, uint64_t *steps,
                 size_t room, struct qrp_verdict *out) QRP_NONNULL;
+
+/* A formula and its proof that are handed over piece by piece, as a solver makes them, in place of two texts. The struct is the caller's, and
+ * all of it is zero before the first call; from then on the library alone writes to it. It may be moved, but of two copies only one is used
+ * from then on. The calls on one struct come one after the other, and all from one thread. What it holds takes memory by malloc, until
+ * qrp_proof_free. */
+struct qrp_proof {
+    void *held;
+    uint32_t present;
+};
+
+/* What the calls on a struct qrp_proof return. After each but QRP_ADDED the struct holds what it held before. */
+enum qrp_added {
+    QRP_ADDED = 0,                 /* done; QRP_NO_MEMORY, 4, is: out of memory, so not done */
+    QRP_OUT_OF_RANGE = 5,          /* a literal is 0 or -2^31, a variable 0 or above 2^31 - 1, or a step's number or antecedent 0 */
+    QRP_BOUND_TWICE = 6,           /* the variable is bound already */
+    QRP_NOT_BOUND = 7,             /* a variable of the clause is not bound */
+    QRP_TOO_MANY_CLAUSES = 8,      /* there are 2^31 - 1 clauses already */
+    QRP_NUMBER_USED = 9,           /* a step has this number already */
+    QRP_TOO_MANY_ANTECEDENTS = 10, /* a step has at most two */
+    QRP_NO_PROOF = 11              /* the struct holds nothing: qrp_proof_new comes first */
+};
+
+/* Lets the struct hold a formula without variables and clauses, and no step. What it held before is given back. */
+int32_t qrp_proof_new(struct qrp_proof *proof) QRP_NONNULL;
+
+/* Binds one more variable, inside of those that are bound: neighbours of one quantifier make a block. */
+int32_t qrp_proof_variable(struct qrp_proof *proof, bool universal, uint32_t variable) QRP_NONNULL;
+
+/* Adds a clause of so many literals, each a variable, or its negative if it is negated. Its variables are bound. */
+int32_t qrp_proof_clause(struct qrp_proof *proof, const int32_t *literals, size_t count) QRP_NONNULL;
+
+/* Adds a step: its number, which is not 0 and not that of another step, its literals, and the numbers of its antecedents: none of an initial
+ * step, one of a reduction, two of a resolution. */
+int32_t qrp_proof_step(struct qrp_proof *proof, uint64_t number, const int32_t *literals, size_t count, const uint64_t *antecedents,
+                       size_t antecedent_count) QRP_NONNULL;
+
+/* Checks the steps so far as a proof that the formula is true, if `sat`, or false. Writes to *out what qrp_verify would of the same formula
+ * and steps as texts, if the sets of the trace are the prefix, and returns out->status. If the struct holds nothing it writes zeros, which
+ * are not a verdict, and returns QRP_NO_PROOF. What the struct holds stays, so that more can be added and checked. */
+int32_t qrp_proof_check(struct qrp_proof *proof, bool sat, bool any_pivot, struct qrp_verdict *out) QRP_NONNULL;
+
+/* Gives back what the struct holds; it holds nothing then. It may be called again. */
+void qrp_proof_free(struct qrp_proof *proof) QRP_NONNULL;
 
 #ifdef __cplusplus
 }

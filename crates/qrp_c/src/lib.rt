@@ -4,16 +4,19 @@
 //! - Owns: the exported functions of the library for C, C++ and Python.
 //! - Offers: the functions of `include/qrp_check.h`.
 //! - Proved: the headline over the bytes lent, each field of the struct, the line, the meaning, the
-//!   trimmed trace, the core and the canonical formula in the buffer.
+//!   trimmed trace, the core and the canonical formula in the buffer; of a proof that is handed over,
+//!   what each call adds or refuses, and the verdict on what is held.
 //! - Read first: `qrp_verify`, `qrp_verdict_line`, `qrp_fault_text`, `qrp_trim`, `qrp_core`,
-//!   `qrp_format`.
+//!   `qrp_format`, `qrp_proof_check`.
 //! - Tested only: over the built library: rows and real traces by each call from C and from Python,
 //!   each allocation made to fail, texts at each alignment and buffers of each size between pages
-//!   that cannot be read, eight threads, structs that no call wrote, the struct, names and version
-//!   of the header.
+//!   that cannot be read, eight threads, structs that no call wrote, the structs, names and version
+//!   of the header; rows and real traces handed over piece by piece.
 //! - Trusted: the demands of `include/qrp_check.h` on the caller; malloc, realloc and free.
 //! - On the map: the library for C, C++ and Python.
 #![tactic(auto)]
+
+mod proof;
 
 ghost use Rattle.std.specs.Prelude.{◌≡◌, ◌≤◌, ◌+◌, [], pos, drop, Result};
 ghost use Rattle.qrp_check.specs.declared.verdict.Verified.{Verified};

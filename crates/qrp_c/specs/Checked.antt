@@ -1,0 +1,29 @@
+-- What a caller in C gets of the check of a proof that was handed over.
+use Rattle.std.specs.Prelude.{◌≡◌, ◌≢◌, ◌↔◌, ◌⊎◌, Bool, IsTrue, List, []}
+use Rattle.qbf_core.specs.Qbf.{Qbf}
+use Rattle.qbf_core.specs.Truth.{IsTrueFormula}
+use Rattle.qrp.specs.Inferences.{Inference}
+use Rattle.qrp_rules.specs.declared.rules.Rules.{Rules}
+use Rattle.qrp_check.specs.declared.fault.CheckFault.{CheckFault}
+use Rattle.qrp_check.specs.declared.fault.CheckFault.TheVariants.{C5}
+use Rattle.qrp_check.specs.declared.verdict.Fault.TheVariants.{Check}
+use Rattle.qrp_check.specs.Proof.{Proves, IsFirstFault}
+use Rattle.qrp_bytes.specs.declared.verdict.QrpVerdict.{QrpVerdict}
+use Rattle.qrp_bytes.specs.Encoding.{encoded_truth, encoded_fault}
+use Rattle.qrp_handle.specs.Checks.{outcome_of}
+
+-- the steps prove that f is true, or false, as `sat` says, and it is
+pub record IsVerified (rules : Rules) (f : Qbf) (steps : List Inference) (sat : Bool) (out : QrpVerdict) : Type 0 where
+  pub encoded : out ≡ encoded_truth sat
+  pub proves : Proves rules f [] steps (outcome_of sat)
+  pub truth : IsTrue sat ↔ IsTrueFormula f
+
+-- a fault, which stands unless it is that of an allocation
+pub record IsRefused (rules : Rules) (f : Qbf) (steps : List Inference) (sat : Bool) (out : QrpVerdict) : Type 0 where
+  pub fault : CheckFault
+  pub encoded : out ≡ encoded_fault (Check fault)
+  pub stands : fault ≢ C5 → IsFirstFault rules f [] steps (outcome_of sat) fault
+
+-- the struct says which
+abbrev pub IsVerdictOf : Rules → Qbf → List Inference → Bool → QrpVerdict → Type 0
+IsVerdictOf rules f steps sat out = IsVerified rules f steps sat out ⊎ IsRefused rules f steps sat out

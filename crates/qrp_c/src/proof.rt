@@ -1,0 +1,189 @@
+//! The exported functions over a proof that a caller in C hands over.
+
+ghost use Rattle.std.specs.Prelude.{◌≡◌, ◌≢◌, [], ◌∷◌, ◌++◌, map, None, IsSomeAnd, IfSome, IfNone, pos};
+ghost use Rattle.qbf_core.specs.Blocks.{pairs};
+ghost use Rattle.qrp_handle.specs.Adding.{IsVariableFault, IsClauseFault, IsStepFault};
+ghost use Rattle.qrp_bytes.specs.Texts.{encoded_nothing};
+ghost use Rattle.qrp_handle.specs.Checks.{quantifier_of};
+ghost use Rattle.qrp_handle.specs.Statuses.{CallReturns};
+ghost use Rattle.qrp_c.specs.Checked.{IsVerdictOf};
+ghost use Rattle.qrp_handle.specs.Written.{literal_of};
+
+use qbf_core::Quantifier;
+use qrp_bytes::{QrpVerdict, encode_fault, encode_nothing, encode_truth};
+use qrp_check::Fault;
+use qrp_handle::{NOTHING, Proof, QrpProof, outcome_of, status_of};
+use qrp_rules::Rules;
+use std::alloc::Global;
+
+/// Makes a proof with no variable, no clause and no step.
+///
+/// In C: `int32_t qrp_proof_new(struct qrp_proof *proof)`.
+#[unsafe(no_mangle)]
+pub extern "C" fn qrp_proof_new(alloc: Global, proof: &mut QrpProof) -> i32
+    ensures made { result ≡ pos 0 → IsSomeAnd proof.new.held.value (λ p.
+        (p.formula ≡ record { max_var = 2147483647; blocks = []; clauses = [] })
+        × (p.trace.steps ≡ [])) }
+    ensures kept { result ≢ pos 0 → proof.new.held.value ≡ proof.old.held.value }
+    ensures memory { result ≢ pos 0 → result ≡ pos 4 }
+{
+    match Box::new(alloc, Proof::new(alloc)) {
+        Ok(made) => {
+            *proof = QrpProof::of(made);
+            0
+        }
+        Err(_) => 4,
+    }
+}
+
+/// Binds a variable innermost: in the last block if that has this quantifier, and else in a new one.
+///
+/// In C: `int32_t qrp_proof_variable(struct qrp_proof *proof, bool universal, uint32_t variable)`.
+#[unsafe(no_mangle)]
+pub extern "C" fn qrp_proof_variable(
+    alloc: Global,
+    proof: &mut QrpProof,
+    universal: bool,
+    variable: u32,
+) -> i32
+    ensures { CallReturns
+        (λ p q. (pairs q.formula.blocks
+        ≡ pairs p.formula.blocks ++ (quantifier_of universal, variable) ∷ [])
+        × (q ≡ record p { formula = record p.formula { blocks = q.formula.blocks } }))
+        (λ p e. IsVariableFault p.formula variable e)
+        proof.old.held.value proof.new.held.value result }
+{
+    match proof.take(alloc) {
+        Some(mut held) => {
+            let status = status_of(held.push_variable(quantifier_of(universal), variable));
+            *proof = QrpProof::of(held);
+            status
+        }
+        None => NOTHING,
+    }
+}
+
+fn quantifier_of(universal: bool) -> Quantifier
+    ensures { result ≡ quantifier_of universal }
+{
+    if universal {
+        Quantifier::All
+    } else {
+        Quantifier::Exists
+    }
+}
+
+/// Adds a clause.
+///
+/// In C: `int32_t qrp_proof_clause(struct qrp_proof *proof, const int32_t *literals, size_t
+/// count)`.
+#[unsafe(no_mangle)]
+pub extern "C" fn qrp_proof_clause(alloc: Global, proof: &mut QrpProof, literals: &[i32]) -> i32
+    ensures { CallReturns
+        (λ p q. q ≡ record p {
+          formula = record p.formula {
+            clauses = p.formula.clauses ++ map literal_of literals.now ∷ [];
+          };
+        })
+        (λ p e. IsClauseFault p.formula literals.now e)
+        proof.old.held.value proof.new.held.value result }
+{
+    match proof.take(alloc) {
+        Some(mut held) => {
+            let status = status_of(held.push_clause(alloc, literals));
+            *proof = QrpProof::of(held);
+            status
+        }
+        None => NOTHING,
+    }
+}
+
+/// Adds a step.
+///
+/// In C: `int32_t qrp_proof_step(struct qrp_proof *proof, uint64_t number, const int32_t *literals,
+/// size_t count, const uint64_t *antecedents, size_t antecedents_count)`.
+#[unsafe(no_mangle)]
+pub extern "C" fn qrp_proof_step(
+    alloc: Global,
+    proof: &mut QrpProof,
+    number: u64,
+    literals: &[i32],
+    antecedents: &[u64],
+) -> i32
+    ensures { CallReturns
+        (λ p q. q ≡ record p {
+          trace = record p.trace {
+            steps = p.trace.steps ++ record {
+              number = number;
+              lits = map literal_of literals.now;
+              ants = antecedents.now;
+            } ∷ [];
+          };
+        })
+        (λ p e. IsStepFault p.trace.steps number literals.now antecedents.now e)
+        proof.old.held.value proof.new.held.value result }
+{
+    match proof.take(alloc) {
+        Some(mut held) => {
+            let status = status_of(held.push_step(alloc, number, literals, antecedents));
+            *proof = QrpProof::of(held);
+            status
+        }
+        None => NOTHING,
+    }
+}
+
+/// Whether the steps prove that the formula is true, or that it is false, as `sat` says.
+///
+/// In C: `int32_t qrp_proof_check(struct qrp_proof *proof, bool sat, bool any_pivot, struct
+/// qrp_verdict *out)`.
+///
+/// Writes the whole of `out`, and returns its status; zeros, and 11, if there is no proof. More can
+/// be added after it, and be checked.
+#[unsafe(no_mangle)]
+pub extern "C" fn qrp_proof_check(
+    alloc: Global,
+    proof: &mut QrpProof,
+    sat: bool,
+    any_pivot: bool,
+    out: &mut QrpVerdict,
+) -> i32
+    ensures checked { IfSome proof.old.held.value (λ p. IsVerdictOf (record { any_pivot = any_pivot })
+        p.formula p.trace.steps sat out.new × (result ≡ pos out.new.status)) }
+    ensures nothing { IfNone proof.old.held.value
+        ((out.new ≡ encoded_nothing) × (result ≡ pos 11)) }
+    ensures kept { proof.new.held.value ≡ proof.old.held.value }
+{
+    match proof.take(alloc) {
+        Some(held) => {
+            let verdict = verdict_of(alloc, &held, sat, Rules { any_pivot });
+            *proof = QrpProof::of(held);
+            *out = verdict;
+            i32::from(verdict.status)
+        }
+        None => {
+            *out = encode_nothing();
+            NOTHING
+        }
+    }
+}
+
+/// What a caller in C gets of the check.
+fn verdict_of(alloc: Global, proof: &Proof, sat: bool, rules: Rules) -> QrpVerdict
+    ensures { IsVerdictOf rules proof.now.formula proof.now.trace.steps sat result }
+{
+    match proof.check(alloc, outcome_of(sat), rules) {
+        Ok(()) => encode_truth(sat),
+        Err(fault) => encode_fault(&Fault::Check(fault)),
+    }
+}
+
+/// Ends a proof, and frees what it took. The struct may be used again.
+///
+/// In C: `void qrp_proof_free(struct qrp_proof *proof)`.
+#[unsafe(no_mangle)]
+pub extern "C" fn qrp_proof_free(alloc: Global, proof: &mut QrpProof)
+    ensures { proof.new.held.value ≡ None }
+{
+    drop(proof.take(alloc));
+}

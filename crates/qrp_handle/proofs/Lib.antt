@@ -1,0 +1,5 @@
+pub mod AsBox
+pub mod ReadFaults
+pub mod ReadLiterals
+pub mod Used
+pub mod Values

@@ -1,0 +1,26 @@
+-- Numbers that write literals, one more at a time.
+use Rattle.std.proofs.Common.{◌≡◌, ℕ, ℤ, suc, ◌+◌, ◌<◌, List, [], ◌∷◌, ◌++◌, map, take, length, get_or, sym, ap, ◌∙◌, subst, arith, take-suc}
+use Rattle.std.proofs.lemmas.List.{map-append}
+use Rattle.std.specs.List.{AllByRecursion}
+use Rattle.qbf_core.specs.Literal.{Literal}
+use Rattle.qrp_handle.specs.Written.{IsWritten, literal_of}
+
+one_more : (xs : List ℤ) (i : ℕ) (d : ℤ) → i < length xs → take (i + 1) xs ≡ take i xs ++ get_or xs i d ∷ []
+one_more xs i d h = let more : i + 1 ≡ suc i = omega arith in ap (λ k. take k xs) more ∙ take-suc xs i d h
+
+-- what holds of each of a list and of one more
+and_last : {X : Type 0} (P : X → Type 0) (xs : List X) (x : X) → AllByRecursion P xs → P x → AllByRecursion P (xs ++ x ∷ [])
+and_last P [] x h p = (p, tt)
+and_last P (y ∷ xs) x h p = (h.0, and_last P xs x h.1 p)
+
+-- one more number is read
+pub next_read : (xs : List ℤ) (i : ℕ) (d : ℤ) → i < length xs → (lits : List Literal) → lits ≡ map literal_of (take i xs)
+    → lits ++ literal_of (get_or xs i d) ∷ [] ≡ map literal_of (take (i + 1) xs)
+next_read xs i d h lits e =
+    ap (λ (ls : List Literal). ls ++ literal_of (get_or xs i d) ∷ []) e
+    ∙ sym (map-append literal_of (take i xs) (get_or xs i d ∷ []))
+    ∙ ap (λ (zs : List ℤ). map literal_of zs) (sym (one_more xs i d h))
+
+pub next_written : (xs : List ℤ) (i : ℕ) (d : ℤ) → i < length xs → AllByRecursion IsWritten (take i xs) → IsWritten (get_or xs i d)
+    → AllByRecursion IsWritten (take (i + 1) xs)
+next_written xs i d h all p = subst (λ (zs : List ℤ). AllByRecursion IsWritten zs) (sym (one_more xs i d h)) (and_last IsWritten (take i xs) (get_or xs i d) all p)

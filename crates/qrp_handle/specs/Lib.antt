@@ -1,0 +1,5 @@
+pub mod Adding
+pub mod Checks
+pub mod Owned
+pub mod Statuses
+pub mod Written

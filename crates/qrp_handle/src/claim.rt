@@ -1,0 +1,13 @@
+//! What a caller in C claims of a formula.
+
+ghost use Rattle.std.specs.Prelude.{◌≡◌};
+ghost use Rattle.qrp_handle.specs.Checks.{outcome_of};
+
+use qrp::Outcome;
+
+/// The outcome that a caller claims: that the formula is true, or that it is false.
+pub fn outcome_of(sat: bool) -> Outcome
+    ensures { result ≡ outcome_of sat }
+{
+    if sat { Outcome::Sat } else { Outcome::Unsat }
+}

@@ -1,0 +1,38 @@
+//! Literals that are written as numbers.
+
+ghost use Rattle.std.specs.Prelude.{◌≡◌, ℤ, List, map, Option, IfSome, IfNone, IfOk, IfErr};
+ghost use Rattle.std.specs.List.{AllByRecursion};
+ghost use Rattle.qrp_handle.specs.Adding.{IsReadFault};
+ghost use Rattle.qrp_handle.specs.Written.{IsWritten, literal_of};
+
+use crate::fault::AddFault;
+use qbf_core::{Lit, Var};
+use std::alloc::Global;
+
+/// The literal that this number writes, or `None` if it is 0 or the least of 32 bits.
+fn literal_of(written: i32) -> Option<Lit>
+    ensures some { IfSome result (λ lit. (lit ≡ literal_of written) × IsWritten written) }
+    ensures none { IfNone result (IsWritten written → ⊥) }
+{
+    let var = Var::new(written.unsigned_abs())?;
+    Some(Lit::new(var, written < 0))
+}
+
+/// The literals that these numbers write.
+///
+/// # Errors
+/// `Range` if one of them writes none, and `NoMemory` only if an allocation failed.
+pub fn literals_of(alloc: Global, written: &[i32]) -> Result<Vec<Lit>, AddFault>
+    ensures read { IfOk result (λ lits. (lits.items ≡ map literal_of written.now)
+        × AllByRecursion IsWritten written.now) }
+    ensures refused { IfErr result (IsReadFault written.now) }
+{
+    let mut lits = Vec::<Lit>::with_capacity(alloc, written.len())?;
+    for number in written {
+        match literal_of(*number) {
+            Some(lit) => lits.push(lit)?,
+            None => return Err(AddFault::Range),
+        }
+    }
+    Ok(lits)
+}
