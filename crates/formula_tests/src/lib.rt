@@ -6,6 +6,4 @@ mod formula_files;
 #[cfg(test)]
 mod formulas;
 #[cfg(test)]
-mod numbers;
-#[cfg(test)]
 mod texts;

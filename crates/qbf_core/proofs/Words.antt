@@ -3,7 +3,6 @@ pub use Rattle.qbf_core.specs.Blocks.{Alternates, AreBound, Block, IsBound, IsVa
 pub use Rattle.qbf_core.specs.Blocks.{quantifier_in, variables}
 pub use Rattle.qbf_core.specs.Literal.{Literal, literal_eq, negated, negative, positive}
 pub use Rattle.qbf_core.specs.Members.{◌∈◌, ◌⊆◌}
-pub use Rattle.qbf_core.specs.Placed.{IsPlaced}
 pub use Rattle.qbf_core.specs.Places.{IsBeyond, IsNumbered, IsTable, IsIndexOf, number_after, pair_of, pairs_of}
 pub use Rattle.qbf_core.specs.Qbf.{Qbf}
 pub use Rattle.qbf_core.specs.Rules.{Clashes, Clauses, Cubes, IsClean, IsTotal, Side, deciding_quantifier, reduced_quantifier, resolvent}

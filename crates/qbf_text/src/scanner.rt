@@ -8,10 +8,8 @@ ghost use Rattle.qbf_text.specs.Ahead.{ahead, first_of};
 ghost use Rattle.qbf_text.specs.Pulling.{HasPulled, ReadsRun};
 ghost use Rattle.qbf_text.specs.Left.{is_separator, IsWithinLine, EndsLine};
 ghost use Rattle.qbf_text.specs.Left.{is_end};
-ghost use Rattle.qbf_text.specs.Numbers.{StandInFront};
 
 use crate::buffered::Cursor;
-use crate::numbers::Numbers;
 use crate::run::{Numeral, Run, Spelling, begins_number};
 use crate::separators::is_separator;
 use crate::source::{Source, SourceFault};
@@ -85,8 +83,7 @@ struct Place {
 }
 
 impl Place {
-    ghost use Rattle.qbf_text.specs.Passing.{is_begun};
-    ghost use Rattle.qbf_text.specs.Numbers.{one_if};
+    ghost use Rattle.qbf_text.specs.Passing.{one_if, is_begun};
     ghost use Rattle.qbf_text.specs.Stopping.{FindsToken, FindsEnd, PlaceSkips};
     ghost use Rattle.qbf_text.specs.declared.token.Token.TheVariants.{End};
 
@@ -97,14 +94,15 @@ impl Place {
           at = 0;
           line = self.now.line;
           tokens = one_if self.now.begun;
+          ends = result.ends;
         } }
     {
-        Cursor::new(self.line, self.begun)
+        Cursor::new(self.line, self.begun, self.window.ends())
     }
 
-    /// Goes to a cursor among the bytes that were pulled, past so many of the numbers at hand.
+    /// Goes to a cursor among the bytes that were pulled.
     #[inline(always)]
-    fn go_to(&mut self, here: Cursor, numbers: usize)
+    fn go_to(&mut self, here: Cursor)
         requires { here.at ≤ length self.old.window }
         ensures to { self.new ≡ record self.old {
           line = here.line;
@@ -114,7 +112,7 @@ impl Place {
         ensures shorter { length self.new.window + here.at ≡ length self.old.window }
         ensures few { length self.new.window ≤ 4096 }
     {
-        self.window.go_to(here.at, numbers);
+        self.window.go_to(here.at, here.ends.after(here.at));
         self.line = here.line;
         self.begun = here.is_begun();
     }
@@ -133,7 +131,7 @@ impl Place {
         let Some(passed) = self.cursor().any_number(self.window.bytes()) else {
             return None;
         };
-        self.go_to(passed.next, 1);
+        self.go_to(passed.next);
         Some((passed.token, line))
     }
 
@@ -286,38 +284,30 @@ impl Scanner {
         }
     }
 
-    /// Makes numbers known that stand at the front of the bytes at hand, if none are.
+    /// The bytes at hand: those that were pulled and not yet looked at.
     #[inline(always)]
-    pub fn prepare(&mut self)
-        ensures { self.new ≡ self.old }
+    pub fn hand(&self) -> &[u8]
+        ensures { result.now ≡ self.now.pending }
     {
-        self.place.window.prepare();
-    }
-
-    /// The numbers that are known at the front of the bytes at hand.
-    #[inline(always)]
-    pub fn numbers(&self) -> &Numbers
-        ensures { StandInFront result.now self.now.pending }
-    {
-        self.place.window.numbers()
+        self.place.window.bytes()
     }
 
     /// Where the first of the bytes at hand stands.
     #[inline(always)]
     pub fn cursor(&self) -> Cursor
-        ensures { result ≡ cursor self.now }
+        ensures { result ≡ cursor self.now result.ends }
     {
         self.place.cursor()
     }
 
-    /// Goes to a place among the bytes at hand, past so many of the numbers.
+    /// Goes to a place among the bytes at hand.
     #[inline(always)]
-    pub fn go_to(&mut self, here: Cursor, numbers: usize)
+    pub fn go_to(&mut self, here: Cursor)
         requires { here.at ≤ length self.old.pending }
         ensures to { self.new ≡ scanner_at self.old here }
         ensures few { length self.new.pending ≤ 4096 }
     {
-        self.place.go_to(here, numbers);
+        self.place.go_to(here);
     }
 
     /// The next token and its line.

@@ -3,7 +3,7 @@
 ghost use Rattle.std.specs.Prelude.{◌≡◌, ◌≤◌, true, length, IfOk};
 ghost use Rattle.std.specs.List.{AllByRecursion};
 ghost use Rattle.qbf_core.specs.Blocks.{pairs, variables, IsPrefix};
-ghost use Rattle.qbf_text.specs.Numbers.{LeadsOver};
+ghost use Rattle.qbf_text.specs.Passing.{LeadOn, Passes};
 ghost use Rattle.qdimacs.specs.declared.grammar.At.TheVariants as at;
 ghost use Rattle.qdimacs.specs.declared.grammar.Parts.{Parts};
 ghost use Rattle.qdimacs.specs.States.{state_at, Moves, Leads, IsSound};
@@ -13,7 +13,7 @@ use crate::fault::FormulaFault;
 use crate::tokens::{FAULTS, FORM, bound_literal, clause_or_end};
 use dimacs_syntax::{HeaderAt, HeaderMove, header_move, member, quantifier};
 use qbf_core::{Formula, GrowingLists, Lit, Prefix, PrefixFault, Quantifier, Var};
-use qbf_text::{Grammar, Progress, Stop, Taken, Token};
+use qbf_text::{Cursor, Grammar, Progress, Stop, Taken, Token};
 use std::alloc::{AllocError, Global};
 use std::marker::Model;
 
@@ -149,69 +149,76 @@ fn take_at(here: At, parts: &mut Parts, token: Token) -> Next
     }
 }
 
-// ---- numbers at hand
+// ---- numbers in the bytes at hand
 
-/// Where the next token stands, and how many numbers stand before it.
-type Reached = (At, Result<usize, AllocError>);
+/// Where the next token stands, and the cursor before it.
+type Reached = (At, Result<Cursor, AllocError>);
 
-/// Takes numbers of a clause from the place `from` on, as far as they are not a fault, and its zero.
+/// Takes the usual numbers of a clause from the bytes at hand, and the number after them, which is
+/// mostly the zero that closes the clause, as far as they stand there whole and are not a fault.
 ///
 /// # Errors
 /// Out of memory.
 #[inline(always)]
 #[tactic(auto, using(crate::proofs::FormulaParts::numbers_lead_on))]
-fn take_clause(parts: &mut Parts, values: &[i32], from: usize) -> Reached
-    requires within { from ≤ length values.now }
+fn take_clause(parts: &mut Parts, bytes: &[u8], from: Cursor) -> Reached
+    requires within { from.at ≤ length bytes.now }
     requires sound { IsSound at.Clause parts.old }
-    ensures leads { IfOk result.1 (λ to. LeadsOver row (state_at parts.old at.Clause)
-        (state_at parts.new result.0) values.now from to) }
-    ensures within { IfOk result.1 (λ to. to ≤ length values.now) }
+    ensures passes { IfOk result.1 (λ to. Passes (LeadOn row (state_at parts.old at.Clause)
+        (state_at parts.new result.0)) bytes.now from to) }
     ensures sound { IsSound result.0 parts.new }
 {
-    let mut i = from;
-    'literals: while i < values.len() {
-        match take_literal(parts, Token::number_at(values, i)) {
-            Ok(At::Clause) => i += 1,
-            Ok(next) => return (next, Ok(i + 1)),
+    let mut here = from;
+    'literals: while let Some(passed) = here.usual_number(bytes) {
+        match take_literal(parts, passed.token) {
+            Ok(At::Clause) => here = passed.next,
+            Ok(next) => return (next, Ok(passed.next)),
             Err(Stop::Memory) => return (At::Clause, Err(AllocError)),
-            Err(Stop::Text(_)) => return (At::Clause, Ok(i)),
+            Err(Stop::Text(_)) => return (At::Clause, Ok(here)),
         }
     }
-    (At::Clause, Ok(i))
+    let Some(passed) = here.any_number(bytes) else {
+        return (At::Clause, Ok(here));
+    };
+    match take_literal(parts, passed.token) {
+        Ok(next) => (next, Ok(passed.next)),
+        Err(Stop::Memory) => (At::Clause, Err(AllocError)),
+        Err(Stop::Text(_)) => (At::Clause, Ok(here)),
+    }
 }
 
-/// Takes numbers as far as they are not a fault.
+/// Takes numbers from the bytes at hand, as far as they stand there whole and are not a fault.
 ///
 /// # Errors
 /// Out of memory.
 #[inline(always)]
 #[tactic(auto, using(crate::proofs::FormulaParts::numbers_lead_on))]
-fn take_numbers(at: At, parts: &mut Parts, values: &[i32]) -> Reached
+fn take_numbers(at: At, parts: &mut Parts, bytes: &[u8], from: Cursor) -> Reached
+    requires within { from.at ≤ length bytes.now }
     requires sound { IsSound at parts.old }
-    ensures leads { IfOk result.1 (λ to. LeadsOver row (state_at parts.old at)
-        (state_at parts.new result.0) values.now 0 to) }
-    ensures within { IfOk result.1 (λ to. to ≤ length values.now) }
+    ensures passes { IfOk result.1 (λ to. Passes
+        (LeadOn row (state_at parts.old at) (state_at parts.new result.0)) bytes.now from to) }
     ensures sound { IsSound result.0 parts.new }
 {
     let mut state = at;
-    let mut i = 0;
-    'numbers: while i < values.len() {
-        match take_at(state, parts, Token::number_at(values, i)) {
+    let mut here = from;
+    'numbers: while let Some(passed) = here.number(bytes) {
+        match take_at(state, parts, passed.token) {
             Ok(next) => state = next,
             Err(Stop::Memory) => return (state, Err(AllocError)),
             Err(Stop::Text(_)) => break,
         }
-        i += 1;
+        here = passed.next;
         if let At::Clause = state {
-            let (next, reached) = take_clause(parts, values, i);
+            let (next, reached) = take_clause(parts, bytes, here);
             state = next;
             match reached {
-                Ok(to) => i = to,
+                Ok(to) => here = to,
                 Err(refused) => return (state, Err(refused)),
             }
         }
     }
-    (state, Ok(i))
+    (state, Ok(here))
 }
 
 /// A formula that is read into flat buffers.
@@ -285,8 +292,8 @@ impl Grammar for FormulaGrammar {
     ghost kept = { λ _. tt };
 
     #[inline(always)]
-    fn take_numbers(&mut self, values: &[i32]) -> Result<Progress<()>, AllocError> {
-        let (at, reached) = take_numbers(self.at, &mut self.parts, values);
+    fn take_hand(&mut self, bytes: &[u8], from: Cursor) -> Result<Progress<()>, AllocError> {
+        let (at, reached) = take_numbers(self.at, &mut self.parts, bytes, from);
         self.at = at;
         Ok((reached?, None))
     }

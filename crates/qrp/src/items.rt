@@ -11,7 +11,7 @@ use crate::fault::TraceFault;
 use crate::item::{Item, Outcome, QuantSet, Step};
 use crate::parts::{Parts, close};
 use crate::states::{At, Part, Partial, take_at};
-use qbf_text::{Grammar, Progress, Stop, Taken, Token};
+use qbf_text::{Cursor, Grammar, Progress, Stop, Taken, Token};
 use std::alloc::{AllocError, Global};
 use std::marker::Model;
 use std::mem;
@@ -130,8 +130,8 @@ impl Grammar for ItemGrammar {
     ghost kept = { λ g. g.kept };
 
     #[inline(always)]
-    fn take_numbers(&mut self, values: &[i32]) -> Result<Progress<()>, AllocError> {
-        let (at, reached) = take_buffered(self.at, &mut self.parts.partial, values);
+    fn take_hand(&mut self, bytes: &[u8], from: Cursor) -> Result<Progress<()>, AllocError> {
+        let (at, reached) = take_buffered(self.at, &mut self.parts.partial, bytes, from);
         self.at = at;
         reached
     }
