@@ -46,7 +46,7 @@ void __wrap_free(void *old) {
     __real_free(old);
 }
 
-/* The words of a text without its comments. */
+/* The words of a text without its comments. Each word that begins with c begins one, so the header of a formula is left out. */
 struct words { char *at; };
 
 static char *next(struct words *words) {
@@ -84,8 +84,7 @@ static void read_antecedents(struct words *words) {
     } while (0)
 
 static int32_t add_formula(struct qrp_proof *proof, char *text) {
-    struct words words = {text};
-    for (int i = 0; i < 4; i++) next(&words);
+    struct words words = {text + strcspn(text, "\n")};
     for (char *word = next(&words); *word; word = next(&words)) {
         if (*word == 'a' || *word == 'e') {
             read_literals(&words);
