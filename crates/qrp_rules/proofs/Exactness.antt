@@ -4,7 +4,7 @@ use Rattle.qrp_rules.proofs.Words.{slice_get, Some, None, refl, rules, sym, ap, 
 use Rattle.qrp_rules.proofs.Words.{Literal, negated, positive, negative, ◌∈◌, ◌⊆◌, Block, Side, Clashes, IsClean, IsOnlyClash, IsReducible}
 use Rattle.qrp_rules.proofs.Words.{resolvent, in_without, from_without, in_take_all, in_take_more, in_append, append_left, append_right}
 use Rattle.qrp_rules.proofs.Words.{take_more_in, take_within, got_in, Rules, AllHold, AllowsPivot, resolvent_conditions, IsApart}
-use Rattle.qrp_rules.proofs.Words.{IsMergeSoFar, IsNext, IsPutBy, Has, Members, clash_here, clean_within, slice_get_read}
+use Rattle.qrp_rules.proofs.Words.{IsMergeSoFar, IsNext, Accounts, IsPutBy, Has, Members, clash_here, clean_within, slice_get_read}
 use Rattle.std.proofs.lemmas.List.{take_all}
 use Rattle.qbf_core.specs.Blocks.{AreBound}
 use Rattle.qbf_core.proofs.Inferences.{resolvent_clean, resolvent_bound}
@@ -175,11 +175,9 @@ module _ (rules : Rules) (side : Side) (blocks : List Block) (a b to rest_a rest
     | inr k ↦ only l (right_over l k w.1)
   ]
 
-  pub left_follows : AllowsPivot rules side blocks x.var
-      → (((l : Literal) → l ∈ resolvent a b x.var → (l ∈ to) ⊎ May l) → (l : Literal) → May l
-      → IsReducible side blocks (resolvent a b x.var) l)
+  pub accounted_follows : AllowsPivot rules side blocks x.var → Accounts side blocks a b to x.var
       → AllHold (resolvent_conditions rules side blocks a b to)
-  left_follows allowed may = at_pivot rules side blocks a b to x.var None
+  accounted_follows allowed accounts = at_pivot rules side blocks a b to x.var None
       (record {
         clashes = clash_here a b x is.in_a is.in_b;
         only = λ v c. elim (cases_eq v x.var) [ inl e ↦ e | inr ne ↦ absurd (no_other v ne c) ];
@@ -188,9 +186,16 @@ module _ (rules : Rules) (side : Side) (blocks : List Block) (a b to rest_a rest
         (
           (λ l h. in_without x.var (a ++ b) l
               (elim (is.from l h) [ inl k ↦ append_left a b l k | inr k ↦ append_right a b l k ]) (apart l h)),
-          ((λ l h. elim (each l h) [ inl k ↦ inl k | inr m ↦ inr (inl (may each l m)) ]), tt),
+          (accounts, tt),
         ),
       )
+
+  pub left_follows : AllowsPivot rules side blocks x.var
+      → (((l : Literal) → l ∈ resolvent a b x.var → (l ∈ to) ⊎ May l) → (l : Literal) → May l
+      → IsReducible side blocks (resolvent a b x.var) l)
+      → AllHold (resolvent_conditions rules side blocks a b to)
+  left_follows allowed may =
+      accounted_follows allowed (λ l h. elim (each l h) [ inl k ↦ inl k | inr m ↦ inr (inl (may each l m)) ])
 
 -- ---- no clashing pair
 

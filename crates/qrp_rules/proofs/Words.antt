@@ -12,12 +12,12 @@ pub use Rattle.qbf_core.specs.Rules.{Clashes, Clauses, Cubes, IsClean, IsInitial
 pub use Rattle.qbf_core.specs.Rules.{deciding_quantifier, reduced_quantifier, resolvent}
 pub use Rattle.qbf_core.specs.Sets.{HasMembersOf, IsOrdered}
 pub use Rattle.qbf_core.specs.declared.quantifier.Quantifier.{Quantifier}
-pub use Rattle.qbf_core.specs.declared.quantifier.Quantifier.TheVariants.{All, Exists}
+pub use Rattle.qbf_core.specs.declared.quantifier.Quantifier.TheVariants.{Exists}
 pub use Rattle.qrp_rules.specs.Conditions.{AllHold, AllowsPivot, Condition, IsJudgement, IsFirstFailure, IsReducibleInParents}
 pub use Rattle.qrp_rules.specs.Conditions.{initial_condition, reduct_conditions, resolvent_conditions}
 pub use Rattle.qrp_rules.specs.Exact.{IsApart, IsMergeSoFar, IsNext, IsPutBy}
-pub use Rattle.qrp_rules.specs.Initial.{IsAccepted, IsAcceptedIf}
-pub use Rattle.qrp_rules.specs.Seen.{AreUpTo, Has, IsFar, Members, code}
+pub use Rattle.qrp_rules.specs.Initial.{IsAcceptedIf}
+pub use Rattle.qrp_rules.specs.Seen.{AreUpTo, Has, Members, code}
 pub use Rattle.qrp_rules.specs.Walks.{Accounts, IsHeldBefore, IsInnermost, MayOmit, StandsAfter, TakesOut}
 pub use Rattle.qrp_rules.specs.Watches.{IsMet, IsWatchedBy}
 pub use Rattle.qrp_rules.specs.declared.fault.RuleFault.{RuleFault}
@@ -25,7 +25,7 @@ pub use Rattle.qrp_rules.specs.declared.fault.RuleFault.TheVariants.{S10, S11, S
 pub use Rattle.qrp_rules.specs.declared.initial_cubes.Watch.{Watch}
 pub use Rattle.qrp_rules.specs.declared.rules.Rules.{Rules}
 pub use Rattle.std.proofs.Common.{Bool, Contains, IsTrue, List, None, Option, Some, [], ap, arith, drop, false, get_or, inl, inr, length}
-pub use Rattle.std.proofs.Common.{ltb, refl, rules, slice_get, subst, suc, sym, take, tests, true, zero, ℕ, ◌++◌, ◌+◌, ◌-◌, ◌<◌, ◌↔◌, ◌∙◌}
+pub use Rattle.std.proofs.Common.{refl, rules, slice_get, subst, suc, sym, take, tests, true, zero, ℕ, ◌++◌, ◌+◌, ◌-◌, ◌<◌, ◌↔◌, ◌∙◌}
 pub use Rattle.std.proofs.Common.{◌∷◌, ◌≡◌, ◌≤◌, ◌⊎◌}
 pub use Rattle.std.proofs.Math.ListN.{set}
 pub use Rattle.std.proofs.lemmas.Bool.{cases_eq, eqb-true, false≢true, true≢false}
@@ -34,5 +34,3 @@ pub use Rattle.std.proofs.lemmas.Iterator.{YieldsList-from_slice, cases_from_any
 pub use Rattle.std.proofs.lemmas.List.{drop_more, length-set, take-append-drop}
 pub use Rattle.std.proofs.lemmas.List.Elements.{Contains-push}
 pub use Rattle.std.proofs.lemmas.Option.{get_or_from_slice_get, slice_get_read, slice_get_within}
-pub use Rattle.std.proofs.lemmas.Result.{IfOk-weaker}
-pub use Rattle.std.specs.List.Sorted.{IsNonDecreasingBy}

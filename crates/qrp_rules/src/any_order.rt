@@ -1,5 +1,6 @@
-//! Resolvents as they are written, whatever the order of their literals: a walk or a set of them
-//! finds the pivot and what is left of the antecedents, and a set whether that may be left out.
+//! Steps as they are written, whatever the order of their literals and how often each is written:
+//! a walk or a set of literals finds the pivot of a resolvent and what is left of its antecedents,
+//! and a set whether that may be left out.
 
 ghost use Rattle.std.specs.Prelude.{◌≡◌, ◌≢◌, ◌<◌, ◌⊎◌, ◌↔◌, IsTrue, IfOk, IfSome, List};
 ghost use Rattle.qbf_core.specs.Literal.{Literal};
@@ -17,7 +18,7 @@ ghost use Rattle.qrp_rules.specs.Walks.{TakesOut};
 use crate::blocks::{Reducible, reducible_in};
 use crate::exact::{Rests, accepts_reduct_in_order, find_rests, surely_apart};
 use crate::fault::Holds;
-use crate::resolvent::{Resolution, is_pivot};
+use crate::resolvent::{Resolution, is_pivot, reducible_in_parents};
 use crate::rules::Rules;
 use crate::seen::{SeenLits, find_negated, put_each, set_if_clean};
 use crate::side::Side;
@@ -88,6 +89,47 @@ fn leaves_out_rests<S: Side>(seen: &mut SeenLits, prefix: &Prefix, to: &[Lit], r
     let reducible = reducible_in(prefix, S::REDUCED, to);
     put_each_left_out(seen, reducible, pivot, rests.a)
         && put_each_left_out(seen, reducible, pivot, rests.b)
+}
+
+/// Whether each literal of a list is seen to be one of the pivot, in a set, or one that may be left
+/// out.
+fn surely_covers_but(seen: &SeenLits, reducible: Reducible, pivot: Var, lits: &[Lit]) -> bool
+    ensures { IsTrue result → (l : Literal) → l ∈ lits.now
+        → (l.var ≡ pivot) ⊎ (Has seen.now l ⊎ TakesOut reducible.entry l.var) }
+{
+    lits.iter().all(|lit| {
+        lit.var().number() == pivot.number() || seen.contains(*lit) || reducible.has(lit.var())
+    })
+}
+
+/// As `leaves_out_rests`, of what may be left out of the antecedents before they are resolved.
+#[cold]
+fn leaves_out_of_parents<S: Side>(
+    seen: &mut SeenLits,
+    prefix: &Prefix,
+    step: Resolution,
+    rests: Rests,
+) -> bool
+    requires { IsResolvedBut step.a.now step.b.now step.to.now rests.a.now rests.b.now
+        rests.pivot }
+    ensures { IsTrue result → (rules : Rules)
+        → AllowsPivot rules S.side prefix.now rests.entry.pivot.var
+        → AllHold (resolvent_conditions rules S.side prefix.now step.entry.a.now step.entry.b.now
+        step.entry.to.now) }
+{
+    let pivot = rests.pivot.var();
+    if !surely_apart(step.to, pivot) {
+        return false;
+    }
+    if !set_if_clean(seen, step.to) {
+        return false;
+    }
+    let (in_a, in_b) = reducible_in_parents::<S>(prefix, step.a, step.b, pivot);
+    // What the first one leaves out is put in, and the second one may not lack it for that.
+    if !surely_covers_but(seen, in_b, pivot, rests.b) {
+        return false;
+    }
+    put_each_left_out(seen, in_a, pivot, rests.a) && put_each_left_out(seen, in_b, pivot, rests.b)
 }
 
 /// Two lists, whatever their order, if a third one has no other literals, and a literal of the one
@@ -215,7 +257,7 @@ pub fn accepts_reduct<S: Side>(
 /// Accepts a step that follows from its antecedents, which are clean and bound, by resolution: as
 /// `resolvent_fault`, of literals as they are written.
 ///
-/// It may leave such a step to the judge of sets. If the literals are in the order of the
+/// Their order does not matter, nor how often each is written. If they are in the order of the
 /// antecedents, and nothing is left out, only the pivot is looked up. What was seen is forgotten.
 ///
 /// # Errors
@@ -256,5 +298,9 @@ pub fn accepts_resolvent<S: Side>(
         }
     }
     seen.make_room(prefix)?;
-    Ok(leaves_out_rests::<S>(seen, prefix, to, rests))
+    let Rests { pivot, a, b } = rests;
+    if leaves_out_rests::<S>(seen, prefix, to, Rests { pivot, a, b }) {
+        return Ok(true);
+    }
+    Ok(leaves_out_of_parents::<S>(seen, prefix, step, Rests { pivot, a, b }))
 }

@@ -26,13 +26,35 @@ returns-then-branch-clause-bound g c = λ t.
     followed_bound c.args.rules g.S.Side.side c.args.prefix.now c.args.step.a.now c.args.step.b.now c.args.step.to.now
     (returns-then-branch-clause-follows g c t) c.requires.bound_a c.requires.bound_b
 
-pub returns-clause-follows : goal.returns-clause-follows
-returns-clause-follows g c = λ t. c.leaves_out_rests.ensures t c.args.rules c.args.step.a.now c.args.step.b.now
+pub returns-then-leaves_out_rests-clause-follows : goal.returns-then-leaves_out_rests-clause-follows
+returns-then-leaves_out_rests-clause-follows g c = λ _.
+    c.leaves_out_rests.ensures c.if-leaves_out_rests.true c.args.rules c.args.step.a.now c.args.step.b.now
     (elim c.match-find_rests.branch [
       | in-Some w ↦ rw w.rests-is w.in-Some.ensures
       | in-None+in_ok-make_room-in-None+in-Some-find_parents w ↦ rw w.rests-is w.in-Some-find_parents.ensures
     ])
     (rw c.var-pivot.ensures at c.if-not-is_pivot.ensures.0 refl)
+
+pub returns-then-leaves_out_rests-clause-clean : goal.returns-then-leaves_out_rests-clause-clean
+returns-then-leaves_out_rests-clause-clean g c = λ t.
+    followed_clean c.args.rules g.S.Side.side c.args.prefix.now c.args.step.a.now c.args.step.b.now c.args.step.to.now
+    (returns-then-leaves_out_rests-clause-follows g c t) c.requires.clean_a c.requires.clean_b
+
+pub returns-then-leaves_out_rests-clause-bound : goal.returns-then-leaves_out_rests-clause-bound
+returns-then-leaves_out_rests-clause-bound g c = λ t.
+    followed_bound c.args.rules g.S.Side.side c.args.prefix.now c.args.step.a.now c.args.step.b.now c.args.step.to.now
+    (returns-then-leaves_out_rests-clause-follows g c t) c.requires.bound_a c.requires.bound_b
+
+pub leaves_out_of_parents-requires : goal.leaves_out_of_parents-requires
+leaves_out_of_parents-requires g c =
+    elim c.match-find_rests.branch [
+      | in-Some w ↦ rw w.rests-is w.in-Some.ensures
+      | in-None+in_ok-make_room-in-None+in-Some-find_parents w ↦ rw w.rests-is w.in-Some-find_parents.ensures
+    ]
+
+pub returns-clause-follows : goal.returns-clause-follows
+returns-clause-follows g c = λ t.
+    c.leaves_out_of_parents.ensures t c.args.rules (rw c.var-pivot.ensures at c.if-not-is_pivot.ensures.0 refl)
 
 pub returns-clause-clean : goal.returns-clause-clean
 returns-clause-clean g c = λ t.
