@@ -198,22 +198,27 @@ static void try_refusals(void) {
     settle(qrp_proof_new(&proof) == QRP_ADDED && qrp_proof_new(&proof) == QRP_ADDED, "new, twice", "");
     settle(qrp_proof_variable(&proof, false, 1) == QRP_ADDED && qrp_proof_variable(&proof, true, 2) == QRP_ADDED, "variables", "");
     settle(qrp_proof_variable(&proof, true, 1) == QRP_BOUND_TWICE, "bound twice", "");
-    settle(qrp_proof_variable(&proof, true, 0) == QRP_OUT_OF_RANGE && qrp_proof_variable(&proof, true, 1u << 31) == QRP_OUT_OF_RANGE, "a variable", "");
+    settle(qrp_proof_variable(&proof, true, 0) == QRP_OUT_OF_RANGE && qrp_proof_variable(&proof, true, 1u << 31) == QRP_OUT_OF_RANGE,
+           "a variable", "");
     settle(qrp_proof_clause(&proof, unbound, 2) == QRP_NOT_BOUND, "a variable that is not bound", "");
     settle(qrp_proof_clause(&proof, zero, 2) == QRP_OUT_OF_RANGE && qrp_proof_clause(&proof, least, 1) == QRP_OUT_OF_RANGE, "a literal", "");
-    settle(qrp_proof_step(&proof, 0, clause, 2, three, 0) == QRP_OUT_OF_RANGE && qrp_proof_step(&proof, 1, zero, 2, three, 0) == QRP_OUT_OF_RANGE
+    settle(qrp_proof_step(&proof, 0, clause, 2, three, 0) == QRP_OUT_OF_RANGE
+               && qrp_proof_step(&proof, 1, zero, 2, three, 0) == QRP_OUT_OF_RANGE
                && qrp_proof_step(&proof, 1, clause, 2, none, 1) == QRP_OUT_OF_RANGE, "numbers of a step", "");
     settle(qrp_proof_step(&proof, 1, clause, 2, three, 3) == QRP_TOO_MANY_ANTECEDENTS, "three antecedents", "");
     /* For some 1, for all 2: 1, and -1 or -2. It is false: 2. */
     const int32_t one[] = {1}, other[] = {-1, -2}, reduced[] = {-1};
     const uint64_t of_other[] = {2}, both[] = {1, 3};
     settle(qrp_proof_clause(&proof, one, 1) == QRP_ADDED && qrp_proof_clause(&proof, other, 2) == QRP_ADDED, "clauses", "");
-    settle(qrp_proof_check(&proof, false, false, &verdict) == QRP_PROOF_REFUSED && verdict.letter == 'C' && verdict.number == 4, "no step yet", "");
-    settle(qrp_proof_step(&proof, 1, one, 1, three, 0) == QRP_ADDED && qrp_proof_step(&proof, 1, one, 1, three, 0) == QRP_NUMBER_USED, "a number, twice", "");
+    settle(qrp_proof_check(&proof, false, false, &verdict) == QRP_PROOF_REFUSED && verdict.letter == 'C' && verdict.number == 4,
+           "no step yet", "");
+    settle(qrp_proof_step(&proof, 1, one, 1, three, 0) == QRP_ADDED && qrp_proof_step(&proof, 1, one, 1, three, 0) == QRP_NUMBER_USED,
+           "a number, twice", "");
     settle(qrp_proof_step(&proof, 2, other, 2, three, 0) == QRP_ADDED && qrp_proof_step(&proof, 3, reduced, 1, of_other, 1) == QRP_ADDED
                && qrp_proof_step(&proof, 9, one, 0, both, 2) == QRP_ADDED, "steps", "");
     settle(qrp_proof_check(&proof, false, false, &verdict) == QRP_VERIFIED && verdict.letter == 'V' && !verdict.truth, "the proof", "");
-    settle(qrp_proof_check(&proof, true, false, &verdict) == QRP_PROOF_REFUSED && verdict.letter == 'C' && verdict.number == 6, "as one of a true formula", "");
+    settle(qrp_proof_check(&proof, true, false, &verdict) == QRP_PROOF_REFUSED && verdict.letter == 'C' && verdict.number == 6,
+           "as one of a true formula", "");
     qrp_proof_free(&proof);
     qrp_proof_free(&proof);
     settle(blocks == 0 && qrp_proof_clause(&proof, clause, 2) == QRP_NO_PROOF, "freed, twice", "");
