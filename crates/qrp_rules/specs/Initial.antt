@@ -1,5 +1,5 @@
 -- What is kept of a formula while its initial steps are looked for, and what is accepted.
-use Rattle.std.specs.Prelude.{◌≡◌, Bool, IsTrue, List}
+use Rattle.std.specs.Prelude.{Bool, IsTrue, List}
 use Rattle.qbf_core.specs.Literal.{Literal}
 use Rattle.qbf_core.specs.Blocks.{AreBound}
 use Rattle.qbf_core.specs.Qbf.{Qbf}

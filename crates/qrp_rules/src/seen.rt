@@ -34,6 +34,8 @@ pub struct SeenLits {
     stamp: u32,
     /// The numbers of those that are in the set and have no stamp, since there is no room for one.
     far: IndexSet<usize>,
+    /// That a literal was not put in, since an allocation failed.
+    failed: Option<AllocError>,
 }
 
 impl Model for SeenLits {
@@ -57,6 +59,19 @@ impl SeenLits {
             stamps: Vec::new(alloc),
             stamp: 1,
             far: IndexSet::new(alloc),
+            failed: None,
+        }
+    }
+
+    /// Whether there was memory for each literal that was put in so far.
+    ///
+    /// # Errors
+    /// If an allocation failed.
+    #[inline(always)]
+    pub fn had_memory(&self) -> Result<(), AllocError> {
+        match self.failed {
+            Some(AllocError) => Err(AllocError),
+            None => Ok(()),
         }
     }
 
@@ -114,7 +129,7 @@ impl SeenLits {
     {
         let number = code(lit);
         if number >= self.stamps.len() {
-            return put_far(&mut self.far, number);
+            return put_far(&mut self.far, &mut self.failed, number);
         }
         self.stamps[number] = self.stamp;
         true
@@ -169,13 +184,16 @@ fn clear_far(alloc: Global, far: &mut IndexSet<usize>)
 
 /// Puts a number among those that are far, or returns `false` if there is no memory for it.
 #[cold]
-fn put_far(far: &mut IndexSet<usize>, number: usize) -> bool
+fn put_far(far: &mut IndexSet<usize>, failed: &mut Option<AllocError>, number: usize) -> bool
     ensures { (n : ℕ) → IsFar far.new.keys n
         ↔ (IsFar far.old.keys n ⊎ ((n ≡ number) × IsTrue result)) }
 {
     match far.insert(number) {
         Ok(_) => true,
-        Err(_) => false,
+        Err(_) => {
+            *failed = Some(AllocError);
+            false
+        }
     }
 }
 
