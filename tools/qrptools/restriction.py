@@ -137,12 +137,14 @@ def antecedents_of(tails):
 def needed(first, second, goal):
     """Marks the steps that the goal needs."""
     marks = bytearray(goal + 1)
+    marks[goal] = 1
     place = goal
     while place >= 0:
-        marks[place] = 1
-        for below in (first[place], second[place]):
-            if below >= 0:
-                marks[below] = 1
+        one, other = first[place], second[place]
+        if one >= 0:
+            marks[one] = 1
+        if other >= 0:
+            marks[other] = 1
         place = marks.rfind(1, 0, place)
     return marks
 
