@@ -49,10 +49,10 @@ turned_bytes [] h = tt
 turned_bytes (b ∷ bs) h = (xor_lt 8 b 48 h.0 (omega arith), turned_bytes bs h.1)
 
 -- at each of the 256 bytes, by computing
-turned_small : (b : ℕ) → b < 256 → is_small (turned b) ≡ is_ascii_digit b
+pub turned_small : (b : ℕ) → b < 256 → is_small (turned b) ≡ is_ascii_digit b
 turned_small b fits = agree_below_at (λ x. is_small (turned x)) is_ascii_digit 256 b refl fits
 
-turned_value : (b : ℕ) → b < 256 → is_ascii_digit b ≡ true → turned b ≡ digit_value b
+pub turned_value : (b : ℕ) → b < 256 → is_ascii_digit b ≡ true → turned b ≡ digit_value b
 turned_value b fits digit = grind (arith, common_steps)
 
 pub turned_run : (bs : List ℕ) → Bytes bs → prefix_len is_small (map turned bs) ≡ prefix_len is_ascii_digit bs

@@ -21,7 +21,39 @@ fn fits(value: u64, digit: u64) -> bool
     value < 1844674407370955161 || (value == 1844674407370955161 && digit <= 5)
 }
 
-/// Finds the digits as `digits` does, byte by byte: for any length, and at the end of the bytes.
+/// The value of the first eight bytes, if all of them are digits.
+#[inline(always)]
+fn first_eight(bytes: &[u8]) -> Option<u64>
+    ensures within { IfSome result (λ _. 8 ≤ length bytes.now) }
+    ensures digits { IfSome result (λ _. AllDigits 10 (take 8 bytes.now)) }
+    ensures value { IfSome result (λ v. v ≡ digits_value 10 (take 8 bytes.now)) }
+    ensures small { IfSome result (λ v. v < 100000000) }
+{
+    let word = first_word(bytes)?;
+    let value = number_of_len(word, 8)?;
+    Some(value)
+}
+
+/// The value of the first sixteen bytes, if all of them are digits, or else of the first eight, if
+/// these are, and how many it is the value of: none, if neither is so.
+#[inline(always)]
+fn leading_eights(bytes: &[u8]) -> (u64, usize)
+    ensures few { result.1 ≤ 16 }
+    ensures within { result.1 ≤ length bytes.now }
+    ensures digits { AllDigits 10 (take result.1 bytes.now) }
+    ensures value { result.0 ≡ digits_value 10 (take result.1 bytes.now) }
+{
+    let Some(first) = first_eight(bytes) else {
+        return (0, 0);
+    };
+    match first_eight(&bytes[8..]) {
+        Some(second) => (first * 100_000_000 + second, 16),
+        None => (first, 8),
+    }
+}
+
+/// Finds the digits as `digits` does, eight at a time and then byte by byte: for any length, and at
+/// the end of the bytes.
 #[cold]
 #[inline(never)]
 #[tactic(auto, using(crate::proofs::OneMore::one_more))]
@@ -30,8 +62,9 @@ fn by_digit(bytes: &[u8], from: usize) -> (u64, usize)
     ensures { AreLeadingDigits bytes.now from result }
 {
     let rest = &bytes[from..];
-    let mut value: u64 = 0;
-    let mut i = 0;
+    let (first, count) = leading_eights(rest);
+    let mut value = first;
+    let mut i = count;
     while i < MOST && i < rest.len() && rest[i].is_ascii_digit() {
         let digit = u64::from(rest[i] - b'0');
         if !fits(value, digit) {

@@ -14,7 +14,7 @@ quantifier (token.Word word.A) = Some All
 quantifier (token.Word word.E) = Some Exists
 quantifier t = None
 
--- the variable that a token says in a set, at most the last, or None where it closes the set
+-- the variable that a token says in a set, at most the last, or None if it closes the set
 abbrev pub member : {F : Type 0} → Faults F → ℕ → Token → Result (Option ℕ) F
 member faults last (token.Number false zero) = Ok None
 member faults last (token.Number false (suc n)) = if nat_lt last (suc n) then Err faults.range else Ok (Some (suc n))
@@ -24,7 +24,7 @@ member faults last token.End = Err faults.end
 member faults last (token.Word w) = Err faults.stray
 member faults last token.Bad = Err faults.stray
 
--- the literal that a token says, its variable at most the last, or None where it closes the literals
+-- the literal that a token says, its variable at most the last, or None if it closes the literals
 abbrev pub literal_in : {F : Type 0} → Faults F → ℕ → Token → Result (Option Literal) F
 literal_in faults last (token.Number false zero) = Ok None
 literal_in faults last (token.Number true zero) = Err faults.minus_zero

@@ -13,7 +13,7 @@ use Rattle.qbf_text.specs.declared.token.Word.TheVariants as word
 abbrev pub number : ℕ → Token
 number n = token.Number false n
 
--- a literal: its variable, after a minus where it is negative
+-- a literal: its variable, after a minus if it is negative
 abbrev pub literal : Literal → Token
 literal l = token.Number l.negative l.var
 

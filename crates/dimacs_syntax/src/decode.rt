@@ -33,7 +33,7 @@ pub fn quantifier(token: Token) -> Option<Quantifier>
     }
 }
 
-/// The variable that a token says in a set, at most `last`, or `None` where it closes the set.
+/// The variable that a token says in a set, at most `last`, or `None` if it closes the set.
 ///
 /// # Errors
 /// The fault of the format that the token is there.
@@ -56,7 +56,7 @@ pub fn member<F: Copy>(faults: Faults<F>, last: u32, token: Token) -> Result<Opt
     }
 }
 
-/// The literal that a token says, its variable at most `last`, or `None` where it closes the
+/// The literal that a token says, its variable at most `last`, or `None` if it closes the
 /// literals.
 ///
 /// # Errors

@@ -19,7 +19,7 @@ pub trait Put {
     /// Sends its text.
     ///
     /// # Errors
-    /// A `SinkFault` where the sink failed. What went out is a beginning of the text then.
+    /// A `SinkFault` if the sink failed. What went out is a beginning of the text then.
     fn put<K: Sink>(&self, sink: &mut K) -> Result<(), SinkFault>
         ensures { IsPut K.written K.failures K.failed_last
             sink.old sink.new (text self.now) result };

@@ -6,4 +6,6 @@ mod formula_files;
 #[cfg(test)]
 mod formulas;
 #[cfg(test)]
+mod numbers;
+#[cfg(test)]
 mod texts;

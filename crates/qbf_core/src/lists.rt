@@ -1,9 +1,13 @@
 //! Lists that lie one after the other in one buffer.
 
-ghost use Rattle.std.specs.Prelude.{◌≡◌, ◌≤◌, ◌<◌, List, [], ◌∷◌, ◌++◌, length, take, slice_get};
-ghost use Rattle.std.specs.Prelude.{slice_range, ◌-◌, Some, OnOk, OnErr};
+ghost use Rattle.std.specs.Prelude.{◌≡◌, ◌≤◌, ◌<◌, ◌+◌, List, [], ◌∷◌, ◌++◌, length, map, take};
+ghost use Rattle.std.specs.Prelude.{pos, slice_get, slice_index_or, slice_range, ◌-◌, false, Some};
+ghost use Rattle.std.specs.Prelude.{IfSome, IfOk, OnOk, OnErr, IsTrue};
+ghost use Rattle.std.specs.List.{AllByRecursion};
 ghost use Rattle.qbf_core.specs.Lists.{parts, start_of, LieWithin};
+ghost use Rattle.qbf_core.specs.WrittenLiterals.{literal_of, IsWritten};
 
+use crate::literal::{Lit, is_written};
 use crate::offsets::Offsets;
 use std::alloc::{AllocError, Global};
 use std::marker::Model;
@@ -181,5 +185,191 @@ impl<T: Copy + Drop> GrowingLists<T> {
         let start = self.ends.last();
         self.start = start;
         self.begin();
+    }
+}
+
+/// The number at a place.
+#[inline(always)]
+fn number_at(numbers: &[i32], place: usize) -> i32
+    requires { place < length numbers.now }
+    ensures { result ≡ slice_index_or numbers.now place (pos 0) }
+{
+    numbers[place]
+}
+
+/// The literal that the number at a place is, of a variable up to `last`; none, if it is not one.
+#[inline(always)]
+fn one_written(numbers: &[i32], place: usize, last: u32) -> Option<Lit>
+    requires place { place < length numbers.now }
+    requires last { last ≤ 2147483647 }
+    ensures literal { IfSome result (λ l. l ≡ literal_of (slice_index_or numbers.now place (pos 0))) }
+    ensures written { IfSome result
+        (λ _. IsWritten last (slice_index_or numbers.now place (pos 0))) }
+{
+    let number = number_at(numbers, place);
+    if is_written(number, last) {
+        Some(Lit::of_written(number))
+    } else {
+        None
+    }
+}
+
+/// The four literals that the numbers from a place on are, of variables up to `last`; none, if one
+/// of them is not a literal.
+#[inline(always)]
+fn four_written(numbers: &[i32], place: usize, last: u32) -> Option<[Lit; 4]>
+    requires place { place + 4 ≤ length numbers.now }
+    requires last { last ≤ 2147483647 }
+    ensures literals { IfSome result
+        (λ f. f ≡ map literal_of (slice_range numbers.now place (place + 4))) }
+    ensures written { IfSome result
+        (λ _. AllByRecursion (IsWritten last) (slice_range numbers.now place (place + 4))) }
+{
+    let first = number_at(numbers, place);
+    let second = number_at(numbers, place + 1);
+    let third = number_at(numbers, place + 2);
+    let fourth = number_at(numbers, place + 3);
+    if is_written(first, last)
+        & is_written(second, last)
+        & is_written(third, last)
+        & is_written(fourth, last)
+    {
+        Some([
+            Lit::of_written(first),
+            Lit::of_written(second),
+            Lit::of_written(third),
+            Lit::of_written(fourth),
+        ])
+    } else {
+        None
+    }
+}
+
+/// Adds the literals that the four numbers from a place on are. `false` where one is not a literal.
+///
+/// # Errors
+/// Out of memory. Nothing is changed then.
+#[inline(always)]
+fn put_four(
+    items: &mut Vec<Lit>,
+    numbers: &[i32],
+    place: usize,
+    last: u32,
+) -> Result<bool, AllocError>
+    requires place { place + 4 ≤ length numbers.now }
+    requires last { last ≤ 2147483647 }
+    ensures put { IfOk result (λ b. IsTrue b → items.new.items
+        ≡ items.old.items ++ map literal_of (slice_range numbers.now place (place + 4))) }
+    ensures written { IfOk result (λ b. IsTrue b
+        → AllByRecursion (IsWritten last) (slice_range numbers.now place (place + 4))) }
+    ensures none { IfOk result (λ b. b ≡ false → items.new.items ≡ items.old.items) }
+    ensures err { OnErr result (items.new.items ≡ items.old.items) }
+{
+    let Some(four) = four_written(numbers, place, last) else {
+        return Ok(false);
+    };
+    items.extend_from_slice(&four)?;
+    Ok(true)
+}
+
+/// Adds the literals that four numbers or more are, four at a time and the last four again. `false`
+/// where one of them is not a literal.
+///
+/// # Errors
+/// Out of memory.
+#[inline(always)]
+fn put_fours(items: &mut Vec<Lit>, numbers: &[i32], last: u32) -> Result<bool, AllocError>
+    requires many { 4 ≤ length numbers.now }
+    requires last { last ≤ 2147483647 }
+    ensures put { IfOk result (λ b. IsTrue b
+        → items.new.items ≡ items.old.items ++ map literal_of numbers.now) }
+    ensures written { IfOk result (λ b. IsTrue b → AllByRecursion (IsWritten last) numbers.now) }
+    ensures kept { take (length items.old.items) items.new.items ≡ items.old.items }
+{
+    let start = items.len();
+    let end = numbers.len() - 4;
+    let mut place = 0;
+    'fours: while place < end {
+        if !put_four(items, numbers, place, last)? {
+            return Ok(false);
+        }
+        place += 4;
+    }
+    items.truncate(start + end);
+    put_four(items, numbers, end, last)
+}
+
+/// Adds the literals that these numbers are, one by one. `false` where one of them is not a literal.
+///
+/// # Errors
+/// Out of memory.
+#[inline(always)]
+fn put_each(items: &mut Vec<Lit>, numbers: &[i32], last: u32) -> Result<bool, AllocError>
+    requires last { last ≤ 2147483647 }
+    ensures put { IfOk result (λ b. IsTrue b
+        → items.new.items ≡ items.old.items ++ map literal_of numbers.now) }
+    ensures written { IfOk result (λ b. IsTrue b → AllByRecursion (IsWritten last) numbers.now) }
+    ensures kept { take (length items.old.items) items.new.items ≡ items.old.items }
+{
+    let mut place = 0;
+    'numbers: while place < numbers.len() {
+        let Some(lit) = one_written(numbers, place, last) else {
+            return Ok(false);
+        };
+        items.push(lit)?;
+        place += 1;
+    }
+    Ok(true)
+}
+
+/// Adds the literals that these numbers are. `false` where one of them is not a literal.
+///
+/// # Errors
+/// Out of memory.
+#[inline(always)]
+fn put_written(items: &mut Vec<Lit>, numbers: &[i32], last: u32) -> Result<bool, AllocError>
+    requires last { last ≤ 2147483647 }
+    ensures put { IfOk result (λ b. IsTrue b
+        → items.new.items ≡ items.old.items ++ map literal_of numbers.now) }
+    ensures written { IfOk result (λ b. IsTrue b → AllByRecursion (IsWritten last) numbers.now) }
+    ensures kept { take (length items.old.items) items.new.items ≡ items.old.items }
+{
+    if numbers.len() < 4 {
+        put_each(items, numbers, last)
+    } else {
+        put_fours(items, numbers, last)
+    }
+}
+
+impl GrowingLists<Lit> {
+    /// Adds the literals that these numbers are, as QDIMACS 1.1 writes them, of variables up to
+    /// `last`, at the end of the unfinished list. `false` where nothing was added, since one of them
+    /// is not such a literal.
+    ///
+    /// # Errors
+    /// Out of memory. Nothing is changed then.
+    #[inline(always)]
+    #[tactic(auto, using(crate::proofs::Flats::grown_parts, crate::proofs::Flats::drop_grown))]
+    pub fn extend_written(&mut self, numbers: &[i32], last: u32) -> Result<bool, AllocError>
+        requires { last ≤ 2147483647 }
+        ensures extended { IfOk result (λ b. IsTrue b → self.new ≡ record self.old {
+          unfinished = self.old.unfinished ++ map literal_of numbers.now;
+        }) }
+        ensures written { IfOk result (λ b. IsTrue b → AllByRecursion (IsWritten last) numbers.now) }
+        ensures none { IfOk result (λ b. b ≡ false → self.new ≡ self.old) }
+        ensures err { OnErr result (self.new ≡ self.old) }
+    {
+        let start = self.items.len();
+        match put_written(&mut self.items, numbers, last) {
+            Ok(true) => Ok(true),
+            Ok(false) => {
+                self.items.truncate(start);
+                Ok(false)
+            }
+            Err(refused) => {
+                self.items.truncate(start);
+                Err(refused)
+            }
+        }
     }
 }

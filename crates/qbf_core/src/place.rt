@@ -52,7 +52,7 @@ impl Entry {
         }
     }
 
-    /// The place, or `None` where there is none.
+    /// The place, or `None` if there is none.
     #[inline(always)]
     pub fn place(self) -> Option<Place>
         ensures { result ≡ self }

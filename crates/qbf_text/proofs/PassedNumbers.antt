@@ -6,8 +6,8 @@ use Rattle.qbf_text.proofs.Words.{GivesNext, Row, Goes, read_from, reads_from, I
 use Rattle.std.proofs.Common.{length-drop, length-append, Result, Ok, Err, IfOk}
 use Rattle.std.proofs.lemmas.List.{take-append-drop, take_all}
 use Rattle.qbf_text.specs.declared.buffered.Cursor.{Cursor}
-use Rattle.qbf_text.specs.declared.likely_ends.LikelyEnds.{LikelyEnds}
-use Rattle.qbf_text.specs.Passing.{tokens_from_cursor, cursor_after, one_if, is_begun, cursor, scanner_at, LeadOn, Passes, PassesNumber, PassesAll}
+use Rattle.qbf_text.specs.Numbers.{one_if}
+use Rattle.qbf_text.specs.Passing.{tokens_from_cursor, cursor_after, is_begun, cursor, scanner_at, LeadOn, Passes, PassesNumber, PassesAll}
 use Rattle.qbf_text.specs.Passing.{ReadsAtHand}
 use Rattle.qbf_text.specs.Reading.{IsOpen, left}
 use Rattle.qbf_text.proofs.ByteByByte.{left_nothing}
@@ -30,29 +30,33 @@ zero_or : (n : ℕ) → (n ≡ 0) ⊎ (0 < n)
 zero_or zero = inl refl
 zero_or (suc n) = inr (omega arith)
 
-module _ (bytes : List ℕ) (here : Cursor) (likely : LikelyEnds) (negative : Bool) (value len : ℕ) (ends : Bool)
+-- a number and its separator take some bytes
+pub number_takes : (bytes : List ℕ) (negative : Bool) (value len : ℕ) (ends : Bool) → BeginsWithNumber bytes negative value len ends → 0 < len
+number_takes bytes negative value len ends h = elim (zero_or len) [
+  | inl none ↦ absurd (let empty : [] ≡ h.run ++ h.separator ∷ [] = rw none at h.front in
+      let none_left : 0 ≡ length h.run + 1 = ap length empty ∙ length-append h.run (h.separator ∷ []) in omega (arith, none_left))
+  | inr more ↦ more
+]
+
+module _ (bytes : List ℕ) (here : Cursor) (negative : Bool) (value len : ℕ) (ends : Bool)
     (h : BeginsWithNumber (drop here.at bytes) negative value len ends) (small : here.line < 2 ^ 64) where
   spelled : (ends_line : Bool) → ends_line ≡ ends → (format : Comments) (rest : List ℕ)
       → tokens_from_cursor format here ((h.run ++ h.separator ∷ []) ++ rest)
-      ≡ (Number negative value, here.line) ∷ tokens_from_cursor format (cursor_after here likely len ends_line) rest
+      ≡ (Number negative value, here.line) ∷ tokens_from_cursor format (cursor_after here len ends_line) rest
   spelled true e format rest =
       spelled_ending format (is_begun here) here.line (drop here.at bytes) negative value len ends h small (sym e) rest
   spelled false e format rest =
       spelled_blanked format (is_begun here) here.line (drop here.at bytes) negative value len ends h small (sym e) rest
 
-  at_after : (ends_line : Bool) → (cursor_after here likely len ends_line).at ≡ here.at + len
+  at_after : (ends_line : Bool) → (cursor_after here len ends_line).at ≡ here.at + len
   at_after true = refl
   at_after false = refl
 
   some : 0 < len
-  some = elim (zero_or len) [
-    | inl none ↦ absurd (let empty : [] ≡ h.run ++ h.separator ∷ [] = rw none at h.front in
-        let none_left : 0 ≡ length h.run + 1 = ap length empty ∙ length-append h.run (h.separator ∷ []) in omega (arith, none_left))
-    | inr more ↦ more
-  ]
+  some = number_takes (drop here.at bytes) negative value len ends h
 
   -- a number in front of the bytes from the cursor on is passed
-  pub passes_number : here.at ≤ length bytes → PassesNumber bytes here (cursor_after here likely len ends) (Number negative value)
+  pub passes_number : here.at ≤ length bytes → PassesNumber bytes here (cursor_after here len ends) (Number negative value)
   passes_number within = record {
     word = h.run;
     separator = h.separator;
@@ -179,12 +183,12 @@ begun_counted true = refl
 begun_counted false = refl
 
 -- the tokens at the first of the bytes at hand
-first_tokens : (r : Reading) (ends : LikelyEnds) (bytes : List ℕ)
-    → tokens_next r bytes ≡ tokens_from_cursor r.comments (cursor r ends) bytes
-first_tokens r ends bytes = ap (λ b. tokens_left r.comments b r.line bytes) (sym (begun_counted r.begun))
+first_tokens : (r : Reading) (bytes : List ℕ)
+    → tokens_next r bytes ≡ tokens_from_cursor r.comments (cursor r) bytes
+first_tokens r bytes = ap (λ b. tokens_left r.comments b r.line bytes) (sym (begun_counted r.begun))
 
-module _ {P A F : Type 0} (row : P → Token → Row P A F) (first state : P) (r : Reading) (ends : LikelyEnds)
-    (here : Cursor) (p : Passes (LeadOn row first state) r.pending (cursor r ends) here) where
+module _ {P A F : Type 0} (row : P → Token → Row P A F) (first state : P) (r : Reading)
+    (here : Cursor) (p : Passes (LeadOn row first state) r.pending (cursor r) here) where
   pub handed_so_far : (remaining : Option (List ℕ))
       → IfKnown (SoFar row first state (tokens_next r) (tokens_next (scanner_at r here))) (ahead r.pending remaining)
       (ahead (drop here.at r.pending) remaining)
@@ -193,7 +197,7 @@ module _ {P A F : Type 0} (row : P → Token → Row P A F) (first state : P) (r
     front = p.front;
     given = p.given;
     taken = ap (λ l. l ++ rest) p.taken ∙ append_assoc p.front (drop here.at r.pending) rest;
-    spelled = λ more _. first_tokens r ends (p.front ++ more) ∙ p.spelled r.comments more;
+    spelled = λ more _. first_tokens r (p.front ++ more) ∙ p.spelled r.comments more;
     leads = p.are;
   }
 
@@ -205,7 +209,7 @@ module _ {P A F : Type 0} (row : P → Token → Row P A F) (first state : P) (r
       ap (λ l. read_from row first (tokens_left r.comments r.begun r.line l))
       (ap (λ l. l ++ rest) p.taken ∙ append_assoc p.front (drop here.at r.pending) rest)
       ∙ ap (read_from row first) (
-      first_tokens r ends (p.front ++ (drop here.at r.pending ++ rest))
+      first_tokens r (p.front ++ (drop here.at r.pending ++ rest))
       ∙ p.spelled r.comments (drop here.at r.pending ++ rest))
       ∙ p.are (tokens_left r.comments (is_begun here) here.line (drop here.at r.pending ++ rest)))
 
@@ -243,16 +247,16 @@ given_buffered r here to token p open_ (Some rest) = rw (open_, p.no_end) (
     ∙ p.spelled r.comments (drop to.at r.pending ++ rest))
 
 -- what a grammar took is read
-pub handed : {P A F : Type 0} (row : P → Token → Row P A F) (first next : P) (answer : Option A) (r : Reading) (likely : LikelyEnds) (to : Cursor)
-    → IsOpen r → length (drop to.at r.pending) ≤ 4096 → PassesAll row first next r.pending (cursor r likely) to answer → (remaining : Option (List ℕ))
+pub handed : {P A F : Type 0} (row : P → Token → Row P A F) (first next : P) (answer : Option A) (r : Reading) (to : Cursor)
+    → IsOpen r → length (drop to.at r.pending) ≤ 4096 → PassesAll row first next r.pending (cursor r) to answer → (remaining : Option (List ℕ))
     → ReadsAtHand row first next r (scanner_at r to) remaining answer
-handed row first next None r likely to open_ few p remaining =
-    (handed_so_far row first next r likely to p remaining, handed_leads row first next r likely to p open_ remaining)
-handed row first next (Some a) r likely to open_ few p remaining = record {
+handed row first next None r to open_ few p remaining =
+    (handed_so_far row first next r to p remaining, handed_leads row first next r to p open_ remaining)
+handed row first next (Some a) r to open_ few p remaining = record {
   last = p.last;
   token = (p.token, p.here.line);
   mid = scanner_at r p.here;
-  leads = (handed_so_far row first p.last r likely p.here p.leads remaining, handed_leads row first p.last r likely p.here p.leads open_ remaining);
+  leads = (handed_so_far row first p.last r p.here p.leads remaining, handed_leads row first p.last r p.here p.leads open_ remaining);
   gives = given_buffered r p.here to p.token p.passes open_ remaining;
   takes = taken_number r.comments r.pending p.here to p.token p.passes remaining;
   ends = p.ends;

@@ -6,6 +6,9 @@ use Rattle.qbf_text.specs.WholeTexts.{Gives, ReadsAsRead, ReadsOnce}
 use Rattle.qbf_text.proofs.TokensEndOnce.{tokens-EndsOnce}
 use Rattle.qbf_text.specs.WholeTexts as whole_texts
 use Rattle.qbf_text.specs.Taking as taking
+use Rattle.qbf_text.specs.Taking.{Follows}
+use Rattle.qbf_text.specs.declared.grammar.ReadError.{ReadError}
+use Rattle.qbf_text.specs.declared.grammar.ReadError.TheVariants as error
 use Rattle.qbf_text.proofs.AcceptedTokens as accepted
 
 -- where each token leads on or gives a result, and tokens read as nothing else, they read as what is read
@@ -50,3 +53,11 @@ module _ {P A F : Type 0} {row : P → Token → Row P (Unit {0}) F} {answer : R
       → IfSome remaining (λ bytes. taking.ReadsKnown (read_from row state (tokens format bytes)) next (Ok tt))
       → Gives outside (Ok a) (option_map (λ bytes. read (tokens format bytes)) remaining)
   whole_given a whole remaining h = search rules
+
+-- what holds of the last token, and what follows from that
+pub follows_then : {P A F : Type 0} (row : P → Token → Row P A F) (next : P) (open_ ended more none : Type 0) (result : Result A (ReadError F))
+    → (open_ → more) → (ended → none) → Follows row next open_ ended result → Follows row next more none result
+follows_then row next open_ ended more none (Ok a) f g h = (h.0, h.1, h.2, λ e. f (h.3 e), λ e. g (h.4 e))
+follows_then row next open_ ended more none (Err error.Device) f g h = tt
+follows_then row next open_ ended more none (Err error.Memory) f g h = tt
+follows_then row next open_ ended more none (Err (error.Text fault line)) f g h = h

@@ -3,7 +3,8 @@ pub use Rattle.qbf_text.specs.Ahead.{ahead, first_of}
 pub use Rattle.qbf_text.specs.Canonical.{line_rest, token_text}
 pub use Rattle.qbf_text.specs.Left.{EndsLine, EndsRun, IsUnbroken, IsWithinLine, is_end, is_separator, known_left, tokens_left}
 pub use Rattle.qbf_text.specs.Lined.{EndsOnce, Lined, without_lines}
-pub use Rattle.qbf_text.specs.Passing.{BeginsWithNumber, SoFar}
+pub use Rattle.qbf_text.specs.Numbers.{BeginsWithNumber}
+pub use Rattle.qbf_text.specs.Passing.{SoFar}
 pub use Rattle.qbf_text.specs.Reading.{GivesNext, HasFailed, IsReady, Reading, left}
 pub use Rattle.qbf_text.specs.Rows.{Ends, Fails, Fault, Goes, Read, Row, Whole, read_from, reads_from}
 pub use Rattle.qbf_text.specs.Runs.{after_minus, begins_number, begins_with_minus, digits_of}

@@ -1,49 +1,30 @@
 -- What was passed of the bytes at hand: tokens that stand there whole, whatever bytes follow.
-use Rattle.std.specs.Prelude.{◌≡◌, ℕ, ◌+◌, ◌<◌, ◌≤◌, Bool, true, false, not, nat_eq, List, [], ◌∷◌, ◌++◌, take, drop, length, Option, Some}
+use Rattle.std.specs.Prelude.{◌≡◌, ℕ, ◌+◌, ◌<◌, ◌≤◌, Bool, true, false, not, nat_eq, List, [], ◌∷◌, ◌++◌, drop, length, Option, Some}
 use Rattle.std.specs.Prelude.{None}
 use Rattle.qbf_text.specs.Ahead.{ahead}
 use Rattle.qbf_text.specs.declared.buffered.Cursor.{Cursor}
-use Rattle.qbf_text.specs.declared.likely_ends.LikelyEnds.{LikelyEnds}
 use Rattle.qbf_text.specs.declared.token.Comments.{Comments}
 use Rattle.qbf_text.specs.declared.token.Token.{Token}
-use Rattle.qbf_text.specs.declared.token.Token.TheVariants.{Number}
 use Rattle.qbf_text.specs.Left.{tokens_left, is_end, is_separator, IsUnbroken}
 use Rattle.qbf_text.specs.Lined.{Lined}
+use Rattle.qbf_text.specs.Numbers.{one_if}
 use Rattle.qbf_text.specs.Reading.{Reading, GivesNext, left}
 use Rattle.qbf_text.specs.Rows.{Row, Ends, read_from, reads_from}
 use Rattle.qbf_text.specs.Stopping.{BeginsAs, IfKnown, ScannerTakes, tokens_next}
-use Rattle.qbf_text.specs.Runs.{begins_number}
-use Rattle.qbf_text.specs.Tokens.{line_number, kind, is_line_end}
-
--- the first `len` bytes are a run that is this number, and the separator after it, which ends the line or not
-pub record BeginsWithNumber (bytes : List ℕ) (negative : Bool) (value len : ℕ) (ends_line : Bool) : Type 0 where
-  pub run : List ℕ
-  pub separator : ℕ
-  pub within : len ≤ length bytes
-  pub front : take len bytes ≡ run ++ separator ∷ []
-  pub begins : begins_number run ≡ true
-  pub unbroken : IsUnbroken run
-  pub is : Number negative value ≡ kind run
-  pub separates : is_separator separator ≡ true
-  pub ends : ends_line ≡ is_line_end separator
-
--- 1 where this is so
-abbrev pub one_if : Bool → ℕ
-one_if true = 1
-one_if false = 0
+use Rattle.qbf_text.specs.Tokens.{line_number}
 
 -- whether a token stands before a cursor on its line
 abbrev pub is_begun : Cursor → Bool
 is_begun here = not (nat_eq here.tokens 0)
 
 -- the cursor after a number and its separator, which take so many bytes
-abbrev pub cursor_after : Cursor → LikelyEnds → ℕ → Bool → Cursor
-cursor_after here ends len true = record { at = here.at + len; line = line_number (here.line + 1); tokens = 0; ends = ends }
-cursor_after here ends len false = record { at = here.at + len; line = here.line; tokens = 1; ends = ends }
+abbrev pub cursor_after : Cursor → ℕ → Bool → Cursor
+cursor_after here len true = record { at = here.at + len; line = line_number (here.line + 1); tokens = 0 }
+cursor_after here len false = record { at = here.at + len; line = here.line; tokens = 1 }
 
 -- where the first of the bytes at hand stands
-abbrev pub cursor : Reading → LikelyEnds → Cursor
-cursor r ends = record { at = 0; line = r.line; tokens = one_if r.begun; ends = ends }
+abbrev pub cursor : Reading → Cursor
+cursor r = record { at = 0; line = r.line; tokens = one_if r.begun }
 
 -- a scanner that went to a cursor
 abbrev pub scanner_at : Reading → Cursor → Reading

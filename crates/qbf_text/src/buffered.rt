@@ -1,17 +1,14 @@
-//! Numbers that stand whole among the bytes at hand.
-//!
-//! They are taken in two ways: any number by its bytes alone, and the usual ones by where they seem
-//! to end, which is known before: so the next one need not wait for the last.
+//! A number that stands whole among the bytes at hand, by its bytes alone.
 
 ghost use Rattle.std.specs.Prelude.{◌≡◌, ◌+◌, ◌^◌, ◌<◌, ◌≤◌, ◌&&◌, false, nat_eq, length};
 ghost use Rattle.std.specs.Prelude.{IfSome};
 ghost use Rattle.qbf_text.specs.Runs.{begins_with_minus};
-ghost use Rattle.qbf_text.specs.Passing.{BeginsWithNumber, PassesNumber};
+ghost use Rattle.qbf_text.specs.Passing.{PassesNumber};
+ghost use Rattle.qbf_text.specs.Numbers.{BeginsWithNumber};
 
-use crate::likely_ends::LikelyEnds;
 use crate::separators::is_separator;
 use crate::token::Token;
-use decimal::{digits, number_between};
+use decimal::digits;
 
 /// A number, and the separator after it.
 #[derive(Clone, Copy)]
@@ -26,7 +23,7 @@ pub struct Found {
 
 /// Whether the bytes begin with a minus.
 #[inline(always)]
-fn begins_with_minus(bytes: &[u8]) -> bool
+pub fn begins_with_minus(bytes: &[u8]) -> bool
     ensures { result ≡ begins_with_minus bytes.now }
 {
     match bytes {
@@ -37,7 +34,7 @@ fn begins_with_minus(bytes: &[u8]) -> bool
 
 /// Whether a number is written as 0 after a minus, which is none.
 #[inline(always)]
-fn is_minus_zero(negative: bool, value: u64) -> bool
+pub fn is_minus_zero(negative: bool, value: u64) -> bool
     ensures { result ≡ (negative && nat_eq value 0) }
 {
     negative & (value == 0)
@@ -94,32 +91,6 @@ pub fn number_in_front(bytes: &[u8]) -> Option<Found>
     }
 }
 
-/// The number that the bytes begin with, if it takes at most eight bytes, a blank follows it at the
-/// place `end`, and it does not begin with 0.
-#[inline(always)]
-fn number_before(bytes: &[u8], end: usize) -> Option<Found>
-    ensures { IfSome result (λ f. BeginsWithNumber bytes.now f.negative f.value f.len f.ends_line) }
-{
-    if bytes.len() <= 8 || bytes[0] == b'0' {
-        return None;
-    }
-    let negative = begins_with_minus(bytes);
-    let start = usize::from(negative);
-    if end.wrapping_sub(1) > 7 {
-        return None;
-    }
-    let value = number_between(bytes, start, end)?;
-    if value == 0 || bytes[end] != b' ' {
-        return None;
-    }
-    Some(Found {
-        negative,
-        value,
-        len: end + 1,
-        ends_line: false,
-    })
-}
-
 /// A place among the bytes at hand, held by value.
 #[derive(Clone, Copy)]
 pub struct Cursor {
@@ -130,8 +101,6 @@ pub struct Cursor {
     /// 1 where a token stands before it on its line, else 0. A whole word: the padding after a `bool`
     /// would be copied too, by loads that wait for the store before them.
     pub tokens: u64,
-    /// Where the next numbers seem to end.
-    pub ends: LikelyEnds,
 }
 
 /// A number that was passed, and where the next token stands.
@@ -144,24 +113,19 @@ pub struct Passed {
 }
 
 impl Cursor {
-    ghost use Rattle.qbf_text.specs.Passing.{cursor_after, one_if, is_begun};
+    ghost use Rattle.qbf_text.specs.Passing.{cursor_after, is_begun};
+    ghost use Rattle.qbf_text.specs.Numbers.{one_if};
     ghost use Rattle.qbf_text.specs.declared.token.Token.TheVariants.{Number};
 
     /// The cursor at the first of the bytes.
     #[inline(always)]
-    pub fn new(line: u64, begun: bool, ends: LikelyEnds) -> Cursor
-        ensures { result ≡ record {
-          at = 0;
-          line = line;
-          tokens = one_if begun;
-          ends = ends;
-        } }
+    pub fn new(line: u64, begun: bool) -> Cursor
+        ensures { result ≡ record { at = 0; line = line; tokens = one_if begun } }
     {
         Cursor {
             at: 0,
             line,
             tokens: u64::from(begun),
-            ends,
         }
     }
 
@@ -175,10 +139,10 @@ impl Cursor {
 
     /// What a number that was found at the cursor leads to.
     #[inline(always)]
-    fn pass(self, found: Found, ends: LikelyEnds) -> Passed
+    fn pass(self, found: Found) -> Passed
         requires { self.at + found.len < 2 ^ 64 }
         ensures token { result.token ≡ Number found.negative found.value }
-        ensures next { result.next ≡ cursor_after self ends found.len found.ends_line }
+        ensures next { result.next ≡ cursor_after self found.len found.ends_line }
     {
         let line = self.line;
         Passed {
@@ -194,26 +158,8 @@ impl Cursor {
                     line
                 },
                 tokens: u64::from(!found.ends_line),
-                ends,
             },
         }
-    }
-
-    /// The number that stands next and whole among the bytes at hand, if it is a usual one: of at
-    /// most eight bytes, not 0, and with a blank after it.
-    ///
-    /// Also None where it is not known where it ends.
-    #[inline(always)]
-    pub fn usual_number(self, bytes: &[u8]) -> Option<Passed>
-        requires { self.at ≤ length bytes.now }
-        ensures { IfSome result (λ p. PassesNumber bytes.now self p.next p.token) }
-    {
-        let (end, ends) = self.ends.next(bytes);
-        let at = self.at;
-        let Some(found) = number_before(&bytes[at..], end.wrapping_sub(at)) else {
-            return None;
-        };
-        Some(self.pass(found, ends))
     }
 
     /// The next number and the position after it, with up to 20 digits if it has 64 bits.
@@ -222,23 +168,9 @@ impl Cursor {
         requires { self.at ≤ length bytes.now }
         ensures { IfSome result (λ p. PassesNumber bytes.now self p.next p.token) }
     {
-        let (_, ends) = self.ends.next(bytes);
         let Some(found) = number_in_front(&bytes[self.at..]) else {
             return None;
         };
-        Some(self.pass(found, ends))
-    }
-
-    /// The number that stands next and whole among the bytes at hand: as a usual one is looked for,
-    /// and then as any.
-    #[inline(always)]
-    pub fn number(self, bytes: &[u8]) -> Option<Passed>
-        requires { self.at ≤ length bytes.now }
-        ensures { IfSome result (λ p. PassesNumber bytes.now self p.next p.token) }
-    {
-        match self.usual_number(bytes) {
-            Some(passed) => Some(passed),
-            None => self.any_number(bytes),
-        }
+        Some(self.pass(found))
     }
 }

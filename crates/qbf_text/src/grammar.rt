@@ -8,10 +8,11 @@ ghost use Rattle.qbf_text.specs.Rows.{Row, read_from, reads_from};
 ghost use Rattle.qbf_text.specs.Taking.{Takes, StaysOpen, Reads, ReadsKnown, Counts, Follows};
 ghost use Rattle.qbf_text.specs.Tokens.{tokens};
 ghost use Rattle.qbf_text.specs.Ahead.{ahead};
-ghost use Rattle.qbf_text.specs.Passing.{PassesAll, ReadsAtHand};
+ghost use Rattle.qbf_text.specs.Numbers.{TakesOver};
+ghost use Rattle.qbf_text.specs.Passing.{ReadsAtHand};
 ghost use Rattle.qbf_text.specs.Stopping.{tokens_next, Stops};
 
-use crate::buffered::Cursor;
+use crate::numbers::{Numbers, Zeros};
 use crate::scanner::{ScanFault, Scanner};
 use crate::source::Source;
 use crate::token::{Comments, Token};
@@ -101,8 +102,8 @@ impl<F: Copy> ReadError<F> {
     }
 }
 
-/// How far a grammar came among the bytes at hand, and what was read, if it is complete.
-pub type Progress<T> = (Cursor, Option<T>);
+/// How many of the numbers at hand a grammar took, and what was read, if it is complete.
+pub type Progress<T> = (usize, Option<T>);
 
 /// A text by its rows: what each state makes of each token.
 ///
@@ -129,20 +130,21 @@ pub trait Grammar {
     /// What this keeps so.
     ghost kept: { Self → Kept };
 
-    /// Takes numbers from the bytes at hand, as far as they stand there whole, until it is complete,
-    /// and returns then what was read. It may take none: each token that it leaves is handed to
-    /// `take`.
+    /// Takes numbers from the first of these on, until it is complete, and returns how many, and
+    /// what was read if it is. It may take none: each number that it leaves is handed to `take`.
+    ///
+    /// `zeros` tells where zeros seem to stand among them: no contract says that they do.
     ///
     /// # Errors
     /// Out of memory.
-    fn take_hand(
+    fn take_numbers(
         &mut self,
-        bytes: &[u8],
-        from: Cursor,
+        values: &[i32],
+        zeros: Zeros,
     ) -> Result<Progress<Self::Output>, AllocError>
-        requires { from.at ≤ length bytes.now }
-        ensures passes { IfOk result (λ r.
-            PassesAll row_of (state self.old) (state self.new) bytes.now from r.0 r.1) }
+        ensures takes { IfOk result (λ r. TakesOver row_of (state self.old) (state self.new)
+            values.now 0 r.0 r.1) }
+        ensures within { IfOk result (λ r. r.0 ≤ length values.now) }
         ensures kept { kept self.new ≡ kept self.old };
 
     /// Takes the next token. After the end of the text it does not go on.
@@ -153,6 +155,27 @@ pub trait Grammar {
         ensures row { Takes (row_of (state self.old) token) (state self.new) result }
         ensures more { StaysOpen token result }
         ensures kept { kept self.new ≡ kept self.old };
+}
+
+/// Lets a grammar take numbers that are known. Returns how many it took, and what was read, if it is
+/// complete.
+#[inline(always)]
+fn take_known<G: Grammar>(
+    grammar: &mut G,
+    numbers: &Numbers,
+) -> Result<Progress<G::Output>, AllocError>
+    requires few { numbers.now.known ≤ 2048 }
+    ensures takes { IfOk result (λ r. TakesOver G.row_of (G.state grammar.old) (G.state grammar.new)
+        numbers.now.values numbers.now.first (numbers.now.first + r.0) r.1) }
+    ensures within { IfOk result (λ r. 0 < r.0 → numbers.now.first + r.0 ≤ numbers.now.known) }
+    ensures kept { G.kept grammar.new ≡ G.kept grammar.old }
+{
+    if numbers.is_empty() {
+        return Ok((0, None));
+    }
+    let values = numbers.values();
+    let (count, answer) = grammar.take_numbers(values, numbers.zeros())?;
+    Ok((count, answer))
 }
 
 /// Lets a grammar take numbers from the bytes at hand; what was read, if it is complete.
@@ -170,8 +193,11 @@ fn take_buffered<G: Grammar>(
     if !scanner.is_open() {
         return Ok(None);
     }
-    let (here, answer) = grammar.take_hand(scanner.hand(), scanner.cursor())?;
-    scanner.go_to(here);
+    scanner.prepare();
+    let numbers = scanner.numbers();
+    let (count, answer) = take_known(grammar, numbers)?;
+    let here = numbers.cursor_after(scanner.bytes(), scanner.cursor(), count);
+    scanner.go_to(here, count);
     Ok(answer)
 }
 

@@ -1,8 +1,9 @@
 //! Bytes in and out, and the tokens of QDIMACS and QRP texts.
 //!
 //! - Owns: bytes in and out, tokens, lines, numbers as they are written.
-//! - Offers: `Source`, `Sink`, `Scanner::next_token`, `Grammar`, `Cursor`, `read_by`, `read_text`,
-//!   `put_number`, `put_bytes`, `put_byte`, `put_spaced`, `put_signed`, `put_spaced_signed`.
+//! - Offers: `Source`, `Sink`, `Scanner::next_token`, `Grammar`, `Token::number_at`, `read_by`,
+//!   `read_text`, `put_number`, `put_bytes`, `put_byte`, `put_spaced`, `put_signed`,
+//!   `put_spaced_signed`.
 //! - Proved: a scanner with a fixed buffer gives exactly the tokens, however its input is cut;
 //!   numbers and bytes go out whole, or a beginning of them.
 //! - Read first: `Scanner::next_token`, `read_by`; `put_number`, `put_bytes`.
@@ -14,7 +15,9 @@
 
 mod buffered;
 mod grammar;
-mod likely_ends;
+mod lines;
+mod marks;
+mod numbers;
 mod pieces;
 mod run;
 mod scanner;
@@ -25,8 +28,8 @@ mod spelling;
 mod token;
 mod window;
 
-pub use buffered::{Cursor, Passed};
 pub use grammar::{Grammar, Progress, ReadError, Stop, Taken, read_by, read_text};
+pub use numbers::Zeros;
 pub use pieces::{PieceSink, PieceSource};
 pub use scanner::{ScanFault, Scanner};
 pub use sink::{Sink, SinkFault, ToWrite, VecSink, put_byte, put_bytes, put_number};

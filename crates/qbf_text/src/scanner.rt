@@ -8,8 +8,10 @@ ghost use Rattle.qbf_text.specs.Ahead.{ahead, first_of};
 ghost use Rattle.qbf_text.specs.Pulling.{HasPulled, ReadsRun};
 ghost use Rattle.qbf_text.specs.Left.{is_separator, IsWithinLine, EndsLine};
 ghost use Rattle.qbf_text.specs.Left.{is_end};
+ghost use Rattle.qbf_text.specs.Numbers.{StandInFront};
 
 use crate::buffered::Cursor;
+use crate::numbers::Numbers;
 use crate::run::{Numeral, Run, Spelling, begins_number};
 use crate::separators::is_separator;
 use crate::source::{Source, SourceFault};
@@ -83,7 +85,8 @@ struct Place {
 }
 
 impl Place {
-    ghost use Rattle.qbf_text.specs.Passing.{one_if, is_begun};
+    ghost use Rattle.qbf_text.specs.Passing.{is_begun};
+    ghost use Rattle.qbf_text.specs.Numbers.{one_if};
     ghost use Rattle.qbf_text.specs.Stopping.{FindsToken, FindsEnd, PlaceSkips};
     ghost use Rattle.qbf_text.specs.declared.token.Token.TheVariants.{End};
 
@@ -94,15 +97,14 @@ impl Place {
           at = 0;
           line = self.now.line;
           tokens = one_if self.now.begun;
-          ends = result.ends;
         } }
     {
-        Cursor::new(self.line, self.begun, self.window.ends())
+        Cursor::new(self.line, self.begun)
     }
 
-    /// Goes to a cursor among the bytes that were pulled.
+    /// Goes to a cursor among the bytes that were pulled, past so many of the numbers at hand.
     #[inline(always)]
-    fn go_to(&mut self, here: Cursor)
+    fn go_to(&mut self, here: Cursor, numbers: usize)
         requires { here.at ≤ length self.old.window }
         ensures to { self.new ≡ record self.old {
           line = here.line;
@@ -112,7 +114,7 @@ impl Place {
         ensures shorter { length self.new.window + here.at ≡ length self.old.window }
         ensures few { length self.new.window ≤ 4096 }
     {
-        self.window.go_to(here.at, here.ends.after(here.at));
+        self.window.go_to(here.at, numbers);
         self.line = here.line;
         self.begun = here.is_begun();
     }
@@ -131,7 +133,7 @@ impl Place {
         let Some(passed) = self.cursor().any_number(self.window.bytes()) else {
             return None;
         };
-        self.go_to(passed.next);
+        self.go_to(passed.next, 1);
         Some((passed.token, line))
     }
 
@@ -284,9 +286,25 @@ impl Scanner {
         }
     }
 
-    /// The bytes at hand: those that were pulled and not yet looked at.
+    /// Makes numbers known that stand at the front of the bytes at hand, if none are.
     #[inline(always)]
-    pub fn hand(&self) -> &[u8]
+    pub fn prepare(&mut self)
+        ensures { self.new ≡ self.old }
+    {
+        self.place.window.prepare();
+    }
+
+    /// The numbers that are known at the front of the bytes at hand.
+    #[inline(always)]
+    pub fn numbers(&self) -> &Numbers
+        ensures { StandInFront result.now self.now.pending }
+    {
+        self.place.window.numbers()
+    }
+
+    /// The bytes at hand.
+    #[inline(always)]
+    pub fn bytes(&self) -> &[u8]
         ensures { result.now ≡ self.now.pending }
     {
         self.place.window.bytes()
@@ -295,19 +313,19 @@ impl Scanner {
     /// Where the first of the bytes at hand stands.
     #[inline(always)]
     pub fn cursor(&self) -> Cursor
-        ensures { result ≡ cursor self.now result.ends }
+        ensures { result ≡ cursor self.now }
     {
         self.place.cursor()
     }
 
-    /// Goes to a place among the bytes at hand.
+    /// Goes to a place among the bytes at hand, past so many of the numbers.
     #[inline(always)]
-    pub fn go_to(&mut self, here: Cursor)
+    pub fn go_to(&mut self, here: Cursor, numbers: usize)
         requires { here.at ≤ length self.old.pending }
         ensures to { self.new ≡ scanner_at self.old here }
         ensures few { length self.new.pending ≤ 4096 }
     {
-        self.place.go_to(here);
+        self.place.go_to(here, numbers);
     }
 
     /// The next token and its line.

@@ -1,5 +1,5 @@
 -- What the parts of a formula make, and where clauses in the bytes at hand lead to.
-use Rattle.qdimacs.proofs.Words.{arith, common_steps, passes_none, passes_on, passes_further, ◌≡◌, Bool, false, Option, None, Result, Ok}
+use Rattle.qdimacs.proofs.Words.{arith, common_steps, leads_none, leads_more, leads_further, ◌≡◌, Bool, false, Option, None, Result, Ok}
 use Rattle.qdimacs.proofs.Words.{Quantifier, Literal, Token, pairs, Ends, blocks_of-pairs, is_end, Goes, FormulaFault, At, Parts, formula_of}
 use Rattle.qdimacs.proofs.Words.{heading, state_at, row_to, IsMade, State, Whole, between_row, row}
 
@@ -15,4 +15,4 @@ pub leads_on : (state : State) (p : Parts) (next : At) (t : Token) → is_end t 
 leads_on state p next t open_ e = grind (arith, common_steps)
 
 -- one number more at hand
-pub ruleset numbers_lead_on = (leads_on, passes_none, passes_on, passes_further)
+pub ruleset numbers_lead_on = (leads_on, leads_none, leads_more, leads_further)

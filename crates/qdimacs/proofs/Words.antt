@@ -16,7 +16,7 @@ pub use Rattle.qbf_text.proofs.AcceptedTokens.{Leads, Stays, flat_map-push, lead
 pub use Rattle.qbf_text.proofs.ReadTexts.{ResultsAreRead, bytes_read_as, explained, whole_given}
 pub use Rattle.qbf_text.proofs.CanonicalTokens.{all_appended, all_both, all_mapped, all_of, closed_plain, joined, tokens-lines_text}
 pub use Rattle.qbf_text.proofs.OneToken.{after}
-pub use Rattle.qbf_text.proofs.PassedNumbers.{passes_further, passes_none, passes_on}
+pub use Rattle.qbf_text.proofs.LeadingNumbers.{leads_further, leads_more, leads_none}
 pub use Rattle.qbf_text.proofs.SentParts.{drop_at, sent_last, zero_decimal}
 pub use Rattle.qbf_text.proofs.TokensEndOnce.{tokens-EndsOnce}
 pub use Rattle.qbf_text.specs.WholeTexts.{BytesRead, ReadsAsRead, ReadsOnce}

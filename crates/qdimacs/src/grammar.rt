@@ -1,9 +1,10 @@
 //! Builds a formula from its tokens.
 
-ghost use Rattle.std.specs.Prelude.{◌≡◌, ◌≤◌, true, length, IfOk};
+ghost use Rattle.std.specs.Prelude.{◌≡◌, ◌≤◌, ◌<◌, ◌+◌, true, false, length, IfOk, IsTrue};
+ghost use Rattle.std.specs.Prelude.{pos, slice_index_or};
 ghost use Rattle.std.specs.List.{AllByRecursion};
 ghost use Rattle.qbf_core.specs.Blocks.{pairs, variables, IsPrefix};
-ghost use Rattle.qbf_text.specs.Passing.{LeadOn, Passes};
+ghost use Rattle.qbf_text.specs.Numbers.{LeadsOver};
 ghost use Rattle.qdimacs.specs.declared.grammar.At.TheVariants as at;
 ghost use Rattle.qdimacs.specs.declared.grammar.Parts.{Parts};
 ghost use Rattle.qdimacs.specs.States.{state_at, Moves, Leads, IsSound};
@@ -13,7 +14,7 @@ use crate::fault::FormulaFault;
 use crate::tokens::{FAULTS, FORM, bound_literal, clause_or_end};
 use dimacs_syntax::{HeaderAt, HeaderMove, header_move, member, quantifier};
 use qbf_core::{Formula, GrowingLists, Lit, Prefix, PrefixFault, Quantifier, Var};
-use qbf_text::{Cursor, Grammar, Progress, Stop, Taken, Token};
+use qbf_text::{Grammar, Progress, Stop, Taken, Token, Zeros};
 use std::alloc::{AllocError, Global};
 use std::marker::Model;
 
@@ -149,76 +150,203 @@ fn take_at(here: At, parts: &mut Parts, token: Token) -> Next
     }
 }
 
-// ---- numbers in the bytes at hand
+// ---- numbers at hand
 
-/// Where the next token stands, and the cursor before it.
-type Reached = (At, Result<Cursor, AllocError>);
+/// Where the next token stands, and how many numbers stand before it.
+type Reached = (At, Result<usize, AllocError>);
 
-/// Takes the usual numbers of a clause from the bytes at hand, and the number after them, which is
-/// mostly the zero that closes the clause, as far as they stand there whole and are not a fault.
+/// Takes numbers of a clause from the place `from` on, as far as they are not a fault, and its zero.
 ///
 /// # Errors
 /// Out of memory.
 #[inline(always)]
 #[tactic(auto, using(crate::proofs::FormulaParts::numbers_lead_on))]
-fn take_clause(parts: &mut Parts, bytes: &[u8], from: Cursor) -> Reached
-    requires within { from.at ≤ length bytes.now }
+fn take_clause(parts: &mut Parts, values: &[i32], from: usize) -> Reached
+    requires within { from ≤ length values.now }
     requires sound { IsSound at.Clause parts.old }
-    ensures passes { IfOk result.1 (λ to. Passes (LeadOn row (state_at parts.old at.Clause)
-        (state_at parts.new result.0)) bytes.now from to) }
+    ensures leads { IfOk result.1 (λ to. LeadsOver row (state_at parts.old at.Clause)
+        (state_at parts.new result.0) values.now from to) }
+    ensures within { IfOk result.1 (λ to. to ≤ length values.now) }
     ensures sound { IsSound result.0 parts.new }
 {
-    let mut here = from;
-    'literals: while let Some(passed) = here.usual_number(bytes) {
-        match take_literal(parts, passed.token) {
-            Ok(At::Clause) => here = passed.next,
-            Ok(next) => return (next, Ok(passed.next)),
+    let mut i = from;
+    'literals: while i < values.len() {
+        match take_literal(parts, Token::number_at(values, i)) {
+            Ok(At::Clause) => i += 1,
+            Ok(next) => return (next, Ok(i + 1)),
             Err(Stop::Memory) => return (At::Clause, Err(AllocError)),
-            Err(Stop::Text(_)) => return (At::Clause, Ok(here)),
+            Err(Stop::Text(_)) => return (At::Clause, Ok(i)),
         }
     }
-    let Some(passed) = here.any_number(bytes) else {
-        return (At::Clause, Ok(here));
-    };
-    match take_literal(parts, passed.token) {
-        Ok(next) => (next, Ok(passed.next)),
-        Err(Stop::Memory) => (At::Clause, Err(AllocError)),
-        Err(Stop::Text(_)) => (At::Clause, Ok(here)),
+    (At::Clause, Ok(i))
+}
+
+/// Takes the rest of a clause that has begun.
+///
+/// # Errors
+/// Out of memory.
+#[inline(always)]
+#[tactic(auto, using(crate::proofs::FormulaParts::numbers_lead_on))]
+fn take_begun(at: At, parts: &mut Parts, values: &[i32]) -> Reached
+    requires sound { IsSound at parts.old }
+    ensures leads { IfOk result.1 (λ to. LeadsOver row (state_at parts.old at)
+        (state_at parts.new result.0) values.now 0 to) }
+    ensures within { IfOk result.1 (λ to. to ≤ length values.now) }
+    ensures sound { IsSound result.0 parts.new }
+{
+    match at {
+        At::Clause => take_clause(parts, values, 0),
+        _ => (at, Ok(0)),
     }
 }
 
-/// Takes numbers from the bytes at hand, as far as they stand there whole and are not a fault.
+/// Takes numbers from the place `from` on, one by one, as far as they are not a fault.
 ///
 /// # Errors
 /// Out of memory.
 #[inline(always)]
 #[tactic(auto, using(crate::proofs::FormulaParts::numbers_lead_on))]
-fn take_numbers(at: At, parts: &mut Parts, bytes: &[u8], from: Cursor) -> Reached
-    requires within { from.at ≤ length bytes.now }
+fn take_rest(at: At, parts: &mut Parts, values: &[i32], from: usize) -> Reached
+    requires within { from ≤ length values.now }
     requires sound { IsSound at parts.old }
-    ensures passes { IfOk result.1 (λ to. Passes
-        (LeadOn row (state_at parts.old at) (state_at parts.new result.0)) bytes.now from to) }
+    ensures leads { IfOk result.1 (λ to. LeadsOver row (state_at parts.old at)
+        (state_at parts.new result.0) values.now from to) }
+    ensures within { IfOk result.1 (λ to. to ≤ length values.now) }
     ensures sound { IsSound result.0 parts.new }
 {
     let mut state = at;
-    let mut here = from;
-    'numbers: while let Some(passed) = here.number(bytes) {
-        match take_at(state, parts, passed.token) {
+    let mut i = from;
+    'numbers: while i < values.len() {
+        match take_at(state, parts, Token::number_at(values, i)) {
             Ok(next) => state = next,
             Err(Stop::Memory) => return (state, Err(AllocError)),
             Err(Stop::Text(_)) => break,
         }
-        here = passed.next;
+        i += 1;
         if let At::Clause = state {
-            let (next, reached) = take_clause(parts, bytes, here);
+            let (next, reached) = take_clause(parts, values, i);
             state = next;
             match reached {
-                Ok(to) => here = to,
+                Ok(to) => i = to,
                 Err(refused) => return (state, Err(refused)),
             }
         }
     }
-    (state, Ok(here))
+    (state, Ok(i))
+}
+
+/// Whether another clause may come, and each variable that the header allows is bound.
+#[inline(always)]
+fn takes_any(parts: &Parts) -> bool
+    ensures full { IsTrue result → parts.now.full ≡ true }
+    ensures more { IsTrue result → length parts.now.clauses.whole < parts.now.count }
+{
+    parts.full && parts.clauses.whole_len() < parts.count as usize
+}
+
+/// Whether the zero of a list that is not empty stands there.
+#[inline(always)]
+fn ends_at(values: &[i32], from: usize, zero: usize) -> bool
+    ensures order { IsTrue result → from < zero }
+    ensures within { IsTrue result → zero < length values.now }
+    ensures zero { IsTrue result → slice_index_or values.now zero (pos 0) ≡ pos 0 }
+{
+    from < zero && zero < values.len() && values[zero] == 0
+}
+
+/// Takes a clause between the places `from` and `zero`, if all of it stands there. Returns whether
+/// it does.
+///
+/// # Errors
+/// Out of memory.
+#[inline(always)]
+fn take_whole(
+    parts: &mut Parts,
+    values: &[i32],
+    from: usize,
+    zero: usize,
+) -> Result<bool, AllocError>
+    requires sound { IsSound at.Between parts.old }
+    ensures leads { IfOk result (λ b. IsTrue b → LeadsOver row (state_at parts.old at.Between)
+        (state_at parts.new at.Between) values.now from (zero + 1)) }
+    ensures within { IfOk result (λ b. IsTrue b → (from ≤ zero) × (zero < length values.now)) }
+    ensures none { IfOk result (λ b. b ≡ false → parts.new ≡ parts.old) }
+    ensures sound { IsSound at.Between parts.new }
+{
+    if !takes_any(parts) || !ends_at(values, from, zero) {
+        return Ok(false);
+    }
+    if !parts
+        .clauses
+        .extend_written(&values[from..zero], parts.max_var)?
+    {
+        return Ok(false);
+    }
+    match parts.clauses.close() {
+        Ok(()) => Ok(true),
+        Err(refused) => {
+            parts.clauses.begin();
+            Err(refused)
+        }
+    }
+}
+
+/// Takes clauses from the place `from` on, as long as all of the next one stands there: the zero
+/// with this number seems to end it. Returns the place of the next number.
+///
+/// # Errors
+/// Out of memory.
+#[inline(always)]
+#[tactic(auto, using(crate::proofs::FormulaParts::numbers_lead_on))]
+fn take_clauses(
+    parts: &mut Parts,
+    values: &[i32],
+    zeros: Zeros,
+    start: (usize, usize),
+) -> Result<usize, AllocError>
+    requires within { start.0 ≤ length values.now }
+    requires sound { IsSound at.Between parts.old }
+    ensures leads { IfOk result (λ to. LeadsOver row (state_at parts.old at.Between)
+        (state_at parts.new at.Between) values.now start.0 to) }
+    ensures within { IfOk result (λ to. to ≤ length values.now) }
+    ensures sound { IsSound at.Between parts.new }
+{
+    let (mut i, mut zero) = start;
+    'clauses: while i < values.len() {
+        let end = zeros.place(zero);
+        if !take_whole(parts, values, i, end)? {
+            break;
+        }
+        i = end + 1;
+        zero = zero.wrapping_add(1);
+    }
+    Ok(i)
+}
+
+/// Takes numbers as far as they are not a fault.
+///
+/// # Errors
+/// Out of memory.
+#[inline(always)]
+#[tactic(auto, using(crate::proofs::FormulaParts::numbers_lead_on))]
+fn take_numbers(at: At, parts: &mut Parts, values: &[i32], zeros: Zeros) -> Reached
+    requires sound { IsSound at parts.old }
+    ensures leads { IfOk result.1 (λ to. LeadsOver row (state_at parts.old at)
+        (state_at parts.new result.0) values.now 0 to) }
+    ensures within { IfOk result.1 (λ to. to ≤ length values.now) }
+    ensures sound { IsSound result.0 parts.new }
+{
+    match take_begun(at, parts, values) {
+        (At::Between, Ok(from)) => {
+            let zero = usize::from(from > 0);
+            match take_clauses(parts, values, zeros, (from, zero)) {
+                Ok(to) => take_rest(At::Between, parts, values, to),
+                Err(refused) => (At::Between, Err(refused)),
+            }
+        }
+        (state, Ok(from)) => take_rest(state, parts, values, from),
+        (state, Err(refused)) => (state, Err(refused)),
+    }
 }
 
 /// A formula that is read into flat buffers.
@@ -292,8 +420,8 @@ impl Grammar for FormulaGrammar {
     ghost kept = { λ _. tt };
 
     #[inline(always)]
-    fn take_hand(&mut self, bytes: &[u8], from: Cursor) -> Result<Progress<()>, AllocError> {
-        let (at, reached) = take_numbers(self.at, &mut self.parts, bytes, from);
+    fn take_numbers(&mut self, values: &[i32], zeros: Zeros) -> Result<Progress<()>, AllocError> {
+        let (at, reached) = take_numbers(self.at, &mut self.parts, values, zeros);
         self.at = at;
         Ok((reached?, None))
     }

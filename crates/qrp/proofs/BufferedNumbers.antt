@@ -1,25 +1,116 @@
--- Where numbers among the bytes at hand lead to.
-use Rattle.qrp.proofs.Words.{passes_none, passes_on, passes_further, passes_all, ◌≡◌, ℕ, List, [], ◌∷◌, ◌++◌, Some, Ok, ap, sym, Literal}
-use Rattle.qrp.proofs.Words.{Token, LeadOn, Passes}
-use Rattle.qbf_text.specs.declared.buffered.Cursor.{Cursor}
-use Rattle.qbf_text.specs.Passing.{PassesNumber}
+-- Where numbers at hand lead to.
+use Rattle.qrp.proofs.Words.{leads_none, leads_more, leads_further, arith, common_steps, ◌≡◌, ◌≤◌, ◌<◌, ℕ, suc, ◌+◌, ◌-◌, List, [], ◌∷◌}
+use Rattle.qrp.proofs.Words.{◌++◌, Some, Ok, Err, Result, refl, ap, sym, ◌∙◌, append_assoc, append-nil, drop, length, map, Literal, IsLiteral}
+use Rattle.qrp.proofs.Words.{AllByRecursion, Inference}
+use Rattle.std.specs.Prelude.{ℤ, pos, unsigned_abs, int_lt, slice_index_or, slice_range, Bool, IfOk}
+use Rattle.std.proofs.lemmas.List.{get_or-take, get_or-drop}
+use Rattle.qbf_core.specs.WrittenLiterals.{literal_of, IsWritten}
+use Rattle.qbf_text.specs.Numbers.{LeadsOver, EndsOver, token_of, token_at}
+use Rattle.qbf_text.specs.declared.token.Token.TheVariants.{Number}
 use Rattle.dimacs_syntax.specs.Decode.{literal_in}
-use Rattle.qrp.specs.Reading.{State, row, faults, lits_row, ants_row, antecedent, has_room, InLits, InAnts}
+use Rattle.qrp.specs.declared.item.Item.TheVariants as item
+use Rattle.qrp.specs.Reading.{State, row, faults, lits_row, ants_row, antecedent, has_room, InLits, InAnts, After}
 
-module _ (first : State) (bytes : List ℕ) (from to here : Cursor) (t : Token) (ns : List ℕ) (n : ℕ) (ls : List Literal) where
+module _ (first : State) (values : List ℤ) (from i : ℕ) (ns : List ℕ) (n : ℕ) (ls : List Literal) where
   -- a literal more
-  pub literal_more : (l : Literal) → Ok (Some l) ≡ literal_in faults 2147483647 t
-      → Passes (LeadOn row first (InLits ns n ls)) bytes from here → PassesNumber bytes here to t
-      → Passes (LeadOn row first (InLits ns n (ls ++ l ∷ []))) bytes from to
+  pub literal_more : (l : Literal) → Ok (Some l) ≡ literal_in faults 2147483647 (token_at values i)
+      → LeadsOver row first (InLits ns n ls) values from i → LeadsOver row first (InLits ns n (ls ++ l ∷ [])) values from (i + 1)
   literal_more l says =
-      passes_on row first (InLits ns n ls) (InLits ns n (ls ++ l ∷ [])) bytes from to here t (ap (λ o. lits_row ns n ls o) (sym says))
+      leads_more row first (InLits ns n ls) (InLits ns n (ls ++ l ∷ [])) values from i (ap (λ o. lits_row ns n ls o) (sym says))
 
   -- an antecedent more
-  pub antecedent_more : (ants : List ℕ) (a : ℕ) → Ok (Some a) ≡ antecedent (has_room ants) t
-      → Passes (LeadOn row first (InAnts ns n ls ants)) bytes from here → PassesNumber bytes here to t
-      → Passes (LeadOn row first (InAnts ns n ls (ants ++ a ∷ []))) bytes from to
+  pub antecedent_more : (ants : List ℕ) (a : ℕ) → Ok (Some a) ≡ antecedent (has_room ants) (token_at values i)
+      → LeadsOver row first (InAnts ns n ls ants) values from i → LeadsOver row first (InAnts ns n ls (ants ++ a ∷ [])) values from (i + 1)
   antecedent_more ants a says =
-      passes_on row first (InAnts ns n ls ants) (InAnts ns n ls (ants ++ a ∷ [])) bytes from to here t
+      leads_more row first (InAnts ns n ls ants) (InAnts ns n ls (ants ++ a ∷ [])) values from i
       (ap (λ o. ants_row ns n ls ants o) (sym says))
 
-pub ruleset numbers_lead_on = (passes_none, passes_on, passes_further, passes_all)
+  -- a zero completes the step
+  pub step_ends : (ants : List ℕ) → slice_index_or values i (pos 0) ≡ pos 0 → LeadsOver row first (InAnts ns n ls ants) values from i
+      → EndsOver row first (After (item.Step (record { number = n; lits = ls; ants = ants })) (ns ++ n ∷ [])) tt values from (i + 1)
+  step_ends ants is leads = record {
+    last = InAnts ns n ls ants;
+    at = i;
+    leads = leads;
+    to_is = refl;
+    ends = ap (λ v. row (InAnts ns n ls ants) (token_of v)) is;
+  }
+
+-- ---- many literals
+
+-- a number is read as the literal that it is
+said : (negative : Bool) (m : ℕ) → 1 ≤ m → m ≤ 2147483647
+    → Ok (Some (record { var = m; negative = negative })) ≡ literal_in faults 2147483647 (Number negative m)
+said negative m low high = grind (arith, common_steps)
+
+written_said : (v w : ℤ) → IsWritten 2147483647 v → v ≡ w → Ok (Some (literal_of v)) ≡ literal_in faults 2147483647 (token_of w)
+written_said v w is same = said (int_lt v (pos 0)) (unsigned_abs v) is.0 is.1 ∙ ap (λ x. literal_in faults 2147483647 (token_of x)) same
+
+list_leads : (xs values : List ℤ) (i : ℕ) (ns : List ℕ) (n : ℕ) (ls : List Literal) → AllByRecursion (IsWritten 2147483647) xs
+    → ((k : ℕ) → k < length xs → slice_index_or xs k (pos 0) ≡ slice_index_or values (i + k) (pos 0))
+    → LeadsOver row (InLits ns n ls) (InLits ns n (ls ++ map literal_of xs)) values i (i + length xs)
+list_leads [] values i ns n ls all same =
+    let none : i + length {A = ℤ} [] ≡ i = omega arith in
+    rw (append-nil, none) (leads_none row (InLits ns n ls) values i)
+list_leads (x ∷ xs) values i ns n ls all same =
+    let l = literal_of x in
+    let here : x ≡ slice_index_or values i (pos 0) =
+    let none : i + 0 ≡ i = omega arith in rw none at (same 0 (omega arith)) in
+    let one = literal_more (InLits ns n ls) values i i ns n ls l (written_said x (slice_index_or values i (pos 0)) all.0 here)
+    (leads_none row (InLits ns n ls) values i) in
+    let more = list_leads xs values (i + 1) ns n (ls ++ l ∷ []) all.1 (λ k less.
+    let place : i + suc k ≡ i + 1 + k = omega arith in rw place at (same (suc k) (omega (arith, less)))) in
+    let to : i + length (x ∷ xs) ≡ i + 1 + length xs = omega arith in
+    rw to (leads_further row (InLits ns n ls) (InLits ns n (ls ++ l ∷ [])) (InLits ns n (ls ++ l ∷ map literal_of xs)) values i (i + 1)
+    (i + 1 + length xs) one (rw (append_assoc ls (l ∷ []) (map literal_of xs)) at more))
+
+range_at : (values : List ℤ) (from to k : ℕ) → k < to - from
+    → slice_index_or (slice_range values from to) k (pos 0) ≡ slice_index_or values (from + k) (pos 0)
+range_at values from to k less =
+    get_or-take (to - from) (drop from values) k (pos 0) less ∙ get_or-drop from values k (pos 0)
+
+range_length : (values : List ℤ) (from to : ℕ) → to ≤ length values → length (slice_range values from to) ≡ to - from
+range_length values from to within = grind (arith, common_steps)
+
+-- literals between two places lead on
+pub literals_lead : (values : List ℤ) (from to : ℕ) (ns : List ℕ) (n : ℕ) (ls : List Literal) → from ≤ to → to ≤ length values
+    → AllByRecursion (IsWritten 2147483647) (slice_range values from to)
+    → LeadsOver row (InLits ns n ls) (InLits ns n (ls ++ map literal_of (slice_range values from to))) values from to
+literals_lead values from to ns n ls order within all =
+    let len = range_length values from to within in
+    let end : from + length (slice_range values from to) ≡ to = omega (arith, len, order) in
+    rw end at (list_leads (slice_range values from to) values from ns n ls all
+    (λ k less. range_at values from to k (omega (arith, less, len))))
+
+-- and a zero after them too
+pub list_ends : (values : List ℤ) (from zero : ℕ) (ns : List ℕ) (n : ℕ) (ls : List Literal) → from ≤ zero → zero < length values
+    → AllByRecursion (IsWritten 2147483647) (slice_range values from zero) → slice_index_or values zero (pos 0) ≡ pos 0
+    → LeadsOver row (InLits ns n ls) (InAnts ns n (ls ++ map literal_of (slice_range values from zero)) []) values from (zero + 1)
+list_ends values from zero ns n ls order within all is =
+    let last = InLits ns n (ls ++ map literal_of (slice_range values from zero)) in
+    leads_more row (InLits ns n ls) last (InAnts ns n (ls ++ map literal_of (slice_range values from zero)) []) values from zero
+    (ap (λ v. row last (token_of v)) is) (literals_lead values from zero ns n ls order (omega (arith, within)) all)
+
+-- they are literals
+written_literals : (xs : List ℤ) → AllByRecursion (IsWritten 2147483647) xs → AllByRecursion IsLiteral (map literal_of xs)
+written_literals [] all = tt
+written_literals (x ∷ xs) all = (all.0, written_literals xs all.1)
+
+all_append : {X : Type 0} (P : X → Type 0) (xs ys : List X) → AllByRecursion P xs → AllByRecursion P ys → AllByRecursion P (xs ++ ys)
+all_append P [] ys h k = k
+all_append P (x ∷ xs) ys h k = (h.0, all_append P xs ys h.1 k)
+
+pub more_literals : (ls : List Literal) (xs : List ℤ) → AllByRecursion IsLiteral ls → AllByRecursion (IsWritten 2147483647) xs
+    → AllByRecursion IsLiteral (ls ++ map literal_of xs)
+more_literals ls xs all written = all_append IsLiteral ls (map literal_of xs) all (written_literals xs written)
+
+-- ---- in turn
+
+-- numbers lead on, and others after them, unless an allocation fails
+pub leads_in_turn : {E : Type 0} (first mid next : State) (values : List ℤ) (from i : ℕ) (result : Result ℕ E)
+    → LeadsOver row first mid values from i → IfOk result (λ to. LeadsOver row mid next values i to)
+    → IfOk result (λ to. LeadsOver row first next values from to)
+leads_in_turn first mid next values from i (Ok to) l m = leads_further row first mid next values from i to l m
+leads_in_turn first mid next values from i (Err e) l m = tt
+
+pub ruleset numbers_lead_on = (leads_none, leads_more, leads_further)

@@ -7,6 +7,6 @@ pub mod WrittenParts
 pub mod Flats
 pub mod RowsReadTheItem
 pub mod ItemStops
-pub mod ReadItemByItem
+pub mod KeptItems
 pub mod ReadingLaws
 pub mod Words

@@ -11,7 +11,7 @@ pub use Rattle.qbf_text.proofs.AcceptedTokens.{flat_map-push, split_at}
 pub use Rattle.qbf_text.proofs.ReadTexts.{bytes_read_as, explained, unless}
 pub use Rattle.qbf_text.proofs.CanonicalTokens.{all_appended, all_mapped, closed_plain, joined, tokens-lines_text}
 pub use Rattle.qbf_text.proofs.OneToken.{Leads}
-pub use Rattle.qbf_text.proofs.PassedNumbers.{passes_all, passes_first, passes_further, passes_in_turn, passes_none, passes_on}
+pub use Rattle.qbf_text.proofs.LeadingNumbers.{leads_further, leads_more, leads_none, takes_further, takes_in_turn}
 pub use Rattle.qbf_text.proofs.SentParts.{line_rest-map, part_at_next, part_next, zero_rest}
 pub use Rattle.qbf_text.proofs.TokensEndOnce.{tokens-EndsOnce}
 pub use Rattle.qbf_text.specs.WholeTexts.{BytesRead, ReadsAsRead, ReadsOnce, fault_of}

@@ -1,16 +1,14 @@
 -- The parts of a trace, given one after the other.
-use Rattle.std.specs.Prelude.{◌≡◌, ◌≢◌, ◌<◌, ◌≤◌, Option, Some, None, ◌+◌, ◌-◌, ◌^◌, ℕ, false, List, length, Result}
+use Rattle.std.specs.Prelude.{◌≡◌, ◌≢◌, ◌<◌, ◌≤◌, Option, ◌+◌, ◌-◌, ◌^◌, ℕ, false, List, length, Result}
 use Rattle.std.specs.Prelude.{Ok, IfOk, OnOk, IfErr, ⊤}
 use Rattle.qbf_text.specs.Ahead.{ahead}
 use Rattle.qbf_text.specs.Reading.{Reading, HasFailed, left}
 use Rattle.qbf_text.specs.Stopping.{IfKnown, tokens_next}
 use Rattle.qrp.specs.declared.fault.TraceFault.TheVariants.{P1}
 use Rattle.qrp.specs.declared.item.Item.{Item}
-use Rattle.qrp.specs.declared.item.Item.TheVariants as item
-use Rattle.qrp.specs.declared.item.Outcome.{Outcome}
 use Rattle.qrp.specs.declared.reader.Stage.{Stage}
 use Rattle.qrp.specs.declared.reader.Stage.TheVariants.{AtHeader, AtLists}
-use Rattle.qrp.specs.Flat.{Kept, trace_of, with_item}
+use Rattle.qrp.specs.Flat.{Kept}
 use Rattle.qrp.specs.NextItem.{known_items, left_after, is_last, numbers_with, stage_after, GivesNextItem, IsProper, StandsOnLine}
 use Rattle.qrp.specs.NextItem.{StopsAfterPart}
 use Rattle.qrp.specs.Reading.{Fault, State, AtP, Between, After}
@@ -32,12 +30,6 @@ pub record GivesItem (i : Item) (old new : ItemsRead) : Type 0 where
   pub proper : IsProper old.kept.numbers i
   pub numbers : new.kept.numbers ≡ numbers_with old.kept.numbers (Ok i)
   pub next : is_last (Ok i) ≡ false → new.state ≡ Between new.kept.numbers
-
--- the item that was complete was kept after the others, or it is the result
-abbrev pub Keeps : ItemsRead → ItemsRead → Option Outcome → Type 0
-Keeps old new None = (i : Item) × (is_last (Ok i) ≡ false) × (old.state ≡ After i new.kept.numbers)
-    × (trace_of new.kept ≡ with_item (trace_of old.kept) i) × (new.state ≡ Between new.kept.numbers)
-Keeps old new (Some o) = (old.state ≡ After (item.Result o) old.kept.numbers) × (new.kept ≡ old.kept)
 
 -- a reader that is so far takes a token here
 abbrev pub Stands : Stage → ItemsRead → Type 0

@@ -10,3 +10,4 @@ pub mod Texts
 pub mod Flat
 pub mod States
 pub mod Items
+pub mod WholeTrace

@@ -1,134 +1,314 @@
-//! Steps, as far as they stand whole among the bytes at hand.
+//! Steps, as far as their numbers are at hand.
 
-ghost use Rattle.std.specs.Prelude.{◌≤◌, length, IfOk};
-ghost use Rattle.qbf_text.specs.Passing.{LeadOn, Passes, PassesAll};
+ghost use Rattle.std.specs.Prelude.{◌≡◌, ◌≤◌, ◌<◌, ◌+◌, ◌++◌, length, map, pos};
+ghost use Rattle.std.specs.Prelude.{slice_index_or, slice_range, IfSome, IfOk, IsTrue, OnErr};
+ghost use Rattle.std.specs.List.{AllByRecursion};
+ghost use Rattle.qbf_core.specs.WrittenLiterals.{literal_of, IsWritten};
+ghost use Rattle.qbf_text.specs.Numbers.{LeadsOver};
 ghost use Rattle.qrp.specs.declared.states.At.TheVariants as at;
 ghost use Rattle.qrp.specs.States.{state_at, IsSound, Stays};
 ghost use Rattle.qrp.specs.Reading.{row};
 
-use crate::states::{At, Part, Partial, has_room, take_item_start};
+use crate::states::{At, Partial, has_room, take_item_start};
 use crate::tokens::{FAULTS, antecedent};
 use dimacs_syntax::literal;
-use qbf_core::LAST_VARIABLE;
-use qbf_text::{Cursor, Progress};
+use qbf_core::{GrowingLists, LAST_VARIABLE, Lit};
+use qbf_text::Token;
 use std::alloc::AllocError;
 
-/// Takes literals of the step with this number, as long as they are written as usual, and the zero
-/// after them if it stands there. Returns where the next token stands.
+/// A place among the numbers at hand.
+#[derive(Clone, Copy)]
+pub struct AtHand {
+    /// The place of the next number.
+    pub from: usize,
+    /// The place of the next zero, as it seems.
+    pub zero: usize,
+}
+
+/// Where the next token stands, and the place of the next number.
+type Reached = (At, Result<usize, AllocError>);
+
+/// Puts literals, as many as there seem to be up to the next zero, at the end of an unfinished list.
+/// Returns the place of the next number.
+///
+/// # Errors
+/// Out of memory. Nothing is changed then.
+#[inline(always)]
+fn put_literals(
+    lits: &mut GrowingLists<Lit>,
+    values: &[i32],
+    hand: AtHand,
+) -> Result<usize, AllocError>
+    requires within { hand.from ≤ length values.now }
+    ensures put { IfOk result (λ to. lits.new ≡ record lits.old {
+      unfinished = lits.old.unfinished ++ map literal_of (slice_range values.now hand.from to);
+    }) }
+    ensures written { IfOk result
+        (λ to. AllByRecursion (IsWritten 2147483647) (slice_range values.now hand.from to)) }
+    ensures order { IfOk result (λ to. hand.from ≤ to) }
+    ensures within { IfOk result (λ to. to ≤ length values.now) }
+    ensures err { OnErr result (lits.new ≡ lits.old) }
+{
+    let to = hand.zero.min(values.len());
+    if hand.from < to {
+        if lits.extend_written(&values[hand.from..to], LAST_VARIABLE)? {
+            return Ok(to);
+        }
+    }
+    Ok(hand.from)
+}
+
+/// Takes literals of the step with this number, from the place `from` on, and the zero after them.
+/// Returns where the next token stands, and the place of the next number.
 ///
 /// # Errors
 /// Out of memory.
 #[inline(always)]
 #[tactic(auto, using(crate::proofs::BufferedNumbers::numbers_lead_on))]
-fn take_literals(
-    partial: &mut Partial,
-    number: u64,
-    bytes: &[u8],
-    from: Cursor,
-) -> (At, Result<Cursor, AllocError>)
-    requires within { from.at ≤ length bytes.now }
+fn take_literals(partial: &mut Partial, number: u64, values: &[i32], from: usize) -> Reached
+    requires within { from ≤ length values.now }
     requires sound { IsSound (at.Lits number) partial.old }
-    ensures passes { IfOk result.1 (λ to. Passes (LeadOn row (state_at partial.old (at.Lits number))
-        (state_at partial.new result.0)) bytes.now from to) }
+    ensures leads { IfOk result.1 (λ to. LeadsOver row (state_at partial.old (at.Lits number))
+        (state_at partial.new result.0) values.now from to) }
+    ensures within { IfOk result.1 (λ to. to ≤ length values.now) }
     ensures sound { Stays partial.old partial.new × IsSound result.0 partial.new }
 {
-    let mut here = from;
-    'literals: while let Some(passed) = here.usual_number(bytes) {
-        match literal(FAULTS, LAST_VARIABLE, passed.token) {
+    let mut i = from;
+    'literals: while i < values.len() {
+        match literal(FAULTS, LAST_VARIABLE, Token::number_at(values, i)) {
             Ok(Some(lit)) => match partial.lits.push(lit) {
-                Ok(()) => here = passed.next,
+                Ok(()) => i += 1,
                 Err(_) => return (At::Lits(number), Err(AllocError)),
+            },
+            Ok(None) => {
+                partial.ants.begin();
+                return (At::Ants(number), Ok(i + 1));
+            }
+            Err(_) => break,
+        }
+    }
+    (At::Lits(number), Ok(i))
+}
+
+/// Takes literals of a step, if such stand next, and the zero after them.
+///
+/// # Errors
+/// Out of memory.
+#[inline(always)]
+#[tactic(auto, using(crate::proofs::BufferedNumbers::numbers_lead_on))]
+fn take_list(here: At, partial: &mut Partial, values: &[i32], hand: AtHand) -> Reached
+    requires within { hand.from ≤ length values.now }
+    requires sound { IsSound here partial.old }
+    ensures leads { IfOk result.1 (λ to. LeadsOver row (state_at partial.old here)
+        (state_at partial.new result.0) values.now hand.from to) }
+    ensures within { IfOk result.1 (λ to. to ≤ length values.now) }
+    ensures sound { Stays partial.old partial.new × IsSound result.0 partial.new }
+{
+    let At::Lits(number) = here else {
+        return (here, Ok(hand.from));
+    };
+    match put_literals(&mut partial.lits, values, hand) {
+        Ok(to) => take_literals(partial, number, values, to),
+        Err(refused) => (here, Err(refused)),
+    }
+}
+
+/// Takes antecedents from the place `from` on, and no zero after them.
+///
+/// # Errors
+/// Out of memory.
+#[inline(always)]
+#[tactic(auto, using(crate::proofs::BufferedNumbers::numbers_lead_on))]
+fn take_antecedents(
+    partial: &mut Partial,
+    number: u64,
+    values: &[i32],
+    from: usize,
+) -> Result<usize, AllocError>
+    requires within { from ≤ length values.now }
+    requires sound { IsSound (at.Ants number) partial.old }
+    ensures leads { IfOk result (λ to. LeadsOver row (state_at partial.old (at.Ants number))
+        (state_at partial.new (at.Ants number)) values.now from to) }
+    ensures within { IfOk result (λ to. to ≤ length values.now) }
+    ensures sound { Stays partial.old partial.new × IsSound (at.Ants number) partial.new }
+{
+    let mut i = from;
+    'antecedents: while i < values.len() {
+        match antecedent(has_room(&partial.ants), Token::number_at(values, i)) {
+            Ok(Some(ant)) => match partial.ants.push(ant) {
+                Ok(()) => i += 1,
+                Err(_) => return Err(AllocError),
             },
             _ => break,
         }
     }
-    let Some(passed) = here.any_number(bytes) else {
-        return (At::Lits(number), Ok(here));
-    };
-    match literal(FAULTS, LAST_VARIABLE, passed.token) {
-        Ok(None) => {
-            partial.ants.begin();
-            (At::Ants(number), Ok(passed.next))
-        }
-        _ => (At::Lits(number), Ok(here)),
-    }
+    Ok(i)
 }
 
-/// Where the next token stands, and how far the bytes were taken; `Some` where the step is complete.
-type Reached = (At, Result<Progress<()>, AllocError>);
-
-/// Takes antecedents, and the zero after them, which completes the step.
-///
-/// # Errors
-/// Out of memory.
+/// Takes the number of a step, if one begins here.
 #[inline(always)]
 #[tactic(auto, using(crate::proofs::BufferedNumbers::numbers_lead_on))]
-fn take_antecedents(partial: &mut Partial, number: u64, bytes: &[u8], from: Cursor) -> Reached
-    requires within { from.at ≤ length bytes.now }
-    requires sound { IsSound (at.Ants number) partial.old }
-    ensures passes { IfOk result.1 (λ r. PassesAll row (state_at partial.old (at.Ants number))
-        (state_at partial.new result.0) bytes.now from r.0 r.1) }
-    ensures sound { Stays partial.old partial.new × IsSound result.0 partial.new }
+fn begin_step(partial: &mut Partial, values: &[i32], from: usize) -> Option<u64>
+    requires within { from < length values.now }
+    ensures leads { IfSome result (λ n. LeadsOver row (state_at partial.old at.Between)
+        (state_at partial.new (at.Lits n)) values.now from (from + 1)) }
+    ensures sound { IfSome result (λ n. IsSound (at.Lits n) partial.new) }
+    ensures stays { Stays partial.old partial.new }
 {
-    let mut here = from;
-    'antecedents: while let Some(passed) = here.number(bytes) {
-        match antecedent(has_room(&partial.ants), passed.token) {
-            Ok(Some(ant)) => match partial.ants.push(ant) {
-                Ok(()) => here = passed.next,
-                Err(_) => return (At::Ants(number), Err(AllocError)),
-            },
-            Ok(None) => return (
-                At::ItemComplete(Part::Step(number)),
-                Ok((passed.next, Some(()))),
-            ),
-            Err(_) => break,
-        }
+    match take_item_start(partial, Token::number_at(values, from)) {
+        Ok(At::Lits(number)) => Some(number),
+        _ => None,
     }
-    (At::Ants(number), Ok((here, None)))
 }
 
-/// Takes the number of a step, if one begins here. Returns where the next token stands.
+/// Takes the number of a step, if one begins here. Returns where the next token stands, and the
+/// place of the next number.
 #[inline(always)]
 #[tactic(auto, using(crate::proofs::BufferedNumbers::numbers_lead_on))]
-fn take_number(here: At, partial: &mut Partial, bytes: &[u8], from: Cursor) -> (At, Cursor)
-    requires within { from.at ≤ length bytes.now }
+fn take_number(here: At, partial: &mut Partial, values: &[i32], from: usize) -> (At, usize)
+    requires within { from ≤ length values.now }
     requires sound { IsSound here partial.old }
-    ensures passes { Passes (LeadOn row (state_at partial.old here) (state_at partial.new result.0))
-        bytes.now from result.1 }
+    ensures leads { LeadsOver row (state_at partial.old here) (state_at partial.new result.0)
+        values.now from result.1 }
+    ensures within { result.1 ≤ length values.now }
     ensures sound { Stays partial.old partial.new × IsSound result.0 partial.new }
 {
     let At::Between = here else {
         return (here, from);
     };
-    let Some(passed) = from.number(bytes) else {
+    if from >= values.len() {
         return (here, from);
-    };
-    match take_item_start(partial, passed.token) {
-        Ok(At::Lits(number)) => (At::Lits(number), passed.next),
-        _ => (here, from),
+    }
+    match begin_step(partial, values, from) {
+        Some(number) => (At::Lits(number), from + 1),
+        None => (here, from),
     }
 }
 
-/// Takes a step that begins here or has begun, if its number or its literals stand next.
+/// Takes a step that begins here or has begun, as far as its numbers are at hand, but not its last
+/// zero.
 ///
 /// # Errors
 /// Out of memory.
 #[inline(always)]
 #[tactic(auto, using(crate::proofs::BufferedNumbers::numbers_lead_on))]
-pub fn take_buffered(here: At, partial: &mut Partial, bytes: &[u8], from: Cursor) -> Reached
-    requires within { from.at ≤ length bytes.now }
+pub fn take_buffered(here: At, partial: &mut Partial, values: &[i32], hand: AtHand) -> Reached
+    requires within { hand.from ≤ length values.now }
     requires sound { IsSound here partial.old }
-    ensures passes { IfOk result.1 (λ r. PassesAll row (state_at partial.old here)
-        (state_at partial.new result.0) bytes.now from r.0 r.1) }
+    ensures leads { IfOk result.1 (λ to. LeadsOver row (state_at partial.old here)
+        (state_at partial.new result.0) values.now hand.from to) }
+    ensures within { IfOk result.1 (λ to. to ≤ length values.now) }
     ensures sound { Stays partial.old partial.new × IsSound result.0 partial.new }
 {
-    let (at, lits) = take_number(here, partial, bytes, from);
-    let At::Lits(number) = at else {
-        return (at, Ok((lits, None)));
+    let (at, from) = take_number(here, partial, values, hand.from);
+    let list = AtHand {
+        from,
+        zero: hand.zero,
     };
-    match take_literals(partial, number, bytes, lits) {
-        (At::Ants(number), Ok(ants)) => take_antecedents(partial, number, bytes, ants),
-        (at, Ok(to)) => (at, Ok((to, None))),
-        (at, Err(refused)) => (at, Err(refused)),
+    match take_list(at, partial, values, list) {
+        (At::Ants(number), Ok(to)) => (
+            At::Ants(number),
+            take_antecedents(partial, number, values, to),
+        ),
+        (at, reached) => (at, reached),
     }
+}
+
+/// Whether a zero stands at a place.
+#[inline(always)]
+pub fn is_zero_at(values: &[i32], place: usize) -> bool
+    ensures within { IsTrue result → place < length values.now }
+    ensures zero { IsTrue result → slice_index_or values.now place (pos 0) ≡ pos 0 }
+{
+    place < values.len() && values[place] == 0
+}
+
+/// Whether a zero stands where it seems to, not before the next number.
+#[inline(always)]
+fn has_zero(values: &[i32], hand: AtHand) -> bool
+    ensures order { IsTrue result → hand.from ≤ hand.zero }
+    ensures within { IsTrue result → hand.zero < length values.now }
+    ensures zero { IsTrue result → slice_index_or values.now hand.zero (pos 0) ≡ pos 0 }
+{
+    hand.from <= hand.zero && is_zero_at(values, hand.zero)
+}
+
+/// Takes the literals of the step with this number, and the zero after them, if all of them stand
+/// there. Returns whether they do.
+///
+/// # Errors
+/// Out of memory.
+#[inline(always)]
+fn take_all_literals(
+    partial: &mut Partial,
+    number: u64,
+    values: &[i32],
+    hand: AtHand,
+) -> Result<bool, AllocError>
+    requires sound { IsSound (at.Lits number) partial.old }
+    ensures leads { IfOk result (λ b. IsTrue b → LeadsOver row
+        (state_at partial.old (at.Lits number)) (state_at partial.new (at.Ants number))
+        values.now hand.from (hand.zero + 1)) }
+    ensures within { IfOk result (λ b. IsTrue b → hand.zero < length values.now) }
+    ensures sound { IfOk result (λ b. IsTrue b → IsSound (at.Ants number) partial.new) }
+    ensures stays { Stays partial.old partial.new }
+{
+    if !has_zero(values, hand) {
+        return Ok(false);
+    }
+    let literals = &values[hand.from..hand.zero];
+    if !partial.lits.extend_written(literals, LAST_VARIABLE)? {
+        return Ok(false);
+    }
+    partial.ants.begin();
+    Ok(true)
+}
+
+/// Takes a step that begins here, but not its last zero, if all of its literals stand there. Returns
+/// its number, and the place of the next one.
+///
+/// # Errors
+/// Out of memory.
+#[inline(always)]
+pub fn take_whole(
+    partial: &mut Partial,
+    values: &[i32],
+    hand: AtHand,
+) -> Result<Option<(u64, usize)>, AllocError>
+    requires within { hand.from < length values.now }
+    ensures leads { IfOk result (λ o. IfSome o (λ s. LeadsOver row
+        (state_at partial.old at.Between) (state_at partial.new (at.Ants s.0))
+        values.now hand.from s.1)) }
+    ensures within { IfOk result (λ o. IfSome o (λ s. s.1 ≤ length values.now)) }
+    ensures sound { IfOk result (λ o. IfSome o (λ s. IsSound (at.Ants s.0) partial.new)) }
+    ensures stays { Stays partial.old partial.new }
+{
+    let Some(number) = begin_step(partial, values, hand.from) else {
+        return Ok(None);
+    };
+    let list = AtHand {
+        from: hand.from + 1,
+        zero: hand.zero,
+    };
+    if !take_all_literals(partial, number, values, list)? {
+        return Ok(None);
+    }
+    let to = take_antecedents(partial, number, values, hand.zero + 1)?;
+    Ok(Some((number, to)))
+}
+
+/// The number of the step that a zero at this place completes, if one stands there.
+#[inline(always)]
+pub fn completed(here: At, values: &[i32], place: usize) -> Option<u64>
+    ensures ants { IfSome result (λ n. here ≡ at.Ants n) }
+    ensures within { IfSome result (λ _. place < length values.now) }
+    ensures zero { IfSome result (λ _. slice_index_or values.now place (pos 0) ≡ pos 0) }
+{
+    let At::Ants(number) = here else {
+        return None;
+    };
+    if is_zero_at(values, place) {
+        return Some(number);
+    }
+    None
 }

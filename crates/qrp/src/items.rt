@@ -1,17 +1,16 @@
 //! The parts of a trace, given one after the other.
 
-ghost use Rattle.std.specs.Prelude.{◌≡◌, IfOk, OnOk, OnErr};
+ghost use Rattle.std.specs.Prelude.{◌≡◌, IfOk, OnErr};
 ghost use Rattle.qrp.specs.Flat.{kept_of, nothing_kept, IsFlat};
-ghost use Rattle.qrp.specs.Items.{HasItem, GivesItem, Keeps};
-ghost use Rattle.qrp.specs.declared.states.Part.TheVariants as part;
+ghost use Rattle.qrp.specs.Items.{HasItem, GivesItem};
 ghost use Rattle.qrp.specs.Reading.{AtP};
 
-use crate::buffered::take_buffered;
+use crate::buffered::{AtHand, completed, take_buffered};
 use crate::fault::TraceFault;
-use crate::item::{Item, Outcome, QuantSet, Step};
-use crate::parts::{Parts, close};
+use crate::item::{Item, QuantSet, Step};
+use crate::parts::Parts;
 use crate::states::{At, Part, Partial, take_at};
-use qbf_text::{Cursor, Grammar, Progress, Stop, Taken, Token};
+use qbf_text::{Grammar, Progress, Stop, Taken, Token, Zeros};
 use std::alloc::{AllocError, Global};
 use std::marker::Model;
 use std::mem;
@@ -80,27 +79,6 @@ impl ItemGrammar {
         Ok(item)
     }
 
-    /// Keeps the item that is complete after the others; the result, where it is that.
-    ///
-    /// # Errors
-    /// Out of memory.
-    #[inline(always)]
-    pub fn keep(&mut self) -> Result<Option<Outcome>, AllocError>
-        requires made { IsFlat self.old.kept }
-        requires complete { HasItem self.old.state }
-        ensures keeps { IfOk result (λ o. Keeps self.old self.new o) }
-        ensures made { OnOk result (IsFlat self.new.kept) }
-    {
-        match mem::replace(&mut self.at, At::Between) {
-            At::ItemComplete(part) => {
-                close(&mut self.parts, part)?;
-                Ok(None)
-            }
-            At::Whole(outcome) => Ok(Some(outcome)),
-            _ => unreachable!(),
-        }
-    }
-
     /// What was kept. It takes no memory.
     pub fn into_parts(self) -> Parts
         ensures { kept_of result ≡ self.kept }
@@ -130,10 +108,19 @@ impl Grammar for ItemGrammar {
     ghost kept = { λ g. g.kept };
 
     #[inline(always)]
-    fn take_hand(&mut self, bytes: &[u8], from: Cursor) -> Result<Progress<()>, AllocError> {
-        let (at, reached) = take_buffered(self.at, &mut self.parts.partial, bytes, from);
+    fn take_numbers(&mut self, values: &[i32], zeros: Zeros) -> Result<Progress<()>, AllocError> {
+        let hand = AtHand {
+            from: 0,
+            zero: zeros.place(0),
+        };
+        let (at, reached) = take_buffered(self.at, &mut self.parts.partial, values, hand);
         self.at = at;
-        reached
+        let to = reached?;
+        let Some(number) = completed(at, values, to) else {
+            return Ok((to, None));
+        };
+        self.at = At::ItemComplete(Part::Step(number));
+        Ok((to + 1, Some(())))
     }
 
     #[inline(always)]

@@ -25,6 +25,7 @@ mod states;
 mod steps;
 mod tokens;
 mod trace;
+mod whole_trace;
 mod writing;
 
 pub use fault::TraceFault;

@@ -99,7 +99,7 @@ impl StepIndex {
         self.sparse.number(i - self.counted)
     }
 
-    /// The place of the step with this number: `Some(i)` exactly where `number(i)` is it.
+    /// The place of the step with this number: `Some(i)` exactly if `number(i)` is it.
     #[tactic(auto, using(crate::proofs::CountedNumbers::place_of_number))]
     pub fn position(&self, number: u64) -> Option<usize>
         ensures found { IfSome result (λ i. slice_get self.now i ≡ Some number) }
@@ -113,6 +113,7 @@ impl StepIndex {
     }
 
     /// Whether a step has this number.
+    #[inline(always)]
     pub fn contains(&self, number: u64) -> bool
         ensures { result ≡ is_used number self.now }
     {

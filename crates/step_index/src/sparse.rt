@@ -56,7 +56,7 @@ impl Model for SparseNumbers {
         × (length s.table.items ≤ 2 ^ 20 + 16 * length s.numbers.items) };
 }
 
-/// Whether the table may reach a number, where the next place is this one. A place in the table has
+/// Whether the table may reach a number, if the next place is this one. A place in the table has
 /// 32 bits.
 fn surely_near(place: usize, number: u64) -> bool
     ensures place { IsTrue result → place + 1 < 2 ^ 32 }
@@ -66,7 +66,7 @@ fn surely_near(place: usize, number: u64) -> bool
     place < u32::MAX as usize && number < (REACH + REACH_OF_EACH * place) as u64
 }
 
-/// Makes a table reach a number that is near, where the next place is this one. `false` if it is
+/// Makes a table reach a number that is near, if the next place is this one. `false` if it is
 /// not near.
 ///
 /// # Errors
@@ -188,7 +188,7 @@ impl SparseNumbers {
         self.numbers[i]
     }
 
-    /// A place of a number, or `None` where it did not come.
+    /// A place of a number, or `None` if it did not come.
     #[inline(always)]
     #[tactic(auto, using(crate::proofs::SparseNumbers::not_there))]
     pub(crate) fn position(&self, number: u64) -> Option<usize>

@@ -63,6 +63,27 @@ fn reads_what_is_written(rt: HostRuntime) -> Result<(), Fail> {
     Ok(())
 }
 
+/// Steps with numbers of each length, line ends of two bytes, tabs, and comments between numbers.
+const MIXED: &[u8] =
+    b"p qrp 99999999 9\r\ne 1 2 0\na 12345678 0\n1 1 -2 0 0\r\n22 -1\t2 0 1 0\n# c\n\
+    333 0\nc\n 0\n4444 1 0 1 22 0\n55555 12345678 0 00\n666666 -1 0 333 0\n7777777 1 \n 2 0 0\n\
+    88888888 001 0 4444 22 0\n999999999 0 0\n18446744073709551615 2 0 999999999 0\nr unsat\n";
+
+/// The same steps as they are written.
+const PLAIN: &[u8] =
+    b"p qrp 99999999 9\ne 1 2 0\na 12345678 0\n1 1 -2 0 0\n22 -1 2 0 1 0\n333 0 0\n\
+    4444 1 0 1 22 0\n55555 12345678 0 0\n666666 -1 0 333 0\n7777777 1 2 0 0\n\
+    88888888 1 0 4444 22 0\n999999999 0 0\n18446744073709551615 2 0 999999999 0\nr unsat\n";
+
+#[test]
+fn reads_pieces_of_each_size(rt: HostRuntime) -> Result<(), Fail> {
+    for piece in 1..=130 {
+        assert_read(&rt, MIXED, PLAIN, piece)?;
+        assert_read(&rt, PLAIN, PLAIN, piece)?;
+    }
+    Ok(())
+}
+
 /// A text that is refused, how many of its bytes are looked at, and its fault. The last byte that is
 /// looked at is the one after the wrong token, or the end.
 type Refused = (&'static [u8], u64, TraceFault, u64);

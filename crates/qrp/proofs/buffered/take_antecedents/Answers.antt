@@ -7,9 +7,9 @@ antecedents-preserved c =
     let i = c.antecedents.invariant in
     let xs = c.antecedents.partial.ants.unfinished in
     let a = c.in-Ok-Some.ant in
-    let read = rw (c.in-Ok-Some.field-0-is, c.has_room.ensures.says) at c.in-Ok-Some.ensures in
+    let read = rw (c.in-Ok-Some.field-0-is, c.has_room.ensures.says, c.number_at.ensures) at c.in-Ok-Some.ensures in
     rw (c.in-Ok.ensures.pushed, c.in-Ok-Some.ant-is) (record {
-      passes = antecedent_more _ _ _ _ _ _ _ _ _ _ a read.says i.passes c.in-Some.ensures;
+      leads = antecedent_more _ _ _ _ _ _ _ _ a read.says i.leads;
       sound = (
         record { index = i.sound.0.index; lits = i.sound.0.lits; ants = i.sound.0.ants },
         (
@@ -22,5 +22,5 @@ antecedents-preserved c =
           },
         ),
       );
-      within = c.in-Some.ensures.within;
+      within = omega (arith, c.antecedents-test.true);
     })

@@ -1,12 +1,15 @@
-use Rattle.qrp.proofs.Words.{◌-◌, length, state_at, IsSound, Stays}
-use Rattle.qbf_text.proofs.PassedNumbers.{TakesNumbers}
+use Rattle.qrp.proofs.Words.{◌-◌, ◌≤◌, length, state_at, IsSound, Stays}
+use Rattle.qbf_text.specs.Numbers.{LeadsOver}
 use Rattle.qrp.specs.Reading.{row}
 use Rattle.qrp.specs.declared.states.At.TheVariants.{Lits}
 use Rattle.qrp.proofs.buffered.take_literals.Given as goal
 
 abbrev pub invariant-literals : goal.invariant-literals
-invariant-literals l = TakesNumbers row (state_at l.fn.partial (Lits l.number)) (state_at l.partial (Lits l.number))
-    (Stays l.fn.partial l.partial × IsSound (Lits l.number) l.partial) l.bytes l.fn.from l.here
+invariant-literals l = record {
+  leads : LeadsOver row (state_at l.fn.partial (Lits l.number)) (state_at l.partial (Lits l.number)) l.values l.fn.from l.i;
+  sound : Stays l.fn.partial l.partial × IsSound (Lits l.number) l.partial;
+  within : l.i ≤ length l.values;
+}
 
 abbrev pub decreases-literals : goal.decreases-literals
-decreases-literals l = length l.bytes - l.here.at
+decreases-literals l = length l.values - l.i

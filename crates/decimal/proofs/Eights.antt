@@ -1,0 +1,80 @@
+-- Digits that are read eight at a time.
+use Rattle.std.proofs.Common.{ℕ, ◌≡◌, ◌+◌, ◌-◌, ◌*◌, ◌^◌, ◌<◌, ◌≤◌, List, [], ◌∷◌, ◌++◌, take, drop, length, refl, sym, ap, ◌∙◌, subst, arith}
+use Rattle.std.specs.List.{prefix_len}
+use Rattle.std.specs.Char.{is_ascii_digit, digit_value}
+use Rattle.std.specs.Int.{w64, to_le_bytes}
+use Rattle.std.specs.Str.Parse.{digits_value, digits_value_after, AllDigits}
+use Rattle.std.proofs.lemmas.Int.Digits.{digits_value-lt}
+use Rattle.std.proofs.lemmas.List.{take-take, take_all, take-append-drop, drop-take, length-take-le, length-drop}
+use native.Mathlib.Nat.{pow-zero, pow-succ', mul_assoc, add-mul}
+use Rattle.decimal.proofs.Chunks.{all_front}
+use Rattle.decimal.proofs.Lists.{bytes_fit}
+
+-- ---- eight digits in a word
+
+module _ (bytes : List ℕ) (w : ℕ) (same : to_le_bytes w64 w ≡ take 8 bytes) where
+  twice : take 8 (to_le_bytes w64 w) ≡ take 8 bytes
+  twice = ap (take 8) same ∙ take-take 8 8 bytes (omega arith)
+
+  pub eight_digits : 8 ≤ prefix_len is_ascii_digit (to_le_bytes w64 w) → AllDigits 10 (take 8 bytes)
+  eight_digits run = subst (AllDigits 10) twice (all_front 8 (to_le_bytes w64 w) (bytes_fit w) run)
+
+  pub eight_value : digits_value 10 (take 8 (to_le_bytes w64 w)) ≡ digits_value 10 (take 8 bytes)
+  eight_value = ap (digits_value 10) twice
+
+-- eight digits make a number below a hundred millions
+pub eight_small : (bytes : List ℕ) (v : ℕ) → 8 ≤ length bytes → AllDigits 10 (take 8 bytes)
+    → v ≡ digits_value 10 (take 8 bytes) → v < 100000000
+eight_small bytes v within digits is =
+    let long : length (take 8 bytes) ≡ 8 = length-take-le 8 bytes within in
+    omega (arith, is, digits_value-lt 10 (take 8 bytes) digits, ap (λ n. 10 ^ n) long)
+
+-- ---- eight digits after others
+
+all_append : (xs ys : List ℕ) → AllDigits 10 xs → AllDigits 10 ys → AllDigits 10 (xs ++ ys)
+all_append [] ys h k = k
+all_append (x ∷ xs) ys h k = (h.0, all_append xs ys h.1 k)
+
+after_append : (n : ℕ) (xs ys : List ℕ) → digits_value_after 10 n (xs ++ ys) ≡ digits_value_after 10 (digits_value_after 10 n xs) ys
+after_append n [] ys = refl
+after_append n (x ∷ xs) ys = after_append (n * 10 + digit_value x) xs ys
+
+-- what digits after others make of their value
+after_more : (n : ℕ) (ys : List ℕ) → digits_value_after 10 n ys ≡ n * 10 ^ length ys + digits_value 10 ys
+after_more n [] = omega (arith, ap (λ x. n * x) (pow-zero 10))
+after_more n (y ∷ ys) =
+    let d = digit_value y in
+    let p = 10 ^ length ys in
+    let alone : 0 * 10 + d ≡ d = omega arith in
+    let here : digits_value 10 (y ∷ ys) ≡ d * p + digits_value 10 ys = ap (λ m. digits_value_after 10 m ys) alone ∙ after_more d ys in
+    let all : digits_value_after 10 n (y ∷ ys) ≡ (n * 10 + d) * p + digits_value 10 ys = after_more (n * 10 + d) ys in
+    omega (arith, here, all, add-mul (n * 10) d p, mul_assoc n 10 p, ap (λ x. n * x) (pow-succ' 10 (length ys)))
+
+module _ (bytes : List ℕ) where
+  abbrev first : List ℕ
+  first = take 8 bytes
+
+  abbrev second : List ℕ
+  second = take 8 (take (length bytes - 8) (drop 8 bytes))
+
+  all : take (length bytes - 8) (drop 8 bytes) ≡ drop 8 bytes
+  all = take_all (length bytes - 8) (drop 8 bytes) (omega (arith, length-drop 8 bytes))
+
+  both : take 16 bytes ≡ first ++ second
+  both = sym (take-append-drop 8 (take 16 bytes)) ∙ ap (λ l. l ++ drop 8 (take 16 bytes)) (take-take 8 16 bytes (omega arith))
+      ∙ ap (λ l. first ++ l) (drop-take 8 8 bytes ∙ ap (take 8) (sym all))
+
+  pub eights_digits : AllDigits 10 first → AllDigits 10 second → AllDigits 10 (take 16 bytes)
+  eights_digits h k = subst (AllDigits 10) (sym both) (all_append first second h k)
+
+  pub eights_value : (a b : ℕ) → 8 ≤ length (take (length bytes - 8) (drop 8 bytes)) → a ≡ digits_value 10 first → b ≡ digits_value 10 second
+      → a * 100000000 + b ≡ digits_value 10 (take 16 bytes)
+  eights_value a b many e f =
+      let long : length second ≡ 8 = length-take-le 8 (take (length bytes - 8) (drop 8 bytes)) many in
+      let value : digits_value 10 (take 16 bytes) ≡ digits_value_after 10 (digits_value 10 first) second =
+      ap (digits_value 10) both ∙ after_append 0 first second in
+      let more : digits_value_after 10 a second ≡ a * 10 ^ 8 + digits_value 10 second =
+      after_more a second ∙ ap (λ n. a * 10 ^ n + digits_value 10 second) long in
+      let same : digits_value_after 10 (digits_value 10 first) second ≡ digits_value_after 10 a second =
+      ap (λ n. digits_value_after 10 n second) (sym e) in
+      omega (arith, value, more, same, f)

@@ -1,0 +1,13 @@
+use Rattle.qbf_core.proofs.Words.{◌≡◌, ◌≤◌, ◌-◌, ◌++◌, length, map, take, AllByRecursion}
+use Rattle.qbf_core.specs.WrittenLiterals.{literal_of, IsWritten}
+use Rattle.qbf_core.proofs.lists.put_each.Given as goal
+
+abbrev pub invariant-numbers : goal.invariant-numbers
+invariant-numbers l = record {
+  put : l.items.items ≡ l.fn.items.items ++ map literal_of (take l.place l.numbers);
+  written : AllByRecursion (IsWritten l.last) (take l.place l.numbers);
+  within : l.place ≤ length l.numbers;
+}
+
+abbrev pub decreases-numbers : goal.decreases-numbers
+decreases-numbers l = length l.numbers - l.place

@@ -1,0 +1,13 @@
+use Rattle.qbf_core.proofs.Words.{◌≡◌, ◌<◌, ◌+◌, ◌-◌, ◌++◌, map, take, AllByRecursion}
+use Rattle.qbf_core.specs.WrittenLiterals.{literal_of, IsWritten}
+use Rattle.qbf_core.proofs.lists.put_fours.Given as goal
+
+abbrev pub invariant-fours : goal.invariant-fours
+invariant-fours l = record {
+  put : l.items.items ≡ l.fn.items.items ++ map literal_of (take l.place l.numbers);
+  written : AllByRecursion (IsWritten l.last) (take l.place l.numbers);
+  within : l.place < l.end + 4;
+}
+
+abbrev pub decreases-fours : goal.decreases-fours
+decreases-fours l = l.end - l.place

@@ -1,0 +1,11 @@
+-- Literals as the numbers that QDIMACS 1.1 writes for them.
+use Rattle.std.specs.Prelude.{ℕ, ℤ, pos, ◌≤◌, unsigned_abs, int_lt}
+use Rattle.qbf_core.specs.Literal.{Literal}
+
+-- the literal that a number is
+abbrev pub literal_of : ℤ → Literal
+literal_of n = record { var = unsigned_abs n; negative = int_lt n (pos 0) }
+
+-- a number is a literal of a variable up to this one
+abbrev pub IsWritten : ℕ → ℤ → Type 0
+IsWritten last n = (1 ≤ unsigned_abs n) × (unsigned_abs n ≤ last)

@@ -1,0 +1,301 @@
+-- Numbers that are held of a window, and the cursors between them.
+use Rattle.qbf_text.proofs.Words.{◌≡◌, ℕ, zero, suc, ◌+◌, ◌-◌, ◌^◌, ◌<◌, ◌≤◌, Bool, true, false, not, cond, List, [], ◌∷◌, ◌++◌}
+use Rattle.qbf_text.proofs.Words.{length, take, drop, refl, sym, count_by, is_line_end}
+use Rattle.qbf_text.proofs.Words.{ap, ◌∙◌, subst, arith, Option, Some, None, ◌⊎◌, inl, inr, drop-drop, Token, Row, BeginsWithNumber}
+use Rattle.qbf_text.proofs.Words.{line_number, nat_tests}
+use Rattle.std.specs.Prelude.{nat_lt}
+use Rattle.std.specs.Prelude.{ℤ, pos, slice_index_or, unsigned_abs, int_lt, get_or}
+use Rattle.std.proofs.Common.{length-drop, length-append}
+use Rattle.std.proofs.lemmas.List.{get_or-append-add, get_or-drop, get_or-take, length-take}
+use Rattle.qbf_text.specs.declared.buffered.Cursor.{Cursor}
+use Rattle.qbf_text.specs.declared.numbers.Numbers.{Numbers}
+use Rattle.qbf_text.specs.Passing.{cursor_after, LeadOn, Passes, PassesNumber, PassesAll}
+use Rattle.qbf_text.specs.Numbers.{one_if, token_at, LeadsBy, TakesOver, place, len_of, NumberStands, StandFrom, AreHeld, StandInFront}
+use Rattle.qbf_text.specs.Numbers.{cursor_to, IsPut}
+use Rattle.qbf_text.proofs.LineEnds.{more, one_after}
+use Rattle.qbf_text.proofs.PassedNumbers.{passes_number, passes_none, passes_on, number_takes}
+
+-- a number takes at least one byte, so that its place comes before the next one
+further : (whole places : List ℕ) (k : ℕ) (v : ℤ) → NumberStands whole places k v
+    → slice_index_or places k 0 < slice_index_or places (k + 1) 0
+further whole places k v s =
+    let some : 0 < slice_index_or places (k + 1) 0 - slice_index_or places k 0 = number_takes _ _ _ _ _ s.1.1 in omega (arith, some)
+
+module _ (n : Numbers) (whole : List ℕ) (start : ℕ) (h : AreHeld n whole start) where
+  -- places go up
+  pub rises : (c : ℕ) → n.first + c ≤ n.known → place n n.first + c ≤ place n (n.first + c)
+  rises zero few = let same : n.first + 0 ≡ n.first = omega arith in rw same (omega arith)
+  rises (suc c) few =
+      let before = rises c (omega (arith, few)) in
+      let s = h.stand (n.first + c) (omega arith) (omega (arith, few)) in
+      let next : n.first + suc c ≡ n.first + c + 1 = omega arith in
+      let more_there = further whole n.places (n.first + c) (slice_index_or n.values (n.first + c) (pos 0)) s in
+      rw next (omega (arith, before, more_there))
+
+-- those from one of them on stand from its place on
+pub held_from : (n : Numbers) (there bytes next : ℕ) → n.first ≤ there → there ≤ n.known → place n n.first + bytes ≡ place n there
+    → (whole : List ℕ) (start : ℕ) → AreHeld n whole start → AreHeld (record n { first = there; zero = next }) whole (start + bytes)
+held_from n there bytes next after before same whole start h = record {
+  few = h.few;
+  front = λ less. let front = h.front (omega (arith, less, after)) in omega (arith, same, front);
+  stand = λ k low high. h.stand k (omega (arith, low, after)) high;
+}
+
+-- lines are counted one by one
+line_more : (first d : ℕ) → line_number (line_number (first + d) + 1) ≡ line_number (first + (d + 1))
+line_more first d = omega arith
+
+line_none : (first : ℕ) → first < 2 ^ 64 → first ≡ line_number (first + 0)
+line_none first small = omega (arith, small)
+
+same_cursor : (a b l m t u : ℕ) → a ≡ b → l ≡ m → t ≡ u
+    → (let c : Cursor = record { at = a; line = l; tokens = t } in c) ≡ record { at = b; line = m; tokens = u }
+same_cursor a b l m t u e f g = rw (e, f, g) refl
+
+-- the number and its separator, which stand after some bytes
+module _ (bytes run : List ℕ) (separator a len : ℕ) (front : take len (drop a bytes) ≡ run ++ separator ∷ [])
+    (within : len ≤ length (drop a bytes)) where
+  long : len ≡ length run + 1
+  long =
+      let cut = length-take len (drop a bytes) in
+      let whole : length (take len (drop a bytes)) ≡ length run + 1 = ap length front ∙ length-append run (separator ∷ []) in
+      omega (arith, cut, whole, within)
+
+  -- the byte before the place after them
+  pub last_is : get_or bytes (a + len - 1) 0 ≡ separator
+  last_is =
+      let at : a + len - 1 ≡ a + (len - 1) = omega (arith, long) in
+      let end : len - 1 ≡ length run + 0 = omega (arith, long) in
+      ap (λ k. get_or bytes k 0) at
+      ∙ sym (get_or-drop a bytes (len - 1) 0)
+      ∙ sym (get_or-take len (drop a bytes) (len - 1) 0 (omega (arith, long)))
+      ∙ ap (λ l. get_or l (len - 1) 0) front
+      ∙ ap (λ k. get_or (run ++ separator ∷ []) k 0) end
+      ∙ get_or-append-add run (separator ∷ []) 0 0
+
+module _ (n : Numbers) (bytes : List ℕ) (f : StandInFront n bytes) (from : Cursor) (at_front : from.at ≡ 0) (small : from.line < 2 ^ 64) where
+  h : AreHeld n f.whole f.start
+  h = f.held
+
+  none_passed : len_of n 0 ≡ 0
+  none_passed = let same : n.first + 0 ≡ n.first = omega arith in rw same (omega arith)
+
+  at_of : (c : ℕ) → (cursor_to n bytes from c).at ≡ len_of n c
+  at_of zero = at_front ∙ sym none_passed
+  at_of (suc c) = refl
+
+  abbrev ends_in : ℕ → ℕ
+  ends_in c = count_by is_line_end (take (len_of n c) bytes)
+
+  line_of : (c : ℕ) → (cursor_to n bytes from c).line ≡ line_number (from.line + ends_in c)
+  line_of zero =
+      let none : ends_in 0 ≡ 0 = ap (λ k. count_by is_line_end (take k bytes)) none_passed in
+      rw none (line_none from.line small)
+  line_of (suc c) = refl
+
+  bytes_at : (c : ℕ) → n.first + c < n.known → drop (len_of n c) bytes ≡ drop (place n (n.first + c)) f.whole
+  bytes_at c few =
+      let up = rises n f.whole f.start h c (omega (arith, few)) in
+      let front = h.front (omega (arith, few)) in
+      ap (λ l. drop (len_of n c) l) f.rest
+      ∙ drop-drop (len_of n c) f.start f.whole
+      ∙ ap (λ k. drop k f.whole) (omega (arith, front, up))
+
+  module _ (c : ℕ) (few : n.first + c < n.known) where
+    abbrev len : ℕ
+    len = place n (n.first + c + 1) - place n (n.first + c)
+
+    s : NumberStands f.whole n.places (n.first + c) (slice_index_or n.values (n.first + c) (pos 0))
+    s = h.stand (n.first + c) (omega arith) few
+
+    number : BeginsWithNumber (drop (place n (n.first + c)) f.whole) (int_lt (slice_index_or n.values (n.first + c) (pos 0)) (pos 0))
+        (unsigned_abs (slice_index_or n.values (n.first + c) (pos 0))) len s.1.0
+    number = s.1.1
+
+    reaches : len_of n (suc c) ≡ len_of n c + len
+    reaches =
+        let up = rises n f.whole f.start h c (omega (arith, few)) in
+        let more_there = further f.whole n.places (n.first + c) (slice_index_or n.values (n.first + c) (pos 0)) s in
+        let next : n.first + suc c ≡ n.first + c + 1 = omega arith in rw next (omega (arith, up, more_there))
+
+    front : take len (drop (len_of n c) bytes) ≡ number.run ++ number.separator ∷ []
+    front = ap (take len) (bytes_at c few) ∙ number.front
+
+    ends_more : ends_in (suc c) ≡ ends_in c + cond (is_line_end number.separator) 1 0
+    ends_more =
+        ap (λ k. count_by is_line_end (take k bytes)) reaches
+        ∙ more bytes (len_of n c) len
+        ∙ ap (λ l. ends_in c + count_by is_line_end l) front
+        ∙ ap (λ k. ends_in c + k) (one_after number.run number.separator number.unbroken)
+
+    inside : len ≤ length (drop (len_of n c) bytes)
+    inside = subst (λ l. len ≤ length l) (sym (bytes_at c few)) number.within
+
+    last : get_or bytes (len_of n (suc c) - 1) 0 ≡ number.separator
+    last = ap (λ k. get_or bytes (k - 1) 0) reaches ∙ last_is bytes number.run number.separator (len_of n c) len front inside
+
+    next_as : (ends : Bool) → ends ≡ is_line_end number.separator
+        → cursor_after (cursor_to n bytes from c) len ends ≡ cursor_to n bytes from (suc c)
+    next_as true e =
+        same_cursor _ _ _ _ _ _
+        (ap (λ a. a + len) (at_of c) ∙ sym reaches)
+        (ap (λ l. line_number (l + 1)) (line_of c) ∙ line_more from.line (ends_in c)
+        ∙ ap (λ d. line_number (from.line + d)) (sym (ends_more ∙ ap (λ b. ends_in c + cond b 1 0) (sym e))))
+        (sym (ap (λ b. one_if (not (is_line_end b))) last ∙ ap (λ b. one_if (not b)) (sym e)))
+    next_as false e =
+        same_cursor _ _ _ _ _ _
+        (ap (λ a. a + len) (at_of c) ∙ sym reaches)
+        (line_of c ∙ ap (λ d. line_number (from.line + d))
+        (let same : ends_in (suc c) ≡ ends_in c + 0 = ends_more ∙ ap (λ b. ends_in c + cond b 1 0) (sym e) in omega (arith, same)))
+        (sym (ap (λ b. one_if (not (is_line_end b))) last ∙ ap (λ b. one_if (not b)) (sym e)))
+
+    next_is : cursor_after (cursor_to n bytes from c) len s.1.0 ≡ cursor_to n bytes from (suc c)
+    next_is = next_as s.1.0 number.ends
+
+  line_small : (c : ℕ) → (cursor_to n bytes from c).line < 2 ^ 64
+  line_small c = rw (line_of c) (omega arith)
+
+  within : (c : ℕ) → n.first + c ≤ n.known → (cursor_to n bytes from c).at ≤ length bytes
+  within zero few = omega (arith, at_front)
+  within (suc c) few =
+      let number_there = s c (omega (arith, few)) in
+      let more_there = further f.whole n.places (n.first + c) (slice_index_or n.values (n.first + c) (pos 0)) number_there in
+      let next : n.first + suc c ≡ n.first + c + 1 = omega arith in
+      let front_there = h.front (omega (arith, few)) in
+      let all : length bytes ≡ length f.whole - f.start = ap length f.rest ∙ length-drop f.start f.whole in
+      rw next (omega (arith, number_there.0, more_there, front_there, all))
+
+  -- a cursor after some numbers is within the bytes
+  pub cursor_within : (c : ℕ) → (0 < c → n.first + c ≤ n.known) → (cursor_to n bytes from c).at ≤ length bytes
+  cursor_within zero few = omega (arith, at_front)
+  cursor_within (suc c) few = within (suc c) (few (omega arith))
+
+  -- one number stands between two cursors
+  step : (c : ℕ) → n.first + c < n.known
+      → PassesNumber bytes (cursor_to n bytes from c) (cursor_to n bytes from (suc c)) (token_at n.values (n.first + c))
+  step c few =
+      let v = slice_index_or n.values (n.first + c) (pos 0) in
+      let here = ap (λ a. drop a bytes) (at_of c) ∙ bytes_at c few in
+      let stands = subst (λ l. BeginsWithNumber l (int_lt v (pos 0)) (unsigned_abs v) (len c few) (s c few).1.0) (sym here) (s c few).1.1 in
+      subst (λ to. PassesNumber bytes (cursor_to n bytes from c) to (token_at n.values (n.first + c))) (next_is c few)
+      (passes_number bytes (cursor_to n bytes from c) _ _ _ (s c few).1.0 stands (line_small c) (within c (omega (arith, few))))
+
+  module _ {P A F : Type 0} (row : P → Token → Row P A F) (first : P) where
+    passes_by : (next : P) (count : ℕ) → (0 < count → n.first + count ≤ n.known) → LeadsBy row first next n.values n.first count
+        → Passes (LeadOn row first next) bytes from (cursor_to n bytes from count)
+    passes_by next zero few e =
+        subst (λ s. Passes (LeadOn row first s) bytes from from) e
+        (passes_none bytes (LeadOn row first first) from (omega (arith, at_front)) (λ ts. refl))
+    passes_by next (suc c) few l =
+        passes_on row first l.0 next bytes from (cursor_to n bytes from (suc c)) (cursor_to n bytes from c) (token_at n.values (n.first + c)) l.2
+        (passes_by l.0 c (λ some. omega (arith, few (omega arith))) l.1) (step c (omega (arith, few (omega arith))))
+
+    -- what a grammar took of the numbers is what it passed of the bytes
+    pub takes_passes : (next : P) (count : ℕ) (answer : Option A) → (0 < count → n.first + count ≤ n.known)
+        → TakesOver row first next n.values n.first (n.first + count) answer
+        → PassesAll row first next bytes from (cursor_to n bytes from count) answer
+    takes_passes next count None few l =
+        let same : l.count ≡ count = omega (arith, l.counted) in
+        subst (λ k. Passes (LeadOn row first next) bytes from (cursor_to n bytes from k)) same
+        (passes_by next l.count (λ some. omega (arith, few (omega (arith, same, some)), same)) l.leads)
+    takes_passes next count (Some a) few t =
+        let same : suc t.leads.count ≡ count = omega (arith, t.to_is, t.leads.counted) in
+        subst (λ k. PassesAll row first next bytes from (cursor_to n bytes from k) (Some a)) same (record {
+          last = t.last;
+          token = token_at n.values (n.first + t.leads.count);
+          here = cursor_to n bytes from t.leads.count;
+          leads = passes_by t.last t.leads.count (λ some. omega (arith, few (omega (arith, same)), same)) t.leads.leads;
+          passes = step t.leads.count (omega (arith, few (omega (arith, same)), same));
+          ends = ap (λ k. row t.last (token_at n.values k)) (sym t.leads.counted) ∙ t.ends;
+        })
+
+-- the bytes of some numbers are among those at hand
+pub len_within : (n : Numbers) (bytes : List ℕ) → StandInFront n bytes → (c : ℕ) → 0 < c → n.first + c ≤ n.known
+    → len_of n c ≤ length bytes
+len_within n bytes f c some few =
+    let from : Cursor = record { at = 0; line = 0; tokens = 0 } in
+    subst (λ k. k ≤ length bytes) (at_of n bytes f from refl (omega arith) c)
+    (cursor_within n bytes f from refl (omega arith) c (λ _. few))
+
+-- ---- filling
+
+-- what holds while numbers are put one after the other
+pub record FillsTo (n : Numbers) (whole : List ℕ) (start runs k at : ℕ) : Type 0 where
+  pub values_len : length n.values ≡ 2048
+  pub few : runs ≤ 2048
+  pub first : n.first ≤ k
+  pub before : k ≤ runs
+  pub front : place n n.first ≡ start
+  pub at_is : place n k ≡ at
+  pub within : at ≤ length whole
+  pub stand : (j : ℕ) → n.first ≤ j → j < k → NumberStands whole n.places j (slice_index_or n.values j (pos 0))
+
+before_or_after : (j k : ℕ) → (j < k) ⊎ (k ≤ j)
+before_or_after j k = elim (split (nat_lt j k) refl) [
+  | inl less ↦ inl (grind (arith, nat_tests, less))
+  | inr not_less ↦ inr (grind (arith, nat_tests, not_less))
+]
+  where
+    split : (b : Bool) → nat_lt j k ≡ b → (nat_lt j k ≡ true) ⊎ (nat_lt j k ≡ false)
+    split true e = inl e
+    split false e = inr e
+
+module _ (n m : Numbers) (whole : List ℕ) (start runs k at : ℕ) (values : List ℤ) (f : FillsTo n whole start runs k at)
+    (some : 0 < length values) (room : k + length values ≤ runs) (stand : StandFrom whole n.places k values)
+    (p : IsPut n.values m.values values k) where
+  each : (j : ℕ) → n.first ≤ j → j < k + length values → NumberStands whole n.places j (slice_index_or m.values j (pos 0))
+  each j low high = elim (before_or_after j k) [
+    | inl before ↦ rw (p.before j before) (f.stand j low before)
+    | inr after ↦
+        let i = j - k in
+        let is : j ≡ k + i = omega (arith, after) in
+        let few : i < length values = omega (arith, high, after, is) in
+        rw is (rw (p.there i few) (stand i few))
+  ]
+
+  last_within : place n (k + length values) ≤ length whole
+  last_within =
+      let last = stand (length values - 1) (omega (arith, some)) in
+      let is : k + (length values - 1) + 1 ≡ k + length values = omega (arith, some) in
+      subst (λ j. place n j ≤ length whole) is last.0
+
+  fills_with : FillsTo (record n { values = m.values }) whole start runs (k + length values) (place n (k + length values))
+  fills_with = record {
+    values_len = p.same_len ∙ f.values_len;
+    few = f.few;
+    first = omega (arith, f.first);
+    before = room;
+    front = f.front;
+    at_is = refl;
+    within = last_within;
+    stand = each;
+  }
+
+-- some numbers more
+pub fills_more : (n m : Numbers) (whole : List ℕ) (start runs k at l : ℕ) (values : List ℤ) → FillsTo n whole start runs k at
+    → length values ≡ l → 0 < l → k + l ≤ runs → StandFrom whole n.places k values → IsPut n.values m.values values k
+    → m ≡ record n { values = m.values } → FillsTo m whole start runs (k + l) (place m (k + l))
+fills_more n m whole start runs k at l values f len some room stand put is =
+    let with_them = fills_with n m whole start runs k at values f (omega (arith, some, len)) (omega (arith, room, len)) stand put in
+    let there : place m (k + l) ≡ place n (k + l) = ap (λ (x : Numbers). place x (k + l)) is in
+    rw there (subst (λ (x : Numbers). FillsTo x whole start runs (k + l) (place n (k + l))) (sym is)
+    (subst (λ j. FillsTo (record n { values = m.values }) whole start runs (k + j) (place n (k + j))) len with_them))
+
+-- nothing turns on the zeros
+pub fills_still : (n m : Numbers) (z : List ℕ) (whole : List ℕ) (start runs k at : ℕ) → m ≡ record n { zeros = z }
+    → FillsTo n whole start runs k at → FillsTo m whole start runs k at
+fills_still n m z whole start runs k at is f = rw is (record {
+  values_len = f.values_len;
+  few = f.few;
+  first = f.first;
+  before = f.before;
+  front = f.front;
+  at_is = f.at_is;
+  within = f.within;
+  stand = f.stand;
+})
+
+-- the place that was reached
+pub fills_at : (n : Numbers) (whole : List ℕ) (start runs k at : ℕ) → FillsTo n whole start runs k at
+    → FillsTo n whole start runs k (place n k)
+fills_at n whole start runs k at f = subst (λ p. FillsTo n whole start runs k p) (sym f.at_is) f

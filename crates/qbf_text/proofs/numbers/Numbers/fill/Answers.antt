@@ -1,0 +1,54 @@
+use Rattle.qbf_text.proofs.Words.{◌≡◌, ◌+◌, [], ◌∷◌, length, refl, arith}
+use Rattle.std.proofs.Common.{SFits, w32}
+use Rattle.std.proofs.lemmas.Int.{to_z-of_z}
+use Rattle.qbf_text.proofs.HeldNumbers.{fills_more, fills_still, fills_at}
+use Rattle.qbf_text.proofs.NumbersInARow.{alone}
+use Rattle.qbf_text.proofs.PutNumbers.{lanes_are}
+use Rattle.qbf_text.proofs.numbers.Numbers.fill.Goals.{in-Some, in_default+else-k-runs+in-Some-one_at}
+use Rattle.qbf_text.proofs.numbers.Numbers.fill.Goals as goal
+
+pub numbers-init : goal.numbers-init
+numbers-init c =
+    record {
+      values_len = c.seek-runs.ensures.values;
+      few = c.seek-runs.ensures.few;
+      first = omega arith;
+      before = c.seek-runs.ensures.first;
+      front = c.seek-runs.ensures.front;
+      at_is = c.seek-runs.ensures.front;
+      within = c.requires.start;
+      stand = λ j low high. absurd (omega (arith, low, high));
+    }
+
+pub put_four-requires-clause-short : goal.put_four-requires-clause-short
+put_four-requires-clause-short c = rw (lanes_are c.in-Some.four.values c.in-Some.ensures.short) c.in-Some.ensures.short
+
+pub numbers-preserved : goal.numbers-preserved
+numbers-preserved c =
+    let n = c.numbers.self in
+    let bytes = c.args.bytes.now in
+    let start = c.args.start in
+    let runs = c.seek-runs.result in
+    let k = c.numbers.k in
+    let f = c.numbers.invariant in
+    elim c.match-four_at.branch [
+      | in-Some w ↦
+          let values = w.in-Some.four.values in
+          let four : length values ≡ 4 = omega arith in
+          let p = w.put_four in
+          let m = w.note_zeros-zeros.new.self in
+          let more = fills_more n p.new.self bytes start runs k c.numbers.at 4 values f four (omega arith) w.in-Some.ensures.room
+          w.in-Some.ensures.stand (rw (lanes_are values w.in-Some.ensures.short) at p.ensures.put) p.ensures.same in
+          let all = fills_still p.new.self m m.zeros bytes start runs (k + 4) _ w.note_zeros-zeros.ensures.same more in
+          rw c.from-at.ensures (rw (w.self-is, w.k-is) (fills_at m bytes start runs (k + 4) _ all))
+      | in_default+else-k-runs+in-Some-one_at w ↦
+          let value = w.in-Some-one_at.value in
+          let p = w.put in
+          let fits : SFits w32 value = search in
+          let m = w.note_zeros-zeros-in_default.new.self in
+          let more = fills_more n p.new.self bytes start runs k c.numbers.at 1 (value ∷ []) f refl (omega arith)
+          (omega (arith, w.if-k-runs.false)) (alone bytes n.places k value w.in-Some-one_at.ensures.stands)
+          (rw (to_z-of_z w32 value fits) at p.ensures.put) p.ensures.same in
+          let all = fills_still p.new.self m m.zeros bytes start runs (k + 1) _ w.note_zeros-zeros-in_default.ensures.same more in
+          rw c.from-at.ensures (rw (w.self-is, w.k-is) (fills_at m bytes start runs (k + 1) _ all))
+    ]

@@ -1,0 +1,25 @@
+use Rattle.qbf_text.proofs.Words.{◌≡◌, length, rules}
+use Rattle.qbf_text.proofs.NumbersInARow.{row_stands, ends_go_up, are_short, four_ends}
+use Rattle.qbf_text.proofs.numbers.Numbers.four_at.Goals as goal
+
+pub all_separate-requires : goal.all_separate-requires
+all_separate-requires c =
+    let four : length c.ends-ends.result ≡ 4 = search rules in
+    let up = ends_go_up c.args.bytes.now c.args.at c.ends-ends.result (length c.args.bytes.now) c.in_ok-four.four.values four
+    c.in_ok-four.ensures.numbers c.in_ok-four.ensures.within in
+    (up.first, up.second, up.third, up.fourth)
+
+pub returns-clause-short : goal.returns-clause-short
+returns-clause-short c = are_short c.args.bytes.now c.args.at c.ends-ends.result c.in_ok-four.four.values c.in_ok-four.ensures.numbers
+
+pub returns-clause-stand : goal.returns-clause-stand
+returns-clause-stand c =
+    let bytes = c.args.bytes.now in
+    let places = c.args.self.now.places in
+    let k = c.args.k in
+    let four : length c.ends-ends.result ≡ 4 = search rules in
+    let up = ends_go_up bytes c.args.at c.ends-ends.result (length bytes) c.in_ok-four.four.values four
+    c.in_ok-four.ensures.numbers c.in_ok-four.ensures.within in
+    row_stands bytes places c.ends-ends.result c.in_ok-four.four.values k c.args.at c.requires.here c.in_ok-four.ensures.numbers
+    (four_ends bytes places c.ends-ends.result k four up (c.all_separate.ensures c.if-not-all_separate.false) c.requires.small
+    c.ends-ends.ensures.first c.ends-ends.ensures.second c.ends-ends.ensures.third c.ends-ends.ensures.fourth)

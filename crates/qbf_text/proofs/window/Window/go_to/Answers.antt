@@ -1,0 +1,17 @@
+use Rattle.qbf_text.proofs.Words.{◌≤◌, length, sym, subst}
+use Rattle.qbf_text.proofs.Windows.{part_within, part_few}
+use Rattle.qbf_text.proofs.window.Window.go_to.Goals as goal
+
+pub pass-requires-clause-small : goal.pass-requires-clause-small
+pass-requires-clause-small c =
+    let w = c.self.inside in
+    part_few w.bytes w.start w.end c.args.count (subst (λ l. c.args.count ≤ length l) (sym c.self.view_is) c.requires) c.self.invariant.1
+
+pub invariant_of-self : goal.invariant_of-self
+invariant_of-self c =
+    let w = c.self.inside in (
+      part_within w.bytes w.start w.end c.args.count c.self.invariant.0
+          (subst (λ l. c.args.count ≤ length l) (sym c.self.view_is) c.requires),
+      c.self.invariant.1,
+      c.pass.ensures.held _ _ c.self.invariant.2,
+    )

@@ -1,0 +1,129 @@
+-- Numbers at hand: what a grammar makes of them, and where each stands among the bytes.
+use Rattle.std.specs.Prelude.{◌≡◌, ℕ, zero, suc, ◌+◌, ◌-◌, ◌<◌, ◌≤◌, Bool, true, false, not, count_by, List, [], ◌∷◌, ◌++◌, length, take, drop}
+use Rattle.std.specs.Prelude.{Option, Some, None, ℤ, pos, unsigned_abs, int_lt}
+use Rattle.std.specs.Prelude.{slice_index_or, ◌^◌}
+use Rattle.std.specs.Simd.Lanes.{Each1}
+use Rattle.qbf_text.specs.declared.buffered.Cursor.{Cursor}
+use Rattle.qbf_text.specs.declared.numbers.Numbers.{Numbers}
+use Rattle.qbf_text.specs.declared.token.Token.{Token}
+use Rattle.qbf_text.specs.declared.token.Token.TheVariants.{Number}
+use Rattle.qbf_text.specs.Left.{is_separator, IsUnbroken}
+use Rattle.qbf_text.specs.Rows.{Row, Goes, Ends}
+use Rattle.qbf_text.specs.Runs.{begins_number}
+use Rattle.qbf_text.specs.Tokens.{line_number, kind, is_line_end}
+
+-- ---- what a grammar makes of them
+
+-- the token that a number is
+abbrev pub token_of : ℤ → Token
+token_of v = Number (int_lt v (pos 0)) (unsigned_abs v)
+
+-- the token of the number at a place of a list
+abbrev pub token_at : List ℤ → ℕ → Token
+token_at values k = token_of (slice_index_or values k (pos 0))
+
+-- so many numbers from a place on lead from one state to another
+abbrev pub LeadsBy : {P A F : Type 0} → (P → Token → Row P A F) → (first next : P) → List ℤ → (from count : ℕ) → Type 0
+LeadsBy row first next values from zero = first ≡ next
+LeadsBy {P} row first next values from (suc count) =
+    (mid : P) × LeadsBy row first mid values from count × (row mid (token_at values (from + count)) ≡ Goes next)
+
+-- the numbers between two places lead from one state to another
+pub record LeadsOver {P A F : Type 0} (row : P → Token → Row P A F) (first next : P) (values : List ℤ) (from to : ℕ) : Type 0 where
+  pub count : ℕ
+  pub counted : to ≡ from + count
+  pub leads : LeadsBy row first next values from count
+
+-- and there one number more ends what is read
+pub record EndsOver {P A F : Type 0} (row : P → Token → Row P A F) (first next : P) (result : A) (values : List ℤ) (from to : ℕ)
+    : Type 0 where
+  pub last : P
+  pub at : ℕ
+  pub leads : LeadsOver row first last values from at
+  pub to_is : to ≡ at + 1
+  pub ends : row last (token_at values at) ≡ Ends result next
+
+-- what a grammar took of the numbers between two places, and what it read, if it is complete
+abbrev pub TakesOver : {P A F : Type 0} → (P → Token → Row P A F) → (first next : P) → List ℤ → (from to : ℕ) → Option A → Type 0
+TakesOver row first next values from to None = LeadsOver row first next values from to
+TakesOver row first next values from to (Some result) = EndsOver row first next result values from to
+
+-- ---- where they stand
+
+-- the first `len` bytes are a run that is this number, and the separator after it, which ends the line or not
+pub record BeginsWithNumber (bytes : List ℕ) (negative : Bool) (value len : ℕ) (ends_line : Bool) : Type 0 where
+  pub run : List ℕ
+  pub separator : ℕ
+  pub within : len ≤ length bytes
+  pub front : take len bytes ≡ run ++ separator ∷ []
+  pub begins : begins_number run ≡ true
+  pub unbroken : IsUnbroken run
+  pub is : Number negative value ≡ kind run
+  pub separates : is_separator separator ≡ true
+  pub ends : ends_line ≡ is_line_end separator
+
+-- the first `len` bytes are a run that is this number, and the separator after it
+abbrev pub BeginsWithValue : List ℕ → (len : ℕ) → ℤ → Type 0
+BeginsWithValue bytes len value = (ends_line : Bool) × BeginsWithNumber bytes (int_lt value (pos 0)) (unsigned_abs value) len ends_line
+
+-- separators stand at these places
+abbrev pub AreSeparators : List ℕ → List ℕ → Type 0
+AreSeparators bytes places = (i : ℕ) → i < length places → is_separator (slice_index_or bytes (slice_index_or places i 0) 0) ≡ true
+
+-- 1 where this is so
+abbrev pub one_if : Bool → ℕ
+one_if true = 1
+one_if false = 0
+
+-- a number stands at its place among the bytes of the window, and the next place is after its separator
+abbrev pub NumberStands : (whole places : List ℕ) → (k : ℕ) → ℤ → Type 0
+NumberStands whole places k value = (slice_index_or places (k + 1) 0 ≤ length whole)
+    × BeginsWithValue (drop (slice_index_or places k 0) whole) (slice_index_or places (k + 1) 0 - slice_index_or places k 0) value
+
+-- numbers stand at their places, from one of them on
+abbrev pub StandFrom : (whole places : List ℕ) → (k : ℕ) → List ℤ → Type 0
+StandFrom whole places k values = (i : ℕ) → i < length values → NumberStands whole places (k + i) (slice_index_or values i (pos 0))
+
+-- numbers are put in the place of others, and those before them stay
+pub record IsPut (old new values : List ℤ) (k : ℕ) : Type 0 where
+  pub same_len : length new ≡ length old
+  pub before : (j : ℕ) → j < k → slice_index_or new j (pos 0) ≡ slice_index_or old j (pos 0)
+  pub there : (i : ℕ) → i < length values → slice_index_or new (k + i) (pos 0) ≡ slice_index_or values i (pos 0)
+
+-- each number has 32 bits
+abbrev pub AreShort : List ℤ → Type 0
+AreShort values = Each1 (λ v. unsigned_abs v < 2 ^ 31) values
+
+-- where a number begins in the window
+abbrev pub place : Numbers → ℕ → ℕ
+place n k = slice_index_or n.places k 0
+
+-- how many bytes the first of them that are not passed take, with the separator after each
+abbrev pub len_of : Numbers → ℕ → ℕ
+len_of n count = place n (n.first + count) - place n n.first
+
+-- the numbers that are known and not passed stand one after the other from a place of the window on
+pub record AreHeld (n : Numbers) (whole : List ℕ) (start : ℕ) : Type 0 where
+  pub few : n.known ≤ 2048
+  pub front : n.first < n.known → place n n.first ≡ start
+  pub stand : (k : ℕ) → n.first ≤ k → k < n.known → NumberStands whole n.places k (slice_index_or n.values k (pos 0))
+
+-- they stand at the front of these bytes
+pub record StandInFront (n : Numbers) (bytes : List ℕ) : Type 0 where
+  pub whole : List ℕ
+  pub start : ℕ
+  pub rest : bytes ≡ drop start whole
+  pub held : AreHeld n whole start
+
+-- the cursor after so many of them, of which the first stands at a cursor and at the front of these bytes
+abbrev pub cursor_to : Numbers → List ℕ → Cursor → ℕ → Cursor
+cursor_to n bytes from zero = from
+cursor_to n bytes from (suc count) = record {
+  at = len_of n (suc count);
+  line = line_number (from.line + count_by is_line_end (take (len_of n (suc count)) bytes));
+  tokens = one_if (not (is_line_end (slice_index_or bytes (len_of n (suc count) - 1) 0)));
+}
+
+-- a list is the part of the numbers from a place on
+abbrev pub IsPart : (list values : List ℤ) → (start : ℕ) → Type 0
+IsPart list values start = (k : ℕ) → k < length list → slice_index_or list k (pos 0) ≡ slice_index_or values (start + k) (pos 0)

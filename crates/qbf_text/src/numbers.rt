@@ -1,0 +1,485 @@
+//! Numbers of a window, many at a time: first where they seem to end, then what they are.
+
+ghost use Rattle.std.specs.Prelude.{◌≡◌, ℕ, ◌+◌, ◌<◌, ◌≤◌, List, [], ◌∷◌, length, IfSome, pos};
+ghost use Rattle.std.specs.Prelude.{unsigned_abs, int_lt, nat_eq, nat_le, slice_index};
+ghost use Rattle.std.specs.Prelude.{◌&&◌, false, true};
+ghost use Rattle.qbf_text.specs.Numbers.{AreHeld, AreSeparators, AreShort, BeginsWithValue};
+ghost use Rattle.qbf_text.specs.Numbers.{IsPart, IsPut, NumberStands, StandFrom};
+ghost use Rattle.qbf_text.specs.Numbers.{cursor_to, len_of, place};
+ghost use Rattle.qbf_text.specs.Left.{is_separator};
+
+use crate::buffered::{Cursor, begins_with_minus, is_minus_zero};
+use crate::lines::count_line_ends;
+use crate::marks::ends_of;
+use crate::separators::is_separator;
+use decimal::{FourNumbers, four_numbers, number_between};
+use std::simd::prelude::*;
+
+/// How many numbers are kept at most: a window has no more, unless some of them are empty.
+pub const MOST: usize = 2048;
+
+/// How many bytes are looked at together for where numbers end.
+const BLOCK: usize = 64;
+
+/// A bit for each of the first 64 bytes, the lowest for the first, whether it is at most a blank,
+/// as separators are.
+#[inline(always)]
+fn marks_of(block: &[u8]) -> u64
+    requires { 64 ≤ length block.now }
+{
+    u8x64::from_slice(block)
+        .simd_le(u8x64::splat(b' '))
+        .to_bitmask()
+}
+
+/// The number with this sign and magnitude.
+#[inline(always)]
+fn signed(negative: bool, magnitude: u64) -> i32
+    requires { magnitude ≤ 99999999 }
+    ensures magnitude { unsigned_abs result ≡ magnitude }
+    ensures sign { (negative && nat_eq magnitude 0) ≡ false → int_lt result (pos 0) ≡ negative }
+{
+    let value = magnitude as i32;
+    if negative { -value } else { value }
+}
+
+/// Whether digits and their sign write a number of at most eight digits if this byte follows them.
+#[inline(always)]
+fn is_usual(negative: bool, magnitude: u64, next: u8) -> bool
+    ensures sign { result ≡ true → (negative && nat_eq magnitude 0) ≡ false }
+    ensures few { result ≡ true → magnitude ≤ 99999999 }
+    ensures separates { result ≡ true → is_separator next ≡ true }
+{
+    !is_minus_zero(negative, magnitude) && magnitude <= 99_999_999 && is_separator(next)
+}
+
+/// The number that the bytes begin with, if it takes at most eight bytes and a separator follows it
+/// at the place `end`.
+#[inline(always)]
+fn number_before(bytes: &[u8], end: usize) -> Option<i32>
+    ensures { IfSome result (λ value. BeginsWithValue bytes.now (end + 1) value) }
+{
+    if bytes.len() <= 8 || end.wrapping_sub(1) > 7 {
+        return None;
+    }
+    let negative = begins_with_minus(bytes);
+    let start = usize::from(negative);
+    let magnitude = number_between(bytes, start, end)?;
+    if !is_usual(negative, magnitude, bytes[end]) {
+        return None;
+    }
+    Some(signed(negative, magnitude))
+}
+
+/// For each byte, 0 if it separates tokens, and else 1.
+const OTHERS: [u8; 256] = [
+    1, 1, 1, 1, 1, 1, 1, 1, 1, 0, 0, 1, 1, 0, 1, 1, 1, 1, 1, 1, 1, 1, 1, 1, 1, 1, 1, 1, 1, 1, 1, 1,
+    0, 1, 1, 1, 1, 1, 1, 1, 1, 1, 1, 1, 1, 1, 1, 1, 1, 1, 1, 1, 1, 1, 1, 1, 1, 1, 1, 1, 1, 1, 1, 1,
+    1, 1, 1, 1, 1, 1, 1, 1, 1, 1, 1, 1, 1, 1, 1, 1, 1, 1, 1, 1, 1, 1, 1, 1, 1, 1, 1, 1, 1, 1, 1, 1,
+    1, 1, 1, 1, 1, 1, 1, 1, 1, 1, 1, 1, 1, 1, 1, 1, 1, 1, 1, 1, 1, 1, 1, 1, 1, 1, 1, 1, 1, 1, 1, 1,
+    1, 1, 1, 1, 1, 1, 1, 1, 1, 1, 1, 1, 1, 1, 1, 1, 1, 1, 1, 1, 1, 1, 1, 1, 1, 1, 1, 1, 1, 1, 1, 1,
+    1, 1, 1, 1, 1, 1, 1, 1, 1, 1, 1, 1, 1, 1, 1, 1, 1, 1, 1, 1, 1, 1, 1, 1, 1, 1, 1, 1, 1, 1, 1, 1,
+    1, 1, 1, 1, 1, 1, 1, 1, 1, 1, 1, 1, 1, 1, 1, 1, 1, 1, 1, 1, 1, 1, 1, 1, 1, 1, 1, 1, 1, 1, 1, 1,
+    1, 1, 1, 1, 1, 1, 1, 1, 1, 1, 1, 1, 1, 1, 1, 1, 1, 1, 1, 1, 1, 1, 1, 1, 1, 1, 1, 1, 1, 1, 1, 1,
+];
+
+/// The entry of a table for a byte.
+#[inline(always)]
+fn entry(table: &[u8], byte: u8) -> u8
+    requires { byte < length table.now }
+    ensures { result ≡ slice_index table.now byte }
+{
+    table[usize::from(byte)]
+}
+
+/// 0 if the byte at a place separates tokens.
+#[inline(always)]
+fn other_at(bytes: &[u8], place: usize) -> u8
+    requires { place < length bytes.now }
+    ensures { nat_eq result 0 ≡ is_separator (slice_index bytes.now place) }
+{
+    entry(&OTHERS, bytes[place])
+}
+
+/// Whether a separator stands at each of four places.
+#[inline(always)]
+#[tactic(auto, using(crate::proofs::NumbersInARow::four_separate))]
+fn all_separate(bytes: &[u8], places: [usize; 4]) -> bool
+    requires { (slice_index places 0 < length bytes.now) × (slice_index places 1 < length bytes.now)
+        × (slice_index places 2 < length bytes.now) × (slice_index places 3 < length bytes.now) }
+    ensures { result ≡ true → AreSeparators bytes.now places }
+{
+    let [a, b, c, d] = places;
+    let [a, b] = [other_at(bytes, a), other_at(bytes, b)];
+    let [c, d] = [other_at(bytes, c), other_at(bytes, d)];
+    (a | b | c | d) == 0
+}
+
+/// For each four bits, four numbers: first the places of those that are set, and then zeros.
+const PLACES: [u16; 64] = [
+    0, 0, 0, 0, 0, 0, 0, 0, 1, 0, 0, 0, 0, 1, 0, 0, 2, 0, 0, 0, 0, 2, 0, 0, 1, 2, 0, 0, 0, 1, 2, 0,
+    3, 0, 0, 0, 0, 3, 0, 0, 1, 3, 0, 0, 0, 1, 3, 0, 2, 3, 0, 0, 0, 2, 3, 0, 1, 2, 3, 0, 0, 1, 2, 3,
+];
+
+/// The part of a table for four bits, the lowest of these.
+#[inline(always)]
+fn four_of(table: &[u16], bits: u64) -> u16x4
+    requires { 64 ≤ length table.now }
+{
+    u16x4::from_slice(&table[4 * (bits % 16) as usize..])
+}
+
+/// Where zeros seem to stand among numbers: no contract says that they do.
+#[derive(Clone, Copy)]
+pub struct Zeros<'a> {
+    /// Their places, and as many more as numbers were passed before.
+    places: &'a [u16],
+    /// How many numbers were passed before.
+    first: usize,
+}
+
+impl<'a> Zeros<'a> {
+    /// The place of the zero with this number, counted from 0, as it seems; else a great number.
+    #[inline(always)]
+    pub fn place(self, zero: usize) -> usize {
+        if zero < self.places.len() {
+            usize::from(self.places[zero]).wrapping_sub(self.first)
+        } else {
+            usize::MAX
+        }
+    }
+}
+
+/// Numbers that stand one after the other at the front of the bytes at hand.
+#[derive(Drop)]
+pub struct Numbers {
+    /// The numbers.
+    pub values: [i32; MOST],
+    /// Where each begins in the window; the next one begins after the separator.
+    pub places: [u16; MOST + 9],
+    /// Which of them are 0.
+    pub zeros: [u16; MOST + 4],
+    /// The first that was not passed.
+    pub first: usize,
+    /// The end of those that are known.
+    pub known: usize,
+    /// The end of those whose place seems to be known.
+    pub runs: usize,
+    /// The first zero that was not passed.
+    pub zero: usize,
+    /// The end of the zeros.
+    pub zero_count: usize,
+}
+
+impl Numbers {
+    /// None.
+    pub fn new() -> Numbers
+        ensures { result.known ≡ 0 }
+    {
+        Numbers {
+            values: [0; MOST],
+            places: [0; MOST + 9],
+            zeros: [0; MOST + 4],
+            first: 0,
+            known: 0,
+            runs: 0,
+            zero: 0,
+            zero_count: 0,
+        }
+    }
+
+    /// None are known any more.
+    #[inline(always)]
+    pub fn forget(&mut self)
+        ensures { self.new.known ≡ 0 }
+    {
+        self.known = 0;
+    }
+
+    /// Notes where numbers seem to end among eight bytes, after those that were noted: a bit marks
+    /// each, and `first` is the place of the first byte. Returns how many are noted.
+    #[inline(always)]
+    fn note_eight(&mut self, marks: u8, first: u16x8, runs: usize) -> usize
+        requires room { runs ≤ 2048 }
+        ensures same { self.new ≡ record self.old { places = self.new.places } }
+        ensures room { result ≤ runs + 8 }
+    {
+        (first + ends_of(marks)).copy_to_slice(&mut self.places[runs + 1..]);
+        runs + marks.count_ones() as usize
+    }
+
+    /// Notes where numbers seem to end among the 64 bytes from the place `block` of the window on,
+    /// after those that were noted. Returns how many are noted.
+    #[inline(always)]
+    fn note(&mut self, bytes: &[u8], block: usize, runs: usize) -> usize
+        requires block { block + 64 ≤ length bytes.now }
+        requires small { length bytes.now ≤ 4096 }
+        requires room { runs + 64 ≤ 2048 }
+        ensures same { self.new ≡ record self.old { places = self.new.places } }
+        ensures room { result ≤ runs + 64 }
+    {
+        let marks = marks_of(&bytes[block..]).to_le_bytes();
+        let mut first = u16x8::splat(block as u16);
+        let mut runs = runs;
+        let mut i = 0;
+        while i < 8 {
+            runs = self.note_eight(marks[i], first, runs);
+            first += u16x8::splat(8);
+            i += 1;
+        }
+        runs
+    }
+
+    /// Looks where the numbers of these bytes seem to end, the first so many of which were pulled.
+    #[inline(never)]
+    pub fn look(&mut self, bytes: &[u8], len: usize)
+        requires { length bytes.now ≤ 4096 }
+        ensures { self.new.known ≡ 0 }
+    {
+        let mut block = 0;
+        let mut runs = 0;
+        while block < len && block + BLOCK <= bytes.len() && runs + BLOCK <= MOST {
+            runs = self.note(bytes, block, runs);
+            block += BLOCK;
+        }
+        self.first = 0;
+        self.known = 0;
+        self.runs = runs;
+    }
+
+    /// Goes to the first run that seems to end after the place `start` of the window. Returns the
+    /// end of those whose place seems to be known.
+    #[inline(always)]
+    fn seek(&mut self, start: usize) -> usize
+        requires { start ≤ 4096 }
+        ensures front { place self.new self.new.first ≡ start }
+        ensures few { result ≤ 2048 }
+        ensures first { self.new.first ≤ result }
+        ensures values { length self.new.values ≡ 2048 }
+    {
+        let runs = self.runs.min(MOST);
+        let mut first = self.first.min(runs);
+        while first < runs && self.places[first + 1] as usize <= start {
+            first += 1;
+        }
+        self.places[first] = start as u16;
+        self.first = first;
+        runs
+    }
+
+    /// Puts a number at the place `k`.
+    #[inline(always)]
+    fn put(&mut self, k: usize, value: i32)
+        requires room { k < 2048 }
+        ensures same { self.new ≡ record self.old { values = self.new.values } }
+        ensures put { IsPut self.old.values self.new.values (value ∷ []) k }
+    {
+        self.values[k] = value;
+    }
+
+    /// Puts four numbers from the place `k` on.
+    #[inline(always)]
+    fn put_four(&mut self, k: usize, values: i32x4)
+        requires room { k + 4 ≤ 2048 }
+        requires short { AreShort values }
+        ensures same { self.new ≡ record self.old { values = self.new.values } }
+        ensures put { IsPut self.old.values self.new.values values k }
+    {
+        values.copy_to_slice(&mut self.values[k..]);
+    }
+
+    /// Notes which of the numbers from the place `k` on are zero, after so many zeros: a bit for
+    /// each of four. Returns how many are noted.
+    #[inline(always)]
+    fn note_zeros(&mut self, k: usize, marks: u64, zeros: usize) -> usize
+        requires { k ≤ 2048 }
+        ensures same { self.new ≡ record self.old { zeros = self.new.zeros } }
+    {
+        let places = four_of(&PLACES, marks) + u16x4::splat(k as u16);
+        places.copy_to_slice(&mut self.zeros[zeros % MOST..]);
+        zeros.wrapping_add(marks.count_ones() as usize)
+    }
+
+    /// The place of the separator after the number `k`, as it seems.
+    #[inline(always)]
+    fn end(&self, k: usize) -> usize
+        requires { k < 2048 }
+        ensures { result < 4096 → place self.now (k + 1) ≡ result + 1 }
+    {
+        usize::from(self.places[k + 1]).wrapping_sub(1)
+    }
+
+    /// The places of the separators after four numbers from the number `k` on, as they seem.
+    #[inline(always)]
+    fn ends(&self, k: usize) -> [usize; 4]
+        requires { k + 4 ≤ 2048 }
+        ensures first { slice_index result 0 < 4096 → place self.now (k + 1) ≡ slice_index result 0 + 1 }
+        ensures second { slice_index result 1 < 4096 → place self.now (k + 2) ≡ slice_index result 1 + 1 }
+        ensures third { slice_index result 2 < 4096 → place self.now (k + 3) ≡ slice_index result 2 + 1 }
+        ensures fourth { slice_index result 3 < 4096 → place self.now (k + 4) ≡ slice_index result 3 + 1 }
+    {
+        [
+            self.end(k),
+            self.end(k + 1),
+            self.end(k + 2),
+            self.end(k + 3),
+        ]
+    }
+
+    /// The number `k`, which begins at the place `at`, if it is a usual one.
+    #[cold]
+    #[inline(never)]
+    fn one_at(&self, bytes: &[u8], k: usize, at: usize) -> Option<i32>
+        requires room { k < 2048 }
+        requires at { at ≤ length bytes.now }
+        requires here { place self.now k ≡ at }
+        requires small { length bytes.now ≤ 4096 }
+        ensures stands { IfSome result (λ value. NumberStands bytes.now self.now.places k value) }
+    {
+        let end = self.end(k);
+        number_before(&bytes[at..], end.wrapping_sub(at))
+    }
+
+    /// The four numbers from the number `k` on, which begin at the place `at`, if they come before
+    /// the number `runs` and are usual ones.
+    #[inline(always)]
+    fn four_at(&self, bytes: &[u8], k: usize, at: usize, runs: usize) -> Option<FourNumbers>
+        requires room { runs ≤ 2048 }
+        requires k { k ≤ runs }
+        requires here { place self.now k ≡ at }
+        requires small { length bytes.now ≤ 4096 }
+        ensures room { IfSome result (λ _. k + 4 ≤ runs) }
+        ensures stand { IfSome result (λ four. StandFrom bytes.now self.now.places k four.values) }
+        ensures short { IfSome result (λ four. AreShort four.values) }
+    {
+        if k + 4 > runs {
+            return None;
+        }
+        let ends = self.ends(k);
+        let four = four_numbers(bytes, at, ends)?;
+        if !all_separate(bytes, ends) {
+            return None;
+        }
+        Some(four)
+    }
+
+    /// Makes the numbers known that stand from the place `start` on, as far as they are usual: of
+    /// at most eight bytes.
+    #[inline(never)]
+    pub fn fill(&mut self, bytes: &[u8], start: usize)
+        requires start { start ≤ length bytes.now }
+        requires small { length bytes.now ≤ 4096 }
+        ensures { AreHeld self.new bytes.now start }
+    {
+        let runs = self.seek(start);
+        let mut k = self.first;
+        let mut at = start;
+        let mut zeros = 0;
+        'numbers: loop {
+            if let Some(four) = self.four_at(bytes, k, at, runs) {
+                self.put_four(k, four.values);
+                zeros = self.note_zeros(k, four.zeros, zeros);
+                k += 4;
+            } else {
+                if k >= runs {
+                    break;
+                }
+                let Some(value) = self.one_at(bytes, k, at) else {
+                    break;
+                };
+                self.put(k, value);
+                zeros = self.note_zeros(k, u64::from(value == 0), zeros);
+                k += 1;
+            }
+            at = usize::from(self.places[k]);
+        }
+        self.known = k;
+        self.zero = 0;
+        self.zero_count = zeros;
+    }
+
+    /// Whether none is at hand.
+    #[inline(always)]
+    pub fn is_empty(&self) -> bool
+        ensures { result ≡ nat_le self.now.known self.now.first }
+    {
+        self.known <= self.first
+    }
+
+    /// The numbers that are known.
+    #[inline(always)]
+    pub fn values(&self) -> &[i32]
+        requires some { self.now.first ≤ self.now.known }
+        requires few { self.now.known ≤ 2048 }
+        ensures part { IsPart result.now self.now.values self.now.first }
+        ensures within { self.now.first + length result.now ≤ self.now.known }
+    {
+        &self.values[self.first..self.known]
+    }
+
+    /// Where zeros seem to stand among the numbers that are known.
+    #[inline(always)]
+    pub fn zeros(&self) -> Zeros {
+        let count = self.zero_count.min(MOST);
+        Zeros {
+            places: &self.zeros[self.zero.min(count)..count],
+            first: self.first,
+        }
+    }
+
+    /// The cursor after so many numbers, of which the first stands at `from` and at the front of
+    /// these bytes.
+    #[inline(always)]
+    pub fn cursor_after(&self, bytes: &[u8], from: Cursor, count: usize) -> Cursor
+        requires few { 0 < count → self.now.first + count ≤ 2048 }
+        requires further { 0 < count
+            → place self.now self.now.first < place self.now (self.now.first + count) }
+        requires within { 0 < count → len_of self.now count ≤ length bytes.now }
+        ensures { result ≡ cursor_to self.now bytes.now from count }
+    {
+        if count == 0 {
+            return from;
+        }
+        let len = usize::from(self.places[self.first + count] - self.places[self.first]);
+        Cursor {
+            at: len,
+            line: from.line.saturating_add(count_line_ends(&bytes[..len])),
+            tokens: u64::from(bytes[len - 1] != b'\n'),
+        }
+    }
+
+    /// The number of the first zero that stands from a place on.
+    #[inline(always)]
+    fn zero_from(&self, there: usize) -> usize {
+        let count = self.zero_count.min(MOST);
+        if there >= self.known {
+            return count;
+        }
+        let mut zero = self.zero;
+        while zero < count && usize::from(self.zeros[zero]) < there {
+            zero += 1;
+        }
+        zero
+    }
+
+    /// Goes past so many numbers, which take so many bytes, and forgets all if they do not.
+    #[inline(always)]
+    pub fn pass(&mut self, count: usize, bytes: usize)
+        requires few { self.old.known ≤ 2048 }
+        requires small { bytes ≤ 4096 }
+        ensures held { (whole : List ℕ) (start : ℕ) → AreHeld self.old whole start
+            → AreHeld self.new whole (start + bytes) }
+    {
+        let here = self.first;
+        let there = here.wrapping_add(count);
+        if here <= there
+            && there <= self.known
+            && usize::from(self.places[here]) + bytes == usize::from(self.places[there])
+        {
+            self.first = there;
+            self.zero = self.zero_from(there);
+        } else {
+            self.known = 0;
+        }
+    }
+}

@@ -1,0 +1,14 @@
+use Rattle.qdimacs.proofs.Words.{◌-◌, ◌≤◌, length, state_at, IsSound, row}
+use Rattle.qbf_text.specs.Numbers.{LeadsOver}
+use Rattle.qdimacs.specs.declared.grammar.At.TheVariants.{Between}
+use Rattle.qdimacs.proofs.grammar.take_clauses.Given as goal
+
+abbrev pub invariant-clauses : goal.invariant-clauses
+invariant-clauses l = record {
+  leads : LeadsOver row (state_at l.fn.parts Between) (state_at l.parts Between) l.values l.fn.start.0 l.i;
+  sound : IsSound Between l.parts;
+  within : l.i ≤ length l.values;
+}
+
+abbrev pub decreases-clauses : goal.decreases-clauses
+decreases-clauses l = length l.values - l.i

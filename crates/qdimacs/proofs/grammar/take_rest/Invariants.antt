@@ -1,0 +1,13 @@
+use Rattle.qdimacs.proofs.Words.{◌-◌, ◌≤◌, length, state_at, IsSound, row}
+use Rattle.qbf_text.specs.Numbers.{LeadsOver}
+use Rattle.qdimacs.proofs.grammar.take_rest.Given as goal
+
+abbrev pub invariant-numbers : goal.invariant-numbers
+invariant-numbers l = record {
+  leads : LeadsOver row (state_at l.fn.parts l.fn.at) (state_at l.parts l.state) l.values l.fn.from l.i;
+  sound : IsSound l.state l.parts;
+  within : l.i ≤ length l.values;
+}
+
+abbrev pub decreases-numbers : goal.decreases-numbers
+decreases-numbers l = length l.values - l.i

@@ -1,0 +1,40 @@
+use Rattle.qdimacs.proofs.Words.{◌≡◌, ◌++◌, ◌∷◌, [], map, refl, arith, common_steps, length-append}
+use Rattle.qdimacs.proofs.Words.{AllByRecursion-push, AreBound, pairs, heading}
+use Rattle.std.specs.Prelude.{slice_range, IsTrue}
+use Rattle.qbf_core.specs.WrittenLiterals.{literal_of}
+use Rattle.qdimacs.proofs.WholeClauses.{clause_bound, clause_leads, more_clauses}
+use Rattle.qdimacs.proofs.grammar.take_whole.Goals as goal
+
+pub returns-in-Ok-clause-leads : goal.returns-in-Ok-clause-leads
+returns-in-Ok-clause-leads c = λ t.
+    let p = c.args.parts.now in
+    let put : IsTrue c.in_ok-extend_written.field-0 = grind (arith, common_steps) in
+    let written = c.in_ok-extend_written.ensures in
+    let at = c.if-not-ends_at.ensures in
+    let whole : c.close.new.self.whole ≡ p.clauses.whole ++ map literal_of (slice_range c.args.values.now c.args.from c.args.zero) ∷ []
+    = rw (c.in-Ok.ensures.closed, written.extended put, c.requires.sound.1) refl in
+    rw whole (clause_leads (heading p) (pairs p.prefix) p.clauses.whole (c.requires.sound.0.full (c.if-not-takes_any.ensures.full refl))
+    (more_clauses p.clauses.whole p.count (c.if-not-takes_any.ensures.more refl)) c.args.values.now c.args.from c.args.zero (at.order refl)
+    (at.within refl) (written.written put) (at.zero refl))
+
+pub returns-in-Ok-clause-sound : goal.returns-in-Ok-clause-sound
+returns-in-Ok-clause-sound c =
+    let p = c.args.parts.now in
+    let m = c.requires.sound.0 in
+    let put : IsTrue c.in_ok-extend_written.field-0 = grind (arith, common_steps) in
+    let written = c.in_ok-extend_written.ensures in
+    let ls = map literal_of (slice_range c.args.values.now c.args.from c.args.zero) in
+    let whole : c.close.new.self.whole ≡ p.clauses.whole ++ ls ∷ []
+    = rw (c.in-Ok.ensures.closed, written.extended put, c.requires.sound.1) refl in
+    let bound = clause_bound p.max_var p.prefix (m.full (c.if-not-takes_any.ensures.full refl))
+    (slice_range c.args.values.now c.args.from c.args.zero) (written.written put) in
+    let less = c.if-not-takes_any.ensures.more refl in (
+      record {
+        counted = record { max_var = m.counted.max_var; count = m.counted.count; top = m.counted.top };
+        prefix = m.prefix;
+        full = m.full;
+        closed = rw whole (AllByRecursion-push (AreBound p.prefix) p.clauses.whole ls m.closed bound);
+        few = rw (whole, length-append) (omega (arith, less));
+      },
+      rw c.in-Ok.ensures.closed refl,
+    )

@@ -1,0 +1,23 @@
+use Rattle.qrp.proofs.Words.{refl, arith, common_steps}
+use Rattle.std.specs.Prelude.{IsTrue, slice_range}
+use Rattle.qrp.proofs.BufferedNumbers.{list_ends, more_literals}
+use Rattle.qrp.proofs.buffered.take_all_literals.Goals as goal
+
+pub returns-clause-leads : goal.returns-clause-leads
+returns-clause-leads c = λ t.
+    let b = c.args.partial.now in
+    let put : IsTrue c.in_ok-extend_written.field-0 = grind (arith, common_steps) in
+    let written = c.in_ok-extend_written.ensures in
+    let at = c.if-not-has_zero.ensures in
+    rw (written.extended put, c.begin.ensures) (list_ends c.args.values.now c.args.hand.from c.args.hand.zero b.index c.args.number
+    b.lits.unfinished (at.order refl) (at.within refl) (written.written put) (at.zero refl))
+
+pub returns-clause-sound : goal.returns-clause-sound
+returns-clause-sound c = λ t.
+    let put : IsTrue c.in_ok-extend_written.field-0 = grind (arith, common_steps) in
+    let written = c.in_ok-extend_written.ensures in (
+      c.requires.sound.0,
+      rw (written.extended put) (more_literals c.args.partial.now.lits.unfinished
+          (slice_range c.args.values.now c.args.hand.from c.args.hand.zero) c.requires.sound.1 (written.written put)),
+      rw c.begin.ensures (record { numbers = tt; fit = tt; few = omega arith }),
+    )

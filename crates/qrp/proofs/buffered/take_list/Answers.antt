@@ -1,0 +1,28 @@
+use Rattle.qrp.proofs.Words.{◌++◌, map, state_at}
+use Rattle.std.specs.Prelude.{slice_range}
+use Rattle.qbf_core.specs.WrittenLiterals.{literal_of}
+use Rattle.qrp.specs.Reading.{InLits}
+use Rattle.qrp.proofs.BufferedNumbers.{leads_in_turn, literals_lead, more_literals}
+use Rattle.qrp.proofs.buffered.take_list.Goals as goal
+
+pub take_literals-requires-clause-sound : goal.take_literals-requires-clause-sound
+take_literals-requires-clause-sound c =
+    let old = rw c.in-Lits.is at c.requires.sound in (
+      old.0,
+      rw c.in-Ok.ensures.put (more_literals c.args.partial.now.lits.unfinished
+          (slice_range c.args.values.now c.args.hand.from c.in-Ok.to) old.1 c.in-Ok.ensures.written),
+    )
+
+pub returns-in-Ok-clause-leads : goal.returns-in-Ok-clause-leads
+returns-in-Ok-clause-leads c =
+    let b = c.args.partial.now in
+    let n = c.in-Lits.number in
+    let xs = c.args.values.now in
+    let from = c.args.hand.from in
+    let to = c.in-Ok.to in
+    let put = c.in-Ok.ensures in
+    rw c.in-Lits.is (leads_in_turn (InLits b.index n b.lits.unfinished)
+    (InLits b.index n (b.lits.unfinished ++ map literal_of (slice_range xs from to)))
+    (state_at c.take_literals.new.partial c.take_literals.result.0) xs from to c.take_literals.result.1
+    (literals_lead xs from to b.index n b.lits.unfinished put.order put.within put.written)
+    (rw put.put at c.take_literals.ensures.leads))

@@ -1,0 +1,13 @@
+use Rattle.qrp.proofs.Words.{◌+◌, arith, common_steps, leads_further}
+use Rattle.std.specs.Prelude.{IsTrue}
+use Rattle.qrp.specs.Reading.{row}
+use Rattle.qrp.proofs.buffered.take_whole.Goals as goal
+
+pub returns-clause-leads : goal.returns-clause-leads
+returns-clause-leads c =
+    let xs = c.args.values.now in
+    let from = c.args.hand.from in
+    let zero = c.args.hand.zero in
+    let put : IsTrue c.in_ok-take_all_literals.field-0 = grind (arith, common_steps) in
+    leads_further row _ _ _ xs from (zero + 1) c.in_ok-to.to (leads_further row _ _ _ xs from (from + 1) (zero + 1)
+    c.in-Some.ensures.leads (c.in_ok-take_all_literals.ensures.leads put)) c.in_ok-to.ensures.leads

@@ -1,0 +1,15 @@
+use Rattle.qrp.proofs.Words.{◌-◌, ◌≤◌, length, IsFlat, kept_of}
+use Rattle.qbf_text.specs.Numbers.{LeadsOver}
+use Rattle.qrp.specs.WholeTrace.{trace_at, trace_row}
+use Rattle.qrp.specs.declared.states.At.TheVariants.{Between}
+use Rattle.qrp.proofs.whole_trace.keep_steps.Given as goal
+
+abbrev pub invariant-steps : goal.invariant-steps
+invariant-steps l = record {
+  leads : LeadsOver trace_row (trace_at l.fn.parts Between) (trace_at l.parts Between) l.values l.fn.start.0 l.from;
+  flat : IsFlat (kept_of l.parts);
+  within : l.from ≤ length l.values;
+}
+
+abbrev pub decreases-steps : goal.decreases-steps
+decreases-steps l = length l.values - l.from

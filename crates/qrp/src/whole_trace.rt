@@ -1,0 +1,307 @@
+//! Traces of which each item is kept as it is read.
+
+ghost use Rattle.std.specs.Prelude.{◌≡◌, ◌≤◌, ◌<◌, length, Ok, IfOk, IfSome, IfNone};
+ghost use Rattle.qbf_text.specs.Numbers.{LeadsOver};
+ghost use Rattle.qrp.specs.Flat.{kept_of, trace_of, IsFlat};
+ghost use Rattle.qrp.specs.States.{IsSound};
+ghost use Rattle.qrp.specs.declared.states.At.TheVariants as at;
+ghost use Rattle.qrp.specs.WholeTrace.{made_of, nothing_read, trace_at, trace_row, HasResult};
+
+use crate::buffered::{AtHand, completed, is_zero_at, take_buffered, take_whole};
+use crate::fault::TraceFault;
+use crate::item::Outcome;
+use crate::parts::{Parts, close};
+use crate::states::{At, Part, take_at};
+use qbf_text::{Grammar, Progress, Stop, Taken, Token, Zeros};
+use std::alloc::{AllocError, Global};
+use std::marker::Model;
+
+/// Where the next token stands, how many numbers were taken, and `Some` where a step was kept.
+type Reached = (At, Result<Progress<()>, AllocError>);
+
+/// Takes a step that begins here or has begun, as far as its numbers are at hand, and keeps it if it
+/// is complete.
+///
+/// # Errors
+/// Out of memory.
+#[inline(always)]
+fn take_step(here: At, parts: &mut Parts, values: &[i32], hand: AtHand) -> Reached
+    requires within { hand.from ≤ length values.now }
+    requires sound { IsSound here parts.old.partial }
+    requires flat { IsFlat (kept_of parts.old) }
+    ensures leads { IfOk result.1 (λ r. LeadsOver trace_row (trace_at parts.old here)
+        (trace_at parts.new result.0) values.now hand.from r.0) }
+    ensures within { IfOk result.1 (λ r. r.0 ≤ length values.now) }
+    ensures further { IfOk result.1 (λ r. IfSome r.1 (λ _. hand.from < r.0)) }
+    ensures sound { IsSound result.0 parts.new.partial }
+    ensures flat { IsFlat (kept_of parts.new) }
+{
+    let (at, reached) = take_buffered(here, &mut parts.partial, values, hand);
+    let to = match reached {
+        Ok(to) => to,
+        Err(refused) => return (at, Err(refused)),
+    };
+    match completed(at, values, to) {
+        Some(number) => match close(parts, Part::Step(number)) {
+            Ok(()) => (At::Between, Ok((to + 1, Some(())))),
+            Err(refused) => (At::Between, Err(refused)),
+        },
+        None => (at, Ok((to, None))),
+    }
+}
+
+/// Takes a step that begins here and keeps it, if all of it stands there. Returns the place of the
+/// next number.
+///
+/// # Errors
+/// Out of memory.
+#[inline(always)]
+fn keep_whole(parts: &mut Parts, values: &[i32], hand: AtHand) -> Result<Option<usize>, AllocError>
+    requires within { hand.from < length values.now }
+    requires flat { IsFlat (kept_of parts.old) }
+    ensures leads { IfOk result (λ o. IfSome o (λ to. LeadsOver trace_row
+        (trace_at parts.old at.Between) (trace_at parts.new at.Between) values.now hand.from to)) }
+    ensures within { IfOk result (λ o. IfSome o (λ to. to ≤ length values.now)) }
+    ensures further { IfOk result (λ o. IfSome o (λ to. hand.from < to)) }
+    ensures none { IfOk result (λ o. IfNone o
+        (trace_at parts.new at.Between ≡ trace_at parts.old at.Between)) }
+    ensures flat { IsFlat (kept_of parts.new) }
+{
+    let Some((number, to)) = take_whole(&mut parts.partial, values, hand)? else {
+        return Ok(None);
+    };
+    if !is_zero_at(values, to) {
+        return Ok(None);
+    }
+    close(parts, Part::Step(number))?;
+    Ok(Some(to + 1))
+}
+
+/// Keeps steps as long as all of the next one stands there. The place of the next number and the
+/// number of the next zero go in and out.
+///
+/// # Errors
+/// Out of memory.
+#[inline(always)]
+fn keep_steps(
+    parts: &mut Parts,
+    values: &[i32],
+    zeros: Zeros,
+    start: (usize, usize),
+) -> Result<(usize, usize), AllocError>
+    requires within { start.0 ≤ length values.now }
+    requires flat { IsFlat (kept_of parts.old) }
+    ensures leads { IfOk result (λ r. LeadsOver trace_row (trace_at parts.old at.Between)
+        (trace_at parts.new at.Between) values.now start.0 r.0) }
+    ensures within { IfOk result (λ r. r.0 ≤ length values.now) }
+    ensures flat { IsFlat (kept_of parts.new) }
+{
+    let (mut from, mut zero) = start;
+    'steps: while from < values.len() {
+        let hand = AtHand {
+            from,
+            zero: zeros.place(zero),
+        };
+        let Some(to) = keep_whole(parts, values, hand)? else {
+            break;
+        };
+        from = to;
+        zero = zero.wrapping_add(2);
+    }
+    Ok((from, zero))
+}
+
+/// How many zeros are left of a step that has begun.
+#[inline(always)]
+fn zeros_left(here: At) -> usize {
+    match here {
+        At::Lits(_) => 2,
+        At::Ants(_) => 1,
+        _ => 0,
+    }
+}
+
+/// Takes the rest of a step that has begun, and keeps it if it is complete. Returns where the next
+/// token stands, and the place of the next number.
+///
+/// # Errors
+/// Out of memory.
+#[inline(always)]
+fn take_part(
+    here: At,
+    parts: &mut Parts,
+    values: &[i32],
+    hand: AtHand,
+) -> (At, Result<usize, AllocError>)
+    requires within { hand.from ≤ length values.now }
+    requires sound { IsSound here parts.old.partial }
+    requires flat { IsFlat (kept_of parts.old) }
+    ensures leads { IfOk result.1 (λ to. LeadsOver trace_row (trace_at parts.old here)
+        (trace_at parts.new result.0) values.now hand.from to) }
+    ensures within { IfOk result.1 (λ to. to ≤ length values.now) }
+    ensures sound { IsSound result.0 parts.new.partial }
+    ensures flat { IsFlat (kept_of parts.new) }
+{
+    match take_step(here, parts, values, hand) {
+        (at, Ok((to, _))) => (at, Ok(to)),
+        (at, Err(refused)) => (at, Err(refused)),
+    }
+}
+
+/// Takes the rest of a step that has begun, if one has.
+///
+/// # Errors
+/// Out of memory.
+#[inline(always)]
+#[tactic(auto, using(crate::proofs::BufferedNumbers::numbers_lead_on))]
+fn take_begun(
+    here: At,
+    parts: &mut Parts,
+    values: &[i32],
+    zeros: Zeros,
+) -> (At, Result<usize, AllocError>)
+    requires sound { IsSound here parts.old.partial }
+    requires flat { IsFlat (kept_of parts.old) }
+    ensures leads { IfOk result.1 (λ to. LeadsOver trace_row (trace_at parts.old here)
+        (trace_at parts.new result.0) values.now 0 to) }
+    ensures within { IfOk result.1 (λ to. to ≤ length values.now) }
+    ensures sound { IsSound result.0 parts.new.partial }
+    ensures flat { IsFlat (kept_of parts.new) }
+{
+    let hand = AtHand {
+        from: 0,
+        zero: zeros.place(0),
+    };
+    match here {
+        At::Between => (here, Ok(0)),
+        _ => take_part(here, parts, values, hand),
+    }
+}
+
+/// Takes steps as far as their numbers are at hand, and keeps each that is complete. Returns where
+/// the next token stands, and how many numbers were taken.
+///
+/// # Errors
+/// Out of memory.
+#[inline(never)]
+fn take_steps(
+    here: At,
+    parts: &mut Parts,
+    values: &[i32],
+    zeros: Zeros,
+) -> (At, Result<usize, AllocError>)
+    requires sound { IsSound here parts.old.partial }
+    requires flat { IsFlat (kept_of parts.old) }
+    ensures leads { IfOk result.1 (λ to. LeadsOver trace_row (trace_at parts.old here)
+        (trace_at parts.new result.0) values.now 0 to) }
+    ensures within { IfOk result.1 (λ to. to ≤ length values.now) }
+    ensures sound { IsSound result.0 parts.new.partial }
+    ensures flat { IsFlat (kept_of parts.new) }
+{
+    match take_begun(here, parts, values, zeros) {
+        (At::Between, Ok(from)) => {
+            match keep_steps(parts, values, zeros, (from, zeros_left(here))) {
+                Ok((from, zero)) => {
+                    let hand = AtHand {
+                        from,
+                        zero: zeros.place(zero),
+                    };
+                    take_part(At::Between, parts, values, hand)
+                }
+                Err(refused) => (At::Between, Err(refused)),
+            }
+        }
+        (at, reached) => (at, reached),
+    }
+}
+
+/// A trace that is read as a whole.
+///
+/// Contracts see what is made of it, and what stands next.
+#[derive(Drop)]
+pub struct TraceGrammar {
+    at: At,
+    parts: Parts,
+}
+
+impl Model for TraceGrammar {
+    ghost use Rattle.qrp.specs.Flat.{kept_of, IsFlat};
+    ghost use Rattle.qrp.specs.States.{IsSound};
+    ghost use Rattle.qrp.specs.WholeTrace.{trace_at, TraceRead};
+
+    ghost Value = { TraceRead };
+
+    ghost view = { λ g. trace_at g.parts g.at };
+
+    ghost invariant = { λ g. IsSound g.at g.parts.partial × IsFlat (kept_of g.parts) };
+}
+
+impl TraceGrammar {
+    /// At the beginning of a trace. It takes no memory.
+    pub fn new(alloc: Global) -> TraceGrammar
+        ensures { result ≡ nothing_read }
+    {
+        TraceGrammar {
+            at: At::Header,
+            parts: Parts::new(alloc),
+        }
+    }
+
+    /// What was kept, and the result. It takes no memory.
+    pub fn into_parts(self) -> (Parts, Outcome)
+        requires { HasResult self.state }
+        ensures made { made_of self
+            ≡ Ok (record (trace_of (kept_of result.0)) { result = result.1 }) }
+        ensures flat { IsFlat (kept_of result.0) }
+    {
+        match self.at {
+            At::Whole(outcome) => {
+                let mut parts = self.parts;
+                parts.partial.index.place_all();
+                (parts, outcome)
+            }
+            _ => unreachable!(),
+        }
+    }
+}
+
+impl Grammar for TraceGrammar {
+    ghost use Rattle.qrp.specs.WholeTrace.{trace_row, TraceRead};
+
+    type Output = ();
+
+    type Fault = TraceFault;
+
+    ghost State = { TraceRead };
+
+    ghost state = { λ g. g };
+
+    ghost row_of = { trace_row };
+
+    ghost Kept = { Unit {0} };
+
+    ghost kept = { λ _. tt };
+
+    #[inline(always)]
+    fn take_numbers(&mut self, values: &[i32], zeros: Zeros) -> Result<Progress<()>, AllocError> {
+        let (at, reached) = take_steps(self.at, &mut self.parts, values, zeros);
+        self.at = at;
+        Ok((reached?, None))
+    }
+
+    #[inline(always)]
+    fn take(&mut self, token: Token) -> Result<Taken<()>, Stop<TraceFault>> {
+        self.at = take_at(self.at, &mut self.parts.partial, token)?;
+        match self.at {
+            At::ItemComplete(part) => {
+                self.at = At::Between;
+                match close(&mut self.parts, part) {
+                    Ok(()) => Ok(Taken::More),
+                    Err(_) => Err(Stop::Memory),
+                }
+            }
+            At::Whole(_) => Ok(Taken::Done(())),
+            _ => Ok(Taken::More),
+        }
+    }
+}
