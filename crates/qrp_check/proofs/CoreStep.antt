@@ -11,8 +11,9 @@ use Rattle.std.proofs.Common.{◌+◌, below_more}
 use Rattle.qbf_core.specs.Sets.{HasMembersOf}
 use Rattle.qrp.specs.Inferences.{IsOnlyAt}
 use Rattle.qrp_rules.specs.declared.fault.RuleFault.TheVariants.{S1, S2, S3}
-use Rattle.qrp_rules.specs.Conditions.{Condition}
-use Rattle.qrp_check.specs.Premises.{AreFit, ArePremises, IsFit, IsPremise, found_conditions, written_conditions}
+use Rattle.qrp_rules.specs.Conditions.{AllHold, Condition}
+use Rattle.qrp_rules.specs.Accepted.{IsAcceptedBy, IsFit}
+use Rattle.qrp_check.specs.Premises.{AreFit, ArePremises, IsPremise, found_conditions, written_conditions}
 use Rattle.qrp_check.specs.declared.premises.Premises.{Premises}
 use Rattle.qrp_check.specs.declared.premises.Premises.TheVariants.{Initial, One, Two}
 use Rattle.qrp_check.proofs.Marking.{core_within}
@@ -174,10 +175,10 @@ not_all_bound rules side f None lits clean (l, h, free) = inr (clean, inl ((λ b
 not_all_bound rules side f (Some premises) lits clean (l, h, free) =
     inr (clean, inl ((λ bound. free (bound_each f.blocks lits bound l h)), refl))
 
-pub ok_all : {E : Type 0} (r : Result Bool E) (p q s : Type 0) → IfOk r (λ t. IsTrue t → p) → IfOk r (λ t. IsTrue t → q)
-    → IfOk r (λ t. IsTrue t → s) → IfOk r (λ t. IsTrue t → p × (q × s))
-ok_all (Ok t) p q s a b c = λ h. (a h, (b h, c h))
-ok_all (Err e) p q s a b c = tt
+pub accepted_all : {E : Type 0} (r : Result Bool E) (conditions : List (Condition RuleFault)) (blocks : List Block) (lits : List Literal)
+    → IfOk r (IsAcceptedBy conditions blocks lits) → IfOk r (λ t. IsTrue t → IsClean lits × (AreBound blocks lits × AllHold conditions))
+accepted_all (Ok t) conditions blocks lits is = λ h. ((is h).clean, ((is h).bound, (is h).follows))
+accepted_all (Err e) conditions blocks lits is = tt
 
 -- the number of an antecedent that is not an earlier step
 pub not_earlier : (before : List Inference) (ants numbers : List ℕ) (n : ℕ) → ants ≡ numbers → n ∈ numbers → (IsNumberOf before n → ⊥)

@@ -12,7 +12,7 @@ use Rattle.qrp_check.specs.declared.verdict.Fault.{Fault}
 use Rattle.qrp_check.specs.Verdict.{IsVerdictOf, IsVerdictUnless, IsFormulaDevice, IsTraceDevice, IsFormulaFault, StandsOnLine}
 use Rattle.qrp_check.specs.Verdict.{WasRead, StopsAfterTrace}
 
--- what a call does with a source: its bytes, and what it leaves of them, where they are known, its count of failures before and after, and
+-- what a call does with a source: its bytes, and what it leaves of them, if they are known, its count of failures before and after, and
 -- that it was not pulled
 pub record SourceCall : Type 1 where
   pub bytes : Option (List ℕ)
@@ -40,7 +40,7 @@ truth_of (Err e) = Err e
 abbrev pub IsTruthOf : (Result Verified Fault → Type 0) → Result Bool Fault → Type 0
 IsTruthOf Holds result = (verdict : Result Verified Fault) × Holds verdict × (result ≡ truth_of verdict)
 
--- a trace that was read is well formed, and what these bytes read as, where they are known
+-- a trace that was read is well formed, and what these bytes read as, if they are known
 abbrev pub WasReadFrom : Option (List ℕ) → Derivation → Type 0
 WasReadFrom bytes d = IsWellFormed d × IfSome (reads_bytes bytes) (λ read. read ≡ Ok d)
 
@@ -48,7 +48,7 @@ WasReadFrom bytes d = IsWellFormed d × IfSome (reads_bytes bytes) (λ read. rea
 abbrev pub StopsOnceRead : {V : Type 0} → Option (List ℕ) → Option (List ℕ) → Result V Fault → Type 0
 StopsOnceRead before after result = WasRead result → IfKnown StopsAfterTrace before after
 
--- What is known of a trace that is returned with its verdict, where its source had these bytes still to give before and after: it was read
+-- What is known of a trace that is returned with its verdict, if its source had these bytes still to give before and after: it was read
 -- from there, and each position of its core is one of its steps; and once it was read, nothing was taken past its result word but what is
 -- held.
 pub record IsOfSource (before after : Option (List ℕ)) (result : Result (Derivation × Verified) Fault) : Type 0 where
@@ -56,7 +56,7 @@ pub record IsOfSource (before after : Option (List ℕ)) (result : Result (Deriv
   pub within : IfOk result (λ r. AllByRecursion (λ i. i < length r.0.steps) r.1.core.items)
   pub stops : StopsOnceRead before after (verdict_of result)
 
--- What the check of two texts by these rules returns: the verdict on their bytes, or that a source failed, exactly where it did, or
+-- What the check of two texts by these rules returns: the verdict on their bytes, or that a source failed, exactly if it did, or
 -- that an allocation failed; the latter two on line 0. With a fault of the formula the trace was not pulled.
 pub record IsChecked (rules : Rules) (formula trace : SourceCall) (result : Result Verified Fault) : Type 0 where
   pub verdict : IsVerdictUnless rules formula.bytes trace.bytes result

@@ -9,6 +9,7 @@ use Rattle.qrp.specs.Inferences.{Inference}
 use Rattle.qrp_rules.specs.declared.rules.Rules.{Rules}
 use Rattle.qrp_rules.specs.declared.fault.RuleFault.{RuleFault}
 use Rattle.qrp_rules.specs.declared.fault.RuleFault.TheVariants.{S1, S2, S3}
+use Rattle.qrp_rules.specs.Accepted.{IsFit}
 use Rattle.qrp_rules.specs.Conditions.{Condition, initial_condition, reduct_conditions, resolvent_conditions}
 use Rattle.qrp_check.specs.Conditions.{IsNumberOf, lits_of}
 use Rattle.qrp_check.specs.declared.premises.Premises.{Premises}
@@ -25,10 +26,6 @@ ArePremises before ants (Some Initial) = ants ≡ []
 ArePremises before ants (Some (One from)) = (n : ℕ) × (ants ≡ n ∷ []) × IsPremise before n from.now
 ArePremises before ants (Some (Two a b)) =
     (m : ℕ) × (n : ℕ) × (ants ≡ m ∷ n ∷ []) × IsPremise before m a.now × IsPremise before n b.now
-
--- literals that are clean and bound
-abbrev pub IsFit : List Block → List Literal → Type 0
-IsFit blocks lits = IsClean lits × AreBound blocks lits
 
 -- the literals of each antecedent are clean and bound
 abbrev pub AreFit : List Block → Premises → Type 0

@@ -1,4 +1,4 @@
--- The rules where two parents are resolved as they stand: a step is a reduct of their resolvent, and nothing is reduced before.
+-- The rules if two parents are resolved as they stand: a step is a reduct of their resolvent, and nothing is reduced before.
 use Rattle.std.specs.Prelude.{ℕ, List, [], ◌∷◌, take}
 use Rattle.qbf_core.specs.Literal.{Literal}
 use Rattle.qbf_core.specs.Members.{◌∈◌}

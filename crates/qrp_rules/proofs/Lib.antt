@@ -8,7 +8,7 @@ pub mod ReductsByMembers
 pub mod MembersDecide
 pub mod OrderedLists
 pub mod Merging
-pub mod Exactness
+pub mod WrittenSteps
 pub mod Stamps
 pub mod WatchedClauses
 pub mod Words

@@ -1,8 +1,8 @@
 -- Initial steps: reducts by their members, and clauses by their places.
 use Rattle.qrp_rules.proofs.Words.{◌≡◌, ◌+◌, ◌↔◌, IsTrue, Bool, true, false, ℕ, List, refl, sym, rules, slice_get, Option, Some, None, take}
 use Rattle.qrp_rules.proofs.Words.{false≢true, ◌∈◌, Literal, positive, Block, Side, IsClean, IsTautology, IsReduct, RuleFault, IsJudgement}
-use Rattle.qrp_rules.proofs.Words.{AllHold, Clauses, IsAcceptedIf, Qbf, reduct_conditions, slice_get_within, get_or_from_slice_get, each_more}
-use Rattle.qbf_core.specs.Blocks.{AreBound}
+use Rattle.qrp_rules.proofs.Words.{Clauses, IsAcceptedIf, Qbf, reduct_conditions, slice_get_within, get_or_from_slice_get, each_more}
+use Rattle.qrp_rules.specs.Accepted.{IsAcceptedBy, IsAcceptedStep}
 use Rattle.std.proofs.Common.{Err, IfOk, Ok, Result, not}
 use Rattle.std.specs.Option.{is_some}
 use Rattle.qrp_rules.proofs.FirstFailures.{no_fault}
@@ -26,12 +26,11 @@ each_got P xs i x e = each_more P xs i x (slice_get_within xs i x e) (sym (get_o
 
 -- a reduct of a clean clause of the formula is accepted
 pub accepted : {E : Type 0} (f : Qbf) (lits clause : List Literal) (answer : Result Bool E) → clause ∈ f.clauses → IsClean clause
-    → IfOk answer (λ t. IsTrue t → AllHold (reduct_conditions Clauses f.blocks clause lits))
-    → IfOk answer (λ t. IsTrue t → IsClean lits) → IfOk answer (λ t. IsTrue t → AreBound f.blocks lits) → IfOk answer (IsAcceptedIf f lits)
-accepted f lits clause (Ok t) here clean follows own bound = λ is.
-    let reduct : AllHold (reduct_conditions Clauses f.blocks clause lits) = follows is in record {
-      initial = (clause, here, clean, record { within = reduct.0; each = reduct.1.0 });
-      clean = own is;
-      bound = bound is;
+    → IfOk answer (IsAcceptedBy (reduct_conditions Clauses f.blocks clause lits) f.blocks lits) → IfOk answer (IsAcceptedIf f lits)
+accepted f lits clause (Ok t) here clean of_clause = λ is.
+    let reduct : IsAcceptedStep (reduct_conditions Clauses f.blocks clause lits) f.blocks lits = of_clause is in record {
+      follows = ((clause, here, clean, record { within = reduct.follows.0; each = reduct.follows.1.0 }), tt);
+      clean = reduct.clean;
+      bound = reduct.bound;
     }
-accepted f lits clause (Err e) here clean follows own bound = tt
+accepted f lits clause (Err e) here clean of_clause = tt

@@ -1,8 +1,11 @@
 -- Clauses that are watched, while lists are written to, added and taken out.
+use Rattle.qbf_core.specs.declared.quantifier.Quantifier.TheVariants.{All}
+use Rattle.qrp_rules.specs.Accepted.{IsAcceptedBy}
+use Rattle.qrp_rules.specs.Initial.{IsAcceptedIf}
 use Rattle.qrp_rules.proofs.Words.{◌⊎◌, ◌≡◌, ◌<◌, ◌+◌, ◌-◌, ℕ, zero, suc, List, [], ◌∷◌, ◌++◌, length, get_or, slice_get, Some, Contains}
 use Rattle.qrp_rules.proofs.Words.{Bool, true, false, refl, sym, ap, subst, ◌∙◌, inl, inr, arith, take, rules, set, cases_eq, length-set}
 use Rattle.qrp_rules.proofs.Words.{slice_get_within, get_or_from_slice_get, Literal, ◌∈◌, Qbf, Side, Clauses, Cubes, IsInitial, IsTautology}
-use Rattle.qrp_rules.proofs.Words.{reduced_quantifier, Exists, AllHold, initial_condition, Has, IsMet, IsWatchedBy, Members, Watch, in_got}
+use Rattle.qrp_rules.proofs.Words.{reduced_quantifier, Exists, initial_condition, Has, IsMet, IsWatchedBy, Members, Watch, in_got}
 use Rattle.qrp_rules.proofs.Words.{Contains-push}
 use Rattle.std.proofs.Common.{◌≢◌, Result, Ok, Err}
 use Rattle.std.specs.Prelude.{⊤, IfOk, IsTrue, OnOk, OnErr}
@@ -181,9 +184,14 @@ pub all_watched : (f : Qbf) (seen : Members) (lists : List Watch) (t : Bool) →
 all_watched f seen lists true met = λ i clause at. elim (met refl i clause at) [ inl t ↦ inl t | inr w ↦ inr (w.0, w.1, w.2, w.3) ]
 all_watched f seen lists false met = tt
 
--- what is an initial cube is an initial step of the side whose existential literals are reduced
-pub initial_cube : {E : Type 0} (side : Side) (f : Qbf) (lits : List Literal) (r : Result Bool E) → reduced_quantifier side ≡ Exists
-    → IfOk r (λ t. IsTrue t → IsInitial Cubes f lits) → IfOk r (λ t. IsTrue t → AllHold (initial_condition side f lits ∷ []))
-initial_cube Clauses f lits r e h = absurd (cc e)
-initial_cube Cubes f lits (Ok t) e h = λ is. (h is, tt)
-initial_cube Cubes f lits (Err x) e h = tt
+-- what is an initial clause or cube is an initial step of the side that reduces its quantifier
+pub accepted_clause : {E : Type 0} (side : Side) (f : Qbf) (lits : List Literal) (r : Result Bool E) → reduced_quantifier side ≡ All
+    → IfOk r (IsAcceptedIf f lits) → IfOk r (IsAcceptedBy (initial_condition side f lits ∷ []) f.blocks lits)
+accepted_clause Clauses f lits r e h = h
+accepted_clause Cubes f lits r e h = absurd (cc e)
+
+pub accepted_cube : {E : Type 0} (side : Side) (f : Qbf) (lits : List Literal) (r : Result Bool E) → reduced_quantifier side ≡ Exists
+    → IfOk r (IsAcceptedBy (initial_condition Cubes f lits ∷ []) f.blocks lits)
+    → IfOk r (IsAcceptedBy (initial_condition side f lits ∷ []) f.blocks lits)
+accepted_cube Clauses f lits r e h = absurd (cc e)
+accepted_cube Cubes f lits r e h = h

@@ -15,7 +15,7 @@ pub use Rattle.qbf_core.specs.declared.quantifier.Quantifier.{Quantifier}
 pub use Rattle.qbf_core.specs.declared.quantifier.Quantifier.TheVariants.{Exists}
 pub use Rattle.qrp_rules.specs.Conditions.{AllHold, AllowsPivot, Condition, IsJudgement, IsFirstFailure, IsReducibleInParents}
 pub use Rattle.qrp_rules.specs.Conditions.{initial_condition, reduct_conditions, resolvent_conditions}
-pub use Rattle.qrp_rules.specs.Exact.{IsApart, IsMergeSoFar, IsNext, IsPutBy}
+pub use Rattle.qrp_rules.specs.TwoLists.{IsApart, IsMergeSoFar, IsNext, IsPutBy}
 pub use Rattle.qrp_rules.specs.Initial.{IsAcceptedIf}
 pub use Rattle.qrp_rules.specs.Seen.{AreUpTo, Has, Members, code}
 pub use Rattle.qrp_rules.specs.Walks.{Accounts, IsHeldBefore, IsInnermost, MayOmit, StandsAfter, TakesOut}

@@ -1,7 +1,8 @@
 pub mod Conditions
+pub mod Accepted
 pub mod Unreduced
 pub mod Walks
-pub mod Exact
+pub mod TwoLists
 pub mod Seen
 pub mod Watches
 pub mod Initial

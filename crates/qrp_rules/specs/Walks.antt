@@ -2,13 +2,20 @@
 use Rattle.std.specs.Prelude.{◌≡◌, ℕ, ◌<◌, ◌≤◌, ◌↔◌, ◌⊎◌, List, Option, Some, None}
 use Rattle.qbf_core.specs.declared.quantifier.Quantifier.{Quantifier}
 use Rattle.qbf_core.specs.Literal.{Literal}
-use Rattle.qbf_core.specs.Members.{◌∈◌}
+use Rattle.qbf_core.specs.Members.{◌∈◌, ◌⊆◌}
 use Rattle.qbf_core.specs.Blocks.{Block, Binds, block_in}
 use Rattle.qbf_core.specs.Rules.{Side, Clashes, IsOnlyClash, IsReducible, resolvent}
+use Rattle.qbf_core.specs.Sets.{IsOrdered}
 use Rattle.qrp_rules.specs.Conditions.{IsReducibleInParents}
 use Rattle.qrp_rules.specs.declared.blocks.Reducible.{Reducible}
 use Rattle.qrp_rules.specs.declared.resolvent.Clash.{Clash}
 use Rattle.qrp_rules.specs.declared.resolvent.Clash.TheVariants.{Nothing, One, More}
+
+-- what is left of an ordered list from a variable on, and maybe of what is before it
+pub record IsRestFrom (lits : List Literal) (v : ℕ) (rest : List Literal) : Type 0 where
+  pub ordered : IsOrdered rest
+  pub within : rest ⊆ lits
+  pub kept : (l : Literal) → l ∈ lits → v ≤ l.var → l ∈ rest
 
 -- in how many variables two sets clash
 abbrev pub IsClashOf : List Literal → List Literal → Clash → Type 0

@@ -20,6 +20,7 @@ pub(crate) fn is_the_pivot(pivot: Option<u32>, var: Var) -> bool
 }
 
 /// Whether a prefix binds the variable by this quantifier.
+#[inline(always)]
 pub fn is_bound_by(prefix: &Prefix, quantifier: Quantifier, var: Var) -> bool
     ensures { IsTrue result ↔ Binds prefix.now quantifier var }
 {

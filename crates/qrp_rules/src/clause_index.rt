@@ -3,13 +3,12 @@
 ghost use Rattle.std.specs.Prelude.{IfOk, IfSome};
 ghost use Rattle.qrp_rules.specs.Initial.{IsAccepted, IsAcceptedIf};
 
-use crate::any_order::accepts_reduct;
 use crate::blocks::reducible_in;
 use crate::fault::Holds;
-use crate::initial::is_among;
-use crate::normalizing::is_ordered;
+use crate::lists::{is_among, is_ordered};
 use crate::seen::{SeenLits, code, surely_clean};
 use crate::side::Clauses;
+use crate::written_reduct::accepts_reduct;
 use qbf_core::{Formula, Lit, Prefix, Quantifier};
 use std::alloc::{AllocError, Global};
 
@@ -74,12 +73,25 @@ type Found = Result<Option<usize>, AllocError>;
 /// Where a chain ends.
 const END: u32 = u32::MAX;
 
+/// What a chain has at a position.
+#[derive(Clone, Copy)]
+struct Link {
+    /// The position after it, or `END`.
+    next: u32,
+    /// The lower half of its sum. Most other sums in the chain have another.
+    half: u32,
+}
+
+/// The lower half of a sum.
+fn lower_half(sum: u64) -> u32 {
+    (sum & 0xFFFFFFFF) as u32
+}
+
 /// Positions in chains, by their sums.
 #[derive(Drop)]
 struct Chains {
     heads: Vec<u32>,
-    /// The position after each one in its chain.
-    nexts: Vec<u32>,
+    links: Vec<Link>,
 }
 
 impl Chains {
@@ -87,7 +99,7 @@ impl Chains {
     fn new(alloc: Global, count: usize) -> Result<Chains, AllocError> {
         Ok(Chains {
             heads: vec![in alloc; END; count]?,
-            nexts: vec![in alloc; END; count]?,
+            links: vec![in alloc; Link { next: END, half: 0 }; count]?,
         })
     }
 
@@ -99,21 +111,24 @@ impl Chains {
     /// Puts a position at the beginning of its chain. Those that are too great are left out.
     fn push(&mut self, sum: u64, position: usize) {
         let chain = self.chain_of(sum);
-        if chain < self.heads.len() && position < self.nexts.len() && position < END as usize {
-            self.nexts[position] = self.heads[chain];
+        if chain < self.heads.len() && position < self.links.len() && position < END as usize {
+            self.links[position] = Link {
+                next: self.heads[chain],
+                half: lower_half(sum),
+            };
             self.heads[chain] = position as u32;
         }
     }
 
-    /// The position after another one in its chain, or `END`.
-    fn next(&self, position: u32) -> u32 {
-        match self.nexts.get(position as usize) {
-            Some(next) => *next,
-            None => END,
+    /// What its chain has at a position.
+    fn link(&self, position: u32) -> Link {
+        match self.links.get(position as usize) {
+            Some(link) => *link,
+            None => Link { next: END, half: 0 },
         }
     }
 
-    /// The position of a clause in the chain of a sum that accepts the literals.
+    /// The position of a clause with a sum that accepts the literals.
     fn find(&self, seen: &mut SeenLits, formula: &Formula, sum: u64, lits: &[Lit]) -> Found
         ensures { IfOk result (λ found. IfSome found (λ _. IsAccepted formula.now lits.now)) }
     {
@@ -121,14 +136,17 @@ impl Chains {
             Some(head) => *head,
             None => END,
         };
-        for _ in 0..self.nexts.len() {
+        for _ in 0..self.links.len() {
             if position == END {
                 return Ok(None);
             }
-            if accepts_at(seen, formula, position as usize, lits)? {
-                return Ok(Some(position as usize));
+            let link = self.link(position);
+            if link.half == lower_half(sum) {
+                if accepts_at(seen, formula, position as usize, lits)? {
+                    return Ok(Some(position as usize));
+                }
             }
-            position = self.next(position);
+            position = link.next;
         }
         Ok(None)
     }

@@ -9,7 +9,7 @@ ghost use Rattle.qbf_core.specs.Sets.{IsOrdered};
 ghost use Rattle.qrp_rules.specs.Conditions.{IsJudgement, initial_condition};
 
 use crate::fault::{Holds, Judgement, RuleFault};
-use crate::normalizing::is_ordered;
+use crate::lists::{is_among, is_ordered};
 use crate::walks::ordered_reduct_fault_by;
 use qbf_core::{Formula, Lit, LitSet, Prefix, Quantifier, SetFault, is_member};
 use std::alloc::{AllocError, Global};
@@ -68,14 +68,6 @@ fn has_common_literal(clause: &[Lit], set: &[Lit]) -> bool
     ensures { IsTrue result ↔ ((l : Literal) × (l ∈ clause.now) × (l ∈ set.now)) }
 {
     clause.iter().any(|lit| is_member(set, *lit))
-}
-
-/// Whether a clause as written has a literal.
-#[tactic(auto, using(std::proofs::lemmas::List::Elements::contains_decides, qbf_core::proofs::Members::lit_decides, qbf_core::proofs::Order::contains_in, qbf_core::proofs::Order::in_contains))]
-pub(crate) fn is_among(clause: &[Lit], lit: Lit) -> bool
-    ensures { IsTrue result ↔ lit ∈ clause.now }
-{
-    clause.contains(&lit)
 }
 
 /// As `is_tautology`, by comparing all literals with each other. It takes no memory.

@@ -5,9 +5,10 @@ ghost use Rattle.std.specs.Prelude.{◌≡◌, ℕ, ◌+◌, ◌<◌, ◌≤◌,
 ghost use Rattle.std.specs.Prelude.{Some, IsTrue, IfOk, IfSome, OnErr, OnOk, slice_get};
 ghost use Rattle.qbf_core.specs.Literal.{Literal};
 ghost use Rattle.qbf_core.specs.Members.{◌∈◌};
-ghost use Rattle.qbf_core.specs.Blocks.{AreBound};
 ghost use Rattle.qbf_core.specs.Qbf.{Qbf};
-ghost use Rattle.qbf_core.specs.Rules.{Cubes, IsClean, IsInitial};
+ghost use Rattle.qbf_core.specs.Rules.{Cubes};
+ghost use Rattle.qrp_rules.specs.Accepted.{IsAcceptedBy};
+ghost use Rattle.qrp_rules.specs.Conditions.{initial_condition};
 ghost use Rattle.qrp_rules.specs.Seen.{Has};
 ghost use Rattle.qrp_rules.specs.declared.initial_cubes.Watch.{Watch};
 ghost use Rattle.qrp_rules.specs.Watches.{IsMet, IsTakenOut, IsWatched, IsWatchedBy, IsWatching};
@@ -240,9 +241,8 @@ impl InitialCubes {
         lits: &[Lit],
     ) -> Holds
         requires { IsWatching formula.now self.old }
-        ensures initial { IfOk result (λ t. IsTrue t → IsInitial Cubes formula.now lits.now) }
-        ensures clean { IfOk result (λ t. IsTrue t → IsClean lits.now) }
-        ensures bound { IfOk result (λ t. IsTrue t → AreBound formula.now.blocks lits.now) }
+        ensures accepted { IfOk result (IsAcceptedBy
+            (initial_condition Cubes formula.now lits.now ∷ []) formula.now.blocks lits.now) }
         ensures kept { OnOk result (IsWatching formula.now self.new) }
     {
         seen.make_room(formula.prefix())?;

@@ -1,11 +1,10 @@
 //! The initial steps of a trace, on either side.
 
-ghost use Rattle.std.specs.Prelude.{[], ◌∷◌, IsTrue, OnOk, IfOk};
-ghost use Rattle.qbf_core.specs.Blocks.{AreBound};
+ghost use Rattle.std.specs.Prelude.{[], ◌∷◌, OnOk, IfOk};
 ghost use Rattle.qbf_core.specs.Qbf.{Qbf};
-ghost use Rattle.qbf_core.specs.Rules.{IsClean};
 ghost use Rattle.qbf_core.specs.Sets.{IsOrdered};
-ghost use Rattle.qrp_rules.specs.Conditions.{AllHold, IsJudgement, initial_condition};
+ghost use Rattle.qrp_rules.specs.Accepted.{IsAcceptedBy};
+ghost use Rattle.qrp_rules.specs.Conditions.{IsJudgement, initial_condition};
 ghost use Rattle.qrp_rules.specs.Initial.{AreKnown};
 
 use crate::clause_index::InitialClauses;
@@ -42,7 +41,7 @@ impl InitialSteps {
     /// # Errors
     /// If an allocation fails.
     #[inline(never)]
-    #[tactic(auto, using(crate::proofs::WatchedClauses::initial_cube))]
+    #[tactic(auto, using(crate::proofs::WatchedClauses::accepted_clause, crate::proofs::WatchedClauses::accepted_cube))]
     pub fn accepts_initial<S: Side>(
         &mut self,
         formula: &Formula,
@@ -50,10 +49,8 @@ impl InitialSteps {
         lits: &[Lit],
     ) -> Result<bool, AllocError>
         requires { AreKnown formula.now self.old }
-        ensures follows { IfOk result (λ t. IsTrue t
-            → AllHold (initial_condition S.side formula.now lits.now ∷ [])) }
-        ensures clean { IfOk result (λ t. IsTrue t → IsClean lits.now) }
-        ensures bound { IfOk result (λ t. IsTrue t → AreBound formula.now.blocks lits.now) }
+        ensures accepted { IfOk result (IsAcceptedBy
+            (initial_condition S.side formula.now lits.now ∷ []) formula.now.blocks lits.now) }
         ensures known { OnOk result (AreKnown formula.now self.new) }
     {
         match S::REDUCED {

@@ -12,29 +12,34 @@
 //! - On the map: the rules of a step | each test decides its rule, S4 to S12.
 #![tactic(auto)]
 
-mod any_order;
 mod blocks;
 mod clause_index;
-mod exact;
 mod fault;
 mod initial;
 mod initial_cubes;
 mod initial_steps;
+mod lists;
 mod normalizing;
 mod reduct;
+mod resolution;
 mod resolvent;
 mod rules;
 mod seen;
 mod side;
+mod two_lists;
 mod walks;
+mod written_reduct;
+mod written_resolvent;
 
-pub use any_order::{accepts_reduct, accepts_resolvent};
 pub use blocks::is_bound_by;
 pub use fault::{Judgement, RuleFault};
 pub use initial_steps::{InitialSteps, ordered_initial_fault};
 pub use normalizing::{normal_form, normalize};
 pub use reduct::{is_reduct, ordered_reduct_fault, reduct_fault};
-pub use resolvent::{Resolution, ordered_resolvent_fault, resolvent_fault};
+pub use resolution::Resolution;
+pub use resolvent::{ordered_resolvent_fault, resolvent_fault};
 pub use rules::Rules;
 pub use seen::SeenLits;
 pub use side::{Clauses, Cubes, Side};
+pub use written_reduct::accepts_reduct;
+pub use written_resolvent::accepts_resolvent;

@@ -1,7 +1,7 @@
 //! Literals as they are written: most steps and clauses are in order already, and need no set of
 //! their own.
 
-ghost use Rattle.std.specs.Prelude.{◌≡◌, ◌↔◌, IsTrue, IfOk, OnOk};
+ghost use Rattle.std.specs.Prelude.{◌≡◌, IfOk, OnOk};
 ghost use Rattle.std.specs.Result.{IsErrOf};
 ghost use Rattle.qbf_core.specs.Literal.{Literal};
 ghost use Rattle.qbf_core.specs.Members.{◌∈◌};
@@ -10,23 +10,9 @@ ghost use Rattle.qbf_core.specs.Rules.{IsClean, IsTautology};
 ghost use Rattle.qbf_core.specs.Sets.{HasMembersOf, IsOrdered};
 ghost use Rattle.qrp_rules.specs.Normal.{normal_form};
 
+use crate::lists::is_ordered;
 use qbf_core::{Lit, LitSet, Prefix, SetFault, are_bound};
 use std::alloc::Global;
-
-/// Whether literals stand in the order of their variables, and no variable twice.
-pub(crate) fn is_ordered(lits: &[Lit]) -> bool
-    ensures { IsTrue result ↔ IsOrdered lits.now }
-{
-    let mut last = 0;
-    for lit in lits {
-        let number = lit.var().number();
-        if number <= last {
-            return false;
-        }
-        last = number;
-    }
-    true
-}
 
 /// The set of the literals where they are not in order as written, or `None` where they are such a
 /// set, which takes no memory.

@@ -1,16 +1,16 @@
 //! Literals that were met since the last time that all were forgotten.
 
 ghost use Rattle.std.specs.Prelude.{◌≡◌, ◌≢◌, ◌↔◌, ◌+◌, ◌*◌, ◌≤◌, ℕ, ◌⊎◌};
-ghost use Rattle.std.specs.Prelude.{[], IsTrue, IfOk, IfSome, get_or, length};
+ghost use Rattle.std.specs.Prelude.{[], IsTrue, IfOk, IfSome, get_or, length, take};
 ghost use Rattle.qbf_core.specs.Blocks.{pairs};
 ghost use Rattle.qbf_core.specs.Literal.{Literal, negated};
 ghost use Rattle.qbf_core.specs.Members.{◌∈◌};
 ghost use Rattle.qbf_core.specs.Rules.{IsClean};
-ghost use Rattle.qrp_rules.specs.Exact.{IsApart};
+ghost use Rattle.qrp_rules.specs.TwoLists.{IsApart};
 ghost use Rattle.qrp_rules.specs.Seen.{AreUpTo, Has, IsFar, code};
 
 use crate::fault::Holds;
-use crate::normalizing::is_ordered;
+use crate::lists::is_ordered;
 use indexmap::IndexSet;
 use qbf_core::{Lit, Prefix, Var};
 use std::alloc::{AllocError, Global};
@@ -98,6 +98,7 @@ impl SeenLits {
     }
 
     /// Takes all literals out. Once in 2^32 times it takes time for each one that there is room for.
+    #[inline(always)]
     pub(crate) fn clear(&mut self)
         ensures { (l : Literal) → Has self.new l → ⊥ }
     {
@@ -154,6 +155,7 @@ impl SeenLits {
 
     /// Whether the variables are seen to be pairwise distinct and none to be `other`. If not, nothing
     /// is known of what the set holds.
+    #[inline(never)]
     pub(crate) fn surely_distinct(&mut self, lits: &[Lit], other: Var) -> bool
         ensures clean { IsTrue result → IsClean lits.now }
         ensures apart { IsTrue result → IsApart lits.now other }
@@ -165,6 +167,7 @@ impl SeenLits {
 
 /// Whether a number is among those that are far.
 #[cold]
+#[inline(never)]
 fn is_far(far: &IndexSet<usize>, number: usize) -> bool
     ensures { IsTrue result ↔ IsFar far.now.keys number }
 {
@@ -184,6 +187,7 @@ fn clear_far(alloc: Global, far: &mut IndexSet<usize>)
 
 /// Puts a number among those that are far, or returns `false` if there is no memory for it.
 #[cold]
+#[inline(never)]
 fn put_far(far: &mut IndexSet<usize>, failed: &mut Option<AllocError>, number: usize) -> bool
     ensures { (n : ℕ) → IsFar far.new.keys n
         ↔ (IsFar far.old.keys n ⊎ ((n ≡ number) × IsTrue result)) }
@@ -230,21 +234,74 @@ fn stamp_vars(stamps: &mut [u32], stamp: u32, lits: &[Lit], other: Var) -> bool
     true
 }
 
+/// Gives a literal a stamp. `false` if its negation has that one, or there is no room for both.
+#[inline(always)]
+fn stamp_lit(stamps: &mut [u32], stamp: u32, lit: Lit) -> bool
+    ensures clean { IsTrue result → get_or stamps.old (code (negated lit)) 0 ≢ stamp }
+    ensures stamped { (n : ℕ) → get_or stamps.new n 0 ≡ stamp
+        ↔ ((get_or stamps.old n 0 ≡ stamp) ⊎ ((n ≡ code lit) × IsTrue result)) }
+    ensures upto { AreUpTo stamps.old stamp → AreUpTo stamps.new stamp }
+{
+    let number = code(lit);
+    let opposite = code(lit.negated());
+    if number.max(opposite) >= stamps.len() || stamps[opposite] == stamp {
+        return false;
+    }
+    stamps[number] = stamp;
+    true
+}
+
+/// Gives the first literals of a list a stamp, and returns how many: all of them, or those before
+/// one whose negation has it, or for which there is no room.
+#[inline(never)]
+fn stamp_clean(stamps: &mut [u32], stamp: u32, lits: &[Lit]) -> usize
+    ensures within { result ≤ length lits.now }
+    ensures clean { IsClean (take result lits.now) }
+    ensures stamped { (l : Literal) → get_or stamps.new (code l) 0 ≡ stamp
+        ↔ ((get_or stamps.old (code l) 0 ≡ stamp) ⊎ l ∈ take result lits.now) }
+    ensures upto { AreUpTo stamps.old stamp → AreUpTo stamps.new stamp }
+{
+    for position in 0..lits.len() {
+        if !stamp_lit(stamps, stamp, lits[position]) {
+            return position;
+        }
+    }
+    lits.len()
+}
+
+/// Puts in the literals from a position on, where those before it are all that the set has, and
+/// says whether all are seen to be clean.
+#[cold]
+#[inline(never)]
+fn put_if_clean(seen: &mut SeenLits, lits: &[Lit], begin: usize) -> bool
+    requires clean { IsClean (take begin lits.now) }
+    requires members { (l : Literal) → Has seen.old l ↔ l ∈ take begin lits.now }
+    ensures clean { IsTrue result → IsClean lits.now }
+    ensures members { IsTrue result → (l : Literal) → Has seen.new l ↔ l ∈ lits.now }
+{
+    for position in begin..lits.len() {
+        let lit = lits[position];
+        if seen.contains(lit.negated()) {
+            return false;
+        }
+        if !seen.insert(lit) {
+            return false;
+        }
+    }
+    true
+}
+
 /// Replaces the set by these literals if they are seen to be clean, and says whether it did.
 pub(crate) fn set_if_clean(seen: &mut SeenLits, lits: &[Lit]) -> bool
     ensures clean { IsTrue result → IsClean lits.now }
     ensures members { IsTrue result → (l : Literal) → Has seen.new l ↔ l ∈ lits.now }
 {
     seen.clear();
-    for lit in lits {
-        if seen.contains(lit.negated()) {
-            return false;
-        }
-        if !seen.insert(*lit) {
-            return false;
-        }
+    let begin = stamp_clean(&mut seen.stamps, seen.stamp, lits);
+    if begin == lits.len() {
+        return true;
     }
-    true
+    put_if_clean(seen, lits, begin)
 }
 
 /// Puts in each literal of a list for which there is memory.

@@ -2,11 +2,11 @@
 
 ghost use Rattle.std.specs.Prelude.{◌≡◌, ◌≤◌, ◌↔◌, ◌⊎◌, IsTrue};
 ghost use Rattle.qbf_core.specs.Literal.{Literal};
-ghost use Rattle.qbf_core.specs.Members.{◌∈◌, ◌⊆◌};
+ghost use Rattle.qbf_core.specs.Members.{◌∈◌};
 ghost use Rattle.qbf_core.specs.Rules.{Side, reduced_quantifier};
 ghost use Rattle.qbf_core.specs.Sets.{IsOrdered};
 ghost use Rattle.qrp_rules.specs.Conditions.{IsJudgement, reduct_conditions};
-ghost use Rattle.qrp_rules.specs.Walks.{Covers, MayOmit};
+ghost use Rattle.qrp_rules.specs.Walks.{Covers, IsRestFrom, MayOmit};
 
 use crate::blocks::{Reducible, is_the_pivot, reducible_in};
 use crate::fault::RuleFault;
@@ -15,9 +15,7 @@ use qbf_core::{Lit, Prefix, Quantifier, Var};
 /// What is left of an ordered list from a variable on.
 fn seek(lits: &[Lit], var: Var) -> &[Lit]
     requires { IsOrdered lits.now }
-    ensures ordered { IsOrdered result.now }
-    ensures within { result.now ⊆ lits.now }
-    ensures kept { (m : Literal) → m ∈ lits.now → var ≤ m.var → m ∈ result.now }
+    ensures rest { IsRestFrom lits.now var result.now }
     ensures later { (m : Literal) → m ∈ result.now → var ≤ m.var }
 {
     let mut rest = lits;
@@ -46,9 +44,7 @@ fn starts_with(lits: &[Lit], lit: Lit) -> bool
 /// What is left of an ordered list from the variable of a literal on, and whether it has that one.
 pub(crate) fn seek_literal(lits: &[Lit], lit: Lit) -> (&[Lit], bool)
     requires { IsOrdered lits.now }
-    ensures ordered { IsOrdered result.0.now }
-    ensures within { result.0.now ⊆ lits.now }
-    ensures kept { (m : Literal) → m ∈ lits.now → lit.var ≤ m.var → m ∈ result.0.now }
+    ensures rest { IsRestFrom lits.now lit.var result.0.now }
     ensures found { IsTrue result.1 ↔ lit ∈ lits.now }
 {
     let rest = seek(lits, lit.var());

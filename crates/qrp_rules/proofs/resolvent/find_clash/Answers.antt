@@ -19,8 +19,8 @@ loop-lit-preserved c =
     let var_of : Literal → ℕ = λ z. z.var in
     let reach' : Reaches c.args.b.now c.seek_literal-opposite.result.0.now (HasVar (drop (i + 1) c.args.a.now)) =
     reach_more c.args.b.now c.loop-lit.rest.now _ c.args.a.now i (c.negated.result.var) x c.requires.a c.loop-lit-test.true
-    c.lit-item.is c.loop-lit.invariant.reach c.seek_literal-opposite.ensures.ordered c.seek_literal-opposite.ensures.within
-    (ap var_of c.negated.ensures) c.seek_literal-opposite.ensures.kept in
+    c.lit-item.is c.loop-lit.invariant.reach c.seek_literal-opposite.ensures.rest.ordered c.seek_literal-opposite.ensures.rest.within
+    (ap var_of c.negated.ensures) c.seek_literal-opposite.ensures.rest.kept in
     elim c.if-opposite.branch [
       | then-opposite+in-None w ↦
           let k : negated x ∈ c.loop-lit.rest.now = subst (λ (z : Literal). z ∈ c.loop-lit.rest.now) c.negated.ensures

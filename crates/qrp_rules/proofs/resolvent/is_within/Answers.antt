@@ -28,10 +28,10 @@ loop-lit-preserved c =
     let in_b = c.seek_literal-in_b.ensures in
     let left' : Reaches c.args.a.now c.seek_literal-in_a.result.0.now (HasVar (drop (i + 1) c.args.to.now)) =
     reach_more c.args.a.now c.loop-lit.left.now _ c.args.to.now i x.var x c.requires.to c.loop-lit-test.true c.lit-item.is
-    c.loop-lit.invariant.left in_a.ordered in_a.within refl in_a.kept in
+    c.loop-lit.invariant.left in_a.rest.ordered in_a.rest.within refl in_a.rest.kept in
     let right' : Reaches c.args.b.now c.seek_literal-in_b.result.0.now (HasVar (drop (i + 1) c.args.to.now)) =
     reach_more c.args.b.now c.loop-lit.right.now _ c.args.to.now i x.var x c.requires.to c.loop-lit-test.true c.lit-item.is
-    c.loop-lit.invariant.right in_b.ordered in_b.within refl in_b.kept in
+    c.loop-lit.invariant.right in_b.rest.ordered in_b.rest.within refl in_b.rest.kept in
     record {
       left = left';
       right = right';

@@ -19,7 +19,7 @@ loop-lit-preserved c =
     record {
       reach = (let sought = c.seek_literal-kept.ensures in
           reach_more c.args.to.now c.loop-lit.rest.now _ c.args.from.now i x.var x c.requires.from c.loop-lit-test.true c.lit-item.is
-          c.loop-lit.invariant.reach sought.ordered sought.within refl sought.kept);
+          c.loop-lit.invariant.reach sought.rest.ordered sought.rest.within refl sought.rest.kept);
       done = each_more (λ (z : Literal). (z ∈ c.args.to.now) ⊎ MayOmit c.args.reducible c.args.pivot z.var)
           c.args.from.now i x c.loop-lit-test.true c.lit-item.is is c.loop-lit.invariant.done;
     }

@@ -1,12 +1,12 @@
 use Rattle.qrp_rules.proofs.Words.{◌≤◌, ℕ, sym, subst, arith}
 use Rattle.qrp_rules.proofs.walks.seek_literal.Goals as goal
 
-pub returns-clause-kept : goal.returns-clause-kept
-returns-clause-kept c = λ m h le. c.seek-rest.ensures.kept m h (subst (λ (v : ℕ). v ≤ m.var) (sym c.var.ensures) le)
+pub returns-clause-rest : goal.returns-clause-rest
+returns-clause-rest c = rw c.var.ensures at c.seek-rest.ensures.rest
 
 pub returns-clause-found : goal.returns-clause-found
 returns-clause-found c = (
-  λ t. c.seek-rest.ensures.within c.args.lit (c.starts_with.ensures.0 t),
-  λ h. c.starts_with.ensures.1 (c.seek-rest.ensures.kept c.args.lit h
+  λ t. c.seek-rest.ensures.rest.within c.args.lit (c.starts_with.ensures.0 t),
+  λ h. c.starts_with.ensures.1 (c.seek-rest.ensures.rest.kept c.args.lit h
       (let e : c.var.result ≤ c.args.lit.var = subst (λ (v : ℕ). v ≤ c.args.lit.var) (sym c.var.ensures) (omega arith) in e)),
 )

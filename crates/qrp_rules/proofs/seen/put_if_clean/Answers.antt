@@ -1,0 +1,27 @@
+use Rattle.qrp_rules.proofs.Words.{ℕ, sym, subst, ◌∙◌, inl, inr, false≢true, Literal, in_take_more, take_more_in, Has}
+use Rattle.qrp_rules.proofs.WrittenSteps.{clean_all, clean_with}
+use Rattle.qrp_rules.proofs.seen.put_if_clean.Goals as goal
+
+pub loop-position-preserved : goal.loop-position-preserved
+loop-position-preserved c =
+    let i : ℕ = c.loop-position.position in
+    let x : Literal = c.index-lits-position.result in
+    record {
+      clean = clean_with c.args.lits.now i x c.loop-position-test.true c.index-lits-position.is
+          (λ h. false≢true (sym c.if-contains.false ∙ c.contains.ensures.1
+          (subst (λ (z : Literal). Has c.loop-position.seen z) (sym c.negated.ensures) ((c.loop-position.invariant.seen _).1 h))))
+          c.loop-position.invariant.clean;
+      seen = λ m. (
+        (λ h. take_more_in c.args.lits.now i x m c.loop-position-test.true c.index-lits-position.is (elim ((c.insert.ensures m).0 h) [
+          | inl k ↦ inl ((c.loop-position.invariant.seen m).0 k)
+          | inr e ↦ inr e.0
+        ])),
+        (λ h. (c.insert.ensures m).1 (elim (in_take_more c.args.lits.now i x m c.loop-position-test.true c.index-lits-position.is h) [
+          | inl k ↦ inl ((c.loop-position.invariant.seen m).1 k)
+          | inr e ↦ inr (e, c.if-not-insert.false)
+        ])),
+      );
+    }
+
+pub returns-clause-clean : goal.returns-clause-clean
+returns-clause-clean c = λ t. clean_all c.args.lits.now c.loop-position.position c.loop-position-test.false c.loop-position.invariant.clean

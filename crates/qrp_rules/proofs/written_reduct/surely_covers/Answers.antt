@@ -1,0 +1,17 @@
+use Rattle.std.proofs.Common.{◌⊎◌, inl, inr, rules, tests}
+use Rattle.std.proofs.lemmas.Bool.{MatchBool-at_true}
+use Rattle.std.proofs.lemmas.Iterator.{cases_from_all, YieldsList-from_slice}
+use Rattle.qbf_core.specs.Literal.{Literal}
+use Rattle.qbf_core.proofs.Members.{each_within}
+use Rattle.qrp_rules.specs.Seen.{Has}
+use Rattle.qrp_rules.specs.Walks.{TakesOut}
+use Rattle.qrp_rules.proofs.written_reduct.surely_covers.Goals as goal
+
+pub returns : goal.returns
+returns c = λ t l h.
+    let Is : Literal → Type 0 = λ m. Has c.set_each.new.self m ⊎ TakesOut c.args.reducible m.var in
+    elim (each_within Is c.args.from.now (MatchBool-at_true _ _ t (cases_from_all _ _ _ Is (λ _. Unit {0}) c.all.ensures.ran
+    (YieldsList-from_slice c.args.from.now cc) (λ x q k. search (rules, tests)) (λ x q k. tt))) l h) [
+      | inl has ↦ inl (c.set_each.ensures l has)
+      | inr may ↦ inr may
+    ]

@@ -1,0 +1,110 @@
+//! Reducts as they are written: one walk decides if they are in the order of their antecedents, and
+//! else a set of literals, whatever their order and how often each is written.
+
+ghost use Rattle.std.specs.Prelude.{◌⊎◌, IsTrue, IfOk};
+ghost use Rattle.qbf_core.specs.Literal.{Literal};
+ghost use Rattle.qbf_core.specs.Members.{◌∈◌, ◌⊆◌};
+ghost use Rattle.qrp_rules.specs.Accepted.{IsAcceptedBy, IsFit};
+ghost use Rattle.qrp_rules.specs.Conditions.{reduct_conditions};
+ghost use Rattle.qrp_rules.specs.Walks.{TakesOut};
+
+use crate::blocks::{Reducible, reducible_in};
+use crate::fault::Holds;
+use crate::seen::SeenLits;
+use crate::side::Side;
+use crate::two_lists::advance_if_equal;
+use qbf_core::{Lit, Prefix};
+
+/// Accepts a list that is left of another without some literals that a reduction may take out.
+fn accepts_reduct_as_written(reducible: Reducible, from: &[Lit], to: &[Lit]) -> bool
+    ensures within { IsTrue result → to.now ⊆ from.now }
+    ensures each { IsTrue result → (l : Literal) → l ∈ from.now
+        → (l ∈ to.now) ⊎ TakesOut reducible.entry l.var }
+{
+    let mut in_to = 0;
+    for lit in from {
+        let next = advance_if_equal(to, in_to, *lit);
+        if next == in_to && !reducible.has(lit.var()) {
+            return false;
+        }
+        in_to = next;
+    }
+    in_to == to.len()
+}
+
+/// Accepts a list that is a clean and bound one without some reducible literals, in its order. It
+/// takes no memory.
+#[inline(always)]
+fn accepts_reduct_in_order<S: Side>(prefix: &Prefix, from: &[Lit], to: &[Lit]) -> bool
+    requires { IsFit prefix.now from.now }
+    ensures { IsAcceptedBy (reduct_conditions S.side prefix.now from.now to.now) prefix.now to.now
+        result }
+{
+    // Where nothing is left out, no block matters.
+    if from == to {
+        return true;
+    }
+    // What is left out has the other quantifier, so the literals that are kept say the block.
+    accepts_reduct_as_written(reducible_in(prefix, S::REDUCED, to), from, to)
+}
+
+/// Whether each literal of a list is seen to be in another one.
+fn surely_within(seen: &mut SeenLits, lits: &[Lit], whole: &[Lit]) -> bool
+    ensures { IsTrue result → lits.now ⊆ whole.now }
+{
+    seen.set_each(whole);
+    lits.iter().all(|lit| seen.contains(*lit))
+}
+
+/// Whether each literal of a list is seen to be in another one, or may be taken out.
+fn surely_covers(seen: &mut SeenLits, reducible: Reducible, from: &[Lit], to: &[Lit]) -> bool
+    ensures { IsTrue result → (l : Literal) → l ∈ from.now
+        → (l ∈ to.now) ⊎ TakesOut reducible.entry l.var }
+{
+    seen.set_each(to);
+    from.iter()
+        .all(|lit| seen.contains(*lit) || reducible.has(lit.var()))
+}
+
+/// As `accepts_reduct`, by a set of literals.
+#[cold]
+#[inline(never)]
+fn accepts_reduct_by_set<S: Side>(
+    seen: &mut SeenLits,
+    prefix: &Prefix,
+    from: &[Lit],
+    to: &[Lit],
+) -> Holds
+    requires { IsFit prefix.now from.now }
+    ensures { IfOk result (IsAcceptedBy (reduct_conditions S.side prefix.now from.now to.now)
+        prefix.now to.now) }
+{
+    seen.make_room(prefix)?;
+    if !surely_within(seen, to, from) {
+        return Ok(false);
+    }
+    // What is left out has the other quantifier, so the literals that are kept say the block.
+    Ok(surely_covers(seen, reducible_in(prefix, S::REDUCED, to), from, to))
+}
+
+/// Accepts a step that is a reduct of its antecedent, which is clean and bound: as `reduct_fault`,
+/// of literals as they are written, whatever their order and how often each is written.
+///
+/// # Errors
+/// If an allocation fails.
+#[inline(always)]
+pub fn accepts_reduct<S: Side>(
+    seen: &mut SeenLits,
+    prefix: &Prefix,
+    from: &[Lit],
+    to: &[Lit],
+) -> Holds
+    requires { IsFit prefix.now from.now }
+    ensures { IfOk result (IsAcceptedBy (reduct_conditions S.side prefix.now from.now to.now)
+        prefix.now to.now) }
+{
+    if accepts_reduct_in_order::<S>(prefix, from, to) {
+        return Ok(true);
+    }
+    accepts_reduct_by_set::<S>(seen, prefix, from, to)
+}
