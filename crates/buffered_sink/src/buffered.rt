@@ -66,7 +66,7 @@ impl Buffer {
         self.start += n;
     }
 
-    /// Adds the bytes where there is room for all of them, and returns whether there was.
+    /// Adds the bytes if there is room for all of them, and returns whether there was.
     #[inline(always)]
     #[tactic(auto, using(crate::proofs::BufferPart::part_append))]
     fn append(&mut self, bytes: &[u8]) -> bool
@@ -82,7 +82,7 @@ impl Buffer {
         true
     }
 
-    /// Adds the digits of a number where there is room for any number, and returns whether there
+    /// Adds the digits of a number if there is room for any number, and returns whether there
     /// was.
     #[inline(always)]
     #[tactic(auto, using(crate::proofs::BufferPart::part_put))]
@@ -98,8 +98,8 @@ impl Buffer {
         true
     }
 
-    /// Adds a number after a blank, directly after a minus if it is negative, where there is room
-    /// for any number, and returns whether there was.
+    /// Adds a number after a blank, directly after a minus if it is negative, if there is room for
+    /// any number, and returns whether there was.
     #[inline(always)]
     fn append_spaced(&mut self, negative: bool, n: u64) -> bool
         ensures all { result ≡ true → self.new ≡ self.old ++ 32 ∷ token_text (Number negative n) }
@@ -113,7 +113,7 @@ impl Buffer {
         true
     }
 
-    /// Holds a number back, after a blank, where nothing is held.
+    /// Holds a number back, after a blank, if nothing is held.
     #[tactic(auto, using(crate::proofs::BufferPart::part, crate::proofs::BufferPart::part_put))]
     fn begin_with_spaced(&mut self, negative: bool, n: u64)
         requires { self.old ≡ [] }
@@ -124,7 +124,7 @@ impl Buffer {
         self.end = end;
     }
 
-    /// Holds the digits of a number back where nothing is held.
+    /// Holds the digits of a number back if nothing is held.
     #[tactic(auto, using(crate::proofs::BufferPart::part))]
     fn begin_with(&mut self, n: u64)
         requires { self.old ≡ [] }

@@ -55,7 +55,7 @@ abbrev pub CoreReturns : Rules → List ℕ → List ℕ → List ℕ → List �
 CoreReturns rules formula trace old new out returned =
     ProofReturns rules formula trace out (λ outcome. IsListed (step_numbers outcome) old new returned)
 
--- the struct where nothing was verified or refused: all zeros
+-- the struct if nothing was verified or refused: all zeros
 abbrev pub encoded_nothing : QrpVerdict
 encoded_nothing = record { position = 0; status = 0; truth = 0; letter = 0; number = 0; rule = 0; reserved = 0 ∷ 0 ∷ 0 ∷ [] }
 

@@ -14,8 +14,8 @@ use Rattle.qrp_check.specs.Headline.{Spell, IsShown}
 use Rattle.qrp_bytes.specs.declared.verdict.QrpVerdict.{QrpVerdict}
 use Rattle.qrp_bytes.specs.Encoding.{IsEncoded}
 
--- The headline: status 0 only where the bytes show it, and wherever they do, unless an allocation failed, 4. And then the formula is false
--- if the trace says `r unsat` and true if it says `r sat`, and `truth` is 1 exactly where it is true.
+-- The headline: status 0 only if the bytes show it, and whenever they do, unless an allocation failed, 4. And then the formula is false
+-- if the trace says `r unsat` and true if it says `r sat`, and `truth` is 1 exactly if it is true.
 pub record StructHeadline (rules : Rules) (formula trace : List ℕ) (out : QrpVerdict) : Type 0 where
   pub only : out.status ≡ 0 → IsShown rules formula trace
   pub wherever : IsShown rules formula trace → (out.status ≡ 0) ⊎ (out.status ≡ 4)

@@ -47,7 +47,7 @@ pub fn encode_truth(truth: bool) -> QrpVerdict
     }
 }
 
-/// What a caller in C gets where nothing was verified or refused.
+/// What a caller in C gets if nothing was verified or refused.
 pub fn encode_nothing() -> QrpVerdict
     ensures { result ≡ encoded_nothing }
 {

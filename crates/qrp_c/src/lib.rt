@@ -63,7 +63,7 @@ pub extern "C" fn qrp_verify(
 ///
 /// In C: `size_t qrp_verdict_line(const struct qrp_verdict *verdict, char *buffer, size_t room)`.
 ///
-/// Returns its length without the zero, 47 at most. Where the buffer has room for it and the zero,
+/// Returns its length without the zero, 47 at most. If the buffer has room for it and the zero,
 /// they stand at its front, and the rest of the buffer stays as it was; else all of it stays. A
 /// struct that is not the encoding of any result, such as one of zeros, has the empty line.
 #[unsafe(no_mangle)]
@@ -102,7 +102,7 @@ pub extern "C" fn qrp_fault_text(verdict: &QrpVerdict, buffer: &mut [u8]) -> usi
 /// trace_length, bool any_pivot, char *buffer, size_t room, struct qrp_verdict *out)`.
 ///
 /// Returns its length without the zero, and writes as `qrp_verdict_line` does. Writes to `out` what
-/// `qrp_verify` does; where that is a fault the text is empty.
+/// `qrp_verify` does; if that is a fault the text is empty.
 #[unsafe(no_mangle)]
 pub extern "C" fn qrp_trim(
     alloc: Global,
@@ -134,7 +134,7 @@ pub extern "C" fn qrp_trim(
 /// In C: `size_t qrp_core(const void *formula, size_t formula_length, const void *trace, size_t
 /// trace_length, bool any_pivot, uint64_t *steps, size_t room, struct qrp_verdict *out)`.
 ///
-/// Returns how many they are. Where `steps` has room for all of them they stand at its front, and
+/// Returns how many they are. If `steps` has room for all of them they stand at its front, and
 /// the rest stays as it was; else all of it stays. Writes to `out` what `qrp_verify` does; where
 /// that is a fault there are none.
 #[unsafe(no_mangle)]

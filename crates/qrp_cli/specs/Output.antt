@@ -25,7 +25,7 @@ use Rattle.qrp_report.specs.Results.{DeviceFailed, IsFormulaRead, IsTrimmed}
 pub data Sink : Type 0 where
   Out Errors : Sink
 
--- what is to be written: a text, the sink that it goes to, the status, and the status where that sink fails
+-- what is to be written: a text, the sink that it goes to, the status, and the status if that sink fails
 pub record Report : Type 0 where
   pub sink : Sink
   pub text : List ℕ
@@ -56,7 +56,7 @@ abbrev pub check_report : Rules → Result Verified Fault → Report
 check_report rules (Ok v) = success (verdict_line v.truth)
 check_report rules (Err e) = refusal (job.Check rules) e
 
--- the trimmed trace, where a trace was read and verified
+-- the trimmed trace, if a trace was read and verified
 abbrev pub trimmed_result : Result (Derivation × Verified) Fault → Result Derivation Fault
 trimmed_result (Ok r) = Ok (trimmed_trace r.0 r.1.core.items)
 trimmed_result (Err e) = Err e
@@ -93,7 +93,7 @@ IsSent sink old new text status failed returned =
 abbrev pub IsReportedTo : {S : Type 0} → Ghosts S → S → S → Report → ℕ → Type 0
 IsReportedTo sink old new r returned = IsSent sink old new r.text r.status r.failed returned
 
--- what holds where a report goes to this sink
+-- what holds if a report goes to this sink
 abbrev pub IsOn : Sink → Type 0 → Type 0 → Type 0
 IsOn Out on_out on_errors = on_out
 IsOn Errors on_out on_errors = on_errors

@@ -11,20 +11,20 @@ use Rattle.qbf_text.specs.declared.source.Source as source
 use Rattle.qrp_check.specs.Checked.{call_of}
 use Rattle.qrp_cli.specs.Words.{Request, IsRow}
 
--- a line that ends the program before its job begins; the status stays where the line does not go out
+-- a line that ends the program before its job begins; the status stays if the line does not go out
 abbrev pub start_report : Sink → Start → Report
 start_report sink s = record { sink = sink; text = start_line s; status = start_status s; failed = start_status s }
 
--- how the program ends where a file is not opened
+-- how the program ends if a file is not opened
 abbrev pub start_without_file : Start → OpenFault → Start
 start_without_file no_file NoFile = no_file
 start_without_file no_file NoMemory = start.NoMemory
 
--- what opening a path may return: the bytes of the file, where they are known, or why it is not opened
+-- what opening a path may return: the bytes of the file, if they are known, or why it is not opened
 abbrev pub Opens : Type 1
 Opens = List ℕ → Result (Option (List ℕ)) OpenFault → Type 0
 
--- The report on a file: the end for this sink where it is not opened, or what is said of the opened file, which has not failed.
+-- The report on a file: the end for this sink if it is not opened, or what is said of the opened file, which has not failed.
 abbrev pub IsOnFile : {F : Type 0} → source.Ghosts F → Opens → Sink → Start → List ℕ → (F → Type 0) → Report → Type 0
 IsOnFile {F = F} files opens sink no_file path says r =
     ((e : OpenFault) × opens path (Err e) × (r ≡ start_report sink (start_without_file no_file e)))
@@ -57,12 +57,12 @@ IsOnFiles files opens j formula (Some trace) r =
 abbrev pub word : List (List ℕ) → ℕ → List ℕ
 word words i = get_or words i []
 
--- the word at a place, where there is one
+-- the word at a place, if there is one
 abbrev pub word_at : List (List ℕ) → Option ℕ → Option (List ℕ)
 word_at words None = None
 word_at words (Some i) = Some (word words i)
 
--- The report of the program: USAGE where the words are not a row of the usage, or the report on the files that they name.
+-- The report of the program: USAGE if the words are not a row of the usage, or the report on the files that they name.
 abbrev pub IsProgram : {F : Type 0} → source.Ghosts F → Opens → List (List ℕ) → Report → Type 0
 IsProgram files opens words r =
     (((q : Request) → IsRow words q → ⊥) × (r ≡ start_report Errors start.Usage))

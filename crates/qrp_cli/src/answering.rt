@@ -42,7 +42,7 @@ fn refuse<O: Sink, E: Sink>(job: Job, start: Start, out: &mut O, err: &mut E) ->
 /// Opens a file.
 ///
 /// # Errors
-/// How the program ends where it is not opened; `no_file` if it cannot be.
+/// How the program ends if it is not opened; `no_file` if it cannot be.
 fn open_file<F: Open>(files: &F, path: &str, no_file: Start) -> Result<F::File, Start>
     ensures file { IfOk result (λ f. F.opens files.now path.now (Ok (F.File.remaining f))) }
     ensures failures { IfOk result (λ f. F.File.failures f ≡ 0) }
@@ -58,7 +58,7 @@ fn open_file<F: Open>(files: &F, path: &str, no_file: Start) -> Result<F::File, 
 /// Opens the files of a formula and a trace, the formula first.
 ///
 /// # Errors
-/// How the program ends where one of them is not opened.
+/// How the program ends if one of them is not opened.
 fn open_both<F: Open>(files: &F, formula: &str, trace: &str) -> Result<(F::File, F::File), Start>
     ensures opened { IfOk result (λ f. (job : Job) (r : Report)
         → IsOnBoth F.File.Source F.File.Source job f.0 f.1 r
@@ -75,7 +75,7 @@ fn open_both<F: Open>(files: &F, formula: &str, trace: &str) -> Result<(F::File,
 /// Opens the file of a formula, for a job that has no trace.
 ///
 /// # Errors
-/// How the program ends where it is not opened.
+/// How the program ends if it is not opened.
 fn open_formula<'a, F: Open>(files: &F, path: &str) -> Result<(F::File, SliceSource<'a>), Start>
     ensures opened { IfOk result (λ f. (job : Job) (r : Report)
         → IsOnFormula F.File.Source f.0 r

@@ -14,7 +14,7 @@ pub trait Open {
     /// An opened file.
     type File: Source + Drop;
 
-    /// What opening this path may return: the bytes of the file, where they are known, or why it is
+    /// What opening this path may return: the bytes of the file, if they are known, or why it is
     /// not opened.
     ghost opens: { Self → List ℕ → Result (Option (List ℕ)) OpenFault → Type 0 };
 

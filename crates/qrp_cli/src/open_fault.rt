@@ -15,7 +15,7 @@ pub enum OpenFault {
 }
 
 impl OpenFault {
-    /// How the program ends, where a file that cannot be opened is reported as `no_file`.
+    /// How the program ends, if a file that cannot be opened is reported as `no_file`.
     pub fn start(self, no_file: Start) -> Start
         ensures { result ≡ start_without_file no_file self }
     {

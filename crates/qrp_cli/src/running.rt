@@ -33,7 +33,7 @@ use std::alloc::Global;
 /// failed, 4 an allocation failed.
 pub type Status = u8;
 
-/// The status where a device failed.
+/// The status if a device failed.
 const DEVICE_FAILED: Status = 3;
 
 /// Finishes a sink if the text that was to go out to it did, and returns the status.
@@ -171,13 +171,13 @@ fn run_format<F: Source, O: Sink, E: Sink>(
     }
 }
 
-/// Does a job: reads the formula and, where the job asks for it, the trace, and writes the report
+/// Does a job: reads the formula and, if the job asks for it, the trace, and writes the report
 /// to `out` or `err`.
 ///
-/// Where the bytes of the sources are known, the report is the one for what they spell. A source
+/// If the bytes of the sources are known, the report is the one for what they spell. A source
 /// that fails is reported in a line with status 3, out of memory in a line with status 4, on the
 /// sink that takes the refusals of the job: `out` for `Check`, `err` for the others. The other sink
-/// gets nothing. Where the sink of the report fails, in a write or in `finish`, the status is 3 and
+/// gets nothing. If the sink of the report fails, in a write or in `finish`, the status is 3 and
 /// a beginning of the text went out. For `Format`, and with a fault of the formula, the trace is
 /// not pulled. Once a trace was read, nothing is read past its result word but at most 4,096 bytes.
 pub fn run<F: Source, T: Source, O: Sink, E: Sink>(

@@ -20,7 +20,7 @@ abbrev pub DeviceFailed : ℕ → ℕ → Type 0
 DeviceFailed before after = before < 2 ^ 64 - 1 → before < after
 
 -- What a source reads as whose count of failures goes from `before` to `after`: the trace or the fault that its bytes
--- spell, where they are known; or P1 where it failed, or P9 where an allocation failed.
+-- spell, if they are known; or P1 if it failed, or P9 if an allocation failed.
 abbrev pub IsRead : Option (List ℕ) → ℕ → ℕ → Result Derivation Fault → Type 0
 IsRead bytes before after (Ok d) = Gives (Ok d) (reads_bytes bytes) × (after ≡ before)
 IsRead bytes before after (Err e) =

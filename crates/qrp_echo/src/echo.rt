@@ -14,7 +14,7 @@ use std::alloc::Global;
 /// failed.
 pub type Status = u8;
 
-/// The status where a device failed.
+/// The status if a device failed.
 const DEVICE_FAILED: Status = 3;
 
 /// The status for a fault.
@@ -43,7 +43,7 @@ fn send<K: Sink>(trace: &Trace, sink: &mut K) -> Status
 
 /// Writes the canonical text of the trace that the source holds.
 ///
-/// Of a fault nothing is written. Where the sink fails, in a write or in `finish`, a beginning of
+/// Of a fault nothing is written. If the sink fails, in a write or in `finish`, a beginning of
 /// the text went out.
 pub fn echo<S: Source, K: Sink>(alloc: Global, source: &mut S, sink: &mut K) -> Status
     ensures { (read : Result Derivation Fault)

@@ -6,7 +6,7 @@ ghost use Rattle.qrp_handle.specs.declared.fault.AddFault.{AddFault};
 
 use crate::fault::AddFault;
 
-/// The status where the struct holds no proof.
+/// The status if the struct holds no proof.
 pub const NOTHING: i32 = 11;
 
 /// The status of an addition: 0 if it was done, and else that of its fault.

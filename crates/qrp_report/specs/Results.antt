@@ -18,8 +18,8 @@ use Rattle.qrp_check.specs.Trim.{trimmed_trace}
 abbrev pub DeviceFailed : ℕ → ℕ → Type 0
 DeviceFailed before after = before < 2 ^ 64 - 1 → before < after
 
--- What the formula's text reads as, where its bytes are known and its count of failures goes from `before` to `after`:
--- the fault that the bytes spell, F1 where the source failed, or F9 where an allocation failed.
+-- What the formula's text reads as, if its bytes are known and its count of failures goes from `before` to `after`:
+-- the fault that the bytes spell, F1 if the source failed, or F9 if an allocation failed.
 abbrev pub IsFormulaRefused : Option (List ℕ) → ℕ → ℕ → FormulaFault → ℕ → Type 0
 IsFormulaRefused bytes before after F1 n = (n ≡ 0) × DeviceFailed before after
 IsFormulaRefused bytes before after F9 n = (n ≡ 0) × (after ≡ before)

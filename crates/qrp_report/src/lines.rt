@@ -32,7 +32,7 @@ fn put_numbers_line<S: Sink>(
     put_byte(sink, b'\n')
 }
 
-/// Sends the line for a fault of a text: `device` where its source failed, and where the text is
+/// Sends the line for a fault of a text: `device` if its source failed, and where the text is
 /// refused the line with this beginning.
 fn put_text_line<S: Sink>(
     sink: &mut S,
