@@ -1,7 +1,8 @@
 """The wrong bodies of a crate: what each changes, which can be tried in one check, and what the check says of each.
 
 A wrong body is a file crates/NAME/must-fail/*.edit: lines `file: PATH`, `old: TEXT`, `new: TEXT`, where each old text stands once in that
-file as the pairs before it left it.
+file as the pairs before it left it. A line `right: TEXT` after a new text makes a control: a body with this text in place of the new one,
+which must be proved. A body that only adds ways to the right one must have one.
 """
 
 import functools
@@ -10,6 +11,7 @@ import shutil
 from dataclasses import dataclass, field
 from pathlib import Path
 
+from added_ways import only_adds_ways, ways
 from rattle_source import Source, apart, blanked, end_of_group, one_line, owner_of
 
 
@@ -38,12 +40,14 @@ class Edit:
 
     name: str
     files: dict
+    # the changed files with its right texts, if it has some
+    rights: dict = field(default_factory=dict)
     functions: set = field(default_factory=set)
     added: set = field(default_factory=set)
     # where it changes no function but a constant: the functions that name it
     users: set = field(default_factory=set)
     copy: Copy | None = None
-    # the right body in the same way, and whether it stands beside the wrong one
+    # the right body in the same way, or that with its right texts, and whether it stands beside the wrong one
     right: Copy | None = None
     control: Copy | None = None
     # for each check in which some did not fit: the changed files of stored answers by their paths in the crate
@@ -70,31 +74,55 @@ class Edit:
         return {file: text for files in self.answers for file, text in files.items()}
 
     def of_right(self):
-        """What a right body has to be checked without, to compare with it: the same for all edits that lost the same answers."""
+        """What a right body has to be checked without, to compare with it: the same for all edits that lost the same answers, unless it has
+        right texts of its own."""
         name = self.copy.name if self.copy else ""
         as_right = lambda text: text.replace(name, "RIGHT") if name else text
-        return tuple(sorted(self.functions)), tuple(sorted((as_right(file), as_right(text)) for file, text in self.taken_out().items()))
+        of = (*sorted(self.functions), *([self.name, bool(self.copy)] if self.rights else []))
+        return of, tuple(sorted((as_right(file), as_right(text)) for file, text in self.taken_out().items()))
 
 
 def read_edit(path, crate):
     """The edit of a file, applied to the files of the crate's folder. Raises BadEdit."""
-    files, file, old = {}, None, None
+    pairs = pairs_of(path)
+    if not pairs:
+        raise BadEdit("it has no pair of an old and a new text")
+    files = applied(crate, [(file, old, new) for file, old, new, _ in pairs])
+    if all(read_source(crate, name) == text for name, text in files.items()):
+        raise BadEdit("it changes nothing")
+    rights = [right for _, _, _, right in pairs if right is not None]
+    if any(right in (old, new) for _, old, new, right in pairs):
+        raise BadEdit("a right text is the old or the new one")
+    return Edit(path.stem, files, applied(crate, [(file, old, right or new) for file, old, new, right in pairs]) if rights else {})
+
+
+def pairs_of(path):
+    """The file, the old text, the new one and the right one, or None, of each pair of an edit. Raises BadEdit."""
+    pairs, file, old = [], None, None
     for line in path.read_text(encoding="utf-8").split("\n"):
-        word, _, text = line.partition(": " if not line.startswith("new:") else ":")
+        word, _, text = line.partition(":")
         if word == "file":
             file = text.strip()
         elif word == "old":
-            old = text
+            old = text.removeprefix(" ")
         elif word == "new":
             if file is None or old is None:
                 raise BadEdit("a new text comes before any file or old text")
-            files[file] = replaced(file, files.get(file) or read_source(crate, file), old, text.removeprefix(" "))
+            pairs.append((file, old, text.removeprefix(" "), None))
             old = None
-    if not files:
-        raise BadEdit("it has no pair of an old and a new text")
-    if all(read_source(crate, name) == text for name, text in files.items()):
-        raise BadEdit("it changes nothing")
-    return Edit(path.stem, files)
+        elif word == "right":
+            if not pairs or old is not None or pairs[-1][3] is not None:
+                raise BadEdit("a right text does not come after a new text")
+            pairs[-1] = (*pairs[-1][:3], text.removeprefix(" "))
+    return pairs
+
+
+def applied(crate, changes):
+    """The files of the crate's folder that changes of an old text to another one leave. Raises BadEdit."""
+    files = {}
+    for file, old, new in changes:
+        files[file] = replaced(file, files.get(file) or read_source(crate, file), old, new)
+    return files
 
 
 def read_source(crate, file):
@@ -150,6 +178,28 @@ def find_functions(edit, crate_name, crate):
         raise BadEdit("it changes no function and no constant")
     if not edit.functions:
         edit.users = users_of(changed, crate_name, crate)
+    check_control(edit, crate_name, crate)
+
+
+def check_control(edit, crate_name, crate):
+    """Raises BadEdit where an edit only adds ways and has no control, or where its control is another change than of a right text alone."""
+    bodies = lambda files: {path: source.body(it) for path, source, it in functions_in(files, crate_name)}
+    before, after = bodies({file: read_source(crate, file) for file in edit.files}), bodies(edit.files)
+    changed = [path for path in edit.functions if path in after and before[path] != after[path]]
+    if not edit.rights:
+        if changed and all(only_adds_ways(before[path], after[path]) for path in changed):
+            raise BadEdit("it only adds a way to the right body, and has no right text, which gives the same way the right result")
+        return
+    control = bodies(edit.rights)
+    if set(control) != set(after) or any(ways(control[path]) != ways(after[path]) for path in changed):
+        raise BadEdit("its right text has other ways than its new text")
+
+
+def functions_in(files, crate_name):
+    """The functions of some files: the path of each, its source and itself."""
+    for file, text in files.items():
+        source = source_of(crate_name, file, text)
+        yield from ((it.path, source, it) for it in source.functions)
 
 
 def check_contract(before, after):
@@ -211,15 +261,26 @@ def make_copy(edit, number, crate_name, crate):
         return
     (path,), ((file, text),) = edit.functions, edit.files.items()
     before = read_source(crate, file)
-    old, new = (functions_of(crate_name, file, it)[path] for it in (before, text))
-    if old.name == "main" or old.is_of_trait:
+    find = lambda text: functions_of(crate_name, file, text)[path]
+    old = find(before)
+    if old.name == "main" or old.is_of_trait or not is_changed_alone(before, text, old, find(text)):
         return
-    start, first = (first_line(it, text) for it, text in ((old, before), (new, text)))
+    as_copy = lambda text, word: copy_of(text, find(text), f"{path}_{word}_{number}", path, file, old.end)
+    edit.copy, edit.right = as_copy(text, "wrong"), as_copy(edit.rights.get(file, before), "right")
+    edit.control = edit.right if edit.rights else None
+
+
+def is_changed_alone(before, text, old, new):
+    """Whether two texts of a file differ in one function alone, which does not call itself."""
+    start, first = first_line(old, before), first_line(new, text)
     is_all = before[:start] == text[:first] and before[old.end :] == text[new.end :]
-    body = named(text, new, first, f"{new.name}_wrong_{number}")
-    if is_all and not re.search(rf"(?<![.:\w]){new.name}\(|\b[Ss]elf(?:\.|::){new.name}\(|#\[cycle", blanked(body)):
-        edit.copy = Copy(path, f"{path}_wrong_{number}", file, old.end, f"\n\n{body}")
-        edit.right = Copy(path, f"{path}_right_{number}", file, old.end, "\n\n" + named(before, old, start, f"{old.name}_right_{number}"))
+    calls_itself = rf"(?<![.:\w]){new.name}\(|\b[Ss]elf(?:\.|::){new.name}\(|#\[cycle"
+    return is_all and not re.search(calls_itself, blanked(text[first : new.name_end - len(new.name)] + text[new.name_end : new.end]))
+
+
+def copy_of(text, it, path, of, file, place):
+    """A function of a file's text as one of its own, with another path, for a place in that file."""
+    return Copy(of, path, file, place, "\n\n" + named(text, it, first_line(it, text), path.rsplit("::", 1)[1]))
 
 
 def first_line(it, text):

@@ -176,6 +176,43 @@ def edits_that_cannot_be_tried():
     ])
 
 
+SUM = "low::first(a) + b"
+
+
+def added(way, right=None):
+    """An edit that adds a way to `sum`, and the same way with the right result."""
+    control = f"right: {right} {SUM}\n" if right else ""
+    return f"file: src/lib.rt\nold: {SUM}\nnew: {way} {SUM}\n{control}"
+
+
+def a_way_that_is_added_must_have_a_control():
+    none = "it only adds a way to the right body, and has no right text"
+    return all([
+        is_bad(added("if b == 0 { return a - b; }"), none),
+        is_bad(added("let c = a; if c == 0 { return a - b; }"), none),
+        is_bad(added("if b == 0 { a - b } else"), none),
+        is_bad(added("low::checked(a - b)?;"), none),
+        is_bad("file: src/low.rt\nold:     a\nnew:     if a == 7 { a }\n", none),
+        is_bad("file: src/lib.rt\nold: self.0\nnew: match self.1 { 0 => return 1, _ => {} } self.0\n", none),
+        not is_bad(added("if b == 0 { return a - b; }", "if b == 0 { return a + b; }"), ""),
+        # These change the right body's own ways.
+        not is_bad(added("let a = a - b;"), ""),
+        not is_bad(f"file: src/lib.rt\nold: {SUM}\nnew: if b == 0 {{ a - b }} else {{ a + b }}\n", ""),
+    ])
+
+
+def a_control_differs_in_the_right_text_alone():
+    way = "if b == 0 { return a - b; }"
+    return all([
+        is_bad(added(way, way), "a right text is the old or the new one"),
+        is_bad(f"file: src/lib.rt\nold: {SUM}\nnew: {way} {SUM}\nright: {SUM}\n", "a right text is the old or the new one"),
+        is_bad(added(way, "if b == 0 { if a == 0 { return a + b; } return b; }"), "its right text has other ways than its new text"),
+        is_bad(added(way, "let c = a;"), "its right text has other ways than its new text"),
+        is_bad(f"file: src/lib.rt\nright: {way}\nold: {SUM}\nnew: {way}\n", "a right text does not come after a new text"),
+        is_bad(added(way, "if b == 0 { return a + b; }") + "right: b\n", "a right text does not come after a new text"),
+    ])
+
+
 def bodies_of_their_own_go_together():
     with Repository(EDITS) as repository:
         return repository.run("--list").stdout == "one 1: first_is_a_field sum_is_a_difference sum_is_a_product\n"
@@ -276,6 +313,57 @@ def is_without_evidence(old, new, goal, why):
             written.startswith("one/one\t") and written.endswith(f"\t{goal}\t{why}\n"),
             "refused" not in first.stdout + second.stdout,
         ])
+
+
+def is_left_for_its_control(edit, why):
+    """A wrong body with this control is not counted as refused."""
+    with Repository({"one": edit}) as repository:
+        told = repository.run()
+        lines = told.stdout.splitlines()
+        return all([
+            told.returncode == 1,
+            lines[-1] == "0 passed, 1 failed",
+            any(it.startswith("FAILED: one/one: ") and why in it for it in lines),
+            "refused" not in told.stdout,
+        ])
+
+
+def a_way_that_is_added_counts_if_its_control_is_proved():
+    counts = {
+        # Without and with stored answers that do not fit.
+        "one": (added("if b == 0 { return a - b; }", "if b == 0 { return a + b; }"), "one::sum"),
+        "two": (added("if b == 0 { return a * b; }", "if b == 0 { return a + b; }"), "one::sum"),
+        "three": ("file: src/low.rt\nold:     a\nnew:     if a == 0 { return a.0; } a\nright:     if a == 0 { return 0; } a\n", "one::low::first"),
+    }
+    with Repository({name: edit for name, (edit, _) in counts.items()}) as repository:
+        told = repository.run()
+        return told.returncode == 0 and told.stdout.endswith("\n3 passed, 0 failed\n") and all(
+            f"refused: one/{name}: {path}: returns (not shown, and with its right text it is proved)\n" in told.stdout for name, (_, path) in counts.items()
+        )
+
+
+def a_function_without_copies_has_its_control_in_its_place():
+    edit = "file: src/lib.rt\nold:     down(a)\nnew:     if a == 0 { return a - b; } down(a)\nright:     if a == 0 { return %s; } down(a)\n"
+    with Repository({"one": edit % "0", "two": edit % "a * b"}, SOURCE + "pub fn down(a: u64) -> u64 {\n    down(a)\n}\n") as repository:
+        told = repository.run()
+        left = "FAILED: one/two: it is without evidence: one::down: returns: with its right text a goal is open too, returns\n"
+        refused = "refused: one/one: one::down: returns (not shown, and with its right text it is proved)\n"
+        return told.returncode == 1 and left in told.stdout and refused in told.stdout and told.stdout.endswith("\n1 passed, 1 failed\n")
+
+
+def a_way_that_is_added_does_not_count_otherwise():
+    wrong = "if b == 0 { return a - b; }"
+    return all([
+        # the way has the right result
+        is_left_for_its_control(added("if b == 0 { return a + b; }", "if b == 0 { return b; }"), "it is proved with this body"),
+        # the control is open: its contract, or only its safety
+        is_left_for_its_control(added(wrong, "if b == 0 { return b - a - b; }"), "with its right text a goal is open too, returns"),
+        is_left_for_its_control(added(wrong, "if b == 0 { a[b]; return a; }"), "with its right text a goal is open too, bounds-a-b"),
+        # the control was not looked at, or is no text of the language
+        is_left_for_its_control(added(wrong, "if b == 0 { return b + a; }"), "with its right text it could not be checked"),
+        is_left_for_its_control(added(wrong, "if b == 0 { return @; }"), "with its right text it could not be checked"),
+        is_left_for_its_control(added(wrong), "has no right text"),
+    ])
 
 
 def one_that_has_evidence_is_not_written_down_as_without():
@@ -482,6 +570,8 @@ def answers_are_taken_out():
 TESTS = [
     names_are_those_of_the_prover,
     edits_that_cannot_be_tried,
+    a_way_that_is_added_must_have_a_control,
+    a_control_differs_in_the_right_text_alone,
     bodies_of_their_own_go_together,
     a_method_of_a_trait_is_apart_from_its_callers,
     a_copy_has_the_contract_and_the_proofs,
@@ -490,6 +580,9 @@ TESTS = [
     the_lowest_changed_function_comes_first,
     bodies_that_are_not_refused,
     right_bodies_do_not_count,
+    a_way_that_is_added_counts_if_its_control_is_proved,
+    a_function_without_copies_has_its_control_in_its_place,
+    a_way_that_is_added_does_not_count_otherwise,
     one_that_has_evidence_is_not_written_down_as_without,
     two_bodies_share_a_right_one,
     a_right_body_that_needs_its_answers_is_checked_once,
