@@ -34,6 +34,7 @@ Classifier: Operating System :: POSIX :: Linux
 Classifier: Programming Language :: Python :: 3
 Classifier: Programming Language :: Python :: 3 :: Only
 Classifier: Programming Language :: Python :: Implementation :: CPython
+Classifier: Programming Language :: Python :: Implementation :: PyPy
 Classifier: Topic :: Scientific/Engineering :: Mathematics
 Classifier: Topic :: Software Development :: Libraries :: Python Modules
 Classifier: Typing :: Typed
@@ -63,7 +64,7 @@ def _library():
         missing = f"there is no file {file}" if file else f"there is no lib/libqrp.so.1 in {HERE}, nor above it"
         raise SystemExit(
             f"{NAME}: {missing}. The wheel holds this library, which the sources build by `make lib` and a release has in lib/. "
-            "Name it by the environment variable QRP_LIBRARY, or install the wheel of a release, which needs neither."
+            "Name it by its whole path in the environment variable QRP_LIBRARY, or install the wheel of a release, which needs neither."
         )
     return file.read_bytes()
 

@@ -276,7 +276,7 @@ def as_program(cases):
 # The module is imported as by a Python that has no calls of C for buffers, as PyPy has none.
 WITHOUT_C = """
 import ctypes, sys
-del ctypes.pythonapi
+vars(ctypes).pop("pythonapi", None)
 import qrp_check
 formula, trace = (open(name, "rb").read() for name in sys.argv[1:])
 for kind in bytes, bytearray, memoryview:

@@ -22,6 +22,7 @@ sys.path[:0] = [str(ROOT / "tests"), str(ROOT / "tools")]
 sys.dont_write_bytecode = True
 from damaged_pairs import damaged_pairs  # noqa: E402
 from expect import expect, finish  # noqa: E402
+from pages import blocks  # noqa: E402
 from qrptools.advice import ADVICE, KINDS, NEXT, ROWS, advice_for  # noqa: E402
 from qrptools.step_rules import CONDITIONS  # noqa: E402
 
@@ -307,20 +308,20 @@ def try_pages(program):
     rules = (ROOT / "docs" / "RULES.md").read_text()
     for fault, condition in CONDITIONS.items():
         expect(f"docs/RULES.md: {fault}", re.search(rf"^\| {fault} \| {re.escape(condition)}(;.*)? \|$", rules, re.MULTILINE))
-    blocks = re.findall(r"^    \$ .*\n(?:    .*\n|\n)*", text, re.MULTILINE)
+    sessions = [block for block in blocks(ROOT / "docs" / "REFUSED.md") if block.startswith("$ ")]
     environment = dict(os.environ, QRP_CMD=str(program), ROOT=str(ROOT))
     with tempfile.TemporaryDirectory() as folder:
         for name in "tools", "examples":
             (Path(folder) / name).symlink_to(ROOT / name)
         (Path(folder) / "bin").mkdir()
         (Path(folder) / "bin" / "qrp_cmd").symlink_to(program)
-        for block in blocks:
-            lines = [line[4:] for line in block.rstrip().splitlines()]
+        for block in sessions:
+            lines = block.rstrip().splitlines()
             commands = [line[2:] for line in lines if line.startswith("$ ")]
             page = "\n".join(line for line in lines if not line.startswith("$ "))
             printed = subprocess.run(["bash", "-c", "\n".join(commands)], cwd=folder, capture_output=True, text=True, env=environment, check=False)
             expect("docs/REFUSED.md, a block of commands", page == printed.stdout.rstrip(), (page, printed))
-    expect("docs/REFUSED.md: three blocks of commands", len(blocks) == 3, blocks)
+    expect("docs/REFUSED.md: three blocks of commands", len(sessions) == 3, sessions)
 
 
 # A formula that is false with its proof, and what users do to them: a name, the bytes of both, what is said, and what is not.

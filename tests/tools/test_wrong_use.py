@@ -112,11 +112,15 @@ def try_arguments(trial):
 
 
 def unreadable(folder):
-    """Names of files that cannot be opened or read, also by root, with the reason."""
+    """Names of files that cannot be opened or read, with the reason."""
     (folder / "loop").symlink_to(folder / "loop")
     with socket.socket(socket.AF_UNIX) as bound:
         bound.bind(str(folder / "socket"))
+    (folder / "locked").touch(mode=0)
+    # root may read it
+    locked = [] if os.access(folder / "locked", os.R_OK) else [("a file that may not be read", folder / "locked", "Permission denied")]
     return [
+        *locked,
         ("a missing file", folder / "none", "No such file or directory"),
         ("a folder", folder, "Is a directory"),
         ("a link to itself", folder / "loop", "Too many levels of symbolic links"),
