@@ -162,8 +162,7 @@ type Reached = (At, Result<usize, AllocError>);
 #[inline(always)]
 #[tactic(auto, using(crate::proofs::FormulaParts::numbers_lead_on))]
 fn take_clause(parts: &mut Parts, values: &[i32], from: usize) -> Reached
-    requires within { from ≤ length values.now }
-    requires sound { IsSound at.Clause parts.old }
+    requires here { (from ≤ length values.now) × IsSound at.Clause parts.old }
     ensures leads { IfOk result.1 (λ to. LeadsOver row (state_at parts.old at.Clause)
         (state_at parts.new result.0) values.now from to) }
     ensures within { IfOk result.1 (λ to. to ≤ length values.now) }
@@ -207,8 +206,7 @@ fn take_begun(at: At, parts: &mut Parts, values: &[i32]) -> Reached
 #[inline(always)]
 #[tactic(auto, using(crate::proofs::FormulaParts::numbers_lead_on))]
 fn take_rest(at: At, parts: &mut Parts, values: &[i32], from: usize) -> Reached
-    requires within { from ≤ length values.now }
-    requires sound { IsSound at parts.old }
+    requires here { (from ≤ length values.now) × IsSound at parts.old }
     ensures leads { IfOk result.1 (λ to. LeadsOver row (state_at parts.old at)
         (state_at parts.new result.0) values.now from to) }
     ensures within { IfOk result.1 (λ to. to ≤ length values.now) }
@@ -267,9 +265,9 @@ fn take_whole(
     zero: usize,
 ) -> Result<bool, AllocError>
     requires sound { IsSound at.Between parts.old }
-    ensures leads { IfOk result (λ b. IsTrue b → LeadsOver row (state_at parts.old at.Between)
-        (state_at parts.new at.Between) values.now from (zero + 1)) }
-    ensures within { IfOk result (λ b. IsTrue b → (from ≤ zero) × (zero < length values.now)) }
+    ensures leads { IfOk result (λ b. IsTrue b → (from ≤ zero) × (zero < length values.now)
+        × LeadsOver row (state_at parts.old at.Between) (state_at parts.new at.Between)
+        values.now from (zero + 1)) }
     ensures none { IfOk result (λ b. b ≡ false → parts.new ≡ parts.old) }
     ensures sound { IsSound at.Between parts.new }
 {
@@ -304,8 +302,7 @@ fn take_clauses(
     zeros: Zeros,
     start: (usize, usize),
 ) -> Result<usize, AllocError>
-    requires within { start.0 ≤ length values.now }
-    requires sound { IsSound at.Between parts.old }
+    requires here { (start.0 ≤ length values.now) × IsSound at.Between parts.old }
     ensures leads { IfOk result (λ to. LeadsOver row (state_at parts.old at.Between)
         (state_at parts.new at.Between) values.now start.0 to) }
     ensures within { IfOk result (λ to. to ≤ length values.now) }
