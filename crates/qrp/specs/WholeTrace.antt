@@ -9,9 +9,9 @@ use Rattle.qrp.specs.declared.item.Item.TheVariants as item
 use Rattle.qrp.specs.declared.parts.Parts.{Parts}
 use Rattle.qrp.specs.declared.states.At.{At}
 use Rattle.qrp.specs.Derivations.{Derivation}
-use Rattle.qrp.specs.Flat.{kept_of, trace_of, with_item}
+use Rattle.qrp.specs.Flat.{kept_of, trace_of, with_item, IsFlat}
 use Rattle.qrp.specs.Reading.{Fault, State, Row, AtP, Between, After, nothing, row}
-use Rattle.qrp.specs.States.{state_at}
+use Rattle.qrp.specs.States.{state_at, IsSound}
 
 -- what is made of the items that were read, and where the next token stands
 pub record TraceRead : Type 0 where
@@ -25,6 +25,10 @@ nothing_read = record { made = nothing; state = AtP }
 -- what is made of these parts, and where the next token stands
 abbrev pub trace_at : Parts → At → TraceRead
 trace_at p here = record { made = trace_of (kept_of p); state = state_at p.partial here }
+
+-- what holds of them there
+abbrev pub AreSound : At → Parts → Type 0
+AreSound here p = IsSound here p.partial × IsFlat (kept_of p)
 
 -- What the row of a state makes of a token. The result alone ends what is read.
 abbrev pub TraceRow : Type 0

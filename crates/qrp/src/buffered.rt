@@ -26,7 +26,7 @@ pub struct AtHand {
 }
 
 /// Where the next token stands, and the place of the next number.
-type Reached = (At, Result<usize, AllocError>);
+pub type Reached = (At, Result<usize, AllocError>);
 
 /// Puts literals, as many as there seem to be up to the next zero, at the end of an unfinished list.
 /// Returns the place of the next number.
@@ -66,8 +66,7 @@ fn put_literals(
 #[inline(always)]
 #[tactic(auto, using(crate::proofs::BufferedNumbers::numbers_lead_on))]
 fn take_literals(partial: &mut Partial, number: u64, values: &[i32], from: usize) -> Reached
-    requires within { from ≤ length values.now }
-    requires sound { IsSound (at.Lits number) partial.old }
+    requires here { (from ≤ length values.now) × IsSound (at.Lits number) partial.old }
     ensures leads { IfOk result.1 (λ to. LeadsOver row (state_at partial.old (at.Lits number))
         (state_at partial.new result.0) values.now from to) }
     ensures within { IfOk result.1 (λ to. to ≤ length values.now) }
@@ -97,8 +96,7 @@ fn take_literals(partial: &mut Partial, number: u64, values: &[i32], from: usize
 #[inline(always)]
 #[tactic(auto, using(crate::proofs::BufferedNumbers::numbers_lead_on))]
 fn take_list(here: At, partial: &mut Partial, values: &[i32], hand: AtHand) -> Reached
-    requires within { hand.from ≤ length values.now }
-    requires sound { IsSound here partial.old }
+    requires here { (hand.from ≤ length values.now) × IsSound here partial.old }
     ensures leads { IfOk result.1 (λ to. LeadsOver row (state_at partial.old here)
         (state_at partial.new result.0) values.now hand.from to) }
     ensures within { IfOk result.1 (λ to. to ≤ length values.now) }
@@ -125,8 +123,7 @@ fn take_antecedents(
     values: &[i32],
     from: usize,
 ) -> Result<usize, AllocError>
-    requires within { from ≤ length values.now }
-    requires sound { IsSound (at.Ants number) partial.old }
+    requires here { (from ≤ length values.now) × IsSound (at.Ants number) partial.old }
     ensures leads { IfOk result (λ to. LeadsOver row (state_at partial.old (at.Ants number))
         (state_at partial.new (at.Ants number)) values.now from to) }
     ensures within { IfOk result (λ to. to ≤ length values.now) }
@@ -166,8 +163,7 @@ fn begin_step(partial: &mut Partial, values: &[i32], from: usize) -> Option<u64>
 #[inline(always)]
 #[tactic(auto, using(crate::proofs::BufferedNumbers::numbers_lead_on))]
 fn take_number(here: At, partial: &mut Partial, values: &[i32], from: usize) -> (At, usize)
-    requires within { from ≤ length values.now }
-    requires sound { IsSound here partial.old }
+    requires here { (from ≤ length values.now) × IsSound here partial.old }
     ensures leads { LeadsOver row (state_at partial.old here) (state_at partial.new result.0)
         values.now from result.1 }
     ensures within { result.1 ≤ length values.now }
@@ -193,8 +189,7 @@ fn take_number(here: At, partial: &mut Partial, values: &[i32], from: usize) -> 
 #[inline(always)]
 #[tactic(auto, using(crate::proofs::BufferedNumbers::numbers_lead_on))]
 pub fn take_buffered(here: At, partial: &mut Partial, values: &[i32], hand: AtHand) -> Reached
-    requires within { hand.from ≤ length values.now }
-    requires sound { IsSound here partial.old }
+    requires here { (hand.from ≤ length values.now) × IsSound here partial.old }
     ensures leads { IfOk result.1 (λ to. LeadsOver row (state_at partial.old here)
         (state_at partial.new result.0) values.now hand.from to) }
     ensures within { IfOk result.1 (λ to. to ≤ length values.now) }
@@ -246,10 +241,9 @@ fn take_all_literals(
     hand: AtHand,
 ) -> Result<bool, AllocError>
     requires sound { IsSound (at.Lits number) partial.old }
-    ensures leads { IfOk result (λ b. IsTrue b → LeadsOver row
-        (state_at partial.old (at.Lits number)) (state_at partial.new (at.Ants number))
-        values.now hand.from (hand.zero + 1)) }
-    ensures within { IfOk result (λ b. IsTrue b → hand.zero < length values.now) }
+    ensures leads { IfOk result (λ b. IsTrue b → (hand.zero < length values.now)
+        × LeadsOver row (state_at partial.old (at.Lits number))
+        (state_at partial.new (at.Ants number)) values.now hand.from (hand.zero + 1)) }
     ensures sound { IfOk result (λ b. IsTrue b → IsSound (at.Ants number) partial.new) }
     ensures stays { Stays partial.old partial.new }
 {
@@ -276,10 +270,9 @@ pub fn take_whole(
     hand: AtHand,
 ) -> Result<Option<(u64, usize)>, AllocError>
     requires within { hand.from < length values.now }
-    ensures leads { IfOk result (λ o. IfSome o (λ s. LeadsOver row
-        (state_at partial.old at.Between) (state_at partial.new (at.Ants s.0))
+    ensures leads { IfOk result (λ o. IfSome o (λ s. (s.1 ≤ length values.now)
+        × LeadsOver row (state_at partial.old at.Between) (state_at partial.new (at.Ants s.0))
         values.now hand.from s.1)) }
-    ensures within { IfOk result (λ o. IfSome o (λ s. s.1 ≤ length values.now)) }
     ensures sound { IfOk result (λ o. IfSome o (λ s. IsSound (at.Ants s.0) partial.new)) }
     ensures stays { Stays partial.old partial.new }
 {

@@ -3,11 +3,11 @@
 ghost use Rattle.std.specs.Prelude.{◌≡◌, ◌≤◌, ◌<◌, length, Ok, IfOk, IfSome, IfNone};
 ghost use Rattle.qbf_text.specs.Numbers.{LeadsOver};
 ghost use Rattle.qrp.specs.Flat.{kept_of, trace_of, IsFlat};
-ghost use Rattle.qrp.specs.States.{IsSound};
 ghost use Rattle.qrp.specs.declared.states.At.TheVariants as at;
-ghost use Rattle.qrp.specs.WholeTrace.{made_of, nothing_read, trace_at, trace_row, HasResult};
+ghost use Rattle.qrp.specs.WholeTrace.{made_of, nothing_read, trace_at, trace_row};
+ghost use Rattle.qrp.specs.WholeTrace.{AreSound, HasResult};
 
-use crate::buffered::{AtHand, completed, is_zero_at, take_buffered, take_whole};
+use crate::buffered::{AtHand, Reached, completed, is_zero_at, take_buffered, take_whole};
 use crate::fault::TraceFault;
 use crate::item::Outcome;
 use crate::parts::{Parts, close};
@@ -16,38 +16,31 @@ use qbf_text::{Grammar, Progress, Stop, Taken, Token, Zeros};
 use std::alloc::{AllocError, Global};
 use std::marker::Model;
 
-/// Where the next token stands, how many numbers were taken, and `Some` where a step was kept.
-type Reached = (At, Result<Progress<()>, AllocError>);
-
 /// Takes a step that begins here or has begun, as far as its numbers are at hand, and keeps it if it
-/// is complete.
+/// is complete. Returns where the next token stands, and the place of the next number.
 ///
 /// # Errors
 /// Out of memory.
 #[inline(always)]
 fn take_step(here: At, parts: &mut Parts, values: &[i32], hand: AtHand) -> Reached
-    requires within { hand.from ≤ length values.now }
-    requires sound { IsSound here parts.old.partial }
-    requires flat { IsFlat (kept_of parts.old) }
-    ensures leads { IfOk result.1 (λ r. LeadsOver trace_row (trace_at parts.old here)
-        (trace_at parts.new result.0) values.now hand.from r.0) }
-    ensures within { IfOk result.1 (λ r. r.0 ≤ length values.now) }
-    ensures further { IfOk result.1 (λ r. IfSome r.1 (λ _. hand.from < r.0)) }
-    ensures sound { IsSound result.0 parts.new.partial }
-    ensures flat { IsFlat (kept_of parts.new) }
+    requires here { (hand.from ≤ length values.now) × AreSound here parts.old }
+    ensures leads { IfOk result.1 (λ to. LeadsOver trace_row (trace_at parts.old here)
+        (trace_at parts.new result.0) values.now hand.from to) }
+    ensures within { IfOk result.1 (λ to. to ≤ length values.now) }
+    ensures sound { AreSound result.0 parts.new }
 {
     let (at, reached) = take_buffered(here, &mut parts.partial, values, hand);
     let to = match reached {
         Ok(to) => to,
         Err(refused) => return (at, Err(refused)),
     };
-    match completed(at, values, to) {
-        Some(number) => match close(parts, Part::Step(number)) {
-            Ok(()) => (At::Between, Ok((to + 1, Some(())))),
-            Err(refused) => (At::Between, Err(refused)),
-        },
-        None => (at, Ok((to, None))),
+    let Some(number) = completed(at, values, to) else {
+        return (at, Ok(to));
+    };
+    if let Err(refused) = close(parts, Part::Step(number)) {
+        return (At::Between, Err(refused));
     }
+    (At::Between, Ok(to + 1))
 }
 
 /// Takes a step that begins here and keeps it, if all of it stands there. Returns the place of the
@@ -57,12 +50,10 @@ fn take_step(here: At, parts: &mut Parts, values: &[i32], hand: AtHand) -> Reach
 /// Out of memory.
 #[inline(always)]
 fn keep_whole(parts: &mut Parts, values: &[i32], hand: AtHand) -> Result<Option<usize>, AllocError>
-    requires within { hand.from < length values.now }
-    requires flat { IsFlat (kept_of parts.old) }
-    ensures leads { IfOk result (λ o. IfSome o (λ to. LeadsOver trace_row
+    requires here { (hand.from < length values.now) × IsFlat (kept_of parts.old) }
+    ensures leads { IfOk result (λ o. IfSome o
+        (λ to. (hand.from < to) × (to ≤ length values.now) × LeadsOver trace_row
         (trace_at parts.old at.Between) (trace_at parts.new at.Between) values.now hand.from to)) }
-    ensures within { IfOk result (λ o. IfSome o (λ to. to ≤ length values.now)) }
-    ensures further { IfOk result (λ o. IfSome o (λ to. hand.from < to)) }
     ensures none { IfOk result (λ o. IfNone o
         (trace_at parts.new at.Between ≡ trace_at parts.old at.Between)) }
     ensures flat { IsFlat (kept_of parts.new) }
@@ -89,8 +80,7 @@ fn keep_steps(
     zeros: Zeros,
     start: (usize, usize),
 ) -> Result<(usize, usize), AllocError>
-    requires within { start.0 ≤ length values.now }
-    requires flat { IsFlat (kept_of parts.old) }
+    requires here { (start.0 ≤ length values.now) × IsFlat (kept_of parts.old) }
     ensures leads { IfOk result (λ r. LeadsOver trace_row (trace_at parts.old at.Between)
         (trace_at parts.new at.Between) values.now start.0 r.0) }
     ensures within { IfOk result (λ r. r.0 ≤ length values.now) }
@@ -121,52 +111,18 @@ fn zeros_left(here: At) -> usize {
     }
 }
 
-/// Takes the rest of a step that has begun, and keeps it if it is complete. Returns where the next
-/// token stands, and the place of the next number.
-///
-/// # Errors
-/// Out of memory.
-#[inline(always)]
-fn take_part(
-    here: At,
-    parts: &mut Parts,
-    values: &[i32],
-    hand: AtHand,
-) -> (At, Result<usize, AllocError>)
-    requires within { hand.from ≤ length values.now }
-    requires sound { IsSound here parts.old.partial }
-    requires flat { IsFlat (kept_of parts.old) }
-    ensures leads { IfOk result.1 (λ to. LeadsOver trace_row (trace_at parts.old here)
-        (trace_at parts.new result.0) values.now hand.from to) }
-    ensures within { IfOk result.1 (λ to. to ≤ length values.now) }
-    ensures sound { IsSound result.0 parts.new.partial }
-    ensures flat { IsFlat (kept_of parts.new) }
-{
-    match take_step(here, parts, values, hand) {
-        (at, Ok((to, _))) => (at, Ok(to)),
-        (at, Err(refused)) => (at, Err(refused)),
-    }
-}
-
 /// Takes the rest of a step that has begun, if one has.
 ///
 /// # Errors
 /// Out of memory.
 #[inline(always)]
 #[tactic(auto, using(crate::proofs::BufferedNumbers::numbers_lead_on))]
-fn take_begun(
-    here: At,
-    parts: &mut Parts,
-    values: &[i32],
-    zeros: Zeros,
-) -> (At, Result<usize, AllocError>)
-    requires sound { IsSound here parts.old.partial }
-    requires flat { IsFlat (kept_of parts.old) }
+fn take_begun(here: At, parts: &mut Parts, values: &[i32], zeros: Zeros) -> Reached
+    requires sound { AreSound here parts.old }
     ensures leads { IfOk result.1 (λ to. LeadsOver trace_row (trace_at parts.old here)
         (trace_at parts.new result.0) values.now 0 to) }
     ensures within { IfOk result.1 (λ to. to ≤ length values.now) }
-    ensures sound { IsSound result.0 parts.new.partial }
-    ensures flat { IsFlat (kept_of parts.new) }
+    ensures sound { AreSound result.0 parts.new }
 {
     let hand = AtHand {
         from: 0,
@@ -174,7 +130,7 @@ fn take_begun(
     };
     match here {
         At::Between => (here, Ok(0)),
-        _ => take_part(here, parts, values, hand),
+        _ => take_step(here, parts, values, hand),
     }
 }
 
@@ -184,19 +140,12 @@ fn take_begun(
 /// # Errors
 /// Out of memory.
 #[inline(never)]
-fn take_steps(
-    here: At,
-    parts: &mut Parts,
-    values: &[i32],
-    zeros: Zeros,
-) -> (At, Result<usize, AllocError>)
-    requires sound { IsSound here parts.old.partial }
-    requires flat { IsFlat (kept_of parts.old) }
+fn take_steps(here: At, parts: &mut Parts, values: &[i32], zeros: Zeros) -> Reached
+    requires sound { AreSound here parts.old }
     ensures leads { IfOk result.1 (λ to. LeadsOver trace_row (trace_at parts.old here)
         (trace_at parts.new result.0) values.now 0 to) }
     ensures within { IfOk result.1 (λ to. to ≤ length values.now) }
-    ensures sound { IsSound result.0 parts.new.partial }
-    ensures flat { IsFlat (kept_of parts.new) }
+    ensures sound { AreSound result.0 parts.new }
 {
     match take_begun(here, parts, values, zeros) {
         (At::Between, Ok(from)) => {
@@ -206,7 +155,7 @@ fn take_steps(
                         from,
                         zero: zeros.place(zero),
                     };
-                    take_part(At::Between, parts, values, hand)
+                    take_step(At::Between, parts, values, hand)
                 }
                 Err(refused) => (At::Between, Err(refused)),
             }
@@ -225,15 +174,13 @@ pub struct TraceGrammar {
 }
 
 impl Model for TraceGrammar {
-    ghost use Rattle.qrp.specs.Flat.{kept_of, IsFlat};
-    ghost use Rattle.qrp.specs.States.{IsSound};
-    ghost use Rattle.qrp.specs.WholeTrace.{trace_at, TraceRead};
+    ghost use Rattle.qrp.specs.WholeTrace.{trace_at, AreSound, TraceRead};
 
     ghost Value = { TraceRead };
 
     ghost view = { λ g. trace_at g.parts g.at };
 
-    ghost invariant = { λ g. IsSound g.at g.parts.partial × IsFlat (kept_of g.parts) };
+    ghost invariant = { λ g. AreSound g.at g.parts };
 }
 
 impl TraceGrammar {

@@ -8,9 +8,11 @@ returns-clause-leads c = λ t.
     let b = c.args.partial.now in
     let put : IsTrue c.in_ok-extend_written.field-0 = grind (arith, common_steps) in
     let written = c.in_ok-extend_written.ensures in
-    let at = c.if-not-has_zero.ensures in
-    rw (written.extended put, c.begin.ensures) (list_ends c.args.values.now c.args.hand.from c.args.hand.zero b.index c.args.number
-    b.lits.unfinished (at.order refl) (at.within refl) (written.written put) (at.zero refl))
+    let at = c.if-not-has_zero.ensures in (
+      at.within refl,
+      rw (written.extended put, c.begin.ensures) (list_ends c.args.values.now c.args.hand.from c.args.hand.zero b.index c.args.number
+          b.lits.unfinished (at.order refl) (at.within refl) (written.written put) (at.zero refl)),
+    )
 
 pub returns-clause-sound : goal.returns-clause-sound
 returns-clause-sound c = λ t.

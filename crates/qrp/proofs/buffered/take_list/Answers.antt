@@ -5,13 +5,19 @@ use Rattle.qrp.specs.Reading.{InLits}
 use Rattle.qrp.proofs.BufferedNumbers.{leads_in_turn, literals_lead, more_literals}
 use Rattle.qrp.proofs.buffered.take_list.Goals as goal
 
-pub take_literals-requires-clause-sound : goal.take_literals-requires-clause-sound
-take_literals-requires-clause-sound c =
-    let old = rw c.in-Lits.is at c.requires.sound in (
-      old.0,
-      rw c.in-Ok.ensures.put (more_literals c.args.partial.now.lits.unfinished
-          (slice_range c.args.values.now c.args.hand.from c.in-Ok.to) old.1 c.in-Ok.ensures.written),
-    )
+pub take_literals-requires : goal.take_literals-requires
+take_literals-requires c =
+    let old = rw c.in-Lits.is at c.requires.here.1 in
+    record {
+      here = (
+        c.in-Ok.ensures.within,
+        (
+          old.0,
+          rw c.in-Ok.ensures.put (more_literals c.args.partial.now.lits.unfinished
+              (slice_range c.args.values.now c.args.hand.from c.in-Ok.to) old.1 c.in-Ok.ensures.written),
+        ),
+      );
+    }
 
 pub returns-in-Ok-clause-leads : goal.returns-in-Ok-clause-leads
 returns-in-Ok-clause-leads c =

@@ -9,5 +9,8 @@ returns-clause-leads c =
     let from = c.args.hand.from in
     let zero = c.args.hand.zero in
     let put : IsTrue c.in_ok-take_all_literals.field-0 = grind (arith, common_steps) in
-    leads_further row _ _ _ xs from (zero + 1) c.in_ok-to.to (leads_further row _ _ _ xs from (from + 1) (zero + 1)
-    c.in-Some.ensures.leads (c.in_ok-take_all_literals.ensures.leads put)) c.in_ok-to.ensures.leads
+    let list = c.in_ok-take_all_literals.ensures.leads put in (
+      c.in_ok-to.ensures.within,
+      leads_further row _ _ _ xs from (zero + 1) c.in_ok-to.to (leads_further row _ _ _ xs from (from + 1) (zero + 1)
+          c.in-Some.ensures.leads list.1) c.in_ok-to.ensures.leads,
+    )
