@@ -26,7 +26,7 @@ nothing_read = record { made = nothing; state = AtP }
 abbrev pub trace_at : Parts → At → TraceRead
 trace_at p here = record { made = trace_of (kept_of p); state = state_at p.partial here }
 
--- what holds of them there
+-- what holds of the parts where the next token stands
 abbrev pub AreSound : At → Parts → Type 0
 AreSound here p = IsSound here p.partial × IsFlat (kept_of p)
 

@@ -28,8 +28,8 @@ pub struct AtHand {
 /// Where the next token stands, and the place of the next number.
 pub type Reached = (At, Result<usize, AllocError>);
 
-/// Puts literals, as many as there seem to be up to the next zero, at the end of an unfinished list.
-/// Returns the place of the next number.
+/// Puts literals, as many as there seem to be up to the next zero, at the end of an unfinished
+/// list. Returns the place of the next number.
 ///
 /// # Errors
 /// Out of memory. Nothing is changed then.
@@ -258,8 +258,8 @@ fn take_all_literals(
     Ok(true)
 }
 
-/// Takes a step that begins here, but not its last zero, if all of its literals stand there. Returns
-/// its number, and the place of the next one.
+/// Takes a step that begins here, but not its last zero, if all of its literals stand there.
+/// Returns its number, and the place of the next one.
 ///
 /// # Errors
 /// Out of memory.

@@ -16,8 +16,8 @@ use qbf_text::{Grammar, Progress, Stop, Taken, Token, Zeros};
 use std::alloc::{AllocError, Global};
 use std::marker::Model;
 
-/// Takes a step that begins here or has begun, as far as its numbers are at hand, and keeps it if it
-/// is complete. Returns where the next token stands, and the place of the next number.
+/// Takes a step that begins here or has begun, as far as its numbers are at hand, and keeps it if
+/// it is complete. Returns where the next token stands, and the place of the next number.
 ///
 /// # Errors
 /// Out of memory.
