@@ -80,9 +80,7 @@ fn is_within(to: &[Lit], a: &[Lit], b: &[Lit], pivot: Var) -> bool
 /// Each antecedent is walked over once, with its own outer block, and a literal that both hold is
 /// looked at in both walks.
 fn is_reduced<S: Side>(prefix: &Prefix, step: Resolution, pivot: Var) -> bool
-    requires a { IsOrdered step.a.now }
-    requires b { IsOrdered step.b.now }
-    requires to { IsOrdered step.to.now }
+    requires ordered { IsOrdered step.a.now × IsOrdered step.b.now × IsOrdered step.to.now }
     requires clash { Clashes step.a.now step.b.now pivot }
     ensures { IsTrue result ↔ Accounts S.side prefix.now step.entry.a.now step.entry.b.now
         step.entry.to.now pivot }

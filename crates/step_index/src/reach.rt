@@ -16,8 +16,8 @@ pub(crate) fn reach<T: Copy + Drop>(
     ensures reached { OnOk result (index < length table.new.items) }
     ensures few { OnOk result ((length table.new.items ≡ length table.old.items)
         ⊎ (length table.new.items ≡ index + 1)) }
-    ensures kept { (n : ℕ) → get_or table.new.items n empty ≡ get_or table.old.items n empty }
-    ensures err { OnErr result (table.new.items ≡ table.old.items) }
+    ensures kept { ((n : ℕ) → get_or table.new.items n empty ≡ get_or table.old.items n empty)
+        × OnErr result (table.new.items ≡ table.old.items) }
 {
     if index < table.len() {
         return Ok(());
