@@ -155,7 +155,8 @@ fn take_at(here: At, parts: &mut Parts, token: Token) -> Next
 /// Where the next token stands, and how many numbers stand before it.
 type Reached = (At, Result<usize, AllocError>);
 
-/// Takes numbers of a clause from the place `from` on, as far as they are not a fault, and its zero.
+/// Takes numbers of a clause from the place `from` on, as far as they are not a fault, and its
+/// zero.
 ///
 /// # Errors
 /// Out of memory.

@@ -12,13 +12,11 @@ returns-in-Ok-clause-leads c = λ t.
     let written = c.in_ok-extend_written.ensures in
     let at = c.if-not-ends_at.ensures in
     let whole : c.close.new.self.whole ≡ p.clauses.whole ++ map literal_of (slice_range c.args.values.now c.args.from c.args.zero) ∷ []
-    = rw (c.in-Ok.ensures.closed, written.extended put, c.requires.sound.1) refl in (
-      omega (arith, at.order refl),
-      at.within refl,
-      rw whole (clause_leads (heading p) (pairs p.prefix) p.clauses.whole (c.requires.sound.0.full (c.if-not-takes_any.ensures.full refl))
-          (more_clauses p.clauses.whole p.count (c.if-not-takes_any.ensures.more refl)) c.args.values.now c.args.from c.args.zero (at.order refl)
-          (at.within refl) (written.written put) (at.zero refl)),
-    )
+    = rw (c.in-Ok.ensures.closed, written.extended put, c.requires.sound.1) refl in
+    let leads = clause_leads (heading p) (pairs p.prefix) p.clauses.whole (c.requires.sound.0.full (c.if-not-takes_any.ensures.full refl))
+    (more_clauses p.clauses.whole p.count (c.if-not-takes_any.ensures.more refl)) c.args.values.now c.args.from c.args.zero (at.order refl)
+    (at.within refl) (written.written put) (at.zero refl) in
+    (omega (arith, at.order refl), at.within refl, rw whole leads)
 
 pub returns-in-Ok-clause-sound : goal.returns-in-Ok-clause-sound
 returns-in-Ok-clause-sound c =
