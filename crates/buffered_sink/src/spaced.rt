@@ -2,6 +2,7 @@
 
 ghost use Rattle.std.specs.Prelude.{◌≡◌, ◌+◌, ◌-◌, ◌≤◌, ◌∷◌, ◌++◌, length, take};
 ghost use Rattle.std.specs.Prelude.{drop, decimal};
+ghost use Rattle.decimal.specs.Digits.{IsPutFrom};
 ghost use Rattle.qbf_text.specs.Canonical.{token_text};
 ghost use Rattle.qbf_text.specs.declared.token.Token.TheVariants.{Number};
 
@@ -10,14 +11,11 @@ use decimal::put_digits;
 /// Puts a blank and a number from a place on, with a minus before the digits if it is negative, and
 /// returns where it ends. There is room for the longest number.
 #[inline(always)]
-#[tactic(auto, using(crate::proofs::Fronts::at_most_one))]
+#[tactic(auto, using(crate::proofs::Fronts::at_most_one, crate::proofs::Fronts::shorter, crate::proofs::Fronts::set_after))]
 pub fn put_spaced(bytes: &mut [u8], at: usize, negative: bool, n: u64) -> usize
     requires { at + 22 ≤ length bytes.old }
-    ensures end { result ≡ at + length (32 ∷ token_text (Number negative n)) }
+    ensures put { IsPutFrom bytes.old bytes.new at result (32 ∷ token_text (Number negative n)) }
     ensures within { result ≤ at + 22 }
-    ensures written { drop at bytes.new
-        ≡ (32 ∷ token_text (Number negative n)) ++ drop result bytes.old }
-    ensures before { take at bytes.new ≡ take at bytes.old }
 {
     let start = at + 1 + usize::from(negative);
     let end = put_digits(bytes, start, n);

@@ -26,3 +26,9 @@ pub record AreLeadingDigits (bytes : List ℕ) (from : ℕ) (found : ℕ × ℕ)
 pub record IsWithZeros (bytes : List ℕ) (from word : ℕ) : Type 0 where
   pub enough : 8 ≤ length bytes
   pub bytes_are : to_le_bytes w64 word ≡ replicate from 48 ++ drop from (take 8 bytes)
+
+-- a text is put from a place on, up to its end, and nothing before it or after it changes
+pub record IsPutFrom (old new : List ℕ) (at end : ℕ) (text : List ℕ) : Type 0 where
+  pub end_is : end ≡ at + length text
+  pub written : drop at new ≡ text ++ drop end old
+  pub before : take at new ≡ take at old

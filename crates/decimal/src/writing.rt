@@ -1,7 +1,7 @@
 //! The digits of a number, put where they belong.
 
-ghost use Rattle.std.specs.Prelude.{◌≡◌, ◌+◌, ◌-◌, ◌/◌, ◌%◌, ◌≤◌, ◌<◌, ◌++◌, length, take};
-ghost use Rattle.std.specs.Prelude.{drop, decimal};
+ghost use Rattle.std.specs.Prelude.{◌≡◌, ◌+◌, ◌-◌, ◌/◌, ◌%◌, ◌≤◌, ◌<◌, length, decimal};
+ghost use Rattle.decimal.specs.Digits.{IsPutFrom};
 
 use itoa::write_digits;
 
@@ -44,10 +44,8 @@ fn digit_count(n: u64) -> usize
 #[inline(always)]
 pub fn put_digits(bytes: &mut [u8], at: usize, n: u64) -> usize
     requires { at + 20 ≤ length bytes.old }
-    ensures end { result ≡ at + length (decimal n) }
+    ensures put { IsPutFrom bytes.old bytes.new at result (decimal n) }
     ensures within { result ≤ at + 20 }
-    ensures written { drop at bytes.new ≡ decimal n ++ drop result bytes.old }
-    ensures before { take at bytes.new ≡ take at bytes.old }
 {
     let end = at + digit_count(n);
     let _start = write_digits(n, bytes, end);

@@ -9,7 +9,7 @@ returns-clause-all c = λ _.
     let s = c.self.inside in
     let text : List ℕ = 32 ∷ token_text (Number c.args.negative c.args.n) in
     let inside : s.end ≤ length s.bytes = omega (arith, c.self.invariant.1, c.self.told) in
-    let put = c.put_spaced-end.ensures in
-    ap (part c.put_spaced-end.new.bytes s.start) put.end
+    let put = c.put_spaced-end.ensures.put in
+    ap (part c.put_spaced-end.new.bytes s.start) put.end_is
     ∙ part_put s.bytes c.put_spaced-end.new.bytes text _ s.start s.end c.self.invariant.0 inside put.before put.written
     ∙ ap (λ (p : List ℕ). p ++ text) c.self.view_is
