@@ -1,11 +1,11 @@
 //! A buffer before a sink.
 
 ghost use Rattle.std.specs.Prelude.{◌≡◌, ℕ, ◌+◌, ◌-◌, ◌<◌, ◌≤◌, List, [], ◌++◌, length, take, drop};
-ghost use Rattle.std.specs.Prelude.{◌∷◌};
-ghost use Rattle.std.specs.Prelude.{◌^◌, true, false, decimal, IfOk, OnOk, OnErr};
-ghost use Rattle.std.specs.Io.KnownBytes.{append_known, Keeps, WriteAppends};
+ghost use Rattle.std.specs.Prelude.{◌∷◌, true, false, decimal};
+ghost use Rattle.std.specs.Io.KnownBytes.{append_known, Keeps};
 ghost use Rattle.qbf_text.specs.Canonical.{token_text};
 ghost use Rattle.qbf_text.specs.declared.token.Token.TheVariants.{Number};
+ghost use Rattle.qbf_text.specs.Devices.{Finishes, Pushes};
 ghost use Rattle.qbf_text.specs.Written.{IsPut};
 
 use crate::spaced::put_spaced;
@@ -176,14 +176,9 @@ impl<S: Sink> Buffered<S> {
 
     /// Sends on what is held back.
     fn flush_buffer(&mut self) -> Result<(), SinkFault>
-        ensures bytes { Keeps (⟦<Buffered<S> as Sink>⟧.written self.old)
-            (⟦<Buffered<S> as Sink>⟧.written self.new) }
-        ensures ok { OnOk result (S.failures self.new.sink ≡ S.failures self.old.sink) }
-        ensures err { OnErr result (S.failures self.old.sink < 2 ^ 64 - 1
-            → S.failures self.old.sink < S.failures self.new.sink) }
-        ensures last { OnErr result (S.failed_last self.new.sink) }
-        ensures stays { S.failures self.old.sink ≤ S.failures self.new.sink }
-        ensures empty { OnOk result (self.new.buffer ≡ []) }
+        ensures { Finishes (⟦<Buffered<S> as Sink>⟧.written)
+            (⟦<Buffered<S> as Sink>⟧.failures) (λ b. b.buffer ≡ [])
+            (⟦<Buffered<S> as Sink>⟧.failed_last) self.old self.new result }
     {
         while !self.buffer.as_slice().is_empty() {
             let n = self.sink.push(self.buffer.as_slice())?;
@@ -198,15 +193,9 @@ impl<S: Sink> Buffered<S> {
     #[inline(never)]
     fn flush_then_push(&mut self, bytes: &[u8]) -> Result<usize, SinkFault>
         requires { 0 < length bytes.now }
-        ensures some { IfOk result (λ n. 0 < n) }
-        ensures fits { IfOk result (λ n. n ≤ length bytes.now) }
-        ensures bytes { WriteAppends (⟦<Buffered<S> as Sink>⟧.written self.old)
-            (⟦<Buffered<S> as Sink>⟧.written self.new) result bytes.now }
-        ensures ok { OnOk result (S.failures self.new.sink ≡ S.failures self.old.sink) }
-        ensures err { OnErr result (S.failures self.old.sink < 2 ^ 64 - 1
-            → S.failures self.old.sink < S.failures self.new.sink) }
-        ensures last { OnErr result (S.failed_last self.new.sink) }
-        ensures stays { S.failures self.old.sink ≤ S.failures self.new.sink }
+        ensures { Pushes (⟦<Buffered<S> as Sink>⟧.written)
+            (⟦<Buffered<S> as Sink>⟧.failures) (⟦<Buffered<S> as Sink>⟧.failed_last)
+            self.old self.new bytes.now result }
     {
         self.flush_buffer()?;
         Ok(self.buffer.append_some(bytes))

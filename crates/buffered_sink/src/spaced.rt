@@ -1,7 +1,6 @@
 //! A number after a blank.
 
-ghost use Rattle.std.specs.Prelude.{◌≡◌, ◌+◌, ◌-◌, ◌≤◌, ◌∷◌, ◌++◌, length, take};
-ghost use Rattle.std.specs.Prelude.{drop, decimal};
+ghost use Rattle.std.specs.Prelude.{◌+◌, ◌-◌, ◌≤◌, ◌∷◌, length, decimal};
 ghost use Rattle.decimal.specs.Digits.{IsPutFrom};
 ghost use Rattle.qbf_text.specs.Canonical.{token_text};
 ghost use Rattle.qbf_text.specs.declared.token.Token.TheVariants.{Number};
