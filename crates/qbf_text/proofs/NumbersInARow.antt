@@ -11,7 +11,8 @@ use Rattle.std.proofs.lemmas.List.{get_or-drop, length-take}
 use Rattle.std.proofs.lemmas.Int.Digits.{digits_value-lt}
 use Rattle.std.proofs.Math.Nat.{pow-le-pow_right}
 use Rattle.decimal.specs.Numbers.{between, IsNumber, AreInARow}
-use Rattle.qbf_text.specs.Numbers.{AreSeparators, AreShort, NumberStands, StandFrom}
+use Rattle.qbf_text.specs.declared.numbers.Numbers.{Numbers}
+use Rattle.qbf_text.specs.Numbers.{AreSeparators, AreShort, NumberStands, SeemToEnd, StandFrom, place}
 use Rattle.std.proofs.Common.{eqb-true}
 use Rattle.std.proofs.lemmas.Nat.{le_or_l, le_or_r}
 use Rattle.std.specs.Prelude.{bit_or}
@@ -195,39 +196,35 @@ ends_go_up bytes from (a ∷ b ∷ c ∷ d ∷ []) len (v ∷ w ∷ x ∷ y ∷ 
 }
 
 -- the places of numbers in a row are those that were looked for
-pub four_ends : (bytes places ends : List ℕ) (k : ℕ) → length ends ≡ 4 → EndsGoUp ends (length bytes) → AreSeparators bytes ends
-    → length bytes ≤ 4096 → (get_or ends 0 0 < 4096 → get_or places (k + 1) 0 ≡ get_or ends 0 0 + 1)
-    → (get_or ends 1 0 < 4096 → get_or places (k + 2) 0 ≡ get_or ends 1 0 + 1)
-    → (get_or ends 2 0 < 4096 → get_or places (k + 3) 0 ≡ get_or ends 2 0 + 1)
-    → (get_or ends 3 0 < 4096 → get_or places (k + 4) 0 ≡ get_or ends 3 0 + 1)
-    → (i : ℕ) → i < length ends → EndsThere bytes places ends k i
-four_ends bytes places ends k four up separate small e0 e1 e2 e3 = each
+pub four_ends : (n : Numbers) (bytes ends : List ℕ) (k : ℕ) → length ends ≡ 4 → EndsGoUp ends (length bytes) → AreSeparators bytes ends
+    → length bytes ≤ 4096 → SeemToEnd n k ends → (i : ℕ) → i < length ends → EndsThere bytes n.places ends k i
+four_ends n bytes ends k four up separate small seem i few = record {
+  within = inside i few;
+  next = seem i few (omega (arith, inside i few, small));
+  separates = separate i few;
+}
   where
-    at_place : (i j end : ℕ) → k + i + 1 ≡ j → get_or places j 0 ≡ end + 1 → get_or places (k + i + 1) 0 ≡ end + 1
-    at_place i j end same e = ap (λ m. get_or places m 0) same ∙ e
+    inside : (j : ℕ) → j < length ends → get_or ends j 0 < length bytes
+    inside zero less = up.first
+    inside (suc zero) less = up.second
+    inside (suc (suc zero)) less = up.third
+    inside (suc (suc (suc zero))) less = up.fourth
+    inside (suc (suc (suc (suc j)))) less = absurd (omega (arith, less, four))
 
-    each : (i : ℕ) → i < length ends → EndsThere bytes places ends k i
-    each zero few = record {
-      within = up.first;
-      next = at_place 0 (k + 1) (get_or ends 0 0) (omega arith) (e0 (omega (arith, up.first, small)));
-      separates = separate 0 few;
-    }
-    each (suc zero) few = record {
-      within = up.second;
-      next = at_place 1 (k + 2) (get_or ends 1 0) (omega arith) (e1 (omega (arith, up.second, small)));
-      separates = separate 1 few;
-    }
-    each (suc (suc zero)) few = record {
-      within = up.third;
-      next = at_place 2 (k + 3) (get_or ends 2 0) (omega arith) (e2 (omega (arith, up.third, small)));
-      separates = separate 2 few;
-    }
-    each (suc (suc (suc zero))) few = record {
-      within = up.fourth;
-      next = at_place 3 (k + 4) (get_or ends 3 0) (omega arith) (e3 (omega (arith, up.fourth, small)));
-      separates = separate 3 few;
-    }
-    each (suc (suc (suc (suc i)))) few = absurd (omega (arith, few, four))
+-- four numbers that seem to end one by one seem to end together
+pub four_seem : (n : Numbers) (k a b c d : ℕ) → (a < 4096 → place n (k + 1) ≡ a + 1) → (b < 4096 → place n (k + 1 + 1) ≡ b + 1)
+    → (c < 4096 → place n (k + 2 + 1) ≡ c + 1) → (d < 4096 → place n (k + 3 + 1) ≡ d + 1) → SeemToEnd n k (a ∷ b ∷ c ∷ d ∷ [])
+four_seem n k a b c d ha hb hc hd = each
+  where
+    at_place : (i j end : ℕ) → k + i + 1 ≡ j → place n j ≡ end + 1 → place n (k + i + 1) ≡ end + 1
+    at_place i j end same e = ap (place n) same ∙ e
+
+    each : SeemToEnd n k (a ∷ b ∷ c ∷ d ∷ [])
+    each zero few less = at_place 0 (k + 1) a (omega arith) (ha less)
+    each (suc zero) few less = at_place 1 (k + 1 + 1) b (omega arith) (hb less)
+    each (suc (suc zero)) few less = at_place 2 (k + 2 + 1) c (omega arith) (hc less)
+    each (suc (suc (suc zero))) few less = at_place 3 (k + 3 + 1) d (omega arith) (hd less)
+    each (suc (suc (suc (suc i)))) few less = absurd (omega (arith, few))
 
 -- if four numbers together have no bit, a separator stands at each of four places
 pub four_separate : (bytes places : List ℕ) (a b c d : ℕ) → length places ≡ 4

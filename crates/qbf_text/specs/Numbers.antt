@@ -98,6 +98,10 @@ AreShort values = Each1 (λ v. unsigned_abs v < 2 ^ 31) values
 abbrev pub place : Numbers → ℕ → ℕ
 place n k = slice_index_or n.places k 0
 
+-- numbers from one of them on seem to end here: each next one begins after the separator that stands there
+abbrev pub SeemToEnd : Numbers → (k : ℕ) → List ℕ → Type 0
+SeemToEnd n k ends = (i : ℕ) → i < length ends → slice_index_or ends i 0 < 4096 → place n (k + i + 1) ≡ slice_index_or ends i 0 + 1
+
 -- how many bytes the first of them that are not passed take, with the separator after each
 abbrev pub len_of : Numbers → ℕ → ℕ
 len_of n count = place n (n.first + count) - place n n.first

@@ -4,7 +4,7 @@ ghost use Rattle.std.specs.Prelude.{◌≡◌, ℕ, ◌+◌, ◌<◌, ◌≤◌,
 ghost use Rattle.std.specs.Prelude.{unsigned_abs, int_lt, nat_eq, nat_le, slice_index};
 ghost use Rattle.std.specs.Prelude.{◌&&◌, false, true};
 ghost use Rattle.qbf_text.specs.Numbers.{AreHeld, AreSeparators, AreShort, BeginsWithValue};
-ghost use Rattle.qbf_text.specs.Numbers.{IsPart, IsPut, NumberStands, StandFrom};
+ghost use Rattle.qbf_text.specs.Numbers.{IsPart, IsPut, NumberStands, SeemToEnd, StandFrom};
 ghost use Rattle.qbf_text.specs.Numbers.{cursor_to, len_of, place};
 ghost use Rattle.qbf_text.specs.Left.{is_separator};
 
@@ -212,8 +212,7 @@ impl Numbers {
     /// after those that were noted. Returns how many are noted.
     #[inline(always)]
     fn note(&mut self, bytes: &[u8], block: usize, runs: usize) -> usize
-        requires block { block + 64 ≤ length bytes.now }
-        requires small { length bytes.now ≤ 4096 }
+        requires block { (block + 64 ≤ length bytes.now) × (length bytes.now ≤ 4096) }
         requires room { runs + 64 ≤ 2048 }
         ensures same { self.new ≡ record self.old { places = self.new.places } }
         ensures room { result ≤ runs + 64 }
@@ -253,8 +252,7 @@ impl Numbers {
     fn seek(&mut self, start: usize) -> usize
         requires { start ≤ 4096 }
         ensures front { place self.new self.new.first ≡ start }
-        ensures few { result ≤ 2048 }
-        ensures first { self.new.first ≤ result }
+        ensures within { (self.new.first ≤ result) × (result ≤ 2048) }
         ensures values { length self.new.values ≡ 2048 }
     {
         let runs = self.runs.min(MOST);
@@ -311,12 +309,10 @@ impl Numbers {
 
     /// The places of the separators after four numbers from the number `k` on, as they seem.
     #[inline(always)]
+    #[tactic(auto, using(crate::proofs::NumbersInARow::four_seem))]
     fn ends(&self, k: usize) -> [usize; 4]
         requires { k + 4 ≤ 2048 }
-        ensures first { slice_index result 0 < 4096 → place self.now (k + 1) ≡ slice_index result 0 + 1 }
-        ensures second { slice_index result 1 < 4096 → place self.now (k + 2) ≡ slice_index result 1 + 1 }
-        ensures third { slice_index result 2 < 4096 → place self.now (k + 3) ≡ slice_index result 2 + 1 }
-        ensures fourth { slice_index result 3 < 4096 → place self.now (k + 4) ≡ slice_index result 3 + 1 }
+        ensures { SeemToEnd self.now k result }
     {
         [
             self.end(k),
@@ -331,8 +327,7 @@ impl Numbers {
     #[inline(never)]
     fn one_at(&self, bytes: &[u8], k: usize, at: usize) -> Option<i32>
         requires room { k < 2048 }
-        requires at { at ≤ length bytes.now }
-        requires here { place self.now k ≡ at }
+        requires here { (place self.now k ≡ at) × (at ≤ length bytes.now) }
         requires small { length bytes.now ≤ 4096 }
         ensures stands { IfSome result (λ value. NumberStands bytes.now self.now.places k value) }
     {
@@ -344,13 +339,11 @@ impl Numbers {
     /// the number `runs` and are usual ones.
     #[inline(always)]
     fn four_at(&self, bytes: &[u8], k: usize, at: usize, runs: usize) -> Option<FourNumbers>
-        requires room { runs ≤ 2048 }
-        requires k { k ≤ runs }
+        requires room { (k ≤ runs) × (runs ≤ 2048) }
         requires here { place self.now k ≡ at }
         requires small { length bytes.now ≤ 4096 }
-        ensures room { IfSome result (λ _. k + 4 ≤ runs) }
-        ensures stand { IfSome result (λ four. StandFrom bytes.now self.now.places k four.values) }
-        ensures short { IfSome result (λ four. AreShort four.values) }
+        ensures four { IfSome result (λ four. (k + 4 ≤ runs)
+            × StandFrom bytes.now self.now.places k four.values × AreShort four.values) }
     {
         if k + 4 > runs {
             return None;

@@ -140,8 +140,7 @@ impl Place {
     /// Goes past a separator, the next byte of those that were pulled.
     #[tactic(auto, using(std::proofs::lemmas::Grind::common_steps, crate::proofs::Stops::line_ends))]
     fn pass_separator(&mut self, byte: u8)
-        requires next { Some byte ≡ first_of self.old.window }
-        requires separates { is_separator byte ≡ true }
+        requires next { (Some byte ≡ first_of self.old.window) × (is_separator byte ≡ true) }
         ensures none { (remaining : Option (List ℕ))
             → PlaceSkips self.old remaining self.new remaining }
         ensures less { length self.new.window < length self.old.window }

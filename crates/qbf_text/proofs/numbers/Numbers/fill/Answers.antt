@@ -11,9 +11,9 @@ pub numbers-init : goal.numbers-init
 numbers-init c =
     record {
       values_len = c.seek-runs.ensures.values;
-      few = c.seek-runs.ensures.few;
+      few = c.seek-runs.ensures.within.1;
       first = omega arith;
-      before = c.seek-runs.ensures.first;
+      before = c.seek-runs.ensures.within.0;
       front = c.seek-runs.ensures.front;
       at_is = c.seek-runs.ensures.front;
       within = c.requires.start;
@@ -21,7 +21,7 @@ numbers-init c =
     }
 
 pub put_four-requires-clause-short : goal.put_four-requires-clause-short
-put_four-requires-clause-short c = rw (lanes_are c.in-Some.four.values c.in-Some.ensures.short) c.in-Some.ensures.short
+put_four-requires-clause-short c = rw (lanes_are c.in-Some.four.values c.in-Some.ensures.four.2) c.in-Some.ensures.four.2
 
 pub numbers-preserved : goal.numbers-preserved
 numbers-preserved c =
@@ -37,8 +37,8 @@ numbers-preserved c =
           let four : length values ≡ 4 = omega arith in
           let p = w.put_four in
           let m = w.note_zeros-zeros.new.self in
-          let more = fills_more n p.new.self bytes start runs k c.numbers.at 4 values f four (omega arith) w.in-Some.ensures.room
-          w.in-Some.ensures.stand (rw (lanes_are values w.in-Some.ensures.short) at p.ensures.put) p.ensures.same in
+          let more = fills_more n p.new.self bytes start runs k c.numbers.at 4 values f four (omega arith) w.in-Some.ensures.four.0
+          w.in-Some.ensures.four.1 (rw (lanes_are values w.in-Some.ensures.four.2) at p.ensures.put) p.ensures.same in
           let all = fills_still p.new.self m m.zeros bytes start runs (k + 4) _ w.note_zeros-zeros.ensures.same more in
           rw c.from-at.ensures (rw (w.self-is, w.k-is) (fills_at m bytes start runs (k + 4) _ all))
       | in_default+else-k-runs+in-Some-one_at w ↦

@@ -1,4 +1,4 @@
-use Rattle.qbf_text.proofs.Words.{◌≡◌, length, rules}
+use Rattle.qbf_text.proofs.Words.{◌≡◌, ◌+◌, ◌≤◌, length, rules, arith}
 use Rattle.qbf_text.proofs.NumbersInARow.{row_stands, ends_go_up, are_short, four_ends}
 use Rattle.qbf_text.proofs.numbers.Numbers.four_at.Goals as goal
 
@@ -9,17 +9,18 @@ all_separate-requires c =
     c.in_ok-four.ensures.numbers c.in_ok-four.ensures.within in
     (up.first, up.second, up.third, up.fourth)
 
-pub returns-clause-short : goal.returns-clause-short
-returns-clause-short c = are_short c.args.bytes.now c.args.at c.ends-ends.result c.in_ok-four.four.values c.in_ok-four.ensures.numbers
-
-pub returns-clause-stand : goal.returns-clause-stand
-returns-clause-stand c =
+pub returns : goal.returns
+returns c =
     let bytes = c.args.bytes.now in
-    let places = c.args.self.now.places in
+    let n = c.args.self.now in
     let k = c.args.k in
     let four : length c.ends-ends.result ≡ 4 = search rules in
     let up = ends_go_up bytes c.args.at c.ends-ends.result (length bytes) c.in_ok-four.four.values four
     c.in_ok-four.ensures.numbers c.in_ok-four.ensures.within in
-    row_stands bytes places c.ends-ends.result c.in_ok-four.four.values k c.args.at c.requires.here c.in_ok-four.ensures.numbers
-    (four_ends bytes places c.ends-ends.result k four up (c.all_separate.ensures c.if-not-all_separate.false) c.requires.small
-    c.ends-ends.ensures.first c.ends-ends.ensures.second c.ends-ends.ensures.third c.ends-ends.ensures.fourth)
+    let room : k + 4 ≤ c.args.runs = omega (arith, c.if-k-runs.false) in
+    let stand = row_stands bytes n.places c.ends-ends.result c.in_ok-four.four.values k c.args.at c.requires.here
+    c.in_ok-four.ensures.numbers
+    (four_ends n bytes c.ends-ends.result k four up (c.all_separate.ensures c.if-not-all_separate.false) c.requires.small
+    c.ends-ends.ensures) in
+    let short = are_short bytes c.args.at c.ends-ends.result c.in_ok-four.four.values c.in_ok-four.ensures.numbers in
+    record { four = (room, stand, short) }

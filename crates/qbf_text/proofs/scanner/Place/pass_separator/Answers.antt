@@ -8,7 +8,7 @@ pub returns-else-byte-eq10-clause-none : goal.returns-else-byte-eq10-clause-none
 returns-else-byte-eq10-clause-none c remaining =
     let s = c.args.self.now in
     let took =
-    took_at (ahead s.window remaining) s.window _ remaining c.args.byte c.advance.ensures.rest (Consumes-nil _) c.requires.next in
+    took_at (ahead s.window remaining) s.window _ remaining c.args.byte c.advance.ensures.rest (Consumes-nil _) c.requires.next.0 in
     let blank = or_cases (is_blank c.args.byte) (is_line_end c.args.byte) (no_line_end_at c.args.byte c.if-byte-eq10.false)
-    c.requires.separates in
+    c.requires.next.1 in
     skips_blank s.comments s.begun s.line c.args.byte _ _ took blank
