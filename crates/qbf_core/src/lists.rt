@@ -5,7 +5,7 @@ ghost use Rattle.std.specs.Prelude.{pos, slice_get, slice_index_or, slice_range,
 ghost use Rattle.std.specs.Prelude.{IfSome, IfOk, OnOk, OnErr, IsTrue};
 ghost use Rattle.std.specs.List.{AllByRecursion};
 ghost use Rattle.qbf_core.specs.Lists.{parts, start_of, LieWithin};
-ghost use Rattle.qbf_core.specs.WrittenLiterals.{literal_of, IsWritten};
+ghost use Rattle.qbf_core.specs.WrittenLiterals.{literal_of, ArePut, IsWritten};
 
 use crate::literal::{Lit, is_written};
 use crate::offsets::Offsets;
@@ -258,12 +258,10 @@ fn put_four(
 ) -> Result<bool, AllocError>
     requires place { place + 4 ≤ length numbers.now }
     requires last { last ≤ 2147483647 }
-    ensures put { IfOk result (λ b. IsTrue b → items.new.items
-        ≡ items.old.items ++ map literal_of (slice_range numbers.now place (place + 4))) }
-    ensures written { IfOk result (λ b. IsTrue b
-        → AllByRecursion (IsWritten last) (slice_range numbers.now place (place + 4))) }
-    ensures none { IfOk result (λ b. b ≡ false → items.new.items ≡ items.old.items) }
-    ensures err { OnErr result (items.new.items ≡ items.old.items) }
+    ensures put { IfOk result (λ b. IsTrue b → ArePut items.old.items
+        (slice_range numbers.now place (place + 4)) last items.new.items) }
+    ensures kept { IfOk result (λ b. b ≡ false → items.new.items ≡ items.old.items)
+        × OnErr result (items.new.items ≡ items.old.items) }
 {
     let Some(four) = four_written(numbers, place, last) else {
         return Ok(false);
@@ -282,8 +280,7 @@ fn put_fours(items: &mut Vec<Lit>, numbers: &[i32], last: u32) -> Result<bool, A
     requires many { 4 ≤ length numbers.now }
     requires last { last ≤ 2147483647 }
     ensures put { IfOk result (λ b. IsTrue b
-        → items.new.items ≡ items.old.items ++ map literal_of numbers.now) }
-    ensures written { IfOk result (λ b. IsTrue b → AllByRecursion (IsWritten last) numbers.now) }
+        → ArePut items.old.items numbers.now last items.new.items) }
     ensures kept { take (length items.old.items) items.new.items ≡ items.old.items }
 {
     let start = items.len();
@@ -307,8 +304,7 @@ fn put_fours(items: &mut Vec<Lit>, numbers: &[i32], last: u32) -> Result<bool, A
 fn put_each(items: &mut Vec<Lit>, numbers: &[i32], last: u32) -> Result<bool, AllocError>
     requires last { last ≤ 2147483647 }
     ensures put { IfOk result (λ b. IsTrue b
-        → items.new.items ≡ items.old.items ++ map literal_of numbers.now) }
-    ensures written { IfOk result (λ b. IsTrue b → AllByRecursion (IsWritten last) numbers.now) }
+        → ArePut items.old.items numbers.now last items.new.items) }
     ensures kept { take (length items.old.items) items.new.items ≡ items.old.items }
 {
     let mut place = 0;
@@ -330,8 +326,7 @@ fn put_each(items: &mut Vec<Lit>, numbers: &[i32], last: u32) -> Result<bool, Al
 fn put_written(items: &mut Vec<Lit>, numbers: &[i32], last: u32) -> Result<bool, AllocError>
     requires last { last ≤ 2147483647 }
     ensures put { IfOk result (λ b. IsTrue b
-        → items.new.items ≡ items.old.items ++ map literal_of numbers.now) }
-    ensures written { IfOk result (λ b. IsTrue b → AllByRecursion (IsWritten last) numbers.now) }
+        → ArePut items.old.items numbers.now last items.new.items) }
     ensures kept { take (length items.old.items) items.new.items ≡ items.old.items }
 {
     if numbers.len() < 4 {

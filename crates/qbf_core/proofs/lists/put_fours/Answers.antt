@@ -1,4 +1,4 @@
-use Rattle.qbf_core.proofs.Words.{◌≡◌, ◌-◌, arith, common_steps, length}
+use Rattle.qbf_core.proofs.Words.{◌≡◌, ◌+◌, ◌-◌, ◌≤◌, arith, common_steps, length}
 use Rattle.qbf_core.specs.WrittenLiterals.{IsWritten}
 use Rattle.qbf_core.proofs.WrittenLiterals.{all_four, all_whole, four_more, whole_put, if_put}
 use Rattle.qbf_core.proofs.lists.put_fours.Goals as goal
@@ -8,10 +8,10 @@ fours-preserved c =
     let i = c.fours.invariant in
     let h = c.in_ok-put_four.ensures in
     let xs = c.args.numbers.now in
+    let four = h.put (grind (arith, common_steps)) in
     record {
-      put = four_more c.args.items.now.items c.fours.items.items c.put_four.new.items.items xs c.fours.place i.put
-          (h.put (grind (arith, common_steps)));
-      written = all_four (IsWritten c.args.last) xs c.fours.place i.written (h.written (grind (arith, common_steps)));
+      put = four_more c.args.items.now.items c.fours.items.items c.put_four.new.items.items xs c.fours.place i.put four.put;
+      written = all_four (IsWritten c.args.last) xs c.fours.place i.written four.written;
       within = omega (arith, c.fours-test.true, c.requires.many);
     }
 
@@ -20,14 +20,11 @@ returns-clause-put c =
     let xs = c.args.numbers.now in
     let same : c.len-start.result ≡ length c.args.items.now.items = omega (arith, c.args.items.now.ok.0, c.len-start.ensures) in
     let i = c.fours.invariant in
-    if_put c.put_four-2.result c.put_four-2.ensures.put (λ e. whole_put c.args.items.now.items c.fours.items.items
-    c.truncate.new.self.items c.put_four-2.new.items.items xs (length xs - 4) c.fours.place (omega (arith, c.fours-test.false))
-    (omega (arith, c.requires.many)) i.put
-    (rw same at c.truncate.ensures.items) e)
-
-pub returns-clause-written : goal.returns-clause-written
-returns-clause-written c =
-    let xs = c.args.numbers.now in
-    let i = c.fours.invariant in
-    if_put c.put_four-2.result c.put_four-2.ensures.written (λ e. all_whole (IsWritten c.args.last) xs (length xs - 4) c.fours.place
-    (omega (arith, c.fours-test.false)) (omega (arith, c.requires.many)) i.written e)
+    let last = length xs - 4 in
+    let passed : last ≤ c.fours.place = omega (arith, c.fours-test.false) in
+    let many : last + 4 ≡ length xs = omega (arith, c.requires.many) in
+    if_put c.put_four-2.result c.put_four-2.ensures.put (λ four. record {
+      put = whole_put c.args.items.now.items c.fours.items.items c.truncate.new.self.items c.put_four-2.new.items.items xs last
+          c.fours.place passed many i.put (rw same at c.truncate.ensures.items) four.put;
+      written = all_whole (IsWritten c.args.last) xs last c.fours.place passed many i.written four.written;
+    })
