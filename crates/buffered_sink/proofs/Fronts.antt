@@ -5,12 +5,14 @@ use Rattle.std.proofs.lemmas.List.{take-set-le}
 use Rattle.std.specs.Prelude.{set}
 use mir.Val.{bool_byte}
 
-pub shorter : (i n : ℕ) (xs ys : List ℕ) → i ≤ n → take n xs ≡ take n ys → take i xs ≡ take i ys
+shorter : (i n : ℕ) (xs ys : List ℕ) → i ≤ n → take n xs ≡ take n ys → take i xs ≡ take i ys
 shorter i n xs ys less same = sym (take-take i n xs less) ∙ ap (take i) same ∙ take-take i n ys less
 
--- an item that is set after them
-pub set_after : (n k x : ℕ) (xs : List ℕ) → n ≤ k → take n (set xs k x) ≡ take n xs
-set_after n k x xs after = take-set-le n xs k x after
+-- what stands before a place, when an item there and one further on are set
+pub same_front : (at k n x y : ℕ) (old new : List ℕ) → at ≤ k → at ≤ n → take n new ≡ take n old
+    → take at (set (set new k x) at y) ≡ take at old
+same_front at k n x y old new after less same =
+    take-set-le at (set new k x) at y (omega arith) ∙ take-set-le at new k x after ∙ shorter at n new old less same
 
 pub at_most_one : (negative : Bool) → bool_byte negative ≤ 1
 at_most_one negative = grind (arith, common_steps)

@@ -10,7 +10,7 @@ use decimal::put_digits;
 /// Puts a blank and a number from a place on, with a minus before the digits if it is negative, and
 /// returns where it ends. There is room for the longest number.
 #[inline(always)]
-#[tactic(auto, using(crate::proofs::Fronts::at_most_one, crate::proofs::Fronts::shorter, crate::proofs::Fronts::set_after))]
+#[tactic(auto, using(crate::proofs::Fronts::at_most_one, crate::proofs::Fronts::same_front))]
 pub fn put_spaced(bytes: &mut [u8], at: usize, negative: bool, n: u64) -> usize
     requires { at + 22 ≤ length bytes.old }
     ensures put { IsPutFrom bytes.old bytes.new at result (32 ∷ token_text (Number negative n)) }
