@@ -12,15 +12,7 @@ fn short_count(n: u64) -> usize
     requires { n < 10000 }
     ensures { result ≡ length (decimal n) }
 {
-    if n < 10 {
-        1
-    } else if n < 100 {
-        2
-    } else if n < 1000 {
-        3
-    } else {
-        4
-    }
+    1 + usize::from(n >= 10) + usize::from(n >= 100) + usize::from(n >= 1000)
 }
 
 /// How many digits a number has.
