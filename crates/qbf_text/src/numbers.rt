@@ -169,6 +169,8 @@ pub struct Numbers {
     pub zero: usize,
     /// The end of the zeros.
     pub zero_count: usize,
+    /// Whether the number after those that are known is not a usual one, or its end is not known.
+    pub is_stuck: bool,
 }
 
 impl Numbers {
@@ -185,6 +187,7 @@ impl Numbers {
             runs: 0,
             zero: 0,
             zero_count: 0,
+            is_stuck: false,
         }
     }
 
@@ -194,6 +197,7 @@ impl Numbers {
         ensures { self.new.known ≡ 0 }
     {
         self.known = 0;
+        self.is_stuck = false;
     }
 
     /// Notes where numbers seem to end among eight bytes, after those that were noted: a bit marks
@@ -242,8 +246,8 @@ impl Numbers {
             block += BLOCK;
         }
         self.first = 0;
-        self.known = 0;
         self.runs = runs;
+        self.forget();
     }
 
     /// Goes to the first run that seems to end after the place `start` of the window. Returns the
@@ -389,6 +393,7 @@ impl Numbers {
         self.known = k;
         self.zero = 0;
         self.zero_count = zeros;
+        self.is_stuck = true;
     }
 
     /// Whether none is at hand.
@@ -397,6 +402,12 @@ impl Numbers {
         ensures { result ≡ nat_le self.now.known self.now.first }
     {
         self.known <= self.first
+    }
+
+    /// Whether none is at hand and more may be made known.
+    #[inline(always)]
+    pub fn wants_more(&self) -> bool {
+        self.is_empty() && !self.is_stuck
     }
 
     /// The numbers that are known.
@@ -472,7 +483,7 @@ impl Numbers {
             self.first = there;
             self.zero = self.zero_from(there);
         } else {
-            self.known = 0;
+            self.forget();
         }
     }
 }
