@@ -1,9 +1,19 @@
 -- How many digits a number has.
-use Rattle.std.proofs.Common.{ℕ, ◌≤◌, ◌<◌, ◌^◌, length, arith, decimal}
-use Rattle.std.proofs.lemmas.Fmt.{length-decimal-le}
-use Rattle.itoa.proofs.Decimal.{length_one, length_two, length_pair}
+use Rattle.std.proofs.Common.{ℕ, zero, suc, ◌≡◌, ◌≤◌, ◌<◌, ◌+◌, ◌*◌, ◌/◌, ◌%◌, ◌^◌, ◌∙◌, [], ◌∷◌, length, arith, ap, decimal, length-append}
+use Rattle.std.proofs.lemmas.Fmt.{decimal_step}
+use Rattle.itoa.proofs.Decimal.{length_one}
+use native.Mathlib.Nat.{pow-succ'}
 
-pub few_digits : (n : ℕ) → n < 2 ^ 64 → length (decimal n) ≤ 20
-few_digits n small = length-decimal-le 20 n (omega arith) (omega (arith, small)) small
+some_power : (k : ℕ) → 1 ≤ 10 ^ k
+some_power zero = omega arith
+some_power (suc k) = omega (arith, pow-succ' 10 k, some_power k)
 
-pub ruleset short_counts = (length_one, length_two, length_pair)
+-- a number from a power of ten on and below the next one
+pub counted : (k n : ℕ) → 10 ^ k ≤ n → n < 10 * 10 ^ k → n < 2 ^ 64 → length (decimal n) ≡ k + 1
+counted zero n lo hi small = length_one n (omega (arith, hi))
+counted (suc k) n lo hi small =
+    let more = pow-succ' 10 k in
+    let ten : 10 ≤ n = omega (arith, more, some_power k, lo) in
+    let step : length (decimal n) ≡ length (decimal (n / 10)) + 1 =
+    ap length (decimal_step n ten small) ∙ length-append (decimal (n / 10)) ((48 + n % 10) ∷ []) in
+    omega (arith, step, counted k (n / 10) (omega (arith, more, lo)) (omega (arith, more, hi)) (omega (arith, small)))

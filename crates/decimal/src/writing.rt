@@ -5,30 +5,14 @@ ghost use Rattle.decimal.specs.Digits.{IsPutFrom};
 
 use itoa::write_digits;
 
-/// How many digits a number below 10,000 has.
-#[inline(always)]
-#[tactic(auto, using(crate::proofs::Counts::short_counts))]
-fn short_count(n: u64) -> usize
-    requires { n < 10000 }
-    ensures { result ≡ length (decimal n) }
-{
-    1 + usize::from(n >= 10) + usize::from(n >= 100) + usize::from(n >= 1000)
-}
-
 /// How many digits a number has.
 #[inline(always)]
-#[tactic(auto, using(crate::proofs::Counts::few_digits, itoa::proofs::Decimal::length_four))]
+#[tactic(auto, using(crate::proofs::Counts::counted, itoa::proofs::Decimal::length_one))]
 fn digit_count(n: u64) -> usize
     ensures count { result ≡ length (decimal n) }
     ensures few { result ≤ 20 }
 {
-    let mut count = 0;
-    let mut left = n;
-    while left >= 10_000 {
-        left /= 10_000;
-        count += 4;
-    }
-    count + short_count(left)
+    if n == 0 { 1 } else { 1 + n.ilog10() as usize }
 }
 
 /// Puts the digits of a number from a place on, and returns where they end. There is room for the
