@@ -1,4 +1,4 @@
 pub mod WrittenParts
 pub mod CanonicalLines
-pub mod Words
+pub mod Cited
 pub mod Worked

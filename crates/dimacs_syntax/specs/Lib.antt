@@ -2,4 +2,4 @@ pub mod Spelling
 pub mod Decode
 pub mod Headers
 pub mod Texts
-pub mod Words
+pub mod Cited

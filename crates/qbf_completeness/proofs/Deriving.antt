@@ -1,7 +1,7 @@
 -- What the player of a side wins, the rules derive: at each place of the game they derive a set that is reached there.
-use Rattle.qbf_core.proofs.Words.{arith, ◌≡◌, ℕ, suc, ◌+◌, ◌<◌, ◌≤◌, List, [], ◌∷◌, ◌++◌, ◌⊎◌, inl, inr, refl, sym, ap}
-use Rattle.qbf_core.proofs.Words.{◌∙◌, subst, cond, cases_eq, Literal, positive, negative, negated, ◌∈◌, IsClean, Side, Clauses, Cubes, Clashes}
-use Rattle.qbf_core.proofs.Words.{resolvent, reduced_quantifier, deciding_quantifier, IsBound, pairs, variables, Qbf}
+use Rattle.qbf_core.proofs.Cited.{arith, ◌≡◌, ℕ, suc, ◌+◌, ◌<◌, ◌≤◌, List, [], ◌∷◌, ◌++◌, ◌⊎◌, inl, inr, refl, sym, ap}
+use Rattle.qbf_core.proofs.Cited.{◌∙◌, subst, cond, cases_eq, Literal, positive, negative, negated, ◌∈◌, IsClean, Side, Clauses, Cubes, Clashes}
+use Rattle.qbf_core.proofs.Cited.{resolvent, reduced_quantifier, deciding_quantifier, IsBound, pairs, variables, Qbf}
 use Rattle.qbf_core.specs.declared.quantifier.Quantifier.{Quantifier}
 use Rattle.std.proofs.Common.{◌^◌, ◌*◌, if◌then◌else◌, pow-suc, pow_pos}
 use Rattle.qbf_core.specs.Blocks.{Binds, IsBefore, is_quantifier}

@@ -1,6 +1,6 @@
 -- The player of a side and the opponent: whose a quantifier is, and who wins.
-use Rattle.qbf_core.proofs.Words.{arith, common_steps, ◌≡◌, true, false, ◌⊎◌, inl, inr, is_quantifier, List, [], Literal, pairs, variables}
-use Rattle.qbf_core.proofs.Words.{Side, Clauses, Cubes, reduced_quantifier, deciding_quantifier, Qbf, MatrixHolds, IsTrueFormula}
+use Rattle.qbf_core.proofs.Cited.{arith, common_steps, ◌≡◌, true, false, ◌⊎◌, inl, inr, is_quantifier, List, [], Literal, pairs, variables}
+use Rattle.qbf_core.proofs.Cited.{Side, Clauses, Cubes, reduced_quantifier, deciding_quantifier, Qbf, MatrixHolds, IsTrueFormula}
 use Rattle.qbf_core.specs.declared.quantifier.Quantifier.{Quantifier}
 use Rattle.qbf_core.specs.Qbf.{IsClosed}
 use Rattle.qbf_core.specs.Truth.{ResultHolds}

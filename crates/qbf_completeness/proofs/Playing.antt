@@ -1,7 +1,7 @@
 -- Who wins has a strategy, and who has a strategy wins.
-use Rattle.qbf_core.proofs.Words.{◌≡◌, ℕ, Bool, true, false, cond, eqb, List, [], ◌∷◌, ◌⊎◌, inl, inr, refl, sym, ap, ◌∙◌}
-use Rattle.qbf_core.proofs.Words.{subst, Literal, positive, negative, is_quantifier, ◌∈◌, MatrixHolds}
-use Rattle.qbf_core.proofs.Words.{Side, Clauses, Cubes, reduced_quantifier, deciding_quantifier, pairs, variables}
+use Rattle.qbf_core.proofs.Cited.{◌≡◌, ℕ, Bool, true, false, cond, eqb, List, [], ◌∷◌, ◌⊎◌, inl, inr, refl, sym, ap, ◌∙◌}
+use Rattle.qbf_core.proofs.Cited.{subst, Literal, positive, negative, is_quantifier, ◌∈◌, MatrixHolds}
+use Rattle.qbf_core.proofs.Cited.{Side, Clauses, Cubes, reduced_quantifier, deciding_quantifier, pairs, variables}
 use Rattle.qbf_core.specs.declared.quantifier.Quantifier.{Quantifier}
 use Rattle.std.proofs.Common.{eq-eqb, ne_eqb}
 use Rattle.qbf_core.proofs.Bound.{apart_of, Distinct}

@@ -1,6 +1,6 @@
 -- Variables of one block have one quantifier, so one of the other quantifier that stands no later stands in an earlier block.
-use Rattle.qbf_core.proofs.Words.{arith, ◌≡◌, ◌≤◌, ℕ, List, [], ◌∷◌, ◌++◌, Option, Some, inl, inr, refl, sym, ap, ◌∙◌, subst, map, slice_get}
-use Rattle.qbf_core.proofs.Words.{◌∈◌, Block, pairs, variables, block_in, Side, reduced_quantifier, deciding_quantifier, option_map}
+use Rattle.qbf_core.proofs.Cited.{arith, ◌≡◌, ◌≤◌, ℕ, List, [], ◌∷◌, ◌++◌, Option, Some, inl, inr, refl, sym, ap, ◌∙◌, subst, map, slice_get}
+use Rattle.qbf_core.proofs.Cited.{◌∈◌, Block, pairs, variables, block_in, Side, reduced_quantifier, deciding_quantifier, option_map}
 use Rattle.qbf_core.specs.declared.quantifier.Quantifier.{Quantifier}
 use Rattle.qbf_core.specs.Blocks.{pairs_of_block, IsBefore}
 use Rattle.qbf_core.proofs.Bound.{block, block_found, in_bound, pair_var, Distinct}

@@ -1,6 +1,6 @@
 -- Distinct numbers, one after the other.
-use Rattle.qbf_core.proofs.Words.{arith, common_steps, rules, ◌≡◌, ℕ, zero, suc, false, List, [], ◌∷◌, ◌++◌, Some, refl, ap, subst}
-use Rattle.qbf_core.proofs.Words.{slice_get, nat_eq, AllByRecursion, list_any}
+use Rattle.qbf_core.proofs.Cited.{arith, common_steps, rules, ◌≡◌, ℕ, zero, suc, false, List, [], ◌∷◌, ◌++◌, Some, refl, ap, subst}
+use Rattle.qbf_core.proofs.Cited.{slice_get, nat_eq, AllByRecursion, list_any}
 use Rattle.std.specs.Cmp.{nat_eq_equiv}
 use Rattle.std.specs.List.{IsDistinct}
 use Rattle.std.proofs.lemmas.Map.Keys.{IsDistinct-head, IsDistinct-tail, IsDistinct-push}

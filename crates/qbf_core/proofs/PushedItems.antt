@@ -1,6 +1,6 @@
 -- What stands at a place after one more item came at the end, or one was written.
-use Rattle.qbf_core.proofs.Words.{common_steps, ◌≡◌, ℕ, zero, suc, ◌⊎◌, List, [], ◌∷◌, ◌++◌, Some, inl, inr, refl, ap, length, slice_get}
-use Rattle.qbf_core.proofs.Words.{set, ◌<◌, arith}
+use Rattle.qbf_core.proofs.Cited.{common_steps, ◌≡◌, ℕ, zero, suc, ◌⊎◌, List, [], ◌∷◌, ◌++◌, Some, inl, inr, refl, ap, length, slice_get}
+use Rattle.qbf_core.proofs.Cited.{set, ◌<◌, arith}
 
 pub pushed_cases : {A : Type 0} (xs : List A) (x : A) (k : ℕ) (a : A) → slice_get (xs ++ x ∷ []) k ≡ Some a
     → (slice_get xs k ≡ Some a) ⊎ ((k ≡ length xs) × (a ≡ x))

@@ -1,8 +1,8 @@
 -- The table of a prefix, beside its entries.
-use Rattle.qbf_core.proofs.Words.{common_steps, ◌≡◌, ℕ, zero, suc, ◌≤◌, ◌<◌, Bool, true, false, cond, List, [], ◌∷◌, ◌++◌, length, Option}
-use Rattle.qbf_core.proofs.Words.{Some, None, ◌⊎◌, inl, inr, refl, ap, sym, subst, ◌∙◌, arith, slice_get, get_or, take, drop, nat_eq}
-use Rattle.qbf_core.proofs.Words.{lookup, keys_of, AllByRecursion, eq-eqb, slice_get_within, slice_get_read, Place, IsVariable, IsTable}
-use Rattle.qbf_core.proofs.Words.{IsBeyond, IsIndexOf}
+use Rattle.qbf_core.proofs.Cited.{common_steps, ◌≡◌, ℕ, zero, suc, ◌≤◌, ◌<◌, Bool, true, false, cond, List, [], ◌∷◌, ◌++◌, length, Option}
+use Rattle.qbf_core.proofs.Cited.{Some, None, ◌⊎◌, inl, inr, refl, ap, sym, subst, ◌∙◌, arith, slice_get, get_or, take, drop, nat_eq}
+use Rattle.qbf_core.proofs.Cited.{lookup, keys_of, AllByRecursion, eq-eqb, slice_get_within, slice_get_read, Place, IsVariable, IsTable}
+use Rattle.qbf_core.proofs.Cited.{IsBeyond, IsIndexOf}
 use Rattle.std.proofs.Common.{if◌then◌else◌, slice_set, length-append}
 use Rattle.std.specs.List.{IsDistinct}
 use Rattle.std.specs.Prelude.{IfSome}

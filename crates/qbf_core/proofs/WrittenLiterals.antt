@@ -1,6 +1,6 @@
 -- Literals that are put as the numbers that they are.
-use Rattle.qbf_core.proofs.Words.{common_steps, ◌≡◌, ◌≤◌, ◌+◌, ◌-◌, ℕ, zero, suc, List, [], ◌∷◌, ◌++◌, length, take, drop, map, refl, sym, ap}
-use Rattle.qbf_core.proofs.Words.{◌∙◌, arith, AllByRecursion, Bool, IsTrue, Literal}
+use Rattle.qbf_core.proofs.Cited.{common_steps, ◌≡◌, ◌≤◌, ◌+◌, ◌-◌, ℕ, zero, suc, List, [], ◌∷◌, ◌++◌, length, take, drop, map, refl, sym, ap}
+use Rattle.qbf_core.proofs.Cited.{◌∙◌, arith, AllByRecursion, Bool, IsTrue, Literal}
 use Rattle.std.specs.Prelude.{ℤ, slice_index_or, slice_range, Result, Ok, Err, IfOk}
 use Rattle.std.proofs.Common.{append_assoc}
 use Rattle.std.proofs.Math.Seq.{take-append-add, take-length}

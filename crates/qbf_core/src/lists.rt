@@ -14,7 +14,7 @@ use std::marker::Model;
 
 /// Where the list at place `i` begins.
 #[inline(always)]
-#[tactic(auto, using(crate::proofs::Flats::start_after))]
+#[tactic(auto, using(crate::proofs::Buffer::start_after))]
 fn start(ends: &Offsets, i: usize) -> usize
     requires { i < length ends.now }
     ensures { result ≡ start_of 0 ends.now i }
@@ -36,7 +36,7 @@ fn part<T>(buffer: &[T], from: usize, to: usize) -> &[T]
 
 /// The list at place `i` of those that lie in a buffer and end at these places.
 #[inline(always)]
-#[tactic(auto, using(crate::proofs::Flats::within_at, crate::proofs::Flats::part_at))]
+#[tactic(auto, using(crate::proofs::Buffer::within_at, crate::proofs::Buffer::part_at))]
 fn list_at<'a, T>(buffer: &'a [T], ends: &Offsets, i: usize) -> &'a [T]
     requires place { i < length ends.now }
     requires within { LieWithin ends.now (length buffer.now) }
@@ -83,7 +83,7 @@ impl<T: Copy + Drop> GrowingLists<T> {
 
     /// How many whole lists there are.
     #[inline(always)]
-    #[tactic(auto, using(crate::proofs::Flats::same_count))]
+    #[tactic(auto, using(crate::proofs::Buffer::same_count))]
     pub fn whole_len(&self) -> usize
         ensures { result ≡ length self.now.whole }
     {
@@ -118,7 +118,7 @@ impl<T: Copy + Drop> GrowingLists<T> {
 
     /// Begins an empty list in place of the unfinished one.
     #[inline(always)]
-    #[tactic(auto, using(crate::proofs::Flats::kept_parts, crate::proofs::Flats::drop_kept))]
+    #[tactic(auto, using(crate::proofs::Buffer::kept_parts, crate::proofs::Buffer::drop_kept))]
     pub fn begin(&mut self)
         ensures { self.new ≡ record self.old { unfinished = [] } }
     {
@@ -130,7 +130,7 @@ impl<T: Copy + Drop> GrowingLists<T> {
     /// # Errors
     /// Out of memory. Nothing is changed then.
     #[inline(always)]
-    #[tactic(auto, using(crate::proofs::Flats::grown_parts, crate::proofs::Flats::drop_grown))]
+    #[tactic(auto, using(crate::proofs::Buffer::grown_parts, crate::proofs::Buffer::drop_grown))]
     pub fn push(&mut self, item: T) -> Result<(), AllocError>
         ensures pushed { OnOk result
             (self.new ≡ record self.old { unfinished = self.old.unfinished ++ item ∷ [] }) }
@@ -144,7 +144,7 @@ impl<T: Copy + Drop> GrowingLists<T> {
     ///
     /// # Errors
     /// Out of memory. Nothing is changed then.
-    #[tactic(auto, using(crate::proofs::Flats::grown_parts, crate::proofs::Flats::drop_grown))]
+    #[tactic(auto, using(crate::proofs::Buffer::grown_parts, crate::proofs::Buffer::drop_grown))]
     pub fn extend(&mut self, more: &[T]) -> Result<(), AllocError>
         ensures extended { OnOk result
             (self.new ≡ record self.old { unfinished = self.old.unfinished ++ more.now }) }
@@ -159,7 +159,7 @@ impl<T: Copy + Drop> GrowingLists<T> {
     /// # Errors
     /// Out of memory. Nothing is changed then.
     #[inline(always)]
-    #[tactic(auto, using(crate::proofs::Flats::closed))]
+    #[tactic(auto, using(crate::proofs::Buffer::closed))]
     pub fn close(&mut self) -> Result<(), AllocError>
         ensures closed { OnOk result (self.new ≡ record {
           whole = self.old.whole ++ self.old.unfinished ∷ [];
@@ -174,7 +174,7 @@ impl<T: Copy + Drop> GrowingLists<T> {
     }
 
     /// Takes the last whole list away, if there is one. The unfinished list is empty then.
-    #[tactic(auto, using(crate::proofs::Flats::fewer))]
+    #[tactic(auto, using(crate::proofs::Buffer::fewer))]
     pub fn pop(&mut self)
         ensures { self.new ≡ record {
           whole = take (length self.old.whole - 1) self.old.whole;
@@ -344,7 +344,7 @@ impl GrowingLists<Lit> {
     /// # Errors
     /// Out of memory. Nothing is changed then.
     #[inline(always)]
-    #[tactic(auto, using(crate::proofs::Flats::grown_parts, crate::proofs::Flats::drop_grown))]
+    #[tactic(auto, using(crate::proofs::Buffer::grown_parts, crate::proofs::Buffer::drop_grown))]
     pub fn extend_written(&mut self, numbers: &[i32], last: u32) -> Result<bool, AllocError>
         requires { last ≤ 2147483647 }
         ensures extended { IfOk result (λ b. IsTrue b → self.new ≡ record self.old {

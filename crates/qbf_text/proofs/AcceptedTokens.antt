@@ -1,6 +1,6 @@
 -- Tokens that are accepted one after the other.
-use Rattle.qbf_text.proofs.Words.{rules, ◌≡◌, ◌≢◌, ℕ, List, [], ◌∷◌, ◌++◌, ◌⊎◌, inl, inr, append_assoc, append-nil, refl, ap, ◌∙◌, flat_map}
-use Rattle.qbf_text.proofs.Words.{Token, Lined, without_lines, EndsOnce, Row, Goes, read_from}
+use Rattle.qbf_text.proofs.Cited.{rules, ◌≡◌, ◌≢◌, ℕ, List, [], ◌∷◌, ◌++◌, ◌⊎◌, inl, inr, append_assoc, append-nil, refl, ap, ◌∙◌, flat_map}
+use Rattle.qbf_text.proofs.Cited.{Token, Lined, without_lines, EndsOnce, Row, Goes, read_from}
 use Rattle.std.proofs.lemmas.Grind.{flat_map-append}
 use Rattle.std.proofs.lemmas.List.{map-append}
 use Rattle.qbf_text.proofs.OneToken.{read-one, after}

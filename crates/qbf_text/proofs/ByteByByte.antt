@@ -1,8 +1,8 @@
 -- The tokens left, byte by byte.
-use Rattle.qbf_text.proofs.Words.{rules, ◌≡◌, ℕ, ◌+◌, Bool, true, false, cond, ◌||◌, List, [], ◌∷◌, ◌++◌, map, count_by, refl, sym, ◌∙◌}
-use Rattle.qbf_text.proofs.Words.{arith, append-nil, common_steps, slice_split, ⊤, Comments, is_line_end, is_blank, is_comment_byte}
-use Rattle.qbf_text.proofs.Words.{is_comment_line, runs, kind, line_number, line_tokens, tokens_from, tokens, tokens_left, is_separator}
-use Rattle.qbf_text.proofs.Words.{IsUnbroken, IsWithinLine, EndsRun, EndsLine}
+use Rattle.qbf_text.proofs.Cited.{rules, ◌≡◌, ℕ, ◌+◌, Bool, true, false, cond, ◌||◌, List, [], ◌∷◌, ◌++◌, map, count_by, refl, sym, ◌∙◌}
+use Rattle.qbf_text.proofs.Cited.{arith, append-nil, common_steps, slice_split, ⊤, Comments, is_line_end, is_blank, is_comment_byte}
+use Rattle.qbf_text.proofs.Cited.{is_comment_line, runs, kind, line_number, line_tokens, tokens_from, tokens, tokens_left, is_separator}
+use Rattle.qbf_text.proofs.Cited.{IsUnbroken, IsWithinLine, EndsRun, EndsLine}
 use Rattle.std.proofs.Common.{zero-add}
 use Rattle.std.specs.List.{onto_first}
 use Rattle.std.proofs.lemmas.List.Sums.{sum_by-cons}

@@ -1,6 +1,6 @@
 -- Steps along the bytes ahead.
-use Rattle.qbf_text.proofs.Words.{arith, ◌≡◌, ℕ, false, List, [], ◌∷◌, ◌++◌, Option, Some, drop, common_steps, AllByRecursion, Consumes}
-use Rattle.qbf_text.proofs.Words.{ahead, first_of, IsUnbroken, IsWithinLine, is_line_end}
+use Rattle.qbf_text.proofs.Cited.{arith, ◌≡◌, ℕ, false, List, [], ◌∷◌, ◌++◌, Option, Some, drop, common_steps, AllByRecursion, Consumes}
+use Rattle.qbf_text.proofs.Cited.{ahead, first_of, IsUnbroken, IsWithinLine, is_line_end}
 
 pub all_push : (P : ℕ → Type 0) (xs : List ℕ) (x : ℕ) → AllByRecursion P xs → P x → AllByRecursion P (xs ++ x ∷ [])
 all_push P xs x h p = grind (arith, common_steps)

@@ -1,7 +1,7 @@
 -- The tokens of a canonical text.
-use Rattle.qbf_text.proofs.Words.{common_steps, rules, ◌≡◌, ℕ, ◌+◌, Bool, true, false, map, arith, List, [], ◌∷◌, ◌++◌, refl, sym, ap, ◌∙◌}
-use Rattle.qbf_text.proofs.Words.{append_assoc, AllByRecursion, digits_decimal, decimal_nonempty, Comments, Token, without_lines, IsUnbroken}
-use Rattle.qbf_text.proofs.Words.{EndsRun, tokens_left, kind, line_number, tokens, token_text, line_rest}
+use Rattle.qbf_text.proofs.Cited.{common_steps, rules, ◌≡◌, ℕ, ◌+◌, Bool, true, false, map, arith, List, [], ◌∷◌, ◌++◌, refl, sym, ap, ◌∙◌}
+use Rattle.qbf_text.proofs.Cited.{append_assoc, AllByRecursion, digits_decimal, decimal_nonempty, Comments, Token, without_lines, IsUnbroken}
+use Rattle.qbf_text.proofs.Cited.{EndsRun, tokens_left, kind, line_number, tokens, token_text, line_rest}
 use Rattle.std.specs.List.{flat_map}
 use Rattle.qbf_text.specs.declared.token.Word.{Word}
 use Rattle.qbf_text.specs.Canonical.{letters, line_text, lines_text, IsPlain, IsOpening, IsLine}

@@ -1,7 +1,7 @@
 -- One more digit.
-use Rattle.qbf_text.proofs.Words.{rules, ◌≡◌, ℕ, ◌+◌, ◌-◌, ◌*◌, ◌^◌, ◌<◌, ◌≤◌, Bool, true, false, not, ◌&&◌, List, [], ◌∷◌, ◌++◌, refl, sym}
-use Rattle.qbf_text.proofs.Words.{◌∙◌, arith, if◌then◌else◌, common_steps, all_ascii_digits, is_ascii_digit, nat_tests, Digits, Value, Big}
-use Rattle.qbf_text.proofs.Words.{Other, magnitude, digits_of}
+use Rattle.qbf_text.proofs.Cited.{rules, ◌≡◌, ℕ, ◌+◌, ◌-◌, ◌*◌, ◌^◌, ◌<◌, ◌≤◌, Bool, true, false, not, ◌&&◌, List, [], ◌∷◌, ◌++◌, refl, sym}
+use Rattle.qbf_text.proofs.Cited.{◌∙◌, arith, if◌then◌else◌, common_steps, all_ascii_digits, is_ascii_digit, nat_tests, Digits, Value, Big}
+use Rattle.qbf_text.proofs.Cited.{Other, magnitude, digits_of}
 use Rattle.std.proofs.Common.{nat_lt}
 use Rattle.std.proofs.lemmas.List.Sums.{fold-append}
 

@@ -1,8 +1,8 @@
 -- Numbers that are held of a window, and the cursors between them.
-use Rattle.qbf_text.proofs.Words.{◌≡◌, ℕ, zero, suc, ◌+◌, ◌-◌, ◌^◌, ◌<◌, ◌≤◌, Bool, true, false, not, cond, List, [], ◌∷◌, ◌++◌}
-use Rattle.qbf_text.proofs.Words.{length, take, drop, refl, sym, count_by, is_line_end}
-use Rattle.qbf_text.proofs.Words.{ap, ◌∙◌, subst, arith, Option, Some, None, ◌⊎◌, inl, inr, drop-drop, Token, Row, BeginsWithNumber}
-use Rattle.qbf_text.proofs.Words.{line_number, nat_tests}
+use Rattle.qbf_text.proofs.Cited.{◌≡◌, ℕ, zero, suc, ◌+◌, ◌-◌, ◌^◌, ◌<◌, ◌≤◌, Bool, true, false, not, cond, List, [], ◌∷◌, ◌++◌}
+use Rattle.qbf_text.proofs.Cited.{length, take, drop, refl, sym, count_by, is_line_end}
+use Rattle.qbf_text.proofs.Cited.{ap, ◌∙◌, subst, arith, Option, Some, None, ◌⊎◌, inl, inr, drop-drop, Token, Row, BeginsWithNumber}
+use Rattle.qbf_text.proofs.Cited.{line_number, nat_tests}
 use Rattle.std.specs.Prelude.{nat_lt}
 use Rattle.std.specs.Prelude.{ℤ, pos, slice_index_or, unsigned_abs, int_lt, get_or}
 use Rattle.std.proofs.Common.{length-drop, length-append}

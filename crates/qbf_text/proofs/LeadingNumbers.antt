@@ -1,6 +1,6 @@
 -- Numbers that lead from one state to another.
-use Rattle.qbf_text.proofs.Words.{◌≡◌, ℕ, zero, suc, ◌+◌, ◌<◌, List, refl, sym, ap, ◌∙◌, subst, arith, Option, Some, None, Result, Ok, Err}
-use Rattle.qbf_text.proofs.Words.{Token, Row, Goes}
+use Rattle.qbf_text.proofs.Cited.{◌≡◌, ℕ, zero, suc, ◌+◌, ◌<◌, List, refl, sym, ap, ◌∙◌, subst, arith, Option, Some, None, Result, Ok, Err}
+use Rattle.qbf_text.proofs.Cited.{Token, Row, Goes}
 use Rattle.std.specs.Prelude.{ℤ, pos, slice_index_or, IfOk}
 use Rattle.qbf_text.specs.Numbers.{token_of, token_at, LeadsBy, LeadsOver, TakesOver}
 

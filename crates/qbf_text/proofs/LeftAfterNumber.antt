@@ -1,7 +1,7 @@
 -- What is left after a number that stands whole among the bytes at hand.
-use Rattle.qbf_text.proofs.Words.{rules, ◌≡◌, ℕ, ◌+◌, ◌^◌, ◌<◌, Bool, true, false, List, [], ◌∷◌, ◌++◌, sym, ap, ◌∙◌, arith, append_assoc}
-use Rattle.qbf_text.proofs.Words.{eqb-true, common_steps, Comments, Number, kind, line_number, begins_number, is_separator, IsUnbroken}
-use Rattle.qbf_text.proofs.Words.{tokens_left, BeginsWithNumber}
+use Rattle.qbf_text.proofs.Cited.{rules, ◌≡◌, ℕ, ◌+◌, ◌^◌, ◌<◌, Bool, true, false, List, [], ◌∷◌, ◌++◌, sym, ap, ◌∙◌, arith, append_assoc}
+use Rattle.qbf_text.proofs.Cited.{eqb-true, common_steps, Comments, Number, kind, line_number, begins_number, is_separator, IsUnbroken}
+use Rattle.qbf_text.proofs.Cited.{tokens_left, BeginsWithNumber}
 use Rattle.qbf_text.proofs.ByteByByte.{left_run, left_line_end, left_blank, or_cases, IsToken, tokens_left-counted}
 
 -- what begins as a number does is not a comment

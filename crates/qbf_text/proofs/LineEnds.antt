@@ -1,6 +1,6 @@
 -- Line ends, counted among bytes.
-use Rattle.qbf_text.proofs.Words.{◌≡◌, ℕ, ◌+◌, ◌-◌, ◌^◌, ◌<◌, ◌≤◌, Bool, true, false, nat_eq, cond, List, [], ◌∷◌, ◌++◌, length, take, drop}
-use Rattle.qbf_text.proofs.Words.{get_or, refl, sym, ap, ◌∙◌, arith, count_by, map, is_line_end, is_separator, IsUnbroken, bool_byte, rules}
+use Rattle.qbf_text.proofs.Cited.{◌≡◌, ℕ, ◌+◌, ◌-◌, ◌^◌, ◌<◌, ◌≤◌, Bool, true, false, nat_eq, cond, List, [], ◌∷◌, ◌++◌, length, take, drop}
+use Rattle.qbf_text.proofs.Cited.{get_or, refl, sym, ap, ◌∙◌, arith, count_by, map, is_line_end, is_separator, IsUnbroken, bool_byte, rules}
 use Rattle.std.specs.Int.RustNames.{count_ones}
 use Rattle.std.specs.Simd.Lanes.{mask_l, zip2, top}
 use Rattle.std.proofs.Common.{◌%◌, replicate, w8, eqb}

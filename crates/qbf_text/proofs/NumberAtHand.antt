@@ -1,8 +1,8 @@
 -- A number that stands whole among the bytes at hand.
-use Rattle.qbf_text.proofs.Words.{rules, ◌≡◌, ℕ, zero, suc, ◌+◌, ◌-◌, ◌^◌, ◌<◌, ◌≤◌, Bool, true, false, ◌&&◌, ◌||◌, ◌==◌, nat_eq, List, []}
-use Rattle.qbf_text.proofs.Words.{◌∷◌, ◌++◌, take, drop, length, get_or, refl, sym, subst, ap, ◌∙◌, arith, eqb-true, common_steps}
-use Rattle.qbf_text.proofs.Words.{bool_byte, digits_value, is_ascii_digit, all_ascii_digits, nat_tests, Value, is_line_end, digits_of}
-use Rattle.qbf_text.proofs.Words.{begins_number, begins_with_minus, after_minus, is_separator, BeginsWithNumber}
+use Rattle.qbf_text.proofs.Cited.{rules, ◌≡◌, ℕ, zero, suc, ◌+◌, ◌-◌, ◌^◌, ◌<◌, ◌≤◌, Bool, true, false, ◌&&◌, ◌||◌, ◌==◌, nat_eq, List, []}
+use Rattle.qbf_text.proofs.Cited.{◌∷◌, ◌++◌, take, drop, length, get_or, refl, sym, subst, ap, ◌∙◌, arith, eqb-true, common_steps}
+use Rattle.qbf_text.proofs.Cited.{bool_byte, digits_value, is_ascii_digit, all_ascii_digits, nat_tests, Value, is_line_end, digits_of}
+use Rattle.qbf_text.proofs.Cited.{begins_number, begins_with_minus, after_minus, is_separator, BeginsWithNumber}
 use Rattle.std.proofs.Common.{take-suc}
 use Rattle.std.specs.Str.Parse.{AllDigits}
 use Rattle.std.proofs.lemmas.Bool.{cases_Bool}

@@ -1,9 +1,9 @@
 -- Numbers as `decimal` finds them are numbers that stand whole among the bytes.
-use Rattle.qbf_text.proofs.Words.{◌≡◌, ℕ, zero, suc, ◌+◌, ◌-◌, ◌^◌, ◌<◌, ◌≤◌, Bool, true, false, ◌&&◌, nat_eq, List, [], ◌∷◌, length, take}
-use Rattle.qbf_text.proofs.Words.{drop}
-use Rattle.qbf_text.proofs.Words.{get_or, refl, sym, ap, subst, ◌∙◌, arith, drop-drop, nat_tests, common_steps, is_separator}
-use Rattle.qbf_text.proofs.Words.{begins_with_minus, digits_value}
-use Rattle.qbf_text.proofs.Words.{BeginsWithNumber, ◌⊎◌, inl, inr}
+use Rattle.qbf_text.proofs.Cited.{◌≡◌, ℕ, zero, suc, ◌+◌, ◌-◌, ◌^◌, ◌<◌, ◌≤◌, Bool, true, false, ◌&&◌, nat_eq, List, [], ◌∷◌, length, take}
+use Rattle.qbf_text.proofs.Cited.{drop}
+use Rattle.qbf_text.proofs.Cited.{get_or, refl, sym, ap, subst, ◌∙◌, arith, drop-drop, nat_tests, common_steps, is_separator}
+use Rattle.qbf_text.proofs.Cited.{begins_with_minus, digits_value}
+use Rattle.qbf_text.proofs.Cited.{BeginsWithNumber, ◌⊎◌, inl, inr}
 use Rattle.std.specs.Prelude.{ℤ, pos, neg_ℤ, unsigned_abs, int_lt}
 use Rattle.std.specs.Str.Parse.{AllDigits}
 use Rattle.std.proofs.Common.{length-drop}

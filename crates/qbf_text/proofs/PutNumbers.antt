@@ -1,6 +1,6 @@
 -- Numbers that are put in the place of others.
-use Rattle.qbf_text.proofs.Words.{◌≡◌, ℕ, zero, suc, ◌+◌, ◌-◌, ◌^◌, ◌<◌, ◌≤◌, List, [], ◌∷◌, ◌++◌, length, take, drop, refl, ap, ◌∙◌}
-use Rattle.qbf_text.proofs.Words.{arith, get_or}
+use Rattle.qbf_text.proofs.Cited.{◌≡◌, ℕ, zero, suc, ◌+◌, ◌-◌, ◌^◌, ◌<◌, ◌≤◌, List, [], ◌∷◌, ◌++◌, length, take, drop, refl, ap, ◌∙◌}
+use Rattle.qbf_text.proofs.Cited.{arith, get_or}
 use Rattle.std.specs.Prelude.{ℤ, pos, negsuc, unsigned_abs, set}
 use Rattle.std.specs.Simd.Lanes.{put_chunk}
 use Rattle.std.proofs.Common.{SFits, w32, to_z, of_z, map, length-drop}

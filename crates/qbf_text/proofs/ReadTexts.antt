@@ -1,6 +1,6 @@
 -- What is read of a text is what it spells, or the fault that stands in it.
-use Rattle.qbf_text.proofs.Words.{arith, rules, ◌≡◌, ℕ, Bool, List, [], ◌∷◌, Option, Some, IfSome, Result, Ok, Err, ap, sym, ◌∙◌}
-use Rattle.qbf_text.proofs.Words.{common_steps, Comments, Token, Lined, without_lines, EndsOnce, Row, Read, Whole, Fault, read_from, tokens}
+use Rattle.qbf_text.proofs.Cited.{arith, rules, ◌≡◌, ℕ, Bool, List, [], ◌∷◌, Option, Some, IfSome, Result, Ok, Err, ap, sym, ◌∙◌}
+use Rattle.qbf_text.proofs.Cited.{common_steps, Comments, Token, Lined, without_lines, EndsOnce, Row, Read, Whole, Fault, read_from, tokens}
 use Rattle.std.proofs.Common.{option_map}
 use Rattle.qbf_text.specs.WholeTexts.{Gives, ReadsAsRead, ReadsOnce}
 use Rattle.qbf_text.proofs.TokensEndOnce.{tokens-EndsOnce}

@@ -1,7 +1,7 @@
 -- Texts that go out part by part.
-use Rattle.qbf_text.proofs.Words.{arith, ◌≡◌, ℕ, ◌<◌, Ok, Err, List, [], ◌∷◌, ◌++◌, Option, take, drop, refl, sym, ap, subst, ◌∙◌}
-use Rattle.qbf_text.proofs.Words.{append_assoc, ◌+◌, Some, zero, suc, inl, inr, AllByRecursion, get_or, length, flat_map, Result, decimal}
-use Rattle.qbf_text.proofs.Words.{map, false, common_steps, err_from_is_err_and, Token, token_text, line_rest, IsSent}
+use Rattle.qbf_text.proofs.Cited.{arith, ◌≡◌, ℕ, ◌<◌, Ok, Err, List, [], ◌∷◌, ◌++◌, Option, take, drop, refl, sym, ap, subst, ◌∙◌}
+use Rattle.qbf_text.proofs.Cited.{append_assoc, ◌+◌, Some, zero, suc, inl, inr, AllByRecursion, get_or, length, flat_map, Result, decimal}
+use Rattle.qbf_text.proofs.Cited.{map, false, common_steps, err_from_is_err_and, Token, token_text, line_rest, IsSent}
 use Rattle.std.proofs.Common.{slice_get, add-one, drop-cons, IsErrAnd, take-append-drop}
 use Rattle.std.proofs.lemmas.Option.{slice_get_within, get_or_from_slice_get, slice_get_cases}
 use Rattle.std.specs.List.{filter_map}

@@ -1,5 +1,5 @@
 -- The table of which bytes separate tokens.
-use Rattle.qbf_text.proofs.Words.{◌≡◌, ℕ, ◌<◌, nat_eq, List, ◌∷◌, ◌++◌, get_or, refl, is_separator}
+use Rattle.qbf_text.proofs.Cited.{◌≡◌, ℕ, ◌<◌, nat_eq, List, ◌∷◌, ◌++◌, get_or, refl, is_separator}
 use Rattle.std.specs.Prelude.{replicate}
 use Rattle.std.proofs.lemmas.Bool.{agree_below_at}
 

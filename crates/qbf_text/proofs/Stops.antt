@@ -1,9 +1,9 @@
 -- What is taken ends with a token and at most one separator.
-use Rattle.qbf_text.proofs.Words.{common_steps, rules, ◌≡◌, ℕ, ◌+◌, ◌^◌, ◌<◌, Bool, true, false, List, [], ◌∷◌, ◌++◌, Option, Some, None}
-use Rattle.qbf_text.proofs.Words.{IfSome, refl, sym, ap, ◌∙◌, arith, append_assoc, append-nil, ⊤, Consumes, Consumes-nil, Comments, Token, End}
-use Rattle.qbf_text.proofs.Words.{is_separator, is_end, tokens_left, IsUnbroken, IsWithinLine, EndsRun, EndsLine, known_left, Lined, Row}
-use Rattle.qbf_text.proofs.Words.{Goes, Ends, Whole, read_from, Fails, Fault, IfKnown, TakesToken, PlaceSkips, SoFar, kind, is_blank}
-use Rattle.qbf_text.proofs.Words.{is_line_end, is_comment_byte, line_number, GivesNext}
+use Rattle.qbf_text.proofs.Cited.{common_steps, rules, ◌≡◌, ℕ, ◌+◌, ◌^◌, ◌<◌, Bool, true, false, List, [], ◌∷◌, ◌++◌, Option, Some, None}
+use Rattle.qbf_text.proofs.Cited.{IfSome, refl, sym, ap, ◌∙◌, arith, append_assoc, append-nil, ⊤, Consumes, Consumes-nil, Comments, Token, End}
+use Rattle.qbf_text.proofs.Cited.{is_separator, is_end, tokens_left, IsUnbroken, IsWithinLine, EndsRun, EndsLine, known_left, Lined, Row}
+use Rattle.qbf_text.proofs.Cited.{Goes, Ends, Whole, read_from, Fails, Fault, IfKnown, TakesToken, PlaceSkips, SoFar, kind, is_blank}
+use Rattle.qbf_text.proofs.Cited.{is_line_end, is_comment_byte, line_number, GivesNext}
 use Rattle.std.proofs.KnownBytes.{Consumes-trans}
 use Rattle.qbf_text.specs.declared.scanner.Place.{Place}
 use Rattle.qbf_text.specs.Stopping.{BeginsAs, Skips, PlaceTakes, FindsToken, StopsAfter}

@@ -1,7 +1,7 @@
 -- The tokens of a text end once.
-use Rattle.qbf_text.proofs.Words.{rules, ◌≡◌, ◌≢◌, ℕ, ◌+◌, Bool, true, false, List, [], ◌∷◌, ◌++◌, map, refl, ap, append_assoc, count_by}
-use Rattle.qbf_text.proofs.Words.{slice_split, Comments, Token, Lined, EndsOnce, is_end, is_line_end, is_comment_line, runs, kind, line_number}
-use Rattle.qbf_text.proofs.Words.{line_tokens, tokens_from, tokens}
+use Rattle.qbf_text.proofs.Cited.{rules, ◌≡◌, ◌≢◌, ℕ, ◌+◌, Bool, true, false, List, [], ◌∷◌, ◌++◌, map, refl, ap, append_assoc, count_by}
+use Rattle.qbf_text.proofs.Cited.{slice_split, Comments, Token, Lined, EndsOnce, is_end, is_line_end, is_comment_line, runs, kind, line_number}
+use Rattle.qbf_text.proofs.Cited.{line_tokens, tokens_from, tokens}
 use Rattle.qbf_text.proofs.KnownLeft.{kind_no_end}
 use Rattle.qbf_text.specs.declared.token.Token.TheVariants as kinds
 

@@ -1,8 +1,8 @@
 -- As many bound variables as the header allows: each that it allows is bound.
-use Rattle.qdimacs.proofs.Words.{common_steps, rules, ◌≡◌, ℕ, ◌≤◌, ◌+◌, ◌||◌, Bool, true, false, List, [], ◌∷◌, length, eqb, refl, ap}
-use Rattle.qdimacs.proofs.Words.{arith, AllByRecursion, Block, pairs, variables, is_bound, IsVariable, list_any, length-map, all_of}
-use Rattle.qdimacs.proofs.Words.{IsDistinct-cons, length-le_from_distinct_below, IsPrefix, IsFull, Pairs}
-use Rattle.dimacs_syntax.proofs.Words.{IsDistinct}
+use Rattle.qdimacs.proofs.Cited.{common_steps, rules, ◌≡◌, ℕ, ◌≤◌, ◌+◌, ◌||◌, Bool, true, false, List, [], ◌∷◌, length, eqb, refl, ap}
+use Rattle.qdimacs.proofs.Cited.{arith, AllByRecursion, Block, pairs, variables, is_bound, IsVariable, list_any, length-map, all_of}
+use Rattle.qdimacs.proofs.Cited.{IsDistinct-cons, length-le_from_distinct_below, IsPrefix, IsFull, Pairs}
+use Rattle.dimacs_syntax.proofs.Cited.{IsDistinct}
 
 -- ---- numbers that are in no list
 

@@ -1,7 +1,7 @@
 -- What the parts of a formula make, and where clauses in the bytes at hand lead to.
-use Rattle.qdimacs.proofs.Words.{arith, common_steps, leads_none, leads_more, leads_further, ◌≡◌, Bool, false, Option, None, Result, Ok}
-use Rattle.qdimacs.proofs.Words.{Quantifier, Literal, Token, pairs, Ends, blocks_of-pairs, is_end, Goes, FormulaFault, At, Parts, formula_of}
-use Rattle.qdimacs.proofs.Words.{heading, state_at, row_to, IsMade, State, Whole, between_row, row}
+use Rattle.qdimacs.proofs.Cited.{arith, common_steps, leads_none, leads_more, leads_further, ◌≡◌, Bool, false, Option, None, Result, Ok}
+use Rattle.qdimacs.proofs.Cited.{Quantifier, Literal, Token, pairs, Ends, blocks_of-pairs, is_end, Goes, FormulaFault, At, Parts, formula_of}
+use Rattle.qdimacs.proofs.Cited.{heading, state_at, row_to, IsMade, State, Whole, between_row, row}
 
 -- after the last clause the end makes the formula
 pub made_whole : (p : Parts) → IsMade p → (set : Option Quantifier) (mark : Result Bool FormulaFault)

@@ -1,13 +1,13 @@
 -- What is read is spelled, and a fault that is found stands.
-use Rattle.qdimacs.proofs.Words.{common_steps, rules, inl, inr, ◌⊎◌, ◌≡◌, ℕ, ◌<◌, ◌≤◌, true, false, List, [], ◌∷◌, ◌++◌, length, map, Ok}
-use Rattle.qdimacs.proofs.Words.{Err, refl, sym, subst, ◌∙◌, arith, append_assoc, map-append, flat_map, Quantifier, Literal, Block, pairs}
-use Rattle.qdimacs.proofs.Words.{is_bound, blocks_of, AllByRecursion-push, Token, Lined, number, literal, letter, set, without_lines, Ends}
-use Rattle.qdimacs.proofs.Words.{append-nil, pairs_of_block, pairs-blocks_of, Alternates-blocks_of, is_end, push_distinct, flat_map-push}
-use Rattle.qdimacs.proofs.Words.{member, header, clause, IsFormula, ReadsAsRead, all_of, explained, ResultsAreRead, Reads, IsSoFar, Spells}
-use Rattle.qdimacs.proofs.Words.{Goes, Fails, Heading, State, AtP, InHeader, Between, InSet, InClause, Whole, Row, row, faults, set_row}
-use Rattle.qdimacs.proofs.Words.{bound_literal, clause_row, read, IsWhole, result_of, Pairs, Clauses, AreFrom}
-use Rattle.dimacs_syntax.proofs.Words.{IsDistinct}
-use Rattle.dimacs_syntax.proofs.Words.token
+use Rattle.qdimacs.proofs.Cited.{common_steps, rules, inl, inr, ◌⊎◌, ◌≡◌, ℕ, ◌<◌, ◌≤◌, true, false, List, [], ◌∷◌, ◌++◌, length, map, Ok}
+use Rattle.qdimacs.proofs.Cited.{Err, refl, sym, subst, ◌∙◌, arith, append_assoc, map-append, flat_map, Quantifier, Literal, Block, pairs}
+use Rattle.qdimacs.proofs.Cited.{is_bound, blocks_of, AllByRecursion-push, Token, Lined, number, literal, letter, set, without_lines, Ends}
+use Rattle.qdimacs.proofs.Cited.{append-nil, pairs_of_block, pairs-blocks_of, Alternates-blocks_of, is_end, push_distinct, flat_map-push}
+use Rattle.qdimacs.proofs.Cited.{member, header, clause, IsFormula, ReadsAsRead, all_of, explained, ResultsAreRead, Reads, IsSoFar, Spells}
+use Rattle.qdimacs.proofs.Cited.{Goes, Fails, Heading, State, AtP, InHeader, Between, InSet, InClause, Whole, Row, row, faults, set_row}
+use Rattle.qdimacs.proofs.Cited.{bound_literal, clause_row, read, IsWhole, result_of, Pairs, Clauses, AreFrom}
+use Rattle.dimacs_syntax.proofs.Cited.{IsDistinct}
+use Rattle.dimacs_syntax.proofs.Cited.token
 use Rattle.qbf_text.specs.Lined.{EndsOnce}
 use Rattle.qdimacs.proofs.AllVariablesBound.{is_bound_variables}
 use Rattle.qbf_text.proofs.AcceptedTokens as accepted

@@ -1,11 +1,11 @@
 -- The laws of reading, and the canonical text that is read again.
-use Rattle.qdimacs.proofs.Words.{common_steps, ◌≡◌, ℕ, true, List, [], ◌∷◌, ◌++◌, map, refl, ◌∙◌, arith, append_assoc, Option, IfSome}
-use Rattle.qdimacs.proofs.Words.{flat_map-append, flat_map-map, AllByRecursion, Quantifier, Literal, Block, pairs, variables, is_bound}
-use Rattle.qdimacs.proofs.Words.{IsVariable, Qbf, Qdimacs, tokens, literal, set, AreBound, IsWellFormed, IsPlain, IsLine, joined}
-use Rattle.qdimacs.proofs.Words.{tokens-lines_text, all_appended, all_mapped, all_of, closed_plain, literals_plain, set_written, clause}
-use Rattle.qdimacs.proofs.Words.{spelling, lines, text, IsFormula, ReadsText, Pairs, ReadResult, Gives, reads_bytes, is_outside, read}
-use Rattle.qdimacs.proofs.Words.{bytes_read_as, tokens-EndsOnce, IsReadAs, IsFault, Reads, BytesRead}
-use Rattle.dimacs_syntax.proofs.Words.token
+use Rattle.qdimacs.proofs.Cited.{common_steps, ◌≡◌, ℕ, true, List, [], ◌∷◌, ◌++◌, map, refl, ◌∙◌, arith, append_assoc, Option, IfSome}
+use Rattle.qdimacs.proofs.Cited.{flat_map-append, flat_map-map, AllByRecursion, Quantifier, Literal, Block, pairs, variables, is_bound}
+use Rattle.qdimacs.proofs.Cited.{IsVariable, Qbf, Qdimacs, tokens, literal, set, AreBound, IsWellFormed, IsPlain, IsLine, joined}
+use Rattle.qdimacs.proofs.Cited.{tokens-lines_text, all_appended, all_mapped, all_of, closed_plain, literals_plain, set_written, clause}
+use Rattle.qdimacs.proofs.Cited.{spelling, lines, text, IsFormula, ReadsText, Pairs, ReadResult, Gives, reads_bytes, is_outside, read}
+use Rattle.qdimacs.proofs.Cited.{bytes_read_as, tokens-EndsOnce, IsReadAs, IsFault, Reads, BytesRead}
+use Rattle.dimacs_syntax.proofs.Cited.token
 use Rattle.qdimacs.proofs.SpelledIsRead.{bound_one, spelled_is_read, read_once}
 use Rattle.qdimacs.proofs.ReadIsSpelled.{read_explained}
 

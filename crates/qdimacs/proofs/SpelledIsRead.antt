@@ -1,14 +1,14 @@
 -- What tokens spell is read, and a fault that stands is found: accepted tokens, and the state that they lead to.
-use Rattle.qdimacs.proofs.Words.{common_steps, rules, ◌≡◌, ◌∙◌, ◌≢◌, ℕ, ◌<◌, ◌≤◌, ◌+◌, Bool, true, List, [], ◌∷◌, ◌++◌, length, map, refl}
-use Rattle.qdimacs.proofs.Words.{arith, append_assoc, Ok, Err, ap, sym, subst, map-append, length-append, flat_map, AllByRecursion}
-use Rattle.qdimacs.proofs.Words.{Quantifier, Literal, Block, pairs, is_bound, blocks_of, variables, Token, number, literal, letter, set}
-use Rattle.qdimacs.proofs.Words.{Ends, Qbf, Lined, without_lines, read-one, append-nil, pairs_of_block, middle, front_all, front_distinct}
-use Rattle.qdimacs.proofs.Words.{new_number, Leads, Stays, leads_then, split_at, leads_reads, AreGood, Reads, Spells, IsFault, header}
-use Rattle.qdimacs.proofs.Words.{clause, IsFormula, Heading, State, AtP, InHeader, Between, InSet, InClause, Whole, row, Pairs, Clauses}
-use Rattle.qdimacs.proofs.Words.{AreFrom, Row, read, result_of, blocks_of-pairs, ReadsOnce, FormulaFault, after, IsVariable, all_both}
-use Rattle.qdimacs.proofs.Words.{all_of}
-use Rattle.dimacs_syntax.proofs.Words.token
-use Rattle.dimacs_syntax.proofs.Words.word
+use Rattle.qdimacs.proofs.Cited.{common_steps, rules, ◌≡◌, ◌∙◌, ◌≢◌, ℕ, ◌<◌, ◌≤◌, ◌+◌, Bool, true, List, [], ◌∷◌, ◌++◌, length, map, refl}
+use Rattle.qdimacs.proofs.Cited.{arith, append_assoc, Ok, Err, ap, sym, subst, map-append, length-append, flat_map, AllByRecursion}
+use Rattle.qdimacs.proofs.Cited.{Quantifier, Literal, Block, pairs, is_bound, blocks_of, variables, Token, number, literal, letter, set}
+use Rattle.qdimacs.proofs.Cited.{Ends, Qbf, Lined, without_lines, read-one, append-nil, pairs_of_block, middle, front_all, front_distinct}
+use Rattle.qdimacs.proofs.Cited.{new_number, Leads, Stays, leads_then, split_at, leads_reads, AreGood, Reads, Spells, IsFault, header}
+use Rattle.qdimacs.proofs.Cited.{clause, IsFormula, Heading, State, AtP, InHeader, Between, InSet, InClause, Whole, row, Pairs, Clauses}
+use Rattle.qdimacs.proofs.Cited.{AreFrom, Row, read, result_of, blocks_of-pairs, ReadsOnce, FormulaFault, after, IsVariable, all_both}
+use Rattle.qdimacs.proofs.Cited.{all_of}
+use Rattle.dimacs_syntax.proofs.Cited.token
+use Rattle.dimacs_syntax.proofs.Cited.word
 use Rattle.qdimacs.proofs.AllVariablesBound.{is_bound_variables}
 use Rattle.qbf_text.proofs.AcceptedTokens.{Passes}
 use Rattle.dimacs_syntax.specs.declared.header.HeaderAt.TheVariants as place

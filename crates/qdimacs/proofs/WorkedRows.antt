@@ -1,7 +1,7 @@
 -- Worked rows of formulas.
-use Rattle.qdimacs.proofs.Words.{AllByRecursion, Qbf, exists, all, F2, F3, F4, F5, F6, F7, F8, text, read_formula, ReadResult}
+use Rattle.qdimacs.proofs.Cited.{AllByRecursion, Qbf, exists, all, F2, F3, F4, F5, F6, F7, F8, text, read_formula, ReadResult}
 use Rattle.std.specs.Prelude.{codes, ◌≡◌, ℕ, List, [], ◌∷◌, Ok, Err, refl}
-use Rattle.dimacs_syntax.proofs.Words.{read_from}
+use Rattle.dimacs_syntax.proofs.Cited.{read_from}
 use Rattle.std.specs.Fmt.{digits}
 use Rattle.qbf_core.specs.Literal.{positive as pos, negative as neg}
 

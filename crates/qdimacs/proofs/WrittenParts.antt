@@ -1,8 +1,8 @@
 -- The parts of a canonical text, one after the other.
-use Rattle.qdimacs.proofs.Words.{common_steps, ◌≡◌, ℕ, List, [], ◌∷◌, ◌++◌, Option, Some, ap, ◌∙◌, append_assoc, drop, slice_get, length}
-use Rattle.qdimacs.proofs.Words.{arith, ◌<◌, ◌+◌, flat_map, flat_map-append, flat_map-map, Quantifier, Literal, Block, blocks_of, Qbf}
-use Rattle.qdimacs.proofs.Words.{literal, zero_decimal, drop_at, with_pair, spaced_number, token_text, line_text, literal_text, closing, set_line}
-use Rattle.qdimacs.proofs.Words.{closed_literals, clause, header, text, opening, blocks_rest, sets_text, clauses_text, Pairs, Clauses}
+use Rattle.qdimacs.proofs.Cited.{common_steps, ◌≡◌, ℕ, List, [], ◌∷◌, ◌++◌, Option, Some, ap, ◌∙◌, append_assoc, drop, slice_get, length}
+use Rattle.qdimacs.proofs.Cited.{arith, ◌<◌, ◌+◌, flat_map, flat_map-append, flat_map-map, Quantifier, Literal, Block, blocks_of, Qbf}
+use Rattle.qdimacs.proofs.Cited.{literal, zero_decimal, drop_at, with_pair, spaced_number, token_text, line_text, literal_text, closing, set_line}
+use Rattle.qdimacs.proofs.Cited.{closed_literals, clause, header, text, opening, blocks_rest, sets_text, clauses_text, Pairs, Clauses}
 
 -- ---- a clause
 

@@ -3,7 +3,7 @@
 -- and what is a fault.
 use Rattle.std.specs.Prelude.{◌≡◌, ◌≤◌, ℕ, Bool, true, false, List, [], ◌∷◌, ◌++◌, length, Option, Some, None, option_map, Result, Ok, Err}
 use Rattle.std.specs.Prelude.{nat_lt, if◌then◌else◌}
-use Rattle.dimacs_syntax.specs.Words
+use Rattle.dimacs_syntax.specs.Cited
 use Words.{AllByRecursion, Quantifier, Literal, Qbf, Token, Lined, Fails}
 use Words.token
 use Words.word

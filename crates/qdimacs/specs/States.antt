@@ -1,6 +1,6 @@
 -- What the parts of a formula say while it is read: what is made, and where the next token stands.
 use Rattle.std.specs.Prelude.{◌≡◌, ◌<◌, ◌≤◌, true, [], length, Result, Ok, Err, ⊤}
-use Rattle.dimacs_syntax.specs.Words.{AllByRecursion, pairs, Qbf, IsWellFormed, Fails}
+use Rattle.dimacs_syntax.specs.Cited.{AllByRecursion, pairs, Qbf, IsWellFormed, Fails}
 use Rattle.qbf_core.specs.Blocks.{variables, AreBound, IsPrefix}
 use Rattle.qbf_text.specs.Rows.{Goes, Ends}
 use Rattle.qbf_text.specs.declared.grammar.Stop.{Stop}

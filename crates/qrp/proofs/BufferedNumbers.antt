@@ -1,7 +1,7 @@
 -- Where numbers at hand lead to.
-use Rattle.qrp.proofs.Words.{leads_none, leads_more, leads_further, arith, common_steps, ◌≡◌, ◌≤◌, ◌<◌, ℕ, suc, ◌+◌, ◌-◌, List, [], ◌∷◌}
-use Rattle.qrp.proofs.Words.{◌++◌, Some, Ok, Err, Result, refl, ap, sym, ◌∙◌, append_assoc, append-nil, drop, length, map, Literal, IsLiteral}
-use Rattle.qrp.proofs.Words.{AllByRecursion, Inference}
+use Rattle.qrp.proofs.Cited.{leads_none, leads_more, leads_further, arith, common_steps, ◌≡◌, ◌≤◌, ◌<◌, ℕ, suc, ◌+◌, ◌-◌, List, [], ◌∷◌}
+use Rattle.qrp.proofs.Cited.{◌++◌, Some, Ok, Err, Result, refl, ap, sym, ◌∙◌, append_assoc, append-nil, drop, length, map, Literal, IsLiteral}
+use Rattle.qrp.proofs.Cited.{AllByRecursion, Inference}
 use Rattle.std.specs.Prelude.{ℤ, pos, unsigned_abs, int_lt, slice_index_or, slice_range, Bool, IfOk}
 use Rattle.std.proofs.lemmas.List.{get_or-take, get_or-drop}
 use Rattle.qbf_core.specs.WrittenLiterals.{literal_of, IsWritten}

@@ -1,12 +1,12 @@
 -- A trace is read as a whole, and each item is put after the others.
-use Rattle.qrp.proofs.Words.{arith, common_steps, rules, ◌≡◌, ◌≤◌, ℕ, suc, ◌+◌, List, [], ◌∷◌, ◌++◌, length, Option, Some, Result, Ok, Err}
-use Rattle.qrp.proofs.Words.{append_assoc, zero, refl, ap, sym, ◌∙◌, append-nil, Qrp, Lined, Token, ahead, left, tokens, tokens_next, ReadError}
-use Rattle.qrp.proofs.Words.{fault_of, Read, Reading, Cut, read-one, reads_from, IfKnown, Stops, Leaves, Reads, TraceFault, P1, P7, P9}
-use Rattle.qrp.proofs.Words.{reads_bytes, Gives, StopsAfterResult, Derivation, with_item, Stays, leads_further, leads_more}
+use Rattle.qrp.proofs.Cited.{arith, common_steps, rules, ◌≡◌, ◌≤◌, ℕ, suc, ◌+◌, List, [], ◌∷◌, ◌++◌, length, Option, Some, Result, Ok, Err}
+use Rattle.qrp.proofs.Cited.{append_assoc, zero, refl, ap, sym, ◌∙◌, append-nil, Qrp, Lined, Token, ahead, left, tokens, tokens_next, ReadError}
+use Rattle.qrp.proofs.Cited.{fault_of, Read, Reading, Cut, read-one, reads_from, IfKnown, Stops, Leaves, Reads, TraceFault, P1, P7, P9}
+use Rattle.qrp.proofs.Cited.{reads_bytes, Gives, StopsAfterResult, Derivation, with_item, Stays, leads_further, leads_more}
 use Rattle.std.specs.Prelude.{ℤ, pos, slice_index_or, IfOk}
 use Rattle.std.proofs.Common.{None}
-use Rattle.dimacs_syntax.proofs.Words.{read_from}
-use Rattle.dimacs_syntax.proofs.Words.token
+use Rattle.dimacs_syntax.proofs.Cited.{read_from}
+use Rattle.dimacs_syntax.proofs.Cited.token
 use Rattle.qbf_text.specs.Numbers.{LeadsBy, LeadsOver, token_of}
 use Rattle.qbf_text.specs.Rows as rows
 use Rattle.qbf_text.specs.Stopping as text

@@ -4,9 +4,9 @@ pub mod BufferedNumbers
 pub mod SpelledIsRead
 pub mod ReadIsSpelled
 pub mod WrittenParts
-pub mod Flats
+pub mod FlatSteps
 pub mod RowsReadTheItem
 pub mod ItemStops
 pub mod KeptItems
 pub mod ReadingLaws
-pub mod Words
+pub mod Cited

@@ -1,12 +1,12 @@
 -- What is read is spelled, and a fault that is found stands.
-use Rattle.qrp.proofs.Words.{common_steps, rules, ◌≡◌, ℕ, ◌≤◌, ◌+◌, List, [], ◌∷◌, ◌++◌, ◌⊎◌, inl, inr, length, Ok, Err, refl, sym, ◌∙◌}
-use Rattle.qrp.proofs.Words.{false, arith, append_assoc, append-nil, map-append, length-append, AllByRecursion, Quantifier, Literal, Block}
-use Rattle.qrp.proofs.Words.{IsVariable, AllByRecursion-push, Token, Lined, without_lines, number, letter, set, EndsOnce, push_distinct}
-use Rattle.qrp.proofs.Words.{flat_map-push, Header, Outcome, Inference, IsInference, IsNumber, numbers, Derivation, step, result_word}
-use Rattle.qrp.proofs.Words.{lists, ReadsAsRead, explained, is_used}
-use Rattle.dimacs_syntax.proofs.Words.{IsDistinct}
-use Rattle.dimacs_syntax.proofs.Words.token
-use Rattle.dimacs_syntax.proofs.Words.word
+use Rattle.qrp.proofs.Cited.{common_steps, rules, ◌≡◌, ℕ, ◌≤◌, ◌+◌, List, [], ◌∷◌, ◌++◌, ◌⊎◌, inl, inr, length, Ok, Err, refl, sym, ◌∙◌}
+use Rattle.qrp.proofs.Cited.{false, arith, append_assoc, append-nil, map-append, length-append, AllByRecursion, Quantifier, Literal, Block}
+use Rattle.qrp.proofs.Cited.{IsVariable, AllByRecursion-push, Token, Lined, without_lines, number, letter, set, EndsOnce, push_distinct}
+use Rattle.qrp.proofs.Cited.{flat_map-push, Header, Outcome, Inference, IsInference, IsNumber, numbers, Derivation, step, result_word}
+use Rattle.qrp.proofs.Cited.{lists, ReadsAsRead, explained, is_used}
+use Rattle.dimacs_syntax.proofs.Cited.{IsDistinct}
+use Rattle.dimacs_syntax.proofs.Cited.token
+use Rattle.dimacs_syntax.proofs.Cited.word
 use Rattle.qbf_text.proofs.AcceptedTokens.{LeadsOrEnds}
 use Rattle.dimacs_syntax.specs.declared.header.HeaderAt.TheVariants as place
 use Rattle.qrp.specs.Faults.{AreLists, Spells, Reads}

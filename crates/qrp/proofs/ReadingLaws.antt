@@ -1,11 +1,11 @@
 -- The laws of reading, and the canonical text that is read again.
-use Rattle.qrp.proofs.Words.{common_steps, rules, append-nil, ◌≡◌, ◌<◌, ◌^◌, List, [], ◌∷◌, ◌++◌, map, ◌∙◌, arith, append_assoc, ℕ, Option}
-use Rattle.qrp.proofs.Words.{IfSome, Result, flat_map-append, map-append, flat_map-map, AllByRecursion, IsVariable, Qrp, tokens, number}
-use Rattle.qrp.proofs.Words.{literal, set, IsPlain, IsLine, joined, tokens-lines_text, all_appended, all_mapped, closed_plain}
-use Rattle.qrp.proofs.Words.{Inference, IsInference, numbers, Derivation, IsWellFormed, literals_plain, set_written, step, result, lists}
-use Rattle.qrp.proofs.Words.{lines, text, IsTrace, ReadsText, ItemsOfTrace, bytes_read_as, tokens-EndsOnce, IsReadAs, Gives, reads_bytes}
-use Rattle.qrp.proofs.Words.{is_outside, BytesRead}
-use Rattle.dimacs_syntax.proofs.Words.token
+use Rattle.qrp.proofs.Cited.{common_steps, rules, append-nil, ◌≡◌, ◌<◌, ◌^◌, List, [], ◌∷◌, ◌++◌, map, ◌∙◌, arith, append_assoc, ℕ, Option}
+use Rattle.qrp.proofs.Cited.{IfSome, Result, flat_map-append, map-append, flat_map-map, AllByRecursion, IsVariable, Qrp, tokens, number}
+use Rattle.qrp.proofs.Cited.{literal, set, IsPlain, IsLine, joined, tokens-lines_text, all_appended, all_mapped, closed_plain}
+use Rattle.qrp.proofs.Cited.{Inference, IsInference, numbers, Derivation, IsWellFormed, literals_plain, set_written, step, result, lists}
+use Rattle.qrp.proofs.Cited.{lines, text, IsTrace, ReadsText, ItemsOfTrace, bytes_read_as, tokens-EndsOnce, IsReadAs, Gives, reads_bytes}
+use Rattle.qrp.proofs.Cited.{is_outside, BytesRead}
+use Rattle.dimacs_syntax.proofs.Cited.token
 use Rattle.qrp.proofs.SpelledIsRead.{spelled_is_read, spelled_items, read_once, fault_items}
 use Rattle.qrp.specs.Faults.{IsFault, Reads}
 use Rattle.qrp.specs.Reading.{Fault, read}

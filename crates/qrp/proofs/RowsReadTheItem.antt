@@ -1,9 +1,9 @@
 -- What is read by the rows of the items is the next item.
-use Rattle.qrp.proofs.Words.{arith, common_steps, rules, ◌≡◌, ℕ, List, [], ◌∷◌, Some, Ok, Err, ◌⊎◌, refl, ap, sym, ◌∙◌, Token}
-use Rattle.qrp.proofs.Words.{Lined, Read, read-one, ReadError, Known, Cut, reads_from, Leaves, Reads, TraceFault, P1, P7, P9, Item}
-use Rattle.qrp.proofs.Words.{known_items, GivesUnless, GivesNextItem, left_after, stage_after, Stage, AtHeader}
-use Rattle.qrp.proofs.Words.{AtLists, ItemsRead, Stands, fault_of}
-use Rattle.dimacs_syntax.proofs.Words.{read_from}
+use Rattle.qrp.proofs.Cited.{arith, common_steps, rules, ◌≡◌, ℕ, List, [], ◌∷◌, Some, Ok, Err, ◌⊎◌, refl, ap, sym, ◌∙◌, Token}
+use Rattle.qrp.proofs.Cited.{Lined, Read, read-one, ReadError, Known, Cut, reads_from, Leaves, Reads, TraceFault, P1, P7, P9, Item}
+use Rattle.qrp.proofs.Cited.{known_items, GivesUnless, GivesNextItem, left_after, stage_after, Stage, AtHeader}
+use Rattle.qrp.proofs.Cited.{AtLists, ItemsRead, Stands, fault_of}
+use Rattle.dimacs_syntax.proofs.Cited.{read_from}
 use Rattle.qbf_text.specs.Rows as rows
 use Rattle.qbf_text.proofs.OneToken as going
 use Rattle.qrp.specs.Reading.{State, After, row, items_from, next_state, item_and_more}

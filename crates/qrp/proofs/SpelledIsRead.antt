@@ -1,12 +1,12 @@
 -- What tokens spell is read, and a fault that stands is found: accepted tokens, and the state that they lead to.
-use Rattle.qrp.proofs.Words.{common_steps, rules, ◌≡◌, ℕ, ◌≤◌, false, List, [], ◌∷◌, ◌++◌, length, map, Result, Ok, Err, refl, ap, ◌∙◌}
-use Rattle.qrp.proofs.Words.{arith, append_assoc, append-nil, nat_eq, length-append, flat_map, AllByRecursion, Quantifier, Literal, Block}
-use Rattle.qrp.proofs.Words.{IsVariable, Token, Lined, without_lines, number, literal, set, new_number, P7, Header, Item, Inference, IsInference}
-use Rattle.qrp.proofs.Words.{IsLiteral, IsNumber, numbers, AreGrammatical, items_of_lists, Derivation, step, lists, result_word, IsTrace}
-use Rattle.qrp.proofs.Words.{is_used, split_at, TraceFault, Outcome, Sat, ReadsOnce}
-use Rattle.dimacs_syntax.proofs.Words.{IsDistinct}
-use Rattle.dimacs_syntax.proofs.Words.token
-use Rattle.dimacs_syntax.proofs.Words.word
+use Rattle.qrp.proofs.Cited.{common_steps, rules, ◌≡◌, ℕ, ◌≤◌, false, List, [], ◌∷◌, ◌++◌, length, map, Result, Ok, Err, refl, ap, ◌∙◌}
+use Rattle.qrp.proofs.Cited.{arith, append_assoc, append-nil, nat_eq, length-append, flat_map, AllByRecursion, Quantifier, Literal, Block}
+use Rattle.qrp.proofs.Cited.{IsVariable, Token, Lined, without_lines, number, literal, set, new_number, P7, Header, Item, Inference, IsInference}
+use Rattle.qrp.proofs.Cited.{IsLiteral, IsNumber, numbers, AreGrammatical, items_of_lists, Derivation, step, lists, result_word, IsTrace}
+use Rattle.qrp.proofs.Cited.{is_used, split_at, TraceFault, Outcome, Sat, ReadsOnce}
+use Rattle.dimacs_syntax.proofs.Cited.{IsDistinct}
+use Rattle.dimacs_syntax.proofs.Cited.token
+use Rattle.dimacs_syntax.proofs.Cited.word
 use Rattle.qrp.specs.declared.item.Item.TheVariants as item
 use Rattle.qbf_text.specs.Rows.{Goes, Ends, Fails}
 use Rattle.qrp.specs.Reading.{Fault, State, AtP, Between, InSet, InLits, InAnts, AtResult, After, Row, row, items_from, next_state, item_and_more}

@@ -1,5 +1,5 @@
 -- Worked rows of traces.
-use Rattle.qrp.proofs.Words.{AllByRecursion, Literal, exists, all, P2, P3, P4, P5, P6, P7, P8, Sat, Unsat, Inference, Derivation, text}
+use Rattle.qrp.proofs.Cited.{AllByRecursion, Literal, exists, all, P2, P3, P4, P5, P6, P7, P8, Sat, Unsat, Inference, Derivation, text}
 use Rattle.std.specs.Prelude.{codes, ◌≡◌, ℕ, List, [], ◌∷◌, ◌++◌, Result, Ok, Err, refl}
 use Rattle.std.specs.Fmt.{digits}
 use Rattle.qbf_core.specs.Literal.{positive as pos, negative as neg}

@@ -1,6 +1,6 @@
 -- What contracts see of a trace (QRP).
 use Rattle.std.specs.Prelude.{◌<◌, ◌^◌, ℕ, List, [], ◌∷◌, ◌++◌, map, length, nat_eq, slice_get}
-use Rattle.dimacs_syntax.specs.Words.{AllByRecursion, Block, IsVariable}
+use Rattle.dimacs_syntax.specs.Cited.{AllByRecursion, Block, IsVariable}
 use Rattle.std.specs.List.{IsDistinct, filter_map}
 use Rattle.qrp.specs.declared.item.Header.{Header}
 use Rattle.qrp.specs.declared.item.Outcome.{Outcome}

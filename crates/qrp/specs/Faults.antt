@@ -1,6 +1,6 @@
 -- Where the first fault stands: the tokens before it are accepted, and the row of its state refuses it.
 use Rattle.std.specs.Prelude.{◌≡◌, ◌≤◌, ℕ, false, List, [], ◌∷◌, ◌++◌, map, length, Result}
-use Rattle.dimacs_syntax.specs.Words
+use Rattle.dimacs_syntax.specs.Cited
 use Words.{AllByRecursion, Block, IsVariable, Token, Lined, number, literal, letter}
 use Words.token
 use Words.word

@@ -1,6 +1,6 @@
 -- What the calls return that read a whole trace.
 use Rattle.std.specs.Prelude.{◌≡◌, ◌≤◌, ℕ, List, ◌++◌, length, Bool, true, false, Option, option_map, Result, Ok, Err}
-use Rattle.dimacs_syntax.specs.Words.{Lined}
+use Rattle.dimacs_syntax.specs.Cited.{Lined}
 use Rattle.qbf_text.specs.WholeTexts as whole_texts
 use Rattle.qbf_text.specs.Left.{IsUnbroken}
 use Rattle.qrp.specs.declared.fault.TraceFault.{TraceFault}

@@ -1,6 +1,6 @@
 -- Where a token stands while a trace is read: what the unfinished lists say of its state.
 use Rattle.std.specs.Prelude.{◌≡◌, ◌<◌, ◌≤◌, ◌^◌, ℕ, false, List, [], ◌∷◌, ◌++◌, length, Result, Ok, Err, ⊤}
-use Rattle.dimacs_syntax.specs.Words.{AllByRecursion, IsVariable}
+use Rattle.dimacs_syntax.specs.Cited.{AllByRecursion, IsVariable}
 use Rattle.qbf_text.specs.declared.grammar.Stop.{Stop}
 use Rattle.qbf_text.specs.declared.grammar.Stop.TheVariants as stop
 use Rattle.qrp.specs.declared.fault.TraceFault.{TraceFault}

@@ -1,7 +1,7 @@
 -- What one step adds to a formula, as a clause to its matrix or as a cube beside it, by the laws of the rules.
-use Rattle.qrp_check.proofs.Words.{◌↔◌, ℕ, List, [], ◌∷◌, ◌++◌, inl, inr, refl, sym, subst, rules, AllByRecursion, Literal, ◌∈◌, ◌⊆◌, Side}
-use Rattle.qrp_check.proofs.Words.{Clauses, Cubes, IsClean, IsReduct, IsInitial, Clashes, resolvent, IsBound, AreBound, Qbf, IsClosed}
-use Rattle.qrp_check.proofs.Words.{IsTrueWithSets, append_left, append_right}
+use Rattle.qrp_check.proofs.Cited.{◌↔◌, ℕ, List, [], ◌∷◌, ◌++◌, inl, inr, refl, sym, subst, rules, AllByRecursion, Literal, ◌∈◌, ◌⊆◌, Side}
+use Rattle.qrp_check.proofs.Cited.{Clauses, Cubes, IsClean, IsReduct, IsInitial, Clashes, resolvent, IsBound, AreBound, Qbf, IsClosed}
+use Rattle.qrp_check.proofs.Cited.{IsTrueWithSets, append_left, append_right}
 use Rattle.qbf_core.proofs.Inferences.{resolvent_holds}
 use Rattle.qbf_core.proofs.TruthLaws.{implied_clause, reduct_clause, initial_cube, resolvent_cube, reduct_cube}
 

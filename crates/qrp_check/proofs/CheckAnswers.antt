@@ -1,7 +1,7 @@
 -- What a check answers, from what is told of the core.
-use Rattle.qrp_check.proofs.Words.{common_steps, ◌≡◌, ◌≢◌, ◌↔◌, Bool, true, false, List, refl, subst, IsTrue, arith, Result, Ok, Err}
-use Rattle.qrp_check.proofs.Words.{Block, Qbf, IsClosed, IsTrueFormula, Side, Clauses, Cubes, Inference, Outcome, CheckFault, C1, C2, C3}
-use Rattle.qrp_check.proofs.Words.{C4, C5, C6, Rules, side_of, Derives, Proves, IsFirstFault, ResultHolds, SetsAgree}
+use Rattle.qrp_check.proofs.Cited.{common_steps, ◌≡◌, ◌≢◌, ◌↔◌, Bool, true, false, List, refl, subst, IsTrue, arith, Result, Ok, Err}
+use Rattle.qrp_check.proofs.Cited.{Block, Qbf, IsClosed, IsTrueFormula, Side, Clauses, Cubes, Inference, Outcome, CheckFault, C1, C2, C3}
+use Rattle.qrp_check.proofs.Cited.{C4, C5, C6, Rules, side_of, Derives, Proves, IsFirstFault, ResultHolds, SetsAgree}
 use Rattle.std.specs.Prelude.{OnOk, IfErr}
 use Rattle.qbf_core.specs.Qbf.{IsWellFormed}
 use Rattle.qrp_check.specs.Followed.{IsCoreFault}

@@ -1,9 +1,9 @@
 -- One step of the core: its antecedents, and its conditions.
-use Rattle.qrp_check.proofs.Words.{◌≡◌, ℕ, ◌<◌, ◌≤◌, List, [], ◌∷◌, Option, Some, None, inl, inr, refl, sym, ap, subst, ◌∙◌, arith, length}
-use Rattle.qrp_check.proofs.Words.{at_place, get_or, take, rules, IfOk, IfSome, Result, Ok, Err, Literal, ◌∈◌, Block, AreBound, IsBound, Qbf, Side}
-use Rattle.qrp_check.proofs.Words.{IsClean, bound_each, Inference, IsAt, RuleFault, IsJudgement, initial_condition, reduct_conditions}
-use Rattle.qrp_check.proofs.Words.{resolvent_conditions, Rules, IsNumberOf, StepFollows, lits_of, step_conditions, IsInCore, next}
-use Rattle.qrp_check.proofs.Words.{premise_conditions, reduct_answer, resolvent_answer, same_self, in_take, take_in}
+use Rattle.qrp_check.proofs.Cited.{◌≡◌, ℕ, ◌<◌, ◌≤◌, List, [], ◌∷◌, Option, Some, None, inl, inr, refl, sym, ap, subst, ◌∙◌, arith, length}
+use Rattle.qrp_check.proofs.Cited.{at_place, get_or, take, rules, IfOk, IfSome, Result, Ok, Err, Literal, ◌∈◌, Block, AreBound, IsBound, Qbf, Side}
+use Rattle.qrp_check.proofs.Cited.{IsClean, bound_each, Inference, IsAt, RuleFault, IsJudgement, initial_condition, reduct_conditions}
+use Rattle.qrp_check.proofs.Cited.{resolvent_conditions, Rules, IsNumberOf, StepFollows, lits_of, step_conditions, IsInCore, next}
+use Rattle.qrp_check.proofs.Cited.{premise_conditions, reduct_answer, resolvent_answer, same_self, in_take, take_in}
 use Rattle.std.specs.Prelude.{Bool, IsTrue}
 use Rattle.qbf_core.specs.Literal.{positive}
 use Rattle.qbf_core.specs.Rules.{IsTautology}

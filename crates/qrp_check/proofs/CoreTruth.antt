@@ -1,9 +1,9 @@
 -- The core's steps are added one by one, and the truth stays.
-use Rattle.qrp_check.proofs.Words.{◌≡◌, ◌↔◌, ℕ, zero, suc, ◌<◌, List, [], ◌∷◌, ◌++◌, inl, inr, refl, sym, subst, take, arith, rules}
-use Rattle.qrp_check.proofs.Words.{Literal, ◌∈◌, ◌⊆◌, Side, Clauses, Cubes, IsClean, IsInitial, AreBound, Qbf, IsClosed, IsTrueFormula}
-use Rattle.qrp_check.proofs.Words.{IsAt, Inference, Rules, IsInCore, next, Derives, antecedent_conditions, lits_of, step_conditions}
-use Rattle.qrp_check.proofs.Words.{AllHold, initial_condition, IsTrueWithSets, AreOfCore, CoreKeepsTheTruth, in_append, append_left}
-use Rattle.qrp_check.proofs.Words.{append_right}
+use Rattle.qrp_check.proofs.Cited.{◌≡◌, ◌↔◌, ℕ, zero, suc, ◌<◌, List, [], ◌∷◌, ◌++◌, inl, inr, refl, sym, subst, take, arith, rules}
+use Rattle.qrp_check.proofs.Cited.{Literal, ◌∈◌, ◌⊆◌, Side, Clauses, Cubes, IsClean, IsInitial, AreBound, Qbf, IsClosed, IsTrueFormula}
+use Rattle.qrp_check.proofs.Cited.{IsAt, Inference, Rules, IsInCore, next, Derives, antecedent_conditions, lits_of, step_conditions}
+use Rattle.qrp_check.proofs.Cited.{AllHold, initial_condition, IsTrueWithSets, AreOfCore, CoreKeepsTheTruth, in_append, append_left}
+use Rattle.qrp_check.proofs.Cited.{append_right}
 use Rattle.qbf_core.proofs.TruthLaws.{fewer_clauses, fewer_cubes, beside_none}
 use Rattle.qrp_check.proofs.AddedSets.{AreGood, Grown, one_grown, grown_on, initial_grows, reduct_grows}
 use Rattle.qrp_check.proofs.ParentsReduced.{resolved_grown}

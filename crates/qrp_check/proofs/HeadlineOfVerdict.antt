@@ -1,6 +1,6 @@
 -- From the verdict on what was read to the headline over the bytes.
-use Rattle.qrp_check.proofs.Words.{◌≡◌, ◌↔◌, ℕ, IsTrue, List, Option, Some, None, inl, inr, refl, subst, rules, Result, Ok, Err, IfSome}
-use Rattle.qrp_check.proofs.Words.{Qbf, IsTrueFormula, Derivation, Rules, Verified, Fault, ListsCore, side_of, ResultHolds, IsVerdict}
+use Rattle.qrp_check.proofs.Cited.{◌≡◌, ◌↔◌, ℕ, IsTrue, List, Option, Some, None, inl, inr, refl, subst, rules, Result, Ok, Err, IfSome}
+use Rattle.qrp_check.proofs.Cited.{Qbf, IsTrueFormula, Derivation, Rules, Verified, Fault, ListsCore, side_of, ResultHolds, IsVerdict}
 use Rattle.qbf_text.specs.declared.token.Comments.TheVariants.{Qdimacs, Qrp}
 use Rattle.qbf_text.specs.Lined.{without_lines}
 use Rattle.qbf_text.specs.Tokens.{tokens}

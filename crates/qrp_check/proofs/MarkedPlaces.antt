@@ -1,7 +1,7 @@
 -- The marked positions, listed from the first on.
-use Rattle.qrp_check.proofs.Words.{◌≡◌, ℕ, ◌+◌, ◌<◌, Bool, true, false, List, [], ◌∷◌, ◌++◌, inl, inr, sym, ap, ◌∙◌, subst, length, get_or}
-use Rattle.qrp_check.proofs.Words.{Some, arith, rules, slice_get, slice_get_within, slice_get-get_or, get_or_from_slice_get, cases_eq}
-use Rattle.qrp_check.proofs.Words.{IsMarked, ListsMarked}
+use Rattle.qrp_check.proofs.Cited.{◌≡◌, ℕ, ◌+◌, ◌<◌, Bool, true, false, List, [], ◌∷◌, ◌++◌, inl, inr, sym, ap, ◌∙◌, subst, length, get_or}
+use Rattle.qrp_check.proofs.Cited.{Some, arith, rules, slice_get, slice_get_within, slice_get-get_or, get_or_from_slice_get, cases_eq}
+use Rattle.qrp_check.proofs.Cited.{IsMarked, ListsMarked}
 use Rattle.qbf_core.proofs.PushedItems.{pushed_cases, pushed_old, pushed_new}
 
 -- what was read says whether the position is marked

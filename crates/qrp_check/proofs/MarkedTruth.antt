@@ -1,7 +1,7 @@
 -- From the marks of a core to the verdict that lists it, of which a check without the list returns the truth.
-use Rattle.qrp_check.proofs.Words.{◌≡◌, ◌↔◌, ℕ, zero, suc, ◌+◌, ◌<◌, ◌≤◌, Bool, true, false, List, [], ◌∷◌, ◌++◌, inl, inr, refl, sym, ap, length, get_or}
-use Rattle.qrp_check.proofs.Words.{arith, IsTrue, Option, Some, None, Result, Ok, Err, IfSome, slice_get_within, ListsMarked, ListsCore, Inference}
-use Rattle.qrp_check.proofs.Words.{Derivation, Qbf, IsTrueFormula, Rules, Verified, Fault, IsVerdict}
+use Rattle.qrp_check.proofs.Cited.{◌≡◌, ◌↔◌, ℕ, zero, suc, ◌+◌, ◌<◌, ◌≤◌, Bool, true, false, List, [], ◌∷◌, ◌++◌, inl, inr, refl, sym, ap, length, get_or}
+use Rattle.qrp_check.proofs.Cited.{arith, IsTrue, Option, Some, None, Result, Ok, Err, IfSome, slice_get_within, ListsMarked, ListsCore, Inference}
+use Rattle.qrp_check.proofs.Cited.{Derivation, Qbf, IsTrueFormula, Rules, Verified, Fault, IsVerdict}
 use Rattle.std.proofs.lemmas.List.{length_push}
 use Rattle.std.specs.Global.{Vec}
 use Rattle.qbf_text.specs.Stopping.{IfKnown}

@@ -1,7 +1,7 @@
 -- Parents that are reduced before they are resolved: reductions of the parents, a resolution, and a reduction of the resolvent.
-use Rattle.qrp_check.proofs.Words.{◌≡◌, ℕ, List, [], ◌∷◌, ◌++◌, ◌⊎◌, inl, inr, refl, sym, subst, rules, cases_eq, Literal, ◌∈◌, ◌⊆◌}
-use Rattle.qrp_check.proofs.Words.{IsClean, Side, IsReduct, Clashes, resolvent, Block, IsBound, AreBound, bound_each, Qbf, IsClosed}
-use Rattle.qrp_check.proofs.Words.{in_append, append_left, append_right}
+use Rattle.qrp_check.proofs.Cited.{◌≡◌, ℕ, List, [], ◌∷◌, ◌++◌, ◌⊎◌, inl, inr, refl, sym, subst, rules, cases_eq, Literal, ◌∈◌, ◌⊆◌}
+use Rattle.qrp_check.proofs.Cited.{IsClean, Side, IsReduct, Clashes, resolvent, Block, IsBound, AreBound, bound_each, Qbf, IsClosed}
+use Rattle.qrp_check.proofs.Cited.{in_append, append_left, append_right}
 use Rattle.qbf_core.specs.Rules.{IsReducible, IsOnlyClash}
 use Rattle.qbf_core.proofs.Bound.{bound_within}
 use Rattle.qrp_rules.specs.Conditions.{IsReducibleInParents}

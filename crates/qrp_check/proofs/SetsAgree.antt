@@ -1,7 +1,7 @@
 -- How far the sets of a trace agree: one pair more, and one list of pairs more.
-use Rattle.qrp_check.proofs.Words.{◌≡◌, ◌≤◌, ◌<◌, ◌+◌, ℕ, zero, suc, List, [], ◌∷◌, ◌++◌, ◌⊎◌, inl, inr, refl, sym, ap, subst, ◌∙◌, arith}
-use Rattle.qrp_check.proofs.Words.{rules, length, get_or, take, drop, Some, take_more, Quantifier, Block, IsBound, pairs, pairs_of_block}
-use Rattle.qrp_check.proofs.Words.{in_push, push_in, CheckFault, C1, C2, C3, AllHold, IsFirstFailure, Passes, FailsIn}
+use Rattle.qrp_check.proofs.Cited.{◌≡◌, ◌≤◌, ◌<◌, ◌+◌, ℕ, zero, suc, List, [], ◌∷◌, ◌++◌, ◌⊎◌, inl, inr, refl, sym, ap, subst, ◌∙◌, arith}
+use Rattle.qrp_check.proofs.Cited.{rules, length, get_or, take, drop, Some, take_more, Quantifier, Block, IsBound, pairs, pairs_of_block}
+use Rattle.qrp_check.proofs.Cited.{in_push, push_in, CheckFault, C1, C2, C3, AllHold, IsFirstFailure, Passes, FailsIn}
 use Rattle.std.proofs.Common.{slice_get}
 use Rattle.std.proofs.lemmas.List.{append_assoc, append-nil, map-append, map_more, take-append-drop}
 use Rattle.std.proofs.lemmas.List.Concat.{flat_map-append}

@@ -1,6 +1,6 @@
 -- Steps at their positions.
-use Rattle.qrp_check.proofs.Words.{◌≡◌, ℕ, suc, ◌<◌, ◌≤◌, true, false, List, [], ◌∷◌, Some, refl, sym, ◌∙◌, length, rules, slice_get}
-use Rattle.qrp_check.proofs.Words.{false≢true, cases_eq, Inference, IsAt, IsGoal, at_place}
+use Rattle.qrp_check.proofs.Cited.{◌≡◌, ℕ, suc, ◌<◌, ◌≤◌, true, false, List, [], ◌∷◌, Some, refl, sym, ◌∙◌, length, rules, slice_get}
+use Rattle.qrp_check.proofs.Cited.{false≢true, cases_eq, Inference, IsAt, IsGoal, at_place}
 use Rattle.std.proofs.Common.{eqb}
 use Rattle.std.proofs.Math.Dec.{eqb-suc-zero}
 

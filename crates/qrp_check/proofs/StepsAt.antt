@@ -1,8 +1,8 @@
 -- The steps at some places: what holds of them, and that rising places give steps of different numbers.
-use Rattle.qrp_check.proofs.Words.{◌≡◌, ℕ, suc, ◌+◌, ◌<◌, false, List, [], ◌∷◌, ◌++◌, inr, refl, ap, ◌∙◌, length, rules, take, get_or, Some}
-use Rattle.qrp_check.proofs.Words.{arith, nat_eq, slice_get, AllByRecursion, take_more, slice_get_cases}
-use Rattle.qrp_check.proofs.Words.{slice_get-get_or, get_or_from_slice_get, ◌∈◌, Inference, IsAt, numbers, HasOwnNumbers, ListsCore}
-use Rattle.qrp_check.proofs.Words.{steps_at, in_take}
+use Rattle.qrp_check.proofs.Cited.{◌≡◌, ℕ, suc, ◌+◌, ◌<◌, false, List, [], ◌∷◌, ◌++◌, inr, refl, ap, ◌∙◌, length, rules, take, get_or, Some}
+use Rattle.qrp_check.proofs.Cited.{arith, nat_eq, slice_get, AllByRecursion, take_more, slice_get_cases}
+use Rattle.qrp_check.proofs.Cited.{slice_get-get_or, get_or_from_slice_get, ◌∈◌, Inference, IsAt, numbers, HasOwnNumbers, ListsCore}
+use Rattle.qrp_check.proofs.Cited.{steps_at, in_take}
 use Rattle.std.proofs.Common.{◌||◌}
 use Rattle.std.specs.List.{cons_option}
 use Rattle.std.specs.List.Sorted.{IsStrictlyIncreasing}

@@ -1,7 +1,7 @@
 -- A trimmed trace is well formed, and so its text reads as it.
-use Rattle.qrp_check.proofs.Words.{◌≡◌, ℕ, zero, suc, ◌<◌, ◌≤◌, List, [], ◌∷◌, inl, inr, refl, length, Some, arith, nat_eq, rules}
-use Rattle.qrp_check.proofs.Words.{slice_get, slice_get_cases, slice_get_within, ◌∈◌, Inference, numbers, Derivation, steps_at}
-use Rattle.qrp_check.proofs.Words.{HasOwnNumbers, own_numbers, ListsCore}
+use Rattle.qrp_check.proofs.Cited.{◌≡◌, ℕ, zero, suc, ◌<◌, ◌≤◌, List, [], ◌∷◌, inl, inr, refl, length, Some, arith, nat_eq, rules}
+use Rattle.qrp_check.proofs.Cited.{slice_get, slice_get_cases, slice_get_within, ◌∈◌, Inference, numbers, Derivation, steps_at}
+use Rattle.qrp_check.proofs.Cited.{HasOwnNumbers, own_numbers, ListsCore}
 use Rattle.std.proofs.Common.{◌^◌}
 use Rattle.std.specs.List.{IsDistinct}
 use Rattle.qrp.specs.Derivations.{IsWellFormed}

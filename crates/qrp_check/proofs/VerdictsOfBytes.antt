@@ -1,6 +1,6 @@
 -- From the check of what was read to the verdict on its bytes.
-use Rattle.qrp_check.proofs.Words.{◌≡◌, ◌≢◌, ℕ, List, Option, Some, None, arith, inl, inr, refl, Result, Ok, Err, IfSome, Qbf, Derivation}
-use Rattle.qrp_check.proofs.Words.{Rules, Fault, CheckFault, C1, C2, C3, C4, C5, C6, Verified, IsFirstFault, IsVerdict}
+use Rattle.qrp_check.proofs.Cited.{◌≡◌, ◌≢◌, ℕ, List, Option, Some, None, arith, inl, inr, refl, Result, Ok, Err, IfSome, Qbf, Derivation}
+use Rattle.qrp_check.proofs.Cited.{Rules, Fault, CheckFault, C1, C2, C3, C4, C5, C6, Verified, IsFirstFault, IsVerdict}
 use Rattle.qrp_check.specs.Checked.{SourceCall, IsCheckedOf, verdict_of}
 use Rattle.qrp_check.specs.Verdict.{IsVerdictOf}
 use Rattle.qrp.specs.Returns as traces

@@ -1,6 +1,6 @@
 -- What follows by some rules follows by wider ones.
-use Rattle.qrp_check.proofs.Words.{ℕ, List, [], ◌∷◌, IsTrue, inl, inr, take, rules, Literal, Block, Qbf, Side, Inference, Rules}
-use Rattle.qrp_check.proofs.Words.{StepFollows, antecedent_conditions, AllHold, side_of}
+use Rattle.qrp_check.proofs.Cited.{ℕ, List, [], ◌∷◌, IsTrue, inl, inr, take, rules, Literal, Block, Qbf, Side, Inference, Rules}
+use Rattle.qrp_check.proofs.Cited.{StepFollows, antecedent_conditions, AllHold, side_of}
 use Rattle.qrp_rules.specs.Conditions.{AllowsPivot}
 use Rattle.qrp_check.specs.Laws.{MorePivotsKeep, ReducedParentsKeep}
 use Rattle.qrp_check.specs.Unreduced.{FollowsUnreduced, unreduced_antecedents}

@@ -1,6 +1,6 @@
 -- The conditions of a rule hold, if a set follows by it as the literature has it.
-use Rattle.qrp_check.proofs.Words.{ℕ, List, [], sym, ◌∙◌, subst, inl, inr, Literal, ◌∈◌, ◌⊆◌, IsInitial, Side, Clauses, Cubes}
-use Rattle.qrp_check.proofs.Words.{resolvent, Qbf, Rules, Inference, AllHold}
+use Rattle.qrp_check.proofs.Cited.{ℕ, List, [], sym, ◌∙◌, subst, inl, inr, Literal, ◌∈◌, ◌⊆◌, IsInitial, Side, Clauses, Cubes}
+use Rattle.qrp_check.proofs.Cited.{resolvent, Qbf, Rules, Inference, AllHold}
 use Rattle.qbf_core.specs.Blocks.{Binds}
 use Rattle.qbf_core.specs.Rules.{IsOnlyClash, deciding_quantifier}
 use Rattle.qrp_rules.specs.Unreduced.{unreduced_conditions}

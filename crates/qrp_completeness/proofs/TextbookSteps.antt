@@ -1,8 +1,8 @@
 -- Steps as the literature has them are steps here.
-use Rattle.qrp_check.proofs.Words.{◌≡◌, ◌≤◌, ℕ, List, [], ◌∷◌, ◌++◌, inl, inr, sym, ap, ◌∙◌, subst, take, arith, cases_eq, refl}
-use Rattle.qrp_check.proofs.Words.{Literal, ◌∈◌, ◌⊆◌, IsClean, Side, Clauses, Cubes, IsReduct, IsInitial, Clashes, resolvent, pairs, SetsAgree}
-use Rattle.qrp_check.proofs.Words.{Qbf, IsClosed, in_append, append_left, append_right, Rules, Inference, IsAt, IsInCore, next, Outcome, side_of}
-use Rattle.qrp_check.proofs.Words.{lits_of, AllHold, at_place}
+use Rattle.qrp_check.proofs.Cited.{◌≡◌, ◌≤◌, ℕ, List, [], ◌∷◌, ◌++◌, inl, inr, sym, ap, ◌∙◌, subst, take, arith, cases_eq, refl}
+use Rattle.qrp_check.proofs.Cited.{Literal, ◌∈◌, ◌⊆◌, IsClean, Side, Clauses, Cubes, IsReduct, IsInitial, Clashes, resolvent, pairs, SetsAgree}
+use Rattle.qrp_check.proofs.Cited.{Qbf, IsClosed, in_append, append_left, append_right, Rules, Inference, IsAt, IsInCore, next, Outcome, side_of}
+use Rattle.qrp_check.proofs.Cited.{lits_of, AllHold, at_place}
 use Rattle.qbf_core.specs.declared.quantifier.Quantifier.{Quantifier}
 use Rattle.qbf_core.specs.Blocks.{IsBefore, variables}
 use Rattle.qbf_core.specs.Literal.{positive, negative, negated}

@@ -1,8 +1,8 @@
 -- From a derivation of the empty set to a trace, its text, and its verdict.
-use Rattle.qrp_check.proofs.Words.{◌≡◌, ℕ, ◌+◌, ◌<◌, ◌≤◌, List, [], ◌∷◌, ◌++◌, inl, inr, refl, sym, subst, length, arith, Ok, Result}
-use Rattle.qrp_check.proofs.Words.{AllByRecursion, Literal, ◌∈◌, AreBound, bound_each, pairs, Qbf, IsClosed}
-use Rattle.qrp_check.proofs.Words.{Rules, Inference, IsGoal, Derivation, Outcome, side_of, Proves, at_place}
-use Rattle.qrp_check.proofs.Words.{slice_get_within}
+use Rattle.qrp_check.proofs.Cited.{◌≡◌, ℕ, ◌+◌, ◌<◌, ◌≤◌, List, [], ◌∷◌, ◌++◌, inl, inr, refl, sym, subst, length, arith, Ok, Result}
+use Rattle.qrp_check.proofs.Cited.{AllByRecursion, Literal, ◌∈◌, AreBound, bound_each, pairs, Qbf, IsClosed}
+use Rattle.qrp_check.proofs.Cited.{Rules, Inference, IsGoal, Derivation, Outcome, side_of, Proves, at_place}
+use Rattle.qrp_check.proofs.Cited.{slice_get_within}
 use Rattle.std.proofs.Common.{◌^◌, length-append}
 use Rattle.qbf_core.specs.Blocks.{IsVariable, variables}
 use Rattle.qbf_core.specs.Qbf.{IsWellFormed as IsWellFormedFormula}

@@ -1,7 +1,7 @@
 -- What the rules derive is written as steps, one after the other, numbered from 1.
-use Rattle.qrp_check.proofs.Words.{◌≡◌, ℕ, suc, ◌+◌, ◌<◌, ◌≤◌, List, [], ◌∷◌, ◌++◌, inl, inr, refl, sym, ap, ◌∙◌, subst, length, false}
-use Rattle.qrp_check.proofs.Words.{arith, nat_eq, Literal, ◌∈◌, IsClean, Side, resolvent, AreBound, Qbf, Rules, AllHold, Inference, IsAt}
-use Rattle.qrp_check.proofs.Words.{numbers, IsNumberOf, lits_of, in_push, push_in, append_left}
+use Rattle.qrp_check.proofs.Cited.{◌≡◌, ℕ, suc, ◌+◌, ◌<◌, ◌≤◌, List, [], ◌∷◌, ◌++◌, inl, inr, refl, sym, ap, ◌∙◌, subst, length, false}
+use Rattle.qrp_check.proofs.Cited.{arith, nat_eq, Literal, ◌∈◌, IsClean, Side, resolvent, AreBound, Qbf, Rules, AllHold, Inference, IsAt}
+use Rattle.qrp_check.proofs.Cited.{numbers, IsNumberOf, lits_of, in_push, push_in, append_left}
 use Rattle.std.proofs.Common.{length-append, eq-eqb, ne_eqb, ◌||◌}
 use Rattle.std.proofs.lemmas.Bool.Decides.{eqb_tells}
 use Rattle.std.proofs.lemmas.List.{map-append}

@@ -1,7 +1,7 @@
 -- The variables in which two sets clash, found by a walk over one of them.
-use Rattle.qrp_rules.proofs.Words.{◌≡◌, ◌<◌, ◌≤◌, ◌+◌, ℕ, suc, zero, List, [], ◌∷◌, ◌⊎◌, length, get_or, take, refl, inl, inr, arith, Some}
-use Rattle.qrp_rules.proofs.Words.{None, Option, rules, Literal, negated, positive, negative, ◌∈◌, Clashes, IsOnlyClash, IsOrdered, in_at}
-use Rattle.qrp_rules.proofs.Words.{in_take_more, in_take_all, take_more_in, take_within, clash_here}
+use Rattle.qrp_rules.proofs.Cited.{◌≡◌, ◌<◌, ◌≤◌, ◌+◌, ℕ, suc, zero, List, [], ◌∷◌, ◌⊎◌, length, get_or, take, refl, inl, inr, arith, Some}
+use Rattle.qrp_rules.proofs.Cited.{None, Option, rules, Literal, negated, positive, negative, ◌∈◌, Clashes, IsOnlyClash, IsOrdered, in_at}
+use Rattle.qrp_rules.proofs.Cited.{in_take_more, in_take_all, take_more_in, take_within, clash_here}
 
 -- the one variable of the clash so far, if there is one
 abbrev pub IsClashSoFar : List Literal → List Literal → Option ℕ → Type 0

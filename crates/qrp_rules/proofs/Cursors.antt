@@ -1,7 +1,7 @@
 -- Walks over ordered lists side by side.
-use Rattle.qrp_rules.proofs.Words.{◌≡◌, ◌<◌, ◌≤◌, ◌+◌, ℕ, suc, zero, List, [], ◌∷◌, length, get_or, drop, Bool, ◌↔◌, IsTrue, rules}
-use Rattle.qrp_rules.proofs.Words.{slice_get, Some, refl, sym, ap, subst, ◌∙◌, inl, inr, arith, Literal, ◌∈◌, ◌⊆◌, IsOrdered, lit_test}
-use Rattle.qrp_rules.proofs.Words.{drop_more}
+use Rattle.qrp_rules.proofs.Cited.{◌≡◌, ◌<◌, ◌≤◌, ◌+◌, ℕ, suc, zero, List, [], ◌∷◌, length, get_or, drop, Bool, ◌↔◌, IsTrue, rules}
+use Rattle.qrp_rules.proofs.Cited.{slice_get, Some, refl, sym, ap, subst, ◌∙◌, inl, inr, arith, Literal, ◌∈◌, ◌⊆◌, IsOrdered, lit_test}
+use Rattle.qrp_rules.proofs.Cited.{drop_more}
 use Rattle.std.proofs.Common.{eqb, ◌&&◌}
 use mathlib.Core.Bool.{beq}
 use Rattle.qbf_core.proofs.Members.{lit_test_same}

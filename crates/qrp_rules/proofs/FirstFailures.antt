@@ -1,5 +1,5 @@
 -- The first condition that fails: one at most, and none where all hold.
-use Rattle.qrp_rules.proofs.Words.{◌≡◌, List, [], ◌∷◌, Option, Some, None, inl, inr, sym, ◌∙◌, Condition, AllHold, IsJudgement, IsFirstFailure}
+use Rattle.qrp_rules.proofs.Cited.{◌≡◌, List, [], ◌∷◌, Option, Some, None, inl, inr, sym, ◌∙◌, Condition, AllHold, IsJudgement, IsFirstFailure}
 
 pub no_fault : {Fault : Type 0} (rows : List (Condition Fault)) (fault : Fault) → AllHold rows → IsFirstFailure rows fault → ⊥
 no_fault [] fault all fails = fails

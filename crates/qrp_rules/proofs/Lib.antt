@@ -11,4 +11,4 @@ pub mod Merging
 pub mod WrittenSteps
 pub mod Stamps
 pub mod WatchedClauses
-pub mod Words
+pub mod Cited

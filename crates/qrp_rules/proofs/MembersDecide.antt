@@ -1,9 +1,9 @@
 -- Rules look at members alone: lists with the same members meet the same conditions.
-use Rattle.qrp_rules.proofs.Words.{◌≡◌, ℕ, List, [], ◌∷◌, ◌++◌, ◌⊎◌, Option, Some, None, inl, inr, refl, ◌∙◌, rules, Literal, positive}
-use Rattle.qrp_rules.proofs.Words.{negative, ◌∈◌, ◌⊆◌, Block, Qbf, Side, Clauses, Cubes, IsReducible, IsReduct, Clashes, resolvent}
-use Rattle.qrp_rules.proofs.Words.{IsInitial, HasMembersOf, in_without, from_without, RuleFault, Rules, Condition, AllHold, IsFirstFailure}
-use Rattle.qrp_rules.proofs.Words.{IsJudgement, IsReducibleInParents, reduct_conditions, resolvent_conditions, initial_condition, in_append}
-use Rattle.qrp_rules.proofs.Words.{append_left, append_right}
+use Rattle.qrp_rules.proofs.Cited.{◌≡◌, ℕ, List, [], ◌∷◌, ◌++◌, ◌⊎◌, Option, Some, None, inl, inr, refl, ◌∙◌, rules, Literal, positive}
+use Rattle.qrp_rules.proofs.Cited.{negative, ◌∈◌, ◌⊆◌, Block, Qbf, Side, Clauses, Cubes, IsReducible, IsReduct, Clashes, resolvent}
+use Rattle.qrp_rules.proofs.Cited.{IsInitial, HasMembersOf, in_without, from_without, RuleFault, Rules, Condition, AllHold, IsFirstFailure}
+use Rattle.qrp_rules.proofs.Cited.{IsJudgement, IsReducibleInParents, reduct_conditions, resolvent_conditions, initial_condition, in_append}
+use Rattle.qrp_rules.proofs.Cited.{append_left, append_right}
 
 -- two lists of conditions have equal names, and each condition of the one follows from that of the other
 abbrev pub AreImplied : List (Condition RuleFault) → List (Condition RuleFault) → Type 0

@@ -1,6 +1,6 @@
 -- Ordered lists: their beginnings, and their lengths.
-use Rattle.qrp_rules.proofs.Words.{◌≡◌, ◌<◌, ◌≤◌, ◌+◌, ℕ, List, [], ◌∷◌, ◌++◌, length, get_or, take, refl, sym, subst, ◌∙◌, inl, inr, rules}
-use Rattle.qrp_rules.proofs.Words.{arith, Literal, ◌∈◌, ◌⊆◌, IsOrdered, ordered_push}
+use Rattle.qrp_rules.proofs.Cited.{◌≡◌, ◌<◌, ◌≤◌, ◌+◌, ℕ, List, [], ◌∷◌, ◌++◌, length, get_or, take, refl, sym, subst, ◌∙◌, inl, inr, rules}
+use Rattle.qrp_rules.proofs.Cited.{arith, Literal, ◌∈◌, ◌⊆◌, IsOrdered, ordered_push}
 use Rattle.std.proofs.lemmas.List.{take_more}
 
 -- one more literal above those so far

@@ -1,9 +1,9 @@
 -- Reducible literals by one innermost block.
 use Rattle.std.proofs.Common.{max, min}
-use Rattle.qrp_rules.proofs.Words.{arith, ◌≡◌, ◌∙◌, ◌<◌, ℕ, zero, suc, List, ◌++◌, ◌⊎◌, ◌↔◌, ◌≤◌, Option, Some, None, refl, sym, subst, inl, inr, rules, cases_eq}
-use Rattle.qrp_rules.proofs.Words.{Quantifier, Literal, ◌∈◌, Block, Binds, Side, Clauses, Cubes, reduced_quantifier, deciding_quantifier}
-use Rattle.qrp_rules.proofs.Words.{Clashes, IsReducible, resolvent, in_append, append_left, append_right, in_without, from_without}
-use Rattle.qrp_rules.proofs.Words.{IsReducibleInParents, Accounts, IsHeldBefore, IsInnermost, StandsAfter, TakesOut, ◌⊆◌, AllHold, reduct_conditions}
+use Rattle.qrp_rules.proofs.Cited.{arith, ◌≡◌, ◌∙◌, ◌<◌, ℕ, zero, suc, List, ◌++◌, ◌⊎◌, ◌↔◌, ◌≤◌, Option, Some, None, refl, sym, subst, inl, inr, rules, cases_eq}
+use Rattle.qrp_rules.proofs.Cited.{Quantifier, Literal, ◌∈◌, Block, Binds, Side, Clauses, Cubes, reduced_quantifier, deciding_quantifier}
+use Rattle.qrp_rules.proofs.Cited.{Clashes, IsReducible, resolvent, in_append, append_left, append_right, in_without, from_without}
+use Rattle.qrp_rules.proofs.Cited.{IsReducibleInParents, Accounts, IsHeldBefore, IsInnermost, StandsAfter, TakesOut, ◌⊆◌, AllHold, reduct_conditions}
 use Rattle.qbf_core.specs.Blocks.{block_in, pairs}
 use Rattle.qbf_core.proofs.Bound.{binds_in, in_bound, block_found}
 use Rattle.qbf_core.proofs.Members.{in_or_not}

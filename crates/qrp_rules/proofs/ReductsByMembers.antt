@@ -1,7 +1,7 @@
 -- Initial steps: reducts by their members, and clauses by their places.
-use Rattle.qrp_rules.proofs.Words.{◌≡◌, ◌+◌, ◌↔◌, IsTrue, Bool, true, false, ℕ, List, refl, sym, rules, slice_get, Option, Some, None, take}
-use Rattle.qrp_rules.proofs.Words.{false≢true, ◌∈◌, Literal, positive, Block, Side, IsClean, IsTautology, IsReduct, RuleFault, IsJudgement}
-use Rattle.qrp_rules.proofs.Words.{Clauses, IsAcceptedIf, Qbf, reduct_conditions, slice_get_within, get_or_from_slice_get, each_more}
+use Rattle.qrp_rules.proofs.Cited.{◌≡◌, ◌+◌, ◌↔◌, IsTrue, Bool, true, false, ℕ, List, refl, sym, rules, slice_get, Option, Some, None, take}
+use Rattle.qrp_rules.proofs.Cited.{false≢true, ◌∈◌, Literal, positive, Block, Side, IsClean, IsTautology, IsReduct, RuleFault, IsJudgement}
+use Rattle.qrp_rules.proofs.Cited.{Clauses, IsAcceptedIf, Qbf, reduct_conditions, slice_get_within, get_or_from_slice_get, each_more}
 use Rattle.qrp_rules.specs.Accepted.{IsAcceptedBy, IsAcceptedStep}
 use Rattle.std.proofs.Common.{Err, IfOk, Ok, Result, not}
 use Rattle.std.specs.Option.{is_some}

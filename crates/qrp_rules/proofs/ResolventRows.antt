@@ -1,7 +1,7 @@
 -- The conditions of a step with two antecedents that clash in one variable.
-use Rattle.qrp_rules.proofs.Words.{◌≡◌, ℕ, List, [], ◌∷◌, Option, refl, sym, subst, ◌∙◌, Literal, ◌⊆◌, Block, Side, Clashes, IsOnlyClash}
-use Rattle.qrp_rules.proofs.Words.{resolvent, Rules, RuleFault, S10, S11, S12, Condition, AllowsPivot, IsJudgement, resolvent_conditions}
-use Rattle.qrp_rules.proofs.Words.{Accounts}
+use Rattle.qrp_rules.proofs.Cited.{◌≡◌, ℕ, List, [], ◌∷◌, Option, refl, sym, subst, ◌∙◌, Literal, ◌⊆◌, Block, Side, Clashes, IsOnlyClash}
+use Rattle.qrp_rules.proofs.Cited.{resolvent, Rules, RuleFault, S10, S11, S12, Condition, AllowsPivot, IsJudgement, resolvent_conditions}
+use Rattle.qrp_rules.proofs.Cited.{Accounts}
 use Rattle.qrp_rules.specs.declared.fault.RuleFault.TheVariants.{S8, S9}
 use Rattle.qrp_rules.proofs.FirstFailures.{answer_after}
 use Rattle.qrp_rules.proofs.MembersDecide.{same_answer}

@@ -1,6 +1,6 @@
 -- Numbers with the stamp of a time.
-use Rattle.qrp_rules.proofs.Words.{◌≡◌, ◌<◌, ◌≤◌, ◌+◌, ◌⊎◌, ℕ, zero, suc, Bool, true, false, List, [], ◌∷◌, length, get_or, refl, sym}
-use Rattle.qrp_rules.proofs.Words.{arith, rules, cases_eq, eqb-true, set, length-set, Literal, AreUpTo, code}
+use Rattle.qrp_rules.proofs.Cited.{◌≡◌, ◌<◌, ◌≤◌, ◌+◌, ◌⊎◌, ℕ, zero, suc, Bool, true, false, List, [], ◌∷◌, length, get_or, refl, sym}
+use Rattle.qrp_rules.proofs.Cited.{arith, rules, cases_eq, eqb-true, set, length-set, Literal, AreUpTo, code}
 use Rattle.std.proofs.Common.{◌*◌, if◌then◌else◌}
 use Rattle.std.proofs.lemmas.Bool.{eq-eqb}
 use Rattle.std.proofs.Math.ListN.{replicate}

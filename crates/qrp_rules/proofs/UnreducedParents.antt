@@ -1,6 +1,6 @@
 -- What follows from parents as they stand follows where they may be reduced.
-use Rattle.qrp_rules.proofs.Words.{◌≡◌, List, Option, Some, None, inl, inr, refl, rules, Literal, Block, Side, Rules, RuleFault, Condition}
-use Rattle.qrp_rules.proofs.Words.{AllHold, IsJudgement, resolvent_conditions}
+use Rattle.qrp_rules.proofs.Cited.{◌≡◌, List, Option, Some, None, inl, inr, refl, rules, Literal, Block, Side, Rules, RuleFault, Condition}
+use Rattle.qrp_rules.proofs.Cited.{AllHold, IsJudgement, resolvent_conditions}
 use Rattle.qrp_rules.specs.Unreduced.{unreduced_conditions}
 use Rattle.qrp_rules.proofs.FirstFailures.{no_fault}
 

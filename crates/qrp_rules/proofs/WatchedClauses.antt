@@ -2,11 +2,11 @@
 use Rattle.qbf_core.specs.declared.quantifier.Quantifier.TheVariants.{All}
 use Rattle.qrp_rules.specs.Accepted.{IsAcceptedBy}
 use Rattle.qrp_rules.specs.Initial.{IsAcceptedIf}
-use Rattle.qrp_rules.proofs.Words.{◌⊎◌, ◌≡◌, ◌<◌, ◌+◌, ◌-◌, ℕ, zero, suc, List, [], ◌∷◌, ◌++◌, length, get_or, slice_get, Some, Contains}
-use Rattle.qrp_rules.proofs.Words.{Bool, true, false, refl, sym, ap, subst, ◌∙◌, inl, inr, arith, take, rules, set, cases_eq, length-set}
-use Rattle.qrp_rules.proofs.Words.{slice_get_within, get_or_from_slice_get, Literal, ◌∈◌, Qbf, Side, Clauses, Cubes, IsInitial, IsTautology}
-use Rattle.qrp_rules.proofs.Words.{reduced_quantifier, Exists, initial_condition, Has, IsMet, IsWatchedBy, Members, Watch, in_got}
-use Rattle.qrp_rules.proofs.Words.{Contains-push}
+use Rattle.qrp_rules.proofs.Cited.{◌⊎◌, ◌≡◌, ◌<◌, ◌+◌, ◌-◌, ℕ, zero, suc, List, [], ◌∷◌, ◌++◌, length, get_or, slice_get, Some, Contains}
+use Rattle.qrp_rules.proofs.Cited.{Bool, true, false, refl, sym, ap, subst, ◌∙◌, inl, inr, arith, take, rules, set, cases_eq, length-set}
+use Rattle.qrp_rules.proofs.Cited.{slice_get_within, get_or_from_slice_get, Literal, ◌∈◌, Qbf, Side, Clauses, Cubes, IsInitial, IsTautology}
+use Rattle.qrp_rules.proofs.Cited.{reduced_quantifier, Exists, initial_condition, Has, IsMet, IsWatchedBy, Members, Watch, in_got}
+use Rattle.qrp_rules.proofs.Cited.{Contains-push}
 use Rattle.std.proofs.Common.{◌≢◌, Result, Ok, Err}
 use Rattle.std.specs.Prelude.{⊤, IfOk, IsTrue, OnOk, OnErr}
 use Rattle.std.specs.List.{swap_remove}

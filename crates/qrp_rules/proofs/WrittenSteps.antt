@@ -1,11 +1,11 @@
 -- Steps as they are written, in any order, follow from what the walk over them shows.
 use Rattle.qrp_rules.specs.Accepted.{IsAcceptedStep, IsFit}
-use Rattle.qrp_rules.proofs.Words.{IsTrue, ◌≡◌, ◌<◌, ◌≤◌, ◌+◌, ℕ, List, [], ◌∷◌, ◌++◌, ◌⊎◌, ◌↔◌, Bool, length, get_or, take, drop}
-use Rattle.qrp_rules.proofs.Words.{slice_get, Some, None, refl, rules, sym, ap, subst, ◌∙◌, inl, inr, arith, cases_eq, take-append-drop}
-use Rattle.qrp_rules.proofs.Words.{Literal, negated, positive, negative, ◌∈◌, ◌⊆◌, Block, Side, Clashes, IsClean, IsOnlyClash, IsReducible}
-use Rattle.qrp_rules.proofs.Words.{resolvent, in_without, from_without, in_take_all, in_take_more, in_append, append_left, append_right}
-use Rattle.qrp_rules.proofs.Words.{take_more_in, take_within, got_in, Rules, AllHold, AllowsPivot, resolvent_conditions, IsApart}
-use Rattle.qrp_rules.proofs.Words.{IsMergeSoFar, IsNext, Accounts, IsPutBy, Has, Members, clash_here, clean_within, slice_get_read}
+use Rattle.qrp_rules.proofs.Cited.{IsTrue, ◌≡◌, ◌<◌, ◌≤◌, ◌+◌, ℕ, List, [], ◌∷◌, ◌++◌, ◌⊎◌, ◌↔◌, Bool, length, get_or, take, drop}
+use Rattle.qrp_rules.proofs.Cited.{slice_get, Some, None, refl, rules, sym, ap, subst, ◌∙◌, inl, inr, arith, cases_eq, take-append-drop}
+use Rattle.qrp_rules.proofs.Cited.{Literal, negated, positive, negative, ◌∈◌, ◌⊆◌, Block, Side, Clashes, IsClean, IsOnlyClash, IsReducible}
+use Rattle.qrp_rules.proofs.Cited.{resolvent, in_without, from_without, in_take_all, in_take_more, in_append, append_left, append_right}
+use Rattle.qrp_rules.proofs.Cited.{take_more_in, take_within, got_in, Rules, AllHold, AllowsPivot, resolvent_conditions, IsApart}
+use Rattle.qrp_rules.proofs.Cited.{IsMergeSoFar, IsNext, Accounts, IsPutBy, Has, Members, clash_here, clean_within, slice_get_read}
 use Rattle.std.proofs.lemmas.List.{take_all}
 use Rattle.qbf_core.specs.Blocks.{AreBound}
 use Rattle.qbf_core.proofs.Inferences.{resolvent_clean, resolvent_bound}

@@ -1,4 +1,4 @@
-use Rattle.qbf_core.proofs.Words.{arith, common_steps}
+use Rattle.qbf_core.proofs.Cited.{arith, common_steps}
 use Rattle.std.specs.Prelude.{pos}
 use Rattle.qbf_core.proofs.WrittenLiterals.{four_at}
 use Rattle.qbf_core.proofs.lists.four_written.Goals as goal

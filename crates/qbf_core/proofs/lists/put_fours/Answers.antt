@@ -1,4 +1,4 @@
-use Rattle.qbf_core.proofs.Words.{◌≡◌, ◌+◌, ◌-◌, ◌≤◌, arith, common_steps, length}
+use Rattle.qbf_core.proofs.Cited.{◌≡◌, ◌+◌, ◌-◌, ◌≤◌, arith, common_steps, length}
 use Rattle.qbf_core.specs.WrittenLiterals.{IsWritten}
 use Rattle.qbf_core.proofs.WrittenLiterals.{all_four, all_whole, four_more, whole_put, if_put}
 use Rattle.qbf_core.proofs.lists.put_fours.Goals as goal

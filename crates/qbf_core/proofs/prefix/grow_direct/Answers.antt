@@ -1,4 +1,4 @@
-use Rattle.qbf_core.proofs.Words.{arith, common_steps}
+use Rattle.qbf_core.proofs.Cited.{arith, common_steps}
 use Rattle.qbf_core.proofs.TableLaws.{index_grown}
 use Rattle.qbf_core.proofs.prefix.grow_direct.Goals as goal
 

@@ -1,4 +1,4 @@
-use Rattle.qbf_core.proofs.Words.{◌≡◌, ℕ, List, length, Place, IsIndexOf}
+use Rattle.qbf_core.proofs.Cited.{◌≡◌, ℕ, List, length, Place, IsIndexOf}
 use Rattle.qbf_core.proofs.prefix.grow_direct.Given as goal
 
 abbrev pub invariant-loop-next : goal.invariant-loop-next

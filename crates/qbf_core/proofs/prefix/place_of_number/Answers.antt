@@ -1,4 +1,4 @@
-use Rattle.qbf_core.proofs.Words.{arith, common_steps, false≢true, ◌≡◌, ◌<◌, ◌∙◌, Option, sym, subst, nat_eq, lookup, Place}
+use Rattle.qbf_core.proofs.Cited.{arith, common_steps, false≢true, ◌≡◌, ◌<◌, ◌∙◌, Option, sym, subst, nat_eq, lookup, Place}
 use Rattle.std.specs.Prelude.{IfSome}
 use Rattle.qbf_core.proofs.TableLaws.{lookup_outside, lookup_fits}
 use Rattle.qbf_core.proofs.prefix.place_of_number.Goals as goal

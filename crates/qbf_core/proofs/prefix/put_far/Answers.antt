@@ -1,4 +1,4 @@
-use Rattle.qbf_core.proofs.Words.{◌≡◌, ◌∙◌, None, sym, ap, subst, arith, is_some, nat_eq, lookup, IsVariable}
+use Rattle.qbf_core.proofs.Cited.{◌≡◌, ◌∙◌, None, sym, ap, subst, arith, is_some, nat_eq, lookup, IsVariable}
 use Rattle.qbf_core.proofs.PrefixLaws.{added, AllByRecursion-push}
 use Rattle.qbf_core.proofs.TableLaws.{beyond_added}
 use Rattle.qbf_core.specs.Places.{FitsTable}

@@ -1,4 +1,4 @@
-use Rattle.qbf_text.proofs.Words.{◌<◌, ◌^◌, sym, ◌∙◌}
+use Rattle.qbf_text.proofs.Cited.{◌<◌, ◌^◌, sym, ◌∙◌}
 use Rattle.qbf_text.proofs.NumberAtHand.{found}
 use Rattle.qbf_text.proofs.buffered.signed_number.Goals as goal
 

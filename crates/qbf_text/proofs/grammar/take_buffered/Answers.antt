@@ -1,4 +1,4 @@
-use Rattle.qbf_text.proofs.Words.{◌≡◌, ◌<◌, ◌^◌, refl, sym, ap, subst, arith, ahead, tokens_next}
+use Rattle.qbf_text.proofs.Cited.{◌≡◌, ◌<◌, ◌^◌, refl, sym, ap, subst, arith, ahead, tokens_next}
 use Rattle.qbf_text.specs.Passing.{PassesAll}
 use Rattle.qbf_text.specs.Reading.{IsOpen}
 use Rattle.qbf_text.proofs.PassedNumbers.{handed}

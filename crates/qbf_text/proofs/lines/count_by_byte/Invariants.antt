@@ -1,4 +1,4 @@
-use Rattle.qbf_text.proofs.Words.{◌≡◌, ◌-◌, ◌≤◌, length, take, count_by, is_line_end}
+use Rattle.qbf_text.proofs.Cited.{◌≡◌, ◌-◌, ◌≤◌, length, take, count_by, is_line_end}
 use Rattle.qbf_text.proofs.lines.count_by_byte.Given as goal
 
 abbrev pub invariant-loop-i : goal.invariant-loop-i

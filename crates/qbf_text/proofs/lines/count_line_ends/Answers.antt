@@ -1,4 +1,4 @@
-use Rattle.qbf_text.proofs.Words.{ap, sym, ◌+◌, ◌∙◌, ◌≡◌, arith, count_by, is_line_end, take}
+use Rattle.qbf_text.proofs.Cited.{ap, sym, ◌+◌, ◌∙◌, ◌≡◌, arith, count_by, is_line_end, take}
 use Rattle.qbf_text.proofs.LineEnds.{more, few_among, all_counted}
 use Rattle.qbf_text.proofs.PassedNumbers.{all_after}
 use Rattle.qbf_text.proofs.lines.count_line_ends.Goals as goal

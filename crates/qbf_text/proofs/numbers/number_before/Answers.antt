@@ -1,5 +1,5 @@
-use Rattle.qbf_text.proofs.Words.{bool_byte, digits_value, ◌≡◌, ℕ, List, take, drop, ◌∙◌, ◌+◌, ◌-◌, ◌<◌, ◌≤◌, ◌^◌, ◌&&◌, Bool, true, false}
-use Rattle.qbf_text.proofs.Words.{nat_eq, sym, arith, ap, get_or}
+use Rattle.qbf_text.proofs.Cited.{bool_byte, digits_value, ◌≡◌, ℕ, List, take, drop, ◌∙◌, ◌+◌, ◌-◌, ◌<◌, ◌≤◌, ◌^◌, ◌&&◌, Bool, true, false}
+use Rattle.qbf_text.proofs.Cited.{nat_eq, sym, arith, ap, get_or}
 use Rattle.std.proofs.Common.{◌%◌, SFits, w32}
 use Rattle.std.proofs.lemmas.Int.{to_z-of_z}
 use Rattle.qbf_text.proofs.NumberAtHand.{found}

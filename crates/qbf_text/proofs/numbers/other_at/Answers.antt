@@ -1,4 +1,4 @@
-use Rattle.qbf_text.proofs.Words.{◌≡◌, ◌<◌, ◌∙◌, ap, nat_eq, get_or}
+use Rattle.qbf_text.proofs.Cited.{◌≡◌, ◌<◌, ◌∙◌, ap, nat_eq, get_or}
 use Rattle.qbf_text.proofs.SeparatorTable.{table, separates}
 use Rattle.qbf_text.proofs.numbers.other_at.Goals as goal
 

@@ -1,4 +1,4 @@
-use Rattle.qbf_text.proofs.Words.{◌≡◌, ◌+◌, ◌≤◌, length, ahead}
+use Rattle.qbf_text.proofs.Cited.{◌≡◌, ◌+◌, ◌≤◌, length, ahead}
 use Rattle.qbf_text.proofs.BytesAhead.{IsReading}
 use Rattle.qbf_text.proofs.scanner.read_as.Given as goal
 

@@ -1,4 +1,4 @@
-use Rattle.qbf_text.proofs.Words.{rules, refl, decimal}
+use Rattle.qbf_text.proofs.Cited.{rules, refl, decimal}
 use Rattle.qbf_text.proofs.SentParts.{put_then}
 use Rattle.qbf_text.proofs.spelling.put_minus.Goals as goal
 

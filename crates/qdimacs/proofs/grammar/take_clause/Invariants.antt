@@ -1,4 +1,4 @@
-use Rattle.qdimacs.proofs.Words.{◌-◌, ◌≤◌, length, state_at, IsSound, row}
+use Rattle.qdimacs.proofs.Cited.{◌-◌, ◌≤◌, length, state_at, IsSound, row}
 use Rattle.qbf_text.specs.Numbers.{LeadsOver}
 use Rattle.qdimacs.specs.declared.grammar.At.TheVariants.{Clause}
 use Rattle.qdimacs.proofs.grammar.take_clause.Given as goal

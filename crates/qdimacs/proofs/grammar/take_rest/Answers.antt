@@ -1,4 +1,4 @@
-use Rattle.qdimacs.proofs.Words.{◌≡◌, ◌+◌, subst, refl, arith, leads_more, leads_further, state_at, row, row_to}
+use Rattle.qdimacs.proofs.Cited.{◌≡◌, ◌+◌, subst, refl, arith, leads_more, leads_further, state_at, row, row_to}
 use Rattle.qbf_text.specs.Numbers.{LeadsOver}
 use Rattle.qdimacs.proofs.FormulaParts.{leads_on}
 use Rattle.qdimacs.proofs.grammar.take_rest.Goals as goal

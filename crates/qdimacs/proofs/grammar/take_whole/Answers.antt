@@ -1,5 +1,5 @@
-use Rattle.qdimacs.proofs.Words.{◌≡◌, ◌++◌, ◌∷◌, [], map, refl, arith, common_steps, length-append}
-use Rattle.qdimacs.proofs.Words.{AllByRecursion-push, AreBound, pairs, heading}
+use Rattle.qdimacs.proofs.Cited.{◌≡◌, ◌++◌, ◌∷◌, [], map, refl, arith, common_steps, length-append}
+use Rattle.qdimacs.proofs.Cited.{AllByRecursion-push, AreBound, pairs, heading}
 use Rattle.std.specs.Prelude.{slice_range, IsTrue}
 use Rattle.qbf_core.specs.WrittenLiterals.{literal_of}
 use Rattle.qdimacs.proofs.WholeClauses.{clause_bound, clause_leads, more_clauses}

@@ -1,4 +1,4 @@
-use Rattle.qrp.proofs.Words.{refl, arith, common_steps}
+use Rattle.qrp.proofs.Cited.{refl, arith, common_steps}
 use Rattle.std.specs.Prelude.{IsTrue, slice_range}
 use Rattle.qrp.proofs.BufferedNumbers.{list_ends, more_literals}
 use Rattle.qrp.proofs.buffered.take_all_literals.Goals as goal

@@ -1,4 +1,4 @@
-use Rattle.qrp.proofs.Words.{◌<◌, ◌^◌, AllByRecursion-push, IsNumber, arith, common_steps, length-append}
+use Rattle.qrp.proofs.Cited.{◌<◌, ◌^◌, AllByRecursion-push, IsNumber, arith, common_steps, length-append}
 use Rattle.qrp.proofs.BufferedNumbers.{antecedent_more}
 use Rattle.qrp.proofs.buffered.take_antecedents.Goals as goal
 

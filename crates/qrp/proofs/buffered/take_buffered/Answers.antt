@@ -1,4 +1,4 @@
-use Rattle.qrp.proofs.Words.{◌∙◌, leads_further}
+use Rattle.qrp.proofs.Cited.{◌∙◌, leads_further}
 use Rattle.qrp.specs.Reading.{row}
 use Rattle.qrp.proofs.BufferedNumbers.{leads_in_turn}
 use Rattle.qrp.proofs.buffered.take_buffered.Goals as goal

@@ -1,4 +1,4 @@
-use Rattle.qrp.proofs.Words.{◌++◌, map, state_at}
+use Rattle.qrp.proofs.Cited.{◌++◌, map, state_at}
 use Rattle.std.specs.Prelude.{slice_range}
 use Rattle.qbf_core.specs.WrittenLiterals.{literal_of}
 use Rattle.qrp.specs.Reading.{InLits}

@@ -1,4 +1,4 @@
-use Rattle.qrp.proofs.Words.{AllByRecursion-push, IsLiteral, arith}
+use Rattle.qrp.proofs.Cited.{AllByRecursion-push, IsLiteral, arith}
 use Rattle.qrp.proofs.BufferedNumbers.{literal_more}
 use Rattle.qrp.proofs.buffered.take_literals.Goals as goal
 

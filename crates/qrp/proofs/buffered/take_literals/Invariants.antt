@@ -1,4 +1,4 @@
-use Rattle.qrp.proofs.Words.{◌-◌, ◌≤◌, length, state_at, IsSound, Stays}
+use Rattle.qrp.proofs.Cited.{◌-◌, ◌≤◌, length, state_at, IsSound, Stays}
 use Rattle.qbf_text.specs.Numbers.{LeadsOver}
 use Rattle.qrp.specs.Reading.{row}
 use Rattle.qrp.specs.declared.states.At.TheVariants.{Lits}

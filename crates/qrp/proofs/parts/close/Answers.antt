@@ -1,5 +1,5 @@
-use Rattle.qrp.proofs.Words.{refl, ◌∷◌, ◌++◌, [], AreStepNumbers, kept_of, Inference}
-use Rattle.qrp.proofs.Flats.{numbered_more, flat_pushed}
+use Rattle.qrp.proofs.Cited.{refl, ◌∷◌, ◌++◌, [], AreStepNumbers, kept_of, Inference}
+use Rattle.qrp.proofs.FlatSteps.{numbered_more, flat_pushed}
 use Rattle.qrp.proofs.parts.close.Goals as goal
 
 pub returns-in_ok-close_step-in-Step-clause-closed : goal.returns-in_ok-close_step-in-Step-clause-closed

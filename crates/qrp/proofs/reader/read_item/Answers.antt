@@ -1,4 +1,4 @@
-use Rattle.qrp.proofs.Words.{◌≤◌, length, left, ahead, tokens_next}
+use Rattle.qrp.proofs.Cited.{◌≤◌, length, left, ahead, tokens_next}
 use Rattle.qrp.proofs.RowsReadTheItem.{item_given, fault_given}
 use Rattle.qrp.proofs.ItemStops.{item_stops}
 use Rattle.qrp.proofs.reader.read_item.Goals as goal

@@ -1,4 +1,4 @@
-use Rattle.qrp.proofs.Words.{Ok, Err, ap, sym, ◌∙◌}
+use Rattle.qrp.proofs.Cited.{Ok, Err, ap, sym, ◌∙◌}
 use Rattle.qrp.proofs.ReadingLaws.{given_results}
 use Rattle.qrp.proofs.KeptItems.{result_given, result_stops, fault_given}
 use Rattle.qrp.proofs.trace.read_trace.Goals as goal

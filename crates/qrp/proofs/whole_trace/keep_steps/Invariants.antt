@@ -1,4 +1,4 @@
-use Rattle.qrp.proofs.Words.{◌-◌, ◌≤◌, length, IsFlat, kept_of}
+use Rattle.qrp.proofs.Cited.{◌-◌, ◌≤◌, length, IsFlat, kept_of}
 use Rattle.qbf_text.specs.Numbers.{LeadsOver}
 use Rattle.qrp.specs.WholeTrace.{trace_at, trace_row}
 use Rattle.qrp.specs.declared.states.At.TheVariants.{Between}

@@ -1,4 +1,4 @@
-use Rattle.qrp.proofs.Words.{refl, arith, state_at}
+use Rattle.qrp.proofs.Cited.{refl, arith, state_at}
 use Rattle.qrp.specs.declared.states.At.TheVariants.{Ants, Between}
 use Rattle.qrp.proofs.KeptItems.{step_kept, step_leads}
 use Rattle.qrp.proofs.whole_trace.keep_whole.Goals as goal

@@ -1,4 +1,4 @@
-use Rattle.qrp.proofs.Words.{state_at}
+use Rattle.qrp.proofs.Cited.{state_at}
 use Rattle.qrp.proofs.KeptItems.{step_kept, step_leads}
 use Rattle.qrp.proofs.whole_trace.take_step.Goals as goal
 

@@ -1,4 +1,4 @@
-use Rattle.qrp.proofs.Words.{leads_further}
+use Rattle.qrp.proofs.Cited.{leads_further}
 use Rattle.qrp.specs.WholeTrace.{trace_row}
 use Rattle.qrp.proofs.KeptItems.{trace_in_turn}
 use Rattle.qrp.proofs.whole_trace.take_steps.Goals as goal

@@ -1,4 +1,4 @@
-use Rattle.qrp_check.proofs.Words.{common_steps, refl, sym, ◌∙◌, arith, false≢true}
+use Rattle.qrp_check.proofs.Cited.{common_steps, refl, sym, ◌∙◌, arith, false≢true}
 use Rattle.qrp_rules.proofs.Reducing.{binds_block}
 use Rattle.qrp_check.proofs.SetsAgree.{passes_one, fails_unbound, fails_other, fails_early}
 use Rattle.qrp_check.proofs.agree.next_block.Goals as goal

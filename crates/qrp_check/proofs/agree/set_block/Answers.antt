@@ -1,4 +1,4 @@
-use Rattle.qrp_check.proofs.Words.{◌+◌, ◌∷◌, [], ℕ, List, take, drop, subst, sym, ap, ◌∙◌, take_all, Quantifier, Block, Passes, FailsIn}
+use Rattle.qrp_check.proofs.Cited.{◌+◌, ◌∷◌, [], ℕ, List, take, drop, subst, sym, ap, ◌∙◌, take_all, Quantifier, Block, Passes, FailsIn}
 use Rattle.qrp_check.proofs.SetsAgree.{passes_more, fails_more, under, under_next, under_rest}
 use Rattle.qrp_check.proofs.agree.set_block.Goals as goal
 

@@ -1,4 +1,4 @@
-use Rattle.qrp_check.proofs.Words.{take, Passes}
+use Rattle.qrp_check.proofs.Cited.{take, Passes}
 use Rattle.qrp_check.proofs.SetsAgree.{under}
 use Rattle.qrp_check.proofs.agree.set_block.Given as goal
 

@@ -1,4 +1,4 @@
-use Rattle.qrp_check.proofs.Words.{◌+◌, ℕ, List, take, drop, subst, sym, take_all, Block, pairs, pairs_of_block, Passes, FailsIn}
+use Rattle.qrp_check.proofs.Cited.{◌+◌, ℕ, List, take, drop, subst, sym, take_all, Block, pairs, pairs_of_block, Passes, FailsIn}
 use Rattle.qrp_check.proofs.SetsAgree.{passes_more, fails_more, sets_next, sets_rest, agrees_by_passes, fault_by_fails}
 use Rattle.qrp_check.proofs.agree.sets_fault.Goals as goal
 

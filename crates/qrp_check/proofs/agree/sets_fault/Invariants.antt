@@ -1,4 +1,4 @@
-use Rattle.qrp_check.proofs.Words.{take, pairs, Passes}
+use Rattle.qrp_check.proofs.Cited.{take, pairs, Passes}
 use Rattle.qrp_check.proofs.agree.sets_fault.Given as goal
 
 abbrev pub invariant-loop-set : goal.invariant-loop-set

@@ -1,4 +1,4 @@
-use Rattle.qrp_check.proofs.Words.{ap, side_of}
+use Rattle.qrp_check.proofs.Cited.{ap, side_of}
 use Rattle.qrp_check.specs.Verdict.{is_sat}
 use Rattle.qrp_check.proofs.CheckAnswers.{proves, refuses, shows, claims_false, claims_true, closed_of}
 use Rattle.qrp_check.proofs.checking.check_marked.Goals as goal

@@ -1,4 +1,4 @@
-use Rattle.qrp_check.proofs.Words.{ℕ, ◌+◌, List, subst, sym, ListsMarked}
+use Rattle.qrp_check.proofs.Cited.{ℕ, ◌+◌, List, subst, sym, ListsMarked}
 use Rattle.std.proofs.Common.{Vec, Global}
 use Rattle.qrp_check.proofs.MarkedPlaces.{is_marked, is_unmarked, listing_skip, listing_push}
 use Rattle.qrp_check.proofs.marks.marked_positions.Goals.{then-marks-position+in_ok-push, else-marks-position}

@@ -1,4 +1,4 @@
-use Rattle.qrp_check.proofs.Words.{ListsMarked}
+use Rattle.qrp_check.proofs.Cited.{ListsMarked}
 use Rattle.qrp_check.proofs.marks.marked_positions.Given as goal
 
 abbrev pub invariant-loop-position : goal.invariant-loop-position

@@ -1,4 +1,4 @@
-use Rattle.qrp_check.proofs.Words.{sym, ◌∙◌, inl, inr, refl}
+use Rattle.qrp_check.proofs.Cited.{sym, ◌∙◌, inl, inr, refl}
 use Rattle.qrp_check.proofs.CoreStep.{not_earlier, one_listed, two_listed}
 use Rattle.qrp_check.proofs.premises.find_premises.Goals as goal
 

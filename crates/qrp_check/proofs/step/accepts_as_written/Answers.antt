@@ -1,4 +1,4 @@
-use Rattle.qrp_check.proofs.Words.{[], ◌∷◌, initial_condition, reduct_conditions, resolvent_conditions}
+use Rattle.qrp_check.proofs.Cited.{[], ◌∷◌, initial_condition, reduct_conditions, resolvent_conditions}
 use Rattle.qrp_check.proofs.CoreStep.{accepted_all}
 use Rattle.qrp_check.proofs.step.accepts_as_written.Goals as goal
 

@@ -1,4 +1,4 @@
-use Rattle.qrp_check.proofs.Words.{common_steps, Option, arith, RuleFault, IsJudgement, premise_conditions}
+use Rattle.qrp_check.proofs.Cited.{common_steps, Option, arith, RuleFault, IsJudgement, premise_conditions}
 use Rattle.std.proofs.lemmas.Result.{IfOk-weaker}
 use Rattle.qrp_check.proofs.CoreStep.{not_all_bound, not_clean, set_answer}
 use Rattle.qrp_check.proofs.step.fault_by_sets.Goals as goal

@@ -1,4 +1,4 @@
-use Rattle.qrp_check.proofs.Words.{reduct_answer, same_self}
+use Rattle.qrp_check.proofs.Cited.{reduct_answer, same_self}
 use Rattle.qrp_check.proofs.step.fault_of_reduct.Goals as goal
 
 pub returns : goal.returns

@@ -1,4 +1,4 @@
-use Rattle.qrp_check.proofs.Words.{resolvent_answer, same_self}
+use Rattle.qrp_check.proofs.Cited.{resolvent_answer, same_self}
 use Rattle.qrp_check.proofs.step.fault_of_resolvent.Goals as goal
 
 pub returns : goal.returns

@@ -1,4 +1,4 @@
-use Rattle.qrp_check.proofs.Words.{common_steps, arith}
+use Rattle.qrp_check.proofs.Cited.{common_steps, arith}
 use Rattle.qrp_check.proofs.CoreStep.{not_tautology, none_unbound}
 use Rattle.qrp_check.proofs.step.own_set.Goals as goal
 

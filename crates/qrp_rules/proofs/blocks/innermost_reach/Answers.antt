@@ -1,4 +1,4 @@
-use Rattle.qrp_rules.proofs.Words.{ℕ, ◌+◌, ◌≤◌, ◌↔◌, List, subst, take, Literal, in_take_more, take_more_in, IsHeldBefore, IsInnermost}
+use Rattle.qrp_rules.proofs.Cited.{ℕ, ◌+◌, ◌≤◌, ◌↔◌, List, subst, take, Literal, in_take_more, take_more_in, IsHeldBefore, IsInnermost}
 use Rattle.qrp_rules.proofs.Reducing.{after_max, innermost_more}
 use Rattle.std.proofs.lemmas.List.{take_all}
 use Rattle.qrp_rules.proofs.blocks.innermost_reach.Goals as goal

@@ -1,4 +1,4 @@
-use Rattle.qrp_rules.proofs.Words.{take, IsInnermost}
+use Rattle.qrp_rules.proofs.Cited.{take, IsInnermost}
 use Rattle.qrp_rules.proofs.blocks.innermost_reach.Given as goal
 
 abbrev pub invariant-loop-lit : goal.invariant-loop-lit

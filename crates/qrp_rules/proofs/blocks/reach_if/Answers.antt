@@ -1,5 +1,5 @@
 use Rattle.qrp_rules.proofs.Reducing.{reach_held}
-use Rattle.qrp_rules.proofs.Words.{false≢true, sym, ◌∙◌}
+use Rattle.qrp_rules.proofs.Cited.{false≢true, sym, ◌∙◌}
 use Rattle.qrp_rules.proofs.blocks.reach_if.Goals as goal
 
 pub returns : goal.returns

@@ -1,4 +1,4 @@
-use Rattle.qrp_rules.proofs.Words.{rules, tests, cases_from_any, YieldsList-from_slice, Literal, negated, positive, ◌∈◌, any_members}
+use Rattle.qrp_rules.proofs.Cited.{rules, tests, cases_from_any, YieldsList-from_slice, Literal, negated, positive, ◌∈◌, any_members}
 use Rattle.qbf_core.proofs.Order.{clash_from}
 use Rattle.qrp_rules.proofs.initial.has_clash.Goals as goal
 

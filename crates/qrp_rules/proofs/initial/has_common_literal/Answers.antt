@@ -1,4 +1,4 @@
-use Rattle.qrp_rules.proofs.Words.{rules, tests, cases_from_any, YieldsList-from_slice, Literal, ◌∈◌, any_members}
+use Rattle.qrp_rules.proofs.Cited.{rules, tests, cases_from_any, YieldsList-from_slice, Literal, ◌∈◌, any_members}
 use Rattle.qrp_rules.proofs.initial.has_common_literal.Goals as goal
 
 pub returns : goal.returns

@@ -1,4 +1,4 @@
-use Rattle.qrp_rules.proofs.Words.{refl, Clauses}
+use Rattle.qrp_rules.proofs.Cited.{refl, Clauses}
 use Rattle.qrp_rules.proofs.ReductsByMembers.{reduct_told}
 use Rattle.qrp_rules.proofs.initial.has_ordered_reduct.Goals as goal
 

@@ -1,4 +1,4 @@
-use Rattle.qrp_rules.proofs.Words.{common_steps, sym, arith, false≢true, Clauses, bound_each, clean_from_same, got_in}
+use Rattle.qrp_rules.proofs.Cited.{common_steps, sym, arith, false≢true, Clauses, bound_each, clean_from_same, got_in}
 use Rattle.qrp_rules.proofs.MembersDecide.{same_self, reduct_members}
 use Rattle.qrp_rules.proofs.ReductsByMembers.{not_clean}
 use Rattle.qrp_rules.proofs.initial.has_reduct.Goals as goal

@@ -1,4 +1,4 @@
-use Rattle.qrp_rules.proofs.Words.{arith, refl, inl, ◌∙◌, sym, List, Literal, Clauses, IsClean, IsReduct, false≢true, got_in, in_take_all}
+use Rattle.qrp_rules.proofs.Cited.{arith, refl, inl, ◌∙◌, sym, List, Literal, Clauses, IsClean, IsReduct, false≢true, got_in, in_take_all}
 use Rattle.qrp_rules.proofs.ReductsByMembers.{each_got}
 use Rattle.qrp_rules.proofs.initial.initial_clause_fault.Goals as goal
 

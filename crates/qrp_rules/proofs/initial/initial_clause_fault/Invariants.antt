@@ -1,4 +1,4 @@
-use Rattle.qrp_rules.proofs.Words.{take, List, Literal, ◌∈◌, Clauses, IsClean, IsReduct}
+use Rattle.qrp_rules.proofs.Cited.{take, List, Literal, ◌∈◌, Clauses, IsClean, IsReduct}
 use Rattle.qrp_rules.proofs.initial.initial_clause_fault.Given as goal
 
 abbrev pub invariant-loop-position : goal.invariant-loop-position

@@ -1,4 +1,4 @@
-use Rattle.qrp_rules.proofs.Words.{arith, refl, sym, inl, inr, List, ◌⊎◌, ◌∙◌, false≢true, Literal, ◌∈◌, IsTautology, in_take_all, got_in}
+use Rattle.qrp_rules.proofs.Cited.{arith, refl, sym, inl, inr, List, ◌⊎◌, ◌∙◌, false≢true, Literal, ◌∈◌, IsTautology, in_take_all, got_in}
 use Rattle.qrp_rules.proofs.ReductsByMembers.{each_got}
 use Rattle.qrp_rules.proofs.initial.initial_cube_fault.Goals as goal
 

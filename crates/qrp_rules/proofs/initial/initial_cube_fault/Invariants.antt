@@ -1,4 +1,4 @@
-use Rattle.qrp_rules.proofs.Words.{take, List, ◌⊎◌, Literal, ◌∈◌, IsTautology}
+use Rattle.qrp_rules.proofs.Cited.{take, List, ◌⊎◌, Literal, ◌∈◌, IsTautology}
 use Rattle.qrp_rules.proofs.initial.initial_cube_fault.Given as goal
 
 abbrev pub invariant-loop-i : goal.invariant-loop-i

@@ -1,4 +1,4 @@
-use Rattle.qrp_rules.proofs.Words.{◌≡◌, ◌<◌, ◌≤◌, ℕ, refl, sym, ap, ◌∙◌, inl, inr, arith, false≢true, Literal, in_take_more, take_more_in}
+use Rattle.qrp_rules.proofs.Cited.{◌≡◌, ◌<◌, ◌≤◌, ℕ, refl, sym, ap, ◌∙◌, inl, inr, arith, false≢true, Literal, in_take_more, take_more_in}
 use Rattle.qrp_rules.proofs.OrderedLists.{ordered_taken}
 use Rattle.qrp_rules.proofs.Clashing.{taken_below}
 use Rattle.qrp_rules.proofs.lists.is_ordered.Goals as goal

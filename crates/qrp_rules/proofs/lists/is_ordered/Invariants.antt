@@ -1,4 +1,4 @@
-use Rattle.qrp_rules.proofs.Words.{◌≡◌, ◌≤◌, ◌⊎◌, take, Literal, ◌∈◌, IsOrdered}
+use Rattle.qrp_rules.proofs.Cited.{◌≡◌, ◌≤◌, ◌⊎◌, take, Literal, ◌∈◌, IsOrdered}
 use Rattle.qrp_rules.proofs.lists.is_ordered.Given as goal
 
 abbrev pub invariant-loop-lit : goal.invariant-loop-lit

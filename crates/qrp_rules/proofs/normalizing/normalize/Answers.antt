@@ -1,4 +1,4 @@
-use Rattle.qrp_rules.proofs.Words.{common_steps, arith, clean_from_same}
+use Rattle.qrp_rules.proofs.Cited.{common_steps, arith, clean_from_same}
 use Rattle.qrp_rules.proofs.MembersDecide.{same_self}
 use Rattle.qrp_rules.proofs.normalizing.normalize.Goals as goal
 

@@ -1,4 +1,4 @@
-use Rattle.qrp_rules.proofs.Words.{◌∙◌}
+use Rattle.qrp_rules.proofs.Cited.{◌∙◌}
 use Rattle.qrp_rules.proofs.Reducing.{after_max, after_min, parents_account}
 use Rattle.qrp_rules.proofs.resolution.reducible_in_parents.Goals as goal
 

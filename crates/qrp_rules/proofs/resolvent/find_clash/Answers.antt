@@ -1,4 +1,4 @@
-use Rattle.qrp_rules.proofs.Words.{◌+◌, ℕ, take, drop, sym, ap, subst, rules, true≢false, Literal, negated, ◌∈◌, IsOnlyClash}
+use Rattle.qrp_rules.proofs.Cited.{◌+◌, ℕ, take, drop, sym, ap, subst, rules, true≢false, Literal, negated, ◌∈◌, IsOnlyClash}
 use Rattle.qrp_rules.proofs.Cursors.{Reaches, HasVar, reach_more, reach_in}
 use Rattle.qrp_rules.proofs.Clashing.{IsClashSoFar, clash_same, clash_first, clash_second, clash_none}
 use Rattle.qrp_rules.proofs.resolvent.find_clash.Goals.{then-opposite+in-None, else-opposite}

@@ -1,4 +1,4 @@
-use Rattle.qrp_rules.proofs.Words.{take, drop}
+use Rattle.qrp_rules.proofs.Cited.{take, drop}
 use Rattle.qrp_rules.proofs.Cursors.{Reaches, HasVar}
 use Rattle.qrp_rules.proofs.Clashing.{IsClashSoFar}
 use Rattle.qrp_rules.proofs.resolvent.find_clash.Given as goal

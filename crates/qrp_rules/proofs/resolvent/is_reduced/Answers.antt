@@ -1,4 +1,4 @@
-use Rattle.qrp_rules.proofs.Words.{◌∙◌, sym, refl, true≢false}
+use Rattle.qrp_rules.proofs.Cited.{◌∙◌, sym, refl, true≢false}
 use Rattle.qrp_rules.proofs.Reducing.{resolvent_kept}
 use Rattle.qrp_rules.proofs.resolvent.is_reduced.Goals as goal
 

@@ -1,5 +1,5 @@
-use Rattle.qrp_rules.proofs.Words.{◌+◌, ◌∙◌, ℕ, drop, refl, sym, inl, inr, ◌++◌, rules, false≢true, Literal, ◌∈◌, resolvent, in_at}
-use Rattle.qrp_rules.proofs.Words.{in_take_all, in_append, append_left, append_right, each_more, in_without, from_without}
+use Rattle.qrp_rules.proofs.Cited.{◌+◌, ◌∙◌, ℕ, drop, refl, sym, inl, inr, ◌++◌, rules, false≢true, Literal, ◌∈◌, resolvent, in_at}
+use Rattle.qrp_rules.proofs.Cited.{in_take_all, in_append, append_left, append_right, each_more, in_without, from_without}
 use Rattle.qrp_rules.proofs.Cursors.{Reaches, HasVar, reach_more, reach_in}
 use Rattle.qrp_rules.proofs.resolvent.is_within.Goals as goal
 

@@ -1,4 +1,4 @@
-use Rattle.qrp_rules.proofs.Words.{take, drop, ◌⊆◌, resolvent}
+use Rattle.qrp_rules.proofs.Cited.{take, drop, ◌⊆◌, resolvent}
 use Rattle.qrp_rules.proofs.Cursors.{Reaches, HasVar}
 use Rattle.qrp_rules.proofs.resolvent.is_within.Given as goal
 

@@ -1,4 +1,4 @@
-use Rattle.qrp_rules.proofs.Words.{Some, None, inl, inr, refl, false≢true, S10, S11, S12}
+use Rattle.qrp_rules.proofs.Cited.{Some, None, inl, inr, refl, false≢true, S10, S11, S12}
 use Rattle.qrp_rules.proofs.ResolventRows.{at_pivot}
 use Rattle.qrp_rules.proofs.resolvent.ordered_resolvent_fault.Goals as goal
 

@@ -1,4 +1,4 @@
-use Rattle.qrp_rules.proofs.Words.{ℕ, sym, subst, ◌∙◌, inl, inr, false≢true, Literal, in_take_more, take_more_in, Has}
+use Rattle.qrp_rules.proofs.Cited.{ℕ, sym, subst, ◌∙◌, inl, inr, false≢true, Literal, in_take_more, take_more_in, Has}
 use Rattle.qrp_rules.proofs.WrittenSteps.{clean_all, clean_with}
 use Rattle.qrp_rules.proofs.seen.put_if_clean.Goals as goal
 

@@ -1,4 +1,4 @@
-use Rattle.qrp_rules.proofs.Words.{take, ◌↔◌, Literal, ◌∈◌, IsClean, Has}
+use Rattle.qrp_rules.proofs.Cited.{take, ◌↔◌, Literal, ◌∈◌, IsClean, Has}
 use Rattle.qrp_rules.proofs.seen.put_if_clean.Given as goal
 
 abbrev pub invariant-loop-position : goal.invariant-loop-position

@@ -1,4 +1,4 @@
-use Rattle.qrp_rules.proofs.Words.{arith}
+use Rattle.qrp_rules.proofs.Cited.{arith}
 use Rattle.qrp_rules.proofs.WrittenSteps.{clean_all}
 use Rattle.qrp_rules.proofs.seen.set_if_clean.Goals as goal
 

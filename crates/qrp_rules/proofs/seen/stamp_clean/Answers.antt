@@ -1,4 +1,4 @@
-use Rattle.qrp_rules.proofs.Words.{◌≡◌, ◌+◌, ◌⊎◌, ◌∈◌, ℕ, length, take, subst, ap, arith, inl, inr, Literal, IsClean, code, in_take_more, take_more_in}
+use Rattle.qrp_rules.proofs.Cited.{◌≡◌, ◌+◌, ◌⊎◌, ◌∈◌, ℕ, length, take, subst, ap, arith, inl, inr, Literal, IsClean, code, in_take_more, take_more_in}
 use Rattle.qrp_rules.proofs.WrittenSteps.{clean_with}
 use Rattle.qrp_rules.proofs.Stamps.{code_one}
 use Rattle.qrp_rules.proofs.seen.stamp_clean.Goals as goal

@@ -1,4 +1,4 @@
-use Rattle.qrp_rules.proofs.Words.{◌≡◌, ◌↔◌, ◌⊎◌, get_or, take, Literal, ◌∈◌, IsClean, AreUpTo, code}
+use Rattle.qrp_rules.proofs.Cited.{◌≡◌, ◌↔◌, ◌⊎◌, get_or, take, Literal, ◌∈◌, IsClean, AreUpTo, code}
 use Rattle.qrp_rules.proofs.seen.stamp_clean.Given as goal
 
 abbrev pub invariant-loop-position : goal.invariant-loop-position

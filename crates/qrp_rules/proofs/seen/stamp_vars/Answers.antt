@@ -1,4 +1,4 @@
-use Rattle.qrp_rules.proofs.Words.{◌≡◌, ℕ, get_or, subst, sym, ap, inl, inr, ◌∙◌, rules, Literal, in_take_all, in_take_more}
+use Rattle.qrp_rules.proofs.Cited.{◌≡◌, ℕ, get_or, subst, sym, ap, inl, inr, ◌∙◌, rules, Literal, in_take_all, in_take_more}
 use Rattle.qrp_rules.proofs.WrittenSteps.{clean_all, clean_with}
 use Rattle.qrp_rules.proofs.seen.stamp_vars.Goals as goal
 

@@ -1,4 +1,4 @@
-use Rattle.qrp_rules.proofs.Words.{◌≡◌, get_or, take, Literal, ◌∈◌, IsClean, IsApart, AreUpTo}
+use Rattle.qrp_rules.proofs.Cited.{◌≡◌, get_or, take, Literal, ◌∈◌, IsClean, IsApart, AreUpTo}
 use Rattle.qrp_rules.proofs.seen.stamp_vars.Given as goal
 
 abbrev pub invariant-loop-lit : goal.invariant-loop-lit

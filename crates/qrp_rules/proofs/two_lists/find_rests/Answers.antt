@@ -1,4 +1,4 @@
-use Rattle.qrp_rules.proofs.Words.{◌+◌, ◌∙◌, sym, lit_test}
+use Rattle.qrp_rules.proofs.Cited.{◌+◌, ◌∙◌, sym, lit_test}
 use Rattle.std.proofs.lemmas.List.{take_rest}
 use Rattle.qrp_rules.proofs.WrittenSteps.{resolved_at, resolved_after}
 use Rattle.qrp_rules.proofs.two_lists.find_rests.Goals as goal

@@ -1,4 +1,4 @@
-use Rattle.qrp_rules.proofs.Words.{◌≡◌, ℕ, get_or, subst, sym, ap, ◌∙◌, ◌+◌, arith, false≢true, Literal}
+use Rattle.qrp_rules.proofs.Cited.{◌≡◌, ℕ, get_or, subst, sym, ap, ◌∙◌, ◌+◌, arith, false≢true, Literal}
 use Rattle.qrp_rules.proofs.WrittenSteps.{merge_more}
 use Rattle.qrp_rules.proofs.two_lists.merge_prefix.Goals as goal
 

@@ -1,4 +1,4 @@
-use Rattle.qrp_rules.proofs.Words.{common_steps, ℕ, ◌⊎◌, refl, subst, inl, inr, arith, false≢true, Literal, ◌∈◌, in_at, each_more, MayOmit}
+use Rattle.qrp_rules.proofs.Cited.{common_steps, ℕ, ◌⊎◌, refl, subst, inl, inr, arith, false≢true, Literal, ◌∈◌, in_at, each_more, MayOmit}
 use Rattle.qrp_rules.proofs.Cursors.{reach_more, reach_in}
 use Rattle.qrp_rules.proofs.walks.is_subset_up_to.Goals.{else-not-kept-via-then-not-kept+else-not-may_omit, else-not-kept-via-else-not-kept}
 use Rattle.qrp_rules.proofs.walks.is_subset_up_to.Goals as goal

@@ -1,4 +1,4 @@
-use Rattle.qrp_rules.proofs.Words.{take, drop, ◌⊎◌, Literal, ◌∈◌, MayOmit}
+use Rattle.qrp_rules.proofs.Cited.{take, drop, ◌⊎◌, Literal, ◌∈◌, MayOmit}
 use Rattle.qrp_rules.proofs.Cursors.{Reaches, HasVar}
 use Rattle.qrp_rules.proofs.walks.is_subset_up_to.Given as goal
 

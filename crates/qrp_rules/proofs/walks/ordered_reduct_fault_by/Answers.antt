@@ -1,4 +1,4 @@
-use Rattle.qrp_rules.proofs.Words.{◌⊎◌, refl, inl, inr, arith, List, false≢true, Literal, ◌∈◌, ◌⊆◌}
+use Rattle.qrp_rules.proofs.Cited.{◌⊎◌, refl, inl, inr, arith, List, false≢true, Literal, ◌∈◌, ◌⊆◌}
 use Rattle.qrp_rules.proofs.Reducing.{each_reducible}
 use Rattle.qrp_rules.proofs.OrderedLists.{ordered_whole}
 use Rattle.qrp_rules.proofs.walks.ordered_reduct_fault_by.Goals as goal

@@ -1,4 +1,4 @@
-use Rattle.qrp_rules.proofs.Words.{◌≡◌, sym, subst, arith, ◌∷◌, inr, rules, ◌∈◌, IsOrdered}
+use Rattle.qrp_rules.proofs.Cited.{◌≡◌, sym, subst, arith, ◌∷◌, inr, rules, ◌∈◌, IsOrdered}
 use Rattle.qrp_rules.proofs.Cursors.{first_least, rest_keeps}
 use Rattle.qrp_rules.proofs.walks.seek.Goals as goal
 

@@ -1,4 +1,4 @@
-use Rattle.qrp_rules.proofs.Words.{length}
+use Rattle.qrp_rules.proofs.Cited.{length}
 use Rattle.qrp_rules.specs.Walks.{IsRestFrom}
 use Rattle.qrp_rules.proofs.walks.seek.Given as goal
 

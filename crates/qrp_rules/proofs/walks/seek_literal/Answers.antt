@@ -1,4 +1,4 @@
-use Rattle.qrp_rules.proofs.Words.{◌≤◌, ℕ, sym, subst, arith}
+use Rattle.qrp_rules.proofs.Cited.{◌≤◌, ℕ, sym, subst, arith}
 use Rattle.qrp_rules.proofs.walks.seek_literal.Goals as goal
 
 pub returns-clause-rest : goal.returns-clause-rest

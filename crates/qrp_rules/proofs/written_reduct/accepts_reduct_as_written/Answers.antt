@@ -1,4 +1,4 @@
-use Rattle.qrp_rules.proofs.Words.{rules, eqb-true, TakesOut}
+use Rattle.qrp_rules.proofs.Cited.{rules, eqb-true, TakesOut}
 use Rattle.qrp_rules.proofs.Merging.{rest_more, rest_within}
 use Rattle.qrp_rules.proofs.written_reduct.accepts_reduct_as_written.Goals.{else-next-in_to-via-then-next-in_to+else-not-has}
 use Rattle.qrp_rules.proofs.written_reduct.accepts_reduct_as_written.Goals.{else-next-in_to-via-else-next-in_to}

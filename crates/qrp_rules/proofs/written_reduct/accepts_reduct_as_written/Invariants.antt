@@ -1,4 +1,4 @@
-use Rattle.qrp_rules.proofs.Words.{TakesOut}
+use Rattle.qrp_rules.proofs.Cited.{TakesOut}
 use Rattle.qrp_rules.proofs.Merging.{IsRestSoFar}
 use Rattle.qrp_rules.proofs.written_reduct.accepts_reduct_as_written.Given as goal
 

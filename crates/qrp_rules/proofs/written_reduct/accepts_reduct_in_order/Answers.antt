@@ -1,4 +1,4 @@
-use Rattle.qrp_rules.proofs.Words.{◌∙◌, inl, clean_within, TakesOut}
+use Rattle.qrp_rules.proofs.Cited.{◌∙◌, inl, clean_within, TakesOut}
 use Rattle.qrp_rules.proofs.Reducing.{reduct_without}
 use Rattle.std.proofs.Common.{List, subst}
 use Rattle.std.proofs.lemmas.Slice.Eq.{slice_eq-Decides}

@@ -1,4 +1,4 @@
-use Rattle.qrp_rules.proofs.Words.{inl, inr, clash_here, Has}
+use Rattle.qrp_rules.proofs.Cited.{inl, inr, clash_here, Has}
 use Rattle.qrp_rules.proofs.WrittenSteps.{accounted_follows}
 use Rattle.qrp_rules.proofs.written_resolvent.leaves_out_of_parents.Goals as goal
 

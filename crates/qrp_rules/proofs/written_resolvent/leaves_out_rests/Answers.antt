@@ -1,4 +1,4 @@
-use Rattle.qrp_rules.proofs.Words.{inl, inr, ◌∙◌, Literal, Has, TakesOut}
+use Rattle.qrp_rules.proofs.Cited.{inl, inr, ◌∙◌, Literal, Has, TakesOut}
 use Rattle.qrp_rules.proofs.WrittenSteps.{left_follows, put_then}
 use Rattle.qrp_rules.proofs.Reducing.{reducible_wider}
 use Rattle.qrp_rules.proofs.written_resolvent.leaves_out_rests.Goals as goal

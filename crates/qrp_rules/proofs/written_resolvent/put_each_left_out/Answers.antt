@@ -1,4 +1,4 @@
-use Rattle.qrp_rules.proofs.Words.{◌≡◌, ◌⊎◌, subst, sym, inl, inr, Literal, in_take_more, Has}
+use Rattle.qrp_rules.proofs.Cited.{◌≡◌, ◌⊎◌, subst, sym, inl, inr, Literal, in_take_more, Has}
 use Rattle.qrp_rules.proofs.WrittenSteps.{put_then}
 use Rattle.qrp_rules.proofs.written_resolvent.put_each_left_out.Goals as goal
 

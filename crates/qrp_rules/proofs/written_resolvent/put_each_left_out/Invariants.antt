@@ -1,4 +1,4 @@
-use Rattle.qrp_rules.proofs.Words.{◌≡◌, ◌⊎◌, take, Literal, ◌∈◌, IsPutBy, Has, TakesOut}
+use Rattle.qrp_rules.proofs.Cited.{◌≡◌, ◌⊎◌, take, Literal, ◌∈◌, IsPutBy, Has, TakesOut}
 use Rattle.qrp_rules.proofs.written_resolvent.put_each_left_out.Given as goal
 
 abbrev pub invariant-loop-lit : goal.invariant-loop-lit

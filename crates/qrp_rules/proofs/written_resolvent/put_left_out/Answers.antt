@@ -1,4 +1,4 @@
-use Rattle.qrp_rules.proofs.Words.{refl, subst, sym, ◌∙◌, false≢true, Has, TakesOut}
+use Rattle.qrp_rules.proofs.Cited.{refl, subst, sym, ◌∙◌, false≢true, Has, TakesOut}
 use Rattle.qrp_rules.proofs.WrittenSteps.{put_one}
 use Rattle.qrp_rules.proofs.written_resolvent.put_left_out.Goals as goal
 

@@ -1,4 +1,4 @@
-use Rattle.qrp_rules.proofs.Words.{◌≡◌, rules, tests, YieldsList-from_slice, Literal}
+use Rattle.qrp_rules.proofs.Cited.{◌≡◌, rules, tests, YieldsList-from_slice, Literal}
 use Rattle.std.proofs.lemmas.Bool.{MatchBool-at_true}
 use Rattle.std.proofs.lemmas.Iterator.{cases_from_all}
 use Rattle.qbf_core.proofs.Members.{each_within}

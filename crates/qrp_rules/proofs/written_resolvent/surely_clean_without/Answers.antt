@@ -1,4 +1,4 @@
-use Rattle.qrp_rules.proofs.Words.{clean_from_same}
+use Rattle.qrp_rules.proofs.Cited.{clean_from_same}
 use Rattle.qrp_rules.proofs.MembersDecide.{same_self}
 use Rattle.qrp_rules.proofs.written_resolvent.surely_clean_without.Goals as goal
 

@@ -1,4 +1,4 @@
-use Rattle.qrp_rules.proofs.Words.{◌≡◌, ◌<◌, ◌≤◌, ℕ, Bool, true, false, sym, ap, ◌∙◌, refl, inl, inr, arith, IsTrue, Literal, in_take_all, in_take_more}
+use Rattle.qrp_rules.proofs.Cited.{◌≡◌, ◌<◌, ◌≤◌, ℕ, Bool, true, false, sym, ap, ◌∙◌, refl, inl, inr, arith, IsTrue, Literal, in_take_all, in_take_more}
 use Rattle.std.proofs.Common.{◌&&◌}
 use Rattle.qrp_rules.proofs.OrderedLists.{ordered_taken}
 use Rattle.qrp_rules.proofs.written_resolvent.surely_ordered_without.Goals as goal

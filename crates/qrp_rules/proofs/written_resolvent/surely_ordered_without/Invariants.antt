@@ -1,4 +1,4 @@
-use Rattle.qrp_rules.proofs.Words.{◌≤◌, take, IsTrue, Literal, ◌∈◌, IsOrdered, IsApart}
+use Rattle.qrp_rules.proofs.Cited.{◌≤◌, take, IsTrue, Literal, ◌∈◌, IsOrdered, IsApart}
 use Rattle.qrp_rules.proofs.written_resolvent.surely_ordered_without.Given as goal
 
 abbrev pub invariant-loop-lit : goal.invariant-loop-lit

@@ -1,4 +1,4 @@
-use Rattle.qbf_core.proofs.Words.{arith}
+use Rattle.qbf_core.proofs.Cited.{arith}
 use Rattle.qbf_core.proofs.formula.Formula.new.Goals as goal
 
 pub from_parts-requires : goal.from_parts-requires

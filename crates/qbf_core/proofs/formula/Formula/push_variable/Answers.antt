@@ -1,4 +1,4 @@
-use Rattle.qbf_core.proofs.Words.{◌≤◌, subst, sym, Qbf}
+use Rattle.qbf_core.proofs.Cited.{◌≤◌, subst, sym, Qbf}
 use Rattle.qbf_core.proofs.PushLaws.{well_formed_bound}
 use Rattle.qbf_core.proofs.formula.Formula.push_variable.Goals as goal
 

@@ -1,5 +1,5 @@
-use Rattle.qbf_core.proofs.Words.{arith, common_steps}
-use Rattle.qbf_core.proofs.Flats.{part_place}
+use Rattle.qbf_core.proofs.Cited.{arith, common_steps}
+use Rattle.qbf_core.proofs.Buffer.{part_place}
 use Rattle.qbf_core.proofs.lists.GrowingLists.get.Goals as goal
 
 pub list_at-requires-clause-place : goal.list_at-requires-clause-place

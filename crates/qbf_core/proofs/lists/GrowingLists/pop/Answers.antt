@@ -1,4 +1,4 @@
-use Rattle.qbf_core.proofs.Flats.{fewer_reach}
+use Rattle.qbf_core.proofs.Buffer.{fewer_reach}
 use Rattle.qbf_core.proofs.lists.GrowingLists.pop.Goals as goal
 
 pub invariant_of-self : goal.invariant_of-self

@@ -1,4 +1,4 @@
-use Rattle.qbf_core.proofs.Flats.{last_is}
+use Rattle.qbf_core.proofs.Buffer.{last_is}
 use Rattle.qbf_core.proofs.offsets.Offsets.last.Goals as goal
 
 pub returns : goal.returns

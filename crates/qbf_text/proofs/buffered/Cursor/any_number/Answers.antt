@@ -1,4 +1,4 @@
-use Rattle.qbf_text.proofs.Words.{◌^◌, ◌<◌}
+use Rattle.qbf_text.proofs.Cited.{◌^◌, ◌<◌}
 use Rattle.qbf_text.proofs.PassedNumbers.{all_after, passes_number}
 use Rattle.qbf_text.proofs.buffered.Cursor.any_number.Goals as goal
 

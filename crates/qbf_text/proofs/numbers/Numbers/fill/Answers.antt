@@ -1,4 +1,4 @@
-use Rattle.qbf_text.proofs.Words.{◌≡◌, ◌+◌, [], ◌∷◌, length, refl, arith}
+use Rattle.qbf_text.proofs.Cited.{◌≡◌, ◌+◌, [], ◌∷◌, length, refl, arith}
 use Rattle.std.proofs.Common.{SFits, w32}
 use Rattle.std.proofs.lemmas.Int.{to_z-of_z}
 use Rattle.qbf_text.proofs.HeldNumbers.{fills_more, fills_still, fills_at}

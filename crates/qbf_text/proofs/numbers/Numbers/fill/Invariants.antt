@@ -1,4 +1,4 @@
-use Rattle.qbf_text.proofs.Words.{◌-◌}
+use Rattle.qbf_text.proofs.Cited.{◌-◌}
 use Rattle.qbf_text.proofs.HeldNumbers.{FillsTo}
 use Rattle.qbf_text.proofs.numbers.Numbers.fill.Given as goal
 

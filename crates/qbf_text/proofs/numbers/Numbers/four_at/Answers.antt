@@ -1,4 +1,4 @@
-use Rattle.qbf_text.proofs.Words.{◌≡◌, ◌+◌, ◌≤◌, length, rules, arith}
+use Rattle.qbf_text.proofs.Cited.{◌≡◌, ◌+◌, ◌≤◌, length, rules, arith}
 use Rattle.qbf_text.proofs.NumbersInARow.{row_stands, ends_go_up, are_short, four_ends}
 use Rattle.qbf_text.proofs.numbers.Numbers.four_at.Goals as goal
 

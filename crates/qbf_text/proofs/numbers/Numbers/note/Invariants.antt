@@ -1,4 +1,4 @@
-use Rattle.qbf_text.proofs.Words.{◌≡◌, ◌+◌, ◌*◌, ◌-◌, ◌≤◌}
+use Rattle.qbf_text.proofs.Cited.{◌≡◌, ◌+◌, ◌*◌, ◌-◌, ◌≤◌}
 use Rattle.qbf_text.proofs.numbers.Numbers.note.Given as goal
 
 abbrev pub invariant-loop-i : goal.invariant-loop-i

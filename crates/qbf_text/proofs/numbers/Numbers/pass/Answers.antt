@@ -1,4 +1,4 @@
-use Rattle.qbf_text.proofs.Words.{◌≡◌, ◌+◌, arith}
+use Rattle.qbf_text.proofs.Cited.{◌≡◌, ◌+◌, arith}
 use Rattle.std.proofs.Common.{◌%◌}
 use Rattle.qbf_text.specs.Numbers.{place}
 use Rattle.qbf_text.proofs.HeldNumbers.{held_from}

@@ -1,4 +1,4 @@
-use Rattle.qbf_text.proofs.Words.{◌≡◌, ◌-◌, length, arith, rules}
+use Rattle.qbf_text.proofs.Cited.{◌≡◌, ◌-◌, length, arith, rules}
 use Rattle.qbf_text.proofs.PutNumbers.{put_lanes}
 use Rattle.qbf_text.proofs.numbers.Numbers.put_four.Goals as goal
 

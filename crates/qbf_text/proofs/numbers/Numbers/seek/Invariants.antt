@@ -1,4 +1,4 @@
-use Rattle.qbf_text.proofs.Words.{◌-◌, ◌≤◌}
+use Rattle.qbf_text.proofs.Cited.{◌-◌, ◌≤◌}
 use Rattle.qbf_text.proofs.numbers.Numbers.seek.Given as goal
 
 abbrev pub invariant-loop-first : goal.invariant-loop-first

@@ -1,4 +1,4 @@
-use Rattle.qbf_text.proofs.Words.{◌-◌, ◌≤◌}
+use Rattle.qbf_text.proofs.Cited.{◌-◌, ◌≤◌}
 use Rattle.qbf_text.proofs.numbers.Numbers.zero_from.Given as goal
 
 abbrev pub invariant-loop-zero : goal.invariant-loop-zero

@@ -1,4 +1,4 @@
-use Rattle.qbf_text.proofs.Words.{Consumes-nil, ahead, is_blank, is_line_end}
+use Rattle.qbf_text.proofs.Cited.{Consumes-nil, ahead, is_blank, is_line_end}
 use Rattle.qbf_text.proofs.KnownLeft.{took_at, no_line_end_at}
 use Rattle.qbf_text.proofs.ByteByByte.{or_cases}
 use Rattle.qbf_text.proofs.Stops.{skips_blank}

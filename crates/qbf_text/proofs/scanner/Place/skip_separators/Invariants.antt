@@ -1,4 +1,4 @@
-use Rattle.qbf_text.proofs.Words.{ℕ, ◌≤◌, List, Option, length, PlaceSkips}
+use Rattle.qbf_text.proofs.Cited.{ℕ, ◌≤◌, List, Option, length, PlaceSkips}
 use Rattle.qbf_text.proofs.scanner.Place.skip_separators.Given as goal
 
 abbrev pub invariant-loop-byte : goal.invariant-loop-byte

@@ -1,4 +1,4 @@
-use Rattle.qbf_text.proofs.Words.{arith, common_steps}
+use Rattle.qbf_text.proofs.Cited.{arith, common_steps}
 use Rattle.qbf_text.specs.Reading.{left}
 use Rattle.qbf_text.proofs.Stops.{next_taken}
 use Rattle.qbf_text.proofs.scanner.Scanner.next_token.Goals as goal

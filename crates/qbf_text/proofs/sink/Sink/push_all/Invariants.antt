@@ -1,4 +1,4 @@
-use Rattle.qbf_text.proofs.Words.{◌≡◌, ◌≤◌, length, IsSent}
+use Rattle.qbf_text.proofs.Cited.{◌≡◌, ◌≤◌, length, IsSent}
 use Rattle.qbf_text.proofs.sink.Sink.push_all.Given as goal
 
 -- what stands before the rest went out, no push failed, and of no bytes there was no push

@@ -1,4 +1,4 @@
-use Rattle.qbf_text.proofs.Words.{decimal, err_from_is_err_and}
+use Rattle.qbf_text.proofs.Cited.{decimal, err_from_is_err_and}
 use Rattle.qbf_text.proofs.SentParts.{put_fails}
 use Rattle.qbf_text.proofs.sink.Sink.push_spaced.Goals as goal
 

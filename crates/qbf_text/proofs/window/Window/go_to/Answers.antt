@@ -1,4 +1,4 @@
-use Rattle.qbf_text.proofs.Words.{◌≤◌, length, sym, subst}
+use Rattle.qbf_text.proofs.Cited.{◌≤◌, length, sym, subst}
 use Rattle.qbf_text.proofs.Windows.{part_within, part_few}
 use Rattle.qbf_text.proofs.window.Window.go_to.Goals as goal
 

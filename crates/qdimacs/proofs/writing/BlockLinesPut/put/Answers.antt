@@ -1,4 +1,4 @@
-use Rattle.qdimacs.proofs.Words.{arith, rules, refl, pairs, blocks_of-pairs, sent_fails, sent_part, drop_all, sent_last}
+use Rattle.qdimacs.proofs.Cited.{arith, rules, refl, pairs, blocks_of-pairs, sent_fails, sent_part, drop_all, sent_last}
 use Rattle.qdimacs.proofs.WrittenParts.{prefix_next}
 use Rattle.qdimacs.proofs.writing.BlockLinesPut.put.Goals as goal
 

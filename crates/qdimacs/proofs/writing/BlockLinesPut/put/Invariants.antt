@@ -1,4 +1,4 @@
-use Rattle.qdimacs.proofs.Words.{drop, pairs, blocks_of, IsSent, blocks_rest, sets_text}
+use Rattle.qdimacs.proofs.Cited.{drop, pairs, blocks_of, IsSent, blocks_rest, sets_text}
 use Rattle.qdimacs.proofs.writing.BlockLinesPut.put.Given as goal
 
 abbrev pub invariant-loop-i : goal.invariant-loop-i

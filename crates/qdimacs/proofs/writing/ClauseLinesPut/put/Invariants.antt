@@ -1,4 +1,4 @@
-use Rattle.qdimacs.proofs.Words.{drop, IsSent, clauses_text}
+use Rattle.qdimacs.proofs.Cited.{drop, IsSent, clauses_text}
 use Rattle.qdimacs.proofs.writing.ClauseLinesPut.put.Given as goal
 
 abbrev pub invariant-loop-i : goal.invariant-loop-i

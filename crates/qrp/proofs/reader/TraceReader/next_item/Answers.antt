@@ -1,4 +1,4 @@
-use Rattle.qrp.proofs.Words.{refl, rules}
+use Rattle.qrp.proofs.Cited.{refl, rules}
 use Rattle.qrp.proofs.ItemStops.{stands_next}
 use Rattle.qrp.specs.NextItem.{items_left}
 use Rattle.qrp.proofs.RowsReadTheItem.{left_next}

@@ -1,4 +1,4 @@
-use Rattle.qrp.proofs.Words.{sent_fails, sent_part, part_at_next, step_text}
+use Rattle.qrp.proofs.Cited.{sent_fails, sent_part, part_at_next, step_text}
 use Rattle.qrp.proofs.writing.StepLinesAtPut.put.Goals as goal
 
 pub returns-in_err-put_step : goal.returns-in_err-put_step

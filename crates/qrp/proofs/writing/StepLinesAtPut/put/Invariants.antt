@@ -1,4 +1,4 @@
-use Rattle.qrp.proofs.Words.{drop, IsSent, steps_at, steps_text}
+use Rattle.qrp.proofs.Cited.{drop, IsSent, steps_at, steps_text}
 use Rattle.qrp.proofs.writing.StepLinesAtPut.put.Given as goal
 
 abbrev pub invariant-loop-position : goal.invariant-loop-position

@@ -1,4 +1,4 @@
-use Rattle.qrp.proofs.Words.{arith, sent_fails, sent_part, part_next, step_text}
+use Rattle.qrp.proofs.Cited.{arith, sent_fails, sent_part, part_next, step_text}
 use Rattle.qrp.proofs.writing.StepLinesPut.put.Goals as goal
 
 pub returns-in_err-put_step : goal.returns-in_err-put_step

@@ -1,4 +1,4 @@
-use Rattle.qrp_rules.proofs.Words.{rules}
+use Rattle.qrp_rules.proofs.Cited.{rules}
 use Rattle.qrp_rules.proofs.WatchedClauses.{all_met, all_watched}
 use Rattle.qrp_rules.proofs.initial_cubes.InitialCubes.accepts_initial.Goals as goal
 

@@ -1,4 +1,4 @@
-use Rattle.qrp_rules.proofs.Words.{refl, slice_get_read}
+use Rattle.qrp_rules.proofs.Cited.{refl, slice_get_read}
 use Rattle.qrp_rules.proofs.initial_cubes.InitialCubes.literal.Goals as goal
 
 pub returns : goal.returns

@@ -1,4 +1,4 @@
-use Rattle.qrp_rules.proofs.Words.{arith}
+use Rattle.qrp_rules.proofs.Cited.{arith}
 use Rattle.qrp_rules.proofs.WatchedClauses.{pending_done, pending_met, pending_taken}
 use Rattle.qrp_rules.proofs.initial_cubes.InitialCubes.move_clauses.Goals as goal
 

@@ -1,4 +1,4 @@
-use Rattle.qrp_rules.proofs.Words.{◌≤◌, ◌+◌, ℕ, length, IsMet}
+use Rattle.qrp_rules.proofs.Cited.{◌≤◌, ◌+◌, ℕ, length, IsMet}
 use Rattle.std.proofs.Common.{vec_len}
 use Rattle.qrp_rules.proofs.WatchedClauses.{IsPending}
 use Rattle.qrp_rules.proofs.initial_cubes.InitialCubes.move_clauses.Given as goal

@@ -1,4 +1,4 @@
-use Rattle.qrp_rules.proofs.Words.{◌≡◌, ◌∙◌, List, Some, ap, arith, slice_get, subst, sym, lit_test, Watch}
+use Rattle.qrp_rules.proofs.Cited.{◌≡◌, ◌∙◌, List, Some, ap, arith, slice_get, subst, sym, lit_test, Watch}
 use Rattle.std.proofs.lemmas.Option.{slice_get-get_or}
 use Rattle.qrp_rules.proofs.initial_cubes.InitialCubes.position.Goals as goal
 

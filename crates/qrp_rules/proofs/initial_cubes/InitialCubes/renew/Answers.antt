@@ -1,4 +1,4 @@
-use Rattle.qrp_rules.proofs.Words.{◌≡◌, ◌+◌, ◌-◌, ◌<◌, ℕ, arith, subst, IsMet}
+use Rattle.qrp_rules.proofs.Cited.{◌≡◌, ◌+◌, ◌-◌, ◌<◌, ℕ, arith, subst, IsMet}
 use Rattle.qrp_rules.proofs.WatchedClauses.{watched_before}
 use Rattle.qrp_rules.proofs.initial_cubes.InitialCubes.renew.Goals as goal
 

@@ -1,4 +1,4 @@
-use Rattle.qrp_rules.proofs.Words.{◌≤◌, ℕ, length, IsMet}
+use Rattle.qrp_rules.proofs.Cited.{◌≤◌, ℕ, length, IsMet}
 use Rattle.qrp_rules.proofs.initial_cubes.InitialCubes.renew.Given as goal
 
 abbrev pub invariant-loop-position : goal.invariant-loop-position

@@ -1,4 +1,4 @@
-use Rattle.qrp_rules.proofs.Words.{arith, slice_get_within}
+use Rattle.qrp_rules.proofs.Cited.{arith, slice_get_within}
 use Rattle.qrp_rules.proofs.WatchedClauses.{met_next}
 use Rattle.qrp_rules.proofs.initial_cubes.InitialCubes.watch_all.Goals as goal
 

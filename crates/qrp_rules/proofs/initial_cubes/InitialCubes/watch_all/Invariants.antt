@@ -1,4 +1,4 @@
-use Rattle.qrp_rules.proofs.Words.{ℕ, ◌<◌, IsMet}
+use Rattle.qrp_rules.proofs.Cited.{ℕ, ◌<◌, IsMet}
 use Rattle.qrp_rules.proofs.initial_cubes.InitialCubes.watch_all.Given as goal
 
 abbrev pub invariant-loop-position : goal.invariant-loop-position

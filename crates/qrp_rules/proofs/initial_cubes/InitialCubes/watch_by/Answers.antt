@@ -1,4 +1,4 @@
-use Rattle.qrp_rules.proofs.Words.{◌∙◌, refl, sym, subst, List, IsWatchedBy, Watch}
+use Rattle.qrp_rules.proofs.Cited.{◌∙◌, refl, sym, subst, List, IsWatchedBy, Watch}
 use Rattle.qrp_rules.proofs.WatchedClauses.{added_watches, last_one, list_here, pushed_or_not, written_keeps, written_watches}
 use Rattle.std.proofs.lemmas.Result.{on_ok_weaker}
 use Rattle.qrp_rules.proofs.initial_cubes.InitialCubes.watch_by.Goals as goal

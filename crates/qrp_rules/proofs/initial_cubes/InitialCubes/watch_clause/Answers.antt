@@ -1,4 +1,4 @@
-use Rattle.qrp_rules.proofs.Words.{in_at}
+use Rattle.qrp_rules.proofs.Cited.{in_at}
 use Rattle.qrp_rules.proofs.WatchedClauses.{met_by}
 use Rattle.qrp_rules.proofs.initial_cubes.InitialCubes.watch_clause.Goals as goal
 

@@ -1,4 +1,4 @@
-use Rattle.qrp_rules.proofs.Words.{◌≡◌}
+use Rattle.qrp_rules.proofs.Cited.{◌≡◌}
 use Rattle.qrp_rules.proofs.initial_cubes.InitialCubes.watch_clause.Given as goal
 
 abbrev pub invariant-loop-lit : goal.invariant-loop-lit

@@ -1,4 +1,4 @@
-use Rattle.qrp_rules.proofs.Words.{arith, code, false≢true, inl, inr}
+use Rattle.qrp_rules.proofs.Cited.{arith, code, false≢true, inl, inr}
 use Rattle.qrp_rules.proofs.Stamps.{none_later, zeros_upto}
 use Rattle.qrp_rules.proofs.seen.SeenLits.clear.Goals as goal
 

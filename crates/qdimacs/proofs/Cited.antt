@@ -4,10 +4,10 @@ pub use Rattle.qbf_core.proofs.DistinctNumbers.{front_all, front_distinct, middl
 pub use Rattle.qbf_core.specs.Blocks.{AreBound, IsPrefix, pairs_of_block, with_pair}
 pub use Rattle.qbf_core.specs.Qbf.{IsWellFormed}
 pub use Rattle.dimacs_syntax.proofs.CanonicalLines.{literals_plain, set_written}
-pub use Rattle.dimacs_syntax.proofs.Words.{AllByRecursion, AllByRecursion-push, Block, Ends, IsSent, IsVariable, Lined, Literal, Qbf}
-pub use Rattle.dimacs_syntax.proofs.Words.{Qdimacs, Quantifier, Token, blocks_of, flat_map, flat_map-append, flat_map-map, is_bound}
-pub use Rattle.dimacs_syntax.proofs.Words.{length-append, letter, literal, map-append, number, pairs, read-one, sent_fails, sent_part, set}
-pub use Rattle.dimacs_syntax.proofs.Words.{tokens, without_lines, variables}
+pub use Rattle.dimacs_syntax.proofs.Cited.{AllByRecursion, AllByRecursion-push, Block, Ends, IsSent, IsVariable, Lined, Literal, Qbf}
+pub use Rattle.dimacs_syntax.proofs.Cited.{Qdimacs, Quantifier, Token, blocks_of, flat_map, flat_map-append, flat_map-map, is_bound}
+pub use Rattle.dimacs_syntax.proofs.Cited.{length-append, letter, literal, map-append, number, pairs, read-one, sent_fails, sent_part, set}
+pub use Rattle.dimacs_syntax.proofs.Cited.{tokens, without_lines, variables}
 pub use Rattle.dimacs_syntax.proofs.Worked.{all, exists}
 pub use Rattle.dimacs_syntax.proofs.WrittenParts.{closed_literals, set_line}
 pub use Rattle.dimacs_syntax.specs.Decode.{member}

@@ -1,9 +1,9 @@
 -- The names that the proofs cite most, passed on from one place. Declares nothing.
 pub use Rattle.qbf_core.proofs.DistinctNumbers.{new_number, one_place, push_distinct}
 pub use Rattle.dimacs_syntax.proofs.CanonicalLines.{literals_plain, set_written}
-pub use Rattle.dimacs_syntax.proofs.Words.{AllByRecursion, AllByRecursion-push, Block, IsSent, IsVariable, Lined, Literal, Qrp, Quantifier}
-pub use Rattle.dimacs_syntax.proofs.Words.{Read, Token, ahead, flat_map, flat_map-append, flat_map-map, left, length-append, letter, literal}
-pub use Rattle.dimacs_syntax.proofs.Words.{map-append, number, read-one, sent_fails, sent_part, set, tokens, tokens_next, without_lines}
+pub use Rattle.dimacs_syntax.proofs.Cited.{AllByRecursion, AllByRecursion-push, Block, IsSent, IsVariable, Lined, Literal, Qrp, Quantifier}
+pub use Rattle.dimacs_syntax.proofs.Cited.{Read, Token, ahead, flat_map, flat_map-append, flat_map-map, left, length-append, letter, literal}
+pub use Rattle.dimacs_syntax.proofs.Cited.{map-append, number, read-one, sent_fails, sent_part, set, tokens, tokens_next, without_lines}
 pub use Rattle.dimacs_syntax.proofs.Worked.{all, exists}
 pub use Rattle.dimacs_syntax.proofs.WrittenParts.{closed_numbers, set_line}
 pub use Rattle.dimacs_syntax.specs.Texts.{set_text}

@@ -1,6 +1,6 @@
 -- Lists in one buffer.
-use Rattle.qbf_core.proofs.Words.{common_steps, ◌≡◌, ◌≤◌, ◌<◌, ◌-◌, ℕ, zero, suc, List, [], ◌∷◌, ◌++◌, length, take, drop, slice_get}
-use Rattle.qbf_core.proofs.Words.{Option, Some, refl, sym, ap, ◌∙◌, arith, take-append-drop}
+use Rattle.qbf_core.proofs.Cited.{common_steps, ◌≡◌, ◌≤◌, ◌<◌, ◌-◌, ℕ, zero, suc, List, [], ◌∷◌, ◌++◌, length, take, drop, slice_get}
+use Rattle.qbf_core.proofs.Cited.{Option, Some, refl, sym, ap, ◌∙◌, arith, take-append-drop}
 use Rattle.std.proofs.lemmas.List.{drop_all, drop-append-le, length-take-le}
 use Rattle.std.proofs.Common.{slice_range}
 use Rattle.std.specs.Option.{unwrap_or}

@@ -1,6 +1,6 @@
 -- Steps in flat buffers.
-use Rattle.qrp.proofs.Words.{common_steps, ◌≡◌, ◌<◌, ◌≤◌, ◌^◌, ℕ, suc, List, [], ◌∷◌, ◌++◌, length, slice_get, Some, arith, AreStepNumbers}
-use Rattle.qrp.proofs.Words.{Kept, steps_of, IsFlat, Inference, IsAt, IsInference}
+use Rattle.qrp.proofs.Cited.{common_steps, ◌≡◌, ◌<◌, ◌≤◌, ◌^◌, ℕ, suc, List, [], ◌∷◌, ◌++◌, length, slice_get, Some, arith, AreStepNumbers}
+use Rattle.qrp.proofs.Cited.{Kept, steps_of, IsFlat, Inference, IsAt, IsInference}
 use Rattle.std.proofs.lemmas.List.{length-append, length-map, map-append}
 use Rattle.std.specs.List.{AllByRecursion}
 use Rattle.qbf_core.specs.Literal.{Literal}
