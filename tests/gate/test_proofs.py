@@ -71,7 +71,8 @@ def say(path, folder, place, name, body, stored):
     goals += ["bounds-a-b"] if "a[b]" in body else []
     goals += ["prove-unreachable-requires"] if "prove!" in body else []
     said = [f"./{folder}/Answers.antt:6:13: error: `no_answer`: the two types differ"] if "no_answer" in stored else []
-    if "b + a" in body:
+    # Of `sum` itself `a + a` is proved, and of a copy it rests on what is not.
+    if "b + a" in body or "a + a" in body and name != "sum":
         return [*said, waits]
     if not fits:
         return [*said, misfit, f"fn {path}: not proved"]
@@ -351,6 +352,16 @@ def a_function_without_copies_has_its_control_in_its_place():
         return told.returncode == 1 and left in told.stdout and refused in told.stdout and told.stdout.endswith("\n1 passed, 1 failed\n")
 
 
+def a_control_that_rests_on_another_wrong_body_is_tried_in_its_place():
+    with Repository({"one": added("if b == 0 { return a - b; }", "if b == 0 { return a + a; }")}) as repository:
+        told = repository.run()
+        return all([
+            told.returncode == 0,
+            "refused: one/one: one::sum: returns (not shown, and with its right text it is proved)\n" in told.stdout,
+            "one alone, one: one, " in told.stdout,
+        ])
+
+
 def a_way_that_is_added_does_not_count_otherwise():
     wrong = "if b == 0 { return a - b; }"
     return all([
@@ -582,6 +593,7 @@ TESTS = [
     right_bodies_do_not_count,
     a_way_that_is_added_counts_if_its_control_is_proved,
     a_function_without_copies_has_its_control_in_its_place,
+    a_control_that_rests_on_another_wrong_body_is_tried_in_its_place,
     a_way_that_is_added_does_not_count_otherwise,
     one_that_has_evidence_is_not_written_down_as_without,
     two_bodies_share_a_right_one,

@@ -4,9 +4,9 @@
 use Rattle.std.specs.Prelude.{◌≡◌, ◌≤◌, ℕ, Bool, true, false, List, [], ◌∷◌, ◌++◌, length, Option, Some, None, option_map, Result, Ok, Err}
 use Rattle.std.specs.Prelude.{nat_lt, if◌then◌else◌}
 use Rattle.dimacs_syntax.specs.Cited
-use Words.{AllByRecursion, Quantifier, Literal, Qbf, Token, Lined, Fails}
-use Words.token
-use Words.word
+use Cited.{AllByRecursion, Quantifier, Literal, Qbf, Token, Lined, Fails}
+use Cited.token
+use Cited.word
 use Rattle.qbf_core.specs.Blocks.{blocks_of, is_bound}
 use Rattle.qdimacs.specs.declared.fault.FormulaFault.{FormulaFault}
 use Rattle.qdimacs.specs.declared.fault.FormulaFault.TheVariants.{F2, F3, F4, F5, F6, F7, F8, F9, F1}

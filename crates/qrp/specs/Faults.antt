@@ -1,9 +1,9 @@
 -- Where the first fault stands: the tokens before it are accepted, and the row of its state refuses it.
 use Rattle.std.specs.Prelude.{◌≡◌, ◌≤◌, ℕ, false, List, [], ◌∷◌, ◌++◌, map, length, Result}
 use Rattle.dimacs_syntax.specs.Cited
-use Words.{AllByRecursion, Block, IsVariable, Token, Lined, number, literal, letter}
-use Words.token
-use Words.word
+use Cited.{AllByRecursion, Block, IsVariable, Token, Lined, number, literal, letter}
+use Cited.token
+use Cited.word
 use Rattle.qbf_text.specs.Rows.{Fails}
 use Rattle.dimacs_syntax.specs.Headers.{header_before}
 use Rattle.qrp.specs.declared.fault.TraceFault.{TraceFault}
