@@ -43,7 +43,7 @@ MANDIR ?= $(PREFIX)/share/man
 all: $(PROGRAM)
 
 $(PROGRAM): $(SOURCES)
-	@echo 'proves and builds the program: 7 to 17 minutes on four processors from nothing, 4 GB of memory, and 2.8 GB of disk for what is kept'
+	@echo 'proves and builds the program: 7 to 30 minutes on four processors from nothing, 4 GB of memory, and 2.8 GB of disk for what is kept'
 	RT=$(RT) gate/prove qrp_cmd
 	mkdir -p bin
 	cp crates/qrp_cmd/out/qrp_cmd $(PROGRAM)
