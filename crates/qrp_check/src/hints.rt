@@ -1,5 +1,8 @@
 //! Where the antecedents of the core were found.
 
+ghost use Rattle.std.specs.Prelude.{◌≡◌, ℕ, ◌<◌, Some, length, IfSome, IsTrue};
+ghost use Rattle.qrp.specs.Inferences.{Inference, IsAt, IsOnlyAt};
+
 use qrp::Steps;
 use std::alloc::{AllocError, Global};
 
@@ -11,6 +14,18 @@ pub(crate) struct Hints {
     positions: Vec<u32>,
     /// Whether positions are kept: not where a look-up takes no memory.
     keeps: bool,
+    /// Where the antecedent was found that was last looked for elsewhere than right before its step.
+    last: usize,
+}
+
+/// Whether the step at a position has this number, if there is one.
+#[inline(always)]
+fn is_at<T: Steps>(trace: &T, position: usize, number: u64) -> bool
+    ensures found { IsTrue result → (step : Inference) × IsAt (T.steps trace.now) position step
+        × (step.number ≡ number) }
+    ensures only { IsTrue result → IsOnlyAt (T.steps trace.now) position number }
+{
+    position < trace.len() && trace.number(position) == number
 }
 
 impl Hints {
@@ -24,7 +39,53 @@ impl Hints {
         Hints {
             positions: Vec::new(alloc),
             keeps,
+            last: 0,
         }
+    }
+
+    /// The position of the step with a number, if positions are kept and it is one of two: the one
+    /// right before a position, or the one before the antecedent that was found last.
+    #[inline(always)]
+    fn guess<T: Steps>(&mut self, trace: &T, position: usize, number: u64) -> Option<usize>
+        ensures found { IfSome result (λ i.
+            (step : Inference) × IsAt (T.steps trace.now) i step × (step.number ≡ number)) }
+        ensures only { IfSome result (λ i. IsOnlyAt (T.steps trace.now) i number) }
+    {
+        if !self.keeps {
+            return None;
+        }
+        let before = position.wrapping_sub(1);
+        if is_at(trace, before, number) {
+            return Some(before);
+        }
+        let next = self.last.wrapping_sub(1);
+        if is_at(trace, next, number) {
+            self.last = next;
+            return Some(next);
+        }
+        None
+    }
+
+    /// The position of the step with a number, an antecedent of the step at a position. If a look-up
+    /// takes memory, it is guessed first.
+    #[inline(always)]
+    pub(crate) fn find<T: Steps>(
+        &mut self,
+        trace: &T,
+        position: usize,
+        number: u64,
+    ) -> Option<usize>
+        ensures found { IfSome result (λ i.
+            (step : Inference) × IsAt (T.steps trace.now) i step × (step.number ≡ number)) }
+        ensures only { (i : ℕ) (step : Inference) → IsAt (T.steps trace.now) i step
+            → step.number ≡ number → result ≡ Some i }
+    {
+        if let Some(guess) = self.guess(trace, position, number) {
+            return Some(guess);
+        }
+        let found = trace.position(number)?;
+        self.last = found;
+        Some(found)
     }
 
     /// Keeps where an antecedent was found. Where it was not found, any other position serves.

@@ -189,7 +189,7 @@ impl SparseNumbers {
     }
 
     /// A place of a number, or `None` if it did not come.
-    #[inline(always)]
+    #[inline(never)]
     #[tactic(auto, using(crate::proofs::SparseNumbers::not_there))]
     pub(crate) fn position(&self, number: u64) -> Option<usize>
         ensures some { IfSome result (λ i. slice_get self.now i ≡ Some number) }
