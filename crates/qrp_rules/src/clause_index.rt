@@ -3,7 +3,7 @@
 ghost use Rattle.std.specs.Prelude.{IfOk, IfSome};
 ghost use Rattle.qrp_rules.specs.Initial.{IsAccepted, IsAcceptedIf};
 
-use crate::blocks::reducible_in;
+use crate::blocks::{Reducible, reducible_in};
 use crate::fault::Holds;
 use crate::lists::{is_among, is_ordered};
 use crate::seen::{SeenLits, code, surely_clean};
@@ -18,31 +18,44 @@ fn mixed(lit: Lit) -> u64 {
     (word ^ (word >> 29)).wrapping_mul(0xBF58476D1CE4E5B9)
 }
 
-/// Sums of literals, in which their order does not matter.
+/// Which literals of a list a sum is of.
 #[derive(Clone, Copy)]
-struct Sums {
-    /// Of all literals of a list.
-    all: u64,
-    /// Of those that are not reducible in it. A reduct has the same.
-    kept: u64,
+enum Kind {
+    /// All of them.
+    All,
+    /// Those that universal reduction cannot take out. A reduct has the same.
+    Kept,
 }
 
-/// The sums of a list, of each literal once.
-fn sums_of(seen: &mut SeenLits, prefix: &Prefix, lits: &[Lit]) -> Sums {
-    let reducible = reducible_in(prefix, Quantifier::All, lits);
+/// The sum of literals of a list, of each once, in which their order does not matter. It is of all
+/// but the reducible ones, if those are named.
+#[inline(always)]
+fn sum_but(seen: &mut SeenLits, reducible: Option<Reducible>, lits: &[Lit]) -> u64 {
     let ordered = is_ordered(lits);
-    let mut sums = Sums { all: 0, kept: 0 };
+    let mut sum: u64 = 0;
     seen.clear();
     for lit in lits {
-        if ordered || seen.is_new(*lit) {
-            let share = mixed(*lit);
-            sums.all = sums.all.wrapping_add(share);
-            if !reducible.has(lit.var()) {
-                sums.kept = sums.kept.wrapping_add(share);
-            }
+        let counts = match reducible {
+            Some(reducible) => !reducible.has(lit.var()),
+            None => true,
+        };
+        if counts && (ordered || seen.is_new(*lit)) {
+            sum = sum.wrapping_add(mixed(*lit));
         }
     }
-    sums
+    sum
+}
+
+/// The sum of this kind of a list.
+fn sum_of(kind: Kind, seen: &mut SeenLits, prefix: &Prefix, lits: &[Lit]) -> u64 {
+    match kind {
+        Kind::All => sum_but(seen, None, lits),
+        Kind::Kept => sum_but(
+            seen,
+            Some(reducible_in(prefix, Quantifier::All, lits)),
+            lits,
+        ),
+    }
 }
 
 /// Accepts literals that are, as they are written, a reduct of the clause at a position, which is
@@ -70,6 +83,9 @@ fn accepts_at(seen: &mut SeenLits, formula: &Formula, position: usize, lits: &[L
 /// The position of a clause that was looked for, unless an allocation fails.
 type Found = Result<Option<usize>, AllocError>;
 
+/// So many clauses that a reduct may come from are looked at before one with its literals alone.
+const FEW: usize = 8;
+
 /// Where a chain ends.
 const END: u32 = u32::MAX;
 
@@ -85,6 +101,15 @@ struct Link {
 /// The lower half of a sum.
 fn lower_half(sum: u64) -> u32 {
     (sum & 0xFFFFFFFF) as u32
+}
+
+/// What is looked for in a chain.
+#[derive(Clone, Copy)]
+struct Query<'a> {
+    /// The literals of an initial step, as they are written.
+    lits: &'a [Lit],
+    /// At most so many clauses are looked at.
+    most: usize,
 }
 
 /// Positions in chains, by their sums.
@@ -128,21 +153,21 @@ impl Chains {
         }
     }
 
-    /// The position of a clause with a sum that accepts the literals.
-    fn find(&self, seen: &mut SeenLits, formula: &Formula, sum: u64, lits: &[Lit]) -> Found
-        ensures { IfOk result (λ found. IfSome found (λ _. IsAccepted formula.now lits.now)) }
+    /// The position of a clause with a sum that accepts the literals, among so many of the chain.
+    fn find(&self, seen: &mut SeenLits, formula: &Formula, sum: u64, query: Query) -> Found
+        ensures { IfOk result (λ found. IfSome found (λ _. IsAccepted formula.now query.entry.lits.now)) }
     {
         let mut position = match self.heads.get(self.chain_of(sum)) {
             Some(head) => *head,
             None => END,
         };
-        for _ in 0..self.links.len() {
+        for _ in 0..self.links.len().min(query.most) {
             if position == END {
                 return Ok(None);
             }
             let link = self.link(position);
             if link.half == lower_half(sum) {
-                if accepts_at(seen, formula, position as usize, lits)? {
+                if accepts_at(seen, formula, position as usize, query.lits)? {
                     return Ok(Some(position as usize));
                 }
             }
@@ -152,75 +177,85 @@ impl Chains {
     }
 }
 
-/// The clauses of a formula in their chains.
+/// The clauses of a formula by their sums of one kind.
 #[derive(Drop)]
 struct ClauseIndex {
-    all: Chains,
-    kept: Chains,
+    alloc: Global,
+    kind: Kind,
+    /// Made when a clause is first looked up.
+    chains: Option<Chains>,
 }
 
 impl ClauseIndex {
-    /// The index of a formula.
-    fn new(
-        alloc: Global,
-        seen: &mut SeenLits,
-        formula: &Formula,
-    ) -> Result<ClauseIndex, AllocError> {
-        let count = formula.clauses();
-        let mut all = Chains::new(alloc, count)?;
-        let mut kept = Chains::new(alloc, count)?;
-        for position in (0..count).rev() {
-            let sums = sums_of(seen, formula.prefix(), formula.clause(position));
-            all.push(sums.all, position);
-            kept.push(sums.kept, position);
+    /// An index of which nothing is made, and no memory taken.
+    fn new(alloc: Global, kind: Kind) -> ClauseIndex {
+        ClauseIndex {
+            alloc,
+            kind,
+            chains: None,
         }
-        Ok(ClauseIndex { all, kept })
     }
 
-    /// The position of a clause that accepts the literals: of one with no others, if there is one.
-    fn find(&self, seen: &mut SeenLits, formula: &Formula, lits: &[Lit]) -> Found
-        ensures { IfOk result (λ found. IfSome found (λ _. IsAccepted formula.now lits.now)) }
-    {
-        let sums = sums_of(seen, formula.prefix(), lits);
-        if let Some(position) = self.all.find(seen, formula, sums.all, lits)? {
-            return Ok(Some(position));
+    /// The clauses of a formula in their chains.
+    fn chains_of(&self, seen: &mut SeenLits, formula: &Formula) -> Result<Chains, AllocError> {
+        let count = formula.clauses();
+        seen.make_room(formula.prefix())?;
+        let mut chains = Chains::new(self.alloc, count)?;
+        for position in (0..count).rev() {
+            let sum = sum_of(self.kind, seen, formula.prefix(), formula.clause(position));
+            chains.push(sum, position);
         }
-        self.kept.find(seen, formula, sums.kept, lits)
+        Ok(chains)
+    }
+
+    /// The position of a clause that accepts the literals, of those that have the same sum.
+    fn find(&mut self, seen: &mut SeenLits, formula: &Formula, query: Query) -> Found
+        ensures { IfOk result (λ found. IfSome found (λ _. IsAccepted formula.now query.entry.lits.now)) }
+    {
+        let sum = sum_of(self.kind, seen, formula.prefix(), query.lits);
+        if let Some(chains) = &self.chains {
+            return chains.find(seen, formula, sum, query);
+        }
+        let chains = self.chains_of(seen, formula)?;
+        let found = chains.find(seen, formula, sum, query)?;
+        self.chains = Some(chains);
+        Ok(found)
     }
 }
 
 /// How the initial clauses of a trace are found in the formula.
 #[derive(Drop)]
 pub(crate) struct InitialClauses {
-    alloc: Global,
     /// The position after the clause that was found last: solvers mostly write them in their order.
     next: usize,
-    /// Made when a clause is first not found there.
-    index: Option<ClauseIndex>,
+    /// By the literals that a reduct keeps.
+    kept: ClauseIndex,
+    /// By all literals, if many clauses keep the same.
+    all: ClauseIndex,
 }
 
 impl InitialClauses {
     /// Nothing is known of the formula, and no memory taken.
     pub(crate) fn new(alloc: Global) -> InitialClauses {
         InitialClauses {
-            alloc,
             next: 0,
-            index: None,
+            kept: ClauseIndex::new(alloc, Kind::Kept),
+            all: ClauseIndex::new(alloc, Kind::All),
         }
     }
 
-    /// The position of a clause that accepts the literals, by the index.
+    /// The position of a clause that accepts the literals.
     fn find(&mut self, seen: &mut SeenLits, formula: &Formula, lits: &[Lit]) -> Found
         ensures { IfOk result (λ found. IfSome found (λ _. IsAccepted formula.now lits.now)) }
     {
-        if let Some(index) = &self.index {
-            return index.find(seen, formula, lits);
+        let most = usize::MAX;
+        if let Some(position) = self.kept.find(seen, formula, Query { lits, most: FEW })? {
+            return Ok(Some(position));
         }
-        seen.make_room(formula.prefix())?;
-        let index = ClauseIndex::new(self.alloc, seen, formula)?;
-        let found = index.find(seen, formula, lits)?;
-        self.index = Some(index);
-        Ok(found)
+        if let Some(position) = self.all.find(seen, formula, Query { lits, most })? {
+            return Ok(Some(position));
+        }
+        self.kept.find(seen, formula, Query { lits, most })
     }
 
     /// Accepts literals that are, as they are written, a reduct of a clean clause of the formula,
