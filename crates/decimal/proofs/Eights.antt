@@ -6,9 +6,10 @@ use Rattle.std.specs.Int.{w64, to_le_bytes}
 use Rattle.std.specs.Str.Parse.{digits_value, digits_value_after, AllDigits}
 use Rattle.std.proofs.lemmas.Int.Digits.{digits_value-lt}
 use Rattle.std.proofs.lemmas.List.{take-take, take_all, take-append-drop, drop-take, length-take-le, length-drop}
-use native.Mathlib.Nat.{pow-zero, pow-succ', mul_assoc, add-mul}
+use native.Mathlib.Nat.{pow-zero, pow-succ', mul_assoc, add-mul, mul-le-mul_right}
 use Rattle.decimal.proofs.Chunks.{all_front}
 use Rattle.decimal.proofs.Lists.{bytes_fit}
+use Rattle.decimal.specs.Digits.{AreDigits}
 
 -- ---- eight digits in a word
 
@@ -78,3 +79,58 @@ module _ (bytes : List ℕ) where
       let same : digits_value_after 10 (digits_value 10 first) second ≡ digits_value_after 10 a second =
       ap (λ n. digits_value_after 10 n second) (sym e) in
       omega (arith, value, more, same, f)
+
+-- digits and some that were read after them
+module _ (bytes : List ℕ) (count len tail : ℕ) (within : count ≤ length bytes)
+    (read : AreDigits (take (length bytes - count) (drop count bytes)) 0 len tail) where
+  rest_is : take (length bytes - count) (drop count bytes) ≡ drop count bytes
+  rest_is = take_all (length bytes - count) (drop count bytes) (omega (arith, length-drop count bytes))
+
+  enough : len ≤ length (drop count bytes)
+  enough = subst (λ l. len ≤ length l) rest_is read.within
+
+  whole : len - 0 ≡ len
+  whole = omega arith
+
+  more_digits : AllDigits 10 (take len (drop count bytes))
+  more_digits = subst (λ l. AllDigits 10 (take len l)) rest_is
+      (subst (λ k. AllDigits 10 (take k (take (length bytes - count) (drop count bytes)))) whole read.digits)
+
+  more_value : tail ≡ digits_value 10 (take len (drop count bytes))
+  more_value = read.value_is ∙ ap (λ k. digits_value 10 (take k (take (length bytes - count) (drop count bytes)))) whole
+      ∙ ap (λ l. digits_value 10 (take len l)) rest_is
+
+  joined : take (count + len) bytes ≡ take count bytes ++ take len (drop count bytes)
+  joined = sym (take-append-drop count (take (count + len) bytes))
+      ∙ ap (λ l. l ++ drop count (take (count + len) bytes)) (take-take count (count + len) bytes (omega arith))
+      ∙ ap (λ l. take count bytes ++ l) (drop-take count len bytes)
+
+  long : length (take len (drop count bytes)) ≡ len
+  long = length-take-le len (drop count bytes) enough
+
+  pub joined_within : count + len ≤ length bytes
+  joined_within = omega (arith, enough, length-drop count bytes, within)
+
+  pub joined_digits : AllDigits 10 (take count bytes) → AllDigits 10 (take (count + len) bytes)
+  joined_digits h = subst (AllDigits 10) (sym joined) (all_append (take count bytes) (take len (drop count bytes)) h more_digits)
+
+  pub joined_value : (v factor : ℕ) → factor ≡ 10 ^ len → v ≡ digits_value 10 (take count bytes)
+      → v * factor + tail ≡ digits_value 10 (take (count + len) bytes)
+  joined_value v factor is e =
+      let more = take len (drop count bytes) in
+      let value : digits_value 10 (take (count + len) bytes) ≡ digits_value_after 10 (digits_value 10 (take count bytes)) more =
+      ap (digits_value 10) joined ∙ after_append 0 (take count bytes) more in
+      let after : digits_value_after 10 v more ≡ v * factor + digits_value 10 more =
+      after_more v more ∙ ap (λ n. v * 10 ^ n + digits_value 10 more) long ∙ ap (λ n. v * n + digits_value 10 more) (sym is) in
+      let same : digits_value_after 10 (digits_value 10 (take count bytes)) more ≡ digits_value_after 10 v more =
+      ap (λ n. digits_value_after 10 n more) (sym e) in
+      omega (arith, value, after, same, more_value)
+
+  -- they are below a power of ten, so that the value has 64 bits
+  pub joined_small : (v factor most : ℕ) → factor ≡ 10 ^ len → (most + 1) * 10 ^ len ≤ 2 ^ 64 → v ≤ most → v * factor + tail < 2 ^ 64
+  joined_small v factor most is room few =
+      let below : tail < factor =
+      omega (arith, more_value, digits_value-lt 10 (take len (drop count bytes)) more_digits, ap (λ n. 10 ^ n) long, is) in
+      let more : (v + 1) * factor ≤ (most + 1) * factor = mul-le-mul_right factor (omega (arith, few)) in
+      let same : (most + 1) * 10 ^ len ≡ (most + 1) * factor = ap (λ n. (most + 1) * n) (sym is) in
+      omega (arith, below, more, same, room, add-mul v 1 factor)

@@ -52,7 +52,72 @@ fn leading_eights(bytes: &[u8]) -> (u64, usize)
     }
 }
 
-/// Finds the digits as `digits` does, eight at a time and then byte by byte: for any length, and at
+/// What so many digits more make of a value.
+#[derive(Clone, Copy)]
+struct Shift {
+    /// The value is multiplied by this.
+    factor: u64,
+    /// The greatest value that has 64 bits then, whatever the digits are.
+    most: u64,
+}
+
+/// What one to seven digits more make of a value.
+#[inline(always)]
+fn shift_by(len: usize) -> Option<Shift>
+    ensures factor { IfSome result (λ s. s.factor ≡ 10 ^ len) }
+    ensures most { IfSome result (λ s. (s.most + 1) * 10 ^ len ≤ 2 ^ 64) }
+{
+    let factor = match len {
+        1 => 10,
+        2 => 100,
+        3 => 1_000,
+        4 => 10_000,
+        5 => 100_000,
+        6 => 1_000_000,
+        7 => 10_000_000,
+        _ => return None,
+    };
+    Some(Shift {
+        factor,
+        most: u64::MAX / factor - 1,
+    })
+}
+
+/// The value of the first digits and of up to seven that follow them, if these end within eight
+/// bytes, and how many all of them are. Of the first, the value and the number are given.
+#[inline(always)]
+fn with_tail(bytes: &[u8], first: (u64, usize)) -> Option<(u64, usize)>
+    requires within { first.1 ≤ length bytes.now }
+    requires digits { AllDigits 10 (take first.1 bytes.now) }
+    requires value { first.0 ≡ digits_value 10 (take first.1 bytes.now) }
+    ensures { IfSome result (λ r. (r.1 ≤ 20) × (r.1 ≤ length bytes.now)
+        × AllDigits 10 (take r.1 bytes.now) × (r.0 ≡ digits_value 10 (take r.1 bytes.now))) }
+{
+    let (value, count) = first;
+    let (tail, len) = by_word(&bytes[count..], 0)?;
+    let shift = shift_by(len)?;
+    if value > shift.most || count + len > MOST {
+        return None;
+    }
+    Some((value * shift.factor + tail, count + len))
+}
+
+/// The value of the first digits, eight at a time and with up to seven more, and how many they are.
+#[inline(always)]
+fn leading_digits(bytes: &[u8]) -> (u64, usize)
+    ensures few { result.1 ≤ 20 }
+    ensures within { result.1 ≤ length bytes.now }
+    ensures digits { AllDigits 10 (take result.1 bytes.now) }
+    ensures value { result.0 ≡ digits_value 10 (take result.1 bytes.now) }
+{
+    let eights = leading_eights(bytes);
+    match with_tail(bytes, eights) {
+        Some(all) => all,
+        None => eights,
+    }
+}
+
+/// Finds the digits as `digits` does, many at a time and then byte by byte: for any length, and at
 /// the end of the bytes.
 #[cold]
 #[inline(never)]
@@ -62,7 +127,7 @@ fn by_digit(bytes: &[u8], from: usize) -> (u64, usize)
     ensures { AreLeadingDigits bytes.now from result }
 {
     let rest = &bytes[from..];
-    let (first, count) = leading_eights(rest);
+    let (first, count) = leading_digits(rest);
     let mut value = first;
     let mut i = count;
     while i < MOST && i < rest.len() && rest[i].is_ascii_digit() {
