@@ -339,6 +339,23 @@ impl Numbers {
         number_before(&bytes[at..], end.wrapping_sub(at))
     }
 
+    /// The number `k`, which begins at the place `at`, if it comes before the number `runs` and is
+    /// a usual one: a longer one is not looked at.
+    #[inline(always)]
+    fn one_before(&self, bytes: &[u8], k: usize, at: usize, runs: usize) -> Option<i32>
+        requires room { (k ≤ runs) × (runs ≤ 2048) }
+        requires here { (place self.now k ≡ at) × (at ≤ length bytes.now) }
+        requires small { length bytes.now ≤ 4096 }
+        ensures stands { IfSome result (λ value. (k < runs)
+            × NumberStands bytes.now self.now.places k value) }
+    {
+        if k >= runs || self.end(k).wrapping_sub(at) > 8 {
+            return None;
+        }
+        let value = self.one_at(bytes, k, at)?;
+        Some(value)
+    }
+
     /// The four numbers from the number `k` on, which begin at the place `at`, if they come before
     /// the number `runs` and are usual ones.
     #[inline(always)]
@@ -360,15 +377,16 @@ impl Numbers {
         Some(four)
     }
 
-    /// Makes the numbers known that stand from the place `start` on, as far as they are usual: of
-    /// at most eight bytes.
-    #[inline(never)]
-    pub fn fill(&mut self, bytes: &[u8], start: usize)
-        requires start { start ≤ length bytes.now }
+    /// Puts the numbers that stand from the place `start` on, as far as they are usual ones and come
+    /// before the number `runs`. Returns how far that is, and how many zeros are among them.
+    #[inline(always)]
+    fn put_usual(&mut self, bytes: &[u8], start: usize, runs: usize) -> (usize, usize)
+        requires start { (start ≤ length bytes.now) × (place self.old self.old.first ≡ start) }
         requires small { length bytes.now ≤ 4096 }
-        ensures { AreHeld self.new bytes.now start }
+        requires room { (self.old.first ≤ runs) × (runs ≤ 2048)
+            × (length self.old.values ≡ 2048) }
+        ensures { AreHeld (record self.new { known = result.0 }) bytes.now start }
     {
-        let runs = self.seek(start);
         let mut k = self.first;
         let mut at = start;
         let mut zeros = 0;
@@ -378,11 +396,8 @@ impl Numbers {
                 zeros = self.note_zeros(k, four.zeros, zeros);
                 k += 4;
             } else {
-                if k >= runs {
-                    break;
-                }
-                let Some(value) = self.one_at(bytes, k, at) else {
-                    break;
+                let Some(value) = self.one_before(bytes, k, at, runs) else {
+                    return (k, zeros);
                 };
                 self.put(k, value);
                 zeros = self.note_zeros(k, u64::from(value == 0), zeros);
@@ -390,7 +405,19 @@ impl Numbers {
             }
             at = usize::from(self.places[k]);
         }
-        self.known = k;
+    }
+
+    /// Makes the numbers known that stand from the place `start` on, as far as they are usual: of
+    /// at most eight bytes.
+    #[inline(never)]
+    pub fn fill(&mut self, bytes: &[u8], start: usize)
+        requires start { start ≤ length bytes.now }
+        requires small { length bytes.now ≤ 4096 }
+        ensures { AreHeld self.new bytes.now start }
+    {
+        let runs = self.seek(start);
+        let (known, zeros) = self.put_usual(bytes, start, runs);
+        self.known = known;
         self.zero = 0;
         self.zero_count = zeros;
         self.is_stuck = true;
