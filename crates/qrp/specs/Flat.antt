@@ -57,12 +57,12 @@ kept_of p = record {
 abbrev pub after_close : {X : Type 0} → Growing X → Growing X
 after_close g = record { whole = g.whole ++ g.unfinished ∷ []; unfinished = [] }
 
--- a trace with one more item
+-- a trace with one more item; a result is not kept
 abbrev pub with_item : Derivation → Item → Derivation
 with_item d (item.Header h) = record d { header = h }
 with_item d (item.Set s) = record d { sets = d.sets ++ s ∷ [] }
 with_item d (item.Step s) = record d { steps = d.steps ++ s ∷ [] }
-with_item d (item.Result o) = record d { result = o }
+with_item d (item.Result o) = d
 
 -- an unfinished part is whole
 pub record ClosesPart (old new : Parts) (p : Part) : Type 0 where

@@ -5,11 +5,11 @@ ghost use Rattle.std.specs.Prelude.{slice_index_or, slice_range, IfSome, IfOk, I
 ghost use Rattle.std.specs.List.{AllByRecursion};
 ghost use Rattle.qbf_core.specs.WrittenLiterals.{literal_of, IsWritten};
 ghost use Rattle.qbf_text.specs.Numbers.{LeadsOver};
-ghost use Rattle.qrp.specs.declared.states.At.TheVariants as at;
+ghost use Rattle.qrp.specs.declared.states.State.TheVariants as at;
 ghost use Rattle.qrp.specs.States.{state_at, IsSound, Stays};
 ghost use Rattle.qrp.specs.Reading.{row};
 
-use crate::states::{At, Partial, has_room, take_item_start};
+use crate::states::{Partial, State, has_room, take_item_start};
 use crate::tokens::{FAULTS, antecedent};
 use dimacs_syntax::literal;
 use qbf_core::{GrowingLists, LAST_VARIABLE, Lit};
@@ -26,7 +26,7 @@ pub struct AtHand {
 }
 
 /// Where the next token stands, and the place of the next number.
-pub type Reached = (At, Result<usize, AllocError>);
+pub type Reached = (State, Result<usize, AllocError>);
 
 /// Puts literals, as many as there seem to be up to the next zero, at the end of an unfinished
 /// list. Returns the place of the next number.
@@ -66,8 +66,8 @@ fn put_literals(
 #[inline(always)]
 #[tactic(auto, using(crate::proofs::BufferedNumbers::numbers_lead_on))]
 fn take_literals(partial: &mut Partial, number: u64, values: &[i32], from: usize) -> Reached
-    requires here { (from ≤ length values.now) × IsSound (at.Lits number) partial.old }
-    ensures leads { IfOk result.1 (λ to. LeadsOver row (state_at partial.old (at.Lits number))
+    requires here { (from ≤ length values.now) × IsSound (at.InLits number) partial.old }
+    ensures leads { IfOk result.1 (λ to. LeadsOver row (state_at partial.old (at.InLits number))
         (state_at partial.new result.0) values.now from to) }
     ensures within { IfOk result.1 (λ to. to ≤ length values.now) }
     ensures sound { Stays partial.old partial.new × IsSound result.0 partial.new }
@@ -77,16 +77,16 @@ fn take_literals(partial: &mut Partial, number: u64, values: &[i32], from: usize
         match literal(FAULTS, LAST_VARIABLE, Token::number_at(values, i)) {
             Ok(Some(lit)) => match partial.lits.push(lit) {
                 Ok(()) => i += 1,
-                Err(_) => return (At::Lits(number), Err(AllocError)),
+                Err(_) => return (State::InLits(number), Err(AllocError)),
             },
             Ok(None) => {
                 partial.ants.begin();
-                return (At::Ants(number), Ok(i + 1));
+                return (State::InAnts(number), Ok(i + 1));
             }
             Err(_) => break,
         }
     }
-    (At::Lits(number), Ok(i))
+    (State::InLits(number), Ok(i))
 }
 
 /// Takes literals of a step, if such stand next, and the zero after them.
@@ -95,14 +95,14 @@ fn take_literals(partial: &mut Partial, number: u64, values: &[i32], from: usize
 /// Out of memory.
 #[inline(always)]
 #[tactic(auto, using(crate::proofs::BufferedNumbers::numbers_lead_on))]
-fn take_list(here: At, partial: &mut Partial, values: &[i32], hand: AtHand) -> Reached
+fn take_list(here: State, partial: &mut Partial, values: &[i32], hand: AtHand) -> Reached
     requires here { (hand.from ≤ length values.now) × IsSound here partial.old }
     ensures leads { IfOk result.1 (λ to. LeadsOver row (state_at partial.old here)
         (state_at partial.new result.0) values.now hand.from to) }
     ensures within { IfOk result.1 (λ to. to ≤ length values.now) }
     ensures sound { Stays partial.old partial.new × IsSound result.0 partial.new }
 {
-    let At::Lits(number) = here else {
+    let State::InLits(number) = here else {
         return (here, Ok(hand.from));
     };
     match put_literals(&mut partial.lits, values, hand) {
@@ -123,11 +123,11 @@ fn take_antecedents(
     values: &[i32],
     from: usize,
 ) -> Result<usize, AllocError>
-    requires here { (from ≤ length values.now) × IsSound (at.Ants number) partial.old }
-    ensures leads { IfOk result (λ to. LeadsOver row (state_at partial.old (at.Ants number))
-        (state_at partial.new (at.Ants number)) values.now from to) }
+    requires here { (from ≤ length values.now) × IsSound (at.InAnts number) partial.old }
+    ensures leads { IfOk result (λ to. LeadsOver row (state_at partial.old (at.InAnts number))
+        (state_at partial.new (at.InAnts number)) values.now from to) }
     ensures within { IfOk result (λ to. to ≤ length values.now) }
-    ensures sound { Stays partial.old partial.new × IsSound (at.Ants number) partial.new }
+    ensures sound { Stays partial.old partial.new × IsSound (at.InAnts number) partial.new }
 {
     let mut i = from;
     'antecedents: while i < values.len() {
@@ -148,12 +148,12 @@ fn take_antecedents(
 fn begin_step(partial: &mut Partial, values: &[i32], from: usize) -> Option<u64>
     requires within { from < length values.now }
     ensures leads { IfSome result (λ n. LeadsOver row (state_at partial.old at.Between)
-        (state_at partial.new (at.Lits n)) values.now from (from + 1)) }
-    ensures sound { IfSome result (λ n. IsSound (at.Lits n) partial.new) }
+        (state_at partial.new (at.InLits n)) values.now from (from + 1)) }
+    ensures sound { IfSome result (λ n. IsSound (at.InLits n) partial.new) }
     ensures stays { Stays partial.old partial.new }
 {
     match take_item_start(partial, Token::number_at(values, from)) {
-        Ok(At::Lits(number)) => Some(number),
+        Ok(State::InLits(number)) => Some(number),
         _ => None,
     }
 }
@@ -162,21 +162,21 @@ fn begin_step(partial: &mut Partial, values: &[i32], from: usize) -> Option<u64>
 /// place of the next number.
 #[inline(always)]
 #[tactic(auto, using(crate::proofs::BufferedNumbers::numbers_lead_on))]
-fn take_number(here: At, partial: &mut Partial, values: &[i32], from: usize) -> (At, usize)
+fn take_number(here: State, partial: &mut Partial, values: &[i32], from: usize) -> (State, usize)
     requires here { (from ≤ length values.now) × IsSound here partial.old }
     ensures leads { LeadsOver row (state_at partial.old here) (state_at partial.new result.0)
         values.now from result.1 }
     ensures within { result.1 ≤ length values.now }
     ensures sound { Stays partial.old partial.new × IsSound result.0 partial.new }
 {
-    let At::Between = here else {
+    let State::Between = here else {
         return (here, from);
     };
     if from >= values.len() {
         return (here, from);
     }
     match begin_step(partial, values, from) {
-        Some(number) => (At::Lits(number), from + 1),
+        Some(number) => (State::InLits(number), from + 1),
         None => (here, from),
     }
 }
@@ -188,24 +188,24 @@ fn take_number(here: At, partial: &mut Partial, values: &[i32], from: usize) -> 
 /// Out of memory.
 #[inline(always)]
 #[tactic(auto, using(crate::proofs::BufferedNumbers::numbers_lead_on))]
-pub fn take_buffered(here: At, partial: &mut Partial, values: &[i32], hand: AtHand) -> Reached
+pub fn take_buffered(here: State, partial: &mut Partial, values: &[i32], hand: AtHand) -> Reached
     requires here { (hand.from ≤ length values.now) × IsSound here partial.old }
     ensures leads { IfOk result.1 (λ to. LeadsOver row (state_at partial.old here)
         (state_at partial.new result.0) values.now hand.from to) }
     ensures within { IfOk result.1 (λ to. to ≤ length values.now) }
     ensures sound { Stays partial.old partial.new × IsSound result.0 partial.new }
 {
-    let (at, from) = take_number(here, partial, values, hand.from);
+    let (state, from) = take_number(here, partial, values, hand.from);
     let list = AtHand {
         from,
         zero: hand.zero,
     };
-    match take_list(at, partial, values, list) {
-        (At::Ants(number), Ok(to)) => (
-            At::Ants(number),
+    match take_list(state, partial, values, list) {
+        (State::InAnts(number), Ok(to)) => (
+            State::InAnts(number),
             take_antecedents(partial, number, values, to),
         ),
-        (at, reached) => (at, reached),
+        (state, reached) => (state, reached),
     }
 }
 
@@ -240,11 +240,11 @@ fn take_all_literals(
     values: &[i32],
     hand: AtHand,
 ) -> Result<bool, AllocError>
-    requires sound { IsSound (at.Lits number) partial.old }
+    requires sound { IsSound (at.InLits number) partial.old }
     ensures leads { IfOk result (λ b. IsTrue b → (hand.zero < length values.now)
-        × LeadsOver row (state_at partial.old (at.Lits number))
-        (state_at partial.new (at.Ants number)) values.now hand.from (hand.zero + 1)) }
-    ensures sound { IfOk result (λ b. IsTrue b → IsSound (at.Ants number) partial.new) }
+        × LeadsOver row (state_at partial.old (at.InLits number))
+        (state_at partial.new (at.InAnts number)) values.now hand.from (hand.zero + 1)) }
+    ensures sound { IfOk result (λ b. IsTrue b → IsSound (at.InAnts number) partial.new) }
     ensures stays { Stays partial.old partial.new }
 {
     if !has_zero(values, hand) {
@@ -271,9 +271,9 @@ pub fn take_whole(
 ) -> Result<Option<(u64, usize)>, AllocError>
     requires within { hand.from < length values.now }
     ensures leads { IfOk result (λ o. IfSome o (λ s. (s.1 ≤ length values.now)
-        × LeadsOver row (state_at partial.old at.Between) (state_at partial.new (at.Ants s.0))
+        × LeadsOver row (state_at partial.old at.Between) (state_at partial.new (at.InAnts s.0))
         values.now hand.from s.1)) }
-    ensures sound { IfOk result (λ o. IfSome o (λ s. IsSound (at.Ants s.0) partial.new)) }
+    ensures sound { IfOk result (λ o. IfSome o (λ s. IsSound (at.InAnts s.0) partial.new)) }
     ensures stays { Stays partial.old partial.new }
 {
     let Some(number) = begin_step(partial, values, hand.from) else {
@@ -292,12 +292,12 @@ pub fn take_whole(
 
 /// The number of the step that a zero at this place completes, if one stands there.
 #[inline(always)]
-pub fn completed(here: At, values: &[i32], place: usize) -> Option<u64>
-    ensures ants { IfSome result (λ n. here ≡ at.Ants n) }
+pub fn completed(here: State, values: &[i32], place: usize) -> Option<u64>
+    ensures ants { IfSome result (λ n. here ≡ at.InAnts n) }
     ensures within { IfSome result (λ _. place < length values.now) }
     ensures zero { IfSome result (λ _. slice_index_or values.now place (pos 0) ≡ pos 0) }
 {
-    let At::Ants(number) = here else {
+    let State::InAnts(number) = here else {
         return None;
     };
     if is_zero_at(values, place) {

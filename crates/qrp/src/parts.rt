@@ -1,14 +1,12 @@
 //! What a trace is made of, part by part, whether it is read or pushed to.
 
 ghost use Rattle.std.specs.Prelude.{◌≡◌, false, [], ◌∷◌, ◌++◌, OnOk, OnErr};
-ghost use Rattle.dimacs_syntax.specs.declared.header.HeaderAt.TheVariants as header;
 ghost use Rattle.qrp.specs.Flat.{after_close, kept_of, nothing_kept, ClosesPart, IsFlat};
 ghost use Rattle.qrp.specs.States.{IsComplete, Stays};
 ghost use Rattle.step_index.specs.Numbers.{is_used, AreStepNumbers};
 
 use crate::item::{Header, QuantSet};
 use crate::states::{Part, Partial};
-use dimacs_syntax::HeaderAt;
 use qbf_core::GrowingLists;
 use std::alloc::{AllocError, Global};
 use std::mem;
@@ -30,14 +28,12 @@ impl Parts {
     pub fn new(alloc: Global) -> Parts
         ensures sound { IsFlat (kept_of result) }
         ensures kept { kept_of result ≡ nothing_kept }
-        ensures header { result.partial.header ≡ header.P }
     {
         Parts {
             alloc,
             header: Header { vars: 0, steps: 0 },
             sets: Vec::new(alloc),
             partial: Partial {
-                header: HeaderAt::P,
                 vars: Vec::new(alloc),
                 lits: GrowingLists::new(alloc),
                 ants: GrowingLists::new(alloc),
@@ -80,7 +76,7 @@ fn close_step(partial: &mut Partial, number: u64) -> Result<(), AllocError>
     }
 }
 
-/// Puts a part that is complete after the others.
+/// Puts a part that is complete after the others. Nothing is kept of a result.
 ///
 /// # Errors
 /// Out of memory. What is whole is as it was then.
@@ -105,5 +101,6 @@ pub fn close(parts: &mut Parts, part: Part) -> Result<(), AllocError>
             close_step(&mut parts.partial, number)?;
             Ok(())
         }
+        Part::Result(_) => Ok(()),
     }
 }
