@@ -11,8 +11,8 @@ ghost use Rattle.qdimacs.specs.States.{state_at, Moves, Leads, IsSound};
 ghost use Rattle.qdimacs.specs.Reading.{AtP, Whole, IsFull, IsWhole, row};
 
 use crate::fault::FormulaFault;
-use crate::tokens::{FAULTS, FORM, bound_literal, clause_or_end};
-use dimacs_syntax::{HeaderAt, HeaderMove, header_move, member, quantifier};
+use crate::tokens::{FAULTS, FORM, decode_bound_literal, decode_clause_or_end};
+use dimacs_syntax::{HeaderAt, HeaderMove, decode_member, decode_quantifier, header_move};
 use qbf_core::{Formula, GrowingLists, Lit, Prefix, PrefixFault, Quantifier, Var};
 use qbf_text::{Grammar, Progress, Stop, Taken, Token, Zeros};
 use std::alloc::{AllocError, Global};
@@ -83,7 +83,7 @@ fn take_member(parts: &mut Parts, quantifier: Quantifier, token: Token) -> Next
     ensures row { Moves (row (state_at parts.old (at.InSet quantifier)) token) parts.new result }
     ensures sound { Leads parts.old parts.new result }
 {
-    match member(FAULTS, parts.max_var, token)? {
+    match decode_member(FAULTS, parts.max_var, token)? {
         Some(var) => match parts.prefix.push(quantifier, var) {
             Ok(()) => Ok(State::InSet(quantifier)),
             Err(PrefixFault::B1) => Err(Stop::Text(FormulaFault::F5)),
@@ -106,7 +106,7 @@ fn take_literal(parts: &mut Parts, token: Token) -> Next
     ensures row { Moves (row (state_at parts.old at.InClause) token) parts.new result }
     ensures sound { Leads parts.old parts.new result }
 {
-    let said = bound_literal(&parts.prefix, parts.max_var, parts.full, token);
+    let said = decode_bound_literal(&parts.prefix, parts.max_var, parts.full, token);
     match said? {
         Some(lit) => match parts.clauses.push(lit) {
             Ok(()) => Ok(State::InClause),
@@ -128,12 +128,12 @@ fn take_list_start(parts: &mut Parts, token: Token) -> Next
     ensures sound { Leads parts.old parts.new result }
 {
     if parts.clauses.whole_len() == 0 {
-        if let Some(quantifier) = quantifier(token) {
+        if let Some(quantifier) = decode_quantifier(token) {
             return Ok(State::InSet(quantifier));
         }
     }
     let has_more = parts.clauses.whole_len() < parts.count as usize;
-    match clause_or_end(has_more, token)? {
+    match decode_clause_or_end(has_more, token)? {
         true => take_literal(parts, token),
         false => Ok(State::Whole),
     }

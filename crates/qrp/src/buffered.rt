@@ -10,8 +10,8 @@ ghost use Rattle.qrp.specs.States.{state_at, IsSound, Stays};
 ghost use Rattle.qrp.specs.Reading.{row};
 
 use crate::states::{Partial, State, has_room, take_item_start};
-use crate::tokens::{FAULTS, antecedent};
-use dimacs_syntax::literal;
+use crate::tokens::{FAULTS, decode_antecedent};
+use dimacs_syntax::decode_literal;
 use qbf_core::{GrowingLists, LAST_VARIABLE, Lit};
 use qbf_text::Token;
 use std::alloc::AllocError;
@@ -74,7 +74,7 @@ fn take_literals(partial: &mut Partial, number: u64, values: &[i32], from: usize
 {
     let mut i = from;
     'literals: while i < values.len() {
-        match literal(FAULTS, LAST_VARIABLE, Token::number_at(values, i)) {
+        match decode_literal(FAULTS, LAST_VARIABLE, Token::number_at(values, i)) {
             Ok(Some(lit)) => match partial.lits.push(lit) {
                 Ok(()) => i += 1,
                 Err(_) => return (State::InLits(number), Err(AllocError)),
@@ -131,7 +131,7 @@ fn take_antecedents(
 {
     let mut i = from;
     'antecedents: while i < values.len() {
-        match antecedent(has_room(&partial.ants), Token::number_at(values, i)) {
+        match decode_antecedent(has_room(&partial.ants), Token::number_at(values, i)) {
             Ok(Some(ant)) => match partial.ants.push(ant) {
                 Ok(()) => i += 1,
                 Err(_) => return Err(AllocError),

@@ -8,8 +8,10 @@ ghost use Rattle.qrp.specs.Reading.{has_room, row};
 
 use crate::fault::TraceFault;
 use crate::item::{Header, Outcome};
-use crate::tokens::{FAULTS, FORM, ItemStart, antecedent, decode_item_start, outcome_of};
-use dimacs_syntax::{HeaderAt, HeaderMove, header_move, literal, member};
+use crate::tokens::{
+    FAULTS, FORM, ItemStart, decode_antecedent, decode_item_start, decode_outcome,
+};
+use dimacs_syntax::{HeaderAt, HeaderMove, decode_literal, decode_member, header_move};
 use qbf_core::{GrowingLists, LAST_VARIABLE, Lit, Quantifier, Var};
 use qbf_text::{Stop, Token};
 use step_index::StepIndex;
@@ -95,7 +97,7 @@ fn take_literal(partial: &mut Partial, number: u64, token: Token) -> Next
     ensures row { Moves (row (state_at partial.old (at.InLits number)) token) partial.new result }
     ensures sound { Leads (at.InLits number) partial.old partial.new result }
 {
-    match literal(FAULTS, LAST_VARIABLE, token)? {
+    match decode_literal(FAULTS, LAST_VARIABLE, token)? {
         Some(lit) => match partial.lits.push(lit) {
             Ok(()) => Ok(State::InLits(number)),
             Err(_) => Err(Stop::Memory),
@@ -123,7 +125,7 @@ fn take_antecedent(partial: &mut Partial, number: u64, token: Token) -> Next
     ensures sound { Leads (at.InAnts number) partial.old partial.new result }
 {
     let room = has_room(&partial.ants);
-    match antecedent(room, token)? {
+    match decode_antecedent(room, token)? {
         Some(ant) => match partial.ants.push(ant) {
             Ok(()) => Ok(State::InAnts(number)),
             Err(_) => Err(Stop::Memory),
@@ -138,7 +140,7 @@ fn take_member(partial: &mut Partial, quantifier: Quantifier, token: Token) -> N
     ensures row { Moves (row (state_at partial.old (at.InSet quantifier)) token) partial.new result }
     ensures sound { Leads (at.InSet quantifier) partial.old partial.new result }
 {
-    match member(FAULTS, LAST_VARIABLE, token)? {
+    match decode_member(FAULTS, LAST_VARIABLE, token)? {
         Some(var) => match partial.vars.push(var) {
             Ok(()) => Ok(State::InSet(quantifier)),
             Err(_) => Err(Stop::Memory),
@@ -162,7 +164,7 @@ pub fn take_at(here: State, partial: &mut Partial, token: Token) -> Next
         State::InAnts(number) => take_antecedent(partial, number, token),
         State::Between => take_item_start(partial, token),
         State::InSet(quantifier) => take_member(partial, quantifier, token),
-        State::AtResult => Ok(State::After(Part::Result(outcome_of(token)?))),
+        State::AtResult => Ok(State::After(Part::Result(decode_outcome(token)?))),
         State::InHeader(place) => match header_move(FORM, place, token)? {
             HeaderMove::Goes(next) => Ok(State::InHeader(next)),
             HeaderMove::Ends(vars, steps) => Ok(State::After(Part::Header(Header { vars, steps }))),
