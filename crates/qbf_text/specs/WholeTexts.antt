@@ -1,5 +1,5 @@
--- What a call returns that reads a text, in any format: what the text spells, or its first fault and the line of that; and what it tells of its
--- devices.
+-- What a call returns that reads a text, in any format: what the text spells, or its first fault and the line of that; and what it tells
+-- of its devices.
 use Rattle.std.specs.Prelude.{◌≡◌, ◌≢◌, ◌<◌, ◌-◌, ◌^◌, ℕ, Bool, true, false, List, ◌∷◌, ◌++◌, Option, IfSome, IfErr, OnOk, Result, Ok, Err}
 use Rattle.qbf_text.specs.declared.grammar.ReadError.{ReadError}
 use Rattle.qbf_text.specs.declared.grammar.ReadError.TheVariants as error

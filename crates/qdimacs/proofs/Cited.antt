@@ -29,8 +29,8 @@ pub use Rattle.qdimacs.specs.Grammar.{IsFormula, clause, header, lines, spelling
 pub use Rattle.qdimacs.specs.Laws.{ReadsText}
 pub use Rattle.qdimacs.specs.States.{IsMade, IsSound, heading, formula_of, row_to, state_at}
 pub use Rattle.qdimacs.specs.Reading.{ReadResult, AreFrom, AtP, Between, Clauses, Gives, Heading, InClause, InHeader, InSet, IsFull, IsWhole}
-pub use Rattle.qdimacs.specs.Reading.{Pairs, State, Row, Whole, result_of, between_row, decode_bound_literal, clause_row, faults, is_outside, read}
-pub use Rattle.qdimacs.specs.Reading.{read_formula, reads_bytes, row, set_row}
+pub use Rattle.qdimacs.specs.Reading.{Pairs, State, Row, Whole, result_of, between_row, decode_bound_literal, clause_row, faults}
+pub use Rattle.qdimacs.specs.Reading.{is_outside, read, read_formula, reads_bytes, row, set_row}
 pub use Rattle.qdimacs.specs.Texts.{blocks_rest, clauses_text, opening, sets_text}
 pub use Rattle.qdimacs.specs.declared.fault.FormulaFault.{FormulaFault}
 pub use Rattle.qdimacs.specs.declared.fault.FormulaFault.TheVariants.{F2, F3, F4, F5, F6, F7, F8}

@@ -3,9 +3,9 @@ use Rattle.qdimacs.proofs.Cited.{common_steps, rules, inl, inr, ◌⊎◌, ◌�
 use Rattle.qdimacs.proofs.Cited.{Err, refl, sym, subst, ◌∙◌, arith, append_assoc, map-append, flat_map, Quantifier, Literal, Block, pairs}
 use Rattle.qdimacs.proofs.Cited.{is_bound, blocks_of, AllByRecursion-push, Token, Lined, number, literal, letter, set, without_lines, Ends}
 use Rattle.qdimacs.proofs.Cited.{append-nil, pairs_of_block, pairs-blocks_of, Alternates-blocks_of, is_end, push_distinct, flat_map-push}
-use Rattle.qdimacs.proofs.Cited.{decode_member, header, clause, IsFormula, ReadsAsRead, all_of, explained, ResultsAreRead, Reads, IsSoFar, Spells}
+use Rattle.qdimacs.proofs.Cited.{decode_member, header, clause, IsFormula, ReadsAsRead, all_of, explained, ResultsAreRead, Reads, IsSoFar}
 use Rattle.qdimacs.proofs.Cited.{Goes, Fails, Heading, State, AtP, InHeader, Between, InSet, InClause, Whole, Row, row, faults, set_row}
-use Rattle.qdimacs.proofs.Cited.{decode_bound_literal, clause_row, read, IsWhole, result_of, Pairs, Clauses, AreFrom}
+use Rattle.qdimacs.proofs.Cited.{Spells, decode_bound_literal, clause_row, read, IsWhole, result_of, Pairs, Clauses, AreFrom}
 use Rattle.dimacs_syntax.proofs.Cited.{IsDistinct}
 use Rattle.dimacs_syntax.proofs.Cited.token
 use Rattle.qbf_text.specs.Lined.{EndsOnce}
@@ -25,8 +25,8 @@ count_is v t next e = search rules
 abbrev front : Heading → List Block → Clauses → List Token
 front h sets cs = header h.max_var h.count ++ flat_map set sets ++ flat_map clause cs
 
--- a clause that is begun, or about to be
-record IsBegun (ts : List Token) (h : Heading) (ps : Pairs) (cs : Clauses) (ls : List Literal) : Type 0 where
+-- a clause that is unfinished, or about to begin
+record IsUnfinished (ts : List Token) (h : Heading) (ps : Pairs) (cs : Clauses) (ls : List Literal) : Type 0 where
   sets : List Block
   spelled : ts ≡ front h sets cs ++ map literal ls
   bound : pairs sets ≡ ps
@@ -42,7 +42,8 @@ clause_goes : (h : Heading) (ps : Pairs) (cs : Clauses) (ls : List Literal) (t :
 clause_goes h ps cs ls t next e = search rules
 
 clause_step : {ts : List Token} {h : Heading} {ps : Pairs} {cs : Clauses} {ls : List Literal} (t : Token)
-    (next : State) → IsBegun ts h ps cs ls → clause_row h ps cs ls (decode_bound_literal h.max_var ps t) ≡ Goes next → Spells (ts ++ t ∷ []) next
+    (next : State) → IsUnfinished ts h ps cs ls → clause_row h ps cs ls (decode_bound_literal h.max_var ps t) ≡ Goes next
+    → Spells (ts ++ t ∷ []) next
 clause_step {h = h} {ps = ps} {cs = cs} {ls = ls} t next b e = elim (clause_goes h ps cs ls t next e) [
   | inl k ↦ rw (k.1, k.0, b.spelled)
       (b.sets, (simp (flat_map-push, append_assoc)), b.bound, grind (arith, common_steps))

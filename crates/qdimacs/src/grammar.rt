@@ -186,13 +186,13 @@ fn take_clause(parts: &mut Parts, values: &[i32], from: usize) -> Reached
     (State::InClause, Ok(i))
 }
 
-/// Takes the rest of a clause that has begun.
+/// Takes the rest of an unfinished clause, if there is one.
 ///
 /// # Errors
 /// Out of memory.
 #[inline(always)]
 #[tactic(auto, using(crate::proofs::FormulaParts::numbers_lead_on))]
-fn take_begun(here: State, parts: &mut Parts, values: &[i32]) -> Reached
+fn take_unfinished(here: State, parts: &mut Parts, values: &[i32]) -> Reached
     requires sound { IsSound here parts.old }
     ensures leads { IfOk result.1 (λ to. LeadsOver row (state_at parts.old here)
         (state_at parts.new result.0) values.now 0 to) }
@@ -339,7 +339,7 @@ fn take_numbers(here: State, parts: &mut Parts, values: &[i32], zeros: Zeros) ->
     ensures within { IfOk result.1 (λ to. to ≤ length values.now) }
     ensures sound { IsSound result.0 parts.new }
 {
-    match take_begun(here, parts, values) {
+    match take_unfinished(here, parts, values) {
         (State::Between, Ok(from)) => {
             let zero = usize::from(from > 0);
             match take_clauses(parts, values, zeros, (from, zero)) {

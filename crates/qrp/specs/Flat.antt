@@ -48,9 +48,9 @@ abbrev pub kept_of : Parts → Kept
 kept_of p = record {
   header = p.header;
   sets = p.sets.items;
-  numbers = p.partial.index;
-  lits = p.partial.lits.whole;
-  ants = p.partial.ants.whole;
+  numbers = p.lists.index;
+  lits = p.lists.lits.whole;
+  ants = p.lists.ants.whole;
 }
 
 -- the unfinished list is whole, and an empty one begins after it
@@ -66,6 +66,6 @@ with_item d (item.Result o) = d
 
 -- an unfinished part is whole
 pub record ClosesPart (old new : Parts) (p : Part) : Type 0 where
-  pub made : trace_of (kept_of new) ≡ with_item (trace_of (kept_of old)) (item_of old.partial p)
-  pub numbers : new.partial.index ≡ numbers_after old.partial p
+  pub made : trace_of (kept_of new) ≡ with_item (trace_of (kept_of old)) (item_of old.lists p)
+  pub numbers : new.lists.index ≡ numbers_after old.lists p
   pub flat : IsFlat (kept_of new)

@@ -24,11 +24,11 @@ nothing_read = record { made = nothing; state = AtP }
 
 -- what is made of these parts, and where the next token stands
 abbrev pub trace_at : Parts → states.State → TraceRead
-trace_at p here = record { made = trace_of (kept_of p); state = state_at p.partial here }
+trace_at p here = record { made = trace_of (kept_of p); state = state_at p.lists here }
 
 -- what holds of the parts where the next token stands
 abbrev pub AreSound : states.State → Parts → Type 0
-AreSound here p = IsSound here p.partial × IsFlat (kept_of p)
+AreSound here p = IsSound here p.lists × IsFlat (kept_of p)
 
 -- What the row of a state makes of a token. The result alone ends what is read.
 abbrev pub TraceRow : Type 0

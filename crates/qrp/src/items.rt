@@ -9,7 +9,7 @@ use crate::buffered::{AtHand, completed, take_buffered};
 use crate::fault::TraceFault;
 use crate::item::{Item, QuantSet, Step};
 use crate::parts::Parts;
-use crate::states::{Part, Partial, State, take_at};
+use crate::states::{Lists, Part, State, take_at};
 use dimacs_syntax::HeaderAt;
 use qbf_text::{Grammar, Progress, Stop, Taken, Token, Zeros};
 use std::alloc::{AllocError, Global};
@@ -33,9 +33,9 @@ impl Model for ItemGrammar {
     ghost Value = { ItemsRead };
 
     ghost view = { λ g.
-        record { kept = kept_of g.parts; state = state_at g.parts.partial g.state } };
+        record { kept = kept_of g.parts; state = state_at g.parts.lists g.state } };
 
-    ghost invariant = { λ g. IsSound g.state g.parts.partial };
+    ghost invariant = { λ g. IsSound g.state g.parts.lists };
 }
 
 impl ItemGrammar {
@@ -63,14 +63,14 @@ impl ItemGrammar {
         let item = match self.state {
             State::After(Part::Header(header)) => Item::Header(header),
             State::After(Part::Set(quantifier)) => {
-                let vars = mem::replace(&mut self.parts.partial.vars, Vec::new(alloc));
+                let vars = mem::replace(&mut self.parts.lists.vars, Vec::new(alloc));
                 Item::Set(QuantSet { quantifier, vars })
             }
             State::After(Part::Step(number)) => {
-                let partial = &mut self.parts.partial;
-                let lits = Vec::from_slice(alloc, partial.lits.unfinished())?;
-                let ants = Vec::from_slice(alloc, partial.ants.unfinished())?;
-                partial.index.push(number)?;
+                let lists = &mut self.parts.lists;
+                let lits = Vec::from_slice(alloc, lists.lits.unfinished())?;
+                let ants = Vec::from_slice(alloc, lists.ants.unfinished())?;
+                lists.index.push(number)?;
                 Item::Step(Step { number, lits, ants })
             }
             State::After(Part::Result(outcome)) => return Ok(Item::Result(outcome)),
@@ -85,7 +85,7 @@ impl ItemGrammar {
         ensures { kept_of result ≡ self.kept }
     {
         let mut parts = self.parts;
-        parts.partial.index.place_all();
+        parts.lists.index.place_all();
         parts
     }
 }
@@ -114,7 +114,7 @@ impl Grammar for ItemGrammar {
             from: 0,
             zero: zeros.place(0),
         };
-        let (state, reached) = take_buffered(self.state, &mut self.parts.partial, values, hand);
+        let (state, reached) = take_buffered(self.state, &mut self.parts.lists, values, hand);
         self.state = state;
         let to = reached?;
         let Some(number) = completed(state, values, to) else {
@@ -126,7 +126,7 @@ impl Grammar for ItemGrammar {
 
     #[inline(always)]
     fn take(&mut self, token: Token) -> Result<Taken<()>, Stop<TraceFault>> {
-        self.state = take_at(self.state, &mut self.parts.partial, token)?;
+        self.state = take_at(self.state, &mut self.parts.lists, token)?;
         match self.state {
             State::After(_) => Ok(Taken::Done(())),
             _ => Ok(Taken::More),

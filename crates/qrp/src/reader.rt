@@ -134,7 +134,7 @@ impl TraceReader {
             < length self.old.scanner.pending + S.bound source.old }
         ensures proper { IfOk result (λ i. IsProper self.old.numbers i) }
         ensures numbers { self.new.numbers ≡ numbers_with self.old.numbers result }
-        // P1 is first given in a call in which the source failed, and if it failed the call says so.
+        // P1 is first given in a call in which the source failed; if it failed the call says so.
         ensures devices { ¬ IsDone self.old → TellsFailures P1 P9 (S.failures source.old)
             (S.failures source.new) result }
         // P1 and P9 stand on line 0 each time.
@@ -156,7 +156,7 @@ impl TraceReader {
         ensures { result ≡ self.numbers }
     {
         let parts = self.grammar.into_parts();
-        let partial = parts.partial;
-        partial.index
+        let lists = parts.lists;
+        lists.index
     }
 }

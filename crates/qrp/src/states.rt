@@ -2,7 +2,7 @@
 
 ghost use Rattle.std.specs.Prelude.{◌≡◌};
 ghost use Rattle.qrp.specs.declared.states.State.TheVariants as at;
-ghost use Rattle.qrp.specs.declared.states.Partial.{Partial};
+ghost use Rattle.qrp.specs.declared.states.Lists.{Lists};
 ghost use Rattle.qrp.specs.States.{state_at, Moves, Leads, IsSound};
 ghost use Rattle.qrp.specs.Reading.{has_room, row};
 
@@ -16,7 +16,7 @@ use qbf_core::{GrowingLists, LAST_VARIABLE, Lit, Quantifier, Var};
 use qbf_text::{Stop, Token};
 use step_index::StepIndex;
 
-/// Where the next token stands. What the unfinished lists hold is in `Partial`.
+/// Where the next token stands. What is listed so far is in `Lists`.
 #[derive(Clone, Copy)]
 pub enum State {
     /// In the header, at this place.
@@ -36,7 +36,7 @@ pub enum State {
     After(Part),
 }
 
-/// A part of a trace that is complete. What it lists is in `Partial`.
+/// A part of a trace that is complete. What it lists is in `Lists`.
 #[derive(Clone, Copy)]
 pub enum Part {
     /// The header.
@@ -52,12 +52,12 @@ pub enum Part {
 /// The state that a token leads to, or why it is not taken.
 type Next = Result<State, Stop<TraceFault>>;
 
-/// The unfinished lists, and the numbers of the steps that are whole.
+/// The lists of a trace, as far as it was read: those of whole steps, and unfinished ones.
 #[derive(Drop)]
-pub struct Partial {
-    /// The variables of a set.
+pub struct Lists {
+    /// The variables of an unfinished set.
     pub vars: Vec<Var>,
-    /// The literals of a step, after those of whole steps if such are kept.
+    /// The literals of an unfinished step, after those of whole steps if such are kept.
     pub lits: GrowingLists<Lit>,
     /// Its antecedents, after those of whole steps.
     pub ants: GrowingLists<u64>,
@@ -70,20 +70,18 @@ pub struct Partial {
 /// # Errors
 /// The fault that the token is there.
 #[inline(always)]
-pub fn take_item_start(partial: &mut Partial, token: Token) -> Next
-    ensures row { Moves (row (state_at partial.old at.Between) token) partial.new result }
-    ensures sound { Leads at.Between partial.old partial.new result }
+pub fn take_item_start(lists: &mut Lists, token: Token) -> Next
+    ensures row { Moves (row (state_at lists.old at.Between) token) lists.new result }
+    ensures sound { Leads at.Between lists.old lists.new result }
 {
-    match decode_item_start(partial.index.len() != 0, token)? {
+    match decode_item_start(lists.index.len() != 0, token)? {
         ItemStart::Set(quantifier) => {
-            partial.vars.clear();
+            lists.vars.clear();
             Ok(State::InSet(quantifier))
         }
-        ItemStart::Step(number) if partial.index.contains(number) => Err(Stop::Text(
-            TraceFault::P5,
-        )),
+        ItemStart::Step(number) if lists.index.contains(number) => Err(Stop::Text(TraceFault::P5)),
         ItemStart::Step(number) => {
-            partial.lits.begin();
+            lists.lits.begin();
             Ok(State::InLits(number))
         }
         ItemStart::Result => Ok(State::AtResult),
@@ -92,18 +90,18 @@ pub fn take_item_start(partial: &mut Partial, token: Token) -> Next
 
 /// Takes a token in the literals of a step.
 #[inline(always)]
-fn take_literal(partial: &mut Partial, number: u64, token: Token) -> Next
-    requires sound { IsSound (at.InLits number) partial.old }
-    ensures row { Moves (row (state_at partial.old (at.InLits number)) token) partial.new result }
-    ensures sound { Leads (at.InLits number) partial.old partial.new result }
+fn take_literal(lists: &mut Lists, number: u64, token: Token) -> Next
+    requires sound { IsSound (at.InLits number) lists.old }
+    ensures row { Moves (row (state_at lists.old (at.InLits number)) token) lists.new result }
+    ensures sound { Leads (at.InLits number) lists.old lists.new result }
 {
     match decode_literal(FAULTS, LAST_VARIABLE, token)? {
-        Some(lit) => match partial.lits.push(lit) {
+        Some(lit) => match lists.lits.push(lit) {
             Ok(()) => Ok(State::InLits(number)),
             Err(_) => Err(Stop::Memory),
         },
         None => {
-            partial.ants.begin();
+            lists.ants.begin();
             Ok(State::InAnts(number))
         }
     }
@@ -119,14 +117,14 @@ pub fn has_room(ants: &GrowingLists<u64>) -> bool
 
 /// Takes a token in the antecedents of a step.
 #[inline(always)]
-fn take_antecedent(partial: &mut Partial, number: u64, token: Token) -> Next
-    requires sound { IsSound (at.InAnts number) partial.old }
-    ensures row { Moves (row (state_at partial.old (at.InAnts number)) token) partial.new result }
-    ensures sound { Leads (at.InAnts number) partial.old partial.new result }
+fn take_antecedent(lists: &mut Lists, number: u64, token: Token) -> Next
+    requires sound { IsSound (at.InAnts number) lists.old }
+    ensures row { Moves (row (state_at lists.old (at.InAnts number)) token) lists.new result }
+    ensures sound { Leads (at.InAnts number) lists.old lists.new result }
 {
-    let room = has_room(&partial.ants);
+    let room = has_room(&lists.ants);
     match decode_antecedent(room, token)? {
-        Some(ant) => match partial.ants.push(ant) {
+        Some(ant) => match lists.ants.push(ant) {
             Ok(()) => Ok(State::InAnts(number)),
             Err(_) => Err(Stop::Memory),
         },
@@ -135,13 +133,13 @@ fn take_antecedent(partial: &mut Partial, number: u64, token: Token) -> Next
 }
 
 /// Takes a token in a set.
-fn take_member(partial: &mut Partial, quantifier: Quantifier, token: Token) -> Next
-    requires sound { IsSound (at.InSet quantifier) partial.old }
-    ensures row { Moves (row (state_at partial.old (at.InSet quantifier)) token) partial.new result }
-    ensures sound { Leads (at.InSet quantifier) partial.old partial.new result }
+fn take_member(lists: &mut Lists, quantifier: Quantifier, token: Token) -> Next
+    requires sound { IsSound (at.InSet quantifier) lists.old }
+    ensures row { Moves (row (state_at lists.old (at.InSet quantifier)) token) lists.new result }
+    ensures sound { Leads (at.InSet quantifier) lists.old lists.new result }
 {
     match decode_member(FAULTS, LAST_VARIABLE, token)? {
-        Some(var) => match partial.vars.push(var) {
+        Some(var) => match lists.vars.push(var) {
             Ok(()) => Ok(State::InSet(quantifier)),
             Err(_) => Err(Stop::Memory),
         },
@@ -154,16 +152,16 @@ fn take_member(partial: &mut Partial, quantifier: Quantifier, token: Token) -> N
 /// # Errors
 /// Out of memory, or the fault that the token is there.
 #[inline(always)]
-pub fn take_at(here: State, partial: &mut Partial, token: Token) -> Next
-    requires sound { IsSound here partial.old }
-    ensures row { Moves (row (state_at partial.old here) token) partial.new result }
-    ensures sound { Leads here partial.old partial.new result }
+pub fn take_at(here: State, lists: &mut Lists, token: Token) -> Next
+    requires sound { IsSound here lists.old }
+    ensures row { Moves (row (state_at lists.old here) token) lists.new result }
+    ensures sound { Leads here lists.old lists.new result }
 {
     match here {
-        State::InLits(number) => take_literal(partial, number, token),
-        State::InAnts(number) => take_antecedent(partial, number, token),
-        State::Between => take_item_start(partial, token),
-        State::InSet(quantifier) => take_member(partial, quantifier, token),
+        State::InLits(number) => take_literal(lists, number, token),
+        State::InAnts(number) => take_antecedent(lists, number, token),
+        State::Between => take_item_start(lists, token),
+        State::InSet(quantifier) => take_member(lists, quantifier, token),
         State::AtResult => Ok(State::After(Part::Result(decode_outcome(token)?))),
         State::InHeader(place) => match header_move(FORM, place, token)? {
             HeaderMove::Goes(next) => Ok(State::InHeader(next)),

@@ -30,7 +30,7 @@ fn take_step(here: State, parts: &mut Parts, values: &[i32], hand: AtHand) -> Re
     ensures within { IfOk result.1 (λ to. to ≤ length values.now) }
     ensures sound { AreSound result.0 parts.new }
 {
-    let (state, reached) = take_buffered(here, &mut parts.partial, values, hand);
+    let (state, reached) = take_buffered(here, &mut parts.lists, values, hand);
     let to = match reached {
         Ok(to) => to,
         Err(refused) => return (state, Err(refused)),
@@ -59,7 +59,7 @@ fn keep_whole(parts: &mut Parts, values: &[i32], hand: AtHand) -> Result<Option<
         (trace_at parts.new at.Between ≡ trace_at parts.old at.Between)) }
     ensures flat { IsFlat (kept_of parts.new) }
 {
-    let Some((number, to)) = take_whole(&mut parts.partial, values, hand)? else {
+    let Some((number, to)) = take_whole(&mut parts.lists, values, hand)? else {
         return Ok(None);
     };
     if !is_zero_at(values, to) {
@@ -102,7 +102,7 @@ fn keep_steps(
     Ok((from, zero))
 }
 
-/// How many zeros are left of a step that has begun.
+/// How many zeros are left of an unfinished step.
 #[inline(always)]
 fn zeros_left(here: State) -> usize {
     match here {
@@ -112,13 +112,13 @@ fn zeros_left(here: State) -> usize {
     }
 }
 
-/// Takes the rest of a step that has begun, if one has.
+/// Takes the rest of an unfinished step, if there is one.
 ///
 /// # Errors
 /// Out of memory.
 #[inline(always)]
 #[tactic(auto, using(crate::proofs::BufferedNumbers::numbers_lead_on))]
-fn take_begun(here: State, parts: &mut Parts, values: &[i32], zeros: Zeros) -> Reached
+fn take_unfinished(here: State, parts: &mut Parts, values: &[i32], zeros: Zeros) -> Reached
     requires sound { AreSound here parts.old }
     ensures leads { IfOk result.1 (λ to. LeadsOver trace_row (trace_at parts.old here)
         (trace_at parts.new result.0) values.now 0 to) }
@@ -148,7 +148,7 @@ fn take_steps(here: State, parts: &mut Parts, values: &[i32], zeros: Zeros) -> R
     ensures within { IfOk result.1 (λ to. to ≤ length values.now) }
     ensures sound { AreSound result.0 parts.new }
 {
-    match take_begun(here, parts, values, zeros) {
+    match take_unfinished(here, parts, values, zeros) {
         (State::Between, Ok(from)) => {
             match keep_steps(parts, values, zeros, (from, zeros_left(here))) {
                 Ok((from, zero)) => {
@@ -205,7 +205,7 @@ impl TraceGrammar {
         match self.state {
             State::After(Part::Result(outcome)) => {
                 let mut parts = self.parts;
-                parts.partial.index.place_all();
+                parts.lists.index.place_all();
                 (parts, outcome)
             }
             _ => unreachable!(),
@@ -239,7 +239,7 @@ impl Grammar for TraceGrammar {
 
     #[inline(always)]
     fn take(&mut self, token: Token) -> Result<Taken<()>, Stop<TraceFault>> {
-        self.state = take_at(self.state, &mut self.parts.partial, token)?;
+        self.state = take_at(self.state, &mut self.parts.lists, token)?;
         match self.state {
             State::After(Part::Result(_)) => Ok(Taken::Done(())),
             State::After(part) => {

@@ -6,8 +6,8 @@ use Rattle.qrp.proofs.buffered.take_antecedents.Given as goal
 
 abbrev pub invariant-antecedents : goal.invariant-antecedents
 invariant-antecedents l = record {
-  leads : LeadsOver row (state_at l.fn.partial (InAnts l.number)) (state_at l.partial (InAnts l.number)) l.values l.fn.from l.i;
-  sound : Stays l.fn.partial l.partial × IsSound (InAnts l.number) l.partial;
+  leads : LeadsOver row (state_at l.fn.lists (InAnts l.number)) (state_at l.lists (InAnts l.number)) l.values l.fn.from l.i;
+  sound : Stays l.fn.lists l.lists × IsSound (InAnts l.number) l.lists;
   within : l.i ≤ length l.values;
 }
 

@@ -6,8 +6,9 @@ use Rattle.qrp.proofs.buffered.take_buffered.Goals as goal
 pub returns-in-InAnts-Ok-clause-leads : goal.returns-in-InAnts-Ok-clause-leads
 returns-in-InAnts-Ok-clause-leads c =
     leads_in_turn _ _ _ c.args.values.now c.args.hand.from c.in-InAnts-Ok.to c.take_antecedents.result
-    (leads_further row _ _ _ c.args.values.now c.args.hand.from c.take_number-state.result.1 c.in-InAnts-Ok.to c.take_number-state.ensures.leads
-    (rw (c.in-InAnts-Ok.is-1, c.in-InAnts-Ok.is-0) at c.take_list.ensures.leads)) c.take_antecedents.ensures.leads
+    (leads_further row _ _ _ c.args.values.now c.args.hand.from c.take_number-state.result.1 c.in-InAnts-Ok.to
+    c.take_number-state.ensures.leads (rw (c.in-InAnts-Ok.is-1, c.in-InAnts-Ok.is-0) at c.take_list.ensures.leads))
+    c.take_antecedents.ensures.leads
 
 pub returns-in_default-2 : goal.returns-in_default-2
 returns-in_default-2 c =

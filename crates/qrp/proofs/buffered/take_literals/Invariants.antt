@@ -6,8 +6,8 @@ use Rattle.qrp.proofs.buffered.take_literals.Given as goal
 
 abbrev pub invariant-literals : goal.invariant-literals
 invariant-literals l = record {
-  leads : LeadsOver row (state_at l.fn.partial (InLits l.number)) (state_at l.partial (InLits l.number)) l.values l.fn.from l.i;
-  sound : Stays l.fn.partial l.partial × IsSound (InLits l.number) l.partial;
+  leads : LeadsOver row (state_at l.fn.lists (InLits l.number)) (state_at l.lists (InLits l.number)) l.values l.fn.from l.i;
+  sound : Stays l.fn.lists l.lists × IsSound (InLits l.number) l.lists;
   within : l.i ≤ length l.values;
 }
 

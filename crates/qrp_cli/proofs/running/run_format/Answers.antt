@@ -7,7 +7,8 @@ pub returns-in-Ok : goal.returns-in-Ok
 returns-in-Ok g c =
     let found = c.in-Ok in (
       Ok found.read,
-      formula_read (call_of g.F.Source c.args.formula.now c.read_formula.new.source) found.read found.ensures.exact found.ensures.devices.works,
+      formula_read (call_of g.F.Source c.args.formula.now c.read_formula.new.source) found.read found.ensures.exact
+          found.ensures.devices.works,
       (c.send_formula.ensures, refl),
     )
 
