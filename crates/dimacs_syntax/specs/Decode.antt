@@ -9,28 +9,28 @@ use Rattle.qbf_text.specs.declared.token.Word.TheVariants as word
 use Rattle.dimacs_syntax.specs.declared.decode.Faults.{Faults}
 
 -- the quantifier that a letter names
-abbrev pub quantifier : Token → Option Quantifier
-quantifier (token.Word word.A) = Some All
-quantifier (token.Word word.E) = Some Exists
-quantifier t = None
+abbrev pub decode_quantifier : Token → Option Quantifier
+decode_quantifier (token.Word word.A) = Some All
+decode_quantifier (token.Word word.E) = Some Exists
+decode_quantifier t = None
 
 -- the variable that a token says in a set, at most the last, or None if it closes the set
-abbrev pub member : {F : Type 0} → Faults F → ℕ → Token → Result (Option ℕ) F
-member faults last (token.Number false zero) = Ok None
-member faults last (token.Number false (suc n)) = if nat_lt last (suc n) then Err faults.range else Ok (Some (suc n))
-member faults last (token.Number true n) = Err faults.range
-member faults last token.Big = Err faults.range
-member faults last token.End = Err faults.end
-member faults last (token.Word w) = Err faults.stray
-member faults last token.Bad = Err faults.stray
+abbrev pub decode_member : {F : Type 0} → Faults F → ℕ → Token → Result (Option ℕ) F
+decode_member faults last (token.Number false zero) = Ok None
+decode_member faults last (token.Number false (suc n)) = if nat_lt last (suc n) then Err faults.range else Ok (Some (suc n))
+decode_member faults last (token.Number true n) = Err faults.range
+decode_member faults last token.Big = Err faults.range
+decode_member faults last token.End = Err faults.end
+decode_member faults last (token.Word w) = Err faults.stray
+decode_member faults last token.Bad = Err faults.stray
 
 -- the literal that a token says, its variable at most the last, or None if it closes the literals
-abbrev pub literal_in : {F : Type 0} → Faults F → ℕ → Token → Result (Option Literal) F
-literal_in faults last (token.Number false zero) = Ok None
-literal_in faults last (token.Number true zero) = Err faults.minus_zero
-literal_in faults last (token.Number negative (suc n)) =
+abbrev pub decode_literal : {F : Type 0} → Faults F → ℕ → Token → Result (Option Literal) F
+decode_literal faults last (token.Number false zero) = Ok None
+decode_literal faults last (token.Number true zero) = Err faults.minus_zero
+decode_literal faults last (token.Number negative (suc n)) =
     if nat_lt last (suc n) then Err faults.range else Ok (Some (record { var = suc n; negative = negative }))
-literal_in faults last token.Big = Err faults.range
-literal_in faults last token.End = Err faults.end
-literal_in faults last (token.Word w) = Err faults.stray
-literal_in faults last token.Bad = Err faults.stray
+decode_literal faults last token.Big = Err faults.range
+decode_literal faults last token.End = Err faults.end
+decode_literal faults last (token.Word w) = Err faults.stray
+decode_literal faults last token.Bad = Err faults.stray

@@ -2,7 +2,7 @@
 
 ghost use Rattle.std.specs.Prelude.{◌≡◌, ◌≤◌, IfSome, IfOk};
 ghost use Rattle.qbf_core.specs.Blocks.{IsVariable};
-ghost use Rattle.dimacs_syntax.specs.Decode.{quantifier, member, literal_in};
+ghost use Rattle.dimacs_syntax.specs.Decode.{decode_quantifier, decode_member, decode_literal};
 
 use qbf_core::{Lit, Quantifier, Var};
 use qbf_text::{Token, Word};
@@ -23,8 +23,8 @@ pub struct Faults<F> {
 }
 
 /// The quantifier that a token is the letter of.
-pub fn quantifier(token: Token) -> Option<Quantifier>
-    ensures { result ≡ quantifier token }
+pub fn decode_quantifier(token: Token) -> Option<Quantifier>
+    ensures { result ≡ decode_quantifier token }
 {
     match token {
         Token::Word(Word::A) => Some(Quantifier::All),
@@ -38,9 +38,9 @@ pub fn quantifier(token: Token) -> Option<Quantifier>
 /// # Errors
 /// The fault of the format that the token is there.
 #[inline(always)]
-pub fn member<F: Copy>(faults: Faults<F>, last: u32, token: Token) -> Result<Option<Var>, F>
+pub fn decode_member<F: Copy>(faults: Faults<F>, last: u32, token: Token) -> Result<Option<Var>, F>
     requires { last ≤ 2147483647 }
-    ensures says { result ≡ member faults last token }
+    ensures says { result ≡ decode_member faults last token }
     ensures range { IfOk result (λ o. IfSome o IsVariable) }
     ensures top { IfOk result (λ o. IfSome o (λ v. v ≤ last)) }
 {
@@ -62,9 +62,9 @@ pub fn member<F: Copy>(faults: Faults<F>, last: u32, token: Token) -> Result<Opt
 /// # Errors
 /// The fault of the format that the token is there.
 #[inline(always)]
-pub fn literal<F: Copy>(faults: Faults<F>, last: u32, token: Token) -> Result<Option<Lit>, F>
+pub fn decode_literal<F: Copy>(faults: Faults<F>, last: u32, token: Token) -> Result<Option<Lit>, F>
     requires { last ≤ 2147483647 }
-    ensures says { result ≡ literal_in faults last token }
+    ensures says { result ≡ decode_literal faults last token }
     ensures range { IfOk result (λ o. IfSome o (λ l. IsVariable l.var)) }
 {
     match token {

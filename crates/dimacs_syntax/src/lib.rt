@@ -1,11 +1,11 @@
 //! The syntax that QDIMACS and QRP share: headers, literals, variables, quantifiers and sets.
 //!
 //! - Owns: the syntax that both formats share: headers, literals, variables, quantifiers, sets.
-//! - Offers: `header_move`, `HeaderForm`, `member`, `literal`, `quantifier`, `Faults`, `Put`,
-//!   `Bytes`, `Bare`, `HeaderLine`.
+//! - Offers: `header_move`, `HeaderForm`, `decode_member`, `decode_literal`, `decode_quantifier`,
+//!   `Faults`, `Put`, `Bytes`, `Bare`, `HeaderLine`.
 //! - Proved: the meaning of a token, with the faults of either format; headers, literals and sets
 //!   go out whole, or a beginning of them.
-//! - Read first: `header_move`, `member`, `literal`; `Put`.
+//! - Read first: `header_move`, `decode_member`, `decode_literal`; `Put`.
 //! - Tested only: by the tests of `qdimacs` and `qrp`.
 //! - Trusted: nothing.
 //! - On the map: headers, literals, sets: | the syntax of both formats.
@@ -15,6 +15,6 @@ mod decode;
 mod header;
 mod writing;
 
-pub use decode::{Faults, literal, member, quantifier};
+pub use decode::{Faults, decode_literal, decode_member, decode_quantifier};
 pub use header::{HeaderAt, HeaderForm, HeaderMove, header_move};
 pub use writing::{Bare, Bytes, HeaderLine, Put};

@@ -1,5 +1,6 @@
--- What a call returns that reads a whole text, in any format: what the text spells, or its first fault and the line of that.
-use Rattle.std.specs.Prelude.{◌≡◌, ℕ, Bool, true, false, List, ◌∷◌, ◌++◌, Option, IfSome, Result, Ok, Err}
+-- What a call returns that reads a text, in any format: what the text spells, or its first fault and the line of that; and what it tells
+-- of its devices.
+use Rattle.std.specs.Prelude.{◌≡◌, ◌≢◌, ◌<◌, ◌-◌, ◌^◌, ℕ, Bool, true, false, List, ◌∷◌, ◌++◌, Option, IfSome, IfErr, OnOk, Result, Ok, Err}
 use Rattle.qbf_text.specs.declared.grammar.ReadError.{ReadError}
 use Rattle.qbf_text.specs.declared.grammar.ReadError.TheVariants as error
 use Rattle.qbf_text.specs.declared.token.Comments.{Comments}
@@ -44,6 +45,22 @@ abbrev pub fault_of : {F : Type 0} → F → F → ReadError F → F × ℕ
 fault_of device memory error.Device = (device, 0)
 fault_of device memory error.Memory = (memory, 0)
 fault_of device memory (error.Text f line) = (f, line)
+
+-- How a result tells of its devices: `device` is the fault of a failed source and `memory` that of a failed allocation, and the count of
+-- failures of the source went from `before` to `after`.
+pub record TellsFailures {A F : Type 0} (device memory : F) (before after : ℕ) (result : Result A (F × ℕ)) : Type 0 where
+  -- with the fault of a failed source it failed, unless the count was at its top
+  pub source : IfErr result (λ e. e.0 ≡ device → before < 2 ^ 64 - 1 → before < after)
+  -- with any other fault it did not fail
+  pub kept : IfErr result (λ e. e.0 ≢ device → after ≡ before)
+  -- nor without a fault
+  pub works : OnOk result (after ≡ before)
+  -- if it failed, the result says so
+  pub failed : before < after → result ≡ Err (device, 0)
+  -- that fault stands on line 0
+  pub source_line : IfErr result (λ e. e.0 ≡ device → e.1 ≡ 0)
+  -- and so does that of a failed allocation
+  pub memory_line : IfErr result (λ e. e.0 ≡ memory → e.1 ≡ 0)
 
 -- ---- laws
 

@@ -10,7 +10,7 @@ pub use Rattle.dimacs_syntax.proofs.Cited.{length-append, letter, literal, map-a
 pub use Rattle.dimacs_syntax.proofs.Cited.{tokens, without_lines, variables}
 pub use Rattle.dimacs_syntax.proofs.Worked.{all, exists}
 pub use Rattle.dimacs_syntax.proofs.WrittenParts.{closed_literals, set_line}
-pub use Rattle.dimacs_syntax.specs.Decode.{member}
+pub use Rattle.dimacs_syntax.specs.Decode.{decode_member}
 pub use Rattle.dimacs_syntax.specs.Texts.{closing, literal_text}
 pub use Rattle.qbf_text.proofs.AcceptedTokens.{Leads, Stays, flat_map-push, leads_reads, leads_then, split_at}
 pub use Rattle.qbf_text.proofs.ReadTexts.{ResultsAreRead, bytes_read_as, explained, whole_given}
@@ -29,12 +29,11 @@ pub use Rattle.qdimacs.specs.Grammar.{IsFormula, clause, header, lines, spelling
 pub use Rattle.qdimacs.specs.Laws.{ReadsText}
 pub use Rattle.qdimacs.specs.States.{IsMade, IsSound, heading, formula_of, row_to, state_at}
 pub use Rattle.qdimacs.specs.Reading.{ReadResult, AreFrom, AtP, Between, Clauses, Gives, Heading, InClause, InHeader, InSet, IsFull, IsWhole}
-pub use Rattle.qdimacs.specs.Reading.{Pairs, State, Row, Whole, result_of, between_row, bound_literal, clause_row, faults, is_outside, read}
-pub use Rattle.qdimacs.specs.Reading.{read_formula, reads_bytes, row, set_row}
+pub use Rattle.qdimacs.specs.Reading.{Pairs, State, Row, Whole, result_of, between_row, decode_bound_literal, clause_row, faults}
+pub use Rattle.qdimacs.specs.Reading.{is_outside, read, read_formula, reads_bytes, row, set_row}
 pub use Rattle.qdimacs.specs.Texts.{blocks_rest, clauses_text, opening, sets_text}
 pub use Rattle.qdimacs.specs.declared.fault.FormulaFault.{FormulaFault}
 pub use Rattle.qdimacs.specs.declared.fault.FormulaFault.TheVariants.{F2, F3, F4, F5, F6, F7, F8}
-pub use Rattle.qdimacs.specs.declared.grammar.At.{At}
 pub use Rattle.qdimacs.specs.declared.grammar.Parts.{Parts}
 pub use Rattle.std.proofs.Common.{Bool, Err, IfSome, List, None, Ok, Option, Result, Some, [], ap, append_assoc, arith, drop, eqb, false}
 pub use Rattle.std.proofs.Common.{inl, inr, length, map, refl, rules, slice_get, subst, sym, true, ℕ, ◌++◌, ◌+◌, ◌-◌, ◌<◌, ◌||◌, ◌∙◌, ◌∷◌}

@@ -3,9 +3,9 @@ use Rattle.qdimacs.proofs.Cited.{common_steps, rules, inl, inr, ◌⊎◌, ◌�
 use Rattle.qdimacs.proofs.Cited.{Err, refl, sym, subst, ◌∙◌, arith, append_assoc, map-append, flat_map, Quantifier, Literal, Block, pairs}
 use Rattle.qdimacs.proofs.Cited.{is_bound, blocks_of, AllByRecursion-push, Token, Lined, number, literal, letter, set, without_lines, Ends}
 use Rattle.qdimacs.proofs.Cited.{append-nil, pairs_of_block, pairs-blocks_of, Alternates-blocks_of, is_end, push_distinct, flat_map-push}
-use Rattle.qdimacs.proofs.Cited.{member, header, clause, IsFormula, ReadsAsRead, all_of, explained, ResultsAreRead, Reads, IsSoFar, Spells}
+use Rattle.qdimacs.proofs.Cited.{decode_member, header, clause, IsFormula, ReadsAsRead, all_of, explained, ResultsAreRead, Reads, IsSoFar}
 use Rattle.qdimacs.proofs.Cited.{Goes, Fails, Heading, State, AtP, InHeader, Between, InSet, InClause, Whole, Row, row, faults, set_row}
-use Rattle.qdimacs.proofs.Cited.{bound_literal, clause_row, read, IsWhole, result_of, Pairs, Clauses, AreFrom}
+use Rattle.qdimacs.proofs.Cited.{Spells, decode_bound_literal, clause_row, read, IsWhole, result_of, Pairs, Clauses, AreFrom}
 use Rattle.dimacs_syntax.proofs.Cited.{IsDistinct}
 use Rattle.dimacs_syntax.proofs.Cited.token
 use Rattle.qbf_text.specs.Lined.{EndsOnce}
@@ -25,8 +25,8 @@ count_is v t next e = search rules
 abbrev front : Heading → List Block → Clauses → List Token
 front h sets cs = header h.max_var h.count ++ flat_map set sets ++ flat_map clause cs
 
--- a clause that is begun, or about to be
-record IsBegun (ts : List Token) (h : Heading) (ps : Pairs) (cs : Clauses) (ls : List Literal) : Type 0 where
+-- a clause that is unfinished, or about to begin
+record IsUnfinished (ts : List Token) (h : Heading) (ps : Pairs) (cs : Clauses) (ls : List Literal) : Type 0 where
   sets : List Block
   spelled : ts ≡ front h sets cs ++ map literal ls
   bound : pairs sets ≡ ps
@@ -36,13 +36,14 @@ record IsBegun (ts : List Token) (h : Heading) (ps : Pairs) (cs : Clauses) (ls :
 
 -- a clause goes on with a literal, or is closed
 clause_goes : (h : Heading) (ps : Pairs) (cs : Clauses) (ls : List Literal) (t : Token) (next : State)
-    → clause_row h ps cs ls (bound_literal h.max_var ps t) ≡ Goes next
+    → clause_row h ps cs ls (decode_bound_literal h.max_var ps t) ≡ Goes next
     → ((t ≡ number 0) × (next ≡ Between h ps (cs ++ ls ∷ [])))
     ⊎ ((l : Literal) × (t ≡ literal l) × (is_bound l.var ps ≡ true) × (next ≡ InClause h ps cs (ls ++ l ∷ [])))
 clause_goes h ps cs ls t next e = search rules
 
 clause_step : {ts : List Token} {h : Heading} {ps : Pairs} {cs : Clauses} {ls : List Literal} (t : Token)
-    (next : State) → IsBegun ts h ps cs ls → clause_row h ps cs ls (bound_literal h.max_var ps t) ≡ Goes next → Spells (ts ++ t ∷ []) next
+    (next : State) → IsUnfinished ts h ps cs ls → clause_row h ps cs ls (decode_bound_literal h.max_var ps t) ≡ Goes next
+    → Spells (ts ++ t ∷ []) next
 clause_step {h = h} {ps = ps} {cs = cs} {ls = ls} t next b e = elim (clause_goes h ps cs ls t next e) [
   | inl k ↦ rw (k.1, k.0, b.spelled)
       (b.sets, (simp (flat_map-push, append_assoc)), b.bound, grind (arith, common_steps))
@@ -59,13 +60,13 @@ clause_step {h = h} {ps = ps} {cs = cs} {ls = ls} t next b e = elim (clause_goes
 
 -- a set goes on with a variable, or is closed
 set_goes : (h : Heading) (ps : Pairs) (q : Quantifier) (t : Token) (next : State)
-    → set_row h ps q (member faults h.max_var t) ≡ Goes next
+    → set_row h ps q (decode_member faults h.max_var t) ≡ Goes next
     → ((t ≡ number 0) × (next ≡ Between h ps []))
     ⊎ ((v : ℕ) × (t ≡ number v) × (1 ≤ v) × (v ≤ h.max_var) × (is_bound v ps ≡ false) × (next ≡ InSet h (ps ++ (q, v) ∷ []) q))
 set_goes h ps q t next e = search rules
 
 set_step : (ts : List Token) (h : Heading) (ps : Pairs) (q : Quantifier) (t : Token) (next : State)
-    → Spells ts (InSet h ps q) → set_row h ps q (member faults h.max_var t) ≡ Goes next → Spells (ts ++ t ∷ []) next
+    → Spells ts (InSet h ps q) → set_row h ps q (decode_member faults h.max_var t) ≡ Goes next → Spells (ts ++ t ∷ []) next
 set_step ts h ps q t next b e = elim (set_goes h ps q t next e) [
   | inl k ↦
       let s : Block = record { quantifier = q; vars = b.1 } in
@@ -88,7 +89,7 @@ set_step ts h ps q t next b e = elim (set_goes h ps q t next e) [
 between_goes : (h : Heading) (ps : Pairs) (cs : Clauses) (t : Token) (next : State)
     → row (Between h ps cs) t ≡ Goes next
     → ((q : Quantifier) × (cs ≡ []) × (t ≡ letter q) × (next ≡ InSet h ps q))
-    ⊎ ((length cs < h.count) × (clause_row h ps cs [] (bound_literal h.max_var ps t) ≡ Goes next))
+    ⊎ ((length cs < h.count) × (clause_row h ps cs [] (decode_bound_literal h.max_var ps t) ≡ Goes next))
 between_goes h ps cs t next e = search rules
 
 -- an accepted token leads to a state that the tokens spell

@@ -46,10 +46,10 @@ leads_variables h ps q (v ∷ vs) good =
     (rw append_assoc at (leads_variables h (ps ++ (q, v) ∷ []) q vs (rw append_assoc good)))
 
 -- a set that is not closed
-pub leads_begun_set : (h : Heading) (ps : Pairs) (q : Quantifier) (vs : List ℕ)
+pub leads_unfinished_set : (h : Heading) (ps : Pairs) (q : Quantifier) (vs : List ℕ)
     → AreGood h.max_var (ps ++ map (λ v. (q, v)) vs)
     → Leads row (Between h ps []) (letter q ∷ map number vs) (InSet h (ps ++ map (λ v. (q, v)) vs) q)
-leads_begun_set h ps q vs good = Passes (search rules) (leads_variables h ps q vs good)
+leads_unfinished_set h ps q vs good = Passes (search rules) (leads_variables h ps q vs good)
 
 pub leads_sets : (h : Heading) (ps : Pairs) (sets : List Block) → AreGood h.max_var (ps ++ pairs sets)
     → Leads row (Between h ps []) (flat_map set sets) (Between h (ps ++ pairs sets) [])
@@ -58,7 +58,7 @@ leads_sets h ps (s ∷ sets) good =
     let next = ps ++ pairs_of_block s in
     let all : AreGood h.max_var (next ++ pairs sets) = rw append_assoc good in
     rw (← append_assoc ps (pairs_of_block s) (pairs sets)) (leads_then
-    (leads_then (leads_begun_set h ps s.quantifier s.vars (good_front h.max_var next (pairs sets) all))
+    (leads_then (leads_unfinished_set h ps s.quantifier s.vars (good_front h.max_var next (pairs sets) all))
     (Passes refl Stays)) (leads_sets h next sets all))
 
 -- ---- a clause
@@ -77,10 +77,10 @@ module _ (h : Heading) (ps : Pairs) (good : AreGood h.max_var ps) where
       → Leads row (InClause h ps cs []) (token.Number negative n ∷ ts) q → Leads row (Between h ps cs) (token.Number negative n ∷ ts) q
   begins {cs} {negative} {n} more (Passes e l) = Passes (grind (arith, common_steps)) l
 
-  pub leads_begun_clause : (cs : Clauses) (ls : List Literal) → AreFrom ps ls → ls ≢ []
+  pub leads_unfinished_clause : (cs : Clauses) (ls : List Literal) → AreFrom ps ls → ls ≢ []
       → length cs < h.count → Leads row (Between h ps cs) (map literal ls) (InClause h ps cs ls)
-  leads_begun_clause cs [] bound some more = absurd (some refl)
-  leads_begun_clause cs (l ∷ ls) bound some more = begins more (leads_literals cs [] (l ∷ ls) bound)
+  leads_unfinished_clause cs [] bound some more = absurd (some refl)
+  leads_unfinished_clause cs (l ∷ ls) bound some more = begins more (leads_literals cs [] (l ∷ ls) bound)
 
   leads_clause : (cs : Clauses) (c : List Literal) → AreFrom ps c → length cs < h.count
       → Leads row (Between h ps cs) (clause c) (Between h ps (cs ++ c ∷ []))
@@ -143,9 +143,9 @@ spelled_leads ts (InSet h ps q) e =
     let good : AreGood h.max_var (pairs e.0 ++ map (λ v. (q, v)) e.1) = rw e.3 e.4.good in
     let front = good_front h.max_var (pairs e.0) (map (λ v. (q, v)) e.1) good in
     rw (e.2, ← e.3) (leads_then (leads_then (leads_header h e.4.max_var e.4.count) (leads_sets h [] e.0 front))
-    (leads_begun_set h (pairs e.0) q e.1 good))
+    (leads_unfinished_set h (pairs e.0) q e.1 good))
 spelled_leads ts (InClause h ps cs ls) e = rw e.1 (leads_then (leads_between (e.0, refl, e.2, e.3))
-    (leads_begun_clause h ps e.3.good cs ls e.4 e.5 e.6))
+    (leads_unfinished_clause h ps e.3.good cs ls e.4 e.5 e.6))
 spelled_leads ts (Whole f) e = absurd e
 
 -- A fault that stands is the one that is found.

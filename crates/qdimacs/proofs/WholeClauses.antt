@@ -9,17 +9,17 @@ use Rattle.qbf_core.specs.Blocks.{AreBound}
 use Rattle.qbf_core.specs.WrittenLiterals.{literal_of, IsWritten}
 use Rattle.qbf_text.specs.Numbers.{LeadsOver, token_of}
 use Rattle.qbf_text.specs.declared.token.Token.TheVariants.{Number}
-use Rattle.qdimacs.specs.Reading.{Heading, Clauses, Between, InClause, bound_literal, clause_row, has_more}
+use Rattle.qdimacs.specs.Reading.{Heading, Clauses, Between, InClause, decode_bound_literal, clause_row, has_more}
 
 module _ (h : Heading) (ps : Pairs) (cs : Clauses) (full : IsFull h.max_var ps) where
   -- a number is read as the literal that it is
   said : (negative : Bool) (m : ℕ) → 1 ≤ m → m ≤ h.max_var
-      → Ok (Some (record { var = m; negative = negative })) ≡ bound_literal h.max_var ps (Number negative m)
+      → Ok (Some (record { var = m; negative = negative })) ≡ decode_bound_literal h.max_var ps (Number negative m)
   said negative m low high = let bound = full m low high in grind (arith, common_steps)
 
-  written_said : (v w : ℤ) → IsWritten h.max_var v → v ≡ w → Ok (Some (literal_of v)) ≡ bound_literal h.max_var ps (token_of w)
+  written_said : (v w : ℤ) → IsWritten h.max_var v → v ≡ w → Ok (Some (literal_of v)) ≡ decode_bound_literal h.max_var ps (token_of w)
   written_said v w is same =
-      said (int_lt v (pos 0)) (unsigned_abs v) is.0 is.1 ∙ ap (λ x. bound_literal h.max_var ps (token_of x)) same
+      said (int_lt v (pos 0)) (unsigned_abs v) is.0 is.1 ∙ ap (λ x. decode_bound_literal h.max_var ps (token_of x)) same
 
   list_leads : (xs values : List ℤ) (i : ℕ) (ls : List Literal) → AllByRecursion (IsWritten h.max_var) xs
       → ((k : ℕ) → k < length xs → slice_index_or xs k (pos 0) ≡ slice_index_or values (i + k) (pos 0))

@@ -18,7 +18,7 @@ use Rattle.dimacs_syntax.specs.declared.header.HeaderAt.TheVariants as header
 use Rattle.dimacs_syntax.specs.declared.header.HeaderMove.{HeaderMove}
 use Rattle.dimacs_syntax.specs.declared.header.HeaderMove.TheVariants as moves
 use Rattle.dimacs_syntax.specs.Headers.{header_move}
-use Rattle.dimacs_syntax.specs.Decode.{quantifier, member, literal_in}
+use Rattle.dimacs_syntax.specs.Decode.{decode_quantifier, decode_member, decode_literal}
 use Rattle.qbf_text.specs.Rows.{Goes, Ends, Read}
 use Rattle.qbf_text.specs.Rows as rows
 use Rattle.qbf_text.specs.declared.token.Comments.TheVariants.{Qdimacs}
@@ -103,8 +103,8 @@ if_bound ps (Ok None) = Ok None
 if_bound ps (Err f) = Err f
 
 -- the literal that a token says in a clause, or None where it closes the clause
-abbrev pub bound_literal : ℕ → Pairs → Token → Result (Option Literal) FormulaFault
-bound_literal max_var ps t = if_bound ps (literal_in faults max_var t)
+abbrev pub decode_bound_literal : ℕ → Pairs → Token → Result (Option Literal) FormulaFault
+decode_bound_literal max_var ps t = if_bound ps (decode_literal faults max_var t)
 
 -- in a clause
 abbrev pub clause_row : Heading → Pairs → Clauses → List Literal
@@ -117,7 +117,7 @@ clause_row h ps cs ls (Ok (Some l)) = Goes (InClause h ps cs (ls ++ l ∷ []))
 
 -- the set that a token begins: none, once a clause was begun
 abbrev pub set_start : Clauses → Token → Option Quantifier
-set_start [] t = quantifier t
+set_start [] t = decode_quantifier t
 set_start (c ∷ cs) t = None
 
 -- whether clauses are still to come
@@ -125,15 +125,15 @@ abbrev pub has_more : Heading → Clauses → Bool
 has_more h cs = nat_lt (length cs) h.count
 
 -- what a token that begins no set says: that a clause begins (true), or that all is read (false)
-abbrev pub clause_or_end : Bool → Token → Result Bool FormulaFault
-clause_or_end true (token.Number negative n) = Ok true
-clause_or_end false (token.Number negative n) = Err F8
-clause_or_end true token.Big = Err F4
-clause_or_end false token.Big = Err F8
-clause_or_end true token.End = Err F8
-clause_or_end false token.End = Ok false
-clause_or_end more (token.Word w) = Err F3
-clause_or_end more token.Bad = Err F3
+abbrev pub decode_clause_or_end : Bool → Token → Result Bool FormulaFault
+decode_clause_or_end true (token.Number negative n) = Ok true
+decode_clause_or_end false (token.Number negative n) = Err F8
+decode_clause_or_end true token.Big = Err F4
+decode_clause_or_end false token.Big = Err F8
+decode_clause_or_end true token.End = Err F8
+decode_clause_or_end false token.End = Ok false
+decode_clause_or_end more (token.Word w) = Err F3
+decode_clause_or_end more token.Bad = Err F3
 
 -- between lists: a set or a clause begins, or all is read
 abbrev pub between_row : Heading → Pairs → Clauses → Option Quantifier
@@ -149,9 +149,9 @@ between_row h ps cs None (Ok false) first = Ends tt (Whole (record { max_var = h
 abbrev pub row : State → Token → Row
 row (InHeader here) t = header_row (header_move form here t)
 row (Between h ps cs) t =
-    between_row h ps cs (set_start cs t) (clause_or_end (has_more h cs) t) (bound_literal h.max_var ps t)
-row (InSet h ps q) t = set_row h ps q (member faults h.max_var t)
-row (InClause h ps cs ls) t = clause_row h ps cs ls (bound_literal h.max_var ps t)
+    between_row h ps cs (set_start cs t) (decode_clause_or_end (has_more h cs) t) (decode_bound_literal h.max_var ps t)
+row (InSet h ps q) t = set_row h ps q (decode_member faults h.max_var t)
+row (InClause h ps cs ls) t = clause_row h ps cs ls (decode_bound_literal h.max_var ps t)
 row (Whole f) t = Fails F3
 
 -- the end was read

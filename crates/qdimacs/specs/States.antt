@@ -7,8 +7,8 @@ use Rattle.qbf_text.specs.declared.grammar.Stop.{Stop}
 use Rattle.qbf_text.specs.declared.grammar.Stop.TheVariants as stop
 use Rattle.dimacs_syntax.specs.Headers.{IsUpTo}
 use Rattle.qdimacs.specs.declared.fault.FormulaFault.{FormulaFault}
-use Rattle.qdimacs.specs.declared.grammar.At.{At}
-use Rattle.qdimacs.specs.declared.grammar.At.TheVariants as at
+use Rattle.qdimacs.specs.declared.grammar.State as states
+use Rattle.qdimacs.specs.declared.grammar.State.TheVariants as at
 use Rattle.qdimacs.specs.declared.grammar.Parts.{Parts}
 use Rattle.qdimacs.specs.Reading.{Heading, State, InHeader, Between, InSet, InClause, Whole, Row, IsFull}
 
@@ -21,20 +21,20 @@ abbrev pub formula_of : Parts → Qbf
 formula_of p = record { max_var = p.max_var; blocks = p.prefix; clauses = p.clauses.whole }
 
 -- where reading stands with these parts
-abbrev pub state_at : Parts → At → State
-state_at p at.Header = InHeader p.header
+abbrev pub state_at : Parts → states.State → State
+state_at p (at.InHeader here) = InHeader here
 state_at p at.Between = Between (heading p) (pairs p.prefix) p.clauses.whole
-state_at p (at.Set q) = InSet (heading p) (pairs p.prefix) q
-state_at p at.Clause = InClause (heading p) (pairs p.prefix) p.clauses.whole p.clauses.unfinished
+state_at p (at.InSet q) = InSet (heading p) (pairs p.prefix) q
+state_at p at.InClause = InClause (heading p) (pairs p.prefix) p.clauses.whole p.clauses.unfinished
 state_at p at.Whole = Whole (formula_of p)
 
 -- the row that leads there
-abbrev pub row_to : Parts → At → Row
+abbrev pub row_to : Parts → states.State → Row
 row_to p at.Whole = Ends tt (state_at p at.Whole)
 row_to p next = Goes (state_at p next)
 
 -- the next state is that of the row, unless an allocation failed
-abbrev pub Moves : Row → Parts → Result At (Stop FormulaFault) → Type 0
+abbrev pub Moves : Row → Parts → Result states.State (Stop FormulaFault) → Type 0
 Moves r p (Ok next) = r ≡ row_to p next
 Moves r p (Err stop.Memory) = ⊤
 Moves r p (Err (stop.Text f)) = r ≡ Fails f
@@ -60,14 +60,14 @@ pub record IsMade (p : Parts) : Type 0 where
   pub few : length p.clauses.whole ≤ p.count
 
 -- what holds at each state
-abbrev pub IsSound : At → Parts → Type 0
-IsSound at.Header p = IsNothing p × IsUpTo 2147483647 p.header
+abbrev pub IsSound : states.State → Parts → Type 0
+IsSound (at.InHeader here) p = IsNothing p × IsUpTo 2147483647 here
 IsSound at.Between p = IsMade p × (p.clauses.unfinished ≡ [])
-IsSound (at.Set q) p = AreCounted p × (p.clauses.whole ≡ []) × (p.clauses.unfinished ≡ [])
-IsSound at.Clause p = IsMade p × AreBound p.prefix p.clauses.unfinished × (length p.clauses.whole < p.count)
+IsSound (at.InSet q) p = AreCounted p × (p.clauses.whole ≡ []) × (p.clauses.unfinished ≡ [])
+IsSound at.InClause p = IsMade p × AreBound p.prefix p.clauses.unfinished × (length p.clauses.whole < p.count)
 IsSound at.Whole p = IsWellFormed (formula_of p)
 
 -- at the state that a token leads to; where it is not taken, nothing is changed
-abbrev pub Leads : Parts → Parts → Result At (Stop FormulaFault) → Type 0
+abbrev pub Leads : Parts → Parts → Result states.State (Stop FormulaFault) → Type 0
 Leads old new (Ok next) = IsSound next new
 Leads old new (Err e) = new ≡ old

@@ -5,14 +5,14 @@ ghost use Rattle.std.specs.Prelude.{pos, slice_index_or};
 ghost use Rattle.std.specs.List.{AllByRecursion};
 ghost use Rattle.qbf_core.specs.Blocks.{pairs, variables, IsPrefix};
 ghost use Rattle.qbf_text.specs.Numbers.{LeadsOver};
-ghost use Rattle.qdimacs.specs.declared.grammar.At.TheVariants as at;
+ghost use Rattle.qdimacs.specs.declared.grammar.State.TheVariants as at;
 ghost use Rattle.qdimacs.specs.declared.grammar.Parts.{Parts};
 ghost use Rattle.qdimacs.specs.States.{state_at, Moves, Leads, IsSound};
 ghost use Rattle.qdimacs.specs.Reading.{AtP, Whole, IsFull, IsWhole, row};
 
 use crate::fault::FormulaFault;
-use crate::tokens::{FAULTS, FORM, bound_literal, clause_or_end};
-use dimacs_syntax::{HeaderAt, HeaderMove, header_move, member, quantifier};
+use crate::tokens::{FAULTS, FORM, decode_bound_literal, decode_clause_or_end};
+use dimacs_syntax::{HeaderAt, HeaderMove, decode_member, decode_quantifier, header_move};
 use qbf_core::{Formula, GrowingLists, Lit, Prefix, PrefixFault, Quantifier, Var};
 use qbf_text::{Grammar, Progress, Stop, Taken, Token, Zeros};
 use std::alloc::{AllocError, Global};
@@ -20,27 +20,25 @@ use std::marker::Model;
 
 /// Where the next token stands.
 #[derive(Clone, Copy)]
-enum At {
-    /// In the header.
-    Header,
+enum State {
+    /// In the header, at this place.
+    InHeader(HeaderAt),
     /// Between lists.
     Between,
-    /// In a set.
-    Set(Quantifier),
+    /// In a set with this quantifier.
+    InSet(Quantifier),
     /// In a clause.
-    Clause,
+    InClause,
     /// After the end.
     Whole,
 }
 
 /// The state that a token leads to, or why it is not taken.
-type Next = Result<At, Stop<FormulaFault>>;
+type Next = Result<State, Stop<FormulaFault>>;
 
 /// What was read of a formula.
 #[derive(Drop)]
 struct Parts {
-    /// The place in the header.
-    header: HeaderAt,
     /// The number of variables that the header says.
     max_var: u32,
     /// The number of clauses that the header says.
@@ -61,15 +59,33 @@ fn surely_full(prefix: &Prefix, max_var: u32) -> bool
     prefix.len() == max_var as usize
 }
 
-/// Takes a token in a set.
-fn take_member(parts: &mut Parts, quantifier: Quantifier, token: Token) -> Next
-    requires sound { IsSound (at.Set quantifier) parts.old }
-    ensures row { Moves (row (state_at parts.old (at.Set quantifier)) token) parts.new result }
+/// Takes a token in the header.
+fn take_header(parts: &mut Parts, place: HeaderAt, token: Token) -> Next
+    requires sound { IsSound (at.InHeader place) parts.old }
+    ensures row { Moves (row (state_at parts.old (at.InHeader place)) token) parts.new result }
     ensures sound { Leads parts.old parts.new result }
 {
-    match member(FAULTS, parts.max_var, token)? {
+    match header_move(FORM, place, token)? {
+        HeaderMove::Goes(next) => Ok(State::InHeader(next)),
+        HeaderMove::Ends(max_var, count) => {
+            parts.max_var = max_var as u32;
+            parts.count = count as u32;
+            parts.full = surely_full(&parts.prefix, parts.max_var);
+            Ok(State::Between)
+        }
+    }
+}
+
+/// Takes a token in a set.
+#[inline(always)]
+fn take_member(parts: &mut Parts, quantifier: Quantifier, token: Token) -> Next
+    requires sound { IsSound (at.InSet quantifier) parts.old }
+    ensures row { Moves (row (state_at parts.old (at.InSet quantifier)) token) parts.new result }
+    ensures sound { Leads parts.old parts.new result }
+{
+    match decode_member(FAULTS, parts.max_var, token)? {
         Some(var) => match parts.prefix.push(quantifier, var) {
-            Ok(()) => Ok(At::Set(quantifier)),
+            Ok(()) => Ok(State::InSet(quantifier)),
             Err(PrefixFault::B1) => Err(Stop::Text(FormulaFault::F5)),
             Err(PrefixFault::B2) => Err(Stop::Memory),
         },
@@ -78,7 +94,7 @@ fn take_member(parts: &mut Parts, quantifier: Quantifier, token: Token) -> Next
                 return Err(Stop::Memory);
             }
             parts.full = surely_full(&parts.prefix, parts.max_var);
-            Ok(At::Between)
+            Ok(State::Between)
         }
     }
 }
@@ -86,18 +102,18 @@ fn take_member(parts: &mut Parts, quantifier: Quantifier, token: Token) -> Next
 /// Takes a token in a clause.
 #[inline(always)]
 fn take_literal(parts: &mut Parts, token: Token) -> Next
-    requires sound { IsSound at.Clause parts.old }
-    ensures row { Moves (row (state_at parts.old at.Clause) token) parts.new result }
+    requires sound { IsSound at.InClause parts.old }
+    ensures row { Moves (row (state_at parts.old at.InClause) token) parts.new result }
     ensures sound { Leads parts.old parts.new result }
 {
-    let said = bound_literal(&parts.prefix, parts.max_var, parts.full, token);
+    let said = decode_bound_literal(&parts.prefix, parts.max_var, parts.full, token);
     match said? {
         Some(lit) => match parts.clauses.push(lit) {
-            Ok(()) => Ok(At::Clause),
+            Ok(()) => Ok(State::InClause),
             Err(_) => Err(Stop::Memory),
         },
         None => match parts.clauses.close() {
-            Ok(()) => Ok(At::Between),
+            Ok(()) => Ok(State::Between),
             Err(_) => Err(Stop::Memory),
         },
     }
@@ -112,48 +128,37 @@ fn take_list_start(parts: &mut Parts, token: Token) -> Next
     ensures sound { Leads parts.old parts.new result }
 {
     if parts.clauses.whole_len() == 0 {
-        if let Some(quantifier) = quantifier(token) {
-            return Ok(At::Set(quantifier));
+        if let Some(quantifier) = decode_quantifier(token) {
+            return Ok(State::InSet(quantifier));
         }
     }
     let has_more = parts.clauses.whole_len() < parts.count as usize;
-    match clause_or_end(has_more, token)? {
+    match decode_clause_or_end(has_more, token)? {
         true => take_literal(parts, token),
-        false => Ok(At::Whole),
+        false => Ok(State::Whole),
     }
 }
 
 /// The state that a token leads to.
 #[inline(always)]
-fn take_at(here: At, parts: &mut Parts, token: Token) -> Next
+fn take_at(here: State, parts: &mut Parts, token: Token) -> Next
     requires sound { IsSound here parts.old }
     ensures row { Moves (row (state_at parts.old here) token) parts.new result }
     ensures sound { Leads parts.old parts.new result }
 {
     match here {
-        At::Clause => take_literal(parts, token),
-        At::Between => take_list_start(parts, token),
-        At::Set(quantifier) => take_member(parts, quantifier, token),
-        At::Header => match header_move(FORM, parts.header, token)? {
-            HeaderMove::Goes(next) => {
-                parts.header = next;
-                Ok(At::Header)
-            }
-            HeaderMove::Ends(max_var, count) => {
-                parts.max_var = max_var as u32;
-                parts.count = count as u32;
-                parts.full = surely_full(&parts.prefix, parts.max_var);
-                Ok(At::Between)
-            }
-        },
-        At::Whole => Err(Stop::Text(FormulaFault::F3)),
+        State::InClause => take_literal(parts, token),
+        State::Between => take_list_start(parts, token),
+        State::InSet(quantifier) => take_member(parts, quantifier, token),
+        State::InHeader(place) => take_header(parts, place, token),
+        State::Whole => Err(Stop::Text(FormulaFault::F3)),
     }
 }
 
 // ---- numbers at hand
 
 /// Where the next token stands, and how many numbers stand before it.
-type Reached = (At, Result<usize, AllocError>);
+type Reached = (State, Result<usize, AllocError>);
 
 /// Takes numbers of a clause from the place `from` on, as far as they are not a fault, and its
 /// zero.
@@ -163,8 +168,8 @@ type Reached = (At, Result<usize, AllocError>);
 #[inline(always)]
 #[tactic(auto, using(crate::proofs::FormulaParts::numbers_lead_on))]
 fn take_clause(parts: &mut Parts, values: &[i32], from: usize) -> Reached
-    requires here { (from ≤ length values.now) × IsSound at.Clause parts.old }
-    ensures leads { IfOk result.1 (λ to. LeadsOver row (state_at parts.old at.Clause)
+    requires here { (from ≤ length values.now) × IsSound at.InClause parts.old }
+    ensures leads { IfOk result.1 (λ to. LeadsOver row (state_at parts.old at.InClause)
         (state_at parts.new result.0) values.now from to) }
     ensures within { IfOk result.1 (λ to. to ≤ length values.now) }
     ensures sound { IsSound result.0 parts.new }
@@ -172,31 +177,31 @@ fn take_clause(parts: &mut Parts, values: &[i32], from: usize) -> Reached
     let mut i = from;
     'literals: while i < values.len() {
         match take_literal(parts, Token::number_at(values, i)) {
-            Ok(At::Clause) => i += 1,
+            Ok(State::InClause) => i += 1,
             Ok(next) => return (next, Ok(i + 1)),
-            Err(Stop::Memory) => return (At::Clause, Err(AllocError)),
-            Err(Stop::Text(_)) => return (At::Clause, Ok(i)),
+            Err(Stop::Memory) => return (State::InClause, Err(AllocError)),
+            Err(Stop::Text(_)) => return (State::InClause, Ok(i)),
         }
     }
-    (At::Clause, Ok(i))
+    (State::InClause, Ok(i))
 }
 
-/// Takes the rest of a clause that has begun.
+/// Takes the rest of an unfinished clause, if there is one.
 ///
 /// # Errors
 /// Out of memory.
 #[inline(always)]
 #[tactic(auto, using(crate::proofs::FormulaParts::numbers_lead_on))]
-fn take_begun(at: At, parts: &mut Parts, values: &[i32]) -> Reached
-    requires sound { IsSound at parts.old }
-    ensures leads { IfOk result.1 (λ to. LeadsOver row (state_at parts.old at)
+fn take_unfinished(here: State, parts: &mut Parts, values: &[i32]) -> Reached
+    requires sound { IsSound here parts.old }
+    ensures leads { IfOk result.1 (λ to. LeadsOver row (state_at parts.old here)
         (state_at parts.new result.0) values.now 0 to) }
     ensures within { IfOk result.1 (λ to. to ≤ length values.now) }
     ensures sound { IsSound result.0 parts.new }
 {
-    match at {
-        At::Clause => take_clause(parts, values, 0),
-        _ => (at, Ok(0)),
+    match here {
+        State::InClause => take_clause(parts, values, 0),
+        _ => (here, Ok(0)),
     }
 }
 
@@ -206,14 +211,14 @@ fn take_begun(at: At, parts: &mut Parts, values: &[i32]) -> Reached
 /// Out of memory.
 #[inline(always)]
 #[tactic(auto, using(crate::proofs::FormulaParts::numbers_lead_on))]
-fn take_rest(at: At, parts: &mut Parts, values: &[i32], from: usize) -> Reached
-    requires here { (from ≤ length values.now) × IsSound at parts.old }
-    ensures leads { IfOk result.1 (λ to. LeadsOver row (state_at parts.old at)
+fn take_rest(here: State, parts: &mut Parts, values: &[i32], from: usize) -> Reached
+    requires here { (from ≤ length values.now) × IsSound here parts.old }
+    ensures leads { IfOk result.1 (λ to. LeadsOver row (state_at parts.old here)
         (state_at parts.new result.0) values.now from to) }
     ensures within { IfOk result.1 (λ to. to ≤ length values.now) }
     ensures sound { IsSound result.0 parts.new }
 {
-    let mut state = at;
+    let mut state = here;
     let mut i = from;
     'numbers: while i < values.len() {
         match take_at(state, parts, Token::number_at(values, i)) {
@@ -222,7 +227,7 @@ fn take_rest(at: At, parts: &mut Parts, values: &[i32], from: usize) -> Reached
             Err(Stop::Text(_)) => break,
         }
         i += 1;
-        if let At::Clause = state {
+        if let State::InClause = state {
             let (next, reached) = take_clause(parts, values, i);
             state = next;
             match reached {
@@ -327,19 +332,19 @@ fn take_clauses(
 /// Out of memory.
 #[inline(always)]
 #[tactic(auto, using(crate::proofs::FormulaParts::numbers_lead_on))]
-fn take_numbers(at: At, parts: &mut Parts, values: &[i32], zeros: Zeros) -> Reached
-    requires sound { IsSound at parts.old }
-    ensures leads { IfOk result.1 (λ to. LeadsOver row (state_at parts.old at)
+fn take_numbers(here: State, parts: &mut Parts, values: &[i32], zeros: Zeros) -> Reached
+    requires sound { IsSound here parts.old }
+    ensures leads { IfOk result.1 (λ to. LeadsOver row (state_at parts.old here)
         (state_at parts.new result.0) values.now 0 to) }
     ensures within { IfOk result.1 (λ to. to ≤ length values.now) }
     ensures sound { IsSound result.0 parts.new }
 {
-    match take_begun(at, parts, values) {
-        (At::Between, Ok(from)) => {
+    match take_unfinished(here, parts, values) {
+        (State::Between, Ok(from)) => {
             let zero = usize::from(from > 0);
             match take_clauses(parts, values, zeros, (from, zero)) {
-                Ok(to) => take_rest(At::Between, parts, values, to),
-                Err(refused) => (At::Between, Err(refused)),
+                Ok(to) => take_rest(State::Between, parts, values, to),
+                Err(refused) => (State::Between, Err(refused)),
             }
         }
         (state, Ok(from)) => take_rest(state, parts, values, from),
@@ -352,7 +357,7 @@ fn take_numbers(at: At, parts: &mut Parts, values: &[i32], zeros: Zeros) -> Reac
 /// Contracts see where the next token stands.
 #[derive(Drop)]
 pub(crate) struct FormulaGrammar {
-    at: At,
+    state: State,
     parts: Parts,
 }
 
@@ -362,9 +367,9 @@ impl Model for FormulaGrammar {
 
     ghost Value = { State };
 
-    ghost view = { λ g. state_at g.parts g.at };
+    ghost view = { λ g. state_at g.parts g.state };
 
-    ghost invariant = { λ g. IsSound g.at g.parts };
+    ghost invariant = { λ g. IsSound g.state g.parts };
 }
 
 impl FormulaGrammar {
@@ -373,9 +378,8 @@ impl FormulaGrammar {
         ensures { result ≡ AtP }
     {
         FormulaGrammar {
-            at: At::Header,
+            state: State::InHeader(HeaderAt::P),
             parts: Parts {
-                header: HeaderAt::P,
                 max_var: 0,
                 count: 0,
                 prefix: Prefix::new(alloc),
@@ -390,8 +394,8 @@ impl FormulaGrammar {
         requires { IsWhole self }
         ensures { self ≡ Whole result }
     {
-        match self.at {
-            At::Whole => {
+        match self.state {
+            State::Whole => {
                 let parts = self.parts;
                 Formula::from_parts(parts.max_var, parts.prefix, parts.clauses)
             }
@@ -419,16 +423,16 @@ impl Grammar for FormulaGrammar {
 
     #[inline(always)]
     fn take_numbers(&mut self, values: &[i32], zeros: Zeros) -> Result<Progress<()>, AllocError> {
-        let (at, reached) = take_numbers(self.at, &mut self.parts, values, zeros);
-        self.at = at;
+        let (state, reached) = take_numbers(self.state, &mut self.parts, values, zeros);
+        self.state = state;
         Ok((reached?, None))
     }
 
     #[inline(always)]
     fn take(&mut self, token: Token) -> Result<Taken<()>, Stop<FormulaFault>> {
-        self.at = take_at(self.at, &mut self.parts, token)?;
-        match self.at {
-            At::Whole => Ok(Taken::Done(())),
+        self.state = take_at(self.state, &mut self.parts, token)?;
+        match self.state {
+            State::Whole => Ok(Taken::Done(())),
             _ => Ok(Taken::More),
         }
     }

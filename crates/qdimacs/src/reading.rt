@@ -1,9 +1,10 @@
 //! Reading a formula.
 
-ghost use Rattle.std.specs.Prelude.{Err, ◌≢◌, ◌-◌, ◌^◌, ◌<◌, ◌≡◌, IfSome, OnOk, IfErr};
+ghost use Rattle.std.specs.Prelude.{IfSome, OnOk};
 ghost use Rattle.qdimacs.specs.declared.fault.FormulaFault.TheVariants.{F1, F9};
 ghost use Rattle.std.specs.Io.KnownBytes.{IsAtEnd};
 ghost use Rattle.qbf_text.specs.Tokens.{tokens};
+ghost use Rattle.qbf_text.specs.WholeTexts.{TellsFailures};
 ghost use Rattle.qbf_text.specs.declared.token.Comments.TheVariants.{Qdimacs};
 ghost use Rattle.qdimacs.specs.Faults.{IsReadAs};
 ghost use Rattle.qdimacs.specs.Reading.{reads_bytes, Gives};
@@ -33,14 +34,8 @@ pub fn read_formula<S: Source>(alloc: Global, source: &mut S) -> Result<Formula,
     ensures exact { Gives result (reads_bytes (S.remaining source.old)) }
     // No byte remains after a formula.
     ensures rest { OnOk result (IsAtEnd (S.remaining source.new)) }
-    ensures source { IfErr result (λ e. e.0 ≡ F1
-        → S.failures source.old < 2 ^ 64 - 1 → S.failures source.old < S.failures source.new) }
-    ensures kept { IfErr result (λ e. e.0 ≢ F1 → S.failures source.new ≡ S.failures source.old) }
-    ensures line_1 { IfErr result (λ e. e.0 ≡ F1 → e.1 ≡ 0) }
-    ensures line_9 { IfErr result (λ e. e.0 ≡ F9 → e.1 ≡ 0) }
-    ensures works { OnOk result (S.failures source.new ≡ S.failures source.old) }
-    // Where the source failed, the call says so.
-    ensures failed { S.failures source.old < S.failures source.new → result ≡ Err (F1, 0) }
+    // F1 exactly if the source failed; F1 and F9 stand on line 0.
+    ensures devices { TellsFailures F1 F9 (S.failures source.old) (S.failures source.new) result }
 {
     let mut grammar = FormulaGrammar::new(alloc);
     match read_text(&mut grammar, Comments::Qdimacs, source) {

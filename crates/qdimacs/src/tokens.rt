@@ -2,10 +2,10 @@
 
 ghost use Rattle.std.specs.Prelude.{◌≡◌, ◌≤◌, true, IfSome, IfOk};
 ghost use Rattle.qbf_core.specs.Blocks.{pairs, IsBound};
-ghost use Rattle.qdimacs.specs.Reading.{bound_literal, clause_or_end, IsFull};
+ghost use Rattle.qdimacs.specs.Reading.{decode_bound_literal, decode_clause_or_end, IsFull};
 
 use crate::fault::FormulaFault;
-use dimacs_syntax::{Faults, HeaderForm, literal};
+use dimacs_syntax::{Faults, HeaderForm, decode_literal};
 use qbf_core::{LAST_VARIABLE, Lit, Prefix};
 use qbf_text::{Token, Word};
 
@@ -32,7 +32,7 @@ pub(crate) const FORM: HeaderForm<FormulaFault> = HeaderForm {
 /// # Errors
 /// F3, F4, F6 or F7: the fault that the token is there.
 #[inline(always)]
-pub(crate) fn bound_literal(
+pub(crate) fn decode_bound_literal(
     prefix: &Prefix,
     max_var: u32,
     full: bool,
@@ -40,10 +40,10 @@ pub(crate) fn bound_literal(
 ) -> Result<Option<Lit>, FormulaFault>
     requires number { max_var ≤ 2147483647 }
     requires full { full ≡ true → IsFull max_var (pairs prefix.now) }
-    ensures says { result ≡ bound_literal max_var (pairs prefix.now) token }
+    ensures says { result ≡ decode_bound_literal max_var (pairs prefix.now) token }
     ensures bound { IfOk result (λ o. IfSome o (λ l. IsBound prefix.now l.var)) }
 {
-    match literal(FAULTS, max_var, token)? {
+    match decode_literal(FAULTS, max_var, token)? {
         None => Ok(None),
         Some(lit) if full || prefix.is_bound(lit.var()) => Ok(Some(lit)),
         Some(_) => Err(FormulaFault::F6),
@@ -55,8 +55,8 @@ pub(crate) fn bound_literal(
 /// # Errors
 /// F3, F4 or F8: the fault that the token is there.
 #[inline(always)]
-pub(crate) fn clause_or_end(more: bool, token: Token) -> Result<bool, FormulaFault>
-    ensures { result ≡ clause_or_end more token }
+pub(crate) fn decode_clause_or_end(more: bool, token: Token) -> Result<bool, FormulaFault>
+    ensures { result ≡ decode_clause_or_end more token }
 {
     match token {
         Token::Number { .. } if more => Ok(true),

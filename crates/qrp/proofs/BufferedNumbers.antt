@@ -7,19 +7,19 @@ use Rattle.std.proofs.lemmas.List.{get_or-take, get_or-drop}
 use Rattle.qbf_core.specs.WrittenLiterals.{literal_of, IsWritten}
 use Rattle.qbf_text.specs.Numbers.{LeadsOver, EndsOver, token_of, token_at}
 use Rattle.qbf_text.specs.declared.token.Token.TheVariants.{Number}
-use Rattle.dimacs_syntax.specs.Decode.{literal_in}
+use Rattle.dimacs_syntax.specs.Decode.{decode_literal}
 use Rattle.qrp.specs.declared.item.Item.TheVariants as item
-use Rattle.qrp.specs.Reading.{State, row, faults, lits_row, ants_row, antecedent, has_room, InLits, InAnts, After}
+use Rattle.qrp.specs.Reading.{State, row, faults, lits_row, ants_row, decode_antecedent, has_room, InLits, InAnts, After}
 
 module _ (first : State) (values : List ℤ) (from i : ℕ) (ns : List ℕ) (n : ℕ) (ls : List Literal) where
   -- a literal more
-  pub literal_more : (l : Literal) → Ok (Some l) ≡ literal_in faults 2147483647 (token_at values i)
+  pub literal_more : (l : Literal) → Ok (Some l) ≡ decode_literal faults 2147483647 (token_at values i)
       → LeadsOver row first (InLits ns n ls) values from i → LeadsOver row first (InLits ns n (ls ++ l ∷ [])) values from (i + 1)
   literal_more l says =
       leads_more row first (InLits ns n ls) (InLits ns n (ls ++ l ∷ [])) values from i (ap (λ o. lits_row ns n ls o) (sym says))
 
   -- an antecedent more
-  pub antecedent_more : (ants : List ℕ) (a : ℕ) → Ok (Some a) ≡ antecedent (has_room ants) (token_at values i)
+  pub antecedent_more : (ants : List ℕ) (a : ℕ) → Ok (Some a) ≡ decode_antecedent (has_room ants) (token_at values i)
       → LeadsOver row first (InAnts ns n ls ants) values from i → LeadsOver row first (InAnts ns n ls (ants ++ a ∷ [])) values from (i + 1)
   antecedent_more ants a says =
       leads_more row first (InAnts ns n ls ants) (InAnts ns n ls (ants ++ a ∷ [])) values from i
@@ -40,11 +40,11 @@ module _ (first : State) (values : List ℤ) (from i : ℕ) (ns : List ℕ) (n :
 
 -- a number is read as the literal that it is
 said : (negative : Bool) (m : ℕ) → 1 ≤ m → m ≤ 2147483647
-    → Ok (Some (record { var = m; negative = negative })) ≡ literal_in faults 2147483647 (Number negative m)
+    → Ok (Some (record { var = m; negative = negative })) ≡ decode_literal faults 2147483647 (Number negative m)
 said negative m low high = grind (arith, common_steps)
 
-written_said : (v w : ℤ) → IsWritten 2147483647 v → v ≡ w → Ok (Some (literal_of v)) ≡ literal_in faults 2147483647 (token_of w)
-written_said v w is same = said (int_lt v (pos 0)) (unsigned_abs v) is.0 is.1 ∙ ap (λ x. literal_in faults 2147483647 (token_of x)) same
+written_said : (v w : ℤ) → IsWritten 2147483647 v → v ≡ w → Ok (Some (literal_of v)) ≡ decode_literal faults 2147483647 (token_of w)
+written_said v w is same = said (int_lt v (pos 0)) (unsigned_abs v) is.0 is.1 ∙ ap (λ x. decode_literal faults 2147483647 (token_of x)) same
 
 list_leads : (xs values : List ℤ) (i : ℕ) (ns : List ℕ) (n : ℕ) (ls : List Literal) → AllByRecursion (IsWritten 2147483647) xs
     → ((k : ℕ) → k < length xs → slice_index_or xs k (pos 0) ≡ slice_index_or values (i + k) (pos 0))

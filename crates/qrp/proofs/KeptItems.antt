@@ -14,10 +14,9 @@ use Rattle.qbf_text.proofs.OneToken as going
 use Rattle.qbf_text.proofs.Stops.{taken_no_end, unread_fault}
 use Rattle.qrp.specs.declared.item.Item.TheVariants as item
 use Rattle.qrp.specs.declared.parts.Parts.{Parts}
-use Rattle.qrp.specs.declared.states.At.TheVariants as at
-use Rattle.qrp.specs.declared.states.At.TheVariants.{Ants}
+use Rattle.qrp.specs.declared.states.State.TheVariants as at
 use Rattle.qrp.specs.declared.states.Part.TheVariants as part
-use Rattle.qrp.specs.declared.states.Partial.{Partial}
+use Rattle.qrp.specs.declared.states.Lists.{Lists}
 use Rattle.qrp.specs.Flat.{kept_of, trace_of, ClosesPart}
 use Rattle.qrp.specs.States.{item_of}
 use Rattle.qrp.specs.Reading.{Fault, State, Row, AtP, Between, After, row, items_from, with_items, nothing, read_trace}
@@ -150,21 +149,21 @@ kept_leads d first next values from to l = record {
   leads = kept_by d first next values from l.count l.leads;
 }
 
-pub step_leads : (p : Parts) (b : Partial) (first next : State) (values : List ℤ) (from to : ℕ) → Stays p.partial b
+pub step_leads : (p : Parts) (b : Lists) (first next : State) (values : List ℤ) (from to : ℕ) → Stays p.lists b
     → LeadsOver row first next values from to
     → LeadsOver trace_row (record { made = trace_of (kept_of p); state = first })
-    (record { made = trace_of (kept_of (record p { partial = b })); state = next }) values from to
+    (record { made = trace_of (kept_of (record p { lists = b })); state = next }) values from to
 step_leads p b first next values from to stays l =
     rw (stays.index, stays.lits, stays.ants) (kept_leads (trace_of (kept_of p)) first next values from to l)
 
 -- a step that a zero completes is kept
 pub step_kept : (first : TraceRead) (old new : Parts) (n : ℕ) (values : List ℤ) (from i : ℕ) → slice_index_or values i (pos 0) ≡ pos 0
-    → LeadsOver trace_row first (trace_at old (Ants n)) values from i → ClosesPart old new (part.Step n)
+    → LeadsOver trace_row first (trace_at old (at.InAnts n)) values from i → ClosesPart old new (part.Step n)
     → LeadsOver trace_row first (trace_at new at.Between) values from (i + 1)
 step_kept first old new n values from i is leads closes =
-    let mid = trace_at old (Ants n) in
+    let mid = trace_at old (at.InAnts n) in
     let next : TraceRead =
-    record { made = with_item (trace_of (kept_of old)) (item_of old.partial (part.Step n)); state = Between (old.partial.index ++ n ∷ []) } in
+    record { made = with_item (trace_of (kept_of old)) (item_of old.lists (part.Step n)); state = Between (old.lists.index ++ n ∷ []) } in
     rw (closes.made, closes.numbers) (leads_more trace_row first mid next values from i (ap (λ v. trace_row mid (token_of v)) is) leads)
 
 -- numbers lead on, and others after them, unless an allocation fails

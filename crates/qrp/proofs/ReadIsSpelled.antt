@@ -17,8 +17,9 @@ use Rattle.qrp.proofs.SpelledIsRead.{end_row, read_once}
 
 -- ---- lists that grow
 
--- a token after a begun list
-pushed : {ts begun : List Token} {ns : List ℕ} (t : Token) → AreLists ts begun ns → AreLists (ts ++ t ∷ []) (begun ++ t ∷ []) ns
+-- a token after an unfinished list
+pushed : {ts unfinished : List Token} {ns : List ℕ} (t : Token) → AreLists ts unfinished ns
+    → AreLists (ts ++ t ∷ []) (unfinished ++ t ∷ []) ns
 pushed t a = grind (arith, common_steps, append_assoc)
 
 set_pushed : (h : Header) (sets : List Block) (s : Block) (steps : List Inference) → numbers steps ≡ []

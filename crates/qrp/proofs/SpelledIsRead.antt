@@ -158,9 +158,10 @@ spelled_is_read ts d is =
 
 -- ---- a fault that stands is found
 
-leads_begun : {ts begun : List Token} {ns : List ℕ} {p : State} → (a : AreLists ts begun ns) → Leads (Between ns) begun [] p
+leads_unfinished : {ts unfinished : List Token} {ns : List ℕ} {p : State} → (a : AreLists ts unfinished ns)
+    → Leads (Between ns) unfinished [] p
     → Leads AtP ts (items_of_lists a.header a.sets a.steps) p
-leads_begun a l = rw a.spelled (leads_on (rw a.numbered at (leads_lists a.header a.sets a.steps a.grammatical)) l)
+leads_unfinished a l = rw a.spelled (leads_on (rw a.numbered at (leads_lists a.header a.sets a.steps a.grammatical)) l)
 
 -- the tokens before a state lead to it
 spelled_leads : (ts : List Token) (state : State) (s : Spells ts state) → Leads AtP ts (whole_before ts state s) state
@@ -168,12 +169,12 @@ spelled_leads ts (InHeader place.P) e = rw e Stays
 spelled_leads ts (InHeader place.Format) e = rw e (Passes refl Stays)
 spelled_leads ts (InHeader place.First) e = rw e (Passes refl (Passes refl Stays))
 spelled_leads ts (InHeader (place.Second v)) e = rw e (Passes refl (Passes refl (Passes refl Stays)))
-spelled_leads ts (Between ns) e = leads_begun e Stays
-spelled_leads ts (InSet q vs) e = leads_begun e.0 (Passes (search rules) (leads_variables q [] vs e.1))
-spelled_leads ts (InLits ns n ls) e = leads_begun e.0 (Passes (search rules) (leads_literals ns n [] ls e.3))
-spelled_leads ts (InAnts ns n ls ants) e = leads_begun e.0 (Passes (search rules)
+spelled_leads ts (Between ns) e = leads_unfinished e Stays
+spelled_leads ts (InSet q vs) e = leads_unfinished e.0 (Passes (search rules) (leads_variables q [] vs e.1))
+spelled_leads ts (InLits ns n ls) e = leads_unfinished e.0 (Passes (search rules) (leads_literals ns n [] ls e.3))
+spelled_leads ts (InAnts ns n ls ants) e = leads_unfinished e.0 (Passes (search rules)
     (leads_on (leads_literals ns n [] ls e.3) (Passes refl (leads_antecedents ns n ls [] ants e.4 e.5))))
-spelled_leads ts (AtResult ns) e = leads_begun e (Passes (search rules) Stays)
+spelled_leads ts (AtResult ns) e = leads_unfinished e (Passes (search rules) Stays)
 spelled_leads ts (After i ns) e = absurd e
 
 before_fault : (ts : List Token) (state : State) (s : Spells ts state) (e : Fault)

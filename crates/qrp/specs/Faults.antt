@@ -17,15 +17,15 @@ use Rattle.qrp.specs.Reading.{Fault, State, InHeader, Between, InSet, InLits, In
 use Rattle.step_index.specs.Numbers.{is_used}
 
 -- whole sets and whole steps with these numbers, before the tokens of an unfinished list
-pub record AreLists (ts begun : List Token) (ns : List ℕ) : Type 0 where
+pub record AreLists (ts unfinished : List Token) (ns : List ℕ) : Type 0 where
   pub header : Header
   pub sets : List Block
   pub steps : List Inference
-  pub spelled : ts ≡ lists header sets steps ++ begun
+  pub spelled : ts ≡ lists header sets steps ++ unfinished
   pub numbered : numbers steps ≡ ns
   pub grammatical : AreGrammatical sets steps
 
--- The tokens before a state: an unfinished header, or whole sets and whole steps and then nothing, one begun list, or `r`.
+-- The tokens before a state: an unfinished header, or whole sets and whole steps and then nothing, one unfinished list, or `r`.
 abbrev pub Spells : List Token → State → Type 0
 Spells ts (InHeader here) = ts ≡ header_before word.Qrp here
 Spells ts (Between ns) = AreLists ts [] ns

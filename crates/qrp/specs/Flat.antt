@@ -48,24 +48,24 @@ abbrev pub kept_of : Parts → Kept
 kept_of p = record {
   header = p.header;
   sets = p.sets.items;
-  numbers = p.partial.index;
-  lits = p.partial.lits.whole;
-  ants = p.partial.ants.whole;
+  numbers = p.lists.index;
+  lits = p.lists.lits.whole;
+  ants = p.lists.ants.whole;
 }
 
 -- the unfinished list is whole, and an empty one begins after it
 abbrev pub after_close : {X : Type 0} → Growing X → Growing X
 after_close g = record { whole = g.whole ++ g.unfinished ∷ []; unfinished = [] }
 
--- a trace with one more item
+-- a trace with one more item; a result is not kept
 abbrev pub with_item : Derivation → Item → Derivation
 with_item d (item.Header h) = record d { header = h }
 with_item d (item.Set s) = record d { sets = d.sets ++ s ∷ [] }
 with_item d (item.Step s) = record d { steps = d.steps ++ s ∷ [] }
-with_item d (item.Result o) = record d { result = o }
+with_item d (item.Result o) = d
 
 -- an unfinished part is whole
 pub record ClosesPart (old new : Parts) (p : Part) : Type 0 where
-  pub made : trace_of (kept_of new) ≡ with_item (trace_of (kept_of old)) (item_of old.partial p)
-  pub numbers : new.partial.index ≡ numbers_after old.partial p
+  pub made : trace_of (kept_of new) ≡ with_item (trace_of (kept_of old)) (item_of old.lists p)
+  pub numbers : new.lists.index ≡ numbers_after old.lists p
   pub flat : IsFlat (kept_of new)

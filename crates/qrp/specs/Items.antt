@@ -1,15 +1,15 @@
 -- The parts of a trace, given one after the other.
-use Rattle.std.specs.Prelude.{◌≡◌, ◌≢◌, ◌<◌, ◌≤◌, Option, ◌+◌, ◌-◌, ◌^◌, ℕ, false, List, length, Result}
-use Rattle.std.specs.Prelude.{Ok, IfOk, OnOk, IfErr, ⊤}
+use Rattle.std.specs.Prelude.{◌≡◌, ◌<◌, ◌≤◌, Option, ◌+◌, ℕ, false, List, length, Result, Ok, IfOk, OnOk, ⊤}
 use Rattle.qbf_text.specs.Ahead.{ahead}
 use Rattle.qbf_text.specs.Reading.{Reading, HasFailed, left}
 use Rattle.qbf_text.specs.Stopping.{IfKnown, tokens_next}
-use Rattle.qrp.specs.declared.fault.TraceFault.TheVariants.{P1}
+use Rattle.qbf_text.specs.WholeTexts.{TellsFailures}
+use Rattle.qrp.specs.declared.fault.TraceFault.TheVariants.{P1, P9}
 use Rattle.qrp.specs.declared.item.Item.{Item}
 use Rattle.qrp.specs.declared.reader.Stage.{Stage}
 use Rattle.qrp.specs.declared.reader.Stage.TheVariants.{AtHeader, AtLists}
 use Rattle.qrp.specs.Flat.{Kept}
-use Rattle.qrp.specs.NextItem.{known_items, left_after, is_last, numbers_with, stage_after, GivesNextItem, IsProper, StandsOnLine}
+use Rattle.qrp.specs.NextItem.{known_items, left_after, is_last, numbers_with, stage_after, GivesNextItem, IsProper}
 use Rattle.qrp.specs.NextItem.{StopsAfterPart}
 use Rattle.qrp.specs.Reading.{Fault, State, AtP, Between, After}
 
@@ -45,15 +45,12 @@ pub record IsItem (old new : ItemsRead) (result : Result Item Fault) : Type 0 wh
   pub numbers : new.kept.numbers ≡ numbers_with old.kept.numbers result
   pub stands : Stands (stage_after result) new
 
--- what was done with the devices: the scanner did not fail with an item, and after each but the last less can still come; the count
--- of failures rose exactly where the source failed; a fault of source or memory stands on line 0
+-- what was done with the devices: the scanner did not fail with an item, and after each but the last less can still come; what the
+-- result tells of their failures
 pub record IsDriven (scanner : Reading) (before bound old new : ℕ) (result : Result Item Fault) : Type 0 where
   pub ready : OnOk result (¬ HasFailed scanner)
   pub less : is_last result ≡ false → length scanner.pending + bound < before
-  pub source : IfErr result (λ e. e.0 ≡ P1 → old < 2 ^ 64 - 1 → old < new)
-  pub kept : IfErr result (λ e. e.0 ≢ P1 → new ≡ old)
-  pub lines : IfErr result (λ e. StandsOnLine e.0 e.1)
-  pub works : OnOk result (new ≡ old)
+  pub failures : TellsFailures P1 P9 old new result
 
 -- an item was read from this state on: what was left is the result and what is left now, and nothing is read past the item but a
 -- separator and what is held

@@ -6,9 +6,9 @@ use Rattle.qbf_text.specs.declared.grammar.Stop.TheVariants as stop
 use Rattle.qrp.specs.declared.fault.TraceFault.{TraceFault}
 use Rattle.qrp.specs.declared.item.Item.{Item}
 use Rattle.qrp.specs.declared.item.Item.TheVariants as item
-use Rattle.qrp.specs.declared.states.At.{At}
-use Rattle.qrp.specs.declared.states.At.TheVariants as at
-use Rattle.qrp.specs.declared.states.Partial.{Partial}
+use Rattle.qrp.specs.declared.states.State as states
+use Rattle.qrp.specs.declared.states.State.TheVariants as at
+use Rattle.qrp.specs.declared.states.Lists.{Lists}
 use Rattle.qrp.specs.declared.states.Part.{Part}
 use Rattle.qrp.specs.declared.states.Part.TheVariants as part
 use Rattle.qrp.specs.Inferences.{IsLiteral, IsNumber}
@@ -17,38 +17,36 @@ use Rattle.qrp.specs.Reading.{State, Row, InHeader, Between, InSet, InLits, InAn
 use Rattle.step_index.specs.Numbers.{is_used}
 
 -- the item that a part is
-abbrev pub item_of : Partial → Part → Item
+abbrev pub item_of : Lists → Part → Item
 item_of b (part.Header h) = item.Header h
 item_of b (part.Set q) = item.Set (record { quantifier = q; vars = b.vars.items })
 item_of b (part.Step n) = item.Step (record { number = n; lits = b.lits.unfinished; ants = b.ants.unfinished })
+item_of b (part.Result o) = item.Result o
 
 -- the numbers of the steps after it
-abbrev pub numbers_after : Partial → Part → List ℕ
+abbrev pub numbers_after : Lists → Part → List ℕ
 numbers_after b (part.Step n) = b.index ++ n ∷ []
-numbers_after b (part.Header h) = []
-numbers_after b (part.Set q) = []
+numbers_after b p = b.index
 
 -- where reading stands with these lists
-abbrev pub state_at : Partial → At → State
-state_at b at.Header = InHeader b.header
+abbrev pub state_at : Lists → states.State → State
+state_at b (at.InHeader here) = InHeader here
 state_at b at.Between = Between b.index
-state_at b (at.Set q) = InSet q b.vars.items
-state_at b (at.Lits n) = InLits b.index n b.lits.unfinished
-state_at b (at.Ants n) = InAnts b.index n b.lits.unfinished b.ants.unfinished
-state_at b at.Result = AtResult b.index
-state_at b (at.ItemComplete p) = After (item_of b p) (numbers_after b p)
-state_at b (at.Whole o) = After (item.Result o) b.index
+state_at b (at.InSet q) = InSet q b.vars.items
+state_at b (at.InLits n) = InLits b.index n b.lits.unfinished
+state_at b (at.InAnts n) = InAnts b.index n b.lits.unfinished b.ants.unfinished
+state_at b at.AtResult = AtResult b.index
+state_at b (at.After p) = After (item_of b p) (numbers_after b p)
 
 -- a token leads where its row says, unless an allocation failed
-abbrev pub Moves : Row → Partial → Result At (Stop TraceFault) → Type 0
-Moves r b (Ok (at.ItemComplete p)) = r ≡ Ends tt (state_at b (at.ItemComplete p))
-Moves r b (Ok (at.Whole o)) = r ≡ Ends tt (state_at b (at.Whole o))
+abbrev pub Moves : Row → Lists → Result states.State (Stop TraceFault) → Type 0
+Moves r b (Ok (at.After p)) = r ≡ Ends tt (state_at b (at.After p))
 Moves r b (Ok next) = r ≡ Goes (state_at b next)
 Moves r b (Err stop.Memory) = ⊤
 Moves r b (Err (stop.Text f)) = r ≡ Fails f
 
 -- whole lists and the numbers of whole steps are as they were
-pub record Stays (old new : Partial) : Type 0 where
+pub record Stays (old new : Lists) : Type 0 where
   pub index : new.index ≡ old.index
   pub lits : new.lits.whole ≡ old.lits.whole
   pub ants : new.ants.whole ≡ old.ants.whole
@@ -66,23 +64,23 @@ pub record AreAntecedents (ants : List ℕ) : Type 0 where
   pub few : length ants ≤ 2
 
 -- after a part
-abbrev pub IsComplete : Part → Partial → Type 0
+abbrev pub IsComplete : Part → Lists → Type 0
 IsComplete (part.Header h) b = (b.index ≡ []) × (h.vars < 2 ^ 64) × (h.steps < 2 ^ 64)
 IsComplete (part.Set q) b = (b.index ≡ []) × AllByRecursion IsVariable b.vars.items
 IsComplete (part.Step n) b = IsNew n b.index × AllByRecursion IsLiteral b.lits.unfinished × AreAntecedents b.ants.unfinished
+IsComplete (part.Result o) b = ⊤
 
 -- at each state
-abbrev pub IsSound : At → Partial → Type 0
-IsSound at.Header b = b.index ≡ []
+abbrev pub IsSound : states.State → Lists → Type 0
+IsSound (at.InHeader here) b = b.index ≡ []
 IsSound at.Between b = ⊤
-IsSound (at.Set q) b = IsComplete (part.Set q) b
-IsSound (at.Lits n) b = IsNew n b.index × AllByRecursion IsLiteral b.lits.unfinished
-IsSound (at.Ants n) b = IsComplete (part.Step n) b
-IsSound at.Result b = ⊤
-IsSound (at.ItemComplete p) b = IsComplete p b
-IsSound (at.Whole o) b = ⊤
+IsSound (at.InSet q) b = IsComplete (part.Set q) b
+IsSound (at.InLits n) b = IsNew n b.index × AllByRecursion IsLiteral b.lits.unfinished
+IsSound (at.InAnts n) b = IsComplete (part.Step n) b
+IsSound at.AtResult b = ⊤
+IsSound (at.After p) b = IsComplete p b
 
 -- after a token: the invariant of the new state, with the complete lists unchanged; on a fault the old invariant
-abbrev pub Leads : At → Partial → Partial → Result At (Stop TraceFault) → Type 0
+abbrev pub Leads : states.State → Lists → Lists → Result states.State (Stop TraceFault) → Type 0
 Leads here old new (Ok next) = Stays old new × IsSound next new
 Leads here old new (Err e) = Stays old new × (IsSound here old → IsSound here new)

@@ -7,7 +7,7 @@ use Rattle.qrp.specs.declared.fault.TraceFault.{TraceFault}
 use Rattle.qrp.specs.declared.fault.TraceFault.TheVariants.{P7}
 use Rattle.qrp.specs.declared.item.Item.TheVariants as item
 use Rattle.qrp.specs.declared.parts.Parts.{Parts}
-use Rattle.qrp.specs.declared.states.At.{At}
+use Rattle.qrp.specs.declared.states.State as states
 use Rattle.qrp.specs.Derivations.{Derivation}
 use Rattle.qrp.specs.Flat.{kept_of, trace_of, with_item, IsFlat}
 use Rattle.qrp.specs.Reading.{Fault, State, Row, AtP, Between, After, nothing, row}
@@ -23,12 +23,12 @@ abbrev pub nothing_read : TraceRead
 nothing_read = record { made = nothing; state = AtP }
 
 -- what is made of these parts, and where the next token stands
-abbrev pub trace_at : Parts → At → TraceRead
-trace_at p here = record { made = trace_of (kept_of p); state = state_at p.partial here }
+abbrev pub trace_at : Parts → states.State → TraceRead
+trace_at p here = record { made = trace_of (kept_of p); state = state_at p.lists here }
 
 -- what holds of the parts where the next token stands
-abbrev pub AreSound : At → Parts → Type 0
-AreSound here p = IsSound here p.partial × IsFlat (kept_of p)
+abbrev pub AreSound : states.State → Parts → Type 0
+AreSound here p = IsSound here p.lists × IsFlat (kept_of p)
 
 -- What the row of a state makes of a token. The result alone ends what is read.
 abbrev pub TraceRow : Type 0

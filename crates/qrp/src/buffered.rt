@@ -5,13 +5,13 @@ ghost use Rattle.std.specs.Prelude.{slice_index_or, slice_range, IfSome, IfOk, I
 ghost use Rattle.std.specs.List.{AllByRecursion};
 ghost use Rattle.qbf_core.specs.WrittenLiterals.{literal_of, IsWritten};
 ghost use Rattle.qbf_text.specs.Numbers.{LeadsOver};
-ghost use Rattle.qrp.specs.declared.states.At.TheVariants as at;
+ghost use Rattle.qrp.specs.declared.states.State.TheVariants as at;
 ghost use Rattle.qrp.specs.States.{state_at, IsSound, Stays};
 ghost use Rattle.qrp.specs.Reading.{row};
 
-use crate::states::{At, Partial, has_room, take_item_start};
-use crate::tokens::{FAULTS, antecedent};
-use dimacs_syntax::literal;
+use crate::states::{Lists, State, has_room, take_item_start};
+use crate::tokens::{FAULTS, decode_antecedent};
+use dimacs_syntax::decode_literal;
 use qbf_core::{GrowingLists, LAST_VARIABLE, Lit};
 use qbf_text::Token;
 use std::alloc::AllocError;
@@ -26,7 +26,7 @@ pub struct AtHand {
 }
 
 /// Where the next token stands, and the place of the next number.
-pub type Reached = (At, Result<usize, AllocError>);
+pub type Reached = (State, Result<usize, AllocError>);
 
 /// Puts literals, as many as there seem to be up to the next zero, at the end of an unfinished
 /// list. Returns the place of the next number.
@@ -65,28 +65,28 @@ fn put_literals(
 /// Out of memory.
 #[inline(always)]
 #[tactic(auto, using(crate::proofs::BufferedNumbers::numbers_lead_on))]
-fn take_literals(partial: &mut Partial, number: u64, values: &[i32], from: usize) -> Reached
-    requires here { (from ≤ length values.now) × IsSound (at.Lits number) partial.old }
-    ensures leads { IfOk result.1 (λ to. LeadsOver row (state_at partial.old (at.Lits number))
-        (state_at partial.new result.0) values.now from to) }
+fn take_literals(lists: &mut Lists, number: u64, values: &[i32], from: usize) -> Reached
+    requires here { (from ≤ length values.now) × IsSound (at.InLits number) lists.old }
+    ensures leads { IfOk result.1 (λ to. LeadsOver row (state_at lists.old (at.InLits number))
+        (state_at lists.new result.0) values.now from to) }
     ensures within { IfOk result.1 (λ to. to ≤ length values.now) }
-    ensures sound { Stays partial.old partial.new × IsSound result.0 partial.new }
+    ensures sound { Stays lists.old lists.new × IsSound result.0 lists.new }
 {
     let mut i = from;
     'literals: while i < values.len() {
-        match literal(FAULTS, LAST_VARIABLE, Token::number_at(values, i)) {
-            Ok(Some(lit)) => match partial.lits.push(lit) {
+        match decode_literal(FAULTS, LAST_VARIABLE, Token::number_at(values, i)) {
+            Ok(Some(lit)) => match lists.lits.push(lit) {
                 Ok(()) => i += 1,
-                Err(_) => return (At::Lits(number), Err(AllocError)),
+                Err(_) => return (State::InLits(number), Err(AllocError)),
             },
             Ok(None) => {
-                partial.ants.begin();
-                return (At::Ants(number), Ok(i + 1));
+                lists.ants.begin();
+                return (State::InAnts(number), Ok(i + 1));
             }
             Err(_) => break,
         }
     }
-    (At::Lits(number), Ok(i))
+    (State::InLits(number), Ok(i))
 }
 
 /// Takes literals of a step, if such stand next, and the zero after them.
@@ -95,18 +95,18 @@ fn take_literals(partial: &mut Partial, number: u64, values: &[i32], from: usize
 /// Out of memory.
 #[inline(always)]
 #[tactic(auto, using(crate::proofs::BufferedNumbers::numbers_lead_on))]
-fn take_list(here: At, partial: &mut Partial, values: &[i32], hand: AtHand) -> Reached
-    requires here { (hand.from ≤ length values.now) × IsSound here partial.old }
-    ensures leads { IfOk result.1 (λ to. LeadsOver row (state_at partial.old here)
-        (state_at partial.new result.0) values.now hand.from to) }
+fn take_list(here: State, lists: &mut Lists, values: &[i32], hand: AtHand) -> Reached
+    requires here { (hand.from ≤ length values.now) × IsSound here lists.old }
+    ensures leads { IfOk result.1 (λ to. LeadsOver row (state_at lists.old here)
+        (state_at lists.new result.0) values.now hand.from to) }
     ensures within { IfOk result.1 (λ to. to ≤ length values.now) }
-    ensures sound { Stays partial.old partial.new × IsSound result.0 partial.new }
+    ensures sound { Stays lists.old lists.new × IsSound result.0 lists.new }
 {
-    let At::Lits(number) = here else {
+    let State::InLits(number) = here else {
         return (here, Ok(hand.from));
     };
-    match put_literals(&mut partial.lits, values, hand) {
-        Ok(to) => take_literals(partial, number, values, to),
+    match put_literals(&mut lists.lits, values, hand) {
+        Ok(to) => take_literals(lists, number, values, to),
         Err(refused) => (here, Err(refused)),
     }
 }
@@ -118,21 +118,21 @@ fn take_list(here: At, partial: &mut Partial, values: &[i32], hand: AtHand) -> R
 #[inline(always)]
 #[tactic(auto, using(crate::proofs::BufferedNumbers::numbers_lead_on))]
 fn take_antecedents(
-    partial: &mut Partial,
+    lists: &mut Lists,
     number: u64,
     values: &[i32],
     from: usize,
 ) -> Result<usize, AllocError>
-    requires here { (from ≤ length values.now) × IsSound (at.Ants number) partial.old }
-    ensures leads { IfOk result (λ to. LeadsOver row (state_at partial.old (at.Ants number))
-        (state_at partial.new (at.Ants number)) values.now from to) }
+    requires here { (from ≤ length values.now) × IsSound (at.InAnts number) lists.old }
+    ensures leads { IfOk result (λ to. LeadsOver row (state_at lists.old (at.InAnts number))
+        (state_at lists.new (at.InAnts number)) values.now from to) }
     ensures within { IfOk result (λ to. to ≤ length values.now) }
-    ensures sound { Stays partial.old partial.new × IsSound (at.Ants number) partial.new }
+    ensures sound { Stays lists.old lists.new × IsSound (at.InAnts number) lists.new }
 {
     let mut i = from;
     'antecedents: while i < values.len() {
-        match antecedent(has_room(&partial.ants), Token::number_at(values, i)) {
-            Ok(Some(ant)) => match partial.ants.push(ant) {
+        match decode_antecedent(has_room(&lists.ants), Token::number_at(values, i)) {
+            Ok(Some(ant)) => match lists.ants.push(ant) {
                 Ok(()) => i += 1,
                 Err(_) => return Err(AllocError),
             },
@@ -145,15 +145,15 @@ fn take_antecedents(
 /// Takes the number of a step, if one begins here.
 #[inline(always)]
 #[tactic(auto, using(crate::proofs::BufferedNumbers::numbers_lead_on))]
-fn begin_step(partial: &mut Partial, values: &[i32], from: usize) -> Option<u64>
+fn begin_step(lists: &mut Lists, values: &[i32], from: usize) -> Option<u64>
     requires within { from < length values.now }
-    ensures leads { IfSome result (λ n. LeadsOver row (state_at partial.old at.Between)
-        (state_at partial.new (at.Lits n)) values.now from (from + 1)) }
-    ensures sound { IfSome result (λ n. IsSound (at.Lits n) partial.new) }
-    ensures stays { Stays partial.old partial.new }
+    ensures leads { IfSome result (λ n. LeadsOver row (state_at lists.old at.Between)
+        (state_at lists.new (at.InLits n)) values.now from (from + 1)) }
+    ensures sound { IfSome result (λ n. IsSound (at.InLits n) lists.new) }
+    ensures stays { Stays lists.old lists.new }
 {
-    match take_item_start(partial, Token::number_at(values, from)) {
-        Ok(At::Lits(number)) => Some(number),
+    match take_item_start(lists, Token::number_at(values, from)) {
+        Ok(State::InLits(number)) => Some(number),
         _ => None,
     }
 }
@@ -162,21 +162,21 @@ fn begin_step(partial: &mut Partial, values: &[i32], from: usize) -> Option<u64>
 /// place of the next number.
 #[inline(always)]
 #[tactic(auto, using(crate::proofs::BufferedNumbers::numbers_lead_on))]
-fn take_number(here: At, partial: &mut Partial, values: &[i32], from: usize) -> (At, usize)
-    requires here { (from ≤ length values.now) × IsSound here partial.old }
-    ensures leads { LeadsOver row (state_at partial.old here) (state_at partial.new result.0)
+fn take_number(here: State, lists: &mut Lists, values: &[i32], from: usize) -> (State, usize)
+    requires here { (from ≤ length values.now) × IsSound here lists.old }
+    ensures leads { LeadsOver row (state_at lists.old here) (state_at lists.new result.0)
         values.now from result.1 }
     ensures within { result.1 ≤ length values.now }
-    ensures sound { Stays partial.old partial.new × IsSound result.0 partial.new }
+    ensures sound { Stays lists.old lists.new × IsSound result.0 lists.new }
 {
-    let At::Between = here else {
+    let State::Between = here else {
         return (here, from);
     };
     if from >= values.len() {
         return (here, from);
     }
-    match begin_step(partial, values, from) {
-        Some(number) => (At::Lits(number), from + 1),
+    match begin_step(lists, values, from) {
+        Some(number) => (State::InLits(number), from + 1),
         None => (here, from),
     }
 }
@@ -188,24 +188,24 @@ fn take_number(here: At, partial: &mut Partial, values: &[i32], from: usize) -> 
 /// Out of memory.
 #[inline(always)]
 #[tactic(auto, using(crate::proofs::BufferedNumbers::numbers_lead_on))]
-pub fn take_buffered(here: At, partial: &mut Partial, values: &[i32], hand: AtHand) -> Reached
-    requires here { (hand.from ≤ length values.now) × IsSound here partial.old }
-    ensures leads { IfOk result.1 (λ to. LeadsOver row (state_at partial.old here)
-        (state_at partial.new result.0) values.now hand.from to) }
+pub fn take_buffered(here: State, lists: &mut Lists, values: &[i32], hand: AtHand) -> Reached
+    requires here { (hand.from ≤ length values.now) × IsSound here lists.old }
+    ensures leads { IfOk result.1 (λ to. LeadsOver row (state_at lists.old here)
+        (state_at lists.new result.0) values.now hand.from to) }
     ensures within { IfOk result.1 (λ to. to ≤ length values.now) }
-    ensures sound { Stays partial.old partial.new × IsSound result.0 partial.new }
+    ensures sound { Stays lists.old lists.new × IsSound result.0 lists.new }
 {
-    let (at, from) = take_number(here, partial, values, hand.from);
+    let (state, from) = take_number(here, lists, values, hand.from);
     let list = AtHand {
         from,
         zero: hand.zero,
     };
-    match take_list(at, partial, values, list) {
-        (At::Ants(number), Ok(to)) => (
-            At::Ants(number),
-            take_antecedents(partial, number, values, to),
+    match take_list(state, lists, values, list) {
+        (State::InAnts(number), Ok(to)) => (
+            State::InAnts(number),
+            take_antecedents(lists, number, values, to),
         ),
-        (at, reached) => (at, reached),
+        (state, reached) => (state, reached),
     }
 }
 
@@ -235,26 +235,26 @@ fn has_zero(values: &[i32], hand: AtHand) -> bool
 /// Out of memory.
 #[inline(always)]
 fn take_all_literals(
-    partial: &mut Partial,
+    lists: &mut Lists,
     number: u64,
     values: &[i32],
     hand: AtHand,
 ) -> Result<bool, AllocError>
-    requires sound { IsSound (at.Lits number) partial.old }
+    requires sound { IsSound (at.InLits number) lists.old }
     ensures leads { IfOk result (λ b. IsTrue b → (hand.zero < length values.now)
-        × LeadsOver row (state_at partial.old (at.Lits number))
-        (state_at partial.new (at.Ants number)) values.now hand.from (hand.zero + 1)) }
-    ensures sound { IfOk result (λ b. IsTrue b → IsSound (at.Ants number) partial.new) }
-    ensures stays { Stays partial.old partial.new }
+        × LeadsOver row (state_at lists.old (at.InLits number))
+        (state_at lists.new (at.InAnts number)) values.now hand.from (hand.zero + 1)) }
+    ensures sound { IfOk result (λ b. IsTrue b → IsSound (at.InAnts number) lists.new) }
+    ensures stays { Stays lists.old lists.new }
 {
     if !has_zero(values, hand) {
         return Ok(false);
     }
     let literals = &values[hand.from..hand.zero];
-    if !partial.lits.extend_written(literals, LAST_VARIABLE)? {
+    if !lists.lits.extend_written(literals, LAST_VARIABLE)? {
         return Ok(false);
     }
-    partial.ants.begin();
+    lists.ants.begin();
     Ok(true)
 }
 
@@ -265,39 +265,39 @@ fn take_all_literals(
 /// Out of memory.
 #[inline(always)]
 pub fn take_whole(
-    partial: &mut Partial,
+    lists: &mut Lists,
     values: &[i32],
     hand: AtHand,
 ) -> Result<Option<(u64, usize)>, AllocError>
     requires within { hand.from < length values.now }
     ensures leads { IfOk result (λ o. IfSome o (λ s. (s.1 ≤ length values.now)
-        × LeadsOver row (state_at partial.old at.Between) (state_at partial.new (at.Ants s.0))
+        × LeadsOver row (state_at lists.old at.Between) (state_at lists.new (at.InAnts s.0))
         values.now hand.from s.1)) }
-    ensures sound { IfOk result (λ o. IfSome o (λ s. IsSound (at.Ants s.0) partial.new)) }
-    ensures stays { Stays partial.old partial.new }
+    ensures sound { IfOk result (λ o. IfSome o (λ s. IsSound (at.InAnts s.0) lists.new)) }
+    ensures stays { Stays lists.old lists.new }
 {
-    let Some(number) = begin_step(partial, values, hand.from) else {
+    let Some(number) = begin_step(lists, values, hand.from) else {
         return Ok(None);
     };
     let list = AtHand {
         from: hand.from + 1,
         zero: hand.zero,
     };
-    if !take_all_literals(partial, number, values, list)? {
+    if !take_all_literals(lists, number, values, list)? {
         return Ok(None);
     }
-    let to = take_antecedents(partial, number, values, hand.zero + 1)?;
+    let to = take_antecedents(lists, number, values, hand.zero + 1)?;
     Ok(Some((number, to)))
 }
 
 /// The number of the step that a zero at this place completes, if one stands there.
 #[inline(always)]
-pub fn completed(here: At, values: &[i32], place: usize) -> Option<u64>
-    ensures ants { IfSome result (λ n. here ≡ at.Ants n) }
+pub fn completed(here: State, values: &[i32], place: usize) -> Option<u64>
+    ensures ants { IfSome result (λ n. here ≡ at.InAnts n) }
     ensures within { IfSome result (λ _. place < length values.now) }
     ensures zero { IfSome result (λ _. slice_index_or values.now place (pos 0) ≡ pos 0) }
 {
-    let At::Ants(number) = here else {
+    let State::InAnts(number) = here else {
         return None;
     };
     if is_zero_at(values, place) {

@@ -9,7 +9,8 @@ use crate::buffered::{AtHand, completed, take_buffered};
 use crate::fault::TraceFault;
 use crate::item::{Item, QuantSet, Step};
 use crate::parts::Parts;
-use crate::states::{At, Part, Partial, take_at};
+use crate::states::{Lists, Part, State, take_at};
+use dimacs_syntax::HeaderAt;
 use qbf_text::{Grammar, Progress, Stop, Taken, Token, Zeros};
 use std::alloc::{AllocError, Global};
 use std::marker::Model;
@@ -20,7 +21,7 @@ use std::mem;
 /// Contracts see what is kept of the parts that were given, and what stands next.
 #[derive(Drop)]
 pub struct ItemGrammar {
-    at: At,
+    state: State,
     parts: Parts,
 }
 
@@ -32,9 +33,9 @@ impl Model for ItemGrammar {
     ghost Value = { ItemsRead };
 
     ghost view = { λ g.
-        record { kept = kept_of g.parts; state = state_at g.parts.partial g.at } };
+        record { kept = kept_of g.parts; state = state_at g.parts.lists g.state } };
 
-    ghost invariant = { λ g. IsSound g.at g.parts.partial };
+    ghost invariant = { λ g. IsSound g.state g.parts.lists };
 }
 
 impl ItemGrammar {
@@ -44,7 +45,7 @@ impl ItemGrammar {
         ensures flat { IsFlat result.kept }
     {
         ItemGrammar {
-            at: At::Header,
+            state: State::InHeader(HeaderAt::P),
             parts: Parts::new(alloc),
         }
     }
@@ -59,23 +60,23 @@ impl ItemGrammar {
         ensures gives { IfOk result (λ i. GivesItem i self.old self.new) }
         ensures err { OnErr result (self.new ≡ self.old) }
     {
-        let item = match self.at {
-            At::ItemComplete(Part::Header(header)) => Item::Header(header),
-            At::ItemComplete(Part::Set(quantifier)) => {
-                let vars = mem::replace(&mut self.parts.partial.vars, Vec::new(alloc));
+        let item = match self.state {
+            State::After(Part::Header(header)) => Item::Header(header),
+            State::After(Part::Set(quantifier)) => {
+                let vars = mem::replace(&mut self.parts.lists.vars, Vec::new(alloc));
                 Item::Set(QuantSet { quantifier, vars })
             }
-            At::ItemComplete(Part::Step(number)) => {
-                let partial = &mut self.parts.partial;
-                let lits = Vec::from_slice(alloc, partial.lits.unfinished())?;
-                let ants = Vec::from_slice(alloc, partial.ants.unfinished())?;
-                partial.index.push(number)?;
+            State::After(Part::Step(number)) => {
+                let lists = &mut self.parts.lists;
+                let lits = Vec::from_slice(alloc, lists.lits.unfinished())?;
+                let ants = Vec::from_slice(alloc, lists.ants.unfinished())?;
+                lists.index.push(number)?;
                 Item::Step(Step { number, lits, ants })
             }
-            At::Whole(outcome) => return Ok(Item::Result(outcome)),
+            State::After(Part::Result(outcome)) => return Ok(Item::Result(outcome)),
             _ => unreachable!(),
         };
-        self.at = At::Between;
+        self.state = State::Between;
         Ok(item)
     }
 
@@ -84,7 +85,7 @@ impl ItemGrammar {
         ensures { kept_of result ≡ self.kept }
     {
         let mut parts = self.parts;
-        parts.partial.index.place_all();
+        parts.lists.index.place_all();
         parts
     }
 }
@@ -113,21 +114,21 @@ impl Grammar for ItemGrammar {
             from: 0,
             zero: zeros.place(0),
         };
-        let (at, reached) = take_buffered(self.at, &mut self.parts.partial, values, hand);
-        self.at = at;
+        let (state, reached) = take_buffered(self.state, &mut self.parts.lists, values, hand);
+        self.state = state;
         let to = reached?;
-        let Some(number) = completed(at, values, to) else {
+        let Some(number) = completed(state, values, to) else {
             return Ok((to, None));
         };
-        self.at = At::ItemComplete(Part::Step(number));
+        self.state = State::After(Part::Step(number));
         Ok((to + 1, Some(())))
     }
 
     #[inline(always)]
     fn take(&mut self, token: Token) -> Result<Taken<()>, Stop<TraceFault>> {
-        self.at = take_at(self.at, &mut self.parts.partial, token)?;
-        match self.at {
-            At::ItemComplete(_) | At::Whole(_) => Ok(Taken::Done(())),
+        self.state = take_at(self.state, &mut self.parts.lists, token)?;
+        match self.state {
+            State::After(_) => Ok(Taken::Done(())),
             _ => Ok(Taken::More),
         }
     }

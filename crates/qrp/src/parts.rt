@@ -1,14 +1,12 @@
 //! What a trace is made of, part by part, whether it is read or pushed to.
 
 ghost use Rattle.std.specs.Prelude.{◌≡◌, false, [], ◌∷◌, ◌++◌, OnOk, OnErr};
-ghost use Rattle.dimacs_syntax.specs.declared.header.HeaderAt.TheVariants as header;
 ghost use Rattle.qrp.specs.Flat.{after_close, kept_of, nothing_kept, ClosesPart, IsFlat};
 ghost use Rattle.qrp.specs.States.{IsComplete, Stays};
 ghost use Rattle.step_index.specs.Numbers.{is_used, AreStepNumbers};
 
 use crate::item::{Header, QuantSet};
-use crate::states::{Part, Partial};
-use dimacs_syntax::HeaderAt;
+use crate::states::{Lists, Part};
 use qbf_core::GrowingLists;
 use std::alloc::{AllocError, Global};
 use std::mem;
@@ -21,8 +19,8 @@ pub struct Parts {
     pub header: Header,
     /// The sets that are whole.
     pub sets: Vec<QuantSet>,
-    /// The unfinished lists, after the whole ones.
-    pub partial: Partial,
+    /// The whole lists of steps, and the unfinished lists.
+    pub lists: Lists,
 }
 
 impl Parts {
@@ -30,14 +28,12 @@ impl Parts {
     pub fn new(alloc: Global) -> Parts
         ensures sound { IsFlat (kept_of result) }
         ensures kept { kept_of result ≡ nothing_kept }
-        ensures header { result.partial.header ≡ header.P }
     {
         Parts {
             alloc,
             header: Header { vars: 0, steps: 0 },
             sets: Vec::new(alloc),
-            partial: Partial {
-                header: HeaderAt::P,
+            lists: Lists {
                 vars: Vec::new(alloc),
                 lits: GrowingLists::new(alloc),
                 ants: GrowingLists::new(alloc),
@@ -52,42 +48,42 @@ impl Parts {
 /// # Errors
 /// Out of memory. What is whole is as it was then.
 #[inline(always)]
-fn close_step(partial: &mut Partial, number: u64) -> Result<(), AllocError>
-    requires { is_used number partial.old.index ≡ false }
-    ensures closed { OnOk result (partial.new ≡ record partial.old {
-      lits = after_close partial.old.lits;
-      ants = after_close partial.old.ants;
-      index = partial.old.index ++ number ∷ [];
+fn close_step(lists: &mut Lists, number: u64) -> Result<(), AllocError>
+    requires { is_used number lists.old.index ≡ false }
+    ensures closed { OnOk result (lists.new ≡ record lists.old {
+      lits = after_close lists.old.lits;
+      ants = after_close lists.old.ants;
+      index = lists.old.index ++ number ∷ [];
     }) }
-    ensures sound { OnOk result (AreStepNumbers partial.new.index) }
-    ensures err { OnErr result (Stays partial.old partial.new) }
+    ensures sound { OnOk result (AreStepNumbers lists.new.index) }
+    ensures err { OnErr result (Stays lists.old lists.new) }
 {
-    partial.lits.close()?;
-    match partial.ants.close() {
+    lists.lits.close()?;
+    match lists.ants.close() {
         Ok(()) => {}
         Err(refused) => {
-            partial.lits.pop();
+            lists.lits.pop();
             return Err(refused);
         }
     }
-    match partial.index.push(number) {
+    match lists.index.push(number) {
         Ok(()) => Ok(()),
         Err(refused) => {
-            partial.ants.pop();
-            partial.lits.pop();
+            lists.ants.pop();
+            lists.lits.pop();
             Err(refused)
         }
     }
 }
 
-/// Puts a part that is complete after the others.
+/// Puts a part that is complete after the others. Nothing is kept of a result.
 ///
 /// # Errors
 /// Out of memory. What is whole is as it was then.
 #[inline(always)]
 pub fn close(parts: &mut Parts, part: Part) -> Result<(), AllocError>
     requires made { IsFlat (kept_of parts.old) }
-    requires complete { IsComplete part parts.old.partial }
+    requires complete { IsComplete part parts.old.lists }
     ensures closed { OnOk result (ClosesPart parts.old parts.new part) }
     ensures err { OnErr result (kept_of parts.new ≡ kept_of parts.old) }
 {
@@ -97,13 +93,14 @@ pub fn close(parts: &mut Parts, part: Part) -> Result<(), AllocError>
             Ok(())
         }
         Part::Set(quantifier) => {
-            let vars = mem::replace(&mut parts.partial.vars, Vec::new(parts.alloc));
+            let vars = mem::replace(&mut parts.lists.vars, Vec::new(parts.alloc));
             parts.sets.push(QuantSet { quantifier, vars })?;
             Ok(())
         }
         Part::Step(number) => {
-            close_step(&mut parts.partial, number)?;
+            close_step(&mut parts.lists, number)?;
             Ok(())
         }
+        Part::Result(_) => Ok(()),
     }
 }

@@ -1,13 +1,14 @@
 //! Reading a trace item by item.
 
-ghost use Rattle.std.specs.Prelude.{◌≡◌, ◌≢◌, ℕ, ◌<◌, ◌+◌, ◌-◌, ◌^◌, true, false, Some, Ok};
-ghost use Rattle.std.specs.Prelude.{Err, List, [], length, IfOk, OnOk, IfErr};
+ghost use Rattle.std.specs.Prelude.{◌≡◌, ℕ, ◌<◌, ◌+◌, true, false, Some, Ok};
+ghost use Rattle.std.specs.Prelude.{List, [], length, IfOk, IfErr};
 ghost use Rattle.qbf_text.specs.Tokens.{tokens};
+ghost use Rattle.qbf_text.specs.WholeTexts.{TellsFailures};
 ghost use Rattle.qbf_text.specs.declared.token.Comments.TheVariants.{Qrp};
 ghost use Rattle.qrp.specs.declared.fault.TraceFault.TheVariants.{P1, P9};
 ghost use Rattle.qbf_text.specs.Reading.{HasFailed};
 ghost use Rattle.qrp.specs.NextItem.{items_left, is_last, stage_after, numbers_with};
-ghost use Rattle.qrp.specs.NextItem.{GivesNextItem, IsDone, IsProper, StopsAfterItem};
+ghost use Rattle.qrp.specs.NextItem.{GivesNextItem, IsDone, IsProper, StandsOnLine, StopsAfterItem};
 ghost use Rattle.qrp.specs.Items.{ReadsItem, IsItem, IsDriven};
 ghost use Rattle.qrp.specs.Reading.{items};
 
@@ -133,16 +134,11 @@ impl TraceReader {
             < length self.old.scanner.pending + S.bound source.old }
         ensures proper { IfOk result (λ i. IsProper self.old.numbers i) }
         ensures numbers { self.new.numbers ≡ numbers_with self.old.numbers result }
-        // P1 is first given in a call in which the source failed.
-        ensures source { ¬ IsDone self.old → IfErr result (λ e. e.0 ≡ P1
-            → S.failures source.old < 2 ^ 64 - 1 → S.failures source.old < S.failures source.new) }
-        ensures kept { IfErr result
-            (λ e. e.0 ≢ P1 → S.failures source.new ≡ S.failures source.old) }
-        ensures line_1 { IfErr result (λ e. e.0 ≡ P1 → e.1 ≡ 0) }
-        ensures line_9 { IfErr result (λ e. e.0 ≡ P9 → e.1 ≡ 0) }
-        ensures works { OnOk result (S.failures source.new ≡ S.failures source.old) }
-        // Where the source failed, the call says so.
-        ensures failed { S.failures source.old < S.failures source.new → result ≡ Err (P1, 0) }
+        // P1 is first given in a call in which the source failed; if it failed the call says so.
+        ensures devices { ¬ IsDone self.old → TellsFailures P1 P9 (S.failures source.old)
+            (S.failures source.new) result }
+        // P1 and P9 stand on line 0 each time.
+        ensures lines { IfErr result (λ e. StandsOnLine e.0 e.1) }
     {
         match self.stage {
             Stage::HasResult(outcome) => Ok(Item::Result(outcome)),
@@ -160,7 +156,7 @@ impl TraceReader {
         ensures { result ≡ self.numbers }
     {
         let parts = self.grammar.into_parts();
-        let partial = parts.partial;
-        partial.index
+        let lists = parts.lists;
+        lists.index
     }
 }

@@ -1,41 +1,42 @@
 //! The states of reading a trace, and what each makes of a token.
 
 ghost use Rattle.std.specs.Prelude.{◌≡◌};
-ghost use Rattle.qrp.specs.declared.states.At.TheVariants as at;
-ghost use Rattle.qrp.specs.declared.states.Partial.{Partial};
+ghost use Rattle.qrp.specs.declared.states.State.TheVariants as at;
+ghost use Rattle.qrp.specs.declared.states.Lists.{Lists};
 ghost use Rattle.qrp.specs.States.{state_at, Moves, Leads, IsSound};
 ghost use Rattle.qrp.specs.Reading.{has_room, row};
 
 use crate::fault::TraceFault;
 use crate::item::{Header, Outcome};
-use crate::tokens::{FAULTS, FORM, ItemStart, antecedent, decode_item_start, outcome_of};
-use dimacs_syntax::{HeaderAt, HeaderMove, header_move, literal, member};
+use crate::tokens::{
+    FAULTS, FORM, ItemStart, decode_antecedent, decode_item_start, decode_outcome,
+};
+use dimacs_syntax::{HeaderAt, HeaderMove, decode_literal, decode_member, header_move};
 use qbf_core::{GrowingLists, LAST_VARIABLE, Lit, Quantifier, Var};
 use qbf_text::{Stop, Token};
 use step_index::StepIndex;
 
-/// Where the next token stands.
+/// Where the next token stands. What is listed so far is in `Lists`.
 #[derive(Clone, Copy)]
-pub enum At {
-    /// In the header.
-    Header,
+pub enum State {
+    /// In the header, at this place.
+    InHeader(HeaderAt),
     /// Between lists.
     Between,
-    /// In a set.
-    Set(Quantifier),
+    /// In a set with this quantifier.
+    InSet(Quantifier),
     /// In the literals of the step with this number.
-    Lits(u64),
+    InLits(u64),
     /// In its antecedents.
-    Ants(u64),
+    InAnts(u64),
     /// After `r`.
-    Result,
-    /// After a complete part. No token is accepted until it was handed out.
-    ItemComplete(Part),
-    /// After this result, where no token is accepted.
-    Whole(Outcome),
+    AtResult,
+    /// After a part that is complete. No token is accepted until it was handed out, and none after
+    /// the result.
+    After(Part),
 }
 
-/// A part of a trace that is complete. What it lists is in `Partial`.
+/// A part of a trace that is complete. What it lists is in `Lists`.
 #[derive(Clone, Copy)]
 pub enum Part {
     /// The header.
@@ -44,19 +45,19 @@ pub enum Part {
     Set(Quantifier),
     /// The step with this number.
     Step(u64),
+    /// The result, which is the last.
+    Result(Outcome),
 }
 
 /// The state that a token leads to, or why it is not taken.
-type Next = Result<At, Stop<TraceFault>>;
+type Next = Result<State, Stop<TraceFault>>;
 
-/// The unfinished lists, and the numbers of the steps that are whole.
+/// The lists of a trace, as far as it was read: those of whole steps, and unfinished ones.
 #[derive(Drop)]
-pub struct Partial {
-    /// The place in the header.
-    pub header: HeaderAt,
-    /// The variables of a set.
+pub struct Lists {
+    /// The variables of an unfinished set.
     pub vars: Vec<Var>,
-    /// The literals of a step, after those of whole steps if such are kept.
+    /// The literals of an unfinished step, after those of whole steps if such are kept.
     pub lits: GrowingLists<Lit>,
     /// Its antecedents, after those of whole steps.
     pub ants: GrowingLists<u64>,
@@ -69,41 +70,39 @@ pub struct Partial {
 /// # Errors
 /// The fault that the token is there.
 #[inline(always)]
-pub fn take_item_start(partial: &mut Partial, token: Token) -> Next
-    ensures row { Moves (row (state_at partial.old at.Between) token) partial.new result }
-    ensures sound { Leads at.Between partial.old partial.new result }
+pub fn take_item_start(lists: &mut Lists, token: Token) -> Next
+    ensures row { Moves (row (state_at lists.old at.Between) token) lists.new result }
+    ensures sound { Leads at.Between lists.old lists.new result }
 {
-    match decode_item_start(partial.index.len() != 0, token)? {
+    match decode_item_start(lists.index.len() != 0, token)? {
         ItemStart::Set(quantifier) => {
-            partial.vars.clear();
-            Ok(At::Set(quantifier))
+            lists.vars.clear();
+            Ok(State::InSet(quantifier))
         }
-        ItemStart::Step(number) if partial.index.contains(number) => Err(Stop::Text(
-            TraceFault::P5,
-        )),
+        ItemStart::Step(number) if lists.index.contains(number) => Err(Stop::Text(TraceFault::P5)),
         ItemStart::Step(number) => {
-            partial.lits.begin();
-            Ok(At::Lits(number))
+            lists.lits.begin();
+            Ok(State::InLits(number))
         }
-        ItemStart::Result => Ok(At::Result),
+        ItemStart::Result => Ok(State::AtResult),
     }
 }
 
 /// Takes a token in the literals of a step.
 #[inline(always)]
-fn take_literal(partial: &mut Partial, number: u64, token: Token) -> Next
-    requires sound { IsSound (at.Lits number) partial.old }
-    ensures row { Moves (row (state_at partial.old (at.Lits number)) token) partial.new result }
-    ensures sound { Leads (at.Lits number) partial.old partial.new result }
+fn take_literal(lists: &mut Lists, number: u64, token: Token) -> Next
+    requires sound { IsSound (at.InLits number) lists.old }
+    ensures row { Moves (row (state_at lists.old (at.InLits number)) token) lists.new result }
+    ensures sound { Leads (at.InLits number) lists.old lists.new result }
 {
-    match literal(FAULTS, LAST_VARIABLE, token)? {
-        Some(lit) => match partial.lits.push(lit) {
-            Ok(()) => Ok(At::Lits(number)),
+    match decode_literal(FAULTS, LAST_VARIABLE, token)? {
+        Some(lit) => match lists.lits.push(lit) {
+            Ok(()) => Ok(State::InLits(number)),
             Err(_) => Err(Stop::Memory),
         },
         None => {
-            partial.ants.begin();
-            Ok(At::Ants(number))
+            lists.ants.begin();
+            Ok(State::InAnts(number))
         }
     }
 }
@@ -118,18 +117,33 @@ pub fn has_room(ants: &GrowingLists<u64>) -> bool
 
 /// Takes a token in the antecedents of a step.
 #[inline(always)]
-fn take_antecedent(partial: &mut Partial, number: u64, token: Token) -> Next
-    requires sound { IsSound (at.Ants number) partial.old }
-    ensures row { Moves (row (state_at partial.old (at.Ants number)) token) partial.new result }
-    ensures sound { Leads (at.Ants number) partial.old partial.new result }
+fn take_antecedent(lists: &mut Lists, number: u64, token: Token) -> Next
+    requires sound { IsSound (at.InAnts number) lists.old }
+    ensures row { Moves (row (state_at lists.old (at.InAnts number)) token) lists.new result }
+    ensures sound { Leads (at.InAnts number) lists.old lists.new result }
 {
-    let room = has_room(&partial.ants);
-    match antecedent(room, token)? {
-        Some(ant) => match partial.ants.push(ant) {
-            Ok(()) => Ok(At::Ants(number)),
+    let room = has_room(&lists.ants);
+    match decode_antecedent(room, token)? {
+        Some(ant) => match lists.ants.push(ant) {
+            Ok(()) => Ok(State::InAnts(number)),
             Err(_) => Err(Stop::Memory),
         },
-        None => Ok(At::ItemComplete(Part::Step(number))),
+        None => Ok(State::After(Part::Step(number))),
+    }
+}
+
+/// Takes a token in a set.
+fn take_member(lists: &mut Lists, quantifier: Quantifier, token: Token) -> Next
+    requires sound { IsSound (at.InSet quantifier) lists.old }
+    ensures row { Moves (row (state_at lists.old (at.InSet quantifier)) token) lists.new result }
+    ensures sound { Leads (at.InSet quantifier) lists.old lists.new result }
+{
+    match decode_member(FAULTS, LAST_VARIABLE, token)? {
+        Some(var) => match lists.vars.push(var) {
+            Ok(()) => Ok(State::InSet(quantifier)),
+            Err(_) => Err(Stop::Memory),
+        },
+        None => Ok(State::After(Part::Set(quantifier))),
     }
 }
 
@@ -138,33 +152,21 @@ fn take_antecedent(partial: &mut Partial, number: u64, token: Token) -> Next
 /// # Errors
 /// Out of memory, or the fault that the token is there.
 #[inline(always)]
-pub fn take_at(here: At, partial: &mut Partial, token: Token) -> Next
-    requires sound { IsSound here partial.old }
-    ensures row { Moves (row (state_at partial.old here) token) partial.new result }
-    ensures sound { Leads here partial.old partial.new result }
+pub fn take_at(here: State, lists: &mut Lists, token: Token) -> Next
+    requires sound { IsSound here lists.old }
+    ensures row { Moves (row (state_at lists.old here) token) lists.new result }
+    ensures sound { Leads here lists.old lists.new result }
 {
     match here {
-        At::Lits(number) => take_literal(partial, number, token),
-        At::Ants(number) => take_antecedent(partial, number, token),
-        At::Between => take_item_start(partial, token),
-        At::Set(quantifier) => match member(FAULTS, LAST_VARIABLE, token)? {
-            Some(var) => match partial.vars.push(var) {
-                Ok(()) => Ok(At::Set(quantifier)),
-                Err(_) => Err(Stop::Memory),
-            },
-            None => Ok(At::ItemComplete(Part::Set(quantifier))),
+        State::InLits(number) => take_literal(lists, number, token),
+        State::InAnts(number) => take_antecedent(lists, number, token),
+        State::Between => take_item_start(lists, token),
+        State::InSet(quantifier) => take_member(lists, quantifier, token),
+        State::AtResult => Ok(State::After(Part::Result(decode_outcome(token)?))),
+        State::InHeader(place) => match header_move(FORM, place, token)? {
+            HeaderMove::Goes(next) => Ok(State::InHeader(next)),
+            HeaderMove::Ends(vars, steps) => Ok(State::After(Part::Header(Header { vars, steps }))),
         },
-        At::Result => Ok(At::Whole(outcome_of(token)?)),
-        At::Header => match header_move(FORM, partial.header, token)? {
-            HeaderMove::Goes(next) => {
-                partial.header = next;
-                Ok(At::Header)
-            }
-            HeaderMove::Ends(vars, steps) => Ok(At::ItemComplete(Part::Header(Header {
-                vars,
-                steps,
-            }))),
-        },
-        At::ItemComplete(_) | At::Whole(_) => Err(Stop::Text(TraceFault::P7)),
+        State::After(_) => Err(Stop::Text(TraceFault::P7)),
     }
 }

@@ -2,7 +2,7 @@
 
 ghost use Rattle.std.specs.Prelude.{◌≡◌, ◌<◌, ◌^◌, true, IfOk, IfSome};
 ghost use Rattle.qrp.specs.Inferences.{IsNumber};
-ghost use Rattle.qrp.specs.Reading.{antecedent, item_start, outcome_of};
+ghost use Rattle.qrp.specs.Reading.{decode_antecedent, decode_item_start, decode_outcome};
 
 use crate::fault::TraceFault;
 use crate::item::Outcome;
@@ -39,7 +39,7 @@ pub enum ItemStart {
 /// # Errors
 /// P3, P4 or P7: the fault that the token is there.
 pub fn decode_item_start(has_steps: bool, token: Token) -> Result<ItemStart, TraceFault>
-    ensures { result ≡ item_start has_steps token }
+    ensures { result ≡ decode_item_start has_steps token }
 {
     match token {
         Token::Word(Word::A) if !has_steps => Ok(ItemStart::Set(Quantifier::All)),
@@ -59,8 +59,8 @@ pub fn decode_item_start(has_steps: bool, token: Token) -> Result<ItemStart, Tra
 ///
 /// # Errors
 /// P7 at the end of the text, P8 for any other token.
-pub fn outcome_of(token: Token) -> Result<Outcome, TraceFault>
-    ensures { result ≡ outcome_of token }
+pub fn decode_outcome(token: Token) -> Result<Outcome, TraceFault>
+    ensures { result ≡ decode_outcome token }
 {
     match token {
         Token::Word(Word::Sat) => Ok(Outcome::Sat),
@@ -74,8 +74,8 @@ pub fn outcome_of(token: Token) -> Result<Outcome, TraceFault>
 ///
 /// # Errors
 /// P3, P4, P6 or P7: the fault that the token is there. P6 is a number where there is no `room`.
-pub fn antecedent(room: bool, token: Token) -> Result<Option<u64>, TraceFault>
-    ensures says { result ≡ antecedent room token }
+pub fn decode_antecedent(room: bool, token: Token) -> Result<Option<u64>, TraceFault>
+    ensures says { result ≡ decode_antecedent room token }
     ensures range { IfOk result (λ o. IfSome o IsNumber) }
     ensures fit { IfOk result (λ o. IfSome o (λ n. n < 2 ^ 64)) }
     ensures room { IfOk result (λ o. IfSome o (λ _. room ≡ true)) }

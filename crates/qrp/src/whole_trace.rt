@@ -3,7 +3,7 @@
 ghost use Rattle.std.specs.Prelude.{◌≡◌, ◌≤◌, ◌<◌, length, Ok, IfOk, IfSome, IfNone};
 ghost use Rattle.qbf_text.specs.Numbers.{LeadsOver};
 ghost use Rattle.qrp.specs.Flat.{kept_of, trace_of, IsFlat};
-ghost use Rattle.qrp.specs.declared.states.At.TheVariants as at;
+ghost use Rattle.qrp.specs.declared.states.State.TheVariants as at;
 ghost use Rattle.qrp.specs.WholeTrace.{made_of, nothing_read, trace_at, trace_row};
 ghost use Rattle.qrp.specs.WholeTrace.{AreSound, HasResult};
 
@@ -11,7 +11,8 @@ use crate::buffered::{AtHand, Reached, completed, is_zero_at, take_buffered, tak
 use crate::fault::TraceFault;
 use crate::item::Outcome;
 use crate::parts::{Parts, close};
-use crate::states::{At, Part, take_at};
+use crate::states::{Part, State, take_at};
+use dimacs_syntax::HeaderAt;
 use qbf_text::{Grammar, Progress, Stop, Taken, Token, Zeros};
 use std::alloc::{AllocError, Global};
 use std::marker::Model;
@@ -22,25 +23,25 @@ use std::marker::Model;
 /// # Errors
 /// Out of memory.
 #[inline(always)]
-fn take_step(here: At, parts: &mut Parts, values: &[i32], hand: AtHand) -> Reached
+fn take_step(here: State, parts: &mut Parts, values: &[i32], hand: AtHand) -> Reached
     requires here { (hand.from ≤ length values.now) × AreSound here parts.old }
     ensures leads { IfOk result.1 (λ to. LeadsOver trace_row (trace_at parts.old here)
         (trace_at parts.new result.0) values.now hand.from to) }
     ensures within { IfOk result.1 (λ to. to ≤ length values.now) }
     ensures sound { AreSound result.0 parts.new }
 {
-    let (at, reached) = take_buffered(here, &mut parts.partial, values, hand);
+    let (state, reached) = take_buffered(here, &mut parts.lists, values, hand);
     let to = match reached {
         Ok(to) => to,
-        Err(refused) => return (at, Err(refused)),
+        Err(refused) => return (state, Err(refused)),
     };
-    let Some(number) = completed(at, values, to) else {
-        return (at, Ok(to));
+    let Some(number) = completed(state, values, to) else {
+        return (state, Ok(to));
     };
     if let Err(refused) = close(parts, Part::Step(number)) {
-        return (At::Between, Err(refused));
+        return (State::Between, Err(refused));
     }
-    (At::Between, Ok(to + 1))
+    (State::Between, Ok(to + 1))
 }
 
 /// Takes a step that begins here and keeps it, if all of it stands there. Returns the place of the
@@ -58,7 +59,7 @@ fn keep_whole(parts: &mut Parts, values: &[i32], hand: AtHand) -> Result<Option<
         (trace_at parts.new at.Between ≡ trace_at parts.old at.Between)) }
     ensures flat { IsFlat (kept_of parts.new) }
 {
-    let Some((number, to)) = take_whole(&mut parts.partial, values, hand)? else {
+    let Some((number, to)) = take_whole(&mut parts.lists, values, hand)? else {
         return Ok(None);
     };
     if !is_zero_at(values, to) {
@@ -101,23 +102,23 @@ fn keep_steps(
     Ok((from, zero))
 }
 
-/// How many zeros are left of a step that has begun.
+/// How many zeros are left of an unfinished step.
 #[inline(always)]
-fn zeros_left(here: At) -> usize {
+fn zeros_left(here: State) -> usize {
     match here {
-        At::Lits(_) => 2,
-        At::Ants(_) => 1,
+        State::InLits(_) => 2,
+        State::InAnts(_) => 1,
         _ => 0,
     }
 }
 
-/// Takes the rest of a step that has begun, if one has.
+/// Takes the rest of an unfinished step, if there is one.
 ///
 /// # Errors
 /// Out of memory.
 #[inline(always)]
 #[tactic(auto, using(crate::proofs::BufferedNumbers::numbers_lead_on))]
-fn take_begun(here: At, parts: &mut Parts, values: &[i32], zeros: Zeros) -> Reached
+fn take_unfinished(here: State, parts: &mut Parts, values: &[i32], zeros: Zeros) -> Reached
     requires sound { AreSound here parts.old }
     ensures leads { IfOk result.1 (λ to. LeadsOver trace_row (trace_at parts.old here)
         (trace_at parts.new result.0) values.now 0 to) }
@@ -129,7 +130,7 @@ fn take_begun(here: At, parts: &mut Parts, values: &[i32], zeros: Zeros) -> Reac
         zero: zeros.place(0),
     };
     match here {
-        At::Between => (here, Ok(0)),
+        State::Between => (here, Ok(0)),
         _ => take_step(here, parts, values, hand),
     }
 }
@@ -140,27 +141,27 @@ fn take_begun(here: At, parts: &mut Parts, values: &[i32], zeros: Zeros) -> Reac
 /// # Errors
 /// Out of memory.
 #[inline(never)]
-fn take_steps(here: At, parts: &mut Parts, values: &[i32], zeros: Zeros) -> Reached
+fn take_steps(here: State, parts: &mut Parts, values: &[i32], zeros: Zeros) -> Reached
     requires sound { AreSound here parts.old }
     ensures leads { IfOk result.1 (λ to. LeadsOver trace_row (trace_at parts.old here)
         (trace_at parts.new result.0) values.now 0 to) }
     ensures within { IfOk result.1 (λ to. to ≤ length values.now) }
     ensures sound { AreSound result.0 parts.new }
 {
-    match take_begun(here, parts, values, zeros) {
-        (At::Between, Ok(from)) => {
+    match take_unfinished(here, parts, values, zeros) {
+        (State::Between, Ok(from)) => {
             match keep_steps(parts, values, zeros, (from, zeros_left(here))) {
                 Ok((from, zero)) => {
                     let hand = AtHand {
                         from,
                         zero: zeros.place(zero),
                     };
-                    take_step(At::Between, parts, values, hand)
+                    take_step(State::Between, parts, values, hand)
                 }
-                Err(refused) => (At::Between, Err(refused)),
+                Err(refused) => (State::Between, Err(refused)),
             }
         }
-        (at, reached) => (at, reached),
+        (state, reached) => (state, reached),
     }
 }
 
@@ -169,7 +170,7 @@ fn take_steps(here: At, parts: &mut Parts, values: &[i32], zeros: Zeros) -> Reac
 /// Contracts see what is made of it, and what stands next.
 #[derive(Drop)]
 pub struct TraceGrammar {
-    at: At,
+    state: State,
     parts: Parts,
 }
 
@@ -178,9 +179,9 @@ impl Model for TraceGrammar {
 
     ghost Value = { TraceRead };
 
-    ghost view = { λ g. trace_at g.parts g.at };
+    ghost view = { λ g. trace_at g.parts g.state };
 
-    ghost invariant = { λ g. AreSound g.at g.parts };
+    ghost invariant = { λ g. AreSound g.state g.parts };
 }
 
 impl TraceGrammar {
@@ -189,7 +190,7 @@ impl TraceGrammar {
         ensures { result ≡ nothing_read }
     {
         TraceGrammar {
-            at: At::Header,
+            state: State::InHeader(HeaderAt::P),
             parts: Parts::new(alloc),
         }
     }
@@ -201,10 +202,10 @@ impl TraceGrammar {
             ≡ Ok (record (trace_of (kept_of result.0)) { result = result.1 }) }
         ensures flat { IsFlat (kept_of result.0) }
     {
-        match self.at {
-            At::Whole(outcome) => {
+        match self.state {
+            State::After(Part::Result(outcome)) => {
                 let mut parts = self.parts;
-                parts.partial.index.place_all();
+                parts.lists.index.place_all();
                 (parts, outcome)
             }
             _ => unreachable!(),
@@ -231,23 +232,23 @@ impl Grammar for TraceGrammar {
 
     #[inline(always)]
     fn take_numbers(&mut self, values: &[i32], zeros: Zeros) -> Result<Progress<()>, AllocError> {
-        let (at, reached) = take_steps(self.at, &mut self.parts, values, zeros);
-        self.at = at;
+        let (state, reached) = take_steps(self.state, &mut self.parts, values, zeros);
+        self.state = state;
         Ok((reached?, None))
     }
 
     #[inline(always)]
     fn take(&mut self, token: Token) -> Result<Taken<()>, Stop<TraceFault>> {
-        self.at = take_at(self.at, &mut self.parts.partial, token)?;
-        match self.at {
-            At::ItemComplete(part) => {
-                self.at = At::Between;
+        self.state = take_at(self.state, &mut self.parts.lists, token)?;
+        match self.state {
+            State::After(Part::Result(_)) => Ok(Taken::Done(())),
+            State::After(part) => {
+                self.state = State::Between;
                 match close(&mut self.parts, part) {
                     Ok(()) => Ok(Taken::More),
                     Err(_) => Err(Stop::Memory),
                 }
             }
-            At::Whole(_) => Ok(Taken::Done(())),
             _ => Ok(Taken::More),
         }
     }

@@ -1,6 +1,7 @@
 -- From what was read and checked to what is reported of its bytes.
-use Rattle.std.proofs.Common.{rules, ◌≡◌, ◌≢◌, ℕ, List, Option, Some, None, inl, inr, refl, subst, Result, Ok, Err, IfSome, IfOk}
+use Rattle.std.proofs.Common.{rules, ◌≡◌, ℕ, List, Option, Some, None, inl, inr, refl, subst, Result, Ok, Err, IfSome, IfOk}
 use Rattle.qbf_core.specs.Qbf.{Qbf}
+use Rattle.qbf_text.specs.WholeTexts.{TellsFailures}
 use Rattle.qdimacs.specs.declared.fault.FormulaFault.{FormulaFault}
 use Rattle.qdimacs.specs.declared.fault.FormulaFault.TheVariants.{F1, F9}
 use Rattle.qdimacs.specs.Reading.{Gives, reads_bytes, read_formula}
@@ -16,7 +17,7 @@ use Rattle.qrp_check.specs.Trim.{trimmed_trace}
 use Rattle.qrp_check.specs.Verdict.{IsVerdict, IsVerdictUnless}
 use Rattle.qrp_check.proofs.HeadlineOfVerdict.{found_of}
 use Rattle.qrp_check.proofs.TrimText.{trimmed_text_proves}
-use Rattle.qrp_report.specs.Results.{DeviceFailed, IsFormulaRead, IsFormulaRefused, IsTrimmedFrom, IsTrimmed}
+use Rattle.qrp_report.specs.Results.{IsFormulaRead, IsFormulaRefused, IsTrimmedFrom, IsTrimmed}
 
 read_as : (bytes : Option (List ℕ)) (f : Qbf) → Gives (Ok f) (reads_bytes bytes) → IfSome bytes (λ b. read_formula b ≡ Ok f)
 read_as bytes f g = search rules
@@ -26,9 +27,8 @@ pub formula_read : (formula : SourceCall) (f : Qbf) → Gives (Ok f) (reads_byte
 formula_read formula f gives works = (read_as formula.bytes f gives, works)
 
 pub formula_refused : (bytes : Option (List ℕ)) (before after : ℕ) (e : FormulaFault) (n : ℕ) → Gives (Err (e, n)) (reads_bytes bytes)
-    → (e ≡ F1 → DeviceFailed before after) → (e ≢ F1 → after ≡ before) → (e ≡ F1 → n ≡ 0) → (e ≡ F9 → n ≡ 0)
-    → IsFormulaRefused bytes before after e n
-formula_refused bytes before after e n s failed kept one nine = search rules
+    → TellsFailures {A = Qbf} F1 F9 before after (Err (e, n)) → IsFormulaRefused bytes before after e n
+formula_refused bytes before after e n s tells = search rules
 
 trimmed_of : (rules : Rules) (a b : List ℕ) (d : Derivation) (v : Verified) → IsVerdict rules (read_formula a) (Some (read_trace b)) (Ok v)
     → IsWellFormed d → read_trace b ≡ Ok d → IsTrimmedFrom rules a b (trimmed_trace d v.core.items)

@@ -1,12 +1,12 @@
 use Rattle.qdimacs.proofs.Cited.{◌-◌, ◌≤◌, length, state_at, IsSound, row}
 use Rattle.qbf_text.specs.Numbers.{LeadsOver}
-use Rattle.qdimacs.specs.declared.grammar.At.TheVariants.{Clause}
+use Rattle.qdimacs.specs.declared.grammar.State.TheVariants.{InClause}
 use Rattle.qdimacs.proofs.grammar.take_clause.Given as goal
 
 abbrev pub invariant-literals : goal.invariant-literals
 invariant-literals l = record {
-  leads : LeadsOver row (state_at l.fn.parts Clause) (state_at l.parts Clause) l.values l.fn.from l.i;
-  sound : IsSound Clause l.parts;
+  leads : LeadsOver row (state_at l.fn.parts InClause) (state_at l.parts InClause) l.values l.fn.from l.i;
+  sound : IsSound InClause l.parts;
   within : l.i ≤ length l.values;
 }
 

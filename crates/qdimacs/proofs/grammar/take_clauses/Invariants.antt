@@ -1,6 +1,6 @@
 use Rattle.qdimacs.proofs.Cited.{◌-◌, ◌≤◌, length, state_at, IsSound, row}
 use Rattle.qbf_text.specs.Numbers.{LeadsOver}
-use Rattle.qdimacs.specs.declared.grammar.At.TheVariants.{Between}
+use Rattle.qdimacs.specs.declared.grammar.State.TheVariants.{Between}
 use Rattle.qdimacs.proofs.grammar.take_clauses.Given as goal
 
 abbrev pub invariant-clauses : goal.invariant-clauses

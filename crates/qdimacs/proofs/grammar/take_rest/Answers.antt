@@ -20,8 +20,8 @@ numbers-preserved-in-Ok-reached c =
     let read = subst (λ t. row here t ≡ row_to c.take_at.new.parts c.in-Ok.next) c.number_at.ensures c.in-Ok.ensures.row in
     let one = leads_more row _ here _ c.args.values.now c.args.from c.numbers.i (leads_on here c.take_at.new.parts c.in-Ok.next _ refl read)
     c.numbers.invariant.leads in
-    let clause = subst (λ s. LeadsOver row (state_at c.args.parts.now c.args.at) (state_at c.take_at.new.parts s) c.args.values.now c.args.from
-    (c.numbers.i + 1)) c.in-Clause.is one in
+    let clause = subst (λ s. LeadsOver row (state_at c.args.parts.now c.args.here) (state_at c.take_at.new.parts s) c.args.values.now
+    c.args.from (c.numbers.i + 1)) c.in-InClause.is one in
     let reached = rw c.in-Ok-reached.is at c.take_clause-next.ensures in
     record {
       leads = leads_further row _ _ _ c.args.values.now c.args.from (c.numbers.i + 1) c.in-Ok-reached.to clause reached.leads;

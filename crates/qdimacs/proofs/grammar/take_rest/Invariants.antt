@@ -4,7 +4,7 @@ use Rattle.qdimacs.proofs.grammar.take_rest.Given as goal
 
 abbrev pub invariant-numbers : goal.invariant-numbers
 invariant-numbers l = record {
-  leads : LeadsOver row (state_at l.fn.parts l.fn.at) (state_at l.parts l.state) l.values l.fn.from l.i;
+  leads : LeadsOver row (state_at l.fn.parts l.fn.here) (state_at l.parts l.state) l.values l.fn.from l.i;
   sound : IsSound l.state l.parts;
   within : l.i ≤ length l.values;
 }

@@ -5,7 +5,7 @@ use Rattle.qrp.proofs.buffered.take_all_literals.Goals as goal
 
 pub returns-clause-leads : goal.returns-clause-leads
 returns-clause-leads c = λ t.
-    let b = c.args.partial.now in
+    let b = c.args.lists.now in
     let put : IsTrue c.in_ok-extend_written.field-0 = grind (arith, common_steps) in
     let written = c.in_ok-extend_written.ensures in
     let at = c.if-not-has_zero.ensures in (
@@ -19,7 +19,7 @@ returns-clause-sound c = λ t.
     let put : IsTrue c.in_ok-extend_written.field-0 = grind (arith, common_steps) in
     let written = c.in_ok-extend_written.ensures in (
       c.requires.sound.0,
-      rw (written.extended put) (more_literals c.args.partial.now.lits.unfinished
+      rw (written.extended put) (more_literals c.args.lists.now.lits.unfinished
           (slice_range c.args.values.now c.args.hand.from c.args.hand.zero) c.requires.sound.1 (written.written put)),
       rw c.begin.ensures (record { numbers = tt; fit = tt; few = omega arith }),
     )

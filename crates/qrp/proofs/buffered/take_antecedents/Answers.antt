@@ -5,7 +5,7 @@ use Rattle.qrp.proofs.buffered.take_antecedents.Goals as goal
 pub antecedents-preserved : goal.antecedents-preserved
 antecedents-preserved c =
     let i = c.antecedents.invariant in
-    let xs = c.antecedents.partial.ants.unfinished in
+    let xs = c.antecedents.lists.ants.unfinished in
     let a = c.in-Ok-Some.ant in
     let read = rw (c.in-Ok-Some.field-0-is, c.has_room.ensures.says, c.number_at.ensures) at c.in-Ok-Some.ensures in
     rw (c.in-Ok.ensures.pushed, c.in-Ok-Some.ant-is) (record {

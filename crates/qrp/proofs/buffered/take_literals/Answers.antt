@@ -10,7 +10,7 @@ literals-preserved c =
       leads = literal_more _ _ _ _ _ _ _ c.in-Ok-Some.lit read.says i.leads;
       sound = (
         record { index = i.sound.0.index; lits = i.sound.0.lits; ants = i.sound.0.ants },
-        (i.sound.1.0, AllByRecursion-push IsLiteral c.literals.partial.lits.unfinished c.in-Ok-Some.lit i.sound.1.1 read.range),
+        (i.sound.1.0, AllByRecursion-push IsLiteral c.literals.lists.lits.unfinished c.in-Ok-Some.lit i.sound.1.1 read.range),
       );
       within = omega (arith, c.literals-test.true);
     })

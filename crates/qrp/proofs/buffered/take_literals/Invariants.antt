@@ -1,13 +1,13 @@
 use Rattle.qrp.proofs.Cited.{◌-◌, ◌≤◌, length, state_at, IsSound, Stays}
 use Rattle.qbf_text.specs.Numbers.{LeadsOver}
 use Rattle.qrp.specs.Reading.{row}
-use Rattle.qrp.specs.declared.states.At.TheVariants.{Lits}
+use Rattle.qrp.specs.declared.states.State.TheVariants.{InLits}
 use Rattle.qrp.proofs.buffered.take_literals.Given as goal
 
 abbrev pub invariant-literals : goal.invariant-literals
 invariant-literals l = record {
-  leads : LeadsOver row (state_at l.fn.partial (Lits l.number)) (state_at l.partial (Lits l.number)) l.values l.fn.from l.i;
-  sound : Stays l.fn.partial l.partial × IsSound (Lits l.number) l.partial;
+  leads : LeadsOver row (state_at l.fn.lists (InLits l.number)) (state_at l.lists (InLits l.number)) l.values l.fn.from l.i;
+  sound : Stays l.fn.lists l.lists × IsSound (InLits l.number) l.lists;
   within : l.i ≤ length l.values;
 }
 

@@ -4,7 +4,7 @@ use Rattle.qrp.proofs.parts.close.Goals as goal
 
 pub returns-in_ok-close_step-in-Step-clause-closed : goal.returns-in_ok-close_step-in-Step-clause-closed
 returns-in_ok-close_step-in-Step-clause-closed c =
-    let b = c.args.parts.now.partial in
+    let b = c.args.parts.now.lists in
     let step : Inference = record { number = c.in-Step.number; lits = b.lits.unfinished; ants = b.ants.unfinished } in
     let made = c.requires.made in
     let k = rw c.in-Step.is at c.requires.complete in

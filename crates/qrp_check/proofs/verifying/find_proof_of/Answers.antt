@@ -7,5 +7,5 @@ pub returns-in_err-verified-clause-checked : goal.returns-in_err-verified-clause
 returns-in_err-verified-clause-checked g c =
     let p = err_from_is_err_and c.from_residual-in_err-verified.result c.from_residual-in_err-verified.ensures.1 in
     refused_of c.args.rules (call_of g.B.Source c.args.trace.now c.read_trace.new.source) c.args.formula.now c.in_ok-whole.whole
-    c.from_residual-in_err-verified.result c.in_err-verified.field-0.0 (cc (p.1, p.2)) c.in_ok-whole.ensures.exact c.in_ok-whole.ensures.works
-    (rw (c.sets.ensures, c.result.ensures.value) at c.in_err-verified.ensures.refused)
+    c.from_residual-in_err-verified.result c.in_err-verified.field-0.0 (cc (p.1, p.2)) c.in_ok-whole.ensures.exact
+    c.in_ok-whole.ensures.devices.works (rw (c.sets.ensures, c.result.ensures.value) at c.in_err-verified.ensures.refused)

@@ -25,7 +25,7 @@ returns-clause-checked g c =
       w.0,
       (
         checked_both c.args.rules (call_of g.A.Source c.args.formula.now c.read_formula.new.source) _ c.in_ok-whole.whole w.0
-            c.in_ok-whole.ensures.exact c.in_ok-whole.ensures.works w.1.0,
+            c.in_ok-whole.ensures.exact c.in_ok-whole.ensures.devices.works w.1.0,
         w.1.1,
       ),
       w.2,

@@ -17,7 +17,7 @@ pub returns-in_err-marks : goal.returns-in_err-marks
 returns-in_err-marks g c =
     let p = err_from_is_err_and c.from_residual-in_err-marks.result c.from_residual-in_err-marks.ensures.1 in
     let checked = refused_of c.args.rules (call_of g.B.Source c.args.trace.now c.read_trace.new.source) c.args.formula.now c.in_ok-whole.whole
-    (Err p.0) c.in_err-marks.field-0.0 (cc p.2) c.in_ok-whole.ensures.exact c.in_ok-whole.ensures.works
+    (Err p.0) c.in_err-marks.field-0.0 (cc p.2) c.in_ok-whole.ensures.exact c.in_ok-whole.ensures.devices.works
     (rw (c.sets.ensures, c.result.ensures.value) at c.in_err-marks.ensures.refused) in (
       Err p.0,
       (
@@ -32,7 +32,7 @@ pub returns : goal.returns
 returns g c =
     let is_result = c.result.ensures.value in
     let w = verified_of c.args.rules (call_of g.B.Source c.args.trace.now c.read_trace.new.source) c.args.formula.now c.in_ok-whole.whole
-    c.in_ok-marks.marks c.in_ok-whole.ensures.exact c.in_ok-whole.ensures.works
+    c.in_ok-marks.marks c.in_ok-whole.ensures.exact c.in_ok-whole.ensures.devices.works
     (rw (c.sets.ensures, is_result) at c.in_ok-marks.ensures.proves) c.in_ok-marks.ensures.core
     (rw is_result at c.in_ok-marks.ensures.truth) in
     rw (c.is_sat.ensures, c.result-2.ensures.value) (

@@ -7,7 +7,8 @@ pub returns-in-Ok : goal.returns-in-Ok
 returns-in-Ok g c =
     let found = c.in-Ok in (
       Ok found.read,
-      formula_read (call_of g.F.Source c.args.formula.now c.read_formula.new.source) found.read found.ensures.exact found.ensures.works,
+      formula_read (call_of g.F.Source c.args.formula.now c.read_formula.new.source) found.read found.ensures.exact
+          found.ensures.devices.works,
       (c.send_formula.ensures, refl),
     )
 
@@ -15,7 +16,6 @@ pub returns-in-Err : goal.returns-in-Err
 returns-in-Err g c =
     let found = c.in-Err in (
       Err (found.fault, found.line),
-      formula_refused _ _ _ found.fault found.line found.ensures.exact found.ensures.source found.ensures.kept found.ensures.line_1
-          found.ensures.line_9,
+      formula_refused _ _ _ found.fault found.line found.ensures.exact found.ensures.devices,
       (c.send_fault.ensures, refl),
     )
