@@ -3,7 +3,6 @@ use Rattle.std.specs.Prelude.{ℕ, ◌≡◌, ◌<◌, ◌≤◌, ◌+◌, ◌-�
 use Rattle.std.specs.Prelude.{ℤ, pos, neg_ℤ}
 use Rattle.std.specs.Simd.Lanes.{number_l}
 use Rattle.std.specs.Str.Parse.{digits_value, AllDigits}
-use Rattle.decimal.specs.Numbers.{between}
 
 -- the mask of the last n bytes of eight
 abbrev pub mask_of : ℕ → List ℕ
@@ -15,19 +14,6 @@ pub record IsPlace (len from end : ℕ) : Type 0 where
   pub few : end ≤ from + 8
   pub room : 8 ≤ end
   pub within : end < len
-
--- so many bytes and one more stand between two such places
-pub record IsSpan (len from end more : ℕ) : Type 0 where
-  pub place : IsPlace len from end
-  pub end_is : end ≡ from + more + 1
-
--- such places, by the second of them
-abbrev pub EndsWith : (len end more : ℕ) → Type 0
-EndsWith len end more = IsSpan len (end - (more + 1)) end more
-
--- the bytes between them
-abbrev pub last : List ℕ → (end more : ℕ) → List ℕ
-last bytes end more = between bytes (end - (more + 1)) end
 
 -- digits of this value and no sign, or a minus and digits of this value, with all bits of the sign set
 pub record Writes (text : List ℕ) (value sign : ℕ) : Type 0 where

@@ -3,8 +3,8 @@
 ghost use Rattle.std.specs.Prelude.{◌≡◌, ◌⊎◌, ◌<◌, ◌≤◌, ◌+◌, ◌*◌, ◌^◌, IfSome, true};
 ghost use Rattle.std.specs.Prelude.{length, map, slice_index};
 ghost use Rattle.std.specs.Simd.Lanes.{Each1, mask_l};
-ghost use Rattle.decimal.specs.Lanes.{EndsWith, IsSpan, Writes, last};
-ghost use Rattle.decimal.specs.Numbers.{AreInARow, is_zero};
+ghost use Rattle.decimal.specs.Lanes.{IsPlace, Writes};
+ghost use Rattle.decimal.specs.Numbers.{AreInARow, between, is_zero};
 
 use crate::lanes::{
     all_below_ten, four_eights, four_fours, low_halves, signed, signs_of_zeros, two_masks,
@@ -30,22 +30,23 @@ struct Two {
     digits: u8x16,
 }
 
-/// Two numbers, each by its end and by how many bytes it takes beside one.
+/// Two numbers, each between two places.
 #[inline(always)]
-fn two_at(bytes: &[u8], end: [usize; 2], more: [usize; 2]) -> Two
-    requires first { EndsWith (length bytes.now) (slice_index end 0) (slice_index more 0) }
-    requires second { EndsWith (length bytes.now) (slice_index end 1) (slice_index more 1) }
+fn two_at(bytes: &[u8], from: [usize; 2], end: [usize; 2]) -> Two
+    requires first { IsPlace (length bytes.now) (slice_index from 0) (slice_index end 0) }
+    requires second { IsPlace (length bytes.now) (slice_index from 1) (slice_index end 1) }
     ensures { Each1 (λ x. x < 10) result.digits
-        → Writes (last bytes.now (slice_index end 0) (slice_index more 0))
+        → Writes (between bytes.now (slice_index from 0) (slice_index end 0))
         (slice_index result.fours 0 * 10000 + slice_index result.fours 1)
         (slice_index result.signs 0)
-        × Writes (last bytes.now (slice_index end 1) (slice_index more 1))
+        × Writes (between bytes.now (slice_index from 1) (slice_index end 1))
         (slice_index result.fours 2 * 10000 + slice_index result.fours 3)
         (slice_index result.signs 1) }
 {
+    let [n, m] = [end[0] - from[0], end[1] - from[1]];
     let word = two_words(bytes, end[0] - 8, end[1] - 8);
-    let whole = two_masks(more[0] + 1, more[1] + 1);
-    let rest = two_masks(more[0], more[1]);
+    let whole = two_masks(n, m);
+    let rest = two_masks(n - 1, m - 1);
     let keep = word.simd_eq(u8x16::splat(b'-')).select(rest, whole);
     let digits = (word ^ u8x16::splat(b'0')) & keep;
     Two {
@@ -55,49 +56,33 @@ fn two_at(bytes: &[u8], end: [usize; 2], more: [usize; 2]) -> Two
     }
 }
 
-/// How many places one is after another: a great number if it is not after it.
+/// Whether a place is at most seven after another.
 #[inline(always)]
-fn places_after(before: usize, place: usize) -> usize
-    ensures { result < 8 → (before + 8 ≤ 2 ^ 64) ⊎ (8 ≤ place) → place ≡ before + result }
+fn is_near(before: usize, place: usize) -> bool
+    ensures { result ≡ true → (before + 8 ≤ 2 ^ 64) ⊎ (8 ≤ place)
+        → (before ≤ place) × (place < before + 8) }
 {
-    place.wrapping_sub(before)
+    place.wrapping_sub(before) < 8
 }
 
-/// Whether each of four numbers is below eight.
+/// Whether four numbers in a row may end there: each has one to eight bytes, eight bytes come
+/// before the first end, and one after the last.
 #[inline(always)]
-#[tactic(auto, using(crate::proofs::Rows::each_few))]
-fn are_few(more: [usize; 4]) -> bool
-    ensures { result ≡ true → (slice_index more 0 < 8) × (slice_index more 1 < 8)
-        × (slice_index more 2 < 8) × (slice_index more 3 < 8) }
-{
-    let [a, b, c, d] = more;
-    (a | b | c | d) < 8
-}
-
-/// How many bytes each of four numbers in a row takes beside one, if they may end there: each has
-/// one to eight bytes, eight bytes come before the first end, and one after the last.
-#[inline(always)]
-fn row_of(len: usize, from: usize, ends: [usize; 4]) -> Option<[usize; 4]>
+fn is_row(len: usize, from: usize, ends: [usize; 4]) -> bool
     requires { len < 2 ^ 63 }
-    ensures { IfSome result (λ more. IsSpan len from (slice_index ends 0) (slice_index more 0)
-        × IsSpan len (slice_index ends 0 + 1) (slice_index ends 1) (slice_index more 1)
-        × IsSpan len (slice_index ends 1 + 1) (slice_index ends 2) (slice_index more 2)
-        × IsSpan len (slice_index ends 2 + 1) (slice_index ends 3) (slice_index more 3)) }
+    ensures { result ≡ true → IsPlace len from (slice_index ends 0)
+        × IsPlace len (slice_index ends 0 + 1) (slice_index ends 1)
+        × IsPlace len (slice_index ends 1 + 1) (slice_index ends 2)
+        × IsPlace len (slice_index ends 2 + 1) (slice_index ends 3) }
 {
     let [e0, e1, e2, e3] = ends;
     if e0 < 8 || e0 >= len || e3 >= len {
-        return None;
+        return false;
     }
-    let more = [
-        places_after(from.wrapping_add(1), e0),
-        places_after(e0.wrapping_add(2), e1),
-        places_after(e1.wrapping_add(2), e2),
-        places_after(e2.wrapping_add(2), e3),
-    ];
-    if !are_few(more) {
-        return None;
-    }
-    Some(more)
+    is_near(from.wrapping_add(1), e0)
+        & is_near(e0.wrapping_add(2), e1)
+        & is_near(e1.wrapping_add(2), e2)
+        & is_near(e2.wrapping_add(2), e3)
 }
 
 /// The four numbers in a row of which the first begins at a place, and each other one byte after
@@ -112,9 +97,12 @@ pub fn four_numbers(bytes: &[u8], from: usize, ends: [usize; 4]) -> Option<FourN
     ensures within { IfSome result (λ r. slice_index ends 3 < length bytes.now) }
     ensures zeros { IfSome result (λ r. r.zeros ≡ mask_l (map is_zero r.values)) }
 {
-    let more = row_of(bytes.len(), from, ends)?;
-    let a = two_at(bytes, [ends[0], ends[1]], [more[0], more[1]]);
-    let b = two_at(bytes, [ends[2], ends[3]], [more[2], more[3]]);
+    if !is_row(bytes.len(), from, ends) {
+        return None;
+    }
+    let [e0, e1, e2, e3] = ends;
+    let a = two_at(bytes, [from, e0 + 1], [e0, e1]);
+    let b = two_at(bytes, [e1 + 1, e2 + 1], [e2, e3]);
     let values = four_eights(a.fours, b.fours);
     let signs = low_halves(a.signs, b.signs);
     if !all_below_ten(a.digits, b.digits, signs_of_zeros(values, signs)) {
