@@ -10,7 +10,7 @@ ghost use Rattle.qrp_rules.specs.Walks.{TakesOut};
 
 use crate::blocks::{Reducible, reducible_in};
 use crate::fault::Holds;
-use crate::seen::SeenLits;
+use crate::seen::{SeenLits, set_if_clean};
 use crate::side::Side;
 use crate::two_lists::advance_if_equal;
 use qbf_core::{Lit, Prefix};
@@ -61,7 +61,9 @@ fn surely_covers(seen: &mut SeenLits, reducible: Reducible, from: &[Lit], to: &[
     ensures { IsTrue result → (l : Literal) → l ∈ from.now
         → (l ∈ to.now) ⊎ TakesOut reducible.entry l.var }
 {
-    seen.set_each(to);
+    if !set_if_clean(seen, to) {
+        return false;
+    }
     from.iter()
         .all(|lit| seen.contains(*lit) || reducible.has(lit.var()))
 }
