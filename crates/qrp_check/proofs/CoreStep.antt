@@ -1,6 +1,7 @@
 -- One step of the core: its antecedents, and its conditions.
 use Rattle.qrp_check.proofs.Cited.{◌≡◌, ℕ, ◌<◌, ◌≤◌, List, [], ◌∷◌, Option, Some, None, inl, inr, refl, sym, ap, subst, ◌∙◌, arith, length}
-use Rattle.qrp_check.proofs.Cited.{at_place, get_or, take, rules, IfOk, IfSome, Result, Ok, Err, Literal, ◌∈◌, Block, AreBound, IsBound, Qbf, Side}
+use Rattle.qrp_check.proofs.Cited.{at_place, get_or, take, rules, IfOk, IfSome, Result, Ok, Err, Literal, ◌∈◌, ◌⊆◌, Block, AreBound}
+use Rattle.qrp_check.proofs.Cited.{IsBound, Qbf, Side}
 use Rattle.qrp_check.proofs.Cited.{IsClean, bound_each, Inference, IsAt, RuleFault, IsJudgement, initial_condition, reduct_conditions}
 use Rattle.qrp_check.proofs.Cited.{resolvent_conditions, Rules, IsNumberOf, StepFollows, lits_of, step_conditions, IsInCore, next}
 use Rattle.qrp_check.proofs.Cited.{premise_conditions, reduct_answer, resolvent_answer, same_self, in_take, take_in}
@@ -13,7 +14,10 @@ use Rattle.qrp.specs.Inferences.{IsOnlyAt}
 use Rattle.qrp_rules.specs.declared.fault.RuleFault.TheVariants.{S1, S2, S3}
 use Rattle.qrp_rules.specs.Conditions.{AllHold, Condition}
 use Rattle.qrp_rules.specs.Accepted.{IsAcceptedBy, IsFit}
-use Rattle.qrp_check.specs.Premises.{AreFit, ArePremises, IsPremise, found_conditions, written_conditions}
+use Rattle.qbf_core.proofs.Bound.{bound_within}
+use Rattle.qbf_core.proofs.Order.{clean_within}
+use Rattle.qrp_check.specs.Kept.{HasMembersAt}
+use Rattle.qrp_check.specs.Premises.{AreFit, ArePremises, IsEarlier, IsPremise, found_conditions, written_conditions}
 use Rattle.qrp_check.specs.declared.premises.Premises.{Premises}
 use Rattle.qrp_check.specs.declared.premises.Premises.TheVariants.{Initial, One, Two}
 use Rattle.qrp_check.proofs.Marking.{core_within}
@@ -45,27 +49,41 @@ found_late steps place number index answer only found late (s, h, is) =
     let less : w.0 < place = w.1 in
     omega (arith, same, less, late)
 
--- the literals that are lent of an earlier step are those under its number
-pub premise_of : (steps : List Inference) (place index number : ℕ) (lits : List Literal) → index < place
+-- the step at the place that was found is the earlier one with the number
+pub earlier_of : (steps : List Inference) (place index number : ℕ) → index < place
     → (below : Inference) × IsAt steps index below × (below.number ≡ number) → IsOnlyAt steps index number
-    → ((step : Inference) → IsAt steps index step → lits ≡ step.lits) → IsPremise (take place steps) number lits
-premise_of steps place index number lits less (below, here, is) only given =
+    → IsEarlier steps place number index
+earlier_of steps place index number less (below, here, is) only =
     let own : IsNumberOf (take place steps) number = (below, take_in steps place index below less here, is) in
     let s = step_named (take place steps) number own in
     let w = in_take steps place s.0 s.1 in
     let at : IsAt steps index s.0 = subst (λ (k : ℕ). IsAt steps k s.0) (only w.0 s.0 w.2 s.2) w.2 in
-    (own, given s.0 at ∙ s.3)
+    record {
+      before = less;
+      number = own;
+      lits = λ step here. let lits_in : Inference → List Literal = λ t. t.lits in ap lits_in (one_at steps index step s.0 here at) ∙ s.3;
+    }
+
+-- literals that have the members of the earlier step are a premise
+pub premise_of : (steps : List Inference) (place index number : ℕ) (lits : List Literal) → place < length steps
+    → IsEarlier steps place number index → HasMembersAt steps index lits → IsPremise (take place steps) number lits
+premise_of steps place index number lits inside earlier members =
+    let before : index < place = earlier.before in
+    let s = at_place steps index (omega (arith, before, inside)) in
+    (earlier.number, subst (λ (z : List Literal). HasMembersOf lits z) (earlier.lits s.0 s.1) (members s.0 s.1))
 
 module _ (rules : Rules) (side : Side) (f : Qbf) (steps : List Inference) (place : ℕ) (core : IsInCore steps place)
     (follows : (j : ℕ) → j < place → IsInCore steps j → StepFollows rules side f steps j) (step : Inference) (here : IsAt steps place step) where
   -- an antecedent of a step of the core follows itself, so it is clean and bound
   premise_fit : (number : ℕ) (lits : List Literal) → number ∈ step.ants → IsPremise (take place steps) number lits → IsFit f.blocks lits
-  premise_fit number lits named_here (own, e) =
+  premise_fit number lits named_here (own, members) =
       let w = need_of steps place step number here named_here own in
       let done = follows w.0 w.1.before (next core w.1) in
       let lits_in : Inference → List Literal = λ t. t.lits in
-      let at : done.step.lits ≡ lits = ap lits_in (one_at steps w.0 done.step w.1.below done.here w.1.at_below) ∙ w.3 ∙ sym e in
-      (subst IsClean at done.all.0, subst (AreBound f.blocks) at done.all.1.0)
+      let at : done.step.lits ≡ lits_of (take place steps) number =
+      ap lits_in (one_at steps w.0 done.step w.1.below done.here w.1.at_below) ∙ w.3 in
+      let within : lits ⊆ done.step.lits = subst (λ (z : List Literal). lits ⊆ z) (sym at) members.0 in
+      (clean_within done.step.lits lits done.all.0 within, bound_within f.blocks done.step.lits lits done.all.1.0 within)
 
   pub premises_fit : (found : Option Premises) → ArePremises (take place steps) step.ants found → IfSome found (AreFit f.blocks)
   premises_fit None are = tt
@@ -93,6 +111,14 @@ without_earlier p q earlier rest (Some fault) not (inr (h, inl out)) = inr (h, i
 without_earlier p q earlier rest (Some fault) not (inr (h, inr (k, inl (out, is)))) = inr (h, inr (k, inl (not, is)))
 without_earlier p q earlier rest (Some fault) not (inr (h, inr (k, inr (none, first)))) = absurd none
 
+after_two : (p q : Type 0) (rest other : List (Condition RuleFault)) (answer : Option RuleFault)
+    → ((a : Option RuleFault) → IsJudgement rest a → IsJudgement other a)
+    → IsJudgement ((S1, p) ∷ (S2, q) ∷ rest) answer → IsJudgement ((S1, p) ∷ (S2, q) ∷ other) answer
+after_two p q rest other None to (h, (k, all)) = (h, (k, to None all))
+after_two p q rest other (Some fault) to (inl out) = inl out
+after_two p q rest other (Some fault) to (inr (h, inl out)) = inr (h, inl out)
+after_two p q rest other (Some fault) to (inr (h, inr (k, first))) = inr (h, inr (k, to (Some fault) first))
+
 -- from the antecedents that were found to the numbers of the step
 from_found : (rules : Rules) (side : Side) (f : Qbf) (before : List Inference) (step : Inference) (found : Option Premises)
     (answer : Option RuleFault)
@@ -106,8 +132,9 @@ from_found rules side f before step (Some (One from)) answer (m, e, (own, is)) a
     rw e (with_earlier (IsClean step.lits) (AreBound f.blocks step.lits) ((n : ℕ) → n ∈ (m ∷ []) → IsNumberOf before n)
     (reduct_conditions side f.blocks (lits_of before m) step.lits) answer
     (λ n h. elim h [ inl same ↦ subst (IsNumberOf before) (sym same) own | inr none ↦ absurd none ])
-    (subst (λ (z : List Literal). IsJudgement ((S1, IsClean step.lits) ∷ (S2, AreBound f.blocks step.lits)
-    ∷ reduct_conditions side f.blocks z step.lits) answer) is a))
+    (after_two (IsClean step.lits) (AreBound f.blocks step.lits) (reduct_conditions side f.blocks from.now step.lits)
+    (reduct_conditions side f.blocks (lits_of before m) step.lits) answer
+    (λ b. reduct_answer side f.blocks from.now (lits_of before m) step.lits step.lits b is (same_self step.lits)) a))
 from_found rules side f before step (Some (Two x y)) answer (m, k, e, (own_x, is_x), (own_y, is_y)) a =
     rw e (with_earlier (IsClean step.lits) (AreBound f.blocks step.lits) ((n : ℕ) → n ∈ (m ∷ k ∷ []) → IsNumberOf before n)
     (resolvent_conditions rules side f.blocks (lits_of before m) (lits_of before k) step.lits) answer
@@ -116,10 +143,10 @@ from_found rules side f before step (Some (Two x y)) answer (m, k, e, (own_x, is
       | inr (inl same) ↦ subst (IsNumberOf before) (sym same) own_y
       | inr (inr none) ↦ absurd none
     ])
-    (subst (λ (z : List Literal). IsJudgement ((S1, IsClean step.lits) ∷ (S2, AreBound f.blocks step.lits)
-    ∷ resolvent_conditions rules side f.blocks (lits_of before m) z step.lits) answer) is_y
-    (subst (λ (z : List Literal). IsJudgement ((S1, IsClean step.lits) ∷ (S2, AreBound f.blocks step.lits)
-    ∷ resolvent_conditions rules side f.blocks z y.now step.lits) answer) is_x a)))
+    (after_two (IsClean step.lits) (AreBound f.blocks step.lits) (resolvent_conditions rules side f.blocks x.now y.now step.lits)
+    (resolvent_conditions rules side f.blocks (lits_of before m) (lits_of before k) step.lits) answer
+    (λ b. resolvent_answer rules side f.blocks x.now (lits_of before m) y.now (lits_of before k) step.lits step.lits b is_x is_y
+    (same_self step.lits)) a))
 
 pub found_answer : (rules : Rules) (side : Side) (f : Qbf) (before : List Inference) (step : Inference) (found : Option Premises)
     (lits : List Literal) (answer : Option RuleFault) → lits ≡ step.lits → ArePremises before step.ants found

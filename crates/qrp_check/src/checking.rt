@@ -56,29 +56,24 @@ fn check_core<S: Side, T: Steps>(
 /// # Errors
 /// As of `check`.
 pub(crate) fn check_marked<T: Steps>(
-    alloc: Global,
-    formula: &Formula,
+    context: Context,
     trace: &T,
     sets: &[QuantSet],
     outcome: Outcome,
-    rules: Rules,
 ) -> Result<Vec<bool>, CheckFault>
-    ensures proves { OnOk result (Proves rules formula.now sets.now (T.steps trace.now) outcome) }
+    ensures proves { OnOk result (Proves context.entry.rules context.entry.formula.now sets.now
+        (T.steps trace.now) outcome) }
     ensures core { IfOk result (λ marks. MarksCore (T.steps trace.now) marks.items) }
-    ensures truth { OnOk result (IsTrue (is_sat outcome) ↔ IsTrueFormula formula.now) }
-    ensures refused { IfErr result
-        (λ e. e ≢ C5 → IsFirstFault rules formula.now sets.now (T.steps trace.now) outcome e) }
+    ensures truth { OnOk result
+        (IsTrue (is_sat outcome) ↔ IsTrueFormula context.entry.formula.now) }
+    ensures refused { IfErr result (λ e. e ≢ C5 → IsFirstFault context.entry.rules
+        context.entry.formula.now sets.now (T.steps trace.now) outcome e) }
 {
-    if let Some(fault) = sets_fault(formula.prefix(), sets) {
+    if let Some(fault) = sets_fault(context.formula.prefix(), sets) {
         return Err(fault);
     }
     let Some(goal) = find_goal(trace) else {
         return Err(CheckFault::C4);
-    };
-    let context = Context {
-        alloc,
-        formula,
-        rules,
     };
     match outcome {
         Outcome::Unsat => check_core::<Clauses, T>(context, trace, goal),
@@ -117,7 +112,12 @@ pub fn check<T: Steps>(
     ensures refused { IfErr result
         (λ e. e ≢ C5 → IsFirstFault rules formula.now sets.now (T.steps trace.now) outcome e) }
 {
-    let marks = check_marked(alloc, formula, trace, sets, outcome, rules)?;
+    let context = Context {
+        alloc,
+        formula,
+        rules,
+    };
+    let marks = check_marked(context, trace, sets, outcome)?;
     match marked_positions(alloc, &marks) {
         Ok(core) => Ok(Verified {
             truth: is_sat(outcome),

@@ -8,17 +8,26 @@ ghost use Rattle.qrp_check.specs.Marks.{IsMarked};
 
 use crate::fault::CheckFault;
 use crate::hints::Hints;
+use crate::kept::Kept;
 use crate::premises::find_premises;
 use crate::step::{CheckState, Context, step_fault};
 use qrp::Steps;
 use qrp_rules::{InitialSteps, SeenLits, Side};
+
+/// What is kept from one step to the next.
+#[derive(Drop)]
+pub(crate) struct WalkState {
+    hints: Hints,
+    kept: Kept,
+    tests: CheckState,
+}
 
 /// Follows the step of the core at a position, after those before it.
 fn follow_step<S: Side, T: Steps>(
     context: Context,
     trace: &T,
     position: usize,
-    state: &mut CheckState,
+    state: &mut WalkState,
 ) -> Result<(), CheckFault>
     requires core { IsInCore (T.steps trace.now) position }
     requires before { IsFollowed context.rules S.side context.formula.now (T.steps trace.now)
@@ -28,10 +37,10 @@ fn follow_step<S: Side, T: Steps>(
     ensures refused { IfErr result
         (IsCoreFault context.entry.rules S.side context.entry.formula.now (T.steps trace.now)) }
 {
-    let found = find_premises(trace, position, &mut state.hints);
+    let found = find_premises(trace, &state.kept, position, &mut state.hints);
     let lits = trace.lits(position);
-    match step_fault::<S>(context, found, state, lits)? {
-        None => Ok(()),
+    match step_fault::<S>(context, found, &mut state.tests, lits)? {
+        None => Ok(state.kept.keep(&mut state.tests.seen, position, lits)?),
         Some(fault) => Err(CheckFault::C6(trace.number(position), fault)),
     }
 }
@@ -54,10 +63,13 @@ pub(crate) fn follow_core<S: Side, T: Steps>(
     ensures refused { IfErr result
         (IsCoreFault context.entry.rules S.side context.entry.formula.now (T.steps trace.now)) }
 {
-    let mut state = CheckState {
+    let mut state = WalkState {
         hints,
-        seen: SeenLits::new(context.alloc),
-        initial: InitialSteps::new(context.alloc),
+        kept: Kept::new(context.alloc),
+        tests: CheckState {
+            seen: SeenLits::new(context.alloc),
+            initial: InitialSteps::new(context.alloc),
+        },
     };
     for position in 0..trace.len() {
         if marks[position] {

@@ -3,13 +3,15 @@
 ghost use Rattle.std.specs.Prelude.{◌<◌, take, length, IfSome, IfNone};
 ghost use Rattle.qrp.specs.Inferences.{Inference, IsAt};
 ghost use Rattle.qrp_check.specs.Conditions.{IsNumberOf};
-ghost use Rattle.qrp_check.specs.Premises.{ArePremises, IsPremise};
+ghost use Rattle.qrp_check.specs.Kept.{AreKept};
+ghost use Rattle.qrp_check.specs.Premises.{ArePremises, IsEarlier};
 
 use crate::hints::Hints;
+use crate::kept::Kept;
 use qbf_core::Lit;
 use qrp::Steps;
 
-/// The literals of the antecedents of a step, as they are written.
+/// The literals of the antecedents of a step: as they are written, or each once.
 #[derive(Clone, Copy)]
 pub(crate) enum Premises<'a> {
     /// An initial step has none.
@@ -20,30 +22,25 @@ pub(crate) enum Premises<'a> {
     Two(&'a [Lit], &'a [Lit]),
 }
 
-/// The literals of the step with a number, if it is before a position. The hint is tried first.
+/// Where the step with a number is, if it is before a position. The hint is tried first.
 #[inline(always)]
-fn find_premise<T: Steps>(
+fn find_earlier<T: Steps>(
     trace: &T,
     position: usize,
     number: u64,
     hint: Option<usize>,
-) -> Option<&[Lit]>
+) -> Option<usize>
     requires { position < length (T.steps trace.now) }
-    ensures some { IfSome result
-        (λ lits. IsPremise (take position (T.steps trace.now)) number lits.now) }
+    ensures some { IfSome result (IsEarlier (T.steps trace.now) position number) }
     ensures none { IfNone result (IsNumberOf (take position (T.steps trace.now)) number → ⊥) }
 {
     if let Some(index) = hint {
         if index < position && trace.number(index) == number {
-            return Some(trace.lits(index));
+            return Some(index);
         }
     }
     let index = trace.position(number)?;
-    if index < position {
-        Some(trace.lits(index))
-    } else {
-        None
-    }
+    if index < position { Some(index) } else { None }
 }
 
 /// The literals of the antecedents of the step at a position, or `None` if one of them is not the
@@ -51,24 +48,26 @@ fn find_premise<T: Steps>(
 #[inline(always)]
 pub(crate) fn find_premises<'a, T: Steps>(
     trace: &'a T,
+    kept: &'a Kept,
     position: usize,
     hints: &mut Hints,
 ) -> Option<Premises<'a>>
-    requires { position < length (T.steps trace.now) }
+    requires position { position < length (T.steps trace.now) }
+    requires kept { AreKept (T.steps trace.now) kept.now }
     ensures { (step : Inference) → IsAt (T.steps trace.now) position step
         → ArePremises (take position (T.steps trace.now)) step.ants result }
 {
     match trace.ants(position) {
         [] => Some(Premises::Initial),
         [number] => {
-            let from = find_premise(trace, position, *number, hints.pop())?;
-            Some(Premises::One(from))
+            let from = find_earlier(trace, position, *number, hints.pop())?;
+            Some(Premises::One(kept.lits(trace, from)))
         }
         [first, second] => {
             // The positions were found in the other order.
-            let b = find_premise(trace, position, *second, hints.pop())?;
-            let a = find_premise(trace, position, *first, hints.pop())?;
-            Some(Premises::Two(a, b))
+            let b = find_earlier(trace, position, *second, hints.pop())?;
+            let a = find_earlier(trace, position, *first, hints.pop())?;
+            Some(Premises::Two(kept.lits(trace, a), kept.lits(trace, b)))
         }
         _ => unreachable!(),
     }

@@ -9,6 +9,7 @@ ghost use Rattle.qrp_check.specs.Verdict.{IsVerdictUnless, IsFormulaDevice, IsTr
 ghost use Rattle.qrp_check.specs.Verdict.{IsFormulaFault, StandsOnLine, WasRead, StopsAfterTrace};
 
 use crate::checking::{check, check_marked, is_sat};
+use crate::step::Context;
 use crate::verdict::{Fault, Verified};
 use qbf_core::Formula;
 use qbf_text::Source;
@@ -103,7 +104,12 @@ fn find_truth_of<B: Source>(
         × StopsOnceRead (B.remaining trace.old) (B.remaining trace.new) v) result }
 {
     let whole = read_trace(alloc, trace)?;
-    let marks = check_marked(alloc, formula, &whole, whole.sets(), whole.result(), rules)?;
+    let context = Context {
+        alloc,
+        formula,
+        rules,
+    };
+    let marks = check_marked(context, &whole, whole.sets(), whole.result())?;
     Ok(is_sat(whole.result()))
 }
 

@@ -1,6 +1,7 @@
 pub mod FirstFailures
 pub mod UnreducedParents
 pub mod Cursors
+pub mod DistinctLists
 pub mod Clashing
 pub mod Reducing
 pub mod ResolventRows

@@ -1,11 +1,12 @@
 -- Steps as they are written, in any order, follow from what the walk over them shows.
-use Rattle.qrp_rules.specs.Accepted.{IsAcceptedStep, IsFit}
+use Rattle.qrp_rules.specs.Accepted.{IsAcceptedBy, IsAcceptedStep, IsFit}
 use Rattle.qrp_rules.proofs.Cited.{IsTrue, ◌≡◌, ◌<◌, ◌≤◌, ◌+◌, ℕ, List, [], ◌∷◌, ◌++◌, ◌⊎◌, ◌↔◌, Bool, length, get_or, take, drop}
 use Rattle.qrp_rules.proofs.Cited.{slice_get, Some, None, refl, rules, sym, ap, subst, ◌∙◌, inl, inr, arith, cases_eq, take-append-drop}
 use Rattle.qrp_rules.proofs.Cited.{Literal, negated, positive, negative, ◌∈◌, ◌⊆◌, Block, Side, Clashes, IsClean, IsOnlyClash, IsReducible}
 use Rattle.qrp_rules.proofs.Cited.{resolvent, in_without, from_without, in_take_all, in_take_more, in_append, append_left, append_right}
 use Rattle.qrp_rules.proofs.Cited.{take_more_in, take_within, got_in, Rules, AllHold, AllowsPivot, resolvent_conditions, IsApart}
 use Rattle.qrp_rules.proofs.Cited.{IsMergeSoFar, IsNext, Accounts, IsPutBy, Has, Members, clash_here, clean_within, slice_get_read}
+use Rattle.std.proofs.Common.{Err, IfOk, Ok, Result}
 use Rattle.std.proofs.lemmas.List.{take_all}
 use Rattle.qbf_core.specs.Blocks.{AreBound}
 use Rattle.qbf_core.proofs.Inferences.{resolvent_clean, resolvent_bound}
@@ -247,6 +248,15 @@ followed_accepted rules side blocks a b to all fit_a fit_b = record {
   clean = followed_clean rules side blocks a b to all fit_a.0 fit_b.0;
   bound = followed_bound rules side blocks a b to all fit_a.1 fit_b.1;
 }
+
+-- the same of what a test tells
+pub followed_by : {E : Type 0} (rules : Rules) (side : Side) (blocks : List Block) (a b to : List Literal) (v : ℕ) (r : Result Bool E)
+    → IfOk r (λ t. IsTrue t → (q : Rules) → AllowsPivot q side blocks v → AllHold (resolvent_conditions q side blocks a b to))
+    → AllowsPivot rules side blocks v → IsFit blocks a → IsFit blocks b
+    → IfOk r (IsAcceptedBy (resolvent_conditions rules side blocks a b to) blocks to)
+followed_by rules side blocks a b to v (Ok t) told allowed fit_a fit_b = λ is.
+    followed_accepted rules side blocks a b to (told is rules allowed) fit_a fit_b
+followed_by rules side blocks a b to v (Err e) told allowed fit_a fit_b = tt
 
 -- a step that leaves nothing follows
 none_in : (xs : List Literal) → length xs ≡ 0 → (l : Literal) → l ∈ xs → ⊥

@@ -2,6 +2,7 @@
 use Rattle.std.specs.Prelude.{◌≡◌, ℕ, ◌+◌, ◌*◌, ◌≤◌, Bool, true, false, if◌then◌else◌, nat_eq, List, map, length, get_or, ◌⊎◌}
 use Rattle.std.specs.List.{list_any}
 use Rattle.qbf_core.specs.Literal.{Literal}
+use Rattle.qbf_core.specs.Members.{◌∈◌}
 
 -- the number of a literal: those of a variable are neighbours
 abbrev pub code : Literal → ℕ
@@ -31,3 +32,7 @@ AreUpTo stamps now = (n : ℕ) → get_or stamps n 0 ≤ now
 -- each number among those that are far has no stamp
 abbrev pub AreBeyond : List ℕ → List ℕ → Type 0
 AreBeyond far stamps = (n : ℕ) → IsFar far n → length stamps ≤ n
+
+-- each literal of the set is in the list
+abbrev pub AreAmong : Members → List Literal → Type 0
+AreAmong s lits = (l : Literal) → Has s l → l ∈ lits

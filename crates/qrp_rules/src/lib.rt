@@ -3,7 +3,7 @@
 //! - Owns: the rules of a step, on sets of literals and on literals as they are written.
 //! - Offers: `Side`, `Rules`, `RuleFault`; `reduct_fault`, `resolvent_fault` and the same on
 //!   ordered lists; `Resolution`; `InitialSteps`; `accepts_reduct`, `accepts_resolvent`, `SeenLits`;
-//!   `normalize`.
+//!   `push_distinct`; `normalize`.
 //! - Proved: each rule test decides its definition, and names the first fault.
 //! - Read first: `reduct_fault`, `resolvent_fault`, `Side::initial_fault`, `ordered_initial_fault`.
 //! - Tested only: the crate `trace_tests`: worked steps of both sides, each rule with each of its
@@ -14,6 +14,7 @@
 
 mod blocks;
 mod clause_index;
+mod distinct;
 mod fault;
 mod initial;
 mod initial_cubes;
@@ -32,6 +33,7 @@ mod written_reduct;
 mod written_resolvent;
 
 pub use blocks::is_bound_by;
+pub use distinct::push_distinct;
 pub use fault::{Judgement, RuleFault};
 pub use initial_steps::{InitialSteps, ordered_initial_fault};
 pub use normalizing::{normal_form, normalize};

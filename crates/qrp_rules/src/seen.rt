@@ -1,7 +1,7 @@
 //! Literals that were met since the last time that all were forgotten.
 
 ghost use Rattle.std.specs.Prelude.{◌≡◌, ◌≢◌, ◌↔◌, ◌+◌, ◌*◌, ◌≤◌, ℕ, ◌⊎◌};
-ghost use Rattle.std.specs.Prelude.{[], IsTrue, IfOk, IfSome, get_or, length, take};
+ghost use Rattle.std.specs.Prelude.{[], false, IsTrue, IfOk, IfSome, get_or, length, take};
 ghost use Rattle.qbf_core.specs.Blocks.{pairs};
 ghost use Rattle.qbf_core.specs.Literal.{Literal, negated};
 ghost use Rattle.qbf_core.specs.Members.{◌∈◌};
@@ -24,6 +24,19 @@ pub(crate) fn code(lit: Lit) -> usize
     2 * lit.var().number() as usize + sign
 }
 
+/// The numbers of a literal and of its negation.
+#[inline(always)]
+fn codes(lit: Lit) -> (usize, usize)
+    ensures { (result.0 ≡ code lit) × (result.1 ≡ code (negated lit)) }
+{
+    let positive = 2 * lit.var().number() as usize;
+    if lit.is_negative() {
+        (positive + 1, positive)
+    } else {
+        (positive, positive + 1)
+    }
+}
+
 /// A set of literals that is emptied by one step. Contracts see which literals it has.
 #[derive(Drop)]
 pub struct SeenLits {
@@ -36,6 +49,8 @@ pub struct SeenLits {
     far: IndexSet<usize>,
     /// That a literal was not put in, since an allocation failed.
     failed: Option<AllocError>,
+    /// That a literal was put in again by `set_if_clean`. Contracts say nothing of it.
+    repeated: bool,
 }
 
 impl Model for SeenLits {
@@ -60,6 +75,7 @@ impl SeenLits {
             stamp: 1,
             far: IndexSet::new(alloc),
             failed: None,
+            repeated: false,
         }
     }
 
@@ -92,6 +108,21 @@ impl SeenLits {
         Ok(())
     }
 
+    /// Whether a literal of the list that replaced the set by `set_if_clean` is there twice.
+    #[inline(always)]
+    pub(crate) fn has_repeated(&self) -> bool {
+        self.repeated
+    }
+
+    /// Notes if a literal is put in again.
+    fn note_repeated(&mut self, again: bool)
+        ensures { self.new ≡ self.old }
+    {
+        if again {
+            self.repeated = true;
+        }
+    }
+
     /// How many numbers of literals there is room for.
     pub(crate) fn room(&self) -> usize {
         self.stamps.len()
@@ -102,6 +133,7 @@ impl SeenLits {
     pub(crate) fn clear(&mut self)
         ensures { (l : Literal) → Has self.new l → ⊥ }
     {
+        self.repeated = false;
         clear_far(self.alloc, &mut self.far);
         match self.stamp.checked_add(1) {
             Some(next) => self.stamp = next,
@@ -136,8 +168,11 @@ impl SeenLits {
         true
     }
 
-    /// Puts the literal in, and says whether it was not seen there.
-    pub(crate) fn is_new(&mut self, lit: Lit) -> bool {
+    /// Puts the literal in if there is memory for it, and says whether it was not there.
+    pub(crate) fn is_new(&mut self, lit: Lit) -> bool
+        ensures there { result ≡ false → Has self.old lit }
+        ensures only { (l : Literal) → Has self.new l → Has self.old l ⊎ (l ≡ lit) }
+    {
         if self.contains(lit) {
             return false;
         }
@@ -235,26 +270,29 @@ fn stamp_vars(stamps: &mut [u32], stamp: u32, lits: &[Lit], other: Var) -> bool
 }
 
 /// Gives a literal a stamp. `false` if its negation has that one, or there is no room for both.
+/// Notes if the literal has it already.
 #[inline(always)]
-fn stamp_lit(stamps: &mut [u32], stamp: u32, lit: Lit) -> bool
+fn stamp_lit(stamps: &mut [u32], stamp: u32, lit: Lit, repeated: &mut bool) -> bool
     ensures clean { IsTrue result → get_or stamps.old (code (negated lit)) 0 ≢ stamp }
     ensures stamped { (n : ℕ) → get_or stamps.new n 0 ≡ stamp
         ↔ ((get_or stamps.old n 0 ≡ stamp) ⊎ ((n ≡ code lit) × IsTrue result)) }
     ensures upto { AreUpTo stamps.old stamp → AreUpTo stamps.new stamp }
 {
-    let number = code(lit);
-    let opposite = code(lit.negated());
+    let (number, opposite) = codes(lit);
     if number.max(opposite) >= stamps.len() || stamps[opposite] == stamp {
         return false;
+    }
+    if stamps[number] == stamp {
+        *repeated = true;
     }
     stamps[number] = stamp;
     true
 }
 
 /// Gives the first literals of a list a stamp, and returns how many: all of them, or those before
-/// one whose negation has it, or for which there is no room.
+/// one whose negation has it, or for which there is no room. Notes if one has it already.
 #[inline(never)]
-fn stamp_clean(stamps: &mut [u32], stamp: u32, lits: &[Lit]) -> usize
+fn stamp_clean(stamps: &mut [u32], stamp: u32, lits: &[Lit], repeated: &mut bool) -> usize
     ensures within { result ≤ length lits.now }
     ensures clean { IsClean (take result lits.now) }
     ensures stamped { (l : Literal) → get_or stamps.new (code l) 0 ≡ stamp
@@ -262,7 +300,7 @@ fn stamp_clean(stamps: &mut [u32], stamp: u32, lits: &[Lit]) -> usize
     ensures upto { AreUpTo stamps.old stamp → AreUpTo stamps.new stamp }
 {
     for position in 0..lits.len() {
-        if !stamp_lit(stamps, stamp, lits[position]) {
+        if !stamp_lit(stamps, stamp, lits[position], repeated) {
             return position;
         }
     }
@@ -284,6 +322,8 @@ fn put_if_clean(seen: &mut SeenLits, lits: &[Lit], begin: usize) -> bool
         if seen.contains(lit.negated()) {
             return false;
         }
+        let again = seen.contains(lit);
+        seen.note_repeated(again);
         if !seen.insert(lit) {
             return false;
         }
@@ -291,13 +331,14 @@ fn put_if_clean(seen: &mut SeenLits, lits: &[Lit], begin: usize) -> bool
     true
 }
 
-/// Replaces the set by these literals if they are seen to be clean, and says whether it did.
+/// Replaces the set by these literals if they are seen to be clean, and says whether it did. Notes
+/// if one is there twice.
 pub(crate) fn set_if_clean(seen: &mut SeenLits, lits: &[Lit]) -> bool
     ensures clean { IsTrue result → IsClean lits.now }
     ensures members { IsTrue result → (l : Literal) → Has seen.new l ↔ l ∈ lits.now }
 {
     seen.clear();
-    let begin = stamp_clean(&mut seen.stamps, seen.stamp, lits);
+    let begin = stamp_clean(&mut seen.stamps, seen.stamp, lits, &mut seen.repeated);
     if begin == lits.len() {
         return true;
     }

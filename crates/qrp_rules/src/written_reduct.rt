@@ -10,7 +10,7 @@ ghost use Rattle.qrp_rules.specs.Walks.{TakesOut};
 
 use crate::blocks::{Reducible, reducible_in};
 use crate::fault::Holds;
-use crate::seen::SeenLits;
+use crate::seen::{SeenLits, set_if_clean};
 use crate::side::Side;
 use crate::two_lists::advance_if_equal;
 use qbf_core::{Lit, Prefix};
@@ -61,12 +61,14 @@ fn surely_covers(seen: &mut SeenLits, reducible: Reducible, from: &[Lit], to: &[
     ensures { IsTrue result → (l : Literal) → l ∈ from.now
         → (l ∈ to.now) ⊎ TakesOut reducible.entry l.var }
 {
-    seen.set_each(to);
+    if !set_if_clean(seen, to) {
+        return false;
+    }
     from.iter()
         .all(|lit| seen.contains(*lit) || reducible.has(lit.var()))
 }
 
-/// As `accepts_reduct`, by a set of literals.
+/// As `accepts_reduct`, by a set of literals, for which there is room.
 #[cold]
 #[inline(never)]
 fn accepts_reduct_by_set<S: Side>(
@@ -74,17 +76,16 @@ fn accepts_reduct_by_set<S: Side>(
     prefix: &Prefix,
     from: &[Lit],
     to: &[Lit],
-) -> Holds
+) -> bool
     requires { IsFit prefix.now from.now }
-    ensures { IfOk result (IsAcceptedBy (reduct_conditions S.side prefix.now from.now to.now)
-        prefix.now to.now) }
+    ensures { IsAcceptedBy (reduct_conditions S.side prefix.now from.now to.now) prefix.now to.now
+        result }
 {
-    seen.make_room(prefix)?;
     if !surely_within(seen, to, from) {
-        return Ok(false);
+        return false;
     }
     // What is left out has the other quantifier, so the literals that are kept say the block.
-    Ok(surely_covers(seen, reducible_in(prefix, S::REDUCED, to), from, to))
+    surely_covers(seen, reducible_in(prefix, S::REDUCED, to), from, to)
 }
 
 /// Accepts a step that is a reduct of its antecedent, which is clean and bound: as `reduct_fault`,
@@ -106,5 +107,6 @@ pub fn accepts_reduct<S: Side>(
     if accepts_reduct_in_order::<S>(prefix, from, to) {
         return Ok(true);
     }
-    accepts_reduct_by_set::<S>(seen, prefix, from, to)
+    seen.make_room(prefix)?;
+    Ok(accepts_reduct_by_set::<S>(seen, prefix, from, to))
 }

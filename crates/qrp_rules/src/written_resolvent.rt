@@ -193,6 +193,34 @@ fn surely_clean_without(seen: &mut SeenLits, prefix: &Prefix, lits: &[Lit], var:
     Ok(seen.surely_distinct(lits, var))
 }
 
+/// Whether what is left of its antecedents shows that a step follows, if the pivot is allowed.
+#[inline(always)]
+fn follows_by_rests<S: Side>(
+    seen: &mut SeenLits,
+    prefix: &Prefix,
+    step: Resolution,
+    rests: Rests,
+) -> Holds
+    requires { IsResolvedBut step.a.now step.b.now step.to.now rests.a.now rests.b.now
+        rests.pivot }
+    ensures { IfOk result (λ t. IsTrue t → (rules : Rules)
+        → AllowsPivot rules S.side prefix.now rests.entry.pivot.var
+        → AllHold (resolvent_conditions rules S.side prefix.now step.entry.a.now step.entry.b.now
+        step.entry.to.now)) }
+{
+    let Rests { pivot, a, b } = rests;
+    if a.is_empty() && b.is_empty() {
+        if surely_clean_without(seen, prefix, step.to, pivot.var())? {
+            return Ok(true);
+        }
+    }
+    seen.make_room(prefix)?;
+    if leaves_out_rests::<S>(seen, prefix, step.to, Rests { pivot, a, b }) {
+        return Ok(true);
+    }
+    Ok(leaves_out_of_parents::<S>(seen, prefix, step, Rests { pivot, a, b }))
+}
+
 /// Accepts a step that follows from its antecedents, which are clean and bound, by resolution: as
 /// `resolvent_fault`, of literals as they are written.
 ///
@@ -223,19 +251,8 @@ pub fn accepts_resolvent<S: Side>(
             rests
         }
     };
-    let pivot = rests.pivot.var();
-    if !is_pivot::<S>(prefix, pivot, rules) {
+    if !is_pivot::<S>(prefix, rests.pivot.var(), rules) {
         return Ok(false);
     }
-    if rests.a.is_empty() && rests.b.is_empty() {
-        if surely_clean_without(seen, prefix, to, pivot)? {
-            return Ok(true);
-        }
-    }
-    seen.make_room(prefix)?;
-    let Rests { pivot, a, b } = rests;
-    if leaves_out_rests::<S>(seen, prefix, to, Rests { pivot, a, b }) {
-        return Ok(true);
-    }
-    Ok(leaves_out_of_parents::<S>(seen, prefix, step, Rests { pivot, a, b }))
+    follows_by_rests::<S>(seen, prefix, step, rests)
 }

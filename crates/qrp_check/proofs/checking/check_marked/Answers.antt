@@ -13,10 +13,10 @@ returns-in-Unsat-clause-proves g c = proves _ _ _ _ _ _ _ (ap side_of c.in-Unsat
 
 pub returns-in-Unsat-clause-truth : goal.returns-in-Unsat-clause-truth
 returns-in-Unsat-clause-truth g c = shows _ _ _ _ _ _ _ _ (ap side_of c.in-Unsat.is) (ap is_sat c.in-Unsat.is)
-    (claims_false c.args.formula.now) (closed_of c.args.formula.now c.prefix.ensures.sound) (returns-in-Unsat-clause-proves g c)
+    (claims_false c.args.context.formula.now) (closed_of c.args.context.formula.now c.prefix.ensures.sound) (returns-in-Unsat-clause-proves g c)
 
 pub returns-in-Unsat-clause-refused : goal.returns-in-Unsat-clause-refused
-returns-in-Unsat-clause-refused g c = refuses _ c.args.formula.now c.args.sets.now _ _ _ _ (ap side_of c.in-Unsat.is)
+returns-in-Unsat-clause-refused g c = refuses _ c.args.context.formula.now c.args.sets.now _ _ _ _ (ap side_of c.in-Unsat.is)
     (rw c.prefix.ensures.value at c.in_default.ensures.none) c.check_core.ensures.refused
 
 pub returns-in-Sat-clause-proves : goal.returns-in-Sat-clause-proves
@@ -25,8 +25,8 @@ returns-in-Sat-clause-proves g c = proves _ _ _ _ _ _ _ (ap side_of c.in-Sat.is)
 
 pub returns-in-Sat-clause-truth : goal.returns-in-Sat-clause-truth
 returns-in-Sat-clause-truth g c = shows _ _ _ _ _ _ _ _ (ap side_of c.in-Sat.is) (ap is_sat c.in-Sat.is)
-    (claims_true c.args.formula.now) (closed_of c.args.formula.now c.prefix.ensures.sound) (returns-in-Sat-clause-proves g c)
+    (claims_true c.args.context.formula.now) (closed_of c.args.context.formula.now c.prefix.ensures.sound) (returns-in-Sat-clause-proves g c)
 
 pub returns-in-Sat-clause-refused : goal.returns-in-Sat-clause-refused
-returns-in-Sat-clause-refused g c = refuses _ c.args.formula.now c.args.sets.now _ _ _ _ (ap side_of c.in-Sat.is)
+returns-in-Sat-clause-refused g c = refuses _ c.args.context.formula.now c.args.sets.now _ _ _ _ (ap side_of c.in-Sat.is)
     (rw c.prefix.ensures.value at c.in_default.ensures.none) c.check_core-in-Sat.ensures.refused

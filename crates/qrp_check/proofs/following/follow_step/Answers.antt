@@ -1,5 +1,6 @@
 use Rattle.qrp_check.proofs.Cited.{ℕ, List, Some, sym, take, Qbf, Inference, at_place}
 use Rattle.qrp_check.proofs.CoreStep.{found_answer, premises_fit, followed_here}
+use Rattle.qrp_check.proofs.KeptSteps.{written_members}
 use Rattle.qrp_check.proofs.Marking.{core_within}
 use Rattle.qrp_check.proofs.following.follow_step.Goals as goal
 
@@ -13,12 +14,15 @@ step_fault-requires-clause-fit g c =
 pub number-requires : goal.number-requires
 number-requires g c = core_within (g.T.Steps.steps c.args.trace.now) c.args.position c.requires.core
 
-pub returns-in-None-clause-follows : goal.returns-in-None-clause-follows
-returns-in-None-clause-follows g c = record {
+pub returns-in_ok-keep-in-None-clause-follows : goal.returns-in_ok-keep-in-None-clause-follows
+returns-in_ok-keep-in-None-clause-follows g c = record {
   follows = followed_here c.args.context.rules g.S.Side.side c.args.context.formula.now (g.T.Steps.steps c.args.trace.now) c.args.position
       c.find_premises-found.result c.lits-lits.result.now c.requires.before.follows c.lits-lits.ensures c.find_premises-found.ensures
       (rw c.in-None.is at c.in_ok-step_fault.ensures.fault);
   known = c.in_ok-step_fault.ensures.known;
+  kept = c.in_ok-keep-in-None.ensures (g.T.Steps.steps c.args.trace.now)
+      (written_members (g.T.Steps.steps c.args.trace.now) c.args.position c.lits-lits.result.now c.lits-lits.ensures)
+      c.requires.before.kept;
 }
 
 pub returns-in-Some-clause-refused : goal.returns-in-Some-clause-refused

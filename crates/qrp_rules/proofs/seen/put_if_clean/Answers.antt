@@ -6,17 +6,18 @@ pub loop-position-preserved : goal.loop-position-preserved
 loop-position-preserved c =
     let i : ℕ = c.loop-position.position in
     let x : Literal = c.index-lits-position.result in
+    let put = rw c.note_repeated.ensures at c.insert.ensures in
     record {
       clean = clean_with c.args.lits.now i x c.loop-position-test.true c.index-lits-position.is
           (λ h. false≢true (sym c.if-contains.false ∙ c.contains.ensures.1
           (subst (λ (z : Literal). Has c.loop-position.seen z) (sym c.negated.ensures) ((c.loop-position.invariant.seen _).1 h))))
           c.loop-position.invariant.clean;
       seen = λ m. (
-        (λ h. take_more_in c.args.lits.now i x m c.loop-position-test.true c.index-lits-position.is (elim ((c.insert.ensures m).0 h) [
+        (λ h. take_more_in c.args.lits.now i x m c.loop-position-test.true c.index-lits-position.is (elim ((put m).0 h) [
           | inl k ↦ inl ((c.loop-position.invariant.seen m).0 k)
           | inr e ↦ inr e.0
         ])),
-        (λ h. (c.insert.ensures m).1 (elim (in_take_more c.args.lits.now i x m c.loop-position-test.true c.index-lits-position.is h) [
+        (λ h. (put m).1 (elim (in_take_more c.args.lits.now i x m c.loop-position-test.true c.index-lits-position.is h) [
           | inl k ↦ inl ((c.loop-position.invariant.seen m).1 k)
           | inr e ↦ inr (e, c.if-not-insert.false)
         ])),

@@ -9,9 +9,9 @@ use Rattle.qrp_rules.proofs.written_reduct.surely_covers.Goals as goal
 
 pub returns : goal.returns
 returns c = λ t l h.
-    let Is : Literal → Type 0 = λ m. Has c.set_each.new.self m ⊎ TakesOut c.args.reducible m.var in
+    let Is : Literal → Type 0 = λ m. Has c.set_if_clean.new.seen m ⊎ TakesOut c.args.reducible m.var in
     elim (each_within Is c.args.from.now (MatchBool-at_true _ _ t (cases_from_all _ _ _ Is (λ _. Unit {0}) c.all.ensures.ran
     (YieldsList-from_slice c.args.from.now cc) (λ x q k. search (rules, tests)) (λ x q k. tt))) l h) [
-      | inl has ↦ inl (c.set_each.ensures l has)
+      | inl has ↦ inl ((c.set_if_clean.ensures.members c.if-not-set_if_clean.false l).0 has)
       | inr may ↦ inr may
     ]

@@ -1,0 +1,12 @@
+use Rattle.std.proofs.Common.{◌≡◌, take}
+use Rattle.qbf_core.specs.Members.{◌⊆◌}
+use Rattle.qrp_rules.specs.Seen.{AreAmong}
+use Rattle.qrp_rules.proofs.distinct.push_each_once.Given as goal
+
+abbrev pub invariant-loop-lit : goal.invariant-loop-lit
+invariant-loop-lit l = record {
+  whole : l.lists.whole ≡ l.fn.lists.whole;
+  within : l.lists.unfinished ⊆ take l.lit-index l.lits;
+  each : take l.lit-index l.lits ⊆ l.lists.unfinished;
+  seen : AreAmong l.seen l.lists.unfinished;
+}
