@@ -9,7 +9,8 @@ ghost use Rattle.qrp.specs.declared.states.At.TheVariants as at;
 ghost use Rattle.qrp.specs.States.{state_at, IsSound, Stays};
 ghost use Rattle.qrp.specs.Reading.{row};
 
-use crate::states::{At, Partial, has_room, take_item_start};
+use crate::antecedents::AntecedentPair;
+use crate::states::{At, Partial, take_item_start};
 use crate::tokens::{FAULTS, antecedent};
 use dimacs_syntax::literal;
 use qbf_core::{GrowingLists, LAST_VARIABLE, Lit};
@@ -80,7 +81,7 @@ fn take_literals(partial: &mut Partial, number: u64, values: &[i32], from: usize
                 Err(_) => return (At::Lits(number), Err(AllocError)),
             },
             Ok(None) => {
-                partial.ants.begin();
+                partial.ants = AntecedentPair::none();
                 return (At::Ants(number), Ok(i + 1));
             }
             Err(_) => break,
@@ -111,35 +112,30 @@ fn take_list(here: At, partial: &mut Partial, values: &[i32], hand: AtHand) -> R
     }
 }
 
-/// Takes antecedents from the place `from` on, and no zero after them.
-///
-/// # Errors
-/// Out of memory.
+/// Takes antecedents from the place `from` on, and no zero after them. Returns the place of the
+/// next number.
 #[inline(always)]
 #[tactic(auto, using(crate::proofs::BufferedNumbers::numbers_lead_on))]
-fn take_antecedents(
-    partial: &mut Partial,
-    number: u64,
-    values: &[i32],
-    from: usize,
-) -> Result<usize, AllocError>
+fn take_antecedents(partial: &mut Partial, number: u64, values: &[i32], from: usize) -> usize
     requires here { (from ≤ length values.now) × IsSound (at.Ants number) partial.old }
-    ensures leads { IfOk result (λ to. LeadsOver row (state_at partial.old (at.Ants number))
-        (state_at partial.new (at.Ants number)) values.now from to) }
-    ensures within { IfOk result (λ to. to ≤ length values.now) }
+    ensures leads { LeadsOver row (state_at partial.old (at.Ants number))
+        (state_at partial.new (at.Ants number)) values.now from result }
+    ensures within { result ≤ length values.now }
     ensures sound { Stays partial.old partial.new × IsSound (at.Ants number) partial.new }
 {
+    let mut ants = partial.ants.antecedents();
     let mut i = from;
     'antecedents: while i < values.len() {
-        match antecedent(has_room(&partial.ants), Token::number_at(values, i)) {
-            Ok(Some(ant)) => match partial.ants.push(ant) {
-                Ok(()) => i += 1,
-                Err(_) => return Err(AllocError),
-            },
+        match antecedent(ants.has_room(), Token::number_at(values, i)) {
+            Ok(Some(ant)) => {
+                ants = ants.with(ant);
+                i += 1;
+            }
             _ => break,
         }
     }
-    Ok(i)
+    partial.ants = ants.pair();
+    i
 }
 
 /// Takes the number of a step, if one begins here.
@@ -203,7 +199,7 @@ pub fn take_buffered(here: At, partial: &mut Partial, values: &[i32], hand: AtHa
     match take_list(at, partial, values, list) {
         (At::Ants(number), Ok(to)) => (
             At::Ants(number),
-            take_antecedents(partial, number, values, to),
+            Ok(take_antecedents(partial, number, values, to)),
         ),
         (at, reached) => (at, reached),
     }
@@ -254,7 +250,7 @@ fn take_all_literals(
     if !partial.lits.extend_written(literals, LAST_VARIABLE)? {
         return Ok(false);
     }
-    partial.ants.begin();
+    partial.ants = AntecedentPair::none();
     Ok(true)
 }
 
@@ -286,7 +282,7 @@ pub fn take_whole(
     if !take_all_literals(partial, number, values, list)? {
         return Ok(None);
     }
-    let to = take_antecedents(partial, number, values, hand.zero + 1)?;
+    let to = take_antecedents(partial, number, values, hand.zero + 1);
     Ok(Some((number, to)))
 }
 

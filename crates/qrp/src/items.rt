@@ -1,7 +1,7 @@
 //! The parts of a trace, given one after the other.
 
 ghost use Rattle.std.specs.Prelude.{◌≡◌, IfOk, OnErr};
-ghost use Rattle.qrp.specs.Flat.{kept_of, nothing_kept, IsFlat};
+ghost use Rattle.qrp.specs.Flat.{kept_of, lent, nothing_kept, IsFlat};
 ghost use Rattle.qrp.specs.Items.{HasItem, GivesItem};
 ghost use Rattle.qrp.specs.Reading.{AtP};
 
@@ -10,6 +10,7 @@ use crate::fault::TraceFault;
 use crate::item::{Item, QuantSet, Step};
 use crate::parts::Parts;
 use crate::states::{At, Part, Partial, take_at};
+use qbf_core::GrowingLists;
 use qbf_text::{Grammar, Progress, Stop, Taken, Token, Zeros};
 use std::alloc::{AllocError, Global};
 use std::marker::Model;
@@ -21,18 +22,18 @@ use std::mem;
 #[derive(Drop)]
 pub struct ItemGrammar {
     at: At,
-    parts: Parts,
+    parts: Parts<GrowingLists<u64>>,
 }
 
 impl Model for ItemGrammar {
-    ghost use Rattle.qrp.specs.Flat.{kept_of};
+    ghost use Rattle.qrp.specs.Flat.{kept_of, lent};
     ghost use Rattle.qrp.specs.Items.{ItemsRead};
     ghost use Rattle.qrp.specs.States.{state_at, IsSound};
 
     ghost Value = { ItemsRead };
 
     ghost view = { λ g.
-        record { kept = kept_of g.parts; state = state_at g.parts.partial g.at } };
+        record { kept = kept_of lent g.parts; state = state_at g.parts.partial g.at } };
 
     ghost invariant = { λ g. IsSound g.at g.parts.partial };
 }
@@ -68,7 +69,7 @@ impl ItemGrammar {
             At::ItemComplete(Part::Step(number)) => {
                 let partial = &mut self.parts.partial;
                 let lits = Vec::from_slice(alloc, partial.lits.unfinished())?;
-                let ants = Vec::from_slice(alloc, partial.ants.unfinished())?;
+                let ants = partial.ants.to_vec(alloc)?;
                 partial.index.push(number)?;
                 Item::Step(Step { number, lits, ants })
             }
@@ -80,8 +81,8 @@ impl ItemGrammar {
     }
 
     /// What was kept. It takes no memory.
-    pub fn into_parts(self) -> Parts
-        ensures { kept_of result ≡ self.kept }
+    pub fn into_parts(self) -> Parts<GrowingLists<u64>>
+        ensures { kept_of lent result ≡ self.kept }
     {
         let mut parts = self.parts;
         parts.partial.index.place_all();

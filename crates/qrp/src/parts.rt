@@ -2,10 +2,13 @@
 
 ghost use Rattle.std.specs.Prelude.{◌≡◌, false, [], ◌∷◌, ◌++◌, OnOk, OnErr};
 ghost use Rattle.dimacs_syntax.specs.declared.header.HeaderAt.TheVariants as header;
+ghost use Rattle.qrp.specs.Antecedents.{list_of_pair};
 ghost use Rattle.qrp.specs.Flat.{after_close, kept_of, nothing_kept, ClosesPart, IsFlat};
 ghost use Rattle.qrp.specs.States.{IsComplete, Stays};
 ghost use Rattle.step_index.specs.Numbers.{is_used, AreStepNumbers};
 
+use crate::antecedent_lists::AntecedentLists;
+use crate::antecedents::AntecedentPair;
 use crate::item::{Header, QuantSet};
 use crate::states::{Part, Partial};
 use dimacs_syntax::HeaderAt;
@@ -14,22 +17,24 @@ use std::alloc::{AllocError, Global};
 use std::mem;
 use step_index::StepIndex;
 
-/// The parts of a trace.
+/// The parts of a trace, of which antecedents are kept in an `A`.
 #[derive(Drop)]
-pub struct Parts {
+pub struct Parts<A> {
     pub alloc: Global,
     pub header: Header,
     /// The sets that are whole.
     pub sets: Vec<QuantSet>,
     /// The unfinished lists, after the whole ones.
     pub partial: Partial,
+    /// The antecedents of the steps that are whole.
+    pub ants: A,
 }
 
-impl Parts {
+impl<A: AntecedentLists> Parts<A> {
     /// Nothing yet. It takes no memory.
-    pub fn new(alloc: Global) -> Parts
-        ensures sound { IsFlat (kept_of result) }
-        ensures kept { kept_of result ≡ nothing_kept }
+    pub fn new(alloc: Global) -> Parts<A>
+        ensures sound { IsFlat (kept_of A.lists result) }
+        ensures kept { kept_of A.lists result ≡ nothing_kept }
         ensures header { result.partial.header ≡ header.P }
     {
         Parts {
@@ -40,9 +45,10 @@ impl Parts {
                 header: HeaderAt::P,
                 vars: Vec::new(alloc),
                 lits: GrowingLists::new(alloc),
-                ants: GrowingLists::new(alloc),
+                ants: AntecedentPair::none(),
                 index: StepIndex::new(alloc),
             },
+            ants: A::of_no_steps(alloc),
         }
     }
 }
@@ -52,18 +58,24 @@ impl Parts {
 /// # Errors
 /// Out of memory. What is whole is as it was then.
 #[inline(always)]
-fn close_step(partial: &mut Partial, number: u64) -> Result<(), AllocError>
+fn close_step<A: AntecedentLists>(
+    partial: &mut Partial,
+    ants: &mut A,
+    number: u64,
+) -> Result<(), AllocError>
     requires { is_used number partial.old.index ≡ false }
     ensures closed { OnOk result (partial.new ≡ record partial.old {
       lits = after_close partial.old.lits;
-      ants = after_close partial.old.ants;
       index = partial.old.index ++ number ∷ [];
     }) }
+    ensures added { OnOk result
+        (A.lists ants.new ≡ A.lists ants.old ++ list_of_pair partial.old.ants ∷ []) }
     ensures sound { OnOk result (AreStepNumbers partial.new.index) }
     ensures err { OnErr result (Stays partial.old partial.new) }
+    ensures kept { OnErr result (A.lists ants.new ≡ A.lists ants.old) }
 {
     partial.lits.close()?;
-    match partial.ants.close() {
+    match ants.add(partial.ants) {
         Ok(()) => {}
         Err(refused) => {
             partial.lits.pop();
@@ -73,7 +85,7 @@ fn close_step(partial: &mut Partial, number: u64) -> Result<(), AllocError>
     match partial.index.push(number) {
         Ok(()) => Ok(()),
         Err(refused) => {
-            partial.ants.pop();
+            ants.remove_last();
             partial.lits.pop();
             Err(refused)
         }
@@ -85,11 +97,11 @@ fn close_step(partial: &mut Partial, number: u64) -> Result<(), AllocError>
 /// # Errors
 /// Out of memory. What is whole is as it was then.
 #[inline(always)]
-pub fn close(parts: &mut Parts, part: Part) -> Result<(), AllocError>
-    requires made { IsFlat (kept_of parts.old) }
+pub fn close<A: AntecedentLists>(parts: &mut Parts<A>, part: Part) -> Result<(), AllocError>
+    requires made { IsFlat (kept_of A.lists parts.old) }
     requires complete { IsComplete part parts.old.partial }
-    ensures closed { OnOk result (ClosesPart parts.old parts.new part) }
-    ensures err { OnErr result (kept_of parts.new ≡ kept_of parts.old) }
+    ensures closed { OnOk result (ClosesPart A.lists parts.old parts.new part) }
+    ensures err { OnErr result (kept_of A.lists parts.new ≡ kept_of A.lists parts.old) }
 {
     match part {
         Part::Header(header) => {
@@ -102,7 +114,7 @@ pub fn close(parts: &mut Parts, part: Part) -> Result<(), AllocError>
             Ok(())
         }
         Part::Step(number) => {
-            close_step(&mut parts.partial, number)?;
+            close_step(&mut parts.partial, &mut parts.ants, number)?;
             Ok(())
         }
     }

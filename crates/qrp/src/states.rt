@@ -4,8 +4,9 @@ ghost use Rattle.std.specs.Prelude.{◌≡◌};
 ghost use Rattle.qrp.specs.declared.states.At.TheVariants as at;
 ghost use Rattle.qrp.specs.declared.states.Partial.{Partial};
 ghost use Rattle.qrp.specs.States.{state_at, Moves, Leads, IsSound};
-ghost use Rattle.qrp.specs.Reading.{has_room, row};
+ghost use Rattle.qrp.specs.Reading.{row};
 
+use crate::antecedents::AntecedentPair;
 use crate::fault::TraceFault;
 use crate::item::{Header, Outcome};
 use crate::tokens::{FAULTS, FORM, ItemStart, antecedent, decode_item_start, outcome_of};
@@ -58,8 +59,8 @@ pub struct Partial {
     pub vars: Vec<Var>,
     /// The literals of a step, after those of whole steps if such are kept.
     pub lits: GrowingLists<Lit>,
-    /// Its antecedents, after those of whole steps.
-    pub ants: GrowingLists<u64>,
+    /// Its antecedents.
+    pub ants: AntecedentPair,
     /// The numbers of the steps that are whole.
     pub index: StepIndex,
 }
@@ -102,18 +103,10 @@ fn take_literal(partial: &mut Partial, number: u64, token: Token) -> Next
             Err(_) => Err(Stop::Memory),
         },
         None => {
-            partial.ants.begin();
+            partial.ants = AntecedentPair::none();
             Ok(At::Ants(number))
         }
     }
-}
-
-/// Whether another antecedent may come.
-#[inline(always)]
-pub fn has_room(ants: &GrowingLists<u64>) -> bool
-    ensures says { result ≡ has_room ants.now.unfinished }
-{
-    ants.unfinished_len() < 2
 }
 
 /// Takes a token in the antecedents of a step.
@@ -123,14 +116,12 @@ fn take_antecedent(partial: &mut Partial, number: u64, token: Token) -> Next
     ensures row { Moves (row (state_at partial.old (at.Ants number)) token) partial.new result }
     ensures sound { Leads (at.Ants number) partial.old partial.new result }
 {
-    let room = has_room(&partial.ants);
-    match antecedent(room, token)? {
-        Some(ant) => match partial.ants.push(ant) {
-            Ok(()) => Ok(At::Ants(number)),
-            Err(_) => Err(Stop::Memory),
-        },
-        None => Ok(At::ItemComplete(Part::Step(number))),
-    }
+    let ants = partial.ants.antecedents();
+    let Some(ant) = antecedent(ants.has_room(), token)? else {
+        return Ok(At::ItemComplete(Part::Step(number)));
+    };
+    partial.ants = ants.with(ant).pair();
+    Ok(At::Ants(number))
 }
 
 /// The state that a token leads to. Whole lists and the numbers of whole steps stay as they are.

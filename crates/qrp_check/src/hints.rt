@@ -1,6 +1,6 @@
 //! Where the antecedents of the core were found.
 
-use qrp::Steps;
+use qrp::KeptSteps;
 use std::alloc::{AllocError, Global};
 
 /// The positions of antecedents, as the pass from the goal down finds them. The pass forwards takes
@@ -16,7 +16,7 @@ pub(crate) struct Hints {
 impl Hints {
     /// No positions. They are kept where the last of the steps has another number than it would have
     /// if the numbers went up one by one.
-    pub(crate) fn new<T: Steps>(alloc: Global, trace: &T) -> Hints {
+    pub(crate) fn new<T: KeptSteps>(alloc: Global, trace: &T) -> Hints {
         let count = trace.len();
         let keeps = count > 1
             && count < u32::MAX as usize

@@ -7,7 +7,7 @@ ghost use Rattle.qrp_check.specs.Premises.{ArePremises, IsPremise};
 
 use crate::hints::Hints;
 use qbf_core::Lit;
-use qrp::Steps;
+use qrp::{Antecedents, KeptSteps};
 
 /// The literals of the antecedents of a step, as they are written.
 #[derive(Clone, Copy)]
@@ -22,7 +22,7 @@ pub(crate) enum Premises<'a> {
 
 /// The literals of the step with a number, if it is before a position. The hint is tried first.
 #[inline(always)]
-fn find_premise<T: Steps>(
+fn find_premise<T: KeptSteps>(
     trace: &T,
     position: usize,
     number: u64,
@@ -49,7 +49,7 @@ fn find_premise<T: Steps>(
 /// The literals of the antecedents of the step at a position, or `None` if one of them is not the
 /// number of an earlier step.
 #[inline(always)]
-pub(crate) fn find_premises<'a, T: Steps>(
+pub(crate) fn find_premises<'a, T: KeptSteps>(
     trace: &'a T,
     position: usize,
     hints: &mut Hints,
@@ -58,18 +58,17 @@ pub(crate) fn find_premises<'a, T: Steps>(
     ensures { (step : Inference) → IsAt (T.steps trace.now) position step
         → ArePremises (take position (T.steps trace.now)) step.ants result }
 {
-    match trace.ants(position) {
-        [] => Some(Premises::Initial),
-        [number] => {
-            let from = find_premise(trace, position, *number, hints.pop())?;
+    match trace.antecedents(position) {
+        Antecedents::Empty => Some(Premises::Initial),
+        Antecedents::One(only) => {
+            let from = find_premise(trace, position, only, hints.pop())?;
             Some(Premises::One(from))
         }
-        [first, second] => {
+        Antecedents::Two(first, second) => {
             // The positions were found in the other order.
-            let b = find_premise(trace, position, *second, hints.pop())?;
-            let a = find_premise(trace, position, *first, hints.pop())?;
+            let b = find_premise(trace, position, second, hints.pop())?;
+            let a = find_premise(trace, position, first, hints.pop())?;
             Some(Premises::Two(a, b))
         }
-        _ => unreachable!(),
     }
 }

@@ -100,6 +100,7 @@ impl StepIndex {
     }
 
     /// The place of the step with this number: `Some(i)` exactly if `number(i)` is it.
+    #[inline(always)]
     #[tactic(auto, using(crate::proofs::CountedNumbers::place_of_number))]
     pub fn position(&self, number: u64) -> Option<usize>
         ensures found { IfSome result (λ i. slice_get self.now i ≡ Some number) }

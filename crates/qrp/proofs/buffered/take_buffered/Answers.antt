@@ -5,7 +5,7 @@ use Rattle.qrp.proofs.buffered.take_buffered.Goals as goal
 
 pub returns-in-Ants-Ok-clause-leads : goal.returns-in-Ants-Ok-clause-leads
 returns-in-Ants-Ok-clause-leads c =
-    leads_in_turn _ _ _ c.args.values.now c.args.hand.from c.in-Ants-Ok.to c.take_antecedents.result
+    leads_further row _ _ _ c.args.values.now c.args.hand.from c.in-Ants-Ok.to c.take_antecedents.result
     (leads_further row _ _ _ c.args.values.now c.args.hand.from c.take_number-at.result.1 c.in-Ants-Ok.to c.take_number-at.ensures.leads
     (rw (c.in-Ants-Ok.is-1, c.in-Ants-Ok.is-0) at c.take_list.ensures.leads)) c.take_antecedents.ensures.leads
 
@@ -18,7 +18,7 @@ returns-in_default-2 c =
           c.take_number-at.ensures.leads c.take_list.ensures.leads;
       within = c.take_list.ensures.within;
       sound = (
-        record { index = b.index ∙ a.index; lits = b.lits ∙ a.lits; ants = b.ants ∙ a.ants },
+        record { index = b.index ∙ a.index; lits = b.lits ∙ a.lits },
         c.take_list.ensures.sound.1,
       );
     }
