@@ -149,21 +149,21 @@ kept_leads d first next values from to l = record {
   leads = kept_by d first next values from l.count l.leads;
 }
 
-pub step_leads : (p : Parts) (b : Lists) (first next : State) (values : List ℤ) (from to : ℕ) → Stays p.lists b
+pub step_leads : {A : Type 0} (lists : A → List (List ℕ)) (p : Parts A) (b : Lists) (first next : State) (values : List ℤ) (from to : ℕ) → Stays p.lists b
     → LeadsOver row first next values from to
-    → LeadsOver trace_row (record { made = trace_of (kept_of p); state = first })
-    (record { made = trace_of (kept_of (record p { lists = b })); state = next }) values from to
-step_leads p b first next values from to stays l =
-    rw (stays.index, stays.lits, stays.ants) (kept_leads (trace_of (kept_of p)) first next values from to l)
+    → LeadsOver trace_row (record { made = trace_of (kept_of lists p); state = first })
+    (record { made = trace_of (kept_of lists (record p { lists = b })); state = next }) values from to
+step_leads lists p b first next values from to stays l =
+    rw (stays.index, stays.lits) (kept_leads (trace_of (kept_of lists p)) first next values from to l)
 
 -- a step that a zero completes is kept
-pub step_kept : (first : TraceRead) (old new : Parts) (n : ℕ) (values : List ℤ) (from i : ℕ) → slice_index_or values i (pos 0) ≡ pos 0
-    → LeadsOver trace_row first (trace_at old (at.InAnts n)) values from i → ClosesPart old new (part.Step n)
-    → LeadsOver trace_row first (trace_at new at.Between) values from (i + 1)
-step_kept first old new n values from i is leads closes =
-    let mid = trace_at old (at.InAnts n) in
+pub step_kept : {A : Type 0} (lists : A → List (List ℕ)) (first : TraceRead) (old new : Parts A) (n : ℕ) (values : List ℤ) (from i : ℕ) → slice_index_or values i (pos 0) ≡ pos 0
+    → LeadsOver trace_row first (trace_at lists old (at.InAnts n)) values from i → ClosesPart lists old new (part.Step n)
+    → LeadsOver trace_row first (trace_at lists new at.Between) values from (i + 1)
+step_kept lists first old new n values from i is leads closes =
+    let mid = trace_at lists old (at.InAnts n) in
     let next : TraceRead =
-    record { made = with_item (trace_of (kept_of old)) (item_of old.lists (part.Step n)); state = Between (old.lists.index ++ n ∷ []) } in
+    record { made = with_item (trace_of (kept_of lists old)) (item_of old.lists (part.Step n)); state = Between (old.lists.index ++ n ∷ []) } in
     rw (closes.made, closes.numbers) (leads_more trace_row first mid next values from i (ap (λ v. trace_row mid (token_of v)) is) leads)
 
 -- numbers lead on, and others after them, unless an allocation fails

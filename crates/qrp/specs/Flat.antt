@@ -43,14 +43,18 @@ pub record IsFlat (k : Kept) : Type 0 where
   pub lits_counted : length k.lits ≡ length k.numbers
   pub ants_counted : length k.ants ≡ length k.numbers
 
--- what is whole of these parts
-abbrev pub kept_of : Parts → Kept
-kept_of p = record {
+-- antecedents of which each list is lent
+abbrev pub lent : Growing ℕ → List (List ℕ)
+lent ants = ants.whole
+
+-- what is whole of these parts, whose antecedents are seen as these lists
+abbrev pub kept_of : {A : Type 0} → (A → List (List ℕ)) → Parts A → Kept
+kept_of lists p = record {
   header = p.header;
   sets = p.sets.items;
   numbers = p.lists.index;
   lits = p.lists.lits.whole;
-  ants = p.lists.ants.whole;
+  ants = lists p.ants;
 }
 
 -- the unfinished list is whole, and an empty one begins after it
@@ -65,7 +69,7 @@ with_item d (item.Step s) = record d { steps = d.steps ++ s ∷ [] }
 with_item d (item.Result o) = d
 
 -- an unfinished part is whole
-pub record ClosesPart (old new : Parts) (p : Part) : Type 0 where
-  pub made : trace_of (kept_of new) ≡ with_item (trace_of (kept_of old)) (item_of old.lists p)
+pub record ClosesPart {A : Type 0} (lists : A → List (List ℕ)) (old new : Parts A) (p : Part) : Type 0 where
+  pub made : trace_of (kept_of lists new) ≡ with_item (trace_of (kept_of lists old)) (item_of old.lists p)
   pub numbers : new.lists.index ≡ numbers_after old.lists p
-  pub flat : IsFlat (kept_of new)
+  pub flat : IsFlat (kept_of lists new)

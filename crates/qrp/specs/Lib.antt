@@ -1,4 +1,5 @@
 pub mod Inferences
+pub mod Antecedents
 pub mod Derivations
 pub mod Grammar
 pub mod Reading

@@ -1,10 +1,11 @@
 -- What the calls return that read a whole trace.
-use Rattle.std.specs.Prelude.{◌≡◌, ◌≤◌, ℕ, List, ◌++◌, length, Bool, true, false, Option, option_map, Result, Ok, Err}
+use Rattle.std.specs.Prelude.{◌≡◌, ◌≤◌, ℕ, List, ◌++◌, length, Bool, true, false, Option, option_map, Result, Ok, Err, IfOk}
 use Rattle.dimacs_syntax.specs.Cited.{Lined}
 use Rattle.qbf_text.specs.WholeTexts as whole_texts
+use Rattle.qbf_text.specs.WholeTexts.{TellsFailures}
 use Rattle.qbf_text.specs.Left.{IsUnbroken}
 use Rattle.qrp.specs.declared.fault.TraceFault.{TraceFault}
-use Rattle.qbf_text.specs.Stopping.{IsAtMostASeparator}
+use Rattle.qbf_text.specs.Stopping.{IfKnown, IsAtMostASeparator}
 use Rattle.qrp.specs.declared.fault.TraceFault.TheVariants.{P1, P7, P9}
 use Rattle.qrp.specs.Derivations.{Derivation}
 use Rattle.qrp.specs.Grammar.{IsTrace}
@@ -44,3 +45,10 @@ pub record StopsAfterResult (d : Derivation) (bytes rest : List ℕ) : Type 0 wh
   pub missing : (line : ℕ) × (read_trace before ≡ Err (P7, line))
   -- with it the trace is whole
   pub whole : read_trace (before ++ word ++ separator) ≡ Ok d
+
+-- What a call does that reads a trace from a source, if that had these bytes still to give before and after, and had failed so often:
+-- it gives what the bytes read as, takes nothing past the result word but what is held, and tells of its devices.
+pub record ReadsTrace (before after : Option (List ℕ)) (old new : ℕ) (result : Result Derivation Fault) : Type 0 where
+  pub exact : Gives result (reads_bytes before)
+  pub stops : IfOk result (λ d. IfKnown (StopsAfterResult d) before after)
+  pub devices : TellsFailures P1 P9 old new result

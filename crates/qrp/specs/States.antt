@@ -11,6 +11,7 @@ use Rattle.qrp.specs.declared.states.State.TheVariants as at
 use Rattle.qrp.specs.declared.states.Lists.{Lists}
 use Rattle.qrp.specs.declared.states.Part.{Part}
 use Rattle.qrp.specs.declared.states.Part.TheVariants as part
+use Rattle.qrp.specs.Antecedents.{list_of_pair}
 use Rattle.qrp.specs.Inferences.{IsLiteral, IsNumber}
 use Rattle.qbf_text.specs.Rows.{Goes, Ends, Fails}
 use Rattle.qrp.specs.Reading.{State, Row, InHeader, Between, InSet, InLits, InAnts, AtResult, After}
@@ -20,7 +21,7 @@ use Rattle.step_index.specs.Numbers.{is_used}
 abbrev pub item_of : Lists → Part → Item
 item_of b (part.Header h) = item.Header h
 item_of b (part.Set q) = item.Set (record { quantifier = q; vars = b.vars.items })
-item_of b (part.Step n) = item.Step (record { number = n; lits = b.lits.unfinished; ants = b.ants.unfinished })
+item_of b (part.Step n) = item.Step (record { number = n; lits = b.lits.unfinished; ants = list_of_pair b.ants })
 item_of b (part.Result o) = item.Result o
 
 -- the numbers of the steps after it
@@ -34,7 +35,7 @@ state_at b (at.InHeader here) = InHeader here
 state_at b at.Between = Between b.index
 state_at b (at.InSet q) = InSet q b.vars.items
 state_at b (at.InLits n) = InLits b.index n b.lits.unfinished
-state_at b (at.InAnts n) = InAnts b.index n b.lits.unfinished b.ants.unfinished
+state_at b (at.InAnts n) = InAnts b.index n b.lits.unfinished (list_of_pair b.ants)
 state_at b at.AtResult = AtResult b.index
 state_at b (at.After p) = After (item_of b p) (numbers_after b p)
 
@@ -49,7 +50,6 @@ Moves r b (Err (stop.Text f)) = r ≡ Fails f
 pub record Stays (old new : Lists) : Type 0 where
   pub index : new.index ≡ old.index
   pub lits : new.lits.whole ≡ old.lits.whole
-  pub ants : new.ants.whole ≡ old.ants.whole
 
 -- ---- what holds of what is unfinished
 
@@ -67,7 +67,7 @@ pub record AreAntecedents (ants : List ℕ) : Type 0 where
 abbrev pub IsComplete : Part → Lists → Type 0
 IsComplete (part.Header h) b = (b.index ≡ []) × (h.vars < 2 ^ 64) × (h.steps < 2 ^ 64)
 IsComplete (part.Set q) b = (b.index ≡ []) × AllByRecursion IsVariable b.vars.items
-IsComplete (part.Step n) b = IsNew n b.index × AllByRecursion IsLiteral b.lits.unfinished × AreAntecedents b.ants.unfinished
+IsComplete (part.Step n) b = IsNew n b.index × AllByRecursion IsLiteral b.lits.unfinished × AreAntecedents (list_of_pair b.ants)
 IsComplete (part.Result o) b = ⊤
 
 -- at each state

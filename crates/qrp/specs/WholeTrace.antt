@@ -1,11 +1,12 @@
 -- A trace that is read as a whole: each item that is complete is kept, and the next token stands behind it.
-use Rattle.std.specs.Prelude.{Result, Ok, Err, ⊤}
+use Rattle.std.specs.Prelude.{ℕ, List, Result, Ok, Err, ⊤}
 use Rattle.qbf_text.specs.declared.token.Token.{Token}
 use Rattle.qbf_text.specs.Rows.{Goes, Ends, Fails}
 use Rattle.qbf_text.specs.Rows as rows
 use Rattle.qrp.specs.declared.fault.TraceFault.{TraceFault}
 use Rattle.qrp.specs.declared.fault.TraceFault.TheVariants.{P7}
 use Rattle.qrp.specs.declared.item.Item.TheVariants as item
+use Rattle.qrp.specs.declared.item.Outcome.{Outcome}
 use Rattle.qrp.specs.declared.parts.Parts.{Parts}
 use Rattle.qrp.specs.declared.states.State as states
 use Rattle.qrp.specs.Derivations.{Derivation}
@@ -23,12 +24,12 @@ abbrev pub nothing_read : TraceRead
 nothing_read = record { made = nothing; state = AtP }
 
 -- what is made of these parts, and where the next token stands
-abbrev pub trace_at : Parts → states.State → TraceRead
-trace_at p here = record { made = trace_of (kept_of p); state = state_at p.lists here }
+abbrev pub trace_at : {A : Type 0} → (A → List (List ℕ)) → Parts A → states.State → TraceRead
+trace_at lists p here = record { made = trace_of (kept_of lists p); state = state_at p.lists here }
 
 -- what holds of the parts where the next token stands
-abbrev pub AreSound : states.State → Parts → Type 0
-AreSound here p = IsSound here p.lists × IsFlat (kept_of p)
+abbrev pub AreSound : {A : Type 0} → (A → List (List ℕ)) → states.State → Parts A → Type 0
+AreSound lists here p = IsSound here p.lists × IsFlat (kept_of lists p)
 
 -- What the row of a state makes of a token. The result alone ends what is read.
 abbrev pub TraceRow : Type 0
@@ -49,6 +50,11 @@ kept_row d (Fails f) = Fails f
 -- the row of each state
 abbrev pub trace_row : TraceRead → Token → TraceRow
 trace_row r t = kept_row r.made (row r.state t)
+
+-- the trace that these parts make with this result, or the fault
+abbrev pub trace_with : {A : Type 0} → (A → List (List ℕ)) → Result (Parts A × Outcome) Fault → Result Derivation Fault
+trace_with lists (Ok r) = Ok (record (trace_of (kept_of lists r.0)) { result = r.1 })
+trace_with lists (Err e) = Err e
 
 -- the result was read
 abbrev pub HasResult : State → Type 0

@@ -9,7 +9,8 @@ ghost use Rattle.qrp.specs.declared.states.State.TheVariants as at;
 ghost use Rattle.qrp.specs.States.{state_at, IsSound, Stays};
 ghost use Rattle.qrp.specs.Reading.{row};
 
-use crate::states::{Lists, State, has_room, take_item_start};
+use crate::antecedents::AntecedentPair;
+use crate::states::{Lists, State, take_item_start};
 use crate::tokens::{FAULTS, decode_antecedent};
 use dimacs_syntax::decode_literal;
 use qbf_core::{GrowingLists, LAST_VARIABLE, Lit};
@@ -80,7 +81,7 @@ fn take_literals(lists: &mut Lists, number: u64, values: &[i32], from: usize) ->
                 Err(_) => return (State::InLits(number), Err(AllocError)),
             },
             Ok(None) => {
-                lists.ants.begin();
+                lists.ants = AntecedentPair::none();
                 return (State::InAnts(number), Ok(i + 1));
             }
             Err(_) => break,
@@ -111,35 +112,30 @@ fn take_list(here: State, lists: &mut Lists, values: &[i32], hand: AtHand) -> Re
     }
 }
 
-/// Takes antecedents from the place `from` on, and no zero after them.
-///
-/// # Errors
-/// Out of memory.
+/// Takes antecedents from the place `from` on, and no zero after them. Returns the place of the
+/// next number.
 #[inline(always)]
 #[tactic(auto, using(crate::proofs::BufferedNumbers::numbers_lead_on))]
-fn take_antecedents(
-    lists: &mut Lists,
-    number: u64,
-    values: &[i32],
-    from: usize,
-) -> Result<usize, AllocError>
+fn take_antecedents(lists: &mut Lists, number: u64, values: &[i32], from: usize) -> usize
     requires here { (from ≤ length values.now) × IsSound (at.InAnts number) lists.old }
-    ensures leads { IfOk result (λ to. LeadsOver row (state_at lists.old (at.InAnts number))
-        (state_at lists.new (at.InAnts number)) values.now from to) }
-    ensures within { IfOk result (λ to. to ≤ length values.now) }
+    ensures leads { LeadsOver row (state_at lists.old (at.InAnts number))
+        (state_at lists.new (at.InAnts number)) values.now from result }
+    ensures within { result ≤ length values.now }
     ensures sound { Stays lists.old lists.new × IsSound (at.InAnts number) lists.new }
 {
+    let mut ants = lists.ants.antecedents();
     let mut i = from;
     'antecedents: while i < values.len() {
-        match decode_antecedent(has_room(&lists.ants), Token::number_at(values, i)) {
-            Ok(Some(ant)) => match lists.ants.push(ant) {
-                Ok(()) => i += 1,
-                Err(_) => return Err(AllocError),
-            },
+        match decode_antecedent(ants.has_room(), Token::number_at(values, i)) {
+            Ok(Some(ant)) => {
+                ants = ants.with(ant);
+                i += 1;
+            }
             _ => break,
         }
     }
-    Ok(i)
+    lists.ants = ants.pair();
+    i
 }
 
 /// Takes the number of a step, if one begins here.
@@ -203,7 +199,7 @@ pub fn take_buffered(here: State, lists: &mut Lists, values: &[i32], hand: AtHan
     match take_list(state, lists, values, list) {
         (State::InAnts(number), Ok(to)) => (
             State::InAnts(number),
-            take_antecedents(lists, number, values, to),
+            Ok(take_antecedents(lists, number, values, to)),
         ),
         (state, reached) => (state, reached),
     }
@@ -254,7 +250,7 @@ fn take_all_literals(
     if !lists.lits.extend_written(literals, LAST_VARIABLE)? {
         return Ok(false);
     }
-    lists.ants.begin();
+    lists.ants = AntecedentPair::none();
     Ok(true)
 }
 
@@ -286,7 +282,7 @@ pub fn take_whole(
     if !take_all_literals(lists, number, values, list)? {
         return Ok(None);
     }
-    let to = take_antecedents(lists, number, values, hand.zero + 1)?;
+    let to = take_antecedents(lists, number, values, hand.zero + 1);
     Ok(Some((number, to)))
 }
 

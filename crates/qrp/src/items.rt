@@ -1,7 +1,7 @@
 //! The parts of a trace, given one after the other.
 
 ghost use Rattle.std.specs.Prelude.{◌≡◌, IfOk, OnErr};
-ghost use Rattle.qrp.specs.Flat.{kept_of, nothing_kept, IsFlat};
+ghost use Rattle.qrp.specs.Flat.{kept_of, lent, nothing_kept, IsFlat};
 ghost use Rattle.qrp.specs.Items.{HasItem, GivesItem};
 ghost use Rattle.qrp.specs.Reading.{AtP};
 
@@ -11,6 +11,7 @@ use crate::item::{Item, QuantSet, Step};
 use crate::parts::Parts;
 use crate::states::{Lists, Part, State, take_at};
 use dimacs_syntax::HeaderAt;
+use qbf_core::GrowingLists;
 use qbf_text::{Grammar, Progress, Stop, Taken, Token, Zeros};
 use std::alloc::{AllocError, Global};
 use std::marker::Model;
@@ -22,18 +23,18 @@ use std::mem;
 #[derive(Drop)]
 pub struct ItemGrammar {
     state: State,
-    parts: Parts,
+    parts: Parts<GrowingLists<u64>>,
 }
 
 impl Model for ItemGrammar {
-    ghost use Rattle.qrp.specs.Flat.{kept_of};
+    ghost use Rattle.qrp.specs.Flat.{kept_of, lent};
     ghost use Rattle.qrp.specs.Items.{ItemsRead};
     ghost use Rattle.qrp.specs.States.{state_at, IsSound};
 
     ghost Value = { ItemsRead };
 
     ghost view = { λ g.
-        record { kept = kept_of g.parts; state = state_at g.parts.lists g.state } };
+        record { kept = kept_of lent g.parts; state = state_at g.parts.lists g.state } };
 
     ghost invariant = { λ g. IsSound g.state g.parts.lists };
 }
@@ -69,7 +70,7 @@ impl ItemGrammar {
             State::After(Part::Step(number)) => {
                 let lists = &mut self.parts.lists;
                 let lits = Vec::from_slice(alloc, lists.lits.unfinished())?;
-                let ants = Vec::from_slice(alloc, lists.ants.unfinished())?;
+                let ants = lists.ants.to_vec(alloc)?;
                 lists.index.push(number)?;
                 Item::Step(Step { number, lits, ants })
             }
@@ -81,8 +82,8 @@ impl ItemGrammar {
     }
 
     /// What was kept. It takes no memory.
-    pub fn into_parts(self) -> Parts
-        ensures { kept_of result ≡ self.kept }
+    pub fn into_parts(self) -> Parts<GrowingLists<u64>>
+        ensures { kept_of lent result ≡ self.kept }
     {
         let mut parts = self.parts;
         parts.lists.index.place_all();

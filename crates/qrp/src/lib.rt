@@ -3,7 +3,7 @@
 //!
 //! - Owns: texts of traces, steps.
 //! - Offers: `TraceReader`, `read_trace`, `read_flat`, `write_trace`, `write_steps_at`, `Steps`,
-//!   `Trace`.
+//!   `Trace`; `read_compact`, `write_compact_at`, `KeptSteps`, `CompactTrace`.
 //! - Proved: exactly the trace that the bytes spell, or exactly the first fault and its line, whole
 //!   and item by item; the canonical text; one contract for steps however they are kept.
 //! - Read first: `TraceReader::next_item`, `read_trace`, `write_trace`, `write_steps_at`,
@@ -14,10 +14,14 @@
 //! - On the map: read_trace, write_trace | the trace, or its first fault, P1 to P9.
 #![tactic(auto)]
 
+mod antecedent_lists;
+mod antecedents;
 mod buffered;
+mod compact_trace;
 mod fault;
 mod item;
 mod items;
+mod kept_steps;
 mod laws;
 mod parts;
 mod reader;
@@ -28,11 +32,14 @@ mod trace;
 mod whole_trace;
 mod writing;
 
+pub use antecedents::Antecedents;
+pub use compact_trace::{CompactTrace, read_compact};
 pub use fault::TraceFault;
 pub use item::{Header, Item, Outcome, QuantSet, Step};
+pub use kept_steps::{KeptSteps, LentSteps};
 pub use laws::{item_laws, trace_laws};
 pub use reader::TraceReader;
 pub use step_index::StepIndex;
 pub use steps::Steps;
 pub use trace::{FlatTrace, Trace, read_trace, read_trace as read_flat};
-pub use writing::{write_steps_at, write_trace};
+pub use writing::{write_compact_at, write_steps_at, write_trace};

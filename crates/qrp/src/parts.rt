@@ -1,10 +1,13 @@
 //! What a trace is made of, part by part, whether it is read or pushed to.
 
 ghost use Rattle.std.specs.Prelude.{◌≡◌, false, [], ◌∷◌, ◌++◌, OnOk, OnErr};
+ghost use Rattle.qrp.specs.Antecedents.{list_of_pair};
 ghost use Rattle.qrp.specs.Flat.{after_close, kept_of, nothing_kept, ClosesPart, IsFlat};
 ghost use Rattle.qrp.specs.States.{IsComplete, Stays};
 ghost use Rattle.step_index.specs.Numbers.{is_used, AreStepNumbers};
 
+use crate::antecedent_lists::AntecedentLists;
+use crate::antecedents::AntecedentPair;
 use crate::item::{Header, QuantSet};
 use crate::states::{Lists, Part};
 use qbf_core::GrowingLists;
@@ -12,22 +15,24 @@ use std::alloc::{AllocError, Global};
 use std::mem;
 use step_index::StepIndex;
 
-/// The parts of a trace.
+/// The parts of a trace, of which antecedents are kept in an `A`.
 #[derive(Drop)]
-pub struct Parts {
+pub struct Parts<A> {
     pub alloc: Global,
     pub header: Header,
     /// The sets that are whole.
     pub sets: Vec<QuantSet>,
     /// The whole lists of steps, and the unfinished lists.
     pub lists: Lists,
+    /// The antecedents of the steps that are whole.
+    pub ants: A,
 }
 
-impl Parts {
+impl<A: AntecedentLists> Parts<A> {
     /// Nothing yet. It takes no memory.
-    pub fn new(alloc: Global) -> Parts
-        ensures sound { IsFlat (kept_of result) }
-        ensures kept { kept_of result ≡ nothing_kept }
+    pub fn new(alloc: Global) -> Parts<A>
+        ensures sound { IsFlat (kept_of A.lists result) }
+        ensures kept { kept_of A.lists result ≡ nothing_kept }
     {
         Parts {
             alloc,
@@ -36,9 +41,10 @@ impl Parts {
             lists: Lists {
                 vars: Vec::new(alloc),
                 lits: GrowingLists::new(alloc),
-                ants: GrowingLists::new(alloc),
+                ants: AntecedentPair::none(),
                 index: StepIndex::new(alloc),
             },
+            ants: A::of_no_steps(alloc),
         }
     }
 }
@@ -48,18 +54,24 @@ impl Parts {
 /// # Errors
 /// Out of memory. What is whole is as it was then.
 #[inline(always)]
-fn close_step(lists: &mut Lists, number: u64) -> Result<(), AllocError>
+fn close_step<A: AntecedentLists>(
+    lists: &mut Lists,
+    ants: &mut A,
+    number: u64,
+) -> Result<(), AllocError>
     requires { is_used number lists.old.index ≡ false }
     ensures closed { OnOk result (lists.new ≡ record lists.old {
       lits = after_close lists.old.lits;
-      ants = after_close lists.old.ants;
       index = lists.old.index ++ number ∷ [];
     }) }
+    ensures added { OnOk result
+        (A.lists ants.new ≡ A.lists ants.old ++ list_of_pair lists.old.ants ∷ []) }
     ensures sound { OnOk result (AreStepNumbers lists.new.index) }
     ensures err { OnErr result (Stays lists.old lists.new) }
+    ensures kept { OnErr result (A.lists ants.new ≡ A.lists ants.old) }
 {
     lists.lits.close()?;
-    match lists.ants.close() {
+    match ants.add(lists.ants) {
         Ok(()) => {}
         Err(refused) => {
             lists.lits.pop();
@@ -69,7 +81,7 @@ fn close_step(lists: &mut Lists, number: u64) -> Result<(), AllocError>
     match lists.index.push(number) {
         Ok(()) => Ok(()),
         Err(refused) => {
-            lists.ants.pop();
+            ants.remove_last();
             lists.lits.pop();
             Err(refused)
         }
@@ -81,11 +93,11 @@ fn close_step(lists: &mut Lists, number: u64) -> Result<(), AllocError>
 /// # Errors
 /// Out of memory. What is whole is as it was then.
 #[inline(always)]
-pub fn close(parts: &mut Parts, part: Part) -> Result<(), AllocError>
-    requires made { IsFlat (kept_of parts.old) }
+pub fn close<A: AntecedentLists>(parts: &mut Parts<A>, part: Part) -> Result<(), AllocError>
+    requires made { IsFlat (kept_of A.lists parts.old) }
     requires complete { IsComplete part parts.old.lists }
-    ensures closed { OnOk result (ClosesPart parts.old parts.new part) }
-    ensures err { OnErr result (kept_of parts.new ≡ kept_of parts.old) }
+    ensures closed { OnOk result (ClosesPart A.lists parts.old parts.new part) }
+    ensures err { OnErr result (kept_of A.lists parts.new ≡ kept_of A.lists parts.old) }
 {
     match part {
         Part::Header(header) => {
@@ -98,7 +110,7 @@ pub fn close(parts: &mut Parts, part: Part) -> Result<(), AllocError>
             Ok(())
         }
         Part::Step(number) => {
-            close_step(&mut parts.lists, number)?;
+            close_step(&mut parts.lists, &mut parts.ants, number)?;
             Ok(())
         }
         Part::Result(_) => Ok(()),

@@ -4,8 +4,9 @@ ghost use Rattle.std.specs.Prelude.{◌≡◌};
 ghost use Rattle.qrp.specs.declared.states.State.TheVariants as at;
 ghost use Rattle.qrp.specs.declared.states.Lists.{Lists};
 ghost use Rattle.qrp.specs.States.{state_at, Moves, Leads, IsSound};
-ghost use Rattle.qrp.specs.Reading.{has_room, row};
+ghost use Rattle.qrp.specs.Reading.{row};
 
+use crate::antecedents::AntecedentPair;
 use crate::fault::TraceFault;
 use crate::item::{Header, Outcome};
 use crate::tokens::{
@@ -59,8 +60,8 @@ pub struct Lists {
     pub vars: Vec<Var>,
     /// The literals of an unfinished step, after those of whole steps if such are kept.
     pub lits: GrowingLists<Lit>,
-    /// Its antecedents, after those of whole steps.
-    pub ants: GrowingLists<u64>,
+    /// Its antecedents.
+    pub ants: AntecedentPair,
     /// The numbers of the steps that are whole.
     pub index: StepIndex,
 }
@@ -101,18 +102,10 @@ fn take_literal(lists: &mut Lists, number: u64, token: Token) -> Next
             Err(_) => Err(Stop::Memory),
         },
         None => {
-            lists.ants.begin();
+            lists.ants = AntecedentPair::none();
             Ok(State::InAnts(number))
         }
     }
-}
-
-/// Whether another antecedent may come.
-#[inline(always)]
-pub fn has_room(ants: &GrowingLists<u64>) -> bool
-    ensures says { result ≡ has_room ants.now.unfinished }
-{
-    ants.unfinished_len() < 2
 }
 
 /// Takes a token in the antecedents of a step.
@@ -122,14 +115,12 @@ fn take_antecedent(lists: &mut Lists, number: u64, token: Token) -> Next
     ensures row { Moves (row (state_at lists.old (at.InAnts number)) token) lists.new result }
     ensures sound { Leads (at.InAnts number) lists.old lists.new result }
 {
-    let room = has_room(&lists.ants);
-    match decode_antecedent(room, token)? {
-        Some(ant) => match lists.ants.push(ant) {
-            Ok(()) => Ok(State::InAnts(number)),
-            Err(_) => Err(Stop::Memory),
-        },
-        None => Ok(State::After(Part::Step(number))),
-    }
+    let ants = lists.ants.antecedents();
+    let Some(ant) = decode_antecedent(ants.has_room(), token)? else {
+        return Ok(State::After(Part::Step(number)));
+    };
+    lists.ants = ants.with(ant).pair();
+    Ok(State::InAnts(number))
 }
 
 /// Takes a token in a set.

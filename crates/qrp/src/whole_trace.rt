@@ -4,16 +4,18 @@ ghost use Rattle.std.specs.Prelude.{◌≡◌, ◌≤◌, ◌<◌, length, Ok, I
 ghost use Rattle.qbf_text.specs.Numbers.{LeadsOver};
 ghost use Rattle.qrp.specs.Flat.{kept_of, trace_of, IsFlat};
 ghost use Rattle.qrp.specs.declared.states.State.TheVariants as at;
-ghost use Rattle.qrp.specs.WholeTrace.{made_of, nothing_read, trace_at, trace_row};
+ghost use Rattle.qrp.specs.Returns.{ReadsTrace};
+ghost use Rattle.qrp.specs.WholeTrace.{made_of, nothing_read, trace_at, trace_row, trace_with};
 ghost use Rattle.qrp.specs.WholeTrace.{AreSound, HasResult};
 
+use crate::antecedent_lists::AntecedentLists;
 use crate::buffered::{AtHand, Reached, completed, is_zero_at, take_buffered, take_whole};
-use crate::fault::TraceFault;
+use crate::fault::{Fault, TraceFault};
 use crate::item::Outcome;
 use crate::parts::{Parts, close};
 use crate::states::{Part, State, take_at};
 use dimacs_syntax::HeaderAt;
-use qbf_text::{Grammar, Progress, Stop, Taken, Token, Zeros};
+use qbf_text::{Comments, Grammar, Progress, Scanner, Source, Stop, Taken, Token, Zeros, read_by};
 use std::alloc::{AllocError, Global};
 use std::marker::Model;
 
@@ -23,12 +25,17 @@ use std::marker::Model;
 /// # Errors
 /// Out of memory.
 #[inline(always)]
-fn take_step(here: State, parts: &mut Parts, values: &[i32], hand: AtHand) -> Reached
-    requires here { (hand.from ≤ length values.now) × AreSound here parts.old }
-    ensures leads { IfOk result.1 (λ to. LeadsOver trace_row (trace_at parts.old here)
-        (trace_at parts.new result.0) values.now hand.from to) }
+fn take_step<A: AntecedentLists>(
+    here: State,
+    parts: &mut Parts<A>,
+    values: &[i32],
+    hand: AtHand,
+) -> Reached
+    requires here { (hand.from ≤ length values.now) × AreSound A.lists here parts.old }
+    ensures leads { IfOk result.1 (λ to. LeadsOver trace_row (trace_at A.lists parts.old here)
+        (trace_at A.lists parts.new result.0) values.now hand.from to) }
     ensures within { IfOk result.1 (λ to. to ≤ length values.now) }
-    ensures sound { AreSound result.0 parts.new }
+    ensures sound { AreSound A.lists result.0 parts.new }
 {
     let (state, reached) = take_buffered(here, &mut parts.lists, values, hand);
     let to = match reached {
@@ -50,14 +57,19 @@ fn take_step(here: State, parts: &mut Parts, values: &[i32], hand: AtHand) -> Re
 /// # Errors
 /// Out of memory.
 #[inline(always)]
-fn keep_whole(parts: &mut Parts, values: &[i32], hand: AtHand) -> Result<Option<usize>, AllocError>
-    requires here { (hand.from < length values.now) × IsFlat (kept_of parts.old) }
+fn keep_whole<A: AntecedentLists>(
+    parts: &mut Parts<A>,
+    values: &[i32],
+    hand: AtHand,
+) -> Result<Option<usize>, AllocError>
+    requires here { (hand.from < length values.now) × IsFlat (kept_of A.lists parts.old) }
     ensures leads { IfOk result (λ o. IfSome o
         (λ to. (hand.from < to) × (to ≤ length values.now) × LeadsOver trace_row
-        (trace_at parts.old at.Between) (trace_at parts.new at.Between) values.now hand.from to)) }
+        (trace_at A.lists parts.old at.Between) (trace_at A.lists parts.new at.Between)
+        values.now hand.from to)) }
     ensures none { IfOk result (λ o. IfNone o
-        (trace_at parts.new at.Between ≡ trace_at parts.old at.Between)) }
-    ensures flat { IsFlat (kept_of parts.new) }
+        (trace_at A.lists parts.new at.Between ≡ trace_at A.lists parts.old at.Between)) }
+    ensures flat { IsFlat (kept_of A.lists parts.new) }
 {
     let Some((number, to)) = take_whole(&mut parts.lists, values, hand)? else {
         return Ok(None);
@@ -75,17 +87,17 @@ fn keep_whole(parts: &mut Parts, values: &[i32], hand: AtHand) -> Result<Option<
 /// # Errors
 /// Out of memory.
 #[inline(always)]
-fn keep_steps(
-    parts: &mut Parts,
+fn keep_steps<A: AntecedentLists>(
+    parts: &mut Parts<A>,
     values: &[i32],
     zeros: Zeros,
     start: (usize, usize),
 ) -> Result<(usize, usize), AllocError>
-    requires here { (start.0 ≤ length values.now) × IsFlat (kept_of parts.old) }
-    ensures leads { IfOk result (λ r. LeadsOver trace_row (trace_at parts.old at.Between)
-        (trace_at parts.new at.Between) values.now start.0 r.0) }
+    requires here { (start.0 ≤ length values.now) × IsFlat (kept_of A.lists parts.old) }
+    ensures leads { IfOk result (λ r. LeadsOver trace_row (trace_at A.lists parts.old at.Between)
+        (trace_at A.lists parts.new at.Between) values.now start.0 r.0) }
     ensures within { IfOk result (λ r. r.0 ≤ length values.now) }
-    ensures flat { IsFlat (kept_of parts.new) }
+    ensures flat { IsFlat (kept_of A.lists parts.new) }
 {
     let (mut from, mut zero) = start;
     'steps: while from < values.len() {
@@ -118,12 +130,17 @@ fn zeros_left(here: State) -> usize {
 /// Out of memory.
 #[inline(always)]
 #[tactic(auto, using(crate::proofs::BufferedNumbers::numbers_lead_on))]
-fn take_unfinished(here: State, parts: &mut Parts, values: &[i32], zeros: Zeros) -> Reached
-    requires sound { AreSound here parts.old }
-    ensures leads { IfOk result.1 (λ to. LeadsOver trace_row (trace_at parts.old here)
-        (trace_at parts.new result.0) values.now 0 to) }
+fn take_unfinished<A: AntecedentLists>(
+    here: State,
+    parts: &mut Parts<A>,
+    values: &[i32],
+    zeros: Zeros,
+) -> Reached
+    requires sound { AreSound A.lists here parts.old }
+    ensures leads { IfOk result.1 (λ to. LeadsOver trace_row (trace_at A.lists parts.old here)
+        (trace_at A.lists parts.new result.0) values.now 0 to) }
     ensures within { IfOk result.1 (λ to. to ≤ length values.now) }
-    ensures sound { AreSound result.0 parts.new }
+    ensures sound { AreSound A.lists result.0 parts.new }
 {
     let hand = AtHand {
         from: 0,
@@ -141,12 +158,17 @@ fn take_unfinished(here: State, parts: &mut Parts, values: &[i32], zeros: Zeros)
 /// # Errors
 /// Out of memory.
 #[inline(never)]
-fn take_steps(here: State, parts: &mut Parts, values: &[i32], zeros: Zeros) -> Reached
-    requires sound { AreSound here parts.old }
-    ensures leads { IfOk result.1 (λ to. LeadsOver trace_row (trace_at parts.old here)
-        (trace_at parts.new result.0) values.now 0 to) }
+fn take_steps<A: AntecedentLists>(
+    here: State,
+    parts: &mut Parts<A>,
+    values: &[i32],
+    zeros: Zeros,
+) -> Reached
+    requires sound { AreSound A.lists here parts.old }
+    ensures leads { IfOk result.1 (λ to. LeadsOver trace_row (trace_at A.lists parts.old here)
+        (trace_at A.lists parts.new result.0) values.now 0 to) }
     ensures within { IfOk result.1 (λ to. to ≤ length values.now) }
-    ensures sound { AreSound result.0 parts.new }
+    ensures sound { AreSound A.lists result.0 parts.new }
 {
     match take_unfinished(here, parts, values, zeros) {
         (State::Between, Ok(from)) => {
@@ -165,28 +187,28 @@ fn take_steps(here: State, parts: &mut Parts, values: &[i32], zeros: Zeros) -> R
     }
 }
 
-/// A trace that is read as a whole.
+/// A trace that is read as a whole, of which antecedents are kept in an `A`.
 ///
 /// Contracts see what is made of it, and what stands next.
 #[derive(Drop)]
-pub struct TraceGrammar {
+pub struct TraceGrammar<A: AntecedentLists> {
     state: State,
-    parts: Parts,
+    parts: Parts<A>,
 }
 
-impl Model for TraceGrammar {
+impl<A: AntecedentLists> Model for TraceGrammar<A> {
     ghost use Rattle.qrp.specs.WholeTrace.{trace_at, AreSound, TraceRead};
 
     ghost Value = { TraceRead };
 
-    ghost view = { λ g. trace_at g.parts g.state };
+    ghost view = { λ g. trace_at A.lists g.parts g.state };
 
-    ghost invariant = { λ g. AreSound g.state g.parts };
+    ghost invariant = { λ g. AreSound A.lists g.state g.parts };
 }
 
-impl TraceGrammar {
+impl<A: AntecedentLists> TraceGrammar<A> {
     /// At the beginning of a trace. It takes no memory.
-    pub fn new(alloc: Global) -> TraceGrammar
+    pub fn new(alloc: Global) -> TraceGrammar<A>
         ensures { result ≡ nothing_read }
     {
         TraceGrammar {
@@ -196,11 +218,11 @@ impl TraceGrammar {
     }
 
     /// What was kept, and the result. It takes no memory.
-    pub fn into_parts(self) -> (Parts, Outcome)
+    pub fn into_parts(self) -> (Parts<A>, Outcome)
         requires { HasResult self.state }
         ensures made { made_of self
-            ≡ Ok (record (trace_of (kept_of result.0)) { result = result.1 }) }
-        ensures flat { IsFlat (kept_of result.0) }
+            ≡ Ok (record (trace_of (kept_of A.lists result.0)) { result = result.1 }) }
+        ensures flat { IsFlat (kept_of A.lists result.0) }
     {
         match self.state {
             State::After(Part::Result(outcome)) => {
@@ -213,7 +235,7 @@ impl TraceGrammar {
     }
 }
 
-impl Grammar for TraceGrammar {
+impl<A: AntecedentLists> Grammar for TraceGrammar<A> {
     ghost use Rattle.qrp.specs.WholeTrace.{trace_row, TraceRead};
 
     type Output = ();
@@ -252,4 +274,24 @@ impl Grammar for TraceGrammar {
             _ => Ok(Taken::More),
         }
     }
+}
+
+/// Reads the parts of a trace and its result, as `read_trace` does.
+///
+/// # Errors
+/// As of `read_trace`.
+pub fn read_parts<A: AntecedentLists, S: Source>(
+    alloc: Global,
+    source: &mut S,
+) -> Result<(Parts<A>, Outcome), Fault>
+    ensures reads { ReadsTrace (S.remaining source.old) (S.remaining source.new)
+        (S.failures source.old) (S.failures source.new) (trace_with A.lists result) }
+    ensures flat { IfOk result (λ r. IsFlat (kept_of A.lists r.0)) }
+{
+    let mut grammar = TraceGrammar::new(alloc);
+    let mut scanner = Scanner::new(Comments::Qrp);
+    if let Err(error) = read_by(&mut grammar, &mut scanner, source) {
+        return Err(error.fault(TraceFault::P1, TraceFault::P9));
+    }
+    Ok(grammar.into_parts())
 }

@@ -12,10 +12,13 @@ ghost use Rattle.qrp.specs.Reading.{read_trace};
 ghost use Rattle.dimacs_syntax.specs.Texts.{set_text};
 ghost use Rattle.qrp.specs.Texts.{step_text, steps_text};
 
+use crate::antecedents::Antecedents;
+use crate::compact_trace::CompactTrace;
 use crate::item::{Header, Outcome, QuantSet};
-use crate::steps::Steps;
+use crate::kept_steps::{KeptSteps, LentSteps};
 use crate::trace::Trace;
 use dimacs_syntax::{Bare, Bytes, HeaderLine, Put};
+use qbf_core::Lit;
 use qbf_text::{Sink, SinkFault, put_bytes};
 
 /// The line of a set.
@@ -39,26 +42,41 @@ impl Put for Outcome {
     }
 }
 
+/// The line of a step with this number, these literals and these antecedents.
+#[inline(always)]
+fn put_line<K: Sink>(sink: &mut K, number: u64, lits: &[Lit], ants: &[u64]) -> Result<(), SinkFault>
+    ensures { IsPut K.written K.failures K.failed_last sink.old sink.new
+        (step_text (record { number = number; lits = lits.now; ants = ants.now })) result }
+{
+    let lists = (lits, (Bytes(b" 0"), (ants, Bytes(b" 0\n"))));
+    (Bare(false, number), lists).put(sink)
+}
+
 /// The line of a step.
 #[inline(always)]
-fn put_step<K: Sink>(sink: &mut K, trace: &Trace, position: usize) -> Result<(), SinkFault>
-    requires { position < length trace.now.steps }
-    ensures { (step : Inference) → IsAt trace.now.steps position step
+fn put_step<K: Sink, T: KeptSteps>(
+    sink: &mut K,
+    trace: &T,
+    position: usize,
+) -> Result<(), SinkFault>
+    requires { position < length (T.steps trace.now) }
+    ensures { (step : Inference) → IsAt (T.steps trace.now) position step
         → IsPut K.written K.failures K.failed_last sink.old sink.new (step_text step) result }
 {
-    let lists = (
-        trace.lits(position),
-        (Bytes(b" 0"), (trace.ants(position), Bytes(b" 0\n"))),
-    );
-    (Bare(false, trace.number(position)), lists).put(sink)
+    let (number, lits) = (trace.number(position), trace.lits(position));
+    match trace.antecedents(position) {
+        Antecedents::Empty => put_line(sink, number, lits, &[]),
+        Antecedents::One(only) => put_line(sink, number, lits, &[only]),
+        Antecedents::Two(first, second) => put_line(sink, number, lits, &[first, second]),
+    }
 }
 
 /// The lines of all steps.
 #[derive(Clone, Copy)]
-struct StepLines<'a>(&'a Trace);
+struct StepLines<'a, T: KeptSteps>(&'a T);
 
-impl<'a> Put for StepLines<'a> {
-    ghost text = { λ s. steps_text s.0.now.steps };
+impl<'a, T: KeptSteps> Put for StepLines<'a, T> {
+    ghost text = { λ s. steps_text (T.steps s.0.now) };
 
     fn put<K: Sink>(&self, sink: &mut K) -> Result<(), SinkFault> {
         for position in 0..self.0.len() {
@@ -69,15 +87,15 @@ impl<'a> Put for StepLines<'a> {
 }
 
 /// The lines of the steps at these positions.
-#[derive(Clone, Copy)]
-struct StepLinesAt<'a> {
-    trace: &'a Trace,
+#[derive(Drop)]
+struct StepLinesAt<'a, T: KeptSteps> {
+    trace: &'a T,
     positions: &'a [usize],
-    ghost inside: { AllByRecursion (λ i. i < length trace.now.steps) positions.now } by { Prim.hlevel props },
+    ghost inside: { AllByRecursion (λ i. i < length (T.steps trace.now)) positions.now } by { Prim.hlevel props },
 }
 
-impl<'a> Put for StepLinesAt<'a> {
-    ghost text = { λ s. steps_text (steps_at s.trace.now.steps s.positions.now) };
+impl<'a, T: KeptSteps> Put for StepLinesAt<'a, T> {
+    ghost text = { λ s. steps_text (steps_at (T.steps s.trace.now) s.positions.now) };
 
     fn put<K: Sink>(&self, sink: &mut K) -> Result<(), SinkFault> {
         for position in self.positions {
@@ -105,7 +123,8 @@ pub fn write_trace<K: Sink>(trace: &Trace, sink: &mut K) -> Result<(), SinkFault
 {
     let Header { vars, steps } = trace.header();
     let header = HeaderLine(b"p qrp", vars, steps);
-    (header, (trace.sets(), (StepLines(trace), trace.result()))).put(sink)
+    let kept = LentSteps(trace);
+    (header, (trace.sets(), (StepLines(&kept), trace.result()))).put(sink)
 }
 
 /// A header that says that there are so many steps.
@@ -129,6 +148,30 @@ fn counted(header: Header, steps: usize) -> Header
 /// A `SinkFault` where the sink failed. What went out is a beginning of the text then.
 pub fn write_steps_at<K: Sink>(
     trace: &Trace,
+    positions: &[usize],
+    sink: &mut K,
+) -> Result<(), SinkFault>
+    requires { AllByRecursion (λ i. i < length trace.now.steps) positions.now }
+    ensures { IsPut K.written K.failures K.failed_last sink.old sink.new
+        (text (with_steps_at trace.now positions.now)) result }
+{
+    let Header { vars, steps } = counted(trace.header(), positions.len());
+    let header = HeaderLine(b"p qrp", vars, steps);
+    let kept = LentSteps(trace);
+    let lines = StepLinesAt {
+        trace: &kept,
+        positions,
+    };
+    (header, (trace.sets(), (lines, trace.result()))).put(sink)
+}
+
+/// Writes the steps at these positions of a trace that was read by `read_compact`, as
+/// `write_steps_at` does.
+///
+/// # Errors
+/// As of `write_steps_at`.
+pub fn write_compact_at<K: Sink>(
+    trace: &CompactTrace,
     positions: &[usize],
     sink: &mut K,
 ) -> Result<(), SinkFault>

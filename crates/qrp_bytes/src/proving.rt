@@ -14,7 +14,7 @@ ghost use Rattle.qrp_bytes.specs.Verdicts.{StructHeadline, VerifyReturns};
 
 use crate::verdict::{QrpVerdict, encode};
 use qbf_text::{SliceSource, VecSink};
-use qrp::{Steps, Trace, write_steps_at};
+use qrp::{CompactTrace, KeptSteps, write_compact_at};
 use qrp_check::{CheckFault, Fault, Rules, Verified, find_proof, find_truth};
 use std::alloc::{AllocError, Global};
 
@@ -50,7 +50,7 @@ fn lent_proof(
     formula: &[u8],
     trace: &[u8],
     rules: Rules,
-) -> Result<(Trace, Verified), Fault>
+) -> Result<(CompactTrace, Verified), Fault>
     ensures trimmed { IfOk result (λ r. IsTrimmedFrom rules formula.now trace.now
         (trimmed_trace r.0 r.1.core.items)) }
     ensures claim { IfOk result (λ r. r.1.truth ≡ is_sat r.0.result) }
@@ -67,12 +67,12 @@ fn lent_proof(
 ///
 /// # Errors
 /// If an allocation fails.
-fn text_at(alloc: Global, trace: &Trace, places: &[usize]) -> Result<VecSink, AllocError>
+fn text_at(alloc: Global, trace: &CompactTrace, places: &[usize]) -> Result<VecSink, AllocError>
     requires { AllByRecursion (λ i. i < length trace.now.steps) places.now }
     ensures { IfOk result (λ s. s.bytes ≡ text (trimmed_trace trace.now places.now)) }
 {
     let mut sink = VecSink::new(alloc, 0)?;
-    match write_steps_at(trace, places, &mut sink) {
+    match write_compact_at(trace, places, &mut sink) {
         Ok(()) => Ok(sink),
         Err(_) => Err(AllocError),
     }
@@ -80,7 +80,7 @@ fn text_at(alloc: Global, trace: &Trace, places: &[usize]) -> Result<VecSink, Al
 
 /// The numbers of the steps at these places, in order.
 #[tactic(auto, using(crate::proofs::GivenTexts::next_number))]
-fn numbers_at(alloc: Global, trace: &Trace, places: &[usize]) -> Result<Vec<u64>, AllocError>
+fn numbers_at(alloc: Global, trace: &CompactTrace, places: &[usize]) -> Result<Vec<u64>, AllocError>
     requires { AllByRecursion (λ i. i < length trace.now.steps) places.now }
     ensures { IfOk result (λ v. v.items ≡ numbers (steps_at trace.now.steps places.now)) }
 {

@@ -211,16 +211,3 @@ accepted_all (Err e) conditions blocks lits is = tt
 pub not_earlier : (before : List Inference) (ants numbers : List ℕ) (n : ℕ) → ants ≡ numbers → n ∈ numbers → (IsNumberOf before n → ⊥)
     → ((m : ℕ) → m ∈ ants → IsNumberOf before m) → ⊥
 not_earlier before ants numbers n e h not all = not (all n (subst (λ (ns : List ℕ). n ∈ ns) (sym e) h))
-
--- ---- lists of antecedents
-
-pub one_listed : (xs : List ℕ) (d : ℕ) → 1 ≤ length xs → length xs < 2 → xs ≡ get_or xs 0 d ∷ []
-one_listed [] d some less = absurd (omega (arith, some))
-one_listed (x ∷ []) d some less = refl
-one_listed (x ∷ y ∷ xs) d some less = absurd (omega (arith, less))
-
-pub two_listed : (xs : List ℕ) (d e : ℕ) → 2 ≤ length xs → length xs < 3 → xs ≡ get_or xs 0 d ∷ get_or xs 1 e ∷ []
-two_listed [] d e some less = absurd (omega (arith, some))
-two_listed (x ∷ []) d e some less = absurd (omega (arith, some))
-two_listed (x ∷ y ∷ []) d e some less = refl
-two_listed (x ∷ y ∷ z ∷ xs) d e some less = absurd (omega (arith, less))

@@ -19,7 +19,7 @@ use crate::marks::{find_goal, mark_core, marked_positions};
 use crate::step::Context;
 use crate::verdict::Verified;
 use qbf_core::Formula;
-use qrp::{Outcome, QuantSet, Steps};
+use qrp::{KeptSteps, LentSteps, Outcome, QuantSet, Steps};
 use qrp_rules::{Clauses, Cubes, Rules, Side};
 use std::alloc::Global;
 
@@ -31,7 +31,7 @@ pub(crate) fn is_sat(outcome: Outcome) -> bool
 }
 
 /// The marks of the core, where each of its steps follows from those before it.
-fn check_core<S: Side, T: Steps>(
+fn check_core<S: Side, T: KeptSteps>(
     context: Context,
     trace: &T,
     goal: usize,
@@ -55,7 +55,7 @@ fn check_core<S: Side, T: Steps>(
 ///
 /// # Errors
 /// As of `check`.
-pub(crate) fn check_marked<T: Steps>(
+pub(crate) fn check_marked<T: KeptSteps>(
     context: Context,
     trace: &T,
     sets: &[QuantSet],
@@ -78,6 +78,36 @@ pub(crate) fn check_marked<T: Steps>(
     match outcome {
         Outcome::Unsat => check_core::<Clauses, T>(context, trace, goal),
         Outcome::Sat => check_core::<Cubes, T>(context, trace, goal),
+    }
+}
+
+/// Whether sets, steps and outcome of a trace prove the outcome of the formula, as `check` says.
+///
+/// # Errors
+/// As of `check`.
+pub(crate) fn check_kept<T: KeptSteps>(
+    context: Context,
+    trace: &T,
+    sets: &[QuantSet],
+    outcome: Outcome,
+) -> Result<Verified, CheckFault>
+    ensures proves { OnOk result (Proves context.entry.rules context.entry.formula.now sets.now (T.steps trace.now) outcome) }
+    ensures core { IfOk result (λ v. ListsCore (T.steps trace.now) v.core.items) }
+    ensures rises { IfOk result (λ v. IsStrictlyIncreasing v.core.items) }
+    ensures within { IfOk result
+        (λ v. AllByRecursion (λ i. i < length (T.steps trace.now)) v.core.items) }
+    ensures claim { IfOk result (λ v. v.truth ≡ is_sat outcome) }
+    ensures truth { IfOk result (λ v. IsTrue v.truth ↔ IsTrueFormula context.entry.formula.now) }
+    ensures refused { IfErr result
+        (λ e. e ≢ C5 → IsFirstFault context.entry.rules context.entry.formula.now sets.now (T.steps trace.now) outcome e) }
+{
+    let marks = check_marked(context, trace, sets, outcome)?;
+    match marked_positions(context.alloc, &marks) {
+        Ok(core) => Ok(Verified {
+            truth: is_sat(outcome),
+            core,
+        }),
+        Err(_) => Err(CheckFault::C5),
     }
 }
 
@@ -117,12 +147,6 @@ pub fn check<T: Steps>(
         formula,
         rules,
     };
-    let marks = check_marked(context, trace, sets, outcome)?;
-    match marked_positions(alloc, &marks) {
-        Ok(core) => Ok(Verified {
-            truth: is_sat(outcome),
-            core,
-        }),
-        Err(_) => Err(CheckFault::C5),
-    }
+    let kept = LentSteps(trace);
+    check_kept(context, &kept, sets, outcome)
 }

@@ -11,7 +11,7 @@ use crate::hints::Hints;
 use crate::kept::Kept;
 use crate::premises::find_premises;
 use crate::step::{CheckState, Context, step_fault};
-use qrp::Steps;
+use qrp::KeptSteps;
 use qrp_rules::{InitialSteps, SeenLits, Side};
 
 /// What is kept from one step to the next.
@@ -23,7 +23,7 @@ pub(crate) struct WalkState {
 }
 
 /// Follows the step of the core at a position, after those before it.
-fn follow_step<S: Side, T: Steps>(
+fn follow_step<S: Side, T: KeptSteps>(
     context: Context,
     trace: &T,
     position: usize,
@@ -50,7 +50,7 @@ fn follow_step<S: Side, T: Steps>(
 /// # Errors
 /// The first step that does not follow, or out of memory if an allocation failed.
 #[tactic(auto, using(std::proofs::lemmas::Bool::cases_eq, crate::proofs::MarkedPlaces::is_unmarked, crate::proofs::Marking::core_within))]
-pub(crate) fn follow_core<S: Side, T: Steps>(
+pub(crate) fn follow_core<S: Side, T: KeptSteps>(
     context: Context,
     trace: &T,
     marks: &[bool],

@@ -3,7 +3,7 @@
 ghost use Rattle.std.specs.Prelude.{◌≡◌, ℕ, ◌<◌, Some, length, IfSome, IsTrue};
 ghost use Rattle.qrp.specs.Inferences.{Inference, IsAt, IsOnlyAt};
 
-use qrp::Steps;
+use qrp::KeptSteps;
 use std::alloc::{AllocError, Global};
 
 /// The positions of antecedents, as the pass from the goal down finds them. The pass forwards takes
@@ -20,7 +20,7 @@ pub(crate) struct Hints {
 
 /// Whether the step at a position has this number, if there is one.
 #[inline(always)]
-fn is_at<T: Steps>(trace: &T, position: usize, number: u64) -> bool
+fn is_at<T: KeptSteps>(trace: &T, position: usize, number: u64) -> bool
     ensures found { IsTrue result → (step : Inference) × IsAt (T.steps trace.now) position step
         × (step.number ≡ number) }
     ensures only { IsTrue result → IsOnlyAt (T.steps trace.now) position number }
@@ -31,7 +31,7 @@ fn is_at<T: Steps>(trace: &T, position: usize, number: u64) -> bool
 impl Hints {
     /// No positions. They are kept where the last of the steps has another number than it would have
     /// if the numbers went up one by one.
-    pub(crate) fn new<T: Steps>(alloc: Global, trace: &T) -> Hints {
+    pub(crate) fn new<T: KeptSteps>(alloc: Global, trace: &T) -> Hints {
         let count = trace.len();
         let keeps = count > 1
             && count < u32::MAX as usize
@@ -46,7 +46,7 @@ impl Hints {
     /// The position of the step with a number, if positions are kept and it is one of two: the one
     /// right before a position, or the one before the antecedent that was found last.
     #[inline(always)]
-    fn guess<T: Steps>(&mut self, trace: &T, position: usize, number: u64) -> Option<usize>
+    fn guess<T: KeptSteps>(&mut self, trace: &T, position: usize, number: u64) -> Option<usize>
         ensures found { IfSome result (λ i.
             (step : Inference) × IsAt (T.steps trace.now) i step × (step.number ≡ number)) }
         ensures only { IfSome result (λ i. IsOnlyAt (T.steps trace.now) i number) }
@@ -69,7 +69,7 @@ impl Hints {
     /// The position of the step with a number, an antecedent of the step at a position. If a look-up
     /// takes memory, it is guessed first.
     #[inline(always)]
-    pub(crate) fn find<T: Steps>(
+    pub(crate) fn find<T: KeptSteps>(
         &mut self,
         trace: &T,
         position: usize,

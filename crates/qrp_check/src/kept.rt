@@ -5,7 +5,7 @@ ghost use Rattle.qrp.specs.Inferences.{Inference};
 ghost use Rattle.qrp_check.specs.Kept.{AreKept, HasMembersAt, IsKeptAt};
 
 use qbf_core::{GrowingLists, Lit};
-use qrp::Steps;
+use qrp::KeptSteps;
 use qrp_rules::{SeenLits, push_distinct};
 use std::alloc::{AllocError, Global};
 
@@ -48,7 +48,7 @@ impl Kept {
     /// The literals of the step at a position: each once if the step is kept, and else as they are
     /// written.
     #[inline(always)]
-    pub(crate) fn lits<'a, T: Steps>(&'a self, trace: &'a T, position: usize) -> &'a [Lit]
+    pub(crate) fn lits<'a, T: KeptSteps>(&'a self, trace: &'a T, position: usize) -> &'a [Lit]
         requires position { position < length (T.steps trace.now) }
         requires kept { AreKept (T.steps trace.now) self.now }
         ensures { HasMembersAt (T.steps trace.now) position result.now }

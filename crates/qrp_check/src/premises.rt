@@ -9,7 +9,7 @@ ghost use Rattle.qrp_check.specs.Premises.{ArePremises, IsEarlier};
 use crate::hints::Hints;
 use crate::kept::Kept;
 use qbf_core::Lit;
-use qrp::Steps;
+use qrp::{Antecedents, KeptSteps};
 
 /// The literals of the antecedents of a step: as they are written, or each once.
 #[derive(Clone, Copy)]
@@ -24,7 +24,7 @@ pub(crate) enum Premises<'a> {
 
 /// Where the step with a number is, if it is before a position. The hint is tried first.
 #[inline(always)]
-fn find_earlier<T: Steps>(
+fn find_earlier<T: KeptSteps>(
     trace: &T,
     position: usize,
     number: u64,
@@ -46,7 +46,7 @@ fn find_earlier<T: Steps>(
 /// The literals of the antecedents of the step at a position, or `None` if one of them is not the
 /// number of an earlier step.
 #[inline(always)]
-pub(crate) fn find_premises<'a, T: Steps>(
+pub(crate) fn find_premises<'a, T: KeptSteps>(
     trace: &'a T,
     kept: &'a Kept,
     position: usize,
@@ -57,18 +57,17 @@ pub(crate) fn find_premises<'a, T: Steps>(
     ensures { (step : Inference) → IsAt (T.steps trace.now) position step
         → ArePremises (take position (T.steps trace.now)) step.ants result }
 {
-    match trace.ants(position) {
-        [] => Some(Premises::Initial),
-        [number] => {
-            let from = find_earlier(trace, position, *number, hints.pop())?;
+    match trace.antecedents(position) {
+        Antecedents::Empty => Some(Premises::Initial),
+        Antecedents::One(only) => {
+            let from = find_earlier(trace, position, only, hints.pop())?;
             Some(Premises::One(kept.lits(trace, from)))
         }
-        [first, second] => {
+        Antecedents::Two(first, second) => {
             // The positions were found in the other order.
-            let b = find_earlier(trace, position, *second, hints.pop())?;
-            let a = find_earlier(trace, position, *first, hints.pop())?;
+            let b = find_earlier(trace, position, second, hints.pop())?;
+            let a = find_earlier(trace, position, first, hints.pop())?;
             Some(Premises::Two(kept.lits(trace, a), kept.lits(trace, b)))
         }
-        _ => unreachable!(),
     }
 }

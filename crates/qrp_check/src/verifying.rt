@@ -8,13 +8,13 @@ ghost use Rattle.qrp_check.specs.Headline.{Headline};
 ghost use Rattle.qrp_check.specs.Verdict.{IsVerdictUnless, IsFormulaDevice, IsTraceDevice};
 ghost use Rattle.qrp_check.specs.Verdict.{IsFormulaFault, StandsOnLine, WasRead, StopsAfterTrace};
 
-use crate::checking::{check, check_marked, is_sat};
+use crate::checking::{check_kept, check_marked, is_sat};
 use crate::step::Context;
 use crate::verdict::{Fault, Verified};
 use qbf_core::Formula;
 use qbf_text::Source;
 use qdimacs::read_formula;
-use qrp::{Trace, read_trace};
+use qrp::{CompactTrace, read_compact};
 use qrp_rules::Rules;
 use std::alloc::Global;
 
@@ -24,13 +24,18 @@ fn find_proof_of<B: Source>(
     formula: &Formula,
     trace: &mut B,
     rules: Rules,
-) -> Result<(Trace, Verified), Fault>
+) -> Result<(CompactTrace, Verified), Fault>
     ensures checked { IsCheckedOf rules formula.now (call_of B.Source trace.old trace.new)
         (verdict_of result) }
     ensures source { IsOfSource (B.remaining trace.old) (B.remaining trace.new) result }
 {
-    let whole = read_trace(alloc, trace)?;
-    let verified = check(alloc, formula, &whole, whole.sets(), whole.result(), rules)?;
+    let whole = read_compact(alloc, trace)?;
+    let context = Context {
+        alloc,
+        formula,
+        rules,
+    };
+    let verified = check_kept(context, &whole, whole.sets(), whole.result())?;
     Ok((whole, verified))
 }
 
@@ -44,7 +49,7 @@ pub fn find_proof<A: Source, B: Source>(
     formula: &mut A,
     trace: &mut B,
     rules: Rules,
-) -> Result<(Trace, Verified), Fault>
+) -> Result<(CompactTrace, Verified), Fault>
     ensures checked { IsChecked rules (call_of A.Source formula.old formula.new)
         (call_of B.Source trace.old trace.new) (verdict_of result) }
     ensures works { OnOk result ((A.failures formula.new ≡ A.failures formula.old)
@@ -103,7 +108,7 @@ fn find_truth_of<B: Source>(
         IsCheckedOf rules formula.now (call_of B.Source trace.old trace.new) v
         × StopsOnceRead (B.remaining trace.old) (B.remaining trace.new) v) result }
 {
-    let whole = read_trace(alloc, trace)?;
+    let whole = read_compact(alloc, trace)?;
     let context = Context {
         alloc,
         formula,

@@ -24,7 +24,7 @@ use crate::job::Job;
 use qbf_core::Formula;
 use qbf_text::{Sink, SinkFault, Source};
 use qdimacs::{read_formula, write_formula};
-use qrp::{Trace, write_steps_at};
+use qrp::{CompactTrace, write_compact_at};
 use qrp_check::{Fault, Rules, Verified, find_proof, find_truth};
 use qrp_report::{Refusal, put_refusal, put_verdict};
 use std::alloc::Global;
@@ -78,12 +78,12 @@ fn send_verdict<S: Sink>(sink: &mut S, truth: bool) -> Status
 }
 
 /// Sends the canonical text of a trace without the steps outside the core.
-fn send_trimmed<S: Sink>(sink: &mut S, trace: &Trace, verified: &Verified) -> Status
+fn send_trimmed<S: Sink>(sink: &mut S, trace: &CompactTrace, verified: &Verified) -> Status
     requires { AllByRecursion (λ i. i < length trace.now.steps) verified.now.core.items }
     ensures { IsSent S.Sink sink.old sink.new
         (trace_text (trimmed_trace trace.now verified.now.core.items)) 0 3 result }
 {
-    let sent = write_steps_at(trace, &verified.core, sink);
+    let sent = write_compact_at(trace, &verified.core, sink);
     finish_sent(sink, sent, 0)
 }
 
@@ -102,7 +102,7 @@ fn send_checked<O: Sink>(out: &mut O, checked: Result<bool, Fault>) -> Status
 fn send_proof<O: Sink, E: Sink>(
     out: &mut O,
     err: &mut E,
-    proof: Result<(Trace, Verified), Fault>,
+    proof: Result<(CompactTrace, Verified), Fault>,
 ) -> Status
     requires within { IfOk proof (λ r.
         AllByRecursion (λ i. i < length r.0.steps) r.1.core.items) }
@@ -142,7 +142,7 @@ fn find_trimmed<F: Source, T: Source>(
     rules: Rules,
     formula: &mut F,
     trace: &mut T,
-) -> Result<(Trace, Verified), Fault>
+) -> Result<(CompactTrace, Verified), Fault>
     ensures trims { IsTrimmed rules (call_of F.Source formula.old formula.new)
         (call_of T.Source trace.old trace.new) (trimmed_result result) }
     ensures stops { StopsOnceRead (T.remaining trace.old) (T.remaining trace.new)

@@ -10,7 +10,7 @@ returns-clause-leads c = λ t.
     let written = c.in_ok-extend_written.ensures in
     let at = c.if-not-has_zero.ensures in (
       at.within refl,
-      rw (written.extended put, c.begin.ensures) (list_ends c.args.values.now c.args.hand.from c.args.hand.zero b.index c.args.number
+      rw (written.extended put, c.none-lists.ensures) (list_ends c.args.values.now c.args.hand.from c.args.hand.zero b.index c.args.number
           b.lits.unfinished (at.order refl) (at.within refl) (written.written put) (at.zero refl)),
     )
 
@@ -21,5 +21,5 @@ returns-clause-sound c = λ t.
       c.requires.sound.0,
       rw (written.extended put) (more_literals c.args.lists.now.lits.unfinished
           (slice_range c.args.values.now c.args.hand.from c.args.hand.zero) c.requires.sound.1 (written.written put)),
-      rw c.begin.ensures (record { numbers = tt; fit = tt; few = omega arith }),
+      rw c.none-lists.ensures (record { numbers = tt; fit = tt; few = omega arith }),
     )

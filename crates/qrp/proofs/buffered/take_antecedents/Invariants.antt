@@ -1,13 +1,17 @@
-use Rattle.qrp.proofs.Cited.{◌-◌, ◌≤◌, length, state_at, IsSound, Stays}
+use Rattle.qrp.proofs.Cited.{◌-◌, ◌≤◌, length, state_at}
 use Rattle.qbf_text.specs.Numbers.{LeadsOver}
+use Rattle.qrp.specs.Antecedents.{listed}
+use Rattle.qrp.specs.Reading as reading
 use Rattle.qrp.specs.Reading.{row}
+use Rattle.qrp.specs.States.{AreAntecedents}
 use Rattle.qrp.specs.declared.states.State.TheVariants.{InAnts}
 use Rattle.qrp.proofs.buffered.take_antecedents.Given as goal
 
 abbrev pub invariant-antecedents : goal.invariant-antecedents
 invariant-antecedents l = record {
-  leads : LeadsOver row (state_at l.fn.lists (InAnts l.number)) (state_at l.lists (InAnts l.number)) l.values l.fn.from l.i;
-  sound : Stays l.fn.lists l.lists × IsSound (InAnts l.number) l.lists;
+  leads : LeadsOver row (state_at l.fn.lists (InAnts l.number))
+      (reading.InAnts l.fn.lists.index l.number l.fn.lists.lits.unfinished (listed l.ants)) l.values l.fn.from l.i;
+  are : AreAntecedents (listed l.ants);
   within : l.i ≤ length l.values;
 }
 

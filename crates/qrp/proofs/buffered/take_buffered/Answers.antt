@@ -5,10 +5,9 @@ use Rattle.qrp.proofs.buffered.take_buffered.Goals as goal
 
 pub returns-in-InAnts-Ok-clause-leads : goal.returns-in-InAnts-Ok-clause-leads
 returns-in-InAnts-Ok-clause-leads c =
-    leads_in_turn _ _ _ c.args.values.now c.args.hand.from c.in-InAnts-Ok.to c.take_antecedents.result
-    (leads_further row _ _ _ c.args.values.now c.args.hand.from c.take_number-state.result.1 c.in-InAnts-Ok.to
-    c.take_number-state.ensures.leads (rw (c.in-InAnts-Ok.is-1, c.in-InAnts-Ok.is-0) at c.take_list.ensures.leads))
-    c.take_antecedents.ensures.leads
+    leads_further row _ _ _ c.args.values.now c.args.hand.from c.in-InAnts-Ok.to c.take_antecedents.result
+    (leads_further row _ _ _ c.args.values.now c.args.hand.from c.take_number-state.result.1 c.in-InAnts-Ok.to c.take_number-state.ensures.leads
+    (rw (c.in-InAnts-Ok.is-1, c.in-InAnts-Ok.is-0) at c.take_list.ensures.leads)) c.take_antecedents.ensures.leads
 
 pub returns-in_default-2 : goal.returns-in_default-2
 returns-in_default-2 c =
@@ -19,7 +18,7 @@ returns-in_default-2 c =
           c.take_number-state.ensures.leads c.take_list.ensures.leads;
       within = c.take_list.ensures.within;
       sound = (
-        record { index = b.index ∙ a.index; lits = b.lits ∙ a.lits; ants = b.ants ∙ a.ants },
+        record { index = b.index ∙ a.index; lits = b.lits ∙ a.lits },
         c.take_list.ensures.sound.1,
       );
     }

@@ -9,7 +9,7 @@ literals-preserved c =
     rw (c.in-Ok.ensures.pushed, c.in-Ok-Some.lit-is) (record {
       leads = literal_more _ _ _ _ _ _ _ c.in-Ok-Some.lit read.says i.leads;
       sound = (
-        record { index = i.sound.0.index; lits = i.sound.0.lits; ants = i.sound.0.ants },
+        record { index = i.sound.0.index; lits = i.sound.0.lits },
         (i.sound.1.0, AllByRecursion-push IsLiteral c.literals.lists.lits.unfinished c.in-Ok-Some.lit i.sound.1.1 read.range),
       );
       within = omega (arith, c.literals-test.true);

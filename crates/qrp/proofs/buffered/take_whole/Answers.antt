@@ -10,7 +10,7 @@ returns-clause-leads c =
     let zero = c.args.hand.zero in
     let put : IsTrue c.in_ok-take_all_literals.field-0 = grind (arith, common_steps) in
     let list = c.in_ok-take_all_literals.ensures.leads put in (
-      c.in_ok-to.ensures.within,
-      leads_further row _ _ _ xs from (zero + 1) c.in_ok-to.to (leads_further row _ _ _ xs from (from + 1) (zero + 1)
-          c.in-Some.ensures.leads list.1) c.in_ok-to.ensures.leads,
+      c.take_antecedents-to.ensures.within,
+      leads_further row _ _ _ xs from (zero + 1) c.take_antecedents-to.result (leads_further row _ _ _ xs from (from + 1) (zero + 1)
+          c.in-Some.ensures.leads list.1) c.take_antecedents-to.ensures.leads,
     )

@@ -3,7 +3,7 @@ use Rattle.qrp.specs.WholeTrace.{trace_row}
 use Rattle.qrp.proofs.whole_trace.keep_steps.Goals as goal
 
 pub steps-preserved : goal.steps-preserved
-steps-preserved c =
+steps-preserved g c =
     let step = rw c.in-Some.is at c.in_ok-to.ensures.leads in
     record {
       leads = leads_further trace_row _ _ _ c.args.values.now c.args.start.0 c.steps.from c.in-Some.to c.steps.invariant.leads

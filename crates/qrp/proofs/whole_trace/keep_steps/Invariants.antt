@@ -5,11 +5,11 @@ use Rattle.qrp.specs.declared.states.State.TheVariants.{Between}
 use Rattle.qrp.proofs.whole_trace.keep_steps.Given as goal
 
 abbrev pub invariant-steps : goal.invariant-steps
-invariant-steps l = record {
-  leads : LeadsOver trace_row (trace_at l.fn.parts Between) (trace_at l.parts Between) l.values l.fn.start.0 l.from;
-  flat : IsFlat (kept_of l.parts);
+invariant-steps g l = record {
+  leads : LeadsOver trace_row (trace_at g.A.AntecedentLists.lists l.fn.parts Between) (trace_at g.A.AntecedentLists.lists l.parts Between) l.values l.fn.start.0 l.from;
+  flat : IsFlat (kept_of g.A.AntecedentLists.lists l.parts);
   within : l.from ≤ length l.values;
 }
 
 abbrev pub decreases-steps : goal.decreases-steps
-decreases-steps l = length l.values - l.from
+decreases-steps g l = length l.values - l.from

@@ -6,7 +6,7 @@ pub loop-position-init : goal.loop-position-init
 loop-position-init g c = record {
   follows = λ j less. absurd (omega (arith, less));
   known = c.new-3.ensures c.args.context.formula.now;
-  kept = c.new.ensures (g.T.Steps.steps c.args.trace.now);
+  kept = c.new.ensures (g.T.KeptSteps.steps c.args.trace.now);
 }
 
 pub follow_step-requires-clause-core : goal.follow_step-requires-clause-core

@@ -5,5 +5,5 @@ use Rattle.qrp_check.proofs.hints.is_at.Goals as goal
 
 pub returns-then-position-len-clause-found : goal.returns-then-position-len-clause-found
 returns-then-position-len-clause-found g c = λ same.
-    let s = at_place (g.T.Steps.steps c.args.trace.now) c.args.position (omega (arith, c.if-position-len.true, c.len.ensures.len)) in
+    let s = at_place (g.T.KeptSteps.steps c.args.trace.now) c.args.position (omega (arith, c.if-position-len.true, c.len.ensures.len)) in
     (s.0, s.1, sym (c.number.ensures.value s.0 s.1) ∙ eqb-true _ _ same)

@@ -4,6 +4,6 @@ use Rattle.qrp_check.proofs.marks.find_goal.Given as goal
 
 abbrev pub invariant-loop-i : goal.invariant-loop-i
 invariant-loop-i g l = record {
-  within : l.i ≤ length (g.T.Steps.steps l.trace);
-  later : (j : ℕ) (step : Inference) → IsAt (g.T.Steps.steps l.trace) j step → step.lits ≡ [] → j < l.i;
+  within : l.i ≤ length (g.T.KeptSteps.steps l.trace);
+  later : (j : ℕ) (step : Inference) → IsAt (g.T.KeptSteps.steps l.trace) j step → step.lits ≡ [] → j < l.i;
 }

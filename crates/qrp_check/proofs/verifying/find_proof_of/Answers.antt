@@ -1,11 +1,22 @@
 use Rattle.std.proofs.lemmas.Result.{err_from_is_err_and}
 use Rattle.qrp_check.specs.Checked.{call_of}
+use Rattle.qrp_check.proofs.MarkedTruth.{trace_read}
 use Rattle.qrp_check.proofs.VerdictsOfBytes.{refused_of}
 use Rattle.qrp_check.proofs.verifying.find_proof_of.Goals as goal
 
 pub returns-in_err-verified-clause-checked : goal.returns-in_err-verified-clause-checked
 returns-in_err-verified-clause-checked g c =
     let p = err_from_is_err_and c.from_residual-in_err-verified.result c.from_residual-in_err-verified.ensures.1 in
-    refused_of c.args.rules (call_of g.B.Source c.args.trace.now c.read_trace.new.source) c.args.formula.now c.in_ok-whole.whole
-    c.from_residual-in_err-verified.result c.in_err-verified.field-0.0 (cc (p.1, p.2)) c.in_ok-whole.ensures.exact
-    c.in_ok-whole.ensures.devices.works (rw (c.sets.ensures, c.result.ensures.value) at c.in_err-verified.ensures.refused)
+    refused_of c.args.rules (call_of g.B.Source c.args.trace.now c.read_compact.new.source) c.args.formula.now c.in_ok-whole.whole
+    c.from_residual-in_err-verified.result c.in_err-verified.field-0.0 (cc (p.1, p.2)) c.in_ok-whole.ensures.exact c.in_ok-whole.ensures.devices.works
+    (rw (c.sets.ensures, c.result.ensures.value) at c.in_err-verified.ensures.refused)
+
+pub returns-in_err-verified-clause-source : goal.returns-in_err-verified-clause-source
+returns-in_err-verified-clause-source g c =
+    let p = err_from_is_err_and c.from_residual-in_err-verified.result c.from_residual-in_err-verified.ensures.1 in
+    rw p.1 (record {
+      reads = tt;
+      within = tt;
+      stops = λ is. trace_read c.in_ok-whole.whole (g.B.Source.remaining c.args.trace.now)
+          (g.B.Source.remaining c.read_compact.new.source) c.in_ok-whole.ensures.stops;
+    })

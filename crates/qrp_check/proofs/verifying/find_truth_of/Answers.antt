@@ -9,21 +9,21 @@ use Rattle.qrp_check.proofs.verifying.find_truth_of.Goals as goal
 pub returns-in_err-whole : goal.returns-in_err-whole
 returns-in_err-whole g c =
     let p = err_from_is_err_and c.from_residual.result c.from_residual.ensures.1 in
-    let checked : IsCheckedOf c.args.rules c.args.formula.now (call_of g.B.Source c.args.trace.now c.read_trace.new.source)
+    let checked : IsCheckedOf c.args.rules c.args.formula.now (call_of g.B.Source c.args.trace.now c.read_compact.new.source)
     (Err (fault.Trace c.in_err-whole.field-0.0.0 c.in_err-whole.field-0.0.1)) = search rules in
     (Err p.0, (rw p.2 checked, rw p.2 (λ is. absurd is)), p.1)
 
 pub returns-in_err-marks : goal.returns-in_err-marks
 returns-in_err-marks g c =
     let p = err_from_is_err_and c.from_residual-in_err-marks.result c.from_residual-in_err-marks.ensures.1 in
-    let checked = refused_of c.args.rules (call_of g.B.Source c.args.trace.now c.read_trace.new.source) c.args.formula.now c.in_ok-whole.whole
+    let checked = refused_of c.args.rules (call_of g.B.Source c.args.trace.now c.read_compact.new.source) c.args.formula.now c.in_ok-whole.whole
     (Err p.0) c.in_err-marks.field-0.0 (cc p.2) c.in_ok-whole.ensures.exact c.in_ok-whole.ensures.devices.works
     (rw (c.sets.ensures, c.result.ensures.value) at c.in_err-marks.ensures.refused) in (
       Err p.0,
       (
         checked,
         λ is. trace_read c.in_ok-whole.whole (g.B.Source.remaining c.args.trace.now)
-            (g.B.Source.remaining c.read_trace.new.source) c.in_ok-whole.ensures.stops,
+            (g.B.Source.remaining c.read_compact.new.source) c.in_ok-whole.ensures.stops,
       ),
       p.1,
     )
@@ -31,7 +31,7 @@ returns-in_err-marks g c =
 pub returns : goal.returns
 returns g c =
     let is_result = c.result.ensures.value in
-    let w = verified_of c.args.rules (call_of g.B.Source c.args.trace.now c.read_trace.new.source) c.args.formula.now c.in_ok-whole.whole
+    let w = verified_of c.args.rules (call_of g.B.Source c.args.trace.now c.read_compact.new.source) c.args.formula.now c.in_ok-whole.whole
     c.in_ok-marks.marks c.in_ok-whole.ensures.exact c.in_ok-whole.ensures.devices.works
     (rw (c.sets.ensures, is_result) at c.in_ok-marks.ensures.proves) c.in_ok-marks.ensures.core
     (rw is_result at c.in_ok-marks.ensures.truth) in
@@ -40,7 +40,7 @@ returns g c =
       (
         w.1,
         λ is. trace_read c.in_ok-whole.whole (g.B.Source.remaining c.args.trace.now)
-            (g.B.Source.remaining c.read_trace.new.source) c.in_ok-whole.ensures.stops,
+            (g.B.Source.remaining c.read_compact.new.source) c.in_ok-whole.ensures.stops,
       ),
       w.2,
     )

@@ -3,6 +3,6 @@ use Rattle.qrp.proofs.writing.StepLinesPut.put.Given as goal
 
 abbrev pub invariant-loop-position : goal.invariant-loop-position
 invariant-loop-position g l = record {
-  sent : IsSent g.K.Sink.written g.K.Sink.failures l.fn.sink l.sink (steps_text l.self.0.now.steps)
-      (steps_text (drop l.position l.self.0.now.steps));
+  sent : IsSent g.K.Sink.written g.K.Sink.failures l.fn.sink l.sink (steps_text (g.T.KeptSteps.steps l.self.0.now))
+      (steps_text (drop l.position (g.T.KeptSteps.steps l.self.0.now)));
 }

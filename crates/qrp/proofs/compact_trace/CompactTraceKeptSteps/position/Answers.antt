@@ -1,0 +1,6 @@
+use Rattle.qrp.proofs.Positions.{step_only}
+use Rattle.qrp.proofs.compact_trace.CompactTraceKeptSteps.position.Goals as goal
+
+pub returns-clause-only : goal.returns-clause-only
+returns-clause-only c = rw (← c.self.view_is) (step_only _ c.self.inside.parts.lists.index
+    c.args.number c.position.result c.self.invariant.same c.position.ensures.only)

@@ -1,0 +1,109 @@
+//! Traces that are read as a whole to be checked, and take less memory.
+
+ghost use Rattle.std.specs.Prelude.{◌≡◌};
+ghost use Rattle.qrp.specs.Derivations.{IsWellFormed};
+ghost use Rattle.qrp.specs.Returns.{ReadsTrace};
+
+use crate::antecedent_lists::LaterAntecedents;
+use crate::antecedents::Antecedents;
+use crate::fault::Fault;
+use crate::item::{Header, Outcome, QuantSet};
+use crate::kept_steps::KeptSteps;
+use crate::parts::Parts;
+use crate::whole_trace::read_parts;
+use qbf_core::Lit;
+use qbf_text::Source;
+use std::alloc::Global;
+use std::marker::Model;
+
+/// A trace that was read as a whole. Its antecedents take four bytes each as long as all of them
+/// fit, so it gives them and cannot lend them.
+///
+/// Contracts see a `Derivation`, which is well formed.
+#[derive(Drop)]
+pub struct CompactTrace {
+    parts: Parts<LaterAntecedents>,
+    result: Outcome,
+}
+
+impl Model for CompactTrace {
+    ghost use Rattle.qrp.specs.Derivations.{Derivation};
+    ghost use Rattle.qrp.specs.Flat.{kept_of, trace_of, IsFlat};
+
+    ghost Value = { Derivation };
+
+    ghost view = { λ t.
+        record (trace_of (kept_of (λ lists. lists) t.parts)) { result = t.result } };
+
+    ghost invariant = { λ t. IsFlat (kept_of (λ lists. lists) t.parts) };
+}
+
+impl CompactTrace {
+    /// Its header, as written.
+    pub fn header(&self) -> Header
+        ensures value { result ≡ self.now.header }
+        ensures sound { IsWellFormed self.now }
+    {
+        self.parts.header
+    }
+
+    /// Its quantifier sets, as written.
+    pub fn sets(&self) -> &[QuantSet]
+        ensures { result.now ≡ self.now.sets }
+    {
+        &self.parts.sets
+    }
+
+    /// What it claims of its formula.
+    pub fn result(&self) -> Outcome
+        ensures value { result ≡ self.now.result }
+        ensures sound { IsWellFormed self.now }
+    {
+        self.result
+    }
+}
+
+impl KeptSteps for CompactTrace {
+    ghost steps = { λ t. t.steps };
+
+    #[inline(always)]
+    fn len(&self) -> usize {
+        self.parts.lists.index.len()
+    }
+
+    #[inline(always)]
+    #[tactic(auto, using(crate::proofs::Positions::only_at))]
+    fn number(&self, i: usize) -> u64 {
+        self.parts.lists.index.number(i)
+    }
+
+    #[inline(always)]
+    #[tactic(auto, using(crate::proofs::FlatSteps::numbered_at))]
+    fn lits(&self, i: usize) -> &[Lit] {
+        self.parts.lists.lits.get(i)
+    }
+
+    #[inline(always)]
+    #[tactic(auto, using(crate::proofs::FlatSteps::numbered_at, crate::proofs::FlatSteps::few_at))]
+    fn antecedents(&self, i: usize) -> Antecedents {
+        self.parts.ants.get(i)
+    }
+
+    #[inline(always)]
+    #[tactic(auto, using(crate::proofs::Positions::step_found))]
+    fn position(&self, number: u64) -> Option<usize> {
+        self.parts.lists.index.position(number)
+    }
+}
+
+/// Reads a trace as `read_trace` does.
+///
+/// # Errors
+/// As of `read_trace`.
+pub fn read_compact<S: Source>(alloc: Global, source: &mut S) -> Result<CompactTrace, Fault>
+    ensures { ReadsTrace (S.remaining source.old) (S.remaining source.new)
+        (S.failures source.old) (S.failures source.new) result }
+{
+    let (parts, result) = read_parts(alloc, source)?;
+    Ok(CompactTrace { parts, result })
+}
