@@ -41,6 +41,12 @@ module _ {P A F : Type 0} (row : P → Token → Row P A F) where
         (subst (λ k. LeadsBy row mid next values k m.count) l.counted m.leads);
   }
 
+  -- unless an allocation fails
+  pub leads_in_turn : {E : Type 0} (first mid next : P) (values : List ℤ) (from i : ℕ) (result : Result ℕ E) → LeadsOver row first mid values from i
+      → IfOk result (λ to. LeadsOver row mid next values i to) → IfOk result (λ to. LeadsOver row first next values from to)
+  leads_in_turn first mid next values from i (Ok to) l m = leads_further first mid next values from i to l m
+  leads_in_turn first mid next values from i (Err e) l m = tt
+
   pub takes_further : (first mid next : P) (values : List ℤ) (from i to : ℕ) (answer : Option A) → LeadsOver row first mid values from i
       → TakesOver row mid next values i to answer → TakesOver row first next values from to answer
   takes_further first mid next values from i to None l t = leads_further first mid next values from i to l t

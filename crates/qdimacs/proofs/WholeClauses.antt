@@ -40,6 +40,16 @@ module _ (h : Heading) (ps : Pairs) (cs : Clauses) (full : IsFull h.max_var ps) 
       rw to (leads_further row (InClause h ps cs ls) (InClause h ps cs (ls ++ l ∷ [])) (InClause h ps cs (ls ++ l ∷ map literal_of xs))
       values i (i + 1) (i + 1 + length xs) one (rw (append_assoc ls (l ∷ []) (map literal_of xs)) at more))
 
+  -- literals between two places lead on
+  pub literals_lead : (values : List ℤ) (from to : ℕ) (ls : List Literal) → from ≤ to → to ≤ length values
+      → AllByRecursion (IsWritten h.max_var) (slice_range values from to)
+      → LeadsOver row (InClause h ps cs ls) (InClause h ps cs (ls ++ map literal_of (slice_range values from to))) values from to
+  literals_lead values from to ls order within all =
+      let len : length (slice_range values from to) ≡ to - from = grind (arith, common_steps) in
+      let end : from + length (slice_range values from to) ≡ to = omega (arith, len, order) in
+      rw end at (list_leads (slice_range values from to) values from ls all
+      (λ k less. get_or-take (to - from) (drop from values) k (pos 0) (omega (arith, less, len)) ∙ get_or-drop from values k (pos 0)))
+
   -- the first literal of a clause
   begins : has_more h cs ≡ true → (negative : Bool) (m : ℕ) → 1 ≤ m → m ≤ h.max_var
       → row (Between h ps cs) (Number negative m) ≡ clause_row h ps cs [] (Ok (Some (record { var = m; negative = negative })))

@@ -160,6 +160,35 @@ fn take_at(here: State, parts: &mut Parts, token: Token) -> Next
 /// Where the next token stands, and how many numbers stand before it.
 type Reached = (State, Result<usize, AllocError>);
 
+/// Puts the numbers between two places at the end of an unfinished clause, if all of them are
+/// literals and each variable that the header allows is bound. Returns the place of the next number.
+///
+/// # Errors
+/// Out of memory. Nothing is changed then.
+#[inline(always)]
+fn put_literals(
+    parts: &mut Parts,
+    values: &[i32],
+    from: usize,
+    end: usize,
+) -> Result<usize, AllocError>
+    requires here { (from ≤ length values.now) × IsSound at.InClause parts.old }
+    ensures leads { IfOk result (λ to. LeadsOver row (state_at parts.old at.InClause)
+        (state_at parts.new at.InClause) values.now from to) }
+    ensures within { IfOk result (λ to. to ≤ length values.now) }
+    ensures sound { IsSound at.InClause parts.new }
+{
+    let to = end.min(values.len());
+    if !parts.full || from >= to {
+        return Ok(from);
+    }
+    let literals = &values[from..to];
+    if !parts.clauses.extend_written(literals, parts.max_var)? {
+        return Ok(from);
+    }
+    Ok(to)
+}
+
 /// Takes numbers of a clause from the place `from` on, as far as they are not a fault, and its
 /// zero.
 ///
@@ -167,7 +196,7 @@ type Reached = (State, Result<usize, AllocError>);
 /// Out of memory.
 #[inline(always)]
 #[tactic(auto, using(crate::proofs::FormulaParts::numbers_lead_on))]
-fn take_clause(parts: &mut Parts, values: &[i32], from: usize) -> Reached
+fn take_literals(parts: &mut Parts, values: &[i32], from: usize) -> Reached
     requires here { (from ≤ length values.now) × IsSound at.InClause parts.old }
     ensures leads { IfOk result.1 (λ to. LeadsOver row (state_at parts.old at.InClause)
         (state_at parts.new result.0) values.now from to) }
@@ -186,13 +215,32 @@ fn take_clause(parts: &mut Parts, values: &[i32], from: usize) -> Reached
     (State::InClause, Ok(i))
 }
 
+/// Takes numbers of a clause from the place `from` on, as far as they are not a fault, and its
+/// zero, which seems to stand at the place `zero`.
+///
+/// # Errors
+/// Out of memory.
+#[inline(always)]
+fn take_clause(parts: &mut Parts, values: &[i32], from: usize, zero: usize) -> Reached
+    requires here { (from ≤ length values.now) × IsSound at.InClause parts.old }
+    ensures leads { IfOk result.1 (λ to. LeadsOver row (state_at parts.old at.InClause)
+        (state_at parts.new result.0) values.now from to) }
+    ensures within { IfOk result.1 (λ to. to ≤ length values.now) }
+    ensures sound { IsSound result.0 parts.new }
+{
+    match put_literals(parts, values, from, zero) {
+        Ok(to) => take_literals(parts, values, to),
+        Err(refused) => (State::InClause, Err(refused)),
+    }
+}
+
 /// Takes the rest of an unfinished clause, if there is one.
 ///
 /// # Errors
 /// Out of memory.
 #[inline(always)]
 #[tactic(auto, using(crate::proofs::FormulaParts::numbers_lead_on))]
-fn take_unfinished(here: State, parts: &mut Parts, values: &[i32]) -> Reached
+fn take_unfinished(here: State, parts: &mut Parts, values: &[i32], zeros: Zeros) -> Reached
     requires sound { IsSound here parts.old }
     ensures leads { IfOk result.1 (λ to. LeadsOver row (state_at parts.old here)
         (state_at parts.new result.0) values.now 0 to) }
@@ -200,7 +248,7 @@ fn take_unfinished(here: State, parts: &mut Parts, values: &[i32]) -> Reached
     ensures sound { IsSound result.0 parts.new }
 {
     match here {
-        State::InClause => take_clause(parts, values, 0),
+        State::InClause => take_clause(parts, values, 0, zeros.place(0)),
         _ => (here, Ok(0)),
     }
 }
@@ -228,7 +276,7 @@ fn take_rest(here: State, parts: &mut Parts, values: &[i32], from: usize) -> Rea
         }
         i += 1;
         if let State::InClause = state {
-            let (next, reached) = take_clause(parts, values, i);
+            let (next, reached) = take_clause(parts, values, i, values.len());
             state = next;
             match reached {
                 Ok(to) => i = to,
@@ -339,7 +387,7 @@ fn take_numbers(here: State, parts: &mut Parts, values: &[i32], zeros: Zeros) ->
     ensures within { IfOk result.1 (λ to. to ≤ length values.now) }
     ensures sound { IsSound result.0 parts.new }
 {
-    match take_unfinished(here, parts, values) {
+    match take_unfinished(here, parts, values, zeros) {
         (State::Between, Ok(from)) => {
             let zero = usize::from(from > 0);
             match take_clauses(parts, values, zeros, (from, zero)) {

@@ -1,7 +1,7 @@
 use Rattle.qdimacs.proofs.Cited.{◌-◌, ◌≤◌, length, state_at, IsSound, row}
 use Rattle.qbf_text.specs.Numbers.{LeadsOver}
 use Rattle.qdimacs.specs.declared.grammar.State.TheVariants.{InClause}
-use Rattle.qdimacs.proofs.grammar.take_clause.Given as goal
+use Rattle.qdimacs.proofs.grammar.take_literals.Given as goal
 
 abbrev pub invariant-literals : goal.invariant-literals
 invariant-literals l = record {
