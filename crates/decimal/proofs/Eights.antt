@@ -125,12 +125,3 @@ module _ (bytes : List ℕ) (count len tail : ℕ) (within : count ≤ length by
       let same : digits_value_after 10 (digits_value 10 (take count bytes)) more ≡ digits_value_after 10 v more =
       ap (λ n. digits_value_after 10 n more) (sym e) in
       omega (arith, value, after, same, more_value)
-
-  -- they are below a power of ten, so that the value has 64 bits
-  pub joined_small : (v factor most : ℕ) → factor ≡ 10 ^ len → (most + 1) * 10 ^ len ≤ 2 ^ 64 → v ≤ most → v * factor + tail < 2 ^ 64
-  joined_small v factor most is room few =
-      let below : tail < factor =
-      omega (arith, more_value, digits_value-lt 10 (take len (drop count bytes)) more_digits, ap (λ n. 10 ^ n) long, is) in
-      let more : (v + 1) * factor ≤ (most + 1) * factor = mul-le-mul_right factor (omega (arith, few)) in
-      let same : (most + 1) * 10 ^ len ≡ (most + 1) * factor = ap (λ n. (most + 1) * n) (sym is) in
-      omega (arith, below, more, same, room, add-mul v 1 factor)

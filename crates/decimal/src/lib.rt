@@ -14,6 +14,7 @@
 mod four;
 mod lanes;
 mod number;
+mod powers;
 mod word;
 mod writing;
 

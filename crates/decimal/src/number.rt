@@ -6,6 +6,7 @@ ghost use Rattle.std.specs.Int.{w64, to_le_bytes};
 ghost use Rattle.std.specs.Str.Parse.{digits_value, AllDigits};
 ghost use Rattle.decimal.specs.Digits.{AreDigits, AreLeadingDigits, IsWithZeros};
 
+use crate::powers::power_of_ten;
 use crate::word::{number_of_len, short_number};
 
 /// At most this many digits are read: more than these, but for leading zeros, do not fit.
@@ -52,37 +53,6 @@ fn leading_eights(bytes: &[u8]) -> (u64, usize)
     }
 }
 
-/// What so many digits more make of a value.
-#[derive(Clone, Copy)]
-struct Shift {
-    /// The value is multiplied by this.
-    factor: u64,
-    /// The greatest value that has 64 bits then, whatever the digits are.
-    most: u64,
-}
-
-/// What one to seven digits more make of a value.
-#[inline(always)]
-fn shift_by(len: usize) -> Option<Shift>
-    ensures factor { IfSome result (λ s. s.factor ≡ 10 ^ len) }
-    ensures most { IfSome result (λ s. (s.most + 1) * 10 ^ len ≤ 2 ^ 64) }
-{
-    let factor = match len {
-        1 => 10,
-        2 => 100,
-        3 => 1_000,
-        4 => 10_000,
-        5 => 100_000,
-        6 => 1_000_000,
-        7 => 10_000_000,
-        _ => return None,
-    };
-    Some(Shift {
-        factor,
-        most: u64::MAX / factor - 1,
-    })
-}
-
 /// The value of the first digits and of up to seven that follow them, if these end within eight
 /// bytes, and how many all of them are. Of the first, the value and the number are given.
 #[inline(always)]
@@ -95,11 +65,12 @@ fn with_tail(bytes: &[u8], first: (u64, usize)) -> Option<(u64, usize)>
 {
     let (value, count) = first;
     let (tail, len) = by_word(&bytes[count..], 0)?;
-    let shift = shift_by(len)?;
-    if value > shift.most || count + len > MOST {
+    if len > 7 || count + len > MOST {
         return None;
     }
-    Some((value * shift.factor + tail, count + len))
+    let shifted = value.checked_mul(power_of_ten(len))?;
+    let all = shifted.checked_add(tail)?;
+    Some((all, count + len))
 }
 
 /// The value of the first digits, eight at a time and with up to seven more, and how many they are.

@@ -1,14 +1,9 @@
 use Rattle.std.proofs.Common.{arith}
-use Rattle.decimal.proofs.Eights.{joined_within, joined_digits, joined_value, joined_small}
+use Rattle.decimal.proofs.Eights.{joined_within, joined_digits, joined_value}
 use Rattle.decimal.proofs.number.with_tail.Goals as goal
 
-pub overflow_add-result : goal.overflow_add-result
-overflow_add-result c =
-    let small =
-    joined_small c.args.bytes.now c.args.first.1 c.in_ok-tail.len c.in_ok-tail.tail c.requires.within c.in_ok-tail.ensures c.args.first.0
-    c.in_ok-shift.shift.factor c.in_ok-shift.shift.most c.in_ok-shift.ensures.factor c.in_ok-shift.ensures.most
-    (omega (arith, c.if-value-shift.false)) in
-    omega (arith, small)
+pub power_of_ten-requires : goal.power_of_ten-requires
+power_of_ten-requires c = omega (arith, c.if-len-gt7.false)
 
 pub returns : goal.returns
 returns c =
@@ -17,9 +12,11 @@ returns c =
     let len = c.in_ok-tail.len in
     let tail = c.in_ok-tail.tail in
     let read = c.in_ok-tail.ensures in
-    let within = c.requires.within in (
+    let within = c.requires.within in
+    let shifted = c.in_ok-shifted.ensures.1 in
+    let all = c.in_ok-all.ensures.1 in (
       omega (arith, c.if-count-len-gt-MOST.false),
       joined_within bytes count len tail within read,
       joined_digits bytes count len tail within read c.requires.digits,
-      joined_value bytes count len tail within read c.args.first.0 c.in_ok-shift.shift.factor c.in_ok-shift.ensures.factor c.requires.value,
+      omega (arith, all, shifted, joined_value bytes count len tail within read c.args.first.0 c.power_of_ten.result c.power_of_ten.ensures c.requires.value),
     )
