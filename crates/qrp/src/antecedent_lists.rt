@@ -104,15 +104,6 @@ impl Model for AntecedentWords {
 }
 
 impl AntecedentWords {
-    /// Whether there are those of no step.
-    #[inline(always)]
-    pub fn is_empty(&self) -> bool
-        ensures empty { IsTrue result → length self.now ≡ 0 }
-        ensures some { result ≡ false → 0 < length self.now }
-    {
-        self.words.is_empty() && self.wide.whole_len() == 0
-    }
-
     /// The antecedents of the step at position `i`, which are at most two.
     #[inline(always)]
     pub fn get(&self, i: usize) -> Antecedents
@@ -157,69 +148,6 @@ impl AntecedentLists for AntecedentWords {
             self.words.pop();
         } else {
             self.wide.pop();
-        }
-    }
-}
-
-/// Antecedents of steps of which the first have none, as the initial steps that a solver writes
-/// first: these are only counted. Contracts see the list of each step.
-#[derive(Drop)]
-pub struct LaterAntecedents {
-    /// How many steps at the beginning have none.
-    initial: usize,
-    later: AntecedentWords,
-}
-
-impl Model for LaterAntecedents {
-    ghost use Rattle.std.specs.Prelude.{ℕ, List, [], ◌++◌, replicate};
-
-    ghost Value = { List (List ℕ) };
-
-    ghost view = { λ a. replicate a.initial [] ++ a.later };
-}
-
-impl LaterAntecedents {
-    /// The antecedents of the step at position `i`, which are at most two.
-    #[inline(always)]
-    #[tactic(auto, using(crate::proofs::AntecedentLists::first_at, crate::proofs::AntecedentLists::later_at))]
-    pub fn get(&self, i: usize) -> Antecedents
-        requires place { i < length self.now }
-        requires few { (ants : List ℕ) → slice_get self.now i ≡ Some ants → length ants ≤ 2 }
-        ensures { slice_get self.now i ≡ Some (listed result) }
-    {
-        if i < self.initial {
-            return Antecedents::Empty;
-        }
-        self.later.get(i - self.initial)
-    }
-}
-
-impl AntecedentLists for LaterAntecedents {
-    ghost lists = { λ a. a };
-
-    fn of_no_steps(alloc: Global) -> LaterAntecedents {
-        LaterAntecedents {
-            initial: 0,
-            later: AntecedentWords::of_no_steps(alloc),
-        }
-    }
-
-    #[inline(always)]
-    #[tactic(auto, using(crate::proofs::AntecedentLists::one_more_first))]
-    fn add(&mut self, ants: AntecedentPair) -> Result<(), AllocError> {
-        if ants.is_none() && self.later.is_empty() && self.initial < usize::MAX {
-            self.initial += 1;
-            return Ok(());
-        }
-        self.later.add(ants)
-    }
-
-    #[tactic(auto, using(crate::proofs::AntecedentLists::last_of_later, crate::proofs::AntecedentLists::one_less_first))]
-    fn remove_last(&mut self) {
-        if self.later.is_empty() {
-            self.initial = self.initial.saturating_sub(1);
-        } else {
-            self.later.remove_last();
         }
     }
 }

@@ -118,14 +118,6 @@ impl AntecedentPair {
         Antecedents::of_list(numbers).pair()
     }
 
-    /// Whether there are none.
-    #[inline(always)]
-    pub fn is_none(self) -> bool
-        ensures { IsTrue result → list_of_pair self ≡ [] }
-    {
-        self.first == 0 && self.second == 0
-    }
-
     /// The antecedents that these are.
     #[inline(always)]
     pub fn antecedents(self) -> Antecedents

@@ -4,7 +4,7 @@ ghost use Rattle.std.specs.Prelude.{◌≡◌};
 ghost use Rattle.qrp.specs.Derivations.{IsWellFormed};
 ghost use Rattle.qrp.specs.Returns.{ReadsTrace};
 
-use crate::antecedent_lists::LaterAntecedents;
+use crate::antecedent_lists::AntecedentWords;
 use crate::antecedents::Antecedents;
 use crate::fault::Fault;
 use crate::item::{Header, Outcome, QuantSet};
@@ -22,7 +22,7 @@ use std::marker::Model;
 /// Contracts see a `Derivation`, which is well formed.
 #[derive(Drop)]
 pub struct CompactTrace {
-    parts: Parts<LaterAntecedents>,
+    parts: Parts<AntecedentWords>,
     result: Outcome,
 }
 
