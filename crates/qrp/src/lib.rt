@@ -16,7 +16,6 @@
 
 mod antecedent_lists;
 mod antecedents;
-mod buffered;
 mod compact_trace;
 mod fault;
 mod item;
@@ -26,6 +25,7 @@ mod laws;
 mod parts;
 mod reader;
 mod states;
+mod step_numbers;
 mod steps;
 mod tokens;
 mod trace;
