@@ -9,7 +9,7 @@ ghost use Rattle.qrp.specs.WholeTrace.{made_of, nothing_read, trace_at, trace_ro
 ghost use Rattle.qrp.specs.WholeTrace.{AreSound, HasResult};
 
 use crate::antecedent_lists::AntecedentLists;
-use crate::fault::{Fault, TraceFault};
+use crate::fault::TraceFault;
 use crate::item::Outcome;
 use crate::parts::{Parts, close};
 use crate::states::{Part, State, take_at};
@@ -274,7 +274,7 @@ impl<A: AntecedentLists> Grammar for TraceGrammar<A> {
 pub fn read_parts<A: AntecedentLists, S: Source>(
     alloc: Global,
     source: &mut S,
-) -> Result<(Parts<A>, Outcome), Fault>
+) -> Result<(Parts<A>, Outcome), (TraceFault, u64)>
     ensures reads { ReadsTrace (S.remaining source.old) (S.remaining source.new)
         (S.failures source.old) (S.failures source.new) (trace_with A.lists result) }
     ensures flat { IfOk result (λ r. IsFlat (kept_of A.lists r.0)) }
