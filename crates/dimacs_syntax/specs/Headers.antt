@@ -9,7 +9,7 @@ use Rattle.dimacs_syntax.specs.declared.header.HeaderForm.{HeaderForm}
 use Rattle.dimacs_syntax.specs.declared.header.HeaderAt.{HeaderAt}
 use Rattle.dimacs_syntax.specs.declared.header.HeaderAt.TheVariants.{P, Format, First, Second}
 use Rattle.dimacs_syntax.specs.declared.header.HeaderMove.{HeaderMove}
-use Rattle.dimacs_syntax.specs.declared.header.HeaderMove.TheVariants.{Goes, Ends}
+use Rattle.dimacs_syntax.specs.declared.header.HeaderMove.TheVariants.{Next, Done}
 use Rattle.dimacs_syntax.specs.Spelling.{number}
 
 -- what a token is that the header does not accept
@@ -61,10 +61,10 @@ header_next next (Err f) = Err f
 
 -- what a token does at its place in a header
 abbrev pub header_move : {F : Type 0} → HeaderForm F → HeaderAt → Token → Result HeaderMove F
-header_move form P t = header_next (λ u. Goes Format) (header_word form.faults word.P t)
-header_move form Format t = header_next (λ u. Goes First) (header_word form.faults form.format t)
-header_move form First t = header_next (λ n. Goes (Second n)) (header_number form t)
-header_move form (Second first) t = header_next (λ n. Ends first n) (header_number form t)
+header_move form P t = header_next (λ u. Next Format) (header_word form.faults word.P t)
+header_move form Format t = header_next (λ u. Next First) (header_word form.faults form.format t)
+header_move form First t = header_next (λ n. Next (Second n)) (header_number form t)
+header_move form (Second first) t = header_next (λ n. Done first n) (header_number form t)
 
 -- the tokens before a place in a header
 abbrev pub header_before : Word → HeaderAt → List Token
@@ -82,5 +82,5 @@ IsUpTo top (Second n) = n ≤ top
 
 -- and so are those after a token
 abbrev pub LeadsUpTo : ℕ → HeaderMove → Type 0
-LeadsUpTo top (Goes next) = IsUpTo top next
-LeadsUpTo top (Ends first second) = (first ≤ top) × (second ≤ top)
+LeadsUpTo top (Next next) = IsUpTo top next
+LeadsUpTo top (Done first second) = (first ≤ top) × (second ≤ top)

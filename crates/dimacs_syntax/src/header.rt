@@ -36,9 +36,9 @@ pub enum HeaderAt {
 #[derive(Clone, Copy)]
 pub enum HeaderMove {
     /// It leads to this place.
-    Goes(HeaderAt),
+    Next(HeaderAt),
     /// It ends the header, which says these two numbers.
-    Ends(u64, u64),
+    Done(u64, u64),
 }
 
 /// What a token is that a header does not accept.
@@ -100,16 +100,16 @@ pub fn header_move<F: Copy>(
     match here {
         HeaderAt::P => {
             header_word(form.faults, Word::P, token)?;
-            Ok(HeaderMove::Goes(HeaderAt::Format))
+            Ok(HeaderMove::Next(HeaderAt::Format))
         }
         HeaderAt::Format => {
             header_word(form.faults, form.format, token)?;
-            Ok(HeaderMove::Goes(HeaderAt::First))
+            Ok(HeaderMove::Next(HeaderAt::First))
         }
         HeaderAt::First => {
             let first = header_number(form, token)?;
-            Ok(HeaderMove::Goes(HeaderAt::Second(first)))
+            Ok(HeaderMove::Next(HeaderAt::Second(first)))
         }
-        HeaderAt::Second(first) => Ok(HeaderMove::Ends(first, header_number(form, token)?)),
+        HeaderAt::Second(first) => Ok(HeaderMove::Done(first, header_number(form, token)?)),
     }
 }

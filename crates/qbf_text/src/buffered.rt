@@ -12,7 +12,7 @@ use decimal::digits;
 
 /// A number, and the separator after it.
 #[derive(Clone, Copy)]
-pub struct Found {
+pub struct SeparatedNumber {
     pub negative: bool,
     pub value: u64,
     /// How many bytes the two take.
@@ -42,10 +42,10 @@ pub fn is_minus_zero(negative: bool, value: u64) -> bool
 
 /// A zero of one digit, and the separator after it.
 #[inline(always)]
-fn zero(ends_line: bool) -> Found
+fn zero(ends_line: bool) -> SeparatedNumber
     ensures { result ≡ record { negative = false; value = 0; len = 2; ends_line = ends_line } }
 {
-    Found {
+    SeparatedNumber {
         negative: false,
         value: 0,
         len: 2,
@@ -55,7 +55,7 @@ fn zero(ends_line: bool) -> Found
 
 /// Finds the number at the front as `number_in_front` does, with up to 20 digits if it has 64 bits.
 #[inline(never)]
-fn signed_number(bytes: &[u8]) -> Option<Found>
+fn signed_number(bytes: &[u8]) -> Option<SeparatedNumber>
     ensures { IfSome result (λ f. BeginsWithNumber bytes.now f.negative f.value f.len f.ends_line) }
 {
     let negative = begins_with_minus(bytes);
@@ -68,7 +68,7 @@ fn signed_number(bytes: &[u8]) -> Option<Found>
     if !is_separator(separator) {
         return None;
     }
-    Some(Found {
+    Some(SeparatedNumber {
         negative,
         value,
         len: end + 1,
@@ -81,7 +81,7 @@ fn signed_number(bytes: &[u8]) -> Option<Found>
 /// Also None for more than 20 digits. The zero that ends a list is the most frequent number, so it
 /// is looked for first.
 #[inline(always)]
-pub fn number_in_front(bytes: &[u8]) -> Option<Found>
+pub fn number_in_front(bytes: &[u8]) -> Option<SeparatedNumber>
     ensures { IfSome result (λ f. BeginsWithNumber bytes.now f.negative f.value f.len f.ends_line) }
 {
     match bytes {
@@ -139,7 +139,7 @@ impl Cursor {
 
     /// What a number that was found at the cursor leads to.
     #[inline(always)]
-    fn pass(self, found: Found) -> Passed
+    fn pass(self, found: SeparatedNumber) -> Passed
         requires { self.at + found.len < 2 ^ 64 }
         ensures token { result.token ≡ Number found.negative found.value }
         ensures next { result.next ≡ cursor_after self found.len found.ends_line }

@@ -74,8 +74,8 @@ form = record { format = word.Cnf; last = Some 2147483647; faults = faults }
 -- in the header
 abbrev pub header_row : Result HeaderMove FormulaFault → Row
 header_row (Err f) = Fails f
-header_row (Ok (moves.Goes next)) = Goes (InHeader next)
-header_row (Ok (moves.Ends max_var count)) = Goes (Between (record { max_var = max_var; count = count }) [] [])
+header_row (Ok (moves.Next next)) = Goes (InHeader next)
+header_row (Ok (moves.Done max_var count)) = Goes (Between (record { max_var = max_var; count = count }) [] [])
 
 -- ---- a set
 

@@ -34,7 +34,7 @@ enum State {
 }
 
 /// The state that a token leads to, or why it is not taken.
-type Next = Result<State, Stop<FormulaFault>>;
+type Transition = Result<State, Stop<FormulaFault>>;
 
 /// What was read of a formula.
 #[derive(Drop)]
@@ -60,14 +60,14 @@ fn surely_full(prefix: &Prefix, max_var: u32) -> bool
 }
 
 /// Takes a token in the header.
-fn take_header(parts: &mut Parts, place: HeaderAt, token: Token) -> Next
+fn take_header(parts: &mut Parts, place: HeaderAt, token: Token) -> Transition
     requires sound { IsSound (at.InHeader place) parts.old }
     ensures row { Moves (row (state_at parts.old (at.InHeader place)) token) parts.new result }
     ensures sound { Leads parts.old parts.new result }
 {
     match header_move(FORM, place, token)? {
-        HeaderMove::Goes(next) => Ok(State::InHeader(next)),
-        HeaderMove::Ends(max_var, count) => {
+        HeaderMove::Next(next) => Ok(State::InHeader(next)),
+        HeaderMove::Done(max_var, count) => {
             parts.max_var = max_var as u32;
             parts.count = count as u32;
             parts.full = surely_full(&parts.prefix, parts.max_var);
@@ -78,7 +78,7 @@ fn take_header(parts: &mut Parts, place: HeaderAt, token: Token) -> Next
 
 /// Takes a token in a set.
 #[inline(always)]
-fn take_member(parts: &mut Parts, quantifier: Quantifier, token: Token) -> Next
+fn take_member(parts: &mut Parts, quantifier: Quantifier, token: Token) -> Transition
     requires sound { IsSound (at.InSet quantifier) parts.old }
     ensures row { Moves (row (state_at parts.old (at.InSet quantifier)) token) parts.new result }
     ensures sound { Leads parts.old parts.new result }
@@ -101,7 +101,7 @@ fn take_member(parts: &mut Parts, quantifier: Quantifier, token: Token) -> Next
 
 /// Takes a token in a clause.
 #[inline(always)]
-fn take_literal(parts: &mut Parts, token: Token) -> Next
+fn take_literal(parts: &mut Parts, token: Token) -> Transition
     requires sound { IsSound at.InClause parts.old }
     ensures row { Moves (row (state_at parts.old at.InClause) token) parts.new result }
     ensures sound { Leads parts.old parts.new result }
@@ -122,7 +122,7 @@ fn take_literal(parts: &mut Parts, token: Token) -> Next
 /// Takes a token between lists.
 #[inline(always)]
 #[tactic(auto, using(crate::proofs::FormulaParts::made_whole))]
-fn take_list_start(parts: &mut Parts, token: Token) -> Next
+fn take_list_start(parts: &mut Parts, token: Token) -> Transition
     requires sound { IsSound at.Between parts.old }
     ensures row { Moves (row (state_at parts.old at.Between) token) parts.new result }
     ensures sound { Leads parts.old parts.new result }
@@ -141,7 +141,7 @@ fn take_list_start(parts: &mut Parts, token: Token) -> Next
 
 /// The state that a token leads to.
 #[inline(always)]
-fn take_at(here: State, parts: &mut Parts, token: Token) -> Next
+fn take_at(here: State, parts: &mut Parts, token: Token) -> Transition
     requires sound { IsSound here parts.old }
     ensures row { Moves (row (state_at parts.old here) token) parts.new result }
     ensures sound { Leads parts.old parts.new result }

@@ -9,7 +9,7 @@ ghost use Rattle.qbf_text.specs.declared.token.Comments.TheVariants.{Qdimacs};
 ghost use Rattle.qdimacs.specs.Faults.{IsReadAs};
 ghost use Rattle.qdimacs.specs.Reading.{reads_bytes, Gives};
 
-use crate::fault::{Fault, FormulaFault};
+use crate::fault::FormulaFault;
 use crate::grammar::FormulaGrammar;
 use qbf_core::Formula;
 use qbf_text::{Comments, Source, read_text};
@@ -26,7 +26,10 @@ use std::alloc::Global;
 /// # Errors
 /// F1 exactly where the source failed, F9 only if an allocation failed, else F2 to F8 as they are
 /// listed.
-pub fn read_formula<S: Source>(alloc: Global, source: &mut S) -> Result<Formula, Fault>
+pub fn read_formula<S: Source>(
+    alloc: Global,
+    source: &mut S,
+) -> Result<Formula, (FormulaFault, u64)>
     // The formula where the bytes spell one, else the fault that stands.
     ensures reads { IfSome (S.remaining source.old)
         (λ bytes. IsReadAs (tokens Qdimacs bytes) result) }

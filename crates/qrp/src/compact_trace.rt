@@ -6,7 +6,7 @@ ghost use Rattle.qrp.specs.Returns.{ReadsTrace};
 
 use crate::antecedent_lists::AntecedentWords;
 use crate::antecedents::Antecedents;
-use crate::fault::Fault;
+use crate::fault::TraceFault;
 use crate::item::{Header, Outcome, QuantSet};
 use crate::kept_steps::KeptSteps;
 use crate::parts::Parts;
@@ -100,7 +100,10 @@ impl KeptSteps for CompactTrace {
 ///
 /// # Errors
 /// As of `read_trace`.
-pub fn read_compact<S: Source>(alloc: Global, source: &mut S) -> Result<CompactTrace, Fault>
+pub fn read_compact<S: Source>(
+    alloc: Global,
+    source: &mut S,
+) -> Result<CompactTrace, (TraceFault, u64)>
     ensures { ReadsTrace (S.remaining source.old) (S.remaining source.new)
         (S.failures source.old) (S.failures source.new) result }
 {

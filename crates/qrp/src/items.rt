@@ -5,11 +5,11 @@ ghost use Rattle.qrp.specs.Flat.{kept_of, lent, nothing_kept, IsFlat};
 ghost use Rattle.qrp.specs.Items.{HasItem, GivesItem};
 ghost use Rattle.qrp.specs.Reading.{AtP};
 
-use crate::buffered::{AtHand, completed, take_buffered};
 use crate::fault::TraceFault;
 use crate::item::{Item, QuantSet, Step};
 use crate::parts::Parts;
 use crate::states::{Lists, Part, State, take_at};
+use crate::step_numbers::{NextPlaces, completed, take_buffered};
 use dimacs_syntax::HeaderAt;
 use qbf_core::GrowingLists;
 use qbf_text::{Grammar, Progress, Stop, Taken, Token, Zeros};
@@ -111,11 +111,8 @@ impl Grammar for ItemGrammar {
 
     #[inline(always)]
     fn take_numbers(&mut self, values: &[i32], zeros: Zeros) -> Result<Progress<()>, AllocError> {
-        let hand = AtHand {
-            from: 0,
-            zero: zeros.place(0),
-        };
-        let (state, reached) = take_buffered(self.state, &mut self.parts.lists, values, hand);
+        let next = NextPlaces::new(0, zeros, 0);
+        let (state, reached) = take_buffered(self.state, &mut self.parts.lists, values, next);
         self.state = state;
         let to = reached?;
         let Some(number) = completed(state, values, to) else {

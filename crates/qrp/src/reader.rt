@@ -12,7 +12,7 @@ ghost use Rattle.qrp.specs.NextItem.{GivesNextItem, IsDone, IsProper, StandsOnLi
 ghost use Rattle.qrp.specs.Items.{ReadsItem, IsItem, IsDriven};
 ghost use Rattle.qrp.specs.Reading.{items};
 
-use crate::fault::{Fault, TraceFault};
+use crate::fault::TraceFault;
 use crate::item::{Item, Outcome};
 use crate::items::ItemGrammar;
 use qbf_text::{Comments, Scanner, Source, read_by};
@@ -30,7 +30,7 @@ enum Stage {
 }
 
 /// How far a reader is after a result.
-fn stage_after(answer: &Result<Item, Fault>) -> Stage
+fn stage_after(answer: &Result<Item, (TraceFault, u64)>) -> Stage
     ensures { result ≡ stage_after answer.now }
 {
     match answer {
@@ -47,7 +47,7 @@ fn read_item<S: Source>(
     alloc: Global,
     scanner: &mut Scanner,
     source: &mut S,
-) -> Result<Item, Fault>
+) -> Result<Item, (TraceFault, u64)>
     requires ready { ¬ HasFailed scanner.old }
     ensures reads { ReadsItem grammar.old.state grammar.new.kept.numbers scanner.old
         (S.remaining source.old) scanner.new (S.remaining source.new) result }
@@ -113,7 +113,7 @@ impl TraceReader {
     /// An error is the first fault and its line, counted from 1; P1 (the source failed) and P9 (out
     /// of memory) stand on line 0. After the result every call gives the result, after a fault that
     /// fault, and then nothing is pulled.
-    pub fn next_item<S: Source>(&mut self, source: &mut S) -> Result<Item, Fault>
+    pub fn next_item<S: Source>(&mut self, source: &mut S) -> Result<Item, (TraceFault, u64)>
         // What was left to give is the result, followed by what is left now.
         ensures gives { GivesNextItem (items_left self.old (S.remaining source.old))
             (items_left self.new (S.remaining source.new)) result }

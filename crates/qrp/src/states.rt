@@ -51,7 +51,7 @@ pub enum Part {
 }
 
 /// The state that a token leads to, or why it is not taken.
-type Next = Result<State, Stop<TraceFault>>;
+type Transition = Result<State, Stop<TraceFault>>;
 
 /// The lists of a trace, as far as it was read: those of whole steps, and unfinished ones.
 #[derive(Drop)]
@@ -71,7 +71,7 @@ pub struct Lists {
 /// # Errors
 /// The fault that the token is there.
 #[inline(always)]
-pub fn take_item_start(lists: &mut Lists, token: Token) -> Next
+pub fn take_item_start(lists: &mut Lists, token: Token) -> Transition
     ensures row { Moves (row (state_at lists.old at.Between) token) lists.new result }
     ensures sound { Leads at.Between lists.old lists.new result }
 {
@@ -91,7 +91,7 @@ pub fn take_item_start(lists: &mut Lists, token: Token) -> Next
 
 /// Takes a token in the literals of a step.
 #[inline(always)]
-fn take_literal(lists: &mut Lists, number: u64, token: Token) -> Next
+fn take_literal(lists: &mut Lists, number: u64, token: Token) -> Transition
     requires sound { IsSound (at.InLits number) lists.old }
     ensures row { Moves (row (state_at lists.old (at.InLits number)) token) lists.new result }
     ensures sound { Leads (at.InLits number) lists.old lists.new result }
@@ -110,7 +110,7 @@ fn take_literal(lists: &mut Lists, number: u64, token: Token) -> Next
 
 /// Takes a token in the antecedents of a step.
 #[inline(always)]
-fn take_antecedent(lists: &mut Lists, number: u64, token: Token) -> Next
+fn take_antecedent(lists: &mut Lists, number: u64, token: Token) -> Transition
     requires sound { IsSound (at.InAnts number) lists.old }
     ensures row { Moves (row (state_at lists.old (at.InAnts number)) token) lists.new result }
     ensures sound { Leads (at.InAnts number) lists.old lists.new result }
@@ -124,7 +124,7 @@ fn take_antecedent(lists: &mut Lists, number: u64, token: Token) -> Next
 }
 
 /// Takes a token in a set.
-fn take_member(lists: &mut Lists, quantifier: Quantifier, token: Token) -> Next
+fn take_member(lists: &mut Lists, quantifier: Quantifier, token: Token) -> Transition
     requires sound { IsSound (at.InSet quantifier) lists.old }
     ensures row { Moves (row (state_at lists.old (at.InSet quantifier)) token) lists.new result }
     ensures sound { Leads (at.InSet quantifier) lists.old lists.new result }
@@ -143,7 +143,7 @@ fn take_member(lists: &mut Lists, quantifier: Quantifier, token: Token) -> Next
 /// # Errors
 /// Out of memory, or the fault that the token is there.
 #[inline(always)]
-pub fn take_at(here: State, lists: &mut Lists, token: Token) -> Next
+pub fn take_at(here: State, lists: &mut Lists, token: Token) -> Transition
     requires sound { IsSound here lists.old }
     ensures row { Moves (row (state_at lists.old here) token) lists.new result }
     ensures sound { Leads here lists.old lists.new result }
@@ -155,8 +155,8 @@ pub fn take_at(here: State, lists: &mut Lists, token: Token) -> Next
         State::InSet(quantifier) => take_member(lists, quantifier, token),
         State::AtResult => Ok(State::After(Part::Result(decode_outcome(token)?))),
         State::InHeader(place) => match header_move(FORM, place, token)? {
-            HeaderMove::Goes(next) => Ok(State::InHeader(next)),
-            HeaderMove::Ends(vars, steps) => Ok(State::After(Part::Header(Header { vars, steps }))),
+            HeaderMove::Next(next) => Ok(State::InHeader(next)),
+            HeaderMove::Done(vars, steps) => Ok(State::After(Part::Header(Header { vars, steps }))),
         },
         State::After(_) => Err(Stop::Text(TraceFault::P7)),
     }

@@ -9,11 +9,11 @@ ghost use Rattle.qrp.specs.WholeTrace.{made_of, nothing_read, trace_at, trace_ro
 ghost use Rattle.qrp.specs.WholeTrace.{AreSound, HasResult};
 
 use crate::antecedent_lists::AntecedentLists;
-use crate::buffered::{AtHand, Reached, completed, is_zero_at, take_buffered, take_whole};
-use crate::fault::{Fault, TraceFault};
+use crate::fault::TraceFault;
 use crate::item::Outcome;
 use crate::parts::{Parts, close};
 use crate::states::{Part, State, take_at};
+use crate::step_numbers::{NextPlaces, Reached, completed, is_zero_at, take_buffered, take_whole};
 use dimacs_syntax::HeaderAt;
 use qbf_text::{Comments, Grammar, Progress, Scanner, Source, Stop, Taken, Token, Zeros, read_by};
 use std::alloc::{AllocError, Global};
@@ -29,15 +29,15 @@ fn take_step<A: AntecedentLists>(
     here: State,
     parts: &mut Parts<A>,
     values: &[i32],
-    hand: AtHand,
+    next: NextPlaces,
 ) -> Reached
-    requires here { (hand.from ≤ length values.now) × AreSound A.lists here parts.old }
+    requires here { (next.from ≤ length values.now) × AreSound A.lists here parts.old }
     ensures leads { IfOk result.1 (λ to. LeadsOver trace_row (trace_at A.lists parts.old here)
-        (trace_at A.lists parts.new result.0) values.now hand.from to) }
+        (trace_at A.lists parts.new result.0) values.now next.from to) }
     ensures within { IfOk result.1 (λ to. to ≤ length values.now) }
     ensures sound { AreSound A.lists result.0 parts.new }
 {
-    let (state, reached) = take_buffered(here, &mut parts.lists, values, hand);
+    let (state, reached) = take_buffered(here, &mut parts.lists, values, next);
     let to = match reached {
         Ok(to) => to,
         Err(refused) => return (state, Err(refused)),
@@ -60,18 +60,18 @@ fn take_step<A: AntecedentLists>(
 fn keep_whole<A: AntecedentLists>(
     parts: &mut Parts<A>,
     values: &[i32],
-    hand: AtHand,
+    next: NextPlaces,
 ) -> Result<Option<usize>, AllocError>
-    requires here { (hand.from < length values.now) × IsFlat (kept_of A.lists parts.old) }
+    requires here { (next.from < length values.now) × IsFlat (kept_of A.lists parts.old) }
     ensures leads { IfOk result (λ o. IfSome o
-        (λ to. (hand.from < to) × (to ≤ length values.now) × LeadsOver trace_row
+        (λ to. (next.from < to) × (to ≤ length values.now) × LeadsOver trace_row
         (trace_at A.lists parts.old at.Between) (trace_at A.lists parts.new at.Between)
-        values.now hand.from to)) }
+        values.now next.from to)) }
     ensures none { IfOk result (λ o. IfNone o
         (trace_at A.lists parts.new at.Between ≡ trace_at A.lists parts.old at.Between)) }
     ensures flat { IsFlat (kept_of A.lists parts.new) }
 {
-    let Some((number, to)) = take_whole(&mut parts.lists, values, hand)? else {
+    let Some((number, to)) = take_whole(&mut parts.lists, values, next)? else {
         return Ok(None);
     };
     if !is_zero_at(values, to) {
@@ -101,11 +101,8 @@ fn keep_steps<A: AntecedentLists>(
 {
     let (mut from, mut zero) = start;
     'steps: while from < values.len() {
-        let hand = AtHand {
-            from,
-            zero: zeros.place(zero),
-        };
-        let Some(to) = keep_whole(parts, values, hand)? else {
+        let next = NextPlaces::new(from, zeros, zero);
+        let Some(to) = keep_whole(parts, values, next)? else {
             break;
         };
         from = to;
@@ -142,13 +139,10 @@ fn take_unfinished<A: AntecedentLists>(
     ensures within { IfOk result.1 (λ to. to ≤ length values.now) }
     ensures sound { AreSound A.lists result.0 parts.new }
 {
-    let hand = AtHand {
-        from: 0,
-        zero: zeros.place(0),
-    };
+    let next = NextPlaces::new(0, zeros, 0);
     match here {
         State::Between => (here, Ok(0)),
-        _ => take_step(here, parts, values, hand),
+        _ => take_step(here, parts, values, next),
     }
 }
 
@@ -174,11 +168,8 @@ fn take_steps<A: AntecedentLists>(
         (State::Between, Ok(from)) => {
             match keep_steps(parts, values, zeros, (from, zeros_left(here))) {
                 Ok((from, zero)) => {
-                    let hand = AtHand {
-                        from,
-                        zero: zeros.place(zero),
-                    };
-                    take_step(State::Between, parts, values, hand)
+                    let next = NextPlaces::new(from, zeros, zero);
+                    take_step(State::Between, parts, values, next)
                 }
                 Err(refused) => (State::Between, Err(refused)),
             }
@@ -283,7 +274,7 @@ impl<A: AntecedentLists> Grammar for TraceGrammar<A> {
 pub fn read_parts<A: AntecedentLists, S: Source>(
     alloc: Global,
     source: &mut S,
-) -> Result<(Parts<A>, Outcome), Fault>
+) -> Result<(Parts<A>, Outcome), (TraceFault, u64)>
     ensures reads { ReadsTrace (S.remaining source.old) (S.remaining source.new)
         (S.failures source.old) (S.failures source.new) (trace_with A.lists result) }
     ensures flat { IfOk result (λ r. IsFlat (kept_of A.lists r.0)) }

@@ -113,7 +113,7 @@ impl<'a, T: KeptSteps> Put for StepLinesAt<'a, T> {
 /// and each line ends with byte 10. Reading the text gives the trace.
 ///
 /// # Errors
-/// A `SinkFault` where the sink failed. What went out is a beginning of the text then.
+/// A `SinkFault` if the sink failed. What went out is a beginning of the text then.
 #[tactic(auto, using(crate::proofs::ReadingLaws::text_is_read))]
 pub fn write_trace<K: Sink>(trace: &Trace, sink: &mut K) -> Result<(), SinkFault>
     ensures put { IsPut K.written K.failures K.failed_last
@@ -137,7 +137,7 @@ fn counted(header: Header, steps: usize) -> Header
     }
 }
 
-/// Writes the canonical text of the trace with the steps at these positions alone, as `write_trace`
+/// Writes the canonical text of a trace with the steps at these positions alone, as `write_trace`
 /// does. It takes no memory.
 ///
 /// Sets, result and the number of variables in the header stay as they are; the header counts the
@@ -145,32 +145,8 @@ fn counted(header: Header, steps: usize) -> Header
 /// twice.
 ///
 /// # Errors
-/// A `SinkFault` where the sink failed. What went out is a beginning of the text then.
+/// A `SinkFault` if the sink failed. What went out is a beginning of the text then.
 pub fn write_steps_at<K: Sink>(
-    trace: &Trace,
-    positions: &[usize],
-    sink: &mut K,
-) -> Result<(), SinkFault>
-    requires { AllByRecursion (λ i. i < length trace.now.steps) positions.now }
-    ensures { IsPut K.written K.failures K.failed_last sink.old sink.new
-        (text (with_steps_at trace.now positions.now)) result }
-{
-    let Header { vars, steps } = counted(trace.header(), positions.len());
-    let header = HeaderLine(b"p qrp", vars, steps);
-    let kept = LentSteps(trace);
-    let lines = StepLinesAt {
-        trace: &kept,
-        positions,
-    };
-    (header, (trace.sets(), (lines, trace.result()))).put(sink)
-}
-
-/// Writes the steps at these positions of a trace that was read by `read_compact`, as
-/// `write_steps_at` does.
-///
-/// # Errors
-/// As of `write_steps_at`.
-pub fn write_compact_at<K: Sink>(
     trace: &CompactTrace,
     positions: &[usize],
     sink: &mut K,

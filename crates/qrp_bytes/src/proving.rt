@@ -14,7 +14,7 @@ ghost use Rattle.qrp_bytes.specs.Verdicts.{StructHeadline, VerifyReturns};
 
 use crate::verdict::{QrpVerdict, encode};
 use qbf_text::{SliceSource, VecSink};
-use qrp::{CompactTrace, KeptSteps, write_compact_at};
+use qrp::{CompactTrace, KeptSteps, write_steps_at};
 use qrp_check::{CheckFault, Fault, Rules, Verified, find_proof, find_truth};
 use std::alloc::{AllocError, Global};
 
@@ -72,7 +72,7 @@ fn text_at(alloc: Global, trace: &CompactTrace, places: &[usize]) -> Result<VecS
     ensures { IfOk result (λ s. s.bytes ≡ text (trimmed_trace trace.now places.now)) }
 {
     let mut sink = VecSink::new(alloc, 0)?;
-    match write_compact_at(trace, places, &mut sink) {
+    match write_steps_at(trace, places, &mut sink) {
         Ok(()) => Ok(sink),
         Err(_) => Err(AllocError),
     }

@@ -1,6 +1,6 @@
 -- One step of the core: its antecedents, and its conditions.
-use Rattle.qrp_check.proofs.Cited.{◌≡◌, ℕ, ◌<◌, ◌≤◌, List, [], ◌∷◌, Option, Some, None, inl, inr, refl, sym, ap, subst, ◌∙◌, arith, length}
-use Rattle.qrp_check.proofs.Cited.{at_place, get_or, take, rules, IfOk, IfSome, Result, Ok, Err, Literal, ◌∈◌, ◌⊆◌, Block, AreBound}
+use Rattle.qrp_check.proofs.Cited.{◌≡◌, ℕ, ◌<◌, ◌≤◌, List, [], ◌∷◌, Option, Some, None, inl, inr, refl, sym, ap, subst, ◌∙◌, arith}
+use Rattle.qrp_check.proofs.Cited.{at_place, take, rules, IfOk, IfSome, Result, Ok, Err, Literal, ◌∈◌, ◌⊆◌, Block, AreBound}
 use Rattle.qrp_check.proofs.Cited.{IsBound, Qbf, Side}
 use Rattle.qrp_check.proofs.Cited.{IsClean, bound_each, Inference, IsAt, RuleFault, IsJudgement, initial_condition, reduct_conditions}
 use Rattle.qrp_check.proofs.Cited.{resolvent_conditions, Rules, IsNumberOf, StepFollows, lits_of, step_conditions, IsInCore, next}
@@ -10,14 +10,14 @@ use Rattle.qbf_core.specs.Literal.{positive}
 use Rattle.qbf_core.specs.Rules.{IsTautology}
 use Rattle.std.proofs.Common.{◌+◌, below_more}
 use Rattle.qbf_core.specs.Sets.{HasMembersOf}
-use Rattle.qrp.specs.Inferences.{IsOnlyAt}
 use Rattle.qrp_rules.specs.declared.fault.RuleFault.TheVariants.{S1, S2, S3}
 use Rattle.qrp_rules.specs.Conditions.{AllHold, Condition}
 use Rattle.qrp_rules.specs.Accepted.{IsAcceptedBy, IsFit}
 use Rattle.qbf_core.proofs.Bound.{bound_within}
 use Rattle.qbf_core.proofs.Order.{clean_within}
 use Rattle.qrp_check.specs.Kept.{HasMembersAt}
-use Rattle.qrp_check.specs.Premises.{AreFit, ArePremises, IsEarlier, IsPremise, found_conditions, written_conditions}
+use Rattle.qrp_check.specs.Earlier.{FindsEarlier, StandsEarlier}
+use Rattle.qrp_check.specs.Premises.{AreFit, ArePremises, IsPremise, found_conditions, written_conditions}
 use Rattle.qrp_check.specs.declared.premises.Premises.{Premises}
 use Rattle.qrp_check.specs.declared.premises.Premises.TheVariants.{Initial, One, Two}
 use Rattle.qrp_check.proofs.Marking.{core_within}
@@ -33,44 +33,27 @@ abbrev pub IsOnly : List Inference → ℕ → Option ℕ → Type 0
 IsOnly steps number answer = (i : ℕ) (step : Inference) → IsAt steps i step → step.number ≡ number → answer ≡ Some i
 
 pub not_found : (steps : List Inference) (place number : ℕ) (answer : Option ℕ) → IsOnly steps number answer → answer ≡ None
-    → IsNumberOf (take place steps) number → ⊥
-not_found steps place number answer only none (s, h, is) =
-    let w = in_take steps place s h in
-    let e : Some w.0 ≡ None = sym (only w.0 s w.2 is) ∙ none in
-    cc e
+    → FindsEarlier steps place number None
+not_found steps place number answer only none = λ i step here is less. let e : Some i ≡ None = sym (only i step here is) ∙ none in cc e
 
 pub found_late : (steps : List Inference) (place number index : ℕ) (answer : Option ℕ) → IsOnly steps number answer → answer ≡ Some index
     → place ≤ index
-    → IsNumberOf (take place steps) number → ⊥
-found_late steps place number index answer only found late (s, h, is) =
-    let w = in_take steps place s h in
-    let e : Some w.0 ≡ Some index = sym (only w.0 s w.2 is) ∙ found in
-    let same : w.0 ≡ index = cc e in
-    let less : w.0 < place = w.1 in
+    → FindsEarlier steps place number None
+found_late steps place number index answer only found late = λ i step here is less.
+    let e : Some i ≡ Some index = sym (only i step here is) ∙ found in
+    let same : i ≡ index = cc e in
     omega (arith, same, less, late)
 
--- the step at the place that was found is the earlier one with the number
-pub earlier_of : (steps : List Inference) (place index number : ℕ) → index < place
-    → (below : Inference) × IsAt steps index below × (below.number ≡ number) → IsOnlyAt steps index number
-    → IsEarlier steps place number index
-earlier_of steps place index number less (below, here, is) only =
-    let own : IsNumberOf (take place steps) number = (below, take_in steps place index below less here, is) in
+-- literals that have the members of the earlier step are a premise
+pub premise_of : (steps : List Inference) (place index number : ℕ) (lits : List Literal)
+    → StandsEarlier steps place number index → HasMembersAt steps index lits → IsPremise (take place steps) number lits
+premise_of steps place index number lits earlier members =
+    let own : IsNumberOf (take place steps) number =
+    (earlier.step, take_in steps place index earlier.step earlier.before earlier.here, earlier.named) in
     let s = step_named (take place steps) number own in
     let w = in_take steps place s.0 s.1 in
-    let at : IsAt steps index s.0 = subst (λ (k : ℕ). IsAt steps k s.0) (only w.0 s.0 w.2 s.2) w.2 in
-    record {
-      before = less;
-      number = own;
-      lits = λ step here. let lits_in : Inference → List Literal = λ t. t.lits in ap lits_in (one_at steps index step s.0 here at) ∙ s.3;
-    }
-
--- literals that have the members of the earlier step are a premise
-pub premise_of : (steps : List Inference) (place index number : ℕ) (lits : List Literal) → place < length steps
-    → IsEarlier steps place number index → HasMembersAt steps index lits → IsPremise (take place steps) number lits
-premise_of steps place index number lits inside earlier members =
-    let before : index < place = earlier.before in
-    let s = at_place steps index (omega (arith, before, inside)) in
-    (earlier.number, subst (λ (z : List Literal). HasMembersOf lits z) (earlier.lits s.0 s.1) (members s.0 s.1))
+    let at : IsAt steps index s.0 = subst (λ (k : ℕ). IsAt steps k s.0) (earlier.only w.0 s.0 w.2 s.2) w.2 in
+    (own, subst (λ (z : List Literal). HasMembersOf lits z) s.3 (members s.0 at))
 
 module _ (rules : Rules) (side : Side) (f : Qbf) (steps : List Inference) (place : ℕ) (core : IsInCore steps place)
     (follows : (j : ℕ) → j < place → IsInCore steps j → StepFollows rules side f steps j) (step : Inference) (here : IsAt steps place step) where
@@ -208,6 +191,10 @@ accepted_all (Ok t) conditions blocks lits is = λ h. ((is h).clean, ((is h).bou
 accepted_all (Err e) conditions blocks lits is = tt
 
 -- the number of an antecedent that is not an earlier step
-pub not_earlier : (before : List Inference) (ants numbers : List ℕ) (n : ℕ) → ants ≡ numbers → n ∈ numbers → (IsNumberOf before n → ⊥)
-    → ((m : ℕ) → m ∈ ants → IsNumberOf before m) → ⊥
-not_earlier before ants numbers n e h not all = not (all n (subst (λ (ns : List ℕ). n ∈ ns) (sym e) h))
+pub not_earlier : (steps : List Inference) (place : ℕ) (ants numbers : List ℕ) (n : ℕ) → ants ≡ numbers → n ∈ numbers
+    → FindsEarlier steps place n None
+    → ((m : ℕ) → m ∈ ants → IsNumberOf (take place steps) m) → ⊥
+not_earlier steps place ants numbers n e h none all =
+    let own = all n (subst (λ (ns : List ℕ). n ∈ ns) (sym e) h) in
+    let w = in_take steps place own.0 own.1 in
+    none w.0 own.0 w.2 own.2 w.1

@@ -1,12 +1,12 @@
 -- The literals of the antecedents of a step, and when the step follows from them.
-use Rattle.std.specs.Prelude.{◌≡◌, ℕ, ◌<◌, List, [], ◌∷◌, Option, Some, None, take}
+use Rattle.std.specs.Prelude.{◌≡◌, ℕ, List, [], ◌∷◌, Option, Some, None}
 use Rattle.qbf_core.specs.Literal.{Literal}
 use Rattle.qbf_core.specs.Members.{◌∈◌}
 use Rattle.qbf_core.specs.Blocks.{Block, AreBound}
 use Rattle.qbf_core.specs.Qbf.{Qbf}
 use Rattle.qbf_core.specs.Rules.{Side, IsClean}
 use Rattle.qbf_core.specs.Sets.{HasMembersOf}
-use Rattle.qrp.specs.Inferences.{Inference, IsAt}
+use Rattle.qrp.specs.Inferences.{Inference}
 use Rattle.qrp_rules.specs.declared.rules.Rules.{Rules}
 use Rattle.qrp_rules.specs.declared.fault.RuleFault.{RuleFault}
 use Rattle.qrp_rules.specs.declared.fault.RuleFault.TheVariants.{S1, S2, S3}
@@ -19,12 +19,6 @@ use Rattle.qrp_check.specs.declared.premises.Premises.TheVariants.{Initial, One,
 -- the literals have the members of the earlier step with this number
 abbrev pub IsPremise : List Inference → ℕ → List Literal → Type 0
 IsPremise before n lits = IsNumberOf before n × HasMembersOf lits (lits_of before n)
-
--- the step at i is the one with this number that is before a position
-pub record IsEarlier (steps : List Inference) (position n i : ℕ) : Type 0 where
-  pub before : i < position
-  pub number : IsNumberOf (take position steps) n
-  pub lits : (step : Inference) → IsAt steps i step → step.lits ≡ lits_of (take position steps) n
 
 -- the premises have the members of each antecedent; there are none if some antecedent is not an earlier step
 abbrev pub ArePremises : List Inference → List ℕ → Option Premises → Type 0

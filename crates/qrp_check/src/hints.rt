@@ -1,7 +1,8 @@
-//! Where the antecedents of the core were found.
+//! Where the antecedents of the core stand.
 
-ghost use Rattle.std.specs.Prelude.{◌≡◌, ℕ, ◌<◌, Some, length, IfSome, IsTrue};
+ghost use Rattle.std.specs.Prelude.{◌≡◌, ℕ, ◌<◌, Some, length, IfOk, IfSome, IsTrue};
 ghost use Rattle.qrp.specs.Inferences.{Inference, IsAt, IsOnlyAt};
+ghost use Rattle.qrp_check.specs.Earlier.{FindsEarlier};
 
 use qrp::KeptSteps;
 use std::alloc::{AllocError, Global};
@@ -12,7 +13,7 @@ use std::alloc::{AllocError, Global};
 #[derive(Drop)]
 pub(crate) struct Hints {
     positions: Vec<u32>,
-    /// Whether positions are kept: not where a look-up takes no memory.
+    /// Whether positions are kept: only if a look-up reads a table, and so may wait for memory.
     keeps: bool,
     /// Where the antecedent was found that was last looked for elsewhere than right before its step.
     last: usize,
@@ -29,8 +30,8 @@ fn is_at<T: KeptSteps>(trace: &T, position: usize, number: u64) -> bool
 }
 
 impl Hints {
-    /// No positions. They are kept where the last of the steps has another number than it would have
-    /// if the numbers went up one by one.
+    /// No positions. They are kept if the last of the steps has another number than it would have if
+    /// the numbers went up one by one.
     pub(crate) fn new<T: KeptSteps>(alloc: Global, trace: &T) -> Hints {
         let count = trace.len();
         let keeps = count > 1
@@ -67,14 +68,9 @@ impl Hints {
     }
 
     /// The position of the step with a number, an antecedent of the step at a position. If a look-up
-    /// takes memory, it is guessed first.
+    /// would read a table, the position is guessed first.
     #[inline(always)]
-    pub(crate) fn find<T: KeptSteps>(
-        &mut self,
-        trace: &T,
-        position: usize,
-        number: u64,
-    ) -> Option<usize>
+    fn find<T: KeptSteps>(&mut self, trace: &T, position: usize, number: u64) -> Option<usize>
         ensures found { IfSome result (λ i.
             (step : Inference) × IsAt (T.steps trace.now) i step × (step.number ≡ number)) }
         ensures only { (i : ℕ) (step : Inference) → IsAt (T.steps trace.now) i step
@@ -88,11 +84,11 @@ impl Hints {
         Some(found)
     }
 
-    /// Keeps where an antecedent was found. Where it was not found, any other position serves.
+    /// Keeps where an antecedent was found. If it was not found, any other position serves.
     ///
     /// # Errors
     /// If an allocation fails.
-    pub(crate) fn push(&mut self, found: Option<usize>) -> Result<(), AllocError> {
+    fn push(&mut self, found: Option<usize>) -> Result<(), AllocError> {
         if self.keeps {
             let position = found.unwrap_or(0).min(u32::MAX as usize);
             self.positions.push(position as u32)?;
@@ -101,8 +97,50 @@ impl Hints {
     }
 
     /// The position that was kept last, which is no longer kept.
-    pub(crate) fn pop(&mut self) -> Option<usize> {
+    fn pop(&mut self) -> Option<usize> {
         let position = self.positions.pop()?;
         Some(position as usize)
+    }
+
+    /// The position of the step with a number, an antecedent of the step at a position, if it is
+    /// before that. Where it was found is kept.
+    ///
+    /// # Errors
+    /// If an allocation fails.
+    #[inline(always)]
+    pub(crate) fn find_earlier<T: KeptSteps>(
+        &mut self,
+        trace: &T,
+        position: usize,
+        number: u64,
+    ) -> Result<Option<usize>, AllocError>
+        ensures { IfOk result (FindsEarlier (T.steps trace.now) position number) }
+    {
+        let found = self.find(trace, position, number);
+        self.push(found)?;
+        match found {
+            Some(earlier) if earlier < position => Ok(Some(earlier)),
+            _ => Ok(None),
+        }
+    }
+
+    /// The same position as `find_earlier`: the one that was kept last is taken back and tried first.
+    #[inline(always)]
+    pub(crate) fn find_again<T: KeptSteps>(
+        &mut self,
+        trace: &T,
+        position: usize,
+        number: u64,
+    ) -> Option<usize>
+        requires { position < length (T.steps trace.now) }
+        ensures { FindsEarlier (T.steps trace.now) position number result }
+    {
+        if let Some(index) = self.pop() {
+            if index < position && trace.number(index) == number {
+                return Some(index);
+            }
+        }
+        let index = trace.position(number)?;
+        if index < position { Some(index) } else { None }
     }
 }

@@ -1,10 +1,9 @@
 //! The literals of the antecedents of a step.
 
-ghost use Rattle.std.specs.Prelude.{◌<◌, take, length, IfSome, IfNone};
+ghost use Rattle.std.specs.Prelude.{◌<◌, take, length};
 ghost use Rattle.qrp.specs.Inferences.{Inference, IsAt};
-ghost use Rattle.qrp_check.specs.Conditions.{IsNumberOf};
 ghost use Rattle.qrp_check.specs.Kept.{AreKept};
-ghost use Rattle.qrp_check.specs.Premises.{ArePremises, IsEarlier};
+ghost use Rattle.qrp_check.specs.Premises.{ArePremises};
 
 use crate::hints::Hints;
 use crate::kept::Kept;
@@ -20,27 +19,6 @@ pub(crate) enum Premises<'a> {
     One(&'a [Lit]),
     /// The step is a resolvent of these.
     Two(&'a [Lit], &'a [Lit]),
-}
-
-/// Where the step with a number is, if it is before a position. The hint is tried first.
-#[inline(always)]
-fn find_earlier<T: KeptSteps>(
-    trace: &T,
-    position: usize,
-    number: u64,
-    hint: Option<usize>,
-) -> Option<usize>
-    requires { position < length (T.steps trace.now) }
-    ensures some { IfSome result (IsEarlier (T.steps trace.now) position number) }
-    ensures none { IfNone result (IsNumberOf (take position (T.steps trace.now)) number → ⊥) }
-{
-    if let Some(index) = hint {
-        if index < position && trace.number(index) == number {
-            return Some(index);
-        }
-    }
-    let index = trace.position(number)?;
-    if index < position { Some(index) } else { None }
 }
 
 /// The literals of the antecedents of the step at a position, or `None` if one of them is not the
@@ -60,13 +38,13 @@ pub(crate) fn find_premises<'a, T: KeptSteps>(
     match trace.antecedents(position) {
         Antecedents::Empty => Some(Premises::Initial),
         Antecedents::One(only) => {
-            let from = find_earlier(trace, position, only, hints.pop())?;
+            let from = hints.find_again(trace, position, only)?;
             Some(Premises::One(kept.lits(trace, from)))
         }
         Antecedents::Two(first, second) => {
             // The positions were found in the other order.
-            let b = find_earlier(trace, position, second, hints.pop())?;
-            let a = find_earlier(trace, position, first, hints.pop())?;
+            let b = hints.find_again(trace, position, second)?;
+            let a = hints.find_again(trace, position, first)?;
             Some(Premises::Two(kept.lits(trace, a), kept.lits(trace, b)))
         }
     }

@@ -24,7 +24,7 @@ use crate::job::Job;
 use qbf_core::Formula;
 use qbf_text::{Sink, SinkFault, Source};
 use qdimacs::{read_formula, write_formula};
-use qrp::{CompactTrace, write_compact_at};
+use qrp::{CompactTrace, write_steps_at};
 use qrp_check::{Fault, Rules, Verified, find_proof, find_truth};
 use qrp_report::{Refusal, put_refusal, put_verdict};
 use std::alloc::Global;
@@ -83,7 +83,7 @@ fn send_trimmed<S: Sink>(sink: &mut S, trace: &CompactTrace, verified: &Verified
     ensures { IsSent S.Sink sink.old sink.new
         (trace_text (trimmed_trace trace.now verified.now.core.items)) 0 3 result }
 {
-    let sent = write_compact_at(trace, &verified.core, sink);
+    let sent = write_steps_at(trace, &verified.core, sink);
     finish_sent(sink, sent, 0)
 }
 

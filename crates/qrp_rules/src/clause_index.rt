@@ -4,7 +4,6 @@ ghost use Rattle.std.specs.Prelude.{IfOk, IfSome};
 ghost use Rattle.qrp_rules.specs.Initial.{IsAccepted, IsAcceptedIf};
 
 use crate::blocks::{Reducible, reducible_in};
-use crate::fault::Holds;
 use crate::lists::{is_among, is_ordered};
 use crate::seen::{SeenLits, code, surely_clean};
 use crate::side::Clauses;
@@ -60,7 +59,12 @@ fn sum_of(kind: Kind, seen: &mut SeenLits, prefix: &Prefix, lits: &[Lit]) -> u64
 
 /// Accepts literals that are, as they are written, a reduct of the clause at a position, which is
 /// clean, if there is one.
-fn accepts_at(seen: &mut SeenLits, formula: &Formula, position: usize, lits: &[Lit]) -> Holds
+fn accepts_at(
+    seen: &mut SeenLits,
+    formula: &Formula,
+    position: usize,
+    lits: &[Lit],
+) -> Result<bool, AllocError>
     ensures { IfOk result (IsAcceptedIf formula.now lits.now) }
 {
     if position >= formula.clauses() {
@@ -79,9 +83,6 @@ fn accepts_at(seen: &mut SeenLits, formula: &Formula, position: usize, lits: &[L
     }
     accepts_reduct::<Clauses>(seen, prefix, clause, lits)
 }
-
-/// The position of a clause that was looked for, unless an allocation fails.
-type Found = Result<Option<usize>, AllocError>;
 
 /// So many clauses that a reduct may come from are looked at before one with its literals alone.
 const FEW: usize = 8;
@@ -154,7 +155,13 @@ impl Chains {
     }
 
     /// The position of a clause with a sum that accepts the literals, among so many of the chain.
-    fn find(&self, seen: &mut SeenLits, formula: &Formula, sum: u64, query: Query) -> Found
+    fn find(
+        &self,
+        seen: &mut SeenLits,
+        formula: &Formula,
+        sum: u64,
+        query: Query,
+    ) -> Result<Option<usize>, AllocError>
         ensures { IfOk result (λ found. IfSome found (λ _. IsAccepted formula.now query.entry.lits.now)) }
     {
         let mut position = match self.heads.get(self.chain_of(sum)) {
@@ -209,7 +216,12 @@ impl ClauseIndex {
     }
 
     /// The position of a clause that accepts the literals, of those that have the same sum.
-    fn find(&mut self, seen: &mut SeenLits, formula: &Formula, query: Query) -> Found
+    fn find(
+        &mut self,
+        seen: &mut SeenLits,
+        formula: &Formula,
+        query: Query,
+    ) -> Result<Option<usize>, AllocError>
         ensures { IfOk result (λ found. IfSome found (λ _. IsAccepted formula.now query.entry.lits.now)) }
     {
         let sum = sum_of(self.kind, seen, formula.prefix(), query.lits);
@@ -245,7 +257,12 @@ impl InitialClauses {
     }
 
     /// The position of a clause that accepts the literals.
-    fn find(&mut self, seen: &mut SeenLits, formula: &Formula, lits: &[Lit]) -> Found
+    fn find(
+        &mut self,
+        seen: &mut SeenLits,
+        formula: &Formula,
+        lits: &[Lit],
+    ) -> Result<Option<usize>, AllocError>
         ensures { IfOk result (λ found. IfSome found (λ _. IsAccepted formula.now lits.now)) }
     {
         let most = usize::MAX;
@@ -265,7 +282,7 @@ impl InitialClauses {
         formula: &Formula,
         seen: &mut SeenLits,
         lits: &[Lit],
-    ) -> Holds
+    ) -> Result<bool, AllocError>
         ensures { IfOk result (IsAcceptedIf formula.now lits.now) }
     {
         if accepts_at(seen, formula, self.next, lits)? {

@@ -2,9 +2,6 @@
 
 use std::alloc::AllocError;
 
-/// Whether something holds, unless an allocation fails.
-pub(crate) type Holds = Result<bool, AllocError>;
-
 /// Why a step does not follow, or `None` where it does, unless an allocation fails.
 pub type Judgement = Result<Option<RuleFault>, AllocError>;
 

@@ -8,7 +8,7 @@ ghost use Rattle.qbf_core.specs.Rules.{Clauses, Cubes, IsClean, IsReduct, IsTaut
 ghost use Rattle.qbf_core.specs.Sets.{IsOrdered};
 ghost use Rattle.qrp_rules.specs.Conditions.{IsJudgement, initial_condition};
 
-use crate::fault::{Holds, Judgement, RuleFault};
+use crate::fault::{Judgement, RuleFault};
 use crate::lists::{is_among, is_ordered};
 use crate::walks::ordered_reduct_fault_by;
 use qbf_core::{Formula, Lit, LitSet, Prefix, Quantifier, SetFault, is_member};
@@ -24,7 +24,12 @@ fn has_ordered_reduct(prefix: &Prefix, clause: &[Lit], set: &[Lit]) -> bool
 }
 
 /// Whether a clause as written is clean and has the set as a reduct.
-fn has_reduct(alloc: Global, prefix: &Prefix, clause: &[Lit], set: &[Lit]) -> Holds
+fn has_reduct(
+    alloc: Global,
+    prefix: &Prefix,
+    clause: &[Lit],
+    set: &[Lit],
+) -> Result<bool, AllocError>
     requires bound { AreBound prefix.now clause.now }
     requires ordered { IsOrdered set.now }
     ensures { IfOk result

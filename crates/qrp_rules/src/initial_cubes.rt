@@ -14,7 +14,6 @@ ghost use Rattle.qrp_rules.specs.declared.initial_cubes.Watch.{Watch};
 ghost use Rattle.qrp_rules.specs.Watches.{IsMet, IsTakenOut, IsWatched, IsWatchedBy, IsWatching};
 ghost use Rattle.qrp_rules.specs.Watches.{KeepsWatches};
 
-use crate::fault::Holds;
 use crate::initial::is_tautology;
 use crate::seen::{SeenLits, code, set_if_clean};
 use qbf_core::{Formula, Lit, are_bound};
@@ -152,7 +151,12 @@ impl InitialCubes {
     }
 
     /// Watches a clause by a literal that was seen. `false` if it needs one and has none.
-    fn watch_clause(&mut self, formula: &Formula, seen: &SeenLits, clause: usize) -> Holds
+    fn watch_clause(
+        &mut self,
+        formula: &Formula,
+        seen: &SeenLits,
+        clause: usize,
+    ) -> Result<bool, AllocError>
         ensures kept { KeepsWatches self.old.lists.items self.new.lists.items }
         ensures met { IfOk result
             (λ is. IsTrue is → IsMet 0 formula.now seen.now self.new.lists.items clause) }
@@ -171,7 +175,7 @@ impl InitialCubes {
     }
 
     /// Watches each clause of the formula.
-    fn watch_all(&mut self, formula: &Formula, seen: &SeenLits) -> Holds
+    fn watch_all(&mut self, formula: &Formula, seen: &SeenLits) -> Result<bool, AllocError>
         ensures { IfOk result (λ is. IsTrue is
             → (i : ℕ) → IsMet 0 formula.now seen.now self.new.lists.items i) }
     {
@@ -184,7 +188,12 @@ impl InitialCubes {
     }
 
     /// Takes out the list at a position, and watches its clauses by literals that were seen.
-    fn move_clauses(&mut self, formula: &Formula, seen: &SeenLits, position: usize) -> Holds
+    fn move_clauses(
+        &mut self,
+        formula: &Formula,
+        seen: &SeenLits,
+        position: usize,
+    ) -> Result<bool, AllocError>
         requires { position < length self.old.lists.items }
         ensures met { IfOk result (λ is. IsTrue is → (i : ℕ)
             → IsMet (position + 1) formula.now seen.now self.old.lists.items i
@@ -202,7 +211,7 @@ impl InitialCubes {
     }
 
     /// Watches each clause by a literal that was seen, as they are watched by any.
-    fn renew(&mut self, formula: &Formula, seen: &SeenLits) -> Holds
+    fn renew(&mut self, formula: &Formula, seen: &SeenLits) -> Result<bool, AllocError>
         requires { (i : ℕ) → IsWatched formula.now self.old.lists.items i }
         ensures { IfOk result (λ is. IsTrue is
             → (i : ℕ) → IsMet 0 formula.now seen.now self.new.lists.items i) }
@@ -219,7 +228,7 @@ impl InitialCubes {
     }
 
     /// Watches each clause by a literal that was seen. `false` says that one has none.
-    fn watch(&mut self, formula: &Formula, seen: &SeenLits) -> Holds
+    fn watch(&mut self, formula: &Formula, seen: &SeenLits) -> Result<bool, AllocError>
         requires { IsWatching formula.now self.old }
         ensures { IfOk result (λ is. IsTrue is
             → (i : ℕ) → IsMet 0 formula.now seen.now self.new.lists.items i) }
@@ -239,7 +248,7 @@ impl InitialCubes {
         formula: &Formula,
         seen: &mut SeenLits,
         lits: &[Lit],
-    ) -> Holds
+    ) -> Result<bool, AllocError>
         requires { IsWatching formula.now self.old }
         ensures accepted { IfOk result (IsAcceptedBy
             (initial_condition Cubes formula.now lits.now ∷ []) formula.now.blocks lits.now) }

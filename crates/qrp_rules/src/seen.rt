@@ -9,7 +9,6 @@ ghost use Rattle.qbf_core.specs.Rules.{IsClean};
 ghost use Rattle.qrp_rules.specs.TwoLists.{IsApart};
 ghost use Rattle.qrp_rules.specs.Seen.{AreUpTo, Has, IsFar, code};
 
-use crate::fault::Holds;
 use crate::lists::is_ordered;
 use indexmap::IndexSet;
 use qbf_core::{Lit, Prefix, Var};
@@ -369,7 +368,11 @@ pub(crate) fn find_negated(seen: &SeenLits, lits: &[Lit]) -> Option<Lit>
 }
 
 /// Whether literals are seen to be clean.
-pub(crate) fn surely_clean(seen: &mut SeenLits, prefix: &Prefix, lits: &[Lit]) -> Holds
+pub(crate) fn surely_clean(
+    seen: &mut SeenLits,
+    prefix: &Prefix,
+    lits: &[Lit],
+) -> Result<bool, AllocError>
     ensures { IfOk result (λ t. IsTrue t → IsClean lits.now) }
 {
     if is_ordered(lits) {

@@ -9,11 +9,11 @@ ghost use Rattle.qrp_rules.specs.Conditions.{reduct_conditions};
 ghost use Rattle.qrp_rules.specs.Walks.{TakesOut};
 
 use crate::blocks::{Reducible, reducible_in};
-use crate::fault::Holds;
 use crate::seen::{SeenLits, set_if_clean};
 use crate::side::Side;
 use crate::two_lists::advance_if_equal;
 use qbf_core::{Lit, Prefix};
+use std::alloc::AllocError;
 
 /// Accepts a list that is left of another without some literals that a reduction may take out.
 fn accepts_reduct_as_written(reducible: Reducible, from: &[Lit], to: &[Lit]) -> bool
@@ -99,7 +99,7 @@ pub fn accepts_reduct<S: Side>(
     prefix: &Prefix,
     from: &[Lit],
     to: &[Lit],
-) -> Holds
+) -> Result<bool, AllocError>
     requires { IsFit prefix.now from.now }
     ensures { IfOk result (IsAcceptedBy (reduct_conditions S.side prefix.now from.now to.now)
         prefix.now to.now) }

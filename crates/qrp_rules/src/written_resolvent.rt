@@ -15,7 +15,6 @@ ghost use Rattle.qrp_rules.specs.Seen.{Has};
 ghost use Rattle.qrp_rules.specs.Walks.{TakesOut};
 
 use crate::blocks::{Reducible, reducible_in};
-use crate::fault::Holds;
 use crate::resolution::{Resolution, is_pivot, reducible_in_parents};
 use crate::rules::Rules;
 use crate::seen::{SeenLits, find_negated, put_each, set_if_clean};
@@ -183,7 +182,12 @@ fn surely_ordered_without(lits: &[Lit], var: Var) -> bool
 }
 
 /// Whether literals are seen to be clean, and none to have this variable.
-fn surely_clean_without(seen: &mut SeenLits, prefix: &Prefix, lits: &[Lit], var: Var) -> Holds
+fn surely_clean_without(
+    seen: &mut SeenLits,
+    prefix: &Prefix,
+    lits: &[Lit],
+    var: Var,
+) -> Result<bool, AllocError>
     ensures { IfOk result (λ t. IsTrue t → IsClean lits.now × IsApart lits.now var) }
 {
     if surely_ordered_without(lits, var) {
@@ -200,7 +204,7 @@ fn follows_by_rests<S: Side>(
     prefix: &Prefix,
     step: Resolution,
     rests: Rests,
-) -> Holds
+) -> Result<bool, AllocError>
     requires { IsResolvedBut step.a.now step.b.now step.to.now rests.a.now rests.b.now
         rests.pivot }
     ensures { IfOk result (λ t. IsTrue t → (rules : Rules)

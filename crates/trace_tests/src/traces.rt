@@ -436,7 +436,7 @@ fn writes_a_beginning(rt: HostRuntime) -> Result<(), Fail> {
 }
 
 /// The second and the fourth of five steps are written.
-fn assert_two_written(rt: &impl Abort, alloc: Global, trace: &Trace) -> Result<(), Fail> {
+fn assert_two_written(rt: &impl Abort, alloc: Global, trace: &CompactTrace) -> Result<(), Fail> {
     assert_eq!(rt; trace.len(), 5);
     let mut sink = VecSink::new(alloc, 0)?;
     assert!(rt; write_steps_at(trace, &[1, 3], &mut sink).is_ok());
@@ -449,6 +449,6 @@ fn assert_two_written(rt: &impl Abort, alloc: Global, trace: &Trace) -> Result<(
 
 #[test]
 fn writes_the_steps_at_some_places(rt: HostRuntime) -> Result<(), Fail> {
-    let trace = trace_of(rt.alloc(), TRACE, 4096)?;
+    let trace = read_compact(rt.alloc(), &mut SliceSource::new(TRACE))?;
     assert_two_written(&rt, rt.alloc(), &trace)
 }

@@ -4,7 +4,7 @@ use Rattle.qrp.proofs.whole_trace.keep_steps.Goals as goal
 
 pub steps-preserved : goal.steps-preserved
 steps-preserved g c =
-    let step = rw c.in-Some.is at c.in_ok-to.ensures.leads in
+    let step = rw (c.in-Some.is, c.new-next.ensures) at c.in_ok-to.ensures.leads in
     record {
       leads = leads_further trace_row _ _ _ c.args.values.now c.args.start.0 c.steps.from c.in-Some.to c.steps.invariant.leads
           step.2;

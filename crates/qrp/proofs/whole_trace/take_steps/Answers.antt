@@ -7,4 +7,5 @@ pub returns-in-Ok-clause-leads : goal.returns-in-Ok-clause-leads
 returns-in-Ok-clause-leads g c =
     let xs = c.args.values.now in
     trace_in_turn _ _ _ xs 0 c.in-Ok.from c.take_step.result.1 (leads_further trace_row _ _ _ xs 0 c.in-Between-Ok.from c.in-Ok.from
-    (rw (c.in-Between-Ok.is-1, c.in-Between-Ok.is-0) at c.take_unfinished.ensures.leads) c.in-Ok.ensures.leads) c.take_step.ensures.leads
+    (rw (c.in-Between-Ok.is-1, c.in-Between-Ok.is-0) at c.take_unfinished.ensures.leads) c.in-Ok.ensures.leads)
+    (rw c.new-next.ensures at c.take_step.ensures.leads)

@@ -1,4 +1,4 @@
-//! Steps, as far as their numbers are at hand.
+//! The numbers of steps, as far as they are at hand.
 
 ghost use Rattle.std.specs.Prelude.{◌≡◌, ◌≤◌, ◌<◌, ◌+◌, ◌++◌, length, map, pos};
 ghost use Rattle.std.specs.Prelude.{slice_index_or, slice_range, IfSome, IfOk, IsTrue, OnErr};
@@ -14,16 +14,29 @@ use crate::states::{Lists, State, take_item_start};
 use crate::tokens::{FAULTS, decode_antecedent};
 use dimacs_syntax::decode_literal;
 use qbf_core::{GrowingLists, LAST_VARIABLE, Lit};
-use qbf_text::Token;
+use qbf_text::{Token, Zeros};
 use std::alloc::AllocError;
 
-/// A place among the numbers at hand.
+/// Two places among the numbers at hand.
 #[derive(Clone, Copy)]
-pub struct AtHand {
+pub struct NextPlaces {
     /// The place of the next number.
     pub from: usize,
     /// The place of the next zero, as it seems.
     pub zero: usize,
+}
+
+impl NextPlaces {
+    /// The place of the next number, and that of the zero with this number, as it seems.
+    #[inline(always)]
+    pub fn new(from: usize, zeros: Zeros, zero: usize) -> NextPlaces
+        ensures { result.from ≡ from }
+    {
+        NextPlaces {
+            from,
+            zero: zeros.place(zero),
+        }
+    }
 }
 
 /// Where the next token stands, and the place of the next number.
@@ -38,25 +51,25 @@ pub type Reached = (State, Result<usize, AllocError>);
 fn put_literals(
     lits: &mut GrowingLists<Lit>,
     values: &[i32],
-    hand: AtHand,
+    next: NextPlaces,
 ) -> Result<usize, AllocError>
-    requires within { hand.from ≤ length values.now }
+    requires within { next.from ≤ length values.now }
     ensures put { IfOk result (λ to. lits.new ≡ record lits.old {
-      unfinished = lits.old.unfinished ++ map literal_of (slice_range values.now hand.from to);
+      unfinished = lits.old.unfinished ++ map literal_of (slice_range values.now next.from to);
     }) }
     ensures written { IfOk result
-        (λ to. AllByRecursion (IsWritten 2147483647) (slice_range values.now hand.from to)) }
-    ensures order { IfOk result (λ to. hand.from ≤ to) }
+        (λ to. AllByRecursion (IsWritten 2147483647) (slice_range values.now next.from to)) }
+    ensures order { IfOk result (λ to. next.from ≤ to) }
     ensures within { IfOk result (λ to. to ≤ length values.now) }
     ensures err { OnErr result (lits.new ≡ lits.old) }
 {
-    let to = hand.zero.min(values.len());
-    if hand.from < to {
-        if lits.extend_written(&values[hand.from..to], LAST_VARIABLE)? {
+    let to = next.zero.min(values.len());
+    if next.from < to {
+        if lits.extend_written(&values[next.from..to], LAST_VARIABLE)? {
             return Ok(to);
         }
     }
-    Ok(hand.from)
+    Ok(next.from)
 }
 
 /// Takes literals of the step with this number, from the place `from` on, and the zero after them.
@@ -96,17 +109,17 @@ fn take_literals(lists: &mut Lists, number: u64, values: &[i32], from: usize) ->
 /// Out of memory.
 #[inline(always)]
 #[tactic(auto, using(crate::proofs::BufferedNumbers::numbers_lead_on))]
-fn take_list(here: State, lists: &mut Lists, values: &[i32], hand: AtHand) -> Reached
-    requires here { (hand.from ≤ length values.now) × IsSound here lists.old }
+fn take_list(here: State, lists: &mut Lists, values: &[i32], next: NextPlaces) -> Reached
+    requires here { (next.from ≤ length values.now) × IsSound here lists.old }
     ensures leads { IfOk result.1 (λ to. LeadsOver row (state_at lists.old here)
-        (state_at lists.new result.0) values.now hand.from to) }
+        (state_at lists.new result.0) values.now next.from to) }
     ensures within { IfOk result.1 (λ to. to ≤ length values.now) }
     ensures sound { Stays lists.old lists.new × IsSound result.0 lists.new }
 {
     let State::InLits(number) = here else {
-        return (here, Ok(hand.from));
+        return (here, Ok(next.from));
     };
-    match put_literals(&mut lists.lits, values, hand) {
+    match put_literals(&mut lists.lits, values, next) {
         Ok(to) => take_literals(lists, number, values, to),
         Err(refused) => (here, Err(refused)),
     }
@@ -184,17 +197,17 @@ fn take_number(here: State, lists: &mut Lists, values: &[i32], from: usize) -> (
 /// Out of memory.
 #[inline(always)]
 #[tactic(auto, using(crate::proofs::BufferedNumbers::numbers_lead_on))]
-pub fn take_buffered(here: State, lists: &mut Lists, values: &[i32], hand: AtHand) -> Reached
-    requires here { (hand.from ≤ length values.now) × IsSound here lists.old }
+pub fn take_buffered(here: State, lists: &mut Lists, values: &[i32], next: NextPlaces) -> Reached
+    requires here { (next.from ≤ length values.now) × IsSound here lists.old }
     ensures leads { IfOk result.1 (λ to. LeadsOver row (state_at lists.old here)
-        (state_at lists.new result.0) values.now hand.from to) }
+        (state_at lists.new result.0) values.now next.from to) }
     ensures within { IfOk result.1 (λ to. to ≤ length values.now) }
     ensures sound { Stays lists.old lists.new × IsSound result.0 lists.new }
 {
-    let (state, from) = take_number(here, lists, values, hand.from);
-    let list = AtHand {
+    let (state, from) = take_number(here, lists, values, next.from);
+    let list = NextPlaces {
         from,
-        zero: hand.zero,
+        zero: next.zero,
     };
     match take_list(state, lists, values, list) {
         (State::InAnts(number), Ok(to)) => (
@@ -216,12 +229,12 @@ pub fn is_zero_at(values: &[i32], place: usize) -> bool
 
 /// Whether a zero stands where it seems to, not before the next number.
 #[inline(always)]
-fn has_zero(values: &[i32], hand: AtHand) -> bool
-    ensures order { IsTrue result → hand.from ≤ hand.zero }
-    ensures within { IsTrue result → hand.zero < length values.now }
-    ensures zero { IsTrue result → slice_index_or values.now hand.zero (pos 0) ≡ pos 0 }
+fn has_zero(values: &[i32], next: NextPlaces) -> bool
+    ensures order { IsTrue result → next.from ≤ next.zero }
+    ensures within { IsTrue result → next.zero < length values.now }
+    ensures zero { IsTrue result → slice_index_or values.now next.zero (pos 0) ≡ pos 0 }
 {
-    hand.from <= hand.zero && is_zero_at(values, hand.zero)
+    next.from <= next.zero && is_zero_at(values, next.zero)
 }
 
 /// Takes the literals of the step with this number, and the zero after them, if all of them stand
@@ -234,19 +247,19 @@ fn take_all_literals(
     lists: &mut Lists,
     number: u64,
     values: &[i32],
-    hand: AtHand,
+    next: NextPlaces,
 ) -> Result<bool, AllocError>
     requires sound { IsSound (at.InLits number) lists.old }
-    ensures leads { IfOk result (λ b. IsTrue b → (hand.zero < length values.now)
+    ensures leads { IfOk result (λ b. IsTrue b → (next.zero < length values.now)
         × LeadsOver row (state_at lists.old (at.InLits number))
-        (state_at lists.new (at.InAnts number)) values.now hand.from (hand.zero + 1)) }
+        (state_at lists.new (at.InAnts number)) values.now next.from (next.zero + 1)) }
     ensures sound { IfOk result (λ b. IsTrue b → IsSound (at.InAnts number) lists.new) }
     ensures stays { Stays lists.old lists.new }
 {
-    if !has_zero(values, hand) {
+    if !has_zero(values, next) {
         return Ok(false);
     }
-    let literals = &values[hand.from..hand.zero];
+    let literals = &values[next.from..next.zero];
     if !lists.lits.extend_written(literals, LAST_VARIABLE)? {
         return Ok(false);
     }
@@ -263,26 +276,26 @@ fn take_all_literals(
 pub fn take_whole(
     lists: &mut Lists,
     values: &[i32],
-    hand: AtHand,
+    next: NextPlaces,
 ) -> Result<Option<(u64, usize)>, AllocError>
-    requires within { hand.from < length values.now }
+    requires within { next.from < length values.now }
     ensures leads { IfOk result (λ o. IfSome o (λ s. (s.1 ≤ length values.now)
         × LeadsOver row (state_at lists.old at.Between) (state_at lists.new (at.InAnts s.0))
-        values.now hand.from s.1)) }
+        values.now next.from s.1)) }
     ensures sound { IfOk result (λ o. IfSome o (λ s. IsSound (at.InAnts s.0) lists.new)) }
     ensures stays { Stays lists.old lists.new }
 {
-    let Some(number) = begin_step(lists, values, hand.from) else {
+    let Some(number) = begin_step(lists, values, next.from) else {
         return Ok(None);
     };
-    let list = AtHand {
-        from: hand.from + 1,
-        zero: hand.zero,
+    let list = NextPlaces {
+        from: next.from + 1,
+        zero: next.zero,
     };
     if !take_all_literals(lists, number, values, list)? {
         return Ok(None);
     }
-    let to = take_antecedents(lists, number, values, hand.zero + 1);
+    let to = take_antecedents(lists, number, values, next.zero + 1);
     Ok(Some((number, to)))
 }
 

@@ -5,7 +5,7 @@ use Rattle.qrp.specs.Reading as reading
 use Rattle.qrp.specs.Reading.{row}
 use Rattle.qrp.specs.States.{AreAntecedents}
 use Rattle.qrp.specs.declared.states.State.TheVariants.{InAnts}
-use Rattle.qrp.proofs.buffered.take_antecedents.Given as goal
+use Rattle.qrp.proofs.step_numbers.take_antecedents.Given as goal
 
 abbrev pub invariant-antecedents : goal.invariant-antecedents
 invariant-antecedents l = record {

@@ -2,7 +2,7 @@ use Rattle.qrp.proofs.Cited.{◌-◌, ◌≤◌, length, state_at, IsSound, Stay
 use Rattle.qbf_text.specs.Numbers.{LeadsOver}
 use Rattle.qrp.specs.Reading.{row}
 use Rattle.qrp.specs.declared.states.State.TheVariants.{InLits}
-use Rattle.qrp.proofs.buffered.take_literals.Given as goal
+use Rattle.qrp.proofs.step_numbers.take_literals.Given as goal
 
 abbrev pub invariant-literals : goal.invariant-literals
 invariant-literals l = record {

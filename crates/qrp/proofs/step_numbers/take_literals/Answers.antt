@@ -1,6 +1,6 @@
 use Rattle.qrp.proofs.Cited.{AllByRecursion-push, IsLiteral, arith}
 use Rattle.qrp.proofs.BufferedNumbers.{literal_more}
-use Rattle.qrp.proofs.buffered.take_literals.Goals as goal
+use Rattle.qrp.proofs.step_numbers.take_literals.Goals as goal
 
 pub literals-preserved : goal.literals-preserved
 literals-preserved c =

@@ -3,7 +3,7 @@ use Rattle.std.specs.Prelude.{slice_range}
 use Rattle.qbf_core.specs.WrittenLiterals.{literal_of}
 use Rattle.qrp.specs.Reading.{InLits}
 use Rattle.qrp.proofs.BufferedNumbers.{leads_in_turn, literals_lead, more_literals}
-use Rattle.qrp.proofs.buffered.take_list.Goals as goal
+use Rattle.qrp.proofs.step_numbers.take_list.Goals as goal
 
 pub take_literals-requires : goal.take_literals-requires
 take_literals-requires c =
@@ -14,7 +14,7 @@ take_literals-requires c =
         (
           old.0,
           rw c.in-Ok.ensures.put (more_literals c.args.lists.now.lits.unfinished
-              (slice_range c.args.values.now c.args.hand.from c.in-Ok.to) old.1 c.in-Ok.ensures.written),
+              (slice_range c.args.values.now c.args.next.from c.in-Ok.to) old.1 c.in-Ok.ensures.written),
         ),
       );
     }
@@ -24,7 +24,7 @@ returns-in-Ok-clause-leads c =
     let b = c.args.lists.now in
     let n = c.in-InLits.number in
     let xs = c.args.values.now in
-    let from = c.args.hand.from in
+    let from = c.args.next.from in
     let to = c.in-Ok.to in
     let put = c.in-Ok.ensures in
     rw c.in-InLits.is (leads_in_turn (InLits b.index n b.lits.unfinished)

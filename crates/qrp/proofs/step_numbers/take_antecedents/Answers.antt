@@ -2,7 +2,7 @@ use Rattle.qrp.proofs.Cited.{◌<◌, ◌^◌, AllByRecursion-push, IsNumber, ar
 use Rattle.qrp.proofs.BufferedNumbers.{antecedent_more}
 use Rattle.qrp.specs.Antecedents.{listed}
 use Rattle.qrp.specs.Reading.{row}
-use Rattle.qrp.proofs.buffered.take_antecedents.Goals as goal
+use Rattle.qrp.proofs.step_numbers.take_antecedents.Goals as goal
 
 pub antecedents-init : goal.antecedents-init
 antecedents-init c = rw c.antecedents-ants.ensures (record {
