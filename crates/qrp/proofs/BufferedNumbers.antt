@@ -104,13 +104,4 @@ pub more_literals : (ls : List Literal) (xs : List ℤ) → AllByRecursion IsLit
     → AllByRecursion IsLiteral (ls ++ map literal_of xs)
 more_literals ls xs all written = all_append IsLiteral ls (map literal_of xs) all (written_literals xs written)
 
--- ---- in turn
-
--- numbers lead on, and others after them, unless an allocation fails
-pub leads_in_turn : {E : Type 0} (first mid next : State) (values : List ℤ) (from i : ℕ) (result : Result ℕ E)
-    → LeadsOver row first mid values from i → IfOk result (λ to. LeadsOver row mid next values i to)
-    → IfOk result (λ to. LeadsOver row first next values from to)
-leads_in_turn first mid next values from i (Ok to) l m = leads_further row first mid next values from i to l m
-leads_in_turn first mid next values from i (Err e) l m = tt
-
 pub ruleset numbers_lead_on = (leads_none, leads_more, leads_further)

@@ -1,8 +1,9 @@
+use Rattle.qbf_text.proofs.LeadingNumbers.{leads_in_turn}
 use Rattle.qrp.proofs.Cited.{◌++◌, map, state_at}
 use Rattle.std.specs.Prelude.{slice_range}
 use Rattle.qbf_core.specs.WrittenLiterals.{literal_of}
-use Rattle.qrp.specs.Reading.{InLits}
-use Rattle.qrp.proofs.BufferedNumbers.{leads_in_turn, literals_lead, more_literals}
+use Rattle.qrp.specs.Reading.{InLits, row}
+use Rattle.qrp.proofs.BufferedNumbers.{literals_lead, more_literals}
 use Rattle.qrp.proofs.step_numbers.take_list.Goals as goal
 
 pub take_literals-requires : goal.take_literals-requires
@@ -27,7 +28,7 @@ returns-in-Ok-clause-leads c =
     let from = c.args.next.from in
     let to = c.in-Ok.to in
     let put = c.in-Ok.ensures in
-    rw c.in-InLits.is (leads_in_turn (InLits b.index n b.lits.unfinished)
+    rw c.in-InLits.is (leads_in_turn row (InLits b.index n b.lits.unfinished)
     (InLits b.index n (b.lits.unfinished ++ map literal_of (slice_range xs from to)))
     (state_at c.take_literals.new.lists c.take_literals.result.0) xs from to c.take_literals.result.1
     (literals_lead xs from to b.index n b.lits.unfinished put.order put.within put.written)
