@@ -14,7 +14,6 @@
 mod four;
 mod lanes;
 mod number;
-mod powers;
 mod word;
 mod writing;
 

@@ -6,7 +6,6 @@ ghost use Rattle.std.specs.Int.{w64, to_le_bytes};
 ghost use Rattle.std.specs.Str.Parse.{digits_value, AllDigits};
 ghost use Rattle.decimal.specs.Digits.{AreDigits, AreLeadingDigits, IsWithZeros};
 
-use crate::powers::power_of_ten;
 use crate::word::{number_of_len, short_number};
 
 /// At most this many digits are read: more than these, but for leading zeros, do not fit.
@@ -51,6 +50,18 @@ fn leading_eights(bytes: &[u8]) -> (u64, usize)
         Some(second) => (first * 100_000_000 + second, 16),
         None => (first, 8),
     }
+}
+
+/// The powers of ten, from 10^0 up to 10^7.
+const POWERS: [u64; 8] = [1, 10, 100, 1_000, 10_000, 100_000, 1_000_000, 10_000_000];
+
+/// Ten to the power of a number below 8.
+#[inline(always)]
+fn power_of_ten(exponent: usize) -> u64
+    requires { exponent < 8 }
+    ensures { result ≡ 10 ^ exponent }
+{
+    POWERS[exponent]
 }
 
 /// The value of the first digits and of up to seven that follow them, if these end within eight
