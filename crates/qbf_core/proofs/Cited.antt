@@ -12,7 +12,7 @@ pub use Rattle.qbf_core.specs.declared.place.Place.{Place}
 pub use Rattle.qbf_core.specs.declared.quantifier.Quantifier.{Quantifier}
 pub use Rattle.qbf_core.specs.declared.quantifier.Quantifier.TheVariants.{All, Exists}
 pub use Rattle.std.proofs.Common.{Bool, IsTrue, List, None, Option, Some, [], ap, arith, cond, drop, eqb, false, get_or, inl, inr, is_some}
-pub use Rattle.std.proofs.Common.{length, map, nat_eq, refl, replicate, rules, set, slice_get, subst, suc, sym, take, true, zero, ℕ, ◌++◌}
+pub use Rattle.std.proofs.Common.{length, map, nat_eq, refl, rules, set, slice_get, subst, suc, sym, take, true, zero, ℕ, ◌++◌}
 pub use Rattle.std.proofs.Common.{◌+◌, ◌-◌, ◌<◌, ◌||◌, ◌↔◌, ◌∙◌, ◌∷◌, ◌≡◌, ◌≤◌, ◌⊎◌}
 pub use Rattle.std.proofs.lemmas.Bool.{cases_eq, eq-eqb, eqb-true, false≢true}
 pub use Rattle.std.proofs.lemmas.Bool.Decides.{eqb_tells}

@@ -1,13 +1,13 @@
 -- Line ends, counted among bytes.
-use Rattle.qbf_text.proofs.Cited.{◌≡◌, ℕ, ◌+◌, ◌-◌, ◌^◌, ◌<◌, ◌≤◌, Bool, true, false, nat_eq, cond, List, [], ◌∷◌, ◌++◌, length, take, drop}
-use Rattle.qbf_text.proofs.Cited.{get_or, refl, sym, ap, ◌∙◌, arith, count_by, map, is_line_end, is_separator, IsUnbroken, bool_byte, rules}
+use Rattle.qbf_text.proofs.Cited.{◌≡◌, ℕ, ◌+◌, ◌-◌, ◌^◌, ◌≤◌, false, cond, List, [], ◌∷◌, ◌++◌, length, take, drop}
+use Rattle.qbf_text.proofs.Cited.{refl, sym, ap, ◌∙◌, arith, count_by, map, is_line_end, is_separator, IsUnbroken, rules}
 use Rattle.std.specs.Int.RustNames.{count_ones}
 use Rattle.std.specs.Simd.Lanes.{mask_l, zip2, top}
 use Rattle.std.proofs.Common.{◌%◌, replicate, w8, eqb}
 use Rattle.std.proofs.Math.Seq.{take-add}
 use Rattle.std.proofs.lemmas.Simd.{bitmask_splat, ones-mask_l}
 use Rattle.std.proofs.lemmas.List.{length-take, take_all}
-use Rattle.std.proofs.lemmas.List.Sums.{count_by_more_yes, count_by_more_no, count_by-le-length, sum_by-append, sum_by-cons}
+use Rattle.std.proofs.lemmas.List.Sums.{count_by-le-length, sum_by-append, sum_by-cons}
 
 -- a bit for each of so many bytes, as vectors find it
 pub marks_are : (xs : List ℕ) → 16 ≤ length xs
@@ -24,16 +24,6 @@ counted xs ys = sum_by-append (λ b. cond (is_line_end b) 1 0) xs ys
 pub more : (xs : List ℕ) (i n : ℕ)
     → count_by is_line_end (take (i + n) xs) ≡ count_by is_line_end (take i xs) + count_by is_line_end (take n (drop i xs))
 more xs i n = ap (count_by is_line_end) (take-add i n xs) ∙ counted (take i xs) (take n (drop i xs))
-
--- one byte more
-pub byte_more : (xs : List ℕ) (i : ℕ) → i < length xs
-    → count_by is_line_end (take i xs) + bool_byte (nat_eq (get_or xs i 0) 10) ≡ count_by is_line_end (take (i + 1) xs)
-byte_more xs i within = split (nat_eq (get_or xs i 0) 10) refl
-  where
-    split : (b : Bool) → nat_eq (get_or xs i 0) 10 ≡ b
-        → count_by is_line_end (take i xs) + bool_byte (nat_eq (get_or xs i 0) 10) ≡ count_by is_line_end (take (i + 1) xs)
-    split true e = rw e (sym (count_by_more_yes is_line_end xs i 0 within e))
-    split false e = rw e (omega (arith, count_by_more_no is_line_end xs i 0 within e))
 
 no_line_end : (b : ℕ) → is_separator b ≡ false → is_line_end b ≡ false
 no_line_end b h = search rules

@@ -22,14 +22,13 @@ pub use Rattle.qbf_text.proofs.TokensEndOnce.{tokens-EndsOnce}
 pub use Rattle.qbf_text.specs.WholeTexts.{BytesRead, ReadsAsRead, ReadsOnce}
 pub use Rattle.qbf_text.specs.Canonical.{IsLine, IsPlain, line_text, spaced_number, token_text}
 pub use Rattle.qbf_text.specs.Left.{is_end}
-pub use Rattle.qbf_text.specs.Passing.{LeadOn, Passes}
 pub use Rattle.qbf_text.specs.Rows.{Fails, Goes}
-pub use Rattle.qdimacs.specs.Faults.{IsReadAs, AreGood, IsFault, IsSoFar, Reads, Spells}
+pub use Rattle.qdimacs.specs.Faults.{IsReadAs, AreGood, IsFault, Reads, Spells}
 pub use Rattle.qdimacs.specs.Grammar.{IsFormula, clause, header, lines, spelling, text}
 pub use Rattle.qdimacs.specs.Laws.{ReadsText}
 pub use Rattle.qdimacs.specs.States.{IsMade, IsSound, heading, formula_of, row_to, state_at}
 pub use Rattle.qdimacs.specs.Reading.{ReadResult, AreFrom, AtP, Between, Clauses, Gives, Heading, InClause, InHeader, InSet, IsFull, IsWhole}
-pub use Rattle.qdimacs.specs.Reading.{Pairs, State, Row, Whole, result_of, between_row, decode_bound_literal, clause_row, faults}
+pub use Rattle.qdimacs.specs.Reading.{Pairs, State, Row, Whole, result_of, between_row, faults}
 pub use Rattle.qdimacs.specs.Reading.{is_outside, read, read_formula, reads_bytes, row, set_row}
 pub use Rattle.qdimacs.specs.Texts.{blocks_rest, clauses_text, opening, sets_text}
 pub use Rattle.qdimacs.specs.declared.fault.FormulaFault.{FormulaFault}

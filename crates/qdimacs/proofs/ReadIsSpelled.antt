@@ -1,11 +1,11 @@
 -- What is read is spelled, and a fault that is found stands.
-use Rattle.qdimacs.proofs.Cited.{common_steps, rules, inl, inr, ◌⊎◌, ◌≡◌, ℕ, ◌<◌, ◌≤◌, true, false, List, [], ◌∷◌, ◌++◌, length, map, Ok}
-use Rattle.qdimacs.proofs.Cited.{Err, refl, sym, subst, ◌∙◌, arith, append_assoc, map-append, flat_map, Quantifier, Literal, Block, pairs}
-use Rattle.qdimacs.proofs.Cited.{is_bound, blocks_of, AllByRecursion-push, Token, Lined, number, literal, letter, set, without_lines, Ends}
+use Rattle.qdimacs.proofs.Cited.{common_steps, rules, inl, inr, ◌⊎◌, ◌≡◌, ℕ, ◌≤◌, true, false, List, [], ◌∷◌, ◌++◌, length, Ok}
+use Rattle.qdimacs.proofs.Cited.{Err, refl, sym, subst, ◌∙◌, arith, append_assoc, map-append, flat_map, Quantifier, Block}
+use Rattle.qdimacs.proofs.Cited.{is_bound, blocks_of, Token, Lined, number, set, without_lines, Ends}
 use Rattle.qdimacs.proofs.Cited.{append-nil, pairs_of_block, pairs-blocks_of, Alternates-blocks_of, is_end, push_distinct, flat_map-push}
-use Rattle.qdimacs.proofs.Cited.{decode_member, header, clause, IsFormula, ReadsAsRead, all_of, explained, ResultsAreRead, Reads, IsSoFar}
-use Rattle.qdimacs.proofs.Cited.{Goes, Fails, Heading, State, AtP, InHeader, Between, InSet, InClause, Whole, Row, row, faults, set_row}
-use Rattle.qdimacs.proofs.Cited.{Spells, decode_bound_literal, clause_row, read, IsWhole, result_of, Pairs, Clauses, AreFrom}
+use Rattle.qdimacs.proofs.Cited.{decode_member, header, IsFormula, ReadsAsRead, all_of, explained, ResultsAreRead, Reads}
+use Rattle.qdimacs.proofs.Cited.{Goes, Fails, Heading, State, AtP, InHeader, Between, InSet, Whole, Row, row, faults, set_row}
+use Rattle.qdimacs.proofs.Cited.{Spells, read, IsWhole, result_of, Pairs, Clauses}
 use Rattle.dimacs_syntax.proofs.Cited.{IsDistinct}
 use Rattle.dimacs_syntax.proofs.Cited.token
 use Rattle.qbf_text.specs.Lined.{EndsOnce}
@@ -21,42 +21,6 @@ count_is : (v : ℕ) (t : Token) (next : State) → row (InHeader (place.Second 
 count_is v t next e = search rules
 
 -- ---- one token more
-
-abbrev front : Heading → List Block → Clauses → List Token
-front h sets cs = header h.max_var h.count ++ flat_map set sets ++ flat_map clause cs
-
--- a clause that is unfinished, or about to begin
-record IsUnfinished (ts : List Token) (h : Heading) (ps : Pairs) (cs : Clauses) (ls : List Literal) : Type 0 where
-  sets : List Block
-  spelled : ts ≡ front h sets cs ++ map literal ls
-  bound : pairs sets ≡ ps
-  so_far : IsSoFar h ps cs
-  free : AreFrom ps ls
-  more : length cs < h.count
-
--- a clause goes on with a literal, or is closed
-clause_goes : (h : Heading) (ps : Pairs) (cs : Clauses) (ls : List Literal) (t : Token) (next : State)
-    → clause_row h ps cs ls (decode_bound_literal h.max_var ps t) ≡ Goes next
-    → ((t ≡ number 0) × (next ≡ Between h ps (cs ++ ls ∷ [])))
-    ⊎ ((l : Literal) × (t ≡ literal l) × (is_bound l.var ps ≡ true) × (next ≡ InClause h ps cs (ls ++ l ∷ [])))
-clause_goes h ps cs ls t next e = search rules
-
-clause_step : {ts : List Token} {h : Heading} {ps : Pairs} {cs : Clauses} {ls : List Literal} (t : Token)
-    (next : State) → IsUnfinished ts h ps cs ls → clause_row h ps cs ls (decode_bound_literal h.max_var ps t) ≡ Goes next
-    → Spells (ts ++ t ∷ []) next
-clause_step {h = h} {ps = ps} {cs = cs} {ls = ls} t next b e = elim (clause_goes h ps cs ls t next e) [
-  | inl k ↦ rw (k.1, k.0, b.spelled)
-      (b.sets, (simp (flat_map-push, append_assoc)), b.bound, grind (arith, common_steps))
-  | inr k ↦ rw (k.3, k.1, b.spelled) (
-    b.sets,
-    rw (map-append, append_assoc (front h b.sets cs) (map literal ls) (literal k.0 ∷ [])),
-    b.bound,
-    b.so_far,
-    AllByRecursion-push (λ x. is_bound x.var ps ≡ true) ls k.0 b.free k.2,
-    (λ e. grind (arith, common_steps)),
-    b.more,
-  )
-]
 
 -- a set goes on with a variable, or is closed
 set_goes : (h : Heading) (ps : Pairs) (q : Quantifier) (t : Token) (next : State)
@@ -84,13 +48,6 @@ set_step ts h ps q t next b e = elim (set_goes h ps q t next e) [
     grind (arith, common_steps, push_distinct, is_bound_variables),
   )
 ]
-
--- between lists a set or a clause begins
-between_goes : (h : Heading) (ps : Pairs) (cs : Clauses) (t : Token) (next : State)
-    → row (Between h ps cs) t ≡ Goes next
-    → ((q : Quantifier) × (cs ≡ []) × (t ≡ letter q) × (next ≡ InSet h ps q))
-    ⊎ ((length cs < h.count) × (clause_row h ps cs [] (decode_bound_literal h.max_var ps t) ≡ Goes next))
-between_goes h ps cs t next e = search rules
 
 -- an accepted token leads to a state that the tokens spell
 step : (ts : List Token) (p next : State) (t : Token) → Spells ts p → row p t ≡ Goes next → Spells (ts ++ t ∷ []) next

@@ -157,7 +157,7 @@ fn take_at(here: State, parts: &mut Parts, token: Token) -> Transition
 
 // ---- numbers at hand
 
-/// Where the next token stands, and how many numbers stand before it.
+/// Where the next token stands, and the place of the next number.
 type Reached = (State, Result<usize, AllocError>);
 
 /// Puts the numbers between two places at the end of an unfinished clause, if all of them are

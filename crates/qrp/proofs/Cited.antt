@@ -8,25 +8,23 @@ pub use Rattle.dimacs_syntax.proofs.Worked.{all, exists}
 pub use Rattle.dimacs_syntax.proofs.WrittenParts.{closed_numbers, set_line}
 pub use Rattle.dimacs_syntax.specs.Texts.{set_text}
 pub use Rattle.qbf_text.proofs.AcceptedTokens.{flat_map-push, split_at}
-pub use Rattle.qbf_text.proofs.ReadTexts.{bytes_read_as, explained, unless}
+pub use Rattle.qbf_text.proofs.ReadTexts.{bytes_read_as, explained}
 pub use Rattle.qbf_text.proofs.CanonicalTokens.{all_appended, all_mapped, closed_plain, joined, tokens-lines_text}
-pub use Rattle.qbf_text.proofs.OneToken.{Leads}
-pub use Rattle.qbf_text.proofs.LeadingNumbers.{leads_further, leads_more, leads_none, takes_further, takes_in_turn}
+pub use Rattle.qbf_text.proofs.LeadingNumbers.{leads_further, leads_more, leads_none}
 pub use Rattle.qbf_text.proofs.SentParts.{line_rest-map, part_at_next, part_next, zero_rest}
 pub use Rattle.qbf_text.proofs.TokensEndOnce.{tokens-EndsOnce}
 pub use Rattle.qbf_text.specs.WholeTexts.{BytesRead, ReadsAsRead, ReadsOnce, fault_of}
 pub use Rattle.qbf_text.specs.Canonical.{IsLine, IsPlain, line_text}
 pub use Rattle.qbf_text.specs.Lined.{EndsOnce, Known}
-pub use Rattle.qbf_text.specs.Passing.{LeadOn, Passes}
-pub use Rattle.qbf_text.specs.Reading.{HasFailed, Reading}
+pub use Rattle.qbf_text.specs.Reading.{Reading}
 pub use Rattle.qbf_text.specs.Rows.{Cut, reads_from}
-pub use Rattle.qbf_text.specs.Stopping.{IfKnown, Skips, Stops}
+pub use Rattle.qbf_text.specs.Stopping.{IfKnown, Stops}
 pub use Rattle.qbf_text.specs.Taking.{Leaves, Reads}
 pub use Rattle.qbf_text.specs.declared.grammar.ReadError.{ReadError}
 pub use Rattle.qrp.specs.Returns.{IsReadAs, Gives, StopsAfterResult, is_outside, reads_bytes}
 pub use Rattle.qrp.specs.Derivations.{AreGrammatical, Derivation, IsWellFormed, items_of_lists, steps_at, with_steps_at}
-pub use Rattle.qrp.specs.Flat.{IsFlat, Kept, kept_of, trace_of, steps_of, with_item}
-pub use Rattle.qrp.specs.NextItem.{GivesNextItem, GivesUnless, StopsAfterPart, is_last, known_items, left_after, state_next}
+pub use Rattle.qrp.specs.Flat.{IsFlat, Kept, kept_of, steps_of, with_item}
+pub use Rattle.qrp.specs.NextItem.{GivesNextItem, GivesUnless, StopsAfterPart, known_items, left_after, state_next}
 pub use Rattle.qrp.specs.NextItem.{stage_after}
 pub use Rattle.qrp.specs.Grammar.{IsTrace, header, lines, lists, result, result_word, step, text}
 pub use Rattle.qrp.specs.Inferences.{Inference, IsAt, IsInference, IsLiteral, IsNumber, IsOnlyAt, numbers}

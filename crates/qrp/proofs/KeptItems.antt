@@ -1,5 +1,5 @@
 -- A trace is read as a whole, and each item is put after the others.
-use Rattle.qrp.proofs.Cited.{arith, common_steps, rules, ◌≡◌, ◌≤◌, ℕ, suc, ◌+◌, List, [], ◌∷◌, ◌++◌, length, Option, Some, Result, Ok, Err}
+use Rattle.qrp.proofs.Cited.{arith, common_steps, ◌≡◌, ◌≤◌, ℕ, suc, ◌+◌, List, [], ◌∷◌, ◌++◌, length, Option, Some, Result, Ok, Err}
 use Rattle.qrp.proofs.Cited.{append_assoc, zero, refl, ap, sym, ◌∙◌, append-nil, Qrp, Lined, Token, ahead, left, tokens, tokens_next, ReadError}
 use Rattle.qrp.proofs.Cited.{fault_of, Read, Reading, Cut, read-one, reads_from, IfKnown, Stops, Leaves, Reads, TraceFault, P1, P7, P9}
 use Rattle.qrp.proofs.Cited.{reads_bytes, Gives, StopsAfterResult, Derivation, with_item, Stays, leads_further, leads_more}
@@ -20,7 +20,7 @@ use Rattle.qrp.specs.declared.states.Lists.{Lists}
 use Rattle.qrp.specs.Flat.{kept_of, trace_of, ClosesPart}
 use Rattle.qrp.specs.States.{item_of}
 use Rattle.qrp.specs.Reading.{Fault, State, Row, AtP, Between, After, row, items_from, with_items, nothing, read_trace}
-use Rattle.qrp.specs.WholeTrace.{TraceRead, made_of, nothing_read, kept_row, trace_at, trace_row, HasResult}
+use Rattle.qrp.specs.WholeTrace.{TraceRead, made_of, nothing_read, kept_row, trace_at, trace_row}
 use Rattle.qrp.proofs.SpelledIsRead.{after, items-one, end_row}
 
 -- ---- what is read by the rows of whole traces is what the items make
@@ -64,18 +64,6 @@ no_end d r e = ap (kept_row d) e
 
 trace_end_row : (r : TraceRead) → trace_row r token.End ≡ rows.Fails P7
 trace_end_row r = no_end r.made (row r.state token.End) (end_row r.state)
-
-item_ends : (d : Derivation) (here : State) (next : TraceRead) → kept_row d (rows.Ends tt here) ≡ rows.Ends tt next → HasResult next.state
-item_ends d here next e = search rules
-
-row_ends : (d : Derivation) (r : Row) (next : TraceRead) → kept_row d r ≡ rows.Ends tt next → HasResult next.state
-row_ends d (rows.Goes here) next e = absurd (cc e)
-row_ends d (rows.Fails f) next e = absurd (cc e)
-row_ends d (rows.Ends u here) next e = item_ends d here next e
-
--- the result alone ends a trace
-pub result_last : (r : TraceRead) (t : Token) (next : TraceRead) → trace_row r t ≡ rows.Ends tt next → HasResult next.state
-result_last r t next e = row_ends r.made (row r.state t) next e
 
 -- ---- what a call returns that reads so
 

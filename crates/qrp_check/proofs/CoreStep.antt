@@ -15,7 +15,7 @@ use Rattle.qrp_rules.specs.Conditions.{AllHold, Condition}
 use Rattle.qrp_rules.specs.Accepted.{IsAcceptedBy, IsFit}
 use Rattle.qbf_core.proofs.Bound.{bound_within}
 use Rattle.qbf_core.proofs.Order.{clean_within}
-use Rattle.qrp_check.specs.Kept.{HasMembersAt}
+use Rattle.qrp_check.specs.DistinctLits.{HasMembersAt}
 use Rattle.qrp_check.specs.Earlier.{FindsEarlier, StandsEarlier}
 use Rattle.qrp_check.specs.Premises.{AreFit, ArePremises, IsPremise, found_conditions, written_conditions}
 use Rattle.qrp_check.specs.declared.premises.Premises.{Premises}

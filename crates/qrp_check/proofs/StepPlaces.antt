@@ -1,6 +1,6 @@
 -- Steps at their positions.
-use Rattle.qrp_check.proofs.Cited.{◌≡◌, ℕ, suc, ◌<◌, ◌≤◌, true, false, List, [], ◌∷◌, Some, refl, sym, ◌∙◌, length, rules, slice_get}
-use Rattle.qrp_check.proofs.Cited.{false≢true, cases_eq, Inference, IsAt, IsGoal, at_place}
+use Rattle.qrp_check.proofs.Cited.{◌≡◌, ℕ, ◌<◌, ◌≤◌, true, false, List, [], ◌∷◌, Some, refl, sym, ◌∙◌, length, slice_get}
+use Rattle.qrp_check.proofs.Cited.{false≢true, Inference, IsAt, IsGoal, at_place}
 use Rattle.std.proofs.Common.{eqb}
 use Rattle.std.proofs.Math.Dec.{eqb-suc-zero}
 
@@ -22,9 +22,3 @@ pub goal_here : (steps : List Inference) (i : ℕ) → i < length steps → ((st
 goal_here steps i less empty last =
     let s = at_place steps i less in
     record { step = s.0; here = s.1; empty = empty s.0 s.1; last = last }
-
-pub later_step : (steps : List Inference) (i p : ℕ) → i ≡ suc p
-    → ((step : Inference) → IsAt steps p step → step.lits ≡ [] → ⊥)
-    → ((j : ℕ) (step : Inference) → IsAt steps j step → step.lits ≡ [] → j < i)
-    → (j : ℕ) (step : Inference) → IsAt steps j step → step.lits ≡ [] → j < p
-later_step steps i p is full later j step here empty = search (rules, cases_eq)

@@ -1,7 +1,7 @@
 -- The steps at some places: what holds of them, and that rising places give steps of different numbers.
 use Rattle.qrp_check.proofs.Cited.{◌≡◌, ℕ, suc, ◌+◌, ◌<◌, false, List, [], ◌∷◌, ◌++◌, inr, refl, ap, ◌∙◌, length, rules, take, get_or, Some}
 use Rattle.qrp_check.proofs.Cited.{arith, nat_eq, slice_get, AllByRecursion, take_more, slice_get_cases}
-use Rattle.qrp_check.proofs.Cited.{slice_get-get_or, get_or_from_slice_get, ◌∈◌, Inference, IsAt, numbers, HasOwnNumbers, ListsCore}
+use Rattle.qrp_check.proofs.Cited.{get_or_from_slice_get, ◌∈◌, Inference, IsAt, numbers, HasOwnNumbers, ListsCore}
 use Rattle.qrp_check.proofs.Cited.{steps_at, in_take}
 use Rattle.std.proofs.Common.{◌||◌}
 use Rattle.std.specs.List.{cons_option}
@@ -27,9 +27,6 @@ not_before xs k rises less h =
     omega (arith, below, get_or_from_slice_get xs w.0 (get_or xs k 0) 0 w.2)
 
 -- ---- the places of a core
-
-pub core_rises : (steps : List Inference) (core : List ℕ) → ListsCore steps core → IsStrictlyIncreasing core
-core_rises steps core lists = search (rules, slice_get-get_or)
 
 pub core_inside : (steps : List Inference) (core : List ℕ) → ListsCore steps core → AllByRecursion (λ i. i < length steps) core
 core_inside steps core lists = all_of_each (λ i. i < length steps) core (λ k i here. core_within steps i (lists.sound k i here))

@@ -6,9 +6,9 @@ ghost use Rattle.qrp_check.specs.Core.{IsInCore};
 ghost use Rattle.qrp_check.specs.Followed.{IsCoreFault, IsFollowed};
 ghost use Rattle.qrp_check.specs.Marks.{IsMarked};
 
+use crate::distinct_lits::DistinctLits;
 use crate::fault::CheckFault;
 use crate::hints::Hints;
-use crate::kept::Kept;
 use crate::premises::find_premises;
 use crate::step::{CheckState, Context, step_fault};
 use qrp::KeptSteps;
@@ -18,7 +18,7 @@ use qrp_rules::{InitialSteps, SeenLits, Side};
 #[derive(Drop)]
 pub(crate) struct WalkState {
     hints: Hints,
-    kept: Kept,
+    distinct: DistinctLits,
     tests: CheckState,
 }
 
@@ -37,10 +37,10 @@ fn follow_step<S: Side, T: KeptSteps>(
     ensures refused { IfErr result
         (IsCoreFault context.entry.rules S.side context.entry.formula.now (T.steps trace.now)) }
 {
-    let found = find_premises(trace, &state.kept, position, &mut state.hints);
+    let found = find_premises(trace, &state.distinct, position, &mut state.hints);
     let lits = trace.lits(position);
     match step_fault::<S>(context, found, &mut state.tests, lits)? {
-        None => Ok(state.kept.keep(&mut state.tests.seen, position, lits)?),
+        None => Ok(state.distinct.keep(&mut state.tests.seen, position, lits)?),
         Some(fault) => Err(CheckFault::C6(trace.number(position), fault)),
     }
 }
@@ -65,7 +65,7 @@ pub(crate) fn follow_core<S: Side, T: KeptSteps>(
 {
     let mut state = WalkState {
         hints,
-        kept: Kept::new(context.alloc),
+        distinct: DistinctLits::new(context.alloc),
         tests: CheckState {
             seen: SeenLits::new(context.alloc),
             initial: InitialSteps::new(context.alloc),

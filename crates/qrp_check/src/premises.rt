@@ -2,11 +2,11 @@
 
 ghost use Rattle.std.specs.Prelude.{◌<◌, take, length};
 ghost use Rattle.qrp.specs.Inferences.{Inference, IsAt};
-ghost use Rattle.qrp_check.specs.Kept.{AreKept};
+ghost use Rattle.qrp_check.specs.DistinctLits.{AreKept};
 ghost use Rattle.qrp_check.specs.Premises.{ArePremises};
 
+use crate::distinct_lits::DistinctLits;
 use crate::hints::Hints;
-use crate::kept::Kept;
 use qbf_core::Lit;
 use qrp::{Antecedents, KeptSteps};
 
@@ -26,12 +26,12 @@ pub(crate) enum Premises<'a> {
 #[inline(always)]
 pub(crate) fn find_premises<'a, T: KeptSteps>(
     trace: &'a T,
-    kept: &'a Kept,
+    distinct: &'a DistinctLits,
     position: usize,
     hints: &mut Hints,
 ) -> Option<Premises<'a>>
     requires position { position < length (T.steps trace.now) }
-    requires kept { AreKept (T.steps trace.now) kept.now }
+    requires kept { AreKept (T.steps trace.now) distinct.now }
     ensures { (step : Inference) → IsAt (T.steps trace.now) position step
         → ArePremises (take position (T.steps trace.now)) step.ants result }
 {
@@ -39,13 +39,13 @@ pub(crate) fn find_premises<'a, T: KeptSteps>(
         Antecedents::Empty => Some(Premises::Initial),
         Antecedents::One(only) => {
             let from = hints.find_again(trace, position, only)?;
-            Some(Premises::One(kept.lits(trace, from)))
+            Some(Premises::One(distinct.lits(trace, from)))
         }
         Antecedents::Two(first, second) => {
             // The positions were found in the other order.
             let b = hints.find_again(trace, position, second)?;
             let a = hints.find_again(trace, position, first)?;
-            Some(Premises::Two(kept.lits(trace, a), kept.lits(trace, b)))
+            Some(Premises::Two(distinct.lits(trace, a), distinct.lits(trace, b)))
         }
     }
 }

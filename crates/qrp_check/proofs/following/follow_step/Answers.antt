@@ -1,6 +1,6 @@
 use Rattle.qrp_check.proofs.Cited.{ℕ, List, Some, sym, take, Qbf, Inference, at_place}
 use Rattle.qrp_check.proofs.CoreStep.{found_answer, premises_fit, followed_here}
-use Rattle.qrp_check.proofs.KeptSteps.{written_members}
+use Rattle.qrp_check.proofs.DistinctLits.{written_members}
 use Rattle.qrp_check.proofs.Marking.{core_within}
 use Rattle.qrp_check.proofs.following.follow_step.Goals as goal
 

@@ -3,10 +3,10 @@ use Rattle.std.specs.Prelude.{◌≡◌, ℕ, List, Some, length, slice_get}
 use Rattle.qbf_core.specs.Literal.{Literal}
 use Rattle.qbf_core.specs.Sets.{HasMembersOf}
 use Rattle.qrp.specs.Inferences.{Inference, IsAt}
-use Rattle.qrp_check.specs.declared.kept.Kept.{Kept}
+use Rattle.qrp_check.specs.declared.distinct_lits.DistinctLits.{DistinctLits}
 
 -- these literals are kept of the step at position p
-pub record IsKeptAt (kept : Kept) (p : ℕ) (lits : List Literal) : Type 0 where
+pub record IsKeptAt (kept : DistinctLits) (p : ℕ) (lits : List Literal) : Type 0 where
   pub index : ℕ
   pub place : slice_get kept.positions.items index ≡ Some p
   pub list : slice_get kept.lists.whole index ≡ Some lits
@@ -16,6 +16,6 @@ abbrev pub HasMembersAt : List Inference → ℕ → List Literal → Type 0
 HasMembersAt steps p lits = (step : Inference) → IsAt steps p step → HasMembersOf lits step.lits
 
 -- what is kept of each step has its members
-pub record AreKept (steps : List Inference) (kept : Kept) : Type 0 where
+pub record AreKept (steps : List Inference) (kept : DistinctLits) : Type 0 where
   pub count : length kept.positions.items ≡ length kept.lists.whole
   pub same : (p : ℕ) (lits : List Literal) → IsKeptAt kept p lits → HasMembersAt steps p lits

@@ -2,7 +2,7 @@
 
 ghost use Rattle.std.specs.Prelude.{◌≡◌, ◌<◌, List, [], ◌∷◌, ◌++◌, length, IfSome, OnOk};
 ghost use Rattle.qrp.specs.Inferences.{Inference};
-ghost use Rattle.qrp_check.specs.Kept.{AreKept, HasMembersAt, IsKeptAt};
+ghost use Rattle.qrp_check.specs.DistinctLits.{AreKept, HasMembersAt, IsKeptAt};
 
 use qbf_core::{GrowingLists, Lit};
 use qrp::KeptSteps;
@@ -12,19 +12,19 @@ use std::alloc::{AllocError, Global};
 /// The steps that were accepted and seen to repeat a literal, with each of their literals once. So
 /// the repetitions of a step do not take time again wherever it is an antecedent.
 #[derive(Drop)]
-pub(crate) struct Kept {
+pub(crate) struct DistinctLits {
     /// The positions of these steps in the trace. They go up.
     positions: Vec<usize>,
     /// Their literals.
     lists: GrowingLists<Lit>,
 }
 
-impl Kept {
+impl DistinctLits {
     /// No steps. It takes no memory yet.
-    pub(crate) fn new(alloc: Global) -> Kept
+    pub(crate) fn new(alloc: Global) -> DistinctLits
         ensures { (steps : List Inference) → AreKept steps result }
     {
-        Kept {
+        DistinctLits {
             positions: Vec::new(alloc),
             lists: GrowingLists::new(alloc),
         }

@@ -1,6 +1,6 @@
 use Rattle.std.proofs.Common.{refl}
-use Rattle.qrp_check.proofs.KeptSteps.{kept_more, still_kept}
-use Rattle.qrp_check.proofs.kept.Kept.keep.Goals as goal
+use Rattle.qrp_check.proofs.DistinctLits.{kept_more, still_kept}
+use Rattle.qrp_check.proofs.distinct_lits.DistinctLits.keep.Goals as goal
 
 pub returns-then-not-branch : goal.returns-then-not-branch
 returns-then-not-branch c = λ steps of_step are.

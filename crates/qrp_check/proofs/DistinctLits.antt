@@ -4,8 +4,8 @@ use Rattle.qrp_check.proofs.Cited.{Literal, Inference, IsAt, same_self, slice_ge
 use Rattle.std.proofs.lemmas.List.{length_push}
 use Rattle.qbf_core.specs.Sets.{HasMembersOf}
 use Rattle.qbf_core.proofs.PushedItems.{pushed_cases}
-use Rattle.qrp_check.specs.Kept.{AreKept, HasMembersAt, IsKeptAt}
-use Rattle.qrp_check.specs.declared.kept.Kept.{Kept}
+use Rattle.qrp_check.specs.DistinctLits.{AreKept, HasMembersAt, IsKeptAt}
+use Rattle.qrp_check.specs.declared.distinct_lits.DistinctLits.{DistinctLits}
 
 -- what is lent of a step as it is written
 pub written_members : (steps : List Inference) (p : ℕ) (lits : List Literal) → ((step : Inference) → IsAt steps p step → lits ≡ step.lits)
@@ -13,7 +13,7 @@ pub written_members : (steps : List Inference) (p : ℕ) (lits : List Literal) �
 written_members steps p lits is step here = subst (λ (z : List Literal). HasMembersOf lits z) (is step here) (same_self lits)
 
 -- no list is added
-pub still_kept : (steps : List Inference) (old new : Kept) → new.positions.items ≡ old.positions.items
+pub still_kept : (steps : List Inference) (old new : DistinctLits) → new.positions.items ≡ old.positions.items
     → new.lists.whole ≡ old.lists.whole → AreKept steps old → AreKept steps new
 still_kept steps old new e f are = record {
   count = ap length e ∙ are.count ∙ sym (ap length f);
@@ -25,7 +25,7 @@ still_kept steps old new e f are = record {
 }
 
 -- one list is added, which has the members of the step
-pub kept_more : (steps : List Inference) (old new : Kept) (p : ℕ) (list lits : List Literal)
+pub kept_more : (steps : List Inference) (old new : DistinctLits) (p : ℕ) (list lits : List Literal)
     → new.positions.items ≡ old.positions.items ++ p ∷ [] → new.lists.whole ≡ old.lists.whole ++ list ∷ []
     → HasMembersOf list lits → HasMembersAt steps p lits → AreKept steps old → AreKept steps new
 kept_more steps old new p list lits e f same own are = record {
