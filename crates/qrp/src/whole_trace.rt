@@ -151,7 +151,7 @@ fn take_unfinished<A: AntecedentLists>(
 ///
 /// # Errors
 /// Out of memory.
-#[inline(never)]
+#[inline(always)]
 fn take_steps<A: AntecedentLists>(
     here: State,
     parts: &mut Parts<A>,
@@ -208,6 +208,22 @@ impl<A: AntecedentLists> TraceGrammar<A> {
         }
     }
 
+    /// Goes over the numbers at hand as far as they are taken, and returns how many these are.
+    ///
+    /// # Errors
+    /// Out of memory.
+    #[inline(never)]
+    fn advance(&mut self, values: &[i32], zeros: Zeros) -> Result<usize, AllocError>
+        ensures leads { IfOk result (λ to. LeadsOver trace_row self.old self.new values.now 0 to) }
+        ensures within { IfOk result (λ to. to ≤ length values.now) }
+    {
+        // The state stays where it is: one that is returned would be copied with its padding, by
+        // loads that wait for the stores before them.
+        let (state, reached) = take_steps(self.state, &mut self.parts, values, zeros);
+        self.state = state;
+        reached
+    }
+
     /// What was kept, and the result. It takes no memory.
     pub fn into_parts(self) -> (Parts<A>, Outcome)
         requires { HasResult self.state }
@@ -245,9 +261,8 @@ impl<A: AntecedentLists> Grammar for TraceGrammar<A> {
 
     #[inline(always)]
     fn take_numbers(&mut self, values: &[i32], zeros: Zeros) -> Result<Progress<()>, AllocError> {
-        let (state, reached) = take_steps(self.state, &mut self.parts, values, zeros);
-        self.state = state;
-        Ok((reached?, None))
+        let count = self.advance(values, zeros)?;
+        Ok((count, None))
     }
 
     #[inline(always)]
