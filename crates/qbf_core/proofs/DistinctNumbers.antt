@@ -1,8 +1,7 @@
 -- Distinct numbers, one after the other.
 use Rattle.qbf_core.proofs.Cited.{arith, common_steps, rules, ◌≡◌, ℕ, zero, suc, false, List, [], ◌∷◌, ◌++◌, Some, refl, ap, subst}
-use Rattle.qbf_core.proofs.Cited.{slice_get, nat_eq, AllByRecursion, list_any}
+use Rattle.qbf_core.proofs.Cited.{slice_get, nat_eq, AllByRecursion, list_any, IsDistinct}
 use Rattle.std.specs.Cmp.{nat_eq_equiv}
-use Rattle.std.specs.List.{IsDistinct}
 use Rattle.std.proofs.lemmas.Map.Keys.{IsDistinct-head, IsDistinct-tail, IsDistinct-push}
 
 pub middle : {X : Type 0} (P : X → Type 0) (xs more : List X) (x : X) → AllByRecursion P (xs ++ x ∷ more) → P x

@@ -24,7 +24,6 @@ written_here (x ∷ xs) zero y less = refl
 written_here (x ∷ xs) (suc k) y less = written_here xs k y (omega arith)
 
 pub written_elsewhere : {A : Type 0} (xs : List A) (k j : ℕ) (y : A) → (j ≡ k → ⊥) → slice_get (set xs k y) j ≡ slice_get xs j
-written_elsewhere [] k j y ne = refl
 written_elsewhere (x ∷ xs) zero j y ne = grind (arith, common_steps)
-written_elsewhere (x ∷ xs) (suc k) zero y ne = refl
 written_elsewhere (x ∷ xs) (suc k) (suc j) y ne = written_elsewhere xs k j y (λ e. ne (ap suc e))
+written_elsewhere xs k j y ne = refl

@@ -1,12 +1,10 @@
 -- The table of a prefix, beside its entries.
-use Rattle.qbf_core.proofs.Cited.{common_steps, ◌≡◌, ℕ, zero, suc, ◌≤◌, ◌<◌, Bool, true, false, cond, List, [], ◌∷◌, ◌++◌, length, Option}
-use Rattle.qbf_core.proofs.Cited.{Some, None, ◌⊎◌, inl, inr, refl, ap, sym, subst, ◌∙◌, arith, slice_get, get_or, take, drop, nat_eq}
-use Rattle.qbf_core.proofs.Cited.{lookup, keys_of, AllByRecursion, eq-eqb, slice_get_within, slice_get_read, Place, IsVariable, IsTable}
-use Rattle.qbf_core.proofs.Cited.{IsBeyond, IsIndexOf}
-use Rattle.std.proofs.Common.{if◌then◌else◌, slice_set, length-append}
-use Rattle.std.specs.List.{IsDistinct}
+use Rattle.qbf_core.proofs.Cited.{rules, common_steps, ◌≡◌, ℕ, zero, suc, ◌≤◌, ◌<◌, Bool, true, false, cond, List, [], ◌∷◌, ◌++◌, length}
+use Rattle.qbf_core.proofs.Cited.{Option, Some, None, ◌⊎◌, inr, refl, ap, sym, subst, ◌∙◌, arith, slice_get, get_or, take, drop}
+use Rattle.qbf_core.proofs.Cited.{nat_eq, lookup, keys_of, AllByRecursion, eq-eqb, slice_get_within, slice_get_read, Place, IsVariable}
+use Rattle.qbf_core.proofs.Cited.{IsTable, IsBeyond, IsIndexOf, IsDistinct, FitsTable}
+use Rattle.std.proofs.Common.{if◌then◌else◌, slice_set}
 use Rattle.std.specs.Prelude.{IfSome}
-use Rattle.qbf_core.specs.Places.{FitsTable}
 use Rattle.std.proofs.lemmas.Bool.{ne_eqb}
 use Rattle.qbf_core.proofs.PushedItems.{pushed_cases}
 
@@ -45,17 +43,11 @@ lookup_fits n (e ∷ es) h = grind (arith, common_steps, lookup_fits n es h.1, h
 module _ (table : List (Option Place)) (es : List (ℕ × Place)) (is : IsTable table es) where
   -- one more entry, of the next number
   pub table_pushed : (slot : Option Place) → slot ≡ lookup (nat_eq (length table)) es → IsTable (table ++ slot ∷ []) es
-  table_pushed slot here = λ n o e. elim (pushed_cases table slot n o e) [
-    | inl h ↦ is n o h
-    | inr h ↦ h.1 ∙ (here ∙ ap (λ m. lookup (nat_eq m) es) (sym h.0))
-  ]
+  table_pushed slot here = search (rules, pushed_cases)
 
   -- a new variable that the table reaches
   pub table_noted : (v : ℕ) (p : Place) → lookup (nat_eq v) es ≡ None → IsTable (slice_set table v (Some p)) (es ++ (v, p) ∷ [])
-  table_noted v p none = λ n o e. elim (set_cases table v n (Some p) o e) [
-    | inl h ↦ subst (λ m. o ≡ lookup (nat_eq m) (es ++ (v, p) ∷ [])) (sym h.0) (h.1 ∙ sym (lookup_new v p es none))
-    | inr h ↦ is n o h.1 ∙ sym (lookup_other n v p es (ne_eqb n v h.0))
-  ]
+  table_noted v p none = search (rules, set_cases, lookup_new, lookup_other)
 
   -- and one that it does not reach
   pub table_short : (v : ℕ) (p : Place) → length table ≤ v → IsTable table (es ++ (v, p) ∷ [])
@@ -66,19 +58,13 @@ module _ (table : List (Option Place)) (es : List (ℕ × Place)) (is : IsTable 
   -- an entry that is read
   pub slot_found : (read : List (Option Place)) (v n : ℕ) (slot : Option Place) → read ≡ table → n ≡ v → n < length read
       → slot ≡ get_or read n slot → slot ≡ lookup (nat_eq v) es
-  slot_found read v n slot same number less at =
-      let there : slice_get read n ≡ Some slot = slice_get_read read (length read) n slot refl less at in
-      is v slot (ap (slice_get table) (sym number) ∙ (ap (λ xs. slice_get xs n) (sym same) ∙ there))
+  slot_found read v n slot same number less at = search (rules, slice_get_read)
 
 -- one more entry of the table, which was in the map before, or none where it is refused
 pub index_grown : (table : List (Option Place)) (far : List (ℕ × Place)) (given : Bool) (slot : Option Place)
     → slot ≡ lookup (nat_eq (length table)) far
     → (es : List (ℕ × Place)) → IsIndexOf table far es → IsIndexOf (if given then table ++ slot ∷ [] else table) far es
-index_grown table far true slot here es index = (
-  table_pushed table es index.0 slot (here ∙ index.1 (length table) (omega arith)),
-  λ n long. index.1 n (omega (arith, long, length-append table (slot ∷ []))),
-)
-index_grown table far false slot here es index = index
+index_grown table far given slot here es index = grind (arith, common_steps, table_pushed)
 
 -- a new variable that the table reaches, and one that it does not reach
 pub beyond_noted : (reached : ℕ) (far es : List (ℕ × Place)) (v : ℕ) (p : Place) → v < reached
@@ -107,8 +93,7 @@ distinct_push (e ∷ es) v p none d = by (nat_eq v e.0) refl (λ rest. distinct_
 
     by : (t : Bool) → nat_eq v e.0 ≡ t → (lookup (nat_eq v) es ≡ None → IsDistinct nat_eq (keys_of (es ++ (v, p) ∷ [])))
         → IsDistinct nat_eq (keys_of ((e ∷ es) ++ (v, p) ∷ []))
-    by true is more = absurd (let h : Some e.1 ≡ None = rw is at none in cc h)
-    by false is more = (apart (flipped is) es d.0, more (rw is at none))
+    by t is more = search (rules, apart, flipped)
 
 -- a number that the table was read at in vain
 pub outside : {X : Type 0} (read table : List X) (v n : ℕ) → read ≡ table → n ≡ v → length read ≤ n → length table ≤ v

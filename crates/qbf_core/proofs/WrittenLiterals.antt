@@ -1,11 +1,9 @@
 -- Literals that are put as the numbers that they are.
-use Rattle.qbf_core.proofs.Cited.{common_steps, ◌≡◌, ◌≤◌, ◌+◌, ◌-◌, ℕ, zero, suc, List, [], ◌∷◌, ◌++◌, length, take, drop, map, refl, sym, ap}
-use Rattle.qbf_core.proofs.Cited.{◌∙◌, arith, AllByRecursion, Bool, IsTrue, Literal}
-use Rattle.std.specs.Prelude.{ℤ, slice_index_or, slice_range, Result, Ok, Err, IfOk}
-use Rattle.std.proofs.Common.{append_assoc}
+use Rattle.qbf_core.proofs.Cited.{rules, common_steps, ◌≡◌, ◌≤◌, ◌+◌, ◌-◌, ℕ, zero, suc, List, [], ◌∷◌, ◌++◌, length, take, drop, map, refl}
+use Rattle.qbf_core.proofs.Cited.{sym, ap, ◌∙◌, arith, AllByRecursion, Bool, IsTrue, Literal, literal_of}
+use Rattle.std.specs.Prelude.{ℤ, slice_index_or, slice_range, Result, IfOk}
 use Rattle.std.proofs.Math.Seq.{take-append-add, take-length}
-use Rattle.std.proofs.lemmas.List.{map-append, take-map}
-use Rattle.qbf_core.specs.WrittenLiterals.{literal_of}
+use Rattle.std.proofs.lemmas.List.{take-map}
 
 -- ---- four items from a place on
 
@@ -15,8 +13,7 @@ after_four place = omega arith
 
 first_four : {X : Type 0} (d : X) (xs : List X) → 4 ≤ length xs
     → take 4 xs ≡ slice_index_or xs 0 d ∷ slice_index_or xs 1 d ∷ slice_index_or xs 2 d ∷ slice_index_or xs 3 d ∷ []
-first_four d (a ∷ b ∷ c ∷ e ∷ xs) h = refl
-first_four d xs h = grind (arith, common_steps)
+first_four d xs h = search rules
 
 next_four : {X : Type 0} (d : X) (xs : List X) (place : ℕ) → place + 4 ≤ length xs → take 4 (drop place xs)
     ≡ slice_index_or xs place d ∷ slice_index_or xs (place + 1) d ∷ slice_index_or xs (place + 2) d ∷ slice_index_or xs (place + 3) d ∷ []
@@ -29,11 +26,10 @@ pub four_at : {X : Type 0} (d : X) (xs : List X) (place : ℕ) → place + 4 ≤
 four_at d xs place h = ap (λ k. take k (drop place xs)) (after_four place) ∙ next_four d xs place h
 
 take_further : {X : Type 0} (xs : List X) (place k : ℕ) → take (place + k) xs ≡ take place xs ++ take k (drop place xs)
-take_further xs zero k = grind (arith, common_steps)
-take_further [] (suc place) k = grind (arith, common_steps)
 take_further (x ∷ xs) (suc place) k =
     let same : suc place + k ≡ suc (place + k) = omega arith in
     ap (λ n. take n (x ∷ xs)) same ∙ ap (λ (ys : List _). x ∷ ys) (take_further xs place k)
+take_further xs place k = grind (arith, common_steps)
 
 take_four : {X : Type 0} (xs : List X) (place : ℕ) → take (place + 4) xs ≡ take place xs ++ slice_range xs place (place + 4)
 take_four xs place = take_further xs place 4 ∙ ap (λ k. take place xs ++ take k (drop place xs)) (sym (after_four place))
@@ -57,19 +53,13 @@ all_fewer P (x ∷ xs) (suc last) (suc place) le h = (h.0, all_fewer P xs last p
 
 pub all_whole : {X : Type 0} (P : X → Type 0) (xs : List X) (last place : ℕ) → last ≤ place → last + 4 ≡ length xs
     → AllByRecursion P (take place xs) → AllByRecursion P (slice_range xs last (last + 4)) → AllByRecursion P xs
-all_whole P xs last place le is h k =
-    let all : take (last + 4) xs ≡ xs = rw is (take-length xs) in
-    rw all at (all_four P xs last (all_fewer P xs last place le h) k)
+all_whole P xs last place le is h k = grind (arith, common_steps, all_four, all_fewer)
 
 -- ---- literals put after others
 
 pub four_more : (old now new : List Literal) (xs : List ℤ) (place : ℕ) → now ≡ old ++ map literal_of (take place xs)
     → new ≡ now ++ map literal_of (slice_range xs place (place + 4)) → new ≡ old ++ map literal_of (take (place + 4) xs)
-four_more old now new xs place e f =
-    f ∙ ap (λ ls. ls ++ map literal_of (slice_range xs place (place + 4))) e
-    ∙ append_assoc old (map literal_of (take place xs)) (map literal_of (slice_range xs place (place + 4)))
-    ∙ ap (λ ls. old ++ ls) (sym (map-append literal_of (take place xs) (slice_range xs place (place + 4))))
-    ∙ ap (λ ns. old ++ map literal_of ns) (sym (take_four xs place))
+four_more old now new xs place e f = grind (arith, common_steps, map, take_four)
 
 take_fewer : {X : Type 0} (xs : List X) (last place : ℕ) → last ≤ place → take last (take place xs) ≡ take last xs
 take_fewer [] last place le = grind (arith, common_steps)
@@ -92,5 +82,4 @@ whole_put old now cut new xs last place le is e c f =
     ∙ ap (λ ns. old ++ map literal_of ns) (rw is (take-length xs))
 
 pub if_put : {A B E : Type 0} (r : Result Bool E) → IfOk r (λ b. IsTrue b → A) → (A → B) → IfOk r (λ b. IsTrue b → B)
-if_put (Ok b) h f = λ t. f (h t)
-if_put (Err e) h f = tt
+if_put r h f = search rules

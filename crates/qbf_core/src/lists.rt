@@ -93,6 +93,7 @@ impl<T: Copy + Drop> GrowingLists<T> {
 
     /// The whole list at place `i`, counted from 0; `i` is below `whole_len()`.
     #[inline(always)]
+    #[tactic(auto, using(crate::proofs::Buffer::part_place))]
     pub fn get(&self, i: usize) -> &[T]
         requires { i < length self.now.whole }
         ensures { slice_get self.now.whole i ≡ Some result.now }

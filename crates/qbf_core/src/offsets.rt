@@ -59,6 +59,7 @@ impl Offsets {
     }
 
     /// The last end, or 0 if there is none.
+    #[tactic(auto, using(crate::proofs::Buffer::last_is))]
     pub fn last(&self) -> usize
         ensures { result ≡ end_of 0 self.now }
     {

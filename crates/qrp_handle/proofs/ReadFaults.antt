@@ -4,23 +4,15 @@ use Rattle.qbf_core.specs.Qbf.{Qbf}
 use Rattle.qrp.specs.Inferences.{Inference}
 use Rattle.qrp_handle.specs.Adding.{IsReadFault, IsClauseFault, IsStepFault}
 use Rattle.qrp_handle.specs.declared.fault.AddFault.{AddFault}
-use Rattle.qrp_handle.specs.declared.fault.AddFault.TheVariants.{NoMemory, Range, Bound, Unbound, Full, Used, Many}
+use Rattle.qrp_handle.specs.declared.fault.AddFault.TheVariants.{NoMemory, Range}
 
 pub clause_fault : (f : Qbf) (written : List ℤ) (e : AddFault) → IsReadFault written e → IsClauseFault f written e
 clause_fault f written NoMemory h = tt
 clause_fault f written Range h = h
-clause_fault f written Bound h = absurd h
-clause_fault f written Unbound h = absurd h
-clause_fault f written Full h = absurd h
-clause_fault f written Used h = absurd h
-clause_fault f written Many h = absurd h
+clause_fault f written e h = absurd h
 
 pub step_fault : (steps : List Inference) (number : ℕ) (written : List ℤ) (ants : List ℕ) (e : AddFault) → IsReadFault written e
     → IsStepFault steps number written ants e
 step_fault steps number written ants NoMemory h = tt
 step_fault steps number written ants Range h = λ _ all _. h all
-step_fault steps number written ants Bound h = absurd h
-step_fault steps number written ants Unbound h = absurd h
-step_fault steps number written ants Full h = absurd h
-step_fault steps number written ants Used h = absurd h
-step_fault steps number written ants Many h = absurd h
+step_fault steps number written ants e h = absurd h

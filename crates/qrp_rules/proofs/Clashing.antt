@@ -28,8 +28,7 @@ clash_cases a b i v x less e (inr (p, q)) = elim (in_take_more a i x (negative v
 ]
 
 pub clash_wider : (a a' b : List Literal) (v : ℕ) → ((l : Literal) → l ∈ a → l ∈ a') → Clashes a b v → Clashes a' b v
-clash_wider a a' b v wide (inl (p, q)) = inl (wide (positive v) p, q)
-clash_wider a a' b v wide (inr (p, q)) = inr (wide (negative v) p, q)
+clash_wider a a' b v wide h = search rules
 
 -- a variable that clashes is that of a literal
 pub clash_var : (a b : List Literal) (v : ℕ) → Clashes a b v → (l : Literal) × (l ∈ a) × (l.var ≡ v)
@@ -72,7 +71,3 @@ clash_second a b i y x o less e h one =
 
 pub clash_none : (a b : List Literal) (i : ℕ) → length a ≤ i → ((v : ℕ) → Clashes (take i a) b v → ⊥) → (v : ℕ) → Clashes a b v → ⊥
 clash_none a b i long none v h = none v (clash_wider a (take i a) b v (λ l k. in_take_all a i l long k) h)
-
-pub no_clash : (b : List Literal) (v : ℕ) → Clashes [] b v → ⊥
-no_clash b v (inl (p, q)) = p
-no_clash b v (inr (p, q)) = p

@@ -1,6 +1,6 @@
 -- Walks over ordered lists side by side.
 use Rattle.qrp_rules.proofs.Cited.{◌≡◌, ◌<◌, ◌≤◌, ◌+◌, ℕ, suc, zero, List, [], ◌∷◌, length, get_or, drop, Bool, ◌↔◌, IsTrue, rules}
-use Rattle.qrp_rules.proofs.Cited.{slice_get, Some, refl, sym, ap, subst, ◌∙◌, inl, inr, arith, Literal, ◌∈◌, ◌⊆◌, IsOrdered, lit_test}
+use Rattle.qrp_rules.proofs.Cited.{slice_get, Some, refl, sym, subst, ◌∙◌, inl, inr, arith, Literal, ◌∈◌, ◌⊆◌, IsOrdered, lit_test}
 use Rattle.qrp_rules.proofs.Cited.{drop_more}
 use Rattle.std.proofs.Common.{eqb, ◌&&◌}
 use mathlib.Core.Bool.{beq}
@@ -56,13 +56,11 @@ reach_in whole rest part i x y less e r is h = r.kept x.var y (x, in_drop part i
 -- the first of an ordered list
 pub first_least : (first : Literal) (others : List Literal) (v : ℕ) (m : Literal) → v ≤ first.var → IsOrdered (first ∷ others)
     → m ∈ (first ∷ others) → v ≤ m.var
-first_least first others v m le o (inl e) = let var_of : Literal → ℕ = λ z. z.var in let s : m.var ≡ first.var = ap var_of e in omega arith
-first_least first others v m le o (inr h) = let lt : first.var < m.var = o.0 m h in omega arith
+first_least first others v m le o w = search rules
 
 pub rest_keeps : (first : Literal) (others : List Literal) (v : ℕ) (m : Literal) → first.var < v → v ≤ m.var → m ∈ (first ∷ others)
     → m ∈ others
-rest_keeps first others v m lt le (inl e) = search rules
-rest_keeps first others v m lt le (inr h) = h
+rest_keeps first others v m lt le w = search rules
 
 -- the test of the first literal of an ordered list whose variables are no earlier
 pub first_is : (xs : List Literal) (l first : Literal) → slice_get xs 0 ≡ Some first → IsOrdered xs → ((m : Literal) → m ∈ xs

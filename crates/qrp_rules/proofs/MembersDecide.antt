@@ -1,9 +1,8 @@
 -- Rules look at members alone: lists with the same members meet the same conditions.
-use Rattle.qrp_rules.proofs.Cited.{◌≡◌, ℕ, List, [], ◌∷◌, ◌++◌, ◌⊎◌, Option, Some, None, inl, inr, refl, ◌∙◌, rules, Literal, positive}
-use Rattle.qrp_rules.proofs.Cited.{negative, ◌∈◌, ◌⊆◌, Block, Qbf, Side, Clauses, Cubes, IsReducible, IsReduct, Clashes, resolvent}
-use Rattle.qrp_rules.proofs.Cited.{IsInitial, HasMembersOf, in_without, from_without, RuleFault, Rules, Condition, AllHold, IsFirstFailure}
-use Rattle.qrp_rules.proofs.Cited.{IsJudgement, IsReducibleInParents, reduct_conditions, resolvent_conditions, initial_condition, in_append}
-use Rattle.qrp_rules.proofs.Cited.{append_left, append_right}
+use Rattle.qrp_rules.proofs.Cited.{◌≡◌, ℕ, List, [], ◌∷◌, ◌++◌, ◌⊎◌, Option, inl, inr, refl, ◌∙◌, rules, Literal, ◌∈◌, ◌⊆◌, Block, Qbf}
+use Rattle.qrp_rules.proofs.Cited.{Side, Clauses, Cubes, IsReducible, IsReduct, Clashes, resolvent, IsInitial, HasMembersOf, in_without}
+use Rattle.qrp_rules.proofs.Cited.{from_without, RuleFault, Rules, Condition, AllHold, IsFirstFailure, IsJudgement, IsReducibleInParents}
+use Rattle.qrp_rules.proofs.Cited.{reduct_conditions, resolvent_conditions, initial_condition, in_append, append_left, append_right}
 
 -- two lists of conditions have equal names, and each condition of the one follows from that of the other
 abbrev pub AreImplied : List (Condition RuleFault) → List (Condition RuleFault) → Type 0
@@ -14,22 +13,19 @@ AreImplied ((n, p) ∷ qs) ((m, r) ∷ rs) = (n ≡ m) × (p → r) × AreImplie
 
 same_hold : (qs rs : List (Condition RuleFault)) → AreImplied qs rs → AllHold qs → AllHold rs
 same_hold [] [] s all = tt
-same_hold [] (r ∷ rs) s all = absurd s
-same_hold (q ∷ qs) [] s all = absurd s
 same_hold ((n, p) ∷ qs) ((m, r) ∷ rs) s all = (s.1 all.0, same_hold qs rs s.2 all.1)
+same_hold qs rs s all = absurd s
 
 same_fails : (qs rs : List (Condition RuleFault)) (fault : RuleFault) → AreImplied qs rs → AreImplied rs qs → IsFirstFailure qs fault
     → IsFirstFailure rs fault
 same_fails [] [] fault s b f = f
-same_fails [] (r ∷ rs) fault s b f = absurd s
-same_fails (q ∷ qs) [] fault s b f = absurd s
 same_fails ((n, p) ∷ qs) ((m, r) ∷ rs) fault s b (inl (out, is)) = inl ((λ h. out (b.1 h)), is ∙ s.0)
 same_fails ((n, p) ∷ qs) ((m, r) ∷ rs) fault s b (inr (h, later)) = inr (s.1 h, same_fails qs rs fault s.2 b.2 later)
+same_fails qs rs fault s b f = absurd s
 
 pub same_answer : (qs rs : List (Condition RuleFault)) (answer : Option RuleFault) → AreImplied qs rs → AreImplied rs qs
     → IsJudgement qs answer → IsJudgement rs answer
-same_answer qs rs None s b all = same_hold qs rs s all
-same_answer qs rs (Some fault) s b fails = same_fails qs rs fault s b fails
+same_answer qs rs answer s b all = search (rules, same_hold, same_fails)
 
 pub same_self : (a : List Literal) → HasMembersOf a a
 same_self a = ((λ l h. h), (λ l h. h))
@@ -42,8 +38,7 @@ same_reducible : (side : Side) (blocks : List Block) (a b : List Literal) (l : L
 same_reducible side blocks a b l s red = (red.0, λ m h d. red.1 m (s.1 m h) d)
 
 same_clashes : (a a' b b' : List Literal) (x : ℕ) → HasMembersOf a a' → HasMembersOf b b' → Clashes a b x → Clashes a' b' x
-same_clashes a a' b b' x s t (inl (p, q)) = inl (s.0 (positive x) p, t.0 (negative x) q)
-same_clashes a a' b b' x s t (inr (p, q)) = inr (s.0 (negative x) p, t.0 (positive x) q)
+same_clashes a a' b b' x s t h = search rules
 
 resolvent_to : (a a' b b' : List Literal) (x : ℕ) → HasMembersOf a a' → HasMembersOf b b' → (l : Literal) → l ∈ resolvent a b x
     → l ∈ resolvent a' b' x
@@ -72,8 +67,7 @@ reduct_members side blocks a a' to to' s t r = search (rules, each_same)
 -- two antecedents
 within_same : (a a' b b' to to' : List Literal) → HasMembersOf a a' → HasMembersOf b b' → HasMembersOf to to'
     → ((x : ℕ) → Clashes a b x → to ⊆ resolvent a b x) → (x : ℕ) → Clashes a' b' x → to' ⊆ resolvent a' b' x
-within_same a a' b b' to to' s t u w x c l h =
-    resolvent_to a a' b b' x s t l (w x (same_clashes a' a b' b x (same_back a a' s) (same_back b b' t) c) l (u.1 l h))
+within_same a a' b b' to to' s t u w x c l h = search (rules, resolvent_to, same_clashes, same_back, u.1)
 
 accounts_same : (side : Side) (blocks : List Block) (a a' b b' to to' : List Literal) → HasMembersOf a a' → HasMembersOf b b'
     → HasMembersOf to to'

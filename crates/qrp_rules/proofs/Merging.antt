@@ -1,8 +1,7 @@
 -- Steps that are written exactly as they follow: what the walk over them shows.
-use Rattle.qrp_rules.proofs.Cited.{◌≡◌, ◌<◌, ◌≤◌, ◌+◌, ℕ, List, ◌∷◌, ◌++◌, ◌⊎◌, length, get_or, take, drop, slice_get, Some, refl}
-use Rattle.qrp_rules.proofs.Cited.{sym, ap, subst, ◌∙◌, inl, inr, arith, cases_eq, Literal, ◌∈◌, ◌⊆◌, in_take_all, in_take_more}
-use Rattle.qrp_rules.proofs.Cited.{take_more_in, take_within, IsNext, drop_more, take-append-drop}
-use Rattle.qrp_rules.proofs.Cited.{slice_get_within, get_or_from_slice_get}
+use Rattle.qrp_rules.proofs.Cited.{◌≡◌, ◌<◌, ◌≤◌, ◌+◌, ℕ, List, ◌∷◌, ◌++◌, ◌⊎◌, length, get_or, take, drop, slice_get, Some, refl, sym, ap}
+use Rattle.qrp_rules.proofs.Cited.{subst, ◌∙◌, inl, inr, arith, cases_eq, Literal, ◌∈◌, ◌⊆◌, in_take_all, in_take_more, take_more_in}
+use Rattle.qrp_rules.proofs.Cited.{take_within, IsNext, drop_more, take-append-drop, slice_get_within, get_or_from_slice_get}
 
 -- ---- one literal more
 

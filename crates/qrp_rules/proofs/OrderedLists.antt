@@ -13,8 +13,7 @@ ordered_taken xs i x less e o below =
 -- an ordered list in another is no longer than that, and is all of it where it is as long
 first_out : (t f m : Literal) (ts fs : List Literal) → IsOrdered (t ∷ ts) → IsOrdered (f ∷ fs) → t ∈ fs → m ∈ (t ∷ ts) → m ∈ (f ∷ fs)
     → m ∈ fs
-first_out t f m ts fs o p h k (inr in_rest) = in_rest
-first_out t f m ts fs o p h k (inl e) = search rules
+first_out t f m ts fs o p h k w = search rules
 
 rest_in : (t f : Literal) (ts fs : List Literal) → IsOrdered (t ∷ ts) → t ≡ f → (t ∷ ts) ⊆ (f ∷ fs) → ts ⊆ fs
 rest_in t f ts fs o e sub m h = search rules

@@ -1,7 +1,7 @@
 -- Reducible literals by one innermost block.
 use Rattle.std.proofs.Common.{max, min}
 use Rattle.qrp_rules.proofs.Cited.{arith, ◌≡◌, ◌∙◌, ◌<◌, ℕ, zero, suc, List, ◌++◌, ◌⊎◌, ◌↔◌, ◌≤◌, Option, Some, None, refl, sym, subst, inl, inr, rules, cases_eq}
-use Rattle.qrp_rules.proofs.Cited.{Quantifier, Literal, ◌∈◌, Block, Binds, Side, Clauses, Cubes, reduced_quantifier, deciding_quantifier}
+use Rattle.qrp_rules.proofs.Cited.{Quantifier, Literal, ◌∈◌, Block, Binds, Side, reduced_quantifier, deciding_quantifier}
 use Rattle.qrp_rules.proofs.Cited.{Clashes, IsReducible, resolvent, in_append, append_left, append_right, in_without, from_without}
 use Rattle.qrp_rules.proofs.Cited.{IsReducibleInParents, Accounts, IsHeldBefore, IsInnermost, StandsAfter, TakesOut, ◌⊆◌, AllHold, reduct_conditions}
 use Rattle.qbf_core.specs.Blocks.{block_in, pairs}
@@ -96,8 +96,7 @@ reducible_after side blocks reduced deciding lits block er ed is l = (
 
 -- what is reducible in a list is so with more literals that have the reduced quantifier
 pub quantifiers_differ : (side : Side) → Some (reduced_quantifier side) ≡ Some (deciding_quantifier side) → ⊥
-quantifiers_differ Clauses e = cc e
-quantifiers_differ Cubes e = cc e
+quantifiers_differ side e = search rules
 
 pub reducible_wider : (side : Side) (blocks : List Block) (May : Literal → Type 0) (from to : List Literal)
     → ((l : Literal) → May l ↔ IsReducible side blocks to l) → ((l : Literal) → l ∈ from → (l ∈ to) ⊎ May l)
@@ -108,19 +107,13 @@ reducible_wider side blocks May from to same each l may = search (rules, quantif
 pub reduct_without : (side : Side) (blocks : List Block) (May : Literal → Type 0) (from to : List Literal)
     → ((l : Literal) → May l ↔ IsReducible side blocks to l) → to ⊆ from → ((l : Literal) → l ∈ from → (l ∈ to) ⊎ May l)
     → AllHold (reduct_conditions side blocks from to)
-reduct_without side blocks May from to same within each = (
-  within,
-  ((λ l h. elim (each l h) [ inl k ↦ inl k | inr may ↦ inr (reducible_wider side blocks May from to same each l may) ]), tt),
-)
+reduct_without side blocks May from to same within each = search (rules, reducible_wider)
 
 -- so what may be left out is reducible, where there is no pivot
 pub each_reducible : (side : Side) (blocks : List Block) (reducible : Reducible) (from to : List Literal)
     → ((l : Literal) → TakesOut reducible l.var ↔ IsReducible side blocks from l)
     → Covers (Some reducible) None from to ↔ ((l : Literal) → l ∈ from → (l ∈ to) ⊎ IsReducible side blocks from l)
-each_reducible side blocks reducible from to same = (
-  (λ all l h. elim (all l h) [ inl k ↦ inl k | inr (inl none) ↦ absurd none | inr (inr may) ↦ inr ((same l).0 may) ]),
-  (λ all l h. elim (all l h) [ inl k ↦ inl k | inr red ↦ inr (inr ((same l).1 red)) ]),
-)
+each_reducible side blocks reducible from to same = search rules
 
 -- a variable stands after the outer one of two blocks exactly where it stands after one of them
 stands_outer : (blocks : List Block) (q : Quantifier) (one other both : ℕ) (v : ℕ)
@@ -233,8 +226,7 @@ module _ (side : Side) (blocks : List Block) (reduced deciding : Quantifier) (er
 
       kept : (l : Literal) → (l ∈ to) ⊎ Red (resolvent a b x) l
           → (l ∈ to) ⊎ (Red (resolvent a b x) l ⊎ IsReducibleInParents side blocks a b l)
-      kept l (inl k) = inl k
-      kept l (inr red) = inr (inl red)
+      kept l h = search rules
 
 -- where nothing but the pivot is left out of either antecedent, nothing is left out of their resolvent
 pub resolvent_kept : (side : Side) (blocks : List Block) (a b to : List Literal) (x : ℕ) → Covers None (Some x) a to

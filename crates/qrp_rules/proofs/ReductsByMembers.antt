@@ -1,19 +1,15 @@
 -- Initial steps: reducts by their members, and clauses by their places.
-use Rattle.qrp_rules.proofs.Cited.{◌≡◌, ◌+◌, ◌↔◌, IsTrue, Bool, true, false, ℕ, List, refl, sym, rules, slice_get, Option, Some, None, take}
-use Rattle.qrp_rules.proofs.Cited.{false≢true, ◌∈◌, Literal, positive, Block, Side, IsClean, IsTautology, IsReduct, RuleFault, IsJudgement}
+use Rattle.qrp_rules.proofs.Cited.{◌≡◌, ◌+◌, ◌↔◌, IsTrue, Bool, ℕ, List, sym, rules, slice_get, Option, Some, take}
+use Rattle.qrp_rules.proofs.Cited.{◌∈◌, Literal, positive, Block, Side, IsClean, IsTautology, IsReduct, RuleFault, IsJudgement}
 use Rattle.qrp_rules.proofs.Cited.{Clauses, IsAcceptedIf, Qbf, reduct_conditions, slice_get_within, get_or_from_slice_get, each_more}
 use Rattle.qrp_rules.specs.Accepted.{IsAcceptedBy, IsAcceptedStep}
 use Rattle.std.proofs.Common.{Err, IfOk, Ok, Result, not}
 use Rattle.std.specs.Option.{is_some}
-use Rattle.qrp_rules.proofs.FirstFailures.{no_fault}
 
 -- a test of the reduct's conditions decides whether it is one
 pub reduct_told : (side : Side) (blocks : List Block) (from to : List Literal) (answer : Option RuleFault) (t : Bool)
     → IsJudgement (reduct_conditions side blocks from to) answer → is_some answer ≡ not t → IsTrue t ↔ IsReduct side blocks from to
-reduct_told side blocks from to None true all e = ((λ _. record { within = all.0; each = all.1.0 }), (λ _. refl))
-reduct_told side blocks from to None false all e = absurd (cc e)
-reduct_told side blocks from to (Some fault) true fails e = absurd (cc e)
-reduct_told side blocks from to (Some fault) false fails e = search (rules, false≢true, no_fault)
+reduct_told side blocks from to answer t all e = search rules
 
 -- a tautology is not clean
 pub not_clean : (lits : List Literal) → IsTautology lits → IsClean lits → ⊥

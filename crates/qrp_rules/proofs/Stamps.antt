@@ -1,5 +1,5 @@
 -- Numbers with the stamp of a time.
-use Rattle.qrp_rules.proofs.Cited.{◌≡◌, ◌<◌, ◌≤◌, ◌+◌, ◌⊎◌, ℕ, zero, suc, Bool, true, false, List, [], ◌∷◌, length, get_or, refl, sym}
+use Rattle.qrp_rules.proofs.Cited.{common_steps, ◌≡◌, ◌<◌, ◌+◌, ◌⊎◌, ℕ, zero, suc, Bool, true, false, List, [], ◌∷◌, length, get_or}
 use Rattle.qrp_rules.proofs.Cited.{arith, rules, cases_eq, eqb-true, set, length-set, Literal, AreUpTo, code}
 use Rattle.std.proofs.Common.{◌*◌, if◌then◌else◌}
 use Rattle.std.proofs.lemmas.Bool.{eq-eqb}
@@ -27,12 +27,7 @@ pub none_later : (xs : List ℕ) (last now n : ℕ) → AreUpTo xs last → last
 none_later xs last now n upto later h = search (rules, stamp_of)
 
 pub zeros_upto : (xs : List ℕ) (k : ℕ) → xs ≡ replicate k 0 → AreUpTo xs 0
-zeros_upto xs k e n = rw e (zero_at k n)
-  where
-    zero_at : (k n : ℕ) → get_or (replicate k 0) n 0 ≤ 0
-    zero_at zero n = omega arith
-    zero_at (suc k) zero = omega arith
-    zero_at (suc k) (suc n) = zero_at k n
+zeros_upto xs k e n = grind (arith, common_steps)
 
 -- one number more
 pub stamp_more : (xs : List ℕ) (i now n : ℕ) → i < length xs → Holds (members_by_stamp (set xs i now) now) n → Holds (members_by_stamp xs now) n ⊎ (n ≡ i)
@@ -41,15 +36,8 @@ stamp_more xs i now n less h = search (rules, cases_eq, stamp_of, set, length-se
 pub more_stamp : (xs : List ℕ) (i now n : ℕ) → i < length xs → Holds (members_by_stamp xs now) n ⊎ (n ≡ i) → Holds (members_by_stamp (set xs i now) now) n
 more_stamp xs i now n less h = search (rules, set, length-set, cases_eq, of_stamp, get_or-set_same, stamp_of, get_or-set_other)
 
--- literals with the same number are the same
-even_odd : (m n : ℕ) → 2 * m + 1 ≡ 2 * n + 0 → ⊥
-even_odd m n e = omega (arith, e)
-
 code_by : (m n : ℕ) (a b : Bool) → 2 * m + (if a then 1 else 0) ≡ 2 * n + (if b then 1 else 0) → (m ≡ n) × (a ≡ b)
-code_by m n true true e = let f : 2 * m + 1 ≡ 2 * n + 1 = e in (omega (arith, f), refl)
-code_by m n false false e = let f : 2 * m + 0 ≡ 2 * n + 0 = e in (omega (arith, f), refl)
-code_by m n true false e = absurd (even_odd m n e)
-code_by m n false true e = absurd (even_odd n m (sym e))
+code_by m n a b e = search rules
 
 pub code_one : (l m : Literal) → code l ≡ code m → l ≡ m
 code_one l m e = let w = code_by l.var m.var l.negative m.negative e in same_lit l m w.0 w.1

@@ -1,13 +1,12 @@
 -- Clauses that are watched, while lists are written to, added and taken out.
 use Rattle.qbf_core.specs.declared.quantifier.Quantifier.TheVariants.{All}
 use Rattle.qrp_rules.specs.Accepted.{IsAcceptedBy}
-use Rattle.qrp_rules.specs.Initial.{IsAcceptedIf}
-use Rattle.qrp_rules.proofs.Cited.{◌⊎◌, ◌≡◌, ◌<◌, ◌+◌, ◌-◌, ℕ, zero, suc, List, [], ◌∷◌, ◌++◌, length, get_or, slice_get, Some, Contains}
-use Rattle.qrp_rules.proofs.Cited.{Bool, true, false, refl, sym, ap, subst, ◌∙◌, inl, inr, arith, take, rules, set, cases_eq, length-set}
-use Rattle.qrp_rules.proofs.Cited.{slice_get_within, get_or_from_slice_get, Literal, ◌∈◌, Qbf, Side, Clauses, Cubes, IsInitial, IsTautology}
-use Rattle.qrp_rules.proofs.Cited.{reduced_quantifier, Exists, initial_condition, Has, IsMet, IsWatchedBy, Members, Watch, in_got}
-use Rattle.qrp_rules.proofs.Cited.{Contains-push}
-use Rattle.std.proofs.Common.{◌≢◌, Result, Ok, Err}
+use Rattle.qrp_rules.proofs.Cited.{IsAcceptedIf, ◌⊎◌, ◌≡◌, ◌<◌, ◌+◌, ◌-◌, ℕ, zero, suc, List, [], ◌∷◌, ◌++◌, length, get_or, slice_get}
+use Rattle.qrp_rules.proofs.Cited.{Some, Contains, Bool, true, false, refl, sym, ap, subst, ◌∙◌, inl, inr, arith, take, rules, set}
+use Rattle.qrp_rules.proofs.Cited.{cases_eq, length-set, slice_get_within, get_or_from_slice_get, Literal, ◌∈◌, Qbf, Side, Cubes}
+use Rattle.qrp_rules.proofs.Cited.{IsInitial, IsTautology, reduced_quantifier, Exists, initial_condition, Has, IsMet, IsWatchedBy, Members}
+use Rattle.qrp_rules.proofs.Cited.{Watch, in_got, Contains-push, Result, Ok, Err}
+use Rattle.std.proofs.Common.{◌≢◌}
 use Rattle.std.specs.Prelude.{⊤, IfOk, IsTrue, OnOk, OnErr}
 use Rattle.std.specs.List.{swap_remove}
 use Rattle.std.proofs.lemmas.List.{length_push}
@@ -18,9 +17,7 @@ use Rattle.std.proofs.lemmas.List.Elements.{Contains-push_cases}
 -- what stands at the position of the list of a literal is that list
 pub list_here : (lists : List Watch) (k : ℕ) (w now : Watch) (l : Literal) → slice_get lists k ≡ Some w → w.lit ≡ l
     → now ≡ get_or lists k now → (slice_get lists k ≡ Some now) × (now.lit ≡ l)
-list_here lists k w now l at lit is =
-    let same : now ≡ w = is ∙ get_or_from_slice_get lists k w now at in
-    (at ∙ ap Some (sym same), ap (λ (z : Watch). z.lit) same ∙ lit)
+list_here lists k w now l at lit is = search (rules, get_or_from_slice_get)
 
 -- a list is written over by one of the same literal that has its clauses too
 pub written_keeps : (lists : List Watch) (k : ℕ) (was new : Watch) → slice_get lists k ≡ Some was → new.lit ≡ was.lit
@@ -65,9 +62,8 @@ last_one i xs ys e = subst (λ (zs : List ℕ). Contains zs i) (sym e) (Contains
 
 taken_front : {A : Type 0} (xs : List A) (m k : ℕ) → k < m → slice_get (take m xs) k ≡ slice_get xs k
 taken_front xs zero k less = absurd (omega arith)
-taken_front [] (suc m) k less = refl
-taken_front (x ∷ xs) (suc m) zero less = refl
 taken_front (x ∷ xs) (suc m) (suc k) less = taken_front xs m k (omega arith)
+taken_front xs (suc m) k less = refl
 
 -- an item is taken out, and the last one comes in its place: another item comes before that place only from before it
 swapped : {A : Type 0} (xs : List A) (n k : ℕ) (d a : A) → n < length xs → slice_get xs k ≡ Some a → k ≢ n
@@ -149,16 +145,7 @@ pub pending_met : (n : ℕ) (f : Qbf) (seen : Members) (left rest : List ℕ) (l
 pending_met n f seen left rest last old new split kept met i was = λ clause at. elim (was clause at) [
   | inl h ↦ elim (Contains-push_cases rest last i (subst (λ (xs : List ℕ). Contains xs i) split h)) [
     | inl older ↦ inl older
-    | inr e ↦ elim (met clause (subst (λ (m : ℕ). slice_get f.clauses m ≡ Some clause) (sym e) at)) [
-      | inl t ↦ inr (inl t)
-      | inr w ↦ inr (inr (
-        w.0,
-        w.1,
-        w.2,
-        subst (λ (m : ℕ). IsWatchedBy new w.2 w.0 m) e w.3,
-        elim w.4 [ inl none ↦ absurd (omega (arith, none)) | inr has ↦ inr has ],
-      ))
-    ]
+    | inr e ↦ search rules
   ]
   | inr (inl t) ↦ inr (inl t)
   | inr (inr w) ↦ inr (inr (w.0, w.1, w.2, kept.watched w.2 w.0 i w.3, w.4))
@@ -187,11 +174,9 @@ all_watched f seen lists false met = tt
 -- what is an initial clause or cube is an initial step of the side that reduces its quantifier
 pub accepted_clause : {E : Type 0} (side : Side) (f : Qbf) (lits : List Literal) (r : Result Bool E) → reduced_quantifier side ≡ All
     → IfOk r (IsAcceptedIf f lits) → IfOk r (IsAcceptedBy (initial_condition side f lits ∷ []) f.blocks lits)
-accepted_clause Clauses f lits r e h = h
-accepted_clause Cubes f lits r e h = absurd (cc e)
+accepted_clause side f lits r e h = search rules
 
 pub accepted_cube : {E : Type 0} (side : Side) (f : Qbf) (lits : List Literal) (r : Result Bool E) → reduced_quantifier side ≡ Exists
     → IfOk r (IsAcceptedBy (initial_condition Cubes f lits ∷ []) f.blocks lits)
     → IfOk r (IsAcceptedBy (initial_condition side f lits ∷ []) f.blocks lits)
-accepted_cube Clauses f lits r e h = absurd (cc e)
-accepted_cube Cubes f lits r e h = h
+accepted_cube side f lits r e h = search rules

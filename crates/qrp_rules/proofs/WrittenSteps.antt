@@ -1,18 +1,16 @@
 -- Steps as they are written, in any order, follow from what the walk over them shows.
 use Rattle.qrp_rules.specs.Accepted.{IsAcceptedBy, IsAcceptedStep, IsFit}
-use Rattle.qrp_rules.proofs.Cited.{IsTrue, ◌≡◌, ◌<◌, ◌≤◌, ◌+◌, ℕ, List, [], ◌∷◌, ◌++◌, ◌⊎◌, ◌↔◌, Bool, length, get_or, take, drop}
+use Rattle.qrp_rules.proofs.Cited.{IsTrue, ◌≡◌, ◌<◌, ◌≤◌, ◌+◌, ℕ, List, ◌∷◌, ◌++◌, ◌⊎◌, ◌↔◌, Bool, length, get_or, take, drop}
 use Rattle.qrp_rules.proofs.Cited.{slice_get, Some, None, refl, rules, sym, ap, subst, ◌∙◌, inl, inr, arith, cases_eq, take-append-drop}
-use Rattle.qrp_rules.proofs.Cited.{Literal, negated, positive, negative, ◌∈◌, ◌⊆◌, Block, Side, Clashes, IsClean, IsOnlyClash, IsReducible}
+use Rattle.qrp_rules.proofs.Cited.{Literal, negated, ◌∈◌, ◌⊆◌, Block, Side, Clashes, IsClean, IsOnlyClash, IsReducible}
 use Rattle.qrp_rules.proofs.Cited.{resolvent, in_without, from_without, in_take_all, in_take_more, in_append, append_left, append_right}
 use Rattle.qrp_rules.proofs.Cited.{take_more_in, take_within, got_in, Rules, AllHold, AllowsPivot, resolvent_conditions, IsApart}
-use Rattle.qrp_rules.proofs.Cited.{IsMergeSoFar, IsNext, Accounts, IsPutBy, Has, Members, clash_here, clean_within, slice_get_read}
-use Rattle.std.proofs.Common.{Err, IfOk, Ok, Result}
+use Rattle.qrp_rules.proofs.Cited.{IsMergeSoFar, IsNext, Accounts, IsPutBy, Has, Members, clash_here, clean_within, slice_get_read, Err}
+use Rattle.qrp_rules.proofs.Cited.{IfOk, Ok, Result, AreBound, common_steps}
 use Rattle.std.proofs.lemmas.List.{take_all}
-use Rattle.qbf_core.specs.Blocks.{AreBound}
 use Rattle.qbf_core.proofs.Inferences.{resolvent_clean, resolvent_bound}
 use Rattle.qbf_core.proofs.Members.{negated_differs, negated_twice, drop_within}
 use Rattle.qrp_rules.specs.TwoLists.{IsMergeBut, IsResolvedBut}
-use Rattle.std.proofs.lemmas.Grind.{common_steps}
 use Rattle.qrp_rules.proofs.Merging.{in_pass, pass_in, pass_inside, pass_takes, split_at}
 use Rattle.qrp_rules.proofs.ResolventRows.{at_pivot}
 
@@ -81,10 +79,7 @@ resolved_at a b to s t u rest_a rest_b i j k x y in_a at_a in_b at_b opposite es
       in_b = subst (λ (z : Literal). z ∈ b) opposite (got_in b j y here_b);
       from = λ l h. elim (in_parts to k l h) [
         | inl p ↦ elim (so_far.from l p) [ inl q ↦ inl (take_within a i l q) | inr q ↦ inr (take_within b j l q) ]
-        | inr p ↦ elim (rests.from l (subst (λ (zs : List Literal). l ∈ zs) (sym eu) p)) [
-          | inl q ↦ inl (drop_within a (i + 1) l (subst (λ (zs : List Literal). l ∈ zs) es q))
-          | inr q ↦ inr (drop_within b (j + 1) l (subst (λ (zs : List Literal). l ∈ zs) et q))
-        ]
+        | inr p ↦ search (rules, drop_within)
       ];
       left = λ l h. elim (in_around a i x l here_a h) [
         | inl e ↦ inl (ap var_of e)
@@ -102,8 +97,7 @@ resolved_at a b to s t u rest_a rest_b i j k x y in_a at_a in_b at_b opposite es
     var_of z = z.var
 
     past : (l : Literal) (rest : List Literal) → (l ∈ u) ⊎ (l ∈ rest) → (l ∈ to) ⊎ (l ∈ rest)
-    past l rest (inl h) = inl (drop_within to k l (subst (λ (zs : List Literal). l ∈ zs) eu h))
-    past l rest (inr h) = inr h
+    past l rest w = search (rules, drop_within)
 
 -- the pivot among what is left
 pub resolved_after : (a b to s t : List Literal) (i j k : ℕ) (x : Literal) → k ≡ length to → s ≡ drop i a → t ≡ drop j b
@@ -132,13 +126,7 @@ resolved_whole a b to one both x y is of_a (in_b, has) of_b each =
     record {
       in_a = in_a;
       in_b = opposite;
-      from = λ l h. elim (each l h) [
-        | inl e ↦ elim (this_or_opposite l x e) [
-          | inl same ↦ inl (subst (λ (z : Literal). z ∈ a) (sym same) in_a)
-          | inr other ↦ inr (subst (λ (z : Literal). z ∈ b) (sym other) opposite)
-        ]
-        | inr h ↦ elim (of_b l h) [ inl k ↦ inl (of_a l k) | inr k ↦ inr k ]
-      ];
+      from = search (rules, this_or_opposite);
       left = λ l h. inr (inr h);
       right = λ l h. inr (inr h);
     }
@@ -154,22 +142,13 @@ module _ (rules : Rules) (side : Side) (blocks : List Block) (a b to rest_a rest
     (of_a : (l : Literal) → l ∈ rest_a → (l.var ≡ x.var) ⊎ In l) (of_b : (l : Literal) → l ∈ rest_b → (l.var ≡ x.var) ⊎ In l)
     (only : (l : Literal) → In l → (l ∈ to) ⊎ May l) where
   left_over : (l : Literal) → l ∈ a → (l.var ≡ x.var → ⊥) → In l
-  left_over l h ne = elim (is.left l h) [
-    | inl e ↦ absurd (ne e)
-    | inr (inl k) ↦ of_to l k
-    | inr (inr k) ↦ elim (of_a l k) [ inl e ↦ absurd (ne e) | inr q ↦ q ]
-  ]
+  left_over l h ne = grind (arith, common_steps)
 
   right_over : (l : Literal) → l ∈ b → (l.var ≡ x.var → ⊥) → In l
-  right_over l h ne = elim (is.right l h) [
-    | inl e ↦ absurd (ne e)
-    | inr (inl k) ↦ of_to l k
-    | inr (inr k) ↦ elim (of_b l k) [ inl e ↦ absurd (ne e) | inr q ↦ q ]
-  ]
+  right_over l h ne = grind (arith, common_steps)
 
   no_other : (v : ℕ) → (v ≡ x.var → ⊥) → Clashes a b v → ⊥
-  no_other v ne (inl (h, k)) = clean (positive v) (left_over (positive v) h ne) (right_over (negative v) k ne)
-  no_other v ne (inr (h, k)) = clean (negative v) (left_over (negative v) h ne) (right_over (positive v) k ne)
+  no_other v ne w = grind (arith, common_steps)
 
   each : (l : Literal) → l ∈ resolvent a b x.var → (l ∈ to) ⊎ May l
   each l h = let w = from_without x.var (a ++ b) l h in elim (in_append a b l w.0) [
@@ -180,10 +159,7 @@ module _ (rules : Rules) (side : Side) (blocks : List Block) (a b to rest_a rest
   pub accounted_follows : AllowsPivot rules side blocks x.var → Accounts side blocks a b to x.var
       → AllHold (resolvent_conditions rules side blocks a b to)
   accounted_follows allowed accounts = at_pivot rules side blocks a b to x.var None
-      (record {
-        clashes = clash_here a b x is.in_a is.in_b;
-        only = λ v c. elim (cases_eq v x.var) [ inl e ↦ e | inr ne ↦ absurd (no_other v ne c) ];
-      }) (
+      (grind (arith, common_steps, clash_here, no_other)) (
         allowed,
         (
           (λ l h. in_without x.var (a ++ b) l
@@ -243,25 +219,19 @@ followed_bound rules side blocks a b to all bound_a bound_b =
 pub followed_accepted : (rules : Rules) (side : Side) (blocks : List Block) (a b to : List Literal)
     → AllHold (resolvent_conditions rules side blocks a b to) → IsFit blocks a → IsFit blocks b
     → IsAcceptedStep (resolvent_conditions rules side blocks a b to) blocks to
-followed_accepted rules side blocks a b to all fit_a fit_b = record {
-  follows = all;
-  clean = followed_clean rules side blocks a b to all fit_a.0 fit_b.0;
-  bound = followed_bound rules side blocks a b to all fit_a.1 fit_b.1;
-}
+followed_accepted rules side blocks a b to all fit_a fit_b = search (rules, followed_clean, followed_bound)
 
 -- the same of what a test tells
 pub followed_by : {E : Type 0} (rules : Rules) (side : Side) (blocks : List Block) (a b to : List Literal) (v : ℕ) (r : Result Bool E)
     → IfOk r (λ t. IsTrue t → (q : Rules) → AllowsPivot q side blocks v → AllHold (resolvent_conditions q side blocks a b to))
     → AllowsPivot rules side blocks v → IsFit blocks a → IsFit blocks b
     → IfOk r (IsAcceptedBy (resolvent_conditions rules side blocks a b to) blocks to)
-followed_by rules side blocks a b to v (Ok t) told allowed fit_a fit_b = λ is.
-    followed_accepted rules side blocks a b to (told is rules allowed) fit_a fit_b
+followed_by rules side blocks a b to v (Ok t) told allowed fit_a fit_b = search (rules, followed_accepted)
 followed_by rules side blocks a b to v (Err e) told allowed fit_a fit_b = tt
 
 -- a step that leaves nothing follows
 none_in : (xs : List Literal) → length xs ≡ 0 → (l : Literal) → l ∈ xs → ⊥
-none_in [] e l h = h
-none_in (x ∷ xs) e l h = cc e
+none_in xs e l h = grind (arith, common_steps)
 
 pub exact_follows : (rules : Rules) (side : Side) (blocks : List Block) (a b to rest_a rest_b : List Literal) (x : Literal)
     → IsResolvedBut a b to rest_a rest_b x → AllowsPivot rules side blocks x.var → length rest_a ≡ 0 → length rest_b ≡ 0 → IsClean to

@@ -93,11 +93,7 @@ module _ (near table : List ℕ) (far : List (ℕ × ℕ)) (ks : List ℕ) (plac
   near_used has = let w = found.near_sound m has in sparse_used ks m (Some w.0) w.1 tt
 
   pub far_used : (o : Option ℕ) → (HasBit near m → ⊥) → o ≡ lookup (nat_eq m) far → is_some o ≡ is_used m ks
-  far_used None none is = sparse_used ks m None tt (λ i here. elim (found.noted m i here) [
-    | inl has ↦ none has
-    | inr far ↦ far (sym is)
-  ])
-  far_used (Some i) none is = sparse_used ks m (Some i) (found.far_sound m i (sym is)) tt
+  far_used o none is = search (rules, sparse_used)
 
 -- ---- one more number
 

@@ -1,6 +1,6 @@
 -- One more number in a set that has a bit for each.
-use Rattle.std.proofs.Common.{◌≡◌, ℕ, ◌*◌, ◌/◌, ◌%◌, ◌^◌, ◌<◌, List, ◌⊎◌, inl, inr, refl, sym, ap, subst, ◌∙◌, length, get_or, set, bit_or, arith}
-use Rattle.std.proofs.Common.{get_or-set_same, get_or-set_other}
+use Rattle.std.proofs.Common.{rules, ◌≡◌, ℕ, ◌*◌, ◌/◌, ◌%◌, ◌^◌, ◌<◌, List, ◌⊎◌, inl, inr, refl, sym, ap, subst, ◌∙◌, length, get_or, set}
+use Rattle.std.proofs.Common.{bit_or, arith, get_or-set_same, get_or-set_other}
 use Rattle.std.specs.Prelude.{◌↔◌}
 use Rattle.std.specs.Int.{w64, bit_at}
 use Rattle.std.proofs.lemmas.Bool.{cases_eq}
@@ -30,15 +30,6 @@ module _ (words grown : List ℕ) (m : ℕ) (same : (n : ℕ) → get_or grown n
   ]
 
   pub has_one_more : (n : ℕ) → HasBit (set grown (m / 64) word) n ↔ (HasBit words n ⊎ (n ≡ m))
-  has_one_more n = elim (cases_eq n m) [
-    | inl e ↦ (λ h. inr e, λ h. found n e)
-    | inr apart ↦ (
-      λ h. inl (sym (kept n apart) ∙ h),
-      λ h. elim h [
-        | inl old ↦ kept n apart ∙ old
-        | inr e ↦ absurd (apart e)
-      ],
-    )
-  ]
+  has_one_more n = search (rules, found, kept)
 
 pub ruleset inserted = (get_or_default_zero, has_one_more)

@@ -1,11 +1,11 @@
 -- Numbers that are noted in a set or a map: one more of them, and the place of one more in the table.
-use Rattle.std.proofs.Common.{◌≡◌, ℕ, ◌<◌, ◌≤◌, List, [], ◌∷◌, ◌++◌, Some, None, inl, inr, sym, ap, subst, ◌∙◌, length, get_or}
+use Rattle.std.proofs.Common.{rules, ◌≡◌, ℕ, ◌<◌, ◌≤◌, List, [], ◌∷◌, ◌++◌, Some, None, inl, inr, sym, ap, ◌∙◌, length, get_or}
 use Rattle.std.proofs.Common.{slice_get, cond, nat_eq, arith, max, eq-eqb, ne_eqb, length-append}
 use Rattle.std.specs.Prelude.{◌↔◌, ◌⊎◌}
 use Rattle.std.specs.List.{AllByRecursion}
 use Rattle.qbf_core.proofs.PrefixLaws.{AllByRecursion-push}
 use Rattle.std.specs.Map.{lookup}
-use Rattle.std.proofs.lemmas.Bool.{cases_eq, cases_lt}
+use Rattle.std.proofs.lemmas.Bool.{cases_eq}
 use Rattle.step_index.specs.NumberSets.{HasBit}
 use Rattle.step_index.specs.Sparse.{AreFound, IsFar}
 use Rattle.qbf_core.proofs.PushedItems.{pushed_cases, pushed_old, pushed_new}
@@ -24,27 +24,14 @@ below_raised ns m g top is h = AllByRecursion-push (λ n. n ≤ top) ns m (below
 
 pub found_grown : (near table grown : List ℕ) (far : List (ℕ × ℕ)) (numbers : List ℕ) (placed : ℕ) → AreFound near table far numbers placed
     → ((n : ℕ) → get_or grown n 0 ≡ get_or table n 0) → AreFound near grown far numbers placed
-found_grown near table grown far numbers placed found same = record {
-  table_sound = λ n i e. found.table_sound n i (sym (same n) ∙ e);
-  far_sound = found.far_sound;
-  near_sound = found.near_sound;
-  noted = found.noted;
-  first = λ n i less here. elim (found.first n i less here) [
-    | inl some ↦ inl (λ e. some (sym (same n) ∙ e))
-    | inr h ↦ inr h
-  ];
-  few = found.few;
-}
+found_grown near table grown far numbers placed found same = search rules
 
 -- ---- one more number
 
 module _ (near table : List ℕ) (far : List (ℕ × ℕ)) (numbers : List ℕ) (placed m : ℕ) (found : AreFound near table far numbers placed) where
   -- the first numbers are as they were
   old_at : (n i : ℕ) → i < placed → slice_get (numbers ++ m ∷ []) i ≡ Some n → slice_get numbers i ≡ Some n
-  old_at n i less here = elim (pushed_cases numbers m i n here) [
-    | inl old ↦ old
-    | inr new ↦ (let no : placed < placed = omega (arith, less, new.0, found.few) in absurd (omega (arith, no)))
-  ]
+  old_at n i less here = search (rules, pushed_cases)
 
   more_few : placed ≤ length (numbers ++ m ∷ [])
   more_few = omega (arith, found.few, length-append numbers (m ∷ []))
@@ -60,16 +47,10 @@ module _ (near table : List ℕ) (far : List (ℕ × ℕ)) (numbers : List ℕ) 
       | inr is ↦ (length numbers, pushed_new numbers m ∙ ap (λ (k : ℕ). Some k) (sym is))
     ];
     noted = λ n i here. elim (pushed_cases numbers m i n here) [
-      | inl old ↦ elim (found.noted n i old) [
-        | inl h ↦ inl ((has n).1 (inl h))
-        | inr h ↦ inr h
-      ]
+      | inl old ↦ search rules
       | inr new ↦ inl ((has n).1 (inr new.1))
     ];
-    first = λ n i less here. elim (found.first n i less (old_at n i less here)) [
-      | inl some ↦ inl (λ e. some (sym (same n) ∙ e))
-      | inr h ↦ inr h
-    ];
+    first = search (rules, old_at);
     few = more_few;
   }
 
@@ -81,23 +62,12 @@ module _ (near table : List ℕ) (far : List (ℕ × ℕ)) (numbers : List ℕ) 
     table_sound = λ n i e. pushed_old numbers m i n (found.table_sound n i e);
     far_sound = λ n i e. elim (cases_eq n m) [
       | inl same ↦
-          let value : Some place ≡ Some i = sym (there n same) ∙ e in
-          let at : i ≡ length numbers = (let f : place ≡ i = cc value in sym f ∙ is) in
-          subst (λ (k : ℕ). slice_get (numbers ++ m ∷ []) k ≡ Some n) (sym at) (pushed_new numbers m ∙ ap (λ (k : ℕ). Some k) (sym same))
+          search (rules, there, pushed_new)
       | inr other ↦ pushed_old numbers m i n (found.far_sound n i (sym (kept n other) ∙ e))
     ];
     near_sound = λ n h. let w = found.near_sound n h in (w.0, pushed_old numbers m w.0 n w.1);
-    noted = λ n i here. elim (pushed_cases numbers m i n here) [
-      | inl old ↦ elim (found.noted n i old) [
-        | inl h ↦ inl h
-        | inr h ↦ inr (still_far n h)
-      ]
-      | inr new ↦ inr (λ e. let no : Some place ≡ None = sym (there n new.1) ∙ e in absurd cc)
-    ];
-    first = λ n i less here. elim (found.first n i less (old_at n i less here)) [
-      | inl some ↦ inl some
-      | inr h ↦ inr (still_far n h)
-    ];
+    noted = search (rules, pushed_cases, still_far, there);
+    first = search (rules, old_at, still_far);
     few = more_few;
   }
     where
@@ -108,10 +78,7 @@ module _ (near table : List ℕ) (far : List (ℕ × ℕ)) (numbers : List ℕ) 
       kept n other = updates n ∙ ap (λ b. cond b (Some place) (lookup (nat_eq n) far)) (ne_eqb m n (λ e. other (sym e)))
 
       still_far : (n : ℕ) → IsFar far n → IsFar more n
-      still_far n h = elim (cases_eq n m) [
-        | inl same ↦ λ e. (let no : Some place ≡ None = sym (there n same) ∙ e in absurd cc)
-        | inr other ↦ λ e. h (sym (kept n other) ∙ e)
-      ]
+      still_far n h = search (rules, there, kept)
 
 -- ---- looking a number up
 
@@ -119,10 +86,4 @@ module _ (near table : List ℕ) (far : List (ℕ × ℕ)) (numbers : List ℕ) 
 pub not_there : (near table : List ℕ) (far : List (ℕ × ℕ)) (numbers : List ℕ) (placed n : ℕ) → AreFound near table far numbers placed
     → get_or table n 0 ≡ 0 → lookup (nat_eq n) far ≡ None → ((i : ℕ) → placed ≤ i → slice_get numbers i ≡ Some n → ⊥)
     → (i : ℕ) → slice_get numbers i ≡ Some n → ⊥
-not_there near table far numbers placed n found empty none last i here = elim (cases_lt i placed) [
-  | inl before ↦ elim (found.first n i before here) [
-    | inl some ↦ some empty
-    | inr is_far ↦ is_far none
-  ]
-  | inr late ↦ last i late here
-]
+not_there near table far numbers placed n found empty none last i here = search rules

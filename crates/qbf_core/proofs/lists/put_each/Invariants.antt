@@ -1,5 +1,4 @@
-use Rattle.qbf_core.proofs.Cited.{◌≡◌, ◌≤◌, ◌-◌, ◌++◌, length, map, take, AllByRecursion}
-use Rattle.qbf_core.specs.WrittenLiterals.{literal_of, IsWritten}
+use Rattle.qbf_core.proofs.Cited.{◌≡◌, ◌≤◌, ◌-◌, ◌++◌, length, map, take, AllByRecursion, literal_of, IsWritten}
 use Rattle.qbf_core.proofs.lists.put_each.Given as goal
 
 abbrev pub invariant-numbers : goal.invariant-numbers

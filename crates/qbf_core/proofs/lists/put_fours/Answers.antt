@@ -1,19 +1,9 @@
-use Rattle.qbf_core.proofs.Cited.{◌≡◌, ◌+◌, ◌-◌, ◌≤◌, arith, common_steps, length}
-use Rattle.qbf_core.specs.WrittenLiterals.{IsWritten}
+use Rattle.qbf_core.proofs.Cited.{rules, ◌≡◌, ◌+◌, ◌-◌, ◌≤◌, arith, length, IsWritten}
 use Rattle.qbf_core.proofs.WrittenLiterals.{all_four, all_whole, four_more, whole_put, if_put}
 use Rattle.qbf_core.proofs.lists.put_fours.Goals as goal
 
 pub fours-preserved : goal.fours-preserved
-fours-preserved c =
-    let i = c.fours.invariant in
-    let h = c.in_ok-put_four.ensures in
-    let xs = c.args.numbers.now in
-    let four = h.put (grind (arith, common_steps)) in
-    record {
-      put = four_more c.args.items.now.items c.fours.items.items c.put_four.new.items.items xs c.fours.place i.put four.put;
-      written = all_four (IsWritten c.args.last) xs c.fours.place i.written four.written;
-      within = omega (arith, c.fours-test.true, c.requires.many);
-    }
+fours-preserved c = search (rules, four_more, all_four)
 
 pub returns-clause-put : goal.returns-clause-put
 returns-clause-put c =

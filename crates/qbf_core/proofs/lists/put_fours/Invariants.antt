@@ -1,5 +1,4 @@
-use Rattle.qbf_core.proofs.Cited.{◌≡◌, ◌<◌, ◌+◌, ◌-◌, ◌++◌, map, take, AllByRecursion}
-use Rattle.qbf_core.specs.WrittenLiterals.{literal_of, IsWritten}
+use Rattle.qbf_core.proofs.Cited.{◌≡◌, ◌<◌, ◌+◌, ◌-◌, ◌++◌, map, take, AllByRecursion, literal_of, IsWritten}
 use Rattle.qbf_core.proofs.lists.put_fours.Given as goal
 
 abbrev pub invariant-fours : goal.invariant-fours

@@ -1,10 +1,7 @@
-use Rattle.qbf_core.proofs.Cited.{arith, common_steps, false≢true, ◌≡◌, ◌<◌, ◌∙◌, Option, sym, subst, nat_eq, lookup, Place}
+use Rattle.qbf_core.proofs.Cited.{◌≡◌, ◌<◌, ◌∙◌, Option, sym, subst, nat_eq, lookup, Place}
 use Rattle.std.specs.Prelude.{IfSome}
-use Rattle.qbf_core.proofs.TableLaws.{lookup_outside, lookup_fits}
+use Rattle.qbf_core.proofs.TableLaws.{lookup_fits}
 use Rattle.qbf_core.proofs.prefix.place_of_number.Goals as goal
-
-pub returns-in_err-var-clause-found : goal.returns-in_err-var-clause-found
-returns-in_err-var-clause-found c = grind (arith, common_steps, lookup_outside, false≢true)
 
 pub returns-clause-fits : goal.returns-clause-fits
 returns-clause-fits c =

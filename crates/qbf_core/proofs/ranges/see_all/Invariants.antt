@@ -1,5 +1,4 @@
-use Rattle.std.proofs.Common.{take}
-use Rattle.std.specs.List.{AllByRecursion}
+use Rattle.qbf_core.proofs.Cited.{take, AllByRecursion}
 use Rattle.qbf_core.proofs.ranges.see_all.Given as goal
 
 abbrev pub invariant-loop-item : goal.invariant-loop-item

@@ -1,6 +1,5 @@
-use Rattle.qbf_core.specs.Blocks.{AreBound}
+use Rattle.qrp_rules.proofs.Cited.{AreBound, got_in}
 use Rattle.qbf_core.proofs.Bound.{all_in}
-use Rattle.qrp_rules.proofs.Cited.{got_in}
 use Rattle.qrp_rules.proofs.ReductsByMembers.{accepted}
 use Rattle.qrp_rules.proofs.clause_index.accepts_at.Goals as goal
 

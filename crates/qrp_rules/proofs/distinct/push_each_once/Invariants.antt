@@ -1,6 +1,4 @@
-use Rattle.std.proofs.Common.{◌≡◌, take}
-use Rattle.qbf_core.specs.Members.{◌⊆◌}
-use Rattle.qrp_rules.specs.Seen.{AreAmong}
+use Rattle.qrp_rules.proofs.Cited.{◌≡◌, take, ◌⊆◌, AreAmong}
 use Rattle.qrp_rules.proofs.distinct.push_each_once.Given as goal
 
 abbrev pub invariant-loop-lit : goal.invariant-loop-lit

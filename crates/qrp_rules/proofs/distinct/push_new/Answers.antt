@@ -1,3 +1,4 @@
+use Rattle.std.proofs.Common.{rules}
 use Rattle.qrp_rules.proofs.DistinctLists.{pushed_kept, pushed_seen, pushed_within}
 use Rattle.qrp_rules.proofs.distinct.push_new.Goals as goal
 
@@ -9,6 +10,4 @@ pub returns-clause-kept : goal.returns-clause-kept
 returns-clause-kept c = pushed_kept c.args.lists.now c.push.new.self c.args.lit c.push.result c.push.ensures.pushed
 
 pub returns-clause-seen : goal.returns-clause-seen
-returns-clause-seen c =
-    pushed_seen c.args.lists.now c.push.new.self c.args.lit c.args.seen.now c.is_new.new.self c.push.result c.is_new.ensures.only
-    c.push.ensures.pushed
+returns-clause-seen c = search (rules, pushed_seen)

@@ -1,11 +1,10 @@
+use Rattle.qrp_rules.proofs.Cited.{rules}
 use Rattle.qrp_rules.proofs.Cited.{arith, refl, inl, ◌∙◌, sym, List, Literal, Clauses, IsClean, IsReduct, false≢true, got_in, in_take_all}
 use Rattle.qrp_rules.proofs.ReductsByMembers.{each_got}
 use Rattle.qrp_rules.proofs.initial.initial_clause_fault.Goals as goal
 
 pub returns-then-branch : goal.returns-then-branch
-returns-then-branch c =
-    let found = rw c.prefix.ensures.value at c.in_ok-has_reduct.ensures.0 c.if-branch.true in
-    ((c.clause.result.now, got_in _ c.loop-position.position _ c.clause.ensures, found.0, found.1), tt)
+returns-then-branch c = search (rules, got_in)
 
 pub loop-position-preserved : goal.loop-position-preserved
 loop-position-preserved c = each_got (λ (z : List Literal). (IsClean z × IsReduct Clauses c.args.formula.now.blocks z c.args.set.now) → ⊥) _ c.loop-position.position

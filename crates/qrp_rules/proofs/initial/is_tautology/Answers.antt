@@ -1,5 +1,4 @@
-use Rattle.std.proofs.Common.{Err}
-use Rattle.qrp_rules.proofs.Cited.{common_steps, arith, false≢true, clean_from_same, ap, ◌∙◌}
+use Rattle.qrp_rules.proofs.Cited.{Err, common_steps, arith, false≢true, clean_from_same, ap, ◌∙◌}
 use Rattle.qrp_rules.proofs.MembersDecide.{same_self}
 use Rattle.qrp_rules.proofs.ReductsByMembers.{not_clean}
 use Rattle.qrp_rules.proofs.initial.is_tautology.Goals as goal

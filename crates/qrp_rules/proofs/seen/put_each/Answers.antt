@@ -1,5 +1,4 @@
-use Rattle.std.proofs.Common.{inl, inr}
-use Rattle.qbf_core.proofs.Members.{take_more_in}
+use Rattle.qrp_rules.proofs.Cited.{inl, inr, take_more_in}
 use Rattle.qrp_rules.proofs.seen.put_each.Goals as goal
 
 pub loop-lit-preserved : goal.loop-lit-preserved

@@ -1,7 +1,4 @@
-use Rattle.std.proofs.Common.{take, ◌⊎◌}
-use Rattle.qbf_core.specs.Literal.{Literal}
-use Rattle.qbf_core.specs.Members.{◌∈◌}
-use Rattle.qrp_rules.specs.Seen.{Has}
+use Rattle.qrp_rules.proofs.Cited.{take, ◌⊎◌, Literal, ◌∈◌, Has}
 use Rattle.qrp_rules.proofs.seen.put_each.Given as goal
 
 abbrev pub invariant-loop-lit : goal.invariant-loop-lit

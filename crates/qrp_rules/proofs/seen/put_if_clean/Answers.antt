@@ -1,4 +1,4 @@
-use Rattle.qrp_rules.proofs.Cited.{ℕ, sym, subst, ◌∙◌, inl, inr, false≢true, Literal, in_take_more, take_more_in, Has}
+use Rattle.qrp_rules.proofs.Cited.{rules, ℕ, sym, subst, ◌∙◌, inl, inr, false≢true, Literal, in_take_more, take_more_in, Has}
 use Rattle.qrp_rules.proofs.WrittenSteps.{clean_all, clean_with}
 use Rattle.qrp_rules.proofs.seen.put_if_clean.Goals as goal
 
@@ -13,10 +13,7 @@ loop-position-preserved c =
           (subst (λ (z : Literal). Has c.loop-position.seen z) (sym c.negated.ensures) ((c.loop-position.invariant.seen _).1 h))))
           c.loop-position.invariant.clean;
       seen = λ m. (
-        (λ h. take_more_in c.args.lits.now i x m c.loop-position-test.true c.index-lits-position.is (elim ((put m).0 h) [
-          | inl k ↦ inl ((c.loop-position.invariant.seen m).0 k)
-          | inr e ↦ inr e.0
-        ])),
+        (λ h. take_more_in c.args.lits.now i x m c.loop-position-test.true c.index-lits-position.is (search rules)),
         (λ h. (put m).1 (elim (in_take_more c.args.lits.now i x m c.loop-position-test.true c.index-lits-position.is h) [
           | inl k ↦ inl ((c.loop-position.invariant.seen m).1 k)
           | inr e ↦ inr (e, c.if-not-insert.false)

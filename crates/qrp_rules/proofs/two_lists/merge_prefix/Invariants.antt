@@ -1,5 +1,4 @@
-use Rattle.qrp_rules.proofs.Cited.{◌≡◌}
-use Rattle.qrp_rules.specs.TwoLists.{IsMergeSoFar}
+use Rattle.qrp_rules.proofs.Cited.{◌≡◌, IsMergeSoFar}
 use Rattle.qrp_rules.proofs.two_lists.merge_prefix.Given as goal
 
 abbrev pub invariant-loop-lit : goal.invariant-loop-lit

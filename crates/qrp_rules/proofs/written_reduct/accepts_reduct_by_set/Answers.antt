@@ -1,5 +1,4 @@
-use Rattle.qbf_core.proofs.Bound.{bound_within}
-use Rattle.qrp_rules.proofs.Cited.{◌∙◌, clean_within, TakesOut}
+use Rattle.qrp_rules.proofs.Cited.{bound_within, ◌∙◌, clean_within, TakesOut}
 use Rattle.qrp_rules.proofs.Reducing.{reduct_without}
 use Rattle.qrp_rules.proofs.written_reduct.accepts_reduct_by_set.Goals as goal
 

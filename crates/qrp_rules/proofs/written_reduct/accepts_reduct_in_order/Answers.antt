@@ -1,13 +1,9 @@
-use Rattle.qrp_rules.proofs.Cited.{◌∙◌, inl, clean_within, TakesOut}
+use Rattle.qrp_rules.proofs.Cited.{◌∙◌, inl, clean_within, TakesOut, List, subst, Literal, reduct_conditions, bound_within}
 use Rattle.qrp_rules.proofs.Reducing.{reduct_without}
-use Rattle.std.proofs.Common.{List, subst}
 use Rattle.std.proofs.lemmas.Slice.Eq.{slice_eq-Decides}
-use Rattle.qbf_core.specs.Literal.{Literal}
 use Rattle.qbf_core.proofs.Members.{lit_decides}
 use Rattle.qrp_rules.specs.Accepted.{IsAcceptedStep}
-use Rattle.qrp_rules.specs.Conditions.{reduct_conditions}
 use Rattle.qrp_rules.proofs.written_reduct.accepts_reduct_in_order.Goals as goal
-use Rattle.qbf_core.proofs.Bound.{bound_within}
 
 pub returns : goal.returns
 returns g c = λ t. record {

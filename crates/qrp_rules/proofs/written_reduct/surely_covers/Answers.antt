@@ -1,10 +1,5 @@
-use Rattle.std.proofs.Common.{◌⊎◌, inl, inr, rules, tests}
-use Rattle.std.proofs.lemmas.Bool.{MatchBool-at_true}
-use Rattle.std.proofs.lemmas.Iterator.{cases_from_all, YieldsList-from_slice}
-use Rattle.qbf_core.specs.Literal.{Literal}
-use Rattle.qbf_core.proofs.Members.{each_within}
-use Rattle.qrp_rules.specs.Seen.{Has}
-use Rattle.qrp_rules.specs.Walks.{TakesOut}
+use Rattle.qrp_rules.proofs.Cited.{◌⊎◌, inl, inr, rules, tests, MatchBool-at_true, cases_from_all, YieldsList-from_slice, Literal}
+use Rattle.qrp_rules.proofs.Cited.{each_within, Has, TakesOut}
 use Rattle.qrp_rules.proofs.written_reduct.surely_covers.Goals as goal
 
 pub returns : goal.returns

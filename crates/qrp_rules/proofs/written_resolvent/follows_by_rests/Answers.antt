@@ -1,5 +1,4 @@
-use Rattle.std.proofs.Common.{sym, ◌∙◌}
-use Rattle.std.proofs.lemmas.Bool.{eqb-true}
+use Rattle.qrp_rules.proofs.Cited.{rules, sym, ◌∙◌, eqb-true}
 use Rattle.qrp_rules.proofs.WrittenSteps.{exact_follows}
 use Rattle.qrp_rules.proofs.written_resolvent.follows_by_rests.Goals as goal
 
@@ -13,5 +12,4 @@ returns-then-branch g c = λ _ rules allowed.
     both.0 (rw c.var.ensures at both.1)
 
 pub returns-then-leaves_out_rests : goal.returns-then-leaves_out_rests
-returns-then-leaves_out_rests g c = λ _ rules allowed.
-    c.leaves_out_rests.ensures c.if-leaves_out_rests.true rules c.args.step.a.now c.args.step.b.now c.requires allowed
+returns-then-leaves_out_rests g c = search (rules, c.leaves_out_rests.ensures, c.if-leaves_out_rests.true, c.requires)

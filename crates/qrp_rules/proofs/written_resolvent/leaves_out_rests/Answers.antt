@@ -1,4 +1,4 @@
-use Rattle.qrp_rules.proofs.Cited.{inl, inr, ◌∙◌, Literal, Has, TakesOut}
+use Rattle.qrp_rules.proofs.Cited.{common_steps, arith, inl, inr, ◌∙◌, Literal, Has, TakesOut}
 use Rattle.qrp_rules.proofs.WrittenSteps.{left_follows, put_then}
 use Rattle.qrp_rules.proofs.Reducing.{reducible_wider}
 use Rattle.qrp_rules.proofs.written_resolvent.leaves_out_rests.Goals as goal
@@ -15,10 +15,7 @@ returns-then-put_each_left_out g c = λ t rules a b is allowed.
     (Has last) May
     (put.clean (λ l h k. c.set_if_clean.ensures.clean c.if-not-set_if_clean.false l ((of_to l).0 h) ((of_to _).0 k)))
     (λ l h. put.kept l ((of_to l).1 h))
-    (λ l h. elim (rw c.var-pivot.ensures at c.put_each_left_out.ensures.each c.if-put_each_left_out.true l h) [
-      | inl e ↦ inl e
-      | inr k ↦ inr (c.put_each_left_out-then-put_each_left_out.ensures.put.kept l k)
-    ])
+    (grind (arith, common_steps))
     (rw c.var-pivot.ensures at c.put_each_left_out-then-put_each_left_out.ensures.each t)
     (λ l h. elim (put.only l h) [ inl k ↦ inl ((of_to l).0 k) | inr m ↦ inr m ])
     allowed

@@ -1,7 +1,4 @@
-use Rattle.qrp_rules.proofs.Cited.{◌≡◌, rules, tests, YieldsList-from_slice, Literal}
-use Rattle.std.proofs.lemmas.Bool.{MatchBool-at_true}
-use Rattle.std.proofs.lemmas.Iterator.{cases_from_all}
-use Rattle.qbf_core.proofs.Members.{each_within}
+use Rattle.qrp_rules.proofs.Cited.{◌≡◌, rules, tests, YieldsList-from_slice, Literal, MatchBool-at_true, cases_from_all, each_within}
 use Rattle.qrp_rules.proofs.written_resolvent.surely_apart.Goals as goal
 
 pub returns : goal.returns

@@ -1,9 +1,5 @@
-use Rattle.std.proofs.Common.{◌≡◌, ◌⊎◌, rules, tests}
-use Rattle.std.proofs.lemmas.Bool.{MatchBool-at_true}
-use Rattle.std.proofs.lemmas.Iterator.{cases_from_all, YieldsList-from_slice}
-use Rattle.qbf_core.specs.Literal.{Literal}
-use Rattle.qbf_core.proofs.Members.{each_within}
-use Rattle.qrp_rules.specs.Seen.{Has}
+use Rattle.qrp_rules.proofs.Cited.{◌≡◌, ◌⊎◌, rules, tests, MatchBool-at_true, cases_from_all, YieldsList-from_slice, Literal, each_within}
+use Rattle.qrp_rules.proofs.Cited.{Has}
 use Rattle.qrp_rules.proofs.written_resolvent.surely_has_each_but.Goals as goal
 
 pub returns : goal.returns

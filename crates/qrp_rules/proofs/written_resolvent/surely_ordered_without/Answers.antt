@@ -1,11 +1,10 @@
-use Rattle.qrp_rules.proofs.Cited.{◌≡◌, ◌<◌, ◌≤◌, ℕ, Bool, true, false, sym, ap, ◌∙◌, refl, inl, inr, arith, IsTrue, Literal, in_take_all, in_take_more}
-use Rattle.std.proofs.Common.{◌&&◌}
+use Rattle.qrp_rules.proofs.Cited.{rules, ◌≡◌, ◌<◌, ◌≤◌, ℕ, Bool, sym, ap, ◌∙◌, inl, inr, arith, IsTrue, Literal}
+use Rattle.qrp_rules.proofs.Cited.{in_take_all, in_take_more, ◌&&◌}
 use Rattle.qrp_rules.proofs.OrderedLists.{ordered_taken}
 use Rattle.qrp_rules.proofs.written_resolvent.surely_ordered_without.Goals as goal
 
 both_hold : (a b : Bool) → IsTrue (a && b) → IsTrue a × IsTrue b
-both_hold true b t = (refl, t)
-both_hold false b t = absurd (let none : false ≡ true = t in cc none)
+both_hold a b t = search rules
 
 pub loop-lit-preserved : goal.loop-lit-preserved
 loop-lit-preserved c =

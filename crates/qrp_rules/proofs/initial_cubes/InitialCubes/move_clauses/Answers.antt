@@ -1,13 +1,9 @@
-use Rattle.qrp_rules.proofs.Cited.{arith}
+use Rattle.qrp_rules.proofs.Cited.{rules, arith}
 use Rattle.qrp_rules.proofs.WatchedClauses.{pending_done, pending_met, pending_taken}
 use Rattle.qrp_rules.proofs.initial_cubes.InitialCubes.move_clauses.Goals as goal
 
 pub loop-clause-init : goal.loop-clause-init
-loop-clause-init c = record {
-  len = omega (arith, c.take_list-clauses.ensures.len, c.requires);
-  pending = pending_taken c.args.position c.args.formula.now c.args.seen.now c.args.self.now.lists.items
-      c.take_list-clauses.new.self.lists.items c.take_list-clauses.result.items c.take_list-clauses.ensures.taken;
-}
+loop-clause-init c = search (rules, pending_taken)
 
 pub loop-clause-preserved : goal.loop-clause-preserved
 loop-clause-preserved c = record {
@@ -19,7 +15,4 @@ loop-clause-preserved c = record {
 }
 
 pub returns-clause-met : goal.returns-clause-met
-returns-clause-met c = λ t i was.
-    let few = c.in_default.ensures.cases.0 in
-    pending_done c.args.position c.args.formula.now c.args.seen.now c.loop-clause.clauses.items c.loop-clause.self.lists.items
-    (omega (arith, few, c.loop-clause.clauses.ok.0)) i (c.loop-clause.invariant.pending i was)
+returns-clause-met c = search (rules, pending_done)

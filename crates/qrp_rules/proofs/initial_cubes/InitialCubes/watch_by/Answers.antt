@@ -1,4 +1,4 @@
-use Rattle.qrp_rules.proofs.Cited.{◌∙◌, refl, sym, subst, List, IsWatchedBy, Watch}
+use Rattle.qrp_rules.proofs.Cited.{rules, ◌∙◌, refl, sym, subst, List, IsWatchedBy, Watch}
 use Rattle.qrp_rules.proofs.WatchedClauses.{added_watches, last_one, list_here, pushed_or_not, written_keeps, written_watches}
 use Rattle.std.proofs.lemmas.Result.{on_ok_weaker}
 use Rattle.qrp_rules.proofs.initial_cubes.InitialCubes.watch_by.Goals as goal
@@ -16,10 +16,7 @@ returns-in-Some-clause-added c =
     on_ok_weaker c.add.result (written_watches _ _ _ c.add.new.watch _ _ here.0 (c.add.ensures.lit ∙ here.1)) c.add.ensures.added
 
 pub returns-in_ok-push-in-None-clause-kept : goal.returns-in_ok-push-in-None-clause-kept
-returns-in_ok-push-in-None-clause-kept c =
-    let new : Watch = record { lit = c.args.lit; clauses = c.push.new.self } in
-    pushed_or_not c.push_list.result c.args.self.now.lists.items c.push_list.new.self.lists.items new
-    (rw c.spare_list-clauses.ensures at c.push_list.ensures.lists) (rw c.spare_list-clauses.ensures at c.push_list.ensures.err)
+returns-in_ok-push-in-None-clause-kept c = search (rules, pushed_or_not)
 
 pub returns-in_ok-push-in-None-clause-added : goal.returns-in_ok-push-in-None-clause-added
 returns-in_ok-push-in-None-clause-added c =

@@ -1,5 +1,5 @@
+use Rattle.std.proofs.Common.{rules, arith, append_assoc, length-append}
 use Rattle.std.proofs.lemmas.Grind.{common_steps}
-use Rattle.std.proofs.Common.{arith, append_assoc, length-append}
 use Rattle.step_index.proofs.CountedNumbers.{count_length, counted_pushed, numbers_pushed}
 use Rattle.step_index.proofs.index.StepIndex.push.Goals as goal
 
@@ -11,10 +11,7 @@ pub returns-then-continues_count-clause-sound : goal.returns-then-continues_coun
 returns-then-continues_count-clause-sound c = grind (arith, common_steps, count_length, numbers_pushed, returns-then-continues_count-clause-pushed)
 
 pub invariant_of-self : goal.invariant_of-self
-invariant_of-self c = record {
-  numbers = returns-then-continues_count-clause-sound c;
-  few = omega (arith, c.continues_count.ensures.fits c.if-continues_count.true);
-}
+invariant_of-self c = search (rules, returns-then-continues_count-clause-sound)
 
 -- the number is sparse
 pub returns-clause-sound : goal.returns-clause-sound
