@@ -213,7 +213,7 @@ impl<A: AntecedentLists> TraceGrammar<A> {
     /// # Errors
     /// Out of memory.
     #[inline(never)]
-    fn advance(&mut self, values: &[i32], zeros: Zeros) -> Result<usize, AllocError>
+    fn take_known_steps(&mut self, values: &[i32], zeros: Zeros) -> Result<usize, AllocError>
         ensures leads { IfOk result (λ to. LeadsOver trace_row self.old self.new values.now 0 to) }
         ensures within { IfOk result (λ to. to ≤ length values.now) }
     {
@@ -261,7 +261,7 @@ impl<A: AntecedentLists> Grammar for TraceGrammar<A> {
 
     #[inline(always)]
     fn take_numbers(&mut self, values: &[i32], zeros: Zeros) -> Result<Progress<()>, AllocError> {
-        let count = self.advance(values, zeros)?;
+        let count = self.take_known_steps(values, zeros)?;
         Ok((count, None))
     }
 
