@@ -1,5 +1,5 @@
 -- What one step adds to a formula, as a clause to its matrix or as a cube beside it, by the laws of the rules.
-use Rattle.qrp_check.proofs.Cited.{◌↔◌, ℕ, List, [], ◌∷◌, ◌++◌, inl, inr, refl, sym, subst, rules, AllByRecursion, Literal, ◌∈◌, ◌⊆◌, Side}
+use Rattle.qrp_check.proofs.Cited.{◌↔◌, ℕ, List, [], ◌∷◌, ◌++◌, inl, inr, refl, rules, AllByRecursion, Literal, ◌∈◌, ◌⊆◌, Side}
 use Rattle.qrp_check.proofs.Cited.{Clauses, Cubes, IsClean, IsReduct, IsInitial, Clashes, resolvent, IsBound, AreBound, Qbf, IsClosed}
 use Rattle.qrp_check.proofs.Cited.{IsTrueWithSets, append_left, append_right}
 use Rattle.qbf_core.proofs.Inferences.{resolvent_holds}
@@ -11,8 +11,7 @@ AreGood f sets = (lits : List Literal) → lits ∈ sets → IsClean lits × Are
 
 pub good_more : (f : Qbf) (lits : List Literal) (sets : List (List Literal)) → IsClean lits → AreBound f.blocks lits → AreGood f sets
     → AreGood f (lits ∷ sets)
-good_more f lits sets clean bound good m (inl e) = subst (λ k. IsClean k × AreBound f.blocks k) (sym e) (clean, bound)
-good_more f lits sets clean bound good m (inr h) = good m h
+good_more f lits sets clean bound good m w = search rules
 
 -- one more set changes no truth
 abbrev pub Grows : Side → Qbf → List (List Literal) → List Literal → Type 0

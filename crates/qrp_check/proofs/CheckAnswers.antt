@@ -1,7 +1,7 @@
 -- What a check answers, from what is told of the core.
-use Rattle.qrp_check.proofs.Cited.{common_steps, ◌≡◌, ◌≢◌, ◌↔◌, Bool, true, false, List, refl, subst, IsTrue, arith, Result, Ok, Err}
-use Rattle.qrp_check.proofs.Cited.{Block, Qbf, IsClosed, IsTrueFormula, Side, Clauses, Cubes, Inference, Outcome, CheckFault, C1, C2, C3}
-use Rattle.qrp_check.proofs.Cited.{C4, C5, C6, Rules, side_of, Derives, Proves, IsFirstFault, ResultHolds, SetsAgree}
+use Rattle.qrp_check.proofs.Cited.{rules, common_steps, ◌≡◌, ◌≢◌, ◌↔◌, Bool, true, false, List, refl, subst, IsTrue, arith, Result, Ok, Err}
+use Rattle.qrp_check.proofs.Cited.{Block, Qbf, IsClosed, IsTrueFormula, Side, Clauses, Cubes, Inference, Outcome, CheckFault}
+use Rattle.qrp_check.proofs.Cited.{C5, Rules, side_of, Derives, Proves, IsFirstFault, ResultHolds, SetsAgree}
 use Rattle.std.specs.Prelude.{OnOk, IfErr}
 use Rattle.qbf_core.specs.Qbf.{IsWellFormed}
 use Rattle.qrp_check.specs.Followed.{IsCoreFault}
@@ -12,12 +12,7 @@ use Rattle.qrp_check.proofs.Soundness.{soundness}
 pub core_fault : (rules : Rules) (f : Qbf) (sets : List Block) (steps : List Inference) (outcome : Outcome) (side : Side) (e : CheckFault)
     → side_of outcome ≡ side
     → SetsAgree f.blocks sets → IsCoreFault rules side f steps e → e ≢ C5 → IsFirstFault rules f sets steps outcome e
-core_fault rules f sets steps outcome side (C1 v) is agree none more = absurd none
-core_fault rules f sets steps outcome side (C2 v) is agree none more = absurd none
-core_fault rules f sets steps outcome side (C3 v) is agree none more = absurd none
-core_fault rules f sets steps outcome side C4 is agree none more = absurd none
-core_fault rules f sets steps outcome side C5 is agree fault more = absurd (more refl)
-core_fault rules f sets steps outcome side (C6 number fault) is agree first more = grind (arith, common_steps)
+core_fault rules f sets steps outcome side e is agree fault more = grind (arith, common_steps)
 
 -- what a verdict claims
 pub claims_false : (f : Qbf) → ResultHolds Clauses f → IsTrue false ↔ IsTrueFormula f
@@ -31,14 +26,12 @@ claims_true f holds = ((λ t. holds), (λ is. refl))
 pub proves : {V : Type 0} (rules : Rules) (f : Qbf) (sets : List Block) (steps : List Inference) (outcome : Outcome) (side : Side)
     (r : Result V CheckFault) → side_of outcome ≡ side
     → SetsAgree f.blocks sets → OnOk r (Derives rules side f steps) → OnOk r (Proves rules f sets steps outcome)
-proves rules f sets steps outcome side (Ok v) is agree derives = grind (arith, common_steps)
-proves rules f sets steps outcome side (Err e) is agree derives = tt
+proves rules f sets steps outcome side r is agree derives = grind (arith, common_steps)
 
 pub refuses : {V : Type 0} (rules : Rules) (f : Qbf) (sets : List Block) (steps : List Inference) (outcome : Outcome) (side : Side)
     (r : Result V CheckFault) → side_of outcome ≡ side
     → SetsAgree f.blocks sets → IfErr r (IsCoreFault rules side f steps) → IfErr r (λ e. e ≢ C5 → IsFirstFault rules f sets steps outcome e)
-refuses rules f sets steps outcome side (Ok v) is agree fault = tt
-refuses rules f sets steps outcome side (Err e) is agree fault = core_fault rules f sets steps outcome side e is agree fault
+refuses rules f sets steps outcome side r is agree fault = grind (arith, common_steps)
 
 pub shows : {V : Type 0} (rules : Rules) (f : Qbf) (sets : List Block) (steps : List Inference) (outcome : Outcome) (side : Side)
     (truth : Bool) (r : Result V CheckFault) → side_of outcome ≡ side → is_sat outcome ≡ truth

@@ -9,6 +9,7 @@ use Rattle.std.specs.Prelude.{Bool, IsTrue}
 use Rattle.qbf_core.specs.Literal.{positive}
 use Rattle.qbf_core.specs.Rules.{IsTautology}
 use Rattle.std.proofs.Common.{◌+◌, below_more}
+use Rattle.qrp_check.proofs.Cited.{common_steps}
 use Rattle.qbf_core.specs.Sets.{HasMembersOf}
 use Rattle.qrp_rules.specs.declared.fault.RuleFault.TheVariants.{S1, S2, S3}
 use Rattle.qrp_rules.specs.Conditions.{AllHold, Condition}
@@ -69,30 +70,22 @@ module _ (rules : Rules) (side : Side) (f : Qbf) (steps : List Inference) (place
       (clean_within done.step.lits lits done.all.0 within, bound_within f.blocks done.step.lits lits done.all.1.0 within)
 
   pub premises_fit : (found : Option Premises) → ArePremises (take place steps) step.ants found → IfSome found (AreFit f.blocks)
-  premises_fit None are = tt
-  premises_fit (Some Initial) are = tt
   premises_fit (Some (One from)) (n, e, is) = premise_fit n from.now (subst (λ (ns : List ℕ). n ∈ ns) (sym e) (inl refl)) is
   premises_fit (Some (Two a b)) (m, n, e, is_a, is_b) = (
     premise_fit m a.now (subst (λ (ns : List ℕ). m ∈ ns) (sym e) (inl refl)) is_a,
     premise_fit n b.now (subst (λ (ns : List ℕ). n ∈ ns) (sym e) (inr (inl refl))) is_b,
   )
+  premises_fit found are = tt
 
 -- ---- the conditions of a step
 
 with_earlier : (p q earlier : Type 0) (rest : List (Condition RuleFault)) (answer : Option RuleFault) → earlier
     → IsJudgement ((S1, p) ∷ (S2, q) ∷ rest) answer → IsJudgement ((S1, p) ∷ (S2, q) ∷ (S3, earlier) ∷ rest) answer
-with_earlier p q earlier rest None e (h, (k, all)) = (h, (k, (e, all)))
-with_earlier p q earlier rest (Some fault) e (inl out) = inl out
-with_earlier p q earlier rest (Some fault) e (inr (h, inl out)) = inr (h, inl out)
-with_earlier p q earlier rest (Some fault) e (inr (h, inr (k, first))) = inr (h, inr (k, inr (e, first)))
+with_earlier p q earlier rest answer e w = search rules
 
 without_earlier : (p q earlier : Type 0) (rest : List (Condition RuleFault)) (answer : Option RuleFault) → (earlier → ⊥)
     → IsJudgement ((S1, p) ∷ (S2, q) ∷ (S3, ⊥) ∷ []) answer → IsJudgement ((S1, p) ∷ (S2, q) ∷ (S3, earlier) ∷ rest) answer
-without_earlier p q earlier rest None not all = absurd all.1.1.0
-without_earlier p q earlier rest (Some fault) not (inl out) = inl out
-without_earlier p q earlier rest (Some fault) not (inr (h, inl out)) = inr (h, inl out)
-without_earlier p q earlier rest (Some fault) not (inr (h, inr (k, inl (out, is)))) = inr (h, inr (k, inl (not, is)))
-without_earlier p q earlier rest (Some fault) not (inr (h, inr (k, inr (none, first)))) = absurd none
+without_earlier p q earlier rest answer not all = search rules
 
 after_two : (p q : Type 0) (rest other : List (Condition RuleFault)) (answer : Option RuleFault)
     → ((a : Option RuleFault) → IsJudgement rest a → IsJudgement other a)
@@ -108,35 +101,16 @@ from_found : (rules : Rules) (side : Side) (f : Qbf) (before : List Inference) (
     → ArePremises before step.ants found → IsJudgement (found_conditions rules side f found step.lits) answer
     → IsJudgement (step_conditions rules side f before step) answer
 from_found rules side f before step None answer not a = search (rules, without_earlier)
-from_found rules side f before step (Some Initial) answer none a =
-    rw none (with_earlier (IsClean step.lits) (AreBound f.blocks step.lits) ((n : ℕ) → n ∈ [] → IsNumberOf before n)
-    (initial_condition side f step.lits ∷ []) answer (λ n h. absurd h) a)
+from_found rules side f before step (Some Initial) answer none a = grind (arith, common_steps)
 from_found rules side f before step (Some (One from)) answer (m, e, (own, is)) a =
-    rw e (with_earlier (IsClean step.lits) (AreBound f.blocks step.lits) ((n : ℕ) → n ∈ (m ∷ []) → IsNumberOf before n)
-    (reduct_conditions side f.blocks (lits_of before m) step.lits) answer
-    (λ n h. elim h [ inl same ↦ subst (IsNumberOf before) (sym same) own | inr none ↦ absurd none ])
-    (after_two (IsClean step.lits) (AreBound f.blocks step.lits) (reduct_conditions side f.blocks from.now step.lits)
-    (reduct_conditions side f.blocks (lits_of before m) step.lits) answer
-    (λ b. reduct_answer side f.blocks from.now (lits_of before m) step.lits step.lits b is (same_self step.lits)) a))
+    grind (arith, common_steps, with_earlier, after_two, reduct_answer, same_self)
 from_found rules side f before step (Some (Two x y)) answer (m, k, e, (own_x, is_x), (own_y, is_y)) a =
-    rw e (with_earlier (IsClean step.lits) (AreBound f.blocks step.lits) ((n : ℕ) → n ∈ (m ∷ k ∷ []) → IsNumberOf before n)
-    (resolvent_conditions rules side f.blocks (lits_of before m) (lits_of before k) step.lits) answer
-    (λ n h. elim h [
-      | inl same ↦ subst (IsNumberOf before) (sym same) own_x
-      | inr (inl same) ↦ subst (IsNumberOf before) (sym same) own_y
-      | inr (inr none) ↦ absurd none
-    ])
-    (after_two (IsClean step.lits) (AreBound f.blocks step.lits) (resolvent_conditions rules side f.blocks x.now y.now step.lits)
-    (resolvent_conditions rules side f.blocks (lits_of before m) (lits_of before k) step.lits) answer
-    (λ b. resolvent_answer rules side f.blocks x.now (lits_of before m) y.now (lits_of before k) step.lits step.lits b is_x is_y
-    (same_self step.lits)) a))
+    grind (arith, common_steps, with_earlier, after_two, resolvent_answer, same_self)
 
 pub found_answer : (rules : Rules) (side : Side) (f : Qbf) (before : List Inference) (step : Inference) (found : Option Premises)
     (lits : List Literal) (answer : Option RuleFault) → lits ≡ step.lits → ArePremises before step.ants found
     → IsJudgement (found_conditions rules side f found lits) answer → IsJudgement (step_conditions rules side f before step) answer
-found_answer rules side f before step found lits answer same are a =
-    from_found rules side f before step found answer are
-    (subst (λ (z : List Literal). IsJudgement (found_conditions rules side f found z) answer) same a)
+found_answer rules side f before step found lits answer same are a = grind (arith, common_steps, from_found)
 
 -- a step that follows, after those before it
 pub followed_here : (rules : Rules) (side : Side) (f : Qbf) (steps : List Inference) (place : ℕ) (found : Option Premises)
@@ -158,9 +132,8 @@ followed_here rules side f steps place found lits before own are all =
 premise_answer : (rules : Rules) (side : Side) (f : Qbf) (premises : Premises) (set lits : List Literal) (answer : Option RuleFault)
     → HasMembersOf set lits → IsJudgement (premise_conditions rules side f premises set) answer
     → IsJudgement (premise_conditions rules side f premises lits) answer
-premise_answer rules side f Initial set lits answer same a = initial_answer side f set lits answer same a
-premise_answer rules side f (One from) set lits answer same a = search (rules, reduct_answer, same_self)
-premise_answer rules side f (Two x y) set lits answer same a = search (rules, resolvent_answer, same_self)
+premise_answer rules side f premises set lits answer same a =
+    grind (arith, common_steps, initial_answer, reduct_answer, same_self, resolvent_answer)
 
 pub set_answer : (rules : Rules) (side : Side) (f : Qbf) (premises : Premises) (set lits : List Literal) (answer : Option RuleFault)
     → HasMembersOf set lits → IsFit f.blocks lits → IsJudgement (premise_conditions rules side f premises set) answer
@@ -176,19 +149,15 @@ none_unbound blocks lits bound (l, h, free) = free (bound_each blocks lits bound
 
 pub not_clean : (rules : Rules) (side : Side) (f : Qbf) (found : Option Premises) (lits : List Literal) → IsTautology lits
     → IsJudgement (found_conditions rules side f found lits) (Some S1)
-not_clean rules side f None lits (v, p, n) = inl ((λ clean. clean (positive v) p n), refl)
-not_clean rules side f (Some premises) lits (v, p, n) = inl ((λ clean. clean (positive v) p n), refl)
+not_clean rules side f found lits h = grind (arith, common_steps)
 
 pub not_all_bound : (rules : Rules) (side : Side) (f : Qbf) (found : Option Premises) (lits : List Literal) → IsClean lits
     → (l : Literal) × (l ∈ lits) × (IsBound f.blocks l.var → ⊥) → IsJudgement (found_conditions rules side f found lits) (Some S2)
-not_all_bound rules side f None lits clean (l, h, free) = inr (clean, inl ((λ bound. free (bound_each f.blocks lits bound l h)), refl))
-not_all_bound rules side f (Some premises) lits clean (l, h, free) =
-    inr (clean, inl ((λ bound. free (bound_each f.blocks lits bound l h)), refl))
+not_all_bound rules side f found lits clean l = grind (arith, common_steps, bound_each)
 
 pub accepted_all : {E : Type 0} (r : Result Bool E) (conditions : List (Condition RuleFault)) (blocks : List Block) (lits : List Literal)
     → IfOk r (IsAcceptedBy conditions blocks lits) → IfOk r (λ t. IsTrue t → IsClean lits × (AreBound blocks lits × AllHold conditions))
-accepted_all (Ok t) conditions blocks lits is = λ h. ((is h).clean, ((is h).bound, (is h).follows))
-accepted_all (Err e) conditions blocks lits is = tt
+accepted_all r conditions blocks lits is = search rules
 
 -- the number of an antecedent that is not an earlier step
 pub not_earlier : (steps : List Inference) (place : ℕ) (ants numbers : List ℕ) (n : ℕ) → ants ≡ numbers → n ∈ numbers

@@ -10,8 +10,7 @@ use Rattle.qrp_check.proofs.ParentsReduced.{resolved_grown}
 use Rattle.qrp_check.proofs.StepFaults.{need_of}
 
 initial_of : (side : Side) (f : Qbf) (lits : List Literal) → (initial_condition side f lits).1 → IsInitial side f lits
-initial_of Clauses f lits h = h
-initial_of Cubes f lits h = h
+initial_of side f lits h = search rules
 
 module _ (rules : Rules) (side : Side) (f : Qbf) (steps : List Inference) (closed : IsClosed f) (derives : Derives rules side f steps) where
   -- literals that can be added to any good sets, with what they follow from

@@ -1,6 +1,7 @@
 -- From the verdict on what was read to the headline over the bytes.
-use Rattle.qrp_check.proofs.Cited.{◌≡◌, ◌↔◌, ℕ, IsTrue, List, Option, Some, None, inl, inr, refl, subst, rules, Result, Ok, Err, IfSome}
-use Rattle.qrp_check.proofs.Cited.{Qbf, IsTrueFormula, Derivation, Rules, Verified, Fault, ListsCore, side_of, ResultHolds, IsVerdict}
+use Rattle.qrp_check.proofs.Cited.{common_steps, arith, ◌≡◌, ◌↔◌, ℕ, IsTrue, List, Option, Some, inl, inr, refl, subst, rules, Result}
+use Rattle.qrp_check.proofs.Cited.{Ok, Err, IfSome, Qbf, IsTrueFormula, Derivation, Rules, Verified, Fault, ListsCore, side_of, ResultHolds}
+use Rattle.qrp_check.proofs.Cited.{IsVerdict}
 use Rattle.qbf_text.specs.declared.token.Comments.TheVariants.{Qdimacs, Qrp}
 use Rattle.qbf_text.specs.Lined.{without_lines}
 use Rattle.qbf_text.specs.Tokens.{tokens}
@@ -53,9 +54,7 @@ pub record Found (rules : Rules) (formula trace : List ℕ) (v : Verified) : Typ
 
 pub found_of : (rules : Rules) (formula trace : List ℕ) (v : Verified) (r : Result Qbf (FormulaFault × ℕ)) (s : Result Derivation (TraceFault × ℕ))
     → read_formula formula ≡ r → read_trace trace ≡ s → IsVerdict rules r (Some s) (Ok v) → Found rules formula trace v
-found_of rules formula trace v (Err e) s reads_formula reads_trace h = absurd (cc h)
-found_of rules formula trace v (Ok f) (Err e) reads_formula reads_trace h = absurd (cc h)
-found_of rules formula trace v (Ok f) (Ok d) reads_formula reads_trace (proves, lists, claim, truth) = search rules
+found_of rules formula trace v r s reads_formula reads_trace h = grind (arith, common_steps)
 
 spelled_of : (rules : Rules) (formula trace : List ℕ) (v : Verified) (w : Found rules formula trace v) → Spell formula trace w.f w.d
 spelled_of rules formula trace v w = search (rules, formula_spelled, trace_spelled)
@@ -82,9 +81,8 @@ refused_not rules formula trace e shown h =
     by e (rw (formula_read formula trace shown.f shown.d shown.spelled, trace_read formula trace shown.f shown.d shown.spelled) at h)
   where
     by : (e : Fault) → IsVerdict rules (Ok shown.f) (Some (Ok shown.d)) (Err e) → ⊥
-    by (fault.Formula e line) h = h
-    by (fault.Trace e line) h = h
     by (fault.Check c) h = (verdict_is_one rules shown.f shown.d.sets shown.d.steps shown.d.result c c).0 shown.proves h
+    by e h = h
 
 headline_known : (rules : Rules) (formula trace : List ℕ) (answer : Result Verified Fault)
     → IsVerdictUnless rules (Some formula) (Some trace) answer
@@ -104,6 +102,4 @@ headline_known rules formula trace (Err e) (inr aside) = record { only = λ is. 
 pub headline : (rules : Rules) (formula trace : Option (List ℕ)) (answer : Result Verified Fault)
     → IsVerdictUnless rules formula trace answer
     → IfSome formula (λ a. IfSome trace (λ b. Headline rules a b answer))
-headline rules None trace answer h = tt
-headline rules (Some a) None answer h = tt
-headline rules (Some a) (Some b) answer h = headline_known rules a b answer h
+headline rules formula trace answer h = grind (arith, common_steps, headline_known)

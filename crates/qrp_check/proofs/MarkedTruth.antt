@@ -1,7 +1,7 @@
 -- From the marks of a core to the verdict that lists it, of which a check without the list returns the truth.
-use Rattle.qrp_check.proofs.Cited.{◌≡◌, ◌↔◌, ℕ, zero, suc, ◌+◌, ◌<◌, ◌≤◌, Bool, true, false, List, [], ◌∷◌, ◌++◌, inl, inr, refl, sym, ap, length, get_or}
-use Rattle.qrp_check.proofs.Cited.{arith, IsTrue, Option, Some, None, Result, Ok, Err, IfSome, slice_get_within, ListsMarked, ListsCore, Inference}
-use Rattle.qrp_check.proofs.Cited.{Derivation, Qbf, IsTrueFormula, Rules, Verified, Fault, IsVerdict}
+use Rattle.qrp_check.proofs.Cited.{rules, common_steps, ◌≡◌, ◌↔◌, ℕ, zero, suc, ◌+◌, ◌<◌, ◌≤◌, Bool, true, false, List, [], ◌∷◌, ◌++◌, inl}
+use Rattle.qrp_check.proofs.Cited.{refl, sym, ap, length, get_or, arith, IsTrue, Option, Result, Ok, IfSome, slice_get_within, ListsMarked}
+use Rattle.qrp_check.proofs.Cited.{ListsCore, Inference, Derivation, Qbf, IsTrueFormula, Rules, Verified, Fault, IsVerdict}
 use Rattle.std.proofs.lemmas.List.{length_push}
 use Rattle.std.specs.Global.{Vec}
 use Rattle.qbf_text.specs.Stopping.{IfKnown}
@@ -11,7 +11,6 @@ use Rattle.qrp_check.specs.Checked.{SourceCall, IsChecked, IsCheckedOf, IsTruthO
 use Rattle.qrp_check.specs.Marks.{MarksCore}
 use Rattle.qrp_check.specs.Proof.{IsProof}
 use Rattle.qrp_check.specs.Verdict.{is_sat, IsFormulaDevice, IsFormulaFault, IsVerdictOf, IsVerdictUnless, StopsAfterTrace}
-use Rattle.qrp_check.specs.declared.verdict.Fault.TheVariants as fault
 use Rattle.qdimacs.specs.Reading as formulas
 use Rattle.qrp_check.proofs.MarkedPlaces.{is_marked, is_unmarked, listing_none, listing_skip, listing_push}
 
@@ -84,8 +83,7 @@ lists steps marks truth m =
 verified_trace : (rules : Rules) (trace : Option (List ℕ)) (f : Qbf) (d : Derivation) (v : Verified)
     → IfSome (traces.reads_bytes trace) (λ r. r ≡ Ok d) → IsProof rules f d → ListsCore d.steps v.core.items → v.truth ≡ is_sat d.result
     → (IsTrue v.truth ↔ IsTrueFormula f) → IsVerdict rules (Ok f) (traces.reads_bytes trace) (Ok v)
-verified_trace rules None f d v reads_d proves lists claim truth = ((λ is. is), truth)
-verified_trace rules (Some b) f d v reads_d proves lists claim truth = rw reads_d (proves, lists, claim, truth)
+verified_trace rules trace f d v reads_d proves lists claim truth = grind (arith, common_steps)
 
 -- the truth of a trace that was read, of which the core is marked
 pub verified_of : (rules : Rules) (trace : SourceCall) (f : Qbf) (d : Derivation) (marks : Vec Bool)
@@ -107,33 +105,19 @@ verified_of rules trace f d marks reads_d kept proves m truth =
 -- a trace that was read stops after its result
 pub trace_read : (d : Derivation) (before after : Option (List ℕ)) → IfKnown (StopsAfterResult d) before after
     → IfKnown StopsAfterTrace before after
-trace_read d None after stops = tt
-trace_read d (Some before) None stops = stops
-trace_read d (Some before) (Some after) stops = (d, stops)
+trace_read d before after stops = search rules
 
 -- ---- the verdict on both texts
 
 device_fault : (v : Result Verified Fault) → IsFormulaDevice v → IsFormulaFault v
-device_fault (Ok v) is = is
-device_fault (Err (fault.Formula e line)) is = tt
-device_fault (Err (fault.Trace e line)) is = is
-device_fault (Err (fault.Check c)) is = is
+device_fault v is = search rules
 
 verdict_unless : (rules : Rules) (formula trace : Option (List ℕ)) (f : Qbf) (v : Result Verified Fault)
     → IfSome (formulas.reads_bytes formula) (λ r. r ≡ Ok f) → IsVerdictOf rules f trace v → IsVerdictUnless rules formula trace v
-verdict_unless rules None trace f v reads_f h = inl tt
-verdict_unless rules (Some b) trace f v reads_f (_, inl h) = inl (rw reads_f h)
-verdict_unless rules (Some b) trace f v reads_f (_, inr (inl memory)) = inr (inl memory)
-verdict_unless rules (Some b) trace f v reads_f (_, inr (inr device)) = inr (inr (inr device))
+verdict_unless rules formula trace f v reads_f h = grind (arith, common_steps)
 
 -- the verdict on a formula that was read is that on both texts
 pub checked_both : (rules : Rules) (formula trace : SourceCall) (f : Qbf) (v : Result Verified Fault)
     → IfSome (formulas.reads_bytes formula.bytes) (λ r. r ≡ Ok f) → formula.after ≡ formula.before → IsCheckedOf rules f trace v
     → IsChecked rules formula trace v
-checked_both rules formula trace f v reads_f kept of = record {
-  verdict = verdict_unless rules formula.bytes trace.bytes f v reads_f of.verdict;
-  formula_failed = λ small. (λ is. absurd (of.verdict.0 (device_fault v is)), λ less. absurd (omega (arith, less, kept)));
-  trace_failed = of.failed;
-  lines = of.lines;
-  not_pulled = λ is. absurd (of.verdict.0 is);
-}
+checked_both rules formula trace f v reads_f kept of = grind (arith, common_steps)

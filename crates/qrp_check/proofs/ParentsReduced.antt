@@ -1,7 +1,7 @@
 -- Parents that are reduced before they are resolved: reductions of the parents, a resolution, and a reduction of the resolvent.
-use Rattle.qrp_check.proofs.Cited.{◌≡◌, ℕ, List, [], ◌∷◌, ◌++◌, ◌⊎◌, inl, inr, refl, sym, subst, rules, cases_eq, Literal, ◌∈◌, ◌⊆◌}
-use Rattle.qrp_check.proofs.Cited.{IsClean, Side, IsReduct, Clashes, resolvent, Block, IsBound, AreBound, bound_each, Qbf, IsClosed}
-use Rattle.qrp_check.proofs.Cited.{in_append, append_left, append_right}
+use Rattle.qrp_check.proofs.Cited.{common_steps, arith, ◌≡◌, ℕ, List, [], ◌∷◌, ◌++◌, ◌⊎◌, inl, inr, refl, sym, subst, rules, cases_eq}
+use Rattle.qrp_check.proofs.Cited.{Literal, ◌∈◌, ◌⊆◌, IsClean, Side, IsReduct, Clashes, resolvent, Block, IsBound, AreBound, bound_each}
+use Rattle.qrp_check.proofs.Cited.{Qbf, IsClosed, in_append, append_left, append_right}
 use Rattle.qbf_core.specs.Rules.{IsReducible, IsOnlyClash}
 use Rattle.qbf_core.proofs.Bound.{bound_within}
 use Rattle.qrp_rules.specs.Conditions.{IsReducibleInParents}
@@ -36,12 +36,7 @@ pick P Q (x ∷ all) choose = by_choice (choose x (inl refl)) (pick P Q all (λ 
       stays = λ l. elim [ inl e ↦ subst P (sym e) p | inr h ↦ rest.stays l h ];
       each = λ l. elim [ inl e ↦ inl (inl e) | inr h ↦ elim (rest.each l h) [ inl k ↦ inl (inr k) | inr q ↦ inr q ] ];
     }
-    by_choice (inr q) rest = record {
-      some = rest.some;
-      within = λ l h. inr (rest.within l h);
-      stays = rest.stays;
-      each = λ l. elim [ inl e ↦ inr (subst Q (sym e) q) | inr h ↦ rest.each l h ];
-    }
+    by_choice (inr q) rest = grind (arith, common_steps)
 
 reducible_fewer : (side : Side) (blocks : List Block) (all some : List Literal) (l : Literal) → some ⊆ all → IsReducible side blocks all l
     → IsReducible side blocks some l
@@ -86,12 +81,10 @@ module _ (side : Side) (f : Qbf) (a b lits : List Literal) (resolved : Resolved 
   stays_b l h stay = elim (picked_b.each l h) [ inl k ↦ k | inr goes ↦ absurd (stay goes) ]
 
   clash_stays : Clashes a b resolved.pivot → Clashes picked_a.some picked_b.some resolved.pivot
-  clash_stays (inl (p, n)) = inl (stays_a _ p (λ goes. goes.0 refl), stays_b _ n (λ goes. goes.0 refl))
-  clash_stays (inr (n, p)) = inr (stays_a _ n (λ goes. goes.0 refl), stays_b _ p (λ goes. goes.0 refl))
+  clash_stays h = search rules
 
   clash_only : (v : ℕ) → Clashes picked_a.some picked_b.some v → Clashes a b v
-  clash_only v (inl (p, n)) = inl (picked_a.within _ p, picked_b.within _ n)
-  clash_only v (inr (n, p)) = inr (picked_a.within _ n, picked_b.within _ p)
+  clash_only v h = search rules
 
   clash : IsOnlyClash picked_a.some picked_b.some resolved.pivot
   clash = record { clashes = clash_stays resolved.clash.clashes; only = λ v c. resolved.clash.only v (clash_only v c) }

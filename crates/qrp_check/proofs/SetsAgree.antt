@@ -1,7 +1,7 @@
 -- How far the sets of a trace agree: one pair more, and one list of pairs more.
-use Rattle.qrp_check.proofs.Cited.{◌≡◌, ◌≤◌, ◌<◌, ◌+◌, ℕ, zero, suc, List, [], ◌∷◌, ◌++◌, ◌⊎◌, inl, inr, refl, sym, ap, subst, ◌∙◌, arith}
-use Rattle.qrp_check.proofs.Cited.{rules, length, get_or, take, drop, Some, take_more, Quantifier, Block, IsBound, pairs, pairs_of_block}
-use Rattle.qrp_check.proofs.Cited.{in_push, push_in, CheckFault, C1, C2, C3, AllHold, IsFirstFailure, Passes, FailsIn}
+use Rattle.qrp_check.proofs.Cited.{common_steps, ◌≡◌, ◌≤◌, ◌<◌, ◌+◌, ℕ, zero, suc, List, [], ◌∷◌, ◌++◌, ◌⊎◌, inl, inr, refl, sym, ap, subst}
+use Rattle.qrp_check.proofs.Cited.{◌∙◌, arith, rules, length, get_or, take, drop, Some, Quantifier, Block, IsBound, pairs}
+use Rattle.qrp_check.proofs.Cited.{pairs_of_block, in_push, push_in, CheckFault, C1, C2, C3, AllHold, IsFirstFailure, Passes, FailsIn}
 use Rattle.std.proofs.Common.{slice_get}
 use Rattle.std.proofs.lemmas.List.{append_assoc, append-nil, map-append, map_more, take-append-drop}
 use Rattle.std.proofs.lemmas.List.Concat.{flat_map-append}
@@ -45,10 +45,7 @@ passes_one blocks highest n q v binds at le before passed = record {
     (λ up p h i e. elim (in_push before (q, v) p h) [
       | inl b ↦ (passed.low k).0 (let l : highest ≤ k = omega arith in l) p b i e
       | inr same ↦
-          let f : Quantifier × ℕ → ℕ = λ x. x.1 in
-          let here : block_in v blocks ≡ Some i = subst (λ w. block_in w blocks ≡ Some i) (ap f same) e in
-          let is : i ≡ n = cc (here, at) in
-          omega arith
+          search rules
     ]),
     (λ all. all (q, v) (push_in before (q, v) (q, v) (inr refl)) n at),
   );
@@ -153,11 +150,7 @@ under_rest q vs i v less e =
 -- one set more
 pub sets_next : (sets : List Block) (i : ℕ) (s : Block) → i < length sets → s ≡ get_or sets i s
     → pairs (take (i + 1) sets) ≡ pairs (take i sets) ++ pairs_of_block s
-sets_next sets i s less e =
-    let last : Block = get_or sets i s in
-    ap pairs (take_more sets i s less)
-    ∙ flat_map-append pairs_of_block (take i sets) (last ∷ [])
-    ∙ ap (λ (ps : List (Quantifier × ℕ)). pairs (take i sets) ++ ps) (append-nil (pairs_of_block last) ∙ ap pairs_of_block (sym e))
+sets_next sets i s less e = grind (arith, common_steps)
 
 pub sets_rest : (sets : List Block) (i : ℕ) (s : Block) → i < length sets → s ≡ get_or sets i s
     → (pairs (take i sets) ++ pairs_of_block s) ++ pairs (drop (i + 1) sets) ≡ pairs sets

@@ -1,6 +1,6 @@
 -- From the check of what was read to the verdict on its bytes.
-use Rattle.qrp_check.proofs.Cited.{◌≡◌, ◌≢◌, ℕ, List, Option, Some, None, arith, inl, inr, refl, Result, Ok, Err, IfSome, Qbf, Derivation}
-use Rattle.qrp_check.proofs.Cited.{Rules, Fault, CheckFault, C1, C2, C3, C4, C5, C6, Verified, IsFirstFault, IsVerdict}
+use Rattle.qrp_check.proofs.Cited.{rules, common_steps, ◌≡◌, ◌≢◌, ℕ, List, Option, arith, Result, Ok, Err, IfSome, Qbf, Derivation, Rules}
+use Rattle.qrp_check.proofs.Cited.{Fault, CheckFault, C5, Verified, IsFirstFault, IsVerdict}
 use Rattle.qrp_check.specs.Checked.{SourceCall, IsCheckedOf, verdict_of}
 use Rattle.qrp_check.specs.Verdict.{IsVerdictOf}
 use Rattle.qrp.specs.Returns as traces
@@ -9,28 +9,16 @@ use Rattle.qrp_check.specs.declared.verdict.Fault.TheVariants as fault
 first_fault_is : (rules : Rules) (trace : Option (List ℕ)) (f : Qbf) (d : Derivation) (e : CheckFault)
     → IfSome (traces.reads_bytes trace) (λ r. r ≡ Ok d) → IsFirstFault rules f d.sets d.steps d.result e
     → IsVerdict rules (Ok f) (traces.reads_bytes trace) (Err (fault.Check e))
-first_fault_is rules None f d e reads_d first = ((λ is. is), tt)
-first_fault_is rules (Some b) f d e reads_d first = rw reads_d first
+first_fault_is rules trace f d e reads_d first = grind (arith, common_steps)
 
 -- A fault of the check is the verdict on a formula that was read.
 refused_trace : (rules : Rules) (trace : Option (List ℕ)) (f : Qbf) (d : Derivation) (e : CheckFault)
     → IfSome (traces.reads_bytes trace) (λ r. r ≡ Ok d) → (e ≢ C5 → IsFirstFault rules f d.sets d.steps d.result e)
     → IsVerdictOf rules f trace (Err (fault.Check e))
-refused_trace rules trace f d C5 reads_d first = ((λ is. is), inr (inl refl))
-refused_trace rules trace f d (C1 v) reads_d first = ((λ is. is), inl (first_fault_is rules trace f d (C1 v) reads_d (first (λ e. cc e))))
-refused_trace rules trace f d (C2 v) reads_d first = ((λ is. is), inl (first_fault_is rules trace f d (C2 v) reads_d (first (λ e. cc e))))
-refused_trace rules trace f d (C3 v) reads_d first = ((λ is. is), inl (first_fault_is rules trace f d (C3 v) reads_d (first (λ e. cc e))))
-refused_trace rules trace f d C4 reads_d first = ((λ is. is), inl (first_fault_is rules trace f d C4 reads_d (first (λ e. cc e))))
-refused_trace rules trace f d (C6 n s) reads_d first =
-    ((λ is. is), inl (first_fault_is rules trace f d (C6 n s) reads_d (first (λ e. cc e))))
+refused_trace rules trace f d e reads_d first = grind (arith, common_steps)
 
 -- a fault of the check of a trace that was read
 pub refused_of : (rules : Rules) (trace : SourceCall) (f : Qbf) (d : Derivation) (answer : Result (Derivation × Verified) Fault) (e : CheckFault)
     → answer ≡ Err (fault.Check e) → IfSome (traces.reads_bytes trace.bytes) (λ r. r ≡ Ok d) → trace.after ≡ trace.before
     → (e ≢ C5 → IsFirstFault rules f d.sets d.steps d.result e) → IsCheckedOf rules f trace (verdict_of answer)
-refused_of rules trace f d answer e is reads_d kept first = rw is (record {
-  verdict = refused_trace rules trace.bytes f d e reads_d first;
-  failed = λ small. (λ is. absurd is, λ less. absurd (omega (arith, less, kept)));
-  lines = tt;
-  works = tt;
-})
+refused_of rules trace f d answer e is reads_d kept first = grind (arith, common_steps)

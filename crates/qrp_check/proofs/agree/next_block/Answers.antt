@@ -1,16 +1,14 @@
-use Rattle.qrp_check.proofs.Cited.{common_steps, refl, sym, ◌∙◌, arith, false≢true}
+use Rattle.qrp_check.proofs.Cited.{rules, common_steps, refl, sym, arith}
 use Rattle.qrp_rules.proofs.Reducing.{binds_block}
 use Rattle.qrp_check.proofs.SetsAgree.{passes_one, fails_unbound, fails_other, fails_early}
 use Rattle.qrp_check.proofs.agree.next_block.Goals as goal
 
 pub returns-then-not-is_bound-clause-err : goal.returns-then-not-is_bound-clause-err
-returns-then-not-is_bound-clause-err c =
-    fails_unbound c.args.prefix.now c.args.highest c.args.quantifier c.args.var (λ b. false≢true (c.if-not-is_bound.ensures ∙ b))
+returns-then-not-is_bound-clause-err c = search (rules, fails_unbound, c.args.highest, c.args.quantifier, c.if-not-is_bound.ensures)
 
 pub returns-then-not-is_bound_by-clause-err : goal.returns-then-not-is_bound_by-clause-err
 returns-then-not-is_bound_by-clause-err c =
-    fails_other c.args.prefix.now c.args.highest c.args.quantifier c.args.var (sym c.if-not-is_bound.ensures)
-    (λ b. false≢true (c.if-not-is_bound_by.ensures.1 b))
+    search (rules, fails_other, c.args.highest, c.args.quantifier, c.if-not-is_bound.ensures, c.if-not-is_bound_by.ensures.1)
 
 pub returns-then-block-highest-clause-err : goal.returns-then-block-highest-clause-err
 returns-then-block-highest-clause-err c =

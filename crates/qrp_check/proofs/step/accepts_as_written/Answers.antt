@@ -1,4 +1,4 @@
-use Rattle.qrp_check.proofs.Cited.{[], ◌∷◌, initial_condition, reduct_conditions, resolvent_conditions}
+use Rattle.qrp_check.proofs.Cited.{rules, resolvent_conditions}
 use Rattle.qrp_check.proofs.CoreStep.{accepted_all}
 use Rattle.qrp_check.proofs.step.accepts_as_written.Goals as goal
 
@@ -6,14 +6,10 @@ pub accepts_resolvent-requires-clause-b : goal.accepts_resolvent-requires-clause
 accepts_resolvent-requires-clause-b g c = rw c.prefix-prefix.ensures.value ((rw c.in-Two.is at c.requires.fit).1)
 
 pub returns-in-Initial-clause-follows : goal.returns-in-Initial-clause-follows
-returns-in-Initial-clause-follows g c =
-    rw c.in-Initial.is (accepted_all c.accepts_initial.result (initial_condition g.S.Side.side c.args.context.formula.now c.args.lits.now ∷ [])
-    c.args.context.formula.now.blocks c.args.lits.now c.accepts_initial.ensures.accepted)
+returns-in-Initial-clause-follows g c = search (rules, accepted_all)
 
 pub returns-in-One-clause-follows : goal.returns-in-One-clause-follows
-returns-in-One-clause-follows g c = rw c.in-One.is (accepted_all c.accepts_reduct.result
-    (reduct_conditions g.S.Side.side c.args.context.formula.now.blocks c.in-One.from.now c.args.lits.now)
-    c.args.context.formula.now.blocks c.args.lits.now (rw c.prefix-prefix.ensures.value at c.accepts_reduct.ensures))
+returns-in-One-clause-follows g c = search (rules, accepted_all)
 
 pub returns-in-Two-clause-follows : goal.returns-in-Two-clause-follows
 returns-in-Two-clause-follows g c = rw c.in-Two.is (accepted_all c.accepts_resolvent.result

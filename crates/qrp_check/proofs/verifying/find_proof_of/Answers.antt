@@ -1,3 +1,4 @@
+use Rattle.std.proofs.Common.{rules}
 use Rattle.std.proofs.lemmas.Result.{err_from_is_err_and}
 use Rattle.qrp_check.specs.Checked.{call_of}
 use Rattle.qrp_check.proofs.MarkedTruth.{trace_read}
@@ -12,11 +13,4 @@ returns-in_err-verified-clause-checked g c =
     (rw (c.sets.ensures, c.result.ensures.value) at c.in_err-verified.ensures.refused)
 
 pub returns-in_err-verified-clause-source : goal.returns-in_err-verified-clause-source
-returns-in_err-verified-clause-source g c =
-    let p = err_from_is_err_and c.from_residual-in_err-verified.result c.from_residual-in_err-verified.ensures.1 in
-    rw p.1 (record {
-      reads = tt;
-      within = tt;
-      stops = λ is. trace_read c.in_ok-whole.whole (g.B.Source.remaining c.args.trace.now)
-          (g.B.Source.remaining c.read_compact.new.source) c.in_ok-whole.ensures.stops;
-    })
+returns-in_err-verified-clause-source g c = search (rules, err_from_is_err_and, trace_read)

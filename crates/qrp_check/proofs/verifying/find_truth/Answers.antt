@@ -20,16 +20,7 @@ returns-in_err-whole-clause-headline g c =
     (w.0, headline c.args.rules (g.A.Source.remaining c.args.formula.now) (g.B.Source.remaining c.args.trace.now) w.0 w.1.0.verdict, w.2)
 
 pub returns-clause-checked : goal.returns-clause-checked
-returns-clause-checked g c =
-    let w = c.find_truth_of.ensures in (
-      w.0,
-      (
-        checked_both c.args.rules (call_of g.A.Source c.args.formula.now c.read_formula.new.source) _ c.in_ok-whole.whole w.0
-            c.in_ok-whole.ensures.exact c.in_ok-whole.ensures.devices.works w.1.0,
-        w.1.1,
-      ),
-      w.2,
-    )
+returns-clause-checked g c = search (rules, checked_both)
 
 pub returns-clause-headline : goal.returns-clause-headline
 returns-clause-headline g c =

@@ -1,9 +1,6 @@
 use Rattle.qrp_rules.proofs.Cited.{◌≤◌, ℕ, sym, subst, arith}
 use Rattle.qrp_rules.proofs.walks.seek_literal.Goals as goal
 
-pub returns-clause-rest : goal.returns-clause-rest
-returns-clause-rest c = rw c.var.ensures at c.seek-rest.ensures.rest
-
 pub returns-clause-found : goal.returns-clause-found
 returns-clause-found c = (
   λ t. c.seek-rest.ensures.rest.within c.args.lit (c.starts_with.ensures.0 t),

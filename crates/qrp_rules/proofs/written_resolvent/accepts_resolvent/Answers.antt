@@ -1,10 +1,7 @@
-use Rattle.qrp_rules.proofs.Cited.{rules, refl}
+use Rattle.qrp_rules.proofs.Cited.{refl}
 use Rattle.qrp_rules.proofs.WrittenSteps.{followed_by}
 use Rattle.qrp_rules.proofs.written_resolvent.accepts_resolvent.Goals as goal
 use Rattle.qrp_rules.proofs.written_resolvent.accepts_resolvent.Goals.{in-Some, in-None+in_ok-make_room-in-None+in-Some-find_parents}
-
-pub follows_by_rests-requires : goal.follows_by_rests-requires
-follows_by_rests-requires g c = search (rules, c.match-find_rests.branch)
 
 pub returns : goal.returns
 returns g c =

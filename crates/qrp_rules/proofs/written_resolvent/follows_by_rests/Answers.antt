@@ -1,4 +1,4 @@
-use Rattle.qrp_rules.proofs.Cited.{rules, sym, ◌∙◌, eqb-true}
+use Rattle.qrp_rules.proofs.Cited.{sym, ◌∙◌, eqb-true}
 use Rattle.qrp_rules.proofs.WrittenSteps.{exact_follows}
 use Rattle.qrp_rules.proofs.written_resolvent.follows_by_rests.Goals as goal
 
@@ -10,6 +10,3 @@ returns-then-branch g c = λ _ rules allowed.
     (eqb-true _ _ (sym c.is_empty.ensures ∙ c.if-is_empty.true))
     (eqb-true _ _ (sym c.is_empty-then-is_empty.ensures ∙ c.if-is_empty-2.true))
     both.0 (rw c.var.ensures at both.1)
-
-pub returns-then-leaves_out_rests : goal.returns-then-leaves_out_rests
-returns-then-leaves_out_rests g c = search (rules, c.leaves_out_rests.ensures, c.if-leaves_out_rests.true, c.requires)

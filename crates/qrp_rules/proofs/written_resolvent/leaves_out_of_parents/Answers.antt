@@ -1,9 +1,6 @@
-use Rattle.qrp_rules.proofs.Cited.{rules, inl, inr, clash_here, Has}
+use Rattle.qrp_rules.proofs.Cited.{inl, inr, Has}
 use Rattle.qrp_rules.proofs.WrittenSteps.{accounted_follows}
 use Rattle.qrp_rules.proofs.written_resolvent.leaves_out_of_parents.Goals as goal
-
-pub reducible_in_parents-requires : goal.reducible_in_parents-requires
-reducible_in_parents-requires g c = search (rules, clash_here)
 
 pub returns-then-put_each_left_out : goal.returns-then-put_each_left_out
 returns-then-put_each_left_out g c = λ t rules allowed.

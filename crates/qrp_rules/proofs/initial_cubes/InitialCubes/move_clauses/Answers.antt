@@ -1,5 +1,5 @@
 use Rattle.qrp_rules.proofs.Cited.{rules, arith}
-use Rattle.qrp_rules.proofs.WatchedClauses.{pending_done, pending_met, pending_taken}
+use Rattle.qrp_rules.proofs.WatchedClauses.{pending_met, pending_taken}
 use Rattle.qrp_rules.proofs.initial_cubes.InitialCubes.move_clauses.Goals as goal
 
 pub loop-clause-init : goal.loop-clause-init
@@ -13,6 +13,3 @@ loop-clause-preserved c = record {
       c.loop-clause.self.lists.items c.watch_clause.new.self.lists.items c.in-Some.ensures.items c.watch_clause.ensures.kept
       (c.in_ok-watch_clause.ensures.met c.if-not-branch.false) i (c.loop-clause.invariant.pending i was);
 }
-
-pub returns-clause-met : goal.returns-clause-met
-returns-clause-met c = search (rules, pending_done)

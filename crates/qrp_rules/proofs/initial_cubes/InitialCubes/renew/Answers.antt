@@ -1,9 +1,5 @@
-use Rattle.qrp_rules.proofs.Cited.{rules, ◌≡◌, ◌+◌, ◌-◌, ◌<◌, ℕ, arith, subst, IsMet}
-use Rattle.qrp_rules.proofs.WatchedClauses.{watched_before}
+use Rattle.qrp_rules.proofs.Cited.{◌≡◌, ◌+◌, ◌-◌, ◌<◌, ℕ, arith, subst, IsMet}
 use Rattle.qrp_rules.proofs.initial_cubes.InitialCubes.renew.Goals as goal
-
-pub loop-position-init : goal.loop-position-init
-loop-position-init c = search (rules, c.len-position.ensures, c.args.self.now.lists.ok.0, watched_before, c.requires)
 
 pub loop-position-preserved : goal.loop-position-preserved
 loop-position-preserved c =
