@@ -52,5 +52,4 @@ proof_returned {t = t} from is same holds =
 pub fault_returned : {rules : Rules} {formula trace : List ℕ} {out : QrpVerdict} {Holds : Result Derivation Fault → Type 0} (fault : Fault)
     → IsTrimmed rules (lent_bytes formula) (lent_bytes trace) (Err fault) → out ≡ encoded_trace (Err fault) → NamesVariable fault
     → Holds (Err fault) → ProofReturns rules formula trace out Holds
-fault_returned fault trimmed encoded named holds =
-    record { outcome = Err fault; trimmed = trimmed; encoded = encoded; named = named; holds = holds }
+fault_returned fault trimmed encoded named holds = search rules

@@ -1,18 +1,14 @@
 -- A fault of written literals is one of the clause, or of the step, that has them.
-use Rattle.std.proofs.Common.{ℕ, ℤ, List}
+use Rattle.std.proofs.Common.{arith, ℕ, ℤ, List}
+use Rattle.std.proofs.lemmas.Grind.{common_steps}
 use Rattle.qbf_core.specs.Qbf.{Qbf}
 use Rattle.qrp.specs.Inferences.{Inference}
 use Rattle.qrp_handle.specs.Adding.{IsReadFault, IsClauseFault, IsStepFault}
 use Rattle.qrp_handle.specs.declared.fault.AddFault.{AddFault}
-use Rattle.qrp_handle.specs.declared.fault.AddFault.TheVariants.{NoMemory, Range}
 
 pub clause_fault : (f : Qbf) (written : List ℤ) (e : AddFault) → IsReadFault written e → IsClauseFault f written e
-clause_fault f written NoMemory h = tt
-clause_fault f written Range h = h
-clause_fault f written e h = absurd h
+clause_fault f written e h = grind (arith, common_steps)
 
 pub step_fault : (steps : List Inference) (number : ℕ) (written : List ℤ) (ants : List ℕ) (e : AddFault) → IsReadFault written e
     → IsStepFault steps number written ants e
-step_fault steps number written ants NoMemory h = tt
-step_fault steps number written ants Range h = λ _ all _. h all
-step_fault steps number written ants e h = absurd h
+step_fault steps number written ants e h = grind (arith, common_steps)

@@ -1,5 +1,5 @@
 -- A step number is used exactly if a step is found by it.
-use Rattle.std.proofs.Common.{◌≡◌, ℕ, zero, suc, true, false, ◌||◌, ◌⊎◌, inl, inr, nat_eq, List, [], ◌∷◌, Option, Some, None, is_some, IfSome, refl, sym, arith, tests}
+use Rattle.std.proofs.Common.{◌≡◌, ℕ, zero, suc, true, false, ◌||◌, ◌⊎◌, inl, inr, nat_eq, List, [], ◌∷◌, Option, Some, None, is_some, IfSome, refl, arith, tests}
 use Rattle.std.proofs.lemmas.Bool.{cases_Bool}
 use Rattle.std.proofs.lemmas.Grind.{common_steps}
 use Rattle.qrp.specs.Inferences.{Inference, IsAt, numbers}
@@ -28,11 +28,9 @@ holder (x ∷ steps) n u = first_or_later x steps n (holder steps n) u (cases_Bo
 -- no step is found by a number that is not used
 unused : (steps : List Inference) (n : ℕ) → ((i : ℕ) (s : Inference) → IsAt steps i s → s.number ≡ n → None ≡ Some i)
     → (is_used n (numbers steps) ≡ true) ⊎ (is_used n (numbers steps) ≡ false) → false ≡ is_used n (numbers steps)
-unused steps n only (inl u) = let f = holder steps n u in let e : None ≡ Some f.0 = only f.0 f.1 f.2 f.3 in absurd (cc e)
-unused steps n only (inr u) = sym u
+unused steps n only h = grind (arith, common_steps, holder)
 
 -- what is found by a position, and what is not
 pub found_is_used : (steps : List Inference) (n : ℕ) (o : Option ℕ) → IfSome o (λ i. (s : Inference) × IsAt steps i s × (s.number ≡ n))
     → ((i : ℕ) (s : Inference) → IsAt steps i s → s.number ≡ n → o ≡ Some i) → is_some o ≡ is_used n (numbers steps)
-found_is_used steps n (Some i) h only = sym (listed steps n i h.0 h.1 h.2)
-found_is_used steps n None h only = unused steps n only (cases_Bool (is_used n (numbers steps)))
+found_is_used steps n o h only = grind (arith, common_steps, listed, unused, numbers)

@@ -52,12 +52,11 @@ trimmed_of rules a b d v h formed reads =
 by_bytes : (rules : Rules) (formula trace : Option (List ℕ)) (d : Derivation) (v : Verified) → IsVerdictUnless rules formula trace (Ok v)
     → WasReadFrom trace d
     → IfSome formula (λ a. IfSome trace (λ b. IsTrimmedFrom rules a b (trimmed_trace d v.core.items)))
-by_bytes rules None trace d v h reads = tt
-by_bytes rules (Some a) None d v h reads = tt
 by_bytes rules (Some a) (Some b) d v (inl h) (formed, reads) = trimmed_of rules a b d v h formed reads
 by_bytes rules (Some a) (Some b) d v (inr (inl h)) reads = absurd h
 by_bytes rules (Some a) (Some b) d v (inr (inr (inl h))) reads = absurd h
 by_bytes rules (Some a) (Some b) d v (inr (inr (inr h))) reads = absurd h
+by_bytes rules formula trace d v h reads = tt
 
 -- What was read and verified is trimmed from its bytes.
 pub trims : (rules : Rules) (formula trace : SourceCall) (d : Derivation) (v : Verified) → IsChecked rules formula trace (Ok v)
