@@ -7,7 +7,7 @@ use Rattle.std.specs.Prelude.{nat_lt}
 use Rattle.std.specs.Prelude.{ℤ, pos, slice_index_or, unsigned_abs, int_lt, get_or}
 use Rattle.std.proofs.Common.{length-drop, length-append}
 use Rattle.std.proofs.lemmas.List.{get_or-append-add, get_or-drop, get_or-take, length-take}
-use Rattle.qbf_text.specs.declared.buffered.Cursor.{Cursor}
+use Rattle.qbf_text.specs.declared.cursor.Cursor.{Cursor}
 use Rattle.qbf_text.specs.declared.numbers.Numbers.{Numbers}
 use Rattle.qbf_text.specs.Passing.{cursor_after, LeadOn, Passes, PassesNumber, PassesAll}
 use Rattle.qbf_text.specs.Numbers.{one_if, token_at, LeadsBy, TakesOver, place, len_of, NumberStands, StandFrom, AreHeld, StandInFront}

@@ -5,7 +5,7 @@ use Rattle.qbf_text.proofs.Cited.{Comments, Token, Number, ahead, tokens_left, k
 use Rattle.qbf_text.proofs.Cited.{GivesNext, Row, Goes, read_from, reads_from, IfKnown, TakesToken, tokens_next, line_number}
 use Rattle.std.proofs.Common.{length-drop, length-append, Result, Ok, Err, IfOk}
 use Rattle.std.proofs.lemmas.List.{take-append-drop, take_all}
-use Rattle.qbf_text.specs.declared.buffered.Cursor.{Cursor}
+use Rattle.qbf_text.specs.declared.cursor.Cursor.{Cursor}
 use Rattle.qbf_text.specs.Numbers.{one_if}
 use Rattle.qbf_text.specs.Passing.{tokens_from_cursor, cursor_after, is_begun, cursor, scanner_at, LeadOn, Passes, PassesNumber, PassesAll}
 use Rattle.qbf_text.specs.Passing.{ReadsAtHand}

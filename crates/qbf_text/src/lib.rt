@@ -13,7 +13,7 @@
 //! - On the map: Source, Sink, Scanner | the tokens of bytes, however they are cut.
 #![tactic(auto)]
 
-mod buffered;
+mod cursor;
 mod grammar;
 mod lines;
 mod marks;

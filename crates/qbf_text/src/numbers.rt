@@ -8,7 +8,7 @@ ghost use Rattle.qbf_text.specs.Numbers.{IsPart, IsPut, NumberStands, SeemToEnd,
 ghost use Rattle.qbf_text.specs.Numbers.{cursor_to, len_of, place};
 ghost use Rattle.qbf_text.specs.Left.{is_separator};
 
-use crate::buffered::{Cursor, begins_with_minus, is_minus_zero};
+use crate::cursor::{Cursor, begins_with_minus, is_minus_zero};
 use crate::lines::count_line_ends;
 use crate::marks::ends_of;
 use crate::separators::is_separator;

@@ -10,7 +10,7 @@ ghost use Rattle.qbf_text.specs.Left.{is_separator, IsWithinLine, EndsLine};
 ghost use Rattle.qbf_text.specs.Left.{is_end};
 ghost use Rattle.qbf_text.specs.Numbers.{StandInFront};
 
-use crate::buffered::Cursor;
+use crate::cursor::Cursor;
 use crate::numbers::Numbers;
 use crate::run::{Numeral, Run, Spelling, begins_number};
 use crate::separators::is_separator;

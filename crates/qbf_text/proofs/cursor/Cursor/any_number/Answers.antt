@@ -1,6 +1,6 @@
 use Rattle.qbf_text.proofs.Cited.{◌^◌, ◌<◌}
 use Rattle.qbf_text.proofs.PassedNumbers.{all_after, passes_number}
-use Rattle.qbf_text.proofs.buffered.Cursor.any_number.Goals as goal
+use Rattle.qbf_text.proofs.cursor.Cursor.any_number.Goals as goal
 
 pub returns : goal.returns
 returns c =

@@ -1,6 +1,6 @@
 use Rattle.qbf_text.proofs.Cited.{◌<◌, ◌^◌, sym, ◌∙◌}
 use Rattle.qbf_text.proofs.NumberAtHand.{found}
-use Rattle.qbf_text.proofs.buffered.signed_number.Goals as goal
+use Rattle.qbf_text.proofs.cursor.signed_number.Goals as goal
 
 pub returns : goal.returns
 returns c =
