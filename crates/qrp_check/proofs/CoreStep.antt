@@ -1,9 +1,9 @@
 -- One step of the core: its antecedents, and its conditions.
 use Rattle.qrp_check.proofs.Cited.{◌≡◌, ℕ, ◌<◌, ◌≤◌, List, [], ◌∷◌, Option, Some, None, inl, inr, refl, sym, ap, subst, ◌∙◌, arith}
-use Rattle.qrp_check.proofs.Cited.{at_place, take, rules, IfOk, IfSome, Result, Ok, Err, Literal, ◌∈◌, ◌⊆◌, Block, AreBound}
+use Rattle.qrp_check.proofs.Cited.{at_place, take, rules, IfOk, IfSome, Result, Literal, ◌∈◌, ◌⊆◌, Block, AreBound}
 use Rattle.qrp_check.proofs.Cited.{IsBound, Qbf, Side}
-use Rattle.qrp_check.proofs.Cited.{IsClean, bound_each, Inference, IsAt, RuleFault, IsJudgement, initial_condition, reduct_conditions}
-use Rattle.qrp_check.proofs.Cited.{resolvent_conditions, Rules, IsNumberOf, StepFollows, lits_of, step_conditions, IsInCore, next}
+use Rattle.qrp_check.proofs.Cited.{IsClean, bound_each, Inference, IsAt, RuleFault, IsJudgement}
+use Rattle.qrp_check.proofs.Cited.{Rules, IsNumberOf, StepFollows, lits_of, step_conditions, IsInCore, next}
 use Rattle.qrp_check.proofs.Cited.{premise_conditions, reduct_answer, resolvent_answer, same_self, in_take, take_in}
 use Rattle.std.specs.Prelude.{Bool, IsTrue}
 use Rattle.qbf_core.specs.Literal.{positive}
