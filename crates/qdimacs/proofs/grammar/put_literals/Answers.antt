@@ -12,7 +12,7 @@ returns-clause-leads c =
     let written = c.in_ok-extend_written.ensures in
     let full = c.requires.here.1.0.full c.if-not-parts.false in
     rw (written.extended put) (literals_lead (heading p) (pairs p.prefix) p.clauses.whole full c.args.values.now c.args.from c.min-to.result
-        p.clauses.unfinished (omega (arith, c.if-from-to.false)) (omega (arith, c.min-to.ensures)) (written.written put))
+    p.clauses.unfinished (omega (arith, c.if-from-to.false)) (omega (arith, c.min-to.ensures)) (written.written put))
 
 pub returns-clause-sound : goal.returns-clause-sound
 returns-clause-sound c =
