@@ -41,10 +41,7 @@ both : (xs ys : List ℕ) → length xs ≡ length ys → Small (zip2 greater xs
 both [] [] e h = (tt, tt)
 both [] (y ∷ ys) e h = absurd (omega arith)
 both (x ∷ xs) [] e h = absurd (omega arith)
-both (x ∷ xs) (y ∷ ys) e h =
-    let here = two_small x y h.0 in
-    let rest = both xs ys (omega (arith, e)) h.1 in
-    ((here.0, rest.0), (here.1, rest.1))
+both (x ∷ xs) (y ∷ ys) e h = grind (arith, common_steps, two_small, (both xs ys (omega (arith, e)) h.1))
 
 pub all_small : (xs : List ℕ) → (length xs ≡ 16) × Each1 (Fits w8) xs
     → eqb (mask_l (map (top 7) (zip2 less (replicate 16 9) xs)) % 2 ^ 64) 0 ≡ true → Small xs
@@ -56,10 +53,4 @@ all_small xs fits is =
 
 pub all_three : (a b c : List ℕ) → length a ≡ 16 → length b ≡ 16 → length c ≡ 16 → Small (greatest (greatest a b) c)
     → Small a × Small b × Small c
-all_three a b c la lb lc small =
-    let lab : length (zip2 greater a b) ≡ 16 = length-zip2 greater a b (omega (arith, la, lb)) ∙ la in
-    let is : greatest (greatest a b) c ≡ zip2 greater (zip2 greater a b) c =
-    ap (λ l. greatest l c) (greatest_is a b) ∙ greatest_is (zip2 greater a b) c in
-    let every = both (zip2 greater a b) c (omega (arith, lab, lc)) (subst Small is small) in
-    let two = both a b (omega (arith, la, lb)) every.0 in
-    (two.0, two.1, every.1)
+all_three a b c la lb lc small = grind (arith, common_steps, zip2, length-zip2, greatest_is, both)

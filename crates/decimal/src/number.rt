@@ -76,7 +76,7 @@ fn with_tail(bytes: &[u8], first: (u64, usize)) -> Option<(u64, usize)>
 {
     let (value, count) = first;
     let (tail, len) = by_word(&bytes[count..], 0)?;
-    if len > 7 || count + len > MOST {
+    if count + len > MOST {
         return None;
     }
     let shifted = value.checked_mul(power_of_ten(len))?;
@@ -137,7 +137,8 @@ fn first_word(bytes: &[u8]) -> Option<u64>
 /// Finds the digits as `digits` does if they end within the first eight bytes, else `None`.
 #[inline(always)]
 fn by_word(bytes: &[u8], from: usize) -> Option<(u64, usize)>
-    ensures { IfSome result (λ r. AreDigits bytes.now from r.1 r.0) }
+    ensures digits { IfSome result (λ r. AreDigits bytes.now from r.1 r.0) }
+    ensures short { IfSome result (λ r. r.1 < 8) }
 {
     if from >= 8 {
         return None;

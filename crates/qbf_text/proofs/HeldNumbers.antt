@@ -209,7 +209,7 @@ module _ (n : Numbers) (bytes : List ℕ) (f : StandInFront n bytes) (from : Cur
           ends = ap (λ k. row t.last (token_at n.values k)) (sym t.leads.counted) ∙ t.ends;
         })
 
--- the bytes of some numbers are among those at hand
+-- the bytes of some numbers are among those that are buffered
 pub len_within : (n : Numbers) (bytes : List ℕ) → StandInFront n bytes → (c : ℕ) → 0 < c → n.first + c ≤ n.known
     → len_of n c ≤ length bytes
 len_within n bytes f c some few =

@@ -98,5 +98,5 @@ module _ {P A F : Type 0} (row : P → Token → Row P A F) where
       ends = ap (λ v. row t.last (token_of v)) (sym (same t.at (omega (arith, few, t.to_is)))) ∙ t.ends;
     }
 
--- one number more at hand
+-- one buffered number more
 pub ruleset numbers_lead_on = (leads_none, leads_more, leads_further, takes_further)

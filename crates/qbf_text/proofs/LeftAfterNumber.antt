@@ -1,4 +1,4 @@
--- What is left after a number that stands whole among the bytes at hand.
+-- What is left after a number that stands whole among the buffered bytes.
 use Rattle.qbf_text.proofs.Cited.{rules, ◌≡◌, ℕ, ◌+◌, ◌^◌, ◌<◌, Bool, true, false, List, [], ◌∷◌, ◌++◌, sym, ap, ◌∙◌, arith, append_assoc}
 use Rattle.qbf_text.proofs.Cited.{eqb-true, common_steps, Comments, Number, kind, line_number, begins_number, is_separator, IsUnbroken}
 use Rattle.qbf_text.proofs.Cited.{tokens_left, BeginsWithNumber}

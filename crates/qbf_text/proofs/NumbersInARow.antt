@@ -16,7 +16,7 @@ use Rattle.qbf_text.specs.Numbers.{AreSeparators, AreShort, NumberStands, SeemTo
 use Rattle.std.proofs.Common.{eqb-true}
 use Rattle.std.proofs.lemmas.Nat.{le_or_l, le_or_r}
 use Rattle.std.specs.Prelude.{bit_or}
-use Rattle.qbf_text.proofs.NumberAtHand.{found}
+use Rattle.qbf_text.proofs.BufferedNumber.{found}
 
 first_minus : (xs : List ℕ) → begins_with_minus xs ≡ nat_eq (get_or xs 0 0) 45
 first_minus [] = refl

@@ -1,4 +1,4 @@
--- Numbers that are passed among the bytes at hand.
+-- Numbers that are passed among the buffered bytes.
 use Rattle.qbf_text.proofs.Cited.{◌≡◌, ℕ, ◌+◌, ◌^◌, ◌<◌, ◌≤◌, Bool, true, false, not, nat_eq, List, [], ◌∷◌, ◌++◌, drop, length, refl, sym}
 use Rattle.qbf_text.proofs.Cited.{ap, ◌∙◌, subst, take, ◌-◌, zero, suc, append_assoc, arith, Option, Some, None, ◌⊎◌, inl, inr, drop-drop}
 use Rattle.qbf_text.proofs.Cited.{Comments, Token, Number, ahead, tokens_left, known_left, Lined, BeginsWithNumber, SoFar, Reading}
@@ -8,7 +8,7 @@ use Rattle.std.proofs.lemmas.List.{take-append-drop, take_all}
 use Rattle.qbf_text.specs.declared.cursor.Cursor.{Cursor}
 use Rattle.qbf_text.specs.Numbers.{one_if}
 use Rattle.qbf_text.specs.Passing.{tokens_from_cursor, cursor_after, is_begun, cursor, scanner_at, LeadOn, Passes, PassesNumber, PassesAll}
-use Rattle.qbf_text.specs.Passing.{ReadsAtHand}
+use Rattle.qbf_text.specs.Passing.{ReadsBuffered}
 use Rattle.qbf_text.specs.Reading.{IsOpen, left}
 use Rattle.qbf_text.proofs.ByteByByte.{left_nothing}
 use Rattle.qbf_text.proofs.LeftAfterNumber.{spelled_ending, spelled_blanked}
@@ -182,7 +182,7 @@ pub begun_counted : (b : Bool) → not (nat_eq (one_if b) 0) ≡ b
 begun_counted true = refl
 begun_counted false = refl
 
--- the tokens at the first of the bytes at hand
+-- the tokens at the first of the buffered bytes
 first_tokens : (r : Reading) (bytes : List ℕ)
     → tokens_next r bytes ≡ tokens_from_cursor r.comments (cursor r) bytes
 first_tokens r bytes = ap (λ b. tokens_left r.comments b r.line bytes) (sym (begun_counted r.begun))
@@ -218,7 +218,7 @@ module _ {P A F : Type 0} (row : P → Token → Row P A F) (first state : P) (r
   unfolding left
   handed_leads open_ remaining = rw open_ (known remaining)
 
--- ---- a number in the bytes at hand
+-- ---- a number in the buffered bytes
 
 pub taken_number : (format : Comments) (bytes : List ℕ) (here to : Cursor) (token : Token) → PassesNumber bytes here to token
     → (remaining : Option (List ℕ))
@@ -249,7 +249,7 @@ given_buffered r here to token p open_ (Some rest) = rw (open_, p.no_end) (
 -- what a grammar took is read
 pub handed : {P A F : Type 0} (row : P → Token → Row P A F) (first next : P) (answer : Option A) (r : Reading) (to : Cursor)
     → IsOpen r → length (drop to.at r.pending) ≤ 4096 → PassesAll row first next r.pending (cursor r) to answer → (remaining : Option (List ℕ))
-    → ReadsAtHand row first next r (scanner_at r to) remaining answer
+    → ReadsBuffered row first next r (scanner_at r to) remaining answer
 handed row first next None r to open_ few p remaining =
     (handed_so_far row first next r to p remaining, handed_leads row first next r to p open_ remaining)
 handed row first next (Some a) r to open_ few p remaining = record {
@@ -265,7 +265,7 @@ handed row first next (Some a) r to open_ few p remaining = record {
   few = few;
 }
 
--- what holds in a loop that takes numbers at hand, which lead from one state to another, and with what it keeps of them
+-- what holds in a loop that takes buffered numbers, which lead from one state to another, and with what it keeps of them
 pub record TakesNumbers {P A F : Type 0} (row : P → Token → Row P A F) (first next : P) (Sound : Type 0) (bytes : List ℕ) (from to : Cursor)
     : Type 0 where
   pub passes : Passes (LeadOn row first next) bytes from to

@@ -1,4 +1,4 @@
--- Numbers at hand: what a grammar makes of them, and where each stands among the bytes.
+-- Buffered numbers: what a grammar makes of them, and where each stands among the bytes.
 use Rattle.std.specs.Prelude.{◌≡◌, ℕ, zero, suc, ◌+◌, ◌-◌, ◌<◌, ◌≤◌, Bool, true, false, not, count_by, List, [], ◌∷◌, ◌++◌, length, take, drop}
 use Rattle.std.specs.Prelude.{Option, Some, None, ℤ, pos, unsigned_abs, int_lt}
 use Rattle.std.specs.Prelude.{slice_index_or, ◌^◌}

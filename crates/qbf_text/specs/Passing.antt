@@ -1,4 +1,4 @@
--- What was passed of the bytes at hand: tokens that stand there whole, whatever bytes follow.
+-- What was passed of the buffered bytes: tokens that stand there whole, whatever bytes follow.
 use Rattle.std.specs.Prelude.{◌≡◌, ℕ, ◌+◌, ◌<◌, ◌≤◌, Bool, true, false, not, nat_eq, List, [], ◌∷◌, ◌++◌, drop, length, Option, Some}
 use Rattle.std.specs.Prelude.{None}
 use Rattle.qbf_text.specs.Ahead.{ahead}
@@ -22,7 +22,7 @@ abbrev pub cursor_after : Cursor → ℕ → Bool → Cursor
 cursor_after here len true = record { at = here.at + len; line = line_number (here.line + 1); tokens = 0 }
 cursor_after here len false = record { at = here.at + len; line = here.line; tokens = 1 }
 
--- where the first of the bytes at hand stands
+-- where the first of the buffered bytes stands
 abbrev pub cursor : Reading → Cursor
 cursor r = record { at = 0; line = r.line; tokens = one_if r.begun }
 
@@ -72,7 +72,7 @@ pub record PassesLast {P A F : Type 0} (row : P → Token → Row P A F) (first 
   pub passes : PassesNumber bytes here to token
   pub ends : row last token ≡ Ends result next
 
--- what a grammar took from the bytes at hand, and what it read, if it is complete
+-- what a grammar took from the buffered bytes, and what it read, if it is complete
 abbrev pub PassesAll : {P A F : Type 0} → (P → Token → Row P A F) → (first next : P) → List ℕ → (from to : Cursor) → Option A → Type 0
 PassesAll row first next bytes from to None = Passes (LeadOn row first next) bytes from to
 PassesAll row first next bytes from to (Some result) = PassesLast row first next result bytes from to
@@ -106,8 +106,8 @@ pub record ReadsLast {P A F : Type 0} (row : P → Token → Row P A F) (first n
   pub less : length s.pending < length r.pending
   pub few : length s.pending ≤ 4096
 
--- what a scanner read of the bytes at hand: it led from one state to another, or its last token ended the text with a result
-abbrev pub ReadsAtHand : {P A F : Type 0} → (P → Token → Row P A F) → (first next : P) → (r s : Reading) → Option (List ℕ) → Option A
+-- what a scanner read of the buffered bytes: it led from one state to another, or its last token ended the text with a result
+abbrev pub ReadsBuffered : {P A F : Type 0} → (P → Token → Row P A F) → (first next : P) → (r s : Reading) → Option (List ℕ) → Option A
     → Type 0
-ReadsAtHand row first next r s remaining None = LeadsOver row first next r s remaining
-ReadsAtHand row first next r s remaining (Some result) = ReadsLast row first next result r s remaining
+ReadsBuffered row first next r s remaining None = LeadsOver row first next r s remaining
+ReadsBuffered row first next r s remaining (Some result) = ReadsLast row first next result r s remaining

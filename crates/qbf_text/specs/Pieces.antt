@@ -34,13 +34,13 @@ after_failed_pull s = record s { pulls = one_more s.pulls; failures = one_more s
 
 -- ---- sinks that keep what was sent
 
--- the bytes that were sent, how many bytes the memory at hand holds, and how often the sink failed
+-- the bytes that were sent, how many bytes the sink's memory has room for, and how often it failed
 pub record Kept : Type 0 where
   pub bytes : List ℕ
   pub capacity : ℕ
   pub failures : ℕ
 
--- the bytes that were sent, how many bytes the memory at hand holds, the most that a push takes, the room until
+-- the bytes that were sent, how many bytes the sink's memory has room for, the most that a push takes, the room until
 -- the one failure, whether `finish` fails, and how often the sink failed
 pub record Store : Type 0 where
   pub bytes : List ℕ

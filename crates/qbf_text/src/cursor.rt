@@ -1,4 +1,4 @@
-//! A number that stands whole among the bytes at hand, by its bytes alone.
+//! A number that stands whole among the buffered bytes, by its bytes alone.
 
 ghost use Rattle.std.specs.Prelude.{◌≡◌, ◌+◌, ◌^◌, ◌<◌, ◌≤◌, ◌&&◌, false, nat_eq, length};
 ghost use Rattle.std.specs.Prelude.{IfSome};
@@ -91,7 +91,7 @@ pub fn number_in_front(bytes: &[u8]) -> Option<SeparatedNumber>
     }
 }
 
-/// A place among the bytes at hand, held by value.
+/// A place among the buffered bytes, held by value.
 #[derive(Clone, Copy)]
 pub struct Cursor {
     /// How many of them stand before it.

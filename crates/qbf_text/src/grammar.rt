@@ -9,7 +9,7 @@ ghost use Rattle.qbf_text.specs.Taking.{Takes, StaysOpen, Reads, ReadsKnown, Cou
 ghost use Rattle.qbf_text.specs.Tokens.{tokens};
 ghost use Rattle.qbf_text.specs.Ahead.{ahead};
 ghost use Rattle.qbf_text.specs.Numbers.{TakesOver};
-ghost use Rattle.qbf_text.specs.Passing.{ReadsAtHand};
+ghost use Rattle.qbf_text.specs.Passing.{ReadsBuffered};
 ghost use Rattle.qbf_text.specs.Stopping.{tokens_next, Stops};
 
 use crate::numbers::{Numbers, Zeros};
@@ -102,7 +102,7 @@ impl<F: Copy> ReadError<F> {
     }
 }
 
-/// How many of the numbers at hand a grammar took, and what was read, if it is complete.
+/// How many of the buffered numbers a grammar took, and what was read, if it is complete.
 pub type Progress<T> = (usize, Option<T>);
 
 /// A text by its rows: what each state makes of each token.
@@ -178,13 +178,13 @@ fn take_known<G: Grammar>(
     Ok((count, answer))
 }
 
-/// Lets a grammar take numbers from the bytes at hand; what was read, if it is complete.
+/// Lets a grammar take numbers from the buffered bytes; what was read, if it is complete.
 #[inline(always)]
 fn take_buffered<G: Grammar>(
     grammar: &mut G,
     scanner: &mut Scanner,
 ) -> Result<Option<G::Output>, AllocError>
-    ensures reads { IfOk result (λ answer. (remaining : Option (List ℕ)) → ReadsAtHand G.row_of
+    ensures reads { IfOk result (λ answer. (remaining : Option (List ℕ)) → ReadsBuffered G.row_of
         (G.state grammar.old) (G.state grammar.new) scanner.old scanner.new remaining answer) }
     ensures status { scanner.new.status ≡ scanner.old.status }
     ensures no_more { length scanner.new.pending ≤ length scanner.old.pending }

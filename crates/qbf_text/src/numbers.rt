@@ -150,7 +150,7 @@ impl<'a> Zeros<'a> {
     }
 }
 
-/// Numbers that stand one after the other at the front of the bytes at hand.
+/// Numbers that stand one after the other at the front of the buffered bytes.
 #[derive(Drop)]
 pub struct Numbers {
     /// The numbers.
@@ -423,7 +423,7 @@ impl Numbers {
         self.is_stuck = true;
     }
 
-    /// Whether none is at hand.
+    /// Whether none is buffered.
     #[inline(always)]
     pub fn is_empty(&self) -> bool
         ensures { result ≡ nat_le self.now.known self.now.first }
@@ -431,7 +431,7 @@ impl Numbers {
         self.known <= self.first
     }
 
-    /// Whether none is at hand and more may be made known.
+    /// Whether none is buffered and more may be made known.
     #[inline(always)]
     pub fn wants_more(&self) -> bool {
         self.is_empty() && !self.is_stuck

@@ -102,7 +102,7 @@ impl Place {
         Cursor::new(self.line, self.begun)
     }
 
-    /// Goes to a cursor among the bytes that were pulled, past so many of the numbers at hand.
+    /// Goes to a cursor among the bytes that were pulled, past so many of the buffered numbers.
     #[inline(always)]
     fn go_to(&mut self, here: Cursor, numbers: usize)
         requires { here.at ≤ length self.old.window }
@@ -285,7 +285,7 @@ impl Scanner {
         }
     }
 
-    /// Makes numbers known that stand at the front of the bytes at hand, if none are.
+    /// Makes numbers known that stand at the front of the buffered bytes, if none are.
     #[inline(always)]
     pub fn prepare(&mut self)
         ensures { self.new ≡ self.old }
@@ -293,7 +293,7 @@ impl Scanner {
         self.place.window.prepare();
     }
 
-    /// The numbers that are known at the front of the bytes at hand.
+    /// The numbers that are known at the front of the buffered bytes.
     #[inline(always)]
     pub fn numbers(&self) -> &Numbers
         ensures { StandInFront result.now self.now.pending }
@@ -301,7 +301,7 @@ impl Scanner {
         self.place.window.numbers()
     }
 
-    /// The bytes at hand.
+    /// The buffered bytes.
     #[inline(always)]
     pub fn bytes(&self) -> &[u8]
         ensures { result.now ≡ self.now.pending }
@@ -309,7 +309,7 @@ impl Scanner {
         self.place.window.bytes()
     }
 
-    /// Where the first of the bytes at hand stands.
+    /// Where the first of the buffered bytes stands.
     #[inline(always)]
     pub fn cursor(&self) -> Cursor
         ensures { result ≡ cursor self.now }
@@ -317,7 +317,7 @@ impl Scanner {
         self.place.cursor()
     }
 
-    /// Goes to a place among the bytes at hand, past so many of the numbers.
+    /// Goes to a place among the buffered bytes, past so many of the numbers.
     #[inline(always)]
     pub fn go_to(&mut self, here: Cursor, numbers: usize)
         requires { here.at ≤ length self.old.pending }

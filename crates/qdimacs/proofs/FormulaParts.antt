@@ -1,4 +1,4 @@
--- What the parts of a formula make, and where clauses in the bytes at hand lead to.
+-- What the parts of a formula make, and where clauses in the buffered bytes lead to.
 use Rattle.qdimacs.proofs.Cited.{arith, common_steps, leads_none, leads_more, leads_further, ◌≡◌, Bool, false, Option, None, Result, Ok}
 use Rattle.qdimacs.proofs.Cited.{Quantifier, Literal, Token, pairs, Ends, blocks_of-pairs, is_end, Goes, FormulaFault, Parts, formula_of}
 use Rattle.qdimacs.proofs.Cited.{heading, state_at, row_to, IsMade, State, Whole, between_row, row}
@@ -15,5 +15,5 @@ pub leads_on : (state : State) (p : Parts) (next : states.State) (t : Token) →
     → row state t ≡ Goes (state_at p next)
 leads_on state p next t open_ e = grind (arith, common_steps)
 
--- one number more at hand
+-- one buffered number more
 pub ruleset numbers_lead_on = (leads_on, leads_none, leads_more, leads_further)

@@ -1,4 +1,4 @@
--- Clauses that stand whole among numbers at hand.
+-- Clauses that stand whole among buffered numbers.
 use Rattle.qdimacs.proofs.Cited.{arith, common_steps, leads_none, leads_more, leads_further, ◌≡◌, ◌≤◌, ◌<◌, ◌+◌, ◌-◌, ℕ, Bool, true}
 use Rattle.qdimacs.proofs.Cited.{List, [], ◌∷◌, ◌++◌, length, map, drop, Some, Ok, sym, ap, ◌∙◌, append_assoc, append-nil, AllByRecursion}
 use Rattle.qdimacs.proofs.Cited.{Literal, Pairs, Block, pairs, IsFull, row}

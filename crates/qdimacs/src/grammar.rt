@@ -155,7 +155,7 @@ fn take_at(here: State, parts: &mut Parts, token: Token) -> Transition
     }
 }
 
-// ---- numbers at hand
+// ---- buffered numbers
 
 /// Where the next token stands, and the place of the next number.
 type Reached = (State, Result<usize, AllocError>);

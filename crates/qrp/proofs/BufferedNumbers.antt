@@ -1,7 +1,7 @@
--- Where numbers at hand lead to.
+-- Where buffered numbers lead to.
 use Rattle.qrp.proofs.Cited.{leads_none, leads_more, leads_further, arith, common_steps, ◌≡◌, ◌≤◌, ◌<◌, ℕ, suc, ◌+◌, ◌-◌, List, [], ◌∷◌}
 use Rattle.qrp.proofs.Cited.{◌++◌, Some, Ok, Err, Result, refl, ap, sym, ◌∙◌, append_assoc, append-nil, drop, length, map, Literal, IsLiteral}
-use Rattle.qrp.proofs.Cited.{AllByRecursion, Inference}
+use Rattle.qrp.proofs.Cited.{AllByRecursion, Inference, all_appended}
 use Rattle.std.specs.Prelude.{ℤ, pos, unsigned_abs, int_lt, slice_index_or, slice_range, Bool, IfOk}
 use Rattle.std.proofs.lemmas.List.{get_or-take, get_or-drop}
 use Rattle.qbf_core.specs.WrittenLiterals.{literal_of, IsWritten}
@@ -96,12 +96,8 @@ written_literals : (xs : List ℤ) → AllByRecursion (IsWritten 2147483647) xs 
 written_literals [] all = tt
 written_literals (x ∷ xs) all = (all.0, written_literals xs all.1)
 
-all_append : {X : Type 0} (P : X → Type 0) (xs ys : List X) → AllByRecursion P xs → AllByRecursion P ys → AllByRecursion P (xs ++ ys)
-all_append P [] ys h k = k
-all_append P (x ∷ xs) ys h k = (h.0, all_append P xs ys h.1 k)
-
 pub more_literals : (ls : List Literal) (xs : List ℤ) → AllByRecursion IsLiteral ls → AllByRecursion (IsWritten 2147483647) xs
     → AllByRecursion IsLiteral (ls ++ map literal_of xs)
-more_literals ls xs all written = all_append IsLiteral ls (map literal_of xs) all (written_literals xs written)
+more_literals ls xs all written = all_appended IsLiteral ls (map literal_of xs) all (written_literals xs written)
 
 pub ruleset numbers_lead_on = (leads_none, leads_more, leads_further)

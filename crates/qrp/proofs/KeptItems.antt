@@ -120,7 +120,7 @@ module _ (s r : Reading) (begins : (bytes : List ℕ) → left s (Some bytes) �
       by (Some bytes) None k few = absurd k
       by (Some bytes) (Some rest) k few = after_result d bytes rest is k few
 
--- ---- numbers at hand
+-- ---- buffered numbers
 
 -- numbers that lead on in an item do so in the trace
 kept_by : (d : Derivation) (first next : State) (values : List ℤ) (from count : ℕ) → LeadsBy row first next values from count

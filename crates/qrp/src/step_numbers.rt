@@ -1,4 +1,4 @@
-//! The numbers of steps, as far as they are at hand.
+//! The numbers of steps, as far as they are buffered.
 
 ghost use Rattle.std.specs.Prelude.{◌≡◌, ◌≤◌, ◌<◌, ◌+◌, ◌++◌, length, map, pos};
 ghost use Rattle.std.specs.Prelude.{slice_index_or, slice_range, IfSome, IfOk, IsTrue, OnErr};
@@ -17,7 +17,7 @@ use qbf_core::{GrowingLists, LAST_VARIABLE, Lit};
 use qbf_text::{Token, Zeros};
 use std::alloc::AllocError;
 
-/// Two places among the numbers at hand.
+/// Two places among the buffered numbers.
 #[derive(Clone, Copy)]
 pub struct NextPlaces {
     /// The place of the next number.
@@ -190,7 +190,7 @@ fn take_number(here: State, lists: &mut Lists, values: &[i32], from: usize) -> (
     }
 }
 
-/// Takes a step that begins here or has begun, as far as its numbers are at hand, but not its last
+/// Takes a step that begins here or has begun, as far as its numbers are buffered, but not its last
 /// zero.
 ///
 /// # Errors
@@ -205,10 +205,7 @@ pub fn take_buffered(here: State, lists: &mut Lists, values: &[i32], next: NextP
     ensures sound { Stays lists.old lists.new × IsSound result.0 lists.new }
 {
     let (state, from) = take_number(here, lists, values, next.from);
-    let list = NextPlaces {
-        from,
-        zero: next.zero,
-    };
+    let list = NextPlaces { from, ..next };
     match take_list(state, lists, values, list) {
         (State::InAnts(number), Ok(to)) => (
             State::InAnts(number),
@@ -290,7 +287,7 @@ pub fn take_whole(
     };
     let list = NextPlaces {
         from: next.from + 1,
-        zero: next.zero,
+        ..next
     };
     if !take_all_literals(lists, number, values, list)? {
         return Ok(None);

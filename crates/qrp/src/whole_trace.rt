@@ -19,7 +19,7 @@ use qbf_text::{Comments, Grammar, Progress, Scanner, Source, Stop, Taken, Token,
 use std::alloc::{AllocError, Global};
 use std::marker::Model;
 
-/// Takes a step that begins here or has begun, as far as its numbers are at hand, and keeps it if
+/// Takes a step that begins here or has begun, as far as its numbers are buffered, and keeps it if
 /// it is complete. Returns where the next token stands, and the place of the next number.
 ///
 /// # Errors
@@ -146,7 +146,7 @@ fn take_unfinished<A: AntecedentLists>(
     }
 }
 
-/// Takes steps as far as their numbers are at hand, and keeps each that is complete. Returns where
+/// Takes steps as far as their numbers are buffered, and keeps each that is complete. Returns where
 /// the next token stands, and how many numbers were taken.
 ///
 /// # Errors
@@ -208,7 +208,7 @@ impl<A: AntecedentLists> TraceGrammar<A> {
         }
     }
 
-    /// Goes over the numbers at hand as far as they are taken, and returns how many these are.
+    /// Goes over the buffered numbers as far as they are taken, and returns how many these are.
     ///
     /// # Errors
     /// Out of memory.

@@ -27,7 +27,7 @@ pub use Rattle.qrp_check.specs.declared.verdict.Fault.{Fault}
 pub use Rattle.qrp_check.specs.declared.verdict.Verified.{Verified}
 pub use Rattle.qrp_rules.proofs.FirstFailures.{no_fault, one_fault}
 pub use Rattle.qrp_rules.proofs.MembersDecide.{reduct_answer, resolvent_answer, same_self}
-pub use Rattle.qrp_rules.specs.Conditions.{AllHold, IsJudgement, IsFirstFailure, initial_condition, reduct_conditions, resolvent_conditions}
+pub use Rattle.qrp_rules.specs.Conditions.{AllHold, IsFaultOf, IsFirstFailure, initial_condition, reduct_conditions, resolvent_conditions}
 pub use Rattle.qrp_rules.specs.declared.fault.RuleFault.{RuleFault}
 pub use Rattle.qrp_rules.specs.declared.rules.Rules.{Rules}
 pub use Rattle.std.proofs.Common.{Bool, IsTrue, List, None, Option, Some, [], ap, arith, drop, false, get_or, inl, inr, length, nat_eq}

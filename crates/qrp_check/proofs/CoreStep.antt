@@ -2,7 +2,7 @@
 use Rattle.qrp_check.proofs.Cited.{◌≡◌, ℕ, ◌<◌, ◌≤◌, List, [], ◌∷◌, Option, Some, None, inl, inr, refl, sym, ap, subst, ◌∙◌, arith}
 use Rattle.qrp_check.proofs.Cited.{at_place, take, rules, IfOk, IfSome, Result, Literal, ◌∈◌, ◌⊆◌, Block, AreBound}
 use Rattle.qrp_check.proofs.Cited.{IsBound, Qbf, Side}
-use Rattle.qrp_check.proofs.Cited.{IsClean, bound_each, Inference, IsAt, RuleFault, IsJudgement}
+use Rattle.qrp_check.proofs.Cited.{IsClean, bound_each, Inference, IsAt, RuleFault, IsFaultOf}
 use Rattle.qrp_check.proofs.Cited.{Rules, IsNumberOf, StepFollows, lits_of, step_conditions, IsInCore, next}
 use Rattle.qrp_check.proofs.Cited.{premise_conditions, reduct_answer, resolvent_answer, same_self, in_take, take_in}
 use Rattle.std.specs.Prelude.{Bool, IsTrue}
@@ -80,16 +80,16 @@ module _ (rules : Rules) (side : Side) (f : Qbf) (steps : List Inference) (place
 -- ---- the conditions of a step
 
 with_earlier : (p q earlier : Type 0) (rest : List (Condition RuleFault)) (answer : Option RuleFault) → earlier
-    → IsJudgement ((S1, p) ∷ (S2, q) ∷ rest) answer → IsJudgement ((S1, p) ∷ (S2, q) ∷ (S3, earlier) ∷ rest) answer
+    → IsFaultOf ((S1, p) ∷ (S2, q) ∷ rest) answer → IsFaultOf ((S1, p) ∷ (S2, q) ∷ (S3, earlier) ∷ rest) answer
 with_earlier p q earlier rest answer e w = search rules
 
 without_earlier : (p q earlier : Type 0) (rest : List (Condition RuleFault)) (answer : Option RuleFault) → (earlier → ⊥)
-    → IsJudgement ((S1, p) ∷ (S2, q) ∷ (S3, ⊥) ∷ []) answer → IsJudgement ((S1, p) ∷ (S2, q) ∷ (S3, earlier) ∷ rest) answer
+    → IsFaultOf ((S1, p) ∷ (S2, q) ∷ (S3, ⊥) ∷ []) answer → IsFaultOf ((S1, p) ∷ (S2, q) ∷ (S3, earlier) ∷ rest) answer
 without_earlier p q earlier rest answer not all = search rules
 
 after_two : (p q : Type 0) (rest other : List (Condition RuleFault)) (answer : Option RuleFault)
-    → ((a : Option RuleFault) → IsJudgement rest a → IsJudgement other a)
-    → IsJudgement ((S1, p) ∷ (S2, q) ∷ rest) answer → IsJudgement ((S1, p) ∷ (S2, q) ∷ other) answer
+    → ((a : Option RuleFault) → IsFaultOf rest a → IsFaultOf other a)
+    → IsFaultOf ((S1, p) ∷ (S2, q) ∷ rest) answer → IsFaultOf ((S1, p) ∷ (S2, q) ∷ other) answer
 after_two p q rest other None to (h, (k, all)) = (h, (k, to None all))
 after_two p q rest other (Some fault) to (inl out) = inl out
 after_two p q rest other (Some fault) to (inr (h, inl out)) = inr (h, inl out)
@@ -98,8 +98,8 @@ after_two p q rest other (Some fault) to (inr (h, inr (k, first))) = inr (h, inr
 -- from the antecedents that were found to the numbers of the step
 from_found : (rules : Rules) (side : Side) (f : Qbf) (before : List Inference) (step : Inference) (found : Option Premises)
     (answer : Option RuleFault)
-    → ArePremises before step.ants found → IsJudgement (found_conditions rules side f found step.lits) answer
-    → IsJudgement (step_conditions rules side f before step) answer
+    → ArePremises before step.ants found → IsFaultOf (found_conditions rules side f found step.lits) answer
+    → IsFaultOf (step_conditions rules side f before step) answer
 from_found rules side f before step None answer not a = search (rules, without_earlier)
 from_found rules side f before step (Some Initial) answer none a = grind (arith, common_steps)
 from_found rules side f before step (Some (One from)) answer (m, e, (own, is)) a =
@@ -109,7 +109,7 @@ from_found rules side f before step (Some (Two x y)) answer (m, k, e, (own_x, is
 
 pub found_answer : (rules : Rules) (side : Side) (f : Qbf) (before : List Inference) (step : Inference) (found : Option Premises)
     (lits : List Literal) (answer : Option RuleFault) → lits ≡ step.lits → ArePremises before step.ants found
-    → IsJudgement (found_conditions rules side f found lits) answer → IsJudgement (step_conditions rules side f before step) answer
+    → IsFaultOf (found_conditions rules side f found lits) answer → IsFaultOf (step_conditions rules side f before step) answer
 found_answer rules side f before step found lits answer same are a = grind (arith, common_steps, from_found)
 
 -- a step that follows, after those before it
@@ -117,7 +117,7 @@ pub followed_here : (rules : Rules) (side : Side) (f : Qbf) (steps : List Infere
     (lits : List Literal) → ((j : ℕ) → j < place → IsInCore steps j → StepFollows rules side f steps j)
     → ((step : Inference) → IsAt steps place step → lits ≡ step.lits)
     → ((step : Inference) → IsAt steps place step → ArePremises (take place steps) step.ants found)
-    → IsJudgement (found_conditions rules side f found lits) None
+    → IsFaultOf (found_conditions rules side f found lits) None
     → (j : ℕ) → j < place + 1 → IsInCore steps j → StepFollows rules side f steps j
 followed_here rules side f steps place found lits before own are all =
     below_more (λ (j : ℕ). IsInCore steps j → StepFollows rules side f steps j) place before (λ core.
@@ -130,14 +130,14 @@ followed_here rules side f steps place found lits before own are all =
 
 -- a set in the place of the literals
 premise_answer : (rules : Rules) (side : Side) (f : Qbf) (premises : Premises) (set lits : List Literal) (answer : Option RuleFault)
-    → HasMembersOf set lits → IsJudgement (premise_conditions rules side f premises set) answer
-    → IsJudgement (premise_conditions rules side f premises lits) answer
+    → HasMembersOf set lits → IsFaultOf (premise_conditions rules side f premises set) answer
+    → IsFaultOf (premise_conditions rules side f premises lits) answer
 premise_answer rules side f premises set lits answer same a =
     grind (arith, common_steps, initial_answer, reduct_answer, same_self, resolvent_answer)
 
 pub set_answer : (rules : Rules) (side : Side) (f : Qbf) (premises : Premises) (set lits : List Literal) (answer : Option RuleFault)
-    → HasMembersOf set lits → IsFit f.blocks lits → IsJudgement (premise_conditions rules side f premises set) answer
-    → IsJudgement (written_conditions rules side f premises lits) answer
+    → HasMembersOf set lits → IsFit f.blocks lits → IsFaultOf (premise_conditions rules side f premises set) answer
+    → IsFaultOf (written_conditions rules side f premises lits) answer
 set_answer rules side f premises set lits answer same fit a = search (rules, answer_after, premise_answer)
 
 pub not_tautology : (lits : List Literal) → IsClean lits → IsTautology lits → ⊥
@@ -148,11 +148,11 @@ pub none_unbound : (blocks : List Block) (lits : List Literal) → AreBound bloc
 none_unbound blocks lits bound (l, h, free) = free (bound_each blocks lits bound l h)
 
 pub not_clean : (rules : Rules) (side : Side) (f : Qbf) (found : Option Premises) (lits : List Literal) → IsTautology lits
-    → IsJudgement (found_conditions rules side f found lits) (Some S1)
+    → IsFaultOf (found_conditions rules side f found lits) (Some S1)
 not_clean rules side f found lits h = grind (arith, common_steps)
 
 pub not_all_bound : (rules : Rules) (side : Side) (f : Qbf) (found : Option Premises) (lits : List Literal) → IsClean lits
-    → (l : Literal) × (l ∈ lits) × (IsBound f.blocks l.var → ⊥) → IsJudgement (found_conditions rules side f found lits) (Some S2)
+    → (l : Literal) × (l ∈ lits) × (IsBound f.blocks l.var → ⊥) → IsFaultOf (found_conditions rules side f found lits) (Some S2)
 not_all_bound rules side f found lits clean l = grind (arith, common_steps, bound_each)
 
 pub accepted_all : {E : Type 0} (r : Result Bool E) (conditions : List (Condition RuleFault)) (blocks : List Block) (lits : List Literal)

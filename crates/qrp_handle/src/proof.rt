@@ -83,10 +83,7 @@ impl Proof {
         ensures refused { IfErr result (IsClauseFault self.old.formula written.now) }
         ensures err { OnErr result (self.new ≡ self.old) }
     {
-        let lits = match literals_of(alloc, written) {
-            Ok(lits) => lits,
-            Err(fault) => return Err(fault),
-        };
+        let lits = literals_of(alloc, written)?;
         if !are_bound(self.formula.prefix(), &lits) {
             return Err(AddFault::Unbound);
         }
@@ -131,10 +128,7 @@ impl Proof {
         if number == 0 || !are_numbers(ants) {
             return Err(AddFault::Range);
         }
-        let lits = match literals_of(alloc, written) {
-            Ok(lits) => lits,
-            Err(fault) => return Err(fault),
-        };
+        let lits = literals_of(alloc, written)?;
         if has_step(&self.trace, number) {
             return Err(AddFault::Used);
         }

@@ -13,7 +13,7 @@ pub use Rattle.qbf_core.specs.Rules.{deciding_quantifier, reduced_quantifier, re
 pub use Rattle.qbf_core.specs.Sets.{HasMembersOf, IsOrdered}
 pub use Rattle.qbf_core.specs.declared.quantifier.Quantifier.{Quantifier}
 pub use Rattle.qbf_core.specs.declared.quantifier.Quantifier.TheVariants.{Exists}
-pub use Rattle.qrp_rules.specs.Conditions.{AllHold, AllowsPivot, Condition, IsFirstFailure, IsJudgement, IsReducibleInParents}
+pub use Rattle.qrp_rules.specs.Conditions.{AllHold, AllowsPivot, Condition, IsFirstFailure, IsFaultOf, IsReducibleInParents}
 pub use Rattle.qrp_rules.specs.Conditions.{initial_condition, reduct_conditions, resolvent_conditions}
 pub use Rattle.qrp_rules.specs.Initial.{IsAcceptedIf}
 pub use Rattle.qrp_rules.specs.Seen.{AreAmong, AreUpTo, Has, Members, code}

@@ -1,5 +1,5 @@
 -- The first condition that fails: one at most, and none where all hold.
-use Rattle.qrp_rules.proofs.Cited.{rules, ◌≡◌, List, [], ◌∷◌, Option, inl, inr, sym, ◌∙◌, Condition, AllHold, IsJudgement, IsFirstFailure}
+use Rattle.qrp_rules.proofs.Cited.{rules, ◌≡◌, List, [], ◌∷◌, Option, inl, inr, sym, ◌∙◌, Condition, AllHold, IsFaultOf, IsFirstFailure}
 
 pub no_fault : {Fault : Type 0} (rows : List (Condition Fault)) (fault : Fault) → AllHold rows → IsFirstFailure rows fault → ⊥
 no_fault [] fault all fails = fails
@@ -15,5 +15,5 @@ one_fault ((name, holds) ∷ rows) a b (inr (h, later)) (inl (out, is)) = absurd
 
 -- one more condition in front, which holds
 pub answer_after : {Fault : Type 0} (name : Fault) (holds : Type 0) (rows : List (Condition Fault)) (answer : Option Fault) → holds
-    → IsJudgement rows answer → IsJudgement ((name, holds) ∷ rows) answer
+    → IsFaultOf rows answer → IsFaultOf ((name, holds) ∷ rows) answer
 answer_after name holds rows answer h all = search rules

@@ -1,7 +1,7 @@
 -- Rules look at members alone: lists with the same members meet the same conditions.
 use Rattle.qrp_rules.proofs.Cited.{◌≡◌, ℕ, List, [], ◌∷◌, ◌++◌, ◌⊎◌, Option, inl, inr, refl, ◌∙◌, rules, Literal, ◌∈◌, ◌⊆◌, Block, Qbf}
 use Rattle.qrp_rules.proofs.Cited.{Side, Clauses, Cubes, IsReducible, IsReduct, Clashes, resolvent, IsInitial, HasMembersOf, in_without}
-use Rattle.qrp_rules.proofs.Cited.{from_without, RuleFault, Rules, Condition, AllHold, IsFirstFailure, IsJudgement, IsReducibleInParents}
+use Rattle.qrp_rules.proofs.Cited.{from_without, RuleFault, Rules, Condition, AllHold, IsFirstFailure, IsFaultOf, IsReducibleInParents}
 use Rattle.qrp_rules.proofs.Cited.{reduct_conditions, resolvent_conditions, initial_condition, in_append, append_left, append_right}
 
 -- two lists of conditions have equal names, and each condition of the one follows from that of the other
@@ -24,7 +24,7 @@ same_fails ((n, p) ∷ qs) ((m, r) ∷ rs) fault s b (inr (h, later)) = inr (s.1
 same_fails qs rs fault s b f = absurd s
 
 pub same_answer : (qs rs : List (Condition RuleFault)) (answer : Option RuleFault) → AreImplied qs rs → AreImplied rs qs
-    → IsJudgement qs answer → IsJudgement rs answer
+    → IsFaultOf qs answer → IsFaultOf rs answer
 same_answer qs rs answer s b all = search (rules, same_hold, same_fails)
 
 pub same_self : (a : List Literal) → HasMembersOf a a
@@ -114,14 +114,14 @@ initial_implied Cubes f to to' t = (refl, initial_to Cubes f to to' t, tt)
 -- the results of the tests, of the set of a list in its place
 pub reduct_answer : (side : Side) (blocks : List Block) (a a' to to' : List Literal) (answer : Option RuleFault) → HasMembersOf a a'
     → HasMembersOf to to'
-    → IsJudgement (reduct_conditions side blocks a to) answer → IsJudgement (reduct_conditions side blocks a' to') answer
+    → IsFaultOf (reduct_conditions side blocks a to) answer → IsFaultOf (reduct_conditions side blocks a' to') answer
 reduct_answer side blocks a a' to to' answer s t = search (rules, same_answer, reduct_implied, same_back)
 
 pub resolvent_answer : (rules : Rules) (side : Side) (blocks : List Block) (a a' b b' to to' : List Literal) (answer : Option RuleFault)
     → HasMembersOf a a' → HasMembersOf b b' → HasMembersOf to to'
-    → IsJudgement (resolvent_conditions rules side blocks a b to) answer → IsJudgement (resolvent_conditions rules side blocks a' b' to') answer
+    → IsFaultOf (resolvent_conditions rules side blocks a b to) answer → IsFaultOf (resolvent_conditions rules side blocks a' b' to') answer
 resolvent_answer rules side blocks a a' b b' to to' answer s t u = search (rules, same_answer, resolvent_implied, same_back)
 
 pub initial_answer : (side : Side) (f : Qbf) (to to' : List Literal) (answer : Option RuleFault) → HasMembersOf to to'
-    → IsJudgement (initial_condition side f to ∷ []) answer → IsJudgement (initial_condition side f to' ∷ []) answer
+    → IsFaultOf (initial_condition side f to ∷ []) answer → IsFaultOf (initial_condition side f to' ∷ []) answer
 initial_answer side f to to' answer t = search (rules, same_answer, initial_implied, same_back)

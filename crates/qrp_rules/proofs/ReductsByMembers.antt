@@ -1,6 +1,6 @@
 -- Initial steps: reducts by their members, and clauses by their places.
 use Rattle.qrp_rules.proofs.Cited.{◌≡◌, ◌+◌, ◌↔◌, IsTrue, Bool, ℕ, List, sym, rules, slice_get, Option, Some, take}
-use Rattle.qrp_rules.proofs.Cited.{◌∈◌, Literal, positive, Block, Side, IsClean, IsTautology, IsReduct, RuleFault, IsJudgement}
+use Rattle.qrp_rules.proofs.Cited.{◌∈◌, Literal, positive, Block, Side, IsClean, IsTautology, IsReduct, RuleFault, IsFaultOf}
 use Rattle.qrp_rules.proofs.Cited.{Clauses, IsAcceptedIf, Qbf, reduct_conditions, slice_get_within, get_or_from_slice_get, each_more}
 use Rattle.qrp_rules.specs.Accepted.{IsAcceptedBy, IsAcceptedStep}
 use Rattle.std.proofs.Common.{Err, IfOk, Ok, Result, not}
@@ -8,7 +8,7 @@ use Rattle.std.specs.Option.{is_some}
 
 -- a test of the reduct's conditions decides whether it is one
 pub reduct_told : (side : Side) (blocks : List Block) (from to : List Literal) (answer : Option RuleFault) (t : Bool)
-    → IsJudgement (reduct_conditions side blocks from to) answer → is_some answer ≡ not t → IsTrue t ↔ IsReduct side blocks from to
+    → IsFaultOf (reduct_conditions side blocks from to) answer → is_some answer ≡ not t → IsTrue t ↔ IsReduct side blocks from to
 reduct_told side blocks from to answer t all e = search rules
 
 -- a tautology is not clean

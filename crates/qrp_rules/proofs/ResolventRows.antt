@@ -1,6 +1,6 @@
 -- The conditions of a step with two antecedents that clash in one variable.
 use Rattle.qrp_rules.proofs.Cited.{◌≡◌, ℕ, List, [], ◌∷◌, Option, refl, sym, subst, ◌∙◌, Literal, ◌⊆◌, Block, Side, Clashes, IsOnlyClash}
-use Rattle.qrp_rules.proofs.Cited.{resolvent, Rules, RuleFault, S10, S11, S12, Condition, AllowsPivot, IsJudgement, resolvent_conditions}
+use Rattle.qrp_rules.proofs.Cited.{resolvent, Rules, RuleFault, S10, S11, S12, Condition, AllowsPivot, IsFaultOf, resolvent_conditions}
 use Rattle.qrp_rules.proofs.Cited.{Accounts}
 use Rattle.qrp_rules.specs.declared.fault.RuleFault.TheVariants.{S8, S9}
 use Rattle.qrp_rules.proofs.FirstFailures.{answer_after}
@@ -24,8 +24,8 @@ module _ (rules : Rules) (side : Side) (blocks : List Block) (a b to : List Lite
   at_each x P one h v p = subst P (sym (one.only v p)) h
 
   -- where one variable clashes, its conditions are all
-  pub at_pivot : (x : ℕ) (answer : Option RuleFault) → IsOnlyClash a b x → IsJudgement (pivot_conditions x) answer
-      → IsJudgement (resolvent_conditions rules side blocks a b to) answer
+  pub at_pivot : (x : ℕ) (answer : Option RuleFault) → IsOnlyClash a b x → IsFaultOf (pivot_conditions x) answer
+      → IsFaultOf (resolvent_conditions rules side blocks a b to) answer
   at_pivot x answer one is =
       answer_after S8 ((v : ℕ) × Clashes a b v) ((S9, ((u v : ℕ) → Clashes a b u → Clashes a b v → u ≡ v)) ∷ each_conditions) answer
       (x, one.clashes)

@@ -27,10 +27,10 @@ IsFirstFailure [] fault = ⊥
 IsFirstFailure ((name, holds) ∷ conditions) fault =
     ((holds → ⊥) × (fault ≡ name)) ⊎ (holds × IsFirstFailure conditions fault)
 
--- what a test of conditions returns: nothing where all hold, and else the first that fails
-abbrev pub IsJudgement : {Fault : Type 0} → List (Condition Fault) → Option Fault → Type 0
-IsJudgement conditions None = AllHold conditions
-IsJudgement conditions (Some fault) = IsFirstFailure conditions fault
+-- the fault of some conditions: none if all hold, else that of the first that fails
+abbrev pub IsFaultOf : {Fault : Type 0} → List (Condition Fault) → Option Fault → Type 0
+IsFaultOf conditions None = AllHold conditions
+IsFaultOf conditions (Some fault) = IsFirstFailure conditions fault
 
 -- `to` is a reduct of `from`
 abbrev pub reduct_conditions : Side → List Block → List Literal → List Literal → List (Condition RuleFault)

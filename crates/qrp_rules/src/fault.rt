@@ -1,10 +1,5 @@
 //! Why a step does not follow.
 
-use std::alloc::AllocError;
-
-/// Why a step does not follow, or `None` where it does, unless an allocation fails.
-pub type Judgement = Result<Option<RuleFault>, AllocError>;
-
 /// Why a step does not follow; the names in the order in which they are looked at.
 #[derive(Clone, Copy, Debug, PartialEq, Eq)]
 pub enum RuleFault {

@@ -6,9 +6,9 @@ ghost use Rattle.qbf_core.specs.Members.{◌∈◌};
 ghost use Rattle.qbf_core.specs.Blocks.{AreBound};
 ghost use Rattle.qbf_core.specs.Rules.{Clauses, Cubes, IsClean, IsReduct, IsTautology};
 ghost use Rattle.qbf_core.specs.Sets.{IsOrdered};
-ghost use Rattle.qrp_rules.specs.Conditions.{IsJudgement, initial_condition};
+ghost use Rattle.qrp_rules.specs.Conditions.{IsFaultOf, initial_condition};
 
-use crate::fault::{Judgement, RuleFault};
+use crate::fault::RuleFault;
 use crate::lists::{is_among, is_ordered};
 use crate::walks::ordered_reduct_fault_by;
 use qbf_core::{Formula, Lit, LitSet, Prefix, Quantifier, SetFault, is_member};
@@ -54,10 +54,14 @@ fn has_reduct(
 }
 
 /// Why the set is not an initial clause, or `None` if it is one.
-pub(crate) fn initial_clause_fault(alloc: Global, formula: &Formula, set: &[Lit]) -> Judgement
+pub(crate) fn initial_clause_fault(
+    alloc: Global,
+    formula: &Formula,
+    set: &[Lit],
+) -> Result<Option<RuleFault>, AllocError>
     requires { IsOrdered set.now }
     ensures { IfOk result
-        (λ fault. IsJudgement (initial_condition Clauses formula.now set.now ∷ []) fault) }
+        (λ fault. IsFaultOf (initial_condition Clauses formula.now set.now ∷ []) fault) }
 {
     for position in 0..formula.clauses() {
         if has_reduct(alloc, formula.prefix(), formula.clause(position), set)? {
@@ -102,7 +106,7 @@ pub(crate) fn is_tautology(alloc: Global, prefix: &Prefix, clause: &[Lit]) -> bo
 /// Why the set is not an initial cube. It is never out of memory.
 pub(crate) fn initial_cube_fault(alloc: Global, formula: &Formula, set: &[Lit]) -> Option<RuleFault>
     requires { IsOrdered set.now }
-    ensures { IsJudgement (initial_condition Cubes formula.now set.now ∷ []) result }
+    ensures { IsFaultOf (initial_condition Cubes formula.now set.now ∷ []) result }
 {
     for i in 0..formula.clauses() {
         let clause = formula.clause(i);

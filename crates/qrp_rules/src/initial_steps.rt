@@ -4,11 +4,11 @@ ghost use Rattle.std.specs.Prelude.{[], ◌∷◌, OnOk, IfOk};
 ghost use Rattle.qbf_core.specs.Qbf.{Qbf};
 ghost use Rattle.qbf_core.specs.Sets.{IsOrdered};
 ghost use Rattle.qrp_rules.specs.Accepted.{IsAcceptedBy};
-ghost use Rattle.qrp_rules.specs.Conditions.{IsJudgement, initial_condition};
+ghost use Rattle.qrp_rules.specs.Conditions.{IsFaultOf, initial_condition};
 ghost use Rattle.qrp_rules.specs.Initial.{AreKnown};
 
 use crate::clause_index::InitialClauses;
-use crate::fault::Judgement;
+use crate::fault::RuleFault;
 use crate::initial::{initial_clause_fault, initial_cube_fault};
 use crate::initial_cubes::InitialCubes;
 use crate::seen::SeenLits;
@@ -65,10 +65,14 @@ impl InitialSteps {
 ///
 /// # Errors
 /// If an allocation fails.
-pub fn ordered_initial_fault<S: Side>(alloc: Global, formula: &Formula, set: &[Lit]) -> Judgement
+pub fn ordered_initial_fault<S: Side>(
+    alloc: Global,
+    formula: &Formula,
+    set: &[Lit],
+) -> Result<Option<RuleFault>, AllocError>
     requires { IsOrdered set.now }
     ensures { IfOk result
-        (λ fault. IsJudgement (initial_condition S.side formula.now set.now ∷ []) fault) }
+        (λ fault. IsFaultOf (initial_condition S.side formula.now set.now ∷ []) fault) }
 {
     match S::REDUCED {
         Quantifier::All => initial_clause_fault(alloc, formula, set),

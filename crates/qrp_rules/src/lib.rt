@@ -34,7 +34,7 @@ mod written_resolvent;
 
 pub use blocks::is_bound_by;
 pub use distinct::push_distinct;
-pub use fault::{Judgement, RuleFault};
+pub use fault::RuleFault;
 pub use initial_steps::{InitialSteps, ordered_initial_fault};
 pub use normalizing::{normal_form, normalize};
 pub use reduct::{is_reduct, ordered_reduct_fault, reduct_fault};

@@ -4,7 +4,7 @@ ghost use Rattle.std.specs.Prelude.{◌↔◌, IsTrue};
 ghost use Rattle.qbf_core.specs.Blocks.{AreBound};
 ghost use Rattle.qbf_core.specs.Rules.{IsReduct};
 ghost use Rattle.qbf_core.specs.Sets.{IsOrdered};
-ghost use Rattle.qrp_rules.specs.Conditions.{IsJudgement, reduct_conditions};
+ghost use Rattle.qrp_rules.specs.Conditions.{IsFaultOf, reduct_conditions};
 
 use crate::fault::RuleFault;
 use crate::side::Side;
@@ -16,7 +16,7 @@ use qbf_core::{Lit, LitSet, Prefix};
 pub fn ordered_reduct_fault<S: Side>(prefix: &Prefix, from: &[Lit], to: &[Lit]) -> Option<RuleFault>
     requires from { IsOrdered from.now }
     requires to { IsOrdered to.now }
-    ensures { IsJudgement (reduct_conditions S.side prefix.now from.now to.now) result }
+    ensures { IsFaultOf (reduct_conditions S.side prefix.now from.now to.now) result }
 {
     ordered_reduct_fault_by(prefix, S::REDUCED, from, to)
 }
@@ -31,7 +31,7 @@ pub fn ordered_reduct_fault<S: Side>(prefix: &Prefix, from: &[Lit], to: &[Lit]) 
 pub fn reduct_fault<S: Side>(prefix: &Prefix, from: &LitSet, to: &LitSet) -> Option<RuleFault>
     requires from { AreBound prefix.now from.now }
     requires to { AreBound prefix.now to.now }
-    ensures { IsJudgement (reduct_conditions S.side prefix.now from.now to.now) result }
+    ensures { IsFaultOf (reduct_conditions S.side prefix.now from.now to.now) result }
 {
     ordered_reduct_fault::<S>(prefix, from.as_slice(), to.as_slice())
 }

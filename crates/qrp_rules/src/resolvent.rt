@@ -5,7 +5,7 @@ ghost use Rattle.qbf_core.specs.Members.{◌⊆◌};
 ghost use Rattle.qbf_core.specs.Blocks.{AreBound};
 ghost use Rattle.qbf_core.specs.Rules.{Clashes, resolvent};
 ghost use Rattle.qbf_core.specs.Sets.{IsOrdered};
-ghost use Rattle.qrp_rules.specs.Conditions.{AllHold, IsJudgement, resolvent_conditions};
+ghost use Rattle.qrp_rules.specs.Conditions.{AllHold, IsFaultOf, resolvent_conditions};
 ghost use Rattle.qrp_rules.specs.Unreduced.{unreduced_conditions};
 ghost use Rattle.qrp_rules.specs.Walks.{Accounts, IsClashOf};
 
@@ -106,7 +106,7 @@ pub fn ordered_resolvent_fault<S: Side>(
     requires a { IsOrdered step.a.now }
     requires b { IsOrdered step.b.now }
     requires to { IsOrdered step.to.now }
-    ensures { IsJudgement (resolvent_conditions rules S.side prefix.now step.entry.a.now
+    ensures { IsFaultOf (resolvent_conditions rules S.side prefix.now step.entry.a.now
         step.entry.b.now step.entry.to.now) result }
 {
     match find_clash(step.a, step.b) {
@@ -149,7 +149,7 @@ pub fn resolvent_fault<S: Side>(
     requires a { AreBound prefix.now a.now }
     requires b { AreBound prefix.now b.now }
     requires to { AreBound prefix.now to.now }
-    ensures fault { IsJudgement (resolvent_conditions rules S.side prefix.now a.now b.now to.now)
+    ensures fault { IsFaultOf (resolvent_conditions rules S.side prefix.now a.now b.now to.now)
         result }
     ensures as_before { AllHold (unreduced_conditions rules S.side prefix.now a.now b.now to.now)
         → result ≡ None }

@@ -6,12 +6,12 @@ ghost use Rattle.qbf_core.specs.declared.quantifier.Quantifier.TheVariants.{All,
 ghost use Rattle.qbf_core.specs.Blocks.{AreBound};
 ghost use Rattle.qbf_core.specs.Rules.{Side, Clauses, Cubes, reduced_quantifier};
 ghost use Rattle.qbf_core.specs.Rules.{deciding_quantifier};
-ghost use Rattle.qrp_rules.specs.Conditions.{IsJudgement, initial_condition};
+ghost use Rattle.qrp_rules.specs.Conditions.{IsFaultOf, initial_condition};
 
-use crate::fault::Judgement;
+use crate::fault::RuleFault;
 use crate::initial::{initial_clause_fault, initial_cube_fault};
 use qbf_core::{Formula, LitSet, Quantifier};
-use std::alloc::Global;
+use std::alloc::{AllocError, Global};
 
 /// What the steps of a proof are: clauses, by Q-resolution (Kleine Büning, Karpinski, Flögel 1995),
 /// or cubes, by term resolution (Giunchiglia, Narizzano, Tacchella 2006).
@@ -38,10 +38,14 @@ pub trait Side {
     ///
     /// # Errors
     /// If an allocation fails; never on cubes, which need no memory.
-    fn initial_fault(alloc: Global, formula: &Formula, set: &LitSet) -> Judgement
+    fn initial_fault(
+        alloc: Global,
+        formula: &Formula,
+        set: &LitSet,
+    ) -> Result<Option<RuleFault>, AllocError>
         requires { AreBound formula.now.blocks set.now }
         ensures { IfOk result
-            (λ fault. IsJudgement (initial_condition side formula.now set.now ∷ []) fault) };
+            (λ fault. IsFaultOf (initial_condition side formula.now set.now ∷ []) fault) };
 
     ghost reduces: { REDUCED ≡ reduced_quantifier side };
 
@@ -64,7 +68,11 @@ impl Side for Clauses {
 
     const DECIDING: Quantifier = Quantifier::Exists;
 
-    fn initial_fault(alloc: Global, formula: &Formula, set: &LitSet) -> Judgement {
+    fn initial_fault(
+        alloc: Global,
+        formula: &Formula,
+        set: &LitSet,
+    ) -> Result<Option<RuleFault>, AllocError> {
         initial_clause_fault(alloc, formula, set.as_slice())
     }
 
@@ -89,9 +97,13 @@ impl Side for Cubes {
 
     const DECIDING: Quantifier = Quantifier::All;
 
-    fn initial_fault(alloc: Global, formula: &Formula, set: &LitSet) -> Judgement
+    fn initial_fault(
+        alloc: Global,
+        formula: &Formula,
+        set: &LitSet,
+    ) -> Result<Option<RuleFault>, AllocError>
         ensures answer { IfOk result (λ fault.
-            IsJudgement (initial_condition Rattle.qbf_core.specs.Rules.Cubes formula.now set.now ∷ [])
+            IsFaultOf (initial_condition Rattle.qbf_core.specs.Rules.Cubes formula.now set.now ∷ [])
             fault) }
         ensures always { IsOk result }
     {

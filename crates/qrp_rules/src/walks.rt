@@ -5,7 +5,7 @@ ghost use Rattle.qbf_core.specs.Literal.{Literal};
 ghost use Rattle.qbf_core.specs.Members.{◌∈◌};
 ghost use Rattle.qbf_core.specs.Rules.{Side, reduced_quantifier};
 ghost use Rattle.qbf_core.specs.Sets.{IsOrdered};
-ghost use Rattle.qrp_rules.specs.Conditions.{IsJudgement, reduct_conditions};
+ghost use Rattle.qrp_rules.specs.Conditions.{IsFaultOf, reduct_conditions};
 ghost use Rattle.qrp_rules.specs.Walks.{Covers, IsRestFrom, MayOmit};
 
 use crate::blocks::{Reducible, is_the_pivot, reducible_in};
@@ -94,7 +94,7 @@ pub(crate) fn ordered_reduct_fault_by(
     requires from { IsOrdered from.now }
     requires to { IsOrdered to.now }
     ensures { (side : Side) → reduced ≡ reduced_quantifier side
-        → IsJudgement (reduct_conditions side prefix.now from.now to.now) result }
+        → IsFaultOf (reduct_conditions side prefix.now from.now to.now) result }
 {
     if !is_subset_up_to(None, None, to, from) {
         return Some(RuleFault::S6);

@@ -3,7 +3,7 @@ use Rattle.decimal.proofs.Eights.{joined_within, joined_digits, joined_value}
 use Rattle.decimal.proofs.number.with_tail.Goals as goal
 
 pub power_of_ten-requires : goal.power_of_ten-requires
-power_of_ten-requires c = omega (arith, c.if-len-gt7.false)
+power_of_ten-requires c = omega (arith, c.in_ok-tail.ensures.short)
 
 pub returns : goal.returns
 returns c =
@@ -11,7 +11,7 @@ returns c =
     let count = c.args.first.1 in
     let len = c.in_ok-tail.len in
     let tail = c.in_ok-tail.tail in
-    let read = c.in_ok-tail.ensures in
+    let read = c.in_ok-tail.ensures.digits in
     let within = c.requires.within in
     let shifted = c.in_ok-shifted.ensures.1 in
     let all = c.in_ok-all.ensures.1 in (

@@ -1,5 +1,5 @@
 use Rattle.qbf_text.proofs.Cited.{◌<◌, ◌^◌, sym, ◌∙◌}
-use Rattle.qbf_text.proofs.NumberAtHand.{found}
+use Rattle.qbf_text.proofs.BufferedNumber.{found}
 use Rattle.qbf_text.proofs.cursor.signed_number.Goals as goal
 
 pub returns : goal.returns

@@ -10,11 +10,11 @@ pub tokens-preserved : goal.tokens-preserved
 tokens-preserved g c =
     let row = g.G.Grammar.row_of in
     let first = g.G.Grammar.state c.args.grammar.now in
-    let at_hand = g.S.Source.remaining c.tokens.source in
+    let remaining = g.S.Source.remaining c.tokens.source in
     let whole = reads_from row first (left c.args.scanner.now (g.S.Source.remaining c.args.source.now)) in
     let h = c.in_ok-handed.ensures in
     let s = c.take_buffered.new.scanner in
-    let none = rw c.in-None.is at h.reads at_hand in
+    let none = rw c.in-None.is at h.reads remaining in
     let so_far = leads_then whole _ _ c.tokens.invariant.so_far none.1 in
     let read = known_so_far row first _ _ _ _ _ _ _ _ c.tokens.invariant.stops none.0 in
     let ready = same_status c.tokens.scanner s h.status c.tokens.invariant.ready in
@@ -24,9 +24,9 @@ tokens-preserved g c =
       stops = so_far_goes row first _ _ _ _ _ (c.in_ok-token.token, c.in_ok-token.line) _ _ _
           (rw c.in-Ok-More.field-0-is at c.in-Ok-More.ensures.row) read
           (c.in_ok-token.ensures.takes (rw c.in-Ok-More.field-0-is at c.in-Ok-More.ensures.more));
-      ready = unfailed s c.next_token.new.self at_hand (g.S.Source.remaining c.next_token.new.source) ready c.in_ok-token.ensures.ready
+      ready = unfailed s c.next_token.new.self remaining (g.S.Source.remaining c.next_token.new.source) ready c.in_ok-token.ensures.ready
           (λ h. (c.next_token.ensures.ended h).1);
-      remains = λ r. c.in_ok-token.ensures.ready (ready_still c.tokens.scanner s at_hand h.status (c.tokens.invariant.remains r));
+      remains = λ r. c.in_ok-token.ensures.ready (ready_still c.tokens.scanner s remaining h.status (c.tokens.invariant.remains r));
       kept = c.in-Ok-More.ensures.kept ∙ h.kept ∙ c.tokens.invariant.kept;
       counts = c.in_ok-token.ensures.ok ∙ c.tokens.invariant.counts;
       bound = omega (arith, c.in_ok-token.ensures.no_more, h.no_more, c.tokens.invariant.bound);
@@ -48,8 +48,8 @@ pub returns-in-Ok-Done-clause-stops : goal.returns-in-Ok-Done-clause-stops
 returns-in-Ok-Done-clause-stops g c =
     let row = g.G.Grammar.row_of in
     let first = g.G.Grammar.state c.args.grammar.now in
-    let at_hand = g.S.Source.remaining c.tokens.source in
-    let none = rw c.in-None.is at c.in_ok-handed.ensures.reads at_hand in
+    let remaining = g.S.Source.remaining c.tokens.source in
+    let none = rw c.in-None.is at c.in_ok-handed.ensures.reads remaining in
     let h = c.take_buffered.new in
     let ends_so = rw c.in-Ok-Done.field-0-is at c.in-Ok-Done.ensures.row in
     let s = c.next_token.new.self in
@@ -66,8 +66,8 @@ returns-in-Ok-Done-clause-stops g c =
 pub returns-in-Some-clause-reads : goal.returns-in-Some-clause-reads
 returns-in-Some-clause-reads g c =
     let row = g.G.Grammar.row_of in
-    let at_hand = g.S.Source.remaining c.tokens.source in
-    let last = rw c.in-Some.is at c.in_ok-handed.ensures.reads at_hand in
+    let remaining = g.S.Source.remaining c.tokens.source in
+    let last = rw c.in-Some.is at c.in_ok-handed.ensures.reads remaining in
     let whole = reads_from row (g.G.Grammar.state c.args.grammar.now) (left c.args.scanner.now (g.S.Source.remaining c.args.source.now)) in
     let so_far = leads_then whole _ _ c.tokens.invariant.so_far last.leads.1 in
     ends row _ _ _ whole _ _ _ so_far last.gives last.ends
@@ -86,9 +86,9 @@ pub returns-in-Some-clause-stops : goal.returns-in-Some-clause-stops
 returns-in-Some-clause-stops g c =
     let row = g.G.Grammar.row_of in
     let first = g.G.Grammar.state c.args.grammar.now in
-    let at_hand = g.S.Source.remaining c.tokens.source in
+    let remaining = g.S.Source.remaining c.tokens.source in
     let h = c.take_buffered.new in
-    let last = rw c.in-Some.is at c.in_ok-handed.ensures.reads at_hand in
+    let last = rw c.in-Some.is at c.in_ok-handed.ensures.reads remaining in
     let read = known_so_far row first _ _ _ _ _ _ _ _ c.tokens.invariant.stops last.leads.0 in (
       last.last,
       last.token.0,

@@ -2,7 +2,7 @@ use Rattle.qbf_text.proofs.Cited.{bool_byte, digits_value, ◌≡◌, ℕ, List,
 use Rattle.qbf_text.proofs.Cited.{nat_eq, sym, arith, ap, get_or}
 use Rattle.std.proofs.Common.{◌%◌, SFits, w32}
 use Rattle.std.proofs.lemmas.Int.{to_z-of_z}
-use Rattle.qbf_text.proofs.NumberAtHand.{found}
+use Rattle.qbf_text.proofs.BufferedNumber.{found}
 use Rattle.qbf_text.proofs.numbers.number_before.Goals as goal
 
 one_at_most : (start : ℕ) (negative : Bool) → start ≡ bool_byte negative → start ≤ 1

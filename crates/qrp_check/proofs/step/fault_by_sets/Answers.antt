@@ -1,4 +1,4 @@
-use Rattle.qrp_check.proofs.Cited.{common_steps, Option, arith, RuleFault, IsJudgement, premise_conditions}
+use Rattle.qrp_check.proofs.Cited.{common_steps, Option, arith, RuleFault, IsFaultOf, premise_conditions}
 use Rattle.std.proofs.lemmas.Result.{IfOk-weaker}
 use Rattle.qrp_check.proofs.CoreStep.{not_all_bound, not_clean, set_answer}
 use Rattle.qrp_check.proofs.step.fault_by_sets.Goals as goal
@@ -14,7 +14,7 @@ returns-in-Err-E2 g c =
 
 pub returns-in-Some : goal.returns-in-Some
 returns-in-Some g c = rw c.in-Some.is (IfOk-weaker c.premises_fault.result
-    (λ (fault : Option RuleFault). IsJudgement (premise_conditions c.args.context.rules g.S.Side.side c.args.context.formula.now
+    (λ (fault : Option RuleFault). IsFaultOf (premise_conditions c.args.context.rules g.S.Side.side c.args.context.formula.now
     c.in-Some.premises c.normal_form.result.now) fault)
     _
     (λ fault a. set_answer c.args.context.rules g.S.Side.side c.args.context.formula.now c.in-Some.premises c.normal_form.result.now

@@ -1,4 +1,4 @@
--- A number that stands whole among the bytes at hand.
+-- A number that stands whole among the buffered bytes.
 use Rattle.qbf_text.proofs.Cited.{rules, ◌≡◌, ℕ, zero, suc, ◌+◌, ◌-◌, ◌^◌, ◌<◌, ◌≤◌, Bool, true, false, ◌&&◌, ◌||◌, ◌==◌, nat_eq, List, []}
 use Rattle.qbf_text.proofs.Cited.{◌∷◌, ◌++◌, take, drop, length, get_or, refl, sym, subst, ap, ◌∙◌, arith, eqb-true, common_steps}
 use Rattle.qbf_text.proofs.Cited.{bool_byte, digits_value, is_ascii_digit, all_ascii_digits, nat_tests, Value, is_line_end, digits_of}
