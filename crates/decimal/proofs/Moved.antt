@@ -15,8 +15,7 @@ use Rattle.std.proofs.lemmas.Int.Digits.{digits_value_is}
 use Rattle.decimal.specs.Word.{word}
 use Rattle.decimal.proofs.Masks.{splat, wide, Bytes, marks, first_mark}
 use Rattle.decimal.proofs.Lists.{wide_is, word_lt, word_append, word_zeros, turned, xored, turned_bytes, turned_run, front, zeros_before}
-use Rattle.decimal.proofs.Lists.{turned_digits, after_zeros}
-use Rattle.decimal.proofs.Lists.{zeros_below, shifted, word_bytes, bytes_fit}
+use Rattle.decimal.proofs.Lists.{turned_digits, after_zeros, zeros_below, shifted, word_bytes, bytes_fit}
 
 pub turned_word : (w : ℕ) → w < 2 ^ 64 → bit_xor w (splat 48 8) ≡ word (map turned (to_le_bytes w64 w))
 turned_word w fits = ap (λ k. bit_xor k (splat 48 8)) (sym (word_bytes w fits)) ∙ xored (to_le_bytes w64 w) (bytes_fit w)

@@ -1,10 +1,9 @@
 -- Three steps make two numbers of sixteen digits: each reads two lanes as one of twice the width, and puts them together.
 use Rattle.std.proofs.Common.{Fits, w8, ℕ, zero, suc, ◌≡◌, ◌+◌, ◌*◌, ◌/◌, ◌%◌, ◌^◌, ◌<◌, List, [], ◌∷◌, map, length, arith, bit_and, refl}
-use Rattle.std.proofs.Common.{sym, ap, ap₂, ◌∙◌, subst, get_or}
+use Rattle.std.proofs.Common.{sym, ap, ap₂, ◌∙◌, subst, get_or, pow-suc, mul_comm}
 use Rattle.std.specs.Int.Digits.{number_from_digits}
 use Rattle.std.specs.Simd.Lanes.{Each1, number_l, digits_l, chunk}
 use Rattle.std.proofs.Math.Arith.{digits_lt}
-use Rattle.std.proofs.Common.{pow-suc, mul_comm}
 use Rattle.std.proofs.Math.Nat.{pow-zero}
 use Rattle.std.proofs.lemmas.Nat.{and_mask, mod_below}
 use Rattle.std.proofs.lemmas.Simd.{pick_l_whole, below_from_Fits}

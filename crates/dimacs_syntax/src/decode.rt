@@ -3,6 +3,7 @@
 ghost use Rattle.std.specs.Prelude.{◌≡◌, ◌≤◌, IfSome, IfOk};
 ghost use Rattle.qbf_core.specs.Blocks.{IsVariable};
 ghost use Rattle.dimacs_syntax.specs.Decode.{decode_quantifier, decode_member, decode_literal};
+ghost use Rattle.qbf_core.specs.declared.literal.TheConstants.{LAST_VARIABLE};
 
 use qbf_core::{Lit, Quantifier, Var};
 use qbf_text::{Token, Word};
@@ -39,7 +40,7 @@ pub fn decode_quantifier(token: Token) -> Option<Quantifier>
 /// The fault of the format that the token is there.
 #[inline(always)]
 pub fn decode_member<F: Copy>(faults: Faults<F>, last: u32, token: Token) -> Result<Option<Var>, F>
-    requires { last ≤ 2147483647 }
+    requires { last ≤ LAST_VARIABLE }
     ensures says { result ≡ decode_member faults last token }
     ensures range { IfOk result (λ o. IfSome o IsVariable) }
     ensures top { IfOk result (λ o. IfSome o (λ v. v ≤ last)) }
@@ -63,7 +64,7 @@ pub fn decode_member<F: Copy>(faults: Faults<F>, last: u32, token: Token) -> Res
 /// The fault of the format that the token is there.
 #[inline(always)]
 pub fn decode_literal<F: Copy>(faults: Faults<F>, last: u32, token: Token) -> Result<Option<Lit>, F>
-    requires { last ≤ 2147483647 }
+    requires { last ≤ LAST_VARIABLE }
     ensures says { result ≡ decode_literal faults last token }
     ensures range { IfOk result (λ o. IfSome o (λ l. IsVariable l.var)) }
 {

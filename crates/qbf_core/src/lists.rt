@@ -6,6 +6,7 @@ ghost use Rattle.std.specs.Prelude.{IfSome, IfOk, OnOk, OnErr, IsTrue};
 ghost use Rattle.std.specs.List.{AllByRecursion};
 ghost use Rattle.qbf_core.specs.Lists.{parts, start_of, LieWithin};
 ghost use Rattle.qbf_core.specs.WrittenLiterals.{literal_of, ArePut, IsWritten};
+ghost use Rattle.qbf_core.specs.declared.literal.TheConstants.{LAST_VARIABLE};
 
 use crate::literal::{Lit, is_written};
 use crate::offsets::Offsets;
@@ -202,7 +203,7 @@ fn number_at(numbers: &[i32], place: usize) -> i32
 #[inline(always)]
 fn one_written(numbers: &[i32], place: usize, last: u32) -> Option<Lit>
     requires place { place < length numbers.now }
-    requires last { last ≤ 2147483647 }
+    requires last { last ≤ LAST_VARIABLE }
     ensures literal { IfSome result (λ l. l ≡ literal_of (slice_index_or numbers.now place (pos 0))) }
     ensures written { IfSome result
         (λ _. IsWritten last (slice_index_or numbers.now place (pos 0))) }
@@ -220,7 +221,7 @@ fn one_written(numbers: &[i32], place: usize, last: u32) -> Option<Lit>
 #[inline(always)]
 fn four_written(numbers: &[i32], place: usize, last: u32) -> Option<[Lit; 4]>
     requires place { place + 4 ≤ length numbers.now }
-    requires last { last ≤ 2147483647 }
+    requires last { last ≤ LAST_VARIABLE }
     ensures literals { IfSome result
         (λ f. f ≡ map literal_of (slice_range numbers.now place (place + 4))) }
     ensures written { IfSome result
@@ -258,7 +259,7 @@ fn put_four(
     last: u32,
 ) -> Result<bool, AllocError>
     requires place { place + 4 ≤ length numbers.now }
-    requires last { last ≤ 2147483647 }
+    requires last { last ≤ LAST_VARIABLE }
     ensures put { IfOk result (λ b. IsTrue b → ArePut items.old.items
         (slice_range numbers.now place (place + 4)) last items.new.items) }
     ensures kept { IfOk result (λ b. b ≡ false → items.new.items ≡ items.old.items)
@@ -279,7 +280,7 @@ fn put_four(
 #[inline(always)]
 fn put_fours(items: &mut Vec<Lit>, numbers: &[i32], last: u32) -> Result<bool, AllocError>
     requires many { 4 ≤ length numbers.now }
-    requires last { last ≤ 2147483647 }
+    requires last { last ≤ LAST_VARIABLE }
     ensures put { IfOk result (λ b. IsTrue b
         → ArePut items.old.items numbers.now last items.new.items) }
     ensures kept { take (length items.old.items) items.new.items ≡ items.old.items }
@@ -303,7 +304,7 @@ fn put_fours(items: &mut Vec<Lit>, numbers: &[i32], last: u32) -> Result<bool, A
 /// Out of memory.
 #[inline(always)]
 fn put_each(items: &mut Vec<Lit>, numbers: &[i32], last: u32) -> Result<bool, AllocError>
-    requires last { last ≤ 2147483647 }
+    requires last { last ≤ LAST_VARIABLE }
     ensures put { IfOk result (λ b. IsTrue b
         → ArePut items.old.items numbers.now last items.new.items) }
     ensures kept { take (length items.old.items) items.new.items ≡ items.old.items }
@@ -325,7 +326,7 @@ fn put_each(items: &mut Vec<Lit>, numbers: &[i32], last: u32) -> Result<bool, Al
 /// Out of memory.
 #[inline(always)]
 fn put_written(items: &mut Vec<Lit>, numbers: &[i32], last: u32) -> Result<bool, AllocError>
-    requires last { last ≤ 2147483647 }
+    requires last { last ≤ LAST_VARIABLE }
     ensures put { IfOk result (λ b. IsTrue b
         → ArePut items.old.items numbers.now last items.new.items) }
     ensures kept { take (length items.old.items) items.new.items ≡ items.old.items }
@@ -347,7 +348,7 @@ impl GrowingLists<Lit> {
     #[inline(always)]
     #[tactic(auto, using(crate::proofs::Buffer::grown_parts, crate::proofs::Buffer::drop_grown))]
     pub fn extend_written(&mut self, numbers: &[i32], last: u32) -> Result<bool, AllocError>
-        requires { last ≤ 2147483647 }
+        requires { last ≤ LAST_VARIABLE }
         ensures extended { IfOk result (λ b. IsTrue b → self.new ≡ record self.old {
           unfinished = self.old.unfinished ++ map literal_of numbers.now;
         }) }

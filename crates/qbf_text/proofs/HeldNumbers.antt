@@ -1,10 +1,8 @@
 -- Numbers that are held of a window, and the cursors between them.
-use Rattle.qbf_text.proofs.Cited.{◌≡◌, ℕ, zero, suc, ◌+◌, ◌-◌, ◌^◌, ◌<◌, ◌≤◌, Bool, true, false, not, cond, List, [], ◌∷◌, ◌++◌}
-use Rattle.qbf_text.proofs.Cited.{length, take, drop, refl, sym, count_by, is_line_end}
-use Rattle.qbf_text.proofs.Cited.{ap, ◌∙◌, subst, arith, Option, Some, None, ◌⊎◌, inl, inr, drop-drop, Token, Row, BeginsWithNumber}
-use Rattle.qbf_text.proofs.Cited.{line_number, nat_tests}
-use Rattle.std.specs.Prelude.{nat_lt}
-use Rattle.std.specs.Prelude.{ℤ, pos, slice_index_or, unsigned_abs, int_lt, get_or}
+use Rattle.qbf_text.proofs.Cited.{◌≡◌, ℕ, zero, suc, ◌+◌, ◌-◌, ◌^◌, ◌<◌, ◌≤◌, Bool, true, false, not, cond, List, [], ◌∷◌, ◌++◌, length}
+use Rattle.qbf_text.proofs.Cited.{take, drop, refl, sym, count_by, is_line_end, ap, ◌∙◌, subst, arith, Option, Some, None, ◌⊎◌, inl, inr}
+use Rattle.qbf_text.proofs.Cited.{drop-drop, Token, Row, BeginsWithNumber, line_number, nat_tests}
+use Rattle.std.specs.Prelude.{nat_lt, ℤ, pos, slice_index_or, unsigned_abs, int_lt, get_or}
 use Rattle.std.proofs.Common.{length-drop, length-append}
 use Rattle.std.proofs.lemmas.List.{get_or-append-add, get_or-drop, get_or-take, length-take}
 use Rattle.qbf_text.specs.declared.cursor.Cursor.{Cursor}

@@ -1,21 +1,17 @@
 -- Numbers as `decimal` finds them are numbers that stand whole among the bytes.
 use Rattle.qbf_text.proofs.Cited.{◌≡◌, ℕ, zero, suc, ◌+◌, ◌-◌, ◌^◌, ◌<◌, ◌≤◌, Bool, true, false, ◌&&◌, nat_eq, List, [], ◌∷◌, length, take}
-use Rattle.qbf_text.proofs.Cited.{drop}
-use Rattle.qbf_text.proofs.Cited.{get_or, refl, sym, ap, subst, ◌∙◌, arith, drop-drop, nat_tests, common_steps, is_separator}
-use Rattle.qbf_text.proofs.Cited.{begins_with_minus, digits_value}
-use Rattle.qbf_text.proofs.Cited.{BeginsWithNumber, ◌⊎◌, inl, inr}
-use Rattle.std.specs.Prelude.{ℤ, pos, neg_ℤ, unsigned_abs, int_lt}
+use Rattle.qbf_text.proofs.Cited.{drop, get_or, refl, sym, ap, subst, ◌∙◌, arith, drop-drop, nat_tests, common_steps, is_separator}
+use Rattle.qbf_text.proofs.Cited.{begins_with_minus, digits_value, BeginsWithNumber, ◌⊎◌, inl, inr}
+use Rattle.std.specs.Prelude.{ℤ, pos, neg_ℤ, unsigned_abs, int_lt, bit_or}
 use Rattle.std.specs.Str.Parse.{AllDigits}
-use Rattle.std.proofs.Common.{length-drop}
+use Rattle.std.proofs.Common.{length-drop, eqb-true}
 use Rattle.std.proofs.lemmas.List.{get_or-drop, length-take}
 use Rattle.std.proofs.lemmas.Int.Digits.{digits_value-lt}
 use Rattle.std.proofs.Math.Nat.{pow-le-pow_right}
 use Rattle.decimal.specs.Numbers.{between, IsNumber, AreInARow}
 use Rattle.qbf_text.specs.declared.numbers.Numbers.{Numbers}
 use Rattle.qbf_text.specs.Numbers.{AreSeparators, AreShort, NumberStands, SeemToEnd, StandFrom, place}
-use Rattle.std.proofs.Common.{eqb-true}
 use Rattle.std.proofs.lemmas.Nat.{le_or_l, le_or_r}
-use Rattle.std.specs.Prelude.{bit_or}
 use Rattle.qbf_text.proofs.BufferedNumber.{found}
 
 first_minus : (xs : List ℕ) → begins_with_minus xs ≡ nat_eq (get_or xs 0 0) 45

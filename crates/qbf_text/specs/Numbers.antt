@@ -1,7 +1,6 @@
 -- Buffered numbers: what a grammar makes of them, and where each stands among the bytes.
-use Rattle.std.specs.Prelude.{◌≡◌, ℕ, zero, suc, ◌+◌, ◌-◌, ◌<◌, ◌≤◌, Bool, true, false, not, count_by, List, [], ◌∷◌, ◌++◌, length, take, drop}
-use Rattle.std.specs.Prelude.{Option, Some, None, ℤ, pos, unsigned_abs, int_lt}
-use Rattle.std.specs.Prelude.{slice_index_or, ◌^◌}
+use Rattle.std.specs.Prelude.{◌≡◌, ℕ, zero, suc, ◌+◌, ◌-◌, ◌<◌, ◌≤◌, Bool, true, false, not, count_by, List, [], ◌∷◌, ◌++◌, length, take}
+use Rattle.std.specs.Prelude.{drop, Option, Some, None, ℤ, pos, unsigned_abs, int_lt, slice_index_or, ◌^◌}
 use Rattle.std.specs.Simd.Lanes.{Each1}
 use Rattle.qbf_text.specs.declared.cursor.Cursor.{Cursor}
 use Rattle.qbf_text.specs.declared.numbers.Numbers.{Numbers}

@@ -1,6 +1,5 @@
 -- What was passed of the buffered bytes: tokens that stand there whole, whatever bytes follow.
-use Rattle.std.specs.Prelude.{◌≡◌, ℕ, ◌+◌, ◌<◌, ◌≤◌, Bool, true, false, not, nat_eq, List, [], ◌∷◌, ◌++◌, drop, length, Option, Some}
-use Rattle.std.specs.Prelude.{None}
+use Rattle.std.specs.Prelude.{◌≡◌, ℕ, ◌+◌, ◌<◌, ◌≤◌, Bool, true, false, not, nat_eq, List, [], ◌∷◌, ◌++◌, drop, length, Option, Some, None}
 use Rattle.qbf_text.specs.Ahead.{ahead}
 use Rattle.qbf_text.specs.declared.cursor.Cursor.{Cursor}
 use Rattle.qbf_text.specs.declared.token.Comments.{Comments}

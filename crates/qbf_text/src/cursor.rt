@@ -1,7 +1,6 @@
 //! A number that stands whole among the buffered bytes, by its bytes alone.
 
-ghost use Rattle.std.specs.Prelude.{◌≡◌, ◌+◌, ◌^◌, ◌<◌, ◌≤◌, ◌&&◌, false, nat_eq, length};
-ghost use Rattle.std.specs.Prelude.{IfSome};
+ghost use Rattle.std.specs.Prelude.{◌≡◌, ◌+◌, ◌^◌, ◌<◌, ◌≤◌, ◌&&◌, false, nat_eq, length, IfSome};
 ghost use Rattle.qbf_text.specs.Runs.{begins_with_minus};
 ghost use Rattle.qbf_text.specs.Passing.{PassesNumber};
 ghost use Rattle.qbf_text.specs.Numbers.{BeginsWithNumber};

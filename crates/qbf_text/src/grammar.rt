@@ -11,6 +11,8 @@ ghost use Rattle.qbf_text.specs.Ahead.{ahead};
 ghost use Rattle.qbf_text.specs.Numbers.{TakesOver};
 ghost use Rattle.qbf_text.specs.Passing.{ReadsBuffered};
 ghost use Rattle.qbf_text.specs.Stopping.{tokens_next, Stops};
+ghost use Rattle.qbf_text.specs.declared.numbers.TheConstants.{MOST};
+ghost use Rattle.qbf_text.specs.declared.window.TheConstants.{ROOM};
 
 use crate::numbers::{Numbers, Zeros};
 use crate::scanner::{ScanFault, Scanner};
@@ -164,7 +166,7 @@ fn take_known<G: Grammar>(
     grammar: &mut G,
     numbers: &Numbers,
 ) -> Result<Progress<G::Output>, AllocError>
-    requires few { numbers.now.known ≤ 2048 }
+    requires few { numbers.now.known ≤ MOST }
     ensures takes { IfOk result (λ r. TakesOver G.row_of (G.state grammar.old) (G.state grammar.new)
         numbers.now.values numbers.now.first (numbers.now.first + r.0) r.1) }
     ensures within { IfOk result (λ r. 0 < r.0 → numbers.now.first + r.0 ≤ numbers.now.known) }
@@ -227,7 +229,7 @@ pub fn read_by<G: Grammar, S: Source>(
         (tokens_next scanner.old) (tokens_next scanner.new)
         (ahead scanner.old.pending (S.remaining source.old))
         (ahead scanner.new.pending (S.remaining source.new))
-        (length scanner.new.pending ≤ 4096) result }
+        (length scanner.new.pending ≤ ROOM) result }
     ensures kept { G.kept grammar.new ≡ G.kept grammar.old }
     ensures counts { Counts (S.failures source.old) (S.failures source.new) result }
     ensures ready { OnOk result (¬ HasFailed scanner.new) }

@@ -7,6 +7,8 @@ ghost use Rattle.qbf_text.specs.Numbers.{AreHeld, AreSeparators, AreShort, Begin
 ghost use Rattle.qbf_text.specs.Numbers.{IsPart, IsPut, NumberStands, SeemToEnd, StandFrom};
 ghost use Rattle.qbf_text.specs.Numbers.{cursor_to, len_of, place};
 ghost use Rattle.qbf_text.specs.Left.{is_separator};
+ghost use Rattle.qbf_text.specs.declared.numbers.TheConstants.{MOST};
+ghost use Rattle.qbf_text.specs.declared.window.TheConstants.{ROOM};
 
 use crate::cursor::{Cursor, begins_with_minus, is_minus_zero};
 use crate::lines::count_line_ends;
@@ -204,7 +206,7 @@ impl Numbers {
     /// each, and `first` is the place of the first byte. Returns how many are noted.
     #[inline(always)]
     fn note_eight(&mut self, marks: u8, first: u16x8, runs: usize) -> usize
-        requires room { runs ≤ 2048 }
+        requires room { runs ≤ MOST }
         ensures same { self.new ≡ record self.old { places = self.new.places } }
         ensures room { result ≤ runs + 8 }
     {
@@ -216,8 +218,8 @@ impl Numbers {
     /// after those that were noted. Returns how many are noted.
     #[inline(always)]
     fn note(&mut self, bytes: &[u8], block: usize, runs: usize) -> usize
-        requires block { (block + 64 ≤ length bytes.now) × (length bytes.now ≤ 4096) }
-        requires room { runs + 64 ≤ 2048 }
+        requires block { (block + 64 ≤ length bytes.now) × (length bytes.now ≤ ROOM) }
+        requires room { runs + 64 ≤ MOST }
         ensures same { self.new ≡ record self.old { places = self.new.places } }
         ensures room { result ≤ runs + 64 }
     {
@@ -236,7 +238,7 @@ impl Numbers {
     /// Looks where the numbers of these bytes seem to end, the first so many of which were pulled.
     #[inline(never)]
     pub fn look(&mut self, bytes: &[u8], len: usize)
-        requires { length bytes.now ≤ 4096 }
+        requires { length bytes.now ≤ ROOM }
         ensures { self.new.known ≡ 0 }
     {
         let mut block = 0;
@@ -254,10 +256,10 @@ impl Numbers {
     /// end of those whose place seems to be known.
     #[inline(always)]
     fn seek(&mut self, start: usize) -> usize
-        requires { start ≤ 4096 }
+        requires { start ≤ ROOM }
         ensures front { place self.new self.new.first ≡ start }
-        ensures within { (self.new.first ≤ result) × (result ≤ 2048) }
-        ensures values { length self.new.values ≡ 2048 }
+        ensures within { (self.new.first ≤ result) × (result ≤ MOST) }
+        ensures values { length self.new.values ≡ MOST }
     {
         let runs = self.runs.min(MOST);
         let mut first = self.first.min(runs);
@@ -272,7 +274,7 @@ impl Numbers {
     /// Puts a number at the place `k`.
     #[inline(always)]
     fn put(&mut self, k: usize, value: i32)
-        requires room { k < 2048 }
+        requires room { k < MOST }
         ensures same { self.new ≡ record self.old { values = self.new.values } }
         ensures put { IsPut self.old.values self.new.values (value ∷ []) k }
     {
@@ -282,7 +284,7 @@ impl Numbers {
     /// Puts four numbers from the place `k` on.
     #[inline(always)]
     fn put_four(&mut self, k: usize, values: i32x4)
-        requires room { k + 4 ≤ 2048 }
+        requires room { k + 4 ≤ MOST }
         requires short { AreShort values }
         ensures same { self.new ≡ record self.old { values = self.new.values } }
         ensures put { IsPut self.old.values self.new.values values k }
@@ -294,7 +296,7 @@ impl Numbers {
     /// each of four. Returns how many are noted.
     #[inline(always)]
     fn note_zeros(&mut self, k: usize, marks: u64, zeros: usize) -> usize
-        requires { k ≤ 2048 }
+        requires { k ≤ MOST }
         ensures same { self.new ≡ record self.old { zeros = self.new.zeros } }
     {
         let places = four_of(&PLACES, marks) + u16x4::splat(k as u16);
@@ -305,8 +307,8 @@ impl Numbers {
     /// The place of the separator after the number `k`, as it seems.
     #[inline(always)]
     fn end(&self, k: usize) -> usize
-        requires { k < 2048 }
-        ensures { result < 4096 → place self.now (k + 1) ≡ result + 1 }
+        requires { k < MOST }
+        ensures { result < ROOM → place self.now (k + 1) ≡ result + 1 }
     {
         usize::from(self.places[k + 1]).wrapping_sub(1)
     }
@@ -315,7 +317,7 @@ impl Numbers {
     #[inline(always)]
     #[tactic(auto, using(crate::proofs::NumbersInARow::four_seem))]
     fn ends(&self, k: usize) -> [usize; 4]
-        requires { k + 4 ≤ 2048 }
+        requires { k + 4 ≤ MOST }
         ensures { SeemToEnd self.now k result }
     {
         [
@@ -330,9 +332,9 @@ impl Numbers {
     #[cold]
     #[inline(never)]
     fn one_at(&self, bytes: &[u8], k: usize, at: usize) -> Option<i32>
-        requires room { k < 2048 }
+        requires room { k < MOST }
         requires here { (place self.now k ≡ at) × (at ≤ length bytes.now) }
-        requires small { length bytes.now ≤ 4096 }
+        requires small { length bytes.now ≤ ROOM }
         ensures stands { IfSome result (λ value. NumberStands bytes.now self.now.places k value) }
     {
         let end = self.end(k);
@@ -343,9 +345,9 @@ impl Numbers {
     /// a usual one: a longer one is not looked at.
     #[inline(always)]
     fn one_before(&self, bytes: &[u8], k: usize, at: usize, runs: usize) -> Option<i32>
-        requires room { (k ≤ runs) × (runs ≤ 2048) }
+        requires room { (k ≤ runs) × (runs ≤ MOST) }
         requires here { (place self.now k ≡ at) × (at ≤ length bytes.now) }
-        requires small { length bytes.now ≤ 4096 }
+        requires small { length bytes.now ≤ ROOM }
         ensures stands { IfSome result (λ value. (k < runs)
             × NumberStands bytes.now self.now.places k value) }
     {
@@ -360,9 +362,9 @@ impl Numbers {
     /// the number `runs` and are usual ones.
     #[inline(always)]
     fn four_at(&self, bytes: &[u8], k: usize, at: usize, runs: usize) -> Option<FourNumbers>
-        requires room { (k ≤ runs) × (runs ≤ 2048) }
+        requires room { (k ≤ runs) × (runs ≤ MOST) }
         requires here { place self.now k ≡ at }
-        requires small { length bytes.now ≤ 4096 }
+        requires small { length bytes.now ≤ ROOM }
         ensures four { IfSome result (λ four. (k + 4 ≤ runs)
             × StandFrom bytes.now self.now.places k four.values × AreShort four.values) }
     {
@@ -382,9 +384,9 @@ impl Numbers {
     #[inline(always)]
     fn put_usual(&mut self, bytes: &[u8], start: usize, runs: usize) -> (usize, usize)
         requires start { (start ≤ length bytes.now) × (place self.old self.old.first ≡ start) }
-        requires small { length bytes.now ≤ 4096 }
-        requires room { (self.old.first ≤ runs) × (runs ≤ 2048)
-            × (length self.old.values ≡ 2048) }
+        requires small { length bytes.now ≤ ROOM }
+        requires room { (self.old.first ≤ runs) × (runs ≤ MOST)
+            × (length self.old.values ≡ MOST) }
         ensures { AreHeld (record self.new { known = result.0 }) bytes.now start }
     {
         let mut k = self.first;
@@ -412,7 +414,7 @@ impl Numbers {
     #[inline(never)]
     pub fn fill(&mut self, bytes: &[u8], start: usize)
         requires start { start ≤ length bytes.now }
-        requires small { length bytes.now ≤ 4096 }
+        requires small { length bytes.now ≤ ROOM }
         ensures { AreHeld self.new bytes.now start }
     {
         let runs = self.seek(start);
@@ -441,7 +443,7 @@ impl Numbers {
     #[inline(always)]
     pub fn values(&self) -> &[i32]
         requires some { self.now.first ≤ self.now.known }
-        requires few { self.now.known ≤ 2048 }
+        requires few { self.now.known ≤ MOST }
         ensures part { IsPart result.now self.now.values self.now.first }
         ensures within { self.now.first + length result.now ≤ self.now.known }
     {
@@ -462,7 +464,7 @@ impl Numbers {
     /// these bytes.
     #[inline(always)]
     pub fn cursor_after(&self, bytes: &[u8], from: Cursor, count: usize) -> Cursor
-        requires few { 0 < count → self.now.first + count ≤ 2048 }
+        requires few { 0 < count → self.now.first + count ≤ MOST }
         requires further { 0 < count
             → place self.now self.now.first < place self.now (self.now.first + count) }
         requires within { 0 < count → len_of self.now count ≤ length bytes.now }
@@ -496,8 +498,8 @@ impl Numbers {
     /// Goes past so many numbers, which take so many bytes, and forgets all if they do not.
     #[inline(always)]
     pub fn pass(&mut self, count: usize, bytes: usize)
-        requires few { self.old.known ≤ 2048 }
-        requires small { bytes ≤ 4096 }
+        requires few { self.old.known ≤ MOST }
+        requires small { bytes ≤ ROOM }
         ensures held { (whole : List ℕ) (start : ℕ) → AreHeld self.old whole start
             → AreHeld self.new whole (start + bytes) }
     {

@@ -1,11 +1,10 @@
 -- What is read is spelled, and a fault that is found stands.
-use Rattle.qdimacs.proofs.Cited.{common_steps, rules, inl, inr, ◌⊎◌, ◌≡◌, ℕ, ◌≤◌, true, false, List, [], ◌∷◌, ◌++◌, length, Ok}
-use Rattle.qdimacs.proofs.Cited.{Err, refl, sym, subst, ◌∙◌, arith, append_assoc, map-append, flat_map, Quantifier, Block}
-use Rattle.qdimacs.proofs.Cited.{is_bound, blocks_of, Token, Lined, number, set, without_lines, Ends}
-use Rattle.qdimacs.proofs.Cited.{append-nil, pairs_of_block, pairs-blocks_of, Alternates-blocks_of, is_end, push_distinct, flat_map-push}
-use Rattle.qdimacs.proofs.Cited.{decode_member, header, IsFormula, ReadsAsRead, all_of, explained, ResultsAreRead, Reads}
-use Rattle.qdimacs.proofs.Cited.{Goes, Fails, Heading, State, AtP, InHeader, Between, InSet, Whole, Row, row, faults, set_row}
-use Rattle.qdimacs.proofs.Cited.{Spells, read, IsWhole, result_of, Pairs, Clauses}
+use Rattle.qdimacs.proofs.Cited.{common_steps, rules, inl, inr, ◌⊎◌, ◌≡◌, ℕ, ◌≤◌, true, false, List, [], ◌∷◌, ◌++◌, length, Ok, Err, refl}
+use Rattle.qdimacs.proofs.Cited.{sym, subst, ◌∙◌, arith, append_assoc, map-append, flat_map, Quantifier, Block, is_bound, blocks_of, Token}
+use Rattle.qdimacs.proofs.Cited.{Lined, number, set, without_lines, Ends, append-nil, pairs_of_block, pairs-blocks_of, Alternates-blocks_of}
+use Rattle.qdimacs.proofs.Cited.{is_end, push_distinct, flat_map-push, decode_member, header, IsFormula, ReadsAsRead, all_of, explained}
+use Rattle.qdimacs.proofs.Cited.{ResultsAreRead, Reads, Goes, Fails, Heading, State, AtP, InHeader, Between, InSet, Whole, Row, row, faults}
+use Rattle.qdimacs.proofs.Cited.{set_row, Spells, read, IsWhole, result_of, Pairs, Clauses}
 use Rattle.dimacs_syntax.proofs.Cited.{IsDistinct}
 use Rattle.dimacs_syntax.proofs.Cited.token
 use Rattle.qbf_text.specs.Lined.{EndsOnce}

@@ -3,6 +3,7 @@
 ghost use Rattle.std.specs.Prelude.{◌≡◌, ◌≤◌, true, IfSome, IfOk};
 ghost use Rattle.qbf_core.specs.Blocks.{pairs, IsBound};
 ghost use Rattle.qdimacs.specs.Reading.{decode_bound_literal, decode_clause_or_end, IsFull};
+ghost use Rattle.qbf_core.specs.declared.literal.TheConstants.{LAST_VARIABLE};
 
 use crate::fault::FormulaFault;
 use dimacs_syntax::{Faults, HeaderForm, decode_literal};
@@ -38,7 +39,7 @@ pub(crate) fn decode_bound_literal(
     full: bool,
     token: Token,
 ) -> Result<Option<Lit>, FormulaFault>
-    requires number { max_var ≤ 2147483647 }
+    requires number { max_var ≤ LAST_VARIABLE }
     requires full { full ≡ true → IsFull max_var (pairs prefix.now) }
     ensures says { result ≡ decode_bound_literal max_var (pairs prefix.now) token }
     ensures bound { IfOk result (λ o. IfSome o (λ l. IsBound prefix.now l.var)) }

@@ -1,6 +1,5 @@
 -- Lists of antecedents, of which the first are kept in words.
-use Rattle.qrp.proofs.Cited.{arith, refl, ◌≡◌, ◌<◌, ◌-◌, ◌+◌, ℕ, List, ◌++◌, length}
-use Rattle.qrp.proofs.Cited.{length-append}
+use Rattle.qrp.proofs.Cited.{arith, refl, ◌≡◌, ◌<◌, ◌-◌, ◌+◌, ℕ, List, ◌++◌, length, length-append}
 use Rattle.std.specs.Prelude.{take, ◌*◌}
 use Rattle.std.proofs.Math.Seq.{take-append-add}
 use Rattle.std.proofs.lemmas.Nat.{div-mul-add, mod-mul-add}

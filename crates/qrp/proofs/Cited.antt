@@ -24,8 +24,7 @@ pub use Rattle.qbf_text.specs.declared.grammar.ReadError.{ReadError}
 pub use Rattle.qrp.specs.Returns.{IsReadAs, Gives, StopsAfterResult, is_outside, reads_bytes}
 pub use Rattle.qrp.specs.Derivations.{AreGrammatical, Derivation, IsWellFormed, items_of_lists, steps_at, with_steps_at}
 pub use Rattle.qrp.specs.Flat.{IsFlat, Kept, kept_of, steps_of, with_item}
-pub use Rattle.qrp.specs.NextItem.{GivesNextItem, GivesUnless, StopsAfterPart, known_items, left_after, state_next}
-pub use Rattle.qrp.specs.NextItem.{stage_after}
+pub use Rattle.qrp.specs.NextItem.{GivesNextItem, GivesUnless, StopsAfterPart, known_items, left_after, state_next, stage_after}
 pub use Rattle.qrp.specs.Grammar.{IsTrace, header, lines, lists, result, result_word, step, text}
 pub use Rattle.qrp.specs.Inferences.{Inference, IsAt, IsInference, IsLiteral, IsNumber, IsOnlyAt, numbers}
 pub use Rattle.qrp.specs.Items.{ItemsRead, Stands}

@@ -1,7 +1,6 @@
 -- Reading an item stops after its last word.
-use Rattle.qrp.proofs.Cited.{rules, ◌≡◌, ℕ, List, [], ◌∷◌, ◌++◌, Option, Ok, ◌⊎◌, refl, sym, ap, append-nil, ◌∙◌}
-use Rattle.qrp.proofs.Cited.{Lined, IfKnown, Stops, Item, Stage, AtHeader, AtLists, StopsAfterPart, state_next, ItemsRead}
-use Rattle.qrp.proofs.Cited.{Stands}
+use Rattle.qrp.proofs.Cited.{rules, ◌≡◌, ℕ, List, [], ◌∷◌, ◌++◌, Option, Ok, ◌⊎◌, refl, sym, ap, append-nil, ◌∙◌, Lined, IfKnown, Stops}
+use Rattle.qrp.proofs.Cited.{Item, Stage, AtHeader, AtLists, StopsAfterPart, state_next, ItemsRead, Stands}
 use Rattle.qbf_text.specs.Rows as rows
 use Rattle.qbf_text.specs.Stopping as text
 use Rattle.qbf_text.proofs.Stops.{if_known, taken_no_end, unread_fault}

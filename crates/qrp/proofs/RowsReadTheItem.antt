@@ -1,8 +1,7 @@
 -- What is read by the rows of the items is the next item.
-use Rattle.qrp.proofs.Cited.{arith, common_steps, rules, ◌≡◌, ℕ, List, [], ◌∷◌, Some, Ok, Err, ◌⊎◌, refl, ap, sym, ◌∙◌, Token}
-use Rattle.qrp.proofs.Cited.{Lined, Read, read-one, ReadError, Known, Cut, reads_from, Leaves, Reads, TraceFault, P1, P7, P9, Item}
-use Rattle.qrp.proofs.Cited.{known_items, GivesUnless, GivesNextItem, left_after, stage_after, Stage, AtHeader}
-use Rattle.qrp.proofs.Cited.{AtLists, ItemsRead, Stands, fault_of}
+use Rattle.qrp.proofs.Cited.{arith, common_steps, rules, ◌≡◌, ℕ, List, [], ◌∷◌, Some, Ok, Err, ◌⊎◌, refl, ap, sym, ◌∙◌, Token, Lined, Read}
+use Rattle.qrp.proofs.Cited.{read-one, ReadError, Known, Cut, reads_from, Leaves, Reads, TraceFault, P1, P7, P9, Item, known_items}
+use Rattle.qrp.proofs.Cited.{GivesUnless, GivesNextItem, left_after, stage_after, Stage, AtHeader, AtLists, ItemsRead, Stands, fault_of}
 use Rattle.dimacs_syntax.proofs.Cited.{read_from}
 use Rattle.qbf_text.specs.Rows as rows
 use Rattle.qbf_text.proofs.OneToken as going

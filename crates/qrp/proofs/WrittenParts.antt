@@ -1,8 +1,7 @@
 -- The parts of a canonical text, one after the other.
 use Rattle.qrp.proofs.Cited.{common_steps, ◌≡◌, ℕ, List, ◌++◌, sym, ◌∙◌, append_assoc, append-nil, length, arith, ◌<◌, AllByRecursion}
-use Rattle.qrp.proofs.Cited.{flat_map-append, flat_map-map, line_rest-map, zero_rest, line_text, Header, Inference, Derivation}
-use Rattle.qrp.proofs.Cited.{steps_at, with_steps_at, closed_numbers, set_line, step, header, result, text, step_text, steps_text, flat_map}
-use Rattle.qrp.proofs.Cited.{set_text}
+use Rattle.qrp.proofs.Cited.{flat_map-append, flat_map-map, line_rest-map, zero_rest, line_text, Header, Inference, Derivation, steps_at}
+use Rattle.qrp.proofs.Cited.{with_steps_at, closed_numbers, set_line, step, header, result, text, step_text, steps_text, flat_map, set_text}
 use Rattle.qbf_text.proofs.SentParts as sent
 
 -- as many steps stand at some positions as there are positions

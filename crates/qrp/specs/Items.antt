@@ -9,8 +9,7 @@ use Rattle.qrp.specs.declared.item.Item.{Item}
 use Rattle.qrp.specs.declared.reader.Stage.{Stage}
 use Rattle.qrp.specs.declared.reader.Stage.TheVariants.{AtHeader, AtLists}
 use Rattle.qrp.specs.Flat.{Kept}
-use Rattle.qrp.specs.NextItem.{known_items, left_after, is_last, numbers_with, stage_after, GivesNextItem, IsProper}
-use Rattle.qrp.specs.NextItem.{StopsAfterPart}
+use Rattle.qrp.specs.NextItem.{known_items, left_after, is_last, numbers_with, stage_after, GivesNextItem, IsProper, StopsAfterPart}
 use Rattle.qrp.specs.Reading.{Fault, State, AtP, Between, After}
 
 -- what is kept of the parts that were given, and where reading stands

@@ -8,6 +8,7 @@ ghost use Rattle.qbf_text.specs.Numbers.{LeadsOver};
 ghost use Rattle.qrp.specs.declared.states.State.TheVariants as at;
 ghost use Rattle.qrp.specs.States.{state_at, IsSound, Stays};
 ghost use Rattle.qrp.specs.Reading.{row};
+ghost use Rattle.qbf_core.specs.declared.literal.TheConstants.{LAST_VARIABLE};
 
 use crate::antecedents::AntecedentPair;
 use crate::states::{Lists, State, take_item_start};
@@ -58,7 +59,7 @@ fn put_literals(
       unfinished = lits.old.unfinished ++ map literal_of (slice_range values.now next.from to);
     }) }
     ensures written { IfOk result
-        (λ to. AllByRecursion (IsWritten 2147483647) (slice_range values.now next.from to)) }
+        (λ to. AllByRecursion (IsWritten LAST_VARIABLE) (slice_range values.now next.from to)) }
     ensures order { IfOk result (λ to. next.from ≤ to) }
     ensures within { IfOk result (λ to. to ≤ length values.now) }
     ensures err { OnErr result (lits.new ≡ lits.old) }

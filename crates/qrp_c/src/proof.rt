@@ -8,6 +8,7 @@ ghost use Rattle.qrp_handle.specs.Checks.{quantifier_of};
 ghost use Rattle.qrp_handle.specs.Statuses.{CallReturns};
 ghost use Rattle.qrp_c.specs.Checked.{IsVerdictOf};
 ghost use Rattle.qrp_handle.specs.Written.{literal_of};
+ghost use Rattle.qbf_core.specs.declared.literal.TheConstants.{LAST_VARIABLE};
 
 use qbf_core::Quantifier;
 use qrp_bytes::{QrpVerdict, encode_fault, encode_nothing, encode_truth};
@@ -22,7 +23,7 @@ use std::alloc::Global;
 #[unsafe(no_mangle)]
 pub extern "C" fn qrp_proof_new(alloc: Global, proof: &mut QrpProof) -> i32
     ensures made { result ≡ pos 0 → IsSomeAnd proof.new.held.value (λ p.
-        (p.formula ≡ record { max_var = 2147483647; blocks = []; clauses = [] })
+        (p.formula ≡ record { max_var = LAST_VARIABLE; blocks = []; clauses = [] })
         × (p.trace.steps ≡ [])) }
     ensures kept { result ≢ pos 0 → proof.new.held.value ≡ proof.old.held.value }
     ensures memory { result ≢ pos 0 → result ≡ pos 4 }

@@ -1,15 +1,13 @@
 -- One step of the core: its antecedents, and its conditions.
 use Rattle.qrp_check.proofs.Cited.{◌≡◌, ℕ, ◌<◌, ◌≤◌, List, [], ◌∷◌, Option, Some, None, inl, inr, refl, sym, ap, subst, ◌∙◌, arith}
-use Rattle.qrp_check.proofs.Cited.{at_place, take, rules, IfOk, IfSome, Result, Literal, ◌∈◌, ◌⊆◌, Block, AreBound}
-use Rattle.qrp_check.proofs.Cited.{IsBound, Qbf, Side}
-use Rattle.qrp_check.proofs.Cited.{IsClean, bound_each, Inference, IsAt, RuleFault, IsFaultOf}
-use Rattle.qrp_check.proofs.Cited.{Rules, IsNumberOf, StepFollows, lits_of, step_conditions, IsInCore, next}
-use Rattle.qrp_check.proofs.Cited.{premise_conditions, reduct_answer, resolvent_answer, same_self, in_take, take_in}
+use Rattle.qrp_check.proofs.Cited.{at_place, take, rules, IfOk, IfSome, Result, Literal, ◌∈◌, ◌⊆◌, Block, AreBound, IsBound, Qbf, Side}
+use Rattle.qrp_check.proofs.Cited.{IsClean, bound_each, Inference, IsAt, RuleFault, IsFaultOf, Rules, IsNumberOf, StepFollows, lits_of}
+use Rattle.qrp_check.proofs.Cited.{step_conditions, IsInCore, next, premise_conditions, reduct_answer, resolvent_answer, same_self, in_take}
+use Rattle.qrp_check.proofs.Cited.{take_in, common_steps}
 use Rattle.std.specs.Prelude.{Bool, IsTrue}
 use Rattle.qbf_core.specs.Literal.{positive}
 use Rattle.qbf_core.specs.Rules.{IsTautology}
 use Rattle.std.proofs.Common.{◌+◌, below_more}
-use Rattle.qrp_check.proofs.Cited.{common_steps}
 use Rattle.qbf_core.specs.Sets.{HasMembersOf}
 use Rattle.qrp_rules.specs.declared.fault.RuleFault.TheVariants.{S1, S2, S3}
 use Rattle.qrp_rules.specs.Conditions.{AllHold, Condition}

@@ -1,8 +1,7 @@
 -- The steps at some places: what holds of them, and that rising places give steps of different numbers.
 use Rattle.qrp_check.proofs.Cited.{◌≡◌, ℕ, suc, ◌+◌, ◌<◌, false, List, [], ◌∷◌, ◌++◌, inr, refl, ap, ◌∙◌, length, rules, take, get_or, Some}
-use Rattle.qrp_check.proofs.Cited.{arith, nat_eq, slice_get, AllByRecursion, take_more, slice_get_cases}
-use Rattle.qrp_check.proofs.Cited.{get_or_from_slice_get, ◌∈◌, Inference, IsAt, numbers, HasOwnNumbers, ListsCore}
-use Rattle.qrp_check.proofs.Cited.{steps_at, in_take}
+use Rattle.qrp_check.proofs.Cited.{arith, nat_eq, slice_get, AllByRecursion, take_more, slice_get_cases, get_or_from_slice_get, ◌∈◌}
+use Rattle.qrp_check.proofs.Cited.{Inference, IsAt, numbers, HasOwnNumbers, ListsCore, steps_at, in_take}
 use Rattle.std.proofs.Common.{◌||◌}
 use Rattle.std.specs.List.{cons_option}
 use Rattle.std.specs.List.Sorted.{IsStrictlyIncreasing}

@@ -1,8 +1,7 @@
 -- From a derivation of the empty set to a trace, its text, and its verdict.
 use Rattle.qrp_check.proofs.Cited.{◌≡◌, ℕ, ◌+◌, ◌<◌, ◌≤◌, List, [], ◌∷◌, ◌++◌, inl, inr, refl, sym, subst, length, arith, Ok, Result}
-use Rattle.qrp_check.proofs.Cited.{AllByRecursion, Literal, ◌∈◌, AreBound, bound_each, pairs, Qbf, IsClosed}
-use Rattle.qrp_check.proofs.Cited.{Rules, Inference, IsGoal, Derivation, Outcome, side_of, Proves, at_place}
-use Rattle.qrp_check.proofs.Cited.{slice_get_within}
+use Rattle.qrp_check.proofs.Cited.{AllByRecursion, Literal, ◌∈◌, AreBound, bound_each, pairs, Qbf, IsClosed, Rules, Inference, IsGoal}
+use Rattle.qrp_check.proofs.Cited.{Derivation, Outcome, side_of, Proves, at_place, slice_get_within}
 use Rattle.std.proofs.Common.{◌^◌, length-append}
 use Rattle.qbf_core.specs.Blocks.{IsVariable, variables}
 use Rattle.qbf_core.specs.Qbf.{IsWellFormed as IsWellFormedFormula}
@@ -32,8 +31,7 @@ use Rattle.qrp_check.proofs.Soundness.{soundness}
 use Rattle.qrp_check.proofs.WiderRules.{reduced_parents_keep}
 use Rattle.qbf_completeness.specs.Laws.{step_limit}
 use Rattle.qbf_completeness.proofs.Deriving.{completeness}
-use Rattle.qrp_completeness.specs.Laws.{EachResultHasAProof, ResultsAreProofs, HasTrace, SmallResultsHaveTraces}
-use Rattle.qrp_completeness.specs.Laws.{SmallFormulasAreVerified}
+use Rattle.qrp_completeness.specs.Laws.{EachResultHasAProof, ResultsAreProofs, HasTrace, SmallResultsHaveTraces, SmallFormulasAreVerified}
 use Rattle.qrp_completeness.proofs.TextbookSteps.{no_sets}
 use Rattle.qrp_completeness.proofs.Writing.{Written, write, nothing_written}
 

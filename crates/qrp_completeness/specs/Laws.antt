@@ -2,8 +2,7 @@
 use Rattle.std.specs.Prelude.{◌≡◌, ◌↔◌, ◌⊎◌, ℕ, ◌<◌, ◌≤◌, ◌^◌, List, [], length, Ok, IsOk, Result}
 use Rattle.qbf_core.specs.Blocks.{pairs}
 use Rattle.qbf_core.specs.Rules.{Side, deciding_quantifier}
-use Rattle.qbf_core.specs.Qbf.{Qbf}
-use Rattle.qbf_core.specs.Qbf.{IsWellFormed as IsWellFormedFormula}
+use Rattle.qbf_core.specs.Qbf.{Qbf, IsWellFormed as IsWellFormedFormula}
 use Rattle.qbf_core.specs.Truth.{ResultHolds}
 use Rattle.qdimacs.specs.Reading.{read_formula}
 use Rattle.qrp.specs.declared.item.Outcome.{Outcome}

@@ -11,6 +11,7 @@ ghost use Rattle.qrp_check.specs.Proof.{Proves, IsFirstFault};
 ghost use Rattle.qrp_check.specs.Verdict.{is_sat};
 ghost use Rattle.qrp_handle.specs.Adding.{IsVariableFault, IsClauseFault, IsStepFault};
 ghost use Rattle.qrp_handle.specs.Written.{literal_of};
+ghost use Rattle.qbf_core.specs.declared.literal.TheConstants.{LAST_VARIABLE};
 
 use crate::fault::AddFault;
 use crate::written::literals_of;
@@ -33,7 +34,7 @@ impl Proof {
     /// A formula with no variable and no clause, and no step. It takes no memory.
     pub fn new(alloc: Global) -> Proof
         ensures formula { result.formula
-            ≡ record { max_var = 2147483647; blocks = []; clauses = [] } }
+            ≡ record { max_var = LAST_VARIABLE; blocks = []; clauses = [] } }
         ensures steps { result.trace.steps ≡ [] }
     {
         let header = Header { vars: 0, steps: 0 };

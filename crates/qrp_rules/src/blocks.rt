@@ -3,8 +3,7 @@
 ghost use Rattle.std.specs.Prelude.{◌≡◌, ◌≤◌, ◌↔◌, ℕ, IsTrue};
 ghost use Rattle.qbf_core.specs.Literal.{Literal};
 ghost use Rattle.qbf_core.specs.Blocks.{Binds};
-ghost use Rattle.qbf_core.specs.Rules.{Side, IsReducible, deciding_quantifier};
-ghost use Rattle.qbf_core.specs.Rules.{reduced_quantifier};
+ghost use Rattle.qbf_core.specs.Rules.{Side, IsReducible, deciding_quantifier, reduced_quantifier};
 ghost use Rattle.qrp_rules.specs.Walks.{IsHeldBefore, IsInnermost, IsThePivot, TakesOut};
 
 use qbf_core::{Lit, Prefix, Quantifier, Var};
