@@ -65,21 +65,6 @@ module _ (bytes : List ℕ) where
   both = sym (take-append-drop 8 (take 16 bytes)) ∙ ap (λ l. l ++ drop 8 (take 16 bytes)) (take-take 8 16 bytes (omega arith))
       ∙ ap (λ l. first ++ l) (drop-take 8 8 bytes ∙ ap (take 8) (sym all))
 
-  pub eights_digits : AllDigits 10 first → AllDigits 10 second → AllDigits 10 (take 16 bytes)
-  eights_digits h k = subst (AllDigits 10) (sym both) (all_append first second h k)
-
-  pub eights_value : (a b : ℕ) → 8 ≤ length (take (length bytes - 8) (drop 8 bytes)) → a ≡ digits_value 10 first → b ≡ digits_value 10 second
-      → a * 100000000 + b ≡ digits_value 10 (take 16 bytes)
-  eights_value a b many e f =
-      let long : length second ≡ 8 = length-take-le 8 (take (length bytes - 8) (drop 8 bytes)) many in
-      let value : digits_value 10 (take 16 bytes) ≡ digits_value_after 10 (digits_value 10 first) second =
-      ap (digits_value 10) both ∙ after_append 0 first second in
-      let more : digits_value_after 10 a second ≡ a * 10 ^ 8 + digits_value 10 second =
-      after_more a second ∙ ap (λ n. a * 10 ^ n + digits_value 10 second) long in
-      let same : digits_value_after 10 (digits_value 10 first) second ≡ digits_value_after 10 a second =
-      ap (λ n. digits_value_after 10 n second) (sym e) in
-      omega (arith, value, more, same, f)
-
 -- digits and some that were read after them
 module _ (bytes : List ℕ) (count len tail : ℕ) (within : count ≤ length bytes)
     (read : AreDigits (take (length bytes - count) (drop count bytes)) 0 len tail) where

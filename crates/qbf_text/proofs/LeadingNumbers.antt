@@ -58,13 +58,6 @@ module _ {P A F : Type 0} (row : P → Token → Row P A F) where
     ends = t.ends;
   }
 
-  -- numbers lead on, and others after them, unless an allocation fails
-  pub takes_in_turn : {E : Type 0} (first mid next : P) (values : List ℤ) (from i : ℕ) (result : Result (ℕ × Option A) E)
-      → LeadsOver row first mid values from i → IfOk result (λ r. TakesOver row mid next values i r.0 r.1)
-      → IfOk result (λ r. TakesOver row first next values from r.0 r.1)
-  takes_in_turn first mid next values from i (Ok r) l t = takes_further first mid next values from i r.0 r.1 l t
-  takes_in_turn first mid next values from i (Err e) l t = tt
-
   -- ---- a part of a list
 
   module _ (values list : List ℤ) (start len : ℕ)

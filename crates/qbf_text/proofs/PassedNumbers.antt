@@ -142,40 +142,9 @@ module _ {P A F : Type 0} (row : P → Token → Row P A F) (first mid last : P)
         passes_one bytes (LeadOn row first mid) (LeadOn row first last) here between there token
         (λ ts on. lead_on_more ts (token, between.line) on e)
 
-    pub passes_further : (between : Cursor) → Passes (LeadOn row first mid) bytes here between
-        → Passes (LeadOn row mid last) bytes between there → Passes (LeadOn row first last) bytes here there
-    passes_further between =
-        passes_then bytes (LeadOn row first mid) (LeadOn row mid last) (LeadOn row first last) here between there lead_on_then
-
-    pub passes_all : (between : Cursor) (answer : Option A) → Passes (LeadOn row first mid) bytes here between
-        → PassesAll row mid last bytes between there answer → PassesAll row first last bytes here there answer
-    passes_all between None s t = passes_further between s t
-    passes_all between (Some a) s t = record {
-      last = t.last;
-      token = t.token;
-      here = t.here;
-      leads =
-          passes_then bytes (LeadOn row first mid) (LeadOn row mid t.last) (LeadOn row first t.last) here between t.here
-          (λ ts us on more vs. ap (read_from row first) (append_assoc ts us vs) ∙ on (us ++ vs) ∙ more vs) s t.leads;
-      passes = t.passes;
-      ends = t.ends;
     }
 
 module _ {P A F : Type 0} (row : P → Token → Row P A F) (first : P) (bytes : List ℕ) (from : Cursor) where
-  -- a number leads on
-  pub passes_first : (next : P) (to : Cursor) (token : Token) → from.at ≤ length bytes → row first token ≡ Goes next
-      → PassesNumber bytes from to token → Passes (LeadOn row first next) bytes from to
-  passes_first next to token within e =
-      passes_on row first first next bytes from to from token e (passes_none bytes (LeadOn row first first) from within (λ ts. refl))
-
-  -- tokens lead on, and others after them, unless an allocation fails, to where a grammar came
-  pub passes_in_turn : {E : Type 0} (mid last next : P) (here there : Cursor) (result : Result (Cursor × Option A) E)
-      → Passes (LeadOn row first mid) bytes from here → Passes (LeadOn row mid last) bytes here there
-      → IfOk result (λ r. PassesAll row last next bytes there r.0 r.1) → IfOk result (λ r. PassesAll row first next bytes from r.0 r.1)
-  passes_in_turn mid last next here there (Ok r) s t u =
-      passes_all row first last next bytes from r.0 there r.1 (passes_further row first mid last bytes from there here s t) u
-  passes_in_turn mid last next here there (Err e) s t u = tt
-
 -- ---- a scanner that goes to where a grammar came
 
 pub begun_counted : (b : Bool) → not (nat_eq (one_if b) 0) ≡ b

@@ -25,15 +25,6 @@ module _ (first : State) (values : List ℤ) (from i : ℕ) (ns : List ℕ) (n :
       leads_more row first (InAnts ns n ls ants) (InAnts ns n ls (ants ++ a ∷ [])) values from i
       (ap (λ o. ants_row ns n ls ants o) (sym says))
 
-  -- a zero completes the step
-  pub step_ends : (ants : List ℕ) → slice_index_or values i (pos 0) ≡ pos 0 → LeadsOver row first (InAnts ns n ls ants) values from i
-      → EndsOver row first (After (item.Step (record { number = n; lits = ls; ants = ants })) (ns ++ n ∷ [])) tt values from (i + 1)
-  step_ends ants is leads = record {
-    last = InAnts ns n ls ants;
-    at = i;
-    leads = leads;
-    to_is = refl;
-    ends = ap (λ v. row (InAnts ns n ls ants) (token_of v)) is;
   }
 
 -- ---- many literals

@@ -8,12 +8,6 @@ use Rattle.qrp_check.specs.Followed.{IsCoreFault}
 use Rattle.qrp_check.specs.Verdict.{is_sat}
 use Rattle.qrp_check.proofs.Soundness.{soundness}
 
--- a fault of the core is the first fault
-pub core_fault : (rules : Rules) (f : Qbf) (sets : List Block) (steps : List Inference) (outcome : Outcome) (side : Side) (e : CheckFault)
-    → side_of outcome ≡ side
-    → SetsAgree f.blocks sets → IsCoreFault rules side f steps e → e ≢ C5 → IsFirstFault rules f sets steps outcome e
-core_fault rules f sets steps outcome side e is agree fault more = grind (arith, common_steps)
-
 -- what a verdict claims
 pub claims_false : (f : Qbf) → ResultHolds Clauses f → IsTrue false ↔ IsTrueFormula f
 claims_false f out = ((λ t. absurd (let none : false ≡ true = t in cc none)), (λ is. absurd (out is)))

@@ -109,13 +109,6 @@ trace_read d before after stops = search rules
 
 -- ---- the verdict on both texts
 
-device_fault : (v : Result Verified Fault) → IsFormulaDevice v → IsFormulaFault v
-device_fault v is = search rules
-
-verdict_unless : (rules : Rules) (formula trace : Option (List ℕ)) (f : Qbf) (v : Result Verified Fault)
-    → IfSome (formulas.reads_bytes formula) (λ r. r ≡ Ok f) → IsVerdictOf rules f trace v → IsVerdictUnless rules formula trace v
-verdict_unless rules formula trace f v reads_f h = grind (arith, common_steps)
-
 -- the verdict on a formula that was read is that on both texts
 pub checked_both : (rules : Rules) (formula trace : SourceCall) (f : Qbf) (v : Result Verified Fault)
     → IfSome (formulas.reads_bytes formula.bytes) (λ r. r ≡ Ok f) → formula.after ≡ formula.before → IsCheckedOf rules f trace v

@@ -11,10 +11,6 @@ pub empty_of : {A : Type 0} (xs : List A) → eqb (length xs) 0 ≡ true → xs 
 empty_of [] e = refl
 empty_of (x ∷ xs) e = absurd (false≢true (sym (eqb-suc-zero (length xs)) ∙ e))
 
-pub full_of : {A : Type 0} (xs : List A) → eqb (length xs) 0 ≡ false → xs ≡ [] → ⊥
-full_of [] e is = false≢true (sym e)
-full_of (x ∷ xs) e is = cc is
-
 -- ---- the last step without literals
 
 pub goal_here : (steps : List Inference) (i : ℕ) → i < length steps → ((step : Inference) → IsAt steps i step → step.lits ≡ [])

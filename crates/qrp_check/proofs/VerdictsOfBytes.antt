@@ -6,17 +6,6 @@ use Rattle.qrp_check.specs.Verdict.{IsVerdictOf}
 use Rattle.qrp.specs.Returns as traces
 use Rattle.qrp_check.specs.declared.verdict.Fault.TheVariants as fault
 
-first_fault_is : (rules : Rules) (trace : Option (List ℕ)) (f : Qbf) (d : Derivation) (e : CheckFault)
-    → IfSome (traces.reads_bytes trace) (λ r. r ≡ Ok d) → IsFirstFault rules f d.sets d.steps d.result e
-    → IsVerdict rules (Ok f) (traces.reads_bytes trace) (Err (fault.Check e))
-first_fault_is rules trace f d e reads_d first = grind (arith, common_steps)
-
--- A fault of the check is the verdict on a formula that was read.
-refused_trace : (rules : Rules) (trace : Option (List ℕ)) (f : Qbf) (d : Derivation) (e : CheckFault)
-    → IfSome (traces.reads_bytes trace) (λ r. r ≡ Ok d) → (e ≢ C5 → IsFirstFault rules f d.sets d.steps d.result e)
-    → IsVerdictOf rules f trace (Err (fault.Check e))
-refused_trace rules trace f d e reads_d first = grind (arith, common_steps)
-
 -- a fault of the check of a trace that was read
 pub refused_of : (rules : Rules) (trace : SourceCall) (f : Qbf) (d : Derivation) (answer : Result (Derivation × Verified) Fault) (e : CheckFault)
     → answer ≡ Err (fault.Check e) → IfSome (traces.reads_bytes trace.bytes) (λ r. r ≡ Ok d) → trace.after ≡ trace.before

@@ -151,16 +151,6 @@ pending_met n f seen left rest last old new split kept met i was = λ clause at.
   | inr (inr w) ↦ inr (inr (w.0, w.1, w.2, kept.watched w.2 w.0 i w.3, w.4))
 ]
 
--- at last none is left
-pub pending_done : (n : ℕ) (f : Qbf) (seen : Members) (left : List ℕ) (lists : List Watch) → length left ≡ 0 → (i : ℕ)
-    → IsPending n f seen left lists i → IsMet n f seen lists i
-pending_done n f seen left lists none i was = search rules
-
--- what was watched by any literals
-pub watched_before : (f : Qbf) (seen : Members) (lists : List Watch) (n : ℕ) → n ≡ length lists → ((i : ℕ) → IsWatched f lists i)
-    → (i : ℕ) → IsMet n f seen lists i
-watched_before f seen lists n e all i clause at = search (rules, slice_get_within)
-
 -- where each clause is met, the cube of which the literals were seen is an initial one
 pub all_met : (f : Qbf) (cube : List Literal) (seen : Members) (lists : List Watch) → ((l : Literal) → Has seen l → l ∈ cube)
     → ((i : ℕ) → IsMet 0 f seen lists i) → IsInitial Cubes f cube
