@@ -142,9 +142,6 @@ module _ {P A F : Type 0} (row : P → Token → Row P A F) (first mid last : P)
         passes_one bytes (LeadOn row first mid) (LeadOn row first last) here between there token
         (λ ts on. lead_on_more ts (token, between.line) on e)
 
-    }
-
-module _ {P A F : Type 0} (row : P → Token → Row P A F) (first : P) (bytes : List ℕ) (from : Cursor) where
 -- ---- a scanner that goes to where a grammar came
 
 pub begun_counted : (b : Bool) → not (nat_eq (one_if b) 0) ≡ b

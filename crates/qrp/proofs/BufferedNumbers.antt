@@ -25,8 +25,6 @@ module _ (first : State) (values : List ℤ) (from i : ℕ) (ns : List ℕ) (n :
       leads_more row first (InAnts ns n ls ants) (InAnts ns n ls (ants ++ a ∷ [])) values from i
       (ap (λ o. ants_row ns n ls ants o) (sym says))
 
-  }
-
 -- ---- many literals
 
 -- a number is read as the literal that it is
