@@ -131,9 +131,6 @@ module _ {P A F : Type 0} (row : P → Token → Row P A F) (first mid last : P)
       ∙ read-one row mid t us
       ∙ ap (λ (r : Row P A F). after row r t us) e
 
-  pub lead_on_then : (ts us : List Lined) → LeadOn row first mid ts → LeadOn row mid last us → LeadOn row first last (ts ++ us)
-  lead_on_then ts us on more vs = ap (read_from row first) (append_assoc ts us vs) ∙ on (us ++ vs) ∙ more vs
-
   module _ (bytes : List ℕ) (here there : Cursor) where
     -- one number more leads on
     pub passes_on : (between : Cursor) (token : Token) → row mid token ≡ Goes last → Passes (LeadOn row first mid) bytes here between
