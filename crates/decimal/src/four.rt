@@ -1,7 +1,7 @@
 //! Four signed numbers in a row, all at once.
 
 ghost use Rattle.std.specs.Prelude.{◌≡◌, ◌⊎◌, ◌<◌, ◌≤◌, ◌+◌, ◌*◌, ◌^◌, IfSome, true};
-ghost use Rattle.std.specs.Prelude.{length, map, slice_index};
+ghost use Rattle.std.specs.Prelude.{length, map, slice_index, IsTrue, ◌↔◌};
 ghost use Rattle.std.specs.Simd.Lanes.{Each1, mask_l};
 ghost use Rattle.decimal.specs.Lanes.{IsPlace, Writes};
 ghost use Rattle.decimal.specs.Numbers.{AreInARow, between, is_zero};
@@ -59,8 +59,8 @@ fn two_at(bytes: &[u8], from: [usize; 2], end: [usize; 2]) -> Two
 /// Whether a place is at most seven after another.
 #[inline(always)]
 fn is_near(before: usize, place: usize) -> bool
-    ensures { result ≡ true → (before + 8 ≤ 2 ^ 64) ⊎ (8 ≤ place)
-        → (before ≤ place) × (place < before + 8) }
+    ensures { (before + 8 ≤ 2 ^ 64) ⊎ (8 ≤ place)
+        → (IsTrue result ↔ (before ≤ place) × (place < before + 8)) }
 {
     place.wrapping_sub(before) < 8
 }
@@ -68,7 +68,7 @@ fn is_near(before: usize, place: usize) -> bool
 /// Whether four numbers in a row may end there: each has one to eight bytes, eight bytes come
 /// before the first end, and one after the last.
 #[inline(always)]
-fn is_row(len: usize, from: usize, ends: [usize; 4]) -> bool
+fn surely_row(len: usize, from: usize, ends: [usize; 4]) -> bool
     requires { len < 2 ^ 63 }
     ensures { result ≡ true → IsPlace len from (slice_index ends 0)
         × IsPlace len (slice_index ends 0 + 1) (slice_index ends 1)
@@ -97,7 +97,7 @@ pub fn four_numbers(bytes: &[u8], from: usize, ends: [usize; 4]) -> Option<FourN
     ensures within { IfSome result (λ r. slice_index ends 3 < length bytes.now) }
     ensures zeros { IfSome result (λ r. r.zeros ≡ mask_l (map is_zero r.values)) }
 {
-    if !is_row(bytes.len(), from, ends) {
+    if !surely_row(bytes.len(), from, ends) {
         return None;
     }
     let [e0, e1, e2, e3] = ends;

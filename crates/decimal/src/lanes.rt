@@ -78,7 +78,7 @@ pub fn low_halves(a: u64x2, b: u64x2) -> u32x4
 /// Whether each byte is below ten.
 #[inline(always)]
 #[tactic(auto, using(crate::proofs::Below::all_small))]
-fn is_below_ten(bytes: u8x16) -> bool
+fn surely_below_ten(bytes: u8x16) -> bool
     ensures { result ≡ true → Each1 (λ x. x < 10) bytes }
 {
     bytes.simd_gt(u8x16::splat(9)).to_bitmask() == 0
@@ -90,7 +90,7 @@ pub fn all_below_ten(a: u8x16, b: u8x16, c: u8x16) -> bool
     ensures { result ≡ true → Each1 (λ x. x < 10) a × Each1 (λ x. x < 10) b
         × Each1 (λ x. x < 10) c }
 {
-    is_below_ten(a.simd_max(b).simd_max(c))
+    surely_below_ten(a.simd_max(b).simd_max(c))
 }
 
 /// The signs of two words: all bits of the lower half are set if a mask was changed.

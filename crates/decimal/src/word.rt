@@ -42,7 +42,7 @@ fn eight_digits(digits: u64) -> u64
 
 /// Whether each of the word's bytes is below ten, so that the addition marks none.
 #[inline(always)]
-fn are_digits(word: u64) -> bool
+fn surely_digits(word: u64) -> bool
     ensures { result ≡ true → AllBelowBase 10 (to_le_bytes w64 word) }
 {
     (word.wrapping_add(0x7676767676767676) | word) & 0x8080808080808080 == 0
@@ -57,7 +57,7 @@ pub fn number_of_len(word: u64, len: u32) -> Option<u64>
         × (v ≡ digits_value 10 (take len (to_le_bytes w64 word)))) }
 {
     let digits = (word ^ ZEROS) << (64 - 8 * len);
-    if !are_digits(digits) {
+    if !surely_digits(digits) {
         return None;
     }
     Some(eight_digits(digits))

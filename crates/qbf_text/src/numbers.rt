@@ -2,7 +2,7 @@
 
 ghost use Rattle.std.specs.Prelude.{◌≡◌, ℕ, ◌+◌, ◌<◌, ◌≤◌, List, [], ◌∷◌, length, IfSome, pos};
 ghost use Rattle.std.specs.Prelude.{unsigned_abs, int_lt, nat_eq, nat_le, slice_index};
-ghost use Rattle.std.specs.Prelude.{◌&&◌, false, true};
+ghost use Rattle.std.specs.Prelude.{◌&&◌, ◌↔◌, IsTrue, false, true};
 ghost use Rattle.qbf_text.specs.Numbers.{AreHeld, AreSeparators, AreShort, BeginsWithValue};
 ghost use Rattle.qbf_text.specs.Numbers.{IsPart, IsPut, NumberStands, SeemToEnd, StandFrom};
 ghost use Rattle.qbf_text.specs.Numbers.{cursor_to, len_of, place};
@@ -48,9 +48,8 @@ fn signed(negative: bool, magnitude: u64) -> i32
 /// Whether digits and their sign write a number of at most eight digits if this byte follows them.
 #[inline(always)]
 fn is_usual(negative: bool, magnitude: u64, next: u8) -> bool
-    ensures sign { result ≡ true → (negative && nat_eq magnitude 0) ≡ false }
-    ensures few { result ≡ true → magnitude ≤ 99999999 }
-    ensures separates { result ≡ true → is_separator next ≡ true }
+    ensures { IsTrue result ↔ ((negative && nat_eq magnitude 0) ≡ false)
+        × (magnitude ≤ 99999999) × (is_separator next ≡ true) }
 {
     !is_minus_zero(negative, magnitude) && magnitude <= 99_999_999 && is_separator(next)
 }

@@ -2,7 +2,7 @@
 
 ghost use Rattle.std.specs.Prelude.{Option, ◌≡◌, ℕ, ◌+◌, ◌-◌, ◌^◌, ◌<◌, ◌≤◌, Some, List, []};
 ghost use Rattle.std.specs.Prelude.{length, drop, IfSome, IfNone, false, true, IsOk, IsErr, IfOk};
-ghost use Rattle.std.specs.Prelude.{OnOk, OnErr};
+ghost use Rattle.std.specs.Prelude.{◌↔◌, IsTrue, OnOk, OnErr};
 ghost use Rattle.std.specs.Io.KnownBytes.{Consumes};
 ghost use Rattle.qbf_text.specs.Ahead.{ahead, first_of};
 ghost use Rattle.qbf_text.specs.Pulling.{HasPulled, ReadsRun};
@@ -277,7 +277,7 @@ impl Scanner {
     /// Whether neither End nor a fault was given.
     #[inline(always)]
     pub fn is_open(&self) -> bool
-        ensures { result ≡ true → IsOpen self.now }
+        ensures { IsTrue result ↔ IsOpen self.now }
     {
         match self.status {
             Status::Open => true,

@@ -1,7 +1,7 @@
 //! The numbers of steps, as far as they are buffered.
 
 ghost use Rattle.std.specs.Prelude.{◌≡◌, ◌≤◌, ◌<◌, ◌+◌, ◌++◌, length, map, pos};
-ghost use Rattle.std.specs.Prelude.{slice_index_or, slice_range, IfSome, IfOk, IsTrue, OnErr};
+ghost use Rattle.std.specs.Prelude.{◌↔◌, slice_index_or, slice_range, IfSome, IfOk, IsTrue, OnErr};
 ghost use Rattle.std.specs.List.{AllByRecursion};
 ghost use Rattle.qbf_core.specs.WrittenLiterals.{literal_of, IsWritten};
 ghost use Rattle.qbf_text.specs.Numbers.{LeadsOver};
@@ -219,8 +219,8 @@ pub fn take_buffered(here: State, lists: &mut Lists, values: &[i32], next: NextP
 /// Whether a zero stands at a place.
 #[inline(always)]
 pub fn is_zero_at(values: &[i32], place: usize) -> bool
-    ensures within { IsTrue result → place < length values.now }
-    ensures zero { IsTrue result → slice_index_or values.now place (pos 0) ≡ pos 0 }
+    ensures { IsTrue result
+        ↔ (place < length values.now) × (slice_index_or values.now place (pos 0) ≡ pos 0) }
 {
     place < values.len() && values[place] == 0
 }
@@ -228,9 +228,8 @@ pub fn is_zero_at(values: &[i32], place: usize) -> bool
 /// Whether a zero stands where it seems to, not before the next number.
 #[inline(always)]
 fn has_zero(values: &[i32], next: NextPlaces) -> bool
-    ensures order { IsTrue result → next.from ≤ next.zero }
-    ensures within { IsTrue result → next.zero < length values.now }
-    ensures zero { IsTrue result → slice_index_or values.now next.zero (pos 0) ≡ pos 0 }
+    ensures { IsTrue result ↔ (next.from ≤ next.zero) × (next.zero < length values.now)
+        × (slice_index_or values.now next.zero (pos 0) ≡ pos 0) }
 {
     next.from <= next.zero && is_zero_at(values, next.zero)
 }

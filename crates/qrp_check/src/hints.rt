@@ -1,6 +1,6 @@
 //! Where the antecedents of the core stand.
 
-ghost use Rattle.std.specs.Prelude.{◌≡◌, ℕ, ◌<◌, Some, length, IfOk, IfSome, IsTrue};
+ghost use Rattle.std.specs.Prelude.{◌≡◌, ◌↔◌, ℕ, ◌<◌, Some, length, IfOk, IfSome, IsTrue};
 ghost use Rattle.qrp.specs.Inferences.{Inference, IsAt, IsOnlyAt};
 ghost use Rattle.qrp_check.specs.Earlier.{FindsEarlier};
 
@@ -22,7 +22,7 @@ pub(crate) struct Hints {
 /// Whether the step at a position has this number, if there is one.
 #[inline(always)]
 fn is_at<T: KeptSteps>(trace: &T, position: usize, number: u64) -> bool
-    ensures found { IsTrue result → (step : Inference) × IsAt (T.steps trace.now) position step
+    ensures found { IsTrue result ↔ (step : Inference) × IsAt (T.steps trace.now) position step
         × (step.number ≡ number) }
     ensures only { IsTrue result → IsOnlyAt (T.steps trace.now) position number }
 {

@@ -2,7 +2,7 @@
 
 ghost use Rattle.std.specs.Prelude.{◌≡◌, ◌≢◌, ℕ, ◌+◌, ◌-◌, ◌*◌, ◌^◌, ◌<◌, ◌≤◌, List, [], ◌∷◌, ◌++◌};
 ghost use Rattle.std.specs.Prelude.{suc, length, get_or, slice_get, max, Some, IfSome, IfNone};
-ghost use Rattle.std.specs.Prelude.{IsTrue, false, IfOk, OnOk, OnErr};
+ghost use Rattle.std.specs.Prelude.{◌↔◌, IsTrue, false, IfOk, OnOk, OnErr};
 ghost use Rattle.step_index.specs.Numbers.{is_used};
 ghost use Rattle.step_index.specs.Sparse.{ArePlaced, ArePlaces, AreNoted};
 ghost use Rattle.step_index.specs.declared.sparse.TheConstants.{REACH, REACH_OF_EACH};
@@ -152,7 +152,7 @@ fn find_from(numbers: &[u64], from: usize, number: u64) -> Option<usize>
 /// Whether a number is above the greatest of those that came.
 #[inline(always)]
 fn is_above(greatest: u64, number: u64) -> bool
-    ensures { IsTrue result → greatest < number }
+    ensures { IsTrue result ↔ greatest < number }
 {
     number > greatest
 }

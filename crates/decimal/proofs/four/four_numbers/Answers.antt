@@ -7,7 +7,7 @@ use Rattle.decimal.proofs.four.four_numbers.Goals as goal
 pub signed-requires : goal.signed-requires
 signed-requires c =
     let x = c.args in
-    let row = c.is_row.ensures c.if-not-is_row.false in
+    let row = c.surely_row.ensures c.if-not-surely_row.false in
     let small = c.all_below_ten.ensures c.if-not-all_below_ten.false in
     let a = c.two_at-a.ensures small.0 in
     let b = c.two_at-b.ensures small.1 in
@@ -18,7 +18,7 @@ signed-requires c =
 pub returns-clause-numbers : goal.returns-clause-numbers
 returns-clause-numbers c =
     let x = c.args in
-    let row = c.is_row.ensures c.if-not-is_row.false in
+    let row = c.surely_row.ensures c.if-not-surely_row.false in
     let small = c.all_below_ten.ensures c.if-not-all_below_ten.false in
     let a = c.two_at-a.ensures small.0 in
     let b = c.two_at-b.ensures small.1 in
@@ -30,7 +30,7 @@ returns-clause-numbers c =
 pub returns-clause-zeros : goal.returns-clause-zeros
 returns-clause-zeros c =
     let x = c.args in
-    let row = c.is_row.ensures c.if-not-is_row.false in
+    let row = c.surely_row.ensures c.if-not-surely_row.false in
     let small = c.all_below_ten.ensures c.if-not-all_below_ten.false in
     let a = c.two_at-a.ensures small.0 in
     let b = c.two_at-b.ensures small.1 in

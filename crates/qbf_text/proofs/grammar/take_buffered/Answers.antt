@@ -51,5 +51,5 @@ returns-clause-reads g c =
     let there = subst (λ to. PassesAll row first next r.pending from to c.in_ok-count.answer) (sym (rw c.bytes.ensures at c.cursor_after-here.ensures)) passes in
     let whole = subst (λ f. PassesAll row first next r.pending f c.cursor_after-here.result c.in_ok-count.answer) c.cursor.ensures there in
     let few = rw c.go_to.ensures.to at c.go_to.ensures.few in
-    let open_ = subst IsOpen (sym c.prepare.ensures) (c.is_open.ensures c.if-not-is_open.false) in
+    let open_ = subst IsOpen (sym c.prepare.ensures) (c.is_open.ensures.0 c.if-not-is_open.false) in
     rw (c.go_to.ensures.to, sym c.prepare.ensures) (handed row first next c.in_ok-count.answer r c.cursor_after-here.result open_ few whole)

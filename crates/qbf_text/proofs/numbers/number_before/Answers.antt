@@ -34,8 +34,8 @@ returns c =
     let inside : (0 < c.args.end) × (c.args.end ≤ 8) = inside_eight _ c.ranges.end.fits c.if-end-gt7.false in
     let one : c.from-start.result ≤ 1 = one_at_most _ _ c.from-start.ensures in
     let after : c.from-start.result ≤ c.args.end = omega (arith, inside.0, one) in
-    let nonzero = c.is_usual.ensures.sign c.if-not-is_usual.false in
-    let sep = c.is_usual.ensures.separates c.if-not-is_usual.false in
+    let nonzero = (c.is_usual.ensures.0 c.if-not-is_usual.false).0 in
+    let sep = (c.is_usual.ensures.0 c.if-not-is_usual.false).2 in
     let sign = c.signed.ensures.sign nonzero in
     let stands = found bytes negative c.from-start.result c.in_ok-magnitude.magnitude c.args.end c.begins_with_minus-negative.ensures after fits
     d.digits d.value (some_digits negative bytes _ _ _ c.from-start.ensures inside.0 d.value nonzero)

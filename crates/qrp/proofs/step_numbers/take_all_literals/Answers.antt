@@ -8,10 +8,10 @@ returns-clause-leads c = λ t.
     let b = c.args.lists.now in
     let put : IsTrue c.in_ok-extend_written.field-0 = grind (arith, common_steps) in
     let written = c.in_ok-extend_written.ensures in
-    let at = c.if-not-has_zero.ensures in (
-      at.within refl,
+    let at = c.if-not-has_zero.ensures.0 refl in (
+      at.1,
       rw (written.extended put, c.none-lists.ensures) (list_ends c.args.values.now c.args.next.from c.args.next.zero b.index c.args.number
-          b.lits.unfinished (at.order refl) (at.within refl) (written.written put) (at.zero refl)),
+          b.lits.unfinished at.0 at.1 (written.written put) at.2),
     )
 
 pub returns-clause-sound : goal.returns-clause-sound
