@@ -5,6 +5,7 @@ ghost use Rattle.std.specs.Prelude.{true, false, IfSome};
 ghost use Rattle.std.specs.Int.{w64, to_le_bytes};
 ghost use Rattle.std.specs.Str.Parse.{digits_value, AllDigits};
 ghost use Rattle.decimal.specs.Digits.{AreDigits, AreLeadingDigits, IsWithZeros};
+ghost use Rattle.decimal.specs.declared.number.TheConstants.{MOST};
 
 use crate::word::{number_of_len, short_number};
 
@@ -71,7 +72,7 @@ fn with_tail(bytes: &[u8], first: (u64, usize)) -> Option<(u64, usize)>
     requires within { first.1 ≤ length bytes.now }
     requires digits { AllDigits 10 (take first.1 bytes.now) }
     requires value { first.0 ≡ digits_value 10 (take first.1 bytes.now) }
-    ensures { IfSome result (λ r. (r.1 ≤ 20) × (r.1 ≤ length bytes.now)
+    ensures { IfSome result (λ r. (r.1 ≤ MOST) × (r.1 ≤ length bytes.now)
         × AllDigits 10 (take r.1 bytes.now) × (r.0 ≡ digits_value 10 (take r.1 bytes.now))) }
 {
     let (value, count) = first;
@@ -87,7 +88,7 @@ fn with_tail(bytes: &[u8], first: (u64, usize)) -> Option<(u64, usize)>
 /// The value of the first digits, eight at a time and with up to seven more, and how many they are.
 #[inline(always)]
 fn leading_digits(bytes: &[u8]) -> (u64, usize)
-    ensures few { result.1 ≤ 20 }
+    ensures few { result.1 ≤ MOST }
     ensures within { result.1 ≤ length bytes.now }
     ensures digits { AllDigits 10 (take result.1 bytes.now) }
     ensures value { result.0 ≡ digits_value 10 (take result.1 bytes.now) }

@@ -3,6 +3,7 @@
 ghost use Rattle.std.specs.Prelude.{◌≡◌, ◌≤◌, length, take, count_by};
 ghost use Rattle.std.specs.Int.RustNames.{count_ones};
 ghost use Rattle.qbf_text.specs.Tokens.{is_line_end};
+ghost use Rattle.qbf_text.specs.declared.lines.TheConstants.{BLOCK};
 
 use std::simd::prelude::*;
 
@@ -13,8 +14,8 @@ const BLOCK: usize = 16;
 #[inline(always)]
 #[tactic(auto, using(crate::proofs::LineEnds::marks_are))]
 fn marks_of(block: &[u8]) -> u64
-    requires { 16 ≤ length block.now }
-    ensures { count_ones result ≡ count_by is_line_end (take 16 block.now) }
+    requires { BLOCK ≤ length block.now }
+    ensures { count_ones result ≡ count_by is_line_end (take BLOCK block.now) }
 {
     u8x16::from_slice(block)
         .simd_eq(u8x16::splat(b'\n'))
@@ -24,9 +25,9 @@ fn marks_of(block: &[u8]) -> u64
 /// How many line ends there are among the first 16 bytes.
 #[inline(always)]
 fn count_in_block(block: &[u8]) -> usize
-    requires { 16 ≤ length block.now }
+    requires { BLOCK ≤ length block.now }
     ensures few { result ≤ 64 }
-    ensures counted { result ≡ count_by is_line_end (take 16 block.now) }
+    ensures counted { result ≡ count_by is_line_end (take BLOCK block.now) }
 {
     marks_of(block).count_ones() as usize
 }

@@ -7,7 +7,7 @@ ghost use Rattle.qbf_text.specs.Numbers.{AreHeld, AreSeparators, AreShort, Begin
 ghost use Rattle.qbf_text.specs.Numbers.{IsPart, IsPut, NumberStands, SeemToEnd, StandFrom};
 ghost use Rattle.qbf_text.specs.Numbers.{cursor_to, len_of, place};
 ghost use Rattle.qbf_text.specs.Left.{is_separator};
-ghost use Rattle.qbf_text.specs.declared.numbers.TheConstants.{MOST};
+ghost use Rattle.qbf_text.specs.declared.numbers.TheConstants.{BLOCK, MOST};
 ghost use Rattle.qbf_text.specs.declared.window.TheConstants.{ROOM};
 
 use crate::cursor::{Cursor, begins_with_minus, is_minus_zero};
@@ -27,7 +27,7 @@ const BLOCK: usize = 64;
 /// as separators are.
 #[inline(always)]
 fn marks_of(block: &[u8]) -> u64
-    requires { 64 ≤ length block.now }
+    requires { BLOCK ≤ length block.now }
 {
     u8x64::from_slice(block)
         .simd_le(u8x64::splat(b' '))
@@ -217,10 +217,10 @@ impl Numbers {
     /// after those that were noted. Returns how many are noted.
     #[inline(always)]
     fn note(&mut self, bytes: &[u8], block: usize, runs: usize) -> usize
-        requires block { (block + 64 ≤ length bytes.now) × (length bytes.now ≤ ROOM) }
-        requires room { runs + 64 ≤ MOST }
+        requires block { (block + BLOCK ≤ length bytes.now) × (length bytes.now ≤ ROOM) }
+        requires room { runs + BLOCK ≤ MOST }
         ensures same { self.new ≡ record self.old { places = self.new.places } }
-        ensures room { result ≤ runs + 64 }
+        ensures room { result ≤ runs + BLOCK }
     {
         let marks = marks_of(&bytes[block..]).to_le_bytes();
         let mut first = u16x8::splat(block as u16);
