@@ -51,9 +51,7 @@ module _ (table : List (Option Place)) (es : List (ℕ × Place)) (is : IsTable 
 
   -- and one that it does not reach
   pub table_short : (v : ℕ) (p : Place) → length table ≤ v → IsTable table (es ++ (v, p) ∷ [])
-  table_short v p short = λ n o e.
-      let less : n < length table = slice_get_within table n o e in
-      is n o e ∙ sym (lookup_other n v p es (ne_eqb n v (λ same. absurd (omega (arith, less, same, short)))))
+  table_short v p short = grind (arith, common_steps, slice_get_within, lookup_other, ne_eqb)
 
   -- an entry that is read
   pub slot_found : (read : List (Option Place)) (v n : ℕ) (slot : Option Place) → read ≡ table → n ≡ v → n < length read

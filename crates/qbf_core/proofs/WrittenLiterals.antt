@@ -69,10 +69,7 @@ take_fewer (x ∷ xs) (suc last) (suc place) le = ap (λ (ys : List _). x ∷ ys
 
 shortened : (old now : List Literal) (xs : List ℤ) (last place : ℕ) → last ≤ place → now ≡ old ++ map literal_of (take place xs)
     → take (length old + last) now ≡ old ++ map literal_of (take last xs)
-shortened old now xs last place le e =
-    ap (take (length old + last)) e
-    ∙ take-append-add old (map literal_of (take place xs)) last
-    ∙ ap (λ ls. old ++ ls) (take-map literal_of last (take place xs) ∙ ap (map literal_of) (take_fewer xs last place le))
+shortened old now xs last place le e = grind (arith, common_steps, take-append-add, literal_of, take-map, take_fewer)
 
 pub whole_put : (old now cut new : List Literal) (xs : List ℤ) (last place : ℕ) → last ≤ place → last + 4 ≡ length xs
     → now ≡ old ++ map literal_of (take place xs) → cut ≡ take (length old + last) now

@@ -64,9 +64,7 @@ left_line : (f : Comments) (n : ℕ) (line : List Token) (rest : List ℕ) → I
     → without_lines (tokens_left f false n (line_text line ++ rest)) ≡ line ++ without_lines (tokens_left f false (n + 1) rest)
 left_line f n [] rest h = absurd h
 left_line f n (t ∷ ts) rest h =
-    ap without_lines (ap (tokens_left f false n) (append_assoc (token_text t) (line_rest ts) rest)
-    ∙ left_token f false n t (line_rest ts ++ rest) h.1.0 (first f t h.0 h.1.0) (rest_ends ts rest))
-    ∙ ap (λ k. t ∷ k) (left_rest f n ts rest h.1.1)
+    search (rules, without_lines, tokens_left, append_assoc, token_text, line_rest, left_token, first, rest_ends, left_rest)
 
 pub all_appended : {X : Type 0} (P : X → Type 0) (xs ys : List X) → AllByRecursion P xs → AllByRecursion P ys → AllByRecursion P (xs ++ ys)
 all_appended P xs ys h k = grind (arith, common_steps)
@@ -96,10 +94,7 @@ joined lines = flat_map (λ line. line) lines
 left_lines : (f : Comments) (n : ℕ) (lines : List (List Token)) → AllByRecursion IsLine lines
     → without_lines (tokens_left f false n (lines_text lines)) ≡ joined lines ++ token.End ∷ []
 left_lines f n [] h = ap without_lines (left_nothing f false n)
-left_lines f n (line ∷ lines) h =
-    left_line f n line (lines_text lines) h.0
-    ∙ ap (λ k. line ++ k) (left_lines f (n + 1) lines h.1)
-    ∙ sym (append_assoc line (joined lines) (token.End ∷ []))
+left_lines f n (line ∷ lines) h = grind (arith, common_steps, left_line, lines_text, append_assoc, (left_lines f (n + 1) lines h.1))
 
 -- The tokens of a canonical text are those that it was written from, and End.
 pub tokens-lines_text : (f : Comments) (lines : List (List Token)) → AllByRecursion IsLine lines

@@ -37,9 +37,7 @@ none_in (b ∷ bs) h =
 -- and with the separator after it there is one, or none
 pub one_after : (run : List ℕ) (separator : ℕ) → IsUnbroken run
     → count_by is_line_end (run ++ separator ∷ []) ≡ cond (is_line_end separator) 1 0
-one_after run separator h =
-    let alone = sum_by-cons (λ x. cond (is_line_end x) 1 0) separator [] in
-    counted run (separator ∷ []) ∙ omega (arith, none_in run h, alone)
+one_after run separator h = search (rules, sum_by-cons, is_line_end, counted, none_in)
 
 -- no more than there are bytes
 pub few_among : (xs : List ℕ) (n : ℕ) → count_by is_line_end (take n xs) ≤ n

@@ -20,9 +20,7 @@ first_minus (x ∷ xs) = refl
 
 -- eight digits or less write a number of 64 bits
 small : (ds : List ℕ) → AllDigits 10 ds → length ds ≤ 8 → digits_value 10 ds < 2 ^ 64
-small ds h few =
-    let more : 10 ^ length ds ≤ 10 ^ 8 = pow-le-pow_right (omega arith) few in
-    omega (arith, digits_value-lt 10 ds h, more)
+small ds h few = grind (arith, common_steps, pow-le-pow_right, digits_value-lt)
 
 negative_is : (d : ℕ) → 0 < d → (int_lt (neg_ℤ (pos d)) (pos 0) ≡ true) × (unsigned_abs (neg_ℤ (pos d)) ≡ d)
 negative_is zero some = absurd (omega (arith, some))
@@ -184,12 +182,7 @@ ends_go_up bytes from (a ∷ b ∷ c ∷ d ∷ []) len [] four h last = absurd h
 ends_go_up bytes from (a ∷ b ∷ c ∷ d ∷ []) len (v ∷ []) four h last = absurd h.1
 ends_go_up bytes from (a ∷ b ∷ c ∷ d ∷ []) len (v ∷ w ∷ []) four h last = absurd h.1.1
 ends_go_up bytes from (a ∷ b ∷ c ∷ d ∷ []) len (v ∷ w ∷ x ∷ []) four h last = absurd h.1.1.1
-ends_go_up bytes from (a ∷ b ∷ c ∷ d ∷ []) len (v ∷ w ∷ x ∷ y ∷ more) four h last = record {
-  first = omega (arith, h.1.0.some, h.1.1.0.some, h.1.1.1.0.some, last);
-  second = omega (arith, h.1.1.0.some, h.1.1.1.0.some, last);
-  third = omega (arith, h.1.1.1.0.some, last);
-  fourth = last;
-}
+ends_go_up bytes from (a ∷ b ∷ c ∷ d ∷ []) len (v ∷ w ∷ x ∷ y ∷ more) four h last = grind (arith, common_steps)
 
 -- the places of numbers in a row are those that were looked for
 pub four_ends : (n : Numbers) (bytes ends : List ℕ) (k : ℕ) → length ends ≡ 4 → EndsGoUp ends (length bytes) → AreSeparators bytes ends

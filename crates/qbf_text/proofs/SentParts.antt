@@ -19,8 +19,7 @@ zero_decimal = refl
 pub line_rest-map : {X : Type 0} (f : X → Token) (xs : List X) (ts : List Token)
     → line_rest (map f xs ++ ts) ≡ flat_map (λ x. 32 ∷ token_text (f x)) xs ++ line_rest ts
 line_rest-map f [] ts = refl
-line_rest-map f (x ∷ xs) ts = ap (λ (k : List ℕ). 32 ∷ (token_text (f x) ++ k)) (line_rest-map f xs ts)
-    ∙ sym (append_assoc (32 ∷ token_text (f x)) (flat_map (λ y. 32 ∷ token_text (f y)) xs) (line_rest ts))
+line_rest-map f (x ∷ xs) ts = grind (arith, common_steps, token_text, append_assoc, flat_map, line_rest, (line_rest-map f xs ts))
 
 -- a zero closes them
 pub zero_rest : (ts : List Token) → line_rest (token.Number false 0 ∷ ts) ≡ 32 ∷ 48 ∷ line_rest ts

@@ -13,8 +13,7 @@ put_before t ts n h = search rules
 
 runs_before : (n : ℕ) (rs : List (List ℕ)) (ts : List Lined) → EndsOnce ts → EndsOnce (map (λ run. (kind run, n)) rs ++ ts)
 runs_before n [] ts h = h
-runs_before n (run ∷ rs) ts h =
-    put_before (kind run, n) (map (λ r. (kind r, n)) rs ++ ts) (no_end (kind run) (kind_no_end run)) (runs_before n rs ts h)
+runs_before n (run ∷ rs) ts h = search (rules, put_before, kind, no_end, kind_no_end, (runs_before n rs ts h))
 
 line_before : (f : Comments) (n : ℕ) (line : List ℕ) (ts : List Lined) → EndsOnce ts → EndsOnce (line_tokens f n line ++ ts)
 line_before f n line ts h = by (is_comment_line f line) refl
@@ -26,8 +25,7 @@ line_before f n line ts h = by (is_comment_line f line) refl
 lines_before : (f : Comments) (n : ℕ) (lines : List (List ℕ)) (ts : List Lined) → EndsOnce ts → EndsOnce (tokens_from f n lines ++ ts)
 lines_before f n [] ts h = h
 lines_before f n (line ∷ lines) ts h =
-    rw (append_assoc (line_tokens f n line) (tokens_from f (n + 1) lines) ts)
-    (line_before f n line (tokens_from f (n + 1) lines ++ ts) (lines_before f (n + 1) lines ts h))
+    search (rules, append_assoc, line_tokens, tokens_from, line_before, (lines_before f (n + 1) lines ts h))
 
 pub tokens-EndsOnce : (f : Comments) (bytes : List ℕ) → EndsOnce (tokens f bytes)
 tokens-EndsOnce f bytes = lines_before f 1 (slice_split is_line_end bytes) ((kinds.End, line_number (1 + count_by is_line_end bytes)) ∷ []) refl

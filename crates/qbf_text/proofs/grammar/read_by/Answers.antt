@@ -52,7 +52,6 @@ returns-in-Ok-Done-clause-stops g c =
     let none = rw c.in-None.is at c.in_ok-handed.ensures.reads remaining in
     let h = c.take_buffered.new in
     let ends_so = rw c.in-Ok-Done.field-0-is at c.in-Ok-Done.ensures.row in
-    let s = c.next_token.new.self in
     let read = known_so_far row first _ _ _ _ _ _ _ _ c.tokens.invariant.stops none.0 in (
       g.G.Grammar.state h.grammar,
       c.in_ok-token.token,
@@ -87,7 +86,6 @@ returns-in-Some-clause-stops g c =
     let row = g.G.Grammar.row_of in
     let first = g.G.Grammar.state c.args.grammar.now in
     let remaining = g.S.Source.remaining c.tokens.source in
-    let h = c.take_buffered.new in
     let last = rw c.in-Some.is at c.in_ok-handed.ensures.reads remaining in
     let read = known_so_far row first _ _ _ _ _ _ _ _ c.tokens.invariant.stops last.leads.0 in (
       last.last,

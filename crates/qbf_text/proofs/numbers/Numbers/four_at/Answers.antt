@@ -3,11 +3,7 @@ use Rattle.qbf_text.proofs.NumbersInARow.{row_stands, ends_go_up, are_short, fou
 use Rattle.qbf_text.proofs.numbers.Numbers.four_at.Goals as goal
 
 pub all_separate-requires : goal.all_separate-requires
-all_separate-requires c =
-    let four : length c.ends-ends.result ≡ 4 = search rules in
-    let up = ends_go_up c.args.bytes.now c.args.at c.ends-ends.result (length c.args.bytes.now) c.in_ok-four.four.values four
-    c.in_ok-four.ensures.numbers c.in_ok-four.ensures.within in
-    (up.first, up.second, up.third, up.fourth)
+all_separate-requires c = search (rules, ends_go_up)
 
 pub returns : goal.returns
 returns c =

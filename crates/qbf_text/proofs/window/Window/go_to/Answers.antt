@@ -2,11 +2,6 @@ use Rattle.qbf_text.proofs.Cited.{◌≤◌, length, sym, subst}
 use Rattle.qbf_text.proofs.Windows.{part_within, part_few}
 use Rattle.qbf_text.proofs.window.Window.go_to.Goals as goal
 
-pub pass-requires-clause-small : goal.pass-requires-clause-small
-pass-requires-clause-small c =
-    let w = c.self.inside in
-    part_few w.bytes w.start w.end c.args.count (subst (λ l. c.args.count ≤ length l) (sym c.self.view_is) c.requires) c.self.invariant.1
-
 pub invariant_of-self : goal.invariant_of-self
 invariant_of-self c =
     let w = c.self.inside in (
