@@ -130,8 +130,7 @@ spelled_is_read ts f is =
 -- The tokens before a state lead to it.
 leads_between : {ts : List Token} {h : Heading} {ps : Pairs} {cs : Clauses} → Spells ts (Between h ps cs)
     → Leads row AtP ts (Between h ps cs)
-leads_between {h = h} {ps = ps} {cs = cs} e =
-    rw (e.1, ← e.2) (leads_lists h e.0 cs e.3.max_var e.3.count (rw e.2 e.3.good) (rw e.2 e.3.closed) e.3.few)
+leads_between {h = h} {ps = ps} {cs = cs} e = grind (arith, common_steps, leads_lists)
 
 spelled_leads : (ts : List Token) (state : State) → Spells ts state → Leads row AtP ts state
 spelled_leads ts (InHeader place.P) e = rw e.0 Stays

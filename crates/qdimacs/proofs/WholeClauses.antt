@@ -18,15 +18,12 @@ module _ (h : Heading) (ps : Pairs) (cs : Clauses) (full : IsFull h.max_var ps) 
   said negative m low high = let bound = full m low high in grind (arith, common_steps)
 
   written_said : (v w : ℤ) → IsWritten h.max_var v → v ≡ w → Ok (Some (literal_of v)) ≡ decode_bound_literal h.max_var ps (token_of w)
-  written_said v w is same =
-      said (int_lt v (pos 0)) (unsigned_abs v) is.0 is.1 ∙ ap (λ x. decode_bound_literal h.max_var ps (token_of x)) same
+  written_said v w is same = grind (arith, common_steps)
 
   list_leads : (xs values : List ℤ) (i : ℕ) (ls : List Literal) → AllByRecursion (IsWritten h.max_var) xs
       → ((k : ℕ) → k < length xs → slice_index_or xs k (pos 0) ≡ slice_index_or values (i + k) (pos 0))
       → LeadsOver row (InClause h ps cs ls) (InClause h ps cs (ls ++ map literal_of xs)) values i (i + length xs)
-  list_leads [] values i ls all same =
-      let none : i + length {A = ℤ} [] ≡ i = omega arith in
-      rw (append-nil, none) (leads_none row (InClause h ps cs ls) values i)
+  list_leads [] values i ls all same = grind (arith, common_steps)
   list_leads (x ∷ xs) values i ls all same =
       let l = literal_of x in
       let here : x ≡ slice_index_or values i (pos 0) =
@@ -57,8 +54,7 @@ module _ (h : Heading) (ps : Pairs) (cs : Clauses) (full : IsFull h.max_var ps) 
 
   first_leads : has_more h cs ≡ true → (v w : ℤ) → IsWritten h.max_var v → v ≡ w
       → row (Between h ps cs) (token_of w) ≡ clause_row h ps cs [] (Ok (Some (literal_of v)))
-  first_leads more v w is same =
-      ap (λ x. row (Between h ps cs) (token_of x)) (sym same) ∙ begins more (int_lt v (pos 0)) (unsigned_abs v) is.0 is.1
+  first_leads more v w is same = grind (arith, common_steps)
 
   clause_by : has_more h cs ≡ true → (xs values : List ℤ) (i zero : ℕ) → AllByRecursion (IsWritten h.max_var) xs
       → ((k : ℕ) → k < length xs → slice_index_or xs k (pos 0) ≡ slice_index_or values (i + k) (pos 0))
@@ -83,11 +79,7 @@ module _ (h : Heading) (ps : Pairs) (cs : Clauses) (full : IsFull h.max_var ps) 
   pub clause_leads : has_more h cs ≡ true → (values : List ℤ) (from zero : ℕ) → from < zero → zero < length values
       → AllByRecursion (IsWritten h.max_var) (slice_range values from zero) → slice_index_or values zero (pos 0) ≡ pos 0
       → LeadsOver row (Between h ps cs) (Between h ps (cs ++ map literal_of (slice_range values from zero) ∷ [])) values from (zero + 1)
-  clause_leads more values from zero order within all is =
-      let len : length (slice_range values from zero) ≡ zero - from = grind (arith, common_steps) in
-      clause_by more (slice_range values from zero) values from zero all
-      (λ k less. get_or-take (zero - from) (drop from values) k (pos 0) (omega (arith, less, len)) ∙ get_or-drop from values k (pos 0))
-      (omega (arith, len, order)) (omega (arith, len, order)) is
+  clause_leads more values from zero order within all is = grind (arith, common_steps, slice_range, clause_by, get_or-take, get_or-drop)
 
 -- its variables are bound
 pub clause_bound : (max_var : ℕ) (bs : List Block) → IsFull max_var (pairs bs) → (xs : List ℤ)

@@ -15,15 +15,12 @@ module _ (first : State) (values : List ℤ) (from i : ℕ) (ns : List ℕ) (n :
   -- a literal more
   pub literal_more : (l : Literal) → Ok (Some l) ≡ decode_literal faults 2147483647 (token_at values i)
       → LeadsOver row first (InLits ns n ls) values from i → LeadsOver row first (InLits ns n (ls ++ l ∷ [])) values from (i + 1)
-  literal_more l says =
-      leads_more row first (InLits ns n ls) (InLits ns n (ls ++ l ∷ [])) values from i (ap (λ o. lits_row ns n ls o) (sym says))
+  literal_more l says = grind (arith, common_steps, leads_more, row, lits_row)
 
   -- an antecedent more
   pub antecedent_more : (ants : List ℕ) (a : ℕ) → Ok (Some a) ≡ decode_antecedent (has_room ants) (token_at values i)
       → LeadsOver row first (InAnts ns n ls ants) values from i → LeadsOver row first (InAnts ns n ls (ants ++ a ∷ [])) values from (i + 1)
-  antecedent_more ants a says =
-      leads_more row first (InAnts ns n ls ants) (InAnts ns n ls (ants ++ a ∷ [])) values from i
-      (ap (λ o. ants_row ns n ls ants o) (sym says))
+  antecedent_more ants a says = grind (arith, common_steps, leads_more, row, ants_row)
 
 -- ---- many literals
 
@@ -38,9 +35,7 @@ written_said v w is same = said (int_lt v (pos 0)) (unsigned_abs v) is.0 is.1 �
 list_leads : (xs values : List ℤ) (i : ℕ) (ns : List ℕ) (n : ℕ) (ls : List Literal) → AllByRecursion (IsWritten 2147483647) xs
     → ((k : ℕ) → k < length xs → slice_index_or xs k (pos 0) ≡ slice_index_or values (i + k) (pos 0))
     → LeadsOver row (InLits ns n ls) (InLits ns n (ls ++ map literal_of xs)) values i (i + length xs)
-list_leads [] values i ns n ls all same =
-    let none : i + length {A = ℤ} [] ≡ i = omega arith in
-    rw (append-nil, none) (leads_none row (InLits ns n ls) values i)
+list_leads [] values i ns n ls all same = grind (arith, common_steps)
 list_leads (x ∷ xs) values i ns n ls all same =
     let l = literal_of x in
     let here : x ≡ slice_index_or values i (pos 0) =
@@ -55,8 +50,7 @@ list_leads (x ∷ xs) values i ns n ls all same =
 
 range_at : (values : List ℤ) (from to k : ℕ) → k < to - from
     → slice_index_or (slice_range values from to) k (pos 0) ≡ slice_index_or values (from + k) (pos 0)
-range_at values from to k less =
-    get_or-take (to - from) (drop from values) k (pos 0) less ∙ get_or-drop from values k (pos 0)
+range_at values from to k less = grind (arith, common_steps)
 
 range_length : (values : List ℤ) (from to : ℕ) → to ≤ length values → length (slice_range values from to) ≡ to - from
 range_length values from to within = grind (arith, common_steps)

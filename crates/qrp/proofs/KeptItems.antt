@@ -79,9 +79,7 @@ module _ (s r : Reading) (begins : (bytes : List ℕ) → left s (Some bytes) �
   fault_given before after e start is h = grind (arith, common_steps, read_whole)
 
   read_is : (bytes : List ℕ) → read_trace bytes ≡ trace_read (read_from trace_row nothing_read (tokens_next s bytes))
-  read_is bytes =
-      read_whole (tokens Qrp bytes) nothing AtP
-      ∙ ap (λ ts. trace_read (read_from trace_row nothing_read ts)) (sym (opens bytes))
+  read_is bytes = grind (arith, common_steps, read_whole, tokens, nothing, read_from, trace_row, nothing_read)
 
   -- the bytes held are those after the result word
   after_result : (d : Derivation) (bytes rest : List ℕ) → made_of next ≡ Ok d
@@ -131,28 +129,20 @@ kept_by d first next values from (suc count) l =
 
 kept_leads : (d : Derivation) (first next : State) (values : List ℤ) (from to : ℕ) → LeadsOver row first next values from to
     → LeadsOver trace_row (record { made = d; state = first }) (record { made = d; state = next }) values from to
-kept_leads d first next values from to l = record {
-  count = l.count;
-  counted = l.counted;
-  leads = kept_by d first next values from l.count l.leads;
-}
+kept_leads d first next values from to l = grind (arith, common_steps, kept_by)
 
 pub step_leads : {A : Type 0} (lists : A → List (List ℕ)) (p : Parts A) (b : Lists) (first next : State) (values : List ℤ) (from to : ℕ) → Stays p.lists b
     → LeadsOver row first next values from to
     → LeadsOver trace_row (record { made = trace_of (kept_of lists p); state = first })
     (record { made = trace_of (kept_of lists (record p { lists = b })); state = next }) values from to
-step_leads lists p b first next values from to stays l =
-    rw (stays.index, stays.lits) (kept_leads (trace_of (kept_of lists p)) first next values from to l)
+step_leads lists p b first next values from to stays l = grind (arith, common_steps, kept_leads, trace_of, kept_of)
 
 -- a step that a zero completes is kept
 pub step_kept : {A : Type 0} (lists : A → List (List ℕ)) (first : TraceRead) (old new : Parts A) (n : ℕ) (values : List ℤ) (from i : ℕ) → slice_index_or values i (pos 0) ≡ pos 0
     → LeadsOver trace_row first (trace_at lists old (at.InAnts n)) values from i → ClosesPart lists old new (part.Step n)
     → LeadsOver trace_row first (trace_at lists new at.Between) values from (i + 1)
 step_kept lists first old new n values from i is leads closes =
-    let mid = trace_at lists old (at.InAnts n) in
-    let next : TraceRead =
-    record { made = with_item (trace_of (kept_of lists old)) (item_of old.lists (part.Step n)); state = Between (old.lists.index ++ n ∷ []) } in
-    rw (closes.made, closes.numbers) (leads_more trace_row first mid next values from i (ap (λ v. trace_row mid (token_of v)) is) leads)
+    grind (arith, common_steps, trace_at, with_item, trace_of, kept_of, item_of, leads_more, trace_row, token_of)
 
 -- numbers lead on, and others after them, unless an allocation fails
 pub trace_in_turn : {E : Type 0} (first mid next : TraceRead) (values : List ℤ) (from i : ℕ) (result : Result ℕ E)

@@ -57,9 +57,7 @@ leads_gives {p} (Passes {t = u} taken l) (t ∷ before) e rest =
     ∙ leads_gives l before (cc) rest
 leads_gives (Completes taken g l) [] e rest = absurd cc
 leads_gives {p} (Completes {next = next} {t = u} {i = i} taken g l) (t ∷ before) e rest =
-    let same : t.0 ≡ u = cc in
-    items-one p t (before ++ rest) ∙ ap (λ (r : Row). after r t.1 (before ++ rest)) (ap (row p) same ∙ taken)
-    ∙ g (items_from (next_state next) (before ++ rest)) ∙ ap (λ (x : List ItemResult). Ok i ∷ x) (leads_gives l before (cc) rest)
+    grind (arith, common_steps, items-one, row, items_from, next_state, (leads_gives l before (cc) rest))
 
 -- no state takes End
 pub end_row : (p : State) → row p token.End ≡ Fails P7
@@ -83,8 +81,7 @@ leads_sets (s ∷ sets) h = leads_then (Passes (search rules)
 pub leads_literals : (ns : List ℕ) (n : ℕ) (ls xs : List Literal) → AllByRecursion IsLiteral xs
     → Leads (InLits ns n ls) (map literal xs) [] (InLits ns n (ls ++ xs))
 leads_literals ns n ls [] h = rw append-nil Stays
-leads_literals ns n ls (x ∷ xs) h =
-    Passes (search rules) (rw append_assoc at (leads_literals ns n (ls ++ x ∷ []) xs h.1))
+leads_literals ns n ls (x ∷ xs) h = grind (arith, common_steps, Passes, append_assoc, (leads_literals ns n (ls ++ x ∷ []) xs h.1))
 
 pub leads_antecedents : (ns : List ℕ) (n : ℕ) (ls : List Literal) (ants bs : List ℕ) → AllByRecursion IsNumber bs → length (ants ++ bs) ≤ 2
     → Leads (InAnts ns n ls ants) (map number bs) [] (InAnts ns n ls (ants ++ bs))

@@ -6,17 +6,7 @@ use Rattle.qdimacs.proofs.WholeClauses.{clause_bound, clause_leads, more_clauses
 use Rattle.qdimacs.proofs.grammar.take_whole.Goals as goal
 
 pub returns-in-Ok-clause-leads : goal.returns-in-Ok-clause-leads
-returns-in-Ok-clause-leads c = λ t.
-    let p = c.args.parts.now in
-    let put : IsTrue c.in_ok-extend_written.field-0 = grind (arith, common_steps) in
-    let written = c.in_ok-extend_written.ensures in
-    let at = c.if-not-ends_at.ensures in
-    let whole : c.close.new.self.whole ≡ p.clauses.whole ++ map literal_of (slice_range c.args.values.now c.args.from c.args.zero) ∷ []
-    = rw (c.in-Ok.ensures.closed, written.extended put, c.requires.sound.1) refl in
-    let leads = clause_leads (heading p) (pairs p.prefix) p.clauses.whole (c.requires.sound.0.full (c.if-not-takes_any.ensures.full refl))
-    (more_clauses p.clauses.whole p.count (c.if-not-takes_any.ensures.more refl)) c.args.values.now c.args.from c.args.zero (at.order refl)
-    (at.within refl) (written.written put) (at.zero refl) in
-    (omega (arith, at.order refl), at.within refl, rw whole leads)
+returns-in-Ok-clause-leads c = grind (arith, common_steps, literal_of, slice_range, clause_leads, heading, pairs, more_clauses)
 
 pub returns-in-Ok-clause-sound : goal.returns-in-Ok-clause-sound
 returns-in-Ok-clause-sound c =

@@ -3,12 +3,6 @@ use Rattle.qrp.proofs.Cited.{◌∙◌, leads_further}
 use Rattle.qrp.specs.Reading.{row}
 use Rattle.qrp.proofs.step_numbers.take_buffered.Goals as goal
 
-pub returns-in-InAnts-Ok-clause-leads : goal.returns-in-InAnts-Ok-clause-leads
-returns-in-InAnts-Ok-clause-leads c =
-    leads_further row _ _ _ c.args.values.now c.args.next.from c.in-InAnts-Ok.to c.take_antecedents.result
-    (leads_further row _ _ _ c.args.values.now c.args.next.from c.take_number-state.result.1 c.in-InAnts-Ok.to c.take_number-state.ensures.leads
-    (rw (c.in-InAnts-Ok.is-1, c.in-InAnts-Ok.is-0) at c.take_list.ensures.leads)) c.take_antecedents.ensures.leads
-
 pub returns-in_default-2 : goal.returns-in_default-2
 returns-in_default-2 c =
     let a = c.take_number-state.ensures.sound.0 in

@@ -21,6 +21,4 @@ returns-in-AtHeader-clause-gives g c = rw (
 ) c.read_item-answer.ensures.reads.gives
 
 pub returns-in-AtHeader-clause-stops : goal.returns-in-AtHeader-clause-stops
-returns-in-AtHeader-clause-stops g c _ =
-    rw (← c.self.view_is, ← stands_next c.self.inside.stage c.self.inside.grammar c.in-AtHeader.is c.self.invariant.0)
-    c.read_item-answer.ensures.reads.stops
+returns-in-AtHeader-clause-stops g c _ = search (rules, stands_next)
