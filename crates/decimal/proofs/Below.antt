@@ -1,6 +1,6 @@
 -- Where no lane of the greatest is marked, each lane is below ten.
 use Rattle.std.proofs.lemmas.Grind.{common_steps}
-use Rattle.std.proofs.Common.{Fits, eqb, eqb-true, true, subst, ℕ, zero, ◌≡◌, ◌<◌, ◌%◌, ◌^◌, cond, ltb, List, [], ◌∷◌, map, length}
+use Rattle.std.proofs.Common.{Fits, eqb, eqb-true, true, ℕ, zero, ◌≡◌, ◌<◌, ◌%◌, ◌^◌, cond, ltb, List, [], ◌∷◌, map, length}
 use Rattle.std.proofs.Common.{replicate, arith, refl, ap, ◌∙◌, w8}
 use Rattle.std.specs.Simd.Lanes.{zip2, Each1, sel_l, mask_l, top}
 use Rattle.std.proofs.lemmas.Simd.{tops_compared, zip2_splat_left, mask_l-mod, length-zip2}

@@ -6,7 +6,7 @@ use Rattle.std.specs.Int.{w64, to_le_bytes}
 use Rattle.std.specs.Str.Parse.{digits_value, digits_value_after, AllDigits}
 use Rattle.std.proofs.lemmas.Int.Digits.{digits_value-lt}
 use Rattle.std.proofs.lemmas.List.{take-take, take_all, take-append-drop, drop-take, length-take-le, length-drop}
-use native.Mathlib.Nat.{pow-zero, pow-succ', mul_assoc, add-mul, mul-le-mul_right}
+use native.Mathlib.Nat.{pow-zero, pow-succ', mul_assoc, add-mul}
 use Rattle.decimal.proofs.Chunks.{all_front}
 use Rattle.decimal.proofs.Lists.{bytes_fit}
 use Rattle.decimal.specs.Digits.{AreDigits}

@@ -1,5 +1,5 @@
 -- The table of the powers of ten.
-use Rattle.std.proofs.Common.{ℕ, ◌≡◌, ◌<◌, ◌+◌, ◌^◌, true, refl, eqb, eqb-true, List, get_or, map}
+use Rattle.std.proofs.Common.{ℕ, ◌≡◌, ◌<◌, ◌^◌, true, refl, eqb, eqb-true, List, get_or, map}
 use Rattle.std.specs.List.{range_with_len}
 use Rattle.std.proofs.lemmas.Bool.{agree_below_at}
 

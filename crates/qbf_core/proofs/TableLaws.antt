@@ -1,6 +1,6 @@
 -- The table of a prefix, beside its entries.
 use Rattle.qbf_core.proofs.Cited.{rules, common_steps, ◌≡◌, ℕ, zero, suc, ◌≤◌, ◌<◌, Bool, true, false, cond, List, [], ◌∷◌, ◌++◌, length}
-use Rattle.qbf_core.proofs.Cited.{Option, Some, None, ◌⊎◌, inr, refl, ap, sym, subst, ◌∙◌, arith, slice_get, get_or, take, drop}
+use Rattle.qbf_core.proofs.Cited.{Option, Some, None, ◌⊎◌, inr, refl, ap, sym, subst, arith, slice_get, get_or, take, drop}
 use Rattle.qbf_core.proofs.Cited.{nat_eq, lookup, keys_of, AllByRecursion, eq-eqb, slice_get_within, slice_get_read, Place, IsVariable}
 use Rattle.qbf_core.proofs.Cited.{IsTable, IsBeyond, IsIndexOf, IsDistinct, FitsTable}
 use Rattle.std.proofs.Common.{if◌then◌else◌, slice_set}

@@ -3,7 +3,7 @@ use Rattle.qbf_text.proofs.Cited.{◌≡◌, ℕ, ◌+◌, ◌^◌, ◌<◌, ◌
 use Rattle.qbf_text.proofs.Cited.{ap, ◌∙◌, subst, take, ◌-◌, zero, suc, append_assoc, arith, Option, Some, None, ◌⊎◌, inl, inr, drop-drop}
 use Rattle.qbf_text.proofs.Cited.{Comments, Token, Number, ahead, tokens_left, known_left, Lined, BeginsWithNumber, SoFar, Reading}
 use Rattle.qbf_text.proofs.Cited.{GivesNext, Row, Goes, read_from, reads_from, IfKnown, TakesToken, tokens_next, line_number}
-use Rattle.std.proofs.Common.{length-drop, length-append, Result, Ok, Err, IfOk}
+use Rattle.std.proofs.Common.{length-drop, length-append}
 use Rattle.std.proofs.lemmas.List.{take-append-drop, take_all}
 use Rattle.qbf_text.specs.declared.cursor.Cursor.{Cursor}
 use Rattle.qbf_text.specs.Numbers.{one_if}

@@ -1,8 +1,8 @@
 -- Clauses that stand whole among buffered numbers.
 use Rattle.qdimacs.proofs.Cited.{arith, common_steps, leads_none, leads_more, leads_further, ◌≡◌, ◌≤◌, ◌<◌, ◌+◌, ◌-◌, ℕ, Bool, true}
-use Rattle.qdimacs.proofs.Cited.{List, [], ◌∷◌, ◌++◌, length, map, drop, Some, Ok, sym, ap, ◌∙◌, append_assoc, append-nil, AllByRecursion}
+use Rattle.qdimacs.proofs.Cited.{List, [], ◌∷◌, ◌++◌, length, map, drop, Some, Ok, sym, ap, ◌∙◌, append_assoc, AllByRecursion}
 use Rattle.qdimacs.proofs.Cited.{Literal, Pairs, Block, pairs, IsFull, row}
-use Rattle.std.specs.Prelude.{suc, nat_lt, ℤ, pos, unsigned_abs, int_lt, slice_index_or, slice_range}
+use Rattle.std.specs.Prelude.{suc, nat_lt, ℤ, pos, unsigned_abs, slice_index_or, slice_range}
 use Rattle.std.proofs.lemmas.Bool.{lt-ltb}
 use Rattle.std.proofs.lemmas.List.{get_or-take, get_or-drop}
 use Rattle.qbf_core.specs.Blocks.{AreBound}

@@ -19,7 +19,7 @@ use Rattle.qrp.specs.declared.states.Part.TheVariants as part
 use Rattle.qrp.specs.declared.states.Lists.{Lists}
 use Rattle.qrp.specs.Flat.{kept_of, trace_of, ClosesPart}
 use Rattle.qrp.specs.States.{item_of}
-use Rattle.qrp.specs.Reading.{Fault, State, Row, AtP, Between, After, row, items_from, with_items, nothing, read_trace}
+use Rattle.qrp.specs.Reading.{Fault, State, Row, Between, After, row, items_from, with_items, nothing, read_trace}
 use Rattle.qrp.specs.WholeTrace.{TraceRead, made_of, nothing_read, kept_row, trace_at, trace_row}
 use Rattle.qrp.proofs.SpelledIsRead.{after, items-one, end_row}
 

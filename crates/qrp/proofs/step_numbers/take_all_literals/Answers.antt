@@ -1,5 +1,5 @@
-use Rattle.qrp.proofs.Cited.{refl, arith, common_steps}
-use Rattle.std.specs.Prelude.{IsTrue, slice_range}
+use Rattle.qrp.proofs.Cited.{arith, common_steps}
+use Rattle.std.specs.Prelude.{slice_range}
 use Rattle.qrp.proofs.BufferedNumbers.{list_ends, more_literals}
 use Rattle.qrp.proofs.step_numbers.take_all_literals.Goals as goal
 

@@ -1,7 +1,6 @@
-use Rattle.qrp.proofs.Cited.{◌<◌, ◌^◌, AllByRecursion-push, IsNumber, arith, common_steps, length-append, leads_none}
+use Rattle.qrp.proofs.Cited.{arith, common_steps, length-append}
 use Rattle.qrp.proofs.BufferedNumbers.{antecedent_more}
 use Rattle.qrp.specs.Antecedents.{listed}
-use Rattle.qrp.specs.Reading.{row}
 use Rattle.qrp.proofs.step_numbers.take_antecedents.Goals as goal
 
 pub antecedents-init : goal.antecedents-init

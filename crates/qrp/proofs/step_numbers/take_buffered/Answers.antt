@@ -1,5 +1,5 @@
 use Rattle.qbf_text.proofs.LeadingNumbers.{leads_in_turn}
-use Rattle.qrp.proofs.Cited.{◌∙◌, leads_further}
+use Rattle.qrp.proofs.Cited.{◌∙◌}
 use Rattle.qrp.specs.Reading.{row}
 use Rattle.qrp.proofs.step_numbers.take_buffered.Goals as goal
 

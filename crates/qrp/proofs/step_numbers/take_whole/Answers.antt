@@ -1,5 +1,4 @@
-use Rattle.qrp.proofs.Cited.{◌+◌, arith, common_steps, leads_further}
-use Rattle.std.specs.Prelude.{IsTrue}
+use Rattle.qrp.proofs.Cited.{arith, common_steps, leads_further}
 use Rattle.qrp.specs.Reading.{row}
 use Rattle.qrp.proofs.step_numbers.take_whole.Goals as goal
 

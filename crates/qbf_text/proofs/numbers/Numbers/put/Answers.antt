@@ -1,4 +1,4 @@
-use Rattle.qbf_text.proofs.Cited.{◌≡◌, length, arith, rules}
+use Rattle.qbf_text.proofs.Cited.{rules}
 use Rattle.qbf_text.proofs.PutNumbers.{put_alone}
 use Rattle.qbf_text.proofs.numbers.Numbers.put.Goals as goal
 

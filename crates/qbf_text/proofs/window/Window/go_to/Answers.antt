@@ -1,5 +1,5 @@
 use Rattle.qbf_text.proofs.Cited.{◌≤◌, length, sym, subst}
-use Rattle.qbf_text.proofs.Windows.{part_within, part_few}
+use Rattle.qbf_text.proofs.Windows.{part_within}
 use Rattle.qbf_text.proofs.window.Window.go_to.Goals as goal
 
 pub invariant_of-self : goal.invariant_of-self
