@@ -108,7 +108,3 @@ answer before p t ts b once = by (row p t.0) refl
 -- What is read is spelled; a fault that is found stands.
 pub read_explained : ReadsAsRead Reads read
 read_explained = explained Spells Reads read AtP (refl, tt) answer read_once
-
--- reading by rows gives what is read
-pub results_are_read : ResultsAreRead row result_of AtP read
-results_are_read = record { same = λ ts. refl; fault = λ f line. refl }
