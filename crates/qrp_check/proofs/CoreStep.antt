@@ -38,10 +38,7 @@ not_found steps place number answer only none = λ i step here is less. let e : 
 pub found_late : (steps : List Inference) (place number index : ℕ) (answer : Option ℕ) → IsOnly steps number answer → answer ≡ Some index
     → place ≤ index
     → FindsEarlier steps place number None
-found_late steps place number index answer only found late = λ i step here is less.
-    let e : Some i ≡ Some index = sym (only i step here is) ∙ found in
-    let same : i ≡ index = cc e in
-    omega (arith, same, less, late)
+found_late steps place number index answer only found late = grind (arith, common_steps)
 
 -- literals that have the members of the earlier step are a premise
 pub premise_of : (steps : List Inference) (place index number : ℕ) (lits : List Literal)
@@ -161,7 +158,4 @@ accepted_all r conditions blocks lits is = search rules
 pub not_earlier : (steps : List Inference) (place : ℕ) (ants numbers : List ℕ) (n : ℕ) → ants ≡ numbers → n ∈ numbers
     → FindsEarlier steps place n None
     → ((m : ℕ) → m ∈ ants → IsNumberOf (take place steps) m) → ⊥
-not_earlier steps place ants numbers n e h none all =
-    let own = all n (subst (λ (ns : List ℕ). n ∈ ns) (sym e) h) in
-    let w = in_take steps place own.0 own.1 in
-    none w.0 own.0 w.2 own.2 w.1
+not_earlier steps place ants numbers n e h none all = grind (arith, common_steps, in_take)

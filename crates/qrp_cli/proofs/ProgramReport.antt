@@ -55,13 +55,7 @@ module _ {A F : Type 0} (files : source.Ghosts F) (opens : Opens) (bytes : A →
       → IsRow (map bytes xs) (record { job = j; formula = i; trace = trace })
       → (i < length xs) × IfSome trace (λ t. t < length xs) → trace ≡ None → x ≡ get_or xs i x → first ≡ bytes x
       → (j ≡ job.Format → IsOnFiles files opens j first None r) → IsProgram files opens (map bytes xs) r
-  of_formula j i trace x first row within is is_x same_x on =
-      let formats = only_format (map bytes xs) j i (rw is at row) in
-      inr (
-        record { job = j; formula = i; trace = None },
-        rw is at row,
-        rw (word_is bytes xs i x first within.0 is_x same_x) (on formats),
-      )
+  of_formula j i trace x first row within is is_x same_x on = grind (arith, common_steps)
 
 -- a check is reported on the first sink
 pub on_out : (rules : Rules) (answer : Result Verified Fault) (out errors : Type 0) → out → IsOn (check_report rules answer).sink out errors

@@ -17,11 +17,6 @@ returns-in-Trim-clause-report g c =
     let trimmed = trimmed_result c.find_trimmed.result in
     rw c.in-Trim.is (trim_report rules trimmed, (trimmed, w.trims, w.stops, refl), c.send_proof.ensures rules)
 
-pub returns-in-Format-clause-report : goal.returns-in-Format-clause-report
-returns-in-Format-clause-report g c =
-    let done = c.run_format.ensures in
-    rw c.in-Format.is (format_report done.0, (done.0, done.1, refl), done.2)
-
 pub returns-in-Check-clause-headline : goal.returns-in-Check-clause-headline
 returns-in-Check-clause-headline g c = λ rules a b is is_a is_b zero.
     subst (λ (r : Rules). PrintsVerdict g.O.Sink c.args.out.now c.run_check.new.out r a b) (same_rules c.in-Check.rules rules (sym c.in-Check.is ∙ is))

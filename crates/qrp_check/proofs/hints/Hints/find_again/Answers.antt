@@ -13,25 +13,3 @@ returns-then-number g c =
       named = sym (c.number.ensures.value s.0 s.1) ∙ c.if-number.true;
       only = rw c.if-number.true at c.number.ensures.only;
     }
-
-pub returns-in_err-index : goal.returns-in_err-index
-returns-in_err-index g c =
-    rw c.from_residual.ensures (not_found
-    (g.T.KeptSteps.steps c.args.trace.now) c.args.position c.args.number c.position.result c.position.ensures.only c.in_err-index.was)
-
-pub returns-then-index-position-2 : goal.returns-then-index-position-2
-returns-then-index-position-2 g c =
-    let found = c.in_ok-index.ensures.found in
-    record {
-      before = c.if-index-position-2.true;
-      step = found.0;
-      here = found.1;
-      named = found.2;
-      only = λ j step at e.
-          let same : Some j ≡ Some c.in_ok-index.index = sym (c.position.ensures.only j step at e) ∙ c.in_ok-index.was in cc same;
-    }
-
-pub returns-else-index-position-2 : goal.returns-else-index-position-2
-returns-else-index-position-2 g c =
-    found_late (g.T.KeptSteps.steps c.args.trace.now) c.args.position c.args.number c.in_ok-index.index c.position.result
-    c.position.ensures.only c.in_ok-index.was c.if-index-position-2.false
