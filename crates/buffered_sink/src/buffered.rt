@@ -114,7 +114,7 @@ impl Buffer {
         true
     }
 
-    /// Holds a number back, after a blank, if nothing is held.
+    /// Holds a number back, after a blank. Nothing is held before.
     #[tactic(auto, using(crate::proofs::BufferPart::part, crate::proofs::BufferPart::part_put))]
     fn begin_with_spaced(&mut self, negative: bool, n: u64)
         requires { self.old ≡ [] }
@@ -125,7 +125,7 @@ impl Buffer {
         self.end = end;
     }
 
-    /// Holds the digits of a number back if nothing is held.
+    /// Holds the digits of a number back. Nothing is held before.
     #[tactic(auto, using(crate::proofs::BufferPart::part))]
     fn begin_with(&mut self, n: u64)
         requires { self.old ≡ [] }
@@ -156,7 +156,7 @@ impl Buffer {
 
 /// Holds bytes back and sends them on to another sink, many at a time.
 ///
-/// What it still holds when it is dropped is not sent.
+/// The bytes that it still holds when it is dropped are not sent.
 #[derive(Drop)]
 pub struct Buffered<S> {
     sink: S,
@@ -164,7 +164,7 @@ pub struct Buffered<S> {
 }
 
 impl<S: Sink> Buffered<S> {
-    /// Nothing is held back.
+    /// A buffer before this sink. Nothing is held back.
     pub fn new(sink: S) -> Buffered<S>
         ensures written { Keeps (S.written sink) (⟦<Buffered<S> as Sink>⟧.written result) }
         ensures failures { ⟦<Buffered<S> as Sink>⟧.failures result ≡ S.failures sink }

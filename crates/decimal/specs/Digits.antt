@@ -4,7 +4,7 @@ use Rattle.std.specs.Int.{w64, to_le_bytes}
 use Rattle.std.specs.Char.{is_ascii_digit}
 use Rattle.std.specs.Str.Parse.{digits_value, AllDigits}
 
--- the bytes between two places are digits of this value, few enough for 64 bits, and the byte after them is none
+-- the bytes between two places are digits of this value, at most 20, and the byte after them is not a digit
 pub record AreDigits (bytes : List ℕ) (from end value : ℕ) : Type 0 where
   pub order : from ≤ end
   pub within : end ≤ length bytes
@@ -13,8 +13,8 @@ pub record AreDigits (bytes : List ℕ) (from end value : ℕ) : Type 0 where
   pub value_is : value ≡ digits_value 10 (take (end - from) (drop from bytes))
   pub stops : is_ascii_digit (slice_index bytes end) ≡ false
 
--- What was found from a place on: the value of the digits there, at most 20 and as far as it has 64 bits, and the place after them. If
--- another digit follows, there are 20 already, or the value with it does not fit.
+-- The digits that were found from a place on, at most 20: their value, and the place after them. If another digit follows, there are 20
+-- already, or the value with it does not fit in 64 bits.
 pub record AreLeadingDigits (bytes : List ℕ) (from : ℕ) (found : ℕ × ℕ) : Type 0 where
   pub within : (from ≤ found.1) × (found.1 ≤ length bytes) × (found.1 ≤ from + 20)
   pub digits : AllDigits 10 (take (found.1 - from) (drop from bytes))

@@ -20,7 +20,7 @@ pub record Writes (text : List ℕ) (value sign : ℕ) : Type 0 where
   pub plain : (slice_index text 0 ≡ 45 → ⊥) → AllDigits 10 text × (value ≡ digits_value 10 text) × (sign ≡ 0)
   pub minus : slice_index text 0 ≡ 45 → AllDigits 10 (drop 1 text) × (value ≡ digits_value 10 (drop 1 text)) × (sign ≡ 4294967295)
 
--- all bits of a half where a mask was changed
+-- all bits of a half if the mask was changed, and none if not
 unfoldable pub sign_of : List ℕ → List ℕ → ℕ
 sign_of now whole = if number_l 256 now == number_l 256 whole then 0 else 4294967295
 

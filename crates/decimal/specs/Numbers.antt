@@ -16,7 +16,7 @@ pub record IsNumber (bytes : List ℕ) (from end : ℕ) (value : ℤ) : Type 0 w
   pub minus : slice_index bytes from ≡ 45 → AllDigits 10 (between bytes (from + 1) end)
       × (value ≡ neg_ℤ (pos (digits_value 10 (between bytes (from + 1) end)))) × (0 < digits_value 10 (between bytes (from + 1) end))
 
--- numbers that end at these places: the first begins at a place, and each other one byte after the end of the last
+-- numbers that end at these places: the first begins at a place, and each other one begins one byte after the end of the one before it
 abbrev pub AreInARow : List ℕ → ℕ → List ℕ → List ℤ → Type 0
 AreInARow bytes from [] [] = ⊤
 AreInARow bytes from [] (value ∷ values) = ⊥

@@ -21,8 +21,8 @@ pub struct FourNumbers {
     pub zeros: u64,
 }
 
-/// The values of the halves of two numbers, of four digits each, the signs of the two, and the
-/// values of all their digits: if one of these is not below ten, the others say nothing.
+/// Two numbers: the values of their halves, of four digits each, their signs, and the values of all
+/// their digits. If the value of a digit is not below ten, the others say nothing.
 #[derive(Clone, Copy)]
 struct Two {
     fours: u32x4,
@@ -88,7 +88,7 @@ fn surely_row(len: usize, from: usize, ends: [usize; 4]) -> bool
 /// The four numbers in a row of which the first begins at a place, and each other one byte after
 /// the end of the last. Each is digits, or a minus and digits, of one to eight bytes in all.
 ///
-/// `None` if they are not so, for a 0 after a minus, and if less than eight bytes come before the
+/// `None` if they are not so, for a 0 after a minus, and if fewer than eight bytes come before the
 /// first end or none after the last. The bytes at the ends and before the first number are not
 /// looked at: whether they part tokens is left to the caller.
 #[inline(always)]

@@ -20,7 +20,7 @@ pub fn two_words(bytes: &[u8], p: usize, q: usize) -> u8x16
     a.shuffle(b, [0, 1, 2, 3, 4, 5, 6, 7, 8, 9, 10, 11, 12, 13, 14, 15])
 }
 
-/// The masks of the last bytes of eight, as windows of these.
+/// The eight bytes from the place `n` on are the mask of the last `n` bytes of eight.
 const MASKS: [u8; 16] = [
     0, 0, 0, 0, 0, 0, 0, 0, 255, 255, 255, 255, 255, 255, 255, 255,
 ];
@@ -35,7 +35,7 @@ pub fn two_masks(n: usize, m: usize) -> u8x16
     two_words(&MASKS, n, m)
 }
 
-/// The numbers that four times four digits are: digits to pairs, and pairs to fours.
+/// The four numbers of four digits each: digits are joined to pairs, and pairs to fours.
 #[inline(always)]
 #[tactic(auto, using(crate::proofs::Steps::fours_of))]
 pub fn four_fours(digits: u8x16) -> u32x4
@@ -49,7 +49,7 @@ pub fn four_fours(digits: u8x16) -> u32x4
     (y & u32x4::splat(0xFFFF)) * u32x4::splat(100) + (y >> 16)
 }
 
-/// The numbers of eight digits that each two of four digits make.
+/// The numbers of eight digits, each joined from two numbers of four digits.
 #[inline(always)]
 #[tactic(auto, using(crate::proofs::Steps::eights_of))]
 pub fn four_eights(a: u32x4, b: u32x4) -> u32x4
@@ -63,7 +63,7 @@ pub fn four_eights(a: u32x4, b: u32x4) -> u32x4
     first * u32x4::splat(10000) + last
 }
 
-/// The low halves of all four.
+/// The low halves of all four words.
 #[inline(always)]
 pub fn low_halves(a: u64x2, b: u64x2) -> u32x4
     ensures { result ≡ slice_index a 0 % 2 ^ 32 ∷ slice_index a 1 % 2 ^ 32

@@ -12,7 +12,7 @@ use crate::word::{number_of_len, short_number};
 /// At most this many digits are read: more than these, but for leading zeros, do not fit.
 const MOST: usize = 20;
 
-/// Whether a number has 64 bits with one digit more.
+/// Whether a number with one digit more fits in 64 bits.
 #[inline(always)]
 fn fits(value: u64, digit: u64) -> bool
     requires { digit ≤ 9 }
@@ -35,8 +35,8 @@ fn first_eight(bytes: &[u8]) -> Option<u64>
     Some(value)
 }
 
-/// The value of the first sixteen bytes, if all of them are digits, or else of the first eight, if
-/// these are, and how many it is the value of: none, if neither is so.
+/// The value of the first sixteen bytes if all of them are digits, else of the first eight if these
+/// are, else 0. With it comes how many bytes it is the value of: 16, 8 or 0.
 #[inline(always)]
 fn leading_eights(bytes: &[u8]) -> (u64, usize)
     ensures few { result.1 ≤ 16 }
@@ -65,8 +65,9 @@ fn power_of_ten(exponent: usize) -> u64
     POWERS[exponent]
 }
 
-/// The value of the first digits and of up to seven that follow them, if these end within eight
-/// bytes, and how many all of them are. Of the first, the value and the number are given.
+/// The value of the first digits with up to seven that follow them, if these end within eight
+/// bytes, and how many digits that is in all. `first` is the value and the number of the first
+/// digits.
 #[inline(always)]
 fn with_tail(bytes: &[u8], first: (u64, usize)) -> Option<(u64, usize)>
     requires within { first.1 ≤ length bytes.now }
@@ -153,10 +154,10 @@ fn by_word(bytes: &[u8], from: usize) -> Option<(u64, usize)>
     Some((value, end))
 }
 
-/// What makes a zero digit of a minus in the lowest byte of a word.
+/// Added to a word, this makes a minus in the lowest byte the digit 0.
 const MINUS_TO_ZERO: u64 = 3;
 
-/// The first eight bytes as a word, a leading minus replaced by the digit 0.
+/// The first eight bytes as a word, with the digit 0 in place of a leading minus.
 #[inline(always)]
 fn without_sign(bytes: &[u8], from: usize) -> Option<u64>
     ensures { IfSome result (IsWithZeros bytes.now from) }
@@ -187,11 +188,12 @@ pub fn number_between(bytes: &[u8], from: usize, end: usize) -> Option<u64>
     number_of_len(word, end as u32)
 }
 
-/// The value of the decimal digits from the place `from` on, at most 20 of them and as far as
-/// it has 64 bits, and the place after them: `(0, from)` where there is none. The place is at most the length.
+/// The value of the decimal digits from the place `from` on, at most 20 of them and as far as it
+/// fits in 64 bits, and the place after them: `(0, from)` if there are none. The place is at most
+/// the length.
 ///
-/// Where they stand among the first eight bytes, it takes these as one word, whose place does not
-/// depend on `from`.
+/// If the digits end within the first eight bytes, these are taken as one word, whose place does
+/// not depend on `from`.
 #[inline(always)]
 pub fn digits(bytes: &[u8], from: usize) -> (u64, usize)
     requires { from ≤ length bytes.now }

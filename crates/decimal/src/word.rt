@@ -15,9 +15,9 @@ const FIRST_OF_FOUR: u64 = 0x000000FF000000FF;
 
 /// How many of the word's eight bytes, from the lowest on, are decimal digits.
 ///
-/// The highest bit of a byte that is not a digit gets marked: its digit, or what `^` makes of it,
-/// is 10 or more, so that adding 118 reaches 128, or has that bit already. A carry goes only beyond
-/// such a byte.
+/// The highest bit marks a byte that is not a digit: `^` makes such a byte 10 or more, so that it
+/// has that bit already, or adding 118 sets it. Only such a byte carries, and only into the bytes
+/// after it.
 #[inline(always)]
 fn digit_run(word: u64) -> u32
     ensures { result ≡ prefix_len is_ascii_digit (to_le_bytes w64 word) }
@@ -27,8 +27,8 @@ fn digit_run(word: u64) -> u32
     marks.trailing_zeros() / 8
 }
 
-/// The number that the word's eight bytes are the digits of, the lowest byte first: digits to
-/// pairs, pairs to fours, and fours to the number, by three multiplications.
+/// The number whose eight digits are the word's bytes, the lowest byte first. Three multiplications
+/// join digits to pairs, pairs to fours, and fours to the number.
 #[inline(always)]
 fn eight_digits(digits: u64) -> u64
     requires { AllBelowBase 10 (to_le_bytes w64 digits) }

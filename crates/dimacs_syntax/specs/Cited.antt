@@ -1,4 +1,4 @@
--- The names that both formats cite most, passed on from one place. Declares nothing.
+-- The names that both formats cite most, passed on from one place. This file declares nothing.
 pub use Rattle.std.specs.List.{AllByRecursion, flat_map}
 pub use Rattle.qbf_core.specs.Blocks.{Block, IsVariable, pairs}
 pub use Rattle.qbf_core.specs.Literal.{Literal}

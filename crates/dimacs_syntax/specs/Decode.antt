@@ -1,4 +1,4 @@
--- What a token says at its place, or which fault of its format it is.
+-- The meaning of a token at its place, or its fault in the format.
 use Rattle.std.specs.Prelude.{ℕ, zero, suc, true, false, Option, Some, None, Result, Ok, Err, nat_lt, if◌then◌else◌}
 use Rattle.qbf_core.specs.declared.quantifier.Quantifier.{Quantifier}
 use Rattle.qbf_core.specs.declared.quantifier.Quantifier.TheVariants.{All, Exists}

@@ -12,7 +12,7 @@ use Rattle.dimacs_syntax.specs.declared.header.HeaderMove.{HeaderMove}
 use Rattle.dimacs_syntax.specs.declared.header.HeaderMove.TheVariants.{Next, Done}
 use Rattle.dimacs_syntax.specs.Spelling.{number}
 
--- what a token is that the header does not accept
+-- the fault of a token that the header does not accept
 abbrev pub header_fault : {F : Type 0} → Faults F → Token → F
 header_fault faults token.End = faults.end
 header_fault faults t = faults.header
@@ -54,12 +54,12 @@ header_number form t = Err (header_fault form.faults t)
 
 -- ---- the whole
 
--- what is done after a token that says something
+-- the move after a token that says something, or the fault of the token
 abbrev pub header_next : {X F : Type 0} → (X → HeaderMove) → Result X F → Result HeaderMove F
 header_next next (Ok x) = Ok (next x)
 header_next next (Err f) = Err f
 
--- what a token does at its place in a header
+-- the move of a token at its place in a header, or its fault
 abbrev pub header_move : {F : Type 0} → HeaderForm F → HeaderAt → Token → Result HeaderMove F
 header_move form P t = header_next (λ u. Next Format) (header_word form.faults word.P t)
 header_move form Format t = header_next (λ u. Next First) (header_word form.faults form.format t)

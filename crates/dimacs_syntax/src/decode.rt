@@ -1,4 +1,4 @@
-//! What one token says at its place.
+//! The meaning of one token at its place.
 
 ghost use Rattle.std.specs.Prelude.{◌≡◌, ◌≤◌, IfSome, IfOk};
 ghost use Rattle.qbf_core.specs.Blocks.{IsVariable};
@@ -23,7 +23,7 @@ pub struct Faults<F> {
     pub end: F,
 }
 
-/// The quantifier that a token is the letter of.
+/// The quantifier whose letter a token is.
 pub fn decode_quantifier(token: Token) -> Option<Quantifier>
     ensures { result ≡ decode_quantifier token }
 {
@@ -37,7 +37,7 @@ pub fn decode_quantifier(token: Token) -> Option<Quantifier>
 /// The variable that a token says in a set, at most `last`, or `None` if it closes the set.
 ///
 /// # Errors
-/// The fault of the format that the token is there.
+/// The fault of the token at its place.
 #[inline(always)]
 pub fn decode_member<F: Copy>(faults: Faults<F>, last: u32, token: Token) -> Result<Option<Var>, F>
     requires { last ≤ LAST_VARIABLE }
@@ -61,7 +61,7 @@ pub fn decode_member<F: Copy>(faults: Faults<F>, last: u32, token: Token) -> Res
 /// literals.
 ///
 /// # Errors
-/// The fault of the format that the token is there.
+/// The fault of the token at its place.
 #[inline(always)]
 pub fn decode_literal<F: Copy>(faults: Faults<F>, last: u32, token: Token) -> Result<Option<Lit>, F>
     requires { last ≤ LAST_VARIABLE }

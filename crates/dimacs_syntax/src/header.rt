@@ -7,15 +7,15 @@ ghost use Rattle.dimacs_syntax.specs.Headers.{header_number, header_move, IsUpTo
 use crate::decode::Faults;
 use qbf_text::{Token, Word};
 
-/// How the header of a format is spelled, `p`, its word and two numbers, and the faults of the
-/// format that a token can be.
+/// How the header of a format is spelled: `p`, its word and two numbers. With this come the faults
+/// of the format that a token can be.
 #[derive(Clone, Copy)]
 pub struct HeaderForm<F> {
     /// The word of the format.
     pub format: Word,
     /// The greatest number, if there is one.
     pub last: Option<u64>,
-    /// What other tokens are.
+    /// The faults that other tokens are.
     pub faults: Faults<F>,
 }
 
@@ -32,7 +32,7 @@ pub enum HeaderAt {
     Second(u64),
 }
 
-/// What a token of a header does.
+/// The effect of a token of a header.
 #[derive(Clone, Copy)]
 pub enum HeaderMove {
     /// It leads to this place.
@@ -41,7 +41,7 @@ pub enum HeaderMove {
     Done(u64, u64),
 }
 
-/// What a token is that a header does not accept.
+/// The fault of a token that a header does not accept.
 fn header_fault<F: Copy>(faults: Faults<F>, token: Token) -> F
     ensures { result ≡ header_fault faults token }
 {
@@ -84,10 +84,10 @@ fn header_number<F: Copy>(form: HeaderForm<F>, token: Token) -> Result<u64, F>
     }
 }
 
-/// What a token does at its place in a header.
+/// The effect of a token at its place in a header.
 ///
 /// # Errors
-/// The fault of the format that the token is there.
+/// The fault of the token at its place.
 pub fn header_move<F: Copy>(
     form: HeaderForm<F>,
     here: HeaderAt,

@@ -11,7 +11,7 @@ ghost use Rattle.dimacs_syntax.specs.Texts.{literal_text};
 use qbf_core::{Lit, Quantifier, Var};
 use qbf_text::{Sink, SinkFault, put_byte, put_bytes, put_signed, put_spaced, put_spaced_signed};
 
-/// What has a text of its own: a part of a line, a line, or several.
+/// A value with a text of its own: a part of a line, a line, or several.
 pub trait Put {
     /// Its text.
     ghost text: { Self → List ℕ };
@@ -116,7 +116,7 @@ impl<P: Put> Put for &[P] {
     }
 }
 
-/// The line of a header: what stands in front, and two numbers.
+/// The line of a header: the bytes in front, and two numbers.
 #[derive(Clone, Copy)]
 pub struct HeaderLine<'a>(pub &'a [u8], pub u64, pub u64);
 

@@ -1,4 +1,5 @@
-//! Single pulls and pushes of formulas, and those that fail; whole texts are rows of `tests/*.rows`.
+//! Single pulls and pushes of formulas, and those that fail. Whole texts are rows of
+//! `tests/*.rows`.
 
 ghost use Rattle.std.specs.Prelude.{◌<◌};
 

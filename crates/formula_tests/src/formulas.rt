@@ -92,7 +92,7 @@ fn prefixes(rt: HostRuntime) -> Result<(), Fail> {
     Ok(())
 }
 
-/// What is known of variables that are bound.
+/// Look-ups of variables that are bound.
 fn assert_bound(rt: &impl Abort, prefix: &Prefix) {
     let two = variable(rt, 2);
     assert!(rt; prefix.quantifier(variable(rt, 7)) == Some(Quantifier::Exists));
@@ -102,7 +102,7 @@ fn assert_bound(rt: &impl Abort, prefix: &Prefix) {
     assert!(rt; prefix.reach(Quantifier::Exists, two) == 0);
 }
 
-/// What is known of a variable that is not bound.
+/// Look-ups of a variable that is not bound.
 fn assert_unbound(rt: &impl Abort, prefix: &Prefix, unbound: Var) {
     assert!(rt; prefix.quantifier(unbound).is_none());
     assert!(rt; prefix.block(unbound).is_none());
@@ -205,8 +205,8 @@ fn literals(rt: &impl Abort, alloc: Global, numbers: &[i32]) -> Result<Vec<Lit>,
     Ok(lits)
 }
 
-/// Variables that are bound in turn, literals, and why they are not a set; else the set in order
-/// and literals that are not in it.
+/// Variables that are bound in turn, literals, why they are not a set, and if they are one, the set
+/// in order and literals that are not in it.
 type SetRow = (
     &'static [u32],
     &'static [i32],
@@ -330,13 +330,13 @@ fn letters(rt: HostRuntime) {
     assert_eq!(rt; Quantifier::Exists.letter(), b'e');
 }
 
-// ---- what has an allocation fail, and then tried again
+// ---- calls that are tried again if an allocation fails
 //
-// With memory these tests try nothing twice. tests/library/test-refusals makes each of their allocations
-// fail in turn.
+// With memory these tests try nothing twice. tests/library/test-refusals makes each of their
+// allocations fail in turn.
 
-/// Binds a variable. If an allocation fails, the prefix has no variable more, and the second try
-/// binds it.
+/// Binds a variable. If an allocation fails, the prefix has as many variables as before, and the
+/// second try binds it.
 fn bind_again(rt: &impl Abort, prefix: &mut Prefix, quantifier: Quantifier, var: Var) {
     let places = prefix.len();
     if prefix.push(quantifier, var).is_err() {
@@ -372,7 +372,8 @@ fn clause_of(alloc: Global, lits: &[Lit]) -> Result<Vec<Lit>, Fail>
     }
 }
 
-/// Adds a clause. If an allocation fails, the formula has no clause more, and the second try adds it.
+/// Adds a clause. If an allocation fails, the formula has as many clauses as before, and the second
+/// try adds it.
 fn push_again(rt: &impl Abort, formula: &mut Formula, clause: Vec<Lit>)
     requires bound { AreBound formula.old.blocks clause.items }
     requires few { length formula.old.clauses < 2147483647 }

@@ -1,4 +1,5 @@
-//! Tests of tokens, texts and formulas through the public calls of their libraries: what no clause says.
+//! Tests of tokens, texts and formulas through the public calls of their libraries: what no clause
+//! says.
 #![tactic(auto)]
 
 #[cfg(test)]

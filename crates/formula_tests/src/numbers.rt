@@ -1,5 +1,5 @@
-//! Numbers of each length, at each place of a window and of the bytes that are looked at together: read
-//! many at a time, they are what they are if each byte is pulled alone.
+//! Numbers of each length, at each place of a window and of the bytes that are looked at together.
+//! Read many at a time, they are the same as if each byte is pulled alone.
 
 ghost use Rattle.std.specs.Prelude.{◌<◌, ◌≤◌};
 
@@ -10,7 +10,7 @@ use std::alloc::Global;
 use std::process::Abort;
 use std::test::Fail;
 
-/// The canonical text of a formula.
+/// Both formulas have the same canonical text.
 fn assert_written_alike(
     rt: &(impl Abort + AllocGlobal),
     one: &Formula,
@@ -24,7 +24,7 @@ fn assert_written_alike(
     Ok(())
 }
 
-/// Pieces of this size are read as single bytes are, in which no number stands whole.
+/// A text in pieces of this size is read as in single bytes, in which no number stands whole.
 fn assert_read_alike(rt: &(impl Abort + AllocGlobal), text: &[u8], piece: usize) -> Result<(), Fail>
     requires { 0 < piece }
 {
@@ -40,11 +40,11 @@ fn assert_read_alike(rt: &(impl Abort + AllocGlobal), text: &[u8], piece: usize)
     }
 }
 
-/// The first digits of this text, as many as these.
+/// A number with so many digits has the first so many of these.
 const DIGITS: &[u8] = b"1234567890123456789012345";
 
-/// A formula whose clause has a number with so many digits, after a comment line of so many bytes.
-/// Its variable is bound if it is one.
+/// A formula whose clause has a number with so many digits, after a comment of so many bytes. With
+/// one to nine digits its variable is bound.
 fn text_of(alloc: Global, sign: &[u8], len: usize, pad: usize) -> Result<Vec<u8>, Fail>
     requires len { len ≤ 25 }
     requires pad { pad ≤ 5000 }
@@ -62,7 +62,7 @@ fn text_of(alloc: Global, sign: &[u8], len: usize, pad: usize) -> Result<Vec<u8>
     Ok(text)
 }
 
-/// Numbers with so many digits, and with a minus, after comments of these sizes.
+/// Numbers with so many digits, without and with a minus, after comments of these sizes.
 fn assert_len_read_alike(
     rt: &(impl Abort + AllocGlobal),
     len: usize,

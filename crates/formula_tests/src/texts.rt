@@ -10,7 +10,7 @@ use std::test::Fail;
 /// The end on the first line.
 const END: (Token, u64) = (Token::End, 1);
 
-/// A token that is none of a format, on the first line.
+/// A bad token, on the first line.
 const BAD: (Token, u64) = (Token::Bad, 1);
 
 /// A number without `-` on the first line.
@@ -44,7 +44,7 @@ fn assert_scanned(rt: &impl Abort, comments: Comments, rows: &[(&[u8], &[(Token,
     }
 }
 
-/// What was returned last is returned for good, and nothing is pulled.
+/// The result that was returned last is returned for good, and nothing is pulled.
 fn assert_same_again(
     rt: &impl Abort,
     scanner: &mut Scanner,
@@ -207,7 +207,7 @@ fn pulls_no_more_than_the_limit(rt: HostRuntime) {
     assert_eq!(rt; scanner.next_token(&mut source), Err(ScanFault));
 }
 
-/// Sends a text of its own.
+/// Sends the text `p cnf 12`, and finishes the sink.
 fn send(sink: &mut impl Sink) -> Result<(), SinkFault> {
     put_bytes(sink, b"p cnf ")?;
     put_number(sink, 12)?;

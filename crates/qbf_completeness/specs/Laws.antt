@@ -16,8 +16,8 @@ count_of q ((p, v) ∷ ps) = if is_quantifier p q then suc (count_of q ps) else 
 abbrev pub step_limit : Side → Qbf → ℕ
 step_limit side f = (2 + count_of (reduced_quantifier side) (pairs f.blocks)) * 2 ^ count_of (deciding_quantifier side) (pairs f.blocks)
 
--- Completeness: of each closed formula that is false the rules derive the empty clause, and of each that is true the empty cube, in fewer
--- steps than that.
+-- Completeness: from each closed formula that is false the rules derive the empty clause, and from each that is true the empty cube, in
+-- fewer steps than `step_limit`.
 abbrev pub Completeness : Type 0
 Completeness = (f : Qbf) (side : Side) → IsClosed f → ResultHolds side f
     → (n : ℕ) × (n < step_limit side f) × IsDerived side f n []

@@ -156,7 +156,7 @@ impl<T: Copy + Drop> GrowingLists<T> {
         Ok(())
     }
 
-    /// The unfinished list is whole, and an empty one begins after it.
+    /// Makes the unfinished list whole, and begins an empty one after it.
     ///
     /// # Errors
     /// Out of memory. Nothing is changed then.
@@ -199,7 +199,8 @@ fn number_at(numbers: &[i32], place: usize) -> i32
     numbers[place]
 }
 
-/// The literal that the number at a place is, of a variable up to `last`; none, if it is not one.
+/// The literal that the number at a place is, of a variable up to `last`, or `None` if it is not
+/// such a literal.
 #[inline(always)]
 fn one_written(numbers: &[i32], place: usize, last: u32) -> Option<Lit>
     requires place { place < length numbers.now }
@@ -216,8 +217,8 @@ fn one_written(numbers: &[i32], place: usize, last: u32) -> Option<Lit>
     }
 }
 
-/// The four literals that the numbers from a place on are, of variables up to `last`; none, if one
-/// of them is not a literal.
+/// The four literals that the numbers from a place on are, of variables up to `last`, or `None` if
+/// one of them is not such a literal.
 #[inline(always)]
 fn four_written(numbers: &[i32], place: usize, last: u32) -> Option<[Lit; 4]>
     requires place { place + 4 ≤ length numbers.now }
@@ -247,7 +248,7 @@ fn four_written(numbers: &[i32], place: usize, last: u32) -> Option<[Lit; 4]>
     }
 }
 
-/// Adds the literals that the four numbers from a place on are. `false` where one is not a literal.
+/// Adds the literals that the four numbers from a place on are. `false` if one is not a literal.
 ///
 /// # Errors
 /// Out of memory. Nothing is changed then.
@@ -273,7 +274,7 @@ fn put_four(
 }
 
 /// Adds the literals that four numbers or more are, four at a time and the last four again. `false`
-/// where one of them is not a literal.
+/// if one of them is not a literal.
 ///
 /// # Errors
 /// Out of memory.
@@ -298,7 +299,7 @@ fn put_fours(items: &mut Vec<Lit>, numbers: &[i32], last: u32) -> Result<bool, A
     put_four(items, numbers, end, last)
 }
 
-/// Adds the literals that these numbers are, one by one. `false` where one of them is not a literal.
+/// Adds the literals that these numbers are, one by one. `false` if one of them is not a literal.
 ///
 /// # Errors
 /// Out of memory.
@@ -320,7 +321,7 @@ fn put_each(items: &mut Vec<Lit>, numbers: &[i32], last: u32) -> Result<bool, Al
     Ok(true)
 }
 
-/// Adds the literals that these numbers are. `false` where one of them is not a literal.
+/// Adds the literals that these numbers are. `false` if one of them is not a literal.
 ///
 /// # Errors
 /// Out of memory.
@@ -340,7 +341,7 @@ fn put_written(items: &mut Vec<Lit>, numbers: &[i32], last: u32) -> Result<bool,
 
 impl GrowingLists<Lit> {
     /// Adds the literals that these numbers are, as QDIMACS 1.1 writes them, of variables up to
-    /// `last`, at the end of the unfinished list. `false` where nothing was added, since one of them
+    /// `last`, at the end of the unfinished list. `false` if nothing was added, since one of them
     /// is not such a literal.
     ///
     /// # Errors

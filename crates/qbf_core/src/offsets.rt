@@ -13,7 +13,7 @@ use std::marker::Model;
 #[derive(Drop)]
 pub struct Offsets {
     small: Vec<u32>,
-    /// All after the first that is not small.
+    /// The first end that is not small, and all ends after it.
     large: Vec<usize>,
 }
 

@@ -1,4 +1,4 @@
-//! Where a prefix has a variable, and the same in four bytes.
+//! The place of a variable in a prefix, and the same in four bytes.
 
 ghost use Rattle.std.specs.Prelude.{◌≡◌, ◌<◌, IfSome};
 ghost use Rattle.qbf_core.specs.Places.{reach_of};
@@ -15,10 +15,10 @@ pub struct Place {
     pub block: u32,
 }
 
-/// A place, or that there is none, in four bytes.
+/// A place, or none, in four bytes.
 #[derive(Clone, Copy)]
 pub struct Entry {
-    /// 0 for none; else twice the block, and 1 more for `All`, or 2 more for `Exists`.
+    /// 0 for none. For a place, twice the block and 1 more for `All`, or 2 more for `Exists`.
     packed: u32,
 }
 
@@ -69,7 +69,7 @@ impl Entry {
         })
     }
 
-    /// One more than the number of the block, if the place has this quantifier, and else 0.
+    /// One more than the number of the block if the place has this quantifier, else 0.
     #[inline(always)]
     pub fn reach(self, quantifier: Quantifier) -> u32
         ensures { result ≡ reach_of quantifier self }

@@ -1,9 +1,9 @@
--- What each call of a source or a sink does to what contracts see of it: the bytes that remain or went out, where they are known, the bound
--- on what can still come, and the count of failures, which never falls.
+-- The calls of a source or a sink as contracts see them: the bytes that remain or went out, if they are known, the bound on what can still
+-- come, and the count of failures, which never falls.
 use Rattle.std.specs.Prelude.{◌≡◌, ℕ, ◌+◌, ◌-◌, ◌^◌, ◌<◌, ◌≤◌, List, length, take, Option, Result, IfOk, OnOk, OnErr}
 use Rattle.std.specs.Io.KnownBytes.{Consumes, IsAtEnd, Keeps, WriteAppends}
 
--- A pull puts the next bytes at the front of `into`, none of them only at the end.
+-- A pull puts the next bytes at the front of `into`: at least one, unless the source is at its end.
 pub record Pulls {S E : Type 0} (remaining : S → Option (List ℕ)) (bound failures : S → ℕ) (old new : S) (into : List ℕ)
     (result : Result ℕ E) : Type 0 where
   pub fits : IfOk result (λ n. n ≤ length into)
@@ -25,7 +25,7 @@ pub record Pushes {S E : Type 0} (written : S → Option (List ℕ)) (failures :
   pub last : OnErr result (failed_last new)
   pub stays : failures old ≤ failures new
 
--- What is held back is sent on: what went out stays, and then nothing is held back, unless the sink fails.
+-- The bytes that are held back are sent on: those that went out stay, and nothing is held back afterwards, unless the sink fails.
 pub record Finishes {S T E : Type 0} (written : S → Option (List ℕ)) (failures : S → ℕ) (finished failed_last : S → Type 0) (old new : S)
     (result : Result T E) : Type 0 where
   pub bytes : Keeps (written old) (written new)

@@ -17,6 +17,6 @@ EndsOnce [] = ⊥
 EndsOnce (t ∷ []) = t.0 ≡ token.End
 EndsOnce (t ∷ u ∷ ts) = (t.0 ≢ token.End) × EndsOnce (u ∷ ts)
 
--- the tokens that are left, where the bytes of the source are known
+-- the tokens that are left, if the bytes of the source are known
 abbrev pub Known : Type 0
 Known = Option (List Lined)

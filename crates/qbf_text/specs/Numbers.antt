@@ -13,7 +13,7 @@ use Rattle.qbf_text.specs.Tokens.{line_number, kind, is_line_end}
 
 -- ---- what a grammar makes of them
 
--- the token that a number is
+-- the token of a number
 abbrev pub token_of : ℤ → Token
 token_of v = Number (int_lt v (pos 0)) (unsigned_abs v)
 
@@ -42,7 +42,7 @@ pub record EndsOver {P A F : Type 0} (row : P → Token → Row P A F) (first ne
   pub to_is : to ≡ at + 1
   pub ends : row last (token_at values at) ≡ Ends result next
 
--- what a grammar took of the numbers between two places, and what it read, if it is complete
+-- a grammar took the numbers between two places: they lead to the next state, or the last of them ends what is read, with a result
 abbrev pub TakesOver : {P A F : Type 0} → (P → Token → Row P A F) → (first next : P) → List ℤ → (from to : ℕ) → Option A → Type 0
 TakesOver row first next values from to None = LeadsOver row first next values from to
 TakesOver row first next values from to (Some result) = EndsOver row first next result values from to
@@ -69,7 +69,7 @@ BeginsWithValue bytes len value = (ends_line : Bool) × BeginsWithNumber bytes (
 abbrev pub AreSeparators : List ℕ → List ℕ → Type 0
 AreSeparators bytes places = (i : ℕ) → i < length places → is_separator (slice_index_or bytes (slice_index_or places i 0) 0) ≡ true
 
--- 1 where this is so
+-- 1 if this is so, and 0 if not
 abbrev pub one_if : Bool → ℕ
 one_if true = 1
 one_if false = 0
@@ -93,15 +93,15 @@ pub record IsPut (old new values : List ℤ) (k : ℕ) : Type 0 where
 abbrev pub AreShort : List ℤ → Type 0
 AreShort values = Each1 (λ v. unsigned_abs v < 2 ^ 31) values
 
--- where a number begins in the window
+-- the place in the window where a number begins
 abbrev pub place : Numbers → ℕ → ℕ
 place n k = slice_index_or n.places k 0
 
--- numbers from one of them on seem to end here: each next one begins after the separator that stands there
+-- numbers from one of them on seem to end at these places: each next one begins after the separator there
 abbrev pub SeemToEnd : Numbers → (k : ℕ) → List ℕ → Type 0
 SeemToEnd n k ends = (i : ℕ) → i < length ends → slice_index_or ends i 0 < 4096 → place n (k + i + 1) ≡ slice_index_or ends i 0 + 1
 
--- how many bytes the first of them that are not passed take, with the separator after each
+-- the number of bytes of the first `count` numbers that are not passed, with the separator after each
 abbrev pub len_of : Numbers → ℕ → ℕ
 len_of n count = place n (n.first + count) - place n n.first
 

@@ -1,4 +1,4 @@
--- What was passed of the buffered bytes: tokens that stand there whole, whatever bytes follow.
+-- The buffered bytes that were passed: tokens that stand there whole, whatever bytes follow.
 use Rattle.std.specs.Prelude.{◌≡◌, ℕ, ◌+◌, ◌<◌, ◌≤◌, Bool, true, false, not, nat_eq, List, [], ◌∷◌, ◌++◌, drop, length, Option, Some, None}
 use Rattle.qbf_text.specs.Ahead.{ahead}
 use Rattle.qbf_text.specs.declared.cursor.Cursor.{Cursor}
@@ -21,7 +21,7 @@ abbrev pub cursor_after : Cursor → ℕ → Bool → Cursor
 cursor_after here len true = record { at = here.at + len; line = line_number (here.line + 1); tokens = 0 }
 cursor_after here len false = record { at = here.at + len; line = here.line; tokens = 1 }
 
--- where the first of the buffered bytes stands
+-- the cursor at the first of the buffered bytes
 abbrev pub cursor : Reading → Cursor
 cursor r = record { at = 0; line = r.line; tokens = one_if r.begun }
 
@@ -71,12 +71,12 @@ pub record PassesLast {P A F : Type 0} (row : P → Token → Row P A F) (first 
   pub passes : PassesNumber bytes here to token
   pub ends : row last token ≡ Ends result next
 
--- what a grammar took from the buffered bytes, and what it read, if it is complete
+-- a grammar took tokens from the buffered bytes: they lead to the next state, or the last of them ends what is read, with a result
 abbrev pub PassesAll : {P A F : Type 0} → (P → Token → Row P A F) → (first next : P) → List ℕ → (from to : Cursor) → Option A → Type 0
 PassesAll row first next bytes from to None = Passes (LeadOn row first next) bytes from to
 PassesAll row first next bytes from to (Some result) = PassesLast row first next result bytes from to
 
--- what was read so far: the tokens of the bytes that were taken lead from the first state to this one
+-- the text that was read so far: the tokens of the bytes that were taken lead from the first state to this one
 pub record SoFar {P A F : Type 0} (row : P → Token → Row P A F) (first state : P) (here there : List ℕ → List Lined)
     (old new : List ℕ) : Type 0 where
   pub front : List ℕ
@@ -105,7 +105,7 @@ pub record ReadsLast {P A F : Type 0} (row : P → Token → Row P A F) (first n
   pub less : length s.pending < length r.pending
   pub few : length s.pending ≤ 4096
 
--- what a scanner read of the buffered bytes: it led from one state to another, or its last token ended the text with a result
+-- a scanner read some of the buffered bytes: their tokens lead from one state to another, or the last of them ends the text with a result
 abbrev pub ReadsBuffered : {P A F : Type 0} → (P → Token → Row P A F) → (first next : P) → (r s : Reading) → Option (List ℕ) → Option A
     → Type 0
 ReadsBuffered row first next r s remaining None = LeadsOver row first next r s remaining

@@ -1,4 +1,4 @@
--- What the source and the sinks over memory keep, and what a call of each does to it.
+-- The source and the sinks over memory: the state that each keeps, and how a call changes it.
 use Rattle.std.specs.Prelude.{ℕ, ◌+◌, ◌-◌, ◌^◌, min, Bool, ◌&&◌, ◌==◌, nat_lt, List, ◌++◌, length, drop, Option, Some, None}
 
 -- a count that stays at its greatest value
@@ -50,7 +50,7 @@ pub record Store : Type 0 where
   pub finish_fails : Bool
   pub failures : ℕ
 
--- no more than the room
+-- a count, but no more than the room
 abbrev pub up_to_room : Option ℕ → ℕ → ℕ
 up_to_room None n = n
 up_to_room (Some room) n = min room n
@@ -68,7 +68,7 @@ push_size s count = up_to_room s.room (min s.piece count)
 abbrev pub after_push : Store → List ℕ → ℕ → Store
 after_push s sent capacity = record s { bytes = s.bytes ++ sent; room = room_after s.room (length sent); capacity = capacity }
 
--- after the push that meets the room used up: none fails for want of room again
+-- after the push that finds no room left: no push fails for want of room again
 abbrev pub without_room : Store → Store
 without_room s = record s { room = None; failures = one_more s.failures }
 

@@ -1,4 +1,4 @@
--- What a call does that may pull bytes from a source.
+-- The effect of a call that may pull bytes from a source.
 use Rattle.std.specs.Prelude.{◌≡◌, ℕ, ◌+◌, ◌-◌, ◌^◌, ◌<◌, ◌≤◌, List, [], ◌∷◌, length, Option, IfSome, Result, OnOk, OnErr}
 use Rattle.std.specs.Io.KnownBytes.{Consumes, IsAtEnd}
 use Rattle.qbf_text.specs.Ahead.{ahead}
@@ -6,8 +6,8 @@ use Rattle.qbf_text.specs.declared.token.Token.{Token}
 use Rattle.qbf_text.specs.Left.{IsUnbroken, EndsRun}
 use Rattle.qbf_text.specs.Tokens.{kind}
 
--- With a result no more can come than before, and at most 4,096 bytes are held. The count of failures rose, unless it was at its
--- top, exactly where the source failed.
+-- With a result no more can come than before, and at most 4,096 bytes are held. The count of failures rose exactly if the source failed,
+-- unless it was at its top.
 pub record HasPulled {S T E : Type 0} (still failures : S → ℕ) (held_before held_after : List ℕ) (old new : S) (result : Result T E)
     : Type 0 where
   pub bound : OnOk result (length held_after + still new ≤ length held_before + still old)

@@ -1,16 +1,16 @@
--- Reading by rows: for each state in a text a row says which tokens go on, which end, and what is a fault.
+-- Reading by rows: for each state in a text a row says which tokens go on, which end the reading, and which are a fault.
 use Rattle.std.specs.Prelude.{ℕ, Bool, true, false, List, [], ◌∷◌, Option, Some, None}
 use Rattle.qbf_text.specs.declared.token.Token.{Token}
 use Rattle.qbf_text.specs.Lined.{Lined, Known}
 use Rattle.qbf_text.specs.Left.{is_end}
 
--- What the row of a state makes of a token.
+-- A row: what a state makes of a token.
 pub data Row (P A F : Type 0) : Type 0 where
   Goes : P → Row P A F
   Ends : A → P → Row P A F
   Fails : F → Row P A F
 
--- What is read from a state on.
+-- The result of reading from a state on.
 pub data Read (P A F : Type 0) : Type 0 where
   -- the result, the state after it and the tokens that are left
   Whole : A → P → List Lined → Read P A F
@@ -24,7 +24,7 @@ abbrev pub rest_after : Bool → Lined → List Lined → List Lined
 rest_after true t ts = t ∷ []
 rest_after false t ts = ts
 
--- What is read from a state on.
+-- The result of reading these tokens from a state on.
 unfoldable pub read_from : {P A F : Type 0} → (P → Token → Row P A F) → P → List Lined → Read P A F
 read_from row state [] = Cut
 read_from row state (t ∷ ts) =
@@ -34,7 +34,7 @@ read_from row state (t ∷ ts) =
       | Fails fault ↦ Fault fault t.1
     ]
 
--- What reading by rows gives of known tokens, from a state on; nothing is said of unknown ones.
+-- The result of reading known tokens by rows, from a state on; nothing is said of unknown ones.
 abbrev pub reads_from : {P A F : Type 0} → (P → Token → Row P A F) → P → Known → Option (Read P A F)
 reads_from row state None = None
 reads_from row state (Some ts) = Some (read_from row state ts)

@@ -11,13 +11,13 @@ use Rattle.qbf_text.specs.Lined.{Lined}
 use Rattle.qbf_text.specs.Reading.{Reading}
 use Rattle.qbf_text.specs.Rows.{Row, Ends, Whole, read_from}
 
--- this holds of the bytes before and after, where they are known; known bytes stay known
+-- this holds of the bytes before and after, if they are known; known bytes stay known
 abbrev pub IfKnown : (List ℕ → List ℕ → Type 0) → Option (List ℕ) → Option (List ℕ) → Type 0
 IfKnown P None new = ⊤
 IfKnown P (Some before) None = ⊥
 IfKnown P (Some before) (Some after) = P before after
 
--- there is nothing here, or it begins with the byte that the text begins with
+-- there are no bytes here, or they begin with the byte that the text begins with
 abbrev pub BeginsAs : List ℕ → List ℕ → Type 0
 BeginsAs text [] = ⊤
 BeginsAs [] (b ∷ bs) = ⊥
@@ -51,7 +51,7 @@ pub record TakesToken (here there : List ℕ → List Lined) (token : Lined) (ol
 abbrev pub tokens_at : Place → List ℕ → List Lined
 tokens_at p = tokens_left p.comments p.begun p.line
 
--- the tokens that are left there, where the bytes are known
+-- the tokens that are left there, if the bytes are known
 abbrev pub left_at : Place → Option (List ℕ) → Option (List Lined)
 left_at p remaining = known_left p.comments p.begun p.line (ahead p.window remaining)
 
@@ -105,7 +105,7 @@ pub record StopsAfter {P A F : Type 0} (row : P → Token → Row P A F) (first 
   -- with it they give the result, whether the text goes on as it does or ends there
   pub whole : (rest : List ℕ) → BeginsAs new rest → read_from row first (here (before ++ word ++ separator ++ rest)) ≡ Whole result next (there rest)
 
--- where some row takes a token that is not End, nothing is taken after it but a separator, and this holds too
+-- some row ends with the result on a token; if that is not End, at most one separator is taken after it, and this holds too
 abbrev pub Stops : {P A F : Type 0} → (P → Token → Row P A F) → P → P → (here there : List ℕ → List Lined) → Option (List ℕ)
     → Option (List ℕ) → Type 0 → Result A (ReadError F) → Type 0
 Stops {P = P} row first next here there before after few (Ok a) = (state : P) × (token : Token) × (row state token ≡ Ends a next)

@@ -1,4 +1,4 @@
--- What the calls that read by rows return.
+-- The results of the calls that read by rows.
 use Rattle.std.specs.Prelude.{◌≡◌, ◌-◌, ◌^◌, ◌<◌, ℕ, List, true, false, Option, Some, None, IfSome, Result, Ok, Err, ⊤}
 use Rattle.qbf_text.specs.declared.token.Token.{Token}
 use Rattle.qbf_text.specs.Lined.{Lined, Known}
@@ -18,7 +18,7 @@ Takes r next (Ok (taken.Done a)) = r ≡ Ends a next
 Takes r next (Err stop.Memory) = ⊤
 Takes r next (Err (stop.Text f)) = r ≡ Fails f
 
--- who goes on was not at the end
+-- a token after which reading goes on is not End
 abbrev pub StaysOpen : {A F : Type 0} → Token → Result (Taken A) (Stop F) → Type 0
 StaysOpen t (Ok taken.More) = is_end t ≡ false
 StaysOpen t (Ok (taken.Done a)) = ⊤
@@ -37,22 +37,22 @@ Reads whole next rest (Err error.Device) = ⊤
 Reads whole next rest (Err error.Memory) = ⊤
 Reads whole next rest (Err (error.Text f line)) = IfSome whole (λ r. r ≡ Fault f line)
 
--- the count of failures rose, unless it was at its top, exactly where the source failed
+-- the count of failures rose exactly if the source failed, unless it was at its top
 abbrev pub Counts : {A F : Type 0} → ℕ → ℕ → Result A (ReadError F) → Type 0
 Counts old new (Ok a) = new ≡ old
 Counts old new (Err error.Device) = old < 2 ^ 64 - 1 → old < new
 Counts old new (Err error.Memory) = new ≡ old
 Counts old new (Err (error.Text f line)) = new ≡ old
 
--- of known tokens a call returns what reading them by rows gives; of a failed source or allocation nothing is said
+-- of known tokens a call returns the result of reading them by rows; of a failed source or allocation nothing is said
 abbrev pub ReadsKnown : {P A F : Type 0} → Read P A F → P → Result A (ReadError F) → Type 0
 ReadsKnown whole next (Ok a) = (rest : List Lined) × (whole ≡ Whole a next rest)
 ReadsKnown whole next (Err error.Device) = ⊤
 ReadsKnown whole next (Err error.Memory) = ⊤
 ReadsKnown whole next (Err (error.Text f line)) = whole ≡ Fault f line
 
--- what is returned is what a row says of the last token, unless the source failed or an allocation failed; what holds if that
--- token is not End, and what holds if it is
+-- the result is what a row says of the last token, unless the source failed or an allocation failed; `open_` holds if that token is not
+-- End, and `ended` if it is
 abbrev pub Follows : {P A F : Type 0} → (P → Token → Row P A F) → P → Type 0 → Type 0 → Result A (ReadError F) → Type 0
 Follows {P = P} row next open_ ended (Ok a) =
     (state : P) × (token : Token) × (row state token ≡ Ends a next) × (is_end token ≡ false → open_) × (is_end token ≡ true → ended)

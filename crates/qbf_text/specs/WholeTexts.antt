@@ -1,4 +1,4 @@
--- What a call returns that reads a text, in any format: what the text spells, or its first fault and the line of that; and what it tells
+-- The result of a call that reads a text, in any format: what the text spells, or its first fault and the line of that; and what it tells
 -- of its devices.
 use Rattle.std.specs.Prelude.{◌≡◌, ◌≢◌, ◌<◌, ◌-◌, ◌^◌, ℕ, Bool, true, false, List, ◌∷◌, ◌++◌, Option, IfSome, IfErr, OnOk, Result, Ok, Err}
 use Rattle.qbf_text.specs.declared.grammar.ReadError.{ReadError}
@@ -19,12 +19,12 @@ pub record IsFault {P F : Type 0} (Spells : List Token → P → Type 0) (Refuse
   pub stands : Spells (without_lines before) state
   pub refused : Refuses state wrong fault
 
--- What tokens read as: what they spell, or the fault that stands.
+-- The result that tokens read as: what they spell, or the fault that stands.
 abbrev pub Reads : {A F : Type 0} → (List Token → A → Type 0) → (List Lined → F → ℕ → Type 0) → List Lined → Result A (F × ℕ) → Type 0
 Reads Spelled Stands ts (Ok a) = Spelled (without_lines ts) a
 Reads Spelled Stands ts (Err e) = Stands ts e.0 e.1
 
--- this holds, but where something else is to blame
+-- this holds, unless something else is to blame
 abbrev pub Unless : Bool → Type 0 → Type 0
 Unless true A = Unit {0}
 Unless false A = A

@@ -31,7 +31,7 @@ pub fn begins_with_minus(bytes: &[u8]) -> bool
     }
 }
 
-/// Whether a number is written as 0 after a minus, which is none.
+/// Whether this is 0 after a minus, which is not a number.
 #[inline(always)]
 pub fn is_minus_zero(negative: bool, value: u64) -> bool
     ensures { result ≡ (negative && nat_eq value 0) }
@@ -77,8 +77,8 @@ fn signed_number(bytes: &[u8]) -> Option<SeparatedNumber>
 
 /// The number that the bytes begin with, if a separator follows it.
 ///
-/// Also None for more than 20 digits. The zero that ends a list is the most frequent number, so it
-/// is looked for first.
+/// Also `None` for more than 20 digits. The zero that ends a list is the most frequent number, so
+/// it is looked for first.
 #[inline(always)]
 pub fn number_in_front(bytes: &[u8]) -> Option<SeparatedNumber>
     ensures { IfSome result (λ f. BeginsWithNumber bytes.now f.negative f.value f.len f.ends_line) }
@@ -97,8 +97,8 @@ pub struct Cursor {
     pub at: usize,
     /// Its line.
     pub line: u64,
-    /// 1 where a token stands before it on its line, else 0. A whole word: the padding after a `bool`
-    /// would be copied too, by loads that wait for the store before them.
+    /// 1 if a token stands before it on its line, else 0. It is a whole word: the padding after a
+    /// `bool` would be copied too, by loads that wait for the store before them.
     pub tokens: u64,
 }
 
@@ -136,7 +136,7 @@ impl Cursor {
         self.tokens != 0
     }
 
-    /// What a number that was found at the cursor leads to.
+    /// The token of a number that was found at the cursor, and the cursor after its separator.
     #[inline(always)]
     fn pass(self, found: SeparatedNumber) -> Passed
         requires { self.at + found.len < 2 ^ 64 }
@@ -161,7 +161,7 @@ impl Cursor {
         }
     }
 
-    /// The next number and the position after it, with up to 20 digits if it has 64 bits.
+    /// The next number, with up to 20 digits if it has 64 bits, and the position after it.
     #[inline(always)]
     pub fn any_number(self, bytes: &[u8]) -> Option<Passed>
         requires { self.at ≤ length bytes.now }

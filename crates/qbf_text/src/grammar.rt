@@ -20,7 +20,7 @@ use crate::source::Source;
 use crate::token::{Comments, Token};
 use std::alloc::AllocError;
 
-/// What a grammar did with a token that it took.
+/// The result of a grammar for a token that it took.
 #[derive(Drop)]
 pub enum Taken<T> {
     /// It went on, and wants another token.
@@ -58,7 +58,7 @@ pub enum ReadError<F> {
     Memory,
     /// The first token that is not accepted at its place.
     Text {
-        /// What is wrong with it.
+        /// Its fault.
         fault: F,
         /// Its line, counted from 1.
         line: u64,
@@ -91,8 +91,8 @@ impl<F: Copy> ReadError<F> {
     ghost use Rattle.std.specs.Prelude.{◌≡◌};
     ghost use Rattle.qbf_text.specs.WholeTexts.{fault_of};
 
-    /// The fault that it stands for, and its line: `device` where the source failed and `memory`
-    /// where an allocation failed, both on line 0.
+    /// The fault that it stands for, and its line: `device` if the source failed and `memory` if an
+    /// allocation failed, both on line 0.
     pub fn fault(self, device: F, memory: F) -> (F, u64)
         ensures { result ≡ fault_of device memory self }
     {
@@ -107,33 +107,34 @@ impl<F: Copy> ReadError<F> {
 /// How many of the buffered numbers a grammar took, and what was read, if it is complete.
 pub type Progress<T> = (usize, Option<T>);
 
-/// A text by its rows: what each state makes of each token.
+/// The grammar of a text by its rows: what each state makes of each token.
 ///
 /// It is handed one token after the other, and keeps what it makes of them.
 pub trait Grammar {
-    /// What is read.
+    /// The value that is read.
     type Output: Drop;
 
-    /// What can be wrong with a text.
+    /// A fault of a text.
     type Fault: Drop;
 
-    /// Where reading stands, after what the tokens so far spell.
+    /// A state: where reading stands, after what the tokens so far spell.
     ghost State: { Type 0 };
 
-    /// Where this stands.
+    /// The state of this grammar.
     ghost state: { Self → State };
 
-    /// What each state makes of a token.
+    /// The rows: what each state makes of a token.
     ghost row_of: { State → Token → Row State Self.Output Self.Fault };
 
-    /// What no token changes.
+    /// The part that no token changes.
     ghost Kept: { Type 0 };
 
-    /// What this keeps so.
+    /// The part of this grammar that no token changes.
     ghost kept: { Self → Kept };
 
-    /// Takes numbers from the first of these on, until it is complete, and returns how many, and
-    /// what was read if it is. It may take none: each number that it leaves is handed to `take`.
+    /// Takes numbers from the first of these on, until it is complete. Returns how many it took,
+    /// and what was read, if it is complete. It may take none: each number that it leaves is handed
+    /// to `take`.
     ///
     /// `zeros` tells where zeros seem to stand among them: no contract says that they do.
     ///
@@ -159,8 +160,8 @@ pub trait Grammar {
         ensures kept { kept self.new ≡ kept self.old };
 }
 
-/// Lets a grammar take numbers that are known. Returns how many it took, and what was read, if it is
-/// complete.
+/// Lets a grammar take numbers that are known. Returns how many it took, and what was read, if it
+/// is complete.
 #[inline(always)]
 fn take_known<G: Grammar>(
     grammar: &mut G,
@@ -180,7 +181,7 @@ fn take_known<G: Grammar>(
     Ok((count, answer))
 }
 
-/// Lets a grammar take numbers from the buffered bytes; what was read, if it is complete.
+/// Lets a grammar take numbers from the buffered bytes. Returns what was read, if it is complete.
 #[inline(always)]
 fn take_buffered<G: Grammar>(
     grammar: &mut G,
@@ -206,8 +207,8 @@ fn take_buffered<G: Grammar>(
 /// Hands on token after token until the grammar is complete.
 ///
 /// # Errors
-/// `Device` exactly where the source failed during the call, `Memory` where the grammar wants some,
-/// and else the first fault with the line of its token.
+/// `Device` exactly if the source failed during the call, `Memory` if the grammar is out of memory,
+/// else the first fault with the line of its token.
 pub fn read_by<G: Grammar, S: Source>(
     grammar: &mut G,
     scanner: &mut Scanner,

@@ -10,7 +10,7 @@ use std::simd::prelude::*;
 /// How many bytes are looked at together.
 const BLOCK: usize = 16;
 
-/// A bit for each of the first 16 bytes, the lowest for the first, whether it ends a line.
+/// A bit for each of the first 16 bytes, the lowest for the first: whether it ends a line.
 #[inline(always)]
 #[tactic(auto, using(crate::proofs::LineEnds::marks_are))]
 fn marks_of(block: &[u8]) -> u64

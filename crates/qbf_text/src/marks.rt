@@ -82,8 +82,8 @@ fn entry(table: &[u8], bits: u8) -> u8x8
     u8x8::from_slice(&table[8 * usize::from(bits)..])
 }
 
-/// How far after the first of eight bytes the marked ones end, from the first of them on. A bit
-/// marks each, the lowest the first; the other lanes say nothing.
+/// How far after the beginning of eight bytes each marked one ends, in their order. A bit marks
+/// each, the lowest the first byte. The other lanes say nothing.
 #[inline(always)]
 pub fn ends_of(bits: u8) -> u16x8 {
     entry(&AFTER, bits).cast::<u16>()

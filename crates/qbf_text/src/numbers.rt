@@ -1,4 +1,4 @@
-//! Numbers of a window, many at a time: first where they seem to end, then what they are.
+//! Numbers of a window, many at a time: first where they seem to end, then their values.
 
 ghost use Rattle.std.specs.Prelude.{◌≡◌, ℕ, ◌+◌, ◌<◌, ◌≤◌, List, [], ◌∷◌, length, IfSome, pos};
 ghost use Rattle.std.specs.Prelude.{unsigned_abs, int_lt, nat_eq, nat_le, slice_index};
@@ -17,13 +17,13 @@ use crate::separators::is_separator;
 use decimal::{FourNumbers, four_numbers, number_between};
 use std::simd::prelude::*;
 
-/// How many numbers are kept at most: a window has no more, unless some of them are empty.
+/// How many numbers are kept at most: a window has no more runs, unless some of them are empty.
 pub const MOST: usize = 2048;
 
-/// How many bytes are looked at together for where numbers end.
+/// How many bytes are looked at together to find where numbers end.
 const BLOCK: usize = 64;
 
-/// A bit for each of the first 64 bytes, the lowest for the first, whether it is at most a blank,
+/// A bit for each of the first 64 bytes, the lowest for the first: whether it is at most a blank,
 /// as separators are.
 #[inline(always)]
 fn marks_of(block: &[u8]) -> u64
@@ -72,7 +72,7 @@ fn number_before(bytes: &[u8], end: usize) -> Option<i32>
     Some(signed(negative, magnitude))
 }
 
-/// For each byte, 0 if it separates tokens, and else 1.
+/// For each byte, 0 if it separates tokens, else 1.
 const OTHERS: [u8; 256] = [
     1, 1, 1, 1, 1, 1, 1, 1, 1, 0, 0, 1, 1, 0, 1, 1, 1, 1, 1, 1, 1, 1, 1, 1, 1, 1, 1, 1, 1, 1, 1, 1,
     0, 1, 1, 1, 1, 1, 1, 1, 1, 1, 1, 1, 1, 1, 1, 1, 1, 1, 1, 1, 1, 1, 1, 1, 1, 1, 1, 1, 1, 1, 1, 1,
@@ -122,7 +122,7 @@ const PLACES: [u16; 64] = [
     3, 0, 0, 0, 0, 3, 0, 0, 1, 3, 0, 0, 0, 1, 3, 0, 2, 3, 0, 0, 0, 2, 3, 0, 1, 2, 3, 0, 0, 1, 2, 3,
 ];
 
-/// The part of a table for four bits, the lowest of these.
+/// The part of a table for the lowest four of these bits.
 #[inline(always)]
 fn four_of(table: &[u16], bits: u64) -> u16x4
     requires { 64 ≤ length table.now }
@@ -133,14 +133,15 @@ fn four_of(table: &[u16], bits: u64) -> u16x4
 /// Where zeros seem to stand among numbers: no contract says that they do.
 #[derive(Clone, Copy)]
 pub struct Zeros<'a> {
-    /// Their places, and as many more as numbers were passed before.
+    /// Their places, each with `first` added.
     places: &'a [u16],
     /// How many numbers were passed before.
     first: usize,
 }
 
 impl<'a> Zeros<'a> {
-    /// The place of the zero with this number, counted from 0, as it seems; else a great number.
+    /// The place of the zero with this number, counted from 0, as it seems. If there is none, a
+    /// great number.
     #[inline(always)]
     pub fn place(self, zero: usize) -> usize {
         if zero < self.places.len() {
@@ -175,7 +176,7 @@ pub struct Numbers {
 }
 
 impl Numbers {
-    /// None.
+    /// No numbers.
     pub fn new() -> Numbers
         ensures { result.known ≡ 0 }
     {
@@ -192,7 +193,7 @@ impl Numbers {
         }
     }
 
-    /// None are known any more.
+    /// No numbers are known any more.
     #[inline(always)]
     pub fn forget(&mut self)
         ensures { self.new.known ≡ 0 }
@@ -234,7 +235,7 @@ impl Numbers {
         runs
     }
 
-    /// Looks where the numbers of these bytes seem to end, the first so many of which were pulled.
+    /// Looks where the numbers of these bytes seem to end. The first `len` of them were pulled.
     #[inline(never)]
     pub fn look(&mut self, bytes: &[u8], len: usize)
         requires { length bytes.now ≤ ROOM }
@@ -291,8 +292,8 @@ impl Numbers {
         values.copy_to_slice(&mut self.values[k..]);
     }
 
-    /// Notes which of the numbers from the place `k` on are zero, after so many zeros: a bit for
-    /// each of four. Returns how many are noted.
+    /// Notes which of four numbers from the place `k` on are zero, after so many zeros: `marks` has
+    /// a bit for each. Returns how many are noted.
     #[inline(always)]
     fn note_zeros(&mut self, k: usize, marks: u64, zeros: usize) -> usize
         requires { k ≤ MOST }
@@ -378,8 +379,8 @@ impl Numbers {
         Some(four)
     }
 
-    /// Puts the numbers that stand from the place `start` on, as far as they are usual ones and come
-    /// before the number `runs`. Returns how far that is, and how many zeros are among them.
+    /// Puts the numbers that stand from the place `start` on, as far as they are usual ones and
+    /// come before the number `runs`. Returns how far that is, and how many zeros are among them.
     #[inline(always)]
     fn put_usual(&mut self, bytes: &[u8], start: usize, runs: usize) -> (usize, usize)
         requires start { (start ≤ length bytes.now) × (place self.old self.old.first ≡ start) }
@@ -408,8 +409,8 @@ impl Numbers {
         }
     }
 
-    /// Makes the numbers known that stand from the place `start` on, as far as they are usual: of
-    /// at most eight bytes.
+    /// Makes the numbers known that stand from the place `start` on, as far as they are usual ones,
+    /// which have at most eight bytes.
     #[inline(never)]
     pub fn fill(&mut self, bytes: &[u8], start: usize)
         requires start { start ≤ length bytes.now }
@@ -494,7 +495,7 @@ impl Numbers {
         zero
     }
 
-    /// Goes past so many numbers, which take so many bytes, and forgets all if they do not.
+    /// Goes past so many numbers, which take so many bytes. If they do not, it forgets all.
     #[inline(always)]
     pub fn pass(&mut self, count: usize, bytes: usize)
         requires few { self.old.known ≤ MOST }

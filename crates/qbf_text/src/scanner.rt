@@ -37,7 +37,7 @@ fn skip_line<S: Source>(window: &mut Window, source: &mut S) -> Result<(), Sourc
     Ok(())
 }
 
-/// The kind of the run that begins with `first`, which was taken, and goes on with what is ahead.
+/// The kind of the run that begins with `first`, which was taken, and goes on with the next bytes.
 fn read_as<R: Run, S: Source>(
     first: u8,
     window: &mut Window,
@@ -60,7 +60,7 @@ fn read_as<R: Run, S: Source>(
     Ok(run.kind())
 }
 
-/// Reads a run that begins with this byte, which may be any.
+/// Reads a run that begins with this byte, which may be any byte.
 fn read_run<S: Source>(first: u8, window: &mut Window, source: &mut S) -> Result<Token, SourceFault>
     ensures run { IfOk result (ReadsRun first (ahead window.old (S.remaining source.old))
         (ahead window.new (S.remaining source.new))) }
@@ -120,7 +120,7 @@ impl Place {
     }
 
     /// The next token and its line, if it is a number that was pulled whole with the separator
-    /// after it: both are taken then, and else nothing is.
+    /// after it. Both are taken then. Otherwise nothing is taken.
     #[inline(always)]
     fn number(&mut self) -> Option<(Token, u64)>
         ensures found { IfSome result (λ token. (remaining : Option (List ℕ)) →
@@ -170,7 +170,7 @@ impl Place {
         }
     }
 
-    /// The next token and its line, or None at the end.
+    /// The next token and its line, or `None` at the end.
     #[cold]
     #[inline(never)]
     fn scan<S: Source>(&mut self, source: &mut S) -> Result<Option<(Token, u64)>, SourceFault>
@@ -212,7 +212,7 @@ impl Place {
 #[derive(Clone, Copy, Debug, PartialEq, Eq)]
 pub struct ScanFault;
 
-/// What was given last.
+/// The result that was given last.
 #[derive(Clone, Copy)]
 enum Status {
     /// A token, or nothing yet.
@@ -334,7 +334,7 @@ impl Scanner {
     /// pulls nothing.
     ///
     /// # Errors
-    /// X1 where the source failed. Every later call returns X1 and pulls nothing.
+    /// X1 if the source failed. Every later call returns X1 and pulls nothing.
     #[tactic(auto, unfolding(crate::specs::Reading::left))]
     #[inline(always)]
     pub fn next_token<S: Source>(&mut self, source: &mut S) -> Result<(Token, u64), ScanFault>
@@ -365,7 +365,7 @@ impl Scanner {
         ensures fault { OnErr result (HasFailed self.new) }
         ensures failed { HasFailed self.old
             → IsErr result × (self.new ≡ self.old) × (source.new ≡ source.old) }
-        // A fault is first given where the source failed in the call.
+        // A fault is first given if the source failed in the call.
         ensures ok { OnOk result (S.failures source.new ≡ S.failures source.old) }
         ensures err { OnErr result (¬ HasFailed self.old →
             S.failures source.old < 2 ^ 64 - 1 → S.failures source.old < S.failures source.new) }

@@ -10,7 +10,7 @@ use crate::sink::{Sink, SinkFault, put_byte, put_number};
 /// Sends a number after a blank.
 ///
 /// # Errors
-/// A `SinkFault` where the sink failed. What went out is a beginning of these bytes then.
+/// A `SinkFault` if the sink failed. What went out is a beginning of these bytes then.
 #[inline(always)]
 pub fn put_spaced<S: Sink>(sink: &mut S, n: u64) -> Result<(), SinkFault>
     ensures { IsPut S.written S.failures S.failed_last sink.old sink.new (spaced_number n) result }
@@ -21,7 +21,7 @@ pub fn put_spaced<S: Sink>(sink: &mut S, n: u64) -> Result<(), SinkFault>
 /// Sends a number after a blank, directly after a minus if it is negative.
 ///
 /// # Errors
-/// A `SinkFault` where the sink failed. What went out is a beginning of these bytes then.
+/// A `SinkFault` if the sink failed. What went out is a beginning of these bytes then.
 #[inline(always)]
 pub fn put_spaced_signed<S: Sink>(sink: &mut S, negative: bool, n: u64) -> Result<(), SinkFault>
     ensures { IsPut S.written S.failures S.failed_last sink.old sink.new
@@ -42,7 +42,7 @@ fn put_minus<S: Sink>(sink: &mut S, n: u64) -> Result<(), SinkFault>
 /// Sends a number, directly after a minus if it is negative.
 ///
 /// # Errors
-/// A `SinkFault` where the sink failed. What went out is a beginning of these bytes then.
+/// A `SinkFault` if the sink failed. What went out is a beginning of these bytes then.
 #[inline(always)]
 pub fn put_signed<S: Sink>(sink: &mut S, negative: bool, n: u64) -> Result<(), SinkFault>
     ensures { IsPut S.written S.failures S.failed_last

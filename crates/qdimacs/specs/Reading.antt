@@ -1,6 +1,6 @@
 -- Reading from the first token on, to the formula or to the first fault.
--- QDIMACS 1.1, input format, token by token: for each state in the text a row says which tokens go on, which end,
--- and what is a fault.
+-- QDIMACS 1.1, input format, token by token: for each state in the text a row says which tokens go on, which end the reading,
+-- and which are a fault.
 use Rattle.std.specs.Prelude.{◌≡◌, ◌≤◌, ℕ, Bool, true, false, List, [], ◌∷◌, ◌++◌, length, Option, Some, None, option_map, Result, Ok, Err}
 use Rattle.std.specs.Prelude.{nat_lt, if◌then◌else◌}
 use Rattle.dimacs_syntax.specs.Cited
@@ -35,7 +35,7 @@ Clauses = List (List Literal)
 abbrev pub AreFrom : Pairs → List Literal → Type 0
 AreFrom ps ls = AllByRecursion (λ l. is_bound l.var ps ≡ true) ls
 
--- what is read: a formula, or the first fault and its line
+-- the result of reading: a formula, or the first fault and its line
 abbrev pub ReadResult : Type 0
 ReadResult = Result Qbf (FormulaFault × ℕ)
 
@@ -44,7 +44,7 @@ pub record Heading : Type 0 where
   pub max_var : ℕ
   pub count : ℕ
 
--- Where a token stands, after what the tokens before it spell.
+-- A state: the place of a token, by what the tokens before it spell.
 pub data State : Type 0 where
   -- in the header
   InHeader : HeaderAt → State
@@ -57,13 +57,13 @@ pub data State : Type 0 where
   -- after the end
   Whole : Qbf → State
 
--- What the row of a state makes of a token.
+-- A row: what a state makes of a token.
 abbrev pub Row : Type 0
 Row = rows.Row State (Unit {0}) FormulaFault
 
 -- ---- the header
 
--- the faults that tokens are
+-- the faults of tokens
 abbrev pub faults : Faults FormulaFault
 faults = record { header = F2; stray = F3; range = F4; minus_zero = F3; end = F7 }
 
@@ -102,7 +102,7 @@ if_bound ps (Ok (Some l)) = if is_bound l.var ps then Ok (Some l) else Err F6
 if_bound ps (Ok None) = Ok None
 if_bound ps (Err f) = Err f
 
--- the literal that a token says in a clause, or None where it closes the clause
+-- the literal that a token says in a clause, or None if it closes the clause
 abbrev pub decode_bound_literal : ℕ → Pairs → Token → Result (Option Literal) FormulaFault
 decode_bound_literal max_var ps t = if_bound ps (decode_literal faults max_var t)
 
@@ -124,7 +124,7 @@ set_start (c ∷ cs) t = None
 abbrev pub has_more : Heading → Clauses → Bool
 has_more h cs = nat_lt (length cs) h.count
 
--- what a token that begins no set says: that a clause begins (true), or that all is read (false)
+-- the meaning of a token that does not begin a set: a clause begins (true), or all is read (false), or a fault
 abbrev pub decode_clause_or_end : Bool → Token → Result Bool FormulaFault
 decode_clause_or_end true (token.Number negative n) = Ok true
 decode_clause_or_end false (token.Number negative n) = Err F8
@@ -159,34 +159,34 @@ abbrev pub IsWhole : State → Type 0
 IsWhole (Whole f) = Unit {0}
 IsWhole state = ⊥
 
--- what is read after the last token
+-- the result at the state after the last token
 abbrev pub result_at : State → ReadResult
 result_at (Whole f) = Ok f
 result_at state = Err (F7, 0)
 
--- what is read by the rows
+-- the result of reading by the rows
 abbrev pub result_of : Read State (Unit {0}) FormulaFault → ReadResult
 result_of (rows.Whole u state rest) = result_at state
 result_of (rows.Fault f line) = Err (f, line)
 result_of rows.Cut = Err (F7, 0)
 
--- where the first token stands
+-- the state of the first token
 abbrev pub AtP : State
 AtP = InHeader header.P
 
--- What is read from a state on.
+-- The result of reading from a state on.
 abbrev pub read_from : State → List Lined → ReadResult
 read_from state ts = result_of (rows.read_from row state ts)
 
--- What tokens are read as.
+-- The result of reading tokens.
 abbrev pub read : List Lined → ReadResult
 read ts = read_from AtP ts
 
--- What reading these bytes gives: the formula, or the first fault.
+-- The result of reading these bytes: the formula, or the first fault.
 abbrev pub read_formula : List ℕ → ReadResult
 read_formula bytes = read (text.tokens Qdimacs bytes)
 
--- where the bytes are known
+-- the result of reading these bytes, if they are known
 abbrev pub reads_bytes : Option (List ℕ) → Option ReadResult
 reads_bytes bytes = option_map read_formula bytes
 

@@ -1,4 +1,4 @@
--- What the parts of a formula say while it is read: what is made, and where the next token stands.
+-- The parts of a formula while it is read: the formula that is made of them, and the state of the next token.
 use Rattle.std.specs.Prelude.{◌≡◌, ◌<◌, ◌≤◌, true, [], length, Result, Ok, Err, ⊤}
 use Rattle.dimacs_syntax.specs.Cited.{AllByRecursion, pairs, Qbf, IsWellFormed, Fails}
 use Rattle.qbf_core.specs.Blocks.{variables, AreBound, IsPrefix}
@@ -20,7 +20,7 @@ heading p = record { max_var = p.max_var; count = p.count }
 abbrev pub formula_of : Parts → Qbf
 formula_of p = record { max_var = p.max_var; blocks = p.prefix; clauses = p.clauses.whole }
 
--- where reading stands with these parts
+-- the state of reading with these parts
 abbrev pub state_at : Parts → states.State → State
 state_at p (at.InHeader here) = InHeader here
 state_at p at.Between = Between (heading p) (pairs p.prefix) p.clauses.whole
@@ -39,19 +39,19 @@ Moves r p (Ok next) = r ≡ row_to p next
 Moves r p (Err stop.Memory) = ⊤
 Moves r p (Err (stop.Text f)) = r ≡ Fails f
 
--- ---- what holds of the parts
+-- ---- the invariant of the parts
 
 -- nothing is made yet
 abbrev pub IsNothing : Parts → Type 0
 IsNothing p = (p.prefix ≡ []) × (p.clauses.whole ≡ []) × (p.clauses.unfinished ≡ [])
 
--- the numbers of the header, and the variables below them
+-- the numbers of the header are in range, and no variable is above the first of them
 pub record AreCounted (p : Parts) : Type 0 where
   pub max_var : p.max_var ≤ 2147483647
   pub count : p.count ≤ 2147483647
   pub top : AllByRecursion (λ v. v ≤ p.max_var) (variables (pairs p.prefix))
 
--- what is whole, once the sets are
+-- the invariant of the whole parts, once the sets are whole
 pub record IsMade (p : Parts) : Type 0 where
   pub counted : AreCounted p
   pub prefix : IsPrefix p.prefix
@@ -59,7 +59,7 @@ pub record IsMade (p : Parts) : Type 0 where
   pub closed : AllByRecursion (AreBound p.prefix) p.clauses.whole
   pub few : length p.clauses.whole ≤ p.count
 
--- what holds at each state
+-- the invariant at each state
 abbrev pub IsSound : states.State → Parts → Type 0
 IsSound (at.InHeader here) p = IsNothing p × IsUpTo 2147483647 here
 IsSound at.Between p = IsMade p × (p.clauses.unfinished ≡ [])
@@ -67,7 +67,7 @@ IsSound (at.InSet q) p = AreCounted p × (p.clauses.whole ≡ []) × (p.clauses.
 IsSound at.InClause p = IsMade p × AreBound p.prefix p.clauses.unfinished × (length p.clauses.whole < p.count)
 IsSound at.Whole p = IsWellFormed (formula_of p)
 
--- at the state that a token leads to; where it is not taken, nothing is changed
+-- the invariant at the state that a token leads to; if the token is not taken, nothing is changed
 abbrev pub Leads : Parts → Parts → Result states.State (Stop FormulaFault) → Type 0
 Leads old new (Ok next) = IsSound next new
 Leads old new (Err e) = new ≡ old

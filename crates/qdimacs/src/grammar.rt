@@ -36,7 +36,7 @@ enum State {
 /// The state that a token leads to, or why it is not taken.
 type Transition = Result<State, Stop<FormulaFault>>;
 
-/// What was read of a formula.
+/// The parts of a formula that were read.
 #[derive(Drop)]
 struct Parts {
     /// The number of variables that the header says.
@@ -161,7 +161,8 @@ fn take_at(here: State, parts: &mut Parts, token: Token) -> Transition
 type Reached = (State, Result<usize, AllocError>);
 
 /// Puts the numbers between two places at the end of an unfinished clause, if all of them are
-/// literals and each variable that the header allows is bound. Returns the place of the next number.
+/// literals and each variable that the header allows is bound. Returns the place of the next
+/// number.
 ///
 /// # Errors
 /// Out of memory. Nothing is changed then.
@@ -296,7 +297,7 @@ fn takes_any(parts: &Parts) -> bool
     parts.full && parts.clauses.whole_len() < parts.count as usize
 }
 
-/// Whether the zero of a list that is not empty stands there.
+/// Whether the zero of a list that begins at `from` and is not empty stands at `zero`.
 #[inline(always)]
 fn ends_at(values: &[i32], from: usize, zero: usize) -> bool
     ensures order { IsTrue result → from < zero }
@@ -307,7 +308,7 @@ fn ends_at(values: &[i32], from: usize, zero: usize) -> bool
 }
 
 /// Takes a clause between the places `from` and `zero`, if all of it stands there. Returns whether
-/// it does.
+/// it was taken.
 ///
 /// # Errors
 /// Out of memory.
@@ -343,8 +344,8 @@ fn take_whole(
     }
 }
 
-/// Takes clauses from the place `from` on, as long as all of the next one stands there: the zero
-/// with this number seems to end it. Returns the place of the next number.
+/// Takes clauses from the place `start.0` on, as long as all of the next one stands there: the zero
+/// with the number `start.1` seems to end the first. Returns the place of the next number.
 ///
 /// # Errors
 /// Out of memory.

@@ -18,19 +18,19 @@ use std::alloc::Global;
 /// Reads a formula in QDIMACS 1.1 to the end of its source: the formula that the bytes spell, or
 /// the first fault and its line.
 ///
-/// Numbers are at most 2147483647. Clauses are kept as written. Beside the standard, neighbouring
+/// Numbers are at most 2147483647. Clauses are kept as written. Beyond the standard, neighbouring
 /// sets of one quantifier are joined, empty sets are dropped, the innermost block may be universal,
 /// clauses may be empty, repeat literals or hold both literals of a variable, and comment lines may
 /// stand anywhere. Against it, free variables are refused.
 ///
 /// # Errors
-/// F1 exactly where the source failed, F9 only if an allocation failed, else F2 to F8 as they are
+/// F1 exactly if the source failed, F9 only if an allocation failed, else F2 to F8 as they are
 /// listed.
 pub fn read_formula<S: Source>(
     alloc: Global,
     source: &mut S,
 ) -> Result<Formula, (FormulaFault, u64)>
-    // The formula where the bytes spell one, else the fault that stands.
+    // The formula if the bytes spell one, else the first fault.
     ensures reads { IfSome (S.remaining source.old)
         (λ bytes. IsReadAs (tokens Qdimacs bytes) result) }
     // The result is that of the function `reads_bytes`.

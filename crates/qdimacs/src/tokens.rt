@@ -1,4 +1,4 @@
-//! What one token says at its place.
+//! The meaning of one token at its place.
 
 ghost use Rattle.std.specs.Prelude.{◌≡◌, ◌≤◌, true, IfSome, IfOk};
 ghost use Rattle.qbf_core.specs.Blocks.{pairs, IsBound};
@@ -10,7 +10,7 @@ use dimacs_syntax::{Faults, HeaderForm, decode_literal};
 use qbf_core::{LAST_VARIABLE, Lit, Prefix};
 use qbf_text::{Token, Word};
 
-/// The faults that tokens of a formula are.
+/// The faults that tokens of a formula can be.
 pub(crate) const FAULTS: Faults<FormulaFault> = Faults {
     header: FormulaFault::F2,
     stray: FormulaFault::F3,
@@ -26,12 +26,12 @@ pub(crate) const FORM: HeaderForm<FormulaFault> = HeaderForm {
     faults: FAULTS,
 };
 
-/// The literal that a token says in a clause, or `None` where it closes the clause.
+/// The literal that a token says in a clause, or `None` if it closes the clause.
 ///
-/// Where the prefix is `full`, no variable is looked up.
+/// If the prefix is `full`, no variable is looked up.
 ///
 /// # Errors
-/// F3, F4, F6 or F7: the fault that the token is there.
+/// F3, F4, F6 or F7: the fault of the token at its place.
 #[inline(always)]
 pub(crate) fn decode_bound_literal(
     prefix: &Prefix,
@@ -51,10 +51,10 @@ pub(crate) fn decode_bound_literal(
     }
 }
 
-/// What a token says that begins no set: that a clause begins, or that all is read.
+/// Whether a token that begins no set begins a clause. If it does not, all is read.
 ///
 /// # Errors
-/// F3, F4 or F8: the fault that the token is there.
+/// F3, F4 or F8: the fault of the token at its place.
 #[inline(always)]
 pub(crate) fn decode_clause_or_end(more: bool, token: Token) -> Result<bool, FormulaFault>
     ensures { result ≡ decode_clause_or_end more token }

@@ -48,7 +48,7 @@ impl<'a> Put for ClauseLines<'a> {
     }
 }
 
-/// A variable, after what opens its block if the one before it has another quantifier.
+/// A variable, after the opening of its block if the one before it has another quantifier.
 fn put_variable<K: Sink>(
     sink: &mut K,
     last: Option<Quantifier>,
@@ -105,7 +105,7 @@ fn header_line<'a>(formula: &Formula) -> HeaderLine<'a>
 /// leading zeros, and each line ends with byte 10. Reading the text gives the formula.
 ///
 /// # Errors
-/// A `SinkFault` where the sink failed. What went out is a beginning of the text then.
+/// A `SinkFault` if the sink failed. What went out is a beginning of the text then.
 #[tactic(auto, using(crate::proofs::ReadingLaws::text_is_read))]
 pub fn write_formula<K: Sink>(formula: &Formula, sink: &mut K) -> Result<(), SinkFault>
     ensures put { IsPut K.written K.failures K.failed_last

@@ -1,4 +1,4 @@
--- What contracts see of a trace (QRP).
+-- A trace (QRP) as contracts see it: its header, its sets, its steps and its result.
 use Rattle.std.specs.Prelude.{◌<◌, ◌^◌, ℕ, List, [], ◌∷◌, ◌++◌, map, length, nat_eq, slice_get}
 use Rattle.dimacs_syntax.specs.Cited.{AllByRecursion, Block, IsVariable}
 use Rattle.std.specs.List.{IsDistinct, filter_map}
@@ -15,7 +15,7 @@ pub record Derivation : Type 0 where
   pub steps : List Inference
   pub result : Outcome
 
--- what the grammar asks of sets and steps: their numbers are in range, and no two steps have one number
+-- sets and steps that keep the rules of the grammar: numbers in range, at most two antecedents, and no two steps with the same number
 pub record AreGrammatical (sets : List Block) (steps : List Inference) : Type 0 where
   pub variables : AllByRecursion (λ s. AllByRecursion IsVariable s.vars) sets
   pub inferences : AllByRecursion IsInference steps
@@ -29,7 +29,7 @@ pub record FitsIn64 (d : Derivation) : Type 0 where
   pub ants_fit : AllByRecursion (λ s. AllByRecursion (λ n. n < 2 ^ 64) s.ants) d.steps
   pub count : length d.steps < 2 ^ 64
 
--- what a kept trace meets
+-- the invariant of a kept trace: it keeps the rules of the grammar, and its numbers have 64 bits
 pub record IsWellFormed (d : Derivation) : Type 0 where
   pub grammatical : AreGrammatical d.sets d.steps
   pub fits : FitsIn64 d

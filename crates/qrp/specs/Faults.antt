@@ -1,4 +1,4 @@
--- Where the first fault stands: the tokens before it are accepted, and the row of its state refuses it.
+-- The place of the first fault: the tokens before it are accepted, and the row of their state refuses it.
 use Rattle.std.specs.Prelude.{◌≡◌, ◌≤◌, ℕ, false, List, [], ◌∷◌, ◌++◌, map, length, Result}
 use Rattle.dimacs_syntax.specs.Cited
 use Cited.{AllByRecursion, Block, IsVariable, Token, Lined, number, literal, letter}
@@ -25,7 +25,7 @@ pub record AreLists (ts unfinished : List Token) (ns : List ℕ) : Type 0 where
   pub numbered : numbers steps ≡ ns
   pub grammatical : AreGrammatical sets steps
 
--- The tokens before a state: an unfinished header, or whole sets and whole steps and then nothing, one unfinished list, or `r`.
+-- The tokens before a state: an unfinished header, or whole sets and whole steps, and after them nothing, one unfinished list, or `r`.
 abbrev pub Spells : List Token → State → Type 0
 Spells ts (InHeader here) = ts ≡ header_before word.Qrp here
 Spells ts (Between ns) = AreLists ts [] ns
@@ -51,6 +51,6 @@ whole_before ts (After i ns) s = []
 abbrev pub IsFault : List Lined → TraceFault → ℕ → Type 0
 IsFault ts fault line = whole_texts.IsFault Spells (λ state t f. row state t ≡ Fails f) ts fault line
 
--- What the tokens read as: the trace that they spell, or the fault that stands.
+-- The result that the tokens read as: the trace that they spell, or the fault that stands.
 abbrev pub Reads : List Lined → Result Derivation Fault → Type 0
 Reads ts result = whole_texts.Reads IsTrace IsFault ts result

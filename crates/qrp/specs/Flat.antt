@@ -20,7 +20,7 @@ steps_of (n ∷ ns) [] ants = []
 steps_of (n ∷ ns) (l ∷ lits) [] = []
 steps_of (n ∷ ns) (l ∷ lits) (a ∷ ants) = record { number = n; lits = l; ants = a } ∷ steps_of ns lits ants
 
--- what is whole of a trace
+-- the whole parts of a trace
 pub record Kept : Type 0 where
   pub header : Header
   pub sets : List Block
@@ -32,7 +32,7 @@ pub record Kept : Type 0 where
 abbrev pub nothing_kept : Kept
 nothing_kept = record { header = record { vars = 0; steps = 0 }; sets = []; numbers = []; lits = []; ants = [] }
 
--- the trace that is made of it
+-- the trace that is made of these parts
 abbrev pub trace_of : Kept → Derivation
 trace_of k = record { header = k.header; sets = k.sets; steps = steps_of k.numbers k.lits k.ants; result = Sat }
 
@@ -47,7 +47,7 @@ pub record IsFlat (k : Kept) : Type 0 where
 abbrev pub lent : Growing ℕ → List (List ℕ)
 lent ants = ants.whole
 
--- what is whole of these parts, whose antecedents are seen as these lists
+-- the whole ones of these parts; `lists` gives the antecedents as lists
 abbrev pub kept_of : {A : Type 0} → (A → List (List ℕ)) → Parts A → Kept
 kept_of lists p = record {
   header = p.header;

@@ -12,7 +12,7 @@ use Rattle.qrp.specs.Flat.{Kept}
 use Rattle.qrp.specs.NextItem.{known_items, left_after, is_last, numbers_with, stage_after, GivesNextItem, IsProper, StopsAfterPart}
 use Rattle.qrp.specs.Reading.{Fault, State, AtP, Between, After}
 
--- what is kept of the parts that were given, and where reading stands
+-- the parts that are kept of those that were given, and the state of reading
 pub record ItemsRead : Type 0 where
   pub kept : Kept
   pub state : State
@@ -22,30 +22,30 @@ abbrev pub HasItem : State → Type 0
 HasItem (After i ns) = ⊤
 HasItem here = ⊥
 
--- the item that was complete was given, and is as the grammar asks; after it its number is kept, if it is a step, and the next token is
--- taken, if it is not the last
+-- The item that was complete was given, and it keeps the rules of the grammar. If it is a step, its number is kept; and if it is not the
+-- last item, the next token is between lists.
 pub record GivesItem (i : Item) (old new : ItemsRead) : Type 0 where
   pub item : old.state ≡ After i (numbers_with old.kept.numbers (Ok i))
   pub proper : IsProper old.kept.numbers i
   pub numbers : new.kept.numbers ≡ numbers_with old.kept.numbers (Ok i)
   pub next : is_last (Ok i) ≡ false → new.state ≡ Between new.kept.numbers
 
--- a reader that is so far takes a token here
+-- a reader at this stage takes its next token here
 abbrev pub Stands : Stage → ItemsRead → Type 0
 Stands AtHeader g = g.state ≡ AtP
 Stands AtLists g = g.state ≡ Between g.kept.numbers
 Stands done g = ⊤
 
--- ---- what reading an item returns
+-- ---- the result of reading an item
 
--- the item is as the grammar asks, its number is after the others, and the next token stands where it is to be taken
+-- the item keeps the rules of the grammar, its number is after the others, and the state is the one in which the next token is taken
 pub record IsItem (old new : ItemsRead) (result : Result Item Fault) : Type 0 where
   pub proper : IfOk result (λ i. IsProper old.kept.numbers i)
   pub numbers : new.kept.numbers ≡ numbers_with old.kept.numbers result
   pub stands : Stands (stage_after result) new
 
--- what was done with the devices: the scanner did not fail with an item, and after each but the last less can still come; what the
--- result tells of their failures
+-- the devices after a call: the scanner did not fail with an item, after each item but the last less can still come, and the result tells
+-- of their failures
 pub record IsDriven (scanner : Reading) (before bound old new : ℕ) (result : Result Item Fault) : Type 0 where
   pub ready : OnOk result (¬ HasFailed scanner)
   pub less : is_last result ≡ false → length scanner.pending + bound < before

@@ -1,4 +1,4 @@
--- What the calls return that read a whole trace.
+-- The results of the calls that read a whole trace.
 use Rattle.std.specs.Prelude.{◌≡◌, ◌≤◌, ℕ, List, ◌++◌, length, Bool, true, false, Option, option_map, Result, Ok, Err, IfOk}
 use Rattle.dimacs_syntax.specs.Cited.{Lined}
 use Rattle.qbf_text.specs.WholeTexts as whole_texts
@@ -12,7 +12,7 @@ use Rattle.qrp.specs.Grammar.{IsTrace}
 use Rattle.qrp.specs.Reading.{Fault, read_trace}
 use Rattle.qrp.specs.Faults.{IsFault}
 
--- what bytes read as, where they are known
+-- the result of reading these bytes, if they are known
 abbrev pub reads_bytes : Option (List ℕ) → Option (Result Derivation Fault)
 reads_bytes bytes = option_map read_trace bytes
 
@@ -30,8 +30,8 @@ Gives result whole = whole_texts.Gives is_outside result whole
 abbrev pub IsReadAs : List Lined → Result Derivation Fault → Type 0
 IsReadAs ts result = whole_texts.IsReadAs is_outside IsTrace IsFault ts result
 
--- What was consumed of the bytes ends with the result word and at most one separator after it. Only up to 4,096 bytes that come next may be
--- consumed too, since a source is pulled for many bytes at once: they are held, no token is made of them, and they are lost with the reader.
+-- The bytes that were consumed end with the result word and at most one separator. Up to 4,096 bytes that come next may be consumed too,
+-- since a source is pulled for many bytes at once: they are held, no token is made of them, and they are lost with the reader.
 pub record StopsAfterResult (d : Derivation) (bytes rest : List ℕ) : Type 0 where
   pub before : List ℕ
   pub word : List ℕ
@@ -46,7 +46,7 @@ pub record StopsAfterResult (d : Derivation) (bytes rest : List ℕ) : Type 0 wh
   -- with it the trace is whole
   pub whole : read_trace (before ++ word ++ separator) ≡ Ok d
 
--- What a call does that reads a trace from a source, if that had these bytes still to give before and after, and had failed so often:
+-- A call that reads a trace from a source, if the source had these bytes still to give before and after, and had failed so often:
 -- it gives what the bytes read as, takes nothing past the result word but what is held, and tells of its devices.
 pub record ReadsTrace (before after : Option (List ℕ)) (old new : ℕ) (result : Result Derivation Fault) : Type 0 where
   pub exact : Gives result (reads_bytes before)

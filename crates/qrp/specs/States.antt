@@ -1,4 +1,4 @@
--- Where a token stands while a trace is read: what the unfinished lists say of its state.
+-- The states of reading a trace, each made of the unfinished lists.
 use Rattle.std.specs.Prelude.{◌≡◌, ◌<◌, ◌≤◌, ◌^◌, ℕ, false, List, [], ◌∷◌, ◌++◌, length, Result, Ok, Err, ⊤}
 use Rattle.dimacs_syntax.specs.Cited.{AllByRecursion, IsVariable}
 use Rattle.qbf_text.specs.declared.grammar.Stop.{Stop}
@@ -17,19 +17,19 @@ use Rattle.qbf_text.specs.Rows.{Goes, Ends, Fails}
 use Rattle.qrp.specs.Reading.{State, Row, InHeader, Between, InSet, InLits, InAnts, AtResult, After}
 use Rattle.step_index.specs.Numbers.{is_used}
 
--- the item that a part is
+-- the item of a part
 abbrev pub item_of : Lists → Part → Item
 item_of b (part.Header h) = item.Header h
 item_of b (part.Set q) = item.Set (record { quantifier = q; vars = b.vars.items })
 item_of b (part.Step n) = item.Step (record { number = n; lits = b.lits.unfinished; ants = list_of_pair b.ants })
 item_of b (part.Result o) = item.Result o
 
--- the numbers of the steps after it
+-- the numbers of the steps after a part
 abbrev pub numbers_after : Lists → Part → List ℕ
 numbers_after b (part.Step n) = b.index ++ n ∷ []
 numbers_after b p = b.index
 
--- where reading stands with these lists
+-- the state of reading with these lists
 abbrev pub state_at : Lists → states.State → State
 state_at b (at.InHeader here) = InHeader here
 state_at b at.Between = Between b.index
@@ -51,7 +51,7 @@ pub record Stays (old new : Lists) : Type 0 where
   pub index : new.index ≡ old.index
   pub lits : new.lits.whole ≡ old.lits.whole
 
--- ---- what holds of what is unfinished
+-- ---- the invariant of the unfinished lists
 
 -- a number of a step that may come after steps with these numbers
 abbrev pub IsNew : ℕ → List ℕ → Type 0
@@ -63,14 +63,14 @@ pub record AreAntecedents (ants : List ℕ) : Type 0 where
   pub fit : AllByRecursion (λ n. n < 2 ^ 64) ants
   pub few : length ants ≤ 2
 
--- after a part
+-- the invariant after a part
 abbrev pub IsComplete : Part → Lists → Type 0
 IsComplete (part.Header h) b = (b.index ≡ []) × (h.vars < 2 ^ 64) × (h.steps < 2 ^ 64)
 IsComplete (part.Set q) b = (b.index ≡ []) × AllByRecursion IsVariable b.vars.items
 IsComplete (part.Step n) b = IsNew n b.index × AllByRecursion IsLiteral b.lits.unfinished × AreAntecedents (list_of_pair b.ants)
 IsComplete (part.Result o) b = ⊤
 
--- at each state
+-- the invariant at each state
 abbrev pub IsSound : states.State → Lists → Type 0
 IsSound (at.InHeader here) b = b.index ≡ []
 IsSound at.Between b = ⊤

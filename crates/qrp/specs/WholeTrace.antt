@@ -1,4 +1,4 @@
--- A trace that is read as a whole: each item that is complete is kept, and the next token stands behind it.
+-- A trace that is read as a whole: each item that is complete is kept, and the next token is after it.
 use Rattle.std.specs.Prelude.{ℕ, List, Result, Ok, Err, ⊤}
 use Rattle.qbf_text.specs.declared.token.Token.{Token}
 use Rattle.qbf_text.specs.Rows.{Goes, Ends, Fails}
@@ -14,7 +14,7 @@ use Rattle.qrp.specs.Flat.{kept_of, trace_of, with_item, IsFlat}
 use Rattle.qrp.specs.Reading.{Fault, State, Row, AtP, Between, After, nothing, row}
 use Rattle.qrp.specs.States.{state_at, IsSound}
 
--- what is made of the items that were read, and where the next token stands
+-- the trace that is made of the items that were read, and the state of the next token
 pub record TraceRead : Type 0 where
   pub made : Derivation
   pub state : State
@@ -23,25 +23,25 @@ pub record TraceRead : Type 0 where
 abbrev pub nothing_read : TraceRead
 nothing_read = record { made = nothing; state = AtP }
 
--- what is made of these parts, and where the next token stands
+-- the trace that is made of these parts, and the state of the next token
 abbrev pub trace_at : {A : Type 0} → (A → List (List ℕ)) → Parts A → states.State → TraceRead
 trace_at lists p here = record { made = trace_of (kept_of lists p); state = state_at p.lists here }
 
--- what holds of the parts where the next token stands
+-- the invariant of the parts at the state of the next token
 abbrev pub AreSound : {A : Type 0} → (A → List (List ℕ)) → states.State → Parts A → Type 0
 AreSound lists here p = IsSound here p.lists × IsFlat (kept_of lists p)
 
--- What the row of a state makes of a token. The result alone ends what is read.
+-- A row: what a state makes of a token. Only the result ends what is read.
 abbrev pub TraceRow : Type 0
 TraceRow = rows.Row TraceRead (Unit {0}) TraceFault
 
--- after an item, or in one
+-- the row after an item, or in one
 abbrev pub with_item_kept : Derivation → State → TraceRow
 with_item_kept d (After (item.Result o) ns) = Ends tt (record { made = d; state = After (item.Result o) ns })
 with_item_kept d (After i ns) = Goes (record { made = with_item d i; state = Between ns })
 with_item_kept d here = Goes (record { made = d; state = here })
 
--- after a token
+-- the row after a token
 abbrev pub kept_row : Derivation → Row → TraceRow
 kept_row d (Goes next) = Goes (record { made = d; state = next })
 kept_row d (Ends u next) = with_item_kept d next

@@ -1,4 +1,4 @@
--- What a caller in C gets of a formula or a trace that is written, and of a core. The bytes are in memory, so only an allocation can
+-- The results for a caller in C of a formula or a trace that is written, and of a core. The bytes are in memory, so only an allocation can
 -- fail.
 use Rattle.std.specs.Prelude.{◌≡◌, ℕ, List, ◌∷◌, [], Some, None, IfErr, Result, Ok, Err}
 use Rattle.qbf_core.specs.Qbf.{Qbf}
@@ -22,7 +22,7 @@ use Rattle.qrp_bytes.specs.Encoding.{encoded_fault, encoded_truth}
 abbrev pub lent_bytes : List ℕ → SourceCall
 lent_bytes bytes = record { bytes = Some bytes; rest = None; before = 0; after = 0; unpulled = Unit {0} }
 
--- the struct for a trimmed trace, or for what was refused
+-- the struct for a trimmed trace, or for a fault
 abbrev pub encoded_trace : Result Derivation Fault → QrpVerdict
 encoded_trace (Ok t) = encoded_truth (is_sat t.result)
 encoded_trace (Err e) = encoded_fault e

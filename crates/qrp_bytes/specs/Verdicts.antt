@@ -1,4 +1,4 @@
--- What a caller in C may take from a verdict on the bytes that it lends. They are in memory, so only an allocation can fail.
+-- The meaning for a caller in C of a verdict on the bytes that it lends. They are in memory, so only an allocation can fail.
 use Rattle.std.specs.Prelude.{◌≡◌, ◌↔◌, ◌⊎◌, ℕ, if◌then◌else◌, List, Some, IfErr, Result}
 use Rattle.qbf_core.specs.Qbf.{Qbf}
 use Rattle.qbf_core.specs.Truth.{IsTrueFormula, ResultHolds}
@@ -14,8 +14,8 @@ use Rattle.qrp_check.specs.Headline.{Spell, IsShown}
 use Rattle.qrp_bytes.specs.declared.verdict.QrpVerdict.{QrpVerdict}
 use Rattle.qrp_bytes.specs.Encoding.{IsEncoded}
 
--- The headline: status 0 only if the bytes show it, and whenever they do, unless an allocation failed, 4. And then the formula is false
--- if the trace says `r unsat` and true if it says `r sat`, and `truth` is 1 exactly if it is true.
+-- The headline: status 0 only if the bytes show it, and whenever they do, unless an allocation failed, which is status 4. And then the
+-- formula is false if the trace says `r unsat` and true if it says `r sat`, and `truth` is 1 exactly if it is true.
 pub record StructHeadline (rules : Rules) (formula trace : List ℕ) (out : QrpVerdict) : Type 0 where
   pub only : out.status ≡ 0 → IsShown rules formula trace
   pub wherever : IsShown rules formula trace → (out.status ≡ 0) ⊎ (out.status ≡ 4)

@@ -1,4 +1,4 @@
--- What a caller in C gets of the check of a proof that was handed over.
+-- The result for a caller in C of the check of a proof that was handed over.
 use Rattle.std.specs.Prelude.{◌≡◌, ◌≢◌, ◌↔◌, ◌⊎◌, Bool, IsTrue, List, []}
 use Rattle.qbf_core.specs.Qbf.{Qbf}
 use Rattle.qbf_core.specs.Truth.{IsTrueFormula}
@@ -18,12 +18,12 @@ pub record IsVerified (rules : Rules) (f : Qbf) (steps : List Inference) (sat : 
   pub proves : Proves rules f [] steps (outcome_of sat)
   pub truth : IsTrue sat ↔ IsTrueFormula f
 
--- a fault, which stands unless it is that of an allocation
+-- the proof is refused with a fault, which stands unless it is that of a failed allocation
 pub record IsRefused (rules : Rules) (f : Qbf) (steps : List Inference) (sat : Bool) (out : QrpVerdict) : Type 0 where
   pub fault : CheckFault
   pub encoded : out ≡ encoded_fault (Check fault)
   pub stands : fault ≢ C5 → IsFirstFault rules f [] steps (outcome_of sat) fault
 
--- the struct says which
+-- the struct says that the proof is verified, or that it is refused
 abbrev pub IsVerdictOf : Rules → Qbf → List Inference → Bool → QrpVerdict → Type 0
 IsVerdictOf rules f steps sat out = IsVerified rules f steps sat out ⊎ IsRefused rules f steps sat out

@@ -1,4 +1,4 @@
--- What the check of a formula and a trace at their sources returns, and what it leaves of these.
+-- The result of the check of a formula and a trace at their sources, and what it leaves of these.
 use Rattle.std.specs.Prelude.{◌≡◌, ◌↔◌, ℕ, ◌-◌, ◌^◌, ◌<◌, Bool, List, Option, length, IfSome, IfOk, IfErr, OnOk, Result, Ok, Err}
 use Rattle.std.specs.List.{AllByRecursion}
 use Rattle.qbf_core.specs.Qbf.{Qbf}
@@ -12,8 +12,8 @@ use Rattle.qrp_check.specs.declared.verdict.Fault.{Fault}
 use Rattle.qrp_check.specs.Verdict.{IsVerdictOf, IsVerdictUnless, IsFormulaDevice, IsTraceDevice, IsFormulaFault, StandsOnLine}
 use Rattle.qrp_check.specs.Verdict.{WasRead, StopsAfterTrace}
 
--- what a call does with a source: its bytes, and what it leaves of them, if they are known, its count of failures before and after, and
--- that it was not pulled
+-- a source before and after a call: its bytes and those that are left, if they are known, its count of failures before and after, and the
+-- statement that it was not pulled
 pub record SourceCall : Type 1 where
   pub bytes : Option (List ℕ)
   pub rest : Option (List ℕ)
@@ -48,16 +48,15 @@ WasReadFrom bytes d = IsWellFormed d × IfSome (reads_bytes bytes) (λ read. rea
 abbrev pub StopsOnceRead : {V : Type 0} → Option (List ℕ) → Option (List ℕ) → Result V Fault → Type 0
 StopsOnceRead before after result = WasRead result → IfKnown StopsAfterTrace before after
 
--- What is known of a trace that is returned with its verdict, if its source had these bytes still to give before and after: it was read
--- from there, and each position of its core is one of its steps; and once it was read, nothing was taken past its result word but what is
--- held.
+-- A trace that is returned with its verdict, if its source had these bytes still to give before and after. It was read from there, and each
+-- position of its core is that of one of its steps. Once it was read, nothing was taken past its result word but what is held.
 pub record IsOfSource (before after : Option (List ℕ)) (result : Result (Derivation × Verified) Fault) : Type 0 where
   pub reads : IfOk result (λ r. WasReadFrom before r.0)
   pub within : IfOk result (λ r. AllByRecursion (λ i. i < length r.0.steps) r.1.core.items)
   pub stops : StopsOnceRead before after (verdict_of result)
 
--- What the check of two texts by these rules returns: the verdict on their bytes, or that a source failed, exactly if it did, or
--- that an allocation failed; the latter two on line 0. With a fault of the formula the trace was not pulled.
+-- The result of the check of two texts by these rules: the verdict on their bytes, or that a source failed, exactly if it did, or that an
+-- allocation failed. The latter two are on line 0. With a fault of the formula the trace was not pulled.
 pub record IsChecked (rules : Rules) (formula trace : SourceCall) (result : Result Verified Fault) : Type 0 where
   pub verdict : IsVerdictUnless rules formula.bytes trace.bytes result
   pub formula_failed : formula.before < 2 ^ 64 - 1 → IsFormulaDevice result ↔ (formula.before < formula.after)
@@ -65,7 +64,7 @@ pub record IsChecked (rules : Rules) (formula trace : SourceCall) (result : Resu
   pub lines : IfErr result StandsOnLine
   pub not_pulled : IsFormulaFault result → trace.unpulled
 
--- what the check of a trace against a formula that was read returns, and what it leaves of the source
+-- the result of the check of a trace against a formula that was read, and the count of failures of its source
 pub record IsCheckedOf (rules : Rules) (f : Qbf) (trace : SourceCall) (result : Result Verified Fault) : Type 0 where
   pub verdict : IsVerdictOf rules f trace.bytes result
   pub failed : trace.before < 2 ^ 64 - 1 → IsTraceDevice result ↔ (trace.before < trace.after)

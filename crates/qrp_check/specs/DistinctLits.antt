@@ -15,7 +15,7 @@ pub record IsKeptAt (kept : DistinctLits) (p : ℕ) (lits : List Literal) : Type
 abbrev pub HasMembersAt : List Inference → ℕ → List Literal → Type 0
 HasMembersAt steps p lits = (step : Inference) → IsAt steps p step → HasMembersOf lits step.lits
 
--- what is kept of each step has its members
+-- each list that is kept of a step has the members of that step, and there are as many lists as positions
 pub record AreKept (steps : List Inference) (kept : DistinctLits) : Type 0 where
   pub count : length kept.positions.items ≡ length kept.lists.whole
   pub same : (p : ℕ) (lits : List Literal) → IsKeptAt kept p lits → HasMembersAt steps p lits

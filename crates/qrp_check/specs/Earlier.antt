@@ -1,4 +1,4 @@
--- Where an earlier step stands that has a number.
+-- The position of an earlier step, by its number.
 use Rattle.std.specs.Prelude.{◌≡◌, ℕ, ◌<◌, List, Option, Some, None}
 use Rattle.qrp.specs.Inferences.{Inference, IsAt, IsOnlyAt}
 

@@ -13,13 +13,13 @@ use Rattle.qrp_check.specs.declared.fault.CheckFault.TheVariants.{C1, C2, C3, C4
 use Rattle.qrp_check.specs.declared.following.WalkState.{WalkState}
 use Rattle.qrp_check.specs.DistinctLits.{AreKept}
 
--- the steps of the core before position i follow, and so are clean and bound, and what is kept is of this formula and of these steps
+-- the steps of the core before position i follow, so they are clean and bound; and what is kept is of this formula and of these steps
 pub record IsFollowed (rules : Rules) (side : Side) (f : Qbf) (steps : List Inference) (i : ℕ) (state : WalkState) : Type 0 where
   pub follows : (j : ℕ) → j < i → IsInCore steps j → StepFollows rules side f steps j
   pub known : AreKnown f state.tests.initial
   pub kept : AreKept steps state.distinct
 
--- what is refused of a core: its first step that does not follow, or nothing if an allocation failed
+-- the fault of a core: that of its first step that does not follow, or a failed allocation
 abbrev pub IsCoreFault : Rules → Side → Qbf → List Inference → CheckFault → Type 0
 IsCoreFault rules side f steps (C1 v) = ⊥
 IsCoreFault rules side f steps (C2 v) = ⊥

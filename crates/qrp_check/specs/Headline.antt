@@ -29,8 +29,8 @@ pub record IsShown (rules : Rules) (formula trace : List ℕ) : Type 0 where
   pub spelled : Spell formula trace f d
   pub proves : IsProof rules f d
 
--- The result is Verified only where the bytes show it, and wherever they do, unless an allocation or a device failed. And then
--- the formula is false if the trace says `r unsat` and true if it says `r sat`, and `truth` says which.
+-- The result is Verified only if the bytes show it, and whenever they do, unless an allocation or a device failed. And then the formula is
+-- false if the trace says `r unsat` and true if it says `r sat`, and `truth` says which.
 pub record Headline (rules : Rules) (formula trace : List ℕ) (result : Result Verified Fault) : Type 0 where
   pub only : IsOk result → IsShown rules formula trace
   pub wherever : IsShown rules formula trace

@@ -34,7 +34,7 @@ AreFit blocks Initial = Unit {0}
 AreFit blocks (One from) = IsFit blocks from.now
 AreFit blocks (Two a b) = IsFit blocks a.now × IsFit blocks b.now
 
--- what the rules ask of literals that follow from these antecedents
+-- the conditions of the rules on literals that are to follow from these antecedents
 abbrev pub premise_conditions : Rules → Side → Qbf → Premises → List Literal → List (Condition RuleFault)
 premise_conditions rules side f Initial lits = initial_condition side f lits ∷ []
 premise_conditions rules side f (One from) lits = reduct_conditions side f.blocks from.now lits
@@ -45,7 +45,7 @@ abbrev pub written_conditions : Rules → Side → Qbf → Premises → List Lit
 written_conditions rules side f premises lits =
     (S1, IsClean lits) ∷ (S2, AreBound f.blocks lits) ∷ premise_conditions rules side f premises lits
 
--- the conditions of a step, where no antecedents are found if one is not an earlier step
+-- the conditions of a step: if an antecedent is not an earlier step, no antecedents are found, and S3 fails
 abbrev pub found_conditions : Rules → Side → Qbf → Option Premises → List Literal → List (Condition RuleFault)
 found_conditions rules side f None lits = (S1, IsClean lits) ∷ (S2, AreBound f.blocks lits) ∷ (S3, ⊥) ∷ []
 found_conditions rules side f (Some premises) lits = written_conditions rules side f premises lits

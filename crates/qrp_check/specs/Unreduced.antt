@@ -16,14 +16,14 @@ use Rattle.qrp_check.specs.Core.{IsGoal, IsInCore}
 use Rattle.qrp_check.specs.Proof.{side_of}
 use Rattle.qrp_check.specs.Sets.{SetsAgree}
 
--- by the number of antecedents, as `antecedent_conditions`
+-- the conditions by the number of antecedents, as in `antecedent_conditions`
 abbrev pub unreduced_antecedents : Rules → Side → Qbf → List Inference → List ℕ → List Literal → List (Condition RuleFault)
 unreduced_antecedents rules side f before [] lits = initial_condition side f lits ∷ []
 unreduced_antecedents rules side f before (m ∷ []) lits = reduct_conditions side f.blocks (lits_of before m) lits
 unreduced_antecedents rules side f before (m ∷ n ∷ more) lits =
     unreduced_conditions rules side f.blocks (lits_of before m) (lits_of before n) lits
 
--- the step at i follows from those before it, its parents as they stand
+-- the step at i follows from those before it, with its parents as they stand
 pub record FollowsUnreduced (rules : Rules) (side : Side) (f : Qbf) (steps : List Inference) (i : ℕ) : Type 0 where
   pub step : Inference
   pub here : IsAt steps i step
@@ -32,7 +32,7 @@ pub record FollowsUnreduced (rules : Rules) (side : Side) (f : Qbf) (steps : Lis
   pub numbers : (n : ℕ) → n ∈ step.ants → IsNumberOf (take i steps) n
   pub all : AllHold (unreduced_antecedents rules side f (take i steps) step.ants step.lits)
 
--- these sets, steps and this result prove the result of f, with parents as they stand
+-- these sets and steps prove this result of f, with parents as they stand
 pub record ProvesUnreduced (rules : Rules) (f : Qbf) (sets : List Block) (steps : List Inference) (result : Outcome) : Type 0 where
   pub agree : SetsAgree f.blocks sets
   pub position : ℕ

@@ -1,4 +1,4 @@
--- What a run reports, and to which sink.
+-- The report of a run, and the sink that it goes to.
 use Rattle.std.specs.Prelude.{◌≡◌, ℕ, List, ◌⊎◌, Result, Ok, Err}
 use Rattle.std.specs.Io.KnownBytes.{Appends}
 use Rattle.qbf_core.specs.Qbf.{Qbf}
@@ -25,7 +25,7 @@ use Rattle.qrp_report.specs.Results.{DeviceFailed, IsFormulaRead, IsTrimmed}
 pub data Sink : Type 0 where
   Out Errors : Sink
 
--- what is to be written: a text, the sink that it goes to, the status, and the status if that sink fails
+-- a report: a text, the sink that it goes to, the status, and the status if that sink fails
 pub record Report : Type 0 where
   pub sink : Sink
   pub text : List ℕ
@@ -36,7 +36,7 @@ pub record Report : Type 0 where
 abbrev pub success : List ℕ → Report
 success t = record { sink = Out; text = t; status = 0; failed = 3 }
 
--- where refusals go: `check` writes them where its verdict would stand, the other jobs to the other sink
+-- the sink that refusals go to: for `check` the same as for its verdict, and for the other jobs the other sink
 abbrev pub refusals : Job → Sink
 refusals (job.Check rules) = Out
 refusals (job.Trim rules) = Errors
@@ -93,7 +93,7 @@ IsSent sink old new text status failed returned =
 abbrev pub IsReportedTo : {S : Type 0} → Ghosts S → S → S → Report → ℕ → Type 0
 IsReportedTo sink old new r returned = IsSent sink old new r.text r.status r.failed returned
 
--- what holds if a report goes to this sink
+-- the first of two statements for a report to `Out`, and the second for one to `Errors`
 abbrev pub IsOn : Sink → Type 0 → Type 0 → Type 0
 IsOn Out on_out on_errors = on_out
 IsOn Errors on_out on_errors = on_errors
@@ -104,7 +104,7 @@ abbrev pub IsReported : {O E : Type 0} → Ghosts O → O → O → Ghosts E →
 IsReported o out out2 e errors errors2 r returned =
     IsOn r.sink (IsReportedTo o out out2 r returned × (errors2 ≡ errors)) (IsReportedTo e errors errors2 r returned × (out2 ≡ out))
 
--- What went out to a sink is the line of a verdict on these bytes, and the headline holds for it.
+-- The line of a verdict on these bytes went out to a sink, and the headline holds for the verdict.
 abbrev pub PrintsVerdict : {S : Type 0} → Ghosts S → S → S → Rules → List ℕ → List ℕ → Type 0
 PrintsVerdict sink old new rules formula trace =
     (v : Verified) × Headline rules formula trace (Ok v) × Appends (sink.written old) (sink.written new) (verdict_line v.truth)

@@ -1,4 +1,4 @@
--- What the whole program reports on the words after its name.
+-- The report of the whole program on the words after its name.
 use Rattle.std.specs.Prelude.{◌≡◌, ℕ, List, [], ◌⊎◌, Option, Some, None, Result, Ok, Err, get_or}
 use Rattle.qrp_cli.specs.declared.job.Job.{Job}
 use Rattle.qrp_cli.specs.declared.start.Start.{Start}
@@ -20,21 +20,22 @@ abbrev pub start_without_file : Start → OpenFault → Start
 start_without_file no_file NoFile = no_file
 start_without_file no_file NoMemory = start.NoMemory
 
--- what opening a path may return: the bytes of the file, if they are known, or why it is not opened
+-- the results that opening a path may have: the bytes of the file, if they are known, or why it is not opened
 abbrev pub Opens : Type 1
 Opens = List ℕ → Result (Option (List ℕ)) OpenFault → Type 0
 
--- The report on a file: the end for this sink if it is not opened, or what is said of the opened file, which has not failed.
+-- The report on a file: a line to this sink that ends the program, if it is not opened, or what is said of the opened file, which has
+-- not failed.
 abbrev pub IsOnFile : {F : Type 0} → source.Ghosts F → Opens → Sink → Start → List ℕ → (F → Type 0) → Report → Type 0
 IsOnFile {F = F} files opens sink no_file path says r =
     ((e : OpenFault) × opens path (Err e) × (r ≡ start_report sink (start_without_file no_file e)))
     ⊎ ((f : F) × opens path (Ok (files.remaining f)) × (files.failures f ≡ 0) × says f)
 
--- the report of `format` on an opened formula, which the run leaves as it is in the end
+-- the report of `format` on an opened formula, which is in some state after the run
 abbrev pub IsOnFormula : {F : Type 0} → source.Ghosts F → F → Report → Type 0
 IsOnFormula {F = F} formula f r = (f2 : F) × IsFormatted (call_of formula f f2) r
 
--- The report of a job on an opened formula and an opened trace, which the run leaves as they are in the end: so a failure that is reported
+-- The report of a job on an opened formula and an opened trace, each of which is in some state after the run: so a failure that is reported
 -- is one of an opened file.
 abbrev pub IsOnBoth : {F T : Type 0} → source.Ghosts F → source.Ghosts T → Job → F → T → Report → Type 0
 IsOnBoth {F = F} {T = T} formula trace j f t r = (f2 : F) × (t2 : T) × IsOutput j (call_of formula f f2) (call_of trace t t2) r

@@ -24,7 +24,7 @@ pub record Texts : Type 0 where
   pub formula : ℕ
   pub trace : ℕ
 
--- a command on a formula and a trace: two words after it are the two files; of three the first is the flag, or else the third
+-- a command on a formula and a trace: two words after it are the two files; of three the first is the flag, or if it is not, the third
 abbrev pub HasTexts : List ℕ → List (List ℕ) → Texts → Type 0
 HasTexts command words r =
     ((f t : List ℕ) × (words ≡ command ∷ f ∷ t ∷ []) × (r ≡ record { rules = plain; formula = 1; trace = 2 }))

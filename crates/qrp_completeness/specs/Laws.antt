@@ -1,4 +1,4 @@
--- The checker is complete: if a result holds, steps prove it, and of a small formula a trace does.
+-- The checker is complete: if a result holds, steps prove it, and for a small formula a trace does.
 use Rattle.std.specs.Prelude.{◌≡◌, ◌↔◌, ◌⊎◌, ℕ, ◌<◌, ◌≤◌, ◌^◌, List, [], length, Ok, IsOk, Result}
 use Rattle.qbf_core.specs.Blocks.{pairs}
 use Rattle.qbf_core.specs.Rules.{Side, deciding_quantifier}
@@ -19,7 +19,8 @@ use Rattle.qrp_check.specs.Unreduced.{ProvesUnreduced}
 use Rattle.qrp_check.specs.Verdict.{IsOutOfMemory, IsFormulaDevice, IsTraceDevice}
 use Rattle.qbf_completeness.specs.Laws.{count_of, step_limit}
 
--- steps that prove this result of f by any rules, with parents as they stand or reduced before, and without quantifier sets
+-- grammatical steps, fewer than `step_limit`, that prove this result of f by any rules, with parents as they stand or reduced before, and
+-- without quantifier sets
 pub record HasProof (f : Qbf) (result : Outcome) : Type 0 where
   pub steps : List Inference
   pub grammatical : AreGrammatical [] steps
@@ -36,7 +37,7 @@ abbrev pub ResultsAreProofs : Type 0
 ResultsAreProofs = (rules : Rules) (f : Qbf) (result : Outcome) → IsWellFormedFormula f
     → ResultHolds (side_of result) f ↔ ((steps : List Inference) × Proves rules f [] steps result)
 
--- The numbers of the steps of a trace (QRP of QBFcert) have 64 bits here: a proof of a small formula has no more steps than that.
+-- The numbers of the steps of a trace (QRP of QBFcert) have 64 bits here: a formula is small if its `step_limit` is at most 2 ^ 64.
 abbrev pub IsSmall : Side → Qbf → Type 0
 IsSmall side f = step_limit side f ≤ 2 ^ 64
 
@@ -59,7 +60,7 @@ abbrev pub SmallResultsHaveTraces : Type 0
 SmallResultsHaveTraces = (f : Qbf) (result : Outcome) → IsWellFormedFormula f → IsSmall (side_of result) f
     → ResultHolds (side_of result) f → HasTrace f result
 
--- the headline's answer on these bytes is Verified, unless an allocation or a device failed
+-- a result for which the headline holds on these bytes is Verified, unless an allocation or a device failed
 abbrev pub AreVerified : Rules → List ℕ → List ℕ → Type 0
 AreVerified rules formula trace = (result : Result Verified Fault) → Headline rules formula trace result
     → IsOk result ⊎ (IsOutOfMemory result ⊎ (IsFormulaDevice result ⊎ IsTraceDevice result))

@@ -1,6 +1,6 @@
--- Proofs by the rules as the literature states them: Q-resolution (Kleine Buening, Karpinski, Floegel 1995) and term resolution (Giunchiglia,
--- Narizzano, Tacchella 2006). They take out one literal at a time, and the prefix is a list of variables. A list of literals stands for the
--- set of its members.
+-- Proofs by the rules as the literature states them: Q-resolution (Kleine Buening, Karpinski, Floegel 1995) and term resolution
+-- (Giunchiglia, Narizzano, Tacchella 2006). They take out one literal at a time, and the prefix is a list of variables. A list of literals
+-- stands for the set of its members.
 use Rattle.std.specs.Prelude.{◌≡◌, ◌↔◌, ◌⊎◌, ℕ, List, [], ◌∷◌, take}
 use Rattle.qbf_core.specs.declared.quantifier.Quantifier.{Quantifier}
 use Rattle.qbf_core.specs.Literal.{Literal, negated}
@@ -36,7 +36,8 @@ pub record IsReduction (side : Side) (f : Qbf) (from to : List Literal) : Type 0
       → StandsAfter (pairs f.blocks) m.var literal.var → ⊥
   pub rest : (l : Literal) → l ∈ to ↔ ((l ∈ from) × (l ≡ literal → ⊥))
 
--- Resolution: `to` is the union of a and b without the pivot, a literal of the deciding quantifier in a, and without its negation in b.
+-- Resolution on a pivot, a literal of the deciding quantifier in a, whose negation is in b: `to` is the union of a without the pivot and of
+-- b without its negation.
 pub record IsResolution (side : Side) (f : Qbf) (a b to : List Literal) : Type 0 where
   pub literal : Literal
   pub in_a : literal ∈ a
@@ -44,13 +45,13 @@ pub record IsResolution (side : Side) (f : Qbf) (a b to : List Literal) : Type 0
   pub quantifier : (deciding_quantifier side, literal.var) ∈ pairs f.blocks
   pub rest : (l : Literal) → l ∈ to ↔ (((l ∈ a) × (l ≡ literal → ⊥)) ⊎ ((l ∈ b) × (l ≡ negated literal → ⊥)))
 
--- by the number of antecedents, of which a trace has two at most
+-- the rule by the number of antecedents, of which a step has at most two
 abbrev pub IsTextbookStep : Side → Qbf → List Inference → List ℕ → List Literal → Type 0
 IsTextbookStep side f before [] lits = IsAxiom side f lits
 IsTextbookStep side f before (m ∷ []) lits = IsReduction side f (lits_of before m) lits
 IsTextbookStep side f before (m ∷ n ∷ more) lits = IsResolution side f (lits_of before m) (lits_of before n) lits
 
--- each step of the core is not a tautology, has bound literals, and follows from earlier steps by one rule
+-- there is a goal; each step of the core is not a tautology, has bound literals, and follows from earlier steps by one rule
 pub record IsTextbookProof (f : Qbf) (steps : List Inference) (result : Outcome) : Type 0 where
   pub position : ℕ
   pub is_goal : IsGoal steps position
@@ -59,7 +60,7 @@ pub record IsTextbookProof (f : Qbf) (steps : List Inference) (result : Outcome)
   pub numbers : (i : ℕ) (s : Inference) → IsInCore steps i → IsAt steps i s → (n : ℕ) → n ∈ s.ants → IsNumberOf (take i steps) n
   pub each : (i : ℕ) (s : Inference) → IsInCore steps i → IsAt steps i s → IsTextbookStep (side_of result) f (take i steps) s.ants s.lits
 
--- such a proof is a proof to this checker, step by step, by any rules, with parents as they stand or reduced before
+-- a textbook proof is a proof to this checker, step by step, by any rules, with parents as they stand or reduced before
 abbrev pub TextbookProofsAreProofs : Type 0
 TextbookProofsAreProofs = (rules : Rules) (f : Qbf) (steps : List Inference) (result : Outcome) → IsClosed f → IsTextbookProof f steps result
     → ProvesUnreduced rules f [] steps result × Proves rules f [] steps result

@@ -1,4 +1,4 @@
--- What the program reads, writes and returns.
+-- The program: the trace that it reads, the text that it writes, and the status that it returns.
 use Rattle.std.specs.Prelude.{◌≡◌, ◌≢◌, ◌⊎◌, ℕ, ◌-◌, ◌^◌, ◌<◌, List, Option, Result, Ok, Err}
 use Rattle.std.specs.Io.KnownBytes.{Appends}
 use Rattle.qbf_text.specs.declared.sink.Sink.{Ghosts}
@@ -15,11 +15,11 @@ status_of P1 = 3
 status_of P9 = 4
 status_of f = 1
 
--- a device failed in a call that began with its count of failures below the limit
+-- a device failed in a call: its count of failures rose, if it was below the limit before
 abbrev pub DeviceFailed : ℕ → ℕ → Type 0
 DeviceFailed before after = before < 2 ^ 64 - 1 → before < after
 
--- What a source reads as whose count of failures goes from `before` to `after`: the trace or the fault that its bytes
+-- The result of reading a source, whose count of failures goes from `before` to `after`: the trace or the fault that its bytes
 -- spell, if they are known; or P1 if it failed, or P9 if an allocation failed.
 abbrev pub IsRead : Option (List ℕ) → ℕ → ℕ → Result Derivation Fault → Type 0
 IsRead bytes before after (Ok d) = Gives (Ok d) (reads_bytes bytes) × (after ≡ before)

@@ -9,7 +9,7 @@ use Rattle.qrp_handle.specs.Written.{IsWritten, literal_of}
 use Rattle.qrp_handle.specs.declared.fault.AddFault.{AddFault}
 use Rattle.qrp_handle.specs.declared.fault.AddFault.TheVariants.{NoMemory, Range, Bound, Unbound, Full, Used, Many}
 
--- this fault of a variable stands; a failed allocation may always be
+-- this fault of a variable stands; a failed allocation is always possible
 abbrev pub IsVariableFault : Qbf → ℕ → AddFault → Type 0
 IsVariableFault f v NoMemory = ⊤
 IsVariableFault f v Range = 1 ≤ v → v ≤ f.max_var → ⊥
@@ -19,7 +19,7 @@ IsVariableFault f v Full = ⊥
 IsVariableFault f v Used = ⊥
 IsVariableFault f v Many = ⊥
 
--- this fault of a clause that is written so stands; a failed allocation may always be
+-- this fault of a clause that is written so stands; a failed allocation is always possible
 abbrev pub IsClauseFault : Qbf → List ℤ → AddFault → Type 0
 IsClauseFault f written NoMemory = ⊤
 IsClauseFault f written Range = AllByRecursion IsWritten written → ⊥

@@ -1,11 +1,11 @@
--- What a caller in C says by a truth value.
+-- The result or the quantifier that a caller in C gives by a truth value.
 use Rattle.std.specs.Prelude.{Bool, true, false}
 use Rattle.qbf_core.specs.declared.quantifier.Quantifier.{Quantifier}
 use Rattle.qbf_core.specs.declared.quantifier.Quantifier.TheVariants.{All, Exists}
 use Rattle.qrp.specs.declared.item.Outcome.{Outcome}
 use Rattle.qrp.specs.declared.item.Outcome.TheVariants.{Sat, Unsat}
 
--- what a caller claims of the formula
+-- the result that a caller claims of the formula
 abbrev pub outcome_of : Bool → Outcome
 outcome_of true = Sat
 outcome_of false = Unsat

@@ -1,4 +1,4 @@
--- What a `Held` owns: nothing, or the same as a `Box<Proof>`.
+-- The ownership of a `Held`: it owns nothing, or the same as a `Box<Proof>`.
 use base.Fml.{Fml, ftrue}
 use denote.RawPtr.{Ptr}
 use Rattle.std.specs.Box.Ownership.{box_owns}

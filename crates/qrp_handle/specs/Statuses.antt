@@ -1,4 +1,4 @@
--- The statuses that a caller in C gets of what it adds.
+-- The statuses that a caller in C gets for the parts that it adds.
 use Rattle.std.specs.Prelude.{◌≡◌, ◌≢◌, ℕ, ℤ, pos, Option, None, IsSomeAnd}
 use Rattle.qrp_handle.specs.declared.fault.AddFault.{AddFault}
 use Rattle.qrp_handle.specs.declared.fault.AddFault.TheVariants.{NoMemory, Range, Bound, Unbound, Full, Used, Many}
@@ -13,7 +13,7 @@ code_of Full = 8
 code_of Used = 9
 code_of Many = 10
 
--- what a call did to the proof that the struct held: `added` says what it is after status 0, and `faulty` which faults stand
+-- the effect of a call on the proof that the struct held: `added` says what it is after status 0, and `faulty` which faults stand
 pub record CallReturns {P : Type 0} (added : P → P → Type 0) (faulty : P → AddFault → Type 0) (old new : Option P) (status : ℤ) : Type 0 where
   -- status 0: the part is added
   pub done : status ≡ pos 0 → IsSomeAnd old (λ p. IsSomeAnd new (added p))

@@ -12,7 +12,7 @@ line text = text ++ 10 ∷ []
 abbrev pub numbers_line : List ℕ → ℕ → List ℕ → ℕ → List ℕ
 numbers_line first a second b = (first ++ decimal a) ++ ((second ++ decimal b) ++ 10 ∷ [])
 
--- the line for a fault of a text: if its source failed, and the beginning if the text is refused
+-- the line for a fault of a text: `device` if its source failed, and if the text is refused, a line with this beginning
 abbrev pub text_line : List ℕ → List ℕ → Refusal → List ℕ
 text_line device beginning r =
     if nat_eq r.number 1 then device

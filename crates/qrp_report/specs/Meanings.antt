@@ -1,4 +1,4 @@
--- What each fault means, in one sentence.
+-- The meaning of each fault, in one sentence.
 use Rattle.std.specs.Prelude.{ℕ, nat_eq, if◌then◌else◌, List, [], map, get_or}
 use Rattle.qrp_check.specs.declared.verdict.Fault.{Fault}
 use Rattle.qrp_report.specs.declared.meaning.TheConstants.{FORMULA, TRACE, CHECK, STEP}

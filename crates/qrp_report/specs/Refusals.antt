@@ -1,4 +1,4 @@
--- Refusals as data: the letter and the number in the name of a fault, and where it stands.
+-- Refusals as data: the letter and the number in the name of a fault, and the position of the fault.
 use Rattle.std.specs.Prelude.{ℕ, nat_eq, if◌then◌else◌}
 use Rattle.qdimacs.specs.declared.fault.FormulaFault.{FormulaFault}
 use Rattle.qdimacs.specs.declared.fault.FormulaFault.TheVariants.{F1, F2, F3, F4, F5, F6, F7, F8, F9}

@@ -1,4 +1,4 @@
--- What is reported of a formula that is read, and of a trace that is trimmed.
+-- The results of reading a formula, and of trimming a trace.
 use Rattle.std.specs.Prelude.{◌≡◌, ℕ, ◌-◌, ◌^◌, ◌<◌, List, Option, IfSome, Result, Ok, Err}
 use Rattle.qbf_core.specs.Qbf.{Qbf}
 use Rattle.qdimacs.specs.declared.fault.FormulaFault.{FormulaFault}
@@ -14,12 +14,12 @@ use Rattle.qrp_check.specs.Laws.{IsTrimmedProof}
 use Rattle.qrp_check.specs.Proof.{IsProof}
 use Rattle.qrp_check.specs.Trim.{trimmed_trace}
 
--- a source or a sink failed in a call that began with its count of failures below the limit
+-- a source or a sink failed in a call: its count of failures rose, if it was below the limit before
 abbrev pub DeviceFailed : ℕ → ℕ → Type 0
 DeviceFailed before after = before < 2 ^ 64 - 1 → before < after
 
--- What the formula's text reads as, if its bytes are known and its count of failures goes from `before` to `after`:
--- the fault that the bytes spell, F1 if the source failed, or F9 if an allocation failed.
+-- The fault of a formula's text, whose count of failures goes from `before` to `after`: the fault that the bytes spell, if they are known,
+-- or F1 if the source failed, or F9 if an allocation failed, both on line 0.
 abbrev pub IsFormulaRefused : Option (List ℕ) → ℕ → ℕ → FormulaFault → ℕ → Type 0
 IsFormulaRefused bytes before after F1 n = (n ≡ 0) × DeviceFailed before after
 IsFormulaRefused bytes before after F9 n = (n ≡ 0) × (after ≡ before)
@@ -43,7 +43,7 @@ pub record IsTrimmedFrom (rules : Rules) (formula trace : List ℕ) (t : Derivat
   pub is : t ≡ trimmed_trace d core
   pub whole : IsTrimmedProof rules f t
 
--- What the trimming of a trace returns: the trimmed trace, as far as the bytes are known, or a refusal as for a check.
+-- The result of trimming a trace: the trimmed trace, as far as the bytes are known, or a refusal as for a check.
 abbrev pub IsTrimmed : Rules → SourceCall → SourceCall → Result Derivation Fault → Type 0
 IsTrimmed rules formula trace (Ok t) =
     IfSome formula.bytes (λ a. IfSome trace.bytes (λ b. IsTrimmedFrom rules a b t)) × (formula.after ≡ formula.before)

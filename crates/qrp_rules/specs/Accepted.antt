@@ -1,4 +1,4 @@
--- What is asked of antecedents, and what a test tells that accepts steps as they are written.
+-- Conditions of antecedents, and the meaning of a test that accepts steps as they are written.
 use Rattle.std.specs.Prelude.{Bool, IsTrue, List}
 use Rattle.qbf_core.specs.Literal.{Literal}
 use Rattle.qbf_core.specs.Blocks.{Block, AreBound}
@@ -16,6 +16,6 @@ pub record IsAcceptedStep (conditions : List (Condition RuleFault)) (blocks : Li
   pub clean : IsClean lits
   pub bound : AreBound blocks lits
 
--- what a test tells that accepts steps: nothing where it does not
+-- the meaning of a test that accepts steps: if it does not accept one, nothing is said
 abbrev pub IsAcceptedBy : List (Condition RuleFault) → List Block → List Literal → Bool → Type 0
 IsAcceptedBy conditions blocks lits t = IsTrue t → IsAcceptedStep conditions blocks lits

@@ -1,4 +1,4 @@
--- What is kept of a formula while its initial steps are looked for, and what is accepted.
+-- The state that is kept of a formula while its initial steps are looked for, and the steps that are accepted.
 use Rattle.std.specs.Prelude.{Bool, IsTrue, List, [], ◌∷◌}
 use Rattle.qbf_core.specs.Literal.{Literal}
 use Rattle.qbf_core.specs.Qbf.{Qbf}
@@ -16,6 +16,6 @@ AreKnown f steps = IsWatching f steps.cubes
 abbrev pub IsAccepted : Qbf → List Literal → Type 0
 IsAccepted f lits = IsAcceptedStep (initial_condition Clauses f lits ∷ []) f.blocks lits
 
--- what a test tells that accepts initial clauses
+-- the meaning of a test that accepts initial clauses: if it does not accept one, nothing is said
 abbrev pub IsAcceptedIf : Qbf → List Literal → Bool → Type 0
 IsAcceptedIf f lits t = IsTrue t → IsAccepted f lits

@@ -1,4 +1,4 @@
--- What contracts see of a set of literals: by the number of each literal, whether it is in the set.
+-- A set of literals as contracts see it: by the number of each literal, whether it is in the set.
 use Rattle.std.specs.Prelude.{◌≡◌, ℕ, ◌+◌, ◌*◌, ◌≤◌, Bool, true, false, if◌then◌else◌, nat_eq, List, map, length, get_or, ◌⊎◌}
 use Rattle.std.specs.List.{list_any}
 use Rattle.qbf_core.specs.Literal.{Literal}

@@ -1,4 +1,4 @@
--- What a walk finds over two lists and a third one, whatever the order of their literals.
+-- The results of a walk over two lists and a third one, whatever the order of their literals.
 use Rattle.std.specs.Prelude.{◌≡◌, ℕ, ◌+◌, ◌≤◌, ◌⊎◌, List, Some, take, length, slice_get}
 use Rattle.qbf_core.specs.Literal.{Literal, negated}
 use Rattle.qbf_core.specs.Members.{◌∈◌, ◌⊆◌}
@@ -36,7 +36,7 @@ pub record IsResolvedBut (a b to rest_a rest_b : List Literal) (x : Literal) : T
   pub left : (l : Literal) → l ∈ a → (l.var ≡ x.var) ⊎ ((l ∈ to) ⊎ (l ∈ rest_a))
   pub right : (l : Literal) → l ∈ b → (l.var ≡ x.var) ⊎ ((l ∈ to) ⊎ (l ∈ rest_b))
 
--- a set only grows, by literals of which this holds, and no clash comes
+-- a set only grows, by literals of which this holds, and if it had no clash before, it has none after
 pub record IsPutBy (old new : Members) (May : Literal → Type 0) : Type 0 where
   pub kept : (l : Literal) → Has old l → Has new l
   pub only : (l : Literal) → Has new l → Has old l ⊎ May l

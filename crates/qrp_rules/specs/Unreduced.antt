@@ -1,4 +1,4 @@
--- The rule where two parents are resolved as they stand: a set is a reduct of their resolvent, and nothing is reduced before.
+-- The rule if two parents are resolved as they stand: a set is a reduct of their resolvent, and nothing is reduced before.
 use Rattle.std.specs.Prelude.{List}
 use Rattle.qbf_core.specs.Literal.{Literal}
 use Rattle.qbf_core.specs.Blocks.{Block}

@@ -1,4 +1,4 @@
--- What walks over ordered sets find: clashes, and innermost blocks.
+-- The results of walks over ordered sets: clashes, and innermost blocks.
 use Rattle.std.specs.Prelude.{◌≡◌, ℕ, ◌<◌, ◌≤◌, ◌↔◌, ◌⊎◌, List, Option, Some, None}
 use Rattle.qbf_core.specs.declared.quantifier.Quantifier.{Quantifier}
 use Rattle.qbf_core.specs.Literal.{Literal}
@@ -11,7 +11,7 @@ use Rattle.qrp_rules.specs.declared.blocks.Reducible.{Reducible}
 use Rattle.qrp_rules.specs.declared.resolvent.Clash.{Clash}
 use Rattle.qrp_rules.specs.declared.resolvent.Clash.TheVariants.{Nothing, One, More}
 
--- what is left of an ordered list from a variable on, and maybe of what is before it
+-- the rest of an ordered list from a variable on, and maybe some literals before it
 pub record IsRestFrom (lits : List Literal) (v : ℕ) (rest : List Literal) : Type 0 where
   pub ordered : IsOrdered rest
   pub within : rest ⊆ lits
@@ -28,17 +28,17 @@ abbrev pub IsThePivot : Option ℕ → ℕ → Type 0
 IsThePivot None v = ⊥
 IsThePivot (Some x) v = v ≡ x
 
--- the block of v is before k, where v has the quantifier q and is not the pivot
+-- the block of v is before k, if v has the quantifier q and is not the pivot
 abbrev pub IsHeldBefore : List Block → Quantifier → Option ℕ → ℕ → ℕ → Type 0
 IsHeldBefore blocks q pivot v k =
     (IsThePivot pivot v → ⊥) → Binds blocks q v → (i : ℕ) → block_in v blocks ≡ Some i → i < k
 
--- so many blocks reach to the innermost one of these literals: what is after them is after the block of each
+-- the number of blocks up to the innermost one of the literals that have the quantifier q and not the pivot, or 0 if there are none
 abbrev pub IsInnermost : List Block → Quantifier → Option ℕ → List Literal → ℕ → Type 0
 IsInnermost blocks q pivot lits reach =
     (k : ℕ) → reach ≤ k ↔ ((l : Literal) → l ∈ lits → IsHeldBefore blocks q pivot l.var k)
 
--- v has the quantifier q, and its block is after so many
+-- v has the quantifier q, and its block comes after so many blocks
 abbrev pub StandsAfter : List Block → Quantifier → ℕ → ℕ → Type 0
 StandsAfter blocks q reach v = Binds blocks q v × ((k : ℕ) → block_in v blocks ≡ Some k → reach ≤ k)
 

@@ -20,19 +20,20 @@ pub record KeepsWatches (old new : List Watch) : Type 0 where
   pub watched : (k : ℕ) (l : Literal) (i : ℕ) → IsWatchedBy old k l i → IsWatchedBy new k l i
   pub longer : length old ≤ length new
 
--- the clause at position i, if there is one, needs no literal, or is watched by one that it holds
+-- the clause at position i, if there is one, is a tautology, or is watched by a literal that it has
 abbrev pub IsWatched : Qbf → List Watch → ℕ → Type 0
 IsWatched f lists i =
     (clause : List Literal) → slice_get f.clauses i ≡ Some clause
     → IsTautology clause ⊎ ((l : Literal) × (l ∈ clause) × (k : ℕ) × IsWatchedBy lists k l i)
 
--- each clause is watched, and only the lists before position n may be those of literals that were not seen
+-- the clause at position i, if there is one, is a tautology, or is watched by a literal that it has, and this was seen or its list is
+-- before n
 abbrev pub IsMet : ℕ → Qbf → Members → List Watch → ℕ → Type 0
 IsMet n f seen lists i =
     (clause : List Literal) → slice_get f.clauses i ≡ Some clause
     → IsTautology clause ⊎ ((l : Literal) × (l ∈ clause) × (k : ℕ) × IsWatchedBy lists k l i × ((k < n) ⊎ Has seen l))
 
--- each clause that was watched still is, or is in `taken`; a list that moved to position n came from after n
+-- each clause that was watched still is, or is in `taken`; if its list was at position n or before, it is now before n
 abbrev pub IsTakenOut : List Watch → ℕ → List ℕ → List Watch → Type 0
 IsTakenOut old n taken new =
     (k : ℕ) (l : Literal) (i : ℕ) → IsWatchedBy old k l i

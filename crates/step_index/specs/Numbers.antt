@@ -1,4 +1,4 @@
--- What contracts see of step numbers, and how those that go up one by one are counted.
+-- Step numbers as contracts see them, and how those that go up one by one are counted.
 use Rattle.std.specs.Prelude.{ℕ, zero, suc, ◌<◌, ◌≤◌, ◌^◌, Bool, nat_eq, List, [], ◌∷◌, ◌++◌, length}
 use Rattle.std.specs.List.{AllByRecursion, IsDistinct, list_any}
 
@@ -17,7 +17,7 @@ abbrev pub count_from : ℕ → ℕ → List ℕ
 count_from first zero = []
 count_from first (suc n) = first ∷ count_from (suc first) n
 
--- step numbers of which the first ones are counted from the first of all
+-- step numbers, of which the first ones, at most 2 ^ 63, are counted one by one from `first`
 pub record AreIndexed (first count : ℕ) (sparse : List ℕ) : Type 0 where
   pub numbers : AreStepNumbers (count_from first count ++ sparse)
   pub few : count ≤ 2 ^ 63

@@ -10,7 +10,7 @@ use crate::sparse::SparseNumbers;
 use std::alloc::{AllocError, Global};
 use std::marker::Model;
 
-/// So many steps are counted at most, so that the number of all steps has 64 bits.
+/// At most this many steps are counted, so that the number of all steps has 64 bits.
 const LIMIT: usize = 1 << 63;
 
 /// The place of a number among those that are counted from the first.
@@ -100,7 +100,7 @@ impl StepIndex {
         self.sparse.number(i - self.counted)
     }
 
-    /// The place of the step with this number: `Some(i)` exactly if `number(i)` is it.
+    /// The place of the step with this number: `Some(i)` exactly if `number(i)` is this number.
     #[inline(always)]
     #[tactic(auto, using(crate::proofs::CountedNumbers::place_of_number))]
     pub fn position(&self, number: u64) -> Option<usize>
@@ -145,8 +145,8 @@ impl StepIndex {
         Ok(())
     }
 
-    /// Makes each number found at once by `position`, which goes over those that were pushed since
-    /// the last call else.
+    /// Lets `position` find each number at once. Otherwise it goes over those that were pushed
+    /// since the last call of `place_all`.
     pub fn place_all(&mut self)
         ensures { self.new ≡ self.old }
     {

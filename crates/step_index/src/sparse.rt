@@ -32,8 +32,8 @@ pub(crate) struct SparseNumbers {
     /// Those that were not too large for the table when they came. Whether a number came is looked
     /// up here, since a table by number does not stay in the processor's caches.
     near: NumberSet,
-    /// For each number below its length: one more than a place of that number, or 0 where `far`
-    /// or `numbers` alone may have it.
+    /// For each number below its length: one more than a place of that number, or 0 if `far` or
+    /// `numbers` alone may have it.
     table: Vec<u32>,
     /// How many of the numbers, from the first on, have their places in the table or in `far`.
     placed: usize,
@@ -71,7 +71,7 @@ fn surely_near(place: usize, number: u64) -> bool
 /// not near.
 ///
 /// # Errors
-/// If an allocation fails. The table has the entries that it had then.
+/// If an allocation fails. The table is not changed then.
 #[inline(always)]
 fn reach_near(table: &mut Vec<u32>, place: usize, number: u64) -> Result<bool, AllocError>
     ensures near { IfOk result (λ near. IsTrue near → number < 2 ^ 37) }
@@ -220,8 +220,8 @@ impl SparseNumbers {
         far.copied().is_some()
     }
 
-    /// Puts the places of all numbers where `position` finds them at once: before this it goes over
-    /// those that were added since.
+    /// Puts the places of all numbers where `position` finds them at once. Otherwise it goes over
+    /// those that were added since the last call of `place_all`.
     pub(crate) fn place_all(&mut self)
         ensures { self.new ≡ self.old }
     {

@@ -1,4 +1,4 @@
-//! What comes out of a buffer, and of one whose sink fails.
+//! The bytes that come out of a buffer, and of one whose sink fails.
 
 use super::*;
 use qbf_text::{PieceSink, put_byte, put_bytes};
@@ -7,7 +7,7 @@ use std::fmt::Debug;
 use std::process::Abort;
 use std::test::Fail;
 
-/// Compares what was found with what is wanted there.
+/// Compares a value that was found with the one that is wanted there.
 fn assert_same<T: Copy + PartialEq + Debug>(rt: &impl Abort, found: T, wanted: T, what: &str) {
     assert_eq!(rt; found, wanted, "{what}");
 }
@@ -39,7 +39,7 @@ fn bytes_twice(alloc: Global, bytes: &[u8]) -> Result<Vec<u8>, Fail> {
     Ok(all)
 }
 
-/// Puts at once what was put before, and then all has come through.
+/// Puts at once the bytes that were put before. Then all of them have come through.
 fn assert_come_through(rt: &impl Abort, sink: &mut Buffered<PieceSink>, sent: &[u8], all: &[u8]) {
     // The last bytes are held back.
     assert!(rt; sink.sink.bytes().len() < sent.len());
@@ -59,7 +59,7 @@ fn bytes_come_through(rt: HostRuntime) -> Result<(), Fail> {
     Ok(())
 }
 
-/// What is held back goes to a sink that takes three bytes of it.
+/// The bytes that are held back go to a sink that takes three of them.
 fn assert_fails_after_three(rt: &impl Abort, sink: &mut Buffered<PieceSink>) {
     assert!(rt; put_bytes(sink, b"VERIFIED").is_ok());
     assert_same(rt, sink.sink.bytes().len(), 0, "bytes held back");

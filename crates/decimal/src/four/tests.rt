@@ -3,7 +3,7 @@
 use super::*;
 use std::process::Abort;
 
-/// The four numbers from the eighth byte on, and which of them are zero.
+/// The four numbers from the place 8 on, and which of them are zero.
 fn assert_reads(rt: &impl Abort, bytes: &[u8], ends: [usize; 4], wanted: Option<([i32; 4], u64)>) {
     let found = match four_numbers(bytes, 8, ends) {
         Some(four) => Some((four.values.to_array(), four.zeros)),
