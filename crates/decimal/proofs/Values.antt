@@ -33,55 +33,25 @@ some (suc v) s is right = omega arith
 -- ---- one number
 module _ (bytes : List ℕ) (from end v s : ℕ) (place : IsPlace (length bytes) from end) (is : Writes (between bytes from end) v s) where
   first_is : get_or (between bytes from end) 0 0 ≡ get_or bytes from 0
-  first_is =
-      get_or-take (end - from) (drop from bytes) 0 0 (omega (arith, place.some)) ∙ get_or-drop from bytes 0 0
-      ∙ ap (λ i. get_or bytes i 0) (omega arith)
+  first_is = grind (arith, common_steps, get_or-take, some, get_or-drop)
 
   rest_is : drop 1 (between bytes from end) ≡ between bytes (from + 1) end
-  rest_is =
-      let parts : end - from ≡ 1 + (end - (from + 1)) = omega (arith, place.some) in
-      let next : 1 + from ≡ from + 1 = omega arith in
-      ap (λ n. drop 1 (take n (drop from bytes))) parts ∙ drop-take 1 (end - (from + 1)) (drop from bytes)
-      ∙ ap (take (end - (from + 1))) (drop-drop 1 from bytes ∙ ap (λ k. drop k bytes) (omega arith))
+  rest_is = grind (arith, common_steps, some, drop-take, drop-drop)
 
   few_digits : (ds : List ℕ) → length ds ≤ 8 → AllDigits 10 ds → digits_value 10 ds < 2 ^ 31
-  few_digits ds few h =
-      let more : 10 ^ length ds ≤ 10 ^ 8 = pow-le-pow_right (omega arith) few in
-      omega (arith, digits_value-lt 10 ds h, more)
+  few_digits ds few h = grind (arith, common_steps, pow-le-pow_right, digits_value-lt)
 
   text_few : length (between bytes from end) ≤ 8
-  text_few =
-      let cut : length (between bytes from end) ≤ end - from = omega (arith, length-take (end - from) (drop from bytes)) in
-      omega (arith, cut, place.few)
+  text_few = grind (arith, common_steps, between, length-take)
 
   pub small : v < 2 ^ 31
-  small = elim (cases_Bool (eqb (get_or (between bytes from end) 0 0) 45)) [
-    | inl here ↦
-        let w = is.minus (eqb-true _ _ here) in
-        let few : length (drop 1 (between bytes from end)) ≤ 8 = omega (arith, length-drop 1 (between bytes from end), text_few) in
-        omega (arith, w.1, few_digits (drop 1 (between bytes from end)) few w.0)
-    | inr other ↦
-        let w = is.plain (eqb-false _ _ other) in
-        omega (arith, w.1, few_digits (between bytes from end) text_few w.0)
-  ]
+  small = grind (arith, common_steps, cases_Bool, eqb, between, eqb-true, length-drop, text_few, few_digits, eqb-false)
 
   pub value_is : v % 4294967296 ≡ v
   value_is = omega (arith, small)
 
   pub number : (v % 4294967296 ≡ 0 → s % 4294967296 % 256 < 10) → IsNumber bytes from end (with_sign (v % 4294967296) (s % 4294967296))
-  number right = record {
-    some = place.some;
-    few = place.few;
-    plain = λ other.
-        let w = is.plain (λ e. other (sym first_is ∙ e)) in
-        (w.0, ap₂ (λ x y. with_sign x (y % 4294967296)) value_is w.2 ∙ ap pos w.1);
-    minus = λ here.
-        let w = is.minus (first_is ∙ here) in (
-          subst (AllDigits 10) rest_is w.0,
-          ap₂ (λ x y. with_sign x (y % 4294967296)) value_is w.2 ∙ ap (λ x. neg_ℤ (pos x)) (w.1 ∙ ap (digits_value 10) rest_is),
-          subst (λ x. 0 < x) (w.1 ∙ ap (digits_value 10) rest_is) (some v s w.2 (λ e. right (value_is ∙ e))),
-        );
-  }
+  number right = grind (arith, common_steps, some, first_is, ap₂, with_sign, value_is, rest_is, neg_ℤ, digits_value)
 
 -- ---- four of them
 same_lanes : (vs ss : List ℕ) → Each1 (λ v. v < 2 ^ 31) vs
@@ -132,9 +102,7 @@ module _ (bytes ends a s b t : List ℕ) (from : ℕ) (w0 : WritesAt bytes from 
 
   module _ (vs ss : List ℕ) (zs : List ℤ) (vs_are : vs ≡ halves a b) (ss_are : ss ≡ halves s t) (zs_are : zs ≡ zip2 with_sign vs ss) where
     zs_passed : map (cast_signed w32) (map (cast_unsigned w32) zs) ≡ zip2 with_sign (halves a b) (halves s t)
-    zs_passed =
-        ap (λ l. map (cast_signed w32) (map (cast_unsigned w32) l)) (zs_are ∙ ap₂ (zip2 with_sign) vs_are ss_are)
-        ∙ same_lanes (halves a b) (halves s t) values_small
+    zs_passed = grind (arith, common_steps, cast_signed, w32, cast_unsigned, ap₂, zip2, with_sign, same_lanes, values_small)
 
     pub numbers_are : length ends ≡ 4 → Unsigned vs ss → AreInARow bytes from ends (map (cast_signed w32) (map (cast_unsigned w32) zs))
     numbers_are long right =
