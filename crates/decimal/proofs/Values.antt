@@ -1,8 +1,8 @@
 -- From lanes to the numbers that they are.
 use Rattle.std.proofs.lemmas.Grind.{common_steps}
-use Rattle.std.proofs.Common.{suc, zero, ℕ, ◌≡◌, ◌+◌, ◌-◌, ◌%◌, ◌^◌, ◌<◌, ◌≤◌, cond, eqb, List, [], ◌∷◌, map, take, drop, length, get_or}
-use Rattle.std.proofs.Common.{replicate, arith, refl, sym, ap, ap₂, ◌∙◌, subst, w32, inl, inr}
-use Rattle.std.specs.Prelude.{ℤ, pos, neg_ℤ}
+use Rattle.std.proofs.Common.{suc, zero, ℕ, ◌≡◌, ◌+◌, ◌%◌, ◌^◌, ◌<◌, ◌≤◌, cond, eqb, List, [], ◌∷◌, map, drop, length, get_or}
+use Rattle.std.proofs.Common.{replicate, arith, refl, sym, ap, ap₂, ◌∙◌, subst, w32}
+use Rattle.std.specs.Prelude.{ℤ, neg_ℤ}
 use Rattle.std.specs.Int.{cast_signed, cast_unsigned}
 use Rattle.std.specs.Simd.Lanes.{zip2, Each1, top, mask_l}
 use Rattle.std.specs.Str.Parse.{digits_value, AllDigits}
