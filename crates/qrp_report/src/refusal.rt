@@ -50,7 +50,7 @@ impl Refusal {
     /// The refusal for a fault.
     pub fn of(fault: &Fault) -> Refusal
         ensures is { result ≡ refusal_of fault.now }
-        // A variable in it is one.
+        // If it names a variable, the number of that is in range.
         ensures named { NamesVariable fault.now }
     {
         match *fault {
@@ -60,8 +60,8 @@ impl Refusal {
         }
     }
 
-    /// The status that the program ends with: 1 the proof is refused, 2 a text is, 3 a source failed,
-    /// 4 an allocation failed.
+    /// The status that the program ends with: 1 the proof is refused, 2 a text is refused, 3 a
+    /// source failed, 4 an allocation failed.
     pub fn status(&self) -> u8
         ensures { result ≡ status self.now }
     {
