@@ -58,7 +58,7 @@ type Transition = Result<State, Stop<TraceFault>>;
 pub struct Lists {
     /// The variables of an unfinished set.
     pub vars: Vec<Var>,
-    /// The literals of an unfinished step, after those of whole steps if such are kept.
+    /// The literals of an unfinished step, after those of whole steps if these are kept.
     pub lits: GrowingLists<Lit>,
     /// Its antecedents.
     pub ants: AntecedentPair,

@@ -104,7 +104,7 @@ fn take_literals(lists: &mut Lists, number: u64, values: &[i32], from: usize) ->
     (State::InLits(number), Ok(i))
 }
 
-/// Takes literals of a step, if such stand next, and the zero after them.
+/// Takes literals of a step, if they stand next, and the zero after them.
 ///
 /// # Errors
 /// Out of memory.

@@ -137,7 +137,7 @@ fn counted(header: Header, steps: usize) -> Header
     }
 }
 
-/// Writes the canonical text of a trace with the steps at these positions alone, as `write_trace`
+/// Writes the canonical text of a trace with only the steps at these positions, as `write_trace`
 /// does. It takes no memory.
 ///
 /// Sets, result and the number of variables in the header stay as they are; the header counts the

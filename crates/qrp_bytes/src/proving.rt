@@ -63,7 +63,7 @@ fn lent_proof(
     find_proof(alloc, &mut formula_source, &mut trace_source, rules)
 }
 
-/// The text of a trace with the steps at these places alone.
+/// The text of a trace with only the steps at these places.
 ///
 /// # Errors
 /// If an allocation fails.

@@ -37,8 +37,7 @@ pub extern "C" fn qrp_proof_new(alloc: Global, proof: &mut QrpProof) -> i32
     }
 }
 
-/// Binds a variable innermost: in the last block if that has this quantifier, and else in a new
-/// one.
+/// Binds a variable innermost: in the last block if that has this quantifier, else in a new one.
 ///
 /// In C: `int32_t qrp_proof_variable(struct qrp_proof *proof, bool universal, uint32_t variable)`.
 #[unsafe(no_mangle)]

@@ -44,7 +44,7 @@ impl Proof {
         }
     }
 
-    /// Binds a variable innermost: in the last block if that has this quantifier, and else in a new
+    /// Binds a variable innermost: in the last block if that has this quantifier, else in a new
     /// one.
     ///
     /// # Errors

@@ -13,9 +13,9 @@ pub struct Refusal {
     pub letter: u8,
     /// The number of the fault, as 4 of C4.
     pub number: u8,
-    /// Of C6 the number of the step's fault, as 7 of S7, and else 0.
+    /// For C6 the number of the step's fault, as 7 of S7, else 0.
     pub rule: u8,
-    /// The step (C6), the variable (C1, C2, C3) or the line (F, P), and else 0.
+    /// The step (C6), the variable (C1, C2, C3) or the line (F, P), else 0.
     pub position: u64,
 }
 

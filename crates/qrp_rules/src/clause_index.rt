@@ -110,7 +110,7 @@ fn lower_half(sum: u64) -> u32 {
 struct Query<'a> {
     /// The literals of an initial step, as they are written.
     lits: &'a [Lit],
-    /// At most so many clauses are looked at.
+    /// At most this many clauses are looked at.
     most: usize,
 }
 
@@ -122,7 +122,7 @@ struct Chains {
 }
 
 impl Chains {
-    /// Empty chains, for so many positions.
+    /// Empty chains, for this many positions.
     fn new(alloc: Global, count: usize) -> Result<Chains, AllocError> {
         Ok(Chains {
             heads: vec![in alloc; END; count]?,

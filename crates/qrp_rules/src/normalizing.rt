@@ -14,8 +14,8 @@ use crate::lists::is_ordered;
 use qbf_core::{Lit, LitSet, Prefix, SetFault, are_bound};
 use std::alloc::Global;
 
-/// The set of the literals if they are not in order as written, or `None` if they are such a set
-/// already, which takes no memory.
+/// The set of the literals if they are not in order as written, or `None` if they are in order and
+/// bound, which takes no memory.
 ///
 /// # Errors
 /// As those of `LitSet::from_slice`.

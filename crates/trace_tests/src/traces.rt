@@ -240,7 +240,7 @@ fn gives_item(reader: &mut TraceReader, source: &mut SliceSource<'_>) -> bool {
     reader.next_item(source).is_ok()
 }
 
-/// The index has the number 9 alone.
+/// The index has only the number 9.
 fn assert_nine(rt: &impl Abort, index: &StepIndex) {
     assert_eq!(rt; index.len(), 1);
     assert_eq!(rt; index.position(9), Some(0));
