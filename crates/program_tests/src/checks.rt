@@ -1,4 +1,4 @@
-//! What the rows of `tests/*.rows` do not show: verdicts with their cores, and trimmed traces step by
+//! Tests beside the rows of `tests/*.rows`: verdicts with their cores, and trimmed traces step by
 //! step.
 
 ghost use Rattle.std.specs.Prelude.{◌<◌, length};
@@ -65,7 +65,7 @@ fn verify_text(alloc: Global, rules: Rules, texts: Texts<'_>) -> Result<Verified
     verify(alloc, &mut source, &mut SliceSource::new(texts.1), rules)
 }
 
-/// Compares what was found with a truth and the positions of a core.
+/// Compares a verdict with a truth and the positions of a core.
 fn assert_found(rt: &impl Abort, found: &Verified, truth: bool, core: &[usize]) {
     assert_eq!(rt; found.truth, truth);
     assert_eq!(rt; found.core.as_slice(), core);
@@ -102,8 +102,8 @@ fn put_link(sink: &mut VecSink, number: u64, earlier: u64) -> Result<(), SinkFau
     put_bytes(sink, b" 0\n")
 }
 
-/// 10,000 steps without literals, each from the one so many before it; the first so many are the
-/// clause.
+/// 10,000 steps without literals. The first `back` of them are the clause, and each other one
+/// follows from the step that is `back` before it.
 fn chain(alloc: Global, back: u64) -> Result<VecSink, Fail>
     requires { back < 10000 }
 {
@@ -136,7 +136,7 @@ fn follows_a_long_chain(rt: HostRuntime) -> Result<(), Fail> {
     Ok(())
 }
 
-/// What is left of a trace that proves its result.
+/// The trimmed trace of one that proves its result.
 fn trim_by(alloc: Global, whole: &Trace, verified: &Verified) -> Result<Trace, Fail>
     requires rises { IsStrictlyIncreasing verified.now.core.items }
     requires within { AllByRecursion (λ i. i < length whole.now.steps) verified.now.core.items }
@@ -144,7 +144,7 @@ fn trim_by(alloc: Global, whole: &Trace, verified: &Verified) -> Result<Trace, F
     Ok(trim(alloc, whole, verified)?)
 }
 
-/// What is left of a trace that proves its result on a formula.
+/// The trimmed trace of one that proves its result of a formula.
 fn trim_on(alloc: Global, rules: Rules, formula: &Formula, whole: &Trace) -> Result<Trace, Fail> {
     match check(alloc, formula, whole, whole.sets(), whole.result(), rules) {
         Ok(verified) => trim_by(alloc, whole, &verified),

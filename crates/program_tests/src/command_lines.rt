@@ -1,4 +1,4 @@
-//! Which command lines ask for a job. Others are words of tests/program/parts/words.
+//! Command lines that ask for a job. Others are words of tests/program/parts/words.
 
 use crate::runs::assert_same;
 use qrp_check::Rules;
@@ -30,7 +30,7 @@ fn rows_of_the_usage(rt: HostRuntime) -> Result<(), Fail> {
         (&["format", "--qu"], Some((Job::Format, 1, None))),
         (&["check", "check", "t"], Some((check, 1, Some(2)))),
         (&["trim", "f", "t"], Some((trim, 1, Some(2)))),
-        // Of three arguments none is the flag.
+        // None of three arguments is the flag.
         (&["check", "f", "--qu"], Some((check, 1, Some(2)))),
         (&["check", "--qu", "t"], Some((check, 1, Some(2)))),
         (&["check", "--qu", "f", "t"], Some((check_qu, 2, Some(3)))),

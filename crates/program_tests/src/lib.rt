@@ -1,4 +1,5 @@
-//! Tests of checks, runs and programs through the public calls of their libraries: what no clause says.
+//! Tests of checks, runs and programs through the public calls of their libraries: what no clause
+//! says.
 #![tactic(auto)]
 
 #[cfg(test)]

@@ -51,7 +51,7 @@ const FILES: Shelf<'static> = Shelf {
     trace: TRACE,
 };
 
-/// What the program writes on these arguments, and its status.
+/// The bytes that the program writes on these arguments, and its status.
 fn run_on_words(alloc: Global, words: &[&str]) -> Result<(VecSink, VecSink, Status), Fail> {
     let (mut out, mut err) = sinks(alloc)?;
     let words = given(alloc, words)?;
@@ -59,7 +59,7 @@ fn run_on_words(alloc: Global, words: &[&str]) -> Result<(VecSink, VecSink, Stat
     Ok((out, err, status))
 }
 
-/// Words of a command line, what goes to the two sinks, and the status.
+/// Words of a command line, the bytes that go to the two sinks, and the status.
 type Answer = (
     &'static [&'static str],
     &'static [u8],
@@ -108,7 +108,7 @@ fn answers_to_command_lines(rt: HostRuntime) -> Result<(), Fail> {
     Ok(())
 }
 
-/// Runs the program with an error sink of this room, where the arguments were not read.
+/// Runs the program with an error sink of this room, as if the arguments were not read.
 fn no_words(alloc: Global, start: Start, room: Option<u64>) -> Result<(PieceSink, Status), Fail> {
     let mut out = VecSink::new(alloc, 0)?;
     let mut err = PieceSink::new(alloc, 4, room, false, 0)?;
@@ -120,7 +120,7 @@ fn no_words(alloc: Global, start: Start, room: Option<u64>) -> Result<(PieceSink
 fn words_that_are_not_got(rt: HostRuntime) -> Result<(), Fail> {
     let rows: [(Start, Option<u64>, &[u8], Status); 2] = [
         (Start::NoMemory, None, NO_MEMORY, 4),
-        // The status stays where the line does not go out.
+        // The status stays if the line does not go out.
         (Start::Usage, Some(3), b"USA", 5),
     ];
     for (start, room, line, wanted) in rows {

@@ -1,5 +1,4 @@
-//! What the rows of `tests/*.rows` do not show of a run: single pulls and pushes, and those that
-//! fail.
+//! Tests of a run beside the rows of `tests/*.rows`: single pulls and pushes, and those that fail.
 
 use qbf_text::{FromRead, PieceSink, PieceSource, SliceSource, VecSink};
 use qrp_check::Rules;
@@ -22,7 +21,7 @@ const VERIFIED: &[u8] = b"VERIFIED false\n";
 
 const NO_FORMULA: &[u8] = b"DEVICE formula\n";
 
-/// Compares what was found at a place with what is wanted there.
+/// Compares a value that was found at a place with the one that is wanted there.
 pub fn assert_same<T: Copy + PartialEq + Debug>(
     rt: &impl Abort,
     found: T,
@@ -40,11 +39,11 @@ pub fn sinks(alloc: Global) -> Result<(VecSink, VecSink), Fail> {
     Ok((VecSink::new(alloc, 0)?, VecSink::new(alloc, 0)?))
 }
 
-/// A formula and a trace, which are pulled byte by byte, each with the number of the pull that fails,
-/// or 0.
+/// A formula and a trace, which are pulled byte by byte, each with the number of the pull that
+/// fails, or 0.
 type Texts<'a> = ((&'a [u8], u64), (&'a [u8], u64));
 
-/// What a run writes to its sinks, its status, and how often it pulls the trace.
+/// The bytes that a run writes to its sinks, its status, and how often it pulls the trace.
 #[derive(Drop)]
 struct Ran {
     out: VecSink,
@@ -68,7 +67,8 @@ fn run_on(alloc: Global, job: Job, texts: Texts<'_>) -> Result<Ran, Fail> {
     })
 }
 
-/// Compares what a run writes to its sinks, its status, and how often it pulls the trace, with these.
+/// Compares the bytes that a run writes to its sinks, its status, and how often it pulls the trace,
+/// with these.
 fn assert_run(
     rt: &(impl Abort + AllocGlobal),
     job: Job,
@@ -84,8 +84,8 @@ fn assert_run(
 #[test]
 fn no_more_of_a_trace_is_pulled_than_is_looked_at(rt: HostRuntime) -> Result<(), Fail> {
     let (check, trim) = (Job::Check(Rules::plain()), Job::Trim(Rules::plain()));
-    // The byte after the wrong token, and the one after the result word, are the last: the next pull
-    // would fail.
+    // The byte after the wrong token, and the one after the result word, are the last: the next
+    // pull would fail.
     let rows: [(Job, (&[u8], u64), (&[u8], &[u8], Status, u64)); 4] = [
         (check, (REFUTATION, 83), (VERIFIED, b"", 0, 82)),
         (trim, (REFUTATION, 83), (REFUTATION, b"", 0, 82)),
@@ -139,7 +139,7 @@ fn sources_that_fail_are_reported(rt: HostRuntime) -> Result<(), Fail> {
     assert_run(&rt, check, texts, (VERIFIED, b"", 0, 82))
 }
 
-/// What a check says of a formula that is read up to a limit, and its status.
+/// The line of a check of a formula that is read up to a limit, and its status.
 fn check_up_to(alloc: Global, limit: u64) -> Result<(VecSink, Status), Fail> {
     let mut formula = FromRead::new(TWO_CLAUSES, limit);
     let mut trace = SliceSource::new(REFUTATION);
@@ -158,7 +158,7 @@ fn a_reader_fails_past_its_limit(rt: HostRuntime) -> Result<(), Fail> {
     Ok(())
 }
 
-/// Runs a job on the worked texts, and returns what its other sink got, and the status.
+/// Runs a job on the worked texts, and returns its other sink and the status.
 fn run_into(alloc: Global, job: Job, out: &mut PieceSink) -> Result<(VecSink, Status), Fail> {
     let mut formula = SliceSource::new(TWO_CLAUSES);
     let mut trace = SliceSource::new(REFUTATION);

@@ -14,11 +14,11 @@ pub trait AntecedentLists: Drop {
     /// The list of each step.
     ghost lists: { Self → List (List ℕ) };
 
-    /// Those of no steps. It takes no memory.
+    /// The lists of no steps. It takes no memory.
     fn of_no_steps(alloc: Global) -> Self
         ensures { lists result ≡ [] };
 
-    /// Adds those of one more step.
+    /// Adds the antecedents of one more step.
     ///
     /// # Errors
     /// Out of memory. Nothing is changed then.
@@ -26,7 +26,7 @@ pub trait AntecedentLists: Drop {
         ensures added { OnOk result (lists self.new ≡ lists self.old ++ list_of_pair ants ∷ []) }
         ensures err { OnErr result (lists self.new ≡ lists self.old) };
 
-    /// Takes those of the last step away, if there is one.
+    /// Takes the list of the last step away, if there is one.
     fn remove_last(&mut self)
         ensures { lists self.new ≡ take (length (lists self.old) - 1) (lists self.old) };
 }
@@ -58,8 +58,8 @@ impl AntecedentLists for GrowingLists<u64> {
     }
 }
 
-/// A word with these antecedents, the first in its lower half, if each takes four bytes. In it 0
-/// stands for none.
+/// A word with these antecedents, the first in its lower half, if each takes four bytes. A half
+/// that is 0 stands for no antecedent.
 #[inline(always)]
 #[tactic(auto, using(crate::proofs::AntecedentLists::word_list))]
 fn word_of(ants: AntecedentPair) -> Option<u64>
@@ -85,12 +85,13 @@ fn add_wide(wide: &mut GrowingLists<u64>, ants: AntecedentPair) -> Result<(), Al
     wide.add(ants)
 }
 
-/// Antecedents of four bytes each, a word for each step, and from the first step on of which a
-/// number takes more in lists of numbers of eight bytes. Contracts see the list of each step.
+/// The antecedents of steps. Each step has one word, with four bytes for each antecedent, up to the
+/// first step with an antecedent that takes more. From that step on they are in lists of numbers of
+/// eight bytes. Contracts see the list of each step.
 #[derive(Drop)]
 pub struct AntecedentWords {
     words: Vec<u64>,
-    /// All after the first that takes more than a word.
+    /// The lists of the first step that takes more than a word, and of all after it.
     wide: GrowingLists<u64>,
 }
 

@@ -50,7 +50,7 @@ impl Antecedents {
 }
 
 impl Antecedents {
-    /// Whether another may come.
+    /// Whether there is room for another.
     #[inline(always)]
     pub(crate) fn has_room(self) -> bool
         ensures { result ≡ has_room (listed self) }
@@ -74,7 +74,7 @@ impl Antecedents {
         }
     }
 
-    /// Their pair.
+    /// These as a pair.
     #[inline(always)]
     pub(crate) fn pair(self) -> AntecedentPair
         requires { AllByRecursion IsNumber (listed self) }
@@ -118,7 +118,7 @@ impl AntecedentPair {
         Antecedents::of_list(numbers).pair()
     }
 
-    /// The antecedents that these are.
+    /// The antecedents of this pair.
     #[inline(always)]
     pub fn antecedents(self) -> Antecedents
         ensures { listed result ≡ list_of_pair self }
@@ -126,7 +126,7 @@ impl AntecedentPair {
         Antecedents::of_two(self.first, self.second)
     }
 
-    /// A list of them, in exactly its size.
+    /// A list of them, allocated in exactly its size.
     ///
     /// # Errors
     /// Out of memory.

@@ -54,7 +54,7 @@ impl CompactTrace {
         &self.parts.sets
     }
 
-    /// What it claims of its formula.
+    /// The claim about its formula.
     pub fn result(&self) -> Outcome
         ensures value { result ≡ self.now.result }
         ensures sound { IsWellFormed self.now }

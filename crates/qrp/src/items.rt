@@ -17,9 +17,9 @@ use std::alloc::{AllocError, Global};
 use std::marker::Model;
 use std::mem;
 
-/// A trace of which one part is given after the other.
+/// A trace whose parts are given one after the other.
 ///
-/// Contracts see what is kept of the parts that were given, and what stands next.
+/// Contracts see what is kept of the parts that were given, and the state.
 #[derive(Drop)]
 pub struct ItemGrammar {
     state: State,
@@ -51,8 +51,8 @@ impl ItemGrammar {
         }
     }
 
-    /// The item that is complete, of which the number alone is kept if it is a step. Its lists are
-    /// allocated in exactly their size.
+    /// The item that is complete. If it is a step, only its number is kept. Its lists are allocated
+    /// in exactly their size.
     ///
     /// # Errors
     /// Out of memory. Nothing is changed then.
@@ -81,7 +81,7 @@ impl ItemGrammar {
         Ok(item)
     }
 
-    /// What was kept. It takes no memory.
+    /// The parts that were kept. It takes no memory.
     pub fn into_parts(self) -> Parts<GrowingLists<u64>>
         ensures { kept_of lent result ≡ self.kept }
     {

@@ -37,7 +37,7 @@ pub trait KeptSteps {
         requires { i < length (steps self.now) }
         ensures { (step : Inference) → IsAt (steps self.now) i step → listed result ≡ step.ants };
 
-    /// The position of the step with a number: `Some(i)` exactly where the step at i has it.
+    /// The position of the step with a number: `Some(i)` exactly if the step at i has it.
     fn position(&self, number: u64) -> Option<usize>
         ensures found { IfSome result (λ i.
             (step : Inference) × IsAt (steps self.now) i step × (step.number ≡ number)) }

@@ -1,4 +1,4 @@
-//! What a trace is made of, part by part, whether it is read or pushed to.
+//! The parts of which a trace is made, whether it is read or pushed to.
 
 ghost use Rattle.std.specs.Prelude.{◌≡◌, false, [], ◌∷◌, ◌++◌, OnOk, OnErr};
 ghost use Rattle.qrp.specs.Antecedents.{list_of_pair};
@@ -15,7 +15,7 @@ use std::alloc::{AllocError, Global};
 use std::mem;
 use step_index::StepIndex;
 
-/// The parts of a trace, of which antecedents are kept in an `A`.
+/// The parts of a trace. The antecedents of its whole steps are kept in an `A`.
 #[derive(Drop)]
 pub struct Parts<A> {
     pub alloc: Global,
@@ -52,7 +52,7 @@ impl<A: AntecedentLists> Parts<A> {
 /// Puts the unfinished step after the others.
 ///
 /// # Errors
-/// Out of memory. What is whole is as it was then.
+/// Out of memory. All that is whole is unchanged then.
 #[inline(always)]
 fn close_step<A: AntecedentLists>(
     lists: &mut Lists,
@@ -91,7 +91,7 @@ fn close_step<A: AntecedentLists>(
 /// Puts a part that is complete after the others. Nothing is kept of a result.
 ///
 /// # Errors
-/// Out of memory. What is whole is as it was then.
+/// Out of memory. All that is whole is unchanged then.
 #[inline(always)]
 pub fn close<A: AntecedentLists>(parts: &mut Parts<A>, part: Part) -> Result<(), AllocError>
     requires made { IsFlat (kept_of A.lists parts.old) }

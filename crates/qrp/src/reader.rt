@@ -64,8 +64,7 @@ fn read_item<S: Source>(
     }
 }
 
-/// Reads a trace (the text form of QRP) item by item, and keeps of it the numbers of its steps
-/// alone.
+/// Reads a trace (the text form of QRP) item by item, and keeps only the numbers of its steps.
 ///
 /// Contracts see a `Position`: how far the reader is, and the numbers of the steps that it gave.
 #[derive(Drop)]
@@ -111,14 +110,14 @@ impl TraceReader {
     ///
     /// # Errors
     /// An error is the first fault and its line, counted from 1; P1 (the source failed) and P9 (out
-    /// of memory) stand on line 0. After the result every call gives the result, after a fault that
-    /// fault, and then nothing is pulled.
+    /// of memory) stand on line 0. After the result every call gives the result, and after a fault
+    /// that fault. Nothing is pulled then.
     pub fn next_item<S: Source>(&mut self, source: &mut S) -> Result<Item, (TraceFault, u64)>
-        // What was left to give is the result, followed by what is left now.
+        // All that was left to give is the result, followed by all that is left now.
         ensures gives { GivesNextItem (items_left self.old (S.remaining source.old))
             (items_left self.new (S.remaining source.new)) result }
-        // Nothing is read past an item but a separator and what is held, and that is at most 4,096
-        // bytes.
+        // Nothing is read past an item but a separator and the buffered bytes, which are at most
+        // 4,096.
         ensures stops { ¬ IsDone self.old → IfOk result (λ i.
             StopsAfterItem self.old (S.remaining source.old) self.new (S.remaining source.new) i) }
         // The result and a fault are given for good, and nothing is pulled then.
@@ -128,13 +127,13 @@ impl TraceReader {
         ensures stays { IsDone self.old → is_last result ≡ true }
         // The result says how far the reader is, even if the bytes of the source are not known.
         ensures stage { self.new.stage ≡ stage_after result }
-        // With each other item less can still come.
+        // After any other item less can still come.
         ensures less { is_last result ≡ false →
             length self.new.scanner.pending + S.bound source.new
             < length self.old.scanner.pending + S.bound source.old }
         ensures proper { IfOk result (λ i. IsProper self.old.numbers i) }
         ensures numbers { self.new.numbers ≡ numbers_with self.old.numbers result }
-        // P1 is first given in a call in which the source failed; if it failed the call says so.
+        // P1 is first given in a call in which the source failed; if it failed, the call says so.
         ensures devices { ¬ IsDone self.old → TellsFailures P1 P9 (S.failures source.old)
             (S.failures source.new) result }
         // P1 and P9 stand on line 0 each time.

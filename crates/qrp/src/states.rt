@@ -17,7 +17,7 @@ use qbf_core::{GrowingLists, LAST_VARIABLE, Lit, Quantifier, Var};
 use qbf_text::{Stop, Token};
 use step_index::StepIndex;
 
-/// Where the next token stands. What is listed so far is in `Lists`.
+/// The place of the next token. The lists so far are in `Lists`.
 #[derive(Clone, Copy)]
 pub enum State {
     /// In the header, at this place.
@@ -32,12 +32,12 @@ pub enum State {
     InAnts(u64),
     /// After `r`.
     AtResult,
-    /// After a part that is complete. No token is accepted until it was handed out, and none after
+    /// After a part that is complete. No token is accepted until it is handed out, and none after
     /// the result.
     After(Part),
 }
 
-/// A part of a trace that is complete. What it lists is in `Lists`.
+/// A part of a trace that is complete. Its lists are in `Lists`.
 #[derive(Clone, Copy)]
 pub enum Part {
     /// The header.
@@ -58,7 +58,7 @@ type Transition = Result<State, Stop<TraceFault>>;
 pub struct Lists {
     /// The variables of an unfinished set.
     pub vars: Vec<Var>,
-    /// The literals of an unfinished step, after those of whole steps if such are kept.
+    /// The literals of an unfinished step, after those of whole steps if these are kept.
     pub lits: GrowingLists<Lit>,
     /// Its antecedents.
     pub ants: AntecedentPair,
@@ -69,7 +69,7 @@ pub struct Lists {
 /// Takes a token between lists.
 ///
 /// # Errors
-/// The fault that the token is there.
+/// The fault of the token at its place.
 #[inline(always)]
 pub fn take_item_start(lists: &mut Lists, token: Token) -> Transition
     ensures row { Moves (row (state_at lists.old at.Between) token) lists.new result }
@@ -141,7 +141,7 @@ fn take_member(lists: &mut Lists, quantifier: Quantifier, token: Token) -> Trans
 /// The state that a token leads to. Whole lists and the numbers of whole steps stay as they are.
 ///
 /// # Errors
-/// Out of memory, or the fault that the token is there.
+/// Out of memory, or the fault of the token at its place.
 #[inline(always)]
 pub fn take_at(here: State, lists: &mut Lists, token: Token) -> Transition
     requires sound { IsSound here lists.old }

@@ -23,12 +23,12 @@ use std::alloc::AllocError;
 pub struct NextPlaces {
     /// The place of the next number.
     pub from: usize,
-    /// The place of the next zero, as it seems.
+    /// The place where the next zero seems to stand.
     pub zero: usize,
 }
 
 impl NextPlaces {
-    /// The place of the next number, and that of the zero with this number, as it seems.
+    /// The place of the next number, and the place where the zero with this number seems to stand.
     #[inline(always)]
     pub fn new(from: usize, zeros: Zeros, zero: usize) -> NextPlaces
         ensures { result.from ≡ from }
@@ -104,7 +104,7 @@ fn take_literals(lists: &mut Lists, number: u64, values: &[i32], from: usize) ->
     (State::InLits(number), Ok(i))
 }
 
-/// Takes literals of a step, if such stand next, and the zero after them.
+/// Takes literals of a step, if they stand next, and the zero after them.
 ///
 /// # Errors
 /// Out of memory.
@@ -126,8 +126,8 @@ fn take_list(here: State, lists: &mut Lists, values: &[i32], next: NextPlaces) -
     }
 }
 
-/// Takes antecedents from the place `from` on, and no zero after them. Returns the place of the
-/// next number.
+/// Takes antecedents from the place `from` on, but not the zero after them. Returns the place of
+/// the next number.
 #[inline(always)]
 #[tactic(auto, using(crate::proofs::BufferedNumbers::numbers_lead_on))]
 fn take_antecedents(lists: &mut Lists, number: u64, values: &[i32], from: usize) -> usize
@@ -225,7 +225,7 @@ pub fn is_zero_at(values: &[i32], place: usize) -> bool
     place < values.len() && values[place] == 0
 }
 
-/// Whether a zero stands where it seems to, not before the next number.
+/// Whether a zero stands where it seems to stand, and this is not before the next number.
 #[inline(always)]
 fn has_zero(values: &[i32], next: NextPlaces) -> bool
     ensures { IsTrue result ↔ (next.from ≤ next.zero) × (next.zero < length values.now)
@@ -265,7 +265,7 @@ fn take_all_literals(
 }
 
 /// Takes a step that begins here, but not its last zero, if all of its literals stand there.
-/// Returns its number, and the place of the next one.
+/// Returns the number of the step, and the place of the next number.
 ///
 /// # Errors
 /// Out of memory.

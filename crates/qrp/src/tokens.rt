@@ -1,4 +1,4 @@
-//! What one token says at its place in a trace.
+//! The meaning of one token at its place in a trace.
 
 ghost use Rattle.std.specs.Prelude.{◌≡◌, ◌<◌, ◌^◌, true, IfOk, IfSome};
 ghost use Rattle.qrp.specs.Inferences.{IsNumber};
@@ -10,7 +10,7 @@ use dimacs_syntax::{Faults, HeaderForm};
 use qbf_core::Quantifier;
 use qbf_text::{Token, Word};
 
-/// The faults that tokens of a trace are.
+/// The faults that tokens of a trace can be.
 pub const FAULTS: Faults<TraceFault> = Faults {
     header: TraceFault::P2,
     stray: TraceFault::P3,
@@ -26,7 +26,7 @@ pub const FORM: HeaderForm<TraceFault> = HeaderForm {
     faults: FAULTS,
 };
 
-/// What begins between lists.
+/// A part of a trace that begins between lists.
 #[derive(Clone, Copy)]
 pub enum ItemStart {
     Set(Quantifier),
@@ -34,10 +34,10 @@ pub enum ItemStart {
     Result,
 }
 
-/// What a token begins between lists: no set, once there are steps.
+/// The part that a token begins between lists. No set begins once there are steps.
 ///
 /// # Errors
-/// P3, P4 or P7: the fault that the token is there.
+/// P3, P4 or P7: the fault of the token at its place.
 pub fn decode_item_start(has_steps: bool, token: Token) -> Result<ItemStart, TraceFault>
     ensures { result ≡ decode_item_start has_steps token }
 {
@@ -70,10 +70,11 @@ pub fn decode_outcome(token: Token) -> Result<Outcome, TraceFault>
     }
 }
 
-/// The antecedent that a token says in a step, or `None` where it closes the step.
+/// The antecedent that a token says in a step, or `None` if it closes the step.
 ///
 /// # Errors
-/// P3, P4, P6 or P7: the fault that the token is there. P6 is a number where there is no `room`.
+/// P3, P4, P6 or P7: the fault of the token at its place. P6 is a number for which there is no
+/// `room`.
 pub fn decode_antecedent(room: bool, token: Token) -> Result<Option<u64>, TraceFault>
     ensures says { result ≡ decode_antecedent room token }
     ensures range { IfOk result (λ o. IfSome o IsNumber) }

@@ -178,9 +178,9 @@ fn take_steps<A: AntecedentLists>(
     }
 }
 
-/// A trace that is read as a whole, of which antecedents are kept in an `A`.
+/// A trace that is read as a whole. The antecedents of its whole steps are kept in an `A`.
 ///
-/// Contracts see what is made of it, and what stands next.
+/// Contracts see the trace that is made so far, and the state.
 #[derive(Drop)]
 pub struct TraceGrammar<A: AntecedentLists> {
     state: State,
@@ -224,7 +224,7 @@ impl<A: AntecedentLists> TraceGrammar<A> {
         reached
     }
 
-    /// What was kept, and the result. It takes no memory.
+    /// The parts that were kept, and the result. It takes no memory.
     pub fn into_parts(self) -> (Parts<A>, Outcome)
         requires { HasResult self.state }
         ensures made { made_of self

@@ -113,7 +113,7 @@ impl<'a, T: KeptSteps> Put for StepLinesAt<'a, T> {
 /// and each line ends with byte 10. Reading the text gives the trace.
 ///
 /// # Errors
-/// A `SinkFault` if the sink failed. What went out is a beginning of the text then.
+/// A `SinkFault` if the sink failed. A beginning of the text went out then.
 #[tactic(auto, using(crate::proofs::ReadingLaws::text_is_read))]
 pub fn write_trace<K: Sink>(trace: &Trace, sink: &mut K) -> Result<(), SinkFault>
     ensures put { IsPut K.written K.failures K.failed_last
@@ -127,7 +127,7 @@ pub fn write_trace<K: Sink>(trace: &Trace, sink: &mut K) -> Result<(), SinkFault
     (header, (trace.sets(), (StepLines(&kept), trace.result()))).put(sink)
 }
 
-/// A header that says that there are so many steps.
+/// The header with this number of steps in place of its own.
 fn counted(header: Header, steps: usize) -> Header
     ensures { result ≡ record header { steps = steps } }
 {
@@ -137,7 +137,7 @@ fn counted(header: Header, steps: usize) -> Header
     }
 }
 
-/// Writes the canonical text of a trace with the steps at these positions alone, as `write_trace`
+/// Writes the canonical text of a trace with only the steps at these positions, as `write_trace`
 /// does. It takes no memory.
 ///
 /// Sets, result and the number of variables in the header stay as they are; the header counts the
@@ -145,7 +145,7 @@ fn counted(header: Header, steps: usize) -> Header
 /// twice.
 ///
 /// # Errors
-/// A `SinkFault` if the sink failed. What went out is a beginning of the text then.
+/// A `SinkFault` if the sink failed. A beginning of the text went out then.
 pub fn write_steps_at<K: Sink>(
     trace: &CompactTrace,
     positions: &[usize],

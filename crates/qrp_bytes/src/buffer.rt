@@ -3,8 +3,9 @@
 ghost use Rattle.std.specs.Prelude.{◌≡◌, ◌+◌, drop};
 ghost use Rattle.qrp_bytes.specs.Buffers.{IsWritten, IsListed};
 
-/// Puts a text at the front of the buffer, with a zero after it, if there is room for both. Else
-/// all of the buffer stays as it was. What comes after the zero stays in either case.
+/// Puts a text at the front of the buffer, with a zero after it, if there is room for both.
+/// Otherwise all of the buffer stays as it was. The bytes after the place of the zero stay in
+/// either case.
 ///
 /// Returns the length of the text.
 pub fn put_text(buffer: &mut [u8], text: &[u8]) -> usize
@@ -19,8 +20,8 @@ pub fn put_text(buffer: &mut [u8], text: &[u8]) -> usize
     n
 }
 
-/// Puts numbers at the front of a list if there is room for all of them, and else none. What comes
-/// after them stays in either case.
+/// Puts numbers at the front of a list if there is room for all of them, else none. The numbers
+/// after these places stay in either case.
 ///
 /// Returns how many numbers they are.
 pub fn put_numbers(list: &mut [u64], numbers: &[u64]) -> usize

@@ -9,7 +9,7 @@ use qbf_text::{Sink, SinkFault};
 /// its end, has 45.
 pub const ROOM: usize = 47;
 
-/// Keeps what was sent, up to 47 bytes. It fails only if it is full.
+/// A sink that keeps the bytes that were sent, up to 47. It fails only if it is full.
 #[derive(Drop)]
 pub struct Line {
     bytes: [u8; ROOM],

@@ -1,4 +1,4 @@
-//! The line of a verdict, as the program prints it, and what its fault means.
+//! The line of a verdict, as the program prints it, and the meaning of its fault.
 
 ghost use Rattle.std.specs.Prelude.{◌≡◌, ◌≤◌, Some, Result, [], length};
 ghost use Rattle.qbf_text.specs.Written.{IsPut};
@@ -13,7 +13,7 @@ use crate::verdict::{QrpVerdict, decode_refusal, decode_truth};
 use qbf_text::{Sink, SinkFault};
 use qrp_report::{put_refusal, put_verdict};
 
-/// Sends the line of a verdict, and nothing if the struct encodes no result.
+/// Sends the line of a verdict, or nothing if the struct encodes no result.
 fn put_line<S: Sink>(sink: &mut S, verdict: &QrpVerdict) -> Result<(), SinkFault>
     ensures encoded { (outcome : Result Verified Fault) → IsEncoded outcome verdict.now
         → IsPut S.written S.failures S.failed_last sink.old sink.new (result_line outcome) result }
@@ -28,7 +28,7 @@ fn put_line<S: Sink>(sink: &mut S, verdict: &QrpVerdict) -> Result<(), SinkFault
     }
 }
 
-/// The line of a verdict, and nothing if the struct encodes no result.
+/// The line of a verdict, or an empty one if the struct encodes no result.
 pub fn line_of(verdict: &QrpVerdict) -> Line
     ensures encoded { (outcome : Result Verified Fault) → IsEncoded outcome verdict.now
         → ⟦<Line as Sink>⟧.written result ≡ Some (result_line outcome) }
@@ -41,7 +41,7 @@ pub fn line_of(verdict: &QrpVerdict) -> Line
     line
 }
 
-/// What the fault of a verdict means, and nothing if the struct encodes no fault.
+/// The meaning of the fault of a verdict, or an empty text if the struct encodes no fault.
 pub fn meaning_of(verdict: &QrpVerdict) -> &'static str
     ensures encoded { (e : Fault) → NamesVariable e → verdict.now ≡ encoded_fault e
         → result.now ≡ fault_meaning e }

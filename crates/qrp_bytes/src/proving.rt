@@ -41,7 +41,7 @@ pub fn verify_bytes(alloc: Global, formula: &[u8], trace: &[u8], rules: Rules) -
     encode(&outcome)
 }
 
-/// The trace in these bytes, and what the check of it on the formula in those says.
+/// The trace in these bytes, and the result of its check on the formula in those.
 ///
 /// # Errors
 /// The first fault.
@@ -63,7 +63,7 @@ fn lent_proof(
     find_proof(alloc, &mut formula_source, &mut trace_source, rules)
 }
 
-/// The text of a trace with the steps at these places alone.
+/// The text of a trace with only the steps at these places.
 ///
 /// # Errors
 /// If an allocation fails.

@@ -1,4 +1,4 @@
-//! What a caller in C gets: a result as numbers, and back.
+//! The struct that a caller in C gets: a result as numbers, and back.
 
 ghost use Rattle.std.specs.Prelude.{◌≡◌, Bool, Result, Some, IfSome};
 ghost use Rattle.qrp_check.specs.declared.verdict.Fault.{Fault};
@@ -12,27 +12,27 @@ ghost use Rattle.qrp_bytes.specs.Encoding.{IsEncoded, encoded_truth, encoded_fau
 use qrp_check::Fault;
 use qrp_report::{Refusal, is_of_fault};
 
-/// What a caller in C gets of a result: `struct qrp_verdict`, 16 bytes.
+/// A result for a caller in C: `struct qrp_verdict`, 16 bytes.
 #[repr(C)]
 #[derive(Clone, Copy, Debug, PartialEq, Eq)]
 pub struct QrpVerdict {
-    /// The step (C6), the variable (C1, C2, C3) or the line (F, P), and else 0.
+    /// The step (C6), the variable (C1, C2, C3) or the line (F, P), else 0.
     pub position: u64,
     /// 0: verified. 1: the proof is refused. 2: a text is refused. 4: an allocation failed.
     pub status: u8,
-    /// 1 if the formula was verified to be true, and else 0.
+    /// 1 if the formula was verified to be true, else 0.
     pub truth: u8,
     /// `V` if the formula was verified, or the letter of the fault: `F`, `P` or `C`.
     pub letter: u8,
     /// The number of the fault, as 4 of C4, or 0.
     pub number: u8,
-    /// Of C6 the number of the step's fault, as 7 of S7, and else 0.
+    /// For C6 the number of the step's fault, as 7 of S7, else 0.
     pub rule: u8,
     /// Zeros: the room that is left in the 16 bytes.
     pub reserved: [u8; 3],
 }
 
-/// What a caller in C gets of a formula that was verified to have this truth.
+/// The struct for a formula that was verified to have this truth.
 pub fn encode_truth(truth: bool) -> QrpVerdict
     ensures { result ≡ encoded_truth truth }
 {
@@ -47,7 +47,7 @@ pub fn encode_truth(truth: bool) -> QrpVerdict
     }
 }
 
-/// What a caller in C gets if nothing was verified or refused.
+/// The struct if nothing was verified or refused.
 pub fn encode_nothing() -> QrpVerdict
     ensures { result ≡ encoded_nothing }
 {
@@ -62,7 +62,7 @@ pub fn encode_nothing() -> QrpVerdict
     }
 }
 
-/// What a caller in C gets of a refusal.
+/// The struct for a refusal.
 fn encode_refusal(refusal: &Refusal) -> QrpVerdict
     ensures { result ≡ encoded_refusal refusal.now }
 {
@@ -77,7 +77,7 @@ fn encode_refusal(refusal: &Refusal) -> QrpVerdict
     }
 }
 
-/// What a caller in C gets of a fault.
+/// The struct for a fault.
 pub fn encode_fault(fault: &Fault) -> QrpVerdict
     ensures encoded { result ≡ encoded_fault fault.now }
     ensures named { NamesVariable fault.now }
@@ -85,7 +85,7 @@ pub fn encode_fault(fault: &Fault) -> QrpVerdict
     encode_refusal(&Refusal::of(fault))
 }
 
-/// What a caller in C gets of a result.
+/// The struct for a result.
 #[tactic(auto, using(crate::proofs::HeadlineOfStruct::truth_encoded, crate::proofs::HeadlineOfStruct::fault_encoded))]
 pub fn encode(outcome: &Result<bool, Fault>) -> QrpVerdict
     ensures { (verdict : Result Verified Fault) → outcome.now ≡ truth_of verdict

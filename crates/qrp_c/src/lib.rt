@@ -4,8 +4,8 @@
 //! - Owns: the exported functions of the library for C, C++ and Python.
 //! - Offers: the functions of `include/qrp_check.h`.
 //! - Proved: the headline over the bytes lent, each field of the struct, the line, the meaning, the
-//!   trimmed trace, the core and the canonical formula in the buffer; of a proof that is handed over,
-//!   what each call adds or refuses, and the verdict on what is held.
+//!   trimmed trace, the core and the canonical formula in the buffer; of a proof that is handed
+//!   over, what each call adds or refuses, and the verdict on what is held.
 //! - Read first: `qrp_verify`, `qrp_verdict_line`, `qrp_fault_text`, `qrp_trim`, `qrp_core`,
 //!   `qrp_format`, `qrp_proof_check`.
 //! - Tested only: over the built library: rows and real traces by each call from C and from Python,
@@ -72,18 +72,18 @@ pub extern "C" fn qrp_verdict_line(verdict: &QrpVerdict, buffer: &mut [u8]) -> u
         → IsWritten (result_line outcome) buffer.old buffer.new result }
     ensures none { ¬ EncodesSome verdict.now → IsWritten [] buffer.old buffer.new result }
     ensures short { result ≤ 47 }
-    // Of any struct.
+    // For any struct.
     ensures kept { drop (1 + result) buffer.new ≡ drop (1 + result) buffer.old }
 {
     put_text(buffer, line_of(verdict).as_slice())
 }
 
-/// What the fault of a verdict means, in one sentence, with a zero after it.
+/// The meaning of the fault of a verdict, in one sentence, with a zero after it.
 ///
 /// In C: `size_t qrp_fault_text(const struct qrp_verdict *verdict, char *buffer, size_t room)`.
 ///
-/// Returns its length without the zero, 127 at most, and writes as `qrp_verdict_line` does. A struct
-/// that encodes no fault has the empty text.
+/// Returns its length without the zero, 127 at most, and writes as `qrp_verdict_line` does. A
+/// struct that encodes no fault has the empty text.
 #[unsafe(no_mangle)]
 pub extern "C" fn qrp_fault_text(verdict: &QrpVerdict, buffer: &mut [u8]) -> usize
     ensures encoded { (e : Fault) → NamesVariable e → verdict.now ≡ encoded_fault e
@@ -102,7 +102,7 @@ pub extern "C" fn qrp_fault_text(verdict: &QrpVerdict, buffer: &mut [u8]) -> usi
 /// trace_length, bool any_pivot, char *buffer, size_t room, struct qrp_verdict *out)`.
 ///
 /// Returns its length without the zero, and writes as `qrp_verdict_line` does. Writes to `out` what
-/// `qrp_verify` does; if that is a fault the text is empty.
+/// `qrp_verify` does; if that is a fault, the text is empty.
 #[unsafe(no_mangle)]
 pub extern "C" fn qrp_trim(
     alloc: Global,
@@ -134,9 +134,9 @@ pub extern "C" fn qrp_trim(
 /// In C: `size_t qrp_core(const void *formula, size_t formula_length, const void *trace, size_t
 /// trace_length, bool any_pivot, uint64_t *steps, size_t room, struct qrp_verdict *out)`.
 ///
-/// Returns how many they are. If `steps` has room for all of them they stand at its front, and
-/// the rest stays as it was; else all of it stays. Writes to `out` what `qrp_verify` does; where
-/// that is a fault there are none.
+/// Returns how many they are. If `steps` has room for all of them they stand at its front, and the
+/// rest stays as it was; else all of it stays. Writes to `out` what `qrp_verify` does; if that is a
+/// fault, there are none.
 #[unsafe(no_mangle)]
 pub extern "C" fn qrp_core(
     alloc: Global,

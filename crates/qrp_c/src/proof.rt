@@ -37,7 +37,7 @@ pub extern "C" fn qrp_proof_new(alloc: Global, proof: &mut QrpProof) -> i32
     }
 }
 
-/// Binds a variable innermost: in the last block if that has this quantifier, and else in a new one.
+/// Binds a variable innermost: in the last block if that has this quantifier, else in a new one.
 ///
 /// In C: `int32_t qrp_proof_variable(struct qrp_proof *proof, bool universal, uint32_t variable)`.
 #[unsafe(no_mangle)]
@@ -169,7 +169,7 @@ pub extern "C" fn qrp_proof_check(
     }
 }
 
-/// What a caller in C gets of the check.
+/// The result of the check, for a caller in C.
 fn verdict_of(alloc: Global, proof: &Proof, sat: bool, rules: Rules) -> QrpVerdict
     ensures { IsVerdictOf rules proof.now.formula proof.now.trace.steps sat result }
 {

@@ -10,8 +10,8 @@ use qbf_core::{Prefix, Quantifier, Var};
 use qrp::QuantSet;
 use qrp_rules::is_bound_by;
 
-/// The block of a set variable, where it agrees with the prefix and is no smaller than those named
-/// before.
+/// The block of a set variable, if the variable agrees with the prefix and the block is no smaller
+/// than those named before.
 fn next_block(
     prefix: &Prefix,
     quantifier: Quantifier,
@@ -56,7 +56,7 @@ fn set_block(prefix: &Prefix, set: &QuantSet, highest: usize) -> Result<usize, C
     Ok(reached)
 }
 
-/// Why the sets of a trace do not agree with a prefix, or `None` where they do.
+/// Why the sets of a trace do not agree with a prefix, or `None` if they do.
 ///
 /// They agree if each variable that they name is bound by the prefix, with that quantifier, and its
 /// block is no smaller than that of any variable named before it. The result is about the first

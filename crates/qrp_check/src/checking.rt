@@ -30,7 +30,7 @@ pub(crate) fn is_sat(outcome: Outcome) -> bool
     outcome == Outcome::Sat
 }
 
-/// The marks of the core, where each of its steps follows from those before it.
+/// The marks of the core, if each of its steps follows from those before it.
 fn check_core<S: Side, T: KeptSteps>(
     context: Context,
     trace: &T,
@@ -51,7 +51,7 @@ fn check_core<S: Side, T: KeptSteps>(
     Ok(marks)
 }
 
-/// The marks of the core, where sets, steps and outcome of a trace prove the outcome of the formula.
+/// The marks of the core, if sets, steps and outcome of a trace prove the outcome of the formula.
 ///
 /// # Errors
 /// As of `check`.
@@ -120,10 +120,10 @@ pub(crate) fn check_kept<T: KeptSteps>(
 /// that truth.
 ///
 /// # Errors
-/// The first of these, where the later ones are looked at only if the earlier ones do not hold:
-/// `C1`, `C2` or `C3` of the first set variable in file order that does not agree; `C4` if no step
-/// is without literals; `C6` with the first step of the core in file order that does not follow,
-/// and its first fault. `C5`, in place of any of these, if an allocation failed.
+/// The first of these: `C1`, `C2` or `C3` of the first set variable in file order that does not
+/// agree; `C4` if no step is without literals; `C6` with the first step of the core in file order
+/// that does not follow, and its first fault. The later ones are looked at only if the earlier ones
+/// do not hold. `C5`, in place of any of these, if an allocation failed.
 pub fn check<T: Steps>(
     alloc: Global,
     formula: &Formula,

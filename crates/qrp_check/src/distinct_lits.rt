@@ -10,7 +10,7 @@ use qrp_rules::{SeenLits, push_distinct};
 use std::alloc::{AllocError, Global};
 
 /// The steps that were accepted and seen to repeat a literal, with each of their literals once. So
-/// the repetitions of a step do not take time again wherever it is an antecedent.
+/// the repetitions of a step do not take time again each time it is an antecedent.
 #[derive(Drop)]
 pub(crate) struct DistinctLits {
     /// The positions of these steps in the trace. They go up.
@@ -30,7 +30,7 @@ impl DistinctLits {
         }
     }
 
-    /// What is kept of the step at a position.
+    /// The literals that are kept of the step at a position.
     #[cold]
     #[inline(never)]
     fn find(&self, position: usize) -> Option<&[Lit]>
@@ -45,7 +45,7 @@ impl DistinctLits {
         Some(self.lists.get(index))
     }
 
-    /// The literals of the step at a position: each once if the step is kept, and else as they are
+    /// The literals of the step at a position: each once if the step is kept, else as they are
     /// written.
     #[inline(always)]
     pub(crate) fn lits<'a, T: KeptSteps>(&'a self, trace: &'a T, position: usize) -> &'a [Lit]

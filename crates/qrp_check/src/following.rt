@@ -14,7 +14,7 @@ use crate::step::{CheckState, Context, step_fault};
 use qrp::KeptSteps;
 use qrp_rules::{InitialSteps, SeenLits, Side};
 
-/// What is kept from one step to the next.
+/// The state that is kept from one step to the next.
 #[derive(Drop)]
 pub(crate) struct WalkState {
     hints: Hints,

@@ -1,4 +1,4 @@
-//! Where the antecedents of the core stand.
+//! The positions of the antecedents of the core.
 
 ghost use Rattle.std.specs.Prelude.{◌≡◌, ◌↔◌, ℕ, ◌<◌, Some, length, IfOk, IfSome, IsTrue};
 ghost use Rattle.qrp.specs.Inferences.{Inference, IsAt, IsOnlyAt};
@@ -15,7 +15,8 @@ pub(crate) struct Hints {
     positions: Vec<u32>,
     /// Whether positions are kept: only if a look-up reads a table, and so may wait for memory.
     keeps: bool,
-    /// Where the antecedent was found that was last looked for elsewhere than right before its step.
+    /// The position at which the antecedent was found that was last looked for elsewhere than right
+    /// before its step.
     last: usize,
 }
 
@@ -30,8 +31,8 @@ fn is_at<T: KeptSteps>(trace: &T, position: usize, number: u64) -> bool
 }
 
 impl Hints {
-    /// No positions. They are kept if the last of the steps has another number than it would have if
-    /// the numbers went up one by one.
+    /// No positions. They are kept if the last of the steps has another number than it would have
+    /// if the numbers went up one by one.
     pub(crate) fn new<T: KeptSteps>(alloc: Global, trace: &T) -> Hints {
         let count = trace.len();
         let keeps = count > 1
@@ -67,8 +68,8 @@ impl Hints {
         None
     }
 
-    /// The position of the step with a number, an antecedent of the step at a position. If a look-up
-    /// would read a table, the position is guessed first.
+    /// The position of the step with a number, an antecedent of the step at a position. If a
+    /// look-up would read a table, the position is guessed first.
     #[inline(always)]
     fn find<T: KeptSteps>(&mut self, trace: &T, position: usize, number: u64) -> Option<usize>
         ensures found { IfSome result (λ i.
@@ -103,7 +104,7 @@ impl Hints {
     }
 
     /// The position of the step with a number, an antecedent of the step at a position, if it is
-    /// before that. Where it was found is kept.
+    /// before that. The position at which it was found is kept.
     ///
     /// # Errors
     /// If an allocation fails.
@@ -124,7 +125,8 @@ impl Hints {
         }
     }
 
-    /// The same position as `find_earlier`: the one that was kept last is taken back and tried first.
+    /// The same position as `find_earlier`: the one that was kept last is taken back and tried
+    /// first.
     #[inline(always)]
     pub(crate) fn find_again<T: KeptSteps>(
         &mut self,

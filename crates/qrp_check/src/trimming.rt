@@ -82,7 +82,7 @@ fn push_steps(shorter: &mut Trace, trace: &Trace, positions: &[usize]) -> Result
     Ok(())
 }
 
-/// The header of the trace with the steps at some positions alone, which are as many.
+/// The header of the trace with only the steps at some positions, which it counts.
 #[tactic(auto, using(qrp::proofs::WrittenParts::length_at))]
 fn header_at(trace: &Trace, positions: &[usize]) -> Header
     requires { AllByRecursion (λ i. i < length trace.now.steps) positions.now }

@@ -18,7 +18,7 @@ use qrp::{CompactTrace, read_compact};
 use qrp_rules::Rules;
 use std::alloc::Global;
 
-/// The trace that was read, and what the check of it on a formula that was read says.
+/// The trace that was read, and the result of its check on a formula that was read.
 fn find_proof_of<B: Source>(
     alloc: Global,
     formula: &Formula,
@@ -39,8 +39,8 @@ fn find_proof_of<B: Source>(
     Ok((whole, verified))
 }
 
-/// The trace that was read, and what the check of it on a formula says: its truth, and the steps
-/// that its goal needs. The formula is read before the trace.
+/// The trace that was read, and the result of its check on a formula: the truth of the formula, and
+/// the steps that the goal needs. The formula is read before the trace.
 ///
 /// # Errors
 /// As of `verify`.
@@ -70,7 +70,7 @@ pub fn find_proof<A: Source, B: Source>(
 /// # Errors
 /// The formula's fault with its line, and then the trace is not pulled; else the trace's fault with
 /// its line; else the first fault of the check. In place of any of these `F9`, `P9` or `C5` if an
-/// allocation failed, and `F1` or `P1` exactly where the source failed; `F1`, `F9`, `P1` and `P9`
+/// allocation failed, and `F1` or `P1` exactly if the source failed; `F1`, `F9`, `P1` and `P9`
 /// stand on line 0.
 pub fn verify<A: Source, B: Source>(
     alloc: Global,
@@ -78,7 +78,7 @@ pub fn verify<A: Source, B: Source>(
     trace: &mut B,
     rules: Rules,
 ) -> Result<Verified, Fault>
-    // The sentence above, where both sources tell their bytes.
+    // The sentence above, if both sources tell their bytes.
     ensures headline { IfSome (A.remaining formula.old)
         (λ a. IfSome (B.remaining trace.old) (λ b. Headline rules a b result)) }
     ensures verdict { IsVerdictUnless rules (A.remaining formula.old)
@@ -88,7 +88,7 @@ pub fn verify<A: Source, B: Source>(
     ensures trace_failed { B.failures trace.old < 2 ^ 64 - 1 →
         (IsTraceDevice result ↔ (B.failures trace.old < B.failures trace.new)) }
     ensures lines { IfErr result StandsOnLine }
-    // Where the trace was read, nothing is read past its result word but at most 4,096 bytes.
+    // If the trace was read, nothing is read past its result word but at most 4,096 bytes.
     ensures stops { WasRead result
         → IfKnown StopsAfterTrace (B.remaining trace.old) (B.remaining trace.new) }
     ensures not_pulled { IsFormulaFault result → trace.new ≡ trace.old }
@@ -120,7 +120,7 @@ fn find_truth_of<B: Source>(
 
 /// The truth that `verify` returns, without the list of the steps that show it.
 ///
-/// What it returns is the truth of a verdict of which each clause of `verify` holds.
+/// The result is the truth of a verdict of which each clause of `verify` holds.
 ///
 /// # Errors
 /// As of `verify`.

@@ -28,7 +28,7 @@ fn stop<S: Sink>(sink: &mut S, start: Start) -> Status
     start.status()
 }
 
-/// Ends before a job begins, where the refusals of the job go.
+/// Ends before a job begins. The line goes where the refusals of the job go.
 fn refuse<O: Sink, E: Sink>(job: Job, start: Start, out: &mut O, err: &mut E) -> Status
     ensures { IsReported O.Sink out.old out.new E.Sink err.old err.new
         (start_report (refusals job) start) result }
@@ -116,12 +116,12 @@ fn run_opened<F: Source, T: Source, O: Sink, E: Sink>(
 /// arguments ask for, over the files that they name, writes the report to `out` or `err`, and
 /// returns the status.
 ///
-/// If the arguments are not a command line of the usage, the line `USAGE` goes to `err` with
-/// status 5. A file that cannot be opened is reported in a line with status 3, and out of memory
-/// while it is opened in a line with status 4, where the refusals of the command go; the formula is
-/// opened before the trace, and both before anything is read. If the arguments were not got, the
-/// line for the reason goes to `err`, with its status. These statuses stay whether or not the line
-/// went out. Else the report is that of `run`.
+/// If the arguments are not a command line of the usage, the line `USAGE` goes to `err` with status
+/// 5. A file that cannot be opened is reported in a line with status 3, and out of memory while it
+/// is opened in a line with status 4, where the refusals of the command go; the formula is opened
+/// before the trace, and both before anything is read. If the arguments could not be read, the line
+/// for the reason goes to `err`, with its status. These statuses stay whether or not the line went
+/// out. Otherwise the report is that of `run`.
 pub fn program<F: Open, O: Sink, E: Sink>(
     alloc: Global,
     files: &F,

@@ -1,8 +1,8 @@
-//! What the program can be asked to do.
+//! The jobs of the program.
 
 use qrp_check::Rules;
 
-/// What the program is to do.
+/// A job that the program is to do.
 #[derive(Clone, Copy, Debug, PartialEq, Eq)]
 pub enum Job {
     /// Tells whether the trace proves its result of the formula.

@@ -15,8 +15,8 @@ pub trait Open {
     /// An opened file.
     type File: Source + Drop;
 
-    /// What opening this path may return: the bytes of the file, if they are known, or why it is
-    /// not opened.
+    /// The results that opening this path may have: the bytes of the file, if they are known, or
+    /// why it is not opened.
     ghost opens: { Self → List ℕ → Result (Option (List ℕ)) OpenFault → Type 0 };
 
     /// Opens a file, of which no more than `LIMIT` bytes are read.

@@ -193,7 +193,8 @@ pub fn run<F: Source, T: Source, O: Sink, E: Sink>(
         (call_of F.Source formula.old formula.new)
         (call_of T.Source trace.old trace.new) r
         × IsReported O.Sink out.old out.new E.Sink err.old err.new r result }
-    // What `check` prints with status 0 is the line of a verdict for which the headline holds.
+    // The text that `check` prints with status 0 is the line of a verdict for which the headline
+    // holds.
     ensures headline { (rules : Rules) (a b : List ℕ) → job ≡ Check rules
         → F.remaining formula.old ≡ Some a → T.remaining trace.old ≡ Some b → result ≡ 0
         → PrintsVerdict O.Sink out.old out.new rules a b }

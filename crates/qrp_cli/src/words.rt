@@ -14,8 +14,7 @@ fn is_word(word: &String, name: &str) -> bool
     word.as_str() == name
 }
 
-/// The rules and the places of a formula and a trace, where the arguments are this command on the
-/// two.
+/// The rules and the places of a formula and a trace, if the arguments are this command on the two.
 fn texts(words: &[String], command: &str) -> Option<(Rules, usize, usize)>
     ensures row { IfSome result (λ r. HasTexts command.now (map (λ w. string_bytes w) words.now)
         (record { rules = r.0; formula = r.1; trace = r.2 })) }
@@ -35,9 +34,9 @@ fn texts(words: &[String], command: &str) -> Option<(Rules, usize, usize)>
     }
 }
 
-/// The job and the places of its formula and its trace among the arguments, counted from 0, where
-/// these are a command line of the usage: `check` and `trim` with a formula and a trace, before or
-/// after which the flag `--qu` may stand, and `format` with a formula.
+/// The job and the places of its formula and its trace among the arguments, counted from 0, if the
+/// arguments are a command line of the usage: `check` and `trim` with a formula and a trace, before
+/// or after which the flag `--qu` may stand, and `format` with a formula.
 pub fn request(words: &[String]) -> Option<(Job, usize, Option<usize>)>
     ensures row { IfSome result (λ r. IsRow (map (λ w. string_bytes w) words.now)
         (record { job = r.0; formula = r.1; trace = r.2 })) }

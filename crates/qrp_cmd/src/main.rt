@@ -43,7 +43,7 @@ fn words_after_name(alloc: Global, mut args: Args) -> Result<Vec<String>, Start>
     Ok(words)
 }
 
-/// Why there are no arguments, by the kind of the error: out of memory, or else one of them is not
+/// Why there are no arguments, by the kind of the error: out of memory, or one of them is not
 /// UTF-8.
 fn no_words(kind: ErrorKind) -> Start
     ensures memory { kind ≡ OutOfMemory → result ≡ NoMemory }

@@ -5,8 +5,8 @@
 //! - Owns: the rules as the literature states them, and what it means that a formula has a proof or
 //!   a trace.
 //! - Offers: `verify_texts`; nothing stands on it.
-//! - Proved: textbook proofs are proofs; each result has a proof; each result of a small formula has
-//!   a trace, which `verify` verifies.
+//! - Proved: textbook proofs are proofs; each result has a proof; each result of a small formula
+//!   has a trace, which `verify` verifies.
 //! - Read first: `textbook_proofs_are_proofs`, `each_result_has_a_proof`, `verify_texts`.
 //! - Tested only: `tests/program/test-derivations`: the program verifies the traces of the proof,
 //!   built for random formulas.

@@ -15,8 +15,8 @@ use std::alloc::Global;
 
 /// Whether a trace proves its result of a formula, both as texts in memory: as `verify`.
 ///
-/// With each trace that a formula has, in its canonical text, a text of the formula is verified
-/// unless an allocation fails; and each small formula has one (`each_small_formula_has_a_trace`).
+/// Each text of a formula is verified with the canonical text of each trace that the formula has,
+/// unless an allocation fails. Each small formula has one (`each_small_formula_has_a_trace`).
 ///
 /// # Errors
 /// As of `verify`.

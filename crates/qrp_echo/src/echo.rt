@@ -43,8 +43,8 @@ fn send<K: Sink>(trace: &Trace, sink: &mut K) -> Status
 
 /// Writes the canonical text of the trace that the source holds.
 ///
-/// Of a fault nothing is written. If the sink fails, in a write or in `finish`, a beginning of
-/// the text went out.
+/// If there is a fault, nothing is written. If the sink fails, in a write or in `finish`, a
+/// beginning of the text went out.
 pub fn echo<S: Source, K: Sink>(alloc: Global, source: &mut S, sink: &mut K) -> Status
     ensures { (read : Result Derivation Fault)
         × IsRead (S.remaining source.old) (S.failures source.old) (S.failures source.new) read

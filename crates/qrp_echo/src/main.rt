@@ -30,7 +30,7 @@ fn main(rt: HostRuntime) -> ExitCode {
     let mut source = FromRead::new(rt.stdin(), LIMIT);
     let mut sink = ToWrite::new(&mut out);
     let status = echo(rt.alloc(), &mut source, &mut sink);
-    // What a failed writer still holds is not sent again.
+    // The bytes that a failed writer still holds are not sent again.
     let (_out, _unsent) = out.into_parts();
     ExitCode::from(status)
 }

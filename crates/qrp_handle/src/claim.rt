@@ -1,4 +1,4 @@
-//! What a caller in C claims of a formula.
+//! The claim of a caller in C about a formula.
 
 ghost use Rattle.std.specs.Prelude.{◌≡◌};
 ghost use Rattle.qrp_handle.specs.Checks.{outcome_of};

@@ -9,10 +9,11 @@ use crate::proof::Proof;
 use std::alloc::Global;
 use std::mem;
 
-/// What a caller in C keeps: `struct qrp_proof`, 16 bytes. All zeros are one that holds nothing.
+/// The struct that a caller in C keeps: `struct qrp_proof`, 16 bytes. All zeros are one that holds
+/// nothing.
 #[repr(C)]
 pub struct QrpProof {
-    /// What it holds.
+    /// The proof that it holds, or nothing.
     pub held: Held,
     present: u32,
     ghost present_is: { (0 < present) ↔ IsSome held.value },
@@ -39,7 +40,7 @@ impl QrpProof {
         }
     }
 
-    /// What it holds.
+    /// The proof that it holds, if there is one.
     pub fn into_box(self) -> Option<Box<Proof>>
         ensures { self.held.value ≡ option_map (λ proof. proof.value) result }
     {
@@ -50,7 +51,7 @@ impl QrpProof {
         Some(held.into_loose().into_box())
     }
 
-    /// What it holds, and it holds nothing from then on.
+    /// Takes out the proof that it holds, if there is one. It holds nothing from then on.
     pub fn take(&mut self, alloc: Global) -> Option<Box<Proof>>
         ensures taken { self.old.held.value ≡ option_map (λ proof. proof.value) result }
         ensures left { self.new.held.value ≡ None }

@@ -1,4 +1,4 @@
-//! What a caller in C holds: nothing, or a box as a pointer to bytes.
+//! The content of the struct of a caller in C: nothing, or a box as a pointer to bytes.
 
 ghost use Rattle.std.specs.Prelude.{◌≡◌, Option, None, Some, IsSome};
 ghost use Rattle.qrp_handle.specs.Owned.{held_owns, held_coded};

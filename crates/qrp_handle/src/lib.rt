@@ -2,9 +2,9 @@
 //!
 //! - Owns: the struct that a caller keeps, what it holds, and the statuses of what is added.
 //! - Offers: `QrpProof`, `Proof`, `AddFault`, `status_of`, `outcome_of`, `literals_of`.
-//! - Proved: what each addition changes; that the fault which refuses one stands, and that nothing is
-//!   changed then; what the verdict says of the formula and the steps that were handed over; that the
-//!   struct owns what it holds.
+//! - Proved: what each addition changes; that the fault which refuses one stands, and that nothing
+//!   is changed then; what the verdict says of the formula and the steps that were handed over;
+//!   that the struct owns what it holds.
 //! - Read first: `Proof::push_variable`, `Proof::push_clause`, `Proof::push_step`, `Proof::check`.
 //! - Tested only: by the tests of `qrp_c`.
 //! - Trusted: nothing.

@@ -44,12 +44,12 @@ impl Proof {
         }
     }
 
-    /// Binds a variable innermost: in the last block if that has this quantifier, and else in a new
+    /// Binds a variable innermost: in the last block if that has this quantifier, else in a new
     /// one.
     ///
     /// # Errors
-    /// `Range` and `Bound` only as they say, and `NoMemory` only if an allocation failed. Nothing is
-    /// changed then.
+    /// `Range` and `Bound` only as they say, and `NoMemory` only if an allocation failed. Nothing
+    /// is changed then.
     pub fn push_variable(&mut self, quantifier: Quantifier, number: u32) -> Result<(), AddFault>
         ensures pushed { OnOk result (pairs self.new.formula.blocks
             ≡ pairs self.old.formula.blocks ++ (quantifier, number) ∷ []) }
@@ -97,7 +97,8 @@ impl Proof {
         }
     }
 
-    /// Adds the step with this number, the literals that these numbers write, and these antecedents.
+    /// Adds the step with this number, the literals that these numbers write, and these
+    /// antecedents.
     ///
     /// # Errors
     /// `Range`, `Used` and `Many` only as they say, and `NoMemory` only if an allocation failed.
@@ -137,7 +138,8 @@ impl Proof {
         Ok(())
     }
 
-    /// Whether the steps prove this outcome of the formula, as `check` says it: no fault then.
+    /// Whether the steps prove this outcome of the formula, as `check` says it. There is no fault
+    /// then.
     ///
     /// # Errors
     /// As of `check`.

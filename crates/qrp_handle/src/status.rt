@@ -9,7 +9,7 @@ use crate::fault::AddFault;
 /// The status if the struct holds no proof.
 pub const NOTHING: i32 = 11;
 
-/// The status of an addition: 0 if it was done, and else that of its fault.
+/// The status of an addition: 0 if it was done, else that of its fault.
 pub fn status_of(added: Result<(), AddFault>) -> i32
     ensures done { result ≡ pos 0 ↔ IsOk added }
     ensures fault { (e : AddFault) → result ≡ pos (code_of e) → added ≡ Err e }

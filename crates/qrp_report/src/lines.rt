@@ -32,8 +32,8 @@ fn put_numbers_line<S: Sink>(
     put_byte(sink, b'\n')
 }
 
-/// Sends the line for a fault of a text: `device` if its source failed, and where the text is
-/// refused the line with this beginning.
+/// Sends the line for a fault of a text: `device` if its source failed, and the line with this
+/// beginning if the text is refused.
 fn put_text_line<S: Sink>(
     sink: &mut S,
     device: &[u8],
@@ -78,7 +78,7 @@ fn put_check_line<S: Sink>(sink: &mut S, refusal: &Refusal) -> Result<(), SinkFa
 /// Sends the line for a refusal.
 ///
 /// # Errors
-/// If the sink failed. What went out is a beginning of the line then.
+/// If the sink failed. A beginning of the line went out then.
 pub fn put_refusal<S: Sink>(sink: &mut S, refusal: &Refusal) -> Result<(), SinkFault>
     ensures { IsPut S.written S.failures S.failed_last
         sink.old sink.new (refusal_line refusal.now) result }
@@ -93,7 +93,7 @@ pub fn put_refusal<S: Sink>(sink: &mut S, refusal: &Refusal) -> Result<(), SinkF
 /// Sends the line of a verdict.
 ///
 /// # Errors
-/// If the sink failed. What went out is a beginning of the line then.
+/// If the sink failed. A beginning of the line went out then.
 pub fn put_verdict<S: Sink>(sink: &mut S, truth: bool) -> Result<(), SinkFault>
     ensures { IsPut S.written S.failures S.failed_last
         sink.old sink.new (verdict_line truth) result }

@@ -1,4 +1,4 @@
-//! What each fault means, in one sentence.
+//! The meaning of each fault, in one sentence.
 
 ghost use Rattle.std.specs.Prelude.{◌≡◌, ◌≤◌, [], map, get_or, length};
 ghost use Rattle.std.specs.List.{AllByRecursion};
@@ -6,7 +6,7 @@ ghost use Rattle.qrp_report.specs.Meanings.{meaning};
 
 use crate::refusal::Refusal;
 
-/// What each fault of a formula's text means, by its number; there is no F0.
+/// The meaning of each fault of a formula's text, by its number; there is no F0.
 pub const FORMULA: [&str; 10] = [
     "",
     "The formula could not be read.",
@@ -20,7 +20,7 @@ pub const FORMULA: [&str; 10] = [
     "Out of memory: nothing is known.",
 ];
 
-/// What each fault of a trace's text means, by its number; there is no P0.
+/// The meaning of each fault of a trace's text, by its number; there is no P0.
 pub const TRACE: [&str; 10] = [
     "",
     "The trace could not be read.",
@@ -34,7 +34,8 @@ pub const TRACE: [&str; 10] = [
     "Out of memory: nothing is known.",
 ];
 
-/// What each fault of a check means, by its number; there is no C0, and of C6 the rule says it.
+/// The meaning of each fault of a check, by its number; there is no C0, and the rule says that of
+/// C6.
 pub const CHECK: [&str; 6] = [
     "",
     "The trace has a variable in its sets that the formula does not bind.",
@@ -44,7 +45,7 @@ pub const CHECK: [&str; 6] = [
     "Out of memory: nothing is known.",
 ];
 
-/// What each fault of a step means, by its number; there is no S0.
+/// The meaning of each fault of a step, by its number; there is no S0.
 pub const STEP: [&str; 13] = [
     "",
     "The step holds both signs of a variable.",
@@ -61,7 +62,7 @@ pub const STEP: [&str; 13] = [
     "The step leaves out a literal that is reducible neither in the resolvent nor in the parents.",
 ];
 
-/// The sentence of this number in a table, and none if there is no such number.
+/// The sentence of this number in a table, or an empty text if there is no such number.
 fn sentence(table: &[&'static str], number: u8) -> &'static str
     ensures is { result.now ≡ get_or (map (λ t. t.now) table.now) number [] }
     ensures short { AllByRecursion (λ t. length t.now ≤ 127) table.now → length result.now ≤ 127 }
@@ -73,7 +74,8 @@ fn sentence(table: &[&'static str], number: u8) -> &'static str
 }
 
 impl Refusal {
-    /// What the fault means, in one sentence of at most 127 bytes; nothing if there is no such fault.
+    /// The meaning of the fault, in one sentence of at most 127 bytes, or an empty text if there is
+    /// no such fault.
     pub fn meaning(&self) -> &'static str
         ensures is { result.now ≡ meaning self.now }
         ensures short { length result.now ≤ 127 }

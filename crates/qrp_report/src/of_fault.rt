@@ -6,8 +6,8 @@ ghost use Rattle.qrp_report.specs.OfFaults.{IsOfFault};
 use crate::refusal::Refusal;
 use qbf_core::LAST_VARIABLE;
 
-/// Whether it is the refusal of some fault: F1 to F9, P1 to P9, C1 to C3 with a variable, C4, C5, or
-/// C6 with S1 to S12.
+/// Whether it is the refusal of some fault: F1 to F9, P1 to P9, C1 to C3 with a variable, C4, C5,
+/// or C6 with S1 to S12.
 #[tactic(auto, using(crate::proofs::FaultsByNumbers::fault_of, crate::proofs::FaultsByNumbers::has_numbers))]
 pub fn is_of_fault(refusal: &Refusal) -> bool
     ensures { IsTrue result ↔ IsOfFault refusal.now }

@@ -13,9 +13,9 @@ pub struct Refusal {
     pub letter: u8,
     /// The number of the fault, as 4 of C4.
     pub number: u8,
-    /// Of C6 the number of the step's fault, as 7 of S7, and else 0.
+    /// For C6 the number of the step's fault, as 7 of S7, else 0.
     pub rule: u8,
-    /// The step (C6), the variable (C1, C2, C3) or the line (F, P), and else 0.
+    /// The step (C6), the variable (C1, C2, C3) or the line (F, P), else 0.
     pub position: u64,
 }
 
@@ -50,7 +50,7 @@ impl Refusal {
     /// The refusal for a fault.
     pub fn of(fault: &Fault) -> Refusal
         ensures is { result ≡ refusal_of fault.now }
-        // A variable in it is one.
+        // If it names a variable, the number of that is in range.
         ensures named { NamesVariable fault.now }
     {
         match *fault {
@@ -60,8 +60,8 @@ impl Refusal {
         }
     }
 
-    /// The status that the program ends with: 1 the proof is refused, 2 a text is, 3 a source failed,
-    /// 4 an allocation failed.
+    /// The status that the program ends with: 1 the proof is refused, 2 a text is refused, 3 a
+    /// source failed, 4 an allocation failed.
     pub fn status(&self) -> u8
         ensures { result ≡ status self.now }
     {

@@ -8,7 +8,7 @@ ghost use Rattle.qrp_rules.specs.Walks.{IsHeldBefore, IsInnermost, IsThePivot, T
 
 use qbf_core::{Lit, Prefix, Quantifier, Var};
 
-/// Whether a variable is the pivot, where the number of one is given.
+/// Whether a variable is the pivot, if the number of a pivot is given.
 pub(crate) fn is_the_pivot(pivot: Option<u32>, var: Var) -> bool
     ensures { IsTrue result ↔ IsThePivot pivot var }
 {
@@ -26,8 +26,8 @@ pub fn is_bound_by(prefix: &Prefix, quantifier: Quantifier, var: Var) -> bool
     prefix.quantifier(var) == Some(quantifier)
 }
 
-/// How many blocks reach to that of a variable, if it has the quantifier and is not the pivot, and
-/// else 0.
+/// How many blocks reach to that of a variable, if it has the quantifier and is not the pivot, else
+/// 0.
 #[inline(always)]
 pub(crate) fn reach_if(
     prefix: &Prefix,
@@ -92,7 +92,7 @@ fn other_quantifier(quantifier: Quantifier) -> Quantifier
     }
 }
 
-/// What may be taken out of a list, for the side that reduces this quantifier.
+/// The literals that may be taken out of a list, for the side that reduces this quantifier.
 #[inline(always)]
 pub(crate) fn reducible_in<'a>(
     prefix: &'a Prefix,

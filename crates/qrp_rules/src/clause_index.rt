@@ -11,23 +11,23 @@ use crate::written_reduct::accepts_reduct;
 use qbf_core::{Formula, Lit, Prefix, Quantifier};
 use std::alloc::{AllocError, Global};
 
-/// What a literal adds to a sum: its number, multiplied by two odd constants.
+/// The word that a literal adds to a sum: its number, multiplied by two odd constants.
 fn mixed(lit: Lit) -> u64 {
     let word = (code(lit) as u64).wrapping_mul(0x9E3779B97F4A7C15);
     (word ^ (word >> 29)).wrapping_mul(0xBF58476D1CE4E5B9)
 }
 
-/// Which literals of a list a sum is of.
+/// The kind of a sum: which literals of a list it is of.
 #[derive(Clone, Copy)]
 enum Kind {
     /// All of them.
     All,
-    /// Those that universal reduction cannot take out. A reduct has the same.
+    /// Those that universal reduction cannot take out. A reduct has the same ones.
     Kept,
 }
 
-/// The sum of literals of a list, of each once, in which their order does not matter. It is of all
-/// but the reducible ones, if those are named.
+/// The sum of the literals of a list, each once. Their order does not matter. If the reducible ones
+/// are named, they are left out.
 #[inline(always)]
 fn sum_but(seen: &mut SeenLits, reducible: Option<Reducible>, lits: &[Lit]) -> u64 {
     let ordered = is_ordered(lits);
@@ -57,8 +57,8 @@ fn sum_of(kind: Kind, seen: &mut SeenLits, prefix: &Prefix, lits: &[Lit]) -> u64
     }
 }
 
-/// Accepts literals that are, as they are written, a reduct of the clause at a position, which is
-/// clean, if there is one.
+/// Accepts literals that are, as they are written, a reduct of the clause at a position, if there
+/// is one and it is clean.
 fn accepts_at(
     seen: &mut SeenLits,
     formula: &Formula,
@@ -84,18 +84,19 @@ fn accepts_at(
     accepts_reduct::<Clauses>(seen, prefix, clause, lits)
 }
 
-/// So many clauses that a reduct may come from are looked at before one with its literals alone.
+/// At most this many clauses from which a reduct may come are looked at, before those that have
+/// just its literals.
 const FEW: usize = 8;
 
-/// Where a chain ends.
+/// The end of a chain.
 const END: u32 = u32::MAX;
 
-/// What a chain has at a position.
+/// The entry of a chain at a position.
 #[derive(Clone, Copy)]
 struct Link {
     /// The position after it, or `END`.
     next: u32,
-    /// The lower half of its sum. Most other sums in the chain have another.
+    /// The lower half of its sum. Most other sums in the chain have another one.
     half: u32,
 }
 
@@ -104,12 +105,12 @@ fn lower_half(sum: u64) -> u32 {
     (sum & 0xFFFFFFFF) as u32
 }
 
-/// What is looked for in a chain.
+/// A look-up in a chain.
 #[derive(Clone, Copy)]
 struct Query<'a> {
     /// The literals of an initial step, as they are written.
     lits: &'a [Lit],
-    /// At most so many clauses are looked at.
+    /// At most this many clauses are looked at.
     most: usize,
 }
 
@@ -121,7 +122,7 @@ struct Chains {
 }
 
 impl Chains {
-    /// Empty chains, for so many positions.
+    /// Empty chains, for this many positions.
     fn new(alloc: Global, count: usize) -> Result<Chains, AllocError> {
         Ok(Chains {
             heads: vec![in alloc; END; count]?,
@@ -146,7 +147,7 @@ impl Chains {
         }
     }
 
-    /// What its chain has at a position.
+    /// The entry at a position in its chain.
     fn link(&self, position: u32) -> Link {
         match self.links.get(position as usize) {
             Some(link) => *link,
@@ -154,7 +155,8 @@ impl Chains {
         }
     }
 
-    /// The position of a clause with a sum that accepts the literals, among so many of the chain.
+    /// The position of a clause with this sum that accepts the literals, among as many of the chain
+    /// as the query allows.
     fn find(
         &self,
         seen: &mut SeenLits,
@@ -194,7 +196,7 @@ struct ClauseIndex {
 }
 
 impl ClauseIndex {
-    /// An index of which nothing is made, and no memory taken.
+    /// An index whose chains are not made yet. It takes no memory.
     fn new(alloc: Global, kind: Kind) -> ClauseIndex {
         ClauseIndex {
             alloc,
@@ -215,7 +217,7 @@ impl ClauseIndex {
         Ok(chains)
     }
 
-    /// The position of a clause that accepts the literals, of those that have the same sum.
+    /// The position of a clause that accepts the literals, among those that have the same sum.
     fn find(
         &mut self,
         seen: &mut SeenLits,
@@ -235,7 +237,7 @@ impl ClauseIndex {
     }
 }
 
-/// How the initial clauses of a trace are found in the formula.
+/// Finds the initial clauses of a trace in the formula.
 #[derive(Drop)]
 pub(crate) struct InitialClauses {
     /// The position after the clause that was found last: solvers mostly write them in their order.
@@ -247,7 +249,7 @@ pub(crate) struct InitialClauses {
 }
 
 impl InitialClauses {
-    /// Nothing is known of the formula, and no memory taken.
+    /// Nothing is known of the formula. It takes no memory.
     pub(crate) fn new(alloc: Global) -> InitialClauses {
         InitialClauses {
             next: 0,
@@ -275,8 +277,8 @@ impl InitialClauses {
         self.kept.find(seen, formula, Query { lits, most })
     }
 
-    /// Accepts literals that are, as they are written, a reduct of a clean clause of the formula,
-    /// clean and bound.
+    /// Accepts literals that are clean and bound and, as they are written, a reduct of a clean
+    /// clause of the formula.
     pub(crate) fn accepts_initial(
         &mut self,
         formula: &Formula,

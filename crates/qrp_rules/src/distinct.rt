@@ -45,7 +45,7 @@ fn push_each_once(
 }
 
 /// Makes the unfinished list that of the literals of a step, each once, if the test that accepted
-/// the step saw one of them twice. Else `false`, and nothing is known of that list.
+/// the step saw one of them twice. Otherwise returns `false`, and nothing is known of that list.
 ///
 /// # Errors
 /// If an allocation fails.

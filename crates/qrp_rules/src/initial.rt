@@ -87,8 +87,8 @@ fn has_clash(clause: &[Lit]) -> bool
     clause.iter().any(|lit| is_among(clause, lit.negated()))
 }
 
-/// Whether a clause as written holds a variable with both signs. Its set says so, if it is not in
-/// order and an allocation does not fail.
+/// Whether a clause as written holds a variable with both signs. If it is not in order, its set
+/// says so, unless an allocation fails.
 pub(crate) fn is_tautology(alloc: Global, prefix: &Prefix, clause: &[Lit]) -> bool
     ensures { IsTrue result ↔ IsTautology clause.now }
 {

@@ -1,5 +1,5 @@
 //! Initial cubes: each clause of the formula is watched by one of its literals, and looked at again
-//! only where a cube lacks that literal.
+//! only if a cube lacks that literal.
 
 ghost use Rattle.std.specs.Prelude.{◌≡◌, ℕ, ◌+◌, ◌<◌, ◌≤◌, [], ◌∷◌, ◌++◌, length, Contains};
 ghost use Rattle.std.specs.Prelude.{Some, IsTrue, IfOk, IfSome, OnErr, OnOk, slice_get};
@@ -38,23 +38,24 @@ fn add(watch: &mut Watch, clause: usize) -> Result<(), AllocError>
     Ok(())
 }
 
-/// How the initial cubes of a trace are compared with the formula: each clause is watched by one of
-/// its literals that the last cube held.
+/// Compares the initial cubes of a trace with the formula: each clause is watched by one of its
+/// literals that the last cube held.
 #[derive(Drop)]
 pub(crate) struct InitialCubes {
     alloc: Global,
     /// Whether each clause is watched.
     is_watching: bool,
-    /// The literals that watch clauses, with these.
+    /// The literals that watch clauses, each with its clauses.
     lists: Vec<Watch>,
-    /// By the number of each literal where its list may be: the list is compared with the literal.
+    /// For each literal, by its number, where its list may be. The literal of that list is
+    /// compared.
     positions: Vec<u32>,
     /// Emptied lists, which are used again.
     spare: Vec<Vec<usize>>,
 }
 
 impl InitialCubes {
-    /// Nothing is watched, and no memory taken.
+    /// Nothing is watched. It takes no memory.
     pub(crate) fn new(alloc: Global) -> InitialCubes
         ensures { (f : Qbf) → IsWatching f result }
     {
@@ -110,7 +111,7 @@ impl InitialCubes {
         Ok(())
     }
 
-    /// Takes out the list at a position, where the last one comes then.
+    /// Takes out the list at a position. The last one takes its place.
     fn take_list(&mut self, position: usize) -> Vec<usize>
         requires { position < length self.old.lists.items }
         ensures taken { IsTakenOut self.old.lists.items position result.items
@@ -125,7 +126,7 @@ impl InitialCubes {
         list.clauses
     }
 
-    /// A list of no clauses, if none is spared.
+    /// A list of no clauses: a spare one, if there is one.
     fn spare_list(&mut self) -> Vec<usize>
         ensures { self.new.lists ≡ self.old.lists }
     {
@@ -210,7 +211,8 @@ impl InitialCubes {
         Ok(true)
     }
 
-    /// Watches each clause by a literal that was seen, as they are watched by any.
+    /// Watches each clause by a literal that was seen. Before this, each is watched by any of its
+    /// literals.
     fn renew(&mut self, formula: &Formula, seen: &SeenLits) -> Result<bool, AllocError>
         requires { (i : ℕ) → IsWatched formula.now self.old.lists.items i }
         ensures { IfOk result (λ is. IsTrue is

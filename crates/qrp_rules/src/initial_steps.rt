@@ -16,8 +16,8 @@ use crate::side::Side;
 use qbf_core::{Formula, Lit, Quantifier};
 use std::alloc::{AllocError, Global};
 
-/// What is kept of a formula, so that its initial steps are found fast. Each call takes the same
-/// formula, of which the contracts say that all is known.
+/// The data that is kept of a formula, so that its initial steps are found fast. Each call takes
+/// the same formula: contracts say by `AreKnown` that all that is kept is of it.
 #[derive(Drop)]
 pub struct InitialSteps {
     clauses: InitialClauses,
@@ -25,7 +25,7 @@ pub struct InitialSteps {
 }
 
 impl InitialSteps {
-    /// Nothing is known of the formula, and no memory taken.
+    /// Nothing is known of the formula. It takes no memory.
     pub fn new(alloc: Global) -> InitialSteps
         ensures { (f : Qbf) → AreKnown f result }
     {
@@ -35,8 +35,8 @@ impl InitialSteps {
         }
     }
 
-    /// Accepts literals that are, as they are written, those of an initial step, clean and bound: a
-    /// reduct of a clean clause of the formula, or an initial cube.
+    /// Accepts literals that are clean and bound and, as they are written, those of an initial
+    /// step: a reduct of a clean clause of the formula, or an initial cube.
     ///
     /// # Errors
     /// If an allocation fails.

@@ -2,8 +2,8 @@
 //!
 //! - Owns: the rules of a step, on sets of literals and on literals as they are written.
 //! - Offers: `Side`, `Rules`, `RuleFault`; `reduct_fault`, `resolvent_fault` and the same on
-//!   ordered lists; `Resolution`; `InitialSteps`; `accepts_reduct`, `accepts_resolvent`, `SeenLits`;
-//!   `push_distinct`; `normalize`.
+//!   ordered lists; `Resolution`; `InitialSteps`; `accepts_reduct`, `accepts_resolvent`,
+//!   `SeenLits`; `push_distinct`; `normalize`.
 //! - Proved: each rule test decides its definition, and names the first fault.
 //! - Read first: `reduct_fault`, `resolvent_fault`, `Side::initial_fault`, `ordered_initial_fault`.
 //! - Tested only: the crate `trace_tests`: worked steps of both sides, each rule with each of its

@@ -21,7 +21,7 @@ pub(crate) fn is_ordered(lits: &[Lit]) -> bool
     true
 }
 
-/// Whether a clause as written has a literal.
+/// Whether a clause as written has this literal.
 #[tactic(auto, using(std::proofs::lemmas::List::Elements::contains_decides, qbf_core::proofs::Members::lit_decides, qbf_core::proofs::Order::contains_in, qbf_core::proofs::Order::in_contains))]
 pub(crate) fn is_among(clause: &[Lit], lit: Lit) -> bool
     ensures { IsTrue result ↔ lit ∈ clause.now }

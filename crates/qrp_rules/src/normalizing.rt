@@ -14,8 +14,8 @@ use crate::lists::is_ordered;
 use qbf_core::{Lit, LitSet, Prefix, SetFault, are_bound};
 use std::alloc::Global;
 
-/// The set of the literals where they are not in order as written, or `None` where they are such a
-/// set, which takes no memory.
+/// The set of the literals if they are not in order as written, or `None` if they are in order and
+/// bound, which takes no memory.
 ///
 /// # Errors
 /// As those of `LitSet::from_slice`.
@@ -37,7 +37,7 @@ pub fn normalize(alloc: Global, prefix: &Prefix, lits: &[Lit]) -> Result<Option<
     }
 }
 
-/// The members of the set, or the literals as written where there is none.
+/// The members of the set, or the literals as written if there is none.
 pub fn normal_form<'a>(set: &'a Option<LitSet>, lits: &'a [Lit]) -> &'a [Lit]
     ensures { result.now ≡ normal_form set.now lits.now }
 {

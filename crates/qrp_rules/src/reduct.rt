@@ -11,7 +11,7 @@ use crate::side::Side;
 use crate::walks::ordered_reduct_fault_by;
 use qbf_core::{Lit, LitSet, Prefix};
 
-/// Why an ordered list is not a reduct of another, or `None` where it is one: as `reduct_fault`, of
+/// Why an ordered list is not a reduct of another, or `None` if it is one: as `reduct_fault`, of
 /// literals in the order of their variables, no variable twice. It takes no memory.
 pub fn ordered_reduct_fault<S: Side>(prefix: &Prefix, from: &[Lit], to: &[Lit]) -> Option<RuleFault>
     requires from { IsOrdered from.now }
@@ -21,12 +21,12 @@ pub fn ordered_reduct_fault<S: Side>(prefix: &Prefix, from: &[Lit], to: &[Lit]) 
     ordered_reduct_fault_by(prefix, S::REDUCED, from, to)
 }
 
-/// Why a set is not a reduct of another, or `None` where it is one. Both are over this prefix.
+/// Why a set is not a reduct of another, or `None` if it is one. Both are over this prefix.
 ///
 /// `to` is a reduct of `from` if it holds nothing else, and each literal that is left out has the
 /// reduced quantifier and a block after that of every literal of `from` with the deciding
-/// quantifier: universal reduction on clauses, and its dual on cubes. The results are `S6`, a
-/// literal of `to` is not in `from`, and else `S7`, a literal that is left out is not reducible. It
+/// quantifier: universal reduction on clauses, and its dual on cubes. The results are `S6` if a
+/// literal of `to` is not in `from`, else `S7` if a literal that is left out is not reducible. It
 /// takes no memory.
 pub fn reduct_fault<S: Side>(prefix: &Prefix, from: &LitSet, to: &LitSet) -> Option<RuleFault>
     requires from { AreBound prefix.now from.now }

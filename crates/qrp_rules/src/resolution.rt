@@ -30,11 +30,12 @@ pub(crate) fn is_pivot<S: Side>(prefix: &Prefix, pivot: Var, rules: Rules) -> bo
     rules.any_pivot || is_bound_by(prefix, S::DECIDING, pivot)
 }
 
-/// What may be left out of the one and of the other of two antecedents that clash in the pivot: the
-/// literals that are reducible in the resolvent or in that antecedent.
+/// The literals that may be left out of each of two antecedents that clash in the pivot: those that
+/// are reducible in the resolvent or in that antecedent.
 ///
-/// These stand after the outer one of the innermost blocks of the two. A literal that both hold is
-/// left out if it may be left out of both.
+/// Each has a block after the innermost block of the deciding quantifier in the resolvent, or after
+/// that in the antecedent: after the outer one of these. A literal that both hold is left out if it
+/// may be left out of both.
 pub(crate) fn reducible_in_parents<'a, S: Side>(
     prefix: &'a Prefix,
     a: &[Lit],

@@ -95,7 +95,7 @@ fn is_reduced<S: Side>(prefix: &Prefix, step: Resolution, pivot: Var) -> bool
     is_subset_up_to(Some(in_a), number, a, to) && is_subset_up_to(Some(in_b), number, b, to)
 }
 
-/// Why a step does not follow from its antecedents by resolution, or `None` where it does: as
+/// Why a step does not follow from its antecedents by resolution, or `None` if it does: as
 /// `resolvent_fault`, of literals in the order of their variables, no variable twice. It takes no
 /// memory.
 pub fn ordered_resolvent_fault<S: Side>(
@@ -127,18 +127,18 @@ pub fn ordered_resolvent_fault<S: Side>(
     }
 }
 
-/// Why a set does not follow from two others by resolution, or `None` where it does. The sets are
-/// over this prefix.
+/// Why a set does not follow from two others by resolution, or `None` if it does. The sets are over
+/// this prefix.
 ///
 /// It follows if the two clash in exactly one variable, that variable has the deciding quantifier,
 /// and the set is their resolvent without literals that are reducible in it, or in each of the two
-/// that holds them: Q-resolution on clauses, and term resolution on cubes, where the two may be
+/// that holds them: Q-resolution on clauses, and term resolution on cubes. In both the two may be
 /// reduced before they are resolved. By `Rules::any_pivot` the variable may have either quantifier:
 /// QU-resolution (Van Gelder 2012), and its dual. The results, of which the first that fits is
 /// given, are `S8`, no variable clashes; `S9`, more than one does; `S10`, the pivot has the other
-/// quantifier, which is never returned where the rules allow any; `S11`, a literal of the set is
-/// not in the resolvent; `S12`, a literal of the resolvent is missing, and reducible neither in it
-/// nor in each of the two that holds it. It takes no memory.
+/// quantifier, which is never returned if the rules allow any; `S11`, a literal of the set is not
+/// in the resolvent; `S12`, a literal of the resolvent is missing, and reducible neither in it nor
+/// in each of the two that holds it. It takes no memory.
 pub fn resolvent_fault<S: Side>(
     prefix: &Prefix,
     a: &LitSet,

@@ -36,19 +36,19 @@ fn codes(lit: Lit) -> (usize, usize)
     }
 }
 
-/// A set of literals that is emptied by one step. Contracts see which literals it has.
+/// A set of literals that is emptied in one step. Contracts see which literals it has.
 #[derive(Drop)]
 pub struct SeenLits {
     alloc: Global,
-    /// When each literal was met, by its number.
+    /// The stamp with which each literal was met, by its number.
     stamps: Vec<u32>,
     /// The stamp of the literals that are in the set. It is never 0.
     stamp: u32,
     /// The numbers of those that are in the set and have no stamp, since there is no room for one.
     far: IndexSet<usize>,
-    /// That a literal was not put in, since an allocation failed.
+    /// Whether a literal was not put in, since an allocation failed.
     failed: Option<AllocError>,
-    /// That a literal was put in again by `set_if_clean`. Contracts say nothing of it.
+    /// Whether a literal was put in again by `set_if_clean`. Contracts say nothing of it.
     repeated: bool,
 }
 
@@ -90,8 +90,8 @@ impl SeenLits {
         }
     }
 
-    /// Makes room for the literals of a prefix, where there is none yet: of the variables with
-    /// numbers up to twice that of the bound ones. Nothing is known then of what the set holds.
+    /// Makes room for the literals of a prefix, if there is none yet: for variables with numbers up
+    /// to twice the count of the bound ones. Nothing is known then of what the set holds.
     ///
     /// # Errors
     /// If an allocation fails.
@@ -127,7 +127,8 @@ impl SeenLits {
         self.stamps.len()
     }
 
-    /// Takes all literals out. Once in 2^32 times it takes time for each one that there is room for.
+    /// Takes all literals out. Once in 2^32 times it takes time for each one that there is room
+    /// for.
     #[inline(always)]
     pub(crate) fn clear(&mut self)
         ensures { (l : Literal) → Has self.new l → ⊥ }
@@ -187,8 +188,8 @@ impl SeenLits {
         put_each(self, lits);
     }
 
-    /// Whether the variables are seen to be pairwise distinct and none to be `other`. If not, nothing
-    /// is known of what the set holds.
+    /// Whether the variables are seen to be pairwise distinct and none to be `other`. Nothing is
+    /// known then of what the set holds.
     #[inline(never)]
     pub(crate) fn surely_distinct(&mut self, lits: &[Lit], other: Var) -> bool
         ensures clean { IsTrue result → IsClean lits.now }
@@ -306,8 +307,8 @@ fn stamp_clean(stamps: &mut [u32], stamp: u32, lits: &[Lit], repeated: &mut bool
     lits.len()
 }
 
-/// Puts in the literals from a position on, where those before it are all that the set has, and
-/// says whether all are seen to be clean.
+/// Puts in the literals from a position on, and says whether all are seen to be clean. Those before
+/// the position are all that the set has.
 #[cold]
 #[inline(never)]
 fn put_if_clean(seen: &mut SeenLits, lits: &[Lit], begin: usize) -> bool

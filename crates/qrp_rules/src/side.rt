@@ -13,8 +13,8 @@ use crate::initial::{initial_clause_fault, initial_cube_fault};
 use qbf_core::{Formula, LitSet, Quantifier};
 use std::alloc::{AllocError, Global};
 
-/// What the steps of a proof are: clauses, by Q-resolution (Kleine Büning, Karpinski, Flögel 1995),
-/// or cubes, by term resolution (Giunchiglia, Narizzano, Tacchella 2006).
+/// The kind of the steps of a proof: clauses, by Q-resolution (Kleine Büning, Karpinski, Flögel
+/// 1995), or cubes, by term resolution (Giunchiglia, Narizzano, Tacchella 2006).
 pub trait Side {
     /// The side in the definitions.
     ghost side: { Side };
@@ -30,7 +30,7 @@ pub trait Side {
     /// not `REDUCED`.
     const DECIDING: Quantifier;
 
-    /// Why a set over the prefix of the formula is not an initial step, or `None` where it is one.
+    /// Why a set over the prefix of the formula is not an initial step, or `None` if it is one.
     ///
     /// A clause is initial if it is a reduct of a clean clause of the formula, and its fault is
     /// `S4`. A cube is initial if each clause of the formula holds a variable with both signs or

@@ -1,5 +1,5 @@
 //! Two lists of literals that are walked side by side with a third one, in whatever order all three
-//! are: what of the two is left, and a variable in which they clash.
+//! are. The walk finds the rests of the two, and a variable in which they clash.
 
 ghost use Rattle.std.specs.Prelude.{◌≡◌, ◌≤◌, ◌<◌, ◌+◌, ◌^◌, ◌⊎◌, ◌↔◌, IsTrue, IfSome};
 ghost use Rattle.qbf_core.specs.Literal.{Literal, negated};
@@ -9,7 +9,7 @@ ghost use Rattle.qrp_rules.specs.TwoLists.{IsMergeBut, IsMerged, IsNext, IsResol
 use crate::lists::is_among;
 use qbf_core::Lit;
 
-/// The position after the literal where a list has it at this position, and else the same position.
+/// The position after the literal if a list has it at this position, else the same position.
 #[inline(always)]
 pub(crate) fn advance_if_equal(lits: &[Lit], position: usize, lit: Lit) -> usize
     ensures { IsNext lits.now position lit result }
@@ -71,7 +71,7 @@ fn find_clashing(a: &[Lit], b: &[Lit]) -> Option<Lit>
     None
 }
 
-/// What is left of two lists that are walked beside a third, where all of that is in them.
+/// The rests of two lists that are walked beside a third, if the walk reaches the end of the third.
 #[tactic(auto, using(crate::proofs::WrittenSteps::merge_but, std::proofs::lemmas::List::take_rest))]
 fn rests_of_merge<'a>(a: &'a [Lit], b: &'a [Lit], to: &[Lit]) -> Option<(&'a [Lit], &'a [Lit])>
     ensures { IfSome result (λ rests. IsMergeBut a.now b.now to.now rests.0.now rests.1.now) }
@@ -83,8 +83,8 @@ fn rests_of_merge<'a>(a: &'a [Lit], b: &'a [Lit], to: &[Lit]) -> Option<(&'a [Li
     Some((&a[cursors.a..], &b[cursors.b..]))
 }
 
-/// A literal of the one of two lists whose negation is in the other, and what is left of both
-/// after the literals that a third list has from them.
+/// A literal of one of two lists whose negation is in the other, and the rests of both lists after
+/// the literals that a third list has from them.
 #[derive(Clone, Copy)]
 pub(crate) struct Rests<'a> {
     pub pivot: Lit,
@@ -92,10 +92,10 @@ pub(crate) struct Rests<'a> {
     pub b: &'a [Lit],
 }
 
-/// What is left of two lists of which a third has literals in their order.
+/// The rests of two lists of which a third has literals in their order.
 ///
-/// `None` if that is not seen. If the third one has just the literals that are not the pivot, nothing
-/// is left. Each literal is looked at once.
+/// `None` if that is not seen. If the third one has just the literals that are not the pivot,
+/// nothing is left. Each literal is looked at once.
 pub(crate) fn find_rests<'a>(a: &'a [Lit], b: &'a [Lit], to: &[Lit]) -> Option<Rests<'a>>
     ensures { IfSome result (λ rests. IsResolvedBut a.now b.now to.now rests.a.now rests.b.now
         rests.pivot) }

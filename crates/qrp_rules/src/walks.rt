@@ -12,7 +12,7 @@ use crate::blocks::{Reducible, is_the_pivot, reducible_in};
 use crate::fault::RuleFault;
 use qbf_core::{Lit, Prefix, Quantifier, Var};
 
-/// What is left of an ordered list from a variable on.
+/// The rest of an ordered list from a variable on.
 fn seek(lits: &[Lit], var: Var) -> &[Lit]
     requires { IsOrdered lits.now }
     ensures rest { IsRestFrom lits.now var result.now }
@@ -41,7 +41,8 @@ fn starts_with(lits: &[Lit], lit: Lit) -> bool
     }
 }
 
-/// What is left of an ordered list from the variable of a literal on, and whether it has that one.
+/// The rest of an ordered list from the variable of a literal on, and whether the list has the
+/// literal.
 pub(crate) fn seek_literal(lits: &[Lit], lit: Lit) -> (&[Lit], bool)
     requires { IsOrdered lits.now }
     ensures rest { IsRestFrom lits.now lit.var result.0.now }

@@ -1,5 +1,5 @@
-//! Reducts as they are written: one walk decides if they are in the order of their antecedents, and
-//! else a set of literals, whatever their order and how often each is written.
+//! Reducts as they are written, whatever the order of their literals and how often each is written.
+//! One walk decides if they are in the order of their antecedents, else a set of literals.
 
 ghost use Rattle.std.specs.Prelude.{◌⊎◌, IsTrue, IfOk};
 ghost use Rattle.qbf_core.specs.Literal.{Literal};
@@ -15,7 +15,8 @@ use crate::two_lists::advance_if_equal;
 use qbf_core::{Lit, Prefix};
 use std::alloc::AllocError;
 
-/// Accepts a list that is left of another without some literals that a reduction may take out.
+/// Accepts a list that is another one without some literals that a reduction may take out, in its
+/// order.
 fn accepts_reduct_as_written(reducible: Reducible, from: &[Lit], to: &[Lit]) -> bool
     ensures within { IsTrue result → to.now ⊆ from.now }
     ensures each { IsTrue result → (l : Literal) → l ∈ from.now
@@ -40,11 +41,12 @@ fn accepts_reduct_in_order<S: Side>(prefix: &Prefix, from: &[Lit], to: &[Lit]) -
     ensures { IsAcceptedBy (reduct_conditions S.side prefix.now from.now to.now) prefix.now to.now
         result }
 {
-    // Where nothing is left out, no block matters.
+    // If nothing is left out, no block matters.
     if from == to {
         return true;
     }
-    // What is left out has the other quantifier, so the literals that are kept say the block.
+    // The literals that are left out have the other quantifier, so those that are kept say the
+    // block.
     accepts_reduct_as_written(reducible_in(prefix, S::REDUCED, to), from, to)
 }
 
@@ -84,7 +86,8 @@ fn accepts_reduct_by_set<S: Side>(
     if !surely_within(seen, to, from) {
         return false;
     }
-    // What is left out has the other quantifier, so the literals that are kept say the block.
+    // The literals that are left out have the other quantifier, so those that are kept say the
+    // block.
     surely_covers(seen, reducible_in(prefix, S::REDUCED, to), from, to)
 }
 

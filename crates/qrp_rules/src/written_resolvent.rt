@@ -1,6 +1,6 @@
 //! Resolvents as they are written, whatever the order of their literals and how often each is
-//! written: a walk or a set of literals finds the pivot and what is left of the antecedents, and a
-//! set whether that may be left out.
+//! written: a walk or a set of literals finds the pivot and the rests of the antecedents, and a set
+//! decides whether these may be left out.
 
 ghost use Rattle.std.specs.Prelude.{◌≡◌, ◌≢◌, ◌<◌, ◌⊎◌, ◌↔◌, IsTrue, IfOk, IfSome, List};
 ghost use Rattle.qbf_core.specs.Literal.{Literal};
@@ -30,8 +30,8 @@ fn surely_apart(lits: &[Lit], var: Var) -> bool
     lits.iter().all(|lit| lit.var().number() != var.number())
 }
 
-/// Puts a literal into a set, unless it is one of the pivot. `false` where it is not there, and may
-/// not be left out, or its negation is there, or there is no room.
+/// Puts a literal into a set, unless it is one of the pivot. `false` if its negation is there, or
+/// if it is not there and may not be left out or there is no memory for it.
 fn put_left_out(seen: &mut SeenLits, reducible: Reducible, pivot: Var, lit: Lit) -> bool
     ensures put { IsPutBy seen.old seen.new (λ l. TakesOut reducible.entry l.var) }
     ensures has { IsTrue result → (lit.var ≡ pivot) ⊎ Has seen.new lit }
@@ -51,7 +51,7 @@ fn put_left_out(seen: &mut SeenLits, reducible: Reducible, pivot: Var, lit: Lit)
     seen.insert(lit)
 }
 
-/// Puts each literal of a list that may be left out.
+/// As `put_left_out`, for each literal of a list.
 fn put_each_left_out(seen: &mut SeenLits, reducible: Reducible, pivot: Var, lits: &[Lit]) -> bool
     ensures put { IsPutBy seen.old seen.new (λ l. TakesOut reducible.entry l.var) }
     ensures each { IsTrue result → (l : Literal) → l ∈ lits.now
@@ -72,7 +72,7 @@ fn surely_has_each_but(seen: &SeenLits, lits: &[Lit], pivot: Var) -> bool
     lits.iter().all(|lit| lit.var().number() == pivot.number() || seen.contains(*lit))
 }
 
-/// Whether what is left of two lists may be left out of their resolvent.
+/// Whether the rests of two lists may be left out of their resolvent.
 fn leaves_out_rests<S: Side>(seen: &mut SeenLits, prefix: &Prefix, to: &[Lit], rests: Rests) -> bool
     ensures { IsTrue result → (rules : Rules) (a b : List Literal)
         → IsResolvedBut a b to.now rests.entry.a.now rests.entry.b.now rests.entry.pivot
@@ -86,11 +86,12 @@ fn leaves_out_rests<S: Side>(seen: &mut SeenLits, prefix: &Prefix, to: &[Lit], r
     if !set_if_clean(seen, to) {
         return false;
     }
-    // Where nothing is left out, no block matters.
+    // If nothing is left out, no block matters.
     if surely_has_each_but(seen, rests.a, pivot) && surely_has_each_but(seen, rests.b, pivot) {
         return true;
     }
-    // What is left out has the other quantifier, so the literals that are kept say the block.
+    // The literals that are left out have the other quantifier, so those that are kept say the
+    // block.
     let reducible = reducible_in(prefix, S::REDUCED, to);
     put_each_left_out(seen, reducible, pivot, rests.a)
         && put_each_left_out(seen, reducible, pivot, rests.b)
@@ -107,7 +108,8 @@ fn surely_covers_but(seen: &SeenLits, reducible: Reducible, pivot: Var, lits: &[
     })
 }
 
-/// As `leaves_out_rests`, of what may be left out of the antecedents before they are resolved.
+/// As `leaves_out_rests`, for literals that may be left out of the antecedents before these are
+/// resolved.
 #[cold]
 fn leaves_out_of_parents<S: Side>(
     seen: &mut SeenLits,
@@ -130,15 +132,16 @@ fn leaves_out_of_parents<S: Side>(
         return false;
     }
     let (in_a, in_b) = reducible_in_parents::<S>(prefix, step.a, step.b, pivot);
-    // What the first one leaves out is put in, and the second one may not lack it for that.
+    // The literals that the first one leaves out are put in. The second one is tested before that,
+    // since it may not lack them for this reason.
     if !surely_covers_but(seen, in_b, pivot, rests.b) {
         return false;
     }
     put_each_left_out(seen, in_a, pivot, rests.a) && put_each_left_out(seen, in_b, pivot, rests.b)
 }
 
-/// Two lists, whatever their order, if a third one has no other literals, and a literal of the one
-/// whose negation is in the other; `None` if that is not seen.
+/// Two lists, whatever their order, and a literal of one whose negation is in the other, if a third
+/// list has no other literals. `None` if that is not seen.
 fn find_parents<'a>(
     seen: &mut SeenLits,
     a: &'a [Lit],
@@ -197,7 +200,7 @@ fn surely_clean_without(
     Ok(seen.surely_distinct(lits, var))
 }
 
-/// Whether what is left of its antecedents shows that a step follows, if the pivot is allowed.
+/// Whether the rests of its antecedents show that a step follows, if the pivot is allowed.
 #[inline(always)]
 fn follows_by_rests<S: Side>(
     seen: &mut SeenLits,
@@ -229,7 +232,8 @@ fn follows_by_rests<S: Side>(
 /// `resolvent_fault`, of literals as they are written.
 ///
 /// Their order does not matter, nor how often each is written. If they are in the order of the
-/// antecedents, and nothing is left out, only the pivot is looked up. What was seen is forgotten.
+/// antecedents, and nothing is left out, only the pivot is looked up. The literals that were seen
+/// are forgotten.
 ///
 /// # Errors
 /// If an allocation fails.

@@ -1,4 +1,5 @@
-//! Tests of traces and of the rules of a step through the public calls of their libraries: what no clause says.
+//! Tests of traces and of the rules of a step through the public calls of their libraries: what no
+//! clause says.
 #![tactic(auto)]
 
 #[cfg(test)]

@@ -1,4 +1,5 @@
-//! Worked formulas and sets: each rule alone, where it holds and with each of its faults.
+//! Worked formulas and sets: each rule alone, with steps for which it holds and with each of its
+//! faults.
 
 ghost use Rattle.std.specs.Prelude.{IfOk};
 ghost use Rattle.qbf_core.specs.Blocks.{AreBound};

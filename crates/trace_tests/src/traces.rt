@@ -1,5 +1,5 @@
-//! What the rows of `tests/*.rows` do not show of traces: single pulls and pushes, and those that
-//! fail, what a reader returns for good, and steps that are added.
+//! Tests of traces beside the rows of `tests/*.rows`: single pulls and pushes, and those that fail,
+//! the results that a reader returns for good, and steps that are added.
 
 ghost use Rattle.std.specs.Prelude.{◌≡◌, ◌<◌, ◌≤◌, ◌∷◌, [], ◌++◌, length, false, IfOk};
 ghost use Rattle.std.specs.List.{AllByRecursion};
@@ -84,8 +84,8 @@ fn reads_pieces_of_each_size(rt: HostRuntime) -> Result<(), Fail> {
     Ok(())
 }
 
-/// A text that is refused, how many of its bytes are looked at, and its fault. The last byte that is
-/// looked at is the one after the wrong token, or the end.
+/// A text that is refused, how many of its bytes are looked at, and its fault. The last byte that
+/// is looked at is the one after the wrong token, or the end.
 type Refused = (&'static [u8], u64, TraceFault, u64);
 
 const REFUSED: [Refused; 15] = [
@@ -176,8 +176,8 @@ fn assert_given_for_good(
 }
 
 /// The trace of this text has this fault, read as a whole or item by item, and is pulled equally
-/// often, as is returned. The pieces that are pulled have this size, and the pull with this number
-/// fails.
+/// often. Returns how often. The pieces that are pulled have this size, and the pull with this
+/// number fails.
 fn assert_fault(
     rt: &(impl Abort + AllocGlobal),
     text: &[u8],
@@ -213,7 +213,7 @@ fn gives_each_fault_of_a_text_for_good(rt: HostRuntime) {
     }
 }
 
-/// A letter for what kind of item of `TRACE` comes next.
+/// A letter for the kind of the next item of `TRACE`.
 fn next_letter(reader: &mut TraceReader, source: &mut PieceSource<'_>) -> u8 {
     match reader.next_item(source) {
         Ok(Item::Header(Header { vars: 2, steps: 5 })) => b'h',
@@ -240,7 +240,7 @@ fn gives_item(reader: &mut TraceReader, source: &mut SliceSource<'_>) -> bool {
     reader.next_item(source).is_ok()
 }
 
-/// The index has the number 9 alone.
+/// The index has only the number 9.
 fn assert_nine(rt: &impl Abort, index: &StepIndex) {
     assert_eq!(rt; index.len(), 1);
     assert_eq!(rt; index.position(9), Some(0));
@@ -261,8 +261,8 @@ fn hands_over_the_numbers(rt: HostRuntime) {
     assert_nine(&rt, &reader.into_index());
 }
 
-/// The trace has five steps: the literals of the first two and the antecedent of the third, which
-/// are held at once.
+/// The trace has five steps. The literals of the first two and the antecedent of the third are held
+/// at once.
 fn assert_slices(rt: &impl Abort, flat: &FlatTrace, one: Var, two: Var) {
     assert_eq!(rt; flat.len(), 5);
     let (first, second, ants) = (flat.lits(0), flat.lits(1), flat.ants(2));
@@ -275,7 +275,7 @@ fn assert_slices(rt: &impl Abort, flat: &FlatTrace, one: Var, two: Var) {
     assert_eq!(rt; ants, [1].as_slice());
 }
 
-/// What the trace has beside its steps, and where a step is.
+/// The parts of the trace beside its steps, and the position of a step.
 fn assert_parts(rt: &impl Abort, flat: &FlatTrace) {
     assert_eq!(rt; flat.header(), Header { vars: 2, steps: 5 });
     assert_eq!(rt; flat.sets().len(), 2);
@@ -293,10 +293,10 @@ fn lends_slices_at_once(rt: HostRuntime) -> Result<(), Fail> {
     Ok(())
 }
 
-// ---- what has an allocation fail, and then tried again
+// ---- calls in which an allocation fails, and which are then tried again
 //
-// With memory these tests try nothing twice. tests/library/test-refusals makes each of their allocations
-// fail in turn.
+// With memory these tests try nothing twice. tests/library/test-refusals makes each of their
+// allocations fail in turn.
 
 /// Reads the items up to the first fault. If an allocation fails, that is P9 on line 0, which three
 /// more calls give again, and they pull nothing.
@@ -320,7 +320,8 @@ fn list_of<T: Copy>(alloc: Global, items: &[T]) -> Result<Vec<T>, Fail>
     }
 }
 
-/// Adds a set. If an allocation fails, the trace has no set more, and the second try adds it.
+/// Adds a set. If an allocation fails, the trace has as many sets as before, and the second try
+/// adds it.
 fn push_set_again(rt: &impl Abort, trace: &mut Trace, set: QuantSet)
     ensures { trace.new ≡ record trace.old { sets = trace.old.sets ++ set ∷ [] } }
 {
@@ -331,7 +332,8 @@ fn push_set_again(rt: &impl Abort, trace: &mut Trace, set: QuantSet)
     }
 }
 
-/// Adds a step. If an allocation fails, the trace has no step more, and the second try adds it.
+/// Adds a step. If an allocation fails, the trace has as many steps as before, and the second try
+/// adds it.
 fn push_step_again(rt: &impl Abort, trace: &mut Trace, step: Step)
     requires number { IsNumber step.number }
     requires fresh { is_used step.number (numbers trace.old.steps) ≡ false }
