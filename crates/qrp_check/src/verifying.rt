@@ -88,7 +88,8 @@ pub fn verify<A: Source, B: Source>(
     ensures trace_failed { B.failures trace.old < 2 ^ 64 - 1 →
         (IsTraceDevice result ↔ (B.failures trace.old < B.failures trace.new)) }
     ensures lines { IfErr result StandsOnLine }
-    // If the trace was read, nothing is read past its result word but at most 4,096 bytes.
+    // If the trace was read, nothing is read past the separator after its result word but at most
+    // 4,096 bytes.
     ensures stops { WasRead result
         → IfKnown StopsAfterTrace (B.remaining trace.old) (B.remaining trace.new) }
     ensures not_pulled { IsFormulaFault result → trace.new ≡ trace.old }
@@ -132,7 +133,8 @@ pub fn find_truth<A: Source, B: Source>(
 ) -> Result<bool, Fault>
     ensures headline { IsTruthOf (λ v. IfSome (A.remaining formula.old)
         (λ a. IfSome (B.remaining trace.old) (λ b. Headline rules a b v))) result }
-    // Once the trace was read, nothing is read past its result word but at most 4,096 bytes.
+    // If the trace was read, nothing is read past the separator after its result word but at most
+    // 4,096 bytes.
     ensures checked { IsTruthOf (λ v. IsChecked rules (call_of A.Source formula.old formula.new)
         (call_of B.Source trace.old trace.new) v
         × StopsOnceRead (B.remaining trace.old) (B.remaining trace.new) v) result }

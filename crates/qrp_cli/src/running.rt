@@ -179,7 +179,8 @@ fn run_format<F: Source, O: Sink, E: Sink>(
 /// sink that takes the refusals of the job: `out` for `Check`, `err` for the others. The other sink
 /// gets nothing. If the sink of the report fails, in a write or in `finish`, the status is 3 and
 /// a beginning of the text went out. For `Format`, and with a fault of the formula, the trace is
-/// not pulled. Once a trace was read, nothing is read past its result word but at most 4,096 bytes.
+/// not pulled. Once a trace was read, nothing is read past the separator after its result word but
+/// at most 4,096 bytes.
 pub fn run<F: Source, T: Source, O: Sink, E: Sink>(
     alloc: Global,
     job: Job,
