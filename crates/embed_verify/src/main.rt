@@ -13,7 +13,7 @@ const FORMULA: &[u8] = b"p cnf 2 2\ne 1 0\na 2 0\n1 2 0\n-1 2 0\n";
 const TRACE: &[u8] =
     b"p qrp 2 5\n1 1 2 0 0\n2 -1 2 0 0\n3 1 0 1 0\n4 -1 0 2 0\n5 0 3 4 0\nr unsat\n";
 
-/// What the program says of a verdict.
+/// The line that the program writes for a verdict.
 fn message_of(verdict: &Result<Verified, Fault>) -> &'static [u8]
     ensures truth { IfOk verdict.now (λ v.
         result.now
