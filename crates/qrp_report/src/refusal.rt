@@ -1,4 +1,4 @@
-//! Refusals as data: the letter and the number in the name of a fault, and the position of the fault.
+//! Refusals as data: the letter and the number of a fault's name, and the position of the fault.
 
 ghost use Rattle.std.specs.Prelude.{◌≡◌};
 ghost use Rattle.qrp_report.specs.OfFaults.{CheckNamesVariable, NamesVariable};
