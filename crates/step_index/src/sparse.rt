@@ -5,7 +5,6 @@ ghost use Rattle.std.specs.Prelude.{suc, length, get_or, slice_get, max, Some, I
 ghost use Rattle.std.specs.Prelude.{◌↔◌, IsTrue, false, IfOk, OnOk, OnErr};
 ghost use Rattle.step_index.specs.Numbers.{is_used};
 ghost use Rattle.step_index.specs.Sparse.{ArePlaced, ArePlaces, AreNoted};
-ghost use Rattle.step_index.specs.declared.sparse.TheConstants.{REACH, REACH_OF_EACH};
 
 use crate::number_set::NumberSet;
 use crate::reach::reach;
@@ -45,7 +44,6 @@ impl Model for SparseNumbers {
     ghost use Rattle.std.specs.Prelude.{◌+◌, ◌*◌, ◌^◌, ℕ, List, ◌≤◌, length};
     ghost use Rattle.std.specs.List.{AllByRecursion};
     ghost use Rattle.step_index.specs.Sparse.{AreFound};
-    ghost use Rattle.step_index.specs.declared.sparse.TheConstants.{REACH, REACH_OF_EACH};
 
     ghost Value = { List ℕ };
 
@@ -54,7 +52,7 @@ impl Model for SparseNumbers {
     ghost invariant = { λ s.
         AreFound s.near s.table.items s.far.entries s.numbers.items s.placed
         × AllByRecursion (λ n. n ≤ s.greatest) s.numbers.items
-        × (length s.table.items ≤ REACH + REACH_OF_EACH * length s.numbers.items) };
+        × (length s.table.items ≤ 2 ^ 20 + 16 * length s.numbers.items) };
 }
 
 /// Whether the table may reach a number, if the next place is this one. A place in the table has
@@ -62,7 +60,7 @@ impl Model for SparseNumbers {
 fn surely_near(place: usize, number: u64) -> bool
     ensures place { IsTrue result → place + 1 < 2 ^ 32 }
     ensures number { IsTrue result → number < 2 ^ 37 }
-    ensures few { IsTrue result → number < REACH + REACH_OF_EACH * place }
+    ensures few { IsTrue result → number < 2 ^ 20 + 16 * place }
 {
     place < u32::MAX as usize && number < (REACH + REACH_OF_EACH * place) as u64
 }
@@ -76,7 +74,7 @@ fn surely_near(place: usize, number: u64) -> bool
 fn reach_near(table: &mut Vec<u32>, place: usize, number: u64) -> Result<bool, AllocError>
     ensures near { IfOk result (λ near. IsTrue near → number < 2 ^ 37) }
     ensures few { OnOk result
-        (length table.new.items ≤ max (length table.old.items) (REACH + REACH_OF_EACH * place)) }
+        (length table.new.items ≤ max (length table.old.items) (2 ^ 20 + 16 * place)) }
     ensures kept { (n : ℕ) → get_or table.new.items n 0 ≡ get_or table.old.items n 0 }
     ensures err { OnErr result (table.new.items ≡ table.old.items) }
 {
