@@ -53,7 +53,7 @@ pub record IsPlain (f : Qbf) (s : Inference) : Type 0 where
   pub ants : (n : ℕ) → n ∈ s.ants → (1 ≤ n) × (n < s.number)
   pub few : length s.ants ≤ 2
 
--- each step follows from those before it, and no number is above their count
+-- each step follows from those before it and is in range, no number is above their count, and none comes twice
 pub record IsSound (side : Side) (f : Qbf) (steps : List Inference) : Type 0 where
   pub follows : (rules : Rules) (i : ℕ) (s : Inference) → IsAt steps i s → FollowsUnreduced rules side f steps i
   pub plain : (s : Inference) → s ∈ steps → IsPlain f s × (s.number ≤ length steps)
