@@ -8,7 +8,7 @@ use mir.Val.{bool_byte}
 shorter : (i n : ℕ) (xs ys : List ℕ) → i ≤ n → take n xs ≡ take n ys → take i xs ≡ take i ys
 shorter i n xs ys less same = sym (take-take i n xs less) ∙ ap (take i) same ∙ take-take i n ys less
 
--- what stands before a place, when an item there and one further on are set
+-- the items before a place, when an item there and one further on are set
 pub same_front : (at k n x y : ℕ) (old new : List ℕ) → at ≤ k → at ≤ n → take n new ≡ take n old
     → take at (set (set new k x) at y) ≡ take at old
 same_front at k n x y old new after less same =

@@ -1,4 +1,4 @@
--- Where no lane of the greatest is marked, each lane is below ten.
+-- If no lane of the greatest is marked, each lane is below ten.
 use Rattle.std.proofs.lemmas.Grind.{common_steps}
 use Rattle.std.proofs.Common.{Fits, eqb, eqb-true, true, ℕ, zero, ◌≡◌, ◌<◌, ◌%◌, ◌^◌, cond, ltb, List, [], ◌∷◌, map, length}
 use Rattle.std.proofs.Common.{replicate, arith, refl, ap, ◌∙◌, w8}

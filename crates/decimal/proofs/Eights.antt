@@ -40,7 +40,7 @@ after_append : (n : ℕ) (xs ys : List ℕ) → digits_value_after 10 n (xs ++ y
 after_append n [] ys = refl
 after_append n (x ∷ xs) ys = after_append (n * 10 + digit_value x) xs ys
 
--- what digits after others make of their value
+-- digits that follow a value: the value times a power of ten, and the value of the digits
 after_more : (n : ℕ) (ys : List ℕ) → digits_value_after 10 n ys ≡ n * 10 ^ length ys + digits_value 10 ys
 after_more n [] = omega (arith, ap (λ x. n * x) (pow-zero 10))
 after_more n (y ∷ ys) =

@@ -94,7 +94,7 @@ more_large : (n t b : ℕ) → b < 256 → 10 ≤ b → marks (suc n) (t * 256 +
     ≡ bit_and (bit_or (((t * 256 + b + (splat 118 n * 256 + 118)) / 256) % 2 ^ wide n) t) (splat 128 n) * 256 + 128
 more_large n t b fits large = grind (arith, common_steps, low_mark, cond-false, le-ltb, more)
 
--- where no byte is marked, each is below ten
+-- if no byte is marked, each is below ten
 pub no_mark : (bs : List ℕ) → Bytes bs → marks (length bs) (word bs) ≡ 0 → AllBelowBase 10 bs
 unfolding word
 no_mark [] h e = tt

@@ -8,11 +8,11 @@ use Rattle.std.proofs.Math.Nat.{pow-zero}
 use Rattle.std.proofs.lemmas.Nat.{and_mask, mod_below}
 use Rattle.std.proofs.lemmas.Simd.{pick_l_whole, below_from_Fits}
 
--- a lane of two digits to the base p, of which the lower counts k times
+-- a lane of two digits in base p, of which the lower one counts k times
 abbrev act : (p q m k v : ℕ) → ℕ
 act p q m k v = (bit_and v m * k % q + v / p) % q
 
--- each two lanes as one number, of which the first counts k times
+-- every two lanes as one number, in which the first counts k times
 abbrev joined : ℕ → List ℕ → List ℕ
 joined k [] = []
 joined k (x ∷ []) = []

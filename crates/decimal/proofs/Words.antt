@@ -27,7 +27,7 @@ kept n word rest whole = sel_l (map (top 7) (zip2 (λ a b. cond (eqb a b) 255 0)
 abbrev pub digits : ℕ → (word rest whole : List ℕ) → List ℕ
 digits n word rest whole = zip2 bit_and (zip2 bit_xor word (replicate n 48)) (kept n word rest whole)
 
--- ---- what a mask of the last bytes keeps
+-- ---- the bytes that a mask of the last ones keeps
 turned_are : (w : List ℕ) → Below 256 w → Below 10 (map turned w) → (map turned w ≡ map digit_value w) × AllDigits 10 w
 turned_are [] h s = (refl, tt)
 turned_are (b ∷ w) h s =

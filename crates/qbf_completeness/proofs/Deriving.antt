@@ -1,4 +1,4 @@
--- What the player of a side wins, the rules derive: at each place of the game they derive a set that is reached there.
+-- The rules derive what the player of a side wins: at each place of the game they derive a set that is reached there.
 use Rattle.qbf_core.proofs.Cited.{arith, ◌≡◌, ℕ, suc, ◌+◌, ◌<◌, ◌≤◌, List, [], ◌∷◌, ◌++◌, ◌⊎◌, inl, inr, refl, sym, ap}
 use Rattle.qbf_core.proofs.Cited.{◌∙◌, subst, cond, cases_eq, Literal, positive, negative, negated, ◌∈◌, IsClean, Side, Clauses, Cubes, Clashes}
 use Rattle.qbf_core.proofs.Cited.{resolvent, reduced_quantifier, deciding_quantifier, IsBound, pairs, variables, Qbf}
@@ -18,7 +18,7 @@ use Rattle.qbf_completeness.specs.Laws.{count_of, Completeness}
 use Rattle.qbf_completeness.proofs.Players.{chosen_mine, chosen_theirs, mine_is, theirs_is, ends, won}
 use Rattle.qbf_completeness.proofs.SameBlock.{stands_before}
 
--- what is derived at a place of the game: all that it wants set is set there
+-- a set that is derived at a place of the game: each literal that it wants set is set there
 record Found (side : Side) (f : Qbf) (s : List Literal) (most : ℕ) : Type 0 where
   pub count : ℕ
   pub few : count ≤ most
@@ -111,7 +111,7 @@ module _ (side : Side) (f : Qbf) (v : ℕ) (s : List Literal) (clean : IsClean s
   needs x lits reached = split_each (λ l. wanted side l ∈ s) (λ l. wanted side l ≡ x) lits
       (λ l h. elim (reached l h) [ inl e ↦ inr e | inr k ↦ inl k ])
 
-  -- what stands with both signs is v
+  -- a literal of a whose negation is in b is one of v
   both_signs : (p : Literal) → p ∈ a.lits → negated p ∈ b.lits → p.var ≡ v
   both_signs p h k = by (a.reached p h) (b.reached (negated p) k)
     where
@@ -149,7 +149,7 @@ module _ (side : Side) (f : Qbf) (v : ℕ) (s : List Literal) (clean : IsClean s
 
 -- ---- at all places
 
--- the steps at most below a place: one for each variable of the player, and both branches of each of the opponent's
+-- the most steps below a place: one for each variable of the player, and both branches of each of the opponent's
 abbrev pub tree_steps : Side → List (Quantifier × ℕ) → ℕ
 tree_steps side [] = 1
 tree_steps side ((q, v) ∷ rest) =

@@ -31,7 +31,7 @@ same_play mine ((q, v) ∷ rest) e g u h s moves values = by (is_quantifier q mi
     by true one other = ap (λ b. play mine rest e u (literal_of v b ∷ s)) (moves v (inl refl) []) ∙ one
     by false one other = ap (λ b. play mine rest (λ w p. e w (b ∷ p)) u (literal_of v b ∷ s)) (values v (inl refl)) ∙ other
 
--- with what is given to v changed
+-- the same values with that of v changed
 changed_at : {B : Type 0} → ℕ → B → (ℕ → B) → ℕ → B
 changed_at v b g w = cond (eqb w v) b (g w)
 
@@ -43,7 +43,7 @@ changed_elsewhere : {B : Type 0} (v : ℕ) (b : B) (g : ℕ → B) (w : ℕ) →
 unfolding changed_at
 changed_elsewhere v b g w other = rw (ne_eqb w v other) refl
 
--- what the strategy is after each value
+-- the strategy that goes on with e after true, and with g after false
 after_value : Strategy → Strategy → Strategy
 after_value e g w [] = true
 after_value e g w (true ∷ before) = e w before

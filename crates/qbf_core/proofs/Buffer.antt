@@ -81,7 +81,7 @@ kept_parts xs m from es n r h le =
     sym (grown_parts (take m xs) (drop m xs) from es n r (omega (arith, h, length-take-le m xs le)))
     ∙ ap (λ (ys : List _). parts ys from es) (take-append-drop m xs)
 
--- so many ends reach to the last of them, which is in the buffer
+-- the first ends reach to the last of them, which is in the buffer
 pub fewer_reach : (es es' : List ℕ) (start m k end : ℕ) → es' ≡ take k es → end ≡ end_of 0 es' → Reaches 0 es start → start ≤ m
     → Reaches 0 es' end × (end ≤ m)
 fewer_reach es es' start m k end e is r le = grind (arith, common_steps, end_within, reach_less)
@@ -108,7 +108,7 @@ drop_kept xs n = grind (arith, common_steps)
 pub drop_grown : {X : Type 0} (xs more : List X) (n : ℕ) → n ≤ length xs → drop n (xs ++ more) ≡ drop n xs ++ more
 drop_grown xs more n h = drop-append-le n xs more h
 
--- what holds after the last list is taken away, and after one is whole
+-- the facts after the last list is taken away, and after one is whole
 pub ruleset fewer = (fewer_parts, same_count)
 
 pub ruleset closed = (closed_parts, closed_reach, drop_all)

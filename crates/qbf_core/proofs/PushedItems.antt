@@ -1,4 +1,4 @@
--- What stands at a place after one more item came at the end, or one was written.
+-- The item at a place after one more came at the end, or after one was written.
 use Rattle.qbf_core.proofs.Cited.{common_steps, ◌≡◌, ℕ, zero, suc, ◌⊎◌, List, [], ◌∷◌, ◌++◌, Some, inl, inr, refl, ap, length, slice_get}
 use Rattle.qbf_core.proofs.Cited.{set, ◌<◌, arith}
 
@@ -17,7 +17,7 @@ pub pushed_new : {A : Type 0} (xs : List A) (x : A) → slice_get (xs ++ x ∷ [
 pushed_new [] x = refl
 pushed_new (y ∷ xs) x = pushed_new xs x
 
--- what stands at a place after an item was written
+-- the item at a place after an item was written
 pub written_here : {A : Type 0} (xs : List A) (k : ℕ) (y : A) → k < length xs → slice_get (set xs k y) k ≡ Some y
 written_here [] k y less = absurd (omega arith)
 written_here (x ∷ xs) zero y less = refl

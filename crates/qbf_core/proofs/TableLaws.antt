@@ -13,7 +13,7 @@ pub written_back : {X : Type 0} (n : ℕ) (new old : List X) → n ≡ length ol
     → take n (new ++ drop (length new) old) ≡ new
 written_back n new old e f = grind (arith, common_steps)
 
--- what stands at a place after a write
+-- the item at a place after a write
 set_cases : {X : Type 0} (xs : List X) (i n : ℕ) (x o : X) → slice_get (slice_set xs i x) n ≡ Some o
     → ((n ≡ i) × (o ≡ x)) ⊎ ((n ≡ i → ⊥) × (slice_get xs n ≡ Some o))
 set_cases [] i n x o e = absurd cc
@@ -35,7 +35,7 @@ pub lookup_outside : (n : ℕ) (es : List (ℕ × Place)) → AllByRecursion Fit
 lookup_outside n [] h out = refl
 lookup_outside n (e ∷ es) h out = rw (ne_eqb n e.0 (λ same. out (subst IsVariable (sym same) h.0.0))) (lookup_outside n es h.1 out)
 
--- and what is found there can be packed
+-- and an entry that is found there can be packed
 pub lookup_fits : (n : ℕ) (es : List (ℕ × Place)) → AllByRecursion FitsTable es → IfSome (lookup (nat_eq n) es) (λ p. p.block < 2147483647)
 lookup_fits n [] h = tt
 lookup_fits n (e ∷ es) h = grind (arith, common_steps, lookup_fits n es h.1, h.0.1)
@@ -58,7 +58,7 @@ module _ (table : List (Option Place)) (es : List (ℕ × Place)) (is : IsTable 
       → slot ≡ get_or read n slot → slot ≡ lookup (nat_eq v) es
   slot_found read v n slot same number less at = search (rules, slice_get_read)
 
--- one more entry of the table, which was in the map before, or none where it is refused
+-- one more entry of the table, which was in the map before, or none if it is refused
 pub index_grown : (table : List (Option Place)) (far : List (ℕ × Place)) (given : Bool) (slot : Option Place)
     → slot ≡ lookup (nat_eq (length table)) far
     → (es : List (ℕ × Place)) → IsIndexOf table far es → IsIndexOf (if given then table ++ slot ∷ [] else table) far es
@@ -93,6 +93,6 @@ distinct_push (e ∷ es) v p none d = by (nat_eq v e.0) refl (λ rest. distinct_
         → IsDistinct nat_eq (keys_of ((e ∷ es) ++ (v, p) ∷ []))
     by t is more = search (rules, apart, flipped)
 
--- a number that the table was read at in vain
+-- a number at which the table was read in vain is beyond its end
 pub outside : {X : Type 0} (read table : List X) (v n : ℕ) → read ≡ table → n ≡ v → length read ≤ n → length table ≤ v
 outside read table v n same number long = omega (arith, ap length same, number, long)

@@ -34,7 +34,7 @@ take_further xs place k = grind (arith, common_steps)
 take_four : {X : Type 0} (xs : List X) (place : ℕ) → take (place + 4) xs ≡ take place xs ++ slice_range xs place (place + 4)
 take_four xs place = take_further xs place 4 ∙ ap (λ k. take place xs ++ take k (drop place xs)) (sym (after_four place))
 
--- ---- what holds of each
+-- ---- facts of each item
 
 all_append : {X : Type 0} (P : X → Type 0) (xs ys : List X) → AllByRecursion P xs → AllByRecursion P ys → AllByRecursion P (xs ++ ys)
 all_append P [] ys h k = k

@@ -31,7 +31,7 @@ module _ {P A F : Type 0} {row : P → Token → Row P A F} where
   leads_then Stays m = m
   leads_then (Passes e l) m = Passes e (leads_then l m)
 
-  -- what is read after them
+  -- after them reading goes on from the state that they lead to
   pub leads_reads : {p q : P} {ts : List Token} → Leads row p ts q → (before : List Lined) → without_lines before ≡ ts → (rest : List Lined)
       → read_from row p (before ++ rest) ≡ read_from row q rest
   leads_reads Stays [] e rest = refl
@@ -42,7 +42,7 @@ module _ {P A F : Type 0} {row : P → Token → Row P A F} where
       read-one row p t (before ++ rest)
       ∙ ap (λ (r : Row P A F). after row r t (before ++ rest)) (ap (row p) same ∙ taken) ∙ leads_reads l before (cc) rest
 
--- ---- tokens that end, each of which leads on or ends what is read
+-- ---- tokens that end, each of which leads on or gives a result
 
 once_rest : (t : Lined) (ts : List Lined) → t.0 ≢ token.End → EndsOnce (t ∷ ts) → EndsOnce ts
 once_rest t ts n once = search rules

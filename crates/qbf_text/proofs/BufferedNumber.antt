@@ -74,7 +74,7 @@ module _ (bytes : List ℕ) (negative : Bool) (start value end : ℕ) (sign : ne
   small : digits_value 10 (take (end - start) (drop start bytes)) < 2 ^ 64
   small = subst (λ v. v < 2 ^ 64) is fits
 
-  -- what the reader of digits found, where there is no minus
+  -- the number that the reader of digits found, if there is no minus
   pub found_plain : negative ≡ false → start ≡ 0 → BeginsWithNumber bytes negative value (end + 1) (nat_eq (get_or bytes end 0) 10)
   found_plain none front = by bytes refl
     where

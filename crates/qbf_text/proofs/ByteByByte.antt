@@ -27,7 +27,7 @@ left_counted : (f : Comments) (begun : Bool) (n m : ℕ) (lines : List (List ℕ
     → left_from f begun n lines ≡ left_from f begun m lines
 left_counted f begun n m lines e = grind (arith, common_steps, rest_counted, lines_counted)
 
--- the tokens left speak of the counted number alone
+-- the tokens left depend on the counted number alone
 pub tokens_left-counted : (f : Comments) (begun : Bool) (n m : ℕ) (bytes : List ℕ) → line_number n ≡ line_number m
     → tokens_left f begun n bytes ≡ tokens_left f begun m bytes
 tokens_left-counted f begun n m bytes e = grind (arith, common_steps, left_counted)

@@ -5,7 +5,7 @@ use Rattle.qbf_text.proofs.Cited.{ahead, first_of, IsUnbroken, IsWithinLine, is_
 pub all_push : (P : ℕ → Type 0) (xs : List ℕ) (x : ℕ) → AllByRecursion P xs → P x → AllByRecursion P (xs ++ x ∷ [])
 all_push P xs x h p = grind (arith, common_steps)
 
--- what is taken so far, and one byte more
+-- the bytes that were taken so far, and one more
 pub taken_more : (a b : Option (List ℕ)) (pending : List ℕ) (rem : Option (List ℕ)) (xs : List ℕ) (x : ℕ)
     → Consumes a b xs → Consumes b (ahead pending rem) [] → Some x ≡ first_of pending
     → Consumes a (ahead (drop 1 pending) rem) (xs ++ x ∷ [])
@@ -30,7 +30,7 @@ skip_more a b pending rem x s q h e =
 
 -- ---- reading a run
 
--- where Reads says of bytes that they were read
+-- the bytes that were taken after the first one; `Reads` says of bytes that they were read
 pub record IsReading (old new : Option (List ℕ)) (Reads : List ℕ → Type 0) (first : ℕ) : Type 0 where
   pub more : List ℕ
   pub kept : Reads (first ∷ more)

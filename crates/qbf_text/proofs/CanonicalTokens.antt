@@ -23,14 +23,14 @@ kind_spelled t h = grind (arith, common_steps, kind_word, kind_decimal, kind_min
 spelled_unbroken : (t : Token) → IsPlain t → IsUnbroken (token_text t)
 spelled_unbroken t h = grind (arith, common_steps, word_unbroken, digits_unbroken, digits_decimal, own)
 
--- after another token of its line each token is one
+-- the text of a token is a token after another one of its line
 word_after : (f : Comments) (w : Word) → IsToken f true (letters w)
 word_after f w = search rules
 
 spelled_after : (f : Comments) (t : Token) → IsPlain t → IsToken f true (token_text t)
 spelled_after f t h = grind (arith, common_steps, word_after, token_digits, decimal_nonempty, digits_decimal, own)
 
--- at the beginning of a line the others are
+-- and at the beginning of a line, if it does not begin with a comment byte
 word_first : (f : Comments) (w : Word) → IsOpening (token.Word w) → IsToken f false (letters w)
 word_first f w h = search rules
 

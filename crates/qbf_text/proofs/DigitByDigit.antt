@@ -21,7 +21,7 @@ all-push (d ∷ ds) b = and_assoc (is_ascii_digit d) (all_ascii_digits ds) (is_a
 pub magnitude-push : (ds : List ℕ) (b : ℕ) → magnitude (ds ++ b ∷ []) ≡ 10 * magnitude ds + (b - 48)
 magnitude-push ds b = fold-append (λ n digit. 10 * n + (digit - 48)) 0 ds (b ∷ [])
 
--- digits of which all are digits, or not, and what they write
+-- the kept digits, by whether all are digits, and by the value that they write
 abbrev pub pack : Bool → ℕ → Digits
 pack all m = if not all then Other else (if not (nat_lt m (2 ^ 64)) then Big else Value m)
 
@@ -44,7 +44,7 @@ big_is all m h = search rules
 other_is : (all : Bool) (m : ℕ) → Other ≡ pack all m → all ≡ false
 other_is all m h = search rules
 
--- what the kept digits say of all of them
+-- the facts that the kept digits tell of all of them
 pub known_value : (ds : List ℕ) (n : ℕ) → Value n ≡ digits_of ds → (all_ascii_digits ds ≡ true) × (n ≡ magnitude ds)
 known_value ds n e = value_is _ _ n e
 

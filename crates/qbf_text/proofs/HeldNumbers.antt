@@ -30,7 +30,7 @@ module _ (n : Numbers) (whole : List ℕ) (start : ℕ) (h : AreHeld n whole sta
       let more_there = further whole n.places (n.first + c) (slice_index_or n.values (n.first + c) (pos 0)) s in
       rw next (omega (arith, before, more_there))
 
--- those from one of them on stand from its place on
+-- the numbers from one of them on are held from its place on
 pub held_from : (n : Numbers) (there bytes next : ℕ) → n.first ≤ there → there ≤ n.known → place n n.first + bytes ≡ place n there
     → (whole : List ℕ) (start : ℕ) → AreHeld n whole start → AreHeld (record n { first = there; zero = next }) whole (start + bytes)
 held_from n there bytes next after before same whole start h = record {
@@ -188,7 +188,7 @@ module _ (n : Numbers) (bytes : List ℕ) (f : StandInFront n bytes) (from : Cur
         passes_on row first l.0 next bytes from (cursor_to n bytes from (suc c)) (cursor_to n bytes from c) (token_at n.values (n.first + c)) l.2
         (passes_by l.0 c (λ some. omega (arith, few (omega arith))) l.1) (step c (omega (arith, few (omega arith))))
 
-    -- what a grammar took of the numbers is what it passed of the bytes
+    -- if a grammar took some of the numbers, it passed their bytes
     pub takes_passes : (next : P) (count : ℕ) (answer : Option A) → (0 < count → n.first + count ≤ n.known)
         → TakesOver row first next n.values n.first (n.first + count) answer
         → PassesAll row first next bytes from (cursor_to n bytes from count) answer
@@ -217,7 +217,7 @@ len_within n bytes f c some few =
 
 -- ---- filling
 
--- what holds while numbers are put one after the other
+-- the facts that hold while numbers are put one after the other
 pub record FillsTo (n : Numbers) (whole : List ℕ) (start runs k at : ℕ) : Type 0 where
   pub values_len : length n.values ≡ 2048
   pub few : runs ≤ 2048
@@ -279,7 +279,7 @@ fills_more n m whole start runs k at l values f len some room stand put is =
     rw there (subst (λ (x : Numbers). FillsTo x whole start runs (k + l) (place n (k + l))) (sym is)
     (subst (λ j. FillsTo (record n { values = m.values }) whole start runs (k + j) (place n (k + j))) len with_them))
 
--- nothing turns on the zeros
+-- none of these facts depends on the zeros
 pub fills_still : (n m : Numbers) (z : List ℕ) (whole : List ℕ) (start runs k at : ℕ) → m ≡ record n { zeros = z }
     → FillsTo n whole start runs k at → FillsTo m whole start runs k at
 fills_still n m z whole start runs k at is f = rw is (record {

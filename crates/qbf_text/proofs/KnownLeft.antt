@@ -1,4 +1,4 @@
--- What is left where the bytes ahead may be unknown.
+-- The tokens that are left if the bytes ahead may be unknown.
 use Rattle.qbf_text.proofs.Cited.{rules, ◌≡◌, ℕ, Bool, true, false, List, [], ◌∷◌, Option, Some, IfSome, drop, arith, ⊤, Consumes}
 use Rattle.qbf_text.proofs.Cited.{Consumes-nil, nat_tests, Comments, ahead, first_of, is_line_end, is_comment_byte, kind, is_end}
 use Rattle.qbf_text.proofs.ByteByByte.{IsToken}

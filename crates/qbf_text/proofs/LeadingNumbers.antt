@@ -79,7 +79,7 @@ module _ {P A F : Type 0} (row : P → Token → Row P A F) where
       leads = part_by first next l.count (omega (arith, few, l.counted)) l.leads;
     }
 
-    -- what was taken of a part of the numbers
+    -- numbers that were taken of a part were taken of the whole
     pub part_taken : (first next : P) (n to : ℕ) (answer : Option A) → n < len + 1 → to ≡ start + n → TakesOver row first next list 0 n answer
         → TakesOver row first next values start to answer
     part_taken first next n to None few is l = subst (λ k. LeadsOver row first next values start k) (sym is) (part_over first next n few l)

@@ -1,10 +1,10 @@
--- What is left after a number that stands whole among the buffered bytes.
+-- The tokens that are left after a number that stands whole among the buffered bytes.
 use Rattle.qbf_text.proofs.Cited.{rules, ◌≡◌, ℕ, ◌+◌, ◌^◌, ◌<◌, Bool, true, false, List, [], ◌∷◌, ◌++◌, sym, ap, ◌∙◌, arith, append_assoc}
 use Rattle.qbf_text.proofs.Cited.{eqb-true, common_steps, Comments, Number, kind, line_number, begins_number, is_separator, IsUnbroken}
 use Rattle.qbf_text.proofs.Cited.{tokens_left, BeginsWithNumber}
 use Rattle.qbf_text.proofs.ByteByByte.{left_run, left_line_end, left_blank, or_cases, IsToken, tokens_left-counted}
 
--- what begins as a number does is not a comment
+-- a run that begins as a number does is not a comment
 number_token : (f : Comments) (begun : Bool) (run : List ℕ) → begins_number run ≡ true → IsToken f begun run
 number_token f begun run h = search rules
 

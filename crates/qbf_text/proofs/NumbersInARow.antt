@@ -111,7 +111,7 @@ module _ (bytes places : List ℕ) where
   alone k v s zero few = let same : k + 0 ≡ k = omega arith in rw same s
   alone k v s (suc i) few = absurd (omega (arith, few))
 
-  -- where numbers that are in a row end
+  -- the place where the i-th of the numbers in a row ends
   pub record EndsThere (ends : List ℕ) (k i : ℕ) : Type 0 where
     pub within : get_or ends i 0 < length bytes
     pub next : get_or places (k + i + 1) 0 ≡ get_or ends i 0 + 1

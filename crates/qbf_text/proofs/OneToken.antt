@@ -1,4 +1,4 @@
--- What one token does to what is read.
+-- The effect of one token on what is read.
 use Rattle.qbf_text.proofs.Cited.{arith, rules, ◌≡◌, ℕ, Bool, false, List, ◌∷◌, Option, Some, None, IfSome, sym, ◌∙◌, subst, common_steps}
 use Rattle.qbf_text.proofs.Cited.{Token, Lined, is_end, GivesNext, Reading, HasFailed, IsReady, Row, Goes, Ends, Fails, Read, Whole, Fault}
 use Rattle.qbf_text.proofs.Cited.{reads_from}
@@ -7,7 +7,7 @@ use Rattle.qbf_text.specs.Reading.{IsFirst, HasEnded}
 use Rattle.qbf_text.specs.Rows.{rest_after, read_from}
 use Rattle.qbf_text.specs.Taking.{Leaves}
 
--- what was to be read, where that is known, is what is still to be read
+-- if the result of reading is known, it is the result of reading on
 abbrev pub Leads : {R : Type 0} → Option R → Option R → Type 0
 Leads None rest = Unit {0}
 Leads (Some r) rest = rest ≡ Some r
@@ -19,7 +19,7 @@ pub leads_then : {R : Type 0} (whole before after : Option R) → Leads whole be
 leads_then whole before after leads same = subst (Leads whole) same leads
 
 module _ {P A F : Type 0} (row : P → Token → Row P A F) where
-  -- what comes of a row
+  -- the result of reading on after a row
   abbrev pub after : Row P A F → Lined → List Lined → Read P A F
   after (Goes next) t ts = read_from row next ts
   after (Ends a next) t ts = Whole a next (rest_after (is_end t.0) t ts)
@@ -32,7 +32,7 @@ module _ {P A F : Type 0} (row : P → Token → Row P A F) where
   first : (b : Bool) (old new : List Lined) (t : Lined) → IsFirst b old t new → (ts : List Lined) × (old ≡ t ∷ ts) × (new ≡ rest_after b t ts)
   first b old new t h = search rules
 
-  -- where a token was taken, its row decides
+  -- if a token was taken, its row decides
   one : (state : P) (whole : Option (Read P A F)) (old new : Known) (t : Lined) → Leads whole (reads_from row state old) → GivesNext old new
       t → IfSome whole (λ r. (ts : List Lined) × (r ≡ after (row state t.0) t ts) × (new ≡ Some (rest_after (is_end t.0) t ts)))
   one state whole old new t so_far gives = grind (arith, common_steps, first, read-one)

@@ -209,7 +209,7 @@ given_buffered r here to token p open_ (Some rest) = rw (open_, p.no_end) (
     (ap (λ l. l ++ rest) p.taken ∙ append_assoc (p.word ++ p.separator ∷ []) (drop to.at r.pending) rest)
     ∙ p.spelled r.comments (drop to.at r.pending ++ rest))
 
--- what a grammar took is read
+-- the numbers that a grammar took are read
 pub handed : {P A F : Type 0} (row : P → Token → Row P A F) (first next : P) (answer : Option A) (r : Reading) (to : Cursor)
     → IsOpen r → length (drop to.at r.pending) ≤ 4096 → PassesAll row first next r.pending (cursor r) to answer → (remaining : Option (List ℕ))
     → ReadsBuffered row first next r (scanner_at r to) remaining answer
@@ -228,7 +228,7 @@ handed row first next (Some a) r to open_ few p remaining = record {
   few = few;
 }
 
--- what holds in a loop that takes buffered numbers, which lead from one state to another, and with what it keeps of them
+-- the facts of a loop that takes buffered numbers: they lead from one state to another, and `Sound` holds of what it keeps of them
 pub record TakesNumbers {P A F : Type 0} (row : P → Token → Row P A F) (first next : P) (Sound : Type 0) (bytes : List ℕ) (from to : Cursor)
     : Type 0 where
   pub passes : Passes (LeadOn row first next) bytes from to

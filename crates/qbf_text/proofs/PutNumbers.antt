@@ -15,7 +15,7 @@ fits : (v : ℤ) → unsigned_abs v < 2 ^ 31 → SFits w32 v
 fits (pos d) small = record { sfits = small }
 fits (negsuc d) small = record { sfits = omega (arith, small) }
 
--- lanes of 32 bits are what was put in them
+-- lanes of 32 bits give the values that were put in them
 pub lanes_are : (values : List ℤ) → AreShort values → map (to_z w32) (map (of_z w32) values) ≡ values
 lanes_are [] short = refl
 lanes_are (v ∷ vs) short =

@@ -1,4 +1,4 @@
--- What is read of a text is what it spells, or the fault that stands in it.
+-- A text is read as what it spells, or as the fault that stands in it.
 use Rattle.qbf_text.proofs.Cited.{arith, rules, ◌≡◌, ℕ, Bool, List, [], ◌∷◌, Option, Some, IfSome, Result, Ok, Err, ap, sym, ◌∙◌}
 use Rattle.qbf_text.proofs.Cited.{common_steps, Comments, Token, Lined, without_lines, EndsOnce, Row, Read, Whole, Fault, read_from, tokens}
 use Rattle.std.proofs.Common.{option_map}
@@ -11,7 +11,7 @@ use Rattle.qbf_text.specs.declared.grammar.ReadError.{ReadError}
 use Rattle.qbf_text.specs.declared.grammar.ReadError.TheVariants as error
 use Rattle.qbf_text.proofs.AcceptedTokens as accepted
 
--- where each token leads on or gives a result, and tokens read as nothing else, they read as what is read
+-- if each token leads on or gives a result, and tokens read as nothing else, they read as what is read
 pub explained : {P R : Type 0} (Spells : List Token → P → Type 0) (Reads : List Lined → R → Type 0) (read : List Lined → R) (first : P)
     → Spells [] first
     → ((before : List Lined) (p : P) (t : Lined) (ts : List Lined) → Spells (without_lines before) p → EndsOnce (t ∷ ts)
@@ -48,13 +48,13 @@ module _ {P A F : Type 0} {row : P → Token → Row P (Unit {0}) F} {answer : R
   same : (ts : List Lined) → read ts ≡ answer (read_from row state ts)
   same ts = sym (is.same ts) ∙ ap (λ (p : P). answer (read_from row p ts)) (sym here)
 
-  -- what was read is given
+  -- the whole that was read is given
   pub whole_given : (a : A) → ((more : List Lined) → answer (Whole tt next more) ≡ Ok a) → (remaining : Option (List ℕ))
       → IfSome remaining (λ bytes. taking.ReadsKnown (read_from row state (tokens format bytes)) next (Ok tt))
       → Gives outside (Ok a) (option_map (λ bytes. read (tokens format bytes)) remaining)
   whole_given a whole remaining h = search rules
 
--- what holds of the last token, and what follows from that
+-- the facts of the last token, and those that follow from them
 pub follows_then : {P A F : Type 0} (row : P → Token → Row P A F) (next : P) (open_ ended more none : Type 0) (result : Result A (ReadError F))
     → (open_ → more) → (ended → none) → Follows row next open_ ended result → Follows row next more none result
 follows_then row next open_ ended more none (Ok a) f g h = (h.0, h.1, h.2, λ e. f (h.3 e), λ e. g (h.4 e))

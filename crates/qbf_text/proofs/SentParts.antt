@@ -40,7 +40,7 @@ pub parts_next : {X : Type 0} (f : X → List ℕ) (xs : List X) (i : ℕ) (x d 
 parts_next f xs i x d lt is = grind (arith, common_steps)
 
 module _ {X : Type 0} (f : X → List ℕ) (xs : List X) where
-  -- what is left of a list of parts has a first one
+  -- the rest of a list of parts has a first one
   pub part_next : (i : ℕ) → i < length xs
       → (x : X) × (slice_get xs i ≡ Some x) × (flat_map f (drop i xs) ≡ f x ++ flat_map f (drop (i + 1) xs))
   part_next i less = elim (slice_get_cases xs i).1 [
@@ -48,7 +48,7 @@ module _ {X : Type 0} (f : X → List ℕ) (xs : List X) where
     | inr (past, _) ↦ absurd (omega (arith, less, past))
   ]
 
-  -- and so has what is left of the parts at some places, from the k-th of these on
+  -- and so has the rest of the parts at some places, from the k-th of these on
   pub part_at_next : (places : List ℕ) (k : ℕ) → AllByRecursion (λ i. i < length xs) places → k < length places
       → (x : X) × (slice_get xs (get_or places k 0) ≡ Some x)
       × (flat_map f (filter_map (slice_get xs) (drop k places)) ≡ f x ++ flat_map f (filter_map (slice_get xs) (drop (k + 1) places)))
@@ -96,17 +96,17 @@ module _ {S : Type 0} {written : S → Option (List ℕ)} {failures : S → ℕ}
     put_then more is p q = then_by _ _ _ _ _ more _ _ is p q
 
   module _ {failed_last : S → Type 0} {T E : Type 0} where
-    -- what went out of the whole before a call that sends the rest
+    -- the part of the whole that went out before a call that sends the rest
     pub sent_put : {a b c : S} {whole rest : List ℕ} {r : Result T E} → IsSent written failures a b whole rest
         → IsPut written failures failed_last b c rest r → IsPut written failures failed_last a c whole r
     sent_put = grind (arith, common_steps)
 
-    -- what went out before a call that sends a part more
+    -- the part of the whole that went out before a call that sends one part more
     pub sent_part : {a b c : S} {whole rest part : List ℕ} {u : T} (more : List ℕ) → IsSent written failures a b whole rest
         → rest ≡ part ++ more → IsPut {E = E} written failures failed_last b c part (Ok u) → IsSent written failures a c whole more
     sent_part more s is p = sent_step _ _ _ _ _ _ more s is p.ok p.failures_ok
 
-    -- the rest, where the call sends it under another name
+    -- the rest, if the call sends it under another name
     pub sent_last : {a b c : S} {whole rest part : List ℕ} {r : Result T E} → IsSent written failures a b whole rest → rest ≡ part
         → IsPut written failures failed_last b c part r → IsPut written failures failed_last a c whole r
     sent_last {b = b} {c = c} {r = r} s is q = sent_put s (subst (λ k. IsPut written failures failed_last b c k r) (sym is) q)

@@ -1,4 +1,4 @@
--- What is taken ends with a token and at most one separator.
+-- The bytes that are taken end with a token and at most one separator.
 use Rattle.qbf_text.proofs.Cited.{common_steps, rules, ◌≡◌, ℕ, ◌+◌, ◌^◌, ◌<◌, Bool, true, false, List, [], ◌∷◌, ◌++◌, Option, Some, None}
 use Rattle.qbf_text.proofs.Cited.{IfSome, refl, sym, ap, ◌∙◌, arith, append_assoc, append-nil, ⊤, Consumes, Consumes-nil, Comments, Token, End}
 use Rattle.qbf_text.proofs.Cited.{is_separator, is_end, tokens_left, IsUnbroken, IsWithinLine, EndsRun, EndsLine, known_left, Lined, Row}
@@ -19,12 +19,12 @@ pub known_trans : (P Q R : List ℕ → List ℕ → Type 0) → ((x y z : List 
     → IfKnown P a b → IfKnown Q b c → IfKnown R a c
 known_trans P Q R h a b c k e = search rules
 
--- what holds of the bytes that were consumed and any rest holds where they are known
+-- a fact of the consumed bytes before any rest holds if the bytes are known
 pub known_by : (P : List ℕ → List ℕ → Type 0) (R : List ℕ → Type 0) (a b : Option (List ℕ)) (bs : List ℕ) → Consumes a b bs → IfSome b R
     → ((rest : List ℕ) → R rest → P (bs ++ rest) rest) → IfKnown P a b
 known_by P R a b bs h k e = search rules
 
--- ---- what may follow
+-- ---- the bytes that may follow
 
 pub begins_more : (taken new rest : List ℕ) → BeginsAs new rest → BeginsAs (taken ++ new) (taken ++ rest)
 begins_more [] new rest h = h
@@ -246,7 +246,7 @@ module _ {P A F : Type 0} (row : P → Token → Row P A F) (first : P) where
       → IfKnown (StopsAfter row first next answer here there) a c
   stops_after last next answer here mid there token a b c e no_end = search (rules, known_trans, stops_one)
 
--- what holds of known bytes, in other words
+-- a fact of known bytes, in other words
 pub if_known : {P Q : List ℕ → List ℕ → Type 0} → ((x y : List ℕ) → P x y → Q x y) → (before after : Option (List ℕ))
     → IfKnown P before after → IfKnown Q before after
 if_known h before after k = search rules
@@ -267,5 +267,5 @@ module _ (f : Comments) (begun : Bool) (n : ℕ) (f' : Comments) (begun' : Bool)
       → GivesNext (known_left f begun n t) (known_left f' begun' n' t') token
   next_taken token t t' h k = search rules
 
--- what holds after a line end
+-- the facts after a line end
 pub ruleset line_ends = (Consumes-nil, skips_line_end, took_at)

@@ -1,4 +1,4 @@
--- What the parts of a formula make, and where clauses in the buffered bytes lead to.
+-- The formula that its parts make, and the state that clauses in the buffered bytes lead to.
 use Rattle.qdimacs.proofs.Cited.{arith, common_steps, leads_none, leads_more, leads_further, ◌≡◌, Bool, false, Option, None, Result, Ok}
 use Rattle.qdimacs.proofs.Cited.{Quantifier, Literal, Token, pairs, Ends, blocks_of-pairs, is_end, Goes, FormulaFault, Parts, formula_of}
 use Rattle.qdimacs.proofs.Cited.{heading, state_at, row_to, IsMade, State, Whole, between_row, row}

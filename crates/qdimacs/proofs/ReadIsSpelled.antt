@@ -1,4 +1,4 @@
--- What is read is spelled, and a fault that is found stands.
+-- A formula that is read is spelled, and a fault that is found stands.
 use Rattle.qdimacs.proofs.Cited.{common_steps, rules, inl, inr, ◌⊎◌, ◌≡◌, ℕ, ◌≤◌, true, false, List, [], ◌∷◌, ◌++◌, length, Ok, Err, refl}
 use Rattle.qdimacs.proofs.Cited.{sym, subst, ◌∙◌, arith, append_assoc, map-append, flat_map, Quantifier, Block, is_bound, blocks_of, Token}
 use Rattle.qdimacs.proofs.Cited.{Lined, number, set, without_lines, Ends, append-nil, pairs_of_block, pairs-blocks_of, Alternates-blocks_of}
@@ -82,7 +82,7 @@ last p next t e = search rules
 pub last_is_end : (p next : State) (t : Token) → row p t ≡ Ends tt next → is_end t ≡ true
 last_is_end p next t e = search rules
 
--- what was read there is a whole formula
+-- the formula that was read there is whole
 pub last_is_whole : (p next : State) (t : Token) → row p t ≡ Ends tt next → IsWhole next
 last_is_whole p next t e = subst IsWhole (sym (last p next t e).whole) tt
 
@@ -105,6 +105,6 @@ answer before p t ts b once = by (row p t.0) refl
     by (Fails f) is =
         inl (Err (f, t.1), record { before = before; wrong = t.0; after = ts; whole = refl; state = p; stands = b; refused = is })
 
--- What is read is spelled; a fault that is found stands.
+-- A formula that is read is spelled; a fault that is found stands.
 pub read_explained : ReadsAsRead Reads read
 read_explained = explained Spells Reads read AtP (refl, tt) answer read_once

@@ -43,7 +43,7 @@ lines_written f w = (
 joined_lines : (f : Qbf) → joined (lines f) ++ token.End ∷ [] ≡ spelling f f.blocks
 joined_lines f = grind (arith, common_steps, flat_map-append, flat_map-map, append_assoc)
 
--- What is written is read again.
+-- A formula that is written is read again.
 pub text_is_read : ReadsText
 text_is_read f w =
     spelled_is_read (tokens Qdimacs (text f)) f (record {

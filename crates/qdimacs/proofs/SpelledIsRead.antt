@@ -1,4 +1,4 @@
--- What tokens spell is read, and a fault that stands is found: accepted tokens, and the state that they lead to.
+-- A formula that tokens spell is read, and a fault that stands is found: accepted tokens, and the state that they lead to.
 use Rattle.qdimacs.proofs.Cited.{common_steps, rules, ◌≡◌, ◌∙◌, ◌≢◌, ℕ, ◌<◌, ◌≤◌, ◌+◌, Bool, true, List, [], ◌∷◌, ◌++◌, length, map, refl}
 use Rattle.qdimacs.proofs.Cited.{arith, append_assoc, Ok, Err, ap, sym, subst, map-append, length-append, flat_map, AllByRecursion}
 use Rattle.qdimacs.proofs.Cited.{Quantifier, Literal, Block, pairs, is_bound, blocks_of, variables, Token, number, literal, letter, set}
@@ -25,7 +25,7 @@ leads_header h lv lc = leads_then (leads_vars h.max_var lv) (Passes (search rule
 
 -- ---- variables
 
--- what holds of each variable holds of a bound one
+-- a fact that holds of each variable holds of a bound one
 pub bound_one : (P : ℕ → Type 0) (v : ℕ) (ps : Pairs) → is_bound v ps ≡ true → AllByRecursion P (variables ps) → P v
 bound_one P v [] e h = absurd cc
 bound_one P v (y ∷ ps) e h = let rest = bound_one P v ps in search rules
@@ -106,7 +106,7 @@ leads_lists h sets cs lv lc good closed few =
     leads_then (leads_then (leads_header h lv lc) (leads_sets h [] sets good))
     (leads_clauses h (pairs sets) good [] cs closed (omega arith))
 
--- What is spelled is read.
+-- A formula that is spelled is read.
 pub spelled_is_read : (ts : List Lined) (f : Qbf) → IsFormula (without_lines ts) f → read ts ≡ Ok f
 spelled_is_read ts f is =
     let h : Heading = record { max_var = f.max_var; count = length f.clauses } in

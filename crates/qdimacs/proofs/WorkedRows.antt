@@ -33,7 +33,7 @@ rows = (codes "p cnf 2 2\ne 1 0\na 2 0\n1 2 0\n-1 2 0\n", Ok value_a)
     ∷ (codes "p\ncnf 0 0\n", Err (F7, 3))
     -- sets that are joined, and empty ones
     ∷ (codes "p cnf 4 1\ne 3 0\ne 0\na 0\ne 1 0\na 2 0\n03 -2 2 3 0\n", Ok joined)
-    -- a word that is none, and a zero after a minus
+    -- a word in the place of a number, and a zero after a minus
     ∷ (codes "p cnf 1 1\ne 1 0\n1 x 0\n", Err (F3, 3))
     ∷ (codes "p cnf 1 1\ne 1 0\n1 -0 0\n", Err (F3, 3))
     -- a variable that is bound twice

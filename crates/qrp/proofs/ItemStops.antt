@@ -42,6 +42,6 @@ module _ (p next : State) (here there : List ℕ → List Lined) (before after :
   pub item_stops : (i : Item) (ns : List ℕ) → next ≡ After i ns → IfKnown (StopsAfterPart p here i) before after × few
   item_stops i ns is = (if_known (part_after p here there i ns) before after (rw is at known_stops.0), known_stops.1)
 
--- where the next token stands, of a reader that is not done
+-- the place of the next token in a reader that is not done
 pub stands_next : (stage : Stage) (g : ItemsRead) → (stage ≡ AtHeader) ⊎ (stage ≡ AtLists) → Stands stage g → g.state ≡ state_next stage g.kept.numbers
 stands_next stage g open_ stands = search rules

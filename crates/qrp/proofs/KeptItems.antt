@@ -23,7 +23,7 @@ use Rattle.qrp.specs.Reading.{Fault, State, Row, Between, After, row, items_from
 use Rattle.qrp.specs.WholeTrace.{TraceRead, made_of, nothing_read, kept_row, trace_at, trace_row}
 use Rattle.qrp.proofs.SpelledIsRead.{after, items-one, end_row}
 
--- ---- what is read by the rows of whole traces is what the items make
+-- ---- the trace that is read by the rows of whole traces is the one that the items make
 
 -- the trace that reading by rows gives
 abbrev pub trace_read : Read TraceRead (Unit {0}) TraceFault → Result Derivation Fault
@@ -65,7 +65,7 @@ no_end d r e = ap (kept_row d) e
 trace_end_row : (r : TraceRead) → trace_row r token.End ≡ rows.Fails P7
 trace_end_row r = no_end r.made (row r.state token.End) (end_row r.state)
 
--- ---- what a call returns that reads so
+-- ---- the result of a call that reads so
 
 module _ (s r : Reading) (begins : (bytes : List ℕ) → left s (Some bytes) ≡ Some (tokens Qrp bytes)) (none : s.pending ≡ [])
     (opens : (bytes : List ℕ) → tokens_next s bytes ≡ tokens Qrp bytes) (next : TraceRead) where

@@ -1,4 +1,4 @@
--- What is read is spelled, and a fault that is found stands.
+-- A trace that is read is spelled, and a fault that is found stands.
 use Rattle.qrp.proofs.Cited.{common_steps, rules, ◌≡◌, ℕ, ◌≤◌, ◌+◌, List, [], ◌∷◌, ◌++◌, ◌⊎◌, inl, inr, length, Ok, Err, refl, sym, ◌∙◌}
 use Rattle.qrp.proofs.Cited.{false, arith, append_assoc, append-nil, map-append, length-append, AllByRecursion, Quantifier, Literal, Block}
 use Rattle.qrp.proofs.Cited.{IsVariable, AllByRecursion-push, Token, Lined, without_lines, number, letter, set, EndsOnce, push_distinct}
@@ -54,7 +54,7 @@ step_closed s is fresh a = record {
 
 -- ---- one token more
 
--- a row leads to a state, where it is not the last
+-- a row leads to a state, and is not the last
 abbrev IsTo : Row → State → Type 0
 IsTo (Goes p) next = p ≡ next
 IsTo (Ends u (After (item.Result o) ns)) next = ⊥
@@ -153,6 +153,6 @@ answer before p t ts s once = by (row p t.0) refl
     by (Fails f) is =
         inl (Err (f, t.1), record { before = before; wrong = t.0; after = ts; whole = refl; state = p; stands = s; refused = is })
 
--- What is read is spelled; a fault that is found stands.
+-- A trace that is read is spelled; a fault that is found stands.
 pub read_explained : ReadsAsRead Reads read
 read_explained = explained Spells Reads read AtP refl answer read_once

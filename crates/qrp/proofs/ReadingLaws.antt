@@ -40,7 +40,7 @@ lines_written d w = (
 joined_lines : (d : Derivation) → joined (lines d) ++ token.End ∷ [] ≡ lists d.header d.sets d.steps ++ result d.result ++ token.End ∷ []
 joined_lines d = grind (arith, common_steps, append-nil, flat_map-append, flat_map-map, append_assoc)
 
--- What is written is read again.
+-- A trace that is written is read again.
 pub text_is_read : ReadsText
 text_is_read d w =
     spelled_is_read (tokens Qrp (text d)) d (record {

@@ -1,4 +1,4 @@
--- What is read by the rows of the items is the next item.
+-- The item that is read by the rows of the items is the next one.
 use Rattle.qrp.proofs.Cited.{arith, common_steps, rules, ◌≡◌, ℕ, List, [], ◌∷◌, Some, Ok, Err, ◌⊎◌, refl, ap, sym, ◌∙◌, Token, Lined, Read}
 use Rattle.qrp.proofs.Cited.{read-one, ReadError, Known, Cut, reads_from, Leaves, Reads, TraceFault, P1, P7, P9, Item, known_items}
 use Rattle.qrp.proofs.Cited.{GivesUnless, GivesNextItem, left_after, stage_after, Stage, AtHeader, AtLists, ItemsRead, Stands, fault_of}
@@ -8,7 +8,7 @@ use Rattle.qbf_text.proofs.OneToken as going
 use Rattle.qrp.specs.Reading.{State, After, row, items_from, next_state, item_and_more}
 use Rattle.qrp.proofs.SpelledIsRead.{ItemResult, after, items-one, end_row}
 
--- the items that are left to give where reading by rows gives this
+-- the items that are left to give if reading by rows gives this
 abbrev pub given_of : Read State (Unit {0}) TraceFault → List ItemResult
 given_of (rows.Whole u next rest) = item_and_more next (items_from (next_state next) rest)
 given_of (rows.Fault f line) = Err (f, line) ∷ []
@@ -28,7 +28,7 @@ unfolding items_from read_from
 gives [] = λ p. refl
 gives (t ∷ ts) = λ p. items-one p t ts ∙ by_token t.0 t.1 ts (gives ts) p ∙ ap given_of (sym (read-one row p t ts))
 
--- ---- what a call returns that reads so
+-- ---- the result of a call that reads so
 
 pub item_given : (p : State) (known : Known) (next : State) (rest : Known) (i : Item) (ns : List ℕ)
     → Leaves (reads_from row p known) tt next rest → next ≡ After i ns
@@ -40,7 +40,7 @@ pub fault_given : (p : State) (known : Known) (next : State) (rest : Known) (e :
     → GivesUnless (fault_of P1 P9 e).0 (known_items p known) (Some (Err (fault_of P1 P9 e) ∷ [])) (Err (fault_of P1 P9 e))
 fault_given p known next rest e h = grind (arith, common_steps, gives)
 
--- what a reader that is not done has left
+-- the items that are left of a reader that is not done
 pub left_next : (stage : Stage) (g : ItemsRead) (known : Known) → (stage ≡ AtHeader) ⊎ (stage ≡ AtLists) → Stands stage g
     → left_after stage g.kept.numbers known ≡ known_items g.state known
 left_next stage g known open_ stands = search rules

@@ -1,4 +1,4 @@
--- What tokens spell is read, and a fault that stands is found: accepted tokens, and the state that they lead to.
+-- A trace that tokens spell is read, and a fault that stands is found: accepted tokens, and the state that they lead to.
 use Rattle.qrp.proofs.Cited.{common_steps, rules, ◌≡◌, ℕ, ◌≤◌, false, List, [], ◌∷◌, ◌++◌, length, map, Result, Ok, Err, refl, ap, ◌∙◌}
 use Rattle.qrp.proofs.Cited.{arith, append_assoc, append-nil, nat_eq, length-append, flat_map, AllByRecursion, Quantifier, Literal, Block}
 use Rattle.qrp.proofs.Cited.{IsVariable, Token, Lined, without_lines, number, literal, set, new_number, P7, Header, Item, Inference, IsInference}
@@ -17,7 +17,7 @@ use Rattle.qrp.specs.Faults.{AreLists, Spells, IsFault, whole_before, Reads}
 abbrev pub ItemResult : Type 0
 ItemResult = Result Item Fault
 
--- what comes of a row
+-- the items that a row and the tokens after it give
 abbrev pub after : Row → ℕ → List Lined → List ItemResult
 after (Goes next) line rest = items_from next rest
 after (Ends u next) line rest = item_and_more next (items_from (next_state next) rest)
@@ -41,11 +41,11 @@ leads_then Stays m = m
 leads_then (Passes e l) m = Passes e (leads_then l m)
 leads_then (Completes e g l) m = Completes e g (leads_then l m)
 
--- after tokens that complete no more
+-- and then tokens that complete no item
 pub leads_on : {p q r : State} {ts us : List Token} {is : List Item} → Leads p ts is q → Leads q us [] r → Leads p (ts ++ us) is r
 leads_on l m = rw append-nil at (leads_then l m)
 
--- what is given of them, on whatever lines they stand
+-- the items that are given of them, on whatever lines they stand
 pub leads_gives : {p q : State} {ts : List Token} {is : List Item} → Leads p ts is q → (before : List Lined) → without_lines before ≡ ts
     → (rest : List Lined) → items_from p (before ++ rest) ≡ map Ok is ++ items_from q rest
 leads_gives Stays [] e rest = refl
@@ -130,7 +130,7 @@ gathered_lists : (h : Header) (sets : List Block) (steps : List Inference) (more
 unfolding with_items
 gathered_lists h sets steps more = gathered_more (record nothing { header = h }) sets steps more
 
--- ---- what is spelled is read
+-- ---- a trace that is spelled is read
 
 result_row_ok : (ns : List ℕ) (o : Outcome) → row (AtResult ns) (result_word o) ≡ Ends tt (After (item.Result o) ns)
 result_row_ok ns o = grind (arith, common_steps)

@@ -41,14 +41,14 @@ pub encoded_line : (outcome : Result Verified Fault) (v : QrpVerdict) (r : Refus
     → ((s : Refusal) → IsOfFault s → v ≡ encoded_refusal s → Some r ≡ Some s) → refusal_line r ≡ result_line outcome
 encoded_line outcome v r truth h held none only = search rules
 
--- a proof's truth is returned, and what holds of the trimmed trace
+-- a proof's truth is returned, and `Holds` is true of the trimmed trace
 pub proof_returned : {rules : Rules} {formula trace : List ℕ} {out : QrpVerdict} {Holds : Result Derivation Fault → Type 0} {t : Derivation}
     {truth : Bool} → IsTrimmedFrom rules formula trace t → truth ≡ is_sat t.result → out ≡ encoded_truth truth → Holds (Ok t)
     → ProofReturns rules formula trace out Holds
 proof_returned {t = t} from is same holds =
     record { outcome = Ok t; trimmed = (from, refl, refl); encoded = same ∙ ap encoded_truth is; named = tt; holds = holds }
 
--- a fault is returned, and what holds of no trace
+-- a fault is returned, and `Holds` is true of the fault
 pub fault_returned : {rules : Rules} {formula trace : List ℕ} {out : QrpVerdict} {Holds : Result Derivation Fault → Type 0} (fault : Fault)
     → IsTrimmed rules (lent_bytes formula) (lent_bytes trace) (Err fault) → out ≡ encoded_trace (Err fault) → NamesVariable fault
     → Holds (Err fault) → ProofReturns rules formula trace out Holds

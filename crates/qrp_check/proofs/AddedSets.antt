@@ -1,4 +1,4 @@
--- What one step adds to a formula, as a clause to its matrix or as a cube beside it, by the laws of the rules.
+-- The set that one step adds to a formula, as a clause to its matrix or as a cube beside it, by the laws of the rules.
 use Rattle.qrp_check.proofs.Cited.{◌↔◌, ℕ, List, [], ◌∷◌, ◌++◌, inl, inr, refl, rules, AllByRecursion, Literal, ◌∈◌, ◌⊆◌, Side}
 use Rattle.qrp_check.proofs.Cited.{Clauses, Cubes, IsClean, IsReduct, IsInitial, Clashes, resolvent, IsBound, AreBound, Qbf, IsClosed}
 use Rattle.qrp_check.proofs.Cited.{IsTrueWithSets, append_left, append_right}

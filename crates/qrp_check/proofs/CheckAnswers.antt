@@ -1,4 +1,4 @@
--- What a check answers, from what is told of the core.
+-- The answer of a check, from what is told of the core.
 use Rattle.qrp_check.proofs.Cited.{rules, common_steps, ◌≡◌, ◌≢◌, ◌↔◌, Bool, true, false, List, refl, subst, IsTrue, arith, Result, Ok, Err}
 use Rattle.qrp_check.proofs.Cited.{Block, Qbf, IsClosed, IsTrueFormula, Side, Clauses, Cubes, Inference, Outcome, CheckFault}
 use Rattle.qrp_check.proofs.Cited.{C5, Rules, side_of, Derives, Proves, IsFirstFault, ResultHolds, SetsAgree}
@@ -8,7 +8,7 @@ use Rattle.qrp_check.specs.Followed.{IsCoreFault}
 use Rattle.qrp_check.specs.Verdict.{is_sat}
 use Rattle.qrp_check.proofs.Soundness.{soundness}
 
--- what a verdict claims
+-- the claim of a verdict
 pub claims_false : (f : Qbf) → ResultHolds Clauses f → IsTrue false ↔ IsTrueFormula f
 claims_false f out = ((λ t. absurd (let none : false ≡ true = t in cc none)), (λ is. absurd (out is)))
 

@@ -78,7 +78,7 @@ module _ (rules : Rules) (side : Side) (f : Qbf) (steps : List Inference) (close
         kept = (λ t. grown.kept.0 (rest.kept.0 t), λ t. rest.kept.1 (grown.kept.1 t));
       }
 
--- with more clauses and with fewer cubes less is true
+-- truth with more clauses is truth with fewer, and truth with fewer cubes is truth with more
 clauses_between : (f : Qbf) (some all : List (List Literal)) → some ⊆ all → IsTrueWithSets Clauses f all → IsTrueWithSets Clauses f some
 clauses_between f some all within = fewer_clauses f.blocks (all ++ f.clauses) (some ++ f.clauses)
     (λ c h.

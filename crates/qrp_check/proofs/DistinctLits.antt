@@ -7,7 +7,7 @@ use Rattle.qbf_core.proofs.PushedItems.{pushed_cases}
 use Rattle.qrp_check.specs.DistinctLits.{AreKept, HasMembersAt, IsKeptAt}
 use Rattle.qrp_check.specs.declared.distinct_lits.DistinctLits.{DistinctLits}
 
--- what is lent of a step as it is written
+-- literals that are lent as they are written have the members of the step
 pub written_members : (steps : List Inference) (p : ℕ) (lits : List Literal) → ((step : Inference) → IsAt steps p step → lits ≡ step.lits)
     → HasMembersAt steps p lits
 written_members steps p lits is step here = subst (λ (z : List Literal). HasMembersOf lits z) (is step here) (same_self lits)

@@ -41,7 +41,7 @@ formula_read formula trace f d spelled = formulas_complete.spelled_is_read (toke
 trace_read : (formula trace : List ℕ) (f : Qbf) (d : Derivation) → Spell formula trace f d → read_trace trace ≡ Ok d
 trace_read formula trace f d spelled = traces_complete.spelled_is_read (tokens Qrp trace) d spelled.trace_spelled
 
--- what was read and proved, where Verified is returned
+-- the formula and the proof that were read, if Verified is returned
 pub record Found (rules : Rules) (formula trace : List ℕ) (v : Verified) : Type 0 where
   pub f : Qbf
   pub d : Derivation
@@ -59,7 +59,7 @@ found_of rules formula trace v r s reads_formula reads_trace h = grind (arith, c
 spelled_of : (rules : Rules) (formula trace : List ℕ) (v : Verified) (w : Found rules formula trace v) → Spell formula trace w.f w.d
 spelled_of rules formula trace v w = search (rules, formula_spelled, trace_spelled)
 
--- what the result of the trace says holds
+-- the result of the trace holds
 holds : (rules : Rules) (formula trace : List ℕ) (f : Qbf) (d : Derivation) → Spell formula trace f d → IsProof rules f d
     → ResultHolds (side_of d.result) f
 holds rules formula trace f d spelled proves = search (rules, soundness)

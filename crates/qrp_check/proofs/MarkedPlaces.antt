@@ -4,7 +4,7 @@ use Rattle.qrp_check.proofs.Cited.{Some, arith, rules, slice_get, slice_get_with
 use Rattle.qrp_check.proofs.Cited.{IsMarked, ListsMarked}
 use Rattle.qbf_core.proofs.PushedItems.{pushed_cases, pushed_old, pushed_new}
 
--- what was read says whether the position is marked
+-- a mark that was read says whether the position is marked
 pub is_marked : (marks : List Bool) (i : ℕ) → i < length marks → get_or marks i false ≡ true → IsMarked marks i
 is_marked marks i less is = slice_get-get_or marks i false less ∙ ap Some is
 

@@ -48,7 +48,7 @@ core_listed steps marks positions m listing = record {
   full = λ i in_core. let h = (m.core i).1 in_core in listing.full i (slice_get_within marks i true h) h;
 }
 
--- a vector with these positions, where there are no more than marks
+-- a vector with these positions, if there are no more than marks
 abbrev listing_of : (marks : Vec Bool) (positions : List ℕ) → length positions ≤ length marks.items → Vec ℕ
 listing_of marks positions few = record {
   ptr = marks.ptr;

@@ -10,7 +10,7 @@ use Rattle.qbf_core.proofs.Inferences.{in_without, from_without, resolvent_clean
 use Rattle.qrp_check.proofs.AddedSets.{AreGood, Grown, one_grown, grown_on, reduct_grows, resolvent_grows}
 use Rattle.qbf_core.proofs.Order.{clean_within}
 
--- what is taken out of a resolvent is reducible in it, or in each parent that has it
+-- a literal that is taken out of a resolvent is reducible in it, or in each parent that has it
 pub record Resolved (side : Side) (f : Qbf) (a b lits : List Literal) : Type 0 where
   pub pivot : ℕ
   pub clash : IsOnlyClash a b pivot
@@ -43,7 +43,7 @@ reducible_fewer : (side : Side) (blocks : List Block) (all some : List Literal) 
 reducible_fewer side blocks all some l within red = (red.0, λ m h. red.1 m (within m h))
 
 module _ (side : Side) (f : Qbf) (a b lits : List Literal) (resolved : Resolved side f a b lits) where
-  -- what is kept of a parent before the resolution, and what is taken out of it
+  -- the literals that a parent keeps before the resolution, and those that are taken out of it
   abbrev pub Stays : Literal → Type 0
   Stays l = (l.var ≡ resolved.pivot) ⊎ ((l ∈ lits) ⊎ IsReducible side f.blocks (resolvent a b resolved.pivot) l)
 
@@ -101,7 +101,7 @@ module _ (side : Side) (f : Qbf) (a b lits : List Literal) (resolved : Resolved 
       ])
       w.1
 
-  -- what is left is a reduct of the resolvent of the reduced parents
+  -- the literals that are left are a reduct of the resolvent of the reduced parents
   reduct : IsReduct side f.blocks rest lits
   reduct = record {
     within = λ l h. let w = from_without resolved.pivot (a ++ b) l (resolved.within l h) in
@@ -123,7 +123,7 @@ module _ (side : Side) (f : Qbf) (a b lits : List Literal) (resolved : Resolved 
   pivot_bound : AreBound f.blocks a → IsBound f.blocks resolved.pivot
   pivot_bound bound = search (rules, bound_each)
 
-  -- the reduced parents, their resolvent and what is left of it are added one after the other
+  -- the reduced parents, their resolvent and its reduct are added one after the other
   pub resolved_grown : (sets : List (List Literal)) → IsClosed f → AreGood f sets → a ∈ sets → b ∈ sets
       → IsClean lits → AreBound f.blocks lits → Grown side f sets lits
   resolved_grown sets closed good in_a in_b clean bound =

@@ -124,7 +124,7 @@ fails_more blocks highest n ps qs more fault first second before rest passed =
     assoc : {A : Type 0} (xs ys zs us vs : List A) → (xs ++ ys) ++ (zs ++ (us ++ vs)) ≡ xs ++ (((ys ++ zs) ++ us) ++ vs)
     assoc xs ys zs us vs = simp append_assoc
 
--- of nothing before, and nothing after
+-- with no pairs before, and none after
 pub agrees_by_passes : (blocks : List Block) (ps : List (Quantifier × ℕ)) (n : ℕ) → Passes blocks 0 ps n → PairsAgree blocks ps
 agrees_by_passes blocks ps n passes = (passes [] (passed_none blocks)).agree
 

@@ -18,7 +18,7 @@ all_of_each : {X : Type 0} (P : X → Type 0) (xs : List X) → ((k : ℕ) (x : 
 all_of_each P [] each = tt
 all_of_each P (x ∷ xs) each = (each 0 x refl, all_of_each P xs (λ k y here. each (suc k) y here))
 
--- what rises is not met again
+-- an item of a rising list is not among those before it
 not_before : (xs : List ℕ) (k : ℕ) → IsStrictlyIncreasing xs → k < length xs → get_or xs k 0 ∈ take k xs → ⊥
 not_before xs k rises less h =
     let w = in_take xs k (get_or xs k 0) h in

@@ -15,7 +15,7 @@ use Rattle.qrp_check.proofs.TrimKeeps.{trimming_keeps}
 use Rattle.qrp_check.proofs.TrimAgain.{trimmed_is_fixed}
 use Rattle.qbf_core.proofs.Members.{in_got}
 
--- places that rise, by those that stand in order
+-- places that rise: a later one is greater
 abbrev Rises : List ℕ → Type 0
 Rises places = (k l i j : ℕ) → slice_get places k ≡ Some i → slice_get places l ≡ Some j → k < l → i < j
 
@@ -35,7 +35,7 @@ distinct_at steps [] own rises = tt
 distinct_at steps (p ∷ places) own rises =
     search (rules, slice_get_cases, others_at, head_out, tail_rises, distinct_at steps places own (tail_rises p places rises))
 
--- rising places are no fewer than one another's count
+-- each of some rising places is at least the number of places before it
 climbs : (places : List ℕ) (k i : ℕ) → Rises places → slice_get places k ≡ Some i → k ≤ i
 climbs places zero i rises here = omega arith
 climbs places (suc k) i rises here = elim (slice_get_cases places k).1 [

@@ -1,4 +1,4 @@
--- What follows if parents are resolved as they stand follows if they may be reduced before.
+-- A step that follows if parents are resolved as they stand follows if they may be reduced before.
 use Rattle.qrp_check.proofs.Cited.{ℕ, List, [], ◌∷◌, rules, Literal, Qbf, Side, Inference, Rules}
 use Rattle.qrp_check.proofs.Cited.{StepFollows, antecedent_conditions, AllHold, side_of}
 use Rattle.qrp_check.specs.Laws.{ReducedParentsKeep}

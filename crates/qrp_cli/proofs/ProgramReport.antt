@@ -62,7 +62,7 @@ pub on_out : (rules : Rules) (answer : Result Verified Fault) (out errors : Type
 on_out rules (Ok v) out errors h = h
 on_out rules (Err e) out errors h = h
 
--- what is reported of a truth, and of a fault, is what is reported of a verdict that has it
+-- the report of a truth, and of a fault, is that of a verdict that has it
 pub truth_report : (rules : Rules) (truth : Bool) (verdict : Result Verified Fault) → ◌≡◌ {A = Result Bool Fault} (Ok truth) (truth_of verdict)
     → check_report rules verdict ≡ success (verdict_line truth)
 truth_report by truth (Ok v) is = let same : truth ≡ v.truth = cc is in ap (λ b. success (verdict_line b)) (sym same)
@@ -123,7 +123,7 @@ sent_whole : {S : Type 0} (sink : sinks.Ghosts S) (old new : S) (text : List ℕ
 sent_whole sink old new text status returned (inl sent) zero = (sent.0, sym sent.3 ∙ zero)
 sent_whole sink old new text status returned (inr failed) zero = absurd (omega (arith, failed.3, zero))
 
--- what a check prints with status 0 is the line of a verdict, for which the headline holds
+-- with status 0 a check prints the line of a verdict, for which the headline holds
 pub prints_verdict : {S : Type 0} (sink : sinks.Ghosts S) (old new : S) (rules : Rules) (formula trace : Option (List ℕ)) (a b : List ℕ)
     (checked : Result Verified Fault) (returned : ℕ) → IfSome formula (λ a. IfSome trace (λ b. Headline rules a b checked))
     → formula ≡ Some a → trace ≡ Some b → IsReportedTo sink old new (check_report rules checked) returned → returned ≡ 0
@@ -133,14 +133,14 @@ prints_verdict sink old new rules formula trace a b (Ok v) returned holds is_a i
 prints_verdict sink old new rules formula trace a b (Err e) returned holds is_a is_b sent zero =
     absurd (is_refused e (sent_whole sink old new (fault_line e) (fault_status e) returned sent zero).1)
 
--- what was read and verified is trimmed, and a fault is that of the check
+-- a trace that was read and verified is trimmed, and a fault is that of the check
 pub trims_result : (rules : Rules) (formula trace : SourceCall) (proof : Result (Derivation × Verified) Fault)
     → IsChecked rules formula trace (verdict_of proof) → OnOk proof ((formula.after ≡ formula.before) × (trace.after ≡ trace.before))
     → IfOk proof (λ r. WasReadFrom trace.bytes r.0) → IsTrimmed rules formula trace (trimmed_result proof)
 trims_result rules formula trace (Ok r) checked works reads = trims rules formula trace r.0 r.1 checked works reads
 trims_result rules formula trace (Err e) checked works reads = checked
 
--- what was taken of the trace is the same for the trimmed trace
+-- the bytes that were taken of the trace are the same for the trimmed trace
 pub trimmed_stops : (before after : Option (List ℕ)) (proof : Result (Derivation × Verified) Fault)
     → StopsOnceRead before after (verdict_of proof) → StopsOnceRead before after (trimmed_result proof)
 trimmed_stops before after (Ok r) stops = stops

@@ -40,6 +40,6 @@ flag_fourth f (x ∷ y ∷ z ∷ w ∷ []) a b d command flag least below at_a i
 )
 flag_fourth f xs a b d command flag least below at_a is_a at_b not_b at_d is_d = absurd (omega (arith, least, below))
 
--- three words and more are no two
+-- three or more words are not two
 pub no_two_words : {A B : Type 0} (f : A → B) (xs : List A) (y z : B) → 3 ≤ length xs → map f xs ≡ y ∷ z ∷ [] → ⊥
 no_two_words f xs y z least is = grind (arith, common_steps, length-map)

@@ -11,7 +11,7 @@ use Rattle.qbf_completeness.specs.Laws.{count_of}
 use Rattle.qbf_completeness.proofs.Players.{mine_is, theirs_is}
 use Rattle.qrp_completeness.specs.Laws.{IsSmall, FewVariablesAreSmall}
 
--- each variable is reduced or resolved on
+-- each variable is of the reduced quantifier or of the deciding one
 count_both : (side : Side) (ps : List (Quantifier × ℕ))
     → count_of (reduced_quantifier side) ps + count_of (deciding_quantifier side) ps ≡ length ps
 count_both side [] = refl

@@ -29,7 +29,7 @@ initial_of Clauses f lits (clause, h, clean, same) =
     (clause, h, clean, record { within = λ l k. (same l).0 k; each = λ l k. inl ((same l).1 k) })
 initial_of Cubes f lits meets = λ clause h. inr (meets clause h)
 
--- if numbers ascend, what does not stand after has no greater number
+-- if numbers ascend, a variable that does not stand after another has no greater number
 no_later : (number : ℕ → ℕ) (ps : List (Quantifier × ℕ)) (p q : Quantifier) (v w : ℕ) → Ascending number ps
     → ◌∈◌ {A = Quantifier × ℕ} (p, v) ps → ◌∈◌ {A = Quantifier × ℕ} (q, w) ps → (StandsAfter ps v w → ⊥) → number v ≤ number w
 no_later number [] p q v w up h k out = absurd h

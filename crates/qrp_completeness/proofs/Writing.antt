@@ -1,4 +1,4 @@
--- What the rules derive is written as steps, one after the other, numbered from 1.
+-- A set that the rules derive is written as steps, one after the other, numbered from 1.
 use Rattle.qrp_check.proofs.Cited.{◌≡◌, ℕ, suc, ◌+◌, ◌<◌, ◌≤◌, List, [], ◌∷◌, ◌++◌, inl, inr, refl, sym, ap, ◌∙◌, subst, length, false}
 use Rattle.qrp_check.proofs.Cited.{arith, nat_eq, Literal, ◌∈◌, IsClean, Side, resolvent, AreBound, Qbf, Rules, AllHold, Inference, IsAt}
 use Rattle.qrp_check.proofs.Cited.{numbers, IsNumberOf, lits_of, in_push, push_in, append_left}
@@ -53,7 +53,7 @@ pub record IsPlain (f : Qbf) (s : Inference) : Type 0 where
   pub ants : (n : ℕ) → n ∈ s.ants → (1 ≤ n) × (n < s.number)
   pub few : length s.ants ≤ 2
 
--- each step follows from those before it, and no number is above their count
+-- each step follows from those before it and is in range, no number is above their count, and none comes twice
 pub record IsSound (side : Side) (f : Qbf) (steps : List Inference) : Type 0 where
   pub follows : (rules : Rules) (i : ℕ) (s : Inference) → IsAt steps i s → FollowsUnreduced rules side f steps i
   pub plain : (s : Inference) → s ∈ steps → IsPlain f s × (s.number ≤ length steps)
@@ -114,9 +114,9 @@ module _ (side : Side) (f : Qbf) (steps : List Inference) (sound : IsSound side 
           (push_distinct (numbers steps) (suc (length steps)) sound.distinct (unused steps (suc (length steps)) below));
     }
 
--- ---- what is derived, as steps
+-- ---- a derived set, as steps
 
--- so many steps more, of which the last has these literals
+-- n steps more, of which the last has these literals
 pub record Written (side : Side) (f : Qbf) (before : List Inference) (lits : List Literal) (n : ℕ) : Type 0 where
   pub front : List Inference
   pub last : Inference

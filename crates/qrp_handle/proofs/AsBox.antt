@@ -1,4 +1,4 @@
--- What is held and the loose box own what a box at the same types owns.
+-- A `Held` and the loose box own what a box at the same types owns.
 use mir.Syntax.{impl, tnil, dnil}
 use mathlib.Core.List.{[]}
 use denote.Signature.{Slot, plain}

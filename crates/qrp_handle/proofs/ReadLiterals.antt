@@ -8,7 +8,7 @@ use Rattle.qrp_handle.specs.Written.{IsWritten, literal_of}
 one_more : (xs : List ℤ) (i : ℕ) (d : ℤ) → i < length xs → take (i + 1) xs ≡ take i xs ++ get_or xs i d ∷ []
 one_more xs i d h = let more : i + 1 ≡ suc i = omega arith in ap (λ k. take k xs) more ∙ take-suc xs i d h
 
--- what holds of each of a list and of one more
+-- a fact that holds of each item of a list, and of one more
 and_last : {X : Type 0} (P : X → Type 0) (xs : List X) (x : X) → AllByRecursion P xs → P x → AllByRecursion P (xs ++ x ∷ [])
 and_last P [] x h p = (p, tt)
 and_last P (y ∷ xs) x h p = (h.0, and_last P xs x h.1 p)

@@ -30,7 +30,7 @@ unused : (steps : List Inference) (n : ℕ) → ((i : ℕ) (s : Inference) → I
     → (is_used n (numbers steps) ≡ true) ⊎ (is_used n (numbers steps) ≡ false) → false ≡ is_used n (numbers steps)
 unused steps n only h = grind (arith, common_steps, holder)
 
--- what is found by a position, and what is not
+-- a number is used exactly if a position is found for it
 pub found_is_used : (steps : List Inference) (n : ℕ) (o : Option ℕ) → IfSome o (λ i. (s : Inference) × IsAt steps i s × (s.number ≡ n))
     → ((i : ℕ) (s : Inference) → IsAt steps i s → s.number ≡ n → o ≡ Some i) → is_some o ≡ is_used n (numbers steps)
 found_is_used steps n o h only = grind (arith, common_steps, listed, unused, numbers)

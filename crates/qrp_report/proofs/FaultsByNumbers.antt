@@ -31,7 +31,7 @@ IsOfWhole r = (r.letter ≡ 67) × (4 ≤ r.number) × (r.number ≤ 5) × (r.ru
 abbrev pub IsOfStep : Refusal → Type 0
 IsOfStep r = (r.letter ≡ 67) × (r.number ≡ 6) × (1 ≤ r.rule) × (r.rule ≤ 12)
 
--- the value of each number, where the numbers of all values are counted from the first
+-- the value of each number, if the numbers of all values are counted from the first
 value_of : {A : Type 0} (number : A → ℕ) (all : List A) (first n : ℕ) → map number all ≡ count_from first (length all)
     → first ≤ n → n < first + length all → (e : A) × (number e ≡ n)
 value_of number [] first n counted low high = absurd (omega (arith, low, high))

@@ -58,14 +58,14 @@ by_bytes rules (Some a) (Some b) d v (inr (inr (inl h))) reads = absurd h
 by_bytes rules (Some a) (Some b) d v (inr (inr (inr h))) reads = absurd h
 by_bytes rules formula trace d v h reads = tt
 
--- What was read and verified is trimmed from its bytes.
+-- A trace that was read and verified is trimmed from its bytes.
 pub trims : (rules : Rules) (formula trace : SourceCall) (d : Derivation) (v : Verified) → IsChecked rules formula trace (Ok v)
     → (formula.after ≡ formula.before) × (trace.after ≡ trace.before) → WasReadFrom trace.bytes d
     → IsTrimmed rules formula trace (Ok (trimmed_trace d v.core.items))
 trims rules formula trace d v checked works reads =
     (by_bytes rules formula.bytes trace.bytes d v checked.verdict reads, works.0, works.1)
 
--- What is trimmed of texts in memory.
+-- The trace that is trimmed from texts in memory.
 pub found_trimmed : (rules : Rules) (a b : List ℕ) (answer : Result (Derivation × Verified) Fault)
     → IsVerdictUnless rules (Some a) (Some b) (verdict_of answer) → IfOk answer (λ r. WasReadFrom (Some b) r.0)
     → IfOk answer (λ r. IsTrimmedFrom rules a b (trimmed_trace r.0 r.1.core.items))

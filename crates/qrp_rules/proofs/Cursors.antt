@@ -16,7 +16,7 @@ pub record Reaches (whole rest : List Literal) (coming : ℕ → Type 0) : Type 
   pub within : rest ⊆ whole
   pub kept : (v : ℕ) (m : Literal) → coming v → v ≤ m.var → m ∈ whole → m ∈ rest
 
--- what is left of a list from a position on
+-- the rest of a list from a position on
 in_drop : (xs : List Literal) (i : ℕ) (x : Literal) → i < length xs → x ≡ get_or xs i x → x ∈ drop i xs
 in_drop xs i x less e = subst (λ (ys : List Literal). x ∈ ys) (sym (drop_more xs i x less)) (inl e)
 
@@ -48,7 +48,7 @@ reach_more whole rest rest' part i v x o less e r o' within is kept = record {
       kept m k (omega arith);
 }
 
--- a literal of the variable at the position is in the rest exactly where it is in the whole
+-- a literal of the variable at the position is in the rest if it is in the whole
 pub reach_in : (whole rest part : List Literal) (i : ℕ) (x y : Literal) → i < length part → x ≡ get_or part i x
     → Reaches whole rest (HasVar (drop i part)) → y.var ≡ x.var → y ∈ whole → y ∈ rest
 reach_in whole rest part i x y less e r is h = r.kept x.var y (x, in_drop part i x less e, refl) (omega arith) h

@@ -1,4 +1,4 @@
--- The first condition that fails: one at most, and none where all hold.
+-- The first condition that fails: one at most, and none if all hold.
 use Rattle.qrp_rules.proofs.Cited.{rules, ◌≡◌, List, [], ◌∷◌, Option, inl, inr, sym, ◌∙◌, Condition, AllHold, IsFaultOf, IsFirstFailure}
 
 pub no_fault : {Fault : Type 0} (rows : List (Condition Fault)) (fault : Fault) → AllHold rows → IsFirstFailure rows fault → ⊥

@@ -111,7 +111,7 @@ initial_implied : (side : Side) (f : Qbf) (to to' : List Literal) → HasMembers
 initial_implied Clauses f to to' t = (refl, initial_to Clauses f to to' t, tt)
 initial_implied Cubes f to to' t = (refl, initial_to Cubes f to to' t, tt)
 
--- the results of the tests, of the set of a list in its place
+-- the answer of a test is also that for lists with the same members
 pub reduct_answer : (side : Side) (blocks : List Block) (a a' to to' : List Literal) (answer : Option RuleFault) → HasMembersOf a a'
     → HasMembersOf to to'
     → IsFaultOf (reduct_conditions side blocks a to) answer → IsFaultOf (reduct_conditions side blocks a' to') answer

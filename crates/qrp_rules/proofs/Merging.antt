@@ -34,7 +34,7 @@ split_at xs i x e =
     let more : drop i xs ≡ x ∷ drop (i + 1) xs = drop_more xs i x w.0 ∙ ap (λ (z : Literal). z ∷ drop (i + 1) xs) (sym w.1) in
     ap (λ (ys : List Literal). take i xs ++ ys) (sym more) ∙ take-append-drop i xs
 
--- ---- what is left of one list
+-- ---- the rest of one list
 
 -- the beginning of `to` is that of `from` without some literals that may be left out
 pub record IsRestSoFar (May : Literal → Type 0) (from to : List Literal) (i k : ℕ) : Type 0 where

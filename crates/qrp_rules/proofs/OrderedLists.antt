@@ -10,7 +10,7 @@ ordered_taken xs i x less e o below =
     let more : take (i + 1) xs ≡ take i xs ++ x ∷ [] = search (rules, take_more) in
     subst IsOrdered (sym more) (ordered_push (take i xs) x o below)
 
--- an ordered list in another is no longer than that, and is all of it where it is as long
+-- an ordered list in another is no longer than that, and is all of it if it is as long
 first_out : (t f m : Literal) (ts fs : List Literal) → IsOrdered (t ∷ ts) → IsOrdered (f ∷ fs) → t ∈ fs → m ∈ (t ∷ ts) → m ∈ (f ∷ fs)
     → m ∈ fs
 first_out t f m ts fs o p h k w = search rules

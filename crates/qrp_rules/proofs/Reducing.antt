@@ -11,13 +11,13 @@ use Rattle.qrp_rules.proofs.Clashing.{clash_var, clash_var_right}
 use Rattle.qrp_rules.specs.declared.blocks.Reducible.{Reducible}
 use Rattle.qrp_rules.specs.Walks.{Covers, IsThePivot}
 
--- what a quantifier binds has a block
+-- a variable that a quantifier binds has a block
 pub binds_block : (blocks : List Block) (q : Quantifier) (v : ℕ) → Binds blocks q v → block_in v blocks ≡ None → ⊥
 binds_block blocks q v binds none =
     let found = block_found blocks v (in_bound (pairs blocks) q v (binds_in (pairs blocks) q v binds)) in
     cc (found, none)
 
--- a position is after the blocks that reach to a variable's exactly where it is after that block
+-- a position is after the blocks that reach to a variable's exactly if it is after that block
 module _ (blocks : List Block) (q : Quantifier) (v : ℕ) where
   abbrev Some_block : ℕ → Type 0
   Some_block reach = (i : ℕ) → reach ≡ suc i → Binds blocks q v × (block_in v blocks ≡ Some i)
@@ -40,7 +40,7 @@ module _ (blocks : List Block) (q : Quantifier) (v : ℕ) where
         (λ stands. omega (arith, stands.1 n here.1)),
       )
 
--- what is after the farther one of two reaches, and after the nearer one
+-- the positions after the farther one of two reaches, and after the nearer one
 pub after_max : (a b both : ℕ) → both ≡ max a b → (k : ℕ) → both ≤ k ↔ (a ≤ k × b ≤ k)
 after_max a b both e k = ((λ le. (omega (arith, e, le), omega (arith, e, le))), (λ h. omega (arith, e, h.0, h.1)))
 
@@ -79,7 +79,7 @@ innermost_resolvent blocks q a b x in_a in_b whole is_a is_b both k = (
   )),
 )
 
--- a literal stands after the innermost block exactly where it is reducible
+-- a literal stands after the innermost block exactly if it is reducible
 pub reducible_after : (side : Side) (blocks : List Block) (reduced deciding : Quantifier) (lits : List Literal) (block : ℕ)
     → reduced ≡ reduced_quantifier side → deciding ≡ deciding_quantifier side → IsInnermost blocks deciding None lits block
     → (l : Literal) → StandsAfter blocks reduced block l.var ↔ IsReducible side blocks lits l
@@ -94,7 +94,7 @@ reducible_after side blocks reduced deciding lits block er ed is l = (
   )),
 )
 
--- what is reducible in a list is so with more literals that have the reduced quantifier
+-- a literal that is reducible in a list is so with more literals that have the reduced quantifier
 pub quantifiers_differ : (side : Side) → Some (reduced_quantifier side) ≡ Some (deciding_quantifier side) → ⊥
 quantifiers_differ side e = search rules
 
@@ -103,19 +103,19 @@ pub reducible_wider : (side : Side) (blocks : List Block) (May : Literal → Typ
     → (l : Literal) → May l → IsReducible side blocks from l
 reducible_wider side blocks May from to same each l may = search (rules, quantifiers_differ)
 
--- so a list within another, without what may be left out, is a reduct
+-- so a list within another, without literals that may be left out, is a reduct
 pub reduct_without : (side : Side) (blocks : List Block) (May : Literal → Type 0) (from to : List Literal)
     → ((l : Literal) → May l ↔ IsReducible side blocks to l) → to ⊆ from → ((l : Literal) → l ∈ from → (l ∈ to) ⊎ May l)
     → AllHold (reduct_conditions side blocks from to)
 reduct_without side blocks May from to same within each = search (rules, reducible_wider)
 
--- so what may be left out is reducible, where there is no pivot
+-- so a literal that may be left out is reducible, if there is no pivot
 pub each_reducible : (side : Side) (blocks : List Block) (reducible : Reducible) (from to : List Literal)
     → ((l : Literal) → TakesOut reducible l.var ↔ IsReducible side blocks from l)
     → Covers (Some reducible) None from to ↔ ((l : Literal) → l ∈ from → (l ∈ to) ⊎ IsReducible side blocks from l)
 each_reducible side blocks reducible from to same = search rules
 
--- a variable stands after the outer one of two blocks exactly where it stands after one of them
+-- a variable stands after the outer one of two blocks exactly if it stands after one of them
 stands_outer : (blocks : List Block) (q : Quantifier) (one other both : ℕ) (v : ℕ)
     → ((k : ℕ) → both ≤ k ↔ (one ≤ k ⊎ other ≤ k))
     → StandsAfter blocks q both v ↔ (StandsAfter blocks q one v ⊎ StandsAfter blocks q other v)
@@ -152,7 +152,7 @@ innermost_whole blocks q lits x beside own whole (m, h, is) is_beside is_own bot
   )),
 )
 
--- the blocks that are found of an antecedent: beside the pivot, its own, and the outer one of that and of the resolvent's
+-- the blocks that are found of an antecedent: beside the pivot, the pivot's, its own, and the outer one of its own and the resolvent's
 pub record FoundBlocks (blocks : List Block) (deciding : Quantifier) (from : List Literal) (x : ℕ)
     (beside of_pivot own whole both : ℕ) : Type 0 where
   pub is_beside : IsInnermost blocks deciding (Some x) from beside
@@ -160,7 +160,7 @@ pub record FoundBlocks (blocks : List Block) (deciding : Quantifier) (from : Lis
   pub is_own : (k : ℕ) → own ≤ k ↔ (beside ≤ k × of_pivot ≤ k)
   pub is_both : (k : ℕ) → both ≤ k ↔ (whole ≤ k ⊎ own ≤ k)
 
--- what may be left out of the antecedents is reducible in the resolvent or in them
+-- a literal that may be left out of the antecedents is reducible in the resolvent or in them
 module _ (side : Side) (blocks : List Block) (reduced deciding : Quantifier) (er : reduced ≡ reduced_quantifier side)
     (ed : deciding ≡ deciding_quantifier side) (a b to : List Literal) (x : ℕ) where
   abbrev Red : List Literal → Literal → Type 0
@@ -228,7 +228,7 @@ module _ (side : Side) (blocks : List Block) (reduced deciding : Quantifier) (er
           → (l ∈ to) ⊎ (Red (resolvent a b x) l ⊎ IsReducibleInParents side blocks a b l)
       kept l h = search rules
 
--- where nothing but the pivot is left out of either antecedent, nothing is left out of their resolvent
+-- if nothing but the pivot is left out of either antecedent, nothing is left out of their resolvent
 pub resolvent_kept : (side : Side) (blocks : List Block) (a b to : List Literal) (x : ℕ) → Covers None (Some x) a to
     → Covers None (Some x) b to → Accounts side blocks a b to x
 resolvent_kept side blocks a b to x in_a in_b l h =

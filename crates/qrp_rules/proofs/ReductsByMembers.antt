@@ -15,7 +15,7 @@ reduct_told side blocks from to answer t all e = search rules
 pub not_clean : (lits : List Literal) → IsTautology lits → IsClean lits → ⊥
 not_clean lits h clean = clean (positive h.0) h.1 h.2
 
--- what holds of each member so far, and of the next item, by its place
+-- a fact that holds of each member so far and of the next item, by its place, holds of all of them
 pub each_got : {A : Type 0} (P : A → Type 0) (xs : List A) (i : ℕ) (x : A) → slice_get xs i ≡ Some x → P x
     → ((y : A) → y ∈ take i xs → P y) → (y : A) → y ∈ take (i + 1) xs → P y
 each_got P xs i x e = each_more P xs i x (slice_get_within xs i x e) (sym (get_or_from_slice_get xs i x x e))

@@ -23,7 +23,7 @@ module _ (rules : Rules) (side : Side) (blocks : List Block) (a b to : List Lite
   at_each : (x : ℕ) (P : ℕ → Type 0) → IsOnlyClash a b x → P x → (v : ℕ) → Clashes a b v → P v
   at_each x P one h v p = subst P (sym (one.only v p)) h
 
-  -- where one variable clashes, its conditions are all
+  -- if one variable clashes, its conditions are all
   pub at_pivot : (x : ℕ) (answer : Option RuleFault) → IsOnlyClash a b x → IsFaultOf (pivot_conditions x) answer
       → IsFaultOf (resolvent_conditions rules side blocks a b to) answer
   at_pivot x answer one is =

@@ -14,7 +14,7 @@ use Rattle.qrp_rules.specs.Watches.{IsTakenOut, IsWatched, IsWatchedIf, KeepsWat
 use Rattle.qbf_core.proofs.PushedItems.{pushed_new, pushed_old, written_here, written_elsewhere}
 use Rattle.std.proofs.lemmas.List.Elements.{Contains-push_cases}
 
--- what stands at the position of the list of a literal is that list
+-- the list that is read at the position of a literal's list is that list
 pub list_here : (lists : List Watch) (k : ℕ) (w now : Watch) (l : Literal) → slice_get lists k ≡ Some w → w.lit ≡ l
     → now ≡ get_or lists k now → (slice_get lists k ≡ Some now) × (now.lit ≡ l)
 list_here lists k w now l at lit is = search (rules, get_or_from_slice_get)
@@ -38,7 +38,7 @@ written_keeps lists k was new at lit kept = record {
   longer = let same : length (set lists k new) ≡ length lists = length-set lists k new in omega arith;
 }
 
--- what the new list has is watched by its literal
+-- a clause that the new list has is watched by its literal
 pub written_watches : (lists : List Watch) (k : ℕ) (was new : Watch) (l : Literal) (i : ℕ) → slice_get lists k ≡ Some was → new.lit ≡ l
     → Contains new.clauses.items i → (j : ℕ) × IsWatchedBy (set lists k new) j l i
 written_watches lists k was new l i at lit listed =
@@ -108,7 +108,7 @@ met_keeps n f seen old new i kept met = λ clause at. elim (met clause at) [
   | inr w ↦ inr (w.0, w.1, w.2, kept.watched w.2 w.0 i w.3, w.4)
 ]
 
--- a clause that a literal of it watches, which was seen
+-- a clause is met if one of its literals watches it and was seen
 pub met_by : (f : Qbf) (seen : Members) (lists : List Watch) (i : ℕ) (clause : List Literal) (l : Literal) → slice_get f.clauses i ≡ Some clause
     → l ∈ clause → Has seen l → (k : ℕ) × IsWatchedBy lists k l i → IsMet 0 f seen lists i
 met_by f seen lists i clause l at held has by = search rules
@@ -151,7 +151,7 @@ pending_met n f seen left rest last old new split kept met i was = λ clause at.
   | inr (inr w) ↦ inr (inr (w.0, w.1, w.2, kept.watched w.2 w.0 i w.3, w.4))
 ]
 
--- where each clause is met, the cube of which the literals were seen is an initial one
+-- if each clause is met, the cube of which the literals were seen is an initial one
 pub all_met : (f : Qbf) (cube : List Literal) (seen : Members) (lists : List Watch) → ((l : Literal) → Has seen l → l ∈ cube)
     → ((i : ℕ) → IsMet 0 f seen lists i) → IsInitial Cubes f cube
 all_met f cube seen lists within met = search (rules, in_got)
@@ -161,7 +161,7 @@ pub all_watched : (f : Qbf) (seen : Members) (lists : List Watch) (t : Bool) →
 all_watched f seen lists true met = λ i clause at. elim (met refl i clause at) [ inl t ↦ inl t | inr w ↦ inr (w.0, w.1, w.2, w.3) ]
 all_watched f seen lists false met = tt
 
--- what is an initial clause or cube is an initial step of the side that reduces its quantifier
+-- an initial clause or cube is an initial step of the side that reduces its quantifier
 pub accepted_clause : {E : Type 0} (side : Side) (f : Qbf) (lits : List Literal) (r : Result Bool E) → reduced_quantifier side ≡ All
     → IfOk r (IsAcceptedIf f lits) → IfOk r (IsAcceptedBy (initial_condition side f lits ∷ []) f.blocks lits)
 accepted_clause side f lits r e h = search rules

@@ -99,7 +99,7 @@ resolved_at a b to s t u rest_a rest_b i j k x y in_a at_a in_b at_b opposite es
     past : (l : Literal) (rest : List Literal) → (l ∈ u) ⊎ (l ∈ rest) → (l ∈ to) ⊎ (l ∈ rest)
     past l rest w = search (rules, drop_within)
 
--- the pivot among what is left
+-- the pivot among the literals that are left
 pub resolved_after : (a b to s t : List Literal) (i j k : ℕ) (x : Literal) → k ≡ length to → s ≡ drop i a → t ≡ drop j b
     → IsMergeSoFar a b to i j k → (x ∈ s) × (negated x ∈ t) → IsResolvedBut a b to s t x
 resolved_after a b to s t i j k x e es et so_far (in_s, in_t) =
@@ -134,7 +134,7 @@ resolved_whole a b to one both x y is of_a (in_b, has) of_b each =
     negation : Literal → Literal
     negation z = negated z
 
--- ---- what a step without the pivot shows, if a set without a clash has it and what is left
+-- ---- facts of a step without the pivot, if a set without a clash has its literals and those that are left
 
 module _ (rules : Rules) (side : Side) (blocks : List Block) (a b to rest_a rest_b : List Literal) (x : Literal)
     (is : IsResolvedBut a b to rest_a rest_b x) (apart : IsApart to x.var) (In May : Literal → Type 0)
@@ -177,7 +177,7 @@ module _ (rules : Rules) (side : Side) (blocks : List Block) (a b to rest_a rest
 
 -- ---- no clashing pair
 
--- one literal more, whose negation is none of those so far
+-- one literal more, whose negation is not among those so far
 pub clean_with : (xs : List Literal) (i : ℕ) (x : Literal) → i < length xs → x ≡ get_or xs i x → (negated x ∈ take i xs → ⊥)
     → IsClean (take i xs) → IsClean (take (i + 1) xs)
 clean_with xs i x less e out clean l h k = elim (in_take_more xs i x l less e h) [
@@ -197,7 +197,7 @@ clean_with xs i x less e out clean l h k = elim (in_take_more xs i x l less e h)
 pub clean_all : (xs : List Literal) (i : ℕ) → length xs ≤ i → IsClean (take i xs) → IsClean xs
 clean_all xs i long clean = subst IsClean (take_all i xs long) clean
 
--- ---- what any step with two antecedents shows that follows
+-- ---- facts of any step that follows from two antecedents
 
 within_resolvent : (rules : Rules) (side : Side) (blocks : List Block) (a b to : List Literal)
     → AllHold (resolvent_conditions rules side blocks a b to) → (x : ℕ) × IsOnlyClash a b x × (to ⊆ resolvent a b x)
@@ -221,7 +221,7 @@ pub followed_accepted : (rules : Rules) (side : Side) (blocks : List Block) (a b
     → IsAcceptedStep (resolvent_conditions rules side blocks a b to) blocks to
 followed_accepted rules side blocks a b to all fit_a fit_b = search (rules, followed_clean, followed_bound)
 
--- the same of what a test tells
+-- the same by the answer of a test
 pub followed_by : {E : Type 0} (rules : Rules) (side : Side) (blocks : List Block) (a b to : List Literal) (v : ℕ) (r : Result Bool E)
     → IfOk r (λ t. IsTrue t → (q : Rules) → AllowsPivot q side blocks v → AllHold (resolvent_conditions q side blocks a b to))
     → AllowsPivot rules side blocks v → IsFit blocks a → IsFit blocks b

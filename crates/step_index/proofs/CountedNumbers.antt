@@ -20,7 +20,7 @@ count_more : (f n : ℕ) → count_from f (n + 1) ≡ count_from f n ++ (f + n) 
 count_more f zero = (let e : f ≡ f + 0 = omega arith in ap (λ (m : ℕ). m ∷ []) e)
 count_more f (suc n) = grind (arith, common_steps, count_more (suc f) n)
 
--- ---- what stands at a place
+-- ---- the number at a place
 
 pub front_at : (f n : ℕ) (ks : List ℕ) (i : ℕ) → i < n → slice_get (count_from f n ++ ks) i ≡ Some (f + i)
 front_at f zero ks i less = absurd (omega (arith, less))
@@ -82,12 +82,12 @@ unused_none (k ∷ ks) m none =
 pub unused_above : (ks : List ℕ) (m top : ℕ) → AllByRecursion (λ n. n ≤ top) ks → top < m → is_used m ks ≡ false
 unused_above ks m top below above = grind (arith, common_steps, unused_none, all_at)
 
--- what a look-up finds says whether the number is sparse
+-- the answer of a look-up says whether the number is sparse
 pub sparse_used : (ks : List ℕ) (m : ℕ) (o : Option ℕ) → IfSome o (λ i. slice_get ks i ≡ Some m)
     → IfNone o ((i : ℕ) → slice_get ks i ≡ Some m → ⊥) → is_some o ≡ is_used m ks
 sparse_used ks m o some none = grind (arith, common_steps, unused_none, used_at)
 
--- what a set or else a map has of it says the same
+-- and so does the answer of a set, or else of a map
 module _ (near table : List ℕ) (far : List (ℕ × ℕ)) (ks : List ℕ) (placed m : ℕ) (found : AreFound near table far ks placed) where
   pub near_used : HasBit near m → true ≡ is_used m ks
   near_used has = let w = found.near_sound m has in sparse_used ks m (Some w.0) w.1 tt
@@ -106,7 +106,7 @@ pub counted_pushed : (f n m : ℕ) (ks : List ℕ) → length ks ≡ 0 → (n �
     → count_from g (n + 1) ++ ks ≡ (count_from f n ++ ks) ++ m ∷ []
 counted_pushed f n m ks none next g first later = grind (arith, common_steps, append-nil, count_more)
 
--- what stands at a place, and the place of a number
+-- the number at a place, and the place of a number
 pub ruleset number_at = (count_length, front_at, late_at)
 
 pub ruleset place_of_number = (front_at, none_there, sparse_at)

@@ -82,7 +82,7 @@ module _ (near table : List ℕ) (far : List (ℕ × ℕ)) (numbers : List ℕ) 
 
 -- ---- looking a number up
 
--- what neither table nor map has, and none of the last numbers is, did not come
+-- a number that neither table nor map has, and that is not among the last ones, did not come
 pub not_there : (near table : List ℕ) (far : List (ℕ × ℕ)) (numbers : List ℕ) (placed n : ℕ) → AreFound near table far numbers placed
     → get_or table n 0 ≡ 0 → lookup (nat_eq n) far ≡ None → ((i : ℕ) → placed ≤ i → slice_get numbers i ≡ Some n → ⊥)
     → (i : ℕ) → slice_get numbers i ≡ Some n → ⊥

@@ -9,7 +9,7 @@ one_at_most : (start : ℕ) (negative : Bool) → start ≡ bool_byte negative �
 one_at_most start true e = omega (arith, e)
 one_at_most start false e = omega (arith, e)
 
--- no more than seven from the second byte on
+-- no more than seven bytes from the second one on
 inside_eight : (end : ℕ) → end < 2 ^ 64 → (end + (2 ^ 64 - 1)) % 2 ^ 64 ≤ 7 → (0 < end) × (end ≤ 8)
 inside_eight end fits few = (omega (arith, fits, few), omega (arith, fits, few))
 
@@ -17,7 +17,7 @@ no_digits : (bytes : List ℕ) (start end value : ℕ) → value ≡ digits_valu
 no_digits bytes start end value is e =
     let none : end - start ≡ 0 = omega (arith, e) in is ∙ ap (λ n. digits_value 10 (take n (drop start bytes))) none
 
--- a minus alone would be one before 0
+-- a minus without digits would be a minus before 0
 some_digits : (negative : Bool) (bytes : List ℕ) (start end value : ℕ) → start ≡ bool_byte negative → 0 < end
     → value ≡ digits_value 10 (take (end - start) (drop start bytes)) → (negative && nat_eq value 0) ≡ false → end ≡ start → ⊥
 some_digits true bytes start end value front some is nonzero e =

@@ -2,7 +2,7 @@ use Rattle.std.proofs.Common.{◌≡◌, length}
 use Rattle.std.specs.Io.KnownBytes.{append_known, Keeps}
 use Rattle.buffered_sink.proofs.buffered.Buffered.flush_buffer.Given as goal
 
--- what was held back and is sent is no more held back, and no push failed
+-- bytes that were held back and are sent are not held back any more, and no push failed
 abbrev pub invariant-loop-self : goal.invariant-loop-self
 invariant-loop-self g l = record {
   bytes : Keeps (append_known (g.S.Sink.written l.fn.self.sink) l.fn.self.buffer) (append_known (g.S.Sink.written l.self.sink) l.self.buffer);

@@ -1,7 +1,7 @@
 use Rattle.qbf_text.proofs.Cited.{◌≡◌, ◌≤◌, length, IsSent}
 use Rattle.qbf_text.proofs.sink.Sink.push_all.Given as goal
 
--- what stands before the rest went out, no push failed, and of no bytes there was no push
+-- the bytes before the rest went out, no push failed, and without bytes there was no push
 abbrev pub invariant-loop-rest : goal.invariant-loop-rest
 invariant-loop-rest g l = record {
   sent : IsSent g.Self.Sink.written g.Self.Sink.failures l.fn.self l.self l.bytes l.rest;

@@ -3,7 +3,7 @@ use Rattle.step_index.proofs.SparseNumbers.{found_grown, found_near, found_far, 
 use Rattle.step_index.proofs.sparse.SparseNumbers.push.Goals as goal
 use Rattle.step_index.proofs.sparse.SparseNumbers.push.Goals.{then-branch+in_ok-insert, else-branch+in_ok-insert-2}
 
--- the table has still no more entries than its bound, with one number more
+-- with one number more the table still has no more entries than its bound
 grown : (numbers : List ℕ) (m before after place : ℕ) → place ≡ length numbers → after ≤ max before (2 ^ 20 + 16 * place)
     → before ≤ 2 ^ 20 + 16 * length numbers → after ≤ 2 ^ 20 + 16 * length (numbers ++ m ∷ [])
 grown numbers m before after place is few bound = omega (arith, is, few, bound, length-append numbers (m ∷ []))
