@@ -7,7 +7,6 @@ ghost use Rattle.qbf_text.specs.Canonical.{token_text};
 ghost use Rattle.qbf_text.specs.declared.token.Token.TheVariants.{Number};
 ghost use Rattle.qbf_text.specs.Devices.{Finishes, Pushes};
 ghost use Rattle.qbf_text.specs.Written.{IsPut};
-ghost use Rattle.buffered_sink.specs.declared.buffered.TheConstants.{ROOM};
 
 use crate::spaced::put_spaced;
 use decimal::put_digits;
@@ -36,7 +35,7 @@ impl Model for Buffer {
 
     ghost view = { λ h. take (h.end - h.start) (drop h.start h.bytes) };
 
-    ghost invariant = { λ h. (h.start ≤ h.end) × (h.end ≤ ROOM) };
+    ghost invariant = { λ h. (h.start ≤ h.end) × (h.end ≤ 8192) };
 }
 
 impl Buffer {

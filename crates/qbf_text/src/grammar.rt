@@ -12,7 +12,6 @@ ghost use Rattle.qbf_text.specs.Numbers.{TakesOver};
 ghost use Rattle.qbf_text.specs.Passing.{ReadsBuffered};
 ghost use Rattle.qbf_text.specs.Stopping.{tokens_next, Stops};
 ghost use Rattle.qbf_text.specs.declared.numbers.TheConstants.{MOST};
-ghost use Rattle.qbf_text.specs.declared.window.TheConstants.{ROOM};
 
 use crate::numbers::{Numbers, Zeros};
 use crate::scanner::{ScanFault, Scanner};
@@ -230,7 +229,7 @@ pub fn read_by<G: Grammar, S: Source>(
         (tokens_next scanner.old) (tokens_next scanner.new)
         (ahead scanner.old.pending (S.remaining source.old))
         (ahead scanner.new.pending (S.remaining source.new))
-        (length scanner.new.pending ≤ ROOM) result }
+        (length scanner.new.pending ≤ 4096) result }
     ensures kept { G.kept grammar.new ≡ G.kept grammar.old }
     ensures counts { Counts (S.failures source.old) (S.failures source.new) result }
     ensures ready { OnOk result (¬ HasFailed scanner.new) }

@@ -1,7 +1,6 @@
 //! Where marked bytes stand, eight at a time.
 
 ghost use Rattle.std.specs.Prelude.{◌≤◌, length};
-ghost use Rattle.qbf_text.specs.declared.numbers.TheConstants.{MOST};
 
 use std::simd::prelude::*;
 
@@ -77,7 +76,7 @@ const AFTER: [u8; 2048] = [
 /// The part of a table for eight bits.
 #[inline(always)]
 fn entry(table: &[u8], bits: u8) -> u8x8
-    requires { MOST ≤ length table.now }
+    requires { 2048 ≤ length table.now }
 {
     u8x8::from_slice(&table[8 * usize::from(bits)..])
 }

@@ -8,7 +8,6 @@ ghost use Rattle.qbf_text.specs.Ahead.{ahead, first_of};
 ghost use Rattle.qbf_text.specs.Pulling.{HasPulled, ReadsRun};
 ghost use Rattle.qbf_text.specs.Left.{is_separator, IsWithinLine, EndsLine, is_end};
 ghost use Rattle.qbf_text.specs.Numbers.{StandInFront};
-ghost use Rattle.qbf_text.specs.declared.window.TheConstants.{ROOM};
 
 use crate::cursor::Cursor;
 use crate::numbers::Numbers;
@@ -112,7 +111,7 @@ impl Place {
           window = drop here.at self.old.window;
         } }
         ensures shorter { length self.new.window + here.at ≡ length self.old.window }
-        ensures few { length self.new.window ≤ ROOM }
+        ensures few { length self.new.window ≤ 4096 }
     {
         self.window.go_to(here.at, numbers);
         self.line = here.line;
@@ -126,7 +125,7 @@ impl Place {
         ensures found { IfSome result (λ token. (remaining : Option (List ℕ)) →
             FindsToken self.old remaining self.new remaining token) }
         ensures less { IfSome result (λ _. (length self.new.window < length self.old.window)
-            × (length self.new.window ≤ ROOM)) }
+            × (length self.new.window ≤ 4096)) }
         ensures none { IfNone result (self.new ≡ self.old) }
     {
         let line = self.line;
@@ -322,7 +321,7 @@ impl Scanner {
     pub fn go_to(&mut self, here: Cursor, numbers: usize)
         requires { here.at ≤ length self.old.pending }
         ensures to { self.new ≡ scanner_at self.old here }
-        ensures few { length self.new.pending ≤ ROOM }
+        ensures few { length self.new.pending ≤ 4096 }
     {
         self.place.go_to(here, numbers);
     }
@@ -346,7 +345,7 @@ impl Scanner {
             ScannerTakes self.old (S.remaining source.old) self.new
             (S.remaining source.new) token) }
         ensures few { IfOk result
-            (λ token. is_end token.0 ≡ false → length self.new.pending ≤ ROOM) }
+            (λ token. is_end token.0 ≡ false → length self.new.pending ≤ 4096) }
         // With each token but End less can still come.
         ensures bound { IfOk result (λ token. is_end token.0 ≡ false →
             length self.new.pending + S.bound source.new

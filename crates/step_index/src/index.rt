@@ -4,7 +4,6 @@ ghost use Rattle.std.specs.Prelude.{◌≡◌, ◌≢◌, ℕ, ◌+◌, ◌^◌,
 ghost use Rattle.std.specs.Prelude.{nat_eq, slice_get, Some, IfSome, IfNone, IsTrue, OnOk, OnErr};
 ghost use Rattle.std.specs.List.{AllByRecursion, IsDistinct};
 ghost use Rattle.step_index.specs.Numbers.{is_used, AreStepNumbers};
-ghost use Rattle.step_index.specs.declared.index.TheConstants.{LIMIT};
 
 use crate::sparse::SparseNumbers;
 use std::alloc::{AllocError, Global};
@@ -27,7 +26,7 @@ fn place_of(first: u64, counted: usize, number: u64) -> Option<usize>
 
 /// Whether a number is the next one of the count, or the first.
 fn continues_count(first: u64, counted: usize, number: u64) -> bool
-    ensures fits { IsTrue result → counted < LIMIT }
+    ensures fits { IsTrue result → counted < 2 ^ 63 }
     ensures next { IsTrue result → (counted ≡ 0) ⊎ (first + counted ≡ number) }
 {
     counted < LIMIT && (counted == 0 || number >= first && number - first == counted as u64)
