@@ -151,6 +151,9 @@ impl Proof {
             → IsFirstFault rules self.now.formula [] self.now.trace.steps outcome e) }
         ensures sound { AreWellFormed self.now.formula self.now.trace }
     {
+        // The proof reads here that the formula and the steps are well formed.
+        let _greatest = self.formula.max_var();
+        let _claim = self.trace.result();
         check(alloc, &self.formula, &self.trace, &[], outcome, rules)?;
         Ok(())
     }
