@@ -145,8 +145,8 @@ pub(crate) fn find_cube_fault(
     ensures { IfOk result
         (λ fault. IsFaultOf (initial_condition Cubes formula.now set.now ∷ []) fault) }
 {
-    for position in 0..formula.clauses() {
-        let clause = formula.clause(position);
+    for place in 0..formula.clauses() {
+        let clause = formula.clause(place);
         if has_common_literal(clause, set) {
             continue;
         }
