@@ -50,7 +50,8 @@ class Play:
     def other_values(self, block):
         """The other player's values of a block, None if some are not given, and the variables that are set as their gates give them."""
         given = self.replies.given.get(block.number, {})
-        whole = block.quantifier != EXISTS or all(variable in given for variable in block.variables)
+        is_last = block.quantifier == EXISTS and len(self.state.blocks) == 1  # gates are innermost
+        whole = not is_last or all(variable in given for variable in block.variables)
         gates = None if whole else Gates(self.state.formula, block.variables)
         values = self.replies.values(block, gates.definitions if gates else {})
         if values is None:
