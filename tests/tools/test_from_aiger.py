@@ -230,6 +230,12 @@ def try_text(folder):
     """The whole formula of a gate, what is said of it, and what constants leave."""
     path = folder / "half"
     path.write_text(HALF)
+    ended = run("--exists", "x", "--names", folder / "names", path)
+    expect("the names of a gate", (folder / "names").read_text() == "1 x\n2 y\n3 both\n", (folder / "names").read_text())
+    path.write_text(HALF.replace("4\n6\n", "4\n7\n").replace("i1 y", "i1 both").replace("i0 x", "i0 -5 a"))
+    run("--names", folder / "names", path)
+    expect("names that are taken or no names", (folder / "names").read_text() == "1 _-5_a\n2 both\n3 not_both\n", (folder / "names").read_text())
+    path.write_text(HALF)
     ended = run("--exists", "x", path)
     wanted = "c 'half': the outputs are true\nc exists x, for all y, exists 1 gates: 1 clause of what has to hold\nc clause 4: both holds\n"
     wanted += "p cnf 3 4\ne 1 0\na 2 0\ne 3 0\n-3 1 0\n-3 2 0\n3 -1 -2 0\n3 0\n"

@@ -433,6 +433,13 @@ def try_gates():
         formula = Formula(text.encode())
         variables = [int(word) for word in formula.sets[-1][1].split()]
         expect(f"gates of {text!r}", sorted(Gates(formula, variables).definitions) == wanted, Gates(formula, variables).definitions)
+    for asked in "3", "-3", "3 1", "-3 -2", "3 1 2":
+        exclusive = ["-3 1 2 0\n-3 -1 -2 0\n3 -1 2 0\n3 1 -2"] if asked != "3 1 2" else []  # which is one of as many inputs
+        for gate in ["-3 1 0\n-3 2 0\n3 -1 -2", "3 -1 0\n3 -2 0\n-3 1 2", *exclusive]:
+            clauses = gate.split(" 0\n")
+            formula = Formula(f"p cnf 3 {len(clauses) + 1}\na 1 2 0\ne 3 0\n{asked} 0\n{gate} 0\n".encode())
+            found = Gates(formula, [3]).definitions.get(3, [])
+            expect(f"the gate {clauses} of which '{asked}' is asked", set(found) == {frozenset(map(int, clause.split())) for clause in clauses}, found)
 
 
 def try_end():
@@ -593,7 +600,7 @@ def main():
         try_damages(pool)
     for part in try_text, try_forms, try_gates, try_end, try_replies, try_small, try_any_pivot, try_files, try_terminal, try_own_fault, try_signals:
         part()
-    return finish(1427)
+    return finish(1441)
 
 
 if __name__ == "__main__":

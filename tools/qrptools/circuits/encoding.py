@@ -8,7 +8,7 @@ from fnmatch import fnmatchcase
 
 from qrptools.command import finding
 from qrptools.formula import EXISTS, FOR_ALL
-from qrptools.names import BIT
+from qrptools.names import BIT, NUMBER
 
 LETTERS = {EXISTS: "e", FOR_ALL: "a"}
 LISTED = 12  # names in a message
@@ -87,10 +87,12 @@ class Encoding:
             yield " ".join(map(str, [*clause, 0])) + "\n"
 
     def names(self):
-        """The lines of the file of names: those of the inputs, in a step with its number before the bit of a bus."""
-        seen = set()
-        for literal, it in self.unrolled.inputs.items():
-            name = named(it, self.steps)
+        """The lines of the file of names: those of the inputs, in a step with its number before the bit of a bus, and of the gates that what
+        has to hold is about alone, with not_ before the name if it is the negation of the gate."""
+        seen, called = set(), [(literal, named(it, self.steps)) for literal, it in self.unrolled.inputs.items()]
+        outputs = {literals[0] & ~1: ("not_" if literals[0] & 1 else "") + "_".join(about.split()) for about, literals in self.unrolled.clauses if len(literals) == 1}
+        called += [(gate, plain(name)) for gate, name in outputs.items() if gate in self.unrolled.gates]
+        for literal, name in called:
             while name in seen:
                 name += "'"
             seen.add(name)
@@ -112,10 +114,14 @@ def shown(names):
     return " ".join(names[:LISTED]) + (f" and {len(names) - LISTED} more" if len(names) > LISTED else "")
 
 
+def plain(name):
+    """A name that a file of names takes."""
+    return f"_{name}" if name[0] in "-!~#" or NUMBER.fullmatch(name) else name
+
+
 def named(it, steps):
     """The name of an input as one word, that no other word of a reply can be."""
-    name = "_".join(it.name.split())
-    name = f"_{name}" if name[0] in "-!~#" or name.isdecimal() else name
+    name = plain("_".join(it.name.split()))
     if steps == 1 or it.step is None:
         return name
     bit = BIT.fullmatch(name)

@@ -48,18 +48,25 @@ def definition(variable, clauses):
         inputs |= {one | other for one, other in combinations(inputs, 2)}
     for some in sorted(inputs, key=lambda it: (-len(it), sorted(it))):
         part = [clause for clause in clauses if all(abs(literal) in some or abs(literal) == variable for literal in clause)]
-        if is_conjunction(variable, part, some) or len(some) <= TABLE and is_function(variable, part, some):
-            return part
+        found = conjunction(variable, part, some)
+        if not found and len(some) <= TABLE:
+            # Clauses with fewer inputs may ask something of the output, in place of saying what it is.
+            parts = (part, [clause for clause in part if len(clause) > 1], [clause for clause in part if len(clause) == len(some) + 1])
+            found = next((some_clauses for some_clauses in parts if is_function(variable, some_clauses, some)), [])
+        if found:
+            return found
     return []
 
 
-def is_conjunction(variable, clauses, inputs):
-    """Whether these are the clauses of the conjunction of some literals of the inputs, or of its negation."""
-    whole = [clause for clause in clauses if len(clause) == len(inputs) + 1]
-    if len(whole) != 1 or len(inputs) < 2:
-        return False
-    own = next(literal for literal in whole[0] if abs(literal) == variable)
-    return {frozenset((-own, -literal)) for literal in whole[0] if literal != own} == {clause for clause in clauses if clause != whole[0]}
+def conjunction(variable, clauses, inputs):
+    """Those clauses that say that the variable is the conjunction of some literals of the inputs, or its negation; none if it is not."""
+    given = set(clauses)
+    for whole in clauses if len(inputs) > 1 else ():
+        own = next(literal for literal in whole if abs(literal) == variable)
+        parts = [frozenset((-own, -literal)) for literal in whole if literal != own]
+        if len(whole) == len(inputs) + 1 and given.issuperset(parts):
+            return [whole, *parts]
+    return []
 
 
 def is_function(variable, clauses, inputs):
