@@ -1,18 +1,29 @@
 """What earlier runs on this machine found of wrong bodies that were refused with evidence, by a checksum of all that it was found from.
 
-That is the wrong body, the sources, definitions and proofs of its crate and of those below it, the toolchain, and the files of the gate that
-judge. What is kept lies in the folder qrp_cmd/refused below that of the user's caches (XDG_CACHE_HOME, or ~/.cache).
+That is the wrong body, the sources, definitions and proofs of its crate and of those below it without comments, the toolchain, and the files of
+the gate that judge. What is kept lies in the folder qrp_cmd/refused below that of the user's caches (XDG_CACHE_HOME, or ~/.cache).
 """
 
 import hashlib
 import os
+import re
 import subprocess
 from pathlib import Path
 
 from crates import Stopped
+from rattle_source import one_line
 
 JUDGES = ("try-wrong-bodies", "wrong_bodies.py", "added_ways.py", "rattle_source.py", "crates.py", "kept.py", "needed-answers.tsv")
 PARTS = ("src", "specs", "proofs")
+
+
+def without_comments(file: Path) -> bytes:
+    """The text of a source without comments; of a definition or a proof with its layout, which says what belongs together."""
+    text = file.read_text(encoding="utf-8")
+    if file.suffix == ".rt":
+        return one_line(text).encode()
+    lines = (re.sub(r"(^|\s)--.*$", r"\1", line).rstrip() for line in text.splitlines())
+    return "\n".join(line for line in lines if line).encode()
 
 
 def checksum(*texts: bytes) -> str:
@@ -41,7 +52,7 @@ class Kept:
         if name not in self.crates:
             folder = self.repository.folder(name)
             files = sorted(it for part in PARTS for it in (folder / part).rglob("*") if it.is_file())
-            texts = [text for it in files for text in (str(it.relative_to(folder)).encode(), it.read_bytes())]
+            texts = [text for it in files for text in (str(it.relative_to(folder)).encode(), without_comments(it))]
             below = [self.of_crate(it).encode() for it in self.repository.on[name]]
             self.crates[name] = checksum(self.repository.lines[name].encode(), *below, *texts)
         return self.crates[name]

@@ -565,6 +565,7 @@ def a_refusal_is_kept_until_something_changes():
             tried() == (True, 0, True),
             tried() == (True, 3, False),
             tried("--anew") == (True, 0, True),
+            changed(crate / "src/low.rt", "pub fn first", "// A comment.\npub fn first") == (True, 3, False),
             changed(crate / "must-fail/sum_is_a_difference.edit", "a - b", "b * 0 + a - b") == (True, 2, True),
             changed(crate / "src/low.rt", "ensures { result ≡ a }", "ensures { a ≡ result }") == (True, 0, True),
             changed(crate / "proofs/sum/Answers.antt", "returns c = fits", "returns c = (fits)") == (True, 0, True),
