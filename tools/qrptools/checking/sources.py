@@ -66,14 +66,14 @@ class Source:
         status = self.process.wait()
         return None if status in (0, -13, 141) else said[-1] or f"{self.unpacker} ended with status {status}"
 
-    def share_read(self, program):
-        """Which share of the file was read so far, by this process of the program; None if it is not known."""
+    def place(self, program):
+        """How many bytes of the file were read so far, by this process of the program, and how many it has; zeros if that is not known."""
         try:
-            size = os.stat(self.path).st_size
+            size = os.stat(self.path).st_size if self.is_regular else 0
             place = os.lseek(self.file.fileno(), 0, os.SEEK_CUR) if self.file else place_of(program, os.path.realpath(self.path))
-            return min(1.0, place / size) if self.is_regular and size and place is not None else None
+            return (min(place, size), size) if place is not None else (0, 0)
         except (OSError, ValueError):
-            return None
+            return 0, 0
 
     def read(self):
         """All bytes, unpacked."""
