@@ -183,7 +183,7 @@ def try_proofs(program, pairs):
         expect(f"{trace.name}: the program says {line}", holds and line.startswith("VERIFIED "))
 
 
-NODE = re.compile(r"    (\d+) \[shape=(box|ellipse), label=<<B>\1</B><BR/>(?:[- 0-9]|<U>|</U>|<BR/>|empty (?:clause|cube))+>\];")
+NODE = re.compile(r"    (\d+) \[shape=(box|ellipse), label=<<B>\1</B><BR/>(?:[-0-9]|&#160;|<U>|</U>|<BR/>|empty (?:clause|cube))+>\];")
 EDGE = re.compile(r'    (\d+) -> (\d+) \[label="(?:-?\d+)?(?:, )?(?:reduced)?"\];')
 TEXT = re.compile(r"    (\d+) \[shape=\w+, label=<<B>\d+</B><BR/>(.*)>\];")
 LABEL = re.compile(r'    (\d+) -> (\d+) \[label="(.*)"\];')
@@ -213,7 +213,7 @@ def try_marks(program):
         steps = [line.split() for line in trace.read_text().splitlines() if line[0].isdigit()]
         texts, labels = marks_of(formula, steps)
         drawn = run(DRAW, formula, trace, program=program)
-        found = {line[1]: [it for it in re.split(r" |<BR/>", line[2]) if it] for line in map(TEXT.fullmatch, drawn.stdout.splitlines()) if line}
+        found = {line[1]: [it for it in re.split(r"&#160;| |<BR/>", line[2]) if it] for line in map(TEXT.fullmatch, drawn.stdout.splitlines()) if line}
         wanted = {number: text or (["empty", "clause"] if trace.read_text().endswith("unsat\n") else ["empty", "cube"]) for number, text in texts.items()}
         expect(f"{trace.name}: the literals, universal ones underlined", found == wanted, [it for it in found.items() if it[1] != wanted[it[0]]][:3])
         found = {(line[1], line[2]): line[3] for line in map(LABEL.fullmatch, drawn.stdout.splitlines()) if line}
@@ -230,7 +230,7 @@ def try_marks(program):
             expect(f"{count} steps: the warning", (f"these are {count} steps" in run(DRAW, formula, chain, program=program).stderr) == (count > 300))
         names.write_text('1 a<&\n2 "b"\\\n')
         drawn = run(DRAW, "--names", names, formula, formula.with_suffix(".qrp"), program=program)
-        wanted = ['    1 [shape=box, label=<<B>1</B><BR/>a&lt;&amp; <U>&quot;b&quot;\\</U>>];', '    3 -> 5 [label="a<&"];']
+        wanted = ['    1 [shape=box, label=<<B>1</B><BR/>a&lt;&amp;&#160;<U>&quot;b&quot;\\</U>>];', '    3 -> 5 [label="a<&"];']
         expect("names in a graph", all(line in drawn.stdout.splitlines() for line in wanted), drawn)
         dot = shutil.which("dot")
         if dot:
