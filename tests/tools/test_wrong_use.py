@@ -372,6 +372,20 @@ def try_old_systems(program):
         expect("a program that is named is taken", ended.returncode == 1 and "unknown line" in ended.stderr, ended)
 
 
+TYPED = ["names.py", "many", "checking", "circuits", "games/gates.py", "games/play.py"]
+
+
+def try_types():
+    """The modules with types agree with them."""
+    if not shutil.which("mypy"):
+        skip("the types of the modules", "there is no mypy")
+        return
+    with tempfile.TemporaryDirectory() as folder:
+        words = ["mypy", "--cache-dir", folder, "--python-version", "3.9", *(f"qrptools/{name}" for name in TYPED)]
+        ended = subprocess.run(words, cwd=ROOT / "tools", capture_output=True, text=True, check=False)
+    expect("the types of the modules", ended.returncode == 0, ended.stdout)
+
+
 def main():
     program = os.path.abspath(sys.argv[1])
     # A run in the background ignores interrupts, and so would all that it starts: these are tested here.
@@ -392,7 +406,8 @@ def main():
             with tempfile.TemporaryDirectory() as folder:
                 trial(Trial(tool, program, folder))
     try_old_systems(program)
-    return finish(1150)
+    try_types()
+    return finish(1151)
 
 
 if __name__ == "__main__":
