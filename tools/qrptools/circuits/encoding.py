@@ -94,8 +94,8 @@ class Encoding:
         has to hold is about alone, with not_ before the name if it is the negation of the gate."""
         seen: set[str] = set()
         called = [(literal, named(it, self.steps)) for literal, it in self.unrolled.inputs.items()]
-        outputs = {literals[0] & ~1: ("not_" if literals[0] & 1 else "") + "_".join(about.split()) for about, literals in self.unrolled.clauses if len(literals) == 1}
-        called += [(gate, plain(name)) for gate, name in outputs.items() if gate in self.unrolled.gates]
+        outputs = {literals[0] & ~1: (literals[0] & 1, "_".join(about.split())) for about, literals in self.unrolled.clauses if len(literals) == 1}
+        called += [(gate, plain(f"not_{name}" if negated else name)) for gate, (negated, name) in outputs.items() if gate in self.unrolled.gates]
         for literal, name in called:
             while name in seen:
                 name += "'"

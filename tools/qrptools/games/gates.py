@@ -39,10 +39,11 @@ class Gates:
 
 def forced(variable: int, clauses: list[Literals], true: set[int]) -> int:
     """The literal of the variable that these clauses leave, if these literals are true."""
-    return next(
-        (literal for clause in clauses for literal in (variable, -variable) if literal in clause and all(-other in true for other in clause if other != literal)),
-        -variable,
-    )
+    for clause in clauses:
+        own = variable if variable in clause else -variable
+        if all(-other in true for other in clause if other != own):
+            return own
+    return -variable
 
 
 def definition(variable: int, clauses: list[Literals]) -> list[Literals]:
