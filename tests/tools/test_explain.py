@@ -250,7 +250,7 @@ def try_disagreement(program):
     """A program that names another fault than the script finds is not believed, and neither is the script."""
     formula, trace = ROOT / "examples" / "two_clauses.qdimacs", ROOT / "examples" / "two_clauses.qrp"
     refused = ["step 5 S8", "step 9 S8", "set C2 variable 1", "trace C4", "formula F6 line 3", "trace P7 line 2"]
-    for line in [*(f"REFUSED {rest}" for rest in refused), "VERIFIED"]:
+    for line in [*(f"REFUSED {rest}" for rest in refused), "VERIFIED", "VERIFIED true", "VERIFIED false"]:
         with tempfile.TemporaryDirectory() as folder:
             liar = Path(folder) / "liar"
             liar.write_text(f"#!/bin/sh\necho '{line}'\nexit 1\n")
@@ -547,7 +547,7 @@ def main():
     try_needed(program)
     try_step_names(program)
     try_pages(program)
-    return finish(5801)
+    return finish(5803)
 
 
 if __name__ == "__main__":
