@@ -337,7 +337,7 @@ def try_mending(program):
             (b"c p cnf 9 9\np cnf 1 1\ne 1 2 0\n1 2 0\n-1 -2 0\n", b"c p cnf 9 9\np cnf 2 2\ne 1 2 0\n1 2 0\n-1 -2 0\n", "the formula has 2 variables (1 in its header) and 2 clauses (1 in its header)\n"),
             (b"p  cnf\t2 7\ne 1 2 0\n1 2 0 -1\n0", b"p cnf 2 2\ne 1 2 0\n1 2 0 -1\n0", "the formula has 2 clauses (7 in its header)\n"),
             (b"p cnf 5 1\ne 1 0 1 0\n", b"p cnf 5 1\ne 1 0 1 0\n", "the header fits: the formula is written as it is\n"),
-            (b"p cnf 1 0\n1 3 0\n", b"p cnf 3 1\n1 3 0\n", "3 variables (1 in its header) and 1 clauses"),
+            (b"p cnf 1 0\n1 3 0\n", b"p cnf 3 1\n1 3 0\n", "3 variables (1 in its header) and 1 clause (0 in its header)\n"),
         ):
             file.write_bytes(text)
             ended = subprocess.run([sys.executable, EXPLAIN, "--mend", file], capture_output=True, check=False)
