@@ -157,6 +157,10 @@ def try_statuses(use):
         ("kill -KILL $$", 137, "", "signal 9 (SIGKILL)"),
         ("echo NO MEMORY; exit 4", 4, "NO MEMORY\n", "raise the limit"),
         ("echo hello; exit 7", 7, "hello\n", "it cannot be said why"),
+        ("echo VERIFIED true; exit 1", 3, "", "qrp_cmd ended with status 1 and the line 'VERIFIED true', which is no verdict"),
+        ("echo VERIFIED false >&2; kill -TERM $$", 3, "", "which is no verdict"),
+        ("echo REFUSED step 1 S4", 3, "", "qrp_cmd ended with status 0 and the line 'REFUSED step 1 S4', which is no verdict"),
+        ("exit 0", 3, "", "qrp_cmd ended with status 0 and the line '', which is no verdict"),
         ("echo REFUSED step 1 S4; exit 1", 1, "REFUSED step 1 S4\n", "it cannot be said why: qrp_cmd found S4 and this script"),
     ):
         program = use.file("program", f"#!/bin/sh\n{text}\n".encode())
@@ -218,7 +222,7 @@ def main():
     for part in try_lines, try_compressed, try_input, try_expected, try_statuses, try_progress, try_typed:
         with tempfile.TemporaryDirectory() as folder:
             part(Use(folder, os.path.abspath(sys.argv[1])))
-    return finish(313)
+    return finish(321)
 
 
 if __name__ == "__main__":

@@ -250,7 +250,7 @@ def try_disagreement(program):
     """A program that names another fault than the script finds is not believed, and neither is the script."""
     formula, trace = ROOT / "examples" / "two_clauses.qdimacs", ROOT / "examples" / "two_clauses.qrp"
     refused = ["step 5 S8", "step 9 S8", "set C2 variable 1", "trace C4", "formula F6 line 3", "trace P7 line 2"]
-    for line in [*(f"REFUSED {rest}" for rest in refused), "VERIFIED"]:
+    for line in [*(f"REFUSED {rest}" for rest in refused), "VERIFIED", "VERIFIED true", "VERIFIED false"]:
         with tempfile.TemporaryDirectory() as folder:
             liar = Path(folder) / "liar"
             liar.write_text(f"#!/bin/sh\necho '{line}'\nexit 1\n")
@@ -337,7 +337,7 @@ def try_mending(program):
             (b"c p cnf 9 9\np cnf 1 1\ne 1 2 0\n1 2 0\n-1 -2 0\n", b"c p cnf 9 9\np cnf 2 2\ne 1 2 0\n1 2 0\n-1 -2 0\n", "the formula has 2 variables (1 in its header) and 2 clauses (1 in its header)\n"),
             (b"p  cnf\t2 7\ne 1 2 0\n1 2 0 -1\n0", b"p cnf 2 2\ne 1 2 0\n1 2 0 -1\n0", "the formula has 2 clauses (7 in its header)\n"),
             (b"p cnf 5 1\ne 1 0 1 0\n", b"p cnf 5 1\ne 1 0 1 0\n", "the header fits: the formula is written as it is\n"),
-            (b"p cnf 1 0\n1 3 0\n", b"p cnf 3 1\n1 3 0\n", "3 variables (1 in its header) and 1 clauses"),
+            (b"p cnf 1 0\n1 3 0\n", b"p cnf 3 1\n1 3 0\n", "3 variables (1 in its header) and 1 clause (0 in its header)\n"),
         ):
             file.write_bytes(text)
             ended = subprocess.run([sys.executable, EXPLAIN, "--mend", file], capture_output=True, check=False)
@@ -547,7 +547,7 @@ def main():
     try_needed(program)
     try_step_names(program)
     try_pages(program)
-    return finish(5801)
+    return finish(5803)
 
 
 if __name__ == "__main__":

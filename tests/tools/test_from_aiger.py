@@ -193,7 +193,7 @@ WRONG = [
     ("gates in a circle", "aag 2 0 0 1 2\n2\n2 4 1\n4 2 1\n", "a gate depends on itself"),
     ("a gate of itself", "aag 1 0 0 1 1\n2\n2 2 1\n", "a gate depends on itself"),
     ("an odd beginning of a latch", LATCH.replace("4 2\n", "4 2 3\n"), "latch 0 begins with 3, which is not 0, 1 or its literal 4"),
-    ("latches without steps", LATCH, "the circuit has 1 latches: say by --steps N"),
+    ("latches without steps", LATCH, "the circuit has 1 latch: say by --steps N"),
     ("nothing to ask", "aag 1 1 0 0 0\n2\n", "neither outputs nor bad states"),
     ("two inputs of one name", HALF.replace("i1 y", "i1 x"), "two inputs are called 'x'"),
     ("a binary file that is cut", b"aig 3 2 0 1 1\n6\n\x02", "the file ends before gate 0"),
@@ -237,10 +237,10 @@ def try_text(folder):
     expect("names that are taken or no names", (folder / "names").read_text() == "1 _-5_a\n2 both\n3 not_both\n", (folder / "names").read_text())
     path.write_text(HALF)
     ended = run("--exists", "x", path)
-    wanted = "c 'half': the outputs are true\nc exists x, for all y, exists 1 gates: 1 clause of what has to hold\nc clause 4: both holds\n"
+    wanted = "c 'half': the outputs are true\nc exists x, for all y, exists 1 gate: 1 clause of what has to hold\nc clause 4: both holds\n"
     wanted += "p cnf 3 4\ne 1 0\na 2 0\ne 3 0\n-3 1 0\n-3 2 0\n3 -1 -2 0\n3 0\n"
     expect("the formula of a gate", ended.stdout.decode() == wanted, ended)
-    expect("what is said of it", ended.stderr.decode() == f"{TOOL}: exists x, for all y, exists 1 gates: 1 clause of what has to hold; 3 variables\n", ended)
+    expect("what is said of it", ended.stderr.decode() == f"{TOOL}: exists x, for all y, exists 1 gate: 1 clause of what has to hold; 3 variables\n", ended)
     for text, wanted, said in (
         ("aag 1 1 0 1 0\n2\n1\n", "p cnf 1 0\na 1 0\n", ""),
         ("aag 1 1 0 1 0\n2\n0\n", "p cnf 1 1\na 1 0\n0\n", "o0 cannot hold, whatever the inputs are\n"),
@@ -251,6 +251,19 @@ def try_text(folder):
         ended = run(path)
         formula = "".join(line for line in ended.stdout.decode().splitlines(True) if not line.startswith("c"))
         expect(f"the formula of {text!r}", (ended.returncode, formula) == (0, wanted) and said in ended.stderr.decode(), ended)
+
+
+def try_steps(folder):
+    """What is said of many steps is short."""
+    path = folder / "latch"
+    path.write_text(LATCH)
+    for steps, said in (
+        (1, "for all i0: 1 clause of what has to hold; 1 variable"),
+        (3, "for all i0@0, for all i0@1, for all i0@2: 3 clauses of what has to hold; 3 variables"),
+        (1000, "for all i0@4, for all i0@5, and 994 more blocks in this way: 1000 clauses of what has to hold; 1000 variables"),
+    ):
+        ended = run("--steps", steps, path)
+        expect(f"{steps} steps", ended.returncode == 0 and ended.stderr.decode().splitlines()[0].endswith(said), ended.stderr)
 
 
 def try_verilog(folder):
@@ -277,8 +290,9 @@ def main():
         try_circuits(program, folder)
         try_wrong(folder)
         try_text(folder)
+        try_steps(folder)
         try_verilog(folder)
-    return finish(644)
+    return finish(649)
 
 
 if __name__ == "__main__":

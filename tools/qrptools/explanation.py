@@ -52,7 +52,9 @@ class Explainer:
         return self.read(self.arguments.trace)
 
     def explain(self, line, status):
-        """The explanation of a line, and of no line with this status."""
+        """The explanation of a line, and of no line with this status. A verdict with another status than its own is none."""
+        if line.startswith("VERIFIED") and status != 0:
+            raise finding(f"qrp_cmd ended with status {status} and the line '{line}': one of them is wrong")
         for pattern, method in (
             (r"VERIFIED (true|false)", self.verified),
             (r"REFUSED step (\d+) (S\d+)", self.step),

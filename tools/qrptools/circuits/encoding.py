@@ -6,6 +6,7 @@ that leave it the value that its inputs give (Tseitin 1968).
 
 from collections.abc import Iterator
 from fnmatch import fnmatchcase
+from itertools import islice
 
 from qrptools.circuits.unrolled import Input, Unrolled
 from qrptools.command import finding
@@ -13,7 +14,7 @@ from qrptools.formula import EXISTS, FOR_ALL
 from qrptools.names import BIT, NUMBER
 
 LETTERS = {EXISTS: "e", FOR_ALL: "a"}
-LISTED = 12  # names in a message
+LISTED, BLOCKS = 12, 6  # names and blocks in a message
 Block = tuple[str, list[int]]  # a quantifier, and literals or variables
 
 
@@ -39,13 +40,12 @@ def refuse_idle(patterns: list[str], names: list[str]) -> None:
 def blocks_of(inputs: dict[int, Input], wanted: list[tuple[str, str]]) -> list[Block]:
     """The blocks of the inputs from the outermost on: each a quantifier and literals. First those of one value, and then in each step the
     patterns in their order; inputs that no pattern means are universal and come last in their step."""
-    blocks = [(EXISTS, [literal for literal, it in inputs.items() if it.step is None])]
     rows = [*wanted, (FOR_ALL, "*")]
-    places = {literal: next(place for place, (_, pattern) in enumerate(rows) if is_meant(it.name, pattern)) for literal, it in inputs.items()}
-    for step in sorted({it.step for it in inputs.values() if it.step is not None}):
-        for place, (quantifier, _) in enumerate(rows):
-            blocks.append((quantifier, [literal for literal, it in inputs.items() if it.step == step and places[literal] == place]))
-    return [block for block in blocks if block[1]]
+    found: dict[tuple[int, int], list[int]] = {}  # by the step and the place of the row; those of one value come before all
+    for literal, it in inputs.items():
+        place = next(place for place, (_, pattern) in enumerate(rows) if is_meant(it.name, pattern))
+        found.setdefault((-1, 0) if it.step is None else (it.step, place), []).append(literal)
+    return [(EXISTS if step < 0 else rows[place][0], literals) for (step, place), literals in sorted(found.items())]
 
 
 class Encoding:
@@ -94,8 +94,8 @@ class Encoding:
         has to hold is about alone, with not_ before the name if it is the negation of the gate."""
         seen: set[str] = set()
         called = [(literal, named(it, self.steps)) for literal, it in self.unrolled.inputs.items()]
-        outputs = {literals[0] & ~1: ("not_" if literals[0] & 1 else "") + "_".join(about.split()) for about, literals in self.unrolled.clauses if len(literals) == 1}
-        called += [(gate, plain(name)) for gate, name in outputs.items() if gate in self.unrolled.gates]
+        outputs = {literals[0] & ~1: (literals[0] & 1, "_".join(about.split())) for about, literals in self.unrolled.clauses if len(literals) == 1}
+        called += [(gate, plain(f"not_{name}" if negated else name)) for gate, (negated, name) in outputs.items() if gate in self.unrolled.gates]
         for literal, name in called:
             while name in seen:
                 name += "'"
@@ -105,13 +105,18 @@ class Encoding:
     def summary(self) -> str:
         """The prefix and what has to hold, in one line."""
         words = {EXISTS: "exists", FOR_ALL: "for all"}
-        parts = [f"{words[quantifier]} {shown(names)}" for quantifier, names in self.named_blocks()]
-        parts += [f"exists {len(self.gates)} gates"] if self.gates else []
-        return f"{', '.join(parts)}: {len(self.unrolled.clauses)} {'clause' if len(self.unrolled.clauses) == 1 else 'clauses'} of what has to hold"
+        parts = [f"{words[quantifier]} {shown(names)}" for quantifier, names in islice(self.named_blocks(), BLOCKS)]
+        parts += [f"and {len(self.blocks) - BLOCKS} more blocks in this way"] if len(self.blocks) > BLOCKS else []
+        parts += [f"exists {counted(len(self.gates), 'gate')}"] if self.gates else []
+        return f"{', '.join(parts)}: {counted(len(self.unrolled.clauses), 'clause')} of what has to hold"
 
     def named_blocks(self) -> Iterator[tuple[str, list[str]]]:
         for quantifier, literals in self.blocks:
             yield quantifier, list(dict.fromkeys(base_of(named(self.unrolled.inputs[literal], self.steps)) for literal in literals))
+
+
+def counted(count: int, word: str) -> str:
+    return f"{count} {word}" + ("" if count == 1 else "s")
 
 
 def shown(names: list[str]) -> str:

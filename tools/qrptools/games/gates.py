@@ -11,7 +11,8 @@ from qrptools.formula import Formula
 
 Literals = frozenset[int]
 TABLE = 6  # inputs of a gate whose whole table is looked at
-FEW = 8  # different lists of inputs of which pairs are looked at too
+FEW = 8  # different lists of inputs of which pairs are looked at too, and long clauses that are looked at
+MOST = 64  # clauses of a gate whose table is looked at
 
 
 class Gates:
@@ -39,36 +40,43 @@ class Gates:
 
 def forced(variable: int, clauses: list[Literals], true: set[int]) -> int:
     """The literal of the variable that these clauses leave, if these literals are true."""
-    return next(
-        (literal for clause in clauses for literal in (variable, -variable) if literal in clause and all(-other in true for other in clause if other != literal)),
-        -variable,
-    )
+    for clause in clauses:
+        own = variable if variable in clause else -variable
+        if all(-other in true for other in clause if other != own):
+            return own
+    return -variable
 
 
 def definition(variable: int, clauses: list[Literals]) -> list[Literals]:
     """The clauses that define the variable, from those of the most inputs on; none if it is not defined."""
-    inputs = {frozenset(abs(literal) for literal in clause) - {variable} for clause in clauses}
-    if len(inputs) <= FEW:
-        inputs |= {one | other for one, other in combinations(inputs, 2)}
-    for some in sorted(inputs, key=lambda it: (-len(it), sorted(it))):
-        part = [clause for clause in clauses if all(abs(literal) in some or abs(literal) == variable for literal in clause)]
-        found = conjunction(variable, part, some)
-        if not found and len(some) <= TABLE:
-            # Clauses with fewer inputs may ask something of the output, in place of saying what it is.
-            parts = (part, [clause for clause in part if len(clause) > 1], [clause for clause in part if len(clause) == len(some) + 1])
-            found = next((some_clauses for some_clauses in parts if is_function(variable, some_clauses, some)), [])
-        if found:
-            return found
+    found = conjunction(variable, clauses)
+    short = [clause for clause in clauses if len(clause) <= TABLE + 1]
+    if found or len(short) > MOST:
+        return found
+    for some in inputs_of(variable, short):
+        part = [clause for clause in short if all(abs(literal) in some or abs(literal) == variable for literal in clause)]
+        # Clauses with fewer inputs may ask something of the output, in place of saying what it is.
+        for clauses_of_all in part, [clause for clause in part if len(clause) > 1], [clause for clause in part if len(clause) == len(some) + 1]:
+            if is_function(variable, clauses_of_all, some):
+                return clauses_of_all
     return []
 
 
-def conjunction(variable: int, clauses: list[Literals], inputs: Literals) -> list[Literals]:
-    """Those clauses that say that the variable is the conjunction of some literals of the inputs, or its negation; none if it is not."""
+def inputs_of(variable: int, clauses: list[Literals]) -> list[Literals]:
+    """The inputs that a gate with some of these clauses may have, those of one clause or of two, from the most on."""
+    inputs = {frozenset(abs(literal) for literal in clause) - {variable} for clause in clauses}
+    if len(inputs) <= FEW:
+        inputs |= {one | other for one, other in combinations(inputs, 2) if len(one | other) <= TABLE}
+    return sorted(inputs, key=lambda it: (-len(it), sorted(it)))
+
+
+def conjunction(variable: int, clauses: list[Literals]) -> list[Literals]:
+    """Those clauses that say that the variable is the conjunction of two literals or more, or its negation; none if it is not."""
     given = set(clauses)
-    for whole in clauses if len(inputs) > 1 else []:
+    for whole in sorted(clauses, key=len, reverse=True)[:FEW]:
         own = next(literal for literal in whole if abs(literal) == variable)
         parts = [frozenset((-own, -literal)) for literal in whole if literal != own]
-        if len(whole) == len(inputs) + 1 and given.issuperset(parts):
+        if len(parts) > 1 and given.issuperset(parts):
             return [whole, *parts]
     return []
 

@@ -60,7 +60,12 @@ def pair_of(fields: list[str], where: str) -> Pair:
 
 def is_as_expected(pair: Pair, result: Result) -> bool:
     """Whether a proof was verified, and of the truth that the list expects, if it does."""
-    return result.line.startswith("VERIFIED ") and pair.expected in ("-", result.line.split()[1])
+    return is_verified(result) and pair.expected in ("-", result.line.split()[1])
+
+
+def is_verified(result: Result) -> bool:
+    """Whether the program gave a verdict: by its line and by its status."""
+    return result.line.startswith("VERIFIED ") and result.status == "0"
 
 
 def text_row(pair: Pair, result: Result) -> str:
@@ -88,18 +93,19 @@ def json_row(pair: Pair, result: Result) -> str:
 
 def summary(pairs: list[Pair], results: list[Result]) -> str:
     """One line on all rows: how many were verified, what became of the others, and what it took."""
-    verified = [result.line for result in results if result.line.startswith("VERIFIED ")]
+    verified = [result.line for result in results if is_verified(result)]
     truths = ", ".join(f"{verified.count(f'VERIFIED {truth}')} {truth}" for truth in TRUTHS)
     line = f"{len(verified)} of {len(pairs)} proofs were verified ({truths})"
-    others = Counter(kind_of(result.line) for result in results if not result.line.startswith("VERIFIED "))
+    others = Counter(kind_of(result.line) for result in results if not is_verified(result))
     line += "".join(f", {count} {kind}" for kind, count in sorted(others.items()))
     known = [result for result in results if result.seconds != "-"]
     seconds, peak = sum(float(result.cpu_seconds) for result in known), max((int(result.kilobytes) for result in known), default=0)
     line += f"; {seconds:.1f} s of CPU time, at most {peak / 1000:.0f} MB"
-    wrong = [pair.name for pair, result in zip(pairs, results) if result.line.startswith("VERIFIED ") and not is_as_expected(pair, result)]
+    wrong = [pair.name for pair, result in zip(pairs, results) if is_verified(result) and not is_as_expected(pair, result)]
     return line + (f"; {len(wrong)} not of the truth that the list expects: {', '.join(wrong[:5])}" + (" .." if len(wrong) > 5 else "") if wrong else "")
 
 
 def kind_of(line: str) -> str:
-    """The first word of a line, or the two of NO MEMORY."""
-    return line if line == "NO MEMORY" else (line.split() or ["nothing"])[0]
+    """The first word of a line, or the two of NO MEMORY. A verdict that has another status than it is none."""
+    first = (line.split() or ["nothing"])[0]
+    return line if line == "NO MEMORY" else "with another status" if first == "VERIFIED" else first
