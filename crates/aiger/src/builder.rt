@@ -1,11 +1,10 @@
 //! Gates that are put one after the other, each once.
 
 ghost use Rattle.std.specs.Prelude.{◌≡◌, ℕ, ◌+◌, ◌^◌, ◌<◌, ◌≤◌, ◌⊎◌, Bool, false, true, [], Some, slice_get};
-ghost use Rattle.std.specs.Prelude.{IfOk, IfSome, OnErr, length};
+ghost use Rattle.std.specs.Prelude.{IfOk, IfSome, IsTrue, OnErr, length};
 ghost use Rattle.std.specs.Result.{IsErrOf};
-ghost use Rattle.aiger.specs.Building.{Grows, HasValues, IsBoth, next_of};
-ghost use Rattle.aiger.specs.Circuits.{gate_value};
-ghost use Rattle.aiger.specs.Wires.{constant, plain, value_at};
+ghost use Rattle.aiger.specs.Building.{Grows, IsBoth, IsFolded, IsGate, StandsForBoth, next_of};
+ghost use Rattle.aiger.specs.Wires.{constant, plain};
 
 use crate::circuit::Gate;
 use crate::fault::GateFault;
@@ -38,22 +37,42 @@ impl Model for Builder {
     ghost invariant = { λ b. AreGates b.first b.gates.items };
 }
 
-/// The conjunction of two wires, if it needs no gate: one of them is constant, or they are the same
-/// or opposite.
+/// The conjunction of two wires, if it needs no gate: the first is constant, or they are the same or
+/// opposite.
+#[tactic(auto, using(crate::proofs::KeptGates::false_folded, crate::proofs::KeptGates::true_folded, crate::proofs::KeptGates::same_folded, crate::proofs::KeptGates::opposite_folded))]
 fn folded(left: Wire, right: Wire) -> Option<Wire>
-    ensures { IfSome result (λ w. (w ≡ constant false) ⊎ ((w ≡ left) ⊎ (w ≡ right))) }
+    ensures value { IfSome result (IsFolded left right) }
+    ensures one { IfSome result (λ w. (w ≡ constant false) ⊎ (w ≡ right)) }
 {
-    if left == Wire::constant(false) || right == left.opposite() {
+    if left == Wire::constant(false) {
         return Some(Wire::constant(false));
     }
-    if left == Wire::constant(true) || left == right {
+    if right == left.opposite() {
+        return Some(Wire::constant(false));
+    }
+    if left == Wire::constant(true) {
+        return Some(right);
+    }
+    if left == right {
         return Some(right);
     }
     None
 }
 
+/// The same, if the second wire is looked at too.
+#[tactic(auto, using(crate::proofs::KeptGates::turned_folded))]
+fn folded_by_either(left: Wire, right: Wire) -> Option<Wire>
+    ensures value { IfSome result (IsFolded left right) }
+    ensures one { IfSome result (λ w. (w ≡ constant false) ⊎ ((w ≡ left) ⊎ (w ≡ right))) }
+{
+    match folded(left, right) {
+        Some(wire) => Some(wire),
+        None => folded(right, left),
+    }
+}
+
 /// Where to look first for a gate in a table.
-fn hash(gate: Gate) -> usize {
+fn hash(gate: &Gate) -> usize {
     let left = u64::from(gate.left.number()).wrapping_mul(0x9E3779B97F4A7C15);
     let right = u64::from(gate.right.number()).wrapping_mul(0xC2B2AE3D27D4EB4F);
     let mixed = left ^ right.rotate_left(32);
@@ -61,8 +80,11 @@ fn hash(gate: Gate) -> usize {
 }
 
 /// The gate with the greater wire in front, as AIGER's binary format has it.
+#[tactic(auto, using(crate::proofs::KeptGates::turned_gate, crate::proofs::KeptGates::same_gate))]
 fn in_order(left: Wire, right: Wire) -> Gate
-    ensures { (result ≡ record { left = left; right = right }) ⊎ (result ≡ record { left = right; right = left }) }
+    ensures value { StandsForBoth left right result }
+    ensures one { (result ≡ record { left = left; right = right })
+        ⊎ (result ≡ record { left = right; right = left }) }
 {
     if left.number() < right.number() {
         return Gate {
@@ -74,7 +96,7 @@ fn in_order(left: Wire, right: Wire) -> Gate
 }
 
 /// Enters a place into a table that has room.
-fn enter(slots: &mut [u32], gate: Gate, entry: u32) {
+fn enter(slots: &mut [u32], gate: &Gate, entry: u32) {
     let len = slots.len();
     let start = hash(gate);
     for step in 0..len {
@@ -84,6 +106,22 @@ fn enter(slots: &mut [u32], gate: Gate, entry: u32) {
             return;
         }
     }
+}
+
+/// Lets a table have room for one more gate.
+fn make_room(slots: &mut Vec<u32>, gates: &[Gate]) -> Result<(), AllocError>
+    requires { length gates.now ≤ 2147483648 }
+{
+    if gates.len() < slots.len() / 2 {
+        return Ok(());
+    }
+    let width = slots.len().saturating_mul(2).max(16);
+    slots.clear();
+    slots.resize(width, 0)?;
+    for place in 0..gates.len() {
+        enter(slots, &gates[place], place as u32 + 1);
+    }
+    Ok(())
 }
 
 impl Builder {
@@ -122,19 +160,20 @@ impl Builder {
         ensures err { OnErr result (self.new ≡ self.old) }
         ensures long { IsErrOf result GateFault.TooLong → next_of self.old ≡ 2147483648 }
     {
-        match folded(left, right) {
+        match folded_by_either(left, right) {
             Some(wire) => Ok(wire),
-            None => self.gate(in_order(left, right)),
+            None => self.gate(&in_order(left, right)),
         }
     }
 
+    #[tactic(auto, using(crate::proofs::KeptGates::found_value))]
     /// The wire of a gate, which is put if it is not there.
-    fn gate(&mut self, gate: Gate) -> Result<Wire, GateFault>
-        requires left { gate.left.var < next_of self.old }
-        requires right { gate.right.var < next_of self.old }
+    fn gate(&mut self, gate: &Gate) -> Result<Wire, GateFault>
+        requires left { gate.now.left.var < next_of self.old }
+        requires right { gate.now.right.var < next_of self.old }
         ensures grows { Grows self.old self.new }
         ensures below { IfOk result (λ w. w.var < next_of self.new) }
-        ensures value { IfOk result (λ w. (run : ℕ → Bool) → HasValues self.new run → value_at run w ≡ gate_value run gate) }
+        ensures value { IfOk result (IsGate self.new gate.now) }
         ensures err { OnErr result (self.new ≡ self.old) }
         ensures long { IsErrOf result GateFault.TooLong → next_of self.old ≡ 2147483648 }
     {
@@ -152,9 +191,19 @@ impl Builder {
         Wire::new(self.first + place as u32, false)
     }
 
+    /// Whether this gate is at a place.
+    fn has_at(&self, place: usize, gate: &Gate) -> bool
+        ensures { IsTrue result → slice_get self.now.gates place ≡ Some gate.now }
+    {
+        match self.gates.get(place) {
+            Some(found) => found.left == gate.left && found.right == gate.right,
+            None => false,
+        }
+    }
+
     /// The place of a gate, if it is found.
-    fn find(&self, gate: Gate) -> Option<usize>
-        ensures { IfSome result (λ place. slice_get self.now.gates place ≡ Some gate) }
+    fn find(&self, gate: &Gate) -> Option<usize>
+        ensures { IfSome result (λ place. slice_get self.now.gates place ≡ Some gate.now) }
     {
         let len = self.slots.len();
         let start = hash(gate);
@@ -164,7 +213,7 @@ impl Builder {
             if entry == 0 {
                 return None;
             }
-            if self.gates.get(entry - 1) == Some(&gate) {
+            if self.has_at(entry - 1, gate) {
                 return Some(entry - 1);
             }
         }
@@ -172,12 +221,13 @@ impl Builder {
     }
 
     /// Puts a gate.
-    fn push(&mut self, gate: Gate) -> Result<Wire, GateFault>
-        requires left { gate.left.var < next_of self.old }
-        requires right { gate.right.var < next_of self.old }
+    #[tactic(auto, using(crate::proofs::KeptGates::pushed_gates, crate::proofs::KeptGates::pushed_value))]
+    fn push(&mut self, gate: &Gate) -> Result<Wire, GateFault>
+        requires left { gate.now.left.var < next_of self.old }
+        requires right { gate.now.right.var < next_of self.old }
         ensures grows { Grows self.old self.new }
         ensures below { IfOk result (λ w. w.var < next_of self.new) }
-        ensures value { IfOk result (λ w. (run : ℕ → Bool) → HasValues self.new run → value_at run w ≡ gate_value run gate) }
+        ensures value { IfOk result (IsGate self.new gate.now) }
         ensures err { OnErr result (self.new ≡ self.old) }
         ensures long { IsErrOf result GateFault.TooLong → next_of self.old ≡ 2147483648 }
     {
@@ -185,20 +235,9 @@ impl Builder {
         if self.first as usize + place >= VARIABLES as usize {
             return Err(GateFault::TooLong);
         }
-        self.make_room()?;
-        self.gates.push(gate)?;
+        make_room(&mut self.slots, &self.gates)?;
+        self.gates.push(*gate)?;
         enter(&mut self.slots, gate, place as u32 + 1);
         Ok(self.wire_at(place))
-    }
-
-    /// Makes room in the table for one more gate.
-    fn make_room(&mut self) -> Result<(), AllocError>
-        ensures { self.new ≡ self.old }
-    {
-        if self.gates.len() < self.slots.len() / 2 {
-            return Ok(());
-        }
-        let mut slots = vec![in self.gates.allocator(); 0u32; 16]?;
-        Ok(())
     }
 }
