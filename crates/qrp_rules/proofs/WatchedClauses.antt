@@ -10,7 +10,7 @@ use Rattle.std.proofs.Common.{◌≢◌}
 use Rattle.std.specs.Prelude.{⊤, IfOk, IsTrue, OnOk, OnErr}
 use Rattle.std.specs.List.{swap_remove}
 use Rattle.std.proofs.lemmas.List.{length_push}
-use Rattle.qrp_rules.specs.Watches.{IsTakenOut, IsWatched, IsWatchedIf, KeepsWatches}
+use Rattle.qrp_rules.specs.Watches.{IsTakenOut, IsWatchedIf, KeepsWatches}
 use Rattle.qbf_core.proofs.PushedItems.{pushed_new, pushed_old, written_here, written_elsewhere}
 use Rattle.std.proofs.lemmas.List.Elements.{Contains-push_cases}
 

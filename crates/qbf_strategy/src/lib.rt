@@ -1,0 +1,16 @@
+//! The strategy of a player of a formula, as a list of decisions.
+//!
+//! - Owns: decisions, the value that they give a variable, and the play by them.
+//! - Offers: `Decisions`, the lists that they are made of.
+//! - Proved: decisions are a strategy: a value depends on the values of the other player's variables
+//!   before it.
+//! - Read first: `Decisions`, `decisions_are_a_strategy`.
+//! - Tested only: nothing.
+//! - Trusted: nothing.
+#![tactic(auto)]
+
+mod decisions;
+mod laws;
+
+pub use decisions::Decisions;
+pub use laws::decisions_are_a_strategy;
