@@ -12,9 +12,11 @@
 mod builder;
 mod circuit;
 mod fault;
+mod slots;
 mod wire;
 
 pub use builder::Builder;
 pub use circuit::{Circuit, Gate, Output};
 pub use fault::GateFault;
+pub use slots::Slots;
 pub use wire::Wire;
