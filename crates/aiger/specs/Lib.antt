@@ -1,0 +1,4 @@
+pub mod Wires
+pub mod Circuits
+pub mod Building
+pub mod Texts

@@ -1,0 +1,1 @@
+-- The text of a circuit: AIGER's ASCII format (Biere 2007; version 1.9: Biere, Heljanko, Wieringa 2011), without latches and comments.

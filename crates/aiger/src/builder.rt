@@ -1,0 +1,243 @@
+//! Gates that are put one after the other, each once.
+
+ghost use Rattle.std.specs.Prelude.{◌≡◌, ℕ, ◌+◌, ◌^◌, ◌<◌, ◌≤◌, ◌⊎◌, Bool, false, true, [], Some, slice_get};
+ghost use Rattle.std.specs.Prelude.{IfOk, IfSome, IsTrue, OnErr, length};
+ghost use Rattle.std.specs.Result.{IsErrOf};
+ghost use Rattle.aiger.specs.Building.{Grows, IsBoth, IsFolded, IsGate, StandsForBoth, next_of};
+ghost use Rattle.aiger.specs.Wires.{constant, plain};
+
+use crate::circuit::Gate;
+use crate::fault::GateFault;
+use crate::wire::Wire;
+use std::alloc::{AllocError, Global};
+use std::marker::Model;
+
+/// The number of variables that AIGER can number in 32 bits.
+const VARIABLES: u32 = 2147483648;
+
+/// Gates that are put one after the other. A gate that is there is not put again.
+///
+/// Contracts see the gates and the number of the first.
+#[derive(Drop)]
+pub struct Builder {
+    first: u32,
+    gates: Vec<Gate>,
+    /// Places of gates, by a hash of their wires: 0 for none, and else one more than a place. The
+    /// gate at a place is compared before it is taken, so any table is right.
+    slots: Vec<u32>,
+}
+
+impl Model for Builder {
+    ghost use Rattle.aiger.specs.Building.{AreGates, Built};
+
+    ghost Value = { Built };
+
+    ghost view = { λ b. record { first = b.first; gates = b.gates.items } };
+
+    ghost invariant = { λ b. AreGates b.first b.gates.items };
+}
+
+/// The conjunction of two wires, if it needs no gate: the first is constant, or they are the same or
+/// opposite.
+#[tactic(auto, using(crate::proofs::KeptGates::false_folded, crate::proofs::KeptGates::true_folded, crate::proofs::KeptGates::same_folded, crate::proofs::KeptGates::opposite_folded))]
+fn folded(left: Wire, right: Wire) -> Option<Wire>
+    ensures value { IfSome result (IsFolded left right) }
+    ensures one { IfSome result (λ w. (w ≡ constant false) ⊎ (w ≡ right)) }
+{
+    if left == Wire::constant(false) {
+        return Some(Wire::constant(false));
+    }
+    if right == left.opposite() {
+        return Some(Wire::constant(false));
+    }
+    if left == Wire::constant(true) {
+        return Some(right);
+    }
+    if left == right {
+        return Some(right);
+    }
+    None
+}
+
+/// The same, if the second wire is looked at too.
+#[tactic(auto, using(crate::proofs::KeptGates::turned_folded))]
+fn folded_by_either(left: Wire, right: Wire) -> Option<Wire>
+    ensures value { IfSome result (IsFolded left right) }
+    ensures one { IfSome result (λ w. (w ≡ constant false) ⊎ ((w ≡ left) ⊎ (w ≡ right))) }
+{
+    match folded(left, right) {
+        Some(wire) => Some(wire),
+        None => folded(right, left),
+    }
+}
+
+/// Where to look first for a gate in a table.
+fn hash(gate: &Gate) -> usize {
+    let left = u64::from(gate.left.number()).wrapping_mul(0x9E3779B97F4A7C15);
+    let right = u64::from(gate.right.number()).wrapping_mul(0xC2B2AE3D27D4EB4F);
+    let mixed = left ^ right.rotate_left(32);
+    (mixed ^ (mixed >> 29)) as usize
+}
+
+/// The gate with the greater wire in front, as AIGER's binary format has it.
+#[tactic(auto, using(crate::proofs::KeptGates::turned_gate, crate::proofs::KeptGates::same_gate))]
+fn in_order(left: Wire, right: Wire) -> Gate
+    ensures value { StandsForBoth left right result }
+    ensures one { (result ≡ record { left = left; right = right })
+        ⊎ (result ≡ record { left = right; right = left }) }
+{
+    if left.number() < right.number() {
+        return Gate {
+            left: right,
+            right: left,
+        };
+    }
+    Gate { left, right }
+}
+
+/// Enters a place into a table that has room.
+fn enter(slots: &mut [u32], gate: &Gate, entry: u32) {
+    let len = slots.len();
+    let start = hash(gate);
+    for step in 0..len {
+        let index = start.wrapping_add(step) & (len - 1);
+        if slots.get(index) == Some(&0) {
+            slots[index] = entry;
+            return;
+        }
+    }
+}
+
+/// Lets a table have room for one more gate.
+fn make_room(slots: &mut Vec<u32>, gates: &[Gate]) -> Result<(), AllocError>
+    requires { length gates.now ≤ 2147483648 }
+{
+    if gates.len() < slots.len() / 2 {
+        return Ok(());
+    }
+    let width = slots.len().saturating_mul(2).max(16);
+    slots.clear();
+    slots.resize(width, 0)?;
+    for place in 0..gates.len() {
+        enter(slots, &gates[place], place as u32 + 1);
+    }
+    Ok(())
+}
+
+impl Builder {
+    /// No gates yet. The first will have this number, at least 1 and at most 2147483648.
+    pub fn new(alloc: Global, first: u32) -> Builder
+        requires some { 1 ≤ first }
+        requires few { first ≤ 2147483648 }
+        ensures { result ≡ record { first = first; gates = [] } }
+    {
+        Builder {
+            first,
+            gates: Vec::new(alloc),
+            slots: Vec::new(alloc),
+        }
+    }
+
+    /// The gates.
+    pub fn gates(&self) -> &[Gate]
+        ensures { result.now ≡ self.now.gates }
+    {
+        &self.gates
+    }
+
+    /// The wire of the conjunction of two wires. No gate is put if one of them is constant, if they
+    /// are the same or opposite, or if there is such a gate.
+    ///
+    /// # Errors
+    /// `NoMemory` if an allocation fails, and `TooLong` if AIGER has no number for the gate. Both
+    /// change nothing.
+    pub fn and(&mut self, left: Wire, right: Wire) -> Result<Wire, GateFault>
+        requires left { left.var < next_of self.old }
+        requires right { right.var < next_of self.old }
+        ensures grows { Grows self.old self.new }
+        ensures below { IfOk result (λ w. w.var < next_of self.new) }
+        ensures value { IfOk result (IsBoth self.new left right) }
+        ensures err { OnErr result (self.new ≡ self.old) }
+        ensures long { IsErrOf result GateFault.TooLong → next_of self.old ≡ 2147483648 }
+    {
+        match folded_by_either(left, right) {
+            Some(wire) => Ok(wire),
+            None => self.gate(&in_order(left, right)),
+        }
+    }
+
+    #[tactic(auto, using(crate::proofs::KeptGates::found_value))]
+    /// The wire of a gate, which is put if it is not there.
+    fn gate(&mut self, gate: &Gate) -> Result<Wire, GateFault>
+        requires left { gate.now.left.var < next_of self.old }
+        requires right { gate.now.right.var < next_of self.old }
+        ensures grows { Grows self.old self.new }
+        ensures below { IfOk result (λ w. w.var < next_of self.new) }
+        ensures value { IfOk result (IsGate self.new gate.now) }
+        ensures err { OnErr result (self.new ≡ self.old) }
+        ensures long { IsErrOf result GateFault.TooLong → next_of self.old ≡ 2147483648 }
+    {
+        match self.find(gate) {
+            Some(place) => Ok(self.wire_at(place)),
+            None => self.push(gate),
+        }
+    }
+
+    /// The wire of the gate at a place.
+    fn wire_at(&self, place: usize) -> Wire
+        requires { place < length self.now.gates }
+        ensures { result ≡ plain (self.now.first + place) }
+    {
+        Wire::new(self.first + place as u32, false)
+    }
+
+    /// Whether this gate is at a place.
+    fn has_at(&self, place: usize, gate: &Gate) -> bool
+        ensures { IsTrue result → slice_get self.now.gates place ≡ Some gate.now }
+    {
+        match self.gates.get(place) {
+            Some(found) => found.left == gate.left && found.right == gate.right,
+            None => false,
+        }
+    }
+
+    /// The place of a gate, if it is found.
+    fn find(&self, gate: &Gate) -> Option<usize>
+        ensures { IfSome result (λ place. slice_get self.now.gates place ≡ Some gate.now) }
+    {
+        let len = self.slots.len();
+        let start = hash(gate);
+        for step in 0..len {
+            let index = start.wrapping_add(step) & (len - 1);
+            let entry = *self.slots.get(index)? as usize;
+            if entry == 0 {
+                return None;
+            }
+            if self.has_at(entry - 1, gate) {
+                return Some(entry - 1);
+            }
+        }
+        None
+    }
+
+    /// Puts a gate.
+    #[tactic(auto, using(crate::proofs::KeptGates::pushed_gates, crate::proofs::KeptGates::pushed_value))]
+    fn push(&mut self, gate: &Gate) -> Result<Wire, GateFault>
+        requires left { gate.now.left.var < next_of self.old }
+        requires right { gate.now.right.var < next_of self.old }
+        ensures grows { Grows self.old self.new }
+        ensures below { IfOk result (λ w. w.var < next_of self.new) }
+        ensures value { IfOk result (IsGate self.new gate.now) }
+        ensures err { OnErr result (self.new ≡ self.old) }
+        ensures long { IsErrOf result GateFault.TooLong → next_of self.old ≡ 2147483648 }
+    {
+        let place = self.gates.len();
+        if self.first as usize + place >= VARIABLES as usize {
+            return Err(GateFault::TooLong);
+        }
+        make_room(&mut self.slots, &self.gates)?;
+        self.gates.push(*gate)?;
+        enter(&mut self.slots, gate, place as u32 + 1);
+        Ok(self.wire_at(place))
+    }
+}
