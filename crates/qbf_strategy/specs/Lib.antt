@@ -1,2 +1,4 @@
 pub mod Decisions
+pub mod Winning
+pub mod Computing
 pub mod Laws

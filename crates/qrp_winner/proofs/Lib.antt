@@ -1,0 +1,2 @@
+pub mod Winning
+mod Existing

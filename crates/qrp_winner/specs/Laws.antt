@@ -1,0 +1,28 @@
+-- The decisions of a proof win, and every proof has them.
+use Rattle.std.specs.Prelude.{ℕ, Bool, List, []}
+use Rattle.qbf_core.specs.Blocks.{Block, pairs}
+use Rattle.qbf_core.specs.Qbf.{Qbf, IsClosed}
+use Rattle.qbf_core.specs.Rules.{reduced_quantifier}
+use Rattle.qbf_strategy.specs.Decisions.{Decision, play_by}
+use Rattle.qbf_strategy.specs.Winning.{IsWon}
+use Rattle.qrp.specs.Inferences.{Inference}
+use Rattle.qrp.specs.declared.item.Outcome.{Outcome}
+use Rattle.qrp_check.specs.Core.{ListsCore}
+use Rattle.qrp_check.specs.Proof.{side_of, Proves}
+use Rattle.qrp_rules.specs.declared.rules.Rules.{Rules}
+use Rattle.qrp_winner.specs.ProofDecisions.{AreDecisionsOf}
+
+-- a player who keeps to the decisions of a proof wins, whatever the other player does, and whatever value a variable has on which nothing is
+-- decided
+abbrev pub DecisionsWin : Type 0
+DecisionsWin = (rules : Rules) (f : Qbf) (sets : List Block) (steps : List Inference) (result : Outcome) (core : List ℕ) (ds : List Decision)
+    → IsClosed f → Proves rules f sets steps result → ListsCore steps core → AreDecisionsOf (side_of result) f steps core ds
+    → (otherwise values : ℕ → Bool)
+    → IsWon (reduced_quantifier (side_of result)) f
+    (play_by (reduced_quantifier (side_of result)) (pairs f.blocks) otherwise ds values [])
+
+-- each proof has decisions
+abbrev pub EachProofHasDecisions : Type 0
+EachProofHasDecisions = (rules : Rules) (f : Qbf) (sets : List Block) (steps : List Inference) (result : Outcome) (core : List ℕ)
+    → IsClosed f → Proves rules f sets steps result → ListsCore steps core
+    → (ds : List Decision) × AreDecisionsOf (side_of result) f steps core ds

@@ -1,0 +1,2 @@
+pub mod ProofDecisions
+pub mod Laws
