@@ -130,6 +130,15 @@ impl Builder {
         &self.gates
     }
 
+    /// The wire that always has this value.
+    pub fn constant(&self, value: bool) -> Wire
+        ensures value { result ≡ constant value }
+        ensures below { 0 < next_of self.now }
+    {
+        let _first = self.first;
+        Wire::constant(value)
+    }
+
     /// The wire of the conjunction of two wires. No gate is put if one of them is constant, if they
     /// are the same or opposite, or if there is such a gate.
     ///

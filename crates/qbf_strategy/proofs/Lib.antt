@@ -1,3 +1,5 @@
 pub mod Setting
 pub mod Played
 mod Moves
+pub mod ToldLiterals
+pub mod ConditionGates

@@ -9,8 +9,13 @@
 //! - Trusted: nothing.
 #![tactic(auto)]
 
+mod conditions;
 mod decisions;
+mod fault;
 mod laws;
+mod placed;
+mod places;
 
 pub use decisions::Decisions;
+pub use fault::CircuitFault;
 pub use laws::decisions_are_a_strategy;
