@@ -1,6 +1,6 @@
 -- Gates of conditions, and of what is decided under them.
 use Rattle.std.proofs.Common.{arith, ◌≡◌, ◌<◌, ◌≤◌, ◌+◌, ℕ, zero, suc, Bool, true, false, not, cond, List, [], ◌∷◌, ◌++◌, Some, slice_get, refl, sym, ap, subst, ◌∙◌, length, map, drop, inl, inr, ◌⊎◌}
-use Rattle.std.proofs.lemmas.Option.{get_or_from_slice_get, slice_get_within}
+use Rattle.std.proofs.lemmas.Option.{get_or_from_slice_get, slice_get_cases, slice_get_within}
 use Rattle.std.proofs.Common.{get_or}
 use Rattle.std.proofs.lemmas.Grind.{common_steps}
 use Rattle.std.proofs.lemmas.List.{length-append, append_assoc}
@@ -14,7 +14,7 @@ use Rattle.aiger.specs.Wires.{Wire, constant, opposite, value_at}
 use Rattle.aiger.proofs.KeptGates.{constant_value, keeps_left, opposite_value}
 use Rattle.qbf_strategy.specs.Decisions.{are_set, is_set, wanted}
 use Rattle.qbf_strategy.specs.Assembling.{AllBelow, ArePlaced, Tells, TellAll, all_true, turned, wires_of}
-use Rattle.qbf_strategy.specs.Conditions.{AreConditions, GivesCondition, IsCondition, IsConjunction, IsConjunctionBefore, IsDecided, IsEither, KeptFrom, Scene}
+use Rattle.qbf_strategy.specs.Conditions.{AreConditions, GivesCondition, IsCondition, IsConjunction, IsConjunctionBefore, IsDecided, IsEither, KeptFrom, Scene, fires}
 use Rattle.qbf_strategy.specs.declared.placed.Placed.{Placed}
 use Rattle.qbf_strategy.proofs.ToldLiterals.{both_assoc, both_true, drop_at}
 
@@ -151,6 +151,11 @@ conditions_grown at a b conditions g are k w lits here kept = elim (are k w lits
   | inr is ↦ inr (condition_grown at a b lits w g is)
 ]
 
+fires_at : (at : Scene) (k : ℕ) (lits : List Literal) (b : Built) (w : Wire) → slice_get at.kept k ≡ Some lits → IsCondition at b lits w
+    → (run : ℕ → Bool) (s : List Literal) → HasValues b run → Tells at.ps at.ws run s → value_at run w ≡ fires at s k
+fires_at at k lits b w here is run s has tells =
+    is.value run s has tells ∙ ap (λ (ls : List Literal). are_set (map (wanted at.mine) ls) s) (sym (get_or_from_slice_get at.kept k lits [] here))
+
 pub condition_built : (at : Scene) (old new : Built) (k : ℕ) (lits : List Literal) (placed : List Placed) (before after : List Wire) (w : Wire)
     → slice_get at.kept k ≡ Some lits → ArePlaced at.ps at.ws at.mine lits placed → IsConjunction old new (wires_of placed) w
     → AreConditions at old before → KeptFrom before after k w → GivesCondition at k old new after w
@@ -168,17 +173,44 @@ condition_built at old new k lits placed before after w here are conjoined known
             (let at_k : slice_get at.kept k ≡ Some others = subst (λ (n : ℕ). slice_get at.kept n ≡ Some others) ik kept in cc) is))
         | inr there_before ↦ conditions_grown at old new before conjoined.grows known i x others there_before kept
       ];
-      is = λ others kept. subst (λ (ls : List Literal). IsCondition at new ls w) (cc) is;
+      value = λ run s has tells. fires_at at k lits new w here is run s has tells;
     }
 
-pub condition_there : (at : Scene) (b : Built) (conditions : List Wire) (k : ℕ) (w : Wire) → AreConditions at b conditions
-    → (w ≡ constant false → ⊥) → slice_get conditions k ≡ Some w → 0 < next_of b → w.var < next_of b → GivesCondition at k b b conditions w
-condition_there at b conditions k w are some there next less = record {
+pub condition_there : (at : Scene) (b : Built) (conditions : List Wire) (k : ℕ) (w : Wire) → k < length at.kept → AreConditions at b conditions
+    → (w ≡ constant false → ⊥) → slice_get conditions k ≡ Some w → GivesCondition at k b b conditions w
+condition_there at b conditions k w inside are some there = elim (slice_get_cases at.kept k).1 [
+  | inl (lits, _, here, _) ↦
+      let is : IsCondition at b lits w = elim (are k w lits there here) [
+        | inl none ↦ absurd (some none)
+        | inr is ↦ is
+      ] in
+      record { grows = grows_same b; known = are; below = is.below; value = fires_at at k lits b w here is }
+  | inr (past, _) ↦ absurd (omega arith)
+]
+
+-- ---- what is decided under a condition
+
+pub decided_either : (at : Scene) (k : ℕ) (value : Bool) (after : Wire) (a b d : Built) (conditions : List Wire) (c w : Wire)
+    → GivesCondition at k a b conditions c → IsEither b d c value after w → IsDecided at k value after a d conditions w
+decided_either at k value after a b d conditions c w gives is = record {
+  grows = grows_then a b d gives.grows is.grows;
+  known = conditions_grown at b d conditions is.grows gives.known;
+  below = is.below;
+  chooses = λ run s has tells.
+      is.chooses run has ∙ ap (λ (x : Bool). cond x value (value_at run after)) (gives.value run s (values_before b d run is.grows has) tells);
+}
+
+same_either : (c value : Bool) → value ≡ cond c value value
+same_either true value = refl
+same_either false value = refl
+
+pub decided_same : (at : Scene) (k : ℕ) (value : Bool) (after : Wire) (b : Built) (conditions : List Wire) → AreConditions at b conditions
+    → after.var < next_of b → after ≡ constant value → IsDecided at k value after b b conditions after
+decided_same at k value after b conditions are below is = record {
   grows = grows_same b;
   known = are;
-  below = less;
-  is = λ lits kept. elim (are k w lits there kept) [
-    | inl none ↦ absurd (some none)
-    | inr is ↦ is
-  ];
+  below = below;
+  chooses = λ run s has tells.
+      let e : value_at run after ≡ value = ap (value_at run) is ∙ constant_value run value has.constant in
+      e ∙ (same_either (fires at s k) value ∙ ap (λ (x : Bool). cond (fires at s k) value x) (sym e));
 }

@@ -3,3 +3,6 @@ pub mod Played
 mod Moves
 pub mod ToldLiterals
 pub mod ConditionGates
+pub mod ChainedEntries
+pub mod ChosenValues
+pub mod AssembledWires

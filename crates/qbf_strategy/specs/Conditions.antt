@@ -1,5 +1,5 @@
 -- Gates of conditions, and of what is decided under them.
-use Rattle.std.specs.Prelude.{◌≡◌, ℕ, ◌<◌, Bool, if◌then◌else◌, List, [], Some, slice_get, map, ◌⊎◌, drop, false}
+use Rattle.std.specs.Prelude.{◌≡◌, ℕ, ◌<◌, Bool, if◌then◌else◌, List, [], Some, slice_get, get_or, map, ◌⊎◌, drop, false}
 use Rattle.qbf_core.specs.declared.quantifier.Quantifier.{Quantifier}
 use Rattle.qbf_core.specs.Literal.{Literal}
 use Rattle.aiger.specs.Building.{Built, Grows, HasValues, next_of}
@@ -41,12 +41,16 @@ abbrev pub AreConditions : Scene → Built → List Wire → Type 0
 AreConditions at b conditions = (k : ℕ) (w : Wire) (lits : List Literal) → slice_get conditions k ≡ Some w → slice_get at.kept k ≡ Some lits
     → (w ≡ constant false) ⊎ IsCondition at b lits w
 
+-- whether the condition of the decision k holds
+abbrev pub fires : Scene → List Literal → ℕ → Bool
+fires at s k = are_set (map (wanted at.mine) (get_or at.kept k [])) s
+
 -- after some gates, the wire is the condition of the decision k
 pub record GivesCondition (at : Scene) (k : ℕ) (old new : Built) (conditions : List Wire) (w : Wire) : Type 0 where
   pub grows : Grows old new
   pub known : AreConditions at new conditions
   pub below : w.var < next_of new
-  pub is : (lits : List Literal) → slice_get at.kept k ≡ Some lits → IsCondition at new lits w
+  pub value : (run : ℕ → Bool) (s : List Literal) → HasValues new run → Tells at.ps at.ws run s → value_at run w ≡ fires at s k
 
 -- after some gates, the wire has this value if a condition holds, and else that of another wire
 pub record IsEither (old new : Built) (condition : Wire) (value : Bool) (after w : Wire) : Type 0 where
@@ -60,9 +64,8 @@ pub record IsDecided (at : Scene) (k : ℕ) (value : Bool) (after : Wire) (old n
   pub grows : Grows old new
   pub known : AreConditions at new conditions
   pub below : w.var < next_of new
-  pub chooses : (lits : List Literal) → slice_get at.kept k ≡ Some lits → (run : ℕ → Bool) (s : List Literal) → HasValues new run
-      → Tells at.ps at.ws run s
-      → value_at run w ≡ (if are_set (map (wanted at.mine) lits) s then value else value_at run after)
+  pub chooses : (run : ℕ → Bool) (s : List Literal) → HasValues new run → Tells at.ps at.ws run s
+      → value_at run w ≡ (if fires at s k then value else value_at run after)
 
 -- the wires with this one at the place k, if they reach that far
 abbrev pub KeptFrom : List Wire → List Wire → ℕ → Wire → Type 0

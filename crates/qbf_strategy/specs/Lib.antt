@@ -3,4 +3,6 @@ pub mod Winning
 pub mod Computing
 pub mod Assembling
 pub mod Conditions
+pub mod Chains
+pub mod Chosen
 pub mod Laws

@@ -1,12 +1,13 @@
 //! Gates of conditions, each built once, and of what is decided under them.
 
-ghost use Rattle.std.specs.Prelude.{◌≡◌, ◌≢◌, ◌≤◌, ◌<◌, IfOk, IfSome, Some, false, slice_get};
+ghost use Rattle.std.specs.Prelude.{◌≡◌, ◌≢◌, ◌≤◌, ◌<◌, IfOk, IfSome, Some, false, length, slice_get};
 ghost use Rattle.qbf_core.specs.Blocks.{pairs};
 ghost use Rattle.aiger.specs.Building.{next_of};
 ghost use Rattle.aiger.specs.Wires.{constant};
 ghost use Rattle.qbf_strategy.specs.Assembling.{AllBelow, turned, wires_of};
 ghost use Rattle.qbf_strategy.specs.Conditions.{AreConditions, GivesCondition, IsConjunction, IsDecided, IsEither, IsUnused, KeptFrom, scene};
 
+use crate::entries::Entry;
 use crate::fault::CircuitFault;
 use crate::placed::{Here, Placed, place_literals, turned};
 use aiger::{Builder, GateFault, Wire};
@@ -71,8 +72,8 @@ impl Work {
 }
 
 /// Keeps the wire of a decision's condition.
-fn keep(conditions: &mut [Wire], decision: usize, wire: Wire)
-    ensures { KeptFrom conditions.old conditions.new decision wire }
+fn keep(conditions: &mut Vec<Wire>, decision: usize, wire: Wire)
+    ensures { KeptFrom conditions.old.items conditions.new.items decision wire }
 {
     if decision < conditions.len() {
         conditions[decision] = wire;
@@ -81,6 +82,7 @@ fn keep(conditions: &mut [Wire], decision: usize, wire: Wire)
 
 /// Builds the condition of a decision.
 fn build(here: &Here, work: &mut Work, decision: usize) -> Result<Wire, CircuitFault>
+    requires place { decision < length here.now.task.decisions.now.kept.whole }
     requires below { AllBelow (next_of work.old.gates) here.now.known.now }
     requires known { AreConditions (scene here.now.task.mine (pairs here.now.task.prefix.now)
         here.now.known.now here.now.task.decisions.now.kept.whole) work.old.gates work.old.conditions.items }
@@ -88,11 +90,8 @@ fn build(here: &Here, work: &mut Work, decision: usize) -> Result<Wire, CircuitF
         here.now.known.now here.now.task.decisions.now.kept.whole)
         decision work.old.gates work.new.gates work.new.conditions.items) }
 {
-    let kept = &here.task.decisions.kept;
-    if decision >= kept.whole_len() {
-        return Err(CircuitFault::NoProof);
-    }
-    place_literals(here, kept.get(decision), &mut work.placed)?;
+    let kept = here.task.decisions.kept.get(decision);
+    place_literals(here, kept, &mut work.placed)?;
     let wire = conjunction(&mut work.gates, &work.placed)?;
     keep(&mut work.conditions, decision, wire);
     Ok(wire)
@@ -107,8 +106,33 @@ fn condition(here: &Here, work: &mut Work, decision: usize) -> Result<Wire, Circ
         here.now.known.now here.now.task.decisions.now.kept.whole)
         decision work.old.gates work.new.gates work.new.conditions.items) }
 {
+    if decision >= here.task.decisions.kept.whole_len() {
+        return Err(CircuitFault::NoProof);
+    }
     match work.built(decision) {
         Some(wire) => Ok(wire),
         None => build(here, work, decision),
     }
+}
+
+/// What is decided by one entry: its value if its condition holds, and else that of another wire.
+pub fn decided(
+    here: &Here,
+    work: &mut Work,
+    entry: &Entry,
+    after: Wire,
+) -> Result<Wire, CircuitFault>
+    requires below { AllBelow (next_of work.old.gates) here.now.known.now }
+    requires after { after.var < next_of work.old.gates }
+    requires known { AreConditions (scene here.now.task.mine (pairs here.now.task.prefix.now)
+        here.now.known.now here.now.task.decisions.now.kept.whole) work.old.gates work.old.conditions.items }
+    ensures { IfOk result (IsDecided (scene here.now.task.mine (pairs here.now.task.prefix.now)
+        here.now.known.now here.now.task.decisions.now.kept.whole) entry.now.decision entry.now.value after
+        work.old.gates work.new.gates work.new.conditions.items) }
+{
+    if after == Wire::constant(entry.value) {
+        return Ok(after);
+    }
+    let condition = condition(here, work, entry.decision as usize)?;
+    Ok(either(&mut work.gates, condition, entry.value, after)?)
 }

@@ -9,8 +9,11 @@
 //! - Trusted: nothing.
 #![tactic(auto)]
 
+mod assembling;
+mod chosen;
 mod conditions;
 mod decisions;
+mod entries;
 mod fault;
 mod laws;
 mod placed;
