@@ -4,6 +4,7 @@ ghost use Rattle.std.specs.Prelude.{◌≡◌, ℕ, ◌+◌, ◌^◌, ◌<◌, �
 ghost use Rattle.std.specs.Prelude.{IfOk, IfSome, IsTrue, OnErr, length};
 ghost use Rattle.std.specs.Result.{IsErrOf};
 ghost use Rattle.aiger.specs.Building.{Grows, IsBoth, IsFolded, IsGate, StandsForBoth, next_of};
+ghost use Rattle.aiger.specs.Circuits.{StandBelow};
 ghost use Rattle.aiger.specs.Wires.{constant, plain};
 
 use crate::circuit::Gate;
@@ -121,6 +122,14 @@ impl Builder {
             gates: Vec::new(alloc),
             slots: Slots::new(alloc),
         }
+    }
+
+    /// The gates, which stand on variables before them.
+    pub fn into_gates(self) -> Vec<Gate>
+        ensures gates { result.items ≡ self.gates }
+        ensures below { StandBelow self.first result.items }
+    {
+        self.gates
     }
 
     /// The gates.

@@ -34,12 +34,12 @@ outputs_mine mine ((p, u) ∷ ps) [] q v w at is =
     nothing : (ps : List (Quantifier × ℕ)) → outputs_of mine ps [] ≡ []
     nothing [] = refl
     nothing (p ∷ ps) = refl
-outputs_mine mine ((p, u) ∷ ps) (x ∷ ws) q v w at is = by (is_quantifier p mine)
+outputs_mine mine ((p, u) ∷ ps) (x ∷ ws) q v w at is = by (outputs_mine mine ps ws q v w at is) (is_quantifier p mine)
   where
-    by : (b : Bool) → cond b ((u, x) ∷ outputs_of mine ps (ws ++ w ∷ [])) (outputs_of mine ps (ws ++ w ∷ []))
+    by : outputs_of mine ps (ws ++ w ∷ []) ≡ outputs_of mine ps ws ++ (v, w) ∷ [] → (b : Bool) → cond b ((u, x) ∷ outputs_of mine ps (ws ++ w ∷ [])) (outputs_of mine ps (ws ++ w ∷ []))
         ≡ cond b ((u, x) ∷ outputs_of mine ps ws) (outputs_of mine ps ws) ++ (v, w) ∷ []
-    by true = ap (λ (l : List (ℕ × Wire)). (u, x) ∷ l) (outputs_mine mine ps ws q v w at is)
-    by false = outputs_mine mine ps ws q v w at is
+    by later true = ap (λ (l : List (ℕ × Wire)). (u, x) ∷ l) later
+    by later false = later
 
 pub outputs_theirs : (mine : Quantifier) (ps : List (Quantifier × ℕ)) (ws : List Wire) (q : Quantifier) (v : ℕ) (w : Wire)
     → slice_get ps (length ws) ≡ Some (q, v) → is_quantifier q mine ≡ false → outputs_of mine ps (ws ++ w ∷ []) ≡ outputs_of mine ps ws
@@ -51,12 +51,12 @@ outputs_theirs mine ((p, u) ∷ ps) [] q v w at is =
     nothing : (ps : List (Quantifier × ℕ)) → outputs_of mine ps [] ≡ []
     nothing [] = refl
     nothing (p ∷ ps) = refl
-outputs_theirs mine ((p, u) ∷ ps) (x ∷ ws) q v w at is = by (is_quantifier p mine)
+outputs_theirs mine ((p, u) ∷ ps) (x ∷ ws) q v w at is = by (outputs_theirs mine ps ws q v w at is) (is_quantifier p mine)
   where
-    by : (b : Bool) → cond b ((u, x) ∷ outputs_of mine ps (ws ++ w ∷ [])) (outputs_of mine ps (ws ++ w ∷ []))
+    by : outputs_of mine ps (ws ++ w ∷ []) ≡ outputs_of mine ps ws → (b : Bool) → cond b ((u, x) ∷ outputs_of mine ps (ws ++ w ∷ [])) (outputs_of mine ps (ws ++ w ∷ []))
         ≡ cond b ((u, x) ∷ outputs_of mine ps ws) (outputs_of mine ps ws)
-    by true = ap (λ (l : List (ℕ × Wire)). (u, x) ∷ l) (outputs_theirs mine ps ws q v w at is)
-    by false = outputs_theirs mine ps ws q v w at is
+    by later true = ap (λ (l : List (ℕ × Wire)). (u, x) ∷ l) later
+    by later false = later
 
 pub next_after : (mine : Quantifier) (n : ℕ) (ps : List (Quantifier × ℕ)) (ws : List Wire) (q : Quantifier) (v : ℕ) (w : Wire)
     → slice_get ps (length ws) ≡ Some (q, v) → next_input mine n ps (ws ++ w ∷ []) ≡ number_after mine q (next_input mine n ps ws)
@@ -104,19 +104,20 @@ module _ (run : ℕ → Bool) (mine : Quantifier) (l : Literal) where
   no_outs : (ps : List (Quantifier × ℕ)) (ws : List Wire) → (l.var ∈ variables ps → ⊥) → is_set l (outs ps ws) ≡ false
   no_outs [] ws none = refl
   no_outs (p ∷ ps) [] none = refl
-  no_outs ((q, v) ∷ ps) (w ∷ ws) none = by (is_quantifier q mine)
+  no_outs ((q, v) ∷ ps) (w ∷ ws) none = by (no_outs ps ws (λ h. none (inr h))) (is_quantifier q mine)
     where
-      by : (b : Bool) → is_set l (map (λ o. literal_of o.0 (value_at run o.1)) (cond b ((v, w) ∷ outputs_of mine ps ws) (outputs_of mine ps ws))) ≡ false
-      by true = other_set v (value_at run w) (outs ps ws) (λ e. none (inl e)) ∙ no_outs ps ws (λ h. none (inr h))
-      by false = no_outs ps ws (λ h. none (inr h))
+      by : is_set l (outs ps ws) ≡ false → (b : Bool) → is_set l (map (λ o. literal_of o.0 (value_at run o.1)) (cond b ((v, w) ∷ outputs_of mine ps ws) (outputs_of mine ps ws))) ≡ false
+      by later true = other_set v (value_at run w) (outs ps ws) (λ e. none (inl e)) ∙ later
+      by later false = later
 
   no_ins : (n : ℕ) (ps : List (Quantifier × ℕ)) → (l.var ∈ variables ps → ⊥) → is_set l (ins n ps) ≡ false
   no_ins n [] none = refl
-  no_ins n ((q, v) ∷ ps) none = by (is_quantifier q (opponent mine))
+  no_ins n ((q, v) ∷ ps) none =
+      by (no_ins (suc n) ps (λ h. none (inr h))) (no_ins n ps (λ h. none (inr h))) (is_quantifier q (opponent mine))
     where
-      by : (b : Bool) → is_set l (input_literals n (cond b (v ∷ variables_of (opponent mine) ps) (variables_of (opponent mine) ps)) run) ≡ false
-      by true = other_set v (run n) (ins (suc n) ps) (λ e. none (inl e)) ∙ no_ins (suc n) ps (λ h. none (inr h))
-      by false = no_ins n ps (λ h. none (inr h))
+      by : is_set l (ins (suc n) ps) ≡ false → is_set l (ins n ps) ≡ false → (b : Bool) → is_set l (input_literals n (cond b (v ∷ variables_of (opponent mine) ps) (variables_of (opponent mine) ps)) run) ≡ false
+      by numbered same true = other_set v (run n) (ins (suc n) ps) (λ e. none (inl e)) ∙ numbered
+      by numbered same false = same
 
   here_set : (b : Bool) (s : List Literal) → is_set l s ≡ false → is_set l (literal_of l.var b ∷ s) ≡ cond l.negative (not b) b
   here_set b s none = rw (eq-eqb l.var l.var refl) (by l.negative b)
@@ -184,11 +185,11 @@ module _ (run : ℕ → Bool) (mine : Quantifier) (l : Literal) where
 
 set_append : (l : Literal) (a b : List Literal) → is_set l (a ++ b) ≡ cond (is_set l a) true (is_set l b)
 set_append l [] b = refl
-set_append l (m ∷ a) b = by (literal_eq l m)
+set_append l (m ∷ a) b = by (set_append l a b) (literal_eq l m)
   where
-    by : (c : Bool) → cond c true (is_set l (a ++ b)) ≡ cond (cond c true (is_set l a)) true (is_set l b)
-    by true = refl
-    by false = set_append l a b
+    by : is_set l (a ++ b) ≡ cond (is_set l a) true (is_set l b) → (c : Bool) → cond c true (is_set l (a ++ b)) ≡ cond (cond c true (is_set l a)) true (is_set l b)
+    by later true = refl
+    by later false = later
 
 -- the wires of a whole prefix tell what is set in a run
 pub run_tells : (run : ℕ → Bool) (mine : Quantifier) (ps : List (Quantifier × ℕ)) (ws : List Wire) → IsDistinct nat_eq (variables ps)

@@ -6,3 +6,4 @@ pub mod ConditionGates
 pub mod ChainedEntries
 pub mod ChosenValues
 pub mod AssembledWires
+pub mod AssembledCircuit

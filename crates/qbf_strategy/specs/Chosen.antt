@@ -1,16 +1,18 @@
 -- What is decided on a variable, as gates, and the wires of a whole prefix.
-use Rattle.std.specs.Prelude.{◌≡◌, ℕ, suc, ◌<◌, Bool, false, if◌then◌else◌, List, [], ◌∷◌, length}
+use Rattle.std.specs.Prelude.{◌≡◌, ℕ, suc, ◌+◌, ◌++◌, ◌<◌, Some, slice_get, Bool, false, if◌then◌else◌, List, [], ◌∷◌, length}
 use Rattle.qbf_core.specs.declared.quantifier.Quantifier.{Quantifier}
 use Rattle.qbf_core.specs.Blocks.{is_quantifier}
 use Rattle.qbf_core.specs.Literal.{Literal}
 use Rattle.qbf_core.specs.Members.{◌∈◌}
 use Rattle.aiger.specs.Building.{Built, Grows, HasValues, next_of}
 use Rattle.aiger.specs.Wires.{Wire, plain, value_at}
+use Rattle.qbf_strategy.specs.declared.entries.Entries.{Entries}
 use Rattle.qbf_strategy.specs.declared.entries.Entry.{Entry}
 use Rattle.qbf_strategy.specs.Assembling.{AllBelow, Tells}
 use Rattle.qbf_strategy.specs.Chains.{Chain, Sayings, evaluated}
-use Rattle.qbf_strategy.specs.Conditions.{AreConditions, Scene, fires, scene}
-use Rattle.qbf_strategy.specs.Decisions.{Decision, decided}
+use Rattle.qbf_strategy.specs.Conditions.{AreConditions, IsUnused, Scene, fires, scene}
+use Rattle.qbf_strategy.specs.Decisions.{Decision, decided, decisions_by}
+use Rattle.qbf_strategy.specs.declared.assembling.Assembly.{Assembly}
 
 -- after some gates, the wire has the value that the entries from this one back to the first give their variable
 pub record IsChosen (at : Scene) (es : List Entry) (last : ℕ) (old new : Built) (conditions : List Wire) (w : Wire) : Type 0 where
@@ -64,12 +66,40 @@ pub record IsOutput (ps : List (Quantifier × ℕ)) (ws : List Wire) (ds : List 
   pub value : (run : ℕ → Bool) (s : List Literal) → HasValues b run → Tells ps ws run s → value_at run o.1 ≡ decided otherwise ds o.0 s
 
 -- gates and wires for the first variables of a prefix
-pub record AreAssembled (mine : Quantifier) (ps : List (Quantifier × ℕ)) (kept : List (List Literal)) (ds : List Decision) (first : ℕ) (b : Built)
-    (conditions : List Wire) (ws : List Wire) (outputs : List (ℕ × Wire)) (input : ℕ) : Type 0 where
-  pub first_is : b.first ≡ first
-  pub below : AllBelow (next_of b) ws
-  pub known : AreConditions (scene mine ps ws kept) b conditions
-  pub inputs : AreInputs mine 1 ps ws
-  pub input_is : input ≡ next_input mine 1 ps ws
-  pub outputs_are : outputs ≡ outputs_of mine ps ws
-  pub decided : (o : ℕ × Wire) → o ∈ outputs → IsOutput ps ws ds b o
+pub record AreAssembled (mine : Quantifier) (ps : List (Quantifier × ℕ)) (kept removed : List (List Literal)) (a : Assembly) : Type 0 where
+  pub first_is : a.work.gates.first ≡ a.first
+  pub below : AllBelow (next_of a.work.gates) a.known.items
+  pub known : AreConditions (scene mine ps a.known.items kept) a.work.gates a.work.conditions.items
+  pub inputs : AreInputs mine 1 ps a.known.items
+  pub input_is : a.input ≡ next_input mine 1 ps a.known.items
+  pub outputs_are : a.outputs.items ≡ outputs_of mine ps a.known.items
+  pub decided : (o : ℕ × Wire) → o ∈ a.outputs.items → IsOutput ps a.known.items (decisions_by mine kept removed) a.work.gates o
+
+-- the next variable has the next input
+pub record AddsInput (a b : Assembly) : Type 0 where
+  pub number : a.input < a.first
+  pub known_is : b.known.items ≡ a.known.items ++ plain a.input ∷ []
+  pub input_is : b.input ≡ a.input + 1
+  pub work_is : b.work ≡ a.work
+  pub outputs_are : b.outputs.items ≡ a.outputs.items
+  pub first_is : b.first ≡ a.first
+
+-- the next variable has an output with what is chosen
+pub record AddsOutput (mine : Quantifier) (ps : List (Quantifier × ℕ)) (kept : List (List Literal)) (entries : Entries) (name : ℕ)
+    (a b : Assembly) : Type 0 where
+  pub last : ℕ
+  pub last_is : slice_get entries.heads.items (length a.known.items) ≡ Some last
+  pub wire : Wire
+  pub chosen : IsChosen (scene mine ps a.known.items kept) entries.entries.items last a.work.gates b.work.gates b.work.conditions.items wire
+  pub known_is : b.known.items ≡ a.known.items ++ wire ∷ []
+  pub outputs_are : b.outputs.items ≡ a.outputs.items ++ (name, wire) ∷ []
+  pub input_is : b.input ≡ a.input
+  pub first_is : b.first ≡ a.first
+
+-- no wires yet, for this many inputs
+pub record IsUnassembled (inputs : ℕ) (a : Assembly) : Type 0 where
+  pub unused : IsUnused a.first a.work.gates a.work.conditions.items
+  pub none : a.known.items ≡ []
+  pub no_outputs : a.outputs.items ≡ []
+  pub input_is : a.input ≡ 1
+  pub first_is : a.first ≡ inputs + 1

@@ -6,7 +6,7 @@ ghost use Rattle.qbf_core.specs.Blocks.{is_quantifier, pairs, variables};
 ghost use Rattle.aiger.specs.Building.{next_of};
 ghost use Rattle.qbf_strategy.specs.Assembling.{AllBelow};
 ghost use Rattle.qbf_strategy.specs.Chains.{HaveChains, with_lists};
-ghost use Rattle.qbf_strategy.specs.Chosen.{AreAssembled, outputs_of};
+ghost use Rattle.qbf_strategy.specs.Chosen.{AddsInput, AddsOutput, AreAssembled, IsUnassembled};
 ghost use Rattle.qbf_strategy.specs.Computing.{Computes};
 ghost use Rattle.qbf_strategy.specs.Conditions.{AreConditions, scene};
 ghost use Rattle.qbf_strategy.specs.Decisions.{decisions_by};
@@ -23,22 +23,39 @@ use aiger::{Circuit, Output, Wire};
 use qbf_core::{Prefix, Quantifier, Var};
 use std::alloc::{AllocError, Global};
 
-/// The names of the inputs: the variables of the other player.
-fn inputs_of(
+/// The quantifier of the other player.
+fn opponent(mine: Quantifier) -> Quantifier
+    ensures { result ≡ opponent mine }
+{
+    match mine {
+        Quantifier::All => Quantifier::Exists,
+        Quantifier::Exists => Quantifier::All,
+    }
+}
+
+/// Whether two quantifiers are the same.
+fn is_quantifier(left: Quantifier, right: Quantifier) -> bool
+    ensures { result ≡ is_quantifier left right }
+{
+    left == right
+}
+
+/// The numbers of the variables of a quantifier.
+fn variables_of(
     alloc: Global,
     prefix: &Prefix,
-    mine: Quantifier,
+    quantifier: Quantifier,
 ) -> Result<Vec<u32>, AllocError>
-    ensures { IfOk result (λ v. v.items ≡ variables_of (opponent mine) (pairs prefix.now)) }
+    ensures { IfOk result (λ v. v.items ≡ variables_of quantifier (pairs prefix.now)) }
 {
-    let mut inputs = Vec::new(alloc);
+    let mut numbers = Vec::new(alloc);
     for place in 0..prefix.len() {
-        let (quantifier, var) = prefix.pair(place);
-        if quantifier != mine {
-            inputs.push(var.number())?;
+        let (found, var) = prefix.pair(place);
+        if is_quantifier(found, quantifier) {
+            numbers.push(var.number())?;
         }
     }
-    Ok(inputs)
+    Ok(numbers)
 }
 
 /// Gates and wires for the first variables of a prefix.
@@ -57,10 +74,28 @@ struct Assembly {
 }
 
 impl Assembly {
-    /// Gives a variable of the other player its input.
-    fn add_input(&mut self) -> Result<(), CircuitFault>
+    /// No wires yet, for so many inputs and decisions.
+    fn new(alloc: Global, inputs: usize, decisions: usize) -> Result<Assembly, CircuitFault>
+        ensures { IfOk result (IsUnassembled inputs) }
     {
-        if self.input >= self.first {
+        if inputs >= 2147483647 {
+            return Err(CircuitFault::TooLong);
+        }
+        let first = inputs as u32 + 1;
+        Ok(Assembly {
+            work: Work::new(alloc, first, decisions)?,
+            known: Vec::new(alloc),
+            outputs: Vec::new(alloc),
+            first,
+            input: 1,
+        })
+    }
+
+    /// Gives the next variable, one of the other player, its input.
+    fn add_input(&mut self) -> Result<(), CircuitFault>
+        ensures { OnOk result (AddsInput self.old self.new) }
+    {
+        if self.input >= self.first || self.input >= 2147483648 {
             return Err(CircuitFault::NoProof);
         }
         self.known.push(Wire::new(self.input, false))?;
@@ -68,14 +103,18 @@ impl Assembly {
         Ok(())
     }
 
-    /// Gives a variable of the player its output.
+    /// Gives the next variable, one of the player, its output.
     fn add_output(&mut self, task: &Task, entries: &Entries, name: Var) -> Result<(), CircuitFault>
+        requires { AreAssembled task.now.mine (pairs task.now.prefix.now) task.now.decisions.now.kept.whole
+            task.now.decisions.now.removed.whole self.old }
+        ensures { OnOk result (AddsOutput task.now.mine (pairs task.now.prefix.now)
+            task.now.decisions.now.kept.whole entries.now name self.old self.new) }
     {
+        let last = entries.last(self.known.len())?;
         let here = Here {
             task: *task,
             known: &self.known,
         };
-        let last = entries.last(self.known.len())?;
         let wire = chosen(&here, &mut self.work, entries, last)?;
         self.outputs.push(Output {
             name: name.number(),
@@ -84,4 +123,80 @@ impl Assembly {
         self.known.push(wire)?;
         Ok(())
     }
+
+    /// Gives the next variable its wire.
+    fn add_variable(&mut self, task: &Task, entries: &Entries) -> Result<(), CircuitFault>
+        requires assembled { AreAssembled task.now.mine (pairs task.now.prefix.now) task.now.decisions.now.kept.whole
+            task.now.decisions.now.removed.whole self.old }
+        requires entries { HaveChains (pairs task.now.prefix.now) entries.now.heads.items entries.now.entries.items
+            (with_lists task.now.mine 0 task.now.decisions.now.removed.whole []) }
+        requires few { length task.now.decisions.now.removed.whole ≤ length task.now.decisions.now.kept.whole }
+        requires place { length self.old.known.items < length (pairs task.now.prefix.now) }
+        ensures assembled { OnOk result (AreAssembled task.now.mine (pairs task.now.prefix.now) task.now.decisions.now.kept.whole
+            task.now.decisions.now.removed.whole self.new) }
+        ensures count { OnOk result (length self.new.known.items ≡ length self.old.known.items + 1) }
+        ensures first { OnOk result (self.new.first ≡ self.old.first) }
+    {
+        let (quantifier, name) = task.prefix.pair(self.known.len());
+        if is_quantifier(quantifier, task.mine) {
+            self.add_output(task, entries, name)
+        } else {
+            self.add_input()
+        }
+    }
+}
+
+/// Gates and wires for all variables of a prefix.
+fn assemble(alloc: Global, task: &Task, entries: &Entries, inputs: usize) -> Result<Assembly, CircuitFault>
+    requires entries { HaveChains (pairs task.now.prefix.now) entries.now.heads.items entries.now.entries.items
+        (with_lists task.now.mine 0 task.now.decisions.now.removed.whole []) }
+    requires few { length task.now.decisions.now.removed.whole ≤ length task.now.decisions.now.kept.whole }
+    ensures assembled { IfOk result (AreAssembled task.now.mine (pairs task.now.prefix.now) task.now.decisions.now.kept.whole
+        task.now.decisions.now.removed.whole) }
+    ensures count { IfOk result (λ a. length a.known.items ≡ length (pairs task.now.prefix.now)) }
+    ensures first { IfOk result (λ a. a.first ≡ inputs + 1) }
+{
+    let mut assembly = Assembly::new(alloc, inputs, task.decisions.kept.whole_len())?;
+    for _place in 0..task.prefix.len() {
+        assembly.add_variable(task, entries)?;
+    }
+    Ok(assembly)
+}
+
+/// The circuit by which the player of a quantifier keeps to decisions: its inputs are the variables
+/// of the other player, and its outputs those of the player, in the order of the prefix. In each run
+/// an output has the value that is decided on its variable; if nothing is decided on it, the value
+/// is some constant of the output.
+///
+/// # Errors
+/// `NoMemory` if an allocation fails; `TooLong` if AIGER has no numbers for the gates, or if the
+/// decisions set 4294967295 literals or more; `NoProof` if a decision sees a variable that does not
+/// stand before one that it sets, or has one that is not bound.
+pub fn circuit_of(
+    alloc: Global,
+    prefix: &Prefix,
+    mine: Quantifier,
+    decisions: &Decisions,
+) -> Result<Circuit, CircuitFault>
+    ensures { IfOk result (λ c. Computes mine (pairs prefix.now)
+        (decisions_by mine decisions.now.kept.whole decisions.now.removed.whole) c) }
+{
+    if decisions.removed.whole_len() > decisions.kept.whole_len() {
+        return Err(CircuitFault::NoProof);
+    }
+    let inputs = variables_of(alloc, prefix, opponent(mine))?;
+    let places = Places::new(alloc, prefix)?;
+    let task = Task {
+        mine,
+        prefix,
+        places: &places,
+        decisions,
+    };
+    let entries = Entries::new(alloc, &task)?;
+    let assembly = assemble(alloc, &task, &entries, inputs.len())?;
+    Ok(Circuit {
+        inputs,
+        outputs: assembly.outputs,
+        gates: assembly.work.gates.into_gates(),
+    })
 }

@@ -19,6 +19,7 @@ mod laws;
 mod placed;
 mod places;
 
+pub use assembling::circuit_of;
 pub use decisions::Decisions;
 pub use fault::CircuitFault;
 pub use laws::decisions_are_a_strategy;
