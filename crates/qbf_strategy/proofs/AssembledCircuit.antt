@@ -125,9 +125,9 @@ module _ (mine : Quantifier) (ps : List (Quantifier × ℕ)) (kept removed : Lis
                     (tells_less ps a.known.items (w ∷ []) run s tells)
                     ∙ lists_say mine (fires (scene mine ps a.known.items kept) s) s v 0 is.otherwise kept removed [] few
                     (λ i lits there.
-                        let z : 0 + i ≡ i = omega arith in
-                        ap (fires (scene mine ps a.known.items kept) s) z
-                        ∙ ap (λ (ls : List Literal). are_set (map (wanted mine) ls) s) (get_or_from_slice_get kept i lits [] there));
+                    let z : 0 + i ≡ i = omega arith in
+                    ap (fires (scene mine ps a.known.items kept) s) z
+                    ∙ ap (λ (ls : List Literal). are_set (map (wanted mine) ls) s) (get_or_from_slice_get kept i lits [] there));
               })
             ]);
       }
@@ -152,9 +152,11 @@ module _ (mine : Quantifier) (ps : List (Quantifier × ℕ)) (kept removed : Lis
       no_inputs : (n : ℕ) (ps : List (Quantifier × ℕ)) → AreInputs mine n ps []
       no_inputs n [] = tt
       no_inputs n (p ∷ ps) = tt
+
       no_next : (n : ℕ) (ps : List (Quantifier × ℕ)) → next_input mine n ps [] ≡ n
       no_next n [] = refl
       no_next n (p ∷ ps) = refl
+
       no_outputs : (ps : List (Quantifier × ℕ)) → outputs_of mine ps [] ≡ []
       no_outputs [] = refl
       no_outputs (p ∷ ps) = refl
@@ -220,10 +222,12 @@ assembled_computes mine ps kept removed a c distinct count are inputs first outp
             (outputs_below mine (next_of a.work.gates) ps a.known.items are.below));
       };
       decides = λ o h.
-          let is = are.decided o (subst (λ (os : List (ℕ × Wire)). o ∈ os) outputs h) in
-          (is.otherwise, λ run has. is.value run (set_in_run c run)
-              (subst (λ (n : ℕ). AreValues n a.work.gates.gates run) (sym first_is) (subst (λ (gs : List _). AreValues (suc (length c.inputs)) gs run) gates has))
-              (subst (λ (os : List (ℕ × Wire)). Tells ps a.known.items run (map (λ o. literal_of o.0 (value_at run o.1)) os ++ input_literals 1 c.inputs run)) (sym os_are)
-              (subst (λ (vs : List ℕ). Tells ps a.known.items run (map (λ o. literal_of o.0 (value_at run o.1)) (outputs_of mine ps a.known.items) ++ input_literals 1 vs run))
-              (sym inputs) (run_tells run mine ps a.known.items distinct are.inputs))));
+          let is = are.decided o (subst (λ (os : List (ℕ × Wire)). o ∈ os) outputs h) in (
+            is.otherwise,
+            λ run has. is.value run (set_in_run c run)
+                (subst (λ (n : ℕ). AreValues n a.work.gates.gates run) (sym first_is) (subst (λ (gs : List _). AreValues (suc (length c.inputs)) gs run) gates has))
+                (subst (λ (os : List (ℕ × Wire)). Tells ps a.known.items run (map (λ o. literal_of o.0 (value_at run o.1)) os ++ input_literals 1 c.inputs run)) (sym os_are)
+                (subst (λ (vs : List ℕ). Tells ps a.known.items run (map (λ o. literal_of o.0 (value_at run o.1)) (outputs_of mine ps a.known.items) ++ input_literals 1 vs run))
+                (sym inputs) (run_tells run mine ps a.known.items distinct are.inputs))),
+          );
     }

@@ -83,6 +83,9 @@ inputs_after mine n ((p, u) ∷ ps) [] q v w at is are =
     nothing n (p ∷ ps) = tt
 inputs_after mine n ((p, u) ∷ ps) (x ∷ ws) q v w at is are = (are.0, inputs_after mine (number_after mine p n) ps ws q v w at is are.1)
 
+some_same : {X : Type 0} {x y : X} → Some x ≡ Some y → x ≡ y
+some_same e = cc e
+
 -- ---- what is set in a run
 
 opponent_is : (q mine : Quantifier) → is_quantifier q (opponent mine) ≡ not (is_quantifier q mine)
@@ -145,30 +148,30 @@ module _ (run : ℕ → Bool) (mine : Quantifier) (l : Literal) where
       let e : (p, u) ≡ (q, l.var) = cc at in
       let var : Quantifier × ℕ → ℕ = λ x. x.1 in
       let u_is : u ≡ l.var = ap var e in
-      let w_is : x ≡ w = cc there in
+      let w_is : x ≡ w = some_same there in
       let none : l.var ∈ variables ps → ⊥ = λ h.
-          not_self l.var (all_in (λ w. nat_eq l.var w ≡ false) (variables ps)
-          (subst (λ (m : ℕ). AllByRecursion (λ w. nat_eq m w ≡ false) (variables ps)) u_is (IsDistinct-head nat_eq u (variables ps) d)) l.var h) in
+      not_self l.var (all_in (λ w. nat_eq l.var w ≡ false) (variables ps)
+      (subst (λ (m : ℕ). AllByRecursion (λ w. nat_eq m w ≡ false) (variables ps)) u_is (IsDistinct-head nat_eq u (variables ps) d)) l.var h) in
       elim (cases_Bool (is_quantifier p mine)) [
         | inl my ↦
             let theirs : is_quantifier p (opponent mine) ≡ false = opponent_is p mine ∙ ap not my in
             rw (my, theirs) (either _ _ _
-              (subst (λ (m : ℕ). is_set l (literal_of m (value_at run x) ∷ outs ps ws) ≡ cond l.negative (not (value_at run w)) (value_at run w)) (sym u_is)
-              (here_set (value_at run x) (outs ps ws) (no_outs ps ws none) ∙ ap (λ (y : Wire). cond l.negative (not (value_at run y)) (value_at run y)) w_is))
-              (no_ins n ps none))
+            (subst (λ (m : ℕ). is_set l (literal_of m (value_at run x) ∷ outs ps ws) ≡ cond l.negative (not (value_at run w)) (value_at run w)) (sym u_is)
+            (here_set (value_at run x) (outs ps ws) (no_outs ps ws none) ∙ ap (λ (y : Wire). cond l.negative (not (value_at run y)) (value_at run y)) w_is))
+            (no_ins n ps none))
         | inr isnt ↦
             let theirs : is_quantifier p (opponent mine) ≡ true = opponent_is p mine ∙ ap not isnt in
             let plain_is : w ≡ plain n = sym w_is ∙ are.0 isnt in
             rw (isnt, theirs) (second _ _ _ (no_outs ps ws none)
-              (subst (λ (m : ℕ). is_set l (literal_of m (run n) ∷ ins (suc n) ps) ≡ cond l.negative (not (value_at run w)) (value_at run w)) (sym u_is)
-              (here_set (run n) (ins (suc n) ps) (no_ins (suc n) ps none)
-              ∙ ap (λ (y : Wire). cond l.negative (not (value_at run y)) (value_at run y)) (sym plain_is))))
+            (subst (λ (m : ℕ). is_set l (literal_of m (run n) ∷ ins (suc n) ps) ≡ cond l.negative (not (value_at run w)) (value_at run w)) (sym u_is)
+            (here_set (run n) (ins (suc n) ps) (no_ins (suc n) ps none)
+            ∙ ap (λ (y : Wire). cond l.negative (not (value_at run y)) (value_at run y)) (sym plain_is))))
       ]
   told n ((p, u) ∷ ps) (x ∷ ws) (suc i) q w d are at there =
       let ne : l.var ≡ u → ⊥ = λ e.
-          not_self l.var (all_in (λ w. nat_eq l.var w ≡ false) (variables ps)
-          (subst (λ (m : ℕ). AllByRecursion (λ w. nat_eq m w ≡ false) (variables ps)) (sym e) (IsDistinct-head nat_eq u (variables ps) d)) l.var
-          (at_in ps i l.var (q, at))) in
+      not_self l.var (all_in (λ w. nat_eq l.var w ≡ false) (variables ps)
+      (subst (λ (m : ℕ). AllByRecursion (λ w. nat_eq m w ≡ false) (variables ps)) (sym e) (IsDistinct-head nat_eq u (variables ps) d)) l.var
+      (at_in ps i l.var (q, at))) in
       let rest = IsDistinct-tail nat_eq u (variables ps) d in
       elim (cases_Bool (is_quantifier p mine)) [
         | inl my ↦
@@ -198,5 +201,5 @@ pub run_tells : (run : ℕ → Bool) (mine : Quantifier) (ps : List (Quantifier 
 run_tells run mine ps ws d are i v w (q, at) there negative =
     turned_value run w negative
     ∙ sym (set_append (record { var = v; negative = negative })
-        (map (λ o. literal_of o.0 (value_at run o.1)) (outputs_of mine ps ws)) (input_literals 1 (variables_of (opponent mine) ps) run)
+    (map (λ o. literal_of o.0 (value_at run o.1)) (outputs_of mine ps ws)) (input_literals 1 (variables_of (opponent mine) ps) run)
     ∙ told run mine (record { var = v; negative = negative }) 1 ps ws i q w d are at there)

@@ -95,7 +95,7 @@ lists_say mine holds s v k value (ls ∷ kept) (r ∷ removed) said few tells =
     subst (λ (n : ℕ). holds n ≡ are_set (map (wanted mine) ls) s) z (tells 0 ls refl) in
     lists_say mine holds s v (suc k) value kept removed (with_literals mine k r said) (omega arith)
     (λ i lits at. let e : k + suc i ≡ suc k + i = omega arith in
-        subst (λ (n : ℕ). holds n ≡ are_set (map (wanted mine) lits) s) e (tells (suc i) lits at))
+    subst (λ (n : ℕ). holds n ≡ are_set (map (wanted mine) lits) s) e (tells (suc i) lits at))
     ∙ (literals_say mine holds v k (decided value (decisions_by mine kept removed) v s) r said
     ∙ ap (λ (x : Bool). evaluated holds v (cond x (value_in (map (wanted mine) r) v (decided value (decisions_by mine kept removed) v s))
-        (decided value (decisions_by mine kept removed) v s)) said) here)
+    (decided value (decisions_by mine kept removed) v s)) said) here)

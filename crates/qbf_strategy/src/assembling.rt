@@ -1,8 +1,7 @@
 //! The circuit of decisions.
 
-ghost use Rattle.std.specs.Prelude.{◌≡◌, ◌≤◌, ◌<◌, ◌+◌, ℕ, [], List, IfOk, OnOk, length, nat_eq, Some, slice_get, vec_len, false, true};
-ghost use Rattle.std.specs.List.{IsDistinct};
-ghost use Rattle.qbf_core.specs.Blocks.{is_quantifier, pairs, variables};
+ghost use Rattle.std.specs.Prelude.{◌≡◌, ◌≤◌, ◌<◌, ◌+◌, ℕ, [], List, IfOk, OnOk, length, nat_eq, Some, slice_get, ◌++◌, ◌∷◌, if◌then◌else◌};
+ghost use Rattle.qbf_core.specs.Blocks.{IsPrefix, is_quantifier, pairs};
 ghost use Rattle.aiger.specs.Building.{next_of};
 ghost use Rattle.qbf_strategy.specs.Assembling.{AllBelow};
 ghost use Rattle.qbf_strategy.specs.Chains.{HaveChains, with_lists};
@@ -40,6 +39,16 @@ fn is_quantifier(left: Quantifier, right: Quantifier) -> bool
     left == right
 }
 
+/// Puts the number of a variable at the end of others, if it is wanted.
+fn push_if(numbers: &mut Vec<u32>, wanted: bool, var: Var) -> Result<(), AllocError>
+    ensures { OnOk result (numbers.new.items ≡ numbers.old.items ++ (if wanted then var ∷ [] else [])) }
+{
+    if wanted {
+        numbers.push(var.number())?;
+    }
+    Ok(())
+}
+
 /// The numbers of the variables of a quantifier.
 fn variables_of(
     alloc: Global,
@@ -51,9 +60,7 @@ fn variables_of(
     let mut numbers = Vec::new(alloc);
     for place in 0..prefix.len() {
         let (found, var) = prefix.pair(place);
-        if is_quantifier(found, quantifier) {
-            numbers.push(var.number())?;
-        }
+        push_if(&mut numbers, is_quantifier(found, quantifier), var)?;
     }
     Ok(numbers)
 }
@@ -147,7 +154,12 @@ impl Assembly {
 }
 
 /// Gates and wires for all variables of a prefix.
-fn assemble(alloc: Global, task: &Task, entries: &Entries, inputs: usize) -> Result<Assembly, CircuitFault>
+fn assemble(
+    alloc: Global,
+    task: &Task,
+    entries: &Entries,
+    inputs: usize,
+) -> Result<Assembly, CircuitFault>
     requires entries { HaveChains (pairs task.now.prefix.now) entries.now.heads.items entries.now.entries.items
         (with_lists task.now.mine 0 task.now.decisions.now.removed.whole []) }
     requires few { length task.now.decisions.now.removed.whole ≤ length task.now.decisions.now.kept.whole }
@@ -155,6 +167,7 @@ fn assemble(alloc: Global, task: &Task, entries: &Entries, inputs: usize) -> Res
         task.now.decisions.now.removed.whole) }
     ensures count { IfOk result (λ a. length a.known.items ≡ length (pairs task.now.prefix.now)) }
     ensures first { IfOk result (λ a. a.first ≡ inputs + 1) }
+    ensures sound { IfOk result (λ _. IsPrefix task.now.prefix.now) }
 {
     let mut assembly = Assembly::new(alloc, inputs, task.decisions.kept.whole_len())?;
     for _place in 0..task.prefix.len() {
