@@ -2,3 +2,4 @@ pub mod Wires
 pub mod Circuits
 pub mod Building
 pub mod Texts
+pub mod Trimming

@@ -13,10 +13,12 @@ mod builder;
 mod circuit;
 mod fault;
 mod slots;
+mod trimming;
 mod wire;
 
 pub use builder::Builder;
 pub use circuit::{Circuit, Gate, Output};
 pub use fault::GateFault;
 pub use slots::Slots;
+pub use trimming::trimmed;
 pub use wire::Wire;
