@@ -1,4 +1,4 @@
--- The decisions of a proof win, and every proof has them.
+-- The decisions of a proof win.
 use Rattle.std.specs.Prelude.{ℕ, Bool, List, []}
 use Rattle.qbf_core.specs.Blocks.{Block, pairs}
 use Rattle.qbf_core.specs.Qbf.{Qbf, IsClosed}
@@ -20,9 +20,3 @@ DecisionsWin = (rules : Rules) (f : Qbf) (sets : List Block) (steps : List Infer
     → (otherwise values : ℕ → Bool)
     → IsWon (reduced_quantifier (side_of result)) f
     (play_by (reduced_quantifier (side_of result)) (pairs f.blocks) otherwise ds values [])
-
--- each proof has decisions
-abbrev pub EachProofHasDecisions : Type 0
-EachProofHasDecisions = (rules : Rules) (f : Qbf) (sets : List Block) (steps : List Inference) (result : Outcome) (core : List ℕ)
-    → IsClosed f → Proves rules f sets steps result → ListsCore steps core
-    → (ds : List Decision) × AreDecisionsOf (side_of result) f steps core ds
