@@ -1,3 +1,4 @@
 pub mod Setting
 pub mod Played
+pub mod Computed
 mod Moves

@@ -3,3 +3,4 @@ pub mod FullyReduced
 pub mod RemovedLiterals
 pub mod FoundOrigins
 pub mod MadeDecisions
+pub mod WinningCircuits

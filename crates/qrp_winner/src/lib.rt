@@ -15,4 +15,4 @@ mod origins;
 mod removing;
 
 pub use decisions::decisions_of;
-pub use laws::decisions_win;
+pub use laws::{circuits_win, decisions_see_before, decisions_win};
