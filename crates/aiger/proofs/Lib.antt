@@ -1,1 +1,2 @@
 pub mod KeptGates
+mod WrittenLines

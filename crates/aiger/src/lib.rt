@@ -9,11 +9,13 @@
 //! - On the map: Circuit, Builder | circuits of AND gates, and their text in AIGER's formats.
 #![tactic(auto)]
 
+mod ascii;
 mod builder;
 mod circuit;
 mod fault;
 mod wire;
 
+pub use ascii::put_ascii;
 pub use builder::Builder;
 pub use circuit::{Circuit, Gate, Output};
 pub use fault::GateFault;
