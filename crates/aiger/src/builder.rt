@@ -4,10 +4,12 @@ ghost use Rattle.std.specs.Prelude.{◌≡◌, ℕ, ◌+◌, ◌^◌, ◌<◌, �
 ghost use Rattle.std.specs.Prelude.{IfOk, IfSome, IsTrue, OnErr, length};
 ghost use Rattle.std.specs.Result.{IsErrOf};
 ghost use Rattle.aiger.specs.Building.{Grows, IsBoth, IsFolded, IsGate, StandsForBoth, next_of};
+ghost use Rattle.aiger.specs.Circuits.{StandBelow};
 ghost use Rattle.aiger.specs.Wires.{constant, plain};
 
 use crate::circuit::Gate;
 use crate::fault::GateFault;
+use crate::slots::Slots;
 use crate::wire::Wire;
 use std::alloc::{AllocError, Global};
 use std::marker::Model;
@@ -22,9 +24,8 @@ const VARIABLES: u32 = 2147483648;
 pub struct Builder {
     first: u32,
     gates: Vec<Gate>,
-    /// Places of gates, by a hash of their wires: 0 for none, and else one more than a place. The
-    /// gate at a place is compared before it is taken, so any table is right.
-    slots: Vec<u32>,
+    /// The places of gates, counted from 1, by a hash of their wires.
+    slots: Slots,
 }
 
 impl Model for Builder {
@@ -95,31 +96,16 @@ fn in_order(left: Wire, right: Wire) -> Gate
     Gate { left, right }
 }
 
-/// Enters a place into a table that has room.
-fn enter(slots: &mut [u32], gate: &Gate, entry: u32) {
-    let len = slots.len();
-    let start = hash(gate);
-    for step in 0..len {
-        let index = start.wrapping_add(step) & (len - 1);
-        if slots.get(index) == Some(&0) {
-            slots[index] = entry;
-            return;
-        }
-    }
-}
-
 /// Lets a table have room for one more gate.
-fn make_room(slots: &mut Vec<u32>, gates: &[Gate]) -> Result<(), AllocError>
+fn make_room(slots: &mut Slots, gates: &[Gate]) -> Result<(), AllocError>
     requires { length gates.now ≤ 2147483648 }
 {
-    if gates.len() < slots.len() / 2 {
+    if slots.has_room(gates.len() + 1) {
         return Ok(());
     }
-    let width = slots.len().saturating_mul(2).max(16);
-    slots.clear();
-    slots.resize(width, 0)?;
+    slots.empty(2 * gates.len() + 1)?;
     for place in 0..gates.len() {
-        enter(slots, &gates[place], place as u32 + 1);
+        slots.enter(hash(&gates[place]), place as u32 + 1);
     }
     Ok(())
 }
@@ -134,8 +120,16 @@ impl Builder {
         Builder {
             first,
             gates: Vec::new(alloc),
-            slots: Vec::new(alloc),
+            slots: Slots::new(alloc),
         }
+    }
+
+    /// The gates, which stand on variables before them.
+    pub fn into_gates(self) -> Vec<Gate>
+        ensures gates { result.items ≡ self.gates }
+        ensures below { StandBelow self.first result.items }
+    {
+        self.gates
     }
 
     /// The gates.
@@ -143,6 +137,15 @@ impl Builder {
         ensures { result.now ≡ self.now.gates }
     {
         &self.gates
+    }
+
+    /// The wire that always has this value.
+    pub fn constant(&self, value: bool) -> Wire
+        ensures value { result ≡ constant value }
+        ensures below { 0 < next_of self.now }
+    {
+        let _first = self.first;
+        Wire::constant(value)
     }
 
     /// The wire of the conjunction of two wires. No gate is put if one of them is constant, if they
@@ -166,8 +169,8 @@ impl Builder {
         }
     }
 
-    #[tactic(auto, using(crate::proofs::KeptGates::found_value))]
     /// The wire of a gate, which is put if it is not there.
+    #[tactic(auto, using(crate::proofs::KeptGates::found_value))]
     fn gate(&mut self, gate: &Gate) -> Result<Wire, GateFault>
         requires left { gate.now.left.var < next_of self.old }
         requires right { gate.now.right.var < next_of self.old }
@@ -205,16 +208,11 @@ impl Builder {
     fn find(&self, gate: &Gate) -> Option<usize>
         ensures { IfSome result (λ place. slice_get self.now.gates place ≡ Some gate.now) }
     {
-        let len = self.slots.len();
-        let start = hash(gate);
-        for step in 0..len {
-            let index = start.wrapping_add(step) & (len - 1);
-            let entry = *self.slots.get(index)? as usize;
-            if entry == 0 {
-                return None;
-            }
-            if self.has_at(entry - 1, gate) {
-                return Some(entry - 1);
+        let hash = hash(gate);
+        for step in 0..self.slots.steps() {
+            let place = self.slots.entry(hash, step)? - 1;
+            if self.has_at(place, gate) {
+                return Some(place);
             }
         }
         None
@@ -237,7 +235,7 @@ impl Builder {
         }
         make_room(&mut self.slots, &self.gates)?;
         self.gates.push(*gate)?;
-        enter(&mut self.slots, gate, place as u32 + 1);
+        self.slots.enter(hash(gate), place as u32 + 1);
         Ok(self.wire_at(place))
     }
 }

@@ -13,10 +13,12 @@ mod ascii;
 mod builder;
 mod circuit;
 mod fault;
+mod slots;
 mod wire;
 
 pub use ascii::put_ascii;
 pub use builder::Builder;
 pub use circuit::{Circuit, Gate, Output};
 pub use fault::GateFault;
+pub use slots::Slots;
 pub use wire::Wire;

@@ -9,8 +9,17 @@
 //! - Trusted: nothing.
 #![tactic(auto)]
 
+mod assembling;
+mod chosen;
+mod conditions;
 mod decisions;
+mod entries;
+mod fault;
 mod laws;
+mod placed;
+mod places;
 
+pub use assembling::circuit_of;
 pub use decisions::Decisions;
+pub use fault::CircuitFault;
 pub use laws::decisions_are_a_strategy;
