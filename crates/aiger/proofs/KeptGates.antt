@@ -1,9 +1,9 @@
 -- Gates with more after them, and the value of each.
-use Rattle.std.proofs.Common.{arith, ◌≡◌, ◌<◌, ◌≤◌, ◌+◌, ℕ, zero, suc, Bool, true, false, not, cond, List, [], ◌∷◌, ◌++◌, Some, slice_get, refl, sym, ap, subst, ◌∙◌, length}
+use Rattle.std.proofs.Common.{arith, ◌≡◌, ◌<◌, ◌+◌, ℕ, zero, suc, Bool, true, false, not, cond, List, [], ◌∷◌, ◌++◌, Some, slice_get, refl, sym, ap, subst, ◌∙◌, length}
 use Rattle.std.proofs.lemmas.Grind.{common_steps}
 use Rattle.std.proofs.lemmas.List.{length-append}
 use Rattle.aiger.specs.Wires.{Wire, value_at, plain, opposite, constant}
-use Rattle.aiger.specs.Circuits.{Gate, KeepsGates, StandBelow, AreValues, both, gate_value}
+use Rattle.aiger.specs.Circuits.{Gate, KeepsGates, StandBelow, both, gate_value}
 use Rattle.aiger.specs.Building.{AreGates, Built, HasValues, IsFolded, StandsForBoth}
 
 pub keeps_left : (n : ℕ) (a b : List Gate) (run : ℕ → Bool) → KeepsGates n (a ++ b) run → KeepsGates n a run

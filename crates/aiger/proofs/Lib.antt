@@ -1,2 +1,3 @@
 pub mod KeptGates
 pub mod TrimmedGates
+mod WrittenLines

@@ -1,5 +1,5 @@
 -- Gates that are put one after the other.
-use Rattle.std.specs.Prelude.{◌≡◌, ℕ, ◌+◌, ◌<◌, ◌≤◌, Bool, false, List, ◌++◌, length}
+use Rattle.std.specs.Prelude.{◌≡◌, ℕ, ◌+◌, ◌≤◌, Bool, false, List, ◌++◌, length}
 use Rattle.aiger.specs.Wires.{Wire, value_at}
 use Rattle.aiger.specs.Circuits.{Gate, AreValues, StandBelow, both, gate_value}
 

@@ -1,5 +1,5 @@
 -- Wires of a circuit (AIGER: Biere 2007, its literals): a variable or its negation.
-use Rattle.std.specs.Prelude.{ℕ, ◌+◌, ◌*◌, ◌/◌, ◌%◌, Bool, true, false, not, nat_eq, if◌then◌else◌}
+use Rattle.std.specs.Prelude.{ℕ, ◌+◌, ◌*◌, ◌/◌, ◌%◌, Bool, false, not, nat_eq, if◌then◌else◌}
 
 -- a variable of a circuit, or its negation
 pub record Wire : Type 0 where

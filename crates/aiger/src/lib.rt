@@ -9,6 +9,7 @@
 //! - On the map: Circuit, Builder | circuits of AND gates, and their text in AIGER's formats.
 #![tactic(auto)]
 
+mod ascii;
 mod builder;
 mod circuit;
 mod fault;
@@ -16,6 +17,7 @@ mod slots;
 mod trimming;
 mod wire;
 
+pub use ascii::put_ascii;
 pub use builder::Builder;
 pub use circuit::{Circuit, Gate, Output};
 pub use fault::GateFault;

@@ -1,5 +1,6 @@
 pub mod Setting
 pub mod Played
+pub mod Computed
 mod Moves
 pub mod ToldLiterals
 pub mod ConditionGates

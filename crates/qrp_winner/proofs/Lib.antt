@@ -1,2 +1,6 @@
 pub mod Winning
-mod Existing
+pub mod FullyReduced
+pub mod RemovedLiterals
+pub mod FoundOrigins
+pub mod MadeDecisions
+pub mod WinningCircuits

@@ -262,6 +262,16 @@ module _ (by : Rules) (side : Side) (f : Qbf) (steps : List Inference) (core : L
   reducible_bound lits l red =
       in_bound (pairs f.blocks) (reduced_quantifier side) l.var (binds_in (pairs f.blocks) (reduced_quantifier side) l.var red.0)
 
+  -- each variable that a decision sets is bound
+  pub sets_bound : (d : Decision) → d ∈ ds → (l : Literal) → l ∈ d.sets → IsBound f.blocks l.var
+  sets_bound d h l k =
+      let got = in_got ds d h in
+      let p = place_of side f steps core ds are got.0 d got.1 in
+      let r = from_map side p.2.decision.removed l (subst (λ ls. l ∈ ls) p.2.decision.sets k) in
+      let var_of : Literal → ℕ = λ z. z.var in
+      subst (λ n. IsBound f.blocks n) (sym (ap var_of r.2 ∙ wanted_var side r.0))
+      (reducible_bound p.2.step.lits r.0 (p.2.decision.reducible r.0 r.1))
+
   -- each decision sees variables that stand before those that it sets
   pub sees_before : (v : ℕ) (d : Decision) → d ∈ ds → (l : Literal) → l ∈ d.sets → l.var ≡ v → (w : Literal) → w ∈ d.when
       → IsBound f.blocks w.var × (block f.blocks w.var < block f.blocks v)

@@ -1,2 +1,3 @@
 pub mod ProofDecisions
+pub mod Removing
 pub mod Laws

@@ -1,13 +1,18 @@
-//! From a proof that is checked, the whole strategy of the winner.
+//! From a proof that is checked, the strategy of the winner.
 //!
 //! - Owns: the decisions of a proof, one for each step of its core.
-//! - Offers: the laws.
-//! - Proved: the decisions of a proof win every play, and each proof has them.
-//! - Read first: `decisions_win`.
+//! - Offers: `decisions_of`, and the law that decisions win.
+//! - Proved: `decisions_of` returns the decisions of a proof; a player who keeps to the decisions of
+//!   a proof wins every play.
+//! - Read first: `decisions_of`, `decisions_win`.
 //! - Tested only: nothing.
 //! - Trusted: nothing.
 #![tactic(auto)]
 
+mod decisions;
 mod laws;
+mod origins;
+mod removing;
 
-pub use laws::{decisions_win, each_proof_has_decisions};
+pub use decisions::decisions_of;
+pub use laws::{circuits_win, decisions_see_before, decisions_win};
