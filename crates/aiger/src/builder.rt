@@ -128,6 +128,7 @@ impl Builder {
     pub fn into_gates(self) -> Vec<Gate>
         ensures gates { result.items ≡ self.gates }
         ensures below { StandBelow self.first result.items }
+        ensures few { self.first + length result.items ≤ 2147483648 }
     {
         self.gates
     }

@@ -155,18 +155,18 @@ output_named (p ∷ outs) v (inr h) = let w = output_named outs v h in (w.0, inr
 -- ---- runs
 
 -- the value of the gate of number n, and those before it
-abbrev after_gate : ℕ → Gate → (ℕ → Bool) → ℕ → Bool
+abbrev pub after_gate : ℕ → Gate → (ℕ → Bool) → ℕ → Bool
 after_gate n g e k = cond (eqb k n) (gate_value e g) (e k)
 
 -- the values of the gates from the number n on, one after the other
-abbrev exec : ℕ → List Gate → (ℕ → Bool) → ℕ → Bool
+abbrev pub exec : ℕ → List Gate → (ℕ → Bool) → ℕ → Bool
 exec n [] e = e
 exec n (g ∷ gates) e = exec (suc n) gates (after_gate n g e)
 
 other_stays : (n : ℕ) (g : Gate) (e : ℕ → Bool) (k : ℕ) → (k ≡ n → ⊥) → after_gate n g e k ≡ e k
 other_stays n g e k ne = rw (ne_eqb k n ne) refl
 
-exec_below : (n : ℕ) (gates : List Gate) (e : ℕ → Bool) (k : ℕ) → k < n → exec n gates e k ≡ e k
+pub exec_below : (n : ℕ) (gates : List Gate) (e : ℕ → Bool) (k : ℕ) → k < n → exec n gates e k ≡ e k
 exec_below n [] e k less = refl
 exec_below n (g ∷ gates) e k less =
     exec_below (suc n) gates (after_gate n g e) k (omega (arith, less)) ∙ other_stays n g e k (λ is. omega (arith, is, less))
@@ -174,7 +174,7 @@ exec_below n (g ∷ gates) e k less =
 same_value : (a b : ℕ → Bool) (w : Wire) → a w.var ≡ b w.var → value_at a w ≡ value_at b w
 same_value a b w e = ap (λ x. cond w.negated (not x) x) e
 
-exec_keeps : (n : ℕ) (gates : List Gate) (e : ℕ → Bool) → StandBelow n gates → KeepsGates n gates (exec n gates e)
+pub exec_keeps : (n : ℕ) (gates : List Gate) (e : ℕ → Bool) → StandBelow n gates → KeepsGates n gates (exec n gates e)
 exec_keeps n [] e below = tt
 exec_keeps n (g ∷ gates) e below =
     let out = exec (suc n) gates (after_gate n g e) in
@@ -186,10 +186,10 @@ exec_keeps n (g ∷ gates) e below =
       exec_keeps (suc n) gates (after_gate n g e) below.2,
     )
 
-abbrev started : (ℕ → Bool) → ℕ → Bool
+abbrev pub started : (ℕ → Bool) → ℕ → Bool
 started values k = cond (eqb k 0) false (values k)
 
-started_there : (values : ℕ → Bool) (k : ℕ) → 1 ≤ k → started values k ≡ values k
+pub started_there : (values : ℕ → Bool) (k : ℕ) → 1 ≤ k → started values k ≡ values k
 started_there values k some = rw (ne_eqb k 0 (λ e. omega (arith, e, some))) refl
 
 -- ---- the circuit

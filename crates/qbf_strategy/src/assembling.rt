@@ -2,7 +2,7 @@
 
 ghost use Rattle.std.specs.Prelude.{◌≡◌, ◌≤◌, ◌<◌, ◌+◌, ℕ, [], List, IfOk, OnOk, length, nat_eq, Some, slice_get, ◌++◌, ◌∷◌, if◌then◌else◌};
 ghost use Rattle.qbf_core.specs.Blocks.{IsPrefix, is_quantifier, pairs};
-ghost use Rattle.aiger.specs.Building.{next_of};
+ghost use Rattle.aiger.specs.Circuits.{first_gate};
 ghost use Rattle.qbf_strategy.specs.Assembling.{AllBelow};
 ghost use Rattle.qbf_strategy.specs.Chains.{HaveChains, with_lists};
 ghost use Rattle.qbf_strategy.specs.Chosen.{AddsInput, AddsOutput, AreAssembled, IsUnassembled};
@@ -18,7 +18,7 @@ use crate::entries::Entries;
 use crate::fault::CircuitFault;
 use crate::placed::{Here, Task};
 use crate::places::Places;
-use aiger::{Circuit, Output, Wire};
+use aiger::{Circuit, Output, Wire, trimmed};
 use qbf_core::{Prefix, Quantifier, Var};
 use std::alloc::{AllocError, Global};
 
@@ -176,23 +176,16 @@ fn assemble(
     Ok(assembly)
 }
 
-/// The circuit by which the player of a quantifier keeps to decisions: its inputs are the variables
-/// of the other player, and its outputs those of the player, in the order of the prefix. In each run
-/// an output has the value that is decided on its variable; if nothing is decided on it, the value
-/// is some constant of the output.
-///
-/// # Errors
-/// `NoMemory` if an allocation fails; `TooLong` if AIGER has no numbers for the gates, or if the
-/// decisions set 4294967295 literals or more; `NoProof` if a decision sees a variable that does not
-/// stand before one that it sets, or has one that is not bound.
-pub fn circuit_of(
+/// The circuit of decisions, with all gates that were put.
+fn whole_circuit(
     alloc: Global,
     prefix: &Prefix,
     mine: Quantifier,
     decisions: &Decisions,
 ) -> Result<Circuit, CircuitFault>
-    ensures { IfOk result (λ c. Computes mine (pairs prefix.now)
+    ensures computes { IfOk result (λ c. Computes mine (pairs prefix.now)
         (decisions_by mine decisions.now.kept.whole decisions.now.removed.whole) c) }
+    ensures few { IfOk result (λ c. first_gate c + length c.gates ≤ 2147483648) }
 {
     if decisions.removed.whole_len() > decisions.kept.whole_len() {
         return Err(CircuitFault::NoProof);
@@ -212,4 +205,26 @@ pub fn circuit_of(
         outputs: assembly.outputs,
         gates: assembly.work.gates.into_gates(),
     })
+}
+
+/// The circuit by which the player of a quantifier keeps to decisions: its inputs are the variables
+/// of the other player, and its outputs those of the player, in the order of the prefix. In each run
+/// an output has the value that is decided on its variable; if nothing is decided on it, the value
+/// is some constant of the output.
+///
+/// # Errors
+/// `NoMemory` if an allocation fails; `TooLong` if AIGER has no numbers for the gates, or if the
+/// decisions set 4294967295 literals or more; `NoProof` if a decision sees a variable that does not
+/// stand before one that it sets, or has one that is not bound.
+pub fn circuit_of(
+    alloc: Global,
+    prefix: &Prefix,
+    mine: Quantifier,
+    decisions: &Decisions,
+) -> Result<Circuit, CircuitFault>
+    ensures { IfOk result (λ c. Computes mine (pairs prefix.now)
+        (decisions_by mine decisions.now.kept.whole decisions.now.removed.whole) c) }
+{
+    let circuit = whole_circuit(alloc, prefix, mine, decisions)?;
+    Ok(trimmed(alloc, circuit)?)
 }
