@@ -10,6 +10,7 @@
 #![tactic(auto)]
 
 mod ascii;
+mod binary;
 mod builder;
 mod circuit;
 mod fault;
@@ -18,6 +19,7 @@ mod trimming;
 mod wire;
 
 pub use ascii::put_ascii;
+pub use binary::put_binary;
 pub use builder::Builder;
 pub use circuit::{Circuit, Gate, Output};
 pub use fault::GateFault;
