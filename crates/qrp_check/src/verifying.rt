@@ -7,7 +7,7 @@ ghost use Rattle.qrp_check.specs.Checked.{StopsOnceRead, call_of, verdict_of};
 ghost use Rattle.qrp_check.specs.Core.{ListsCore};
 ghost use Rattle.qrp_check.specs.Headline.{Headline};
 ghost use Rattle.qrp_check.specs.Proof.{Proves};
-ghost use Rattle.qrp_check.specs.Verdict.{IsVerdictUnless, IsFormulaDevice, IsTraceDevice};
+ghost use Rattle.qrp_check.specs.Verdict.{IsVerdictUnless, IsFormulaDevice, IsTraceDevice, is_sat};
 ghost use Rattle.qrp_check.specs.Verdict.{IsFormulaFault, StandsOnLine, WasRead, StopsAfterTrace};
 
 use crate::checking::{check_kept, check_marked, is_sat};
@@ -35,6 +35,7 @@ pub fn find_proof_of<B: Source>(
     ensures source { IsOfSource (B.remaining trace.old) (B.remaining trace.new) result }
     ensures proves { IfOk result (λ p. Proves rules formula.now p.0.sets p.0.steps p.0.result) }
     ensures core { IfOk result (λ p. ListsCore p.0.steps p.1.core.items) }
+    ensures claim { IfOk result (λ p. p.1.truth ≡ is_sat p.0.result) }
 {
     let whole = read_compact(alloc, trace)?;
     let context = Context {

@@ -4,3 +4,4 @@ pub mod RemovedLiterals
 pub mod FoundOrigins
 pub mod MadeDecisions
 pub mod WinningCircuits
+pub mod StrategyOfBytes
