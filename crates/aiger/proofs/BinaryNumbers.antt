@@ -1,5 +1,6 @@
 -- The bytes of numbers and gates, one after the other.
-use Rattle.qbf_core.proofs.Cited.{arith, ◌≡◌, ◌<◌, ◌≤◌, ◌+◌, ◌-◌, ℕ, suc, List, [], ◌∷◌, ◌++◌, ap, ◌∙◌, sym, refl, Some, slice_get, drop, length}
+use Rattle.qbf_core.proofs.Cited.{arith, ◌≡◌, ◌<◌, ◌≤◌, ◌+◌, ◌-◌, ℕ, suc, List, [], ◌∷◌, ◌++◌, ap, ◌∙◌, sym, refl, Some, slice_get, drop}
+use Rattle.qbf_core.proofs.Cited.{length}
 use Rattle.std.proofs.Common.{◌/◌, ◌%◌, map}
 use Rattle.std.specs.Prelude.{Ok, Option, codes}
 use Rattle.std.proofs.Common.{subst}
@@ -52,10 +53,12 @@ rest_is c inputs outputs gates a b d =
     rw (a, b, d) (ap (λ n. gates_bytes n c.gates ++ symbols c) k)
 
 -- nothing is left to be sent
-pub sent_all : {S T E : Type 0} {written : S → Option (List ℕ)} {failures : S → ℕ} (failed_last : S → Type 0) {a b : S} {whole rest : List ℕ} (u : T)
+pub sent_all : {S T E : Type 0} {written : S → Option (List ℕ)} {failures : S → ℕ} (failed_last : S
+    → Type 0) {a b : S} {whole rest : List ℕ} (u : T)
     → IsSent written failures a b whole rest → rest ≡ [] → IsPut {E = E} written failures failed_last a b whole (Ok u)
 sent_all {written = written} failed_last {a = a} {b = b} {whole = whole} u s none = record {
-  ok = subst (λ (t : List ℕ). Appends (written a) (written b) t) (sym (s.parts ∙ (ap (λ (l : List ℕ). s.sent ++ l) none ∙ append-nil s.sent))) s.appended;
+  ok = subst (λ (t : List ℕ). Appends (written a) (written b) t) (sym (s.parts
+      ∙ (ap (λ (l : List ℕ). s.sent ++ l) none ∙ append-nil s.sent))) s.appended;
   err = tt;
   failures_ok = s.works;
   failures_err = tt;

@@ -1,5 +1,6 @@
 -- Some gates of a circuit, anew, and runs of both.
-use Rattle.std.proofs.Common.{arith, ◌≡◌, ◌<◌, ◌≤◌, ◌+◌, ◌-◌, ℕ, zero, suc, Bool, true, false, not, cond, List, [], ◌∷◌, ◌++◌, Some, slice_get, refl}
+use Rattle.std.proofs.Common.{arith, ◌≡◌, ◌<◌, ◌≤◌, ◌+◌, ◌-◌, ℕ, zero, suc, Bool, true, false, not, cond, List, [], ◌∷◌, ◌++◌, Some}
+use Rattle.std.proofs.Common.{slice_get, refl}
 use Rattle.std.specs.Prelude.{IfSome}
 use Rattle.std.proofs.Common.{Option, add-one, take, sym, ap, subst, ◌∙◌, length, map, inl, inr, ◌⊎◌, nat_eq}
 use Rattle.std.proofs.lemmas.List.{length-append}
@@ -7,11 +8,13 @@ use Rattle.std.specs.List.{AllByRecursion}
 use Rattle.qbf_core.proofs.Cited.{eqb_tells}
 use Rattle.aiger.specs.Building.{AreGates, Built, HasValues}
 use Rattle.aiger.specs.Circuits.{AreValues, Circuit, Gate, IsOrdered, IsRun, KeepsGates, StandBelow, both, gate_value}
-use Rattle.aiger.specs.Trimming.{AddsGate, Agree, AreSame, IsSame, IsSameCircuit, IsSameGate, IsTrimming, IsUntrimmed, OutputsSame, PutsGate}
+use Rattle.aiger.specs.Trimming.{AddsGate, Agree, AreSame, IsSame, IsSameCircuit, IsSameGate, IsTrimming, IsUntrimmed, OutputsSame}
+use Rattle.aiger.specs.Trimming.{PutsGate}
 use Rattle.aiger.specs.Wires.{Wire, constant, plain, turned, value_at}
 use Rattle.aiger.proofs.KeptGates.{keeps_at, keeps_left, opposite_value, pushed_gates, pushed_value}
 
-turned_value : (run : ℕ → Bool) (w : Wire) (negated : Bool) → value_at run (turned w negated) ≡ cond negated (not (value_at run w)) (value_at run w)
+turned_value : (run : ℕ → Bool) (w : Wire) (negated : Bool)
+    → value_at run (turned w negated) ≡ cond negated (not (value_at run w)) (value_at run w)
 turned_value run w true = opposite_value run w
 turned_value run w false = refl
 
@@ -20,7 +23,8 @@ turned_var w true = refl
 turned_var w false = refl
 
 module _ (first : ℕ) (old gates : List Gate) (ws : List Wire) (is : IsTrimming first old gates ws) where
-  pub same_wire : (v x w : Wire) → slice_get ws v.var ≡ Some x → (x ≡ constant true → ⊥) → w ≡ turned x v.negated → IsSame first old gates v w
+  pub same_wire : (v x w : Wire) → slice_get ws v.var ≡ Some x → (x ≡ constant true → ⊥) → w ≡ turned x v.negated
+      → IsSame first old gates v w
   same_wire v x w there some w_is = subst (λ (y : Wire). IsSame first old gates v y) (sym w_is) (elim (is.same v.var x there) [
     | inl none ↦ absurd (some none)
     | inr same ↦ record {
@@ -39,7 +43,8 @@ same_grown first old gates more v w same = record {
   value = λ run other has others agree. same.value run other has (values_left first gates more other others) agree;
 }
 
-pub gate_put : (first : ℕ) (g n : Gate) (gates new : List Gate) (ws : List Wire) (w : Wire) → new ≡ gates ++ n ∷ [] → first + length gates < 2147483648
+pub gate_put : (first : ℕ) (g n : Gate) (gates new : List Gate) (ws : List Wire) (w : Wire) → new ≡ gates ++ n ∷ []
+    → first + length gates < 2147483648
     → w ≡ plain (first + length gates)
     → ((old : List Gate) → IsTrimming first old gates ws → IsSame first old gates g.left n.left)
     → ((old : List Gate) → IsTrimming first old gates ws → IsSame first old gates g.right n.right)
@@ -54,7 +59,8 @@ gate_put first g n gates new ws w new_is few w_is left right = record {
     ];
   };
   is = λ old is. inr (record {
-    below = (let var : Wire → ℕ = λ x. x.var in let e = ap var w_is in let l = ap length new_is ∙ length-append gates (n ∷ []) in omega arith);
+    below = (let var : Wire
+        → ℕ = λ x. x.var in let e = ap var w_is in let l = ap length new_is ∙ length-append gates (n ∷ []) in omega arith);
     value = λ run other has others agree.
         let before = values_left first gates (n ∷ []) other (subst (λ (gs : List Gate). AreValues first gs other) new_is others) in
         pushed_value (record { first = first; gates = new }) gates n w (length gates) new_is refl w_is other others
@@ -63,10 +69,12 @@ gate_put first g n gates new ws w new_is few w_is left right = record {
   });
 }
 
-pub gate_out : (first : ℕ) (g : Gate) (gates : List Gate) (ws : List Wire) (w : Wire) → w ≡ constant true → PutsGate first g gates gates ws w
+pub gate_out : (first : ℕ) (g : Gate) (gates : List Gate) (ws : List Wire) (w : Wire) → w ≡ constant true
+    → PutsGate first g gates gates ws w
 gate_out first g gates ws w out = record { still = λ old is. is; is = λ old is. inl out }
 
-at_push : (ws : List Wire) (w : Wire) (n : ℕ) (x : Wire) → slice_get (ws ++ w ∷ []) n ≡ Some x → ((n ≡ length ws) × (x ≡ w)) ⊎ (slice_get ws n ≡ Some x)
+at_push : (ws : List Wire) (w : Wire) (n : ℕ) (x : Wire) → slice_get (ws ++ w ∷ []) n ≡ Some x
+    → ((n ≡ length ws) × (x ≡ w)) ⊎ (slice_get ws n ≡ Some x)
 at_push [] w zero x at = inl (refl, sym (cc at))
 at_push [] w (suc n) x at = absurd (cc at)
 at_push (y ∷ ws) w zero x at = inr at
@@ -82,7 +90,8 @@ gate_added first g gates new ws more w puts more_is = record {
   still = λ old i at place is. subst (λ (x : List Wire). IsTrimming first old new x) (sym more_is) (record {
     sound = (puts.still old is).sound;
     same = λ n x there. elim (at_push ws w n x there) [
-      | inl (n_is, x_is) ↦ subst (λ (y : Wire). (y ≡ constant true) ⊎ IsSame first old new (record { var = n; negated = false }) y) (sym x_is)
+      | inl (n_is, x_is) ↦ subst (λ (y : Wire). (y
+          ≡ constant true) ⊎ IsSame first old new (record { var = n; negated = false }) y) (sym x_is)
           (elim (puts.is old is) [
             | inl out ↦ inl out
             | inr same ↦ inr (record {
@@ -192,7 +201,8 @@ same_itself c ordered = record {
         everywhere (suc n) gates run other stands.2 has.1 others.1
         (λ j under. more n g run other stands.0 stands.1 has.0 others.0 agree j under) k (omega (arith, less))
       where
-        more : (n : ℕ) (g : Gate) (run other : ℕ → Bool) → g.left.var < n → g.right.var < n → run n ≡ gate_value run g → other n ≡ gate_value other g
+        more : (n : ℕ) (g : Gate) (run other : ℕ → Bool) → g.left.var < n → g.right.var < n → run n ≡ gate_value run g
+            → other n ≡ gate_value other g
             → Agree n run other → Agree (suc n) run other
         more n g run other left right has others agree j under = elim (eqb_tells j n) [
           | inl (t, e) ↦ subst (λ (m : ℕ). run m ≡ other m) (sym e) (has
@@ -201,11 +211,13 @@ same_itself c ordered = record {
           | inr (f, ne) ↦ agree j (omega (arith, ne))
         ]
 
-    values_itself : (os : List (ℕ × Wire)) → AllByRecursion (λ o. o.1.var < suc (length c.inputs) + length c.gates) os → (run other : ℕ → Bool)
+    values_itself : (os : List (ℕ × Wire)) → AllByRecursion (λ o. o.1.var < suc (length c.inputs) + length c.gates) os → (run other : ℕ
+        → Bool)
         → Agree (suc (length c.inputs) + length c.gates) run other → map (λ o. value_at other o.1) os ≡ map (λ o. value_at run o.1) os
     values_itself [] all run other agree = refl
     values_itself (o ∷ os) all run other agree =
-        ap (λ (b : Bool). b ∷ map (λ o. value_at other o.1) os) (sym (wire_same (suc (length c.inputs) + length c.gates) run other agree o.1 all.0))
+        ap (λ (b : Bool). b ∷ map (λ o. value_at other o.1) os)
+        (sym (wire_same (suc (length c.inputs) + length c.gates) run other agree o.1 all.0))
         ∙ ap (λ (l : List Bool). value_at run o.1 ∷ l) (values_itself os all.1 run other agree)
 
 take_next : {X : Type 0} (xs : List X) (i : ℕ) (x : X) → slice_get xs i ≡ Some x → take (i + 1) xs ≡ take i xs ++ x ∷ []
@@ -216,8 +228,10 @@ take_next xs i x at = rw (add-one) (from xs i x at)
     from (y ∷ xs) zero x at = let e : y ≡ x = cc at in rw e refl
     from (y ∷ xs) (suc i) x at = ap (λ (l : List _). y ∷ l) (from xs i x at)
 
-pub outputs_next : (first : ℕ) (old gates : List Gate) (outs : List (ℕ × Wire)) (i : ℕ) (o : ℕ × Wire) (ds more : List (ℕ × Wire)) (d : ℕ × Wire)
-    → slice_get outs i ≡ Some o → more ≡ ds ++ d ∷ [] → d.0 ≡ o.0 → IsSame first old gates o.1 d.1 → OutputsSame first old gates (take i outs) ds
+pub outputs_next : (first : ℕ) (old gates : List Gate) (outs : List (ℕ × Wire)) (i : ℕ) (o : ℕ × Wire) (ds more : List (ℕ × Wire)) (d : ℕ
+    × Wire)
+    → slice_get outs i ≡ Some o → more ≡ ds ++ d ∷ [] → d.0 ≡ o.0 → IsSame first old gates o.1 d.1
+    → OutputsSame first old gates (take i outs) ds
     → OutputsSame first old gates (take (i + 1) outs) more
 outputs_next first old gates outs i o ds more d at is name same before =
     subst (λ (os : List (ℕ × Wire)). OutputsSame first old gates os more) (sym (take_next outs i o at))

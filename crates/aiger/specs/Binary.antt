@@ -1,5 +1,6 @@
 -- The text of a circuit in AIGER's binary format (Biere 2007; version 1.9: Biere, Heljanko, Wieringa 2011), without latches and comments.
--- Inputs have no lines, and a gate has two numbers: by how much its own literal is above the greater one of its wires', and that above the other.
+-- Inputs have no lines, and a gate has two numbers: by how much its own literal is above the greater one of its wires', and that above the
+-- other.
 use Rattle.std.specs.Prelude.{ℕ, zero, suc, ◌+◌, ◌-◌, ◌*◌, ◌/◌, ◌%◌, nat_lt, if◌then◌else◌, List, [], ◌∷◌, ◌++◌, codes}
 use Rattle.std.specs.List.{flat_map}
 use Rattle.aiger.specs.Circuits.{Circuit, Gate, first_gate}

@@ -3,7 +3,8 @@
 ghost use Rattle.std.specs.Prelude.{◌≡◌, ◌<◌, ◌++◌, ◌+◌, ◌^◌, codes, length, map, Some, slice_get};
 ghost use Rattle.qbf_text.specs.Written.{IsPut};
 ghost use Rattle.std.specs.List.{flat_map};
-ghost use Rattle.aiger.specs.Texts.{ascii_text, beginning, counts, gate_line, gate_lines, input_line};
+ghost use Rattle.aiger.specs.Texts.{ascii_text, beginning, counts, gate_line, gate_lines};
+ghost use Rattle.aiger.specs.Texts.{input_line};
 ghost use Rattle.aiger.specs.Texts.{input_lines, output_line, symbol_line, symbol_lines};
 
 use crate::circuit::{Circuit, Gate, Output};

@@ -13,7 +13,8 @@ use qbf_text::{Sink, SinkFault, put_byte};
 
 /// Sends a number below 2^35 by its groups of seven bits.
 fn put_number<K: Sink>(sink: &mut K, number: u64) -> Result<(), SinkFault>
-    ensures { IsPut K.written K.failures K.failed_last sink.old sink.new (number_bytes number) result }
+    ensures { IsPut K.written K.failures K.failed_last sink.old sink.new
+        (number_bytes number) result }
 {
     let mut rest = number;
     for _group in 0..5u32 {
@@ -71,7 +72,8 @@ fn put_two<K: Sink>(sink: &mut K, first: u64, second: u64) -> Result<(), SinkFau
 /// Sends the bytes of the gate with a number.
 fn put_gate<K: Sink>(sink: &mut K, n: u64, gate: &Gate) -> Result<(), SinkFault>
     requires { n < 2 ^ 62 }
-    ensures { IsPut K.written K.failures K.failed_last sink.old sink.new (gate_bytes n gate.now) result }
+    ensures { IsPut K.written K.failures K.failed_last sink.old sink.new
+        (gate_bytes n gate.now) result }
 {
     put_two(sink, rise(n, gate), gap(gate))
 }

@@ -2,7 +2,8 @@
 //!
 //! - Owns: wires, gates, circuits, and how they are put together.
 //! - Offers: `Circuit`, `Gate`, `Output`, `Wire`; `Builder::and`.
-//! - Proved: a gate has the value of its two wires, whether it is new, folded or one that was there.
+//! - Proved: a gate has the value of its two wires, whether it is new, folded or one that was
+//!   there.
 //! - Read first: `Builder::and`.
 //! - Tested only: nothing.
 //! - Trusted: nothing.

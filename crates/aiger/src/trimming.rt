@@ -1,8 +1,10 @@
 //! A circuit without the gates that no output needs.
 
-ghost use Rattle.std.specs.Prelude.{◌≡◌, ℕ, ◌+◌, ◌<◌, ◌≤◌, ◌≢◌, true, ◌++◌, ◌∷◌, [], List, length, Some, slice_get, IfOk, IfSome, OnOk};
+ghost use Rattle.std.specs.Prelude.{◌≡◌, ℕ, ◌+◌, ◌<◌, ◌≤◌, ◌≢◌, true, ◌++◌, ◌∷◌, [], List, length};
+ghost use Rattle.std.specs.Prelude.{Some, slice_get, IfOk, IfSome, OnOk};
 ghost use Rattle.aiger.specs.Circuits.{Gate, IsOrdered, first_gate};
-ghost use Rattle.aiger.specs.Trimming.{AddsGate, IsSame, IsSameCircuit, IsTrimming, IsUntrimmed, OutputsSame, PutsGate};
+ghost use Rattle.aiger.specs.Trimming.{AddsGate, IsSame, IsSameCircuit, IsTrimming, IsUntrimmed};
+ghost use Rattle.aiger.specs.Trimming.{OutputsSame, PutsGate};
 ghost use Rattle.aiger.specs.Wires.{constant};
 
 use crate::circuit::{Circuit, Gate, Output};
@@ -94,7 +96,8 @@ impl Trimming {
         Some(found.turned(wire.is_negated()))
     }
 
-    /// Puts a gate of the circuit, and gives its wire; or leaves it out, and gives the constant true.
+    /// Puts a gate of the circuit, and gives its wire; or leaves it out, and gives the constant
+    /// true.
     fn put(&mut self, gate: &Gate) -> Result<Wire, AllocError>
         ensures put { IfOk result (PutsGate self.old.first gate.now self.old.gates.items
             self.new.gates.items self.old.wires.items) }

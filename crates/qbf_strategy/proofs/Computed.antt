@@ -95,7 +95,8 @@ module _ (mine : Quantifier) where
     | inr k ↦ (let w = in_part (opponent mine) ps v k in pair_var ps w.0 v w.1)
   ]
 
-  parts_distinct : (ps : List (Quantifier × ℕ)) → Distinct (variables ps) → Distinct (variables_of mine ps ++ variables_of (opponent mine) ps)
+  parts_distinct : (ps : List (Quantifier × ℕ)) → Distinct (variables ps)
+      → Distinct (variables_of mine ps ++ variables_of (opponent mine) ps)
   parts_distinct [] d = tt
   parts_distinct ((p, v) ∷ ps) d =
       let rest = parts_distinct ps d.1 in
@@ -142,7 +143,8 @@ vars_outputs : (outs : List (ℕ × Wire)) (run : ℕ → Bool) → vars_of (out
 vars_outputs [] run = refl
 vars_outputs (o ∷ outs) run = ap (λ ws. o.0 ∷ ws) (vars_outputs outs run)
 
-output_set : (outs : List (ℕ × Wire)) (run : ℕ → Bool) (o : ℕ × Wire) → o ∈ outs → literal_of o.0 (value_at run o.1) ∈ output_literals outs run
+output_set : (outs : List (ℕ × Wire)) (run : ℕ → Bool) (o : ℕ × Wire) → o ∈ outs
+    → literal_of o.0 (value_at run o.1) ∈ output_literals outs run
 output_set [] run o h = absurd h
 output_set (p ∷ outs) run o (inl e) = inl (let g : ℕ × Wire → Literal = λ q. literal_of q.0 (value_at run q.1) in ap g e)
 output_set (p ∷ outs) run o (inr h) = inr (output_set outs run o h)
@@ -201,7 +203,8 @@ same_bool t clean u false false h k = refl
 same_bool t clean u true false h k = absurd (clean (positive u) h k)
 same_bool t clean u false true h k = absurd (clean (negative u) h k)
 
-input_from : (n : ℕ) (vs : List ℕ) (run : ℕ → Bool) (i u : ℕ) → slice_get vs i ≡ Some u → literal_of u (run (n + i)) ∈ input_literals n vs run
+input_from : (n : ℕ) (vs : List ℕ) (run : ℕ → Bool) (i u : ℕ) → slice_get vs i ≡ Some u
+    → literal_of u (run (n + i)) ∈ input_literals n vs run
 input_from n [] run i u here = absurd (cc here)
 input_from n (v ∷ vs) run zero u here =
     let e : v ≡ u = cc here in
@@ -237,14 +240,16 @@ own_quantifier : (q : Quantifier) → is_quantifier q q ≡ true
 own_quantifier All = refl
 own_quantifier Exists = refl
 
-module _ (mine : Quantifier) (f : Qbf) (closed : IsClosed f) (ds : List Decision) (c : Circuit) (computes : Computes mine (pairs f.blocks) ds c)
+module _ (mine : Quantifier) (f : Qbf) (closed : IsClosed f) (ds : List Decision) (c : Circuit)
+    (computes : Computes mine (pairs f.blocks) ds c)
     (sees : (v : ℕ) (d : Decision) → d ∈ ds → (l : Literal) → l ∈ d.sets → l.var ≡ v → (w : Literal) → w ∈ d.when
     → IsBound f.blocks w.var × (block f.blocks w.var < block f.blocks v)) where
   distinct : Distinct (variables (pairs f.blocks))
   distinct = apart_of (variables (pairs f.blocks)) closed.distinct
 
   -- the output of a variable of the player
-  output_of : (p : Quantifier) (v : ℕ) → (p, v) ∈ pairs f.blocks → is_quantifier p mine ≡ true → (o : ℕ × Wire) × (o ∈ c.outputs) × (o.0 ≡ v)
+  output_of : (p : Quantifier) (v : ℕ) → (p, v) ∈ pairs f.blocks → is_quantifier p mine ≡ true
+      → (o : ℕ × Wire) × (o ∈ c.outputs) × (o.0 ≡ v)
   output_of p v h is = output_named c.outputs v (subst (λ vs. v ∈ vs) (sym computes.outputs) (part_of mine p (pairs f.blocks) v h is))
 
   -- the place of an input
@@ -332,12 +337,14 @@ module _ (mine : Quantifier) (f : Qbf) (closed : IsClosed f) (ds : List Decision
               let o = output_of w.0 u w.1 my.0 in
               let there : (r : ℕ → Bool) (is : IsRun c r) → literal_of u (value_at r o.0.1) ∈ t r is =
               λ r is. subst (λ n. literal_of n (value_at r o.0.1) ∈ t r is) o.2 (output_there r is o.0 o.1) in
-              let is : b ≡ value_at run o.0.1 = same_bool (t run is_run) (t_clean run is_run) u b (value_at run o.0.1) h (there run is_run) in
+              let is : b ≡ value_at run o.0.1 = same_bool (t run is_run) (t_clean run is_run) u b (value_at run o.0.1) h
+              (there run is_run) in
               let low : block f.blocks o.0.0 ≤ k = subst (λ n. block f.blocks n ≤ k) (sym o.2) (omega (arith, less)) in
               subst (λ x. literal_of u x ∈ t again is_again) (sym (is ∙ same_output k before o.0 o.1 low)) (there again is_again)
           | inr theirs ↦
               let i = input_of w.0 u w.1 theirs.1 in
-              let is : b ≡ run (suc i.0) = same_bool (t run is_run) (t_clean run is_run) u b (run (suc i.0)) h (input_there run is_run i.0 u i.1) in
+              let is : b ≡ run (suc i.0) = same_bool (t run is_run) (t_clean run is_run) u b (run (suc i.0)) h
+              (input_there run is_run i.0 u i.1) in
               subst (λ x. literal_of u x ∈ t again is_again) (sym (is ∙ same_inputs i.0 u i.1 (omega (arith, less, up))))
               (input_there again is_again i.0 u i.1)
         ]

@@ -1,5 +1,6 @@
 -- A circuit with the same outputs computes the same decisions.
-use Rattle.std.proofs.Common.{arith, ◌≡◌, ◌<◌, ◌≤◌, ◌+◌, ℕ, zero, suc, Bool, true, false, not, cond, List, [], ◌∷◌, ◌++◌, Some, slice_get, refl}
+use Rattle.std.proofs.Common.{arith, ◌≡◌, ◌<◌, ◌≤◌, ◌+◌, ℕ, zero, suc, Bool, true, false, not, cond, List, [], ◌∷◌, ◌++◌, Some, slice_get}
+use Rattle.std.proofs.Common.{refl}
 use Rattle.std.proofs.Common.{sym, ap, subst, ◌∙◌, length, map, inl, inr}
 use Rattle.qbf_core.specs.Literal.{Literal}
 use Rattle.qbf_core.specs.Members.{◌∈◌}
@@ -18,7 +19,8 @@ record AtPlace (os ds : List (ℕ × Wire)) (d : ℕ × Wire) : Type 0 where
   pub one : ℕ × Wire
   pub in_it : one ∈ os
   pub name : d.0 ≡ one.0
-  pub value : (run other : ℕ → Bool) → map (λ o. value_at other o.1) ds ≡ map (λ o. value_at run o.1) os → value_at other d.1 ≡ value_at run one.1
+  pub value : (run other : ℕ → Bool) → map (λ o. value_at other o.1) ds ≡ map (λ o. value_at run o.1) os
+      → value_at other d.1 ≡ value_at run one.1
 
 head_same : {X : Type 0} {x y : X} {xs ys : List X} → x ∷ xs ≡ y ∷ ys → x ≡ y
 head_same e = cc e
@@ -53,7 +55,8 @@ literals_same (o ∷ os) [] run other names values = absurd (cc names)
 literals_same (o ∷ os) (d ∷ ds) run other names values =
     ap (λ (n : ℕ). literal_of n (value_at run o.1) ∷ map (λ o. literal_of o.0 (value_at run o.1)) os) (sym (head_same names))
     ∙ (ap (λ (b : Bool). literal_of d.0 b ∷ map (λ o. literal_of o.0 (value_at run o.1)) os) (sym (head_same values))
-    ∙ ap (λ (ls : List Literal). literal_of d.0 (value_at other d.1) ∷ ls) (literals_same os ds run other (tail_same names) (tail_same values)))
+    ∙ ap (λ (ls : List Literal). literal_of d.0 (value_at other d.1) ∷ ls)
+    (literals_same os ds run other (tail_same names) (tail_same values)))
 
 inputs_same : (n : ℕ) (vs : List ℕ) (run other : ℕ → Bool) → ((k : ℕ) → n ≤ k → k < n + length vs → run k ≡ other k)
     → input_literals n vs run ≡ input_literals n vs other
@@ -63,7 +66,8 @@ inputs_same n (v ∷ vs) run other same =
     ∙ ap (λ (ls : List Literal). literal_of v (other n) ∷ ls)
     (inputs_same (suc n) vs run other (λ k some few. same k (omega (arith, some)) (omega (arith, few))))
 
-pub computes_same : (mine : Quantifier) (ps : List (Quantifier × ℕ)) (ds : List Decision) (c d : Circuit) → Computes mine ps ds c → IsSameCircuit c d
+pub computes_same : (mine : Quantifier) (ps : List (Quantifier × ℕ)) (ds : List Decision) (c d : Circuit) → Computes mine ps ds c
+    → IsSameCircuit c d
     → Computes mine ps ds d
 computes_same mine ps ds c d is same = record {
   inputs = same.inputs ∙ is.inputs;

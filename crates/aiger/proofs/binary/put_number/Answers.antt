@@ -5,7 +5,8 @@ use Rattle.aiger.proofs.binary.put_number.Goals as goal
 
 pub returns-then-rest-lt128 : goal.returns-then-rest-lt128
 returns-then-rest-lt128 g c =
-    sent_last c.loop-group.invariant.sent (groups_last c.loop-group._group c.loop-group.rest (omega arith) (omega arith)) c.put_byte.ensures.put
+    sent_last c.loop-group.invariant.sent
+    (groups_last c.loop-group._group c.loop-group.rest (omega arith) (omega arith)) c.put_byte.ensures.put
 
 pub returns-in_err-put_byte : goal.returns-in_err-put_byte
 returns-in_err-put_byte g c =

@@ -11,5 +11,6 @@ pub returns-in_ok-push-2-clause-added : goal.returns-in_ok-push-2-clause-added
 returns-in_ok-push-2-clause-added c =
     gate_added c.args.self.now.first c.args.gate.now c.args.self.now.gates.items c.args.self.now.gates.items c.args.self.now.wires.items
     c.push-else-needed.new.self.items c.constant.result
-    (gate_out c.args.self.now.first c.args.gate.now c.args.self.now.gates.items c.args.self.now.wires.items c.constant.result c.constant.ensures)
+    (gate_out c.args.self.now.first c.args.gate.now c.args.self.now.gates.items c.args.self.now.wires.items c.constant.result
+    c.constant.ensures)
     c.in_ok-push-2.ensures.items
