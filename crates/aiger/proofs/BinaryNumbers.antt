@@ -1,5 +1,5 @@
 -- The bytes of numbers and gates, one after the other.
-use Rattle.qbf_core.proofs.Cited.{arith, ◌≡◌, ◌<◌, ◌≤◌, ◌+◌, ◌-◌, ℕ, suc, List, [], ◌∷◌, ◌++◌, ap, ◌∙◌, sym, refl, Some, slice_get, drop}
+use Rattle.qbf_core.proofs.Cited.{arith, ◌≡◌, ◌<◌, ◌≤◌, ◌+◌, ◌-◌, ℕ, suc, List, [], ◌∷◌, ◌++◌, ap, ◌∙◌, sym, Some, slice_get, drop}
 use Rattle.qbf_core.proofs.Cited.{length}
 use Rattle.std.proofs.Common.{◌/◌, ◌%◌, map}
 use Rattle.std.specs.Prelude.{Ok, Option, codes}

@@ -1,14 +1,13 @@
 -- Some gates of a circuit, anew, and runs of both.
-use Rattle.std.proofs.Common.{arith, ◌≡◌, ◌<◌, ◌≤◌, ◌+◌, ◌-◌, ℕ, zero, suc, Bool, true, false, not, cond, List, [], ◌∷◌, ◌++◌, Some}
+use Rattle.std.proofs.Common.{arith, ◌≡◌, ◌<◌, ◌≤◌, ◌+◌, ℕ, zero, suc, Bool, true, false, not, cond, List, [], ◌∷◌, ◌++◌, Some}
 use Rattle.std.proofs.Common.{slice_get, refl}
 use Rattle.std.specs.Prelude.{IfSome}
-use Rattle.std.proofs.Common.{Option, add-one, take, sym, ap, subst, ◌∙◌, length, map, inl, inr, ◌⊎◌, nat_eq}
+use Rattle.std.proofs.Common.{Option, add-one, take, sym, ap, subst, ◌∙◌, length, map, inl, inr, ◌⊎◌}
 use Rattle.std.proofs.lemmas.List.{length-append}
 use Rattle.std.specs.List.{AllByRecursion}
 use Rattle.qbf_core.proofs.Cited.{eqb_tells}
-use Rattle.aiger.specs.Building.{AreGates, Built, HasValues}
 use Rattle.aiger.specs.Circuits.{AreValues, Circuit, Gate, IsOrdered, IsRun, KeepsGates, StandBelow, both, gate_value}
-use Rattle.aiger.specs.Trimming.{AddsGate, Agree, AreSame, IsSame, IsSameCircuit, IsSameGate, IsTrimming, IsUntrimmed, OutputsSame}
+use Rattle.aiger.specs.Trimming.{AddsGate, Agree, IsSame, IsSameCircuit, IsTrimming, IsUntrimmed, OutputsSame}
 use Rattle.aiger.specs.Trimming.{PutsGate}
 use Rattle.aiger.specs.Wires.{Wire, constant, plain, turned, value_at}
 use Rattle.aiger.proofs.KeptGates.{keeps_at, keeps_left, opposite_value, pushed_gates, pushed_value}

@@ -1,5 +1,5 @@
 -- Circuits without the gates that no output needs.
-use Rattle.std.specs.Prelude.{◌≡◌, ℕ, ◌+◌, ◌<◌, ◌≤◌, Bool, true, false, List, [], ◌∷◌, Some, slice_get, map, length, ◌⊎◌, if◌then◌else◌}
+use Rattle.std.specs.Prelude.{◌≡◌, ℕ, ◌+◌, ◌<◌, ◌≤◌, Bool, true, false, List, [], ◌∷◌, Some, slice_get, map, length, ◌⊎◌}
 use Rattle.aiger.specs.Building.{AreGates}
 use Rattle.aiger.specs.Circuits.{AreValues, Circuit, Gate, IsOrdered, IsRun, gate_value}
 use Rattle.aiger.specs.Wires.{Wire, constant, plain, value_at}

@@ -1,5 +1,5 @@
-use Rattle.std.proofs.Common.{arith, rules}
-use Rattle.aiger.proofs.TrimmedGates.{gate_out, gate_put}
+use Rattle.std.proofs.Common.{rules}
+use Rattle.aiger.proofs.TrimmedGates.{gate_put}
 use Rattle.aiger.proofs.trimming.Trimming.put.Goals as goal
 
 pub returns-in_ok-push-in-Some-Some-clause-put : goal.returns-in_ok-push-in-Some-Some-clause-put
