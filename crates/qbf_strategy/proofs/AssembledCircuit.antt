@@ -25,7 +25,8 @@ use Rattle.qbf_strategy.specs.Conditions.{AreConditions, IsCondition, fires, sce
 use Rattle.qbf_strategy.specs.Decisions.{Decision, are_set, decided, decisions_by, wanted}
 use Rattle.qbf_strategy.specs.Winning.{input_literals, opponent, set_in_run, variables_of}
 use Rattle.qbf_strategy.proofs.AssembledWires.{inputs_after, next_after, outputs_mine, outputs_theirs, run_tells}
-use Rattle.qbf_strategy.proofs.ChainedEntries.{got_more, take_next}
+use Rattle.qbf_strategy.proofs.ChainedEntries.{got_more}
+use Rattle.aiger.proofs.TrimmedGates.{take_next}
 use Rattle.qbf_strategy.proofs.ChosenValues.{lists_say}
 use Rattle.qbf_strategy.proofs.ConditionGates.{below_grown, next_grows, values_before}
 

@@ -15,12 +15,13 @@ use Rattle.qbf_core.specs.declared.quantifier.Quantifier.TheVariants.{All, Exist
 use Rattle.qbf_core.specs.Literal.{Literal, literal_eq}
 use Rattle.qbf_completeness.specs.Strategies.{literal_of}
 use Rattle.aiger.specs.Wires.{Wire, plain, value_at}
-use Rattle.qbf_strategy.specs.Assembling.{IsAt, Tells, turned}
+use Rattle.qbf_strategy.specs.Assembling.{IsAt, Tells}
+use Rattle.aiger.specs.Wires.{turned}
 use Rattle.qbf_strategy.specs.Chosen.{AreInputs, next_input, number_after, outputs_of}
 use Rattle.qbf_strategy.specs.Decisions.{is_set}
 use Rattle.qbf_strategy.specs.Winning.{input_literals, opponent, variables_of}
 use Rattle.qbf_strategy.proofs.ChainedEntries.{at_in, not_self}
-use Rattle.qbf_strategy.proofs.ConditionGates.{turned_value}
+use Rattle.aiger.proofs.TrimmedGates.{turned_value}
 
 -- ---- one variable more
 
