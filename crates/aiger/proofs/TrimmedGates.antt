@@ -10,7 +10,8 @@ use Rattle.aiger.specs.Circuits.{AreValues, Circuit, Gate, IsOrdered, IsRun, Kee
 use Rattle.aiger.specs.Trimming.{AddsGate, Agree, IsSame, IsSameCircuit, IsTrimming, IsUntrimmed, OutputsSame}
 use Rattle.aiger.specs.Trimming.{PutsGate}
 use Rattle.aiger.specs.Wires.{Wire, constant, plain, turned, value_at}
-use Rattle.aiger.proofs.KeptGates.{keeps_at, keeps_left, opposite_value, pushed_gates, pushed_value}
+use Rattle.aiger.proofs.Folds.{opposite_value}
+use Rattle.aiger.proofs.KeptGates.{keeps_at, keeps_left, pushed_gates, pushed_value}
 
 pub turned_value : (run : ℕ → Bool) (w : Wire) (negated : Bool)
     → value_at run (turned w negated) ≡ cond negated (not (value_at run w)) (value_at run w)
