@@ -1,11 +1,13 @@
 //! The check of a trace against a formula, both from their bytes.
 
-ghost use Rattle.std.specs.Prelude.{◌≡◌, ◌-◌, ◌^◌, ◌<◌, ◌↔◌, OnOk, IfErr, IfSome};
+ghost use Rattle.std.specs.Prelude.{◌≡◌, ◌-◌, ◌^◌, ◌<◌, ◌↔◌, OnOk, IfErr, IfOk, IfSome};
 ghost use Rattle.qbf_text.specs.Stopping.{IfKnown};
 ghost use Rattle.qrp_check.specs.Checked.{IsChecked, IsCheckedOf, IsOfSource, IsTruthOf};
 ghost use Rattle.qrp_check.specs.Checked.{StopsOnceRead, call_of, verdict_of};
+ghost use Rattle.qrp_check.specs.Core.{ListsCore};
 ghost use Rattle.qrp_check.specs.Headline.{Headline};
-ghost use Rattle.qrp_check.specs.Verdict.{IsVerdictUnless, IsFormulaDevice, IsTraceDevice};
+ghost use Rattle.qrp_check.specs.Proof.{Proves};
+ghost use Rattle.qrp_check.specs.Verdict.{IsVerdictUnless, IsFormulaDevice, IsTraceDevice, is_sat};
 ghost use Rattle.qrp_check.specs.Verdict.{IsFormulaFault, StandsOnLine, WasRead, StopsAfterTrace};
 
 use crate::checking::{check_kept, check_marked, is_sat};
@@ -19,7 +21,10 @@ use qrp_rules::Rules;
 use std::alloc::Global;
 
 /// The trace that was read, and the result of its check on a formula that was read.
-fn find_proof_of<B: Source>(
+///
+/// # Errors
+/// As of `verify`.
+pub fn find_proof_of<B: Source>(
     alloc: Global,
     formula: &Formula,
     trace: &mut B,
@@ -28,6 +33,9 @@ fn find_proof_of<B: Source>(
     ensures checked { IsCheckedOf rules formula.now (call_of B.Source trace.old trace.new)
         (verdict_of result) }
     ensures source { IsOfSource (B.remaining trace.old) (B.remaining trace.new) result }
+    ensures proves { IfOk result (λ p. Proves rules formula.now p.0.sets p.0.steps p.0.result) }
+    ensures core { IfOk result (λ p. ListsCore p.0.steps p.1.core.items) }
+    ensures claim { IfOk result (λ p. p.1.truth ≡ is_sat p.0.result) }
 {
     let whole = read_compact(alloc, trace)?;
     let context = Context {

@@ -1,10 +1,10 @@
--- The state that is kept of a formula while its initial steps are looked for, and the steps that are accepted.
-use Rattle.std.specs.Prelude.{Bool, IsTrue, List, [], ◌∷◌}
+-- The state that is kept of a formula while its initial steps are looked for, the steps that are accepted, and the clauses they come from.
+use Rattle.std.specs.Prelude.{◌≡◌, ℕ, Bool, IsTrue, List, [], ◌∷◌, Some, slice_get}
 use Rattle.qbf_core.specs.Literal.{Literal}
 use Rattle.qbf_core.specs.Qbf.{Qbf}
-use Rattle.qbf_core.specs.Rules.{Clauses}
+use Rattle.qbf_core.specs.Rules.{Clauses, IsClean, IsReduct}
 use Rattle.qrp_rules.specs.declared.initial_steps.InitialSteps.{InitialSteps}
-use Rattle.qrp_rules.specs.Accepted.{IsAcceptedStep}
+use Rattle.qrp_rules.specs.Accepted.{IsAcceptedStep, IsFit}
 use Rattle.qrp_rules.specs.Conditions.{initial_condition}
 use Rattle.qrp_rules.specs.Watches.{IsWatching}
 
@@ -19,3 +19,18 @@ IsAccepted f lits = IsAcceptedStep (initial_condition Clauses f lits ∷ []) f.b
 -- the meaning of a test that accepts initial clauses: if it does not accept one, nothing is said
 abbrev pub IsAcceptedIf : Qbf → List Literal → Bool → Type 0
 IsAcceptedIf f lits t = IsTrue t → IsAccepted f lits
+
+-- the clause of the formula at a position is clean, and the literals are a reduct of it
+pub record IsReductAt (f : Qbf) (lits : List Literal) (position : ℕ) : Type 0 where
+  pub clause : List Literal
+  pub here : slice_get f.clauses position ≡ Some clause
+  pub clean : IsClean clause
+  pub reduct : IsReduct Clauses f.blocks clause lits
+
+-- the literals are a reduct of no clean clause of the formula
+abbrev pub HasNoReduct : Qbf → List Literal → Type 0
+HasNoReduct f lits = (position : ℕ) → IsReductAt f lits position → ⊥
+
+-- the literals are clean and bound, too
+abbrev pub IsAcceptedAt : Qbf → List Literal → ℕ → Type 0
+IsAcceptedAt f lits position = IsReductAt f lits position × IsFit f.blocks lits

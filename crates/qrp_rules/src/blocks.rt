@@ -65,16 +65,19 @@ pub(crate) fn innermost_reach(
 /// The literals that a reduction may take out: those of a quantifier whose blocks come after so
 /// many blocks of a prefix.
 #[derive(Clone, Copy)]
-pub(crate) struct Reducible<'a> {
+pub struct Reducible<'a> {
+    /// The prefix.
     pub prefix: &'a Prefix,
+    /// The quantifier.
     pub quantifier: Quantifier,
+    /// How many blocks stand before theirs.
     pub reach: usize,
 }
 
 impl<'a> Reducible<'a> {
     /// Whether literals of the variable are among them.
     #[inline(always)]
-    pub(crate) fn has(self, var: Var) -> bool
+    pub fn has(self, var: Var) -> bool
         ensures { IsTrue result ↔ TakesOut self.entry var }
     {
         self.prefix.reach(self.quantifier, var) > self.reach
@@ -94,11 +97,7 @@ fn other_quantifier(quantifier: Quantifier) -> Quantifier
 
 /// The literals that may be taken out of a list, for the side that reduces this quantifier.
 #[inline(always)]
-pub(crate) fn reducible_in<'a>(
-    prefix: &'a Prefix,
-    reduced: Quantifier,
-    lits: &[Lit],
-) -> Reducible<'a>
+pub fn reducible_in<'a>(prefix: &'a Prefix, reduced: Quantifier, lits: &[Lit]) -> Reducible<'a>
     ensures { (side : Side) → reduced ≡ reduced_quantifier side → (l : Literal)
         → TakesOut result l.var ↔ IsReducible side prefix.now lits.now l }
 {

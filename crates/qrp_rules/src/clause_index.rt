@@ -1,14 +1,16 @@
 //! The clauses of a formula, found by their literals as they are written, whatever their order.
 
-ghost use Rattle.std.specs.Prelude.{IfOk, IfSome};
-ghost use Rattle.qrp_rules.specs.Initial.{IsAccepted, IsAcceptedIf};
+ghost use Rattle.std.specs.Prelude.{IfNone, IfOk, IfSome, IsTrue};
+ghost use Rattle.qrp_rules.specs.Accepted.{IsFit};
+ghost use Rattle.qrp_rules.specs.Initial.{HasNoReduct, IsAcceptedAt, IsAcceptedIf, IsReductAt};
 
 use crate::blocks::{Reducible, reducible_in};
+use crate::initial::reduced_clause;
 use crate::lists::{is_among, is_ordered};
 use crate::seen::{SeenLits, code, surely_clean};
 use crate::side::Clauses;
 use crate::written_reduct::accepts_reduct;
-use qbf_core::{Formula, Lit, Prefix, Quantifier};
+use qbf_core::{Formula, Lit, LitSet, Prefix, Quantifier};
 use std::alloc::{AllocError, Global};
 
 /// The word that a literal adds to a sum: its number, multiplied by two odd constants.
@@ -65,7 +67,7 @@ fn accepts_at(
     position: usize,
     lits: &[Lit],
 ) -> Result<bool, AllocError>
-    ensures { IfOk result (IsAcceptedIf formula.now lits.now) }
+    ensures { IfOk result (λ t. IsTrue t → IsAcceptedAt formula.now lits.now position) }
 {
     if position >= formula.clauses() {
         return Ok(false);
@@ -164,7 +166,7 @@ impl Chains {
         sum: u64,
         query: Query,
     ) -> Result<Option<usize>, AllocError>
-        ensures { IfOk result (λ found. IfSome found (λ _. IsAccepted formula.now query.entry.lits.now)) }
+        ensures { IfOk result (λ found. IfSome found (IsAcceptedAt formula.now query.entry.lits.now)) }
     {
         let mut position = match self.heads.get(self.chain_of(sum)) {
             Some(head) => *head,
@@ -224,7 +226,7 @@ impl ClauseIndex {
         formula: &Formula,
         query: Query,
     ) -> Result<Option<usize>, AllocError>
-        ensures { IfOk result (λ found. IfSome found (λ _. IsAccepted formula.now query.entry.lits.now)) }
+        ensures { IfOk result (λ found. IfSome found (IsAcceptedAt formula.now query.entry.lits.now)) }
     {
         let sum = sum_of(self.kind, seen, formula.prefix(), query.lits);
         if let Some(chains) = &self.chains {
@@ -239,7 +241,7 @@ impl ClauseIndex {
 
 /// Finds the initial clauses of a trace in the formula.
 #[derive(Drop)]
-pub(crate) struct InitialClauses {
+pub struct InitialClauses {
     /// The position after the clause that was found last: solvers mostly write them in their order.
     next: usize,
     /// By the literals that a reduct keeps.
@@ -250,7 +252,7 @@ pub(crate) struct InitialClauses {
 
 impl InitialClauses {
     /// Nothing is known of the formula. It takes no memory.
-    pub(crate) fn new(alloc: Global) -> InitialClauses {
+    pub fn new(alloc: Global) -> InitialClauses {
         InitialClauses {
             next: 0,
             kept: ClauseIndex::new(alloc, Kind::Kept),
@@ -265,7 +267,7 @@ impl InitialClauses {
         formula: &Formula,
         lits: &[Lit],
     ) -> Result<Option<usize>, AllocError>
-        ensures { IfOk result (λ found. IfSome found (λ _. IsAccepted formula.now lits.now)) }
+        ensures { IfOk result (λ found. IfSome found (IsAcceptedAt formula.now lits.now)) }
     {
         let most = usize::MAX;
         if let Some(position) = self.kept.find(seen, formula, Query { lits, most: FEW })? {
@@ -277,8 +279,31 @@ impl InitialClauses {
         self.kept.find(seen, formula, Query { lits, most })
     }
 
+    /// The position of a clause that accepts the literals. The clause after the one that was found
+    /// last is looked at first.
+    fn find_again(
+        &mut self,
+        formula: &Formula,
+        seen: &mut SeenLits,
+        lits: &[Lit],
+    ) -> Result<Option<usize>, AllocError>
+        ensures { IfOk result (λ found. IfSome found (IsAcceptedAt formula.now lits.now)) }
+    {
+        let next = self.next;
+        if accepts_at(seen, formula, next, lits)? {
+            self.next = next.saturating_add(1);
+            return Ok(Some(next));
+        }
+        let found = self.find(seen, formula, lits)?;
+        if let Some(position) = found {
+            self.next = position.saturating_add(1);
+        }
+        Ok(found)
+    }
+
     /// Accepts literals that are clean and bound and, as they are written, a reduct of a clean
     /// clause of the formula.
+    #[tactic(auto, using(crate::proofs::ReductsByMembers::some_accepted))]
     pub(crate) fn accepts_initial(
         &mut self,
         formula: &Formula,
@@ -287,16 +312,31 @@ impl InitialClauses {
     ) -> Result<bool, AllocError>
         ensures { IfOk result (IsAcceptedIf formula.now lits.now) }
     {
-        if accepts_at(seen, formula, self.next, lits)? {
-            self.next = self.next.saturating_add(1);
-            return Ok(true);
+        Ok(self.find_again(formula, seen, lits)?.is_some())
+    }
+
+    /// The position of a clean clause of the formula of which the literals are a reduct, or `None`
+    /// if there is none. Each call takes the same formula.
+    ///
+    /// # Errors
+    /// If an allocation fails.
+    pub fn find_clause(
+        &mut self,
+        formula: &Formula,
+        seen: &mut SeenLits,
+        lits: &[Lit],
+    ) -> Result<Option<usize>, AllocError>
+        requires { IsFit formula.now.blocks lits.now }
+        ensures found { IfOk result (λ found. IfSome found (IsReductAt formula.now lits.now)) }
+        ensures only { IfOk result (λ found. IfNone found (HasNoReduct formula.now lits.now)) }
+    {
+        if let Some(position) = self.find_again(formula, seen, lits)? {
+            return Ok(Some(position));
         }
-        match self.find(seen, formula, lits)? {
-            Some(position) => {
-                self.next = position.saturating_add(1);
-                Ok(true)
-            }
-            None => Ok(false),
+        match LitSet::from_slice(self.kept.alloc, lits, formula.prefix()) {
+            Ok(set) => reduced_clause(self.kept.alloc, formula, set.as_slice()),
+            // The literals are clean and bound, so no other fault is met.
+            Err(_) => Err(AllocError),
         }
     }
 }

@@ -1,12 +1,13 @@
 //! Whether a set is an initial clause or an initial cube of a formula.
 
-ghost use Rattle.std.specs.Prelude.{◌↔◌, [], ◌∷◌, IsTrue, IfOk};
+ghost use Rattle.std.specs.Prelude.{◌↔◌, [], ◌∷◌, IsTrue, IfNone, IfOk, IfSome};
 ghost use Rattle.qbf_core.specs.Literal.{Literal};
 ghost use Rattle.qbf_core.specs.Members.{◌∈◌};
 ghost use Rattle.qbf_core.specs.Blocks.{AreBound};
 ghost use Rattle.qbf_core.specs.Rules.{Clauses, Cubes, IsClean, IsReduct, IsTautology};
 ghost use Rattle.qbf_core.specs.Sets.{IsOrdered};
 ghost use Rattle.qrp_rules.specs.Conditions.{IsFaultOf, initial_condition};
+ghost use Rattle.qrp_rules.specs.Initial.{HasNoReduct, IsReductAt};
 
 use crate::fault::RuleFault;
 use crate::lists::{is_among, is_ordered};
@@ -54,7 +55,26 @@ fn has_reduct(
     }
 }
 
+/// The position of the first clause that is clean and has the set as a reduct.
+pub(crate) fn reduced_clause(
+    alloc: Global,
+    formula: &Formula,
+    set: &[Lit],
+) -> Result<Option<usize>, AllocError>
+    requires { IsOrdered set.now }
+    ensures found { IfOk result (λ found. IfSome found (IsReductAt formula.now set.now)) }
+    ensures only { IfOk result (λ found. IfNone found (HasNoReduct formula.now set.now)) }
+{
+    for position in 0..formula.clauses() {
+        if has_reduct(alloc, formula.prefix(), formula.clause(position), set)? {
+            return Ok(Some(position));
+        }
+    }
+    Ok(None)
+}
+
 /// Why the set is not an initial clause, or `None` if it is one.
+#[tactic(auto, using(crate::proofs::ReductsByMembers::some_reduct, crate::proofs::ReductsByMembers::no_reduct))]
 pub(crate) fn initial_clause_fault(
     alloc: Global,
     formula: &Formula,
@@ -64,10 +84,8 @@ pub(crate) fn initial_clause_fault(
     ensures { IfOk result
         (λ fault. IsFaultOf (initial_condition Clauses formula.now set.now ∷ []) fault) }
 {
-    for position in 0..formula.clauses() {
-        if has_reduct(alloc, formula.prefix(), formula.clause(position), set)? {
-            return Ok(None);
-        }
+    if reduced_clause(alloc, formula, set)?.is_some() {
+        return Ok(None);
     }
     Ok(Some(RuleFault::S4))
 }

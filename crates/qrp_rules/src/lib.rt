@@ -32,7 +32,8 @@ mod walks;
 mod written_reduct;
 mod written_resolvent;
 
-pub use blocks::is_bound_by;
+pub use blocks::{Reducible, is_bound_by, reducible_in};
+pub use clause_index::InitialClauses;
 pub use distinct::push_distinct;
 pub use fault::RuleFault;
 pub use initial_steps::{InitialSteps, ordered_initial_fault};
@@ -43,5 +44,6 @@ pub use resolvent::{ordered_resolvent_fault, resolvent_fault};
 pub use rules::Rules;
 pub use seen::SeenLits;
 pub use side::{Clauses, Cubes, Side};
+pub use walks::may_omit;
 pub use written_reduct::accepts_reduct;
 pub use written_resolvent::accepts_resolvent;

@@ -95,7 +95,7 @@ impl SeenLits {
     ///
     /// # Errors
     /// If an allocation fails.
-    pub(crate) fn make_room(&mut self, prefix: &Prefix) -> Result<(), AllocError>
+    pub fn make_room(&mut self, prefix: &Prefix) -> Result<(), AllocError>
         ensures few { (length self.new.near ≡ length self.old.near)
             ⊎ (length self.new.near ≤ 4 * length (pairs prefix.now) + 4) }
     {
@@ -130,7 +130,7 @@ impl SeenLits {
     /// Takes all literals out. Once in 2^32 times it takes time for each one that there is room
     /// for.
     #[inline(always)]
-    pub(crate) fn clear(&mut self)
+    pub fn clear(&mut self)
         ensures { (l : Literal) → Has self.new l → ⊥ }
     {
         self.repeated = false;
@@ -145,7 +145,7 @@ impl SeenLits {
     }
 
     /// Whether the literal is in the set.
-    pub(crate) fn contains(&self, lit: Lit) -> bool
+    pub fn contains(&self, lit: Lit) -> bool
         ensures { IsTrue result ↔ Has self.now lit }
     {
         let number = code(lit);
@@ -157,7 +157,7 @@ impl SeenLits {
 
     /// Puts the literal in, or returns `false` if there is no memory for it.
     #[tactic(auto, using(crate::proofs::Stamps::stamp_more, crate::proofs::Stamps::code_one, crate::proofs::Stamps::more_stamp))]
-    pub(crate) fn insert(&mut self, lit: Lit) -> bool
+    pub fn insert(&mut self, lit: Lit) -> bool
         ensures { (l : Literal) → Has self.new l ↔ (Has self.old l ⊎ ((l ≡ lit) × IsTrue result)) }
     {
         let number = code(lit);

@@ -53,7 +53,7 @@ pub(crate) fn seek_literal(lits: &[Lit], lit: Lit) -> (&[Lit], bool)
 }
 
 /// Whether a literal of the variable may be missing: of the pivot, or one that reduction takes out.
-pub(crate) fn may_omit(reducible: Option<Reducible>, pivot: Option<u32>, var: Var) -> bool
+pub fn may_omit(reducible: Option<Reducible>, pivot: Option<u32>, var: Var) -> bool
     ensures { IsTrue result ↔ MayOmit reducible.entry pivot var }
 {
     match reducible {

@@ -1,0 +1,248 @@
+-- One variable more, and the whole circuit.
+use Rattle.std.proofs.Common.{arith, ◌≡◌, ◌<◌, ◌≤◌, ◌+◌, ℕ, suc, Bool, true, false, cond, List, [], ◌∷◌, ◌++◌, Some, slice_get}
+use Rattle.std.proofs.Common.{refl, sym, ap, subst, ◌∙◌, length, map, inl, inr, ◌⊎◌, true≢false, nat_eq, take, Result, Ok, Err}
+use Rattle.std.specs.Prelude.{OnOk, ⊤}
+use Rattle.std.proofs.lemmas.List.Elements.{All-nil, All-push}
+use Rattle.std.proofs.lemmas.Option.{get_or_from_slice_get}
+use Rattle.std.specs.List.{AllByRecursion, IsDistinct}
+use Rattle.qbf_core.specs.Blocks.{is_quantifier, variables}
+use Rattle.qbf_core.specs.Members.{◌∈◌}
+use Rattle.qbf_core.specs.declared.quantifier.Quantifier.{Quantifier}
+use Rattle.qbf_core.specs.Literal.{Literal}
+use Rattle.qbf_completeness.specs.Strategies.{literal_of}
+use Rattle.aiger.specs.Building.{Built, Grows, next_of}
+use Rattle.aiger.specs.Circuits.{AreValues, Circuit, StandBelow}
+use Rattle.aiger.specs.Wires.{Wire, plain, value_at}
+use Rattle.qbf_strategy.specs.declared.assembling.Assembly.{Assembly}
+use Rattle.qbf_strategy.specs.declared.conditions.Work.{Work}
+use Rattle.qbf_strategy.specs.declared.entries.Entries.{Entries}
+use Rattle.qbf_strategy.specs.Assembling.{AllBelow, Tells}
+use Rattle.qbf_strategy.specs.Chains.{HaveChains, with_lists}
+use Rattle.qbf_strategy.specs.Chosen.{AddsInput, AddsOutput, AreAssembled, AreInputs, IsOutput, IsUnassembled, next_input, outputs_of}
+use Rattle.qbf_strategy.specs.Computing.{Computes}
+use Rattle.qbf_strategy.specs.Conditions.{AreConditions, fires, scene}
+use Rattle.qbf_strategy.specs.Decisions.{Decision, are_set, decisions_by, wanted}
+use Rattle.qbf_strategy.specs.Winning.{input_literals, opponent, set_in_run, variables_of}
+use Rattle.qbf_strategy.proofs.AssembledWires.{inputs_after, next_after, outputs_mine, outputs_theirs, run_tells}
+use Rattle.qbf_strategy.proofs.ChainedEntries.{got_more}
+use Rattle.aiger.proofs.TrimmedGates.{take_next}
+use Rattle.qbf_strategy.proofs.ChosenValues.{lists_say}
+use Rattle.qbf_strategy.proofs.ConditionGates.{below_grown, values_before}
+
+-- ---- one wire more
+
+tells_less : (ps : List (Quantifier × ℕ)) (ws more : List Wire) (run : ℕ → Bool) (s : List Literal) → Tells ps (ws ++ more) run s
+    → Tells ps ws run s
+tells_less ps ws more run s tells i v w at there negative = tells i v w at (got_more ws more i w there) negative
+
+conditions_wider : (mine : Quantifier) (ps : List (Quantifier
+    × ℕ)) (ws more : List Wire) (kept : List (List Literal)) (b : Built) (conditions : List Wire)
+    → AreConditions (scene mine ps ws kept) b conditions → AreConditions (scene mine ps (ws ++ more) kept) b conditions
+conditions_wider mine ps ws more kept b conditions are k w lits here at = elim (are k w lits here at) [
+  | inl none ↦ inl none
+  | inr is ↦ inr (record { below = is.below; value = λ run s has tells. is.value run s has (tells_less ps ws more run s tells) })
+]
+
+output_wider : (ps : List (Quantifier × ℕ)) (ws more : List Wire) (ds : List Decision) (a b : Built) (o : ℕ × Wire) → Grows a b
+    → IsOutput ps ws ds a o → IsOutput ps (ws ++ more) ds b o
+output_wider ps ws more ds a b o g is = record {
+  otherwise = is.otherwise;
+  value = λ run s has tells. is.value run s (values_before a b run g has) (tells_less ps ws more run s tells);
+}
+
+in_pushed : {X : Type 0} (xs : List X) (y x : X) → x ∈ (xs ++ y ∷ []) → (x ∈ xs) ⊎ (x ≡ y)
+in_pushed [] y x (inl e) = inr e
+in_pushed [] y x (inr h) = absurd h
+in_pushed (z ∷ xs) y x (inl e) = inl (inl e)
+in_pushed (z ∷ xs) y x (inr h) = elim (in_pushed xs y x h) [
+  | inl m ↦ inl (inr m)
+  | inr e ↦ inr e
+]
+
+module _ (mine : Quantifier) (ps : List (Quantifier × ℕ)) (kept removed : List (List Literal)) where
+  pub input_assembled : (a b : Assembly) (q : Quantifier) (v : ℕ) → AreAssembled mine ps kept removed a
+      → slice_get ps (length a.known.items) ≡ Some (q, v) → is_quantifier q mine ≡ false → AddsInput a b
+      → AreAssembled mine ps kept removed b
+  input_assembled a b q v are at theirs adds =
+      let gates_of : Work → Built = λ w. w.gates in
+      let conditions_of : Work → List Wire = λ w. w.conditions.items in
+      let g : b.work.gates ≡ a.work.gates = ap gates_of adds.work_is in
+      let c : b.work.conditions.items ≡ a.work.conditions.items = ap conditions_of adds.work_is in
+      let less : a.input < next_of a.work.gates = (let f = are.first_is in let n = adds.number in omega arith) in
+      record {
+        first_is = ap (λ (x : Built). x.first) g ∙ (are.first_is ∙ sym adds.first_is);
+        below = subst (λ (x : Built). AllBelow (next_of x) b.known.items) (sym g)
+            (subst (λ (ws : List Wire). AllBelow (next_of a.work.gates) ws) (sym adds.known_is)
+            (All-push (λ w. w.var < next_of a.work.gates) a.known.items (plain a.input) are.below less));
+        known = subst (λ (ws : List Wire). AreConditions (scene mine ps ws kept) b.work.gates b.work.conditions.items) (sym adds.known_is)
+            (subst (λ (x : Work). AreConditions (scene mine ps (a.known.items
+            ++ plain a.input ∷ []) kept) x.gates x.conditions.items) (sym adds.work_is)
+            (conditions_wider mine ps a.known.items (plain a.input ∷ []) kept a.work.gates a.work.conditions.items are.known));
+        inputs = subst (λ (ws : List Wire). AreInputs mine 1 ps ws) (sym adds.known_is)
+            (inputs_after mine 1 ps a.known.items q v (plain a.input) at (λ e. ap plain are.input_is) are.inputs);
+        input_is = adds.input_is ∙ (ap (λ (n : ℕ). n + 1) are.input_is
+            ∙ (counted (next_input mine 1 ps a.known.items)
+            ∙ (sym (next_after mine 1 ps a.known.items q v (plain a.input) at)
+            ∙ ap (next_input mine 1 ps) (sym adds.known_is))));
+        outputs_are = adds.outputs_are ∙ (are.outputs_are ∙ (sym (outputs_theirs mine ps a.known.items q v (plain a.input) at theirs)
+            ∙ ap (outputs_of mine ps) (sym adds.known_is)));
+        decided = λ o h.
+            let old = are.decided o (subst (λ (os : List (ℕ × Wire)). o ∈ os) adds.outputs_are h) in
+            subst (λ (ws : List Wire). IsOutput ps ws (decisions_by mine kept removed) b.work.gates o) (sym adds.known_is)
+            (subst (λ (x : Built). IsOutput ps (a.known.items ++ plain a.input ∷ []) (decisions_by mine kept removed) x o) (sym g)
+            (record {
+              otherwise = old.otherwise;
+              value = λ run s has tells. old.value run s has (tells_less ps a.known.items (plain a.input ∷ []) run s tells);
+            }));
+      }
+    where
+      counted : (n : ℕ) → n + 1 ≡ cond (is_quantifier q mine) n (suc n)
+      counted n = rw theirs (omega arith)
+
+  pub output_assembled : (a b : Assembly) (entries : Entries) (q : Quantifier) (v : ℕ) → AreAssembled mine ps kept removed a
+      → slice_get ps (length a.known.items) ≡ Some (q, v) → is_quantifier q mine ≡ true → length removed ≤ length kept
+      → HaveChains ps entries.heads.items entries.entries.items (with_lists mine 0 removed [])
+      → AddsOutput mine ps kept entries v a b → AreAssembled mine ps kept removed b
+  output_assembled a b entries q v are at my few have adds =
+      let w = adds.wire in
+      let is = adds.chosen in
+      record {
+        first_is = is.grows.same ∙ (are.first_is ∙ sym adds.first_is);
+        below = subst (λ (ws : List Wire). AllBelow (next_of b.work.gates) ws) (sym adds.known_is)
+            (All-push (λ x. x.var < next_of b.work.gates) a.known.items w
+            (below_grown a.work.gates b.work.gates a.known.items is.grows are.below) is.below);
+        known = subst (λ (ws : List Wire). AreConditions (scene mine ps ws kept) b.work.gates b.work.conditions.items) (sym adds.known_is)
+            (conditions_wider mine ps a.known.items (w ∷ []) kept b.work.gates b.work.conditions.items is.known);
+        inputs = subst (λ (ws : List Wire). AreInputs mine 1 ps ws) (sym adds.known_is)
+            (inputs_after mine 1 ps a.known.items q v w at (λ e. absurd (true≢false (sym my ∙ e))) are.inputs);
+        input_is = adds.input_is ∙ (are.input_is
+            ∙ (counted (next_input mine 1 ps a.known.items)
+            ∙ (sym (next_after mine 1 ps a.known.items q v w at)
+            ∙ ap (next_input mine 1 ps) (sym adds.known_is))));
+        outputs_are = adds.outputs_are ∙ (ap (λ (os : List (ℕ × Wire)). os ++ (v, w) ∷ []) are.outputs_are
+            ∙ (sym (outputs_mine mine ps a.known.items q v w at my)
+            ∙ ap (outputs_of mine ps) (sym adds.known_is)));
+        decided = λ o h. subst (λ (ws : List Wire). IsOutput ps ws (decisions_by mine kept removed) b.work.gates o) (sym adds.known_is)
+            (elim (in_pushed a.outputs.items (v, w) o (subst (λ (os : List (ℕ × Wire)). o ∈ os) adds.outputs_are h)) [
+              | inl old ↦ output_wider ps a.known.items (w ∷ []) (decisions_by mine kept removed) a.work.gates b.work.gates o is.grows
+                  (are.decided o old)
+              | inr new ↦ subst (λ (x : ℕ × Wire). IsOutput ps (a.known.items
+                  ++ w ∷ []) (decisions_by mine kept removed) b.work.gates x) (sym new) (record {
+                    otherwise = is.otherwise;
+                    value = λ run s has tells.
+                        is.value v (with_lists mine 0 removed [])
+                        (have.chains (length a.known.items) v adds.last (q, at) adds.last_is) run s has
+                        (tells_less ps a.known.items (w ∷ []) run s tells)
+                        ∙ lists_say mine (fires (scene mine ps a.known.items kept) s) s v 0 is.otherwise kept removed [] few
+                        (λ i lits there.
+                        let z : 0 + i ≡ i = omega arith in
+                        ap (fires (scene mine ps a.known.items kept) s) z
+                        ∙ ap (λ (ls : List Literal). are_set (map (wanted mine) ls) s) (get_or_from_slice_get kept i lits [] there));
+                  })
+            ]);
+      }
+    where
+      counted : (n : ℕ) → n ≡ cond (is_quantifier q mine) n (suc n)
+      counted n = rw my refl
+
+  pub none_assembled : (inputs : ℕ) (a : Assembly) → IsUnassembled inputs a → AreAssembled mine ps kept removed a
+  none_assembled inputs a is =
+      let none = is.none in
+      let first : Built → ℕ = λ b. b.first in
+      record {
+        first_is = ap first is.unused.none;
+        below = subst (λ (ws : List Wire). AllBelow (next_of a.work.gates) ws) (sym none) (All-nil (λ w. w.var < next_of a.work.gates));
+        known = λ k w lits here at. inl (is.unused.unbuilt k w here);
+        inputs = subst (λ (ws : List Wire). AreInputs mine 1 ps ws) (sym none) (no_inputs 1 ps);
+        input_is = is.input_is ∙ (sym (no_next 1 ps) ∙ ap (next_input mine 1 ps) (sym none));
+        outputs_are = is.no_outputs ∙ (sym (no_outputs ps) ∙ ap (outputs_of mine ps) (sym none));
+        decided = λ o h. absurd (subst (λ (os : List (ℕ × Wire)). o ∈ os) is.no_outputs h);
+      }
+    where
+      no_inputs : (n : ℕ) (ps : List (Quantifier × ℕ)) → AreInputs mine n ps []
+      no_inputs n [] = tt
+      no_inputs n (p ∷ ps) = tt
+
+      no_next : (n : ℕ) (ps : List (Quantifier × ℕ)) → next_input mine n ps [] ≡ n
+      no_next n [] = refl
+      no_next n (p ∷ ps) = refl
+
+      no_outputs : (ps : List (Quantifier × ℕ)) → outputs_of mine ps [] ≡ []
+      no_outputs [] = refl
+      no_outputs (p ∷ ps) = refl
+
+pub on_ok : {E : Type 0} {P Q : Type 0} (r : Result ⊤ E) → (P → Q) → OnOk r P → OnOk r Q
+on_ok (Ok u) f p = f p
+on_ok (Err e) f p = p
+
+pub numbers_next : (m : Quantifier) (ps : List (Quantifier × ℕ)) (i : ℕ) (q : Quantifier) (v : ℕ) → slice_get ps i ≡ Some (q, v)
+    → variables_of m (take (i + 1) ps) ≡ variables_of m (take i ps) ++ cond (is_quantifier q m) (v ∷ []) []
+numbers_next m ps i q v at = ap (variables_of m) (take_next ps i (q, v) at) ∙ from (take i ps)
+  where
+    from : (ps : List (Quantifier × ℕ)) → variables_of m (ps ++ (q, v) ∷ []) ≡ variables_of m ps ++ cond (is_quantifier q m) (v ∷ []) []
+    from [] = refl
+    from ((p, u) ∷ ps) = by (from ps) (is_quantifier p m)
+      where
+        by : variables_of m (ps ++ (q, v) ∷ []) ≡ variables_of m ps ++ cond (is_quantifier q m) (v ∷ []) [] → (b : Bool)
+            → cond b (u ∷ variables_of m (ps ++ (q, v) ∷ [])) (variables_of m (ps ++ (q, v) ∷ []))
+            ≡ cond b (u ∷ variables_of m ps) (variables_of m ps) ++ cond (is_quantifier q m) (v ∷ []) []
+        by later true = ap (λ (l : List ℕ). u ∷ l) later
+        by later false = later
+
+-- ---- the whole circuit
+
+names_all : (mine : Quantifier) (ps : List (Quantifier × ℕ)) (ws : List Wire) → length ws ≡ length ps
+    → map (λ o. o.0) (outputs_of mine ps ws) ≡ variables_of mine ps
+names_all mine [] ws e = refl
+names_all mine (p ∷ ps) [] e = absurd (omega (arith, e))
+names_all mine ((q, v) ∷ ps) (w ∷ ws) e = by (names_all mine ps ws (omega (arith, e))) (is_quantifier q mine)
+  where
+    by : map (λ o. o.0) (outputs_of mine ps ws) ≡ variables_of mine ps → (b : Bool)
+        → map (λ o. o.0) (cond b ((v, w) ∷ outputs_of mine ps ws) (outputs_of mine ps ws))
+        ≡ cond b (v ∷ variables_of mine ps) (variables_of mine ps)
+    by later true = ap (λ (l : List ℕ). v ∷ l) later
+    by later false = later
+
+outputs_below : (mine : Quantifier) (n : ℕ) (ps : List (Quantifier × ℕ)) (ws : List Wire) → AllBelow n ws
+    → AllByRecursion (λ o. o.1.var < n) (outputs_of mine ps ws)
+outputs_below mine n [] ws all = tt
+outputs_below mine n (p ∷ ps) [] all = tt
+outputs_below mine n ((q, v) ∷ ps) (w ∷ ws) all =
+    by (all 0 w (omega arith)) (outputs_below mine n ps ws (λ k d less. all (suc k) d (omega arith))) (is_quantifier q mine)
+  where
+    by : w.var < n → AllByRecursion (λ o. o.1.var < n) (outputs_of mine ps ws) → (b : Bool)
+        → AllByRecursion (λ o. o.1.var < n) (cond b ((v, w) ∷ outputs_of mine ps ws) (outputs_of mine ps ws))
+    by here later true = (here, later)
+    by here later false = later
+
+pub assembled_computes : (mine : Quantifier) (ps : List (Quantifier × ℕ)) (kept removed : List (List Literal)) (a : Assembly) (c : Circuit)
+    → IsDistinct nat_eq (variables ps) → length a.known.items ≡ length ps → AreAssembled mine ps kept removed a
+    → c.inputs ≡ variables_of (opponent mine) ps → a.first ≡ length c.inputs + 1 → c.outputs ≡ a.outputs.items
+    → c.gates ≡ a.work.gates.gates
+    → StandBelow a.work.gates.first c.gates → Computes mine ps (decisions_by mine kept removed) c
+assembled_computes mine ps kept removed a c distinct count are inputs first outputs gates stands =
+    let os_are : c.outputs ≡ outputs_of mine ps a.known.items = outputs ∙ are.outputs_are in
+    let first_is : a.work.gates.first ≡ suc (length c.inputs) = are.first_is ∙ (first ∙ omega arith) in
+    let next_is : next_of a.work.gates ≡ suc (length c.inputs) + length c.gates = (let e = ap length gates in omega arith) in
+    record {
+      inputs = inputs;
+      outputs = ap (map (λ o. o.0)) os_are ∙ names_all mine ps a.known.items count;
+      ordered = record {
+        gates = subst (λ (n : ℕ). StandBelow n c.gates) first_is stands;
+        outputs = subst (λ (n : ℕ). AllByRecursion (λ o. o.1.var < n) c.outputs) next_is
+            (subst (λ (os : List (ℕ × Wire)). AllByRecursion (λ o. o.1.var < next_of a.work.gates) os) (sym os_are)
+            (outputs_below mine (next_of a.work.gates) ps a.known.items are.below));
+      };
+      decides = λ o h.
+          let is = are.decided o (subst (λ (os : List (ℕ × Wire)). o ∈ os) outputs h) in (
+            is.otherwise,
+            λ run has. is.value run (set_in_run c run)
+                (subst (λ (n : ℕ). AreValues n a.work.gates.gates run) (sym first_is)
+                (subst (λ (gs : List _). AreValues (suc (length c.inputs)) gs run) gates has))
+                (subst (λ (os : List (ℕ × Wire)). Tells ps a.known.items run (map (λ o. literal_of o.0 (value_at run o.1)) os
+                ++ input_literals 1 c.inputs run)) (sym os_are)
+                (subst (λ (vs : List ℕ). Tells ps a.known.items run
+                (map (λ o. literal_of o.0 (value_at run o.1)) (outputs_of mine ps a.known.items) ++ input_literals 1 vs run))
+                (sym inputs) (run_tells run mine ps a.known.items distinct are.inputs))),
+          );
+    }

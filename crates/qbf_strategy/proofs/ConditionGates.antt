@@ -1,0 +1,222 @@
+-- Gates of conditions, and of what is decided under them.
+use Rattle.std.proofs.Common.{arith, ◌≡◌, ◌<◌, ◌≤◌, ◌+◌, ℕ, zero, suc, Bool, true, false, not, cond, List, [], ◌∷◌, ◌++◌, Some, slice_get}
+use Rattle.std.proofs.Common.{refl, sym, ap, subst, ◌∙◌, length, map, drop, inl, inr}
+use Rattle.std.proofs.lemmas.Option.{get_or_from_slice_get, slice_get_cases, slice_get_within}
+use Rattle.std.proofs.Common.{get_or}
+use Rattle.std.proofs.lemmas.Grind.{common_steps}
+use Rattle.std.proofs.lemmas.List.{length-append, append_assoc}
+use Rattle.std.proofs.Math.ListN.{drop_of_length-le}
+use Rattle.qbf_core.specs.Literal.{Literal}
+use Rattle.aiger.specs.Building.{Built, Grows, HasValues, IsBoth, next_of}
+use Rattle.aiger.specs.Circuits.{KeepsGates, both}
+use Rattle.aiger.specs.declared.circuit.Gate.{Gate}
+use Rattle.aiger.specs.Wires.{Wire, constant, opposite, value_at}
+use Rattle.aiger.proofs.TrimmedGates.{turned_value, turned_var}
+use Rattle.aiger.proofs.Folds.{constant_value, opposite_value}
+use Rattle.aiger.proofs.KeptGates.{keeps_left}
+use Rattle.qbf_strategy.specs.Decisions.{are_set, wanted}
+use Rattle.qbf_strategy.specs.Assembling.{AllBelow, ArePlaced, Tells, all_true, wires_of}
+use Rattle.aiger.specs.Wires.{turned}
+use Rattle.qbf_strategy.specs.Conditions.{AreConditions, GivesCondition, IsCondition, IsConjunction, IsConjunctionBefore, IsDecided}
+use Rattle.qbf_strategy.specs.Conditions.{IsEither, KeptFrom, Scene, fires}
+use Rattle.qbf_strategy.specs.declared.placed.Placed.{Placed}
+use Rattle.qbf_strategy.proofs.ToldLiterals.{both_assoc, both_true, drop_at}
+
+-- ---- gates that grow
+
+pub grows_same : (b : Built) → Grows b b
+grows_same b = record { same = refl; more = []; grown = grind (arith, common_steps) }
+
+pub grows_then : (a b c : Built) → Grows a b → Grows b c → Grows a c
+grows_then a b c g h = record {
+  same = h.same ∙ g.same;
+  more = g.more ++ h.more;
+  grown = h.grown ∙ (ap (λ (gs : List Gate). gs ++ h.more) g.grown ∙ append_assoc a.gates g.more h.more);
+}
+
+pub next_grows : (a b : Built) → Grows a b → next_of a ≤ next_of b
+next_grows a b g =
+    let count : length b.gates ≡ length a.gates + length g.more = ap length g.grown ∙ length-append a.gates g.more in
+    let same : b.first ≡ a.first = g.same in omega arith
+
+pub values_before : (a b : Built) (run : ℕ → Bool) → Grows a b → HasValues b run → HasValues a run
+values_before a b run g has = record {
+  constant = has.constant;
+  keeps = keeps_left a.first a.gates g.more run
+      (subst (λ (n : ℕ). KeepsGates n (a.gates
+      ++ g.more) run) g.same (subst (λ (gs : List Gate). KeepsGates b.first gs run) g.grown has.keeps));
+}
+
+-- ---- conjunctions
+
+pub below_grown : (a b : Built) (ws : List Wire) → Grows a b → AllBelow (next_of a) ws → AllBelow (next_of b) ws
+below_grown a b ws g all k d less = let one = all k d less in let more = next_grows a b g in omega arith
+
+wire_at : (placed : List Placed) (i : ℕ) (p : Placed) → slice_get placed i ≡ Some p → slice_get (wires_of placed) i ≡ Some p.wire
+wire_at [] i p at = absurd (cc at)
+wire_at (q ∷ placed) zero p at = let e : q ≡ p = cc at in ap (λ (x : Placed). Some x.wire) e
+wire_at (q ∷ placed) (suc i) p at = wire_at placed i p at
+
+pub placed_below : (n : ℕ) (placed : List Placed) (i : ℕ) (p : Placed) → AllBelow n (wires_of placed) → slice_get placed i ≡ Some p
+    → p.wire.var < n
+placed_below n placed i p all at =
+    let there = wire_at placed i p at in
+    let less = slice_get_within (wires_of placed) i p.wire there in
+    let e : get_or (wires_of placed) i p.wire ≡ p.wire = get_or_from_slice_get (wires_of placed) i p.wire p.wire there in
+    subst (λ (w : Wire). w.var < n) e (all i p.wire less)
+
+pub conjunction_first : (b : Built) (ws : List Wire) (w : Wire) → w ≡ constant true → 0 < next_of b → IsConjunctionBefore b b ws 0 w
+conjunction_first b ws w is some = subst (λ (x : Wire). IsConjunctionBefore b b ws 0 x) (sym is) (record {
+  grows = grows_same b;
+  below = some;
+  value = λ run has. ap (λ (v : Bool). both v (all_true run ws)) (constant_value run true has.constant);
+})
+
+pub conjunction_next : (old now new : Built) (placed : List Placed) (i : ℕ) (w more : Wire) (p : Placed) → slice_get placed i ≡ Some p
+    → Grows now new → more.var < next_of new → IsBoth new w p.wire more → IsConjunctionBefore old now (wires_of placed) i w
+    → IsConjunctionBefore old new (wires_of placed) (i + 1) more
+conjunction_next old now new placed i w more p at grows below is before = record {
+  grows = grows_then old now new before.grows grows;
+  below = below;
+  value = λ run has.
+      ap (λ (v : Bool). both v (all_true run (drop (i + 1) (wires_of placed)))) (is run has)
+      ∙ (both_assoc (value_at run w) (value_at run p.wire) (all_true run (drop (i + 1) (wires_of placed)))
+      ∙ (ap (λ (rest : List Wire). both (value_at run w) (all_true run rest))
+      (sym (drop_at (wires_of placed) i p.wire (wire_at placed i p at)))
+      ∙ before.value run (values_before now new run grows has)));
+}
+
+length_wires : (placed : List Placed) → length (wires_of placed) ≡ length placed
+length_wires [] = refl
+length_wires (p ∷ placed) = ap suc (length_wires placed)
+
+pub conjunction_all : (old new : Built) (placed : List Placed) (i : ℕ) (w : Wire) → length placed ≤ i
+    → IsConjunctionBefore old new (wires_of placed) i w → IsConjunction old new (wires_of placed) w
+conjunction_all old new placed i w past before =
+    let count = length_wires placed in
+    let over : length (wires_of placed) ≤ i = omega arith in
+    record {
+      grows = before.grows;
+      below = before.below;
+      value = λ run has.
+          sym (both_true (value_at run w))
+          ∙ (ap (λ (rest : List Wire). both (value_at run w) (all_true run rest)) (sym (drop_of_length-le (wires_of placed) over))
+          ∙ before.value run has);
+    }
+
+-- ---- one of two values
+
+choose : (value c a : Bool) → cond value (not (both (not c) (cond value (not a) a))) (both (not c) (cond value (not a) a)) ≡ cond c value a
+choose true true true = refl
+choose true true false = refl
+choose true false true = refl
+choose true false false = refl
+choose false true true = refl
+choose false true false = refl
+choose false false true = refl
+choose false false false = refl
+
+either_by : (old new : Built) (condition : Wire) (value : Bool) (after w : Wire) → Grows old new → w.var < next_of new
+    → IsBoth new (opposite condition) (turned after value) w → IsEither old new condition value after (turned w value)
+either_by old new condition value after w grows below is = record {
+  grows = grows;
+  below = let e = turned_var w value in subst (λ (n : ℕ). n < next_of new) (sym e) below;
+  chooses = λ run has.
+      turned_value run w value
+      ∙ (ap (λ (x : Bool). cond value (not x) x)
+      (is run has
+      ∙ (ap (λ (x : Bool). both x (value_at run (turned after value))) (opposite_value run condition)
+      ∙ ap (λ (x : Bool). both (not (value_at run condition)) x) (turned_value run after value)))
+      ∙ choose value (value_at run condition) (value_at run after));
+}
+
+pub either_is : (old new : Built) (condition : Wire) (value : Bool) (after a b w r : Wire) → a ≡ opposite condition → b ≡ turned after value
+    → r ≡ turned w value → Grows old new → w.var < next_of new → IsBoth new a b w → IsEither old new condition value after r
+either_is old new condition value after a b w r ea eb er grows below is =
+    subst (λ (x : Wire). IsEither old new condition value after x) (sym er)
+    (either_by old new condition value after w grows below
+    (subst (λ (x : Wire). IsBoth new x (turned after value) w) ea (subst (λ (x : Wire). IsBoth new a x w) eb is)))
+
+-- ---- conditions that are kept
+
+pub condition_grown : (at : Scene) (a b : Built) (lits : List Literal) (w : Wire) → Grows a b → IsCondition at a lits w
+    → IsCondition at b lits w
+condition_grown at a b lits w g is = record {
+  below = let one = is.below in let more = next_grows a b g in omega arith;
+  value = λ run s has tells. is.value run s (values_before a b run g has) tells;
+}
+
+pub conditions_grown : (at : Scene) (a b : Built) (conditions : List Wire) → Grows a b → AreConditions at a conditions
+    → AreConditions at b conditions
+conditions_grown at a b conditions g are k w lits here kept = elim (are k w lits here kept) [
+  | inl none ↦ inl none
+  | inr is ↦ inr (condition_grown at a b lits w g is)
+]
+
+fires_at : (at : Scene) (k : ℕ) (lits : List Literal) (b : Built) (w : Wire) → slice_get at.kept k ≡ Some lits → IsCondition at b lits w
+    → (run : ℕ → Bool) (s : List Literal) → HasValues b run → Tells at.ps at.ws run s → value_at run w ≡ fires at s k
+fires_at at k lits b w here is run s has tells =
+    is.value run s has tells
+    ∙ ap (λ (ls : List Literal). are_set (map (wanted at.mine) ls) s) (sym (get_or_from_slice_get at.kept k lits [] here))
+
+pub condition_built : (at : Scene) (old new : Built) (k : ℕ) (lits : List Literal) (placed : List Placed) (before after : List Wire)
+    (w : Wire)
+    → slice_get at.kept k ≡ Some lits → ArePlaced at.ps at.ws at.mine lits placed → IsConjunction old new (wires_of placed) w
+    → AreConditions at old before → KeptFrom before after k w → GivesCondition at k old new after w
+condition_built at old new k lits placed before after w here are conjoined known keeps =
+    let is : IsCondition at new lits w = record {
+      below = conjoined.below;
+      value = λ run s has tells. conjoined.value run has ∙ are.tell run s tells;
+    } in
+    record {
+      grows = conjoined.grows;
+      below = conjoined.below;
+      known = λ i x others there kept. elim (keeps i x there) [
+        | inl (ik, xw) ↦ inr (subst (λ (y : Wire). IsCondition at new others y) (sym xw)
+            (subst (λ (ls : List Literal). IsCondition at new ls w)
+            (let at_k : slice_get at.kept k ≡ Some others = subst (λ (n : ℕ). slice_get at.kept n ≡ Some others) ik kept in cc) is))
+        | inr there_before ↦ conditions_grown at old new before conjoined.grows known i x others there_before kept
+      ];
+      value = λ run s has tells. fires_at at k lits new w here is run s has tells;
+    }
+
+pub condition_there : (at : Scene) (b : Built) (conditions : List Wire) (k : ℕ) (w : Wire) → k < length at.kept
+    → AreConditions at b conditions
+    → (w ≡ constant false → ⊥) → slice_get conditions k ≡ Some w → GivesCondition at k b b conditions w
+condition_there at b conditions k w inside are some there = elim (slice_get_cases at.kept k).1 [
+  | inl (lits, _, here, _) ↦
+      let is : IsCondition at b lits w = elim (are k w lits there here) [
+        | inl none ↦ absurd (some none)
+        | inr is ↦ is
+      ] in
+      record { grows = grows_same b; known = are; below = is.below; value = fires_at at k lits b w here is }
+  | inr (past, _) ↦ absurd (omega arith)
+]
+
+-- ---- what is decided under a condition
+
+pub decided_either : (at : Scene) (k : ℕ) (value : Bool) (after : Wire) (a b d : Built) (conditions : List Wire) (c w : Wire)
+    → GivesCondition at k a b conditions c → IsEither b d c value after w → IsDecided at k value after a d conditions w
+decided_either at k value after a b d conditions c w gives is = record {
+  grows = grows_then a b d gives.grows is.grows;
+  known = conditions_grown at b d conditions is.grows gives.known;
+  below = is.below;
+  chooses = λ run s has tells.
+      is.chooses run has ∙ ap (λ (x : Bool). cond x value (value_at run after))
+      (gives.value run s (values_before b d run is.grows has) tells);
+}
+
+same_either : (c value : Bool) → value ≡ cond c value value
+same_either true value = refl
+same_either false value = refl
+
+pub decided_same : (at : Scene) (k : ℕ) (value : Bool) (after : Wire) (b : Built) (conditions : List Wire) → AreConditions at b conditions
+    → after.var < next_of b → after ≡ constant value → IsDecided at k value after b b conditions after
+decided_same at k value after b conditions are below is = record {
+  grows = grows_same b;
+  known = are;
+  below = below;
+  chooses = λ run s has tells.
+      let e : value_at run after ≡ value = ap (value_at run) is ∙ constant_value run value has.constant in
+      e ∙ (same_either (fires at s k) value ∙ ap (λ (x : Bool). cond (fires at s k) value x) (sym e));
+}

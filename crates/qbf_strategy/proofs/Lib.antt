@@ -1,0 +1,11 @@
+pub mod Setting
+pub mod Played
+pub mod Computed
+mod Moves
+pub mod ToldLiterals
+pub mod ConditionGates
+pub mod ChainedEntries
+pub mod ChosenValues
+pub mod AssembledWires
+pub mod AssembledCircuit
+pub mod TrimmedCircuit

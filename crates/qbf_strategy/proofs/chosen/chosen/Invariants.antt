@@ -1,0 +1,13 @@
+use Rattle.qbf_core.specs.Blocks.{pairs}
+use Rattle.qbf_strategy.specs.Chosen.{IsChosenAfter}
+use Rattle.qbf_strategy.specs.Conditions.{scene}
+use Rattle.qbf_strategy.proofs.chosen.chosen.Given as goal
+
+abbrev pub invariant-loop-number : goal.invariant-loop-number
+invariant-loop-number l = record {
+  chosen : IsChosenAfter (scene l.here.task.mine (pairs l.here.task.prefix.now) l.here.known.now l.here.task.decisions.now.kept.whole)
+      l.entries.entries.items l.last l.number l.otherwise l.fn.work.gates l.work.gates l.work.conditions.items l.wire;
+}
+
+abbrev pub decreases-loop-number : goal.decreases-loop-number
+decreases-loop-number l = l.number

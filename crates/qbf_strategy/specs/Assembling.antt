@@ -1,0 +1,58 @@
+-- How a circuit is assembled from decisions: wires of variables, conditions, and what is decided on a variable.
+use Rattle.std.specs.Prelude.{◌≡◌, ℕ, drop, ◌<◌, Bool, true, List, [], ◌∷◌, Some, slice_get, map}
+use Rattle.std.specs.List.{All}
+use Rattle.qbf_core.specs.declared.quantifier.Quantifier.{Quantifier}
+use Rattle.qbf_core.specs.Literal.{Literal}
+use Rattle.aiger.specs.Circuits.{both}
+use Rattle.aiger.specs.Wires.{Wire, turned, value_at}
+use Rattle.qbf_strategy.specs.declared.placed.Placed.{Placed}
+use Rattle.qbf_strategy.specs.Decisions.{are_set, is_set, wanted}
+
+-- the variable v stands at the place i
+abbrev pub IsAt : List (Quantifier × ℕ) → ℕ → ℕ → Type 0
+IsAt ps i v = (q : Quantifier) × (slice_get ps i ≡ Some (q, v))
+
+-- The wires of the first variables tell in a run which of their literals are among those of s. Each literal that can be made of these
+-- variables is meant.
+abbrev pub Tells : List (Quantifier × ℕ) → List Wire → (ℕ → Bool) → List Literal → Type 0
+Tells ps ws run s = (i v : ℕ) (w : Wire) → IsAt ps i v → slice_get ws i ≡ Some w
+    → (negative : Bool) → value_at run (turned w negative) ≡ is_set (record { var = v; negative = negative }) s
+
+-- all of these wires are true
+abbrev pub all_true : (ℕ → Bool) → List Wire → Bool
+all_true run [] = true
+all_true run (w ∷ ws) = both (value_at run w) (all_true run ws)
+
+-- the wires are of variables below n
+abbrev pub AllBelow : ℕ → List Wire → Type 0
+AllBelow n ws = All (λ w. w.var < n) ws
+
+-- the wire has the value of a literal, if wires tell those before it
+abbrev pub TellsLiteral : List (Quantifier × ℕ) → List Wire → Literal → Wire → Type 0
+TellsLiteral ps ws l w = (run : ℕ → Bool) (s : List Literal) → Tells ps ws run s → value_at run w ≡ is_set l s
+
+-- these wires are all true exactly if all the literals are set
+abbrev pub TellAll : List (Quantifier × ℕ) → List Wire → List Literal → List Wire → Type 0
+TellAll ps ws ls some = (run : ℕ → Bool) (s : List Literal) → Tells ps ws run s → all_true run some ≡ are_set ls s
+
+-- these wires and the literals from place i on are true together exactly if all the literals are
+abbrev pub TellWithRest : List (Quantifier × ℕ) → List Wire → Quantifier → List Literal → ℕ → List Wire → Type 0
+TellWithRest ps ws mine lits i some = (run : ℕ → Bool) (s : List Literal) → Tells ps ws run s
+    → both (all_true run some) (are_set (map (wanted mine) (drop i lits)) s) ≡ are_set (map (wanted mine) lits) s
+
+-- the wires of placed literals
+abbrev pub wires_of : List Placed → List Wire
+wires_of placed = map (λ p. p.wire) placed
+
+-- literals are placed, as the player wants them, but for those from place i on
+pub record ArePlacedBefore (ps : List (Quantifier
+    × ℕ)) (ws : List Wire) (mine : Quantifier) (lits : List Literal) (i : ℕ) (placed : List Placed)
+    : Type 0 where
+  pub tell : TellWithRest ps ws mine lits i (wires_of placed)
+  pub below : (n : ℕ) → AllBelow n ws → AllBelow n (wires_of placed)
+
+-- all literals are placed, as the player wants them
+pub record ArePlaced (ps : List (Quantifier
+    × ℕ)) (ws : List Wire) (mine : Quantifier) (lits : List Literal) (placed : List Placed) : Type 0 where
+  pub tell : TellAll ps ws (map (wanted mine) lits) (wires_of placed)
+  pub below : (n : ℕ) → AllBelow n ws → AllBelow n (wires_of placed)

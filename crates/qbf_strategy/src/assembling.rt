@@ -1,0 +1,243 @@
+//! The circuit of decisions.
+
+ghost use Rattle.std.specs.Prelude.{◌≡◌, ◌≤◌, ◌<◌, ◌+◌, ℕ, [], List, IfOk, OnOk, length, nat_eq};
+ghost use Rattle.std.specs.Prelude.{Some, slice_get, ◌++◌, ◌∷◌, if◌then◌else◌};
+ghost use Rattle.qbf_core.specs.Blocks.{IsPrefix, is_quantifier, pairs};
+ghost use Rattle.aiger.specs.Circuits.{first_gate};
+ghost use Rattle.qbf_strategy.specs.Assembling.{AllBelow};
+ghost use Rattle.qbf_strategy.specs.Chains.{HaveChains, with_lists};
+ghost use Rattle.qbf_strategy.specs.Chosen.{AddsInput, AddsOutput, AreAssembled, IsUnassembled};
+ghost use Rattle.qbf_strategy.specs.Computing.{Computes};
+ghost use Rattle.qbf_strategy.specs.Conditions.{AreConditions, scene};
+ghost use Rattle.qbf_strategy.specs.Decisions.{decisions_by};
+ghost use Rattle.qbf_strategy.specs.Winning.{opponent, variables_of};
+
+use crate::chosen::chosen;
+use crate::conditions::Work;
+use crate::decisions::Decisions;
+use crate::entries::Entries;
+use crate::fault::CircuitFault;
+use crate::placed::{Here, Task};
+use crate::places::Places;
+use aiger::{Circuit, Output, Wire, trimmed};
+use qbf_core::{Prefix, Quantifier, Var};
+use std::alloc::{AllocError, Global};
+
+/// The quantifier of the other player.
+fn opponent(mine: Quantifier) -> Quantifier
+    ensures { result ≡ opponent mine }
+{
+    match mine {
+        Quantifier::All => Quantifier::Exists,
+        Quantifier::Exists => Quantifier::All,
+    }
+}
+
+/// Whether two quantifiers are the same.
+fn is_quantifier(left: Quantifier, right: Quantifier) -> bool
+    ensures { result ≡ is_quantifier left right }
+{
+    left == right
+}
+
+/// Puts the number of a variable at the end of others, if it is wanted.
+fn push_if(numbers: &mut Vec<u32>, wanted: bool, var: Var) -> Result<(), AllocError>
+    ensures { OnOk result (numbers.new.items ≡ numbers.old.items
+        ++ (if wanted then var ∷ [] else [])) }
+{
+    if wanted {
+        numbers.push(var.number())?;
+    }
+    Ok(())
+}
+
+/// The numbers of the variables of a quantifier.
+fn variables_of(
+    alloc: Global,
+    prefix: &Prefix,
+    quantifier: Quantifier,
+) -> Result<Vec<u32>, AllocError>
+    ensures { IfOk result (λ v. v.items ≡ variables_of quantifier (pairs prefix.now)) }
+{
+    let mut numbers = Vec::new(alloc);
+    for place in 0..prefix.len() {
+        let (found, var) = prefix.pair(place);
+        push_if(&mut numbers, is_quantifier(found, quantifier), var)?;
+    }
+    Ok(numbers)
+}
+
+/// Gates and wires for the first variables of a prefix.
+#[derive(Drop)]
+struct Assembly {
+    /// The gates, and the conditions that are built of them.
+    work: Work,
+    /// The wires of the variables, by place.
+    known: Vec<Wire>,
+    /// The outputs.
+    outputs: Vec<Output>,
+    /// The number of the first gate.
+    first: u32,
+    /// The number of the next input.
+    input: u32,
+}
+
+impl Assembly {
+    /// No wires yet, for so many inputs and decisions.
+    fn new(alloc: Global, inputs: usize, decisions: usize) -> Result<Assembly, CircuitFault>
+        ensures { IfOk result (IsUnassembled inputs) }
+    {
+        if inputs >= 2147483647 {
+            return Err(CircuitFault::TooLong);
+        }
+        let first = inputs as u32 + 1;
+        Ok(Assembly {
+            work: Work::new(alloc, first, decisions)?,
+            known: Vec::new(alloc),
+            outputs: Vec::new(alloc),
+            first,
+            input: 1,
+        })
+    }
+
+    /// Gives the next variable, one of the other player, its input.
+    fn add_input(&mut self) -> Result<(), CircuitFault>
+        ensures { OnOk result (AddsInput self.old self.new) }
+    {
+        if self.input >= self.first || self.input >= 2147483648 {
+            return Err(CircuitFault::NoProof);
+        }
+        self.known.push(Wire::new(self.input, false))?;
+        self.input += 1;
+        Ok(())
+    }
+
+    /// Gives the next variable, one of the player, its output.
+    fn add_output(&mut self, task: &Task, entries: &Entries, name: Var) -> Result<(), CircuitFault>
+        requires { AreAssembled task.now.mine
+            (pairs task.now.prefix.now) task.now.decisions.now.kept.whole
+            task.now.decisions.now.removed.whole self.old }
+        ensures { OnOk result (AddsOutput task.now.mine (pairs task.now.prefix.now)
+            task.now.decisions.now.kept.whole entries.now name self.old self.new) }
+    {
+        let last = entries.last(self.known.len())?;
+        let here = Here {
+            task: *task,
+            known: &self.known,
+        };
+        let wire = chosen(&here, &mut self.work, entries, last)?;
+        self.outputs.push(Output {
+            name: name.number(),
+            wire,
+        })?;
+        self.known.push(wire)?;
+        Ok(())
+    }
+
+    /// Gives the next variable its wire.
+    fn add_variable(&mut self, task: &Task, entries: &Entries) -> Result<(), CircuitFault>
+        requires assembled { AreAssembled task.now.mine
+            (pairs task.now.prefix.now) task.now.decisions.now.kept.whole
+            task.now.decisions.now.removed.whole self.old }
+        requires entries { HaveChains
+            (pairs task.now.prefix.now) entries.now.heads.items entries.now.entries.items
+            (with_lists task.now.mine 0 task.now.decisions.now.removed.whole []) }
+        requires few { length task.now.decisions.now.removed.whole ≤ length
+            task.now.decisions.now.kept.whole }
+        requires place { length self.old.known.items < length (pairs task.now.prefix.now) }
+        ensures assembled { OnOk result
+            (AreAssembled task.now.mine
+            (pairs task.now.prefix.now) task.now.decisions.now.kept.whole
+            task.now.decisions.now.removed.whole self.new) }
+        ensures count { OnOk result (length self.new.known.items
+            ≡ length self.old.known.items + 1) }
+        ensures first { OnOk result (self.new.first ≡ self.old.first) }
+    {
+        let (quantifier, name) = task.prefix.pair(self.known.len());
+        if is_quantifier(quantifier, task.mine) {
+            self.add_output(task, entries, name)
+        } else {
+            self.add_input()
+        }
+    }
+}
+
+/// Gates and wires for all variables of a prefix.
+fn assemble(
+    alloc: Global,
+    task: &Task,
+    entries: &Entries,
+    inputs: usize,
+) -> Result<Assembly, CircuitFault>
+    requires entries { HaveChains
+        (pairs task.now.prefix.now) entries.now.heads.items entries.now.entries.items
+        (with_lists task.now.mine 0 task.now.decisions.now.removed.whole []) }
+    requires few { length task.now.decisions.now.removed.whole ≤ length
+        task.now.decisions.now.kept.whole }
+    ensures assembled { IfOk result
+        (AreAssembled task.now.mine (pairs task.now.prefix.now) task.now.decisions.now.kept.whole
+        task.now.decisions.now.removed.whole) }
+    ensures count { IfOk result (λ a. length a.known.items ≡ length (pairs task.now.prefix.now)) }
+    ensures first { IfOk result (λ a. a.first ≡ inputs + 1) }
+    ensures sound { IfOk result (λ _. IsPrefix task.now.prefix.now) }
+{
+    let mut assembly = Assembly::new(alloc, inputs, task.decisions.kept.whole_len())?;
+    for _place in 0..task.prefix.len() {
+        assembly.add_variable(task, entries)?;
+    }
+    Ok(assembly)
+}
+
+/// The circuit of decisions, with all gates that were put.
+fn whole_circuit(
+    alloc: Global,
+    prefix: &Prefix,
+    mine: Quantifier,
+    decisions: &Decisions,
+) -> Result<Circuit, CircuitFault>
+    ensures computes { IfOk result (λ c. Computes mine (pairs prefix.now)
+        (decisions_by mine decisions.now.kept.whole decisions.now.removed.whole) c) }
+    ensures few { IfOk result (λ c. first_gate c + length c.gates ≤ 2147483648) }
+{
+    if decisions.removed.whole_len() > decisions.kept.whole_len() {
+        return Err(CircuitFault::NoProof);
+    }
+    let inputs = variables_of(alloc, prefix, opponent(mine))?;
+    let places = Places::new(alloc, prefix)?;
+    let task = Task {
+        mine,
+        prefix,
+        places: &places,
+        decisions,
+    };
+    let entries = Entries::new(alloc, &task)?;
+    let assembly = assemble(alloc, &task, &entries, inputs.len())?;
+    Ok(Circuit {
+        inputs,
+        outputs: assembly.outputs,
+        gates: assembly.work.gates.into_gates(),
+    })
+}
+
+/// The circuit by which the player of a quantifier keeps to decisions: its inputs are the variables
+/// of the other player, and its outputs those of the player, in the order of the prefix. In each
+/// run
+/// an output has the value that is decided on its variable; if nothing is decided on it, the value
+/// is some constant of the output.
+///
+/// # Errors
+/// `NoMemory` if an allocation fails; `TooLong` if AIGER has no numbers for the gates, or if the
+/// decisions set 4294967295 literals or more; `NoProof` if a decision sees a variable that does not
+/// stand before one that it sets, or has one that is not bound.
+pub fn circuit_of(
+    alloc: Global,
+    prefix: &Prefix,
+    mine: Quantifier,
+    decisions: &Decisions,
+) -> Result<Circuit, CircuitFault>
+    ensures { IfOk result (λ c. Computes mine (pairs prefix.now)
+        (decisions_by mine decisions.now.kept.whole decisions.now.removed.whole) c) }
+{
+    let circuit = whole_circuit(alloc, prefix, mine, decisions)?;
+    Ok(trimmed(alloc, circuit)?)
+}

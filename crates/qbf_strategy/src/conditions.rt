@@ -1,0 +1,145 @@
+//! Gates of conditions, each built once, and of what is decided under them.
+
+ghost use Rattle.std.specs.Prelude.{◌≡◌, ◌≢◌, ◌≤◌, ◌<◌, IfOk, IfSome, Some, false, length};
+ghost use Rattle.std.specs.Prelude.{slice_get};
+ghost use Rattle.qbf_core.specs.Blocks.{pairs};
+ghost use Rattle.aiger.specs.Building.{next_of};
+ghost use Rattle.aiger.specs.Wires.{constant};
+ghost use Rattle.qbf_strategy.specs.Assembling.{AllBelow, wires_of};
+ghost use Rattle.qbf_strategy.specs.Conditions.{AreConditions, GivesCondition, IsConjunction};
+ghost use Rattle.qbf_strategy.specs.Conditions.{IsDecided, IsEither, IsUnused, KeptFrom, scene};
+
+use crate::entries::Entry;
+use crate::fault::CircuitFault;
+use crate::placed::{Here, Placed, place_literals};
+use aiger::{Builder, GateFault, Wire};
+use std::alloc::{AllocError, Global};
+
+/// Gates, and the conditions that are built of them.
+#[derive(Drop)]
+pub struct Work {
+    /// The gates.
+    pub gates: Builder,
+    /// The wire of each decision's condition, or the constant false if it was not built.
+    pub conditions: Vec<Wire>,
+    /// The literals of the condition that is being built.
+    pub placed: Vec<Placed>,
+}
+
+/// The wire of the conjunction of wires.
+fn conjunction(gates: &mut Builder, placed: &[Placed]) -> Result<Wire, GateFault>
+    requires { AllBelow (next_of gates.old) (wires_of placed.now) }
+    ensures { IfOk result (IsConjunction gates.old gates.new (wires_of placed.now)) }
+{
+    let mut wire = gates.constant(true);
+    for literal in placed {
+        wire = gates.and(wire, literal.wire)?;
+    }
+    Ok(wire)
+}
+
+/// The wire that has this value if a condition holds, and else that of another wire.
+fn either(gates: &mut Builder, condition: Wire, value: bool, after: Wire) -> Result<Wire, GateFault>
+    requires condition { condition.var < next_of gates.old }
+    requires after { after.var < next_of gates.old }
+    ensures { IfOk result (IsEither gates.old gates.new condition value after) }
+{
+    let wire = gates.and(condition.opposite(), after.turned(value))?;
+    Ok(wire.turned(value))
+}
+
+impl Work {
+    /// No gates, of which the first will have this number, and no conditions of so many decisions.
+    pub fn new(alloc: Global, first: u32, decisions: usize) -> Result<Work, AllocError>
+        requires some { 1 ≤ first }
+        requires few { first ≤ 2147483648 }
+        ensures { IfOk result (λ w. IsUnused first w.gates w.conditions.items) }
+    {
+        Ok(Work {
+            gates: Builder::new(alloc, first),
+            conditions: vec![in alloc; Wire::constant(false); decisions]?,
+            placed: Vec::new(alloc),
+        })
+    }
+
+    /// The wire of a decision's condition, if it was built.
+    fn built(&self, decision: usize) -> Option<Wire>
+        ensures { IfSome result (λ w. (w ≢ constant false)
+            × (slice_get self.now.conditions.items decision ≡ Some w)) }
+    {
+        match self.conditions.get(decision) {
+            Some(wire) if *wire != Wire::constant(false) => Some(*wire),
+            _ => None,
+        }
+    }
+}
+
+/// Keeps the wire of a decision's condition.
+fn keep(conditions: &mut Vec<Wire>, decision: usize, wire: Wire)
+    ensures { KeptFrom conditions.old.items conditions.new.items decision wire }
+{
+    if decision < conditions.len() {
+        conditions[decision] = wire;
+    }
+}
+
+/// Builds the condition of a decision.
+fn build(here: &Here, work: &mut Work, decision: usize) -> Result<Wire, CircuitFault>
+    requires place { decision < length here.now.task.decisions.now.kept.whole }
+    requires below { AllBelow (next_of work.old.gates) here.now.known.now }
+    requires known { AreConditions (scene here.now.task.mine (pairs here.now.task.prefix.now)
+        here.now.known.now here.now.task.decisions.now.kept.whole) work.old.gates
+        work.old.conditions.items }
+    ensures { IfOk result (GivesCondition (scene here.now.task.mine (pairs here.now.task.prefix.now)
+        here.now.known.now here.now.task.decisions.now.kept.whole)
+        decision work.old.gates work.new.gates work.new.conditions.items) }
+{
+    let kept = here.task.decisions.kept.get(decision);
+    place_literals(here, kept, &mut work.placed)?;
+    let wire = conjunction(&mut work.gates, &work.placed)?;
+    keep(&mut work.conditions, decision, wire);
+    Ok(wire)
+}
+
+/// The condition of a decision, which is built if it was not.
+fn condition(here: &Here, work: &mut Work, decision: usize) -> Result<Wire, CircuitFault>
+    requires below { AllBelow (next_of work.old.gates) here.now.known.now }
+    requires known { AreConditions (scene here.now.task.mine (pairs here.now.task.prefix.now)
+        here.now.known.now here.now.task.decisions.now.kept.whole) work.old.gates
+        work.old.conditions.items }
+    ensures { IfOk result (GivesCondition (scene here.now.task.mine (pairs here.now.task.prefix.now)
+        here.now.known.now here.now.task.decisions.now.kept.whole)
+        decision work.old.gates work.new.gates work.new.conditions.items) }
+{
+    if decision >= here.task.decisions.kept.whole_len() {
+        return Err(CircuitFault::NoProof);
+    }
+    match work.built(decision) {
+        Some(wire) => Ok(wire),
+        None => build(here, work, decision),
+    }
+}
+
+/// What is decided by one entry: its value if its condition holds, and else that of another wire.
+pub fn decided(
+    here: &Here,
+    work: &mut Work,
+    entry: &Entry,
+    after: Wire,
+) -> Result<Wire, CircuitFault>
+    requires below { AllBelow (next_of work.old.gates) here.now.known.now }
+    requires after { after.var < next_of work.old.gates }
+    requires known { AreConditions (scene here.now.task.mine (pairs here.now.task.prefix.now)
+        here.now.known.now here.now.task.decisions.now.kept.whole) work.old.gates
+        work.old.conditions.items }
+    ensures { IfOk result (IsDecided (scene here.now.task.mine (pairs here.now.task.prefix.now)
+        here.now.known.now here.now.task.decisions.now.kept.whole) entry.now.decision
+        entry.now.value after
+        work.old.gates work.new.gates work.new.conditions.items) }
+{
+    if after == Wire::constant(entry.value) {
+        return Ok(after);
+    }
+    let condition = condition(here, work, entry.decision as usize)?;
+    Ok(either(&mut work.gates, condition, entry.value, after)?)
+}

@@ -1,0 +1,12 @@
+use Rattle.qrp_rules.proofs.ReductsByMembers.{same_found, same_none}
+use Rattle.qrp_rules.proofs.clause_index.InitialClauses.find_clause.Goals as goal
+
+pub returns-in-Ok-clause-found : goal.returns-in-Ok-clause-found
+returns-in-Ok-clause-found c =
+    same_found c.args.formula.now c.in-Ok.set c.args.lits.now c.in-Ok.ensures.members c.reduced_clause.result
+    (rw c.as_slice.ensures.value at c.reduced_clause.ensures.found)
+
+pub returns-in-Ok-clause-only : goal.returns-in-Ok-clause-only
+returns-in-Ok-clause-only c =
+    same_none c.args.formula.now c.in-Ok.set c.args.lits.now c.in-Ok.ensures.members c.reduced_clause.result
+    (rw c.as_slice.ensures.value at c.reduced_clause.ensures.only)

@@ -1,0 +1,20 @@
+-- From the strategy for a formula that was read to the headline over the bytes.
+use Rattle.qrp_check.proofs.Cited.{◌≡◌, List, Option, Some, None, ℕ, Result, Ok, Err, IfOk, IfSome, Qbf, Derivation}
+use Rattle.qbf_strategy.specs.Winning.{IsWinningCircuit}
+use Rattle.qdimacs.specs.Reading as formulas
+use Rattle.qrp_check.proofs.HeadlineOfVerdict.{formula_spelled, trace_spelled}
+use Rattle.qrp_check.specs.Checked.{WasReadFrom}
+use Rattle.qrp_check.specs.Verdict.{is_sat}
+use Rattle.qrp_winner.specs.Strategies.{IsOfWinner, winner}
+use Rattle.qrp_winner.specs.declared.fault.StrategyFault.{StrategyFault}
+use Rattle.qrp_winner.specs.declared.strategy.Strategy.{Strategy}
+
+pub of_winner : (formula trace : Option (List ℕ)) (f : Qbf) (result : Result Strategy StrategyFault)
+    → IfSome (formulas.reads_bytes formula) (λ r. r ≡ Ok f)
+    → IfOk result (λ s. (d : Derivation) × WasReadFrom trace d × (s.truth ≡ is_sat d.result) × IsWinningCircuit (winner s.truth) f s.circuit)
+    → IfSome formula (λ a. IfSome trace (λ b. IfOk result (IsOfWinner a b)))
+of_winner None trace f result reads wins = tt
+of_winner (Some a) None f result reads wins = tt
+of_winner (Some a) (Some b) f (Err e) reads wins = tt
+of_winner (Some a) (Some b) f (Ok s) reads (d, (formed, read), claim, wins) =
+    (f, d, record { formula_spelled = formula_spelled a f reads; trace_spelled = trace_spelled b d read }, claim, wins)
