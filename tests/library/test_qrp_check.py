@@ -15,10 +15,12 @@ import os
 import pathlib
 import pickle
 import pydoc
+import signal
 import subprocess
 import sys
 import tempfile
 import time
+import typing
 
 ROOT = pathlib.Path(__file__).resolve().parents[2]
 sys.path.insert(0, str(ROOT / "python"))
@@ -269,8 +271,68 @@ def as_program(cases):
         ask(files[0], "/proc/self/mem") == ("DEVICE trace\n", "", 3),
         ask("/proc/self/mem", files[1]) == ("DEVICE formula\n", "", 3),
         *((ended[0], ended[1][:5], ended[2]) == ("", "USAGE", 5) for ended in (ask(), ask(files[0]), ask(*files, "x"), ask("--qu", *files, "--qu"))),
+        (ask(files[0], "--qu", files[1])[0], ask(files[0], "--qu", files[1])[2]) == ("", 5),
+        ask("--qu", "--qu", files[1]) == ("DEVICE formula\n", "", 3),
+        *interrupted(files, environment),
         ask_shell(">/dev/full", files) == ("", 3) == ask_shell(">&-", files),
     ]
+
+
+def interrupted(files, environment):
+    """Whether an interrupt ends `python -m qrp_check` at once and without a word, while it reads a pipe into which nobody writes."""
+    with tempfile.TemporaryDirectory() as folder:
+        pipe = os.path.join(folder, "pipe")
+        os.mkfifo(pipe)
+        words = [sys.executable, "-m", "qrp_check", files[0], pipe]
+        with subprocess.Popen(words, env=environment, stdout=subprocess.PIPE, stderr=subprocess.PIPE, text=True) as process:
+            end, until = None, time.monotonic() + 30
+            while end is None and time.monotonic() < until:
+                try:
+                    end = os.open(pipe, os.O_WRONLY | os.O_NONBLOCK)
+                except OSError:  # nobody reads yet
+                    time.sleep(0.02)
+            process.send_signal(signal.SIGINT)
+            said = process.communicate(timeout=30)
+            if end is not None:
+                os.close(end)
+        return [end is not None, said == ("", ""), process.returncode == -signal.SIGINT]
+
+
+# The calls of the library write what they write if memory is refused.
+WITHOUT_MEMORY = """
+import sys
+import qrp_check
+import qrp_check.__main__ as program
+
+class Refusing:
+    def __init__(self, library):
+        self.library = library
+
+    def __getattr__(self, name):
+        def call(*words):
+            words[-1]._obj.status = 4
+            return 0
+        return getattr(self.library, name) if name.startswith("qrp_verdict") or name == "qrp_fault_text" else call
+
+qrp_check._library = Refusing(qrp_check._library)
+texts = [open(name, "rb").read() for name in sys.argv[1:]]
+calls = [(qrp_check.verify, texts), (qrp_check.trim, texts), (qrp_check.core, texts), (qrp_check.format, texts[:1])]
+calls += [(getattr(qrp_check, name), sys.argv[1:]) for name in ("verify_files", "trim_files", "core_files")]
+for call, words in calls:
+    try:
+        print(call(*words))
+    except MemoryError as error:
+        print(error)
+sys.exit(program.main())
+"""
+
+
+def without_memory(example):
+    """Whether each call raises MemoryError if memory is refused, and `python -m qrp_check` says NO MEMORY."""
+    environment = {**os.environ, "PYTHONPATH": str(ROOT / "python")}
+    ended = subprocess.run([sys.executable, "-c", WITHOUT_MEMORY, *example.files], env=environment, capture_output=True, text=True, check=False)
+    wanted = ["out of memory, so nothing is known: check again with more"] * 7 + ["NO MEMORY"]
+    return [ended.stdout.splitlines() == wanted, ended.returncode == 4, ended.stderr == ""]
 
 
 # The module is imported as by a Python that has no calls of C for buffers, as PyPy has none.
@@ -325,6 +387,8 @@ def main(words):
     refused, faulty = (next(case for case in cases if case.status == status) for status in (1, 2))
     rest = [*meanings(), *errors(verified), from_pipe(verified), all(is_lent(case) for case in cases if case.trace)]
     rest += [*in_processes(verified, refused), *names(), while_cut(verified), without_c(verified)]
+    rest += without_memory(verified)
+    rest += [typing.get_type_hints(qrp_check.Verdict.__bool__) == {"return": typing.NoReturn}]
     rest += as_program([verified, refused, faulty, next(case for case in cases if case.any_pivot and case.status == 0)])
     with concurrent.futures.ThreadPoolExecutor(8) as pool:
         rest.append(all(pool.map(is_answered, cases * 8)))

@@ -177,7 +177,7 @@ def try_progress(use):
     slow = use.file("slow", b'#!/bin/sh\nexec 3<"$2"\nhead -c 100 <&3 >/dev/null\nsleep 3\necho VERIFIED false\n')
     slow.chmod(0o755)
     for name, program, files, shown in (
-        ("a long check", slow, [FORMULA, TRACE], rf"read: \d+ % of the formula"),
+        ("a long check", slow, [FORMULA, TRACE], r"read: \d+ % of the formula \(0\.\d of 0\.\d MB\)"),
         ("a long check of a compressed file", slow, [use.file("f.gz", gzip.compress(FORMULA.read_bytes())), TRACE], r"read: 100 % of the formula"),
         ("a short check", use.program, [FORMULA, TRACE], None),
     ):
@@ -197,12 +197,28 @@ def try_progress(use):
     expect("a long check without a terminal", ended == (0, "VERIFIED false\n", ""), ended)
 
 
+def try_typed(use):
+    """What is typed at a terminal is read."""
+    master, slave = pty.openpty()
+    os.write(master, TRACE.read_bytes() + b"\x04")
+    words = ["setsid", "--ctty", sys.executable, str(CHECK), str(FORMULA), "-"]
+    with subprocess.Popen(words, stdin=slave, stdout=subprocess.PIPE, stderr=subprocess.PIPE, env=use.environment) as process:
+        os.close(slave)
+        try:
+            out, said = process.communicate(timeout=30)
+        except subprocess.TimeoutExpired:
+            process.kill()
+            out, said = b"", b"it does not end"
+    os.close(master)
+    expect("a trace that is typed", (out, said) == (b"VERIFIED false\n", b""), (out, said))
+
+
 def main():
     signal.signal(signal.SIGINT, signal.default_int_handler)
-    for part in try_lines, try_compressed, try_input, try_expected, try_statuses, try_progress:
+    for part in try_lines, try_compressed, try_input, try_expected, try_statuses, try_progress, try_typed:
         with tempfile.TemporaryDirectory() as folder:
             part(Use(folder, os.path.abspath(sys.argv[1])))
-    return finish(312)
+    return finish(313)
 
 
 if __name__ == "__main__":

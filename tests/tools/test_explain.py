@@ -451,7 +451,7 @@ MISTAKES = [
     ("a trace appended to a part of the result", GOOD, TRACE[:-3] + TRACE, ["here it is 'unsp qrp", "two traces are in one file"], ["damaged"]),
     ("a list of clauses as trace", GOOD, b"1 2 0\n0\n", ["It looks like a list of clauses", "`--trace=qrp`"], GIVE),
     ("another alphabet", b"\xe4\xf6\xfc\n", TRACE, ["It is not a plain text.", "give the file as plain ASCII"], [*GIVE, "^"]),
-    ("gzip", gzip.compress(GOOD), TRACE, ["It is compressed by gzip.\nWhat you can do:\n  unpack it, or give `<(zcat FILE)`.\n"], [*GIVE, "^", "?"]),
+    ("gzip", gzip.compress(GOOD), TRACE, ["It is compressed by gzip.\nWhat you can do:\n  unpack it, or give `<(zcat FILE)`; `"], [*GIVE, "^", "?"]),
     ("UTF-16", GOOD.decode().encode("utf-16"), TRACE, ["It is in UTF-16.\nWhat you can do:\n  write it as plain ASCII"], [*GIVE, "^", "?"]),
     ("a byte order mark", b"\xef\xbb\xbf" + GOOD, TRACE, ["It begins with a byte order mark", "take out the first three bytes"], GIVE),
     ("exchanged", TRACE, GOOD, ["Were the two files exchanged?", "give the formula first, and then the trace"], GIVE),

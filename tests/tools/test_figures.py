@@ -25,7 +25,7 @@ TRUE = ["adder2.lazy", "copycat3.trad"]
 def run(script, *words, program, **options):
     environment = dict(os.environ, QRP_CMD=str(program))
     words = [sys.executable, ROOT / "tools" / script, *map(str, words)]
-    return subprocess.run(words, capture_output=True, text=True, env=environment, check=False, **options)
+    return subprocess.run(words, capture_output=True, env=environment, check=False, **{"text": True, **options})
 
 
 def ask(program, *words):
@@ -77,6 +77,10 @@ def try_odd_layout(program, folder):
     expect("used-clauses, an odd layout", wrote.stdout == "p cnf 3 2\ne 1 0\na 2\n0 e 3 0\n1 2 0\n-1 2 0\n", wrote)
     listed = run("used-clauses", "--lines", formula, trace, program=program)
     expect("used-clauses --lines, an odd layout", listed.stdout == "1\t6\n2\t6\n", listed)
+    formula.write_bytes(b"p cnf 3 4\r\ne 1 0\r\na 2 0\r\ne 3 0\r\n1 2 0\r\n3 0\r\n1 3 0\r\n-1 2 0\r\n")
+    wrote = run("used-clauses", formula, trace, program=program, text=False)
+    expect("used-clauses, line ends of two bytes", wrote.stdout == b"p cnf 3 2\ne 1 0\r\na 2 0\r\ne 3 0\n1 2 0\n-1 2 0\n", wrote)
+    formula.write_bytes(b"c first\np cnf 3 5\ne 1 0\na 2\n0 e 3 0\n1 2 0 -1 2 0\n3 0\nc between\n1 2 0 1\n-1 0\n")
     reduced = Path(folder) / "reduced.qrp"
     reduced.write_bytes(b"p qrp 2 5\n1 1 0 0\n2 -1 0 0\n3 0 1 2 0\nr unsat\n")
     wrote = run("used-clauses", formula, "/dev/stdin", program=program, input=reduced.read_text())
@@ -217,7 +221,7 @@ def main():
     for name in FALSE + TRUE:
         try_stats(program, *pair(name))
     try_refusals(program)
-    return finish(781)
+    return finish(782)
 
 
 if __name__ == "__main__":

@@ -7,6 +7,7 @@ UNREADABLE has the rows that cannot be read, and should be empty.
 import os
 import random
 import re
+import shutil
 import subprocess
 import sys
 import tempfile
@@ -15,7 +16,7 @@ from pathlib import Path
 ROOT = Path(__file__).resolve().parents[2]
 sys.path[:0] = [str(ROOT / "tests"), str(ROOT / "tools")]
 sys.dont_write_bytecode = True
-from expect import expect, finish  # noqa: E402
+from expect import expect, finish, skip  # noqa: E402
 from qrptools.core import Core, is_needed  # noqa: E402
 from qrptools.find_steps import find_near  # noqa: E402
 from qrptools.formula import Formula  # noqa: E402
@@ -182,8 +183,61 @@ def try_proofs(program, pairs):
         expect(f"{trace.name}: the program says {line}", holds and line.startswith("VERIFIED "))
 
 
-NODE = re.compile(r"    (\d+) \[shape=(box|ellipse), label=<<B>\1</B><BR/>(?:[- 0-9]|<U>|</U>|<BR/>|empty (?:clause|cube))+>\];")
+NODE = re.compile(r"    (\d+) \[shape=(box|ellipse), label=<<B>\1</B><BR/>(?:[-0-9]|&#160;|<U>|</U>|<BR/>|empty (?:clause|cube))+>\];")
 EDGE = re.compile(r'    (\d+) -> (\d+) \[label="(?:-?\d+)?(?:, )?(?:reduced)?"\];')
+TEXT = re.compile(r"    (\d+) \[shape=\w+, label=<<B>\d+</B><BR/>(.*)>\];")
+LABEL = re.compile(r'    (\d+) -> (\d+) \[label="(.*)"\];')
+
+
+def marks_of(formula, steps):
+    """What the nodes and the edges of a proof have to show, by steps as lists of words: literals with the universal ones underlined; and of
+    an antecedent the literal of the pivot, and whether another literal of it is gone."""
+    universal = {word for line in formula.read_text().splitlines() if line.startswith("a") for word in line.split()[1:-1]}
+    literals, texts, labels = {}, {}, {}
+    for step in steps:
+        end = step.index("0")
+        number, own, parents = step[0], list(dict.fromkeys(step[1:end])), step[end + 1 : -1]
+        texts[number] = [f"<U>{it}</U>" if it.lstrip("-") in universal else it for it in own]
+        known = [set(literals[parent]) for parent in parents]
+        pivots = {it.lstrip("-") for it in known[0] if {it.lstrip("-"), f"-{it.lstrip('-')}"} - {it} <= known[1]} if len(known) == 2 else set()
+        for parent, held in zip(parents, known):
+            gone = [it for it in held if it not in own and it.lstrip("-") not in pivots]
+            labels[parent, number] = [it for it in literals[parent] if it.lstrip("-") in pivots] + ["reduced"] * bool(gone)
+        literals[number] = own
+    return texts, labels
+
+
+def try_marks(program):
+    """What is underlined, the labels of the edges, the warning, and names in their places."""
+    for formula, trace in [(f / f"{f.name}.qdimacs", f / f"{f.name}.trimmed.qrp") for f in EXAMPLES]:
+        steps = [line.split() for line in trace.read_text().splitlines() if line[0].isdigit()]
+        texts, labels = marks_of(formula, steps)
+        drawn = run(DRAW, formula, trace, program=program)
+        found = {line[1]: [it for it in re.split(r"&#160;| |<BR/>", line[2]) if it] for line in map(TEXT.fullmatch, drawn.stdout.splitlines()) if line}
+        wanted = {number: text or (["empty", "clause"] if trace.read_text().endswith("unsat\n") else ["empty", "cube"]) for number, text in texts.items()}
+        expect(f"{trace.name}: the literals, universal ones underlined", found == wanted, [it for it in found.items() if it[1] != wanted[it[0]]][:3])
+        found = {(line[1], line[2]): line[3] for line in map(LABEL.fullmatch, drawn.stdout.splitlines()) if line}
+        wanted = {edge: ", ".join(label) for edge, label in labels.items()}
+        expect(f"{trace.name}: the labels", found == wanted, [it for it in found.items() if it[1] != wanted[it[0]]][:3])
+        said = f"{DRAW}: these are {len(steps)} steps, which is more than a picture shows well: try --last 100\n" if len(steps) > 300 else ""
+        expect(f"{trace.name}: the warning", drawn.stderr == said, drawn.stderr)
+    with tempfile.TemporaryDirectory() as folder:
+        chain, names = Path(folder) / "chain", Path(folder) / "names"
+        formula = ROOT / "examples" / "two_clauses.qdimacs"
+        for count in 300, 301:
+            steps = "".join(f"{n} 1 0 {n - 1} 0\n" for n in range(4, count - 1))
+            chain.write_text(f"p qrp 2 5\n1 1 2 0 0\n2 -1 2 0 0\n3 1 0 1 0\n{steps}{count - 1} -1 0 2 0\n{count} 0 {count - 2} {count - 1} 0\nr unsat\n")
+            expect(f"{count} steps: the warning", (f"these are {count} steps" in run(DRAW, formula, chain, program=program).stderr) == (count > 300))
+        names.write_text('1 a<&\n2 "b"\\\n')
+        drawn = run(DRAW, "--names", names, formula, formula.with_suffix(".qrp"), program=program)
+        wanted = ['    1 [shape=box, label=<<B>1</B><BR/>a&lt;&amp;&#160;<U>&quot;b&quot;\\</U>>];', '    3 -> 5 [label="a<&"];']
+        expect("names in a graph", all(line in drawn.stdout.splitlines() for line in wanted), drawn)
+        dot = shutil.which("dot")
+        if dot:
+            made = subprocess.run([dot, "-Tsvg"], input=drawn.stdout, capture_output=True, text=True, check=False)
+            expect("names in a picture", made.returncode == 0 and not made.stderr and "a&lt;&amp;" in made.stdout, made)
+        else:
+            skip("names in a picture", "there is no dot")
 
 
 def read_graph(name, text):
@@ -322,14 +376,15 @@ def main():
     few = [pair for pair in real if pair[1].name in ("kbkf2.trad.qrp", "adder2.lazy.qrp")]
     try_rows(program, Path(rows).read_text().splitlines())
     try_proofs(program, real + trimmed)
-    expect("six proofs to damage", len(small + few) == 6, small + few)
+    expect("seven proofs to damage", len(small + few) == 7, small + few)
     try_damages(program, small + few)
     try_near([pair for pair in real + trimmed if pair[1].stat().st_size < 2000])
     try_odd_steps()
     try_drawings(program)
+    try_marks(program)
     try_blanks(program)
     try_words(program)
-    return finish(3795)
+    return finish(4097)
 
 
 if __name__ == "__main__":

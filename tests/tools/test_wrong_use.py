@@ -4,6 +4,7 @@ Each of them has to end with the status that its --help says, with a line on the
 no process left behind. TOOLS says of each tool how it is used; the rest is tried on all of them.
 """
 
+import ast
 import contextlib
 import os
 import resource
@@ -341,6 +342,50 @@ def try_full_folder(trial):
     trial.expect("a pipe and a full TMPDIR", trial.run(piped), 2, [f"{own(trial)}a copy of /dev/stdin {full}it needs the size of the file)\n"])
 
 
+def try_old_systems(program):
+    """The tools ask for a later Python in words that older ones read, and take the static program if the system cannot load the other."""
+    old = 'import sys; sys.version_info = (3, 8, 18); sys.version = "3.8.18 (main)"; exec(open(sys.argv[1]).read())'
+    ended = subprocess.run([sys.executable, "-c", old, ROOT / "tools" / "qrptools" / "early.py"], capture_output=True, text=True, check=False)
+    expect("an old Python", (ended.returncode, ended.stderr) == (2, "-c: Python 3.9 or later is needed, and this is 3.8.18\n"), ended)
+    for tool in sorted({tool.name for tool in TOOLS}):
+        text = (ROOT / "tools" / tool).read_text()
+        try:
+            first = next(it for it in ast.parse(text, feature_version=(3, 6)).body if isinstance(it, (ast.Import, ast.ImportFrom)))
+            expect(f"{tool}: an old Python comes to the module that asks", ast.unparse(first) == "import qrptools.early", ast.unparse(first))
+        except SyntaxError as fault:
+            expect(f"{tool}: an old Python can read it", False, fault)
+    with tempfile.TemporaryDirectory() as name:
+        folder = Path(name)
+        shutil.copytree(ROOT / "tools", folder / "tools")
+        (folder / "bin").mkdir()
+        loader = folder / "bin" / "qrp_cmd"
+        loader.write_text("#!/bin/sh\necho \"$0: version 'GLIBC_2.34' not found\" >&2\nexit 1\n")
+        loader.chmod(0o755)
+        environment = {name: value for name, value in os.environ.items() if name != "QRP_CMD"}
+        words = [sys.executable, folder / "tools" / "explain", FORMULA, TRACE]
+        for static, status, said in (False, 1, "unknown line"), (True, 0, "qrp_cmd says: VERIFIED false\n"):
+            if static:
+                (folder / "bin" / "qrp_cmd.static").symlink_to(program)
+            ended = subprocess.run(words, env=environment, capture_output=True, text=True, check=False)
+            expect(f"a program that cannot be loaded, static {static}", ended.returncode == status and said in ended.stdout + ended.stderr, ended)
+        ended = subprocess.run(words, env={**environment, "QRP_CMD": str(loader)}, capture_output=True, text=True, check=False)
+        expect("a program that is named is taken", ended.returncode == 1 and "unknown line" in ended.stderr, ended)
+
+
+TYPED = ["names.py", "many", "checking", "circuits", "games/gates.py", "games/play.py"]
+
+
+def try_types():
+    """The modules with types agree with them."""
+    if not shutil.which("mypy"):
+        skip("the types of the modules", "there is no mypy")
+        return
+    with tempfile.TemporaryDirectory() as folder:
+        words = ["mypy", "--cache-dir", folder, "--python-version", "3.9", *(f"qrptools/{name}" for name in TYPED)]
+        ended = subprocess.run(words, cwd=ROOT / "tools", capture_output=True, text=True, check=False)
+    expect("the types of the modules", ended.returncode == 0, ended.stdout)
+
+
 def main():
     program = os.path.abspath(sys.argv[1])
     # A run in the background ignores interrupts, and so would all that it starts: these are tested here.
@@ -360,7 +405,9 @@ def main():
         for trial in trials:
             with tempfile.TemporaryDirectory() as folder:
                 trial(Trial(tool, program, folder))
-    return finish(1137)
+    try_old_systems(program)
+    try_types()
+    return finish(1151)
 
 
 if __name__ == "__main__":

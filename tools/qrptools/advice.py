@@ -160,7 +160,7 @@ ROWS = [
         "an antecedent or a literal was lost, and no prefix explains that, so the trace is damaged: have the solver write it again",
     ),
     ("DEVICE", None, "a file cannot be opened or read", "give the file's name, and the right to read it"),
-    ("DEVICE", "minus", "the name is `-`", "`-` is a name like any other here: give `/dev/stdin` for the standard input"),
+    ("DEVICE", "minus", "the name is `-`", "`-` is a name like any other here: give `/dev/stdin` for the standard input, or use `tools/check`, where `-` is that"),
     ("NO MEMORY", None, "memory was refused", "raise the limit (`ulimit -v`), or take a machine with more memory"),
     ("USAGE", None, "wrong arguments", "give the arguments as in the usage; names of files have to be valid UTF-8"),
 ]
@@ -181,10 +181,10 @@ TEXT_FORM = "have the solver write the text form: `--trace=qrp`"
 KINDS = [
     ("no formula", "The formula is empty", "give the whole file: what wrote this one wrote nothing"),
     ("no trace", "The trace is empty", f"{TRACE_OPTIONS}. If they were given, see what the solver printed on its standard error"),
-    ("gzip", "It is compressed by gzip", "unpack it, or give `<(zcat FILE)`"),
-    ("bzip2", "It is compressed by bzip2", "unpack it, or give `<(bzcat FILE)`"),
-    ("xz", "It is compressed by xz", "unpack it, or give `<(xzcat FILE)`"),
-    ("zstd", "It is compressed by zstd", "unpack it, or give `<(zstdcat FILE)`"),
+    ("gzip", "It is compressed by gzip", "unpack it, or give `<(zcat FILE)`; `tools/check FORMULA TRACE` takes it as it is"),
+    ("bzip2", "It is compressed by bzip2", "unpack it, or give `<(bzcat FILE)`; `tools/check FORMULA TRACE` takes it as it is"),
+    ("xz", "It is compressed by xz", "unpack it, or give `<(xzcat FILE)`; `tools/check FORMULA TRACE` takes it as it is"),
+    ("zstd", "It is compressed by zstd", "unpack it, or give `<(zstdcat FILE)`; `tools/check FORMULA TRACE` takes it as it is"),
     ("zip", "It is a zip archive", "unpack it"),
     ("program", "It is a program", "give the file that the program reads or writes"),
     ("mark", "It begins with a byte order mark, which an editor wrote", "take out the first three bytes: `tail -c +4 FILE > NEW`"),

@@ -5,6 +5,8 @@ those of a bus, the bits of a number.
 """
 
 import re
+from collections.abc import Iterable, Iterator
+from typing import Optional
 
 from qrptools.command import read_file, unusable
 from qrptools.words import GREATEST_VARIABLE
@@ -18,15 +20,17 @@ FORMS = "write NAME, NAME=1, -NAME, !NAME or NAME=0, or BUS=NUMBER for the bits 
 class Names:
     """The names of variables. Without a file they are numbers."""
 
-    def __init__(self, path=None):
-        self.names, self.variables, self.buses = {}, {}, {}
+    def __init__(self, path: Optional[str] = None) -> None:
+        self.names: dict[int, str] = {}
+        self.variables: dict[str, int] = {}
+        self.buses: dict[str, dict[int, int]] = {}
         lines = read_file(path).decode(errors="surrogateescape").split("\n") if path else []
         for place, line in enumerate(lines, 1):
             words = line.split()
             if words and not words[0].startswith("#"):
                 self.take(words, f"{path}, line {place}")
 
-    def take(self, words, where):
+    def take(self, words: list[str], where: str) -> None:
         if len(words) != 2 or not is_variable(words[0]):
             raise unusable(f"{where}: a variable and a name of one word are wanted")
         variable, name = int(words[0]), words[1]
@@ -39,26 +43,26 @@ class Names:
         if bit and str(int(bit[2])) == bit[2]:
             self.buses.setdefault(bit[1], {})[int(bit[2])] = variable
 
-    def name(self, variable):
+    def name(self, variable: int) -> str:
         return self.names.get(variable, str(variable))
 
-    def shown(self, literals):
+    def shown(self, literals: Iterable[int]) -> str:
         """Literals as text."""
         return " ".join(("-" if literal < 0 else "") + self.name(abs(literal)) for literal in literals)
 
-    def listed(self, variables):
+    def listed(self, variables: list[int]) -> str:
         """Variables as text, of many the first."""
         rest = f" and {len(variables) - LISTED} more" if len(variables) > LISTED else ""
         return self.shown(variables[:LISTED]) + rest
 
-    def values(self, literals):
+    def values(self, literals: Iterable[int]) -> Iterator[tuple[str, int]]:
         """The values of a bus as a number, for each bus of two bits or more of which all bits are among the literals."""
         given = {abs(literal): literal > 0 for literal in literals}
         for bus, bits in self.buses.items():
             if len(bits) > 1 and all(variable in given for variable in bits.values()):
                 yield bus, sum(given[variable] << place for place, variable in bits.items())
 
-    def literals(self, word):
+    def literals(self, word: str) -> Optional[list[int]]:
         """The literals that a word of a reply means; None if it means none."""
         name, is_false = (word[1:], True) if word[:1] in ("-", "!", "~") else (word, False)
         variable = self.variable(name)
@@ -70,11 +74,11 @@ class Names:
             return None
         return [variable if number == "1" else -variable] if variable else self.bits(name, number)
 
-    def variable(self, name):
+    def variable(self, name: str) -> int:
         """The variable of this name or number, 0 if there is none."""
         return self.variables.get(name) or (int(name) if is_variable(name) else 0)
 
-    def bits(self, bus, number):
+    def bits(self, bus: str, number: str) -> Optional[list[int]]:
         """The literals of the bits of a bus that has this number, None if it has too few or there is no such bus."""
         value = int(number, 10 if number.isdecimal() else 0) if len(number) < 1200 else -1
         bits = self.buses.get(bus, {})
@@ -83,5 +87,5 @@ class Names:
         return [variable if value >> place & 1 else -variable for place, variable in bits.items()] or None
 
 
-def is_variable(word):
-    return re.fullmatch("0*[1-9][0-9]{0,9}", word, re.ASCII) and int(word) <= GREATEST_VARIABLE
+def is_variable(word: str) -> bool:
+    return bool(re.fullmatch("0*[1-9][0-9]{0,9}", word, re.ASCII)) and int(word) <= GREATEST_VARIABLE

@@ -21,13 +21,14 @@ USAGE = 5  # the status of the program without arguments
 def find_program():
     """The program that QRP_CMD names, else bin/qrp_cmd above the tools, else the one beside this command, else the one on the PATH. If the
     system is too old for that of a release, it is the static one beside it."""
+    if os.environ.get("QRP_CMD"):
+        return os.environ["QRP_CMD"]
     beside = [PLACE / "bin" / "qrp_cmd", Path(sys.argv[0]).absolute().parent / "qrp_cmd"]
-    built = next((str(path) for path in beside if path.is_file()), None)
-    program = os.environ.get("QRP_CMD") or built or shutil.which("qrp_cmd")
+    program = next((str(path) for path in beside if path.is_file()), None) or shutil.which("qrp_cmd")
     if not program:
         raise unusable("there is no bin/qrp_cmd: build it with make, or name it by QRP_CMD")
     static = f"{program}.static"
-    return static if program == built and os.path.isfile(static) and not can_run(program) and can_run(static) else program
+    return static if os.path.isfile(static) and not can_run(program) and can_run(static) else program
 
 
 @functools.lru_cache(maxsize=None)

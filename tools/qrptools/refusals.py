@@ -88,7 +88,7 @@ CAUSES = {
     "F4": lambda fault, _: "open" if is_clause_in_set(fault) else None,
     "F6": cause_of_freedom,
     "F7": lambda fault, data: "open" if open_line_of(fault, data) else None,
-    "F8": lambda fault, data: "empty" if fault.at is not None and next(empty_clauses(data), None) else None,
+    "F8": lambda fault, data: "empty" if fault.at is not None and any(empty_clauses(data)) else None,
     **dict.fromkeys(("P3", "P4", "P5", "P6"), lambda fault, data: "zeros" if odd_zeros(fault, data) else None),
 }
 

@@ -9,7 +9,9 @@ import re
 import shutil
 import stat
 import subprocess
+from collections.abc import Iterator
 from contextlib import contextmanager
+from typing import IO, BinaryIO, Callable, Optional
 
 from qrptools.command import not_read, read_file, started, unusable
 from qrptools.looks import MAGIC
@@ -23,21 +25,25 @@ DESCRIPTOR = re.compile(r"/(?:dev|proc/self)/fd/([0-9]{1,6})")  # the name of a 
 class Source:
     """A file of a check: its name, whether its bytes can be read again, and how it is compressed, if it is."""
 
-    def __init__(self, path):
+    def __init__(self, path: str) -> None:
         self.path = STANDARD_INPUT if path == "-" else path
-        self.unpacker, self.process, self.file = None, None, None
+        self.unpacker: Optional[str] = None
+        self.process: Optional[subprocess.Popen[bytes]] = None
+        self.pipe: Optional[IO[bytes]] = None  # of what unpacks the file
+        self.errors: Optional[IO[bytes]] = None
+        self.file: Optional[BinaryIO] = None
         self.is_regular = self.has_mode(stat.S_ISREG)
         if self.is_regular:
-            self.unpacker = UNPACKERS.get(kind_of(self.path))
+            self.unpacker = UNPACKERS.get(kind_of(self.path) or "")
 
-    def has_mode(self, test):
+    def has_mode(self, test: Callable[[int], bool]) -> bool:
         try:
             return test(os.stat(self.path).st_mode)
         except OSError:
             return False
 
     @contextmanager
-    def opened(self):
+    def opened(self) -> Iterator[tuple[str, tuple[int, ...]]]:
         """While this holds, the program can read the file by the name that is yielded, and by these descriptors."""
         if not self.unpacker:
             own = DESCRIPTOR.fullmatch(self.path)
@@ -50,40 +56,42 @@ class Source:
             self.file = open(self.path, "rb", buffering=0)
         except OSError as fault:
             raise unusable(not_read(self.path, fault)) from fault
-        with self.file, started([self.unpacker, "-dc"], stdin=self.file, stdout=subprocess.PIPE, stderr=subprocess.PIPE) as self.process:
-            yield f"/dev/fd/{self.process.stdout.fileno()}", (self.process.stdout.fileno(),)
+        pipes = {"stdout": subprocess.PIPE, "stderr": subprocess.PIPE}
+        with self.file, started([self.unpacker, "-dc"], stdin=self.file, **pipes) as process:
+            self.process, self.pipe, self.errors = process, process.stdout, process.stderr
+            yield f"/dev/fd/{process.stdout.fileno()}", (process.stdout.fileno(),)
 
-    def close_pipe(self):
+    def close_pipe(self) -> None:
         """Lets the program be the only reader, so that what unpacks ends with it."""
-        if self.process:
-            self.process.stdout.close()
+        if self.pipe:
+            self.pipe.close()
 
-    def complaint(self):
+    def complaint(self) -> Optional[str]:
         """Why the file could not be unpacked to its end, None if it could, or if its end was not asked for."""
-        if not self.process:
+        if not self.process or not self.errors:
             return None
-        said = self.process.stderr.read().decode(errors="replace").strip().split("\n")
+        said = self.errors.read().decode(errors="replace").strip().split("\n")
         status = self.process.wait()
         return None if status in (0, -13, 141) else said[-1] or f"{self.unpacker} ended with status {status}"
 
-    def share_read(self, program):
-        """Which share of the file was read so far, by this process of the program; None if it is not known."""
+    def place(self, program: int) -> tuple[int, int]:
+        """How many bytes of the file were read so far, by this process of the program, and how many it has; zeros if that is not known."""
         try:
-            size = os.stat(self.path).st_size
+            size = os.stat(self.path).st_size if self.is_regular else 0
             place = os.lseek(self.file.fileno(), 0, os.SEEK_CUR) if self.file else place_of(program, os.path.realpath(self.path))
-            return min(1.0, place / size) if self.is_regular and size and place is not None else None
+            return (min(place, size), size) if place is not None else (0, 0)
         except (OSError, ValueError):
-            return None
+            return 0, 0
 
-    def read(self):
+    def read(self) -> bytes:
         """All bytes, unpacked."""
         if not self.unpacker:
             return read_file(self.path)
         with self.opened():
-            return self.process.stdout.read()
+            return self.pipe.read() if self.pipe else b""
 
 
-def kind_of(path):
+def kind_of(path: str) -> Optional[str]:
     """How a file is compressed by its first bytes, None if it is not, or cannot be read."""
     try:
         with open(path, "rb") as file:
@@ -93,7 +101,7 @@ def kind_of(path):
     return next((kind for magic, kind in MAGIC if head.startswith(magic)), None)
 
 
-def place_of(process, path):
+def place_of(process: int, path: str) -> Optional[int]:
     """Where a process is in a file that it has open, None if it has not."""
     folder = f"/proc/{process}/fd"
     for number in os.listdir(folder):

@@ -4,33 +4,44 @@ A literal is an even number for a variable and the next odd one for its negation
 """
 
 import re
-from collections import namedtuple
+from typing import NamedTuple, Optional
 
-from qrptools.command import finding
+from qrptools.command import Ends, finding
 
 HEADER = re.compile(rb"(aag|aig)((?: [0-9]+){5,9})")
 KINDS = {"i": "input", "l": "latch", "o": "output", "b": "bad state", "c": "constraint", "j": "justice property", "f": "fairness constraint"}
 GREATEST = 2**30  # variables of a circuit
 
-# A latch: its literal, that of its next value, and its value at the beginning: 0, 1, or its own literal if that is any.
-Latch = namedtuple("Latch", "literal next reset")
+class Latch(NamedTuple):
+    """A latch: its literal, that of its next value, and its value at the beginning: 0, 1, or its own literal if that is any."""
+
+    literal: int
+    next: int
+    reset: int
 
 
 class Circuit:
     """A circuit: the literals of its inputs and so on in their order, the two inputs of each gate by its literal, and the names of the
     user by kind and place."""
 
-    def __init__(self):
-        self.inputs, self.latches, self.outputs, self.bads, self.constraints = [], [], [], [], []
-        self.gates, self.names = {}, {}
+    def __init__(self) -> None:
+        self.inputs: list[int] = []
+        self.latches: list[Latch] = []
+        self.outputs: list[int] = []
+        self.bads: list[int] = []
+        self.constraints: list[int] = []
+        self.gates: dict[int, tuple[int, int]] = {}
+        self.names: dict[tuple[str, int], str] = {}
 
-    def name(self, kind, place):
+    def name(self, kind: str, place: int) -> str:
         """The name of an input, a latch or the like; without a symbol it is the kind and the place, as i0."""
         return self.names.get((kind, place), f"{kind}{place}")
 
-    def order(self, roots):
+    def order(self, roots: list[int]) -> Optional[list[int]]:
         """The gates that these literals depend on, each after its inputs; None if a gate depends on itself."""
-        found, state, stack = [], {}, [root & ~1 for root in reversed(roots)]
+        found: list[int] = []
+        state: dict[int, str] = {}
+        stack = [root & ~1 for root in reversed(roots)]
         while stack:
             gate = stack[-1]
             if gate not in self.gates or state.get(gate) == "done":
@@ -50,15 +61,18 @@ class Circuit:
 class Reader:
     """Reads a file of this name, of these bytes. Each fault ends the command with a line that says where it is."""
 
-    def __init__(self, path, data):
+    def __init__(self, path: str, data: bytes) -> None:
         self.path, self.data, self.at, self.line = path, data, 0, 0
-        self.circuit, self.defined = Circuit(), {}
+        self.circuit = Circuit()
+        self.defined: dict[int, str] = {}
+        self.is_binary, self.greatest = False, 0
+        self.counts: dict[str, int] = {}
 
-    def refuse(self, what):
+    def refuse(self, what: str) -> Ends:
         where = f"line {self.line}" if self.line else f"byte {self.at}"
         return finding(f"{self.path}, {where}: {what}")
 
-    def text(self):
+    def text(self) -> Optional[bytes]:
         """The next line, None at the end."""
         if self.at >= len(self.data):
             return None
@@ -67,7 +81,7 @@ class Reader:
         line, self.at, self.line = self.data[self.at : end], end + 1, self.line + 1
         return line.rstrip(b"\r")
 
-    def numbers(self, what, least, most):
+    def numbers(self, what: str, least: int, most: int) -> list[int]:
         """The numbers of the next line, of which there are so many."""
         line = self.text()
         if line is None:
@@ -78,16 +92,16 @@ class Reader:
             raise self.refuse(f"{what} is wanted, {wanted}")
         return list(map(int, words))
 
-    def literal(self, what):
+    def literal(self, what: str) -> int:
         return self.used(*self.numbers(what, 1, 1))
 
-    def used(self, literal):
+    def used(self, literal: int) -> int:
         """A literal that is in range."""
         if literal > 2 * self.greatest + 1:
             raise self.refuse(f"the literal {literal} is above {2 * self.greatest + 1}, the greatest by the header")
         return literal
 
-    def define(self, literal, what):
+    def define(self, literal: int, what: str) -> int:
         """A literal that gets its meaning here."""
         if self.used(literal) < 2 or literal % 2:
             raise self.refuse(f"{what} has the literal {literal}, which is not an even number above 0")
@@ -96,7 +110,7 @@ class Reader:
         self.defined[literal] = what
         return literal
 
-    def read(self):
+    def read(self) -> Circuit:
         """The circuit."""
         self.read_header()
         circuit = self.circuit
@@ -109,7 +123,7 @@ class Reader:
         self.refuse_undefined()
         return circuit
 
-    def read_header(self):
+    def read_header(self) -> None:
         found = HEADER.fullmatch(self.text() or b"")
         if not found:
             raise self.refuse("the file is no circuit in AIGER, which begins with aag or aig and five to nine numbers")
@@ -125,10 +139,10 @@ class Reader:
         if self.greatest < least or self.is_binary and self.greatest != least:
             raise self.refuse(f"the header says {self.greatest} variables, and the inputs, latches and gates are {least}")
 
-    def input_literal(self, place):
+    def input_literal(self, place: int) -> int:
         return 2 * (place + 1) if self.is_binary else self.literal(f"input {place}")
 
-    def latch(self, place):
+    def latch(self, place: int) -> Latch:
         what = f"latch {place}"
         if self.is_binary:
             literal, (following, *reset) = 2 * (self.counts["I"] + place + 1), self.numbers(what, 1, 2)
@@ -139,7 +153,7 @@ class Reader:
             raise self.refuse(f"{what} begins with {reset[0]}, which is not 0, 1 or its literal {literal}")
         return Latch(literal, self.used(following), reset[0] if reset else 0)
 
-    def read_gates(self):
+    def read_gates(self) -> None:
         for place in range(self.counts["A"]):
             what = f"gate {place}"
             if self.is_binary:
@@ -153,7 +167,7 @@ class Reader:
                 self.define(literal, what)
             self.circuit.gates[literal] = (self.used(one), self.used(other))
 
-    def difference(self, what):
+    def difference(self, what: str) -> int:
         """A number of the binary form: seven bits in each byte, the lowest first, and a high bit in all but the last one."""
         number = shift = 0
         self.line = 0
@@ -166,7 +180,7 @@ class Reader:
                 return number
         raise self.refuse(f"the file ends before {what}" if self.at >= len(self.data) else f"{what} has a number that is too long")
 
-    def read_symbols(self):
+    def read_symbols(self) -> None:
         line = self.text()
         while line is not None and line != b"c":
             found = re.fullmatch(rb"([ilobcjf])([0-9]+) (.+)", line)
@@ -179,7 +193,7 @@ class Reader:
                 self.circuit.names[kind, place] = found[3].decode(errors="replace").strip()
             line = self.text()
 
-    def refuse_undefined(self):
+    def refuse_undefined(self) -> None:
         """Ends the command if a literal is used that has no meaning, or if a gate depends on itself."""
         circuit, self.line = self.circuit, 0
         used = [*circuit.outputs, *circuit.bads, *circuit.constraints, *(latch.next for latch in circuit.latches)]
@@ -190,5 +204,5 @@ class Reader:
             raise finding(f"{self.path}: a gate depends on itself")
 
 
-def read_circuit(path, data):
+def read_circuit(path: str, data: bytes) -> Circuit:
     return Reader(path, data).read()

@@ -4,61 +4,70 @@ A literal here is made as in AIGER: an even number for an input or a gate, the n
 gates are one, and what constants decide is no gate.
 """
 
-from collections import namedtuple
+from typing import Callable, NamedTuple, Optional
 
-# An input in a step, None if it has one value for all steps; or a latch whose value at the beginning is free, in step 0.
-Input = namedtuple("Input", "name step")
+from qrptools.circuits.aiger import Circuit
+
+class Input(NamedTuple):
+    """An input in a step, None if it has one value for all steps; or a latch whose value at the beginning is free, in step 0."""
+
+    name: str
+    step: Optional[int]
+
+
+def value_of(literal: int, values: dict[int, int]) -> int:
+    """The literal here of a literal of the circuit."""
+    return values[literal & ~1] ^ (literal & 1)
 
 
 class Unrolled:
     """A circuit in so many steps: its inputs, its gates, and the clauses that have to hold."""
 
-    def __init__(self, circuit, steps, has_one_value):
+    def __init__(self, circuit: Circuit, steps: int, has_one_value: Callable[[str], bool]) -> None:
         self.circuit, self.has_one_value = circuit, has_one_value
-        self.inputs = {}  # by their literals
-        self.gates = {}  # the two inputs by the literal
-        self.known, self.latest, self.literals = {}, 0, {}  # gates by their inputs; the last literal; those of inputs
-        self.clauses = []  # what each is about, and its literals
+        self.inputs: dict[int, Input] = {}  # by their literals
+        self.literals: dict[Input, int] = {}  # those of inputs
+        self.gates: dict[int, tuple[int, int]] = {}  # the two inputs by the literal
+        self.known: dict[tuple[int, int], int] = {}  # gates by their inputs
+        self.latest = 0  # the last literal
+        self.clauses: list[tuple[str, list[int]]] = []  # what each is about, and its literals
         self.unroll(steps)
 
-    def unroll(self, steps):
+    def unroll(self, steps: int) -> None:
         circuit = self.circuit
         properties = [("b", place, literal ^ 1) for place, literal in enumerate(circuit.bads)]
         properties = properties or [("o", place, literal) for place, literal in enumerate(circuit.outputs)]
         roots = [*(literal for _, _, literal in properties), *circuit.constraints, *(latch.next for latch in circuit.latches)]
-        order, latches, assumed = circuit.order(roots), self.first_latches(), []
+        order, latches = circuit.order(roots) or [], self.first_latches()
+        assumed: list[int] = []
         for step in range(steps):
-            values = {0: 0, **latches}
-            for place, literal in enumerate(circuit.inputs):
-                values[literal] = self.input(circuit.name("i", place), step)
-            value = lambda literal: values[literal & ~1] ^ (literal & 1)
+            values = {0: 0, **latches, **{literal: self.input(circuit.name("i", place), step) for place, literal in enumerate(circuit.inputs)}}
             for gate in order:
-                values[gate] = self.conjunction(*map(value, circuit.gates[gate]))
-            assumed += [value(literal) ^ 1 for literal in circuit.constraints]
+                one, other = circuit.gates[gate]
+                values[gate] = self.conjunction(value_of(one, values), value_of(other, values))
+            assumed += [value_of(literal, values) ^ 1 for literal in circuit.constraints]
             for kind, place, literal in properties:
-                self.ask(self.at(circuit.name(kind, place), step, steps), [*assumed, value(literal)])
-            latches = {latch.literal: value(latch.next) for latch in circuit.latches}
+                self.ask(self.at(circuit.name(kind, place), step, steps), [*assumed, value_of(literal, values)])
+            latches = {latch.literal: value_of(latch.next, values) for latch in circuit.latches}
 
-    def at(self, name, step, steps):
+    def at(self, name: str, step: int, steps: int) -> str:
         return name if steps == 1 else f"{name} of step {step}"
 
-    def first_latches(self):
+    def first_latches(self) -> dict[int, int]:
         """The values of the latches at the beginning."""
-        for place, latch in enumerate(self.circuit.latches):
-            if latch.reset == latch.literal:
-                self.input(self.circuit.name("l", place), 0)
-        return {latch.literal: latch.reset if latch.reset < 2 else self.literals[self.circuit.name("l", place), 0] for place, latch in enumerate(self.circuit.latches)}
+        name = self.circuit.name
+        return {it.literal: it.reset if it.reset < 2 else self.input(name("l", place), 0) for place, it in enumerate(self.circuit.latches)}
 
-    def input(self, name, step):
+    def input(self, name: str, step: int) -> int:
         """The literal of an input in a step."""
-        key = (name, None) if self.has_one_value(name) else (name, step)
+        key = Input(name, None if self.has_one_value(name) else step)
         if key not in self.literals:
             self.latest += 2
             self.literals[key] = self.latest
-            self.inputs[self.latest] = Input(*key)
+            self.inputs[self.latest] = key
         return self.literals[key]
 
-    def conjunction(self, one, other):
+    def conjunction(self, one: int, other: int) -> int:
         one, other = sorted((one, other))
         if one == 0 or one ^ 1 == other:
             return 0
@@ -70,13 +79,13 @@ class Unrolled:
             self.gates[self.latest] = (one, other)
         return self.known[one, other]
 
-    def ask(self, about, literals):
+    def ask(self, about: str, literals: list[int]) -> None:
         """Adds a clause, if it is not true anyway."""
         literals = list(dict.fromkeys(literal for literal in literals if literal))
         if 1 not in literals and all(literal ^ 1 not in literals for literal in literals):
             self.clauses.append((about, literals))
 
-    def needed_gates(self):
+    def needed_gates(self) -> list[int]:
         """The gates that the clauses depend on, each after its inputs."""
         needed = {literal & ~1 for _, literals in self.clauses for literal in literals}
         for gate in reversed(self.gates):

@@ -7,6 +7,9 @@ Nothing here is proved: the values are a reply like any other, and qrp_cmd check
 
 from itertools import combinations, product
 
+from qrptools.formula import Formula
+
+Literals = frozenset[int]
 TABLE = 6  # inputs of a gate whose whole table is looked at
 FEW = 8  # different lists of inputs of which pairs are looked at too
 
@@ -14,17 +17,18 @@ FEW = 8  # different lists of inputs of which pairs are looked at too
 class Gates:
     """The gates of a block, of the clauses of the formula."""
 
-    def __init__(self, formula, variables):
-        wanted, ends = set(variables), {}
-        places = {variable: place for place, variable in enumerate(map(int, b" ".join(text for _, text in formula.sets).split()))}
+    def __init__(self, formula: Formula, variables: list[int]) -> None:
+        wanted = set(variables)
+        ends: dict[int, list[Literals]] = {}
+        places: dict[int, int] = {variable: place for place, variable in enumerate(map(int, b" ".join(text for _, text in formula.sets).split()))}
         for clause in formula.clauses():
-            last = max(map(abs, clause.literals), key=places.get, default=0)
+            last = max((abs(literal) for literal in clause.literals), key=lambda variable: places.get(variable, 0), default=0)
             if last in wanted and clause.clean:
                 ends.setdefault(last, []).append(clause.literals)
-        found = ((variable, definition(variable, ends.get(variable, ()))) for variable in variables)
+        found = ((variable, definition(variable, ends.get(variable, []))) for variable in variables)
         self.definitions = {variable: clauses for variable, clauses in found if clauses}
 
-    def set_to(self, values, given):
+    def set_to(self, values: dict[int, int], given: set[int]) -> None:
         """Adds the values of the outputs that are not there: as the gates give them after the values of the blocks before."""
         true = {*given, *values.values()}
         for variable, clauses in self.definitions.items():
@@ -33,7 +37,7 @@ class Gates:
                 true.add(values[variable])
 
 
-def forced(variable, clauses, true):
+def forced(variable: int, clauses: list[Literals], true: set[int]) -> int:
     """The literal of the variable that these clauses leave, if these literals are true."""
     return next(
         (literal for clause in clauses for literal in (variable, -variable) if literal in clause and all(-other in true for other in clause if other != literal)),
@@ -41,9 +45,9 @@ def forced(variable, clauses, true):
     )
 
 
-def definition(variable, clauses):
+def definition(variable: int, clauses: list[Literals]) -> list[Literals]:
     """The clauses that define the variable, from those of the most inputs on; none if it is not defined."""
-    inputs = {frozenset(map(abs, clause)) - {variable} for clause in clauses}
+    inputs = {frozenset(abs(literal) for literal in clause) - {variable} for clause in clauses}
     if len(inputs) <= FEW:
         inputs |= {one | other for one, other in combinations(inputs, 2)}
     for some in sorted(inputs, key=lambda it: (-len(it), sorted(it))):
@@ -58,10 +62,10 @@ def definition(variable, clauses):
     return []
 
 
-def conjunction(variable, clauses, inputs):
+def conjunction(variable: int, clauses: list[Literals], inputs: Literals) -> list[Literals]:
     """Those clauses that say that the variable is the conjunction of some literals of the inputs, or its negation; none if it is not."""
     given = set(clauses)
-    for whole in clauses if len(inputs) > 1 else ():
+    for whole in clauses if len(inputs) > 1 else []:
         own = next(literal for literal in whole if abs(literal) == variable)
         parts = [frozenset((-own, -literal)) for literal in whole if literal != own]
         if len(whole) == len(inputs) + 1 and given.issuperset(parts):
@@ -69,7 +73,7 @@ def conjunction(variable, clauses, inputs):
     return []
 
 
-def is_function(variable, clauses, inputs):
+def is_function(variable: int, clauses: list[Literals], inputs: Literals) -> bool:
     """Whether these clauses leave the variable one value for each value of the inputs."""
     for signs in product((1, -1), repeat=len(inputs)):
         true = {sign * other for sign, other in zip(signs, inputs)}

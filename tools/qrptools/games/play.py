@@ -3,51 +3,70 @@
 A part of tools/play and tools/solve, which tell it in their own ways.
 """
 
-from collections import namedtuple
+from argparse import Namespace
+from collections.abc import Iterator
+from typing import NamedTuple, Optional
 
 from qrptools.formula import ADJECTIVES, EXISTS
 from qrptools.games.cut import count_lines
-from qrptools.games.game import LINES
+from qrptools.games.game import LINES, Block, Checker, State
 from qrptools.games.gates import Gates
 from qrptools.games.replies import Replies, described
+from qrptools.names import Names
 
-# A move: the block, whether the winner makes it, the literals that are then true, the variables that the proof leaves open, those that are
-# set as their gates give them, the program's line, and the files of the state.
-Move = namedtuple("Move", "block is_winners values are_open gates line files")
+class Move(NamedTuple):
+    """A move: the block, whether the winner makes it, the literals that are then true, the variables that the proof leaves open, those that
+    are set as their gates give them, the program's line, and the files of the state."""
 
-# A clause that is false at the end: its number, its line, and its literals.
-Failing = namedtuple("Failing", "number line literals")
+    block: Block
+    is_winners: bool
+    values: list[int]
+    are_open: list[int]
+    gates: list[int]
+    line: str
+    files: list[str]
+
+
+class Failing(NamedTuple):
+    """A clause that is false at the end: its number, its line, and its literals."""
+
+    number: int
+    line: int
+    literals: list[int]
+
+
 SOME_CLAUSES = 5  # in a message
 
 
 class Play:
     """A game. What happens is told by the methods at the end, which do nothing here."""
 
-    def __init__(self, arguments, state, names, checker):
+    def __init__(self, arguments: Namespace, state: State, names: Names, checker: Checker) -> None:
         self.state, self.names, self.checker = state, names, checker
         theirs = [block for block in state.blocks if not state.is_winners(block)]
         self.replies = Replies(arguments.reply, theirs, names, arguments.random)
         self.winner = ADJECTIVES[state.side.reduced]
         self.verified = LINES[state.result]
-        self.true = set()  # the literals that are true after the moves so far
+        self.true: set[int] = set()  # the literals that are true after the moves so far
 
-    def to_the_end(self):
+    def to_the_end(self) -> None:
         """Plays while there are values."""
         self.began()
         while self.state.blocks:
-            block, are_open, gates = self.state.blocks[0], [], []
+            block = self.state.blocks[0]
             if self.state.is_winners(block):
                 values, are_open = self.state.move()
-            else:
-                values, gates = self.other_values(block)
-                if values is None:
-                    self.stopped(block)
-                    return
-            self.make(block, values, are_open, gates)
+                self.make(block, values, are_open, [])
+                continue
+            given, gates = self.other_values(block)
+            if given is None:
+                self.stopped(block)
+                return
+            self.make(block, given, [], gates)
         holds = count_lines(self.state.clauses) == 0
         self.ended(holds, [] if holds else self.failing())
 
-    def other_values(self, block):
+    def other_values(self, block: Block) -> tuple[Optional[list[int]], list[int]]:
         """The other player's values of a block, None if some are not given, and the variables that are set as their gates give them."""
         given = self.replies.given.get(block.number, {})
         is_last = block.quantifier == EXISTS and len(self.state.blocks) == 1  # gates are innermost
@@ -61,7 +80,7 @@ class Play:
             gates.set_to(values, self.true)
         return [values[variable] for variable in block.variables], [variable for variable in block.variables if variable not in named]
 
-    def make(self, block, values, are_open, gates):
+    def make(self, block: Block, values: list[int], are_open: list[int], gates: list[int]) -> None:
         """Makes a move and has the state after it verified."""
         is_winners = self.state.is_winners(block)
         self.state.put_in(values)
@@ -69,16 +88,17 @@ class Play:
         self.true.update(values)
         self.moved(Move(block, is_winners, values, are_open, gates, line, files))
 
-    def failing(self):
+    def failing(self) -> list[Failing]:
         """The clauses of the formula that are false at the end."""
-        false, found = {b"%d" % -literal for literal in self.true}, []
+        false = {b"%d" % -literal for literal in self.true}
+        found: list[Failing] = []
         for number, line, texts in self.state.formula.pieces():
             for place, text in enumerate(texts):
                 if false.issuperset(text.split()):
                     found.append(Failing(number + place, line + place, list(dict.fromkeys(map(int, text.split())))))
         return found
 
-    def lines_of_move(self, move):
+    def lines_of_move(self, move: Move) -> Iterator[str]:
         """A move as text: who makes it, the literals, and the numbers of the buses."""
         who = "by the proof" if move.is_winners else "the other player"
         gates, shown = set(move.gates), []
@@ -94,7 +114,7 @@ class Play:
         if move.are_open:
             yield f"    left open by the proof: {self.names.shown(move.are_open)}"
 
-    def lines_of_end(self, holds, failing):
+    def lines_of_end(self, holds: bool, failing: list[Failing]) -> Iterator[str]:
         """The end as text: who has won, and which clauses are false."""
         yield f"no variable is left, and the matrix {'holds' if holds else 'does not hold'}: the {self.winner} player has won"
         for clause in failing[:SOME_CLAUSES]:
@@ -103,14 +123,14 @@ class Play:
         if len(failing) > SOME_CLAUSES:
             yield f"    and {len(failing) - SOME_CLAUSES} more clauses"
 
-    def began(self):
+    def began(self) -> None:
         """The game begins."""
 
-    def moved(self, move):
+    def moved(self, move: Move) -> None:
         """A move was made, and verified."""
 
-    def stopped(self, block):
+    def stopped(self, block: Block) -> None:
         """The game stops before a block of the other player."""
 
-    def ended(self, holds, failing):
+    def ended(self, holds: bool, failing: list[Failing]) -> None:
         """The game is at its end."""

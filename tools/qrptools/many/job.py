@@ -10,10 +10,10 @@ from qrptools.command import started
 TIMEOUT = 124
 
 
-def job(seconds, kilobytes, program, index, formula, trace, flag):
+def job(seconds: str, kilobytes: str, program: str, index: str, formula: str, trace: str, flag: str) -> None:
     """Runs the program once and prints the row: index, line, status, seconds, those of the processor, and peak memory."""
 
-    def limit():
+    def limit() -> None:
         if int(kilobytes):
             resource.setrlimit(resource.RLIMIT_AS, (int(kilobytes) * 1024, int(kilobytes) * 1024))
 
@@ -31,6 +31,6 @@ def job(seconds, kilobytes, program, index, formula, trace, flag):
     print(index, line, status, f"{took:.3f}", f"{used.ru_utime + used.ru_stime:.3f}", used.ru_maxrss, sep="\t", flush=True)
 
 
-def at_hand(path):
+def at_hand(path: str) -> str:
     """A file that was copied is below the job's folder; on the machine that has it, it has its whole path."""
     return path if os.path.exists(path) else os.path.join("/", path)

@@ -2,27 +2,43 @@
 
 import json
 import os
-from collections import Counter, namedtuple
+from collections import Counter
+from typing import NamedTuple
 
 from qrptools.command import read_file, unusable, version
 
 FLAG, TRUTHS = "--qu", ("true", "false")
 LOST = 255  # the status of what is not known
 
-# A line of the list. The files are as they are written there; the flag is a minus if there is none, and so is the expected truth.
-Pair = namedtuple("Pair", "name formula trace flag expected")
+class Pair(NamedTuple):
+    """A line of the list. The files are as they are written there; the flag is a minus if there is none, and so is the expected truth."""
 
-# What a check came to: the program's line or a word of LIMITS, the status, the seconds, those of the processor, and the peak memory.
-Result = namedtuple("Result", "line status seconds cpu_seconds kilobytes")
+    name: str
+    formula: str
+    trace: str
+    flag: str
+    expected: str
+
+
+class Result(NamedTuple):
+    """What a check came to, as text: the program's line or TIMEOUT, KILLED or LOST, and figures, each a minus if it is not known."""
+
+    line: str
+    status: str
+    seconds: str
+    cpu_seconds: str
+    kilobytes: str
+
+
 UNKNOWN = Result("LOST", str(LOST), "-", "-", "-")
 
 
-def lines_of(data):
+def lines_of(data: bytes) -> list[str]:
     """The lines of a file, with names of any bytes."""
     return [os.fsdecode(line) for line in data.replace(b"\r\n", b"\n").split(b"\n")]
 
 
-def read_list(path):
+def read_list(path: str) -> list[Pair]:
     """The lines of a list as pairs."""
     pairs = []
     for number, line in enumerate(lines_of(read_file(path, "the list")), 1):
@@ -31,31 +47,32 @@ def read_list(path):
     return pairs
 
 
-def pair_of(fields, where):
+def pair_of(fields: list[str], where: str) -> Pair:
     """The pair of a line's fields: after the files a flag and a truth, each at most once, in any order; blank fields say nothing."""
     more = [field for field in fields[3:] if field not in ("", "-")]
     truths = [field for field in more if field in TRUTHS]
     flags = [field for field in more if field == FLAG]
     if len(fields) < 3 or not all(fields[:3]) or len(truths) > 1 or len(flags) > 1 or len(truths) + len(flags) < len(more):
         raise unusable(f"{where} is not a name, a formula, a trace and perhaps {FLAG}, and true or false, separated by tabs")
-    return Pair(*fields[:3], *(flags or "-"), *(truths or "-"))
+    name, formula, trace = fields[:3]
+    return Pair(name, formula, trace, flags[0] if flags else "-", truths[0] if truths else "-")
 
 
-def is_as_expected(pair, result):
+def is_as_expected(pair: Pair, result: Result) -> bool:
     """Whether a proof was verified, and of the truth that the list expects, if it does."""
     return result.line.startswith("VERIFIED ") and pair.expected in ("-", result.line.split()[1])
 
 
-def text_row(pair, result):
+def text_row(pair: Pair, result: Result) -> str:
     """The row of the table as text."""
     return "\t".join([pair.name, *result[:3], result.kilobytes, result.cpu_seconds, pair.expected])
 
 
-def json_row(pair, result):
+def json_row(pair: Pair, result: Result) -> str:
     """The row of the table as JSON. What is not known is null."""
     lost = result.seconds == "-"
     files = {"formula": pair.formula, "trace": pair.trace, "qu": pair.flag == FLAG}
-    figures = [None, None, None] if lost else [float(result.seconds), float(result.cpu_seconds), int(result.kilobytes)]
+    figures: list[object] = [None, None, None] if lost else [float(result.seconds), float(result.cpu_seconds), int(result.kilobytes)]
     return json.dumps(
         {
             "name": pair.name,
@@ -69,7 +86,7 @@ def json_row(pair, result):
     )
 
 
-def summary(pairs, results):
+def summary(pairs: list[Pair], results: list[Result]) -> str:
     """One line on all rows: how many were verified, what became of the others, and what it took."""
     verified = [result.line for result in results if result.line.startswith("VERIFIED ")]
     truths = ", ".join(f"{verified.count(f'VERIFIED {truth}')} {truth}" for truth in TRUTHS)
@@ -83,6 +100,6 @@ def summary(pairs, results):
     return line + (f"; {len(wrong)} not of the truth that the list expects: {', '.join(wrong[:5])}" + (" .." if len(wrong) > 5 else "") if wrong else "")
 
 
-def kind_of(line):
+def kind_of(line: str) -> str:
     """The first word of a line, or the two of NO MEMORY."""
     return line if line == "NO MEMORY" else (line.split() or ["nothing"])[0]
