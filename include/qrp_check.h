@@ -12,10 +12,10 @@
  * memset. Link with -lqrp, or with libqrp.a; nothing else is needed. The manual page is qrp_check(3).
  *
  * What every caller must do; the library checks none of it:
- *   - No pointer is NULL, even if a length or a room is 0: then any address will do, of a list an aligned one. GCC and Clang warn of a NULL
- *     that they see (-Wnonnull), and -fsanitize=undefined finds each at run time.
+ *   - No pointer is NULL, but for that of a text, a list or a buffer whose length or room is 0: this one may be NULL, or any address. GCC
+ *     and Clang warn of another NULL that they see (-Wnonnull), and -fsanitize=undefined finds each at run time.
  *   - A text or a list has the length that is given, and nothing writes to it during the call. A list of numbers is aligned as its
- *     numbers are, even if it is empty. Texts may have any alignment, and need not be NUL-terminated. Texts and lists may overlap each
+ *     numbers are. Texts may have any alignment, and need not be NUL-terminated. Texts and lists may overlap each
  *     other, and stay the caller's.
  *   - What is written to (a buffer, a list of steps, a verdict) has the room that is given, is properly aligned, and overlaps
  *     nothing else that is passed to the call.
@@ -44,11 +44,11 @@
 #define QRP_VERSION_PATCH 0
 #define QRP_VERSION (QRP_VERSION_MAJOR * 10000 + QRP_VERSION_MINOR * 100 + QRP_VERSION_PATCH)
 
-/* No pointer that is passed to a call is NULL. */
+/* The pointer at this place among the arguments of a call, counted from 1, is not NULL. */
 #if defined(__GNUC__)
-#define QRP_NONNULL __attribute__((nonnull))
+#define QRP_NONNULL(place) __attribute__((nonnull(place)))
 #else
-#define QRP_NONNULL
+#define QRP_NONNULL(place)
 #endif
 
 #ifdef __cplusplus
@@ -89,7 +89,7 @@ uint32_t qrp_version(void);
  *   program.
  */
 int32_t qrp_verify(const void *formula, size_t formula_length, const void *trace, size_t trace_length, bool any_pivot,
-                   struct qrp_verdict *out) QRP_NONNULL;
+                   struct qrp_verdict *out) QRP_NONNULL(6);
 
 /* The calls below that write a text work alike: they return its length without the zero that comes after it. If `room` is greater
  * than that length, the text and its zero are written to the front of the buffer, and else nothing is. The rest of the buffer is left
@@ -98,28 +98,28 @@ int32_t qrp_verify(const void *formula, size_t formula_length, const void *trace
 
 /* Writes the line of a verdict, as the program prints it, with its line end. The line is empty if the fields are not, all of them, those
  * of a verified verdict or of a fault, as in a struct of zeros. It takes no memory, so it also works after QRP_NO_MEMORY. */
-size_t qrp_verdict_line(const struct qrp_verdict *verdict, char *buffer, size_t room) QRP_NONNULL;
+size_t qrp_verdict_line(const struct qrp_verdict *verdict, char *buffer, size_t room) QRP_NONNULL(1);
 
 /* Writes what the fault of a verdict means: one sentence, always the same for the same fault. It is empty if there is no fault. It
  * takes no memory. */
-size_t qrp_fault_text(const struct qrp_verdict *verdict, char *buffer, size_t room) QRP_NONNULL;
+size_t qrp_fault_text(const struct qrp_verdict *verdict, char *buffer, size_t room) QRP_NONNULL(1);
 
 /* Checks as qrp_verify does and writes the same to *out. If the trace is verified, it writes the trace with only the steps that the
  * proof needs, in canonical form, as `qrp_cmd trim` prints it; else the text is empty, and the length 0. The trimmed trace is itself
  * verified. A room of trace_length + 32 has been enough for every trace that was tried. */
 size_t qrp_trim(const void *formula, size_t formula_length, const void *trace, size_t trace_length, bool any_pivot, char *buffer,
-                size_t room, struct qrp_verdict *out) QRP_NONNULL;
+                size_t room, struct qrp_verdict *out) QRP_NONNULL(8);
 
 /* Writes the formula in canonical form, as `qrp_cmd format` prints it, and zeros to *out, which are not a verdict, since nothing was
  * checked. If the formula is refused or there is no memory, *out has the fault, and the text is empty, and its length 0. A room of
  * formula_length + 32 has been enough for every formula that was tried. */
-size_t qrp_format(const void *formula, size_t formula_length, char *buffer, size_t room, struct qrp_verdict *out) QRP_NONNULL;
+size_t qrp_format(const void *formula, size_t formula_length, char *buffer, size_t room, struct qrp_verdict *out) QRP_NONNULL(5);
 
 /* Checks as qrp_verify does and writes the same to *out. If the trace is verified, it returns how many steps the proof needs, and if
  * `room` is not less than that, writes their numbers to the front of `steps`, in the order of the trace; else it returns 0. The rest
  * of `steps` is left as it was. */
 size_t qrp_core(const void *formula, size_t formula_length, const void *trace, size_t trace_length, bool any_pivot, uint64_t *steps,
-                size_t room, struct qrp_verdict *out) QRP_NONNULL;
+                size_t room, struct qrp_verdict *out) QRP_NONNULL(8);
 
 /* A formula and its proof that are handed over piece by piece, as a solver makes them, in place of two texts. The struct is the caller's, and
  * all of it is zero before the first call; from then on the library alone writes to it. It may be moved, but of two copies only one is used
@@ -143,26 +143,26 @@ enum qrp_added {
 };
 
 /* Lets the struct hold a formula without variables and clauses, and no step. What it held before is given back. */
-int32_t qrp_proof_new(struct qrp_proof *proof) QRP_NONNULL;
+int32_t qrp_proof_new(struct qrp_proof *proof) QRP_NONNULL(1);
 
 /* Binds one more variable, inside of those that are bound: neighbours of one quantifier make a block. */
-int32_t qrp_proof_variable(struct qrp_proof *proof, bool universal, uint32_t variable) QRP_NONNULL;
+int32_t qrp_proof_variable(struct qrp_proof *proof, bool universal, uint32_t variable) QRP_NONNULL(1);
 
 /* Adds a clause of so many literals, each a variable, or its negative if it is negated. Its variables are bound. */
-int32_t qrp_proof_clause(struct qrp_proof *proof, const int32_t *literals, size_t count) QRP_NONNULL;
+int32_t qrp_proof_clause(struct qrp_proof *proof, const int32_t *literals, size_t count) QRP_NONNULL(1);
 
 /* Adds a step: its number, which is not 0 and not that of another step, its literals, and the numbers of its antecedents: none of an initial
  * step, one of a reduction, two of a resolution. */
 int32_t qrp_proof_step(struct qrp_proof *proof, uint64_t number, const int32_t *literals, size_t count, const uint64_t *antecedents,
-                       size_t antecedent_count) QRP_NONNULL;
+                       size_t antecedent_count) QRP_NONNULL(1);
 
 /* Checks the steps so far as a proof that the formula is true, if `sat`, or false. Writes to *out what qrp_verify would of the same formula
  * and steps as texts, if the sets of the trace are the prefix, and returns out->status. If the struct holds nothing it writes zeros, which
  * are not a verdict, and returns QRP_NO_PROOF. What the struct holds stays, so that more can be added and checked. */
-int32_t qrp_proof_check(struct qrp_proof *proof, bool sat, bool any_pivot, struct qrp_verdict *out) QRP_NONNULL;
+int32_t qrp_proof_check(struct qrp_proof *proof, bool sat, bool any_pivot, struct qrp_verdict *out) QRP_NONNULL(1) QRP_NONNULL(4);
 
 /* Gives back what the struct holds; it holds nothing then. It may be called again. */
-void qrp_proof_free(struct qrp_proof *proof) QRP_NONNULL;
+void qrp_proof_free(struct qrp_proof *proof) QRP_NONNULL(1);
 
 #ifdef __cplusplus
 }

@@ -1,0 +1,46 @@
+/* Empty texts, lists and buffers as NULL, in C and in C++, under the sanitizers; tests/library/test-library compiles and runs it. What each
+   call does with NULL is what it does with an address of no bytes. */
+#include "qrp_check.h"
+#include <stdio.h>
+#include <string.h>
+
+static int failed, passed;
+
+static void settle(int is, const char *what) {
+    if (is) { passed++; return; }
+    failed++;
+    printf("FAILED: %s as NULL\n", what);
+}
+
+int main(void) {
+    static const char clause[] = "p cnf 0 1\n0\n", refutation[] = "p qrp 0 1\n1 0 0\nr unsat\n";
+    const char *none = "";
+    uint64_t no_numbers[1];
+    char no_text[1];
+    struct qrp_verdict by_null, by_address;
+    struct qrp_proof proof;
+    size_t with_null, with_address;
+    memset(&proof, 0, sizeof proof);
+
+    settle(qrp_verify(NULL, 0, NULL, 0, false, &by_null) == qrp_verify(none, 0, none, 0, false, &by_address)
+               && !memcmp(&by_null, &by_address, sizeof by_null) && by_null.letter == 'F', "both texts");
+    settle(qrp_verify(clause, sizeof clause - 1, NULL, 0, false, &by_null) == QRP_TEXT_REFUSED && by_null.letter == 'P', "the trace");
+    with_null = qrp_trim(clause, sizeof clause - 1, refutation, sizeof refutation - 1, false, NULL, 0, &by_null);
+    with_address = qrp_trim(clause, sizeof clause - 1, refutation, sizeof refutation - 1, false, no_text, 0, &by_address);
+    settle(with_null == with_address && with_null > 0 && by_null.letter == 'V', "the buffer of qrp_trim");
+    settle(qrp_format(clause, sizeof clause - 1, NULL, 0, &by_null) == sizeof clause - 1, "the buffer of qrp_format");
+    settle(qrp_format(NULL, 0, NULL, 0, &by_null) == 0 && by_null.letter == 'F', "the text of qrp_format");
+    with_null = qrp_core(clause, sizeof clause - 1, refutation, sizeof refutation - 1, false, NULL, 0, &by_null);
+    with_address = qrp_core(clause, sizeof clause - 1, refutation, sizeof refutation - 1, false, no_numbers, 0, &by_address);
+    settle(with_null == with_address && with_null == 1 && by_null.letter == 'V', "the list of qrp_core");
+    settle(qrp_verdict_line(&by_null, NULL, 0) == strlen("VERIFIED false\n"), "the buffer of qrp_verdict_line");
+    settle(qrp_fault_text(&by_null, NULL, 0) == 0, "the buffer of qrp_fault_text");
+
+    settle(qrp_proof_clause(&proof, NULL, 0) == QRP_NO_PROOF, "a clause of no proof");
+    settle(qrp_proof_new(&proof) == QRP_ADDED && qrp_proof_clause(&proof, NULL, 0) == QRP_ADDED, "the literals of a clause");
+    settle(qrp_proof_step(&proof, 1, NULL, 0, NULL, 0) == QRP_ADDED, "the literals and the antecedents of a step");
+    settle(qrp_proof_check(&proof, false, false, &by_null) == QRP_VERIFIED && by_null.letter == 'V' && !by_null.truth, "a proof");
+    qrp_proof_free(&proof);
+    printf("empty: %d passed, %d failed\n", passed, failed);
+    return failed != 0;
+}
