@@ -1,5 +1,6 @@
 # make          proves and builds the program at bin/qrp_cmd
 # make demo     the same, and runs it on real examples
+# make strategy proves and builds the program that writes the winner's strategy as a circuit: bin/qrp_strategy
 # make lib      proves and builds the library for C: lib/libqrp.a and lib/libqrp.so
 # make check    tests what is built
 # make test     proves what has changed, builds it, and runs all tests
@@ -17,6 +18,8 @@
 PREFIX ?= /usr/local
 RT ?= rt
 PROGRAM = bin/qrp_cmd
+# the winner's strategy as a circuit
+STRATEGY = bin/qrp_strategy
 # only for the tests
 ECHO = bin/qrp_echo
 PROVED = bin/proved
@@ -36,8 +39,9 @@ LIBRARY_TESTS = crates/formula_tests/out/formula_tests_tests crates/trace_tests/
 LIBDIR ?= $(PREFIX)/lib
 MANDIR ?= $(PREFIX)/share/man
 
-.PHONY: all lib static demo check test proved-before gate bench dist wheel deb image install uninstall help clean
-.PHONY: test-refusals test-program test-derivations test-tools test-examples test-library test-dist test-install test-many test-proofs
+.PHONY: all lib strategy static demo check test proved-before gate bench dist wheel deb image install uninstall help clean
+.PHONY: test-refusals test-program test-strategy test-derivations test-tools test-examples test-library test-dist test-install test-many
+.PHONY: test-proofs
 .PHONY: test-definitions test-checks test-pages
 
 all: $(PROGRAM)
@@ -47,6 +51,14 @@ $(PROGRAM): $(SOURCES)
 	RT=$(RT) gate/prove qrp_cmd
 	mkdir -p bin
 	cp crates/qrp_cmd/out/qrp_cmd $(PROGRAM)
+
+strategy: $(STRATEGY)
+
+$(STRATEGY): $(SOURCES)
+	@echo 'proves and builds the program for strategies: some minutes more than the checker alone, from nothing'
+	RT=$(RT) gate/prove qrp_strategy
+	mkdir -p bin
+	cp crates/qrp_strategy/out/qrp_strategy $(STRATEGY)
 
 lib: $(LIBRARY)
 
@@ -75,6 +87,7 @@ proved-before:
 	mkdir -p bin
 	cp crates/qrp_cmd/out/qrp_cmd $(PROGRAM)
 	cp crates/qrp_echo/out/qrp_echo $(ECHO)
+	cp crates/qrp_strategy/out/qrp_strategy $(STRATEGY)
 	touch $(PROVED)
 
 test: $(PROVED)
@@ -90,14 +103,17 @@ test: $(PROVED)
 check:
 	@for built in $(PROGRAM) $(LIBRARY); do [ -e $$built ] || { echo "make check: there is no $$built: run 'make all lib' first"; exit 2; }; done
 	@[ $(STATIC) -nt $(PROGRAM) ] || { rm -f $(STATIC) && RT=$(RT) packaging/build-static $(STATIC); } || true
-	$(MAKE) --jobs --output-sync=target test-refusals test-program test-derivations test-tools test-examples test-library test-dist test-install test-many test-proofs test-definitions test-checks test-pages
-	@for built in $(ECHO) $(LIBRARY_TESTS) $(STATIC); do [ -e $$built ] || echo "make check: there is no $$built, so what needs it was left out; 'make test' builds it"; done
+	$(MAKE) --jobs --output-sync=target test-refusals test-program test-strategy test-derivations test-tools test-examples test-library test-dist test-install test-many test-proofs test-definitions test-checks test-pages
+	@for built in $(ECHO) $(STRATEGY) $(LIBRARY_TESTS) $(STATIC); do [ -e $$built ] || echo "make check: there is no $$built, so what needs it was left out; 'make test' builds it"; done
 
 test-refusals:
 	$(if $(wildcard $(LIBRARY_TESTS)),tests/library/test-refusals,@echo 'left out: test-refusals')
 
 test-program:
 	tests/program/test-program $(PROGRAM) $(wildcard $(ECHO))
+
+test-strategy:
+	$(if $(wildcard $(STRATEGY)),tests/strategy/test-strategy $(STRATEGY) $(PROGRAM),@echo 'left out: test-strategy')
 
 test-derivations:
 	tests/program/test-derivations $(PROGRAM)
