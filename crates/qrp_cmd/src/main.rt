@@ -1,69 +1,21 @@
-//! The program `qrp_cmd`: the system's arguments, files and streams.
+//! The program `qrp_cmd`: its files, arguments and streams are those of the system.
 //!
-//! - Owns: the system's arguments, files and streams, and `main`.
+//! - Owns: `main`.
 //! - Offers: the program.
-//! - Proved: the arguments without the program's name; the files of the system keep to `Open`.
-//! - Read first: `words_after_name`, `SystemFiles`.
+//! - Proved: nothing of its own: what it calls is proved.
+//! - Read first: `main`, and then `program` of `qrp_cli`.
 //! - Tested only: over the built program: rows and damaged texts, whole and byte by byte, real
 //!   traces, failed allocations, files and devices, large inputs.
 //! - Trusted: std's files, arguments and streams, as `main` uses them.
 //! - On the map: the program.
 #![tactic(auto)]
 
-ghost use Rattle.std.specs.Prelude.{◌≡◌, ◌≢◌, ◌⊎◌, IfOk, IfErr, drop};
-ghost use Rattle.std.specs.declared.io.ErrorKind.TheVariants.{OutOfMemory};
-ghost use Rattle.std.specs.Vec.Iter.{into_iter_items};
-ghost use Rattle.qrp_cli.specs.declared.start.Start.TheVariants.{NoMemory, Usage};
-
-mod open;
-
 use buffered_sink::Buffered;
-use open::SystemFiles;
 use qbf_text::ToWrite;
 use qrp_cli::program;
 pub use qrp_cli::{Job, Start, Status, request, run};
-use std::alloc::Global;
-use std::env;
-use std::env::Args;
-use std::io::ErrorKind;
+use qrp_system::{SystemFiles, given_words};
 use std::process::ExitCode;
-
-/// The arguments without the first, which is the program's name.
-fn words_after_name(alloc: Global, mut args: Args) -> Result<Vec<String>, Start>
-    ensures words { IfOk result (λ words. words.items ≡ drop 1 (into_iter_items args)) }
-    ensures refused { IfErr result (λ e. e ≡ NoMemory) }
-{
-    let mut words = Vec::new(alloc);
-    let _name = args.next();
-    while let Some(word) = args.next() {
-        if words.push(word).is_err() {
-            return Err(Start::NoMemory);
-        }
-    }
-    Ok(words)
-}
-
-/// Why there are no arguments, by the kind of the error: out of memory, or one of them is not
-/// UTF-8.
-fn no_words(kind: ErrorKind) -> Start
-    ensures memory { kind ≡ OutOfMemory → result ≡ NoMemory }
-    ensures usage { kind ≢ OutOfMemory → result ≡ Usage }
-{
-    match kind {
-        ErrorKind::OutOfMemory => Start::NoMemory,
-        _ => Start::Usage,
-    }
-}
-
-/// The arguments after the program's name.
-fn given_words(rt: &HostRuntime) -> Result<Vec<String>, Start>
-    ensures { IfErr result (λ e. (e ≡ NoMemory) ⊎ (e ≡ Usage)) }
-{
-    match env::args(rt) {
-        Ok(args) => words_after_name(rt.alloc(), args),
-        Err(error) => Err(no_words(error.kind())),
-    }
-}
 
 fn main(rt: HostRuntime) -> ExitCode {
     let mut out = Buffered::new(ToWrite::new(rt.stdout()));
