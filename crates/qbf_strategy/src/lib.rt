@@ -8,7 +8,7 @@
 //! - Read first: `circuit_of`, `decisions_are_a_strategy`.
 //! - Tested only: that the decisions of a proof are not refused, and the number of gates.
 //! - Trusted: nothing.
-//! - On the map: Decisions, circuit_of | decisions, and the circuit that computes them.
+//! - On the map: Decisions, circuit_of | decisions, and their circuit.
 #![tactic(auto)]
 
 mod assembling;
