@@ -50,7 +50,7 @@ fn surely_false(left: Wire, right: Wire) -> bool
     right == left.opposite()
 }
 
-/// Whether the conjunction of two wires is the second, since the first is true or they are the same.
+/// Whether the conjunction of two wires is the second: the first is true, or they are the same.
 #[tactic(auto, using(crate::proofs::Folds::true_folded, crate::proofs::Folds::same_folded))]
 fn surely_second(left: Wire, right: Wire) -> bool
     ensures { IsTrue result → IsFolded left right right }
@@ -61,8 +61,8 @@ fn surely_second(left: Wire, right: Wire) -> bool
     left == right
 }
 
-/// The conjunction of two wires, if it needs no gate: the first is constant, or they are the same or
-/// opposite.
+/// The conjunction of two wires, if it needs no gate: the first is constant, or they are the same
+/// or opposite.
 fn folded(left: Wire, right: Wire) -> Option<Wire>
     ensures value { IfSome result (IsFolded left right) }
     ensures one { IfSome result (λ w. (w ≡ constant false) ⊎ (w ≡ right)) }

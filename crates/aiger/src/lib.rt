@@ -9,7 +9,7 @@
 //! - Tested only: that a gate is found again, and that one that no output needs is dropped, which
 //!   only the size of a circuit shows.
 //! - Trusted: nothing.
-//! - On the map: Circuit, Builder | circuits of AND gates, and their texts in AIGER's formats.
+//! - On the map: circuits of AND gates | and their AIGER texts.
 #![tactic(auto)]
 
 mod ascii;
