@@ -1,0 +1,75 @@
+//! From two sources to two sinks.
+
+ghost use Rattle.std.specs.Prelude.{◌≡◌, List, ℕ, Some, codes};
+ghost use Rattle.aiger.specs.Texts.{ascii_text};
+ghost use Rattle.qrp_check.specs.Checked.{call_of};
+ghost use Rattle.qrp_cli.specs.Output.{IsReported, IsSent, Report};
+ghost use Rattle.qrp_report.specs.Lines.{line};
+ghost use Rattle.qrp_strategy.specs.Output.{IsOutput, WritesWinner, strategy_report};
+
+use aiger::{Circuit, put_ascii};
+use qbf_text::{Sink, Source, put_bytes};
+use qrp_check::{CheckFault, Fault, Rules};
+use qrp_cli::{Status, finish_sent, send_fault};
+use qrp_winner::{Strategy, StrategyFault, find_strategy};
+use std::alloc::Global;
+
+/// Sends the text of a circuit.
+fn send_circuit<S: Sink>(sink: &mut S, circuit: &Circuit) -> Status
+    ensures { IsSent S.Sink sink.old sink.new (ascii_text circuit.now) 0 3 result }
+{
+    let sent = put_ascii(circuit, sink);
+    finish_sent(sink, sent, 0)
+}
+
+/// Sends the line for a circuit that was not made.
+fn send_no_circuit<S: Sink>(sink: &mut S) -> Status
+    ensures { IsSent S.Sink sink.old sink.new (line (codes "NO CIRCUIT")) 4 3 result }
+{
+    let sent = put_bytes(sink, b"NO CIRCUIT\n");
+    finish_sent(sink, sent, 4)
+}
+
+/// Sends the circuit to `out`, or the line for the refusal to `err`.
+fn send_strategy<O: Sink, E: Sink>(
+    out: &mut O,
+    err: &mut E,
+    found: Result<Strategy, StrategyFault>,
+) -> Status
+    ensures { IsReported O.Sink out.old out.new E.Sink err.old err.new (strategy_report found)
+        result }
+{
+    match found {
+        Ok(strategy) => send_circuit(out, &strategy.circuit),
+        Err(StrategyFault::Check(fault)) => send_fault(err, &fault),
+        Err(StrategyFault::NoMemory) => send_fault(err, &Fault::Check(CheckFault::C5)),
+        Err(StrategyFault::NoCircuit) => send_no_circuit(err),
+    }
+}
+
+/// Reads a formula and a trace, and writes the circuit of the winner to `out`, or a refusal to
+/// `err`. The other sink gets nothing.
+///
+/// If the bytes of both sources are known and the status is 0, what went out to `out` is the text
+/// of a circuit by which the winner wins. A source that fails is reported in a line with status 3,
+/// out of memory in a line with status 4. If the sink of the report fails, in a write or in
+/// `finish`, the status is 3 and a beginning of the text went out.
+pub fn run<F: Source, T: Source, O: Sink, E: Sink>(
+    alloc: Global,
+    rules: Rules,
+    formula: &mut F,
+    trace: &mut T,
+    out: &mut O,
+    err: &mut E,
+) -> Status
+    ensures report { (r : Report)
+        × IsOutput rules (call_of F.Source formula.old formula.new)
+        (call_of T.Source trace.old trace.new) r
+        × IsReported O.Sink out.old out.new E.Sink err.old err.new r result }
+    ensures headline { (a b : List ℕ) → F.remaining formula.old ≡ Some a
+        → T.remaining trace.old ≡ Some b → result ≡ 0
+        → WritesWinner O.Sink out.old out.new a b }
+{
+    let found = find_strategy(alloc, formula, trace, rules);
+    send_strategy(out, err, found)
+}
