@@ -7,11 +7,18 @@
 #
 # A variable gets its number where it is bound, and each new one is bound innermost, to the right of all before it. So the
 # order of the calls in a script is the order of the prefix.
+#
+# A script that is called with --names prints the names of its variables in place of the formula, as `tools/play --names` reads them: the name
+# that a variable is kept under, or the one that `name` gives it.
 
 variables=0 # how many there are
 prefix=     # the quantifier sets so far, as QDIMACS writes them; the last set is still without its closing 0
 last=       # the quantifier of the last set: e, a, or nothing at the beginning
 clauses=()  # the clauses so far, each a line of QDIMACS
+kept=()     # for each variable the name that it is kept under, if that is no place of an array
+called=()   # for each variable the name that `name` gives it
+asked=formula
+for word; do [ "$word" != --names ] || asked=names; done
 
 # exists NAME..: a new existential variable for each name. The player who wants the formula to be true chooses its value.
 exists() { bind e "$@"; }
@@ -32,9 +39,13 @@ bind() {
     for name; do
         variables=$((variables + 1))
         printf -v "$name" %d "$variables"
+        [[ $name == *\[* ]] || kept[variables]=$name
         prefix+=" $variables"
     done
 }
+
+# name VARIABLE NAME: this variable is called so by print_names
+name() { called[$1]=$2; }
 
 # clause LITERAL..: at least one of these is true. All clauses together must hold.
 clause() { clauses+=("$* 0"); }
@@ -90,8 +101,22 @@ equal() {
     clause "$1" $((- $2))
 }
 
-# print_formula COMMENT..: the formula as QDIMACS 1.1, with a comment line for each word
+# print_names: a line for each variable that has a name: its number and the name. A name that was used again belongs to the last variable.
+print_names() {
+    local variable name
+    for ((variable = 1; variable <= variables; variable++)); do
+        name=${kept[variable]:-}
+        if [ "${called[variable]:-}" ]; then
+            echo "$variable ${called[variable]}"
+        elif [ "$name" ] && [ "${!name}" = "$variable" ]; then
+            echo "$variable $name"
+        fi
+    done
+}
+
+# print_formula COMMENT..: the formula as QDIMACS 1.1, with a comment line for each word; or the names, if the script is called with --names
 print_formula() {
+    [ "$asked" = formula ] || { print_names && return; }
     printf 'c %s\n' "$@"
     printf 'p cnf %d %d\n' "$variables" "${#clauses[@]}"
     printf '%s 0\n' "$prefix"

@@ -8,8 +8,11 @@ add to what is found.
 import re
 from pathlib import Path
 
-HEAD = re.compile(r"(?:(?:abbrev|pub|record|data|opaque|private|unfolding)\s+)*(\S+)")
+WORDS = r"(?:abbrev|pub|record|data|opaque|private|unfolding|unfoldable)\s+"
+HEAD = re.compile(rf"(?:{WORDS})*(\S+)")
+BEGINS = re.compile(WORDS)
 USE = re.compile(r"(pub )?use ([\w.]+?)(?:\.\{([^}]*)\}| as (\w+))?$")
+CONSTANTS = ".TheConstants"
 NAME = re.compile(r"[^\s(){}\[\],;.]+")
 
 
@@ -17,8 +20,10 @@ def without_comments(text):
     return re.sub(r"(?m)(^|\s)--.*$", r"\1", text)
 
 
-def words_in(text):
-    return NAME.findall(text)
+def use_of(line):
+    """A `use` line in parts: (is it passed on, the module, the names that it brings, its other name), or None."""
+    use = USE.match(line.strip())
+    return (bool(use[1]), use[2], [it.strip() for it in (use[3] or "").split(",") if it.strip()], use[4]) if use else None
 
 
 def parts_of(name):
@@ -32,19 +37,21 @@ class Module:
     def __init__(self, path, text):
         self.path = path  # CRATE/specs/FILE
         self.own, self.uses, self.constructors, self.imports = {}, [], {}, ""
+        self.strays = []  # lines at the margin that begin no definition and go on with none
         name = None
         for line in without_comments(text).split("\n"):
-            if use := USE.match(line.strip()) if not line.startswith(" ") else None:
+            if use := use_of(line) if not line.startswith(" ") else None:
                 self.imports += line + "\n"
-                self.uses.append((bool(use[1]), use[2], [it.strip() for it in (use[3] or "").split(",") if it.strip()], use[4]))
+                self.uses.append(use)
                 name = None
             elif line.startswith("infix"):
                 self.imports += line + "\n"
             elif line[:1] not in ("", " "):
                 found = HEAD.match(line)[1].rstrip(":")
                 # An equation begins with the name, or with an argument of an infix one.
-                starts = re.match(r"(?:abbrev|pub|record|data|opaque|private|unfolding)\s", line)
-                name = found if starts or name is None else name
+                if line != "}" and not BEGINS.match(line) and found != name and "◌" not in (name or ""):
+                    self.strays.append(line)
+                name = found if BEGINS.match(line) or name is None else name
                 self.own[name] = self.own.get(name, "") + line + "\n"
                 if " data " in f" {line}":
                     self.constructors[name] = []
@@ -63,7 +70,11 @@ class Definitions:
             self.modules[".".join(["Rattle", crate, *inside])] = Module("/".join([crate, *inside]), path.read_text(encoding="utf-8"))
 
     def find(self, module, name):
-        """The definition that a module has or passes on under a name: (its module, its name), or None if it is none of ours."""
+        """The definition that a module has or passes on under a name: (its module, its name), or None if it is none of ours.
+
+        A constant of the code, which the module `TheConstants` of its file has, is found so too."""
+        if module.endswith(CONSTANTS):
+            return module, name
         it = self.modules.get(module)
         if it is None:
             return None
@@ -79,10 +90,13 @@ class Definitions:
 
     def known_in(self, module):
         """The names that a module can use: of definitions, and of other modules."""
+        names, modules = self.brought_by(self.modules[module].uses)
+        return {**names, **{own: (module, own) for own in self.modules[module].own}}, modules
+
+    def brought_by(self, uses):
+        """The definitions that `use` lines bring by their names, and the modules."""
         names, modules = {}, {}
-        for own in self.modules[module].own:
-            names[own] = (module, own)
-        for _, of, given, alias in self.modules[module].uses:
+        for _, of, given, alias in uses:
             first, _, rest = of.partition(".")
             of = ".".join(filter(None, [modules.get(first, first), rest]))
             if not given:
@@ -93,27 +107,23 @@ class Definitions:
                     names[called or name] = found
         return names, modules
 
-    def brought_by(self, lines):
-        """The definitions that `ghost use` lines of a source bring, by the words that name them there."""
-        found = {}
-        for line in lines:
-            use = USE.match(line.removeprefix("ghost ").rstrip(";").strip())
-            for one in use[3].split(",") if use and use[3] else ():
-                name, _, called = one.strip().partition(" as ")
-                if it := self.find(use[2], name):
-                    found.update({word: it for word in parts_of(called or name)})
-        return found
-
     def used_by(self, module, name):
-        """The definitions that one is made of."""
-        names, modules = self.known_in(module)
-        text = self.modules[module].own[name]
+        """The definitions that one is made of; a constant of the code is made of none."""
+        if module not in self.modules:
+            return set()
+        return self.used_in(self.modules[module].own[name], *self.known_in(module)) - {(module, name)}
+
+    def used_in(self, text, names, modules):
+        """The definitions that a text names, under the names and modules that are known there, or by the whole name."""
         by_word = {word: found for it, found in names.items() for word in parts_of(it)}
         found = {by_word[it] for it in NAME.findall(re.sub(r"(?<=[\w)])\.[^\s(){}\[\],;]+", " ", text)) if it in by_word}
         for alias, more in re.findall(r"\b(\w+)\.(\w+)", text):
             if alias in modules and (it := self.find(modules[alias], more)):
                 found.add(it)
-        return found - {(module, name)}
+        for of, more in re.findall(r"\b(Rattle\.[\w.]+)\.(\w+)", text):
+            if it := self.find(of, more):
+                found.add(it)
+        return found
 
     def closure(self, module, name, without=()):
         """All definitions that one is made of, and itself; none that only the left-out ones need."""
@@ -127,4 +137,4 @@ class Definitions:
 
     def files(self, found):
         """The files of some definitions, without those that only pass names on."""
-        return sorted({self.modules[module].path for module, _ in found})
+        return sorted({self.modules[module].path for module, _ in found if module in self.modules})

@@ -1,20 +1,30 @@
-"""Where the sources return out of memory, each with the reason why it may not stand there.
+"""Where the sources return out of memory, each with the reason why it may not stand there; and where they do not, although memory failed.
 
-A place is one of the words below where it is a value and no pattern, or any `Err` of a function that fails only out of memory. It must stand
-  - on an arm whose pattern has one of the words in each of its alternatives;
+A place is one of the words below where it is a value and no pattern, or an `Err` of a function that fails only out of memory, unless it hands
+on an error under its name, which was made elsewhere. It must stand
+  - on an arm whose pattern has one of the words in each of its alternatives, as a variant of its type (a word alone binds a new name);
   - on the arm `Err(_)` or `Err(name)` of a match on a call that fails only out of memory, directly below `if CALL.is_err()`, or in the else
     of `let Ok(..) = CALL else`;
   - as the second argument of `ReadError::fault`, which its contract returns only out of memory;
   - or in a `from` that takes an error of the allocator.
 Calls that fail only out of memory: functions and methods of the crates whose error is AllocError, those listed here, and a `write_` call whose
 last argument is a local VecSink, which fails only out of memory. A method is found by the type of what stands before it. Anything that is not
-understood is refused, and so is a word under another name, as a default, or from a macro. The files are laid out by `rt fmt`.
+understood is refused, and so is a word under another name, as a default, as a name of ours, or from a macro. The files are laid out by `rt fmt`.
+
+The other way round, a failed allocation is handed on. An arm for it, or the block of an `if CALL.is_err()`, has one of the words, or the name
+that the pattern binds, or the status of out of memory; and no call that fails only out of memory is asked by another method of a result.
 """
 
 import re
 from dataclasses import dataclass
 
-WORDS = {"F9", "P9", "C5", "E3", "B2", "Memory", "NoMemory", "NO_MEMORY", "AllocError", "OutOfMemory"}
+WORDS = {"F9", "P9", "C5", "E3", "B2", "Memory", "NoMemory", "NO_MEMORY", "AllocError", "AllocFailed", "OutOfMemory"}
+# These are types, and stand in a pattern without a path.
+TYPES = {"AllocError", "AllocFailed"}
+# What an arm for a failed allocation may have in place of a word: the status 4, a text, what cannot be reached, a sink that fails only so.
+TELLS = re.compile(r"^\s*4,?$|^\s*\"\s*\",?$|\bunreachable!|\bSinkFault\b|\bwith_parts\(|\(memory, 0\)")
+# Methods of a result that lose its error.
+LOSES = re.compile(r"(?<=\))\s*\.\s*(?:is_ok|ok|unwrap_or\w*|map_err|or|or_else|is_ok_and|map_or\w*|iter|into_iter)\s*\(")
 OF_ALLOCATOR = {"Vec.push", "Vec.reserve", "IndexSet.insert", "IndexMap.insert", "Vec::from_slice", "Vec::with_capacity", "BufWriter::new"}
 # These hand back what they were given.
 GIVES_BACK = {"Formula.push_clause", "Trace.push_set", "Trace.push_step"}
@@ -25,8 +35,8 @@ def has_word(text):
 
 
 def each_has_word(pattern):
-    """Whether each alternative of a pattern has a word."""
-    return all(has_word(it) for it in pattern.split("|"))
+    """Whether each alternative of a pattern has a word that is a type, or a variant by its path."""
+    return all(set(re.findall(r"::(\w+)", it)) & WORDS or set(re.findall(r"\w+", it)) & TYPES for it in pattern.split("|"))
 
 
 def head_type(words):
@@ -43,6 +53,15 @@ class Place:
     line: int
     text: str
     why: str  # why it may not stand there, or nothing
+
+
+def call_before(line, end):
+    """The text of the call that ends at a place of a line, with what it is called on."""
+    depth, at = 0, end
+    while at > 0 and (depth or line[at - 1] not in " (=!&{"):
+        depth += {")": 1, "(": -1}.get(line[at - 1], 0)
+        at -= 1
+    return line[at:end]
 
 
 class Code:
@@ -99,6 +118,8 @@ class Memory:
     def __init__(self, sources):
         self.files = [Code(path, source) for path, source in sources.items()]
         self.origin, self.fields = {}, {}
+        # the names of tuples in which one part is out of memory
+        self.pairs = {it for code in self.files for it in re.findall(r"\btype\s+(\w+)\s*=\s*\([^;]*AllocError[^;]*;", code.source.plain)}
         self.alone, self.other = OF_ALLOCATOR | GIVES_BACK, set()
         for code in self.files:
             self.read_names(code)
@@ -117,7 +138,7 @@ class Memory:
                     self.fields[it.name, name] = head_type(words)
         for it in code.functions:
             name = self.name_of(code, it)
-            if re.search(r", AllocError>$", it.signature):
+            if re.search(r", (?:AllocError|AllocFailed<.*>)>$", it.signature):
                 self.alone.add(name)
             elif name not in self.alone:
                 self.other.add(name)
@@ -152,13 +173,59 @@ class Memory:
                 if any(has_word(it) for it in re.findall(r"\w+\s+as\s+\w+", found[0])):
                     yield code.path, source.line(found.start()), "under another name"
             for found in re.finditer(r"\btype\s+\w+[^=;]*=\s*([^;]*);", source.plain):
-                if re.fullmatch(r"[\w:\s]+", found[1]) and has_word(found[1]):
+                if has_word(found[1]) and not found[1].startswith("("):
                     yield code.path, source.line(found.start()), "under another name"
+            for it in source.items:
+                if it.name in WORDS and it.kind in ("struct", "enum", "trait", "type", "fn"):
+                    yield code.path, source.line(it.start), "a name of ours"
             for found in re.finditer(r"#\s*\[\s*default\s*\]\s*(\w+)", source.plain):
                 if has_word(found[1]):
                     yield code.path, source.line(found.start()), "as a default"
             for found in re.finditer(r"\bmacro_rules\b", source.plain):
                 yield code.path, source.line(found.start()), "a macro may hide a word"
+
+    # ---- failed allocations that are not handed on
+
+    def lost(self):
+        """Arms and blocks for a failed allocation that do not hand it on: (file, line, why)."""
+        for code in self.files:
+            for n, line in enumerate(code.lines):
+                if code.function_at[n] is None:
+                    continue
+                if self.is_for_memory(code, n) and not self.hands_on(code, n):
+                    yield code.path, n + 1, f"a failed allocation is not handed on: {line.strip()}"
+                for found in LOSES.finditer(line):
+                    if self.why_call(code, n, call_before(line, found.start())) == "":
+                        yield code.path, n + 1, f"a failed allocation may be lost: {line.strip()}"
+
+    def is_for_memory(self, code, n):
+        """Whether a line begins an arm or a block that is entered if an allocation failed."""
+        line = code.lines[n].strip()
+        if "=>" in line:
+            pattern = re.sub(r"\s*=>.*", "", line)
+            if has_word(pattern):
+                return True
+            if not re.search(r"\bErr\((?:_|[a-z_]+)\)$|^_$", pattern):
+                return False
+            found = re.fullmatch(r"(?:.* )?match (.*) \{", code.statement(code.holder(n)))
+            return found is not None and self.why_call(code, code.holder(n), found[1]) == ""
+        if not line.endswith("{"):
+            return False
+        found = re.fullmatch(r"(?:.* )?if (.*)\.is_err\(\) \{|let Ok\(.*?\) = (.*) else \{|(?:.* )?if let Err\([a-z_]+\) = (.*) \{", code.statement(n))
+        return found is not None and self.why_call(code, n, found[1] or found[2] or found[3]) == ""
+
+    def hands_on(self, code, n):
+        """Whether an arm or a block has a word, the name that its pattern binds, or another way to tell it."""
+        line = code.lines[n]
+        body = line.partition("=>")[2] if "=>" in line else ""
+        if line.endswith(("{", "(")):
+            for m in range(n + 1, len(code.lines)):
+                if code.lines[m] and indent(code.lines[m]) <= indent(line):
+                    break
+                body += "\n" + code.lines[m]
+        bound = re.search(r"\bErr\(([a-z]\w*)\)", line.partition("=>")[0] if "=>" in line else code.statement(n))
+        gives_back = self.name_of(code, code.function_at[n]) in GIVES_BACK and "Err(" in body
+        return has_word(body) or gives_back or bound is not None and re.search(rf"\b{bound[1]}\b", body) or TELLS.search(body) is not None
 
     # ---- looking
 
@@ -181,7 +248,8 @@ class Memory:
             return False
         if has_word(line):
             return True
-        return it is not None and self.name_of(code, it) in self.alone and re.search(r"\bErr\(", line) is not None
+        is_alone = it is not None and (self.name_of(code, it) in self.alone or it.signature.rpartition(" ")[2] in self.pairs)
+        return is_alone and re.search(r"\bErr\((?![a-z_]+\))", line) is not None
 
     def why(self, code, n):
         """Why out of memory may not be returned on a line, or nothing."""

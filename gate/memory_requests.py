@@ -4,24 +4,51 @@ A request that cannot be met is a way to return out of memory, and no clause spe
 of its size: the names in it with their `let`, assignments, patterns and constants, and where a name is a number that the function is passed, the
 same of each call of that function. Of a request in a loop, and of a call in a loop that fails only out of memory, the head of the loop is
 written down; and of a file that asks for memory its constant numbers.
+
+Which calls ask for memory is read off the signatures of the toolchain's libraries: those whose error may be that of the allocator.
 """
 
+import os
 import re
+import subprocess
+from functools import cache
+from pathlib import Path
 
 from rattle_source import apart, end_of_group, find_outside
 
-# They ask for an amount at once.
-AT_ONCE = (
-    r"with_capacity(?:_in)?|(?:try_)?reserve(?:_exact)?|resize(?:_with)?|extend(?:_from_slice|_from_within)?|from_slice|from_elem|from_fn"
-    r"|repeat|to_vec|to_owned|collect|append|split_off|zeroed"
-)
-# They make room for one more.
-ONE_MORE = r"push|push_str|insert|insert_full|entry|write_all"
+# The libraries of the toolchain that the sources use.
+LIBRARIES = ("std", "std_alloc", "std_collections", "std_heap", "std_io", "core", "indexmap", "itoa")
+SIGNATURE = re.compile(r"\bpub\s+(?:const\s+|unsafe\s+)*fn\s+(\w+)\b([^;{]*?)(?=\b(?:requires|ensures|ghost)\b|[;{])")
+# They make room for one more, and are noted in loops alone.
+ONE_MORE = {"push", "push_str", "insert", "insert_full"}
+# Methods of traits, whose signatures are not public by a word of their own.
+OF_TRAITS = {"clone", "clone_from", "collect", "extend", "from_iter", "partition", "to_owned", "to_string", "unzip"}
+# Functions that take no memory have these names too, so they are not seen: `new` and `from` only of the types that put a value on the heap.
+COMMON = {"new", "from", "entry", "format", "replace", "write"}
+ON_THE_HEAP = r"\b(?:Box|Rc|Arc|String|PathBuf)(?:::<[^()]*?>)?::(?:new|from)(?=\()"
 OF_LISTS = {"push", "insert", "get", "pop", "extend", "contains", "position"}
 PARAMETERS = r"\s*(?:::\s*<[^()]*?>\s*)?"
-REQUEST = re.compile(rf"(?<!\w)(?:(?P<name>{AT_ONCE}){PARAMETERS}\(|vec!\s*\[)")
 LOOP = re.compile(r"\b(?:loop|while|for)\b(?!\s*<)")
 NUMBER = re.compile(r"(?:usize|isize|[ui](?:8|16|32|64|128))")
+
+
+@cache
+def allocating():
+    """The names of the toolchain's functions and methods that may be refused memory."""
+    page = subprocess.run([os.environ.get("RT", "rt"), "doc"], capture_output=True, text=True, check=True).stdout.strip()
+    folder, found = Path(page).parent / "rattle", set()
+    for library in LIBRARIES:
+        for path in (folder / library / "src").rglob("*.rt"):
+            for name, signature in SIGNATURE.findall(path.read_text(encoding="utf-8")):
+                if re.search(r"->.*\bAlloc(?:Error|Failed)\b", " ".join(signature.split())):
+                    found.add(name)
+    assert {"push", "reserve", "resize_with", "to_vec"} <= found, f"no sources of the toolchain's libraries below {folder}"
+    return found | OF_TRAITS
+
+
+def at_once():
+    """A pattern of the names that ask for an amount at once."""
+    return "|".join(sorted(allocating() - ONE_MORE - COMMON))
 
 
 def words(text):
@@ -50,9 +77,10 @@ class Requests:
 
     def all(self):
         """Each request as (file, function, what it asks for), one for each place."""
-        growing = re.compile(rf"(?<!\w)(?:{AT_ONCE}|{ONE_MORE}|{'|'.join(sorted(self.alone))}){PARAMETERS}\(|\bvec!\s*\[")
+        request = re.compile(rf"(?<!\w)(?:(?P<name>{at_once()}){PARAMETERS}\(|(?P<heap>{ON_THE_HEAP})\(|(?P<macro>vec|format)!\s*[\[(])")
+        growing = re.compile(rf"(?<!\w)(?:{at_once()}|{'|'.join(sorted({*ONE_MORE, *self.alone}))}){PARAMETERS}\(|\bvec!\s*\[")
         for path, it, body in self.functions:
-            for found in REQUEST.finditer(body):
+            for found in request.finditer(body):
                 self.ask(path, it, body, found)
             self.ask_in_loops(path, it, body, growing)
         asking = {path for path, _, _ in self.found}
@@ -62,7 +90,7 @@ class Requests:
 
     def ask(self, path, it, body, found):
         """Notes a request with the expression of its size."""
-        name = found["name"] or "vec!"
+        name = found["name"] or found["heap"] or f"{found['macro']}!"
         what = words(body[found.end() : end_of_group(body, found.end() - 1) - 1])
         given = split_arguments(what, ";" if name == "vec!" else ",") or [""]
         size = given[0] if name.removeprefix("try_").startswith(("reserve", "resize")) else given[-1]

@@ -12,16 +12,17 @@
  * memset. Link with -lqrp, or with libqrp.a; nothing else is needed. The manual page is qrp_check(3).
  *
  * What every caller must do; the library checks none of it:
- *   - No pointer is NULL, even if a length or a room is 0 (then any address will do, such as that of ""). GCC and Clang warn of a NULL
+ *   - No pointer is NULL, even if a length or a room is 0: then any address will do, of a list an aligned one. GCC and Clang warn of a NULL
  *     that they see (-Wnonnull), and -fsanitize=undefined finds each at run time.
- *   - A text has the length that is given, and nothing writes to it during the call. The texts may have any alignment, need not be
- *     NUL-terminated, may overlap each other, and stay the caller's.
+ *   - A text or a list has the length that is given, and nothing writes to it during the call. A list of numbers is aligned as its
+ *     numbers are, even if it is empty. Texts may have any alignment, and need not be NUL-terminated. Texts and lists may overlap each
+ *     other, and stay the caller's.
  *   - What is written to (a buffer, a list of steps, a verdict) has the room that is given, is properly aligned, and overlaps
  *     nothing else that is passed to the call.
  *   - malloc, realloc and free are of one allocator, and a block is aligned to each power of two up to 16 that divides its size,
  *     as those of the C library are.
- *   - No call that takes a text comes from a signal handler, nor from the child that a process with several threads has forked,
- *     since it calls malloc.
+ *   - No call but qrp_verdict_line, qrp_fault_text and qrp_version comes from a signal handler, nor from the child that a process with
+ *     several threads has forked, since it may call malloc or free.
  *
  * Memory: nothing that the library returns has to be freed: all results go to memory of the caller. The library takes what it needs by
  * malloc and realloc, and has freed all of it when a call returns, but for what a struct qrp_proof holds. It keeps no pointer of the

@@ -1,5 +1,7 @@
 // Prints a trimmed trace, and on the standard error how many steps it has. usage: trim FORMULA TRACE
 // For a refusal it prints the line on the standard error. The status is the program's.
+#include <cstddef>
+#include <cstdint>
 #include <cstdlib>
 #include <fstream>
 #include <iostream>

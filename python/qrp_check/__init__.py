@@ -107,7 +107,7 @@ class Verdict:
     def __str__(self) -> str:
         return self.line
 
-    def __bool__(self) -> bool:
+    def __bool__(self) -> typing.NoReturn:
         raise TypeError("a verdict is neither true nor false: ask for verdict.verified, or for verdict.truth, the truth of the formula")
 
 

@@ -1,6 +1,7 @@
 """Tests of gate/prove and gate/try-wrong-bodies. The toolchain here is a script that says what a test has it say."""
 
 import os
+import re
 import resource
 import shutil
 import signal
@@ -47,6 +48,8 @@ LOW = "pub fn first(a: u64) -> u64\n    ensures { result ≡ a }\n{\n    a\n}\n"
 RT = r"""#!/usr/bin/env python3
 import re, sys, time, pathlib
 verb, here = sys.argv[1], pathlib.Path.cwd()
+if verb == "version":
+    print("made up"), sys.exit(0)
 texts = {p: p.read_text() for p in sorted(here.glob("src/*.rt"))}
 log = pathlib.Path(__file__).with_name("log")
 log.open("a").write(" ".join(sys.argv[1:]) + "\n")
@@ -130,7 +133,8 @@ class Repository:
         self.temporary.mkdir()
 
     def environment(self, **more):
-        return {**os.environ, "RT": str(self.rt), "TMPDIR": str(self.temporary), "PYTHONDONTWRITEBYTECODE": "1", **more}
+        kept = {"XDG_CACHE_HOME": str(self.root / "kept")}
+        return {**os.environ, "RT": str(self.rt), "TMPDIR": str(self.temporary), "PYTHONDONTWRITEBYTECODE": "1", **kept, **more}
 
     def run(self, *words, script="try-wrong-bodies", **more):
         how = {"capture_output": True, "text": True, "env": self.environment(**more)}
@@ -540,6 +544,37 @@ def what_is_proved_is_kept():
         return told.returncode == 0 and "1 of 1: one is proved" in told.stdout and kept and repository.left() == []
 
 
+def a_refusal_is_kept_until_something_changes():
+    """A wrong body is tried again after a change of its crate, of itself or of the toolchain, and if that is asked for."""
+    with Repository(EDITS) as repository:
+        crate, log = repository.root / "crates/one", repository.root / "log"
+
+        def tried(*words):
+            """How many are not tried, and whether the toolchain was called to check."""
+            log.unlink(missing_ok=True)
+            said = repository.run(*words)
+            before = int(re.search(r"(\d+) of those that passed are known", said.stdout)[1])
+            checks = [it for it in log.read_text().splitlines() if it.startswith("check")] if log.exists() else []
+            return said.returncode == 0 and said.stdout.splitlines()[-1] == "3 passed, 0 failed", before, bool(checks)
+
+        def changed(file, old, new):
+            file.write_text(file.read_text().replace(old, new))
+            return tried()
+
+        return all([
+            tried() == (True, 0, True),
+            tried() == (True, 3, False),
+            tried("--anew") == (True, 0, True),
+            changed(crate / "src/low.rt", "pub fn first", "// A comment.\npub fn first") == (True, 3, False),
+            changed(crate / "must-fail/sum_is_a_difference.edit", "a - b", "b * 0 + a - b") == (True, 2, True),
+            changed(crate / "src/low.rt", "ensures { result ≡ a }", "ensures { a ≡ result }") == (True, 0, True),
+            changed(crate / "proofs/sum/Answers.antt", "returns c = fits", "returns c = (fits)") == (True, 0, True),
+            changed(repository.rt, "made up", "made up anew") == (True, 0, True),
+            changed(repository.root / "gate/wrong_bodies.py", '"""The wrong bodies', '"""Wrong bodies') == (True, 0, True),
+            tried() == (True, 3, False),
+        ])
+
+
 def what_a_check_says_is_read():
     text = "\n".join([
         "fn one::a: no proof: expected answers in ./proofs/a/Answers.antt; `search` did not prove `returns`, `loop-i-preserved`",
@@ -607,6 +642,7 @@ TESTS = [
     a_full_disk_is_said,
     an_interrupt_leaves_nothing,
     what_is_proved_is_kept,
+    a_refusal_is_kept_until_something_changes,
     what_a_check_says_is_read,
     answers_are_taken_out,
 ]

@@ -187,7 +187,7 @@ static void try_case(char *row) {
 static void try_refusals(void) {
     struct qrp_proof proof = {0};
     struct qrp_verdict verdict, zeros;
-    const int32_t clause[] = {1, -2}, unbound[] = {1, 4}, zero[] = {1, 0}, least[] = {INT32_MIN};
+    const int32_t clause[] = {1, -2}, unbound[] = {1, 4}, zero[] = {1, 0}, both_faults[] = {4, 0}, least[] = {INT32_MIN};
     const uint64_t three[] = {1, 2, 3}, none[] = {0};
     memset(&zeros, 0, sizeof zeros);
     settle(qrp_proof_variable(&proof, true, 1) == QRP_NO_PROOF && qrp_proof_clause(&proof, clause, 2) == QRP_NO_PROOF
@@ -214,6 +214,11 @@ static void try_refusals(void) {
            "no step yet", "");
     settle(qrp_proof_step(&proof, 1, one, 1, three, 0) == QRP_ADDED && qrp_proof_step(&proof, 1, one, 1, three, 0) == QRP_NUMBER_USED,
            "a number, twice", "");
+    settle(qrp_proof_step(&proof, 0, zero, 2, three, 3) == QRP_TOO_MANY_ANTECEDENTS
+               && qrp_proof_step(&proof, 1, zero, 2, three, 3) == QRP_TOO_MANY_ANTECEDENTS
+               && qrp_proof_step(&proof, 1, zero, 2, three, 0) == QRP_OUT_OF_RANGE
+               && qrp_proof_step(&proof, 1, one, 1, none, 1) == QRP_OUT_OF_RANGE && qrp_proof_clause(&proof, both_faults, 2) == QRP_OUT_OF_RANGE,
+           "several faults at once", "");
     settle(qrp_proof_step(&proof, 2, other, 2, three, 0) == QRP_ADDED && qrp_proof_step(&proof, 3, reduced, 1, of_other, 1) == QRP_ADDED
                && qrp_proof_step(&proof, 9, one, 0, both, 2) == QRP_ADDED, "steps", "");
     settle(qrp_proof_check(&proof, false, false, &verdict) == QRP_VERIFIED && verdict.letter == 'V' && !verdict.truth, "the proof", "");

@@ -23,8 +23,10 @@ sys.dont_write_bytecode = True
 from damaged_pairs import damaged_pairs  # noqa: E402
 from expect import expect, finish  # noqa: E402
 from pages import blocks  # noqa: E402
+from qrptools import explanation  # noqa: E402
 from qrptools.advice import ADVICE, KINDS, NEXT, ROWS, advice_for  # noqa: E402
 from qrptools.step_rules import CONDITIONS  # noqa: E402
+from random_proofs import truth  # noqa: E402
 
 EXPLAIN = ROOT / "tools" / "explain"
 LINES = {*(f"F{n}" for n in range(2, 9)), *(f"P{n}" for n in range(2, 9)), *(f"C{n}" for n in range(1, 5)), *(f"S{n}" for n in range(1, 13))}
@@ -46,7 +48,7 @@ SENTENCES = {
     "QRAT as trace": "It looks like a proof in QRAT",
     "an answer as trace": "It is the solver's answer, not a trace",
     "exchanged": "It is a trace, not a formula. Were the two files exchanged?",
-    "the formula twice": "It is a formula, not a trace. Were the two files exchanged?",
+    "the formula twice": "It is a formula, and so is the first file: was the same one given twice?",
     "a byte order mark before the trace": "It begins with a byte order mark",
     "a banner before the trace": "Its header is in line 3.",
     "no header of the formula": "The header `p cnf VARIABLES CLAUSES` is missing",
@@ -67,7 +69,7 @@ SENTENCES = {
     "set 0 binds its first variable twice": " is bound already, as ",
     "set 0 without its last variable": " is in no quantifier set, so it is free.",
     "clause 0 without its 0": "does not end with 0, so the next line belongs to it too",
-    "no quantifier set": f"keeps the meaning: `{EXPLAIN} --close FORMULA > CLOSED` does that.",
+    "no quantifier set": f"as solvers read such a text: `{EXPLAIN} --close FORMULA > CLOSED` does that.",
     "the other result": "its result is wrong",
     "the result UNKNOWN": "a limit of the solver was reached",
     "the result of --qdo": "leave out `--qdo`",
@@ -96,7 +98,7 @@ def explained(module, *words):
     return status, out.getvalue(), err.getvalue()
 
 
-def note_topics(module):
+def note_topics():
     """The topics of the advice that is given from here on."""
     topics = set()
 
@@ -104,14 +106,14 @@ def note_topics(module):
         topics.add((fault, cause))
         return advice_for(fault, cause, number)
 
-    module.advice_for = noted
+    explanation.advice_for = noted
     return topics
 
 
 def ends_with_advice(out, fault):
     """Whether a text ends with an advice for this fault, or for a kind of file; or if nothing is refused, for what is next."""
     texts = [advice for (named, _), advice in ADVICE.items() if named in ((fault, "kind") if fault else ("VERIFIED",))]
-    patterns = (re.sub(r"\bN\b", r"\\d+", re.escape(text.replace("tools/", f"{EXPLAIN.parent}/"))) for text in texts)
+    patterns = (re.sub(r"\bN\b", r"\\d+", re.escape(text.replace("tools/", f"{EXPLAIN.parent}/").replace("docs/", f"{ROOT}/docs/"))) for text in texts)
     return any(re.search(f"What you can do:\n  {pattern}\\.\n\\Z", out) for pattern in patterns)
 
 
@@ -131,7 +133,7 @@ def reads_alike(module, line, formula, trace):
     found = re.fullmatch(r"REFUSED (formula|trace) ([FP]\d) line (\d+)", line)
     if not found:
         return True
-    fault = module.text_fault(found[1], Path(formula if found[1] == "formula" else trace).read_bytes(), 0)
+    fault = explanation.text_fault(found[1], Path(formula if found[1] == "formula" else trace).read_bytes(), 0)
     return str(fault) == f"{found[2]} in line {found[3]}"
 
 
@@ -205,7 +207,7 @@ def try_damages(module, program, pairs):
 
 def advised(module, fault, cause):
     """The end of a text with this advice, which is noted as given."""
-    return f"What you can do:\n  {module.advice_for(fault, cause)}.\n"
+    return f"What you can do:\n  {explanation.advice_for(fault, cause)}.\n"
 
 
 def try_devices(program, module):
@@ -261,6 +263,7 @@ def try_words(program):
     """Command lines that are wrong end with status 2, and a step that is not there with 1."""
     formula, trace = ROOT / "examples" / "two_clauses.qdimacs", ROOT / "examples" / "two_clauses.qrp"
     wrong = [[], [formula, trace, "1", "2"], ["--other", formula, trace], [formula, trace, "one"], [formula, trace, "-1"], ["--close", formula, trace]]
+    wrong += [["--mend", formula, trace], ["--mend", "--json", formula], ["--close", "--mend", formula], ["--close"], ["--close", "innermost"], ["--mend", "/nonexistent"]]
     wrong += [[formula, "/nonexistent", "1"], ["/nonexistent", trace, "1"], ["--close", "/nonexistent"]]
     for words in wrong:
         ended = run(*words, program=program)
@@ -297,6 +300,85 @@ def try_closing(program):
             expect(f"{text} closed", ended.returncode == 0 and printed == wanted, (ended, printed))
 
 
+def try_innermost(program):
+    """A forgotten gate goes into the last set; a verdict on the other formula is one on another question. What was bound is said."""
+    text = b"p cnf 3 3\na 1 2 0\n-3 1 0\n-3 2 0\n3 -1 -2 0\n"
+    more = b"p cnf 4 3\na 1 0\ne 2 0 -3 1 0\n3 -1 2 0\n4 3 0\n"
+    with tempfile.TemporaryDirectory() as folder:
+        file, closed = Path(folder) / "gate", Path(folder) / "closed"
+        for data, place, wanted, said in (
+            (text, [], "p cnf 3 3\ne 3 0\na 1 2 0\n", "variable 3 is bound outermost by e, as solvers read the formula; if they are outputs of gates, "),
+            (text, ["outermost"], "p cnf 3 3\ne 3 0\na 1 2 0\n", "variable 3 is bound outermost by e"),
+            (text, ["innermost"], "p cnf 3 3\na 1 2 0\ne 3 0\n", "variable 3 is bound in the last set, by e: solvers read them as bound outermost, so this is another formula"),
+            (more, ["innermost"], "p cnf 4 3\na 1 0\ne 2 3 4 0\n", "variables 3, 4 are bound in the last set"),
+            (b"p cnf 2 1\n1 2 0\n", ["innermost"], "p cnf 2 1\ne 1 2 0\n", "variables 1, 2 are bound outermost by e, as solvers read the formula\n"),
+            (b"p cnf 1 1\na 1 0\n1 0\n", ["innermost"], "p cnf 1 1\na 1 0\n", "no variable is free: the formula is written as it is\n"),
+        ):
+            file.write_bytes(data)
+            ended = run("--close", *place, file, program="/nonexistent")
+            closed.write_text(ended.stdout)
+            printed = subprocess.run([program, "format", closed], capture_output=True, text=True, check=False).stdout
+            expect(f"--close {place} of {data}", ended.returncode == 0 and printed.startswith(wanted) and said in ended.stderr, (ended, printed))
+        truths = [truth([("e", 3), ("a", 1), ("a", 2)], CLAUSES), truth([("a", 1), ("a", 2), ("e", 3)], CLAUSES)]
+        expect("the two formulas of the page have other truths", truths == [False, True], truths)
+        (Path(folder) / "innermost").write_bytes(text)
+        ended = subprocess.run([sys.executable, EXPLAIN, "--close", "./innermost"], cwd=folder, capture_output=True, check=False)
+        expect("a formula that is called innermost", ended.returncode == 0 and ended.stdout.startswith(b"p cnf 3 3\ne 3 0\n"), ended)
+
+
+CLAUSES = [[-3, 1], [-3, 2], [3, -1, -2]]
+
+
+def try_mending(program):
+    """A header that lies is mended, and nothing else is changed; a text with another fault is not written."""
+    with tempfile.TemporaryDirectory() as folder:
+        file = Path(folder) / "f"
+        for text, wanted, said in (
+            (b"c p cnf 9 9\np cnf 1 1\ne 1 2 0\n1 2 0\n-1 -2 0\n", b"c p cnf 9 9\np cnf 2 2\ne 1 2 0\n1 2 0\n-1 -2 0\n", "the formula has 2 variables (1 in its header) and 2 clauses (1 in its header)\n"),
+            (b"p  cnf\t2 7\ne 1 2 0\n1 2 0 -1\n0", b"p cnf 2 2\ne 1 2 0\n1 2 0 -1\n0", "the formula has 2 clauses (7 in its header)\n"),
+            (b"p cnf 5 1\ne 1 0 1 0\n", b"p cnf 5 1\ne 1 0 1 0\n", "the header fits: the formula is written as it is\n"),
+            (b"p cnf 1 0\n1 3 0\n", b"p cnf 3 1\n1 3 0\n", "3 variables (1 in its header) and 1 clauses"),
+        ):
+            file.write_bytes(text)
+            ended = subprocess.run([sys.executable, EXPLAIN, "--mend", file], capture_output=True, check=False)
+            expect(f"--mend of {text}", (ended.returncode, ended.stdout) == (0, wanted) and said in ended.stderr.decode(), ended)
+        for text, fault in (b"p cnf 2 2\ne 1 2 0\n1 2 0\n-1", "F7 in line 4"), (b"p cnf 2 1\ne 1 1 0\n1 0\n", "F5 in line 2"), (b"q", "F2 in line 1"), (b"p cnf 1 1\ne 1 0\n1 x 0\n", "F3 in line 3"):
+            file.write_bytes(text)
+            ended = run("--mend", file, program="/nonexistent")
+            expect(f"--mend of {text}", ended.returncode == 1 and not ended.stdout and f"the formula has {fault}: '{EXPLAIN} FORMULA' says why" in ended.stderr, ended)
+
+
+def try_needed(program):
+    """Whether the proof needs a step that is asked for, in words and in JSON; and what a refusal of memory says of the sizes."""
+    files = ROOT / "examples" / "blind-box" / "blind-box.qdimacs", ROOT / "examples" / "blind-box" / "blind-box.qrp"
+    trimmed = {line.split()[0] for line in (ROOT / "examples" / "blind-box" / "blind-box.trimmed.qrp").read_text().splitlines() if line[:1].isdigit()}
+    sentence = "The proof does not need this step, so qrp_cmd does not judge it.\n"
+    for number in range(1, 127):
+        needed = str(number) in trimmed
+        if number % 9 == 0 or number in (1, 11, 126):
+            told, found = run(*files, number, program=program), json.loads(run("--json", *files, number, program=program).stdout)
+            expect(f"step {number}: needed", found["needed"] is needed and (sentence in told.stdout) is not needed, (told, found))
+    with tempfile.TemporaryDirectory() as folder:
+        full = Path(folder) / "full"
+        full.write_text("#!/bin/sh\necho 'NO MEMORY'\nexit 4\n")
+        full.chmod(0o755)
+        (Path(folder) / "f").write_bytes(b"x" * 2000000)
+        (Path(folder) / "t").write_bytes(b"x" * 8000000)
+        ended = run(f"{folder}/f", f"{folder}/t", program=full)
+        said = "The files have 10.0 MB. In docs/BENCHMARKS.md a check took 0.7 to 2 times that: here it would be 7 to 20 MB.\n"
+        expect("memory is refused: the sizes", said in ended.stdout, ended)
+
+
+def try_step_names(program):
+    """The table of a step has the user's names."""
+    box = ROOT / "examples" / "blind-box" / "blind-box"
+    ended = run("--names", f"{box}.names", f"{box}.qdimacs", f"{box}.qrp", "124", program=program)
+    rows = [line.split() for line in ended.stdout.splitlines() if line.startswith("  ")]
+    expect("a step with names", ["-4", "-carry_in", "for", "all", "3"] in [row[:5] for row in rows] and rows[0][:3] == ["literal", "name", "quantifier"], rows)
+    ended = run("--names", "/nonexistent", f"{box}.qdimacs", program=program)
+    expect("no names", ended.returncode == 2 and "/nonexistent cannot be read" in ended.stderr, ended)
+
+
 def try_pages(program):
     """docs/REFUSED.md has the tables of the script, its commands print what the page says, and the conditions are those of docs/RULES.md."""
     text = (ROOT / "docs" / "REFUSED.md").read_text()
@@ -319,9 +401,10 @@ def try_pages(program):
             lines = block.rstrip().splitlines()
             commands = [line[2:] for line in lines if line.startswith("$ ")]
             page = "\n".join(line for line in lines if not line.startswith("$ "))
-            printed = subprocess.run(["bash", "-c", "\n".join(commands)], cwd=folder, capture_output=True, text=True, env=environment, check=False)
+            options = {"stdout": subprocess.PIPE, "stderr": subprocess.STDOUT, "text": True, "env": environment}
+            printed = subprocess.run(["bash", "-c", "\n".join(commands)], cwd=folder, check=False, **options)
             expect("docs/REFUSED.md, a block of commands", page == printed.stdout.rstrip(), (page, printed))
-    expect("docs/REFUSED.md: three blocks of commands", len(sessions) == 3, sessions)
+    expect("docs/REFUSED.md: four blocks of commands", len(sessions) == 4, sessions)
 
 
 # A formula that is false with its proof, and what users do to them: a name, the bytes of both, what is said, and what is not.
@@ -372,6 +455,24 @@ MISTAKES = [
     ("UTF-16", GOOD.decode().encode("utf-16"), TRACE, ["It is in UTF-16.\nWhat you can do:\n  write it as plain ASCII"], [*GIVE, "^", "?"]),
     ("a byte order mark", b"\xef\xbb\xbf" + GOOD, TRACE, ["It begins with a byte order mark", "take out the first three bytes"], GIVE),
     ("exchanged", TRACE, GOOD, ["Were the two files exchanged?", "give the formula first, and then the trace"], GIVE),
+    ("the formula twice", GOOD, GOOD, ["was the same one given twice?", "give the solver's trace as the second file"], ["exchanged", *GIVE]),
+    ("a formula with a trace after it", GOOD, b"c one\n" + GOOD + TRACE, ["whose header is in line 6.", "take out what comes before line 6:"], ["exchanged", *GIVE]),
+    ("a set without its 0", GOOD.replace(b"e 1 0", b"a 1\ne 1 0"), TRACE, ["is a 0 missing?", "close the quantifier set, or the clause, before it by 0"], ["take the word out", *GIVE]),
+    ("a set without its 0 before a clause", b"p cnf 2 1\ne 1 2\n-1 2 0\n", TRACE, ["is the 0 missing that closes the set before it?", "close the quantifier set before it by 0"], ["correct"]),
+    ("a quantifier in a capital letter", GOOD.replace(b"e", b"E"), TRACE, ["The quantifiers are small letters.", "write `a` and `e` as small letters"], ["take the word out"]),
+    ("DQDIMACS", b"p cnf 2 1\na 1 0\nd 2 1 0\n1 2 0\n", TRACE, ["Lines of this letter belong to other formats", "the formula is a DQBF, which qrp_cmd does not check"], ["take the word out"]),
+    ("a deleted clause", b"p cnf 2 2\ne 1 2 0\n1 2 0\nd 1 2 0\n", TRACE, ["take the word out, or give a formula in QDIMACS"], ["DQBF"]),
+    ("a forgotten gate", LONG.replace(b"1 3 0", b"1 0", 1).replace(b"-1 -2 0", b"-1 -3 0"), TRACE, ["--close innermost FORMULA > CLOSED`", "with a forgotten gate that is another question"], ["keeps the meaning"]),
+    ("a 0 in the middle of a set", b"p cnf 2 1\ne 1 0 2 0\n1 2 0\n", TRACE, ["is that 0 one too many?", "take the 0 out that stands in the middle of the set"], ["--close"]),
+    ("a step without a 0", GOOD, TRACE.replace(b"2 -1 0 0", b"2 -1 0"), ["Line 4 has 1 zero where a step has 2: is a 0 missing?", "correct the zeros of that line"], ["as several"]),
+    ("a 0 in a set of the trace", GOOD, TRACE.replace(b"e 1 0", b"e 1 0 0"), ["Line 2 has 2 zeros where a set has 1", "correct the zeros of that line"], []),
+    ("a set of the trace without its 0", GOOD, TRACE.replace(b"e 1 0", b"e 1"), ["is a 0 missing?", "correct the zeros of that line"], ["messages"]),
+    ("a first step without a 0", GOOD, TRACE.replace(b"1 1 0 0", b"1 1 0"), ["Line 3 has 1 zero where", "correct the zeros of that line"], ["have the solver"]),
+    ("a number twice by a 0", GOOD, TRACE.replace(b"1 1 0 0", b"2 0 0 1 0"), ["zeros"], []),
+    ("UTF-16 without a mark", GOOD.decode().encode("utf-16-le"), TRACE, ["It is in UTF-16, without the mark", "`iconv -f UTF-16LE -t ASCII FILE > NEW`"], ["DRAT", *GIVE]),
+    ("zero bytes as formula", b"\1\0\0\7\0\3\2\1" * 9, TRACE, ["It is not a text: it has zero bytes.", "give a formula in QDIMACS, which is plain ASCII"], ["DRAT"]),
+    ("constants written as literals", b"p cnf 2 2\ne 1 2 0\n1 2 0\n-1 0 0\n2 0\n0\n", TRACE, ["2 of them are empty, the first in line 4: is a 0 one too many there?", "take the 0 out that is one too many"], []),
+    ("an empty clause that fits", b"p cnf 2 3\ne 1 2 0\n1 2 0\n-1 0 0\n", b"p qrp 0 0\n1 0 0\nr unsat\n", ["The formula has an empty clause, in line 4, and is false by it alone"], []),
     ("long-distance resolution", LONG, LONG_STEPS % b"3 2 -2 0 1 2 0", ["It does not follow: S1", "(`--long-dist-res`)"], []),
     ("a literal too many in a reduct", LONG, LONG_STEPS % b"3 1 2 3 0 1 0", ["It does not follow: S6", "weakening is not a rule here"], []),
     ("a pivot that stays", GOOD, b"p qrp 1 4\n1 1 0 0\n2 -1 0 0\n3 1 0 1 2 0\n4 0 3 2 0\nr unsat\n", ["It does not follow: S11", "the resolvent does not hold the pivot"], []),
@@ -430,7 +531,7 @@ def main():
         expect(row, False)
     os.environ["QRP_CMD"] = program
     module = load()
-    topics = note_topics(module)
+    topics = note_topics()
     folder = ROOT / "tests" / "traces"
     try_rows(module, Path(rows).read_text().splitlines())
     try_damages(module, program, [(folder / "kbkf2.qdimacs", folder / "kbkf2.trad.qrp"), (folder / "adder1.qdimacs", folder / "adder1.lazy.qrp")])
@@ -441,8 +542,12 @@ def main():
     try_disagreement(program)
     try_words(program)
     try_closing(program)
+    try_innermost(program)
+    try_mending(program)
+    try_needed(program)
+    try_step_names(program)
     try_pages(program)
-    return finish(5678)
+    return finish(5801)
 
 
 if __name__ == "__main__":

@@ -23,11 +23,14 @@ ROOT = Path(__file__).resolve().parents[2]
 sys.path[:0] = [str(ROOT / "tests"), str(ROOT / "tools"), str(ROOT / "tests" / "tools")]
 sys.dont_write_bytecode = True
 from expect import expect, finish  # noqa: E402
-from qrptools import cut, restriction, trimmed as reading  # noqa: E402
+from qrptools import trimmed as reading  # noqa: E402
 from qrptools.command import Ends  # noqa: E402
-from qrptools.game import State  # noqa: E402
+from qrptools.formula import Formula  # noqa: E402
+from qrptools.games import cut, play as playing, restriction  # noqa: E402
+from qrptools.games.game import Checker, State  # noqa: E402
+from qrptools.games.gates import Gates  # noqa: E402
+from qrptools.names import Names  # noqa: E402
 from qrptools.program import trimmed  # noqa: E402
-from qrptools.replies import Names  # noqa: E402
 from random_proofs import random_case, truth  # noqa: E402
 from test_steps import damages  # noqa: E402
 
@@ -93,14 +96,27 @@ def require(holds, what):
         raise Wrong(what)
 
 
+class NoGates:
+    """Stands in for Gates where no variable is one."""
+
+    definitions = {}
+
+    def __init__(self, *_):
+        pass
+
+    def set_to(self, *_):
+        pass
+
+
 def played(formula, trace, any_pivot, seed, folder):
     """What the tool finds of a game with random replies, with the files of all states in a folder."""
     restriction.SOME, reading.BLOCK = (3, 40) if seed % 2 else (1 << 12, 1 << 18)  # small pieces and large ones
     cut.FEW = 1 if seed == 2 else 12  # both ways to look for literals
+    playing.Gates = NoGates if seed == 1 else Gates  # gates with values at random, and as they are defined
     arguments = Namespace(json=True, reply=[], random=str(seed), write=os.path.join(folder, f"states{seed}"), qu=any_pivot)
     os.mkdir(arguments.write)
     path = trimmed(str(formula), str(trace), TOOL.flags_of(arguments), folder)
-    game = TOOL.Play(arguments, State(str(formula), path, any_pivot), Names(), folder)
+    game = TOOL.Collected(arguments, State(str(formula), path, any_pivot), Names(), Checker(arguments.write, True, TOOL.flags_of(arguments)))
     game.to_the_end()
     return game.found
 
@@ -124,7 +140,18 @@ def try_game(formula, trace, any_pivot, seed, folder):
         try_state(blocks, clauses, move, is_true)
     require(found["matrix"] is is_true and all(not clause for clause in clauses), "the end")
     require((not clauses) is is_true, "the winner by the matrix")
+    try_failing(found, formula, is_true)
     return len(found["moves"]), sum(len(move["open"]) for move in found["moves"])
+
+
+def try_failing(found, formula, is_true):
+    """At the end the clauses are named that are false, and no others."""
+    true = {literal for move in found["moves"] for literal in move["values"]}
+    _, clauses = read_formula(Path(formula).read_text())
+    false = [(number, list(dict.fromkeys(clause))) for number, clause in enumerate(clauses, 1) if true.isdisjoint(clause)]
+    require([(it["clause"], it["literals"]) for it in found["failing"]] == false and bool(false) is not is_true, "the clauses that are false")
+    lines = Path(formula).read_text().split("\n")
+    require(all(set(it["literals"]) <= set(map(int, lines[it["line"] - 1].split())) for it in found["failing"]), "the lines of these clauses")
 
 
 def try_state(blocks, clauses, move, is_true):
@@ -280,7 +307,7 @@ def try_text():
         expect("names", named.stdout.startswith(wanted), named)
         found = json.loads(play("--json", "--names", names, "--reply=-low -high", *MATCHES).stdout)
         expect("JSON, names", [move["names"] for move in found["moves"]] == [["-high", "-low"], ["answer", "-4"]], found)
-        for text in "1\n", "1 a b\n", "x a\n", "0 a\n", "1 a\n1 b\n", "1 a\n2 a\n", "1 2\n", "1 -a\n":
+        for text in "1\n", "1 a b\n", "x a\n", "0 a\n", "1 a\n1 b\n", "1 a\n2 a\n", "1 2\n", "1 -a\n", "1 !a\n", "1 ~a\n", "1 #a\n", "1 0x2\n":
             names.write_text(text)
             refused = play("--names", names, *MATCHES)
             expect(f"names {text!r}", refused.returncode == 2 and not refused.stdout and f"{names}, line {text.count(chr(10))}" in refused.stderr, refused)
@@ -303,8 +330,135 @@ def try_replies():
         expect(f"{replies}", refused.returncode == 2 and last and said in last[0] and "Traceback" not in refused.stderr, refused)
     first, again, other = (play("--random", seed, "--reply", "1", *MATCHES) for seed in ("7", "7", "8"))
     expect("a seed gives one game", first.stdout == again.stdout != other.stdout and first.returncode == 0, (first, other))
-    expect("to the end", first.stdout.endswith("the matrix does not hold: the universal player has won\n"), first)
+    expect("to the end", "the matrix does not hold: the universal player has won\n    clause " in first.stdout, first)
     expect("what is given stays", "the other player: 1 " in first.stdout, first)
+
+
+BUS = """\
+# a bus of three bits, and one with a gap
+1 a[0]
+3 a[2]
+2 a[1]
+
+4 b[0]
+5 b[2]
+6 c=1
+7 one[0]
+"""
+FORMS = [
+    ("3", [3]),
+    ("-3", [-3]),
+    ("!3", [-3]),
+    ("~3", [-3]),
+    ("3=1", [3]),
+    ("3=0", [-3]),
+    ("99", [99]),
+    ("a[2]", [3]),
+    ("-a[2]", [-3]),
+    ("!a[2]", [-3]),
+    ("~a[2]", [-3]),
+    ("a[2]=1", [3]),
+    ("a[2]=0", [-3]),
+    ("c=1", [6]),
+    ("-c=1", [-6]),
+    ("c=1=0", [-6]),
+    ("a=5", [1, 3, -2]),
+    ("a=0", [-1, -3, -2]),
+    ("a=0x7", [1, 3, 2]),
+    ("a=0b010", [-1, -3, 2]),
+    ("b=4", [-4, 5]),
+    ("one=1", [7]),
+    *((word, None) for word in ("a=8", "b=2", "a=", "a=x", "a=-1", "-a=5", "a", "d=1", "=1", "0", "-", "", "3=2", "a[3]", "a=" + "9" * 2000)),
+]
+
+
+def try_forms():
+    """The forms in which a reply may give a value."""
+    with tempfile.TemporaryDirectory() as folder:
+        path = Path(folder) / "names"
+        path.write_text(BUS)
+        names = Names(path)
+    for word, literals in FORMS:
+        expect(f"a reply {word[:20]!r}", names.literals(word) == literals, names.literals(word))
+    expect("the values of buses", sorted(names.values([1, -2, 3, 4])) == [("a", 5)], list(names.values([1, -2, 3, 4])))
+    expect("the values of a bus with a gap", sorted(names.values([-4, 5, 7])) == [("b", 4)], list(names.values([-4, 5, 7])))
+
+
+CIRCUIT = """\
+p cnf 9 16
+a 1 2 3 0
+e 4 5 6 7 8 9 0
+-4 1 0
+-4 2 0
+4 -1 -2 0
+-5 1 3 0
+-5 -1 -3 0
+5 -1 3 0
+5 1 -3 0
+-3 -1 6 0
+-3 1 -6 0
+3 -2 6 0
+3 2 -6 0
+7 -4 0
+7 -5 0
+-7 4 5 0
+8 7 6 0
+-9 8 0
+"""
+WIDE = range(1, 12)
+
+
+def try_gates():
+    """Which variables clauses define, and the values that gates give them."""
+    gates = Gates(Formula(CIRCUIT.encode()), [4, 5, 6, 7, 8, 9])
+    expect("gates: and, xor, a choice, or; not what a clause only bounds", sorted(gates.definitions) == [4, 5, 6, 7], gates.definitions)
+    for one, two, three in itertools.product((True, False), repeat=3):
+        given = {variable if value else -variable for variable, value in ((1, one), (2, two), (3, three))}
+        values = {8: 8, 9: -9}
+        gates.set_to(values, given)
+        wanted = {4: one and two, 5: one != three, 6: one if three else two, 7: one and two or one != three}
+        expect(f"gates of {sorted(given)}", all(values[v] == (v if is_true else -v) for v, is_true in wanted.items()), values)
+    values = {4: 4, 8: 8, 9: -9}
+    gates.set_to(values, {-1, -2, -3})
+    expect("a value that is given stays, and others follow from it", values[4] == 4 and values[7] == 7, values)
+    wide = "p cnf 12 12\na 1 2 3 4 5 6 7 8 9 10 11 0\ne 12 0\n" + "".join(f"-12 {v} 0\n" for v in WIDE) + f"12 {' '.join(str(-v) for v in WIDE)} 0\n"
+    for text, wanted in (
+        ("p cnf 3 3\na 1 0\ne 2 3 0\n2 -1 0\n-2 1 0\n3 0\n", [2, 3]),  # a copy, and a constant
+        ("p cnf 3 2\na 1 0\ne 2 3 0\n2 -1 0\n3 2 1 0\n", []),
+        ("p cnf 3 4\na 1 2 0\ne 3 0\n-3 1 0\n-3 2 0\n3 -1 -2 0\n3 0\n", [3]),  # an output that has to hold
+        ("p cnf 3 4\na 1 2 0\ne 3 0\n-3 1 0\n-3 2 0\n3 -1 -2 0\n-3 1 -1 0\n", [3]),
+        (wide, [12]),
+        (wide.replace("-12 1 0\n", "").replace("12 12", "12 11"), []),
+    ):
+        formula = Formula(text.encode())
+        variables = [int(word) for word in formula.sets[-1][1].split()]
+        expect(f"gates of {text!r}", sorted(Gates(formula, variables).definitions) == wanted, Gates(formula, variables).definitions)
+    for asked in "3", "-3", "3 1", "-3 -2", "3 1 2":
+        exclusive = ["-3 1 2 0\n-3 -1 -2 0\n3 -1 2 0\n3 1 -2"] if asked != "3 1 2" else []  # which is one of as many inputs
+        for gate in ["-3 1 0\n-3 2 0\n3 -1 -2", "3 -1 0\n3 -2 0\n-3 1 2", *exclusive]:
+            clauses = gate.split(" 0\n")
+            formula = Formula(f"p cnf 3 {len(clauses) + 1}\na 1 2 0\ne 3 0\n{asked} 0\n{gate} 0\n".encode())
+            found = Gates(formula, [3]).definitions.get(3, [])
+            expect(f"the gate {clauses} of which '{asked}' is asked", set(found) == {frozenset(map(int, clause.split())) for clause in clauses}, found)
+
+
+def try_end():
+    """The gates of the other player's last block are not asked for, and the clauses that are false are named."""
+    names = ROOT / "examples" / "blind-box" / "blind-box.names"
+    told = play("--names", names, "--reply", "box=0", *BOX)
+    end = told.stdout.splitlines()[-5:]
+    expect("blind-box to its end", told.returncode == 0 and not told.stderr and end[0] == "block 4 (existential), the other player: 22 gates as defined", told)
+    expect("blind-box: who wins", end[2] == "no variable is left, and the matrix does not hold: the universal player has won", end)
+    clauses = ["    clause 77, in line 84 of the formula, is false: -sum1 wanted1", "    clause 80, in line 87 of the formula, is false: sum2 -carry2"]
+    expect("blind-box: the clauses", end[3:] == clauses, end)
+    found = json.loads(play("--json", "--names", names, "--reply", "!box", *BOX).stdout)
+    holds = len(found["moves"][3]["gates"]) == 22 and found["matrix"] is False and [it["names"] for it in found["failing"]] == [["-sum1", "wanted1"], ["sum2", "-carry2"]]
+    expect("blind-box: JSON", holds, found["failing"])
+    given = play("--names", names, "--reply", "box", "--reply", "half0 sum2", *BOX)
+    expect("blind-box: gates that are given", "the other player: half0 sum2, and 20 gates as defined\n" in given.stdout, given)
+    wrong = play("--names", names, "--reply", "box=2", *BOX)
+    said = "'box=2' is not a literal of block 2 (existential), which has the variables box (write NAME, NAME=1, -NAME, !NAME or NAME=0"
+    expect("a wrong value", wrong.returncode == 2 and said in wrong.stderr, wrong)
 
 
 def try_small():
@@ -444,9 +598,9 @@ def main():
     with ProcessPoolExecutor(min(4, os.cpu_count() or 1)) as pool:
         try_games(pool)
         try_damages(pool)
-    for part in try_text, try_replies, try_small, try_any_pivot, try_files, try_terminal, try_own_fault, try_signals:
+    for part in try_text, try_forms, try_gates, try_end, try_replies, try_small, try_any_pivot, try_files, try_terminal, try_own_fault, try_signals:
         part()
-    return finish(1358)
+    return finish(1441)
 
 
 if __name__ == "__main__":

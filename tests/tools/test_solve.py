@@ -33,6 +33,9 @@ case $0 in
 *silent) exit 0 ;;
 *broken) echo 'it is broken' >&2; exit 134 ;;
 *killed) kill -9 $$ ;;
+*aborted) ulimit -c 0; kill -6 $$ ;;
+*wrapper) "${0%/*}/slow" "$@"; exit $? ;;
+*told) echo "$@" >"${0%/*}/words" ;;
 *cut) head -n 3 "$trace"; exit 20 ;;
 esac
 cat "$trace"
@@ -50,7 +53,7 @@ class Use:
         self.temporary.mkdir()
         self.environment = dict(os.environ, QRP_CMD=str(program), TMPDIR=str(self.temporary), PYTHONDONTWRITEBYTECODE="1")
         self.environment.pop("PYTHONPATH", None)
-        for name in "depqbf", "slow", "silent", "broken", "killed", "cut", "liar":
+        for name in "depqbf", "slow", "silent", "broken", "killed", "cut", "liar", "aborted", "wrapper", "told":
             path = self.folder / name
             path.write_text(SOLVER)
             path.chmod(0o755)
@@ -78,8 +81,9 @@ def try_answers(use):
     for solver, status, said in (
         ("liar", 1, "the solver answers true, and qrp_cmd says VERIFIED false of its proof"),
         ("silent", 0, "the solver has no answer, but status 0"),
+        ("aborted", 1, "the solver has no answer, but was ended by signal 6 (SIGABRT)"),
         ("broken", 1, "the solver has no answer, but status 134: it is broken"),
-        ("killed", 1, "the solver has no answer, but status -9"),
+        ("killed", 1, "the solver has no answer, but was ended by signal 9 (SIGKILL), which the system sends if it is out of memory"),
         ("cut", 1, "the solver answers false, and qrp_cmd says REFUSED trace P7 line 4 of its proof"),
         ("none", 2, "cannot be run (No such file or directory): install it"),
     ):
@@ -96,8 +100,21 @@ def try_moves(use):
     use.expect("the winner's block", use.run(use.words("depqbf", "--play", ROBOT)), 10, "s cnf 1 71 217\n" + plan)
     use.expect("the winner's block, false", use.run(use.words("depqbf", "--play", BOX)), 20, "s cnf 0 28 80\nV -1 0\nV 2 0\n")
     ended = use.run(use.words("depqbf", "--play", MATCHES))
-    comment = f"c the outermost block is the other player's: '{ROOT}/tools/play' takes its values\n"
-    use.expect("the other player's block", ended, 20, f"s cnf 0 46 76\n{comment}")
+    advice = f"c give the values by --reply, or keep the proof by --keep TRACE and go on by '{ROOT}/tools/play FORMULA TRACE'\n"
+    use.expect("the other player's block", ended, 20, f"s cnf 0 46 76\nc block 1 (existential) is the other player's: 1 2\n{advice}")
+    game = "s cnf 0 46 76\nc block 1 (existential), the other player: -1 -2\nV 3 0\nV -4 0\nc block 3 (existential) is the other player's: 5 6\n" + advice
+    use.expect("the game goes on", use.run(use.words("depqbf", "--play", "--reply", "-1 -2", MATCHES)), 20, game)
+    names = MATCHES.with_suffix(".names")
+    ended = use.run(use.words("depqbf", "--play", "--names", names, "--reply", "-three1 -two1", MATCHES))
+    named = game.replace("-1 -2", "-three1 -two1").replace("5 6", "three3 two3")
+    move = "c block 2 (universal), by the proof: three2 -two2\nc left open by the proof: two2\nV 3 0\n"
+    use.expect("the game by names", ended, 20, named.replace("V 3 0\n", move))
+    ended = use.run(use.words("depqbf", "--play", "--reply", "box", "--names", BOX.with_suffix(".names"), BOX))
+    end = "c block 4 (existential), the other player: 22 gates as defined\nc no variable is left, and the matrix does not hold: the universal player has won\nc clause "
+    expect("solve, the game to its end", ended.returncode == 20 and end in ended.stdout and not ended.stderr, ended)
+    wrong = use.run(use.words("depqbf", "--play", "--reply", "1 x", MATCHES))
+    use.expect("a wrong reply", wrong, 2, "s cnf -1 46 76\n", "'x' is not a literal of block 1")
+    use.expect("a reply without --play", use.run(use.words("depqbf", "--reply", "1", MATCHES)), 2, "", "--reply, --random and --names go with --play")
     program = use.folder / "program"
     program.write_text('#!/bin/sh\ncase $3 in */state1.qrp) echo REFUSED step 1 S4; exit 1 ;; esac\nexec "$REAL" "$@"\n')
     program.chmod(0o755)
@@ -114,6 +131,7 @@ def try_files(use):
     use.expect("a proof that is kept", use.run(use.words("depqbf", "--keep", kept, FALSE)), 20, "s cnf 0 12 13\n")
     expect("solve, the kept proof", kept.read_bytes() == (TRACES / "kbkf3.trad.qrp").read_bytes())
     ended = use.run(use.words("depqbf", "--keep", use.folder / "none" / "x", FALSE))
+    try_keeping(use, kept)
     use.expect("a proof that cannot be kept", ended, 2, "s cnf -1 12 13\n", "none/x cannot be written: No such file or directory")
     use.expect("a device", use.run(use.words("depqbf", "--keep", "/dev/full", FALSE)), 2, "s cnf -1 12 13\n", "/dev/full is not a file: the proof is not kept there")
     missing = use.folder / "none.qdimacs"
@@ -126,6 +144,67 @@ def try_files(use):
     use.expect("no formula", use.run(use.words("depqbf", formula)), 1, "", "REFUSED formula F2 line 1")
     piped = use.run(["bash", "-c", f'"$@" <(cat {FALSE})', "bash", *use.words("silent")])
     use.expect("a pipe", piped, 0, "s cnf -1 12 13\n", "no answer")
+
+
+def try_keeping(use, kept):
+    """The file that is kept is the formula in no case, and an older proof stays if there is no new one."""
+    formula = use.folder / "own.qdimacs"
+    formula.write_bytes(FALSE.read_bytes())
+    (use.folder / "link.qrp").symlink_to(formula)
+    for name in formula, use.folder / "link.qrp":
+        ended = use.run(use.words("depqbf", "--keep", name, formula))
+        use.expect(f"the formula as proof, {name.name}", ended, 2, "s cnf -1 12 13\n", f"{name} is the formula: name another file for the proof")
+        expect("solve, the formula as proof: it stays", formula.read_bytes() == FALSE.read_bytes())
+    before = kept.read_bytes()
+    for solver, words, status in ("slow", ["--timeout", "0.5"], 0), ("silent", [], 0), ("broken", [], 1), ("none", [], 2):
+        ended = use.run(use.words(solver, *words, "--keep", kept, FALSE))
+        expect(f"solve, {solver}: the older proof stays", ended.returncode == status and kept.read_bytes() == before, ended)
+    ended = use.run(use.words("cut", "--keep", kept, FALSE))
+    expect("solve, a proof that is refused is kept", ended.returncode == 1 and kept.read_bytes() == b"".join(before.splitlines(True)[:3]), ended)
+    expect("solve, nothing is left beside it", not list(use.folder.glob("*.new")), list(use.folder.iterdir()))
+    (use.folder / "to_be.qrp").touch()
+    (use.folder / "leads.qrp").symlink_to("to_be.qrp")
+    use.run(use.words("depqbf", "--keep", use.folder / "leads.qrp", FALSE))
+    expect("solve, a link leads to the proof", (use.folder / "leads.qrp").is_symlink() and (use.folder / "to_be.qrp").read_bytes() == before)
+    (use.folder / "-f.qdimacs").write_bytes(FALSE.read_bytes())
+    use.run(use.words("told", "--solver-option=-v", "--solver-option", "--max-dec=3", "--", "-f.qdimacs"), cwd=use.folder)
+    told = (use.folder / "words").read_text()
+    expect("solve, options of the solver, and a formula that looks like one", told.endswith("--traditional-qcdcl -v --max-dec=3 ./-f.qdimacs\n"), told)
+
+
+def try_status(use):
+    """The program's line with another status is no verdict."""
+    program = use.folder / "odd"
+    program.write_text('#!/bin/sh\n[ "$1" = format ] && exit 0\necho VERIFIED false\nexit 1\n')
+    program.chmod(0o755)
+    ended = use.run(use.words("depqbf", FALSE), env=dict(use.environment, QRP_CMD=str(program)))
+    said = "the solver answers false, and qrp_cmd says VERIFIED false of its proof, with status 1"
+    use.expect("VERIFIED with another status", ended, 1, "s cnf -1 12 13\n", said)
+
+
+def try_wrapped(use):
+    """A solver that a script starts ends with the tool, after a time and a signal."""
+    pid = use.folder / "pid"
+    ended = use.run(use.words("wrapper", "--timeout", "1", FALSE))
+    use.expect("a wrapper and a time", ended, 0, "s cnf -1 12 13\n", "the solver was given up after 1 seconds")
+    expect("solve, a wrapper and a time: the solver has ended", wait_until(lambda: not runs(int(pid.read_text()))))
+    for solver, number in ("wrapper", signal.SIGTERM), ("slow", signal.SIGKILL):
+        pid.unlink(missing_ok=True)
+        with subprocess.Popen(use.words(solver, FALSE), stdout=subprocess.PIPE, stderr=subprocess.PIPE, text=True, env=use.environment) as process:
+            ready = wait_until(lambda: pid.exists() and pid.read_text())
+            process.send_signal(number)
+            process.communicate(timeout=50)
+        expect(f"solve, {solver} and {number.name}: the solver has ended", ready and wait_until(lambda: not runs(int(pid.read_text()))))
+    shutil.rmtree(use.temporary)  # of SIGKILL
+    use.temporary.mkdir()
+
+
+def wait_until(condition):
+    """Whether this holds within half a minute."""
+    until = time.monotonic() + 30
+    while not condition() and time.monotonic() < until:
+        time.sleep(0.02)
+    return condition()
 
 
 def try_full_folder(use):
@@ -142,6 +221,9 @@ def try_words(use):
     for words in [], ["--mode", "other", FALSE], ["--timeout", "-1", FALSE], ["--timeout", "inf", FALSE], ["--timeout", "x", FALSE], [FALSE, TRUE], ["--other", FALSE]:
         ended = use.run(use.words("depqbf", *words))
         use.expect(f"usage {words}", ended, 2, "", "usage: ")
+    for word in "0", "-1", "x", "nan", "1e9":
+        ended = use.run(use.words("depqbf", f"--timeout={word}", FALSE))
+        use.expect(f"the seconds {word}", ended, 2, "", f"argument --timeout: '{word}' is not a number of seconds above 0")
     ended = use.run(use.words("depqbf", "--help"))
     said = ["Exit status: 10 if", "20 if", "0 if", "2 if", "the output cannot be written; 130, 143 after an interrupt and after SIGTERM"]
     text = " ".join(ended.stdout.split())
@@ -204,6 +286,7 @@ def try_benchexec(use):
     result.RESULT_TRUE_PROP, result.RESULT_FALSE_PROP, result.RESULT_UNKNOWN, result.RESULT_ERROR = "true", "false", "unknown", "ERROR"
     template = types.ModuleType("benchexec.tools.template")
     template.BaseTool2 = object
+    expected = (ROOT / "VERSION").read_text().strip()
     package, tools = types.ModuleType("benchexec"), types.ModuleType("benchexec.tools")
     package.result, package.tools, tools.template = result, tools, template
     sys.modules.update({"benchexec": package, "benchexec.result": result, "benchexec.tools": tools, "benchexec.tools.template": template})
@@ -212,6 +295,11 @@ def try_benchexec(use):
     tool = Tool()
     command = tool.cmdline(str(SOLVE), ["--mode", "lazy"], types.SimpleNamespace(single_input_file=str(FALSE)), None)
     expect("BenchExec, the command", command == [str(SOLVE), "--mode", "lazy", str(FALSE)], command)
+    expect("BenchExec, the version", tool.version("") == expected, tool.version(""))
+    for there, wanted in ({"tools/solve": "x/tools/solve"}, "x/tools/solve"), ({"bin/qrp-solve": "/usr/bin/qrp-solve"}, "/usr/bin/qrp-solve"):
+        found = tool.executable(types.SimpleNamespace(find_executable=lambda name, subdir="", there=there: there[f"{subdir}/{name}"]))
+        expect(f"BenchExec, the tool is {wanted}", found == wanted, found)
+    try_benchexec_check(expected)
     for output, status, wanted in (
         (["s cnf 1 9 33\n"], 10, "true"),
         (["s cnf 0 12 13\n", "V -1 0\n"], 20, "false"),
@@ -226,12 +314,34 @@ def try_benchexec(use):
         expect(f"BenchExec, {output} {status}", tool.determine_result(run) == wanted, tool.determine_result(run))
 
 
+def try_benchexec_check(expected):
+    """The module for 'qrp_cmd check': a verdict is that of the line, and only with its status."""
+    from qrptools.benchexec_check import Tool  # noqa: PLC0415
+
+    tool = Tool()
+    command = tool.cmdline("qrp_cmd", ["--qu"], types.SimpleNamespace(input_files=["f", "t"]), None)
+    expect("BenchExec, the command of a check", command == ["qrp_cmd", "check", "--qu", "f", "t"] and tool.version("") == expected, command)
+    for output, status, wanted in (
+        (["VERIFIED true\n"], 0, "true"),
+        (["VERIFIED false\n"], 0, "false"),
+        (["VERIFIED true\n"], 1, "ERROR"),
+        (["REFUSED step 5 S8\n"], 1, "unknown"),
+        (["REFUSED trace P7 line 9\n"], 2, "unknown"),
+        (["REFUSED step 5 S8\n"], 0, "ERROR"),
+        (["DEVICE trace\n"], 3, "ERROR"),
+        (["NO MEMORY\n"], 4, "ERROR"),
+        ([], 0, "ERROR"),
+    ):
+        run = types.SimpleNamespace(output=output, exit_code=types.SimpleNamespace(value=status))
+        expect(f"BenchExec, a check, {output} {status}", tool.determine_result(run) == wanted, tool.determine_result(run))
+
+
 def main():
     signal.signal(signal.SIGINT, signal.default_int_handler)  # a run in the background ignores interrupts, and so would all that it starts
-    for part in try_answers, try_moves, try_files, try_full_folder, try_words, try_signals, try_depqbf, try_benchexec:
+    for part in try_answers, try_moves, try_files, try_status, try_wrapped, try_full_folder, try_words, try_signals, try_depqbf, try_benchexec:
         with tempfile.TemporaryDirectory() as folder:
             part(Use(folder, os.path.abspath(sys.argv[1])))
-    return finish(112)
+    return finish(167)
 
 
 if __name__ == "__main__":

@@ -26,9 +26,12 @@ from expect import expect, finish, skip  # noqa: E402
 FORMULA, TRACE = ROOT / "examples" / "two_clauses.qdimacs", ROOT / "examples" / "two_clauses.qrp"
 REFUSED = "p qrp 0 0\nr unsat\n"  # by C4
 
-# A tool: its words after the name, in which FORMULA, TRACE, LIST and SOLVER are files; the statuses of a file that cannot be read, of a
-# refused proof, and of the formula in the place of the trace; whether it runs the program, and keeps pipes; and the status of right use.
-Tool = namedtuple("Tool", "name words unread refused mistaken runs keeps right", defaults=[0])
+CIRCUIT = "aag 3 2 0 1 1\n2\n4\n6\n6 4 2\n"
+
+# A tool: its words after the name, in which FORMULA, TRACE, LIST, CIRCUIT and SOLVER are files; the statuses of a file that cannot be read, of
+# a refused proof, and of the formula in the place of the trace; whether it runs the program, and keeps pipes; the status of right use, that
+# of a wrong command line, and that of an output that cannot be written.
+Tool = namedtuple("Tool", "name words unread refused mistaken runs keeps right usage output", defaults=[0, 2, 2])
 TOOLS = [
     Tool("explain", ["FORMULA", "TRACE"], 0, 0, 0, True, True),
     Tool("explain", ["FORMULA", "TRACE", "1"], 2, 0, 1, False, True),
@@ -42,6 +45,9 @@ TOOLS = [
     Tool("play", ["FORMULA", "TRACE"], 2, 1, 1, True, True),
     Tool("play", ["--json", "--random", "1", "FORMULA", "TRACE"], 2, 1, 1, True, True),
     Tool("solve", ["--solver", "SOLVER", "FORMULA"], 2, None, None, True, False, 20),
+    Tool("check", ["FORMULA", "TRACE"], 3, 1, 2, True, False, 0, 5, 3),
+    Tool("check", ["--json", "FORMULA", "TRACE"], 3, 1, 2, True, False, 0, 5, 3),
+    Tool("from-aiger", ["CIRCUIT"], 2, None, None, False, False),
     Tool("check-many", ["LIST"], 2, 1, 1, True, False),
     Tool("check-many", ["--json", "LIST"], 2, 1, 1, True, False),
 ]
@@ -57,12 +63,17 @@ class Trial:
         self.environment = dict(os.environ, QRP_CMD=str(program), TMPDIR=str(self.temporary), PYTHONDONTWRITEBYTECODE="1")
 
     def words(self, formula=FORMULA, trace=TRACE, rows=None):
-        """The command line, with these files."""
+        """The command line, with these files. A circuit stands in the place of the formula."""
         if "LIST" in self.tool.words and rows is None:
             rows = self.folder / "list"
             rows.write_text(f"name\t{formula}\t{trace}\n")
-        files = {"FORMULA": formula, "TRACE": trace, "LIST": rows, "SOLVER": self.solver()}
+        files = {"FORMULA": formula, "CIRCUIT": self.circuit() if formula == FORMULA else formula, "TRACE": trace, "LIST": rows, "SOLVER": self.solver()}
         return [sys.executable, str(ROOT / "tools" / self.tool.name), *(str(files.get(word, word)) for word in self.tool.words)]
+
+    def circuit(self):
+        path = self.folder / "circuit"
+        path.write_text(CIRCUIT)
+        return path
 
     def solver(self):
         """A solver that writes the proof of the formula."""
@@ -102,13 +113,19 @@ def try_arguments(trial):
     words = trial.words()
     for name, wrong in ("no argument", words[:2]), ("a wrong option", [*words, "--other"]), ("one file too many", [*words, "1", "2", "3"]):
         ended = trial.run(wrong)
-        trial.expect(name, ended, 2, ["usage: ", own(trial) + "error: "])
+        trial.expect(name, ended, trial.tool.usage, ["usage: ", own(trial) + "error: "])
         expect(f"{trial.tool.name}: {name}: no output", not ended.stdout, ended)
     ended = trial.run([*words[:2], "--help"])
     trial.expect("--help", ended, 0)
-    said = ["usage: " + words[1], "Exit status: 0 if", "2 if", "the output cannot be written; 130, 143 after an interrupt and after SIGTERM"]
+    said = ["usage: " + words[1], "Exit status: 0 if", "2 if", "the output cannot be written", "130, 143 after an interrupt and after SIGTERM"]
     text = " ".join(ended.stdout.split())
     expect(f"{trial.tool.name}: --help has the statuses", all(word in text for word in said) and not ended.stderr, ended)
+
+
+    version = (ROOT / "VERSION").read_text().strip() if (ROOT / "VERSION").exists() else None
+    ended = trial.run([*words[:2], "--version"])
+    trial.expect("--version", ended, 0)
+    expect(f"{trial.tool.name}: --version", ended.stdout.startswith(f"{words[1]} of qrp_cmd {version or ''}") and not ended.stderr, ended)
 
 
 def unreadable(folder):
@@ -137,9 +154,13 @@ def try_files(trial):
             trial.expect(f"{name} as list", trial.run(trial.words(rows=path)), 2, [f"{own(trial)}the list {path} cannot be read: {reason}\n"])
             continue
         for place in "formula", "trace":
-            if place.upper() not in tool.words:
+            if place.upper() not in tool.words and not (place == "formula" and "CIRCUIT" in tool.words):
                 continue
             ended = trial.run(trial.words(**{place: path}))
+            if tool.name == "check":
+                trial.expect(f"{name} as {place}", ended, 3)
+                expect(f"check: {name} is explained", reason in ended.stderr + ended.stdout and f"DEVICE {place}" in ended.stdout, ended)
+                continue
             status = 2 if name == "a socket" and tool.keeps else tool.unread
             trial.expect(f"{name} as {place}", ended, status, [own(trial), f"{path} cannot be read: {reason}\n"] if status else [])
             if not status:
@@ -157,16 +178,17 @@ def try_files(trial):
 def try_outputs(trial):
     """An output that is closed, full, or read by nobody."""
     cannot = own(trial) + "the standard output cannot be written: "
-    trial.expect("a closed output", trial.in_shell(">&-"), 2, [cannot + "it is closed\n"])
-    trial.expect("a full output", trial.in_shell(">/dev/full"), 2, [cannot + "No space left on device\n"])
-    trial.expect("a pipe that nobody reads", trial.in_shell('> >(exec <&-; sleep 0.1) ; status=$?; wait; exit $status'), 2, [cannot + "Broken pipe\n"])
+    wrong = trial.tool.output
+    trial.expect("a closed output", trial.in_shell(">&-"), wrong, [cannot + "it is closed\n"])
+    trial.expect("a full output", trial.in_shell(">/dev/full"), wrong, [cannot + "No space left on device\n"])
+    trial.expect("a pipe that nobody reads", trial.in_shell('> >(exec <&-; sleep 0.1) ; status=$?; wait; exit $status'), wrong, [cannot + "Broken pipe\n"])
     trial.expect("a closed input", trial.in_shell("<&- >/dev/null"), trial.tool.right)
     trial.expect("a closed standard error", trial.in_shell("2>&-"), trial.tool.right)
     ended = trial.run(["bash", "-c", '"$@" 2>&-', "bash", *trial.words(), "--other"])
-    trial.expect("a wrong option and a closed standard error", ended, 2)
+    trial.expect("a wrong option and a closed standard error", ended, trial.tool.usage)
     expect(f"{trial.tool.name}: what is for the standard error stays out of the output", not ended.stdout, ended)
     ended = trial.run(["bash", "-c", '"$@" --help >/dev/full', "bash", *trial.words()[:2]])
-    trial.expect("--help to a full output", ended, 2, [cannot + "No space left on device\n"])
+    trial.expect("--help to a full output", ended, wrong, [cannot + "No space left on device\n"])
 
 
 def sleeper(folder):
@@ -268,7 +290,7 @@ def try_program(trial):
     for name, text, status, said in (
         ("no program", None, 2, "cannot be run: "),
         ("a program that is none", "", 2, "cannot be run: "),
-        ("a program that is killed", "#!/bin/sh\nkill -KILL $$\n", 2, "signal 9 (SIGKILL) ended qrp_cmd"),
+        ("a program that is killed", "#!/bin/sh\nkill -KILL $$\n", 2, "signal 9 (SIGKILL), which the system sends if it is out of memory, ended qrp_cmd"),
         ("a program without memory", "#!/bin/sh\necho 'NO MEMORY' >&2\nexit 4\n", 2, "NO MEMORY: "),
         ("a program that says something else", "#!/bin/sh\necho 'hello' >&2\nexit 7\n", 2, "hello"),
     ):
@@ -282,6 +304,9 @@ def try_program(trial):
             status, said = (1, "unknown line") if "hello" in text else (0, "")
         if trial.tool.name == "check-many" and text:  # which makes a row of it
             status, said = 1, ""
+        if trial.tool.name == "check":  # which has the program's statuses
+            status = {"cannot be run: ": 3, "NO MEMORY: ": 4, "hello": 7}.get(said, 137)
+            said = said.rstrip(": ") if status != 4 and status != 7 else ""
         trial.expect(name, trial.run(trial.words()), status, [said])
     trial.environment["QRP_CMD"] = str(trial.program)
 
@@ -328,14 +353,14 @@ def main():
         trials = [try_files, try_outputs]
         if tool.name not in seen:
             trials += [try_arguments, try_signals]
-            trials += [try_memory] if tool.name in ("explain", "draw-proof", "check-many") else []
+            trials += [try_memory] if tool.name in ("explain", "draw-proof", "check-many", "from-aiger") else []
             trials += [try_program] if tool.runs else []
-            trials += [try_full_folder] if tool.runs and "TRACE" in tool.words else []
+            trials += [try_full_folder] if tool.runs and "TRACE" in tool.words and tool.name != "check" else []
         seen.add(tool.name)
         for trial in trials:
             with tempfile.TemporaryDirectory() as folder:
                 trial(Trial(tool, program, folder))
-    return finish(899)
+    return finish(1137)
 
 
 if __name__ == "__main__":

@@ -6,23 +6,49 @@ to do. A row of KINDS has a word for a kind of file, what such a file is, and wh
 
 import re
 
-from qrptools.command import called_as
+from qrptools.command import as_called
 
+FEW_ZEROS = "a line has a 0 too few or too many"
+CORRECT_ZEROS = "correct the zeros of that line: a set has one, at its end, and a step two, after its literals and at its end"
 ROWS = [
     ("F2", None, "the header is wrong", "give a formula in QDIMACS, which begins with `p cnf VARIABLES CLAUSES`"),
     ("F3", None, "a word that is not allowed there", "take the word out, or give a formula in QDIMACS"),
     ("F3", "cut", "the end of the text looks like a part of a word", "give the whole file"),
-    ("F4", None, "a number is out of range", "correct the number, or the number of variables in the header"),
+    ("F3", "open", "the list before the word lacks its 0", "close the quantifier set, or the clause, before it by 0"),
+    ("F3", "capital", "a quantifier in a capital letter", "write `a` and `e` as small letters"),
+    (
+        "F3",
+        "dependencies",
+        "a line of DQDIMACS, which says what a variable depends on",
+        "the formula is a DQBF, which qrp_cmd does not check; without that line it is another question",
+    ),
+    ("F4", None, "a number is out of range", "correct the number, or the number of variables in the header: `tools/explain --mend FORMULA > MENDED` does the second"),
+    ("F4", "open", "a clause comes after a set that lacks its 0", "close the quantifier set before it by 0"),
     ("F5", None, "a variable is bound twice", "leave one of its places out of the quantifier sets"),
-    ("F6", None, "a variable is free", "bind it outermost by `e`, which keeps the meaning: `tools/explain --close FORMULA > CLOSED` does that"),
+    (
+        "F6",
+        "plain",
+        "a variable is free, and there is no quantifier set",
+        "bind all outermost by `e`, as solvers read such a text: `tools/explain --close FORMULA > CLOSED` does that",
+    ),
+    (
+        "F6",
+        "gate",
+        "a variable is free, and others are in quantifier sets",
+        "find out why it was left out. A gate's output belongs into the last set: `tools/explain --close innermost FORMULA > CLOSED` puts it there. "
+        "Solvers read a free variable as bound outermost by `e`, as `--close` alone writes it: with a forgotten gate that is another question",
+    ),
+    ("F6", "zero", "a set is closed too early, so the variables after its 0 are free", "take the 0 out that stands in the middle of the set"),
     ("F7", None, "the formula was cut off", "give the whole file"),
     ("F7", "open", "the clause that is cut off has lines that do not end with 0", "close each clause by 0, or give the whole file"),
     (
         "F8",
         None,
         "there are more or fewer clauses than the header says",
-        "correct the number in the header, give the whole file, or close each clause by 0: a clause without its 0 goes on in the next line",
+        "correct the number in the header (`tools/explain --mend FORMULA > MENDED` does), give the whole file, or close each clause by 0: a clause "
+        "without its 0 goes on in the next line",
     ),
+    ("F8", "empty", "some clauses are empty, and there are more than the header says", "take the 0 out that is one too many"),
     ("P2", None, "the header is wrong", "give a trace in the text form of QRP, which begins with `p qrp`: `--trace=qrp`"),
     (
         "P3",
@@ -37,7 +63,9 @@ ROWS = [
         "two traces are in one file, and the first was cut: have the solver write it again, into a new file (`>`, not `>>`)",
     ),
     ("P3", "cut", "the end of the text looks like a part of a word", "give the whole file; see what the solver printed on its standard error"),
+    ("P3", "zeros", FEW_ZEROS, CORRECT_ZEROS),
     ("P4", None, "a number is out of range", "the trace is damaged: have the solver write it again"),
+    ("P4", "zeros", FEW_ZEROS, CORRECT_ZEROS),
     ("P5", None, "two steps have one number", "the trace is damaged, or two traces were joined: have the solver write it again"),
     (
         "P5",
@@ -45,7 +73,9 @@ ROWS = [
         "the end of the text looks like a part of a number",
         "give the whole file; see what the solver printed on its standard error",
     ),
+    ("P5", "zeros", FEW_ZEROS, CORRECT_ZEROS),
     ("P6", None, "a step has three antecedents", "the trace is damaged, or of another solver: write the step as several"),
+    ("P6", "zeros", FEW_ZEROS, CORRECT_ZEROS),
     (
         "P7",
         None,
@@ -159,13 +189,16 @@ KINDS = [
     ("program", "It is a program", "give the file that the program reads or writes"),
     ("mark", "It begins with a byte order mark, which an editor wrote", "take out the first three bytes: `tail -c +4 FILE > NEW`"),
     ("UTF-16", "It is in UTF-16", "write it as plain ASCII: `iconv -f UTF-16 -t ASCII FILE > NEW`"),
+    ("UTF-16LE", "It is in UTF-16, without the mark at its beginning", "write it as plain ASCII: `iconv -f UTF-16LE -t ASCII FILE > NEW`"),
     ("binary QRP", "It is a trace in the binary form of QRP", TEXT_FORM),
     ("QCIR", "It is a formula in QCIR, which has no clauses", QDIMACS),
-    ("AIGER", "It is a circuit in AIGER", QDIMACS),
+    ("AIGER", "It is a circuit in AIGER", "turn it into QDIMACS: `tools/from-aiger FILE > FORMULA`"),
     ("page", "It looks like a web page, not the file that was to be downloaded", "download the file itself"),
     ("returns", "It has no byte 10, and N bytes 13 that end no line here", "turn the line ends: `tr '\\r' '\\n' < FILE > NEW`"),
     ("zeros", "It is not a text: it has zero bytes, as a proof in the binary form of DRAT", SAY_TRACE),
-    ("formula", "It is a formula, not a trace. Were the two files exchanged?", "give the formula first, and then the trace"),
+    ("no text", "It is not a text: it has zero bytes", "give a formula in QDIMACS, which is plain ASCII"),
+    ("formula", "It is a formula, and so is the first file: was the same one given twice?", "give the solver's trace as the second file"),
+    ("joined", "It is a formula with a trace after it, whose header is in line N", "take out what comes before line N: the formula is the first file alone"),
     ("trace", "It is a trace, not a formula. Were the two files exchanged?", "give the formula first, and then the trace"),
     (
         "late",
@@ -199,4 +232,4 @@ def with_number(text, number):
 def advice_for(fault, cause, number=None):
     """What to do about a fault, or by a kind of file, as a user of this command types it; None if there is nothing to say."""
     advice = ADVICE.get((fault, cause))
-    return advice and re.sub(r"tools/([a-z-]+)", lambda tool: called_as(tool[1]), with_number(advice, number))
+    return advice and as_called(with_number(advice, number))

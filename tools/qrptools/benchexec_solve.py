@@ -3,18 +3,25 @@
 import benchexec.result as result
 import benchexec.tools.template
 
+from qrptools.command import version
+
 ANSWERS = {"s cnf 1 ": result.RESULT_TRUE_PROP, "s cnf 0 ": result.RESULT_FALSE_PROP, "s cnf -1 ": result.RESULT_UNKNOWN}
+STATUSES = {result.RESULT_TRUE_PROP: 10, result.RESULT_FALSE_PROP: 20}
 
 
 class Tool(benchexec.tools.template.BaseTool2):
     def name(self):
         return "DepQBF with qrp_cmd"
 
-    def project_url(self):
-        return ""
+    def version(self, executable):
+        return version() or ""
 
     def executable(self, tool_locator):
-        return tool_locator.find_executable("solve", subdir="tools")
+        """tools/solve of the sources and of a release, or qrp-solve if it is installed."""
+        try:
+            return tool_locator.find_executable("solve", subdir="tools")
+        except Exception:  # which class it is goes by the version of BenchExec
+            return tool_locator.find_executable("qrp-solve", subdir="bin")
 
     def cmdline(self, executable, options, task, rlimits):
         return [executable, *options, task.single_input_file]
@@ -23,5 +30,4 @@ class Tool(benchexec.tools.template.BaseTool2):
         """What was verified, by the tool's first line."""
         first = run.output[0] if run.output else ""
         verified = next((found for line, found in ANSWERS.items() if first.startswith(line)), result.RESULT_ERROR)
-        statuses = {result.RESULT_TRUE_PROP: 10, result.RESULT_FALSE_PROP: 20}
-        return verified if run.exit_code.value == statuses.get(verified, run.exit_code.value) else result.RESULT_ERROR
+        return verified if run.exit_code.value == STATUSES.get(verified, run.exit_code.value) else result.RESULT_ERROR

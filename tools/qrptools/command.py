@@ -6,12 +6,15 @@ A tool ends with `sys.exit(run(main))`. Then each of them keeps this:
     status 130       after an interrupt (SIGINT), without a word
     status 128 + N   after the signals SIGTERM (143) and SIGHUP (129), without a word
 
-A process that `started` gives and a folder that `temporary_folder` gives do not outlive the command, unless SIGKILL ends it.
+A process that `started` gives, with all that it starts itself, and a folder that `temporary_folder` gives do not outlive the command. After
+SIGKILL the folder is left; the process gets SIGKILL too, but not what it has started.
 """
 
 import argparse
+import ctypes
 import io
 import os
+import re
 import shutil
 import signal
 import subprocess
@@ -21,6 +24,7 @@ from contextlib import contextmanager
 from pathlib import Path
 
 SIGNALS = (signal.SIGINT, signal.SIGTERM, signal.SIGHUP)
+PLACE = Path(__file__).resolve().parents[2]  # of the tools: the sources, a release, or share/qrp_cmd of a prefix
 
 
 class Ends(Exception):
@@ -53,13 +57,46 @@ def called_as(tool=None):
     return os.path.join(folder, name)
 
 
-def parser_for(text):
+def version():
+    """The version of these tools and of the program that came with them; None if there is no file that says it."""
+    try:
+        return (PLACE / "VERSION").read_text().strip()
+    except OSError:
+        return None
+
+
+def page(name):
+    """Where a page such as docs/DEPQBF.md is, as a user of this command finds it: beside the tools, or installed."""
+    beside = os.path.join(os.path.dirname(os.path.dirname(called_as())), name)
+    installed = [PLACE.parent / "doc" / package / name for package in ("qrp_cmd", "qrp-cmd")]
+    return next((str(path) for path in (beside, *installed) if os.path.exists(path)), name)
+
+
+def as_called(text):
+    """A text with the names of tools and of pages as a user of this command types them."""
+    text = re.sub(r"\btools/([a-z-]+)", lambda tool: called_as(tool[1]), text)
+    return re.sub(r"\bdocs/[A-Z]+\.md", lambda named: page(named[0]), text)
+
+
+def parser_for(text, kind=argparse.ArgumentParser):
     """The start of a parser of arguments, with the text of a tool as its help: in rows that begin with the tool's name it is as called."""
     own = os.path.basename(sys.argv[0])
     own = own[len("qrp-") :] if own.startswith("qrp-") else own
     summary, _, rest = text.replace(f"\n    {own} ", f"\n    {called_as()} ").partition("\n")
     form = argparse.RawDescriptionHelpFormatter
-    return argparse.ArgumentParser(prog=called_as(), description=summary, epilog=rest, formatter_class=form)
+    parser = kind(prog=called_as(), description=summary, epilog=rest, formatter_class=form)
+    parser.add_argument("--version", action="version", version=f"{called_as()} of qrp_cmd {version() or 'of an unknown version'}")
+    return parser
+
+
+def joined(words, *options):
+    """The words of a command line; what follows one of these options, which may begin with -, is made a part of that word."""
+    rest = iter(words)
+    for word in rest:
+        following = next(rest, None) if word in options else None
+        yield word if following is None else f"{word}={following}"
+        if word == "--":
+            yield from rest
 
 
 # Signals
@@ -116,20 +153,51 @@ def held_signals():
 # What must not outlive the command
 
 
+PR_SET_PDEATHSIG = 1  # of prctl(2)
+SYSTEM = ctypes.CDLL(None)
+
+
+def end_with_parent(parent, number):
+    """Has this process, which was just made, get a signal if the one that made it ends."""
+    if hasattr(SYSTEM, "prctl"):
+        SYSTEM.prctl(PR_SET_PDEATHSIG, number)
+        if os.getppid() != parent:  # it has ended meanwhile
+            os.kill(os.getpid(), number)
+
+
 @contextmanager
-def started(words, **options):
-    """A process. It is killed if it still runs at the end."""
-    process = None
+def started(words, before=None, grouped=True, **options):
+    """A process, with what it starts itself in a group of its own. What still runs of the group is killed at the end. Of one that is
+    not grouped, such as one that asks at the terminal, only the process is. `before` is called in the process before it runs the words."""
+    process, own = None, os.getpid()
+
+    def begin():
+        if grouped:
+            os.setpgid(0, 0)
+        end_with_parent(own, signal.SIGKILL if grouped else signal.SIGTERM)
+        if before:
+            before()
+
     try:
         with held_signals():
-            process = subprocess.Popen(words, **options)
+            process = subprocess.Popen(words, preexec_fn=begin, **options)
         yield process
     finally:
         if process:
-            process.kill()
+            end(process, grouped)
             for stream in filter(None, (process.stdin, process.stdout, process.stderr)):
                 stream.close()
             process.wait()
+
+
+def end(process, grouped):
+    """Kills a process, with its group. One that was waited for leaves its group behind, if others are in it."""
+    process.kill()
+    if grouped:
+        try:
+            os.killpg(process.pid, signal.SIGKILL)
+        except (ProcessLookupError, PermissionError):
+            pass
 
 
 @contextmanager
@@ -233,25 +301,26 @@ def complain(line):
 # The entry
 
 
-def run(main):
-    """The status of a command, whose main takes nothing and returns its status. Each way to end is caught here."""
+def run(main, device=2, memory=2):
+    """The status of a command, whose main takes nothing and returns its status. Each way to end is caught here. The numbers are the statuses
+    if a file or the output cannot be used, and if memory is refused."""
     is_closed = fill_closed()
     sys.stdout = open_output()
     try:
         take_signals()
         if is_closed:
             raise NoOutput("the standard output cannot be written: it is closed")
-        return ended(main)
+        return ended(main, device, memory)
     except (Signalled, KeyboardInterrupt) as fault:
         drop_output()
         return getattr(fault, "status", 128 + signal.SIGINT)
     except NoOutput as fault:
         drop_output()
         complain(fault)
-        return 2
+        return device
 
 
-def ended(main):
+def ended(main, device, memory):
     """The status of a command, after its line if it has one, with all of its output written."""
     line = None
     try:
@@ -261,9 +330,9 @@ def ended(main):
     except Ends as fault:
         line, status = fault, fault.status
     except OSError as fault:
-        line, status = f"{fault.filename}: {fault.strerror}" if fault.filename else fault, 2
+        line, status = f"{fault.filename}: {fault.strerror}" if fault.filename else fault, device
     except MemoryError:
-        line, status = "memory was refused: raise the limit (`ulimit -v`), or take a machine with more memory", 2
+        line, status = "memory was refused: raise the limit (`ulimit -v`), or take a machine with more memory", memory
     sys.stdout.flush()
     if line:
         complain(line)

@@ -19,7 +19,7 @@ MAGIC = [
     (b"<", "page"),
 ]
 # of these no line is shown, since they are no texts
-NO_TEXTS = {"gzip", "bzip2", "xz", "zstd", "zip", "program", "UTF-16", "binary QRP", "zeros", "odd"}
+NO_TEXTS = {"gzip", "bzip2", "xz", "zstd", "zip", "program", "UTF-16", "UTF-16LE", "binary QRP", "zeros", "no text", "odd"}
 HEADER = re.compile(rb"^[ \t]*p[ \t]+(cnf|qrp|bqrp)\b[^\r\n]*", re.MULTILINE)
 STEP = re.compile(rb"[ae]( \d+)* 0\s*|\d+( -?[1-9]\d*)* 0( \d+)* 0\s*|r \w+\s*")
 PROOF = re.compile(rb"(d )?-?[1-9]\d*( -?[1-9]\d*)* 0\s*|(d )?0\s*")
@@ -41,17 +41,27 @@ def looks(data, wanted):
     if header:
         return looks_with_header(head, header, wanted)
     if b"\0" in head[:4096]:
-        return "zeros", None
+        return looks_with_zeros(head[:4096], wanted), None
     return looks_without_header(head, wanted), None
 
 
 def looks_with_header(head, header, wanted):
     found, line = header[1].decode(), head.count(b"\n", 0, header.start()) + 1
+    other = next((it for it in HEADER.finditer(head) if it[1] != header[1]), None)
+    if found == "cnf" != wanted and other and other[1] == b"qrp":
+        return "joined", head.count(b"\n", 0, other.start()) + 1
     if found != wanted:
         return {"bqrp": "binary QRP", "cnf": "formula", "qrp": "trace"}[found], line
     comments = b"c#" if wanted == "qrp" else b"c"
     before = [text for text in head[: header.start()].splitlines() if text.strip() and text.lstrip()[0] not in comments]
     return "late" if before else None, line
+
+
+def looks_with_zeros(head, wanted):
+    """UTF-16 has a zero beside each byte of a plain text."""
+    if len(head) > 3 and not head[1::2].strip(b"\0") and b"\0" not in head[::2]:
+        return "UTF-16LE"
+    return "no text" if wanted == "cnf" else "zeros"
 
 
 def looks_without_header(head, wanted):

@@ -1,5 +1,6 @@
 """Finds and runs qrp_cmd. A part of tools/explain and the tools beside it."""
 
+import functools
 import os
 import shutil
 import signal
@@ -8,20 +9,35 @@ import subprocess
 import sys
 from pathlib import Path
 
-from qrptools.command import called_as, finding, not_read, not_written, started, unusable, writing
+from qrptools.command import PLACE, called_as, finding, not_read, not_written, started, unusable, writing
 
 AS_THE_TRACE = "it needs up to the size of the trace"
 AS_THE_FORMULA = "it needs up to the size of the formula"
 
 
+USAGE = 5  # the status of the program without arguments
+
+
 def find_program():
-    """The program that QRP_CMD names, else bin/qrp_cmd above the tools, else the one beside this command, else the one on the PATH."""
-    beside = [Path(__file__).resolve().parents[2] / "bin" / "qrp_cmd", Path(sys.argv[0]).absolute().parent / "qrp_cmd"]
+    """The program that QRP_CMD names, else bin/qrp_cmd above the tools, else the one beside this command, else the one on the PATH. If the
+    system is too old for that of a release, it is the static one beside it."""
+    beside = [PLACE / "bin" / "qrp_cmd", Path(sys.argv[0]).absolute().parent / "qrp_cmd"]
     built = next((str(path) for path in beside if path.is_file()), None)
     program = os.environ.get("QRP_CMD") or built or shutil.which("qrp_cmd")
     if not program:
         raise unusable("there is no bin/qrp_cmd: build it with make, or name it by QRP_CMD")
-    return program
+    static = f"{program}.static"
+    return static if program == built and os.path.isfile(static) and not can_run(program) and can_run(static) else program
+
+
+@functools.lru_cache(maxsize=None)
+def can_run(program):
+    """Whether this system can load the program."""
+    try:
+        with started([program], stdin=subprocess.DEVNULL, stdout=subprocess.DEVNULL, stderr=subprocess.DEVNULL) as process:
+            return process.wait() == USAGE
+    except OSError:
+        return False
 
 
 def run_program(words, out=subprocess.PIPE):
@@ -71,8 +87,15 @@ def why_not(line, status, formula, trace):
     if line == "NO MEMORY":
         return f"{line}: raise the limit (`ulimit -v`), or take a machine with more memory"
     if status < 0:
-        return f"signal {-status} ({signal.Signals(-status).name}) ended qrp_cmd"
+        return f"{signal_of(status)} ended qrp_cmd"
     return f"qrp_cmd says: {line}" if line else not_written("the trimmed trace", f"qrp_cmd ended with status {status}", AS_THE_TRACE)
+
+
+def signal_of(status):
+    """The signal of a negative status, by number and name; of that by which a system ends what takes too much memory, that too."""
+    known = {it.value: it.name for it in signal.Signals}
+    named = f"signal {-status}" + (f" ({known[-status]})" if -status in known else "")
+    return f"{named}, which the system sends if it is out of memory," if status == -signal.SIGKILL else named
 
 
 def reason_not_read(path):

@@ -3,15 +3,16 @@
 A part of tools/explain. Each function returns sentences.
 """
 
+import re
 from io import BytesIO
 from itertools import islice, repeat
 from operator import itemgetter
 
 from qrptools.advice import LOOKS, with_number
-from qrptools.formula import ADJECTIVES, UNBOUND
+from qrptools.formula import ADJECTIVES, COMMENT_BYTES, UNBOUND, Formula
 from qrptools.looks import NO_TEXTS
 from qrptools.steps import Step
-from qrptools.words import WORD, value
+from qrptools.words import GREATEST_VARIABLE, WORD, Words, value
 
 SHOWN = 60  # bytes of a line before and after the marked word
 LISTED = 12  # numbers in a sentence
@@ -57,12 +58,39 @@ def likely_cause(fault, data):
         return "second"
     if is_cut(fault, data):
         return "cut"
-    if fault.name == "F7":
-        return "open" if open_line_of(fault, data) else None
+    if fault.name in CAUSES:
+        return CAUSES[fault.name](fault, data)
     if fault.name != "P8":
         return None
     rest = WORD.findall(fault.text)[fault.at :]
     return "limit" if rest[0].upper() == b"UNKNOWN" else "answer" if rest[0] == b"s" else "damaged"
+
+
+def cause_of_word(fault, _data):
+    """Which of the causes of F3 a word points to."""
+    word = word_of(fault)
+    if fault.at == 0 and word in (b"a", b"e"):
+        return "open"
+    if fault.at == 0 and word in (b"A", b"E"):
+        return "capital"
+    return "dependencies" if fault.at == 0 and word == b"d" and fault.known["inside"] == BEFORE_CLAUSES else None
+
+
+def cause_of_freedom(fault, data):
+    """Which of the causes of F6 is likely: a set that was closed too early, no sets at all, or one variable that was left out."""
+    if begins_with_set(fault):
+        return "zero"
+    return "gate" if Formula(data, 0).sets else "plain"
+
+
+CAUSES = {
+    "F3": cause_of_word,
+    "F4": lambda fault, _: "open" if is_clause_in_set(fault) else None,
+    "F6": cause_of_freedom,
+    "F7": lambda fault, data: "open" if open_line_of(fault, data) else None,
+    "F8": lambda fault, data: "empty" if fault.at is not None and next(empty_clauses(data), None) else None,
+    **dict.fromkeys(("P3", "P4", "P5", "P6"), lambda fault, data: "zeros" if odd_zeros(fault, data) else None),
+}
 
 
 def is_second_header(fault):
@@ -150,6 +178,8 @@ def wrong_word(fault, _data):
     sentences = [f"'{shown(word)}' is not allowed {BETWEEN.get(inside, f'in {inside}, a list of numbers that 0 closes.')}"]
     if word in (b"a", b"e") and fault.at == 0:
         sentences.append(f"Quantifier sets come before all {'clauses' if fault.name == 'F3' else 'steps'}, and 0 closes each list: is a 0 missing?")
+    elif word in (b"A", b"E") and fault.at == 0:
+        sentences.append("The quantifiers are small letters.")
     elif fault.at == 0 and word in FIRST_WORDS and not is_second_header(fault):
         sentences.append(FIRST_WORDS[word])
     elif word[:1] in (b"+", b"-") and word[1:].isdigit():
@@ -157,9 +187,10 @@ def wrong_word(fault, _data):
     return sentences
 
 
+BEFORE_CLAUSES = "before the first clause"
 BETWEEN = {
     "between clauses": "here: after a clause comes the next clause, or the end.",
-    "before the first clause": "here: after the header come the quantifier sets, `a` or `e`, and the clauses.",
+    BEFORE_CLAUSES: "here: after the header come the quantifier sets, `a` or `e`, and the clauses.",
     "between steps": "here: a step begins with its number, and after the last one comes `r` with the result.",
 }
 
@@ -171,7 +202,7 @@ def out_of_range(fault, _data):
         sentences = [f"{big(number)} is out of range: {limit}."]
         if number < 0 and -number <= known["variables"]:
             sentences = ["A quantifier set names variables, without a minus."]
-            if fault.at == 0:
+            if is_clause_in_set(fault):
                 sentences.append("The line looks like a clause: is the 0 missing that closes the set before it?")
         return sentences
     what = known["inside"]
@@ -179,6 +210,12 @@ def out_of_range(fault, _data):
         sign = "" if "literals" in what else ", without a minus"
         return [f"{big(number)} is out of range: a variable is a number from 1 to {known['greatest']}{sign}."]
     return [f"{big(number)} is out of range: the number of a step is from 1 to {known['greatest']}."]
+
+
+def is_clause_in_set(fault):
+    """Whether a line that looks like a clause is read as a part of a set, which lacks its 0."""
+    number, variables = fault.known["number"], fault.known.get("variables", 0)
+    return number < 0 and -number <= variables and fault.at == 0
 
 
 def big(number):
@@ -192,9 +229,13 @@ def bound_twice(fault, _data):
 
 def free_variable(fault, _data):
     sentences = [f"Variable {fault.known['number']} is in no quantifier set, so it is free."]
-    if WORD.match(fault.text.lstrip())[0] in (b"a", b"e"):
+    if begins_with_set(fault):
         sentences.append("Its line begins with a quantifier set, which an earlier 0 closes: is that 0 one too many?")
     return sentences
+
+
+def begins_with_set(fault):
+    return WORD.match(fault.text.lstrip())[0] in (b"a", b"e")
 
 
 def cut_off(fault, data):
@@ -220,6 +261,9 @@ def wrong_count(fault, data):
     sentences = [f"The header, in line {known['header']}, says {counted(known['count'], 'clause')}, and here begins one more."]
     if more > known["count"]:
         sentences.append(f"The text has {more}.")
+    empty = list(empty_clauses(data))
+    if empty:
+        sentences.append(f"{len(empty)} of them {'is' if len(empty) == 1 else 'are'} empty, the first in line {empty[0]}: is a 0 one too many there?")
     return sentences
 
 
@@ -238,6 +282,25 @@ def first_open_line(data):
 def clause_ends(data):
     for _, words in lines_of_clauses(data):
         yield from (word for word in words if not word.strip(b"0"))
+
+
+EMPTY = re.compile(rb"^[ \t]*0[ \t\r]*$|[ \t]0+[ \t]+0+[ \t\r]*$", re.MULTILINE)
+
+
+def empty_clauses(data):
+    """The line of each empty clause."""
+    is_begun = False
+    for number, words in lines_of_clauses(data):
+        for word in words:
+            if not word.strip(b"0") and not is_begun:
+                yield number
+            is_begun = bool(word.strip(b"0"))
+
+
+def empty_clause(data):
+    """A sentence on the first empty clause, if there is one."""
+    line = next(empty_clauses(data), None) if EMPTY.search(data) else None
+    return [f"The formula has an empty clause, in line {line}, and is false by it alone: is a 0 one too many there?"] if line else []
 
 
 def number_twice(fault, _data):
@@ -334,10 +397,31 @@ def free_variables(formula):
     return sorted(free)
 
 
-def closed(formula):
-    """The formula's text with its free variables bound outermost, existentially."""
-    free = free_variables(formula)
+def closed(formula, free, innermost):
+    """The formula's text with its free variables bound existentially, outermost or innermost."""
     if not free:
         return formula.data
-    at = formula.header_end
-    return formula.data[:at] + b"\ne " + b" ".join(b"%d" % v for v in free) + b" 0" + formula.data[at:]
+    text = b"e " + b" ".join(b"%d" % v for v in free) + b" 0"
+    at = formula.prefix_end if innermost and formula.sets else formula.header_end
+    before, after = formula.data[:at], formula.data[at:]
+    return before + text + b"\n" + after if before.endswith(b"\n") else before + b"\n" + text + after
+
+
+def mended(data):
+    """The formula's text with the numbers in its header that the rest has, if they are too small or another number of clauses; and what
+    they were and are. What else is wrong is not looked for."""
+    words = Words(data, COMMENT_BYTES, 0)
+    begin = words.place() - 1 if words.next() else 0
+    words.back()
+    said = words.header(b"cnf", GREATEST_VARIABLE, "F2", "F7")
+    end = words.place()
+    variables, clauses, in_set, is_open = said[0], 0, False, False
+    for word in iter(words.next, None):
+        number = value(word)
+        if isinstance(number, int):
+            variables = max(variables, abs(number))
+            clauses += number == 0 and not in_set
+            is_open = number != 0 and not in_set
+        in_set = word in (b"a", b"e") or in_set and number != 0
+    found = [variables, clauses + is_open]
+    return (data[:begin] + b"p cnf %d %d" % tuple(found) + data[end:] if found != said else data), said, found

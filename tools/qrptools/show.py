@@ -26,19 +26,21 @@ def find_step(trace, number):
     return found, before, later
 
 
-def table(formula, columns, notes):
-    """A row for each literal: its quantifier and block, which of the columns hold it, and a note."""
+def table(formula, columns, notes, names):
+    """A row for each literal: its name if there are names, its quantifier and block, which of the columns hold it, and a note."""
     literals = dict.fromkeys(literal for _, held in columns for literal in held)
     if not literals:
         return
-    rows = [["literal", "quantifier", "block", *(name for name, _ in columns), ""]]
+    has_names = bool(names and names.names)
+    rows = [["literal", *["name"] * has_names, "quantifier", "block", *(name for name, _ in columns), ""]]
     for literal in sorted(literals, key=lambda l: (formula.place(l).block or 0, abs(l), -l)):
+        name = [names.shown([literal]) if abs(literal) in names.names else "-"] if has_names else []
         quantifier, block, _ = formula.place(literal)
         held = ["yes" if literal in held else "-" for _, held in columns]
-        rows.append([str(literal), quantifier or "unbound", str(block or "-"), *held, notes.get(literal, "")])
+        rows.append([str(literal), *name, quantifier or "unbound", str(block or "-"), *held, notes.get(literal, "")])
     widths = [max(map(len, column)) for column in zip(*rows)]
     for row in rows:
-        cells = [cell.rjust(width) if place in (0, 2) else cell.ljust(width) for place, (cell, width) in enumerate(zip(row, widths))]
+        cells = [cell.rjust(width) if place in (0, 2 + has_names) else cell.ljust(width) for place, (cell, width) in enumerate(zip(row, widths))]
         yield ("  " + "  ".join(cells)).rstrip()
     yield ""
 
@@ -61,11 +63,11 @@ def reasons(judged):
     return [*judged.finding.reasons, *(f"Step {n} " + ("is this step." if n == own else f"comes later, in line {line}.") for n, line in judged.later.items())]
 
 
-def lines_of(formula, side, judged):
+def lines_of(formula, side, judged, names=None):
     """The step and what is found of it, as lines to print."""
     step, before, later, finding = judged
-    names = " and ".join(map(str, step.antecedents))
-    from_what = {0: "without antecedents", 1: f"with the antecedent {names}"}.get(len(step.antecedents), f"with the antecedents {names}")
+    parents = " and ".join(map(str, step.antecedents))
+    from_what = {0: "without antecedents", 1: f"with the antecedent {parents}"}.get(len(step.antecedents), f"with the antecedents {parents}")
     literals = " ".join(map(str, step.literals)) or f"the empty {side.word}"
     yield from (f"Step {step.number}, in line {step.line} of the trace, is a {side.word} {from_what}: {literals}", "")
     columns = [(f"step {step.number}", set(step.literals))]
@@ -73,7 +75,7 @@ def lines_of(formula, side, judged):
     if finding.clause:
         columns.append((f"clause {finding.clause.number}", finding.clause.literals))
         yield from (f"Clause {finding.clause.number} stands in line {finding.clause.line} of the formula.", "")
-    yield from table(formula, columns, finding.notes)
+    yield from table(formula, columns, finding.notes, names)
     yield from [f"It does not follow: {finding.fault}. What must hold:", f"  {CONDITIONS[finding.fault]}", "What is found:"] if finding.fault else ["It follows:"]
     said = reasons(judged)
     shown, rest = finding.reasons[:SENTENCES], finding.reasons[SENTENCES:]

@@ -1,5 +1,6 @@
 -- Gates with more after them, and the value of each.
-use Rattle.std.proofs.Common.{arith, ◌≡◌, ◌<◌, ◌+◌, ℕ, zero, suc, Bool, true, false, not, cond, List, [], ◌∷◌, ◌++◌, Some, slice_get, refl, sym, ap, subst, ◌∙◌, length}
+use Rattle.std.proofs.Common.{arith, ◌≡◌, ◌<◌, ◌+◌, ℕ, zero, suc, Bool, true, false, not, cond, List, [], ◌∷◌, ◌++◌, Some, slice_get, refl}
+use Rattle.std.proofs.Common.{sym, ap, subst, ◌∙◌, length}
 use Rattle.std.proofs.lemmas.Grind.{common_steps}
 use Rattle.std.proofs.lemmas.List.{length-append}
 use Rattle.aiger.specs.Wires.{Wire, value_at, plain, opposite, constant}
@@ -21,14 +22,16 @@ keeps_at n (h ∷ gates) run (suc i) g at k =
     let z : suc n + i ≡ n + suc i = omega arith in
     subst (λ (m : ℕ). run m ≡ gate_value run g) z (keeps_at (suc n) gates run i g at k.1)
 
-pub below_more : (n : ℕ) (gates : List Gate) (g : Gate) → StandBelow n gates → g.left.var < n + length gates → g.right.var < n + length gates
+pub below_more : (n : ℕ) (gates : List Gate) (g : Gate) → StandBelow n gates → g.left.var < n + length gates
+    → g.right.var < n + length gates
     → StandBelow n (gates ++ g ∷ [])
 below_more n [] g b l r = (omega arith, omega arith, tt)
 below_more n (h ∷ gates) g b l r = (b.0, b.1, below_more (suc n) gates g b.2 (omega (arith, l)) (omega (arith, r)))
 
 -- ---- one gate more
 
-pub pushed_gates : (first : ℕ) (gates more : List Gate) (g : Gate) → AreGates first gates → more ≡ gates ++ g ∷ [] → first + length gates < 2147483648
+pub pushed_gates : (first : ℕ) (gates more : List Gate) (g : Gate) → AreGates first gates → more ≡ gates ++ g ∷ []
+    → first + length gates < 2147483648
     → g.left.var < first + length gates → g.right.var < first + length gates → AreGates first more
 pushed_gates first gates more g are is less left right =
     subst (λ (gs : List Gate). AreGates first gs) (sym is) (record {
@@ -49,7 +52,8 @@ found_value b i g w at is run has =
 pub pushed_value : (b : Built) (gates : List Gate) (g : Gate) (w : Wire) (i : ℕ) → b.gates ≡ gates ++ g ∷ [] → i ≡ length gates
     → w ≡ plain (b.first + i) → (run : ℕ → Bool) → HasValues b run → value_at run w ≡ gate_value run g
 pushed_value b gates g w i is count named =
-    let at : slice_get b.gates (length gates) ≡ Some g = subst (λ (gs : List Gate). slice_get gs (length gates) ≡ Some g) (sym is) (last_at gates g) in
+    let at : slice_get b.gates (length gates)
+    ≡ Some g = subst (λ (gs : List Gate). slice_get gs (length gates) ≡ Some g) (sym is) (last_at gates g) in
     found_value b i g w (subst (λ (k : ℕ). slice_get b.gates k ≡ Some g) (sym count) at) named
 
 -- ---- wires whose conjunction needs no gate
@@ -91,11 +95,13 @@ same_folded left right e run z =
 
 pub true_folded : (left right : Wire) → left ≡ constant true → IsFolded left right right
 true_folded left right e run z =
-    sym (ap (λ (w : Wire). both (value_at run w) (value_at run right)) e ∙ ap (λ (b : Bool). both b (value_at run right)) (constant_value run true z))
+    sym (ap (λ (w : Wire). both (value_at run w) (value_at run right)) e
+    ∙ ap (λ (b : Bool). both b (value_at run right)) (constant_value run true z))
 
 pub false_folded : (left right : Wire) → left ≡ constant false → IsFolded left right (constant false)
 false_folded left right e run z =
-    z ∙ sym (ap (λ (w : Wire). both (value_at run w) (value_at run right)) e ∙ ap (λ (b : Bool). both b (value_at run right)) (constant_value run false z))
+    z ∙ sym (ap (λ (w : Wire). both (value_at run w) (value_at run right)) e
+    ∙ ap (λ (b : Bool). both b (value_at run right)) (constant_value run false z))
 
 pub opposite_folded : (left right : Wire) → right ≡ opposite left → IsFolded left right (constant false)
 opposite_folded left right e run z =

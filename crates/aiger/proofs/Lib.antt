@@ -1,2 +1,4 @@
 pub mod KeptGates
+pub mod TrimmedGates
 mod WrittenLines
+mod BinaryNumbers

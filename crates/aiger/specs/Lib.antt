@@ -2,3 +2,5 @@ pub mod Wires
 pub mod Circuits
 pub mod Building
 pub mod Texts
+pub mod Binary
+pub mod Trimming

@@ -10,10 +10,13 @@ abbrev pub numbers_line : List ℕ → List ℕ
 numbers_line [] = 10 ∷ []
 numbers_line (n ∷ ns) = 32 ∷ (decimal n ++ numbers_line ns)
 
--- the greatest variable; how many inputs, latches, outputs and gates there are
+-- after the word of a format: the greatest variable; how many inputs, latches, outputs and gates there are
+abbrev pub counts : Circuit → List ℕ
+counts c = numbers_line ((length c.inputs + length c.gates) ∷ length c.inputs ∷ 0 ∷ length c.outputs ∷ length c.gates ∷ [])
+
+-- the header
 abbrev pub header : Circuit → List ℕ
-header c = codes "aag" ++ numbers_line
-    ((length c.inputs + length c.gates) ∷ length c.inputs ∷ 0 ∷ length c.outputs ∷ length c.gates ∷ [])
+header c = codes "aag" ++ counts c
 
 -- the line of the input with the number n: its literal
 abbrev pub input_line : ℕ → List ℕ

@@ -22,6 +22,10 @@ plain v = record { var = v; negated = false }
 abbrev pub opposite : Wire → Wire
 opposite w = record { var = w.var; negated = not w.negated }
 
+-- the wire, or the one with the other value
+abbrev pub turned : Wire → Bool → Wire
+turned w negated = if negated then opposite w else w
+
 -- the wire that always has this value: variable 0 is false
 abbrev pub constant : Bool → Wire
 constant value = record { var = 0; negated = value }

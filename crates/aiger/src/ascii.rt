@@ -3,7 +3,8 @@
 ghost use Rattle.std.specs.Prelude.{◌≡◌, ◌<◌, ◌++◌, ◌+◌, ◌^◌, codes, length, map, Some, slice_get};
 ghost use Rattle.qbf_text.specs.Written.{IsPut};
 ghost use Rattle.std.specs.List.{flat_map};
-ghost use Rattle.aiger.specs.Texts.{ascii_text, beginning, gate_line, gate_lines, header, input_line};
+ghost use Rattle.aiger.specs.Texts.{ascii_text, beginning, counts, gate_line, gate_lines};
+ghost use Rattle.aiger.specs.Texts.{input_line};
 ghost use Rattle.aiger.specs.Texts.{input_lines, output_line, symbol_line, symbol_lines};
 
 use crate::circuit::{Circuit, Gate, Output};
@@ -52,7 +53,7 @@ fn put_gate<K: Sink>(sink: &mut K, n: u64, gate: Gate) -> Result<(), SinkFault>
 }
 
 /// The gate at a position.
-fn gate_at(gates: &[Gate], i: usize) -> Gate
+pub(crate) fn gate_at(gates: &[Gate], i: usize) -> Gate
     requires { i < length gates.now }
     ensures { slice_get gates.now i ≡ Some result }
 {
@@ -130,15 +131,20 @@ impl<'a> Put for OutputSymbols<'a> {
     }
 }
 
-/// Sends the header of a circuit's text.
-fn put_header<K: Sink>(circuit: &Circuit, sink: &mut K) -> Result<(), SinkFault>
-    ensures { IsPut K.written K.failures K.failed_last sink.old sink.new (header circuit.now) result }
+/// Sends the header of a circuit's text, which begins with the word of a format.
+pub(crate) fn put_header<K: Sink>(
+    format: &[u8],
+    circuit: &Circuit,
+    sink: &mut K,
+) -> Result<(), SinkFault>
+    ensures { IsPut K.written K.failures K.failed_last sink.old sink.new
+        (format.now ++ counts circuit.now) result }
 {
     let inputs = circuit.inputs.len() as u64;
     let outputs = circuit.outputs.len() as u64;
     let gates = circuit.gates.len() as u64;
     let counts = (inputs, (0u64, (outputs, (gates, Bytes(b"\n")))));
-    (Bytes(b"aag"), (inputs + gates, counts)).put(sink)
+    (Bytes(format), (inputs + gates, counts)).put(sink)
 }
 
 /// Sends the lines of inputs and outputs.
@@ -150,9 +156,14 @@ fn put_ends<K: Sink>(inputs: &[u32], outputs: &[Output], sink: &mut K) -> Result
 }
 
 /// Sends the names of inputs and outputs.
-fn put_names<K: Sink>(inputs: &[u32], outputs: &[Output], sink: &mut K) -> Result<(), SinkFault>
+pub(crate) fn put_names<K: Sink>(
+    inputs: &[u32],
+    outputs: &[Output],
+    sink: &mut K,
+) -> Result<(), SinkFault>
     ensures { IsPut K.written K.failures K.failed_last sink.old sink.new
-        (symbol_lines (codes "i") 0 inputs.now ++ symbol_lines (codes "o") 0 (map (λ o. o.0) outputs.now)) result }
+        (symbol_lines (codes "i") 0 inputs.now
+        ++ symbol_lines (codes "o") 0 (map (λ o. o.0) outputs.now)) result }
 {
     (InputSymbols(inputs), OutputSymbols(outputs)).put(sink)
 }
@@ -162,7 +173,7 @@ fn put_beginning<K: Sink>(circuit: &Circuit, sink: &mut K) -> Result<(), SinkFau
     ensures { IsPut K.written K.failures K.failed_last sink.old sink.new
         (beginning circuit.now) result }
 {
-    put_header(circuit, sink)?;
+    put_header(b"aag", circuit, sink)?;
     put_ends(&circuit.inputs, &circuit.outputs, sink)
 }
 

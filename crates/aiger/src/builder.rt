@@ -1,6 +1,7 @@
 //! Gates that are put one after the other, each once.
 
-ghost use Rattle.std.specs.Prelude.{◌≡◌, ℕ, ◌+◌, ◌^◌, ◌<◌, ◌≤◌, ◌⊎◌, Bool, false, true, [], Some, slice_get};
+ghost use Rattle.std.specs.Prelude.{◌≡◌, ℕ, ◌+◌, ◌^◌, ◌<◌, ◌≤◌, ◌⊎◌, Bool, false, true, [], Some};
+ghost use Rattle.std.specs.Prelude.{slice_get};
 ghost use Rattle.std.specs.Prelude.{IfOk, IfSome, IsTrue, OnErr, length};
 ghost use Rattle.std.specs.Result.{IsErrOf};
 ghost use Rattle.aiger.specs.Building.{Grows, IsBoth, IsFolded, IsGate, StandsForBoth, next_of};
@@ -38,7 +39,8 @@ impl Model for Builder {
     ghost invariant = { λ b. AreGates b.first b.gates.items };
 }
 
-/// The conjunction of two wires, if it needs no gate: the first is constant, or they are the same or
+/// The conjunction of two wires, if it needs no gate: the first is constant, or they are the same
+/// or
 /// opposite.
 #[tactic(auto, using(crate::proofs::KeptGates::false_folded, crate::proofs::KeptGates::true_folded, crate::proofs::KeptGates::same_folded, crate::proofs::KeptGates::opposite_folded))]
 fn folded(left: Wire, right: Wire) -> Option<Wire>
@@ -128,6 +130,7 @@ impl Builder {
     pub fn into_gates(self) -> Vec<Gate>
         ensures gates { result.items ≡ self.gates }
         ensures below { StandBelow self.first result.items }
+        ensures few { self.first + length result.items ≤ 2147483648 }
     {
         self.gates
     }

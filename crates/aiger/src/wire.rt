@@ -1,7 +1,7 @@
 //! Wires, by AIGER's numbers.
 
 ghost use Rattle.std.specs.Prelude.{◌≡◌, ◌^◌, ◌<◌, ◌≤◌};
-ghost use Rattle.aiger.specs.Wires.{constant, number_of, opposite};
+ghost use Rattle.aiger.specs.Wires.{constant, number_of, opposite, turned};
 
 use std::marker::Model;
 
@@ -68,5 +68,12 @@ impl Wire {
         ensures { result ≡ number_of self }
     {
         self.number
+    }
+
+    /// The wire, or the one with the other value.
+    pub fn turned(self, negated: bool) -> Wire
+        ensures { result ≡ turned self negated }
+    {
+        if negated { self.opposite() } else { self }
     }
 }

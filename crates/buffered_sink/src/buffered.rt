@@ -66,6 +66,15 @@ impl Buffer {
         self.start += n;
     }
 
+    /// Goes back to the front, where there is all the room again. Nothing is held.
+    fn begin_again(&mut self)
+        requires { self.old ≡ [] }
+        ensures { self.new ≡ [] }
+    {
+        self.start = 0;
+        self.end = 0;
+    }
+
     /// Adds the bytes if there is room for all of them, and returns whether there was.
     #[inline(always)]
     #[tactic(auto, using(crate::proofs::BufferPart::part_append))]
@@ -210,6 +219,7 @@ impl<S: Sink> Buffered<S> {
             self.old self.new bytes.now result }
     {
         self.flush_buffer()?;
+        self.buffer.begin_again();
         self.sink.push_all(bytes)
     }
 

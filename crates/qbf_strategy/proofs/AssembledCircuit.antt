@@ -1,5 +1,6 @@
 -- One variable more, and the whole circuit.
-use Rattle.std.proofs.Common.{arith, ◌≡◌, ◌<◌, ◌≤◌, ◌+◌, ℕ, zero, suc, Bool, true, false, not, cond, List, [], ◌∷◌, ◌++◌, Some, slice_get, refl, sym, ap, subst, ◌∙◌, length, map, inl, inr, ◌⊎◌, get_or, true≢false, nat_eq, take, Result, Ok, Err}
+use Rattle.std.proofs.Common.{arith, ◌≡◌, ◌<◌, ◌≤◌, ◌+◌, ℕ, zero, suc, Bool, true, false, not, cond, List, [], ◌∷◌, ◌++◌, Some, slice_get}
+use Rattle.std.proofs.Common.{refl, sym, ap, subst, ◌∙◌, length, map, inl, inr, ◌⊎◌, get_or, true≢false, nat_eq, take, Result, Ok, Err}
 use Rattle.std.specs.Prelude.{OnOk, ⊤}
 use Rattle.std.proofs.lemmas.List.Elements.{All-nil, All-push}
 use Rattle.std.proofs.lemmas.List.{length-append}
@@ -30,10 +31,12 @@ use Rattle.qbf_strategy.proofs.ConditionGates.{below_grown, next_grows, values_b
 
 -- ---- one wire more
 
-tells_less : (ps : List (Quantifier × ℕ)) (ws more : List Wire) (run : ℕ → Bool) (s : List Literal) → Tells ps (ws ++ more) run s → Tells ps ws run s
+tells_less : (ps : List (Quantifier × ℕ)) (ws more : List Wire) (run : ℕ → Bool) (s : List Literal) → Tells ps (ws ++ more) run s
+    → Tells ps ws run s
 tells_less ps ws more run s tells i v w at there negative = tells i v w at (got_more ws more i w there) negative
 
-conditions_wider : (mine : Quantifier) (ps : List (Quantifier × ℕ)) (ws more : List Wire) (kept : List (List Literal)) (b : Built) (conditions : List Wire)
+conditions_wider : (mine : Quantifier) (ps : List (Quantifier
+    × ℕ)) (ws more : List Wire) (kept : List (List Literal)) (b : Built) (conditions : List Wire)
     → AreConditions (scene mine ps ws kept) b conditions → AreConditions (scene mine ps (ws ++ more) kept) b conditions
 conditions_wider mine ps ws more kept b conditions are k w lits here at = elim (are k w lits here at) [
   | inl none ↦ inl none
@@ -58,7 +61,8 @@ in_pushed (z ∷ xs) y x (inr h) = elim (in_pushed xs y x h) [
 
 module _ (mine : Quantifier) (ps : List (Quantifier × ℕ)) (kept removed : List (List Literal)) where
   pub input_assembled : (a b : Assembly) (q : Quantifier) (v : ℕ) → AreAssembled mine ps kept removed a
-      → slice_get ps (length a.known.items) ≡ Some (q, v) → is_quantifier q mine ≡ false → AddsInput a b → AreAssembled mine ps kept removed b
+      → slice_get ps (length a.known.items) ≡ Some (q, v) → is_quantifier q mine ≡ false → AddsInput a b
+      → AreAssembled mine ps kept removed b
   input_assembled a b q v are at theirs adds =
       let gates_of : Work → Built = λ w. w.gates in
       let conditions_of : Work → List Wire = λ w. w.conditions.items in
@@ -67,10 +71,12 @@ module _ (mine : Quantifier) (ps : List (Quantifier × ℕ)) (kept removed : Lis
       let less : a.input < next_of a.work.gates = (let f = are.first_is in let n = adds.number in omega arith) in
       record {
         first_is = ap (λ (x : Built). x.first) g ∙ (are.first_is ∙ sym adds.first_is);
-        below = subst (λ (x : Built). AllBelow (next_of x) b.known.items) (sym g) (subst (λ (ws : List Wire). AllBelow (next_of a.work.gates) ws) (sym adds.known_is)
+        below = subst (λ (x : Built). AllBelow (next_of x) b.known.items) (sym g)
+            (subst (λ (ws : List Wire). AllBelow (next_of a.work.gates) ws) (sym adds.known_is)
             (All-push (λ w. w.var < next_of a.work.gates) a.known.items (plain a.input) are.below less));
         known = subst (λ (ws : List Wire). AreConditions (scene mine ps ws kept) b.work.gates b.work.conditions.items) (sym adds.known_is)
-            (subst (λ (x : Work). AreConditions (scene mine ps (a.known.items ++ plain a.input ∷ []) kept) x.gates x.conditions.items) (sym adds.work_is)
+            (subst (λ (x : Work). AreConditions (scene mine ps (a.known.items
+            ++ plain a.input ∷ []) kept) x.gates x.conditions.items) (sym adds.work_is)
             (conditions_wider mine ps a.known.items (plain a.input ∷ []) kept a.work.gates a.work.conditions.items are.known));
         inputs = subst (λ (ws : List Wire). AreInputs mine 1 ps ws) (sym adds.known_is)
             (inputs_after mine 1 ps a.known.items q v (plain a.input) at (λ e. ap plain are.input_is) are.inputs);
@@ -103,7 +109,8 @@ module _ (mine : Quantifier) (ps : List (Quantifier × ℕ)) (kept removed : Lis
       record {
         first_is = is.grows.same ∙ (are.first_is ∙ sym adds.first_is);
         below = subst (λ (ws : List Wire). AllBelow (next_of b.work.gates) ws) (sym adds.known_is)
-            (All-push (λ x. x.var < next_of b.work.gates) a.known.items w (below_grown a.work.gates b.work.gates a.known.items is.grows are.below) is.below);
+            (All-push (λ x. x.var < next_of b.work.gates) a.known.items w
+            (below_grown a.work.gates b.work.gates a.known.items is.grows are.below) is.below);
         known = subst (λ (ws : List Wire). AreConditions (scene mine ps ws kept) b.work.gates b.work.conditions.items) (sym adds.known_is)
             (conditions_wider mine ps a.known.items (w ∷ []) kept b.work.gates b.work.conditions.items is.known);
         inputs = subst (λ (ws : List Wire). AreInputs mine 1 ps ws) (sym adds.known_is)
@@ -117,18 +124,21 @@ module _ (mine : Quantifier) (ps : List (Quantifier × ℕ)) (kept removed : Lis
             ∙ ap (outputs_of mine ps) (sym adds.known_is)));
         decided = λ o h. subst (λ (ws : List Wire). IsOutput ps ws (decisions_by mine kept removed) b.work.gates o) (sym adds.known_is)
             (elim (in_pushed a.outputs.items (v, w) o (subst (λ (os : List (ℕ × Wire)). o ∈ os) adds.outputs_are h)) [
-              | inl old ↦ output_wider ps a.known.items (w ∷ []) (decisions_by mine kept removed) a.work.gates b.work.gates o is.grows (are.decided o old)
-              | inr new ↦ subst (λ (x : ℕ × Wire). IsOutput ps (a.known.items ++ w ∷ []) (decisions_by mine kept removed) b.work.gates x) (sym new) (record {
-                otherwise = is.otherwise;
-                value = λ run s has tells.
-                    is.value v (with_lists mine 0 removed []) (have.chains (length a.known.items) v adds.last (q, at) adds.last_is) run s has
-                    (tells_less ps a.known.items (w ∷ []) run s tells)
-                    ∙ lists_say mine (fires (scene mine ps a.known.items kept) s) s v 0 is.otherwise kept removed [] few
-                    (λ i lits there.
-                    let z : 0 + i ≡ i = omega arith in
-                    ap (fires (scene mine ps a.known.items kept) s) z
-                    ∙ ap (λ (ls : List Literal). are_set (map (wanted mine) ls) s) (get_or_from_slice_get kept i lits [] there));
-              })
+              | inl old ↦ output_wider ps a.known.items (w ∷ []) (decisions_by mine kept removed) a.work.gates b.work.gates o is.grows
+                  (are.decided o old)
+              | inr new ↦ subst (λ (x : ℕ × Wire). IsOutput ps (a.known.items
+                  ++ w ∷ []) (decisions_by mine kept removed) b.work.gates x) (sym new) (record {
+                    otherwise = is.otherwise;
+                    value = λ run s has tells.
+                        is.value v (with_lists mine 0 removed [])
+                        (have.chains (length a.known.items) v adds.last (q, at) adds.last_is) run s has
+                        (tells_less ps a.known.items (w ∷ []) run s tells)
+                        ∙ lists_say mine (fires (scene mine ps a.known.items kept) s) s v 0 is.otherwise kept removed [] few
+                        (λ i lits there.
+                        let z : 0 + i ≡ i = omega arith in
+                        ap (fires (scene mine ps a.known.items kept) s) z
+                        ∙ ap (λ (ls : List Literal). are_set (map (wanted mine) ls) s) (get_or_from_slice_get kept i lits [] there));
+                  })
             ]);
       }
     where
@@ -188,7 +198,8 @@ names_all mine (p ∷ ps) [] e = absurd (omega (arith, e))
 names_all mine ((q, v) ∷ ps) (w ∷ ws) e = by (names_all mine ps ws (omega (arith, e))) (is_quantifier q mine)
   where
     by : map (λ o. o.0) (outputs_of mine ps ws) ≡ variables_of mine ps → (b : Bool)
-        → map (λ o. o.0) (cond b ((v, w) ∷ outputs_of mine ps ws) (outputs_of mine ps ws)) ≡ cond b (v ∷ variables_of mine ps) (variables_of mine ps)
+        → map (λ o. o.0) (cond b ((v, w) ∷ outputs_of mine ps ws) (outputs_of mine ps ws))
+        ≡ cond b (v ∷ variables_of mine ps) (variables_of mine ps)
     by later true = ap (λ (l : List ℕ). v ∷ l) later
     by later false = later
 
@@ -206,7 +217,8 @@ outputs_below mine n ((q, v) ∷ ps) (w ∷ ws) all =
 
 pub assembled_computes : (mine : Quantifier) (ps : List (Quantifier × ℕ)) (kept removed : List (List Literal)) (a : Assembly) (c : Circuit)
     → IsDistinct nat_eq (variables ps) → length a.known.items ≡ length ps → AreAssembled mine ps kept removed a
-    → c.inputs ≡ variables_of (opponent mine) ps → a.first ≡ length c.inputs + 1 → c.outputs ≡ a.outputs.items → c.gates ≡ a.work.gates.gates
+    → c.inputs ≡ variables_of (opponent mine) ps → a.first ≡ length c.inputs + 1 → c.outputs ≡ a.outputs.items
+    → c.gates ≡ a.work.gates.gates
     → StandBelow a.work.gates.first c.gates → Computes mine ps (decisions_by mine kept removed) c
 assembled_computes mine ps kept removed a c distinct count are inputs first outputs gates stands =
     let os_are : c.outputs ≡ outputs_of mine ps a.known.items = outputs ∙ are.outputs_are in
@@ -225,9 +237,12 @@ assembled_computes mine ps kept removed a c distinct count are inputs first outp
           let is = are.decided o (subst (λ (os : List (ℕ × Wire)). o ∈ os) outputs h) in (
             is.otherwise,
             λ run has. is.value run (set_in_run c run)
-                (subst (λ (n : ℕ). AreValues n a.work.gates.gates run) (sym first_is) (subst (λ (gs : List _). AreValues (suc (length c.inputs)) gs run) gates has))
-                (subst (λ (os : List (ℕ × Wire)). Tells ps a.known.items run (map (λ o. literal_of o.0 (value_at run o.1)) os ++ input_literals 1 c.inputs run)) (sym os_are)
-                (subst (λ (vs : List ℕ). Tells ps a.known.items run (map (λ o. literal_of o.0 (value_at run o.1)) (outputs_of mine ps a.known.items) ++ input_literals 1 vs run))
+                (subst (λ (n : ℕ). AreValues n a.work.gates.gates run) (sym first_is)
+                (subst (λ (gs : List _). AreValues (suc (length c.inputs)) gs run) gates has))
+                (subst (λ (os : List (ℕ × Wire)). Tells ps a.known.items run (map (λ o. literal_of o.0 (value_at run o.1)) os
+                ++ input_literals 1 c.inputs run)) (sym os_are)
+                (subst (λ (vs : List ℕ). Tells ps a.known.items run
+                (map (λ o. literal_of o.0 (value_at run o.1)) (outputs_of mine ps a.known.items) ++ input_literals 1 vs run))
                 (sym inputs) (run_tells run mine ps a.known.items distinct are.inputs))),
           );
     }

@@ -1,5 +1,6 @@
 -- The wires of a prefix, and what is set in a run of the whole circuit.
-use Rattle.std.proofs.Common.{arith, ◌≡◌, ◌<◌, ◌≤◌, ◌+◌, ◌-◌, ◌==◌, ℕ, zero, suc, Bool, true, false, not, cond, List, [], ◌∷◌, ◌++◌, Some, slice_get, refl, sym, ap, subst, ◌∙◌, length, map, inl, inr, ◌⊎◌, nat_eq, eq-eqb, ne_eqb, true≢false}
+use Rattle.std.proofs.Common.{arith, ◌≡◌, ◌<◌, ◌≤◌, ◌+◌, ◌-◌, ◌==◌, ℕ, zero, suc, Bool, true, false, not, cond, List, [], ◌∷◌, ◌++◌, Some}
+use Rattle.std.proofs.Common.{slice_get, refl, sym, ap, subst, ◌∙◌, length, map, inl, inr, ◌⊎◌, nat_eq, eq-eqb, ne_eqb, true≢false}
 use Rattle.std.proofs.lemmas.Grind.{common_steps}
 use Rattle.std.proofs.lemmas.List.{append-nil}
 use Rattle.std.proofs.lemmas.Bool.{cases_Bool}
@@ -29,14 +30,16 @@ pub outputs_mine : (mine : Quantifier) (ps : List (Quantifier × ℕ)) (ws : Lis
 outputs_mine mine [] ws q v w at is = absurd (cc at)
 outputs_mine mine ((p, u) ∷ ps) [] q v w at is =
     let e : (p, u) ≡ (q, v) = cc at in
-    subst (λ (x : Quantifier × ℕ). outputs_of mine (x ∷ ps) (w ∷ []) ≡ (v, w) ∷ []) (sym e) (rw is (ap (λ (l : List (ℕ × Wire)). (v, w) ∷ l) (nothing ps)))
+    subst (λ (x : Quantifier
+    × ℕ). outputs_of mine (x ∷ ps) (w ∷ []) ≡ (v, w) ∷ []) (sym e) (rw is (ap (λ (l : List (ℕ × Wire)). (v, w) ∷ l) (nothing ps)))
   where
     nothing : (ps : List (Quantifier × ℕ)) → outputs_of mine ps [] ≡ []
     nothing [] = refl
     nothing (p ∷ ps) = refl
 outputs_mine mine ((p, u) ∷ ps) (x ∷ ws) q v w at is = by (outputs_mine mine ps ws q v w at is) (is_quantifier p mine)
   where
-    by : outputs_of mine ps (ws ++ w ∷ []) ≡ outputs_of mine ps ws ++ (v, w) ∷ [] → (b : Bool) → cond b ((u, x) ∷ outputs_of mine ps (ws ++ w ∷ [])) (outputs_of mine ps (ws ++ w ∷ []))
+    by : outputs_of mine ps (ws ++ w ∷ []) ≡ outputs_of mine ps ws ++ (v, w) ∷ [] → (b : Bool)
+        → cond b ((u, x) ∷ outputs_of mine ps (ws ++ w ∷ [])) (outputs_of mine ps (ws ++ w ∷ []))
         ≡ cond b ((u, x) ∷ outputs_of mine ps ws) (outputs_of mine ps ws) ++ (v, w) ∷ []
     by later true = ap (λ (l : List (ℕ × Wire)). (u, x) ∷ l) later
     by later false = later
@@ -53,7 +56,8 @@ outputs_theirs mine ((p, u) ∷ ps) [] q v w at is =
     nothing (p ∷ ps) = refl
 outputs_theirs mine ((p, u) ∷ ps) (x ∷ ws) q v w at is = by (outputs_theirs mine ps ws q v w at is) (is_quantifier p mine)
   where
-    by : outputs_of mine ps (ws ++ w ∷ []) ≡ outputs_of mine ps ws → (b : Bool) → cond b ((u, x) ∷ outputs_of mine ps (ws ++ w ∷ [])) (outputs_of mine ps (ws ++ w ∷ []))
+    by : outputs_of mine ps (ws ++ w ∷ []) ≡ outputs_of mine ps ws → (b : Bool)
+        → cond b ((u, x) ∷ outputs_of mine ps (ws ++ w ∷ [])) (outputs_of mine ps (ws ++ w ∷ []))
         ≡ cond b ((u, x) ∷ outputs_of mine ps ws) (outputs_of mine ps ws)
     by later true = ap (λ (l : List (ℕ × Wire)). (u, x) ∷ l) later
     by later false = later
@@ -109,7 +113,9 @@ module _ (run : ℕ → Bool) (mine : Quantifier) (l : Literal) where
   no_outs (p ∷ ps) [] none = refl
   no_outs ((q, v) ∷ ps) (w ∷ ws) none = by (no_outs ps ws (λ h. none (inr h))) (is_quantifier q mine)
     where
-      by : is_set l (outs ps ws) ≡ false → (b : Bool) → is_set l (map (λ o. literal_of o.0 (value_at run o.1)) (cond b ((v, w) ∷ outputs_of mine ps ws) (outputs_of mine ps ws))) ≡ false
+      by : is_set l (outs ps ws) ≡ false → (b : Bool)
+          → is_set l (map (λ o. literal_of o.0 (value_at run o.1)) (cond b ((v, w) ∷ outputs_of mine ps ws) (outputs_of mine ps ws)))
+          ≡ false
       by later true = other_set v (value_at run w) (outs ps ws) (λ e. none (inl e)) ∙ later
       by later false = later
 
@@ -118,7 +124,8 @@ module _ (run : ℕ → Bool) (mine : Quantifier) (l : Literal) where
   no_ins n ((q, v) ∷ ps) none =
       by (no_ins (suc n) ps (λ h. none (inr h))) (no_ins n ps (λ h. none (inr h))) (is_quantifier q (opponent mine))
     where
-      by : is_set l (ins (suc n) ps) ≡ false → is_set l (ins n ps) ≡ false → (b : Bool) → is_set l (input_literals n (cond b (v ∷ variables_of (opponent mine) ps) (variables_of (opponent mine) ps)) run) ≡ false
+      by : is_set l (ins (suc n) ps) ≡ false → is_set l (ins n ps) ≡ false → (b : Bool)
+          → is_set l (input_literals n (cond b (v ∷ variables_of (opponent mine) ps) (variables_of (opponent mine) ps)) run) ≡ false
       by numbered same true = other_set v (run n) (ins (suc n) ps) (λ e. none (inl e)) ∙ numbered
       by numbered same false = same
 
@@ -151,19 +158,23 @@ module _ (run : ℕ → Bool) (mine : Quantifier) (l : Literal) where
       let w_is : x ≡ w = some_same there in
       let none : l.var ∈ variables ps → ⊥ = λ h.
       not_self l.var (all_in (λ w. nat_eq l.var w ≡ false) (variables ps)
-      (subst (λ (m : ℕ). AllByRecursion (λ w. nat_eq m w ≡ false) (variables ps)) u_is (IsDistinct-head nat_eq u (variables ps) d)) l.var h) in
+      (subst (λ (m : ℕ). AllByRecursion (λ w. nat_eq m w
+      ≡ false) (variables ps)) u_is (IsDistinct-head nat_eq u (variables ps) d)) l.var h) in
       elim (cases_Bool (is_quantifier p mine)) [
         | inl my ↦
             let theirs : is_quantifier p (opponent mine) ≡ false = opponent_is p mine ∙ ap not my in
             rw (my, theirs) (either _ _ _
-            (subst (λ (m : ℕ). is_set l (literal_of m (value_at run x) ∷ outs ps ws) ≡ cond l.negative (not (value_at run w)) (value_at run w)) (sym u_is)
-            (here_set (value_at run x) (outs ps ws) (no_outs ps ws none) ∙ ap (λ (y : Wire). cond l.negative (not (value_at run y)) (value_at run y)) w_is))
+            (subst (λ (m : ℕ). is_set l (literal_of m (value_at run x) ∷ outs ps ws)
+            ≡ cond l.negative (not (value_at run w)) (value_at run w)) (sym u_is)
+            (here_set (value_at run x) (outs ps ws) (no_outs ps ws none)
+            ∙ ap (λ (y : Wire). cond l.negative (not (value_at run y)) (value_at run y)) w_is))
             (no_ins n ps none))
         | inr isnt ↦
             let theirs : is_quantifier p (opponent mine) ≡ true = opponent_is p mine ∙ ap not isnt in
             let plain_is : w ≡ plain n = sym w_is ∙ are.0 isnt in
             rw (isnt, theirs) (second _ _ _ (no_outs ps ws none)
-            (subst (λ (m : ℕ). is_set l (literal_of m (run n) ∷ ins (suc n) ps) ≡ cond l.negative (not (value_at run w)) (value_at run w)) (sym u_is)
+            (subst (λ (m : ℕ). is_set l (literal_of m (run n) ∷ ins (suc n) ps)
+            ≡ cond l.negative (not (value_at run w)) (value_at run w)) (sym u_is)
             (here_set (run n) (ins (suc n) ps) (no_ins (suc n) ps none)
             ∙ ap (λ (y : Wire). cond l.negative (not (value_at run y)) (value_at run y)) (sym plain_is))))
       ]
@@ -190,14 +201,16 @@ set_append : (l : Literal) (a b : List Literal) → is_set l (a ++ b) ≡ cond (
 set_append l [] b = refl
 set_append l (m ∷ a) b = by (set_append l a b) (literal_eq l m)
   where
-    by : is_set l (a ++ b) ≡ cond (is_set l a) true (is_set l b) → (c : Bool) → cond c true (is_set l (a ++ b)) ≡ cond (cond c true (is_set l a)) true (is_set l b)
+    by : is_set l (a ++ b) ≡ cond (is_set l a) true (is_set l b) → (c : Bool)
+        → cond c true (is_set l (a ++ b)) ≡ cond (cond c true (is_set l a)) true (is_set l b)
     by later true = refl
     by later false = later
 
 -- the wires of a whole prefix tell what is set in a run
 pub run_tells : (run : ℕ → Bool) (mine : Quantifier) (ps : List (Quantifier × ℕ)) (ws : List Wire) → IsDistinct nat_eq (variables ps)
     → AreInputs mine 1 ps ws
-    → Tells ps ws run (map (λ o. literal_of o.0 (value_at run o.1)) (outputs_of mine ps ws) ++ input_literals 1 (variables_of (opponent mine) ps) run)
+    → Tells ps ws run (map (λ o. literal_of o.0 (value_at run o.1)) (outputs_of mine ps ws)
+    ++ input_literals 1 (variables_of (opponent mine) ps) run)
 run_tells run mine ps ws d are i v w (q, at) there negative =
     turned_value run w negative
     ∙ sym (set_append (record { var = v; negative = negative })

@@ -1,5 +1,6 @@
 -- The value that is chosen for a variable is the one that is decided.
-use Rattle.std.proofs.Common.{arith, ◌≡◌, ◌<◌, ◌≤◌, ◌+◌, ◌-◌, ℕ, zero, suc, Bool, true, false, not, cond, List, [], ◌∷◌, ◌++◌, Some, slice_get, refl, sym, ap, subst, ◌∙◌, length, map, inl, inr, ◌⊎◌, ◌==◌}
+use Rattle.std.proofs.Common.{arith, ◌≡◌, ◌<◌, ◌≤◌, ◌+◌, ◌-◌, ℕ, zero, suc, Bool, true, false, not, cond, List, [], ◌∷◌, ◌++◌, Some}
+use Rattle.std.proofs.Common.{slice_get, refl, sym, ap, subst, ◌∙◌, length, map, inl, inr, ◌⊎◌, ◌==◌}
 use Rattle.qbf_core.specs.declared.quantifier.Quantifier.{Quantifier}
 use Rattle.qbf_core.specs.Literal.{Literal}
 use Rattle.aiger.specs.Building.{Built, Grows, HasValues, next_of}
@@ -67,7 +68,8 @@ same_if true value = refl
 same_if false value = refl
 
 by_cases : (holds same negative inner value : Bool)
-    → cond same (cond holds (not negative) (cond holds inner value)) (cond holds inner value) ≡ cond holds (cond same (not negative) inner) value
+    → cond same (cond holds (not negative) (cond holds inner value)) (cond holds inner value)
+    ≡ cond holds (cond same (not negative) inner) value
 by_cases true true negative inner value = refl
 by_cases true false negative inner value = refl
 by_cases false true negative inner value = refl
@@ -82,7 +84,8 @@ literals_say mine holds v k value (l ∷ ls) said =
     ∙ ap (λ (x : Bool). evaluated holds v x said)
     (by_cases (holds k) ((wanted mine l).var == v) (wanted mine l).negative (value_in (map (wanted mine) ls) v value) value)
 
-pub lists_say : (mine : Quantifier) (holds : ℕ → Bool) (s : List Literal) (v k : ℕ) (value : Bool) (kept removed : List (List Literal)) (said : Sayings)
+pub lists_say : (mine : Quantifier) (holds : ℕ
+    → Bool) (s : List Literal) (v k : ℕ) (value : Bool) (kept removed : List (List Literal)) (said : Sayings)
     → length removed ≤ length kept
     → ((i : ℕ) (lits : List Literal) → slice_get kept i ≡ Some lits → holds (k + i) ≡ are_set (map (wanted mine) lits) s)
     → evaluated holds v value (with_lists mine k removed said) ≡ evaluated holds v (decided value (decisions_by mine kept removed) v s) said

@@ -95,7 +95,8 @@ module _ (mine : Quantifier) where
     | inr k ↦ (let w = in_part (opponent mine) ps v k in pair_var ps w.0 v w.1)
   ]
 
-  parts_distinct : (ps : List (Quantifier × ℕ)) → Distinct (variables ps) → Distinct (variables_of mine ps ++ variables_of (opponent mine) ps)
+  parts_distinct : (ps : List (Quantifier × ℕ)) → Distinct (variables ps)
+      → Distinct (variables_of mine ps ++ variables_of (opponent mine) ps)
   parts_distinct [] d = tt
   parts_distinct ((p, v) ∷ ps) d =
       let rest = parts_distinct ps d.1 in
@@ -142,7 +143,8 @@ vars_outputs : (outs : List (ℕ × Wire)) (run : ℕ → Bool) → vars_of (out
 vars_outputs [] run = refl
 vars_outputs (o ∷ outs) run = ap (λ ws. o.0 ∷ ws) (vars_outputs outs run)
 
-output_set : (outs : List (ℕ × Wire)) (run : ℕ → Bool) (o : ℕ × Wire) → o ∈ outs → literal_of o.0 (value_at run o.1) ∈ output_literals outs run
+output_set : (outs : List (ℕ × Wire)) (run : ℕ → Bool) (o : ℕ × Wire) → o ∈ outs
+    → literal_of o.0 (value_at run o.1) ∈ output_literals outs run
 output_set [] run o h = absurd h
 output_set (p ∷ outs) run o (inl e) = inl (let g : ℕ × Wire → Literal = λ q. literal_of q.0 (value_at run q.1) in ap g e)
 output_set (p ∷ outs) run o (inr h) = inr (output_set outs run o h)
@@ -155,18 +157,18 @@ output_named (p ∷ outs) v (inr h) = let w = output_named outs v h in (w.0, inr
 -- ---- runs
 
 -- the value of the gate of number n, and those before it
-abbrev after_gate : ℕ → Gate → (ℕ → Bool) → ℕ → Bool
+abbrev pub after_gate : ℕ → Gate → (ℕ → Bool) → ℕ → Bool
 after_gate n g e k = cond (eqb k n) (gate_value e g) (e k)
 
 -- the values of the gates from the number n on, one after the other
-abbrev exec : ℕ → List Gate → (ℕ → Bool) → ℕ → Bool
+abbrev pub exec : ℕ → List Gate → (ℕ → Bool) → ℕ → Bool
 exec n [] e = e
 exec n (g ∷ gates) e = exec (suc n) gates (after_gate n g e)
 
 other_stays : (n : ℕ) (g : Gate) (e : ℕ → Bool) (k : ℕ) → (k ≡ n → ⊥) → after_gate n g e k ≡ e k
 other_stays n g e k ne = rw (ne_eqb k n ne) refl
 
-exec_below : (n : ℕ) (gates : List Gate) (e : ℕ → Bool) (k : ℕ) → k < n → exec n gates e k ≡ e k
+pub exec_below : (n : ℕ) (gates : List Gate) (e : ℕ → Bool) (k : ℕ) → k < n → exec n gates e k ≡ e k
 exec_below n [] e k less = refl
 exec_below n (g ∷ gates) e k less =
     exec_below (suc n) gates (after_gate n g e) k (omega (arith, less)) ∙ other_stays n g e k (λ is. omega (arith, is, less))
@@ -174,7 +176,7 @@ exec_below n (g ∷ gates) e k less =
 same_value : (a b : ℕ → Bool) (w : Wire) → a w.var ≡ b w.var → value_at a w ≡ value_at b w
 same_value a b w e = ap (λ x. cond w.negated (not x) x) e
 
-exec_keeps : (n : ℕ) (gates : List Gate) (e : ℕ → Bool) → StandBelow n gates → KeepsGates n gates (exec n gates e)
+pub exec_keeps : (n : ℕ) (gates : List Gate) (e : ℕ → Bool) → StandBelow n gates → KeepsGates n gates (exec n gates e)
 exec_keeps n [] e below = tt
 exec_keeps n (g ∷ gates) e below =
     let out = exec (suc n) gates (after_gate n g e) in
@@ -186,10 +188,10 @@ exec_keeps n (g ∷ gates) e below =
       exec_keeps (suc n) gates (after_gate n g e) below.2,
     )
 
-abbrev started : (ℕ → Bool) → ℕ → Bool
+abbrev pub started : (ℕ → Bool) → ℕ → Bool
 started values k = cond (eqb k 0) false (values k)
 
-started_there : (values : ℕ → Bool) (k : ℕ) → 1 ≤ k → started values k ≡ values k
+pub started_there : (values : ℕ → Bool) (k : ℕ) → 1 ≤ k → started values k ≡ values k
 started_there values k some = rw (ne_eqb k 0 (λ e. omega (arith, e, some))) refl
 
 -- ---- the circuit
@@ -201,7 +203,8 @@ same_bool t clean u false false h k = refl
 same_bool t clean u true false h k = absurd (clean (positive u) h k)
 same_bool t clean u false true h k = absurd (clean (negative u) h k)
 
-input_from : (n : ℕ) (vs : List ℕ) (run : ℕ → Bool) (i u : ℕ) → slice_get vs i ≡ Some u → literal_of u (run (n + i)) ∈ input_literals n vs run
+input_from : (n : ℕ) (vs : List ℕ) (run : ℕ → Bool) (i u : ℕ) → slice_get vs i ≡ Some u
+    → literal_of u (run (n + i)) ∈ input_literals n vs run
 input_from n [] run i u here = absurd (cc here)
 input_from n (v ∷ vs) run zero u here =
     let e : v ≡ u = cc here in
@@ -237,14 +240,16 @@ own_quantifier : (q : Quantifier) → is_quantifier q q ≡ true
 own_quantifier All = refl
 own_quantifier Exists = refl
 
-module _ (mine : Quantifier) (f : Qbf) (closed : IsClosed f) (ds : List Decision) (c : Circuit) (computes : Computes mine (pairs f.blocks) ds c)
+module _ (mine : Quantifier) (f : Qbf) (closed : IsClosed f) (ds : List Decision) (c : Circuit)
+    (computes : Computes mine (pairs f.blocks) ds c)
     (sees : (v : ℕ) (d : Decision) → d ∈ ds → (l : Literal) → l ∈ d.sets → l.var ≡ v → (w : Literal) → w ∈ d.when
     → IsBound f.blocks w.var × (block f.blocks w.var < block f.blocks v)) where
   distinct : Distinct (variables (pairs f.blocks))
   distinct = apart_of (variables (pairs f.blocks)) closed.distinct
 
   -- the output of a variable of the player
-  output_of : (p : Quantifier) (v : ℕ) → (p, v) ∈ pairs f.blocks → is_quantifier p mine ≡ true → (o : ℕ × Wire) × (o ∈ c.outputs) × (o.0 ≡ v)
+  output_of : (p : Quantifier) (v : ℕ) → (p, v) ∈ pairs f.blocks → is_quantifier p mine ≡ true
+      → (o : ℕ × Wire) × (o ∈ c.outputs) × (o.0 ≡ v)
   output_of p v h is = output_named c.outputs v (subst (λ vs. v ∈ vs) (sym computes.outputs) (part_of mine p (pairs f.blocks) v h is))
 
   -- the place of an input
@@ -332,12 +337,14 @@ module _ (mine : Quantifier) (f : Qbf) (closed : IsClosed f) (ds : List Decision
               let o = output_of w.0 u w.1 my.0 in
               let there : (r : ℕ → Bool) (is : IsRun c r) → literal_of u (value_at r o.0.1) ∈ t r is =
               λ r is. subst (λ n. literal_of n (value_at r o.0.1) ∈ t r is) o.2 (output_there r is o.0 o.1) in
-              let is : b ≡ value_at run o.0.1 = same_bool (t run is_run) (t_clean run is_run) u b (value_at run o.0.1) h (there run is_run) in
+              let is : b ≡ value_at run o.0.1 = same_bool (t run is_run) (t_clean run is_run) u b (value_at run o.0.1) h
+              (there run is_run) in
               let low : block f.blocks o.0.0 ≤ k = subst (λ n. block f.blocks n ≤ k) (sym o.2) (omega (arith, less)) in
               subst (λ x. literal_of u x ∈ t again is_again) (sym (is ∙ same_output k before o.0 o.1 low)) (there again is_again)
           | inr theirs ↦
               let i = input_of w.0 u w.1 theirs.1 in
-              let is : b ≡ run (suc i.0) = same_bool (t run is_run) (t_clean run is_run) u b (run (suc i.0)) h (input_there run is_run i.0 u i.1) in
+              let is : b ≡ run (suc i.0) = same_bool (t run is_run) (t_clean run is_run) u b (run (suc i.0)) h
+              (input_there run is_run i.0 u i.1) in
               subst (λ x. literal_of u x ∈ t again is_again) (sym (is ∙ same_inputs i.0 u i.1 (omega (arith, less, up))))
               (input_there again is_again i.0 u i.1)
         ]

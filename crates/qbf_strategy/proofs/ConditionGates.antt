@@ -1,5 +1,6 @@
 -- Gates of conditions, and of what is decided under them.
-use Rattle.std.proofs.Common.{arith, ◌≡◌, ◌<◌, ◌≤◌, ◌+◌, ℕ, zero, suc, Bool, true, false, not, cond, List, [], ◌∷◌, ◌++◌, Some, slice_get, refl, sym, ap, subst, ◌∙◌, length, map, drop, inl, inr, ◌⊎◌}
+use Rattle.std.proofs.Common.{arith, ◌≡◌, ◌<◌, ◌≤◌, ◌+◌, ℕ, zero, suc, Bool, true, false, not, cond, List, [], ◌∷◌, ◌++◌, Some, slice_get}
+use Rattle.std.proofs.Common.{refl, sym, ap, subst, ◌∙◌, length, map, drop, inl, inr, ◌⊎◌}
 use Rattle.std.proofs.lemmas.Option.{get_or_from_slice_get, slice_get_cases, slice_get_within}
 use Rattle.std.proofs.Common.{get_or}
 use Rattle.std.proofs.lemmas.Grind.{common_steps}
@@ -14,7 +15,8 @@ use Rattle.aiger.specs.Wires.{Wire, constant, opposite, value_at}
 use Rattle.aiger.proofs.KeptGates.{constant_value, keeps_left, opposite_value}
 use Rattle.qbf_strategy.specs.Decisions.{are_set, is_set, wanted}
 use Rattle.qbf_strategy.specs.Assembling.{AllBelow, ArePlaced, Tells, TellAll, all_true, turned, wires_of}
-use Rattle.qbf_strategy.specs.Conditions.{AreConditions, GivesCondition, IsCondition, IsConjunction, IsConjunctionBefore, IsDecided, IsEither, KeptFrom, Scene, fires}
+use Rattle.qbf_strategy.specs.Conditions.{AreConditions, GivesCondition, IsCondition, IsConjunction, IsConjunctionBefore, IsDecided}
+use Rattle.qbf_strategy.specs.Conditions.{IsEither, KeptFrom, Scene, fires}
 use Rattle.qbf_strategy.specs.declared.placed.Placed.{Placed}
 use Rattle.qbf_strategy.proofs.ToldLiterals.{both_assoc, both_true, drop_at}
 
@@ -39,7 +41,8 @@ pub values_before : (a b : Built) (run : ℕ → Bool) → Grows a b → HasValu
 values_before a b run g has = record {
   constant = has.constant;
   keeps = keeps_left a.first a.gates g.more run
-      (subst (λ (n : ℕ). KeepsGates n (a.gates ++ g.more) run) g.same (subst (λ (gs : List Gate). KeepsGates b.first gs run) g.grown has.keeps));
+      (subst (λ (n : ℕ). KeepsGates n (a.gates
+      ++ g.more) run) g.same (subst (λ (gs : List Gate). KeepsGates b.first gs run) g.grown has.keeps));
 }
 
 -- ---- conjunctions
@@ -52,7 +55,8 @@ wire_at [] i p at = absurd (cc at)
 wire_at (q ∷ placed) zero p at = let e : q ≡ p = cc at in ap (λ (x : Placed). Some x.wire) e
 wire_at (q ∷ placed) (suc i) p at = wire_at placed i p at
 
-pub placed_below : (n : ℕ) (placed : List Placed) (i : ℕ) (p : Placed) → AllBelow n (wires_of placed) → slice_get placed i ≡ Some p → p.wire.var < n
+pub placed_below : (n : ℕ) (placed : List Placed) (i : ℕ) (p : Placed) → AllBelow n (wires_of placed) → slice_get placed i ≡ Some p
+    → p.wire.var < n
 placed_below n placed i p all at =
     let there = wire_at placed i p at in
     let less = slice_get_within (wires_of placed) i p.wire there in
@@ -75,7 +79,8 @@ conjunction_next old now new placed i w more p at grows below is before = record
   value = λ run has.
       ap (λ (v : Bool). both v (all_true run (drop (i + 1) (wires_of placed)))) (is run has)
       ∙ (both_assoc (value_at run w) (value_at run p.wire) (all_true run (drop (i + 1) (wires_of placed)))
-      ∙ (ap (λ (rest : List Wire). both (value_at run w) (all_true run rest)) (sym (drop_at (wires_of placed) i p.wire (wire_at placed i p at)))
+      ∙ (ap (λ (rest : List Wire). both (value_at run w) (all_true run rest))
+      (sym (drop_at (wires_of placed) i p.wire (wire_at placed i p at)))
       ∙ before.value run (values_before now new run grows has)));
 }
 
@@ -93,12 +98,14 @@ conjunction_all old new placed i w past before =
       below = before.below;
       value = λ run has.
           sym (both_true (value_at run w))
-          ∙ (ap (λ (rest : List Wire). both (value_at run w) (all_true run rest)) (sym (drop_of_length-le (wires_of placed) over)) ∙ before.value run has);
+          ∙ (ap (λ (rest : List Wire). both (value_at run w) (all_true run rest)) (sym (drop_of_length-le (wires_of placed) over))
+          ∙ before.value run has);
     }
 
 -- ---- one of two values
 
-pub turned_value : (run : ℕ → Bool) (w : Wire) (negative : Bool) → value_at run (turned w negative) ≡ cond negative (not (value_at run w)) (value_at run w)
+pub turned_value : (run : ℕ → Bool) (w : Wire) (negative : Bool)
+    → value_at run (turned w negative) ≡ cond negative (not (value_at run w)) (value_at run w)
 turned_value run w true = opposite_value run w
 turned_value run w false = refl
 
@@ -139,13 +146,15 @@ either_is old new condition value after a b w r ea eb er grows below is =
 
 -- ---- conditions that are kept
 
-pub condition_grown : (at : Scene) (a b : Built) (lits : List Literal) (w : Wire) → Grows a b → IsCondition at a lits w → IsCondition at b lits w
+pub condition_grown : (at : Scene) (a b : Built) (lits : List Literal) (w : Wire) → Grows a b → IsCondition at a lits w
+    → IsCondition at b lits w
 condition_grown at a b lits w g is = record {
   below = let one = is.below in let more = next_grows a b g in omega arith;
   value = λ run s has tells. is.value run s (values_before a b run g has) tells;
 }
 
-pub conditions_grown : (at : Scene) (a b : Built) (conditions : List Wire) → Grows a b → AreConditions at a conditions → AreConditions at b conditions
+pub conditions_grown : (at : Scene) (a b : Built) (conditions : List Wire) → Grows a b → AreConditions at a conditions
+    → AreConditions at b conditions
 conditions_grown at a b conditions g are k w lits here kept = elim (are k w lits here kept) [
   | inl none ↦ inl none
   | inr is ↦ inr (condition_grown at a b lits w g is)
@@ -154,9 +163,11 @@ conditions_grown at a b conditions g are k w lits here kept = elim (are k w lits
 fires_at : (at : Scene) (k : ℕ) (lits : List Literal) (b : Built) (w : Wire) → slice_get at.kept k ≡ Some lits → IsCondition at b lits w
     → (run : ℕ → Bool) (s : List Literal) → HasValues b run → Tells at.ps at.ws run s → value_at run w ≡ fires at s k
 fires_at at k lits b w here is run s has tells =
-    is.value run s has tells ∙ ap (λ (ls : List Literal). are_set (map (wanted at.mine) ls) s) (sym (get_or_from_slice_get at.kept k lits [] here))
+    is.value run s has tells
+    ∙ ap (λ (ls : List Literal). are_set (map (wanted at.mine) ls) s) (sym (get_or_from_slice_get at.kept k lits [] here))
 
-pub condition_built : (at : Scene) (old new : Built) (k : ℕ) (lits : List Literal) (placed : List Placed) (before after : List Wire) (w : Wire)
+pub condition_built : (at : Scene) (old new : Built) (k : ℕ) (lits : List Literal) (placed : List Placed) (before after : List Wire)
+    (w : Wire)
     → slice_get at.kept k ≡ Some lits → ArePlaced at.ps at.ws at.mine lits placed → IsConjunction old new (wires_of placed) w
     → AreConditions at old before → KeptFrom before after k w → GivesCondition at k old new after w
 condition_built at old new k lits placed before after w here are conjoined known keeps =
@@ -176,7 +187,8 @@ condition_built at old new k lits placed before after w here are conjoined known
       value = λ run s has tells. fires_at at k lits new w here is run s has tells;
     }
 
-pub condition_there : (at : Scene) (b : Built) (conditions : List Wire) (k : ℕ) (w : Wire) → k < length at.kept → AreConditions at b conditions
+pub condition_there : (at : Scene) (b : Built) (conditions : List Wire) (k : ℕ) (w : Wire) → k < length at.kept
+    → AreConditions at b conditions
     → (w ≡ constant false → ⊥) → slice_get conditions k ≡ Some w → GivesCondition at k b b conditions w
 condition_there at b conditions k w inside are some there = elim (slice_get_cases at.kept k).1 [
   | inl (lits, _, here, _) ↦
@@ -197,7 +209,8 @@ decided_either at k value after a b d conditions c w gives is = record {
   known = conditions_grown at b d conditions is.grows gives.known;
   below = is.below;
   chooses = λ run s has tells.
-      is.chooses run has ∙ ap (λ (x : Bool). cond x value (value_at run after)) (gives.value run s (values_before b d run is.grows has) tells);
+      is.chooses run has ∙ ap (λ (x : Bool). cond x value (value_at run after))
+      (gives.value run s (values_before b d run is.grows has) tells);
 }
 
 same_either : (c value : Bool) → value ≡ cond c value value

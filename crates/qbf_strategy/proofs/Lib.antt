@@ -8,3 +8,4 @@ pub mod ChainedEntries
 pub mod ChosenValues
 pub mod AssembledWires
 pub mod AssembledCircuit
+pub mod TrimmedCircuit

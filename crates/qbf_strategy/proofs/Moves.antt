@@ -19,7 +19,8 @@ same_play mine ((q, v) ∷ rest) e g u s moves = by (is_quantifier q mine)
   where
     by : (t : Bool)
         → play mine rest e u (literal_of v (g v []) ∷ s) ≡ play mine rest g u (literal_of v (g v []) ∷ s)
-        → play mine rest (λ w p. e w (u v ∷ p)) u (literal_of v (u v) ∷ s) ≡ play mine rest (λ w p. g w (u v ∷ p)) u (literal_of v (u v) ∷ s)
+        → play mine rest (λ w p. e w (u v ∷ p)) u (literal_of v (u v) ∷ s)
+        ≡ play mine rest (λ w p. g w (u v ∷ p)) u (literal_of v (u v) ∷ s)
         → cond t (play mine rest e u (literal_of v (e v []) ∷ s)) (play mine rest (λ w p. e w (u v ∷ p)) u (literal_of v (u v) ∷ s))
         ≡ cond t (play mine rest g u (literal_of v (g v []) ∷ s)) (play mine rest (λ w p. g w (u v ∷ p)) u (literal_of v (u v) ∷ s))
     by true one other = ap (λ b. play mine rest e u (literal_of v b ∷ s)) (moves v (inl refl) []) ∙ one
@@ -38,15 +39,18 @@ abbrev moves : Quantifier → List (Quantifier × ℕ) → (otherwise : ℕ → 
 moves mine [] otherwise ds s w before = false
 moves mine ((q, v) ∷ rest) otherwise ds s w before =
     cond (is_quantifier q mine)
-    (cond (eqb w v) (decided (otherwise v) ds v s) (moves mine rest otherwise ds (literal_of v (decided (otherwise v) ds v s) ∷ s) w before))
+    (cond (eqb w v) (decided (otherwise v) ds v s)
+    (moves mine rest otherwise ds (literal_of v (decided (otherwise v) ds v s) ∷ s) w before))
     (moves mine rest otherwise ds (literal_of v (first_value before) ∷ s) w (later_values before))
 
 module _ (mine : Quantifier) (otherwise : ℕ → Bool) (ds : List Decision) (values : ℕ → Bool) where
   step_played : (c : Bool) (v : ℕ) (rest : List (Quantifier × ℕ)) (s : List Literal) → (v ∈ variables rest → ⊥)
-      → ((x : Literal) → play mine rest (moves mine rest otherwise ds (x ∷ s)) values (x ∷ s) ≡ play_by mine rest otherwise ds values (x ∷ s))
+      → ((x : Literal) → play mine rest (moves mine rest otherwise ds (x ∷ s)) values (x ∷ s)
+      ≡ play_by mine rest otherwise ds values (x ∷ s))
       → (m : Strategy)
       → ((w : ℕ) (before : List Bool) → m w before ≡ cond c
-      (cond (eqb w v) (decided (otherwise v) ds v s) (moves mine rest otherwise ds (literal_of v (decided (otherwise v) ds v s) ∷ s) w before))
+      (cond (eqb w v) (decided (otherwise v) ds v s)
+      (moves mine rest otherwise ds (literal_of v (decided (otherwise v) ds v s) ∷ s) w before))
       (moves mine rest otherwise ds (literal_of v (first_value before) ∷ s) w (later_values before)))
       → cond c (play mine rest m values (literal_of v (m v []) ∷ s))
       (play mine rest (λ w before. m w (values v ∷ before)) values (literal_of v (values v) ∷ s))
@@ -54,7 +58,8 @@ module _ (mine : Quantifier) (otherwise : ℕ → Bool) (ds : List Decision) (va
   step_played true v rest s apart each m is =
       let here : m v [] ≡ decided (otherwise v) ds v s = is v [] ∙ (rw (eq-eqb v v refl) refl) in
       ap (λ b. play mine rest m values (literal_of v b ∷ s)) here
-      ∙ (same_play mine rest m (moves mine rest otherwise ds (literal_of v (decided (otherwise v) ds v s) ∷ s)) values (literal_of v (decided (otherwise v) ds v s) ∷ s)
+      ∙ (same_play mine rest m (moves mine rest otherwise ds (literal_of v (decided (otherwise v) ds v s) ∷ s)) values
+      (literal_of v (decided (otherwise v) ds v s) ∷ s)
       (λ w h before. is w before ∙ (rw (ne_eqb w v (λ e. apart (subst (λ n. n ∈ variables rest) e h))) refl))
       ∙ each (literal_of v (decided (otherwise v) ds v s)))
   step_played false v rest s apart each m is =

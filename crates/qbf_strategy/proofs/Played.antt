@@ -15,11 +15,13 @@ leaf_by : (b : Bool) (v : ℕ) (q : Quantifier) (rest : List (Quantifier × ℕ)
 leaf_by true v q rest s end each = inl (each (positive v))
 leaf_by false v q rest s end each = inr (each (negative v))
 
-pub play_is_leaf : (mine : Quantifier) (rest : List (Quantifier × ℕ)) (otherwise : ℕ → Bool) (ds : List Decision) (values : ℕ → Bool) (s : List Literal)
+pub play_is_leaf : (mine : Quantifier) (rest : List (Quantifier × ℕ)) (otherwise : ℕ → Bool) (ds : List Decision) (values : ℕ
+    → Bool) (s : List Literal)
     → Leaf rest s (play_by mine rest otherwise ds values s)
 play_is_leaf mine [] otherwise ds values s = refl
 play_is_leaf mine ((q, v) ∷ rest) otherwise ds values s =
-    leaf_by (cond (is_quantifier q mine) (decided (otherwise v) ds v s) (values v)) v q rest s (λ x. play_by mine rest otherwise ds values (x ∷ s))
+    leaf_by (cond (is_quantifier q mine) (decided (otherwise v) ds v s) (values v)) v q rest s
+    (λ x. play_by mine rest otherwise ds values (x ∷ s))
     (λ x. play_is_leaf mine rest otherwise ds values (x ∷ s))
 
 -- the variable v is set
@@ -79,10 +81,12 @@ at_none : (c : Bool) (ls : List Literal) (v : ℕ) (x : Bool) → ((l : Literal)
 at_none true ls v x none = no_value ls v x none
 at_none false ls v x none = refl
 
-pub same_decided : (otherwise : Bool) (ds : List Decision) (v : ℕ) (s t : List Literal) → s ⊆ t → IsClean t → SeesSet ds v s → decided otherwise ds v s ≡ decided otherwise ds v t
+pub same_decided : (otherwise : Bool) (ds : List Decision) (v : ℕ) (s t : List Literal) → s ⊆ t → IsClean t → SeesSet ds v s
+    → decided otherwise ds v s ≡ decided otherwise ds v t
 same_decided otherwise [] v s t within clean seen = refl
 same_decided otherwise (d ∷ ds) v s t within clean seen =
-    let later : decided otherwise ds v s ≡ decided otherwise ds v t = same_decided otherwise ds v s t within clean (λ c h. seen c (inr h)) in
+    let later : decided otherwise ds v s
+    ≡ decided otherwise ds v t = same_decided otherwise ds v s t within clean (λ c h. seen c (inr h)) in
     elim (some_value d.sets v) [
       | inl (l, h, e) ↦ same_by (are_set d.when s) (are_set d.when t) d.sets v (decided otherwise ds v s) (decided otherwise ds v t)
           (same_test d.when s t within clean (λ w k. seen d (inl refl) l h e w k)) later
@@ -143,14 +147,17 @@ module _ (mine : Quantifier) (otherwise : ℕ → Bool) (ds : List Decision) (va
       ]
 
   played_here : (p : Quantifier) (u : ℕ) (rest : List (Quantifier × ℕ)) (s : List Literal) → Ascending number ((p, u) ∷ rest)
-      → Placed ((p, u) ∷ rest) s → SeesBefore u → IsClean (play_by mine rest otherwise ds values (literal_of u (decided (otherwise u) ds u s) ∷ s))
+      → Placed ((p, u) ∷ rest) s → SeesBefore u
+      → IsClean (play_by mine rest otherwise ds values (literal_of u (decided (otherwise u) ds u s) ∷ s))
       → literal_of u (decided (otherwise u) ds u (play_by mine rest otherwise ds values (literal_of u (decided (otherwise u) ds u s) ∷ s)))
       ∈ play_by mine rest otherwise ds values (literal_of u (decided (otherwise u) ds u s) ∷ s)
   played_here p u rest s up placed sees clean =
       let x : Literal = literal_of u (decided (otherwise u) ds u s) in
       let t : List Literal = play_by mine rest otherwise ds values (x ∷ s) in
       let keeps : (x ∷ s) ⊆ t = leaf_keeps rest (x ∷ s) t (play_is_leaf mine rest otherwise ds values (x ∷ s)) in
-      let same : decided (otherwise u) ds u s ≡ decided (otherwise u) ds u t = same_decided (otherwise u) ds u s t (λ l h. keeps l (inr h)) clean (sees_set p u rest s up placed sees) in
+      let same : decided (otherwise u) ds u s
+      ≡ decided (otherwise u) ds u t = same_decided (otherwise u) ds u s t (λ l h. keeps l (inr h)) clean
+      (sees_set p u rest s up placed sees) in
       subst (λ b. literal_of u b ∈ t) same (keeps x (inl refl))
 
   placed_next : (p : Quantifier) (u : ℕ) (b : Bool) (rest : List (Quantifier × ℕ)) (s : List Literal) → Placed ((p, u) ∷ rest) s
@@ -173,9 +180,11 @@ module _ (mine : Quantifier) (otherwise : ℕ → Bool) (ds : List Decision) (va
       let quantifier_of : Quantifier × ℕ → Quantifier = λ a. a.0 in
       at_first (is_quantifier p mine) (subst (λ r. is_quantifier r mine ≡ true) (ap quantifier_of e) is) clean (ap var_of e)
     where
-      at_first : (c : Bool) → c ≡ true → IsClean (play_by mine rest otherwise ds values (literal_of u (cond c (decided (otherwise u) ds u s) (values u)) ∷ s))
+      at_first : (c : Bool) → c ≡ true
+          → IsClean (play_by mine rest otherwise ds values (literal_of u (cond c (decided (otherwise u) ds u s) (values u)) ∷ s))
           → v ≡ u
-          → literal_of v (decided (otherwise v) ds v (play_by mine rest otherwise ds values (literal_of u (cond c (decided (otherwise u) ds u s) (values u)) ∷ s)))
+          → literal_of v (decided (otherwise v) ds v
+          (play_by mine rest otherwise ds values (literal_of u (cond c (decided (otherwise u) ds u s) (values u)) ∷ s)))
           ∈ play_by mine rest otherwise ds values (literal_of u (cond c (decided (otherwise u) ds u s) (values u)) ∷ s)
       at_first true t clean_here same = rw same (played_here p u rest s up placed (subst SeesBefore same sees) clean_here)
       at_first false t clean_here same = absurd (false≢true t)

@@ -63,7 +63,8 @@ pub first_decides : (otherwise : Bool) (ds : List Decision) (k : ℕ) (d : Decis
 first_decides otherwise [] k d l s here clean h fires earlier = absurd (cc here)
 first_decides otherwise (e ∷ ds) zero d l s here clean h fires earlier =
     let same : e ≡ d = cc here in
-    subst (λ (c : Decision). cond (are_set c.when s) (value_in c.sets l.var (decided otherwise ds l.var s)) (decided otherwise ds l.var s) ≡ not l.negative)
+    subst (λ (c : Decision). cond (are_set c.when s) (value_in c.sets l.var (decided otherwise ds l.var s)) (decided otherwise ds l.var s)
+    ≡ not l.negative)
     (sym same) (rw fires (value_of_member d.sets l (decided otherwise ds l.var s) clean h))
 first_decides otherwise (e ∷ ds) (suc k) d l s here clean h fires earlier =
     rw (earlier zero e (omega arith) refl)

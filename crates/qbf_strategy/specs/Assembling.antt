@@ -1,5 +1,6 @@
 -- How a circuit is assembled from decisions: wires of variables, conditions, and what is decided on a variable.
-use Rattle.std.specs.Prelude.{◌≡◌, ℕ, suc, drop, ◌<◌, ◌-◌, ◌==◌, Bool, true, false, not, if◌then◌else◌, List, [], ◌∷◌, Some, slice_get, map, ◌⊎◌}
+use Rattle.std.specs.Prelude.{◌≡◌, ℕ, suc, drop, ◌<◌, ◌-◌, ◌==◌, Bool, true, false, not, if◌then◌else◌, List, [], ◌∷◌, Some, slice_get, map}
+use Rattle.std.specs.Prelude.{◌⊎◌}
 use Rattle.std.specs.List.{All}
 use Rattle.qbf_core.specs.declared.quantifier.Quantifier.{Quantifier}
 use Rattle.qbf_core.specs.Blocks.{is_quantifier}
@@ -51,12 +52,14 @@ abbrev pub wires_of : List Placed → List Wire
 wires_of placed = map (λ p. p.wire) placed
 
 -- literals are placed, as the player wants them, but for those from place i on
-pub record ArePlacedBefore (ps : List (Quantifier × ℕ)) (ws : List Wire) (mine : Quantifier) (lits : List Literal) (i : ℕ) (placed : List Placed)
+pub record ArePlacedBefore (ps : List (Quantifier
+    × ℕ)) (ws : List Wire) (mine : Quantifier) (lits : List Literal) (i : ℕ) (placed : List Placed)
     : Type 0 where
   pub tell : TellWithRest ps ws mine lits i (wires_of placed)
   pub below : (n : ℕ) → AllBelow n ws → AllBelow n (wires_of placed)
 
 -- all literals are placed, as the player wants them
-pub record ArePlaced (ps : List (Quantifier × ℕ)) (ws : List Wire) (mine : Quantifier) (lits : List Literal) (placed : List Placed) : Type 0 where
+pub record ArePlaced (ps : List (Quantifier
+    × ℕ)) (ws : List Wire) (mine : Quantifier) (lits : List Literal) (placed : List Placed) : Type 0 where
   pub tell : TellAll ps ws (map (wanted mine) lits) (wires_of placed)
   pub below : (n : ℕ) → AllBelow n ws → AllBelow n (wires_of placed)

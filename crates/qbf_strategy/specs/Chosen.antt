@@ -24,14 +24,16 @@ pub record IsChosen (at : Scene) (es : List Entry) (last : ℕ) (old new : Built
       → Tells at.ps at.ws run s → value_at run w ≡ evaluated (fires at s) v otherwise said
 
 -- what is left of the literals, and the value that the others give
-pub record IsLeft (at : Scene) (es : List Entry) (number : ℕ) (otherwise : Bool) (now : Built) (w : Wire) (v : ℕ) (said : Sayings) : Type 0 where
+pub record IsLeft (at : Scene) (es : List Entry) (number : ℕ) (otherwise : Bool) (now : Built) (w : Wire) (v : ℕ)
+    (said : Sayings) : Type 0 where
   pub left : Sayings
   pub chain : Chain es v number left
   pub value : (run : ℕ → Bool) (s : List Literal) → HasValues now run → Tells at.ps at.ws run s
       → evaluated (fires at s) v (value_at run w) left ≡ evaluated (fires at s) v otherwise said
 
 -- after some gates, the wire has the value that the entries after this one give their variable
-pub record IsChosenAfter (at : Scene) (es : List Entry) (last number : ℕ) (otherwise : Bool) (old now : Built) (conditions : List Wire) (w : Wire)
+pub record IsChosenAfter (at : Scene) (es : List Entry) (last number : ℕ) (otherwise : Bool) (old now : Built) (conditions : List Wire)
+    (w : Wire)
     : Type 0 where
   pub grows : Grows old now
   pub known : AreConditions at now conditions

@@ -43,7 +43,8 @@ play_by mine ((q, v) ∷ rest) otherwise ds values s =
     play_by mine rest otherwise ds values
     (literal_of v (if is_quantifier q mine then decided (otherwise v) ds v s else values v) ∷ s)
 
--- a literal of a proof's step as the player wants it: the universal player wants clauses to be false, the existential player cubes to be true
+-- a literal of a proof's step as the player wants it: the universal player wants clauses to be false, the existential player cubes to be
+-- true
 abbrev pub wanted : Quantifier → Literal → Literal
 wanted All l = negated l
 wanted Exists l = l

@@ -37,7 +37,8 @@ IsWon All f s = MatrixHolds f.clauses s → ⊥
 IsWon Exists f s = MatrixHolds f.clauses s
 
 -- A circuit is a strategy by which the player of the quantifier `mine` wins. Its inputs are the variables of the other player, and its
--- outputs those of the player, in the order of the prefix. Any values of the inputs have a run, and in each run the player has won. An output
+-- outputs those of the player, in the order of the prefix. Any values of the inputs have a run, and in each run the player has won. An
+-- output
 -- is the same in two runs with the same values of the inputs that are in earlier blocks: it depends on no others.
 pub record IsWinningCircuit (mine : Quantifier) (f : Qbf) (c : Circuit) : Type 0 where
   pub inputs : c.inputs ≡ variables_of (opponent mine) (pairs f.blocks)

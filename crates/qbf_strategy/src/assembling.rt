@@ -1,8 +1,9 @@
 //! The circuit of decisions.
 
-ghost use Rattle.std.specs.Prelude.{◌≡◌, ◌≤◌, ◌<◌, ◌+◌, ℕ, [], List, IfOk, OnOk, length, nat_eq, Some, slice_get, ◌++◌, ◌∷◌, if◌then◌else◌};
+ghost use Rattle.std.specs.Prelude.{◌≡◌, ◌≤◌, ◌<◌, ◌+◌, ℕ, [], List, IfOk, OnOk, length, nat_eq};
+ghost use Rattle.std.specs.Prelude.{Some, slice_get, ◌++◌, ◌∷◌, if◌then◌else◌};
 ghost use Rattle.qbf_core.specs.Blocks.{IsPrefix, is_quantifier, pairs};
-ghost use Rattle.aiger.specs.Building.{next_of};
+ghost use Rattle.aiger.specs.Circuits.{first_gate};
 ghost use Rattle.qbf_strategy.specs.Assembling.{AllBelow};
 ghost use Rattle.qbf_strategy.specs.Chains.{HaveChains, with_lists};
 ghost use Rattle.qbf_strategy.specs.Chosen.{AddsInput, AddsOutput, AreAssembled, IsUnassembled};
@@ -18,7 +19,7 @@ use crate::entries::Entries;
 use crate::fault::CircuitFault;
 use crate::placed::{Here, Task};
 use crate::places::Places;
-use aiger::{Circuit, Output, Wire};
+use aiger::{Circuit, Output, Wire, trimmed};
 use qbf_core::{Prefix, Quantifier, Var};
 use std::alloc::{AllocError, Global};
 
@@ -41,7 +42,8 @@ fn is_quantifier(left: Quantifier, right: Quantifier) -> bool
 
 /// Puts the number of a variable at the end of others, if it is wanted.
 fn push_if(numbers: &mut Vec<u32>, wanted: bool, var: Var) -> Result<(), AllocError>
-    ensures { OnOk result (numbers.new.items ≡ numbers.old.items ++ (if wanted then var ∷ [] else [])) }
+    ensures { OnOk result (numbers.new.items ≡ numbers.old.items
+        ++ (if wanted then var ∷ [] else [])) }
 {
     if wanted {
         numbers.push(var.number())?;
@@ -112,7 +114,8 @@ impl Assembly {
 
     /// Gives the next variable, one of the player, its output.
     fn add_output(&mut self, task: &Task, entries: &Entries, name: Var) -> Result<(), CircuitFault>
-        requires { AreAssembled task.now.mine (pairs task.now.prefix.now) task.now.decisions.now.kept.whole
+        requires { AreAssembled task.now.mine
+            (pairs task.now.prefix.now) task.now.decisions.now.kept.whole
             task.now.decisions.now.removed.whole self.old }
         ensures { OnOk result (AddsOutput task.now.mine (pairs task.now.prefix.now)
             task.now.decisions.now.kept.whole entries.now name self.old self.new) }
@@ -133,15 +136,21 @@ impl Assembly {
 
     /// Gives the next variable its wire.
     fn add_variable(&mut self, task: &Task, entries: &Entries) -> Result<(), CircuitFault>
-        requires assembled { AreAssembled task.now.mine (pairs task.now.prefix.now) task.now.decisions.now.kept.whole
+        requires assembled { AreAssembled task.now.mine
+            (pairs task.now.prefix.now) task.now.decisions.now.kept.whole
             task.now.decisions.now.removed.whole self.old }
-        requires entries { HaveChains (pairs task.now.prefix.now) entries.now.heads.items entries.now.entries.items
+        requires entries { HaveChains
+            (pairs task.now.prefix.now) entries.now.heads.items entries.now.entries.items
             (with_lists task.now.mine 0 task.now.decisions.now.removed.whole []) }
-        requires few { length task.now.decisions.now.removed.whole ≤ length task.now.decisions.now.kept.whole }
+        requires few { length task.now.decisions.now.removed.whole ≤ length
+            task.now.decisions.now.kept.whole }
         requires place { length self.old.known.items < length (pairs task.now.prefix.now) }
-        ensures assembled { OnOk result (AreAssembled task.now.mine (pairs task.now.prefix.now) task.now.decisions.now.kept.whole
+        ensures assembled { OnOk result
+            (AreAssembled task.now.mine
+            (pairs task.now.prefix.now) task.now.decisions.now.kept.whole
             task.now.decisions.now.removed.whole self.new) }
-        ensures count { OnOk result (length self.new.known.items ≡ length self.old.known.items + 1) }
+        ensures count { OnOk result (length self.new.known.items
+            ≡ length self.old.known.items + 1) }
         ensures first { OnOk result (self.new.first ≡ self.old.first) }
     {
         let (quantifier, name) = task.prefix.pair(self.known.len());
@@ -160,10 +169,13 @@ fn assemble(
     entries: &Entries,
     inputs: usize,
 ) -> Result<Assembly, CircuitFault>
-    requires entries { HaveChains (pairs task.now.prefix.now) entries.now.heads.items entries.now.entries.items
+    requires entries { HaveChains
+        (pairs task.now.prefix.now) entries.now.heads.items entries.now.entries.items
         (with_lists task.now.mine 0 task.now.decisions.now.removed.whole []) }
-    requires few { length task.now.decisions.now.removed.whole ≤ length task.now.decisions.now.kept.whole }
-    ensures assembled { IfOk result (AreAssembled task.now.mine (pairs task.now.prefix.now) task.now.decisions.now.kept.whole
+    requires few { length task.now.decisions.now.removed.whole ≤ length
+        task.now.decisions.now.kept.whole }
+    ensures assembled { IfOk result
+        (AreAssembled task.now.mine (pairs task.now.prefix.now) task.now.decisions.now.kept.whole
         task.now.decisions.now.removed.whole) }
     ensures count { IfOk result (λ a. length a.known.items ≡ length (pairs task.now.prefix.now)) }
     ensures first { IfOk result (λ a. a.first ≡ inputs + 1) }
@@ -176,23 +188,16 @@ fn assemble(
     Ok(assembly)
 }
 
-/// The circuit by which the player of a quantifier keeps to decisions: its inputs are the variables
-/// of the other player, and its outputs those of the player, in the order of the prefix. In each run
-/// an output has the value that is decided on its variable; if nothing is decided on it, the value
-/// is some constant of the output.
-///
-/// # Errors
-/// `NoMemory` if an allocation fails; `TooLong` if AIGER has no numbers for the gates, or if the
-/// decisions set 4294967295 literals or more; `NoProof` if a decision sees a variable that does not
-/// stand before one that it sets, or has one that is not bound.
-pub fn circuit_of(
+/// The circuit of decisions, with all gates that were put.
+fn whole_circuit(
     alloc: Global,
     prefix: &Prefix,
     mine: Quantifier,
     decisions: &Decisions,
 ) -> Result<Circuit, CircuitFault>
-    ensures { IfOk result (λ c. Computes mine (pairs prefix.now)
+    ensures computes { IfOk result (λ c. Computes mine (pairs prefix.now)
         (decisions_by mine decisions.now.kept.whole decisions.now.removed.whole) c) }
+    ensures few { IfOk result (λ c. first_gate c + length c.gates ≤ 2147483648) }
 {
     if decisions.removed.whole_len() > decisions.kept.whole_len() {
         return Err(CircuitFault::NoProof);
@@ -212,4 +217,27 @@ pub fn circuit_of(
         outputs: assembly.outputs,
         gates: assembly.work.gates.into_gates(),
     })
+}
+
+/// The circuit by which the player of a quantifier keeps to decisions: its inputs are the variables
+/// of the other player, and its outputs those of the player, in the order of the prefix. In each
+/// run
+/// an output has the value that is decided on its variable; if nothing is decided on it, the value
+/// is some constant of the output.
+///
+/// # Errors
+/// `NoMemory` if an allocation fails; `TooLong` if AIGER has no numbers for the gates, or if the
+/// decisions set 4294967295 literals or more; `NoProof` if a decision sees a variable that does not
+/// stand before one that it sets, or has one that is not bound.
+pub fn circuit_of(
+    alloc: Global,
+    prefix: &Prefix,
+    mine: Quantifier,
+    decisions: &Decisions,
+) -> Result<Circuit, CircuitFault>
+    ensures { IfOk result (λ c. Computes mine (pairs prefix.now)
+        (decisions_by mine decisions.now.kept.whole decisions.now.removed.whole) c) }
+{
+    let circuit = whole_circuit(alloc, prefix, mine, decisions)?;
+    Ok(trimmed(alloc, circuit)?)
 }

@@ -13,7 +13,8 @@ use crate::fault::CircuitFault;
 use crate::placed::Here;
 use aiger::Wire;
 
-/// The value of the last entry. If no condition holds, any value will do, and with this one the last
+/// The value of the last entry. If no condition holds, any value will do, and with this one the
+/// last
 /// entries of one value need no gates.
 fn value_of_last(entries: &Entries, last: u32) -> Result<bool, CircuitFault> {
     if last == 0 {
@@ -32,7 +33,8 @@ pub fn chosen(
 ) -> Result<Wire, CircuitFault>
     requires below { AllBelow (next_of work.old.gates) here.now.known.now }
     requires known { AreConditions (scene here.now.task.mine (pairs here.now.task.prefix.now)
-        here.now.known.now here.now.task.decisions.now.kept.whole) work.old.gates work.old.conditions.items }
+        here.now.known.now here.now.task.decisions.now.kept.whole) work.old.gates
+        work.old.conditions.items }
     ensures { IfOk result (IsChosen (scene here.now.task.mine (pairs here.now.task.prefix.now)
         here.now.known.now here.now.task.decisions.now.kept.whole) entries.now.entries.items last
         work.old.gates work.new.gates work.new.conditions.items) }

@@ -1,11 +1,13 @@
 //! Gates of conditions, each built once, and of what is decided under them.
 
-ghost use Rattle.std.specs.Prelude.{◌≡◌, ◌≢◌, ◌≤◌, ◌<◌, IfOk, IfSome, Some, false, length, slice_get};
+ghost use Rattle.std.specs.Prelude.{◌≡◌, ◌≢◌, ◌≤◌, ◌<◌, IfOk, IfSome, Some, false, length};
+ghost use Rattle.std.specs.Prelude.{slice_get};
 ghost use Rattle.qbf_core.specs.Blocks.{pairs};
 ghost use Rattle.aiger.specs.Building.{next_of};
 ghost use Rattle.aiger.specs.Wires.{constant};
 ghost use Rattle.qbf_strategy.specs.Assembling.{AllBelow, turned, wires_of};
-ghost use Rattle.qbf_strategy.specs.Conditions.{AreConditions, GivesCondition, IsConjunction, IsDecided, IsEither, IsUnused, KeptFrom, scene};
+ghost use Rattle.qbf_strategy.specs.Conditions.{AreConditions, GivesCondition, IsConjunction};
+ghost use Rattle.qbf_strategy.specs.Conditions.{IsDecided, IsEither, IsUnused, KeptFrom, scene};
 
 use crate::entries::Entry;
 use crate::fault::CircuitFault;
@@ -62,7 +64,8 @@ impl Work {
 
     /// The wire of a decision's condition, if it was built.
     fn built(&self, decision: usize) -> Option<Wire>
-        ensures { IfSome result (λ w. (w ≢ constant false) × (slice_get self.now.conditions.items decision ≡ Some w)) }
+        ensures { IfSome result (λ w. (w ≢ constant false)
+            × (slice_get self.now.conditions.items decision ≡ Some w)) }
     {
         match self.conditions.get(decision) {
             Some(wire) if *wire != Wire::constant(false) => Some(*wire),
@@ -85,7 +88,8 @@ fn build(here: &Here, work: &mut Work, decision: usize) -> Result<Wire, CircuitF
     requires place { decision < length here.now.task.decisions.now.kept.whole }
     requires below { AllBelow (next_of work.old.gates) here.now.known.now }
     requires known { AreConditions (scene here.now.task.mine (pairs here.now.task.prefix.now)
-        here.now.known.now here.now.task.decisions.now.kept.whole) work.old.gates work.old.conditions.items }
+        here.now.known.now here.now.task.decisions.now.kept.whole) work.old.gates
+        work.old.conditions.items }
     ensures { IfOk result (GivesCondition (scene here.now.task.mine (pairs here.now.task.prefix.now)
         here.now.known.now here.now.task.decisions.now.kept.whole)
         decision work.old.gates work.new.gates work.new.conditions.items) }
@@ -101,7 +105,8 @@ fn build(here: &Here, work: &mut Work, decision: usize) -> Result<Wire, CircuitF
 fn condition(here: &Here, work: &mut Work, decision: usize) -> Result<Wire, CircuitFault>
     requires below { AllBelow (next_of work.old.gates) here.now.known.now }
     requires known { AreConditions (scene here.now.task.mine (pairs here.now.task.prefix.now)
-        here.now.known.now here.now.task.decisions.now.kept.whole) work.old.gates work.old.conditions.items }
+        here.now.known.now here.now.task.decisions.now.kept.whole) work.old.gates
+        work.old.conditions.items }
     ensures { IfOk result (GivesCondition (scene here.now.task.mine (pairs here.now.task.prefix.now)
         here.now.known.now here.now.task.decisions.now.kept.whole)
         decision work.old.gates work.new.gates work.new.conditions.items) }
@@ -125,9 +130,11 @@ pub fn decided(
     requires below { AllBelow (next_of work.old.gates) here.now.known.now }
     requires after { after.var < next_of work.old.gates }
     requires known { AreConditions (scene here.now.task.mine (pairs here.now.task.prefix.now)
-        here.now.known.now here.now.task.decisions.now.kept.whole) work.old.gates work.old.conditions.items }
+        here.now.known.now here.now.task.decisions.now.kept.whole) work.old.gates
+        work.old.conditions.items }
     ensures { IfOk result (IsDecided (scene here.now.task.mine (pairs here.now.task.prefix.now)
-        here.now.known.now here.now.task.decisions.now.kept.whole) entry.now.decision entry.now.value after
+        here.now.known.now here.now.task.decisions.now.kept.whole) entry.now.decision
+        entry.now.value after
         work.old.gates work.new.gates work.new.conditions.items) }
 {
     if after == Wire::constant(entry.value) {

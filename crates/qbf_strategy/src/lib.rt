@@ -2,7 +2,8 @@
 //!
 //! - Owns: decisions, the value that they give a variable, and the play by them.
 //! - Offers: `Decisions`, the lists that they are made of.
-//! - Proved: decisions are a strategy: a value depends on the values of the other player's variables
+//! - Proved: decisions are a strategy: a value depends on the values of the other player's
+//!   variables
 //!   before it.
 //! - Read first: `Decisions`, `decisions_are_a_strategy`.
 //! - Tested only: nothing.

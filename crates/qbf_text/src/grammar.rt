@@ -176,6 +176,7 @@ fn take_known<G: Grammar>(
         return Ok((0, None));
     }
     let values = numbers.values();
+    // The proof names the two parts.
     let (count, answer) = grammar.take_numbers(values, numbers.zeros())?;
     Ok((count, answer))
 }

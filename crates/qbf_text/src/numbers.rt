@@ -354,8 +354,7 @@ impl Numbers {
         if k >= runs || self.end(k).wrapping_sub(at) > 8 {
             return None;
         }
-        let value = self.one_at(bytes, k, at)?;
-        Some(value)
+        self.one_at(bytes, k, at)
     }
 
     /// The four numbers from the number `k` on, which begin at the place `at`, if they come before

@@ -64,13 +64,13 @@ literals_lead values from to ns n ls order within all =
     (λ k less. range_at values from to k (omega (arith, less, len))))
 
 -- and a zero after them too
-pub list_ends : (values : List ℤ) (from zero : ℕ) (ns : List ℕ) (n : ℕ) (ls : List Literal) → from ≤ zero → zero < length values
-    → AllByRecursion (IsWritten 2147483647) (slice_range values from zero) → slice_index_or values zero (pos 0) ≡ pos 0
-    → LeadsOver row (InLits ns n ls) (InAnts ns n (ls ++ map literal_of (slice_range values from zero)) []) values from (zero + 1)
-list_ends values from zero ns n ls order within all is =
-    let last = InLits ns n (ls ++ map literal_of (slice_range values from zero)) in
-    leads_more row (InLits ns n ls) last (InAnts ns n (ls ++ map literal_of (slice_range values from zero)) []) values from zero
-    (ap (λ v. row last (token_of v)) is) (literals_lead values from zero ns n ls order (omega (arith, within)) all)
+pub list_ends : (values : List ℤ) (from end : ℕ) (ns : List ℕ) (n : ℕ) (ls : List Literal) → from ≤ end → end < length values
+    → AllByRecursion (IsWritten 2147483647) (slice_range values from end) → slice_index_or values end (pos 0) ≡ pos 0
+    → LeadsOver row (InLits ns n ls) (InAnts ns n (ls ++ map literal_of (slice_range values from end)) []) values from (end + 1)
+list_ends values from end ns n ls order within all is =
+    let last = InLits ns n (ls ++ map literal_of (slice_range values from end)) in
+    leads_more row (InLits ns n ls) last (InAnts ns n (ls ++ map literal_of (slice_range values from end)) []) values from end
+    (ap (λ v. row last (token_of v)) is) (literals_lead values from end ns n ls order (omega (arith, within)) all)
 
 -- they are literals
 written_literals : (xs : List ℤ) → AllByRecursion (IsWritten 2147483647) xs → AllByRecursion IsLiteral (map literal_of xs)

@@ -18,7 +18,7 @@ use Rattle.qrp_bytes.specs.declared.verdict.QrpVerdict.{QrpVerdict}
 use Rattle.qrp_bytes.specs.Buffers.{IsWritten, IsListed}
 use Rattle.qrp_bytes.specs.Encoding.{encoded_fault, encoded_truth}
 
--- bytes that are lent; nothing is said of what is left of them
+-- Bytes that are lent. Only results are compared with it: those of reading, not what a source has left.
 abbrev pub lent_bytes : List ℕ → SourceCall
 lent_bytes bytes = record { bytes = Some bytes; rest = None; before = 0; after = 0; unpulled = Unit {0} }
 

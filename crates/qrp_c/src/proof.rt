@@ -4,11 +4,10 @@ ghost use Rattle.std.specs.Prelude.{◌≡◌, ◌≢◌, [], ◌∷◌, ◌++�
 ghost use Rattle.qbf_core.specs.Blocks.{pairs};
 ghost use Rattle.qrp_handle.specs.Adding.{IsVariableFault, IsClauseFault, IsStepFault};
 ghost use Rattle.qrp_bytes.specs.Texts.{encoded_nothing};
-ghost use Rattle.qrp_handle.specs.Checks.{quantifier_of};
+ghost use Rattle.qrp_handle.specs.Checks.{AreWellFormed, quantifier_of};
 ghost use Rattle.qrp_handle.specs.Statuses.{CallReturns};
 ghost use Rattle.qrp_c.specs.Checked.{IsVerdictOf};
-ghost use Rattle.qrp_handle.specs.Written.{literal_of};
-ghost use Rattle.qbf_core.specs.declared.literal.TheConstants.{LAST_VARIABLE};
+ghost use Rattle.qbf_core.specs.WrittenLiterals.{literal_of};
 
 use qbf_core::Quantifier;
 use qrp_bytes::{QrpVerdict, encode_fault, encode_nothing, encode_truth};
@@ -23,7 +22,7 @@ use std::alloc::Global;
 #[unsafe(no_mangle)]
 pub extern "C" fn qrp_proof_new(alloc: Global, proof: &mut QrpProof) -> i32
     ensures made { result ≡ pos 0 → IsSomeAnd proof.new.held.value (λ p.
-        (p.formula ≡ record { max_var = LAST_VARIABLE; blocks = []; clauses = [] })
+        (p.formula ≡ record { max_var = 2147483647; blocks = []; clauses = [] })
         × (p.trace.steps ≡ [])) }
     ensures kept { result ≢ pos 0 → proof.new.held.value ≡ proof.old.held.value }
     ensures memory { result ≢ pos 0 → result ≡ pos 4 }
@@ -102,7 +101,7 @@ pub extern "C" fn qrp_proof_clause(alloc: Global, proof: &mut QrpProof, literals
 /// Adds a step.
 ///
 /// In C: `int32_t qrp_proof_step(struct qrp_proof *proof, uint64_t number, const int32_t *literals,
-/// size_t count, const uint64_t *antecedents, size_t antecedents_count)`.
+/// size_t count, const uint64_t *antecedents, size_t antecedent_count)`.
 #[unsafe(no_mangle)]
 pub extern "C" fn qrp_proof_step(
     alloc: Global,
@@ -154,6 +153,7 @@ pub extern "C" fn qrp_proof_check(
     ensures nothing { IfNone proof.old.held.value
         ((out.new ≡ encoded_nothing) × (result ≡ pos 11)) }
     ensures kept { proof.new.held.value ≡ proof.old.held.value }
+    ensures sound { IfSome proof.old.held.value (λ p. AreWellFormed p.formula p.trace) }
 {
     match proof.take(alloc) {
         Some(held) => {
@@ -171,7 +171,8 @@ pub extern "C" fn qrp_proof_check(
 
 /// The result of the check, for a caller in C.
 fn verdict_of(alloc: Global, proof: &Proof, sat: bool, rules: Rules) -> QrpVerdict
-    ensures { IsVerdictOf rules proof.now.formula proof.now.trace.steps sat result }
+    ensures verdict { IsVerdictOf rules proof.now.formula proof.now.trace.steps sat result }
+    ensures sound { AreWellFormed proof.now.formula proof.now.trace }
 {
     match proof.check(alloc, outcome_of(sat), rules) {
         Ok(()) => encode_truth(sat),

@@ -10,7 +10,7 @@ use Rattle.qrp.specs.Returns as traces
 use Rattle.qrp_check.specs.Checked.{SourceCall, IsChecked, IsCheckedOf, IsTruthOf}
 use Rattle.qrp_check.specs.Marks.{MarksCore}
 use Rattle.qrp_check.specs.Proof.{IsProof}
-use Rattle.qrp_check.specs.Verdict.{is_sat, IsFormulaDevice, IsFormulaFault, IsVerdictOf, IsVerdictUnless, StopsAfterTrace}
+use Rattle.qrp_check.specs.Verdict.{is_sat, StopsAfterTrace}
 use Rattle.qdimacs.specs.Reading as formulas
 use Rattle.qrp_check.proofs.MarkedPlaces.{is_marked, is_unmarked, listing_none, listing_skip, listing_push}
 

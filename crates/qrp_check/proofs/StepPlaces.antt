@@ -1,5 +1,5 @@
 -- Steps at their positions.
-use Rattle.qrp_check.proofs.Cited.{◌≡◌, ℕ, ◌<◌, ◌≤◌, true, false, List, [], ◌∷◌, Some, refl, sym, ◌∙◌, length, slice_get}
+use Rattle.qrp_check.proofs.Cited.{◌≡◌, ℕ, ◌<◌, ◌≤◌, true, List, [], ◌∷◌, Some, refl, sym, ◌∙◌, length, slice_get}
 use Rattle.qrp_check.proofs.Cited.{false≢true, Inference, IsAt, IsGoal, at_place}
 use Rattle.std.proofs.Common.{eqb}
 use Rattle.std.proofs.Math.Dec.{eqb-suc-zero}

@@ -1,8 +1,7 @@
 -- From the check of what was read to the verdict on its bytes.
-use Rattle.qrp_check.proofs.Cited.{rules, common_steps, ◌≡◌, ◌≢◌, ℕ, List, Option, arith, Result, Ok, Err, IfSome, Qbf, Derivation, Rules}
-use Rattle.qrp_check.proofs.Cited.{Fault, CheckFault, C5, Verified, IsFirstFault, IsVerdict}
+use Rattle.qrp_check.proofs.Cited.{rules, common_steps, ◌≡◌, ◌≢◌, arith, Result, Ok, Err, IfSome, Qbf, Derivation, Rules}
+use Rattle.qrp_check.proofs.Cited.{Fault, CheckFault, C5, Verified, IsFirstFault}
 use Rattle.qrp_check.specs.Checked.{SourceCall, IsCheckedOf, verdict_of}
-use Rattle.qrp_check.specs.Verdict.{IsVerdictOf}
 use Rattle.qrp.specs.Returns as traces
 use Rattle.qrp_check.specs.declared.verdict.Fault.TheVariants as fault
 

@@ -123,7 +123,7 @@ fn find_truth_of<B: Source>(
         formula,
         rules,
     };
-    let marks = check_marked(context, &whole, whole.sets(), whole.result())?;
+    check_marked(context, &whole, whole.sets(), whole.result())?;
     Ok(is_sat(whole.result()))
 }
 

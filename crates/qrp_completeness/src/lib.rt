@@ -1,4 +1,4 @@
-//! The checker is complete: each step of textbook Q-resolution and term resolution is accepted, and
+//! The checker is complete: each proof by textbook Q-resolution and term resolution is accepted, and
 //! a result holds of a formula exactly if some steps prove it. It stands on `qrp_check`, whose
 //! definitions it holds from the other side, and on the derivations of `qbf_completeness`.
 //!

@@ -3,7 +3,7 @@ use Rattle.std.proofs.Common.{◌≡◌, ℕ, ℤ, suc, ◌+◌, ◌<◌, List, 
 use Rattle.std.proofs.lemmas.List.{map-append}
 use Rattle.std.specs.List.{AllByRecursion}
 use Rattle.qbf_core.specs.Literal.{Literal}
-use Rattle.qrp_handle.specs.Written.{IsWritten, literal_of}
+use Rattle.qbf_core.specs.WrittenLiterals.{IsWritten, literal_of}
 
 one_more : (xs : List ℤ) (i : ℕ) (d : ℤ) → i < length xs → take (i + 1) xs ≡ take i xs ++ get_or xs i d ∷ []
 one_more xs i d h = let more : i + 1 ≡ suc i = omega arith in ap (λ k. take k xs) more ∙ take-suc xs i d h
@@ -21,6 +21,6 @@ next_read xs i d h lits e =
     ∙ sym (map-append literal_of (take i xs) (get_or xs i d ∷ []))
     ∙ ap (λ (zs : List ℤ). map literal_of zs) (sym (one_more xs i d h))
 
-pub next_written : (xs : List ℤ) (i : ℕ) (d : ℤ) → i < length xs → AllByRecursion IsWritten (take i xs) → IsWritten (get_or xs i d)
-    → AllByRecursion IsWritten (take (i + 1) xs)
-next_written xs i d h all p = subst (λ (zs : List ℤ). AllByRecursion IsWritten zs) (sym (one_more xs i d h)) (and_last IsWritten (take i xs) (get_or xs i d) all p)
+pub next_written : (xs : List ℤ) (i : ℕ) (d : ℤ) → i < length xs → AllByRecursion (IsWritten 2147483647) (take i xs) → IsWritten 2147483647 (get_or xs i d)
+    → AllByRecursion (IsWritten 2147483647) (take (i + 1) xs)
+next_written xs i d h all p = subst (λ (zs : List ℤ). AllByRecursion (IsWritten 2147483647) zs) (sym (one_more xs i d h)) (and_last (IsWritten 2147483647) (take i xs) (get_or xs i d) all p)

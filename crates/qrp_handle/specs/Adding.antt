@@ -5,7 +5,7 @@ use Rattle.qbf_core.specs.Blocks.{AreBound, IsBound}
 use Rattle.qbf_core.specs.Qbf.{Qbf}
 use Rattle.qrp.specs.Inferences.{Inference, IsNumber, numbers}
 use Rattle.step_index.specs.Numbers.{is_used}
-use Rattle.qrp_handle.specs.Written.{IsWritten, literal_of}
+use Rattle.qbf_core.specs.WrittenLiterals.{IsWritten, literal_of}
 use Rattle.qrp_handle.specs.declared.fault.AddFault.{AddFault}
 use Rattle.qrp_handle.specs.declared.fault.AddFault.TheVariants.{NoMemory, Range, Bound, Unbound, Full, Used, Many}
 
@@ -22,7 +22,7 @@ IsVariableFault f v Many = ⊥
 -- this fault of a clause that is written so stands; a failed allocation is always possible
 abbrev pub IsClauseFault : Qbf → List ℤ → AddFault → Type 0
 IsClauseFault f written NoMemory = ⊤
-IsClauseFault f written Range = AllByRecursion IsWritten written → ⊥
+IsClauseFault f written Range = AllByRecursion (IsWritten 2147483647) written → ⊥
 IsClauseFault f written Bound = ⊥
 IsClauseFault f written Unbound = AreBound f.blocks (map literal_of written) → ⊥
 IsClauseFault f written Full = 2147483647 ≤ length f.clauses
@@ -32,7 +32,7 @@ IsClauseFault f written Many = ⊥
 -- this fault of a step that is written so stands
 abbrev pub IsStepFault : List Inference → ℕ → List ℤ → List ℕ → AddFault → Type 0
 IsStepFault steps number written ants NoMemory = ⊤
-IsStepFault steps number written ants Range = IsNumber number → AllByRecursion IsWritten written → AllByRecursion IsNumber ants → ⊥
+IsStepFault steps number written ants Range = IsNumber number → AllByRecursion (IsWritten 2147483647) written → AllByRecursion IsNumber ants → ⊥
 IsStepFault steps number written ants Bound = ⊥
 IsStepFault steps number written ants Unbound = ⊥
 IsStepFault steps number written ants Full = ⊥
@@ -42,7 +42,7 @@ IsStepFault steps number written ants Many = 2 < length ants
 -- this fault of literals that are written so stands
 abbrev pub IsReadFault : List ℤ → AddFault → Type 0
 IsReadFault written NoMemory = ⊤
-IsReadFault written Range = AllByRecursion IsWritten written → ⊥
+IsReadFault written Range = AllByRecursion (IsWritten 2147483647) written → ⊥
 IsReadFault written Bound = ⊥
 IsReadFault written Unbound = ⊥
 IsReadFault written Full = ⊥

@@ -1,7 +1,10 @@
--- The result or the quantifier that a caller in C gives by a truth value.
+-- The result or the quantifier that a caller in C gives by a truth value, and what is known of all that was handed over.
 use Rattle.std.specs.Prelude.{Bool, true, false}
 use Rattle.qbf_core.specs.declared.quantifier.Quantifier.{Quantifier}
 use Rattle.qbf_core.specs.declared.quantifier.Quantifier.TheVariants.{All, Exists}
+use Rattle.qbf_core.specs.Qbf.{Qbf, IsWellFormed}
+use Rattle.qrp.specs.Derivations.{Derivation}
+use Rattle.qrp.specs.Derivations as traces
 use Rattle.qrp.specs.declared.item.Outcome.{Outcome}
 use Rattle.qrp.specs.declared.item.Outcome.TheVariants.{Sat, Unsat}
 
@@ -14,3 +17,7 @@ outcome_of false = Unsat
 abbrev pub quantifier_of : Bool → Quantifier
 quantifier_of true = All
 quantifier_of false = Exists
+
+-- a closed prenex formula within the bounds of QDIMACS 1.1, and steps of a trace, each with a number of its own
+abbrev pub AreWellFormed : Qbf → Derivation → Type 0
+AreWellFormed f d = IsWellFormed f × traces.IsWellFormed d

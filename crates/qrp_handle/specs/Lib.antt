@@ -2,4 +2,3 @@ pub mod Adding
 pub mod Checks
 pub mod Owned
 pub mod Statuses
-pub mod Written

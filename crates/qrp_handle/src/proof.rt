@@ -9,9 +9,9 @@ ghost use Rattle.step_index.specs.Numbers.{is_used};
 ghost use Rattle.qrp_check.specs.declared.fault.CheckFault.TheVariants.{C5};
 ghost use Rattle.qrp_check.specs.Proof.{Proves, IsFirstFault};
 ghost use Rattle.qrp_check.specs.Verdict.{is_sat};
+ghost use Rattle.qrp_handle.specs.Checks.{AreWellFormed};
 ghost use Rattle.qrp_handle.specs.Adding.{IsVariableFault, IsClauseFault, IsStepFault};
-ghost use Rattle.qrp_handle.specs.Written.{literal_of};
-ghost use Rattle.qbf_core.specs.declared.literal.TheConstants.{LAST_VARIABLE};
+ghost use Rattle.qbf_core.specs.WrittenLiterals.{literal_of};
 
 use crate::fault::AddFault;
 use crate::written::literals_of;
@@ -34,7 +34,7 @@ impl Proof {
     /// A formula with no variable and no clause, and no step. It takes no memory.
     pub fn new(alloc: Global) -> Proof
         ensures formula { result.formula
-            ≡ record { max_var = LAST_VARIABLE; blocks = []; clauses = [] } }
+            ≡ record { max_var = 2147483647; blocks = []; clauses = [] } }
         ensures steps { result.trace.steps ≡ [] }
     {
         let header = Header { vars: 0, steps: 0 };
@@ -149,7 +149,11 @@ impl Proof {
         ensures truth { OnOk result (IsTrue (is_sat outcome) ↔ IsTrueFormula self.now.formula) }
         ensures refused { IfErr result (λ e. e ≢ C5
             → IsFirstFault rules self.now.formula [] self.now.trace.steps outcome e) }
+        ensures sound { AreWellFormed self.now.formula self.now.trace }
     {
+        // The proof reads here that the formula and the steps are well formed.
+        let _greatest = self.formula.max_var();
+        let _claim = self.trace.result();
         check(alloc, &self.formula, &self.trace, &[], outcome, rules)?;
         Ok(())
     }

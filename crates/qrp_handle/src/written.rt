@@ -3,7 +3,7 @@
 ghost use Rattle.std.specs.Prelude.{◌≡◌, ℤ, List, map, Option, IfSome, IfNone, IfOk, IfErr};
 ghost use Rattle.std.specs.List.{AllByRecursion};
 ghost use Rattle.qrp_handle.specs.Adding.{IsReadFault};
-ghost use Rattle.qrp_handle.specs.Written.{IsWritten, literal_of};
+ghost use Rattle.qbf_core.specs.WrittenLiterals.{IsWritten, literal_of};
 
 use crate::fault::AddFault;
 use qbf_core::{Lit, Var};
@@ -11,8 +11,8 @@ use std::alloc::Global;
 
 /// The literal that this number writes, or `None` if it is 0 or the least of 32 bits.
 fn literal_of(written: i32) -> Option<Lit>
-    ensures some { IfSome result (λ lit. (lit ≡ literal_of written) × IsWritten written) }
-    ensures none { IfNone result (IsWritten written → ⊥) }
+    ensures some { IfSome result (λ lit. (lit ≡ literal_of written) × IsWritten 2147483647 written) }
+    ensures none { IfNone result (IsWritten 2147483647 written → ⊥) }
 {
     let var = Var::new(written.unsigned_abs())?;
     Some(Lit::new(var, written < 0))
@@ -24,7 +24,7 @@ fn literal_of(written: i32) -> Option<Lit>
 /// `Range` if one of them writes none, and `NoMemory` only if an allocation failed.
 pub fn literals_of(alloc: Global, written: &[i32]) -> Result<Vec<Lit>, AddFault>
     ensures read { IfOk result (λ lits. (lits.items ≡ map literal_of written.now)
-        × AllByRecursion IsWritten written.now) }
+        × AllByRecursion (IsWritten 2147483647) written.now) }
     ensures refused { IfErr result (IsReadFault written.now) }
 {
     let mut lits = Vec::<Lit>::with_capacity(alloc, written.len())?;

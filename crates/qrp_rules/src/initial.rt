@@ -11,6 +11,7 @@ ghost use Rattle.qrp_rules.specs.Initial.{HasNoReduct, IsReductAt};
 
 use crate::fault::RuleFault;
 use crate::lists::{is_among, is_ordered};
+use crate::seen::{SeenLits, find_negated, surely_clean};
 use crate::walks::ordered_reduct_fault_by;
 use qbf_core::{Formula, Lit, LitSet, Prefix, Quantifier, SetFault, is_member};
 use std::alloc::{AllocError, Global};
@@ -97,32 +98,43 @@ fn has_common_literal(clause: &[Lit], set: &[Lit]) -> bool
     clause.iter().any(|lit| is_member(set, *lit))
 }
 
-/// As `is_tautology`, by comparing all literals with each other. It takes no memory.
+/// Whether a clause as written holds a variable with both signs: if it is not in order, all
+/// literals are compared with each other. It takes no memory.
 #[cold]
 fn has_clash(clause: &[Lit]) -> bool
-    ensures { IsTrue result ↔ IsTautology clause.now }
-{
-    clause.iter().any(|lit| is_among(clause, lit.negated()))
-}
-
-/// Whether a clause as written holds a variable with both signs. If it is not in order, its set
-/// says so, unless an allocation fails.
-pub(crate) fn is_tautology(alloc: Global, prefix: &Prefix, clause: &[Lit]) -> bool
     ensures { IsTrue result ↔ IsTautology clause.now }
 {
     if is_ordered(clause) {
         return false;
     }
-    match LitSet::from_slice(alloc, clause, prefix) {
-        Ok(_set) => false,
-        Err(SetFault::E1) => true,
-        Err(SetFault::E2) => false,
-        Err(SetFault::E3) => has_clash(clause),
+    clause.iter().any(|lit| is_among(clause, lit.negated()))
+}
+
+/// Whether a clause as written holds a variable with both signs, in linear time. The set is used
+/// for the clause, if this is not in order.
+///
+/// # Errors
+/// If an allocation fails.
+pub(crate) fn is_tautology(
+    seen: &mut SeenLits,
+    prefix: &Prefix,
+    clause: &[Lit],
+) -> Result<bool, AllocError>
+    ensures { IfOk result (λ t. IsTrue t ↔ IsTautology clause.now) }
+{
+    if surely_clean(seen, prefix, clause)? {
+        return Ok(false);
+    }
+    seen.set_each(clause);
+    seen.had_memory()?;
+    match find_negated(seen, clause) {
+        Some(_) => Ok(true),
+        None => Ok(has_clash(clause)),
     }
 }
 
-/// Why the set is not an initial cube. It is never out of memory.
-pub(crate) fn initial_cube_fault(alloc: Global, formula: &Formula, set: &[Lit]) -> Option<RuleFault>
+/// Why the set is not an initial cube. It takes no memory.
+pub(crate) fn initial_cube_fault(formula: &Formula, set: &[Lit]) -> Option<RuleFault>
     requires { IsOrdered set.now }
     ensures { IsFaultOf (initial_condition Cubes formula.now set.now ∷ []) result }
 {
@@ -131,9 +143,34 @@ pub(crate) fn initial_cube_fault(alloc: Global, formula: &Formula, set: &[Lit]) 
         if has_common_literal(clause, set) {
             continue;
         }
-        if !is_tautology(alloc, formula.prefix(), clause) {
+        if !has_clash(clause) {
             return Some(RuleFault::S5);
         }
     }
     None
+}
+
+/// As `initial_cube_fault`, in time that is linear in the clauses.
+///
+/// # Errors
+/// If an allocation fails.
+pub(crate) fn find_cube_fault(
+    seen: &mut SeenLits,
+    formula: &Formula,
+    set: &[Lit],
+) -> Result<Option<RuleFault>, AllocError>
+    requires { IsOrdered set.now }
+    ensures { IfOk result
+        (λ fault. IsFaultOf (initial_condition Cubes formula.now set.now ∷ []) fault) }
+{
+    for place in 0..formula.clauses() {
+        let clause = formula.clause(place);
+        if has_common_literal(clause, set) {
+            continue;
+        }
+        if !is_tautology(seen, formula.prefix(), clause)? {
+            return Ok(Some(RuleFault::S5));
+        }
+    }
+    Ok(None)
 }

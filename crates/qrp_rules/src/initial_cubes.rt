@@ -52,6 +52,8 @@ pub(crate) struct InitialCubes {
     positions: Vec<u32>,
     /// Emptied lists, which are used again.
     spare: Vec<Vec<usize>>,
+    /// The literals of a clause that has none of the cube.
+    unmet: SeenLits,
 }
 
 impl InitialCubes {
@@ -65,6 +67,7 @@ impl InitialCubes {
             lists: Vec::new(alloc),
             positions: Vec::new(alloc),
             spare: Vec::new(alloc),
+            unmet: SeenLits::new(alloc),
         }
     }
 
@@ -172,7 +175,7 @@ impl InitialCubes {
                 return Ok(true);
             }
         }
-        Ok(is_tautology(self.alloc, formula.prefix(), lits))
+        is_tautology(&mut self.unmet, formula.prefix(), lits)
     }
 
     /// Watches each clause of the formula.

@@ -9,7 +9,7 @@ ghost use Rattle.qrp_rules.specs.Initial.{AreKnown};
 
 use crate::clause_index::InitialClauses;
 use crate::fault::RuleFault;
-use crate::initial::{initial_clause_fault, initial_cube_fault};
+use crate::initial::{find_cube_fault, initial_clause_fault};
 use crate::initial_cubes::InitialCubes;
 use crate::seen::SeenLits;
 use crate::side::Side;
@@ -76,6 +76,6 @@ pub fn ordered_initial_fault<S: Side>(
 {
     match S::REDUCED {
         Quantifier::All => initial_clause_fault(alloc, formula, set),
-        Quantifier::Exists => Ok(initial_cube_fault(alloc, formula, set)),
+        Quantifier::Exists => find_cube_fault(&mut SeenLits::new(alloc), formula, set),
     }
 }

@@ -107,7 +107,7 @@ impl Side for Cubes {
             fault) }
         ensures always { IsOk result }
     {
-        Ok(initial_cube_fault(alloc, formula, set.as_slice()))
+        Ok(initial_cube_fault(formula, set.as_slice()))
     }
 
     ghost reduces = { Prim.cc };

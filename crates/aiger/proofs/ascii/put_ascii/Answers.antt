@@ -11,7 +11,9 @@ returns-in_err-put_beginning g c = part_fails _ _ c.from_residual.ensures.1 c.in
 pub returns : goal.returns
 returns g c =
     part_then c.in_ok-put_beginning.ensures
-    (subst (λ t. IsPut g.K.Sink.written g.K.Sink.failures g.K.Sink.failed_last c.put_beginning.new.sink c.put_rest.new.sink t c.put_rest.result)
+    (subst (λ t. IsPut g.K.Sink.written g.K.Sink.failures g.K.Sink.failed_last c.put_beginning.new.sink c.put_rest.new.sink t
+    c.put_rest.result)
     (rest_is c.args.circuit.now c.deref.result.now c.deref-2.result.now c.deref-3.result.now
-    (c.deref.ensures.value ∙ ap (λ (k : Circuit). k.inputs) c.circuit.view_is) (c.deref-2.ensures.value ∙ ap (λ (k : Circuit). k.outputs) c.circuit.view_is) (c.deref-3.ensures.value ∙ ap (λ (k : Circuit). k.gates) c.circuit.view_is))
+    (c.deref.ensures.value ∙ ap (λ (k : Circuit). k.inputs) c.circuit.view_is) (c.deref-2.ensures.value
+    ∙ ap (λ (k : Circuit). k.outputs) c.circuit.view_is) (c.deref-3.ensures.value ∙ ap (λ (k : Circuit). k.gates) c.circuit.view_is))
     c.put_rest.ensures)

@@ -1,13 +1,5 @@
-use Rattle.std.proofs.Common.{rules, refl, ap, ◌∙◌}
-use Rattle.qbf_core.specs.Blocks.{pairs}
-use Rattle.qbf_core.specs.declared.quantifier.Quantifier.{Quantifier}
-use Rattle.qbf_strategy.specs.Winning.{variables_of}
-use Rattle.qbf_strategy.proofs.AssembledCircuit.{assembled_computes}
+use Rattle.qbf_strategy.proofs.TrimmedCircuit.{computes_same}
 use Rattle.qbf_strategy.proofs.assembling.circuit_of.Goals as goal
 
 pub returns : goal.returns
-returns c =
-    assembled_computes c.args.mine _ c.args.decisions.now.kept.whole c.args.decisions.now.removed.whole c.in_ok-assembly.assembly _
-    c.in_ok-assembly.ensures.sound.distinct c.in_ok-assembly.ensures.count c.in_ok-assembly.ensures.assembled
-    (c.in_ok-inputs.ensures ∙ ap (λ (q : Quantifier). variables_of q (pairs c.args.prefix.now)) c.opponent.ensures) (search rules) refl
-    c.into_gates.ensures.gates c.into_gates.ensures.below
+returns c = computes_same _ _ _ c.in_ok-circuit.circuit _ c.in_ok-circuit.ensures.computes c.in_ok-trimmed.ensures

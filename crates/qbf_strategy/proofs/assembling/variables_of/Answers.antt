@@ -11,5 +11,6 @@ loop-place-preserved c =
     record {
       so_far = c.in_ok-push_if.ensures
           ∙ (ap (λ (l : List ℕ). l ++ cond c.is_quantifier.result (v ∷ []) []) c.loop-place.invariant.so_far
-          ∙ (ap (λ (b : Bool). variables_of c.args.quantifier (take c.loop-place.place (pairs c.args.prefix.now)) ++ cond b (v ∷ []) []) c.is_quantifier.ensures ∙ sym next));
+          ∙ (ap (λ (b : Bool). variables_of c.args.quantifier (take c.loop-place.place (pairs c.args.prefix.now))
+          ++ cond b (v ∷ []) []) c.is_quantifier.ensures ∙ sym next));
     }

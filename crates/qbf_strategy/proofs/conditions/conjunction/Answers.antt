@@ -6,7 +6,8 @@ use Rattle.aiger.specs.Building.{next_of}
 use Rattle.qbf_strategy.proofs.conditions.conjunction.Goals as goal
 
 pub loop-literal-init : goal.loop-literal-init
-loop-literal-init c = record { joined = conjunction_first c.args.gates.now _ c.constant-wire.result c.constant-wire.ensures.value c.constant-wire.ensures.below }
+loop-literal-init c = record
+    { joined = conjunction_first c.args.gates.now _ c.constant-wire.result c.constant-wire.ensures.value c.constant-wire.ensures.below }
 
 pub and-requires-clause-right : goal.and-requires-clause-right
 and-requires-clause-right c =
@@ -16,7 +17,8 @@ and-requires-clause-right c =
 
 pub loop-literal-preserved : goal.loop-literal-preserved
 loop-literal-preserved c = record {
-  joined = conjunction_next c.args.gates.now c.loop-literal.gates c.and.new.self c.args.placed.now c.loop-literal.literal-index c.loop-literal.wire
+  joined = conjunction_next c.args.gates.now c.loop-literal.gates c.and.new.self c.args.placed.now c.loop-literal.literal-index
+      c.loop-literal.wire
       c.in_ok-wire.wire c.literal-item.result (search (rules, slice_get_read)) c.and.ensures.grows c.in_ok-wire.ensures.below
       c.in_ok-wire.ensures.value c.loop-literal.invariant.joined;
 }

@@ -4,4 +4,5 @@ use Rattle.qbf_strategy.proofs.conditions.either.Goals as goal
 pub returns : goal.returns
 returns c =
     either_is c.args.gates.now c.and.new.self c.args.condition c.args.value c.args.after c.opposite.result c.turned.result c.in_ok-wire.wire
-    c.turned-2.result c.opposite.ensures c.turned.ensures c.turned-2.ensures c.and.ensures.grows c.in_ok-wire.ensures.below c.in_ok-wire.ensures.value
+    c.turned-2.result c.opposite.ensures c.turned.ensures c.turned-2.ensures c.and.ensures.grows c.in_ok-wire.ensures.below
+    c.in_ok-wire.ensures.value

@@ -13,12 +13,12 @@ returns-in_err-whole g c =
     (Err (fault.Trace c.in_err-whole.field-0.0.0 c.in_err-whole.field-0.0.1)) = search rules in
     (Err p.0, (rw p.2 checked, rw p.2 (λ is. absurd is)), p.1)
 
-pub returns-in_err-marks : goal.returns-in_err-marks
-returns-in_err-marks g c =
-    let p = err_from_is_err_and c.from_residual-in_err-marks.result c.from_residual-in_err-marks.ensures.1 in
+pub returns-in_err-check_marked : goal.returns-in_err-check_marked
+returns-in_err-check_marked g c =
+    let p = err_from_is_err_and c.from_residual-in_err-check_marked.result c.from_residual-in_err-check_marked.ensures.1 in
     let checked = refused_of c.args.rules (call_of g.B.Source c.args.trace.now c.read_compact.new.source) c.args.formula.now c.in_ok-whole.whole
-    (Err p.0) c.in_err-marks.field-0.0 (cc p.2) c.in_ok-whole.ensures.exact c.in_ok-whole.ensures.devices.works
-    (rw (c.sets.ensures, c.result.ensures.value) at c.in_err-marks.ensures.refused) in (
+    (Err p.0) c.in_err-check_marked.field-0.0 (cc p.2) c.in_ok-whole.ensures.exact c.in_ok-whole.ensures.devices.works
+    (rw (c.sets.ensures, c.result.ensures.value) at c.in_err-check_marked.ensures.refused) in (
       Err p.0,
       (
         checked,
@@ -32,9 +32,9 @@ pub returns : goal.returns
 returns g c =
     let is_result = c.result.ensures.value in
     let w = verified_of c.args.rules (call_of g.B.Source c.args.trace.now c.read_compact.new.source) c.args.formula.now c.in_ok-whole.whole
-    c.in_ok-marks.marks c.in_ok-whole.ensures.exact c.in_ok-whole.ensures.devices.works
-    (rw (c.sets.ensures, is_result) at c.in_ok-marks.ensures.proves) c.in_ok-marks.ensures.core
-    (rw is_result at c.in_ok-marks.ensures.truth) in
+    c.in_ok-check_marked.field-0 c.in_ok-whole.ensures.exact c.in_ok-whole.ensures.devices.works
+    (rw (c.sets.ensures, is_result) at c.in_ok-check_marked.ensures.proves) c.in_ok-check_marked.ensures.core
+    (rw is_result at c.in_ok-check_marked.ensures.truth) in
     rw (c.is_sat.ensures, c.result-2.ensures.value) (
       w.0,
       (

@@ -1,6 +1,11 @@
-use Rattle.qrp_rules.proofs.Cited.{rules, tests, cases_from_any, YieldsList-from_slice, Literal, negated, positive, ◌∈◌, any_members}
+use Rattle.qrp_rules.proofs.Cited.{rules, tests, arith, common_steps, false≢true, clean_from_same, cases_from_any, YieldsList-from_slice, Literal, negated, positive, ◌∈◌, any_members}
 use Rattle.qbf_core.proofs.Order.{clash_from}
+use Rattle.qrp_rules.proofs.MembersDecide.{same_self}
+use Rattle.qrp_rules.proofs.ReductsByMembers.{not_clean}
 use Rattle.qrp_rules.proofs.initial.has_clash.Goals as goal
+
+pub returns-then-is_ordered : goal.returns-then-is_ordered
+returns-then-is_ordered c = grind (arith, common_steps, false≢true, not_clean, clean_from_same, same_self)
 
 pub returns : goal.returns
 returns c =

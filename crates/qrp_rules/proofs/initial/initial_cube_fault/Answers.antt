@@ -2,11 +2,11 @@ use Rattle.qrp_rules.proofs.Cited.{arith, refl, sym, inl, inr, List, ◌⊎◌, 
 use Rattle.qrp_rules.proofs.ReductsByMembers.{each_got}
 use Rattle.qrp_rules.proofs.initial.initial_cube_fault.Goals as goal
 
-pub returns-then-not-is_tautology : goal.returns-then-not-is_tautology
-returns-then-not-is_tautology c =
+pub returns-then-not-has_clash : goal.returns-then-not-has_clash
+returns-then-not-has_clash c =
     inl (
       (λ all. elim (all c.clause-clause.result.now (got_in _ c.loop-i.i _ c.clause-clause.ensures)) [
-        | inl t ↦ false≢true (sym c.if-not-is_tautology.true ∙ c.is_tautology.ensures.1 t)
+        | inl t ↦ false≢true (sym c.if-not-has_clash.true ∙ c.has_clash.ensures.1 t)
         | inr w ↦ false≢true (sym c.if-has_common_literal.false ∙ c.has_common_literal.ensures.1 w)
       ]),
       refl,
@@ -14,7 +14,7 @@ returns-then-not-is_tautology c =
 
 pub loop-i-preserved : goal.loop-i-preserved
 loop-i-preserved c = each_got (λ (z : List Literal). IsTautology z ⊎ ((m : Literal) × (m ∈ z) × (m ∈ c.args.set.now))) _ c.loop-i.i
-    c.clause-clause.result.now c.clause-clause.ensures (inl (c.is_tautology.ensures.0 c.if-not-is_tautology.false)) c.loop-i.invariant
+    c.clause-clause.result.now c.clause-clause.ensures (inl (c.has_clash.ensures.0 c.if-not-has_clash.false)) c.loop-i.invariant
 
 pub loop-i-preserved-then-has_common_literal : goal.loop-i-preserved-then-has_common_literal
 loop-i-preserved-then-has_common_literal c =

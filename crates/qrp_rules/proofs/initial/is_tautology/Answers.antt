@@ -1,13 +1,15 @@
-use Rattle.qrp_rules.proofs.Cited.{Err, common_steps, arith, false≢true, clean_from_same, ap, ◌∙◌}
-use Rattle.qrp_rules.proofs.MembersDecide.{same_self}
+use Rattle.qrp_rules.proofs.Cited.{false≢true, refl}
+use Rattle.qbf_core.proofs.Order.{clash_from}
 use Rattle.qrp_rules.proofs.ReductsByMembers.{not_clean}
 use Rattle.qrp_rules.proofs.initial.is_tautology.Goals as goal
 
-pub returns-then-is_ordered : goal.returns-then-is_ordered
-returns-then-is_ordered c = grind (arith, common_steps, false≢true, not_clean, clean_from_same, same_self)
+pub returns-then-branch : goal.returns-then-branch
+returns-then-branch c =
+    (λ t. absurd (false≢true t), λ h. absurd (not_clean c.args.clause.now h (c.in_ok-surely_clean.ensures c.if-branch.true)))
 
-pub returns-in-Ok : goal.returns-in-Ok
-returns-in-Ok c = (λ t. absurd (false≢true t), λ h. absurd (not_clean c.args.clause.now h c.in-Ok.ensures.fit.0))
-
-pub returns-in-Err-E2 : goal.returns-in-Err-E2
-returns-in-Err-E2 c = (λ t. absurd (false≢true t), λ h. absurd (not_clean c.args.clause.now h (c.from_slice.ensures.clean (c.in-Err-E2.is ∙ ap (λ e. Err e) c.in-Err-E2.field-0-is))))
+pub returns-in-Some : goal.returns-in-Some
+returns-in-Some c =
+    let told = c.in-Some.ensures in (
+      (λ t. clash_from c.args.clause.now _ told.0 (c.set_each.ensures _ told.1)),
+      (λ h. refl),
+    )

@@ -1,6 +1,5 @@
-use Rattle.std.proofs.Common.{◌≡◌, Some, sym, ◌∙◌, arith}
+use Rattle.std.proofs.Common.{sym, ◌∙◌, arith}
 use Rattle.qbf_core.proofs.Members.{at_place}
-use Rattle.qrp_check.proofs.CoreStep.{found_late, not_found}
 use Rattle.qrp_check.proofs.hints.Hints.find_again.Goals as goal
 
 pub returns-then-number : goal.returns-then-number

@@ -9,7 +9,7 @@ from array import array
 from itertools import chain, compress, repeat
 from operator import contains, itemgetter
 
-from qrptools.cut import literals
+from qrptools.games.cut import literals
 from qrptools.steps import integers, lists_of
 from qrptools.trimmed import trimmed_blocks
 

@@ -13,8 +13,8 @@ from itertools import chain
 from qrptools.command import Ends, unusable, writing
 from qrptools.formula import EXISTS, FOR_ALL, Formula, is_clean
 from qrptools.program import run_program, why_not
-from qrptools.restriction import Steps, antecedents
-from qrptools.cut import Cut, count_lines, literals, spelled
+from qrptools.games.restriction import Steps, antecedents
+from qrptools.games.cut import Cut, count_lines, literals, spelled
 from qrptools.step_rules import SIDES
 from qrptools.trimmed import result
 from qrptools.words import read
@@ -48,7 +48,7 @@ class State:
 
     def __init__(self, formula, trimmed, any_pivot):
         """The beginning, of the files of the formula and of the trimmed trace."""
-        formula = Formula(read(formula))
+        self.formula = formula = Formula(read(formula))
         self.variables, self.blocks, self.any_pivot = formula.variables, blocks_of(formula), any_pivot
         self.result = result(trimmed)
         self.side = SIDES[self.result]

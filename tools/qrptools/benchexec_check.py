@@ -1,0 +1,34 @@
+"""How BenchExec runs 'qrp_cmd check'. In a benchmark definition the tool is qrptools.benchexec_check; tools/ has to be on PYTHONPATH.
+
+A task has two input files, the formula and the trace, in this order: its task-definition file lists both. docs/MANY.md shows one.
+"""
+
+import benchexec.result as result
+import benchexec.tools.template
+
+from qrptools.command import version
+
+ANSWERS = {"VERIFIED true": result.RESULT_TRUE_PROP, "VERIFIED false": result.RESULT_FALSE_PROP}
+REFUSED = (1, 2)  # statuses of the program
+
+
+class Tool(benchexec.tools.template.BaseTool2):
+    def name(self):
+        return "qrp_cmd"
+
+    def version(self, executable):
+        return version() or ""
+
+    def executable(self, tool_locator):
+        return tool_locator.find_executable("qrp_cmd", subdir="bin")
+
+    def cmdline(self, executable, options, task, rlimits):
+        return [executable, "check", *options, *task.input_files]
+
+    def determine_result(self, run):
+        """The verdict by the program's line and its status. A refused proof says nothing of the formula."""
+        line = run.output[0].strip() if run.output else ""
+        status = run.exit_code.value
+        if status == 0:
+            return ANSWERS.get(line, result.RESULT_ERROR)
+        return result.RESULT_UNKNOWN if status in REFUSED and line.startswith("REFUSED ") else result.RESULT_ERROR

@@ -1,0 +1,103 @@
+"""The files of a check: plain ones, compressed ones that are unpacked by a pipe, and the standard input. A part of tools/check.
+
+A compressed file is known by its first bytes. The standard program unpacks it, and qrp_cmd reads what it writes, so that neither a copy is
+made nor the whole is in memory.
+"""
+
+import os
+import re
+import shutil
+import stat
+import subprocess
+from contextlib import contextmanager
+
+from qrptools.command import not_read, read_file, started, unusable
+from qrptools.looks import MAGIC
+
+UNPACKERS = {"gzip": "gzip", "bzip2": "bzip2", "xz": "xz", "zstd": "zstd"}  # the program by what looks.py says
+PACKAGES = {"xz": "xz-utils"}  # of Debian, if it is not called as the program
+STANDARD_INPUT = "/dev/stdin"
+DESCRIPTOR = re.compile(r"/(?:dev|proc/self)/fd/([0-9]{1,6})")  # the name of a file that is open already, such as a pipe of the shell
+
+
+class Source:
+    """A file of a check: its name, whether its bytes can be read again, and how it is compressed, if it is."""
+
+    def __init__(self, path):
+        self.path = STANDARD_INPUT if path == "-" else path
+        self.unpacker, self.process, self.file = None, None, None
+        self.is_regular = self.has_mode(stat.S_ISREG)
+        if self.is_regular:
+            self.unpacker = UNPACKERS.get(kind_of(self.path))
+
+    def has_mode(self, test):
+        try:
+            return test(os.stat(self.path).st_mode)
+        except OSError:
+            return False
+
+    @contextmanager
+    def opened(self):
+        """While this holds, the program can read the file by the name that is yielded, and by these descriptors."""
+        if not self.unpacker:
+            own = DESCRIPTOR.fullmatch(self.path)
+            yield self.path, (int(own[1]),) if own else ()
+            return
+        if not shutil.which(self.unpacker):
+            package = PACKAGES.get(self.unpacker, self.unpacker)
+            raise unusable(f"{self.path} is compressed, and there is no {self.unpacker} on this machine (on Debian: apt-get install {package})")
+        try:
+            self.file = open(self.path, "rb", buffering=0)
+        except OSError as fault:
+            raise unusable(not_read(self.path, fault)) from fault
+        with self.file, started([self.unpacker, "-dc"], stdin=self.file, stdout=subprocess.PIPE, stderr=subprocess.PIPE) as self.process:
+            yield f"/dev/fd/{self.process.stdout.fileno()}", (self.process.stdout.fileno(),)
+
+    def close_pipe(self):
+        """Lets the program be the only reader, so that what unpacks ends with it."""
+        if self.process:
+            self.process.stdout.close()
+
+    def complaint(self):
+        """Why the file could not be unpacked to its end, None if it could, or if its end was not asked for."""
+        if not self.process:
+            return None
+        said = self.process.stderr.read().decode(errors="replace").strip().split("\n")
+        status = self.process.wait()
+        return None if status in (0, -13, 141) else said[-1] or f"{self.unpacker} ended with status {status}"
+
+    def share_read(self, program):
+        """Which share of the file was read so far, by this process of the program; None if it is not known."""
+        try:
+            size = os.stat(self.path).st_size
+            place = os.lseek(self.file.fileno(), 0, os.SEEK_CUR) if self.file else place_of(program, os.path.realpath(self.path))
+            return min(1.0, place / size) if self.is_regular and size and place is not None else None
+        except (OSError, ValueError):
+            return None
+
+    def read(self):
+        """All bytes, unpacked."""
+        if not self.unpacker:
+            return read_file(self.path)
+        with self.opened():
+            return self.process.stdout.read()
+
+
+def kind_of(path):
+    """How a file is compressed by its first bytes, None if it is not, or cannot be read."""
+    try:
+        with open(path, "rb") as file:
+            head = file.read(8)
+    except OSError:
+        return None
+    return next((kind for magic, kind in MAGIC if head.startswith(magic)), None)
+
+
+def place_of(process, path):
+    """Where a process is in a file that it has open, None if it has not."""
+    folder = f"/proc/{process}/fd"
+    for number in os.listdir(folder):
+        if os.readlink(f"{folder}/{number}") == path:
+            with open(f"/proc/{process}/fdinfo/{number}") as about:
+                return int(about.readline().split()[1])
+    return None

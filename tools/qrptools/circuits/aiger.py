@@ -1,0 +1,194 @@
+"""Reads circuits in AIGER, ASCII and binary (Biere 2007; version 1.9: Biere, Heljanko, Wieringa 2011). A part of tools/from-aiger.
+
+A literal is an even number for a variable and the next odd one for its negation; 0 is false and 1 is true.
+"""
+
+import re
+from collections import namedtuple
+
+from qrptools.command import finding
+
+HEADER = re.compile(rb"(aag|aig)((?: [0-9]+){5,9})")
+KINDS = {"i": "input", "l": "latch", "o": "output", "b": "bad state", "c": "constraint", "j": "justice property", "f": "fairness constraint"}
+GREATEST = 2**30  # variables of a circuit
+
+# A latch: its literal, that of its next value, and its value at the beginning: 0, 1, or its own literal if that is any.
+Latch = namedtuple("Latch", "literal next reset")
+
+
+class Circuit:
+    """A circuit: the literals of its inputs and so on in their order, the two inputs of each gate by its literal, and the names of the
+    user by kind and place."""
+
+    def __init__(self):
+        self.inputs, self.latches, self.outputs, self.bads, self.constraints = [], [], [], [], []
+        self.gates, self.names = {}, {}
+
+    def name(self, kind, place):
+        """The name of an input, a latch or the like; without a symbol it is the kind and the place, as i0."""
+        return self.names.get((kind, place), f"{kind}{place}")
+
+    def order(self, roots):
+        """The gates that these literals depend on, each after its inputs; None if a gate depends on itself."""
+        found, state, stack = [], {}, [root & ~1 for root in reversed(roots)]
+        while stack:
+            gate = stack[-1]
+            if gate not in self.gates or state.get(gate) == "done":
+                stack.pop()
+            elif state.get(gate) == "begun":
+                state[gate] = "done"
+                found.append(stack.pop())
+            else:
+                state[gate] = "begun"
+                below = [literal & ~1 for literal in self.gates[gate]]
+                if any(state.get(other) == "begun" for other in below):
+                    return None
+                stack += below
+        return found
+
+
+class Reader:
+    """Reads a file of this name, of these bytes. Each fault ends the command with a line that says where it is."""
+
+    def __init__(self, path, data):
+        self.path, self.data, self.at, self.line = path, data, 0, 0
+        self.circuit, self.defined = Circuit(), {}
+
+    def refuse(self, what):
+        where = f"line {self.line}" if self.line else f"byte {self.at}"
+        return finding(f"{self.path}, {where}: {what}")
+
+    def text(self):
+        """The next line, None at the end."""
+        if self.at >= len(self.data):
+            return None
+        end = self.data.find(b"\n", self.at)
+        end = len(self.data) if end < 0 else end
+        line, self.at, self.line = self.data[self.at : end], end + 1, self.line + 1
+        return line.rstrip(b"\r")
+
+    def numbers(self, what, least, most):
+        """The numbers of the next line, of which there are so many."""
+        line = self.text()
+        if line is None:
+            raise self.refuse(f"the file ends before {what}")
+        words = line.split(b" ")
+        if not least <= len(words) <= most or not all(word.isdigit() and len(word) < 11 for word in words):
+            wanted = f"{least} number{'s' if least > 1 else ''}" if least == most else f"{least} to {most} numbers"
+            raise self.refuse(f"{what} is wanted, {wanted}")
+        return list(map(int, words))
+
+    def literal(self, what):
+        return self.used(*self.numbers(what, 1, 1))
+
+    def used(self, literal):
+        """A literal that is in range."""
+        if literal > 2 * self.greatest + 1:
+            raise self.refuse(f"the literal {literal} is above {2 * self.greatest + 1}, the greatest by the header")
+        return literal
+
+    def define(self, literal, what):
+        """A literal that gets its meaning here."""
+        if self.used(literal) < 2 or literal % 2:
+            raise self.refuse(f"{what} has the literal {literal}, which is not an even number above 0")
+        if literal in self.defined:
+            raise self.refuse(f"the literal {literal} is defined twice, as {self.defined[literal]} and as {what}")
+        self.defined[literal] = what
+        return literal
+
+    def read(self):
+        """The circuit."""
+        self.read_header()
+        circuit = self.circuit
+        circuit.inputs = [self.define(self.input_literal(place), f"input {place}") for place in range(self.counts["I"])]
+        circuit.latches = [self.latch(place) for place in range(self.counts["L"])]
+        for letter, literals, what in (("O", circuit.outputs, "output"), ("B", circuit.bads, "bad state"), ("C", circuit.constraints, "constraint")):
+            literals += [self.literal(f"{what} {place}") for place in range(self.counts[letter])]
+        self.read_gates()
+        self.read_symbols()
+        self.refuse_undefined()
+        return circuit
+
+    def read_header(self):
+        found = HEADER.fullmatch(self.text() or b"")
+        if not found:
+            raise self.refuse("the file is no circuit in AIGER, which begins with aag or aig and five to nine numbers")
+        self.is_binary = found[1] == b"aig"
+        numbers = list(map(int, found[2].split()))
+        self.greatest, *rest = numbers
+        self.counts = dict(zip("ILOABCJF", [*rest, 0, 0, 0, 0]))
+        if self.greatest > GREATEST or max(rest) > GREATEST:
+            raise self.refuse(f"the header has a number above {GREATEST}")
+        if self.counts["J"] or self.counts["F"]:
+            raise self.refuse("the circuit has justice or fairness properties, which are about infinite runs: no number of steps decides them")
+        least = self.counts["I"] + self.counts["L"] + self.counts["A"]
+        if self.greatest < least or self.is_binary and self.greatest != least:
+            raise self.refuse(f"the header says {self.greatest} variables, and the inputs, latches and gates are {least}")
+
+    def input_literal(self, place):
+        return 2 * (place + 1) if self.is_binary else self.literal(f"input {place}")
+
+    def latch(self, place):
+        what = f"latch {place}"
+        if self.is_binary:
+            literal, (following, *reset) = 2 * (self.counts["I"] + place + 1), self.numbers(what, 1, 2)
+        else:
+            literal, following, *reset = self.numbers(what, 2, 3)
+        self.define(literal, what)
+        if reset and reset[0] not in (0, 1, literal):
+            raise self.refuse(f"{what} begins with {reset[0]}, which is not 0, 1 or its literal {literal}")
+        return Latch(literal, self.used(following), reset[0] if reset else 0)
+
+    def read_gates(self):
+        for place in range(self.counts["A"]):
+            what = f"gate {place}"
+            if self.is_binary:
+                literal = self.define(2 * (self.counts["I"] + self.counts["L"] + place + 1), what)
+                one = literal - self.difference(what)
+                other = one - self.difference(what)
+                if not 0 <= other <= one < literal:
+                    raise self.refuse(f"{what} has an input that comes after it")
+            else:
+                literal, one, other = self.numbers(what, 3, 3)
+                self.define(literal, what)
+            self.circuit.gates[literal] = (self.used(one), self.used(other))
+
+    def difference(self, what):
+        """A number of the binary form: seven bits in each byte, the lowest first, and a high bit in all but the last one."""
+        number = shift = 0
+        self.line = 0
+        while self.at < len(self.data) and shift < 35:
+            byte = self.data[self.at]
+            self.at += 1
+            number |= (byte & 127) << shift
+            shift += 7
+            if byte < 128:
+                return number
+        raise self.refuse(f"the file ends before {what}" if self.at >= len(self.data) else f"{what} has a number that is too long")
+
+    def read_symbols(self):
+        line = self.text()
+        while line is not None and line != b"c":
+            found = re.fullmatch(rb"([ilobcjf])([0-9]+) (.+)", line)
+            if not found and line:
+                raise self.refuse("a symbol is wanted, such as 'i0 NAME', or the line 'c' before comments")
+            if found:
+                kind, place = found[1].decode(), int(found[2])
+                if place >= self.counts[kind.upper()]:
+                    raise self.refuse(f"there is no {KINDS[kind]} {place}")
+                self.circuit.names[kind, place] = found[3].decode(errors="replace").strip()
+            line = self.text()
+
+    def refuse_undefined(self):
+        """Ends the command if a literal is used that has no meaning, or if a gate depends on itself."""
+        circuit, self.line = self.circuit, 0
+        used = [*circuit.outputs, *circuit.bads, *circuit.constraints, *(latch.next for latch in circuit.latches)]
+        for literal in (*used, *(literal for inputs in circuit.gates.values() for literal in inputs)):
+            if literal > 1 and literal & ~1 not in self.defined:
+                raise finding(f"{self.path}: the literal {literal} is used, and neither an input nor a latch nor a gate")
+        if circuit.order([*used, *circuit.gates]) is None:
+            raise finding(f"{self.path}: a gate depends on itself")
+
+
+def read_circuit(path, data):
+    return Reader(path, data).read()

@@ -1,0 +1,88 @@
+"""The list of proofs and the table of their checks. A part of tools/check-many."""
+
+import json
+import os
+from collections import Counter, namedtuple
+
+from qrptools.command import read_file, unusable, version
+
+FLAG, TRUTHS = "--qu", ("true", "false")
+LOST = 255  # the status of what is not known
+
+# A line of the list. The files are as they are written there; the flag is a minus if there is none, and so is the expected truth.
+Pair = namedtuple("Pair", "name formula trace flag expected")
+
+# What a check came to: the program's line or a word of LIMITS, the status, the seconds, those of the processor, and the peak memory.
+Result = namedtuple("Result", "line status seconds cpu_seconds kilobytes")
+UNKNOWN = Result("LOST", str(LOST), "-", "-", "-")
+
+
+def lines_of(data):
+    """The lines of a file, with names of any bytes."""
+    return [os.fsdecode(line) for line in data.replace(b"\r\n", b"\n").split(b"\n")]
+
+
+def read_list(path):
+    """The lines of a list as pairs."""
+    pairs = []
+    for number, line in enumerate(lines_of(read_file(path, "the list")), 1):
+        if line.strip() and not line.startswith("#"):
+            pairs.append(pair_of(line.split("\t"), f"line {number} of {path}"))
+    return pairs
+
+
+def pair_of(fields, where):
+    """The pair of a line's fields: after the files a flag and a truth, each at most once, in any order; blank fields say nothing."""
+    more = [field for field in fields[3:] if field not in ("", "-")]
+    truths = [field for field in more if field in TRUTHS]
+    flags = [field for field in more if field == FLAG]
+    if len(fields) < 3 or not all(fields[:3]) or len(truths) > 1 or len(flags) > 1 or len(truths) + len(flags) < len(more):
+        raise unusable(f"{where} is not a name, a formula, a trace and perhaps {FLAG}, and true or false, separated by tabs")
+    return Pair(*fields[:3], *(flags or "-"), *(truths or "-"))
+
+
+def is_as_expected(pair, result):
+    """Whether a proof was verified, and of the truth that the list expects, if it does."""
+    return result.line.startswith("VERIFIED ") and pair.expected in ("-", result.line.split()[1])
+
+
+def text_row(pair, result):
+    """The row of the table as text."""
+    return "\t".join([pair.name, *result[:3], result.kilobytes, result.cpu_seconds, pair.expected])
+
+
+def json_row(pair, result):
+    """The row of the table as JSON. What is not known is null."""
+    lost = result.seconds == "-"
+    files = {"formula": pair.formula, "trace": pair.trace, "qu": pair.flag == FLAG}
+    figures = [None, None, None] if lost else [float(result.seconds), float(result.cpu_seconds), int(result.kilobytes)]
+    return json.dumps(
+        {
+            "name": pair.name,
+            **files,
+            "expected": {"true": True, "false": False}.get(pair.expected),
+            "line": result.line,
+            "status": int(result.status),
+            **dict(zip(("seconds", "cpu_seconds", "kilobytes"), figures)),
+            "version": version(),
+        }
+    )
+
+
+def summary(pairs, results):
+    """One line on all rows: how many were verified, what became of the others, and what it took."""
+    verified = [result.line for result in results if result.line.startswith("VERIFIED ")]
+    truths = ", ".join(f"{verified.count(f'VERIFIED {truth}')} {truth}" for truth in TRUTHS)
+    line = f"{len(verified)} of {len(pairs)} proofs were verified ({truths})"
+    others = Counter(kind_of(result.line) for result in results if not result.line.startswith("VERIFIED "))
+    line += "".join(f", {count} {kind}" for kind, count in sorted(others.items()))
+    known = [result for result in results if result.seconds != "-"]
+    seconds, peak = sum(float(result.cpu_seconds) for result in known), max((int(result.kilobytes) for result in known), default=0)
+    line += f"; {seconds:.1f} s of CPU time, at most {peak / 1000:.0f} MB"
+    wrong = [pair.name for pair, result in zip(pairs, results) if result.line.startswith("VERIFIED ") and not is_as_expected(pair, result)]
+    return line + (f"; {len(wrong)} not of the truth that the list expects: {', '.join(wrong[:5])}" + (" .." if len(wrong) > 5 else "") if wrong else "")
+
+
+def kind_of(line):
+    """The first word of a line, or the two of NO MEMORY."""
+    return line if line == "NO MEMORY" else (line.split() or ["nothing"])[0]

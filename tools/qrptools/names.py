@@ -1,0 +1,87 @@
+"""The user's names of variables. A part of tools/play, tools/solve, tools/explain and tools/draw-proof.
+
+A file of names has a variable and its name on each line; lines that begin with # are passed over. The names NAME[3], NAME[2] and so on are
+those of a bus, the bits of a number.
+"""
+
+import re
+
+from qrptools.command import read_file, unusable
+from qrptools.words import GREATEST_VARIABLE
+
+LISTED = 20  # variables in a message
+BIT = re.compile(r"(.+)\[([0-9]{1,4})\]")
+NUMBER = re.compile(r"[0-9]+|0x[0-9a-fA-F]+|0b[01]+")
+FORMS = "write NAME, NAME=1, -NAME, !NAME or NAME=0, or BUS=NUMBER for the bits BUS[0], BUS[1] and so on; a number is a NAME too"
+
+
+class Names:
+    """The names of variables. Without a file they are numbers."""
+
+    def __init__(self, path=None):
+        self.names, self.variables, self.buses = {}, {}, {}
+        lines = read_file(path).decode(errors="surrogateescape").split("\n") if path else []
+        for place, line in enumerate(lines, 1):
+            words = line.split()
+            if words and not words[0].startswith("#"):
+                self.take(words, f"{path}, line {place}")
+
+    def take(self, words, where):
+        if len(words) != 2 or not is_variable(words[0]):
+            raise unusable(f"{where}: a variable and a name of one word are wanted")
+        variable, name = int(words[0]), words[1]
+        if name[0] in "-!~#" or NUMBER.fullmatch(name):
+            raise unusable(f"{where}: a name does not begin with -, !, ~ or # and is not a number")
+        if variable in self.names or name in self.variables:
+            raise unusable(f"{where}: the variable has a name already, or the name a variable")
+        self.names[variable], self.variables[name] = name, variable
+        bit = BIT.fullmatch(name)
+        if bit and str(int(bit[2])) == bit[2]:
+            self.buses.setdefault(bit[1], {})[int(bit[2])] = variable
+
+    def name(self, variable):
+        return self.names.get(variable, str(variable))
+
+    def shown(self, literals):
+        """Literals as text."""
+        return " ".join(("-" if literal < 0 else "") + self.name(abs(literal)) for literal in literals)
+
+    def listed(self, variables):
+        """Variables as text, of many the first."""
+        rest = f" and {len(variables) - LISTED} more" if len(variables) > LISTED else ""
+        return self.shown(variables[:LISTED]) + rest
+
+    def values(self, literals):
+        """The values of a bus as a number, for each bus of two bits or more of which all bits are among the literals."""
+        given = {abs(literal): literal > 0 for literal in literals}
+        for bus, bits in self.buses.items():
+            if len(bits) > 1 and all(variable in given for variable in bits.values()):
+                yield bus, sum(given[variable] << place for place, variable in bits.items())
+
+    def literals(self, word):
+        """The literals that a word of a reply means; None if it means none."""
+        name, is_false = (word[1:], True) if word[:1] in ("-", "!", "~") else (word, False)
+        variable = self.variable(name)
+        if variable:
+            return [-variable if is_false else variable]
+        name, equals, number = word.rpartition("=")
+        variable = self.variable(name)
+        if not equals or not NUMBER.fullmatch(number) or variable and number not in ("0", "1"):
+            return None
+        return [variable if number == "1" else -variable] if variable else self.bits(name, number)
+
+    def variable(self, name):
+        """The variable of this name or number, 0 if there is none."""
+        return self.variables.get(name) or (int(name) if is_variable(name) else 0)
+
+    def bits(self, bus, number):
+        """The literals of the bits of a bus that has this number, None if it has too few or there is no such bus."""
+        value = int(number, 10 if number.isdecimal() else 0) if len(number) < 1200 else -1
+        bits = self.buses.get(bus, {})
+        if value < 0 or value >> (max(bits, default=-1) + 1) or any(value >> place & 1 and place not in bits for place in range(value.bit_length())):
+            return None
+        return [variable if value >> place & 1 else -variable for place, variable in bits.items()] or None
+
+
+def is_variable(word):
+    return re.fullmatch("0*[1-9][0-9]{0,9}", word, re.ASCII) and int(word) <= GREATEST_VARIABLE
