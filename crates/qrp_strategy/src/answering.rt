@@ -1,13 +1,13 @@
 //! From the command line to a run over files.
 
-ghost use Rattle.std.specs.Prelude.{◌≡◌, map, IfOk, IfErr};
+ghost use Rattle.std.specs.Prelude.{◌≡◌, Bool, map, IfOk, IfErr};
 ghost use Rattle.std.specs.String.{string_bytes};
 ghost use Rattle.qrp_cli.specs.Output.{Report, Errors, IsReported};
 ghost use Rattle.qrp_cli.specs.Program.{start_report};
 ghost use Rattle.qrp_rules.specs.declared.rules.Rules.{Rules};
 ghost use Rattle.qrp_strategy.specs.Program.{IsOnBoth, IsOnFiles, IsOnOpened, IsProgram};
 
-use crate::running::run;
+use crate::running::{Task, run};
 use crate::words::request;
 use qbf_text::{Sink, Source};
 use qrp_check::Rules;
@@ -19,11 +19,11 @@ use std::alloc::Global;
 /// # Errors
 /// How the program ends if one of them is not opened.
 fn open_both<F: Open>(files: &F, formula: &str, trace: &str) -> Result<(F::File, F::File), Start>
-    ensures opened { IfOk result (λ f. (rules : Rules) (r : Report)
-        → IsOnBoth F.File.Source rules f.0 f.1 r
-        → IsOnFiles F.File.Source (F.opens files.now) rules formula.now trace.now r) }
-    ensures refused { IfErr result (λ start. (rules : Rules)
-        → IsOnFiles F.File.Source (F.opens files.now) rules formula.now trace.now
+    ensures opened { IfOk result (λ f. (rules : Rules) (binary : Bool) (r : Report)
+        → IsOnBoth F.File.Source rules binary f.0 f.1 r
+        → IsOnFiles F.File.Source (F.opens files.now) rules binary formula.now trace.now r) }
+    ensures refused { IfErr result (λ start. (rules : Rules) (binary : Bool)
+        → IsOnFiles F.File.Source (F.opens files.now) rules binary formula.now trace.now
         (start_report Errors start)) }
 {
     let formula = open_file(files, formula, Start::NoFormula)?;
@@ -33,17 +33,16 @@ fn open_both<F: Open>(files: &F, formula: &str, trace: &str) -> Result<(F::File,
 
 /// Writes the strategy for the opened files, or reports why they are not opened.
 fn run_opened<F: Source, O: Sink, E: Sink>(
-    alloc: Global,
-    rules: Rules,
+    task: Task,
     opened: &mut Result<(F, F), Start>,
     out: &mut O,
     err: &mut E,
 ) -> Status
-    ensures { (r : Report) × IsOnOpened F.Source rules opened.old opened.new r
+    ensures { (r : Report) × IsOnOpened F.Source task.rules task.binary opened.old opened.new r
         × IsReported O.Sink out.old out.new E.Sink err.old err.new r result }
 {
     match opened {
-        Ok((formula, trace)) => run(alloc, rules, formula, trace, out, err),
+        Ok((formula, trace)) => run(task, formula, trace, out, err),
         Err(start) => stop(err, *start),
     }
 }
@@ -80,7 +79,12 @@ pub fn program<F: Open, O: Sink, E: Sink>(
         Some(asked) => {
             let formula = texts[asked.formula].as_str();
             let mut opened = open_both(files, formula, texts[asked.trace].as_str());
-            run_opened(alloc, asked.rules, &mut opened, out, err)
+            let task = Task {
+                alloc,
+                rules: asked.rules,
+                binary: asked.binary,
+            };
+            run_opened(task, &mut opened, out, err)
         }
         None => stop(err, Start::Usage),
     }

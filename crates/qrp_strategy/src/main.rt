@@ -8,6 +8,7 @@
 //! - Read first: `run`, `program`, `request`.
 //! - Tested only: over the built program.
 //! - Trusted: std's files, arguments and streams, as `main` uses them.
+//! - On the map: the program qrp_strategy.
 #![tactic(auto)]
 
 mod answering;

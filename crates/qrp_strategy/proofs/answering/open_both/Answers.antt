@@ -8,7 +8,7 @@ pub returns-in_err-trace-clause-refused : goal.returns-in_err-trace-clause-refus
 returns-in_err-trace-clause-refused g c =
     let why = c.in_err-trace.ensures.refused in
     let p = err_from_is_err_and c.from_residual-in_err-trace.result c.from_residual-in_err-trace.ensures.1 in
-    rw p.1 (λ rules. inr (
+    rw p.1 (λ rules binary. inr (
       c.in_ok-formula.formula,
       c.in_ok-formula.ensures.file,
       c.in_ok-formula.ensures.failures,

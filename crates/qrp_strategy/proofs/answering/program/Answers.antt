@@ -14,7 +14,7 @@ returns-in-Some-clause-words g c =
       done.0,
       of_row g.F.File.Source (g.F.Open.opens c.args.files.now) _ c.as_slice-texts.result.now _ q.asked _ _ _ _ q.ensures.row q.ensures.within
           c.index-texts-asked.is c.as_str-formula.ensures.value c.index-texts-asked-in-Some.is c.as_str.ensures.value
-          (on_files g.F.File.Source (g.F.Open.opens c.args.files.now) c.as_str-formula.result.now c.as_str.result.now q.asked.rules
+          (on_files g.F.File.Source (g.F.Open.opens c.args.files.now) c.as_str-formula.result.now c.as_str.result.now q.asked.rules q.asked.binary
           files.result _ done.0 files.ensures.opened files.ensures.refused done.1),
       done.2,
     )
