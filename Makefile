@@ -1,6 +1,7 @@
 # make          proves and builds the program at bin/qrp_cmd
 # make demo     the same, and runs it on real examples
 # make lib      proves and builds the library for C: lib/libqrp.a and lib/libqrp.so
+# make strategy proves and builds the program that writes the winner's strategy, at bin/qrp_strategy
 # make check    tests what is built
 # make test     proves what has changed, builds it, and runs all tests
 # make gate     the whole: every proof from nothing, the mutants, all tests
@@ -17,6 +18,7 @@
 PREFIX ?= /usr/local
 RT ?= rt
 PROGRAM = bin/qrp_cmd
+STRATEGY = bin/qrp_strategy
 # only for the tests
 ECHO = bin/qrp_echo
 PROVED = bin/proved
@@ -36,7 +38,7 @@ LIBRARY_TESTS = crates/formula_tests/out/formula_tests_tests crates/trace_tests/
 LIBDIR ?= $(PREFIX)/lib
 MANDIR ?= $(PREFIX)/share/man
 
-.PHONY: all lib static demo check test proved-before gate bench dist wheel deb image install uninstall help clean
+.PHONY: all lib strategy static demo check test proved-before gate bench dist wheel deb image install uninstall help clean
 .PHONY: test-refusals test-program test-derivations test-tools test-examples test-library test-dist test-install test-many test-proofs
 .PHONY: test-definitions test-checks test-pages
 
@@ -47,6 +49,13 @@ $(PROGRAM): $(SOURCES)
 	RT=$(RT) gate/prove qrp_cmd
 	mkdir -p bin
 	cp crates/qrp_cmd/out/qrp_cmd $(PROGRAM)
+
+strategy: $(STRATEGY)
+
+$(STRATEGY): $(SOURCES)
+	RT=$(RT) gate/prove qrp_strategy
+	mkdir -p bin
+	cp crates/qrp_strategy/out/qrp_strategy $(STRATEGY)
 
 lib: $(LIBRARY)
 
@@ -75,6 +84,7 @@ proved-before:
 	mkdir -p bin
 	cp crates/qrp_cmd/out/qrp_cmd $(PROGRAM)
 	cp crates/qrp_echo/out/qrp_echo $(ECHO)
+	cp crates/qrp_strategy/out/qrp_strategy $(STRATEGY)
 	touch $(PROVED)
 
 test: $(PROVED)
