@@ -66,7 +66,6 @@ LEFT = {
     ("docs/INSTALL.md", "make && sha256sum"): TOOLCHAIN,
     ("docs/MANY.md", "PYTHONPATH=tools benchexec"): "BenchExec is not here",
     ("docs/STRATEGY.md", "bin/qrp_strategy"): "it is built from the sources alone; tests/strategy/test-strategy runs it",
-    ("docs/STRATEGY.md", "qrp_strategy [--qu]"): "it says how a command is written",
     ("docs/TUTORIAL.md", "for all "): "a prefix",
     ("docs/MANY.md", "tools/check-many --sshlogin"): "tests/tools/test-many has machines of its own",
     ("docs/PLAY.md", "examples/parity.sh"): "it takes minutes",

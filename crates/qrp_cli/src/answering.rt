@@ -18,7 +18,7 @@ use qbf_text::{Sink, SliceSource, Source, put_bytes};
 use std::alloc::Global;
 
 /// Ends before a job begins. The status stays whether or not the line went out.
-fn stop<S: Sink>(sink: &mut S, start: Start) -> Status
+pub fn stop<S: Sink>(sink: &mut S, start: Start) -> Status
     ensures { IsSent S.Sink sink.old sink.new (start_line start) (start_status start)
         (start_status start) result }
 {
@@ -43,7 +43,7 @@ fn refuse<O: Sink, E: Sink>(job: Job, start: Start, out: &mut O, err: &mut E) ->
 ///
 /// # Errors
 /// How the program ends if it is not opened; `no_file` if it cannot be.
-fn open_file<F: Open>(files: &F, path: &str, no_file: Start) -> Result<F::File, Start>
+pub fn open_file<F: Open>(files: &F, path: &str, no_file: Start) -> Result<F::File, Start>
     ensures file { IfOk result (λ f. F.opens files.now path.now (Ok (F.File.remaining f))) }
     ensures failures { IfOk result (λ f. F.File.failures f ≡ 0) }
     ensures refused { IfErr result (λ start. (e : OpenFault)

@@ -20,10 +20,10 @@ mod running;
 mod start;
 mod words;
 
-pub use answering::program;
+pub use answering::{open_file, program, stop};
 pub use job::Job;
 pub use open::{LIMIT, Open};
 pub use open_fault::OpenFault;
-pub use running::{Status, run};
+pub use running::{Status, finish_sent, run, send_fault};
 pub use start::Start;
-pub use words::request;
+pub use words::{is_word, request};

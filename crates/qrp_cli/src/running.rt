@@ -37,7 +37,7 @@ pub type Status = u8;
 const DEVICE_FAILED: Status = 3;
 
 /// Finishes a sink if the text that was to go out to it did, and returns the status.
-fn finish_sent<S: Sink>(sink: &mut S, sent: Result<(), SinkFault>, status: Status) -> Status
+pub fn finish_sent<S: Sink>(sink: &mut S, sent: Result<(), SinkFault>, status: Status) -> Status
     ensures { (before : S) (text : List ℕ)
         → IsPut S.written S.failures S.failed_last before sink.old text sent
         → IsSent S.Sink before sink.new text status 3 result }
@@ -60,7 +60,7 @@ fn send_formula<S: Sink>(sink: &mut S, formula: &Formula) -> Status
 }
 
 /// Sends the line for a fault.
-fn send_fault<S: Sink>(sink: &mut S, fault: &Fault) -> Status
+pub fn send_fault<S: Sink>(sink: &mut S, fault: &Fault) -> Status
     ensures { IsSent S.Sink sink.old sink.new (fault_line fault.now)
         (fault_status fault.now) 3 result }
 {

@@ -8,7 +8,7 @@ use crate::job::Job;
 use qrp_check::Rules;
 
 /// Whether the word is this one.
-fn is_word(word: &String, name: &str) -> bool
+pub fn is_word(word: &String, name: &str) -> bool
     ensures { IsTrue result ↔ (string_bytes word.now ≡ name.now) }
 {
     word.as_str() == name

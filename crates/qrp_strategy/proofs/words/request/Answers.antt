@@ -1,0 +1,42 @@
+use Rattle.std.proofs.Common.{ℕ, Bool, true, false, ap, ◌≡◌, ◌∙◌, inl, inr, codes, string_bytes}
+use Rattle.qrp_cli.specs.Words.{any_pivot}
+use Rattle.qrp_rules.specs.declared.rules.Rules.{Rules}
+use Rattle.qrp_strategy.specs.declared.words.Command.{Command}
+use Rattle.qrp_strategy.proofs.StrategyReport.{flag_first, flags_first, two_of}
+use Rattle.qrp_strategy.proofs.words.request.Goals as goal
+
+-- what is asked for, by its rules
+abbrev asked : Bool → ℕ → ℕ → Rules → Command
+asked binary formula trace rules = record { rules = rules; binary = binary; formula = formula; trace = trace }
+
+pub returns-in-len2-clause-row : goal.returns-in-len2-clause-row
+returns-in-len2-clause-row c =
+    let two = two_of (λ w. string_bytes w) c.args.words.now c.in-len2.len_at_least c.in-len2.len_below in
+    (two.0, two.1, inl (two.2, c.asked.ensures ∙ ap (asked false 0 1) c.plain.ensures))
+
+pub returns-in-len3-clause-row : goal.returns-in-len3-clause-row
+returns-in-len3-clause-row c =
+    let three = flag_first (λ w. string_bytes w) c.args.words.now c.flag-item.result (codes "--qu") c.in-len3.len_at_least c.in-len3.len_below
+    c.flag-item.is (c.is_word.ensures.0 c.if-is_word.true) in
+    (three.0, three.1, inr (inl (three.2, c.asked-in-len3.ensures ∙ ap (asked false 1 2) c.any_pivot.ensures)))
+
+pub returns-in-len3-2-clause-row : goal.returns-in-len3-2-clause-row
+returns-in-len3-2-clause-row c =
+    let flag = c.flag-item-then-words-lt4 in
+    let three = flag_first (λ w. string_bytes w) c.args.words.now flag.result (codes "--binary") c.in-len3.len_at_least c.in-len3.len_below
+    flag.is (c.is_word-then-words-lt4.ensures.0 c.if-is_word-2.true) in
+    (three.0, three.1, inr (inr (inl (three.2, c.asked-in-len3-2.ensures ∙ ap (asked true 1 2) c.plain-in-len3-2.ensures))))
+
+pub returns-in-len4-clause-row : goal.returns-in-len4-clause-row
+returns-in-len4-clause-row c =
+    let is : c.asked-in-len4.result ≡ asked true 2 3 any_pivot = c.asked-in-len4.ensures ∙ ap (asked true 2 3) c.any_pivot-in-len4.ensures in
+    elim (c.are_both.ensures.0 c.if-are_both.true) [
+      | inl (qu, binary) ↦
+          let four = flags_first (λ w. string_bytes w) c.args.words.now c.first-item.result c.second-item.result (codes "--qu") (codes "--binary")
+          c.in-len4.len_at_least c.in-len4.len_below c.first-item.is c.second-item.is qu binary in
+          (four.0, four.1, inr (inr (inr (inl (four.2, is)))))
+      | inr (binary, qu) ↦
+          let four = flags_first (λ w. string_bytes w) c.args.words.now c.first-item.result c.second-item.result (codes "--binary") (codes "--qu")
+          c.in-len4.len_at_least c.in-len4.len_below c.first-item.is c.second-item.is binary qu in
+          (four.0, four.1, inr (inr (inr (inr (four.2, is)))))
+    ]

@@ -1,0 +1,45 @@
+-- The report of a run: the text of a circuit, or a refusal.
+use Rattle.std.specs.Prelude.{◌≡◌, ℕ, Bool, true, false, List, Result, Ok, Err, codes}
+use Rattle.std.specs.Io.KnownBytes.{Appends}
+use Rattle.aiger.specs.Binary.{binary_text}
+use Rattle.aiger.specs.Circuits.{Circuit}
+use Rattle.aiger.specs.Texts.{ascii_text}
+use Rattle.qbf_text.specs.declared.sink.Sink.{Ghosts}
+use Rattle.qrp_check.specs.Checked.{SourceCall}
+use Rattle.qrp_check.specs.declared.fault.CheckFault.TheVariants.{C5}
+use Rattle.qrp_check.specs.declared.verdict.Fault.{Fault}
+use Rattle.qrp_check.specs.declared.verdict.Fault.TheVariants as fault
+use Rattle.qrp_cli.specs.Output.{Errors, Report, success}
+use Rattle.qrp_report.specs.Lines.{fault_line, line}
+use Rattle.qrp_report.specs.Refusals.{fault_status}
+use Rattle.qrp_rules.specs.declared.rules.Rules.{Rules}
+use Rattle.qrp_winner.specs.Strategies.{IsOfVerdict, IsOfWinner}
+use Rattle.qrp_winner.specs.declared.fault.StrategyFault.{StrategyFault}
+use Rattle.qrp_winner.specs.declared.fault.StrategyFault.TheVariants.{Check, NoCircuit, NoMemory}
+use Rattle.qrp_winner.specs.declared.strategy.Strategy.{Strategy}
+
+-- a refusal of a text or of the proof, on the sink for errors
+abbrev pub refusal : Fault → Report
+refusal e = record { sink = Errors; text = fault_line e; status = fault_status e; failed = 3 }
+
+-- the text of a circuit in AIGER's binary or ASCII format
+abbrev pub circuit_text : (binary : Bool) → Circuit → List ℕ
+circuit_text true c = binary_text c
+circuit_text false c = ascii_text c
+
+-- the text of the circuit, or why there is none; out of memory is reported as that of a check
+abbrev pub strategy_report : (binary : Bool) → Result Strategy StrategyFault → Report
+strategy_report binary (Ok s) = success (circuit_text binary s.circuit)
+strategy_report binary (Err (Check e)) = refusal e
+strategy_report binary (Err NoMemory) = refusal (fault.Check C5)
+strategy_report binary (Err NoCircuit) = record { sink = Errors; text = line (codes "NO CIRCUIT"); status = 4; failed = 3 }
+
+-- the report on two texts
+abbrev pub IsOutput : Rules → (binary : Bool) → SourceCall → SourceCall → Report → Type 0
+IsOutput rules binary formula trace r =
+    (result : Result Strategy StrategyFault) × IsOfVerdict rules formula trace result × (r ≡ strategy_report binary result)
+
+-- the text of a circuit went out to a sink, and the circuit is a strategy of the winner
+abbrev pub WritesWinner : {S : Type 0} → Ghosts S → S → S → (binary : Bool) → List ℕ → List ℕ → Type 0
+WritesWinner sink old new binary formula trace =
+    (s : Strategy) × IsOfWinner formula trace s × Appends (sink.written old) (sink.written new) (circuit_text binary s.circuit)

@@ -1,0 +1,106 @@
+//! From two sources to two sinks.
+
+ghost use Rattle.std.specs.Prelude.{◌≡◌, List, ℕ, Some, codes};
+ghost use Rattle.aiger.specs.Binary.{binary_text};
+ghost use Rattle.aiger.specs.Texts.{ascii_text};
+ghost use Rattle.qrp_check.specs.Checked.{call_of};
+ghost use Rattle.qrp_cli.specs.Output.{IsReported, IsSent, Report};
+ghost use Rattle.qrp_report.specs.Lines.{line};
+ghost use Rattle.qrp_strategy.specs.Output.{IsOutput, WritesWinner, circuit_text, strategy_report};
+
+use aiger::{Circuit, put_ascii, put_binary};
+use qbf_text::{Sink, Source, put_bytes};
+use qrp_check::{CheckFault, Fault, Rules};
+use qrp_cli::{Status, finish_sent, send_fault};
+use qrp_winner::{Strategy, StrategyFault, find_strategy};
+use std::alloc::Global;
+
+/// Sends the text of a circuit in AIGER's ASCII format.
+fn send_ascii<S: Sink>(sink: &mut S, circuit: &Circuit) -> Status
+    ensures { IsSent S.Sink sink.old sink.new (ascii_text circuit.now) 0 3 result }
+{
+    let sent = put_ascii(circuit, sink);
+    finish_sent(sink, sent, 0)
+}
+
+/// Sends the text of a circuit in AIGER's binary format.
+fn send_binary<S: Sink>(sink: &mut S, circuit: &Circuit) -> Status
+    ensures { IsSent S.Sink sink.old sink.new (binary_text circuit.now) 0 3 result }
+{
+    let sent = put_binary(circuit, sink);
+    finish_sent(sink, sent, 0)
+}
+
+/// Sends the text of a circuit in one of the formats.
+fn send_circuit<S: Sink>(sink: &mut S, binary: bool, circuit: &Circuit) -> Status
+    ensures { IsSent S.Sink sink.old sink.new (circuit_text binary circuit.now) 0 3 result }
+{
+    if binary {
+        send_binary(sink, circuit)
+    } else {
+        send_ascii(sink, circuit)
+    }
+}
+
+/// Sends the line for a circuit that was not made.
+fn send_no_circuit<S: Sink>(sink: &mut S) -> Status
+    ensures { IsSent S.Sink sink.old sink.new (line (codes "NO CIRCUIT")) 4 3 result }
+{
+    let sent = put_bytes(sink, b"NO CIRCUIT\n");
+    finish_sent(sink, sent, 4)
+}
+
+/// Sends the circuit to `out`, or the line for the refusal to `err`.
+fn send_strategy<O: Sink, E: Sink>(
+    out: &mut O,
+    err: &mut E,
+    binary: bool,
+    found: Result<Strategy, StrategyFault>,
+) -> Status
+    ensures { IsReported O.Sink out.old out.new E.Sink err.old err.new
+        (strategy_report binary found) result }
+{
+    match found {
+        Ok(strategy) => send_circuit(out, binary, &strategy.circuit),
+        Err(StrategyFault::Check(fault)) => send_fault(err, &fault),
+        Err(StrategyFault::NoMemory) => send_fault(err, &Fault::Check(CheckFault::C5)),
+        Err(StrategyFault::NoCircuit) => send_no_circuit(err),
+    }
+}
+
+/// What to do, and where memory is taken from.
+#[derive(Clone, Copy)]
+pub struct Task {
+    /// Where memory is taken from.
+    pub alloc: Global,
+    /// The rules by which the trace is checked.
+    pub rules: Rules,
+    /// Whether the circuit is to be written in AIGER's binary format.
+    pub binary: bool,
+}
+
+/// Reads a formula and a trace, and writes the circuit of the winner to `out`, or a refusal to
+/// `err`. The other sink gets nothing.
+///
+/// If the bytes of both sources are known and the status is 0, what went out to `out` is the text
+/// of a circuit by which the winner wins. A source that fails is reported in a line with status 3,
+/// out of memory in a line with status 4. If the sink of the report fails, in a write or in
+/// `finish`, the status is 3 and a beginning of the text went out.
+pub fn run<F: Source, T: Source, O: Sink, E: Sink>(
+    task: Task,
+    formula: &mut F,
+    trace: &mut T,
+    out: &mut O,
+    err: &mut E,
+) -> Status
+    ensures report { (r : Report)
+        × IsOutput task.rules task.binary (call_of F.Source formula.old formula.new)
+        (call_of T.Source trace.old trace.new) r
+        × IsReported O.Sink out.old out.new E.Sink err.old err.new r result }
+    ensures headline { (a b : List ℕ) → F.remaining formula.old ≡ Some a
+        → T.remaining trace.old ≡ Some b → result ≡ 0
+        → WritesWinner O.Sink out.old out.new task.binary a b }
+{
+    let found = find_strategy(task.alloc, formula, trace, task.rules);
+    send_strategy(out, err, task.binary, found)
+}
