@@ -96,7 +96,8 @@ def try_compressed(use):
         packed = pack(TRACE.read_bytes())
         for name, data in ("cut", packed[: len(packed) // 2]), ("damaged", packed[:40] + bytes(byte ^ 0x55 for byte in packed[40:60]) + packed[60:]):
             status, out, said = use.run(FORMULA, use.file(f"{name}.{ending}", data))
-            expect(f"{ending}: a file that is {name}", status == 3 and not out and f"{use.folder}/{name}.{ending} cannot be unpacked: " in said, (status, out, said))
+            wanted = f"{use.folder}/{name}.{ending} cannot be unpacked: "
+            expect(f"{ending}: a file that is {name}", status == 3 and not out and wanted in said and "ended with status" not in said, (status, out, said))
         more = use.file(f"more.{ending}", pack(TRACE.read_bytes() + b"c a word that comes later\n" * 100000))
         expect(f"{ending}: more than the program reads", use.run(FORMULA, more)[:2] == (0, "VERIFIED false\n"), use.run(FORMULA, more))
         status, _, said = use.run(FORMULA, odd, env={**use.environment, "PATH": str(use.folder)})

@@ -137,7 +137,7 @@ def shown(name, step, steps):
 
 def try_circuits(program, folder):
     """The formula of a random circuit says what the simulation says, in both forms of the file."""
-    answers = set()
+    answers, dropped = set(), False
     for seed in range(CIRCUITS):
         sample, pick = Sample(seed), random.Random(-seed)
         steps = pick.randint(1, 2) if sample.latches else 1
@@ -160,14 +160,17 @@ def try_circuits(program, folder):
         expect(f"circuit {seed}: a formula", read.returncode == 0, (read, formula))
         pairs, clauses = read_formula(formula)
         named = dict(line.split() for line in texts[0][2].splitlines())
-        prefix = prefix_of(sample, steps, wanted, once)
+        whole = prefix_of(sample, steps, wanted, once)
+        used = {name for _, name, step in whole if shown(name, step, steps) in named.values()}
+        prefix = [it for it in whole if it[1] in used]  # an input is left out of all steps, or of none
+        dropped |= len(prefix) < len(whole)
         found = [(quantifier, named.get(str(variable))) for quantifier, variable in pairs[: len(prefix)]]
         expect(f"circuit {seed}: the prefix {words}", found == [(quantifier, shown(name, step, steps)) for quantifier, name, step in prefix], (found, prefix))
         expect(f"circuit {seed}: the rest are gates", all(quantifier == "e" for quantifier, _ in pairs[len(prefix) :]), pairs)
-        answer = is_true(sample, steps, prefix)
+        answer = is_true(sample, steps, whole)
         answers.add(answer)
         expect(f"circuit {seed}: what the formula says", truth(pairs, clauses) == answer, (words, formula))
-    expect("there are both answers", answers == {True, False})
+    expect("there are both answers, and inputs that are not used", answers == {True, False} and dropped)
 
 
 HALF = "aag 3 2 0 1 1\n2\n4\n6\n6 4 2\ni0 x\ni1 y\no0 both\n"
@@ -242,9 +245,10 @@ def try_text(folder):
     expect("the formula of a gate", ended.stdout.decode() == wanted, ended)
     expect("what is said of it", ended.stderr.decode() == f"{TOOL}: exists x, for all y, exists 1 gate: 1 clause of what has to hold; 3 variables\n", ended)
     for text, wanted, said in (
-        ("aag 1 1 0 1 0\n2\n1\n", "p cnf 1 0\na 1 0\n", ""),
-        ("aag 1 1 0 1 0\n2\n0\n", "p cnf 1 1\na 1 0\n0\n", "o0 cannot hold, whatever the inputs are\n"),
-        ("aag 2 1 0 1 1\n2\n4\n4 3 2\n", "p cnf 1 1\na 1 0\n0\n", "o0 cannot hold"),
+        ("aag 1 1 0 1 0\n2\n1\n", "p cnf 0 0\n", "no variable: 0 clauses of what has to hold; 0 variables\n"),
+        ("aag 1 1 0 1 0\n2\n0\n", "p cnf 0 1\n0\n", "o0 cannot hold, whatever the inputs are\n"),
+        ("aag 2 1 0 1 1\n2\n4\n4 3 2\n", "p cnf 0 1\n0\n", "o0 cannot hold"),
+        ("aag 2 2 0 1 0\n2\n4\n5\ni0 clk\n", "p cnf 1 1\na 1 0\n-1 0\n", "not used, and left out: clk\n"),
         ("aag 0 0 0 1 0\n1\n", "p cnf 0 0\n", ""),
     ):
         path.write_text(text)
@@ -258,7 +262,7 @@ def try_steps(folder):
     path = folder / "latch"
     path.write_text(LATCH)
     for steps, said in (
-        (1, "for all i0: 1 clause of what has to hold; 1 variable"),
+        (1, "no variable: 1 clause of what has to hold; 0 variables"),
         (3, "for all i0@0, for all i0@1, for all i0@2: 3 clauses of what has to hold; 3 variables"),
         (1000, "for all i0@4, for all i0@5, and 994 more blocks in this way: 1000 clauses of what has to hold; 1000 variables"),
     ):
@@ -276,11 +280,14 @@ def try_verilog(folder):
     made = subprocess.run(["yosys", "-q", "-p", script], capture_output=True, check=False)
     ended = run("--exists", "h_*", "--names", folder / "average.names", folder / "average.aig")
     expect("yosys, and the formula", made.returncode == 0 and ended.returncode == 0, (made, ended))
-    stored = (ROOT / "examples" / "average" / "average.aag").read_bytes()
-    (folder / "average.aag").write_bytes(stored)
-    again = run("--exists", "h_*", folder / "average.aag")
+    again = run("--exists", "h_*", ROOT / "examples" / "average" / "average.aag")
     sizes = [ended.stdout.decode().partition("p cnf ")[2].split("\n")[1:3] for ended in (ended, again)]
     expect("the stored circuit has the same question", sizes[0] == sizes[1], sizes)
+    script = f"read_verilog -formal {ROOT}/examples/arbiter/arbiter.v; synth -flatten -top arbiter; dffunmap; aigmap; write_aiger -symbols -zinit {folder}/arbiter.aig"
+    made = subprocess.run(["yosys", "-q", "-p", script], capture_output=True, check=False)
+    words = ["--steps", "3", "--forall", "r*", "--exists", "g*"]
+    texts = [run(*words, path).stdout.decode().partition("p cnf ")[2] for path in (folder / "arbiter.aig", ROOT / "examples" / "arbiter" / "arbiter.aag")]
+    expect("yosys, registers and assertions", made.returncode == 0 and texts[0] == texts[1] and texts[0].startswith("33 76\n"), (made, texts))
 
 
 def main():
@@ -292,7 +299,7 @@ def main():
         try_text(folder)
         try_steps(folder)
         try_verilog(folder)
-    return finish(649)
+    return finish(651)
 
 
 if __name__ == "__main__":

@@ -49,12 +49,16 @@ def blocks_of(inputs: dict[int, Input], wanted: list[tuple[str, str]]) -> list[B
 
 
 class Encoding:
-    """The formula of what an unrolled circuit has to do."""
+    """The formula of what an unrolled circuit has to do. Inputs that it uses in no step, such as a clock, are left out."""
 
     def __init__(self, unrolled: Unrolled, wanted: list[tuple[str, str]], steps: int) -> None:
         self.unrolled, self.steps = unrolled, steps
-        self.blocks = blocks_of(unrolled.inputs, wanted)
-        self.gates = unrolled.needed_gates()
+        needed = unrolled.needed()
+        used = {it.name for literal, it in unrolled.inputs.items() if literal in needed}
+        self.unused = list(dict.fromkeys(it.name for it in unrolled.inputs.values() if it.name not in used))
+        self.inputs = {literal: it for literal, it in unrolled.inputs.items() if it.name in used}
+        self.blocks = blocks_of(self.inputs, wanted)
+        self.gates = [gate for gate in unrolled.gates if gate in needed]  # each after its inputs
         order = [literal for _, literals in self.blocks for literal in literals] + self.gates
         self.variables = {literal: number for number, literal in enumerate(order, 1)}
 
@@ -93,7 +97,7 @@ class Encoding:
         """The lines of the file of names: those of the inputs, in a step with its number before the bit of a bus, and of the gates that what
         has to hold is about alone, with not_ before the name if it is the negation of the gate."""
         seen: set[str] = set()
-        called = [(literal, named(it, self.steps)) for literal, it in self.unrolled.inputs.items()]
+        called = [(literal, named(it, self.steps)) for literal, it in self.inputs.items()]
         outputs = {literals[0] & ~1: (literals[0] & 1, "_".join(about.split())) for about, literals in self.unrolled.clauses if len(literals) == 1}
         called += [(gate, plain(f"not_{name}" if negated else name)) for gate, (negated, name) in outputs.items() if gate in self.unrolled.gates]
         for literal, name in called:
@@ -108,11 +112,12 @@ class Encoding:
         parts = [f"{words[quantifier]} {shown(names)}" for quantifier, names in islice(self.named_blocks(), BLOCKS)]
         parts += [f"and {len(self.blocks) - BLOCKS} more blocks in this way"] if len(self.blocks) > BLOCKS else []
         parts += [f"exists {counted(len(self.gates), 'gate')}"] if self.gates else []
+        parts += [] if parts else ["no variable"]
         return f"{', '.join(parts)}: {counted(len(self.unrolled.clauses), 'clause')} of what has to hold"
 
     def named_blocks(self) -> Iterator[tuple[str, list[str]]]:
         for quantifier, literals in self.blocks:
-            yield quantifier, list(dict.fromkeys(base_of(named(self.unrolled.inputs[literal], self.steps)) for literal in literals))
+            yield quantifier, list(dict.fromkeys(base_of(named(self.inputs[literal], self.steps)) for literal in literals))
 
 
 def counted(count: int, word: str) -> str:

@@ -85,10 +85,10 @@ class Unrolled:
         if 1 not in literals and all(literal ^ 1 not in literals for literal in literals):
             self.clauses.append((about, literals))
 
-    def needed_gates(self) -> list[int]:
-        """The gates that the clauses depend on, each after its inputs."""
+    def needed(self) -> set[int]:
+        """The gates and inputs that the clauses depend on."""
         needed = {literal & ~1 for _, literals in self.clauses for literal in literals}
         for gate in reversed(self.gates):
             if gate in needed:
                 needed.update(literal & ~1 for literal in self.gates[gate])
-        return [gate for gate in self.gates if gate in needed]
+        return needed

@@ -80,7 +80,7 @@ class Log:
         new = f"{self.path}.{os.urandom(4).hex()}.new"
         with self.written():
             self.file = open(new, "xb")
-        with self.file:
+        try:
             try:
                 with self.written():
                     self.file.write(b"".join(os.fsencode(line) + b"\n" for line in self.lines()))
@@ -90,6 +90,9 @@ class Log:
                 os.unlink(new)
                 raise
             yield
+        finally:
+            with self.written():  # what could not be written is tried once more
+                self.file.close()
 
     @contextmanager
     def written(self) -> Iterator[None]:
