@@ -10,7 +10,7 @@ use crate::lists::{is_among, is_ordered};
 use crate::seen::{SeenLits, code, surely_clean};
 use crate::side::Clauses;
 use crate::written_reduct::accepts_reduct;
-use qbf_core::{Formula, Lit, LitSet, Prefix, Quantifier};
+use qbf_core::{Formula, Lit, LitSet, Prefix, Quantifier, SetFault};
 use std::alloc::{AllocError, Global};
 
 /// The word that a literal adds to a sum: its number, multiplied by two odd constants.
@@ -335,8 +335,10 @@ impl InitialClauses {
         }
         match LitSet::from_slice(self.kept.alloc, lits, formula.prefix()) {
             Ok(set) => reduced_clause(self.kept.alloc, formula, set.as_slice()),
-            // The literals are clean and bound, so no other fault is met.
-            Err(_) => Err(AllocError),
+            // The literals are clean and bound, so neither of these is met.
+            Err(SetFault::E1) => Ok(None),
+            Err(SetFault::E2) => Ok(None),
+            Err(SetFault::E3) => Err(AllocError),
         }
     }
 }

@@ -1,7 +1,7 @@
 //! Literals that were met since the last time that all were forgotten.
 
 ghost use Rattle.std.specs.Prelude.{◌≡◌, ◌≢◌, ◌↔◌, ◌+◌, ◌*◌, ◌≤◌, ℕ, ◌⊎◌};
-ghost use Rattle.std.specs.Prelude.{[], false, IsTrue, IfOk, IfSome, get_or, length, take};
+ghost use Rattle.std.specs.Prelude.{[], false, IsTrue, IsOk, IfOk, IfSome, get_or, length, take};
 ghost use Rattle.qbf_core.specs.Blocks.{pairs};
 ghost use Rattle.qbf_core.specs.Literal.{Literal, negated};
 ghost use Rattle.qbf_core.specs.Members.{◌∈◌};
@@ -155,17 +155,33 @@ impl SeenLits {
         }
     }
 
-    /// Puts the literal in, or returns `false` if there is no memory for it.
+    /// Puts the literal in.
+    ///
+    /// # Errors
+    /// If an allocation fails. The literal is not put in then.
     #[tactic(auto, using(crate::proofs::Stamps::stamp_more, crate::proofs::Stamps::code_one, crate::proofs::Stamps::more_stamp))]
-    pub fn insert(&mut self, lit: Lit) -> bool
-        ensures { (l : Literal) → Has self.new l ↔ (Has self.old l ⊎ ((l ≡ lit) × IsTrue result)) }
+    pub fn put(&mut self, lit: Lit) -> Result<(), AllocError>
+        ensures { (l : Literal) → Has self.new l ↔ (Has self.old l ⊎ ((l ≡ lit) × IsOk result)) }
     {
         let number = code(lit);
         if number >= self.stamps.len() {
-            return put_far(&mut self.far, &mut self.failed, number);
+            return put_far(&mut self.far, number);
         }
         self.stamps[number] = self.stamp;
-        true
+        Ok(())
+    }
+
+    /// Puts the literal in, or returns `false` if there is no memory for it.
+    pub(crate) fn insert(&mut self, lit: Lit) -> bool
+        ensures { (l : Literal) → Has self.new l ↔ (Has self.old l ⊎ ((l ≡ lit) × IsTrue result)) }
+    {
+        match self.put(lit) {
+            Ok(()) => true,
+            Err(error) => {
+                self.failed = Some(error);
+                false
+            }
+        }
     }
 
     /// Puts the literal in if there is memory for it, and says whether it was not there.
@@ -220,19 +236,16 @@ fn clear_far(alloc: Global, far: &mut IndexSet<usize>)
     }
 }
 
-/// Puts a number among those that are far, or returns `false` if there is no memory for it.
+/// Puts a number among those that are far.
 #[cold]
 #[inline(never)]
-fn put_far(far: &mut IndexSet<usize>, failed: &mut Option<AllocError>, number: usize) -> bool
+fn put_far(far: &mut IndexSet<usize>, number: usize) -> Result<(), AllocError>
     ensures { (n : ℕ) → IsFar far.new.keys n
-        ↔ (IsFar far.old.keys n ⊎ ((n ≡ number) × IsTrue result)) }
+        ↔ (IsFar far.old.keys n ⊎ ((n ≡ number) × IsOk result)) }
 {
     match far.insert(number) {
-        Ok(_) => true,
-        Err(_) => {
-            *failed = Some(AllocError);
-            false
-        }
+        Ok(_) => Ok(()),
+        Err(_) => Err(AllocError),
     }
 }
 

@@ -1,5 +1,5 @@
 -- From a run over opened files to the report of the program.
-use Rattle.std.proofs.Common.{◌≡◌, ◌<◌, ◌≤◌, ◌∙◌, ℕ, List, [], ◌∷◌, refl, sym, ap, Bool, map, length, get_or, inr, Result, Ok, Err, IfOk, IfErr, arith}
+use Rattle.std.proofs.Common.{◌≡◌, ◌<◌, ◌≤◌, ◌∙◌, ℕ, List, [], ◌∷◌, sym, ap, Bool, map, length, get_or, inr, Result, Ok, Err, IfOk, IfErr, arith}
 use Rattle.std.proofs.lemmas.List.{get_or-map}
 use Rattle.qbf_text.specs.declared.source.Source as source
 use Rattle.qrp_cli.specs.Output.{Errors, Report}
@@ -34,10 +34,11 @@ pub of_row : {A F : Type 0} (files : source.Ghosts F) (opens : Opens) (bytes : A
 of_row files opens bytes xs r q x y first second row within is_x same_x is_y same_y on =
     inr (q, row, rw (word_is bytes xs q.formula x first within.0 is_x same_x, word_is bytes xs q.trace y second within.1 is_y same_y) on)
 
--- two words, and three of which the first is known
-pub two_of : {A : Type 0} (f : A → List ℕ) (xs : List A) → 2 ≤ length xs → length xs < 3 → (y z : List ℕ) × (map f xs ≡ y ∷ z ∷ [])
-two_of f (x ∷ y ∷ []) least below = (f x, f y, refl)
-two_of f xs least below = absurd (omega (arith, least, below))
+-- words of which the first are known
+pub file_first : {A : Type 0} (f : A → List ℕ) (xs : List A) (a : A) → 2 ≤ length xs → length xs < 3 → a ≡ get_or xs 0 a
+    → (z : List ℕ) × (map f xs ≡ f a ∷ z ∷ [])
+file_first f (x ∷ y ∷ []) a least below at_a = (f y, ap (λ (k : List ℕ). k ∷ f y ∷ []) (ap f (sym at_a)))
+file_first f xs a least below at_a = absurd (omega (arith, least, below))
 
 pub flag_first : {A : Type 0} (f : A → List ℕ) (xs : List A) (a : A) (flag : List ℕ) → 3 ≤ length xs → length xs < 4 → a ≡ get_or xs 0 a
     → f a ≡ flag → (y z : List ℕ) × (map f xs ≡ flag ∷ y ∷ z ∷ [])
@@ -45,7 +46,6 @@ flag_first f (x ∷ y ∷ z ∷ []) a flag least below at_a is_a =
     (f y, f z, ap (λ (k : List ℕ). k ∷ f y ∷ f z ∷ []) (ap f (sym at_a) ∙ is_a))
 flag_first f xs a flag least below at_a is_a = absurd (omega (arith, least, below))
 
--- four words, of which the first two are known
 pub flags_first : {A : Type 0} (f : A → List ℕ) (xs : List A) (a b : A) (flag other : List ℕ) → 4 ≤ length xs → length xs < 5
     → a ≡ get_or xs 0 a → b ≡ get_or xs 1 b → f a ≡ flag → f b ≡ other → (y z : List ℕ) × (map f xs ≡ flag ∷ other ∷ y ∷ z ∷ [])
 flags_first f (x ∷ w ∷ y ∷ z ∷ []) a b flag other least below at_a at_b is_a is_b = (

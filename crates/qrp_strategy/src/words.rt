@@ -2,7 +2,7 @@
 
 ghost use Rattle.std.specs.Prelude.{◌≡◌, ◌<◌, ◌+◌, ◌↔◌, ◌⊎◌, codes, map, IfSome, IfNone, IsTrue, length};
 ghost use Rattle.std.specs.String.{string_bytes};
-ghost use Rattle.qrp_strategy.specs.Words.{IsRow};
+ghost use Rattle.qrp_strategy.specs.Words.{IsFlag, IsRow};
 ghost use Rattle.qrp_strategy.specs.declared.words.Command.{Command};
 
 use qrp_check::Rules;
@@ -34,6 +34,16 @@ fn asked(rules: Rules, binary: bool, formula: usize) -> Command
     }
 }
 
+/// Whether the word is none of the flags.
+fn is_file(word: &String) -> bool
+    ensures { IsTrue result ↔ (IsFlag (string_bytes word.now) → ⊥) }
+{
+    if is_word(word, "--qu") {
+        return false;
+    }
+    !is_word(word, "--binary")
+}
+
 /// Whether the words are the two flags, in any order.
 fn are_both(first: &String, second: &String) -> bool
     ensures { IsTrue result
@@ -56,7 +66,7 @@ pub fn request(words: &[String]) -> Option<Command>
         ((r : Command) → IsRow (map (λ w. string_bytes w) words.now) r → ⊥) }
 {
     match words {
-        [_, _] => Some(asked(Rules::plain(), false, 0)),
+        [first, _] if is_file(first) => Some(asked(Rules::plain(), false, 0)),
         [flag, _, _] if is_word(flag, "--qu") => Some(asked(Rules::any_pivot(), false, 1)),
         [flag, _, _] if is_word(flag, "--binary") => Some(asked(Rules::plain(), true, 1)),
         [first, second, _, _] if are_both(first, second) => {

@@ -1,10 +1,10 @@
 -- The literals that a step keeps, and those that are removed, one after the other.
 use Rattle.qrp_rules.proofs.Cited.{◌≡◌, ◌<◌, ◌≤◌, ◌+◌, ◌⊎◌, ◌↔◌, ◌++◌, ℕ, List, [], ◌∷◌, Option, Some, inl, inr, refl, sym, subst}
 use Rattle.qrp_rules.proofs.Cited.{Literal, ◌∈◌, ◌⊆◌, Has, Members, MayOmit, TakesOut, length, take, IsReducible, Side, Block}
-use Rattle.qrp_rules.proofs.Cited.{get_or, in_take_all, in_take_more, take_more_in, take_within, Bool, IsTrue}
+use Rattle.qrp_rules.proofs.Cited.{get_or, in_take_all, in_take_more, take_more_in, take_within}
 use Rattle.qbf_core.proofs.Members.{in_push, push_in}
 use Rattle.qrp_rules.specs.declared.blocks.Reducible.{Reducible}
-use Rattle.std.specs.Prelude.{⊤, Err, Ok, OnOk, Result}
+use Rattle.std.specs.Prelude.{⊤, Err, IsOk, Ok, OnOk, Result}
 use Rattle.qbf_core.specs.Lists.{Growing}
 use Rattle.qrp_winner.specs.Removing.{HasJust, IsLeft, MayLeave, Notes, Removes}
 
@@ -60,12 +60,13 @@ left_all own lits n kept all left = record {
 
 -- ---- a set of literals
 
-pub put_in : (s t : Members) (x : Literal) (done : Bool) → ((l : Literal) → Has t l ↔ (Has s l ⊎ ((l ≡ x) × IsTrue done))) → IsTrue done
-    → (l : Literal) → Has t l ↔ (Has s l ⊎ (l ≡ x))
-put_in s t x done put is l = (
+pub put_in : {E : Type 0} (s t : Members) (x : Literal) (r : Result ⊤ E)
+    → ((l : Literal) → Has t l ↔ (Has s l ⊎ ((l ≡ x) × IsOk r))) → OnOk r ((l : Literal) → Has t l ↔ (Has s l ⊎ (l ≡ x)))
+put_in s t x (Ok _) put = λ l. (
   (λ h. elim ((put l).0 h) [ inl old ↦ inl old | inr e ↦ inr e.0 ]),
-  (λ h. (put l).1 (elim h [ inl old ↦ inl old | inr e ↦ inr (e, is) ])),
+  (λ h. (put l).1 (elim h [ inl old ↦ inl old | inr e ↦ inr (e, refl) ])),
 )
+put_in s t x (Err _) put = tt
 
 pub just_more : (lits : List Literal) (i : ℕ) (x : Literal) (s t : Members) → i < length lits → x ≡ get_or lits i x → HasJust (take i lits) s
     → ((l : Literal) → Has t l ↔ (Has s l ⊎ (l ≡ x))) → HasJust (take (i + 1) lits) t

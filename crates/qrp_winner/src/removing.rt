@@ -48,10 +48,7 @@ pub(crate) fn keep(
 fn put(seen: &mut SeenLits, lit: Lit) -> Result<(), AllocError>
     ensures { OnOk result ((l : Literal) → Has seen.new l ↔ (Has seen.old l ⊎ (l ≡ lit))) }
 {
-    if !seen.insert(lit) {
-        return Err(AllocError);
-    }
-    Ok(())
+    seen.put(lit)
 }
 
 /// Makes a set that of the literals of a list.

@@ -2,7 +2,7 @@ use Rattle.std.proofs.Common.{ℕ, Bool, true, false, ap, ◌≡◌, ◌∙◌, 
 use Rattle.qrp_cli.specs.Words.{any_pivot}
 use Rattle.qrp_rules.specs.declared.rules.Rules.{Rules}
 use Rattle.qrp_strategy.specs.declared.words.Command.{Command}
-use Rattle.qrp_strategy.proofs.StrategyReport.{flag_first, flags_first, two_of}
+use Rattle.qrp_strategy.proofs.StrategyReport.{file_first, flag_first, flags_first}
 use Rattle.qrp_strategy.proofs.words.request.Goals as goal
 
 -- what is asked for, by its rules
@@ -11,8 +11,9 @@ asked binary formula trace rules = record { rules = rules; binary = binary; form
 
 pub returns-in-len2-clause-row : goal.returns-in-len2-clause-row
 returns-in-len2-clause-row c =
-    let two = two_of (λ w. string_bytes w) c.args.words.now c.in-len2.len_at_least c.in-len2.len_below in
-    (two.0, two.1, inl (two.2, c.asked.ensures ∙ ap (asked false 0 1) c.plain.ensures))
+    let first = c.first-item in
+    let two = file_first (λ w. string_bytes w) c.args.words.now first.result c.in-len2.len_at_least c.in-len2.len_below first.is in
+    (string_bytes first.result, two.0, inl (two.1, c.is_file.ensures.0 c.if-is_file.true, c.asked.ensures ∙ ap (asked false 0 1) c.plain.ensures))
 
 pub returns-in-len3-clause-row : goal.returns-in-len3-clause-row
 returns-in-len3-clause-row c =
@@ -32,11 +33,11 @@ returns-in-len4-clause-row c =
     let is : c.asked-in-len4.result ≡ asked true 2 3 any_pivot = c.asked-in-len4.ensures ∙ ap (asked true 2 3) c.any_pivot-in-len4.ensures in
     elim (c.are_both.ensures.0 c.if-are_both.true) [
       | inl (qu, binary) ↦
-          let four = flags_first (λ w. string_bytes w) c.args.words.now c.first-item.result c.second-item.result (codes "--qu") (codes "--binary")
-          c.in-len4.len_at_least c.in-len4.len_below c.first-item.is c.second-item.is qu binary in
+          let four = flags_first (λ w. string_bytes w) c.args.words.now c.first-item-then-words-lt5.result c.second-item.result (codes "--qu") (codes "--binary")
+          c.in-len4.len_at_least c.in-len4.len_below c.first-item-then-words-lt5.is c.second-item.is qu binary in
           (four.0, four.1, inr (inr (inr (inl (four.2, is)))))
       | inr (binary, qu) ↦
-          let four = flags_first (λ w. string_bytes w) c.args.words.now c.first-item.result c.second-item.result (codes "--binary") (codes "--qu")
-          c.in-len4.len_at_least c.in-len4.len_below c.first-item.is c.second-item.is binary qu in
+          let four = flags_first (λ w. string_bytes w) c.args.words.now c.first-item-then-words-lt5.result c.second-item.result (codes "--binary") (codes "--qu")
+          c.in-len4.len_at_least c.in-len4.len_below c.first-item-then-words-lt5.is c.second-item.is binary qu in
           (four.0, four.1, inr (inr (inr (inr (four.2, is)))))
     ]
