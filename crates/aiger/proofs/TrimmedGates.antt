@@ -10,14 +10,15 @@ use Rattle.aiger.specs.Circuits.{AreValues, Circuit, Gate, IsOrdered, IsRun, Kee
 use Rattle.aiger.specs.Trimming.{AddsGate, Agree, IsSame, IsSameCircuit, IsTrimming, IsUntrimmed, OutputsSame}
 use Rattle.aiger.specs.Trimming.{PutsGate}
 use Rattle.aiger.specs.Wires.{Wire, constant, plain, turned, value_at}
-use Rattle.aiger.proofs.KeptGates.{keeps_at, keeps_left, opposite_value, pushed_gates, pushed_value}
+use Rattle.aiger.proofs.Folds.{opposite_value}
+use Rattle.aiger.proofs.KeptGates.{keeps_at, keeps_left, pushed_gates, pushed_value}
 
-turned_value : (run : ℕ → Bool) (w : Wire) (negated : Bool)
+pub turned_value : (run : ℕ → Bool) (w : Wire) (negated : Bool)
     → value_at run (turned w negated) ≡ cond negated (not (value_at run w)) (value_at run w)
 turned_value run w true = opposite_value run w
 turned_value run w false = refl
 
-turned_var : (w : Wire) (negated : Bool) → (turned w negated).var ≡ w.var
+pub turned_var : (w : Wire) (negated : Bool) → (turned w negated).var ≡ w.var
 turned_var w true = refl
 turned_var w false = refl
 
@@ -219,7 +220,7 @@ same_itself c ordered = record {
         (sym (wire_same (suc (length c.inputs) + length c.gates) run other agree o.1 all.0))
         ∙ ap (λ (l : List Bool). value_at run o.1 ∷ l) (values_itself os all.1 run other agree)
 
-take_next : {X : Type 0} (xs : List X) (i : ℕ) (x : X) → slice_get xs i ≡ Some x → take (i + 1) xs ≡ take i xs ++ x ∷ []
+pub take_next : {X : Type 0} (xs : List X) (i : ℕ) (x : X) → slice_get xs i ≡ Some x → take (i + 1) xs ≡ take i xs ++ x ∷ []
 take_next xs i x at = rw (add-one) (from xs i x at)
   where
     from : {X : Type 0} (xs : List X) (i : ℕ) (x : X) → slice_get xs i ≡ Some x → take (suc i) xs ≡ take i xs ++ x ∷ []

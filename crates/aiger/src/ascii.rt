@@ -84,6 +84,22 @@ fn put_symbol<K: Sink>(sink: &mut K, letter: &[u8], n: u64, name: u32) -> Result
         .put(sink)
 }
 
+/// Sends the symbol of the input at a position.
+fn put_input_symbol<K: Sink>(sink: &mut K, n: u64, name: u32) -> Result<(), SinkFault>
+    ensures { IsPut K.written K.failures K.failed_last
+        sink.old sink.new (symbol_line (codes "i") n name) result }
+{
+    put_symbol(sink, b"i", n, name)
+}
+
+/// Sends the symbol of the output at a position.
+fn put_output_symbol<K: Sink>(sink: &mut K, n: u64, name: u32) -> Result<(), SinkFault>
+    ensures { IsPut K.written K.failures K.failed_last
+        sink.old sink.new (symbol_line (codes "o") n name) result }
+{
+    put_symbol(sink, b"o", n, name)
+}
+
 /// The name of the input at a position.
 fn name_at(names: &[u32], i: usize) -> u32
     requires { i < length names.now }
@@ -101,7 +117,7 @@ impl<'a> Put for InputSymbols<'a> {
 
     fn put<K: Sink>(&self, sink: &mut K) -> Result<(), SinkFault> {
         for i in 0..self.0.len() {
-            put_symbol(sink, b"i", i as u64, name_at(self.0, i))?;
+            put_input_symbol(sink, i as u64, name_at(self.0, i))?;
         }
         Ok(())
     }
@@ -125,7 +141,7 @@ impl<'a> Put for OutputSymbols<'a> {
 
     fn put<K: Sink>(&self, sink: &mut K) -> Result<(), SinkFault> {
         for i in 0..self.0.len() {
-            put_symbol(sink, b"o", i as u64, output_name(self.0, i))?;
+            put_output_symbol(sink, i as u64, output_name(self.0, i))?;
         }
         Ok(())
     }

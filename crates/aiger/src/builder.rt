@@ -39,31 +39,45 @@ impl Model for Builder {
     ghost invariant = { λ b. AreGates b.first b.gates.items };
 }
 
+/// Whether the conjunction of two wires is false, since the first is or they are opposite.
+#[tactic(auto, using(crate::proofs::Folds::false_folded, crate::proofs::Folds::opposite_folded))]
+fn surely_false(left: Wire, right: Wire) -> bool
+    ensures { IsTrue result → IsFolded left right (constant false) }
+{
+    if left == Wire::constant(false) {
+        return true;
+    }
+    right == left.opposite()
+}
+
+/// Whether the conjunction of two wires is the second: the first is true, or they are the same.
+#[tactic(auto, using(crate::proofs::Folds::true_folded, crate::proofs::Folds::same_folded))]
+fn surely_second(left: Wire, right: Wire) -> bool
+    ensures { IsTrue result → IsFolded left right right }
+{
+    if left == Wire::constant(true) {
+        return true;
+    }
+    left == right
+}
+
 /// The conjunction of two wires, if it needs no gate: the first is constant, or they are the same
-/// or
-/// opposite.
-#[tactic(auto, using(crate::proofs::KeptGates::false_folded, crate::proofs::KeptGates::true_folded, crate::proofs::KeptGates::same_folded, crate::proofs::KeptGates::opposite_folded))]
+/// or opposite.
 fn folded(left: Wire, right: Wire) -> Option<Wire>
     ensures value { IfSome result (IsFolded left right) }
     ensures one { IfSome result (λ w. (w ≡ constant false) ⊎ (w ≡ right)) }
 {
-    if left == Wire::constant(false) {
+    if surely_false(left, right) {
         return Some(Wire::constant(false));
     }
-    if right == left.opposite() {
-        return Some(Wire::constant(false));
-    }
-    if left == Wire::constant(true) {
-        return Some(right);
-    }
-    if left == right {
+    if surely_second(left, right) {
         return Some(right);
     }
     None
 }
 
 /// The same, if the second wire is looked at too.
-#[tactic(auto, using(crate::proofs::KeptGates::turned_folded))]
+#[tactic(auto, using(crate::proofs::Folds::turned_folded))]
 fn folded_by_either(left: Wire, right: Wire) -> Option<Wire>
     ensures value { IfSome result (IsFolded left right) }
     ensures one { IfSome result (λ w. (w ≡ constant false) ⊎ ((w ≡ left) ⊎ (w ≡ right))) }
@@ -83,7 +97,7 @@ fn hash(gate: &Gate) -> usize {
 }
 
 /// The gate with the greater wire in front, as AIGER's binary format has it.
-#[tactic(auto, using(crate::proofs::KeptGates::turned_gate, crate::proofs::KeptGates::same_gate))]
+#[tactic(auto, using(crate::proofs::Folds::turned_gate, crate::proofs::Folds::same_gate))]
 fn in_order(left: Wire, right: Wire) -> Gate
     ensures value { StandsForBoth left right result }
     ensures one { (result ≡ record { left = left; right = right })
@@ -222,7 +236,7 @@ impl Builder {
     }
 
     /// Puts a gate.
-    #[tactic(auto, using(crate::proofs::KeptGates::pushed_gates, crate::proofs::KeptGates::pushed_value))]
+    #[tactic(auto, using(crate::proofs::KeptGates::pushed_gates))]
     fn push(&mut self, gate: &Gate) -> Result<Wire, GateFault>
         requires left { gate.now.left.var < next_of self.old }
         requires right { gate.now.right.var < next_of self.old }

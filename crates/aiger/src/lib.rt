@@ -1,13 +1,15 @@
 //! Circuits of AND gates, as AIGER writes them.
 //!
-//! - Owns: wires, gates, circuits, and how they are put together.
-//! - Offers: `Circuit`, `Gate`, `Output`, `Wire`; `Builder::and`.
-//! - Proved: a gate has the value of its two wires, whether it is new, folded or one that was
-//!   there.
-//! - Read first: `Builder::and`.
-//! - Tested only: nothing.
+//! - Owns: wires, gates, circuits, how they are put together, and their texts.
+//! - Offers: `Circuit`, `Gate`, `Output`, `Wire`, `Builder`, `Slots`, `trimmed`, `put_ascii`,
+//!   `put_binary`.
+//! - Proved: a gate has the value of its two wires, whether it is new, folded or was there; a
+//!   trimmed circuit has the same outputs; texts go out whole, or a beginning of them.
+//! - Read first: `Builder::and`, `trimmed`; `put_ascii`, `put_binary`.
+//! - Tested only: that a gate is found again, and that one that no output needs is dropped, which
+//!   only the size of a circuit shows.
 //! - Trusted: nothing.
-//! - On the map: Circuit, Builder | circuits of AND gates, and their text in AIGER's formats.
+//! - On the map: circuits of AND gates | and their AIGER texts.
 #![tactic(auto)]
 
 mod ascii;

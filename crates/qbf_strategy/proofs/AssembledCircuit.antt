@@ -1,9 +1,8 @@
 -- One variable more, and the whole circuit.
-use Rattle.std.proofs.Common.{arith, ◌≡◌, ◌<◌, ◌≤◌, ◌+◌, ℕ, zero, suc, Bool, true, false, not, cond, List, [], ◌∷◌, ◌++◌, Some, slice_get}
-use Rattle.std.proofs.Common.{refl, sym, ap, subst, ◌∙◌, length, map, inl, inr, ◌⊎◌, get_or, true≢false, nat_eq, take, Result, Ok, Err}
+use Rattle.std.proofs.Common.{arith, ◌≡◌, ◌<◌, ◌≤◌, ◌+◌, ℕ, suc, Bool, true, false, cond, List, [], ◌∷◌, ◌++◌, Some, slice_get}
+use Rattle.std.proofs.Common.{refl, sym, ap, subst, ◌∙◌, length, map, inl, inr, ◌⊎◌, true≢false, nat_eq, take, Result, Ok, Err}
 use Rattle.std.specs.Prelude.{OnOk, ⊤}
 use Rattle.std.proofs.lemmas.List.Elements.{All-nil, All-push}
-use Rattle.std.proofs.lemmas.List.{length-append}
 use Rattle.std.proofs.lemmas.Option.{get_or_from_slice_get}
 use Rattle.std.specs.List.{AllByRecursion, IsDistinct}
 use Rattle.qbf_core.specs.Blocks.{is_quantifier, variables}
@@ -11,8 +10,8 @@ use Rattle.qbf_core.specs.Members.{◌∈◌}
 use Rattle.qbf_core.specs.declared.quantifier.Quantifier.{Quantifier}
 use Rattle.qbf_core.specs.Literal.{Literal}
 use Rattle.qbf_completeness.specs.Strategies.{literal_of}
-use Rattle.aiger.specs.Building.{Built, Grows, HasValues, next_of}
-use Rattle.aiger.specs.Circuits.{AreValues, Circuit, IsRun, StandBelow}
+use Rattle.aiger.specs.Building.{Built, Grows, next_of}
+use Rattle.aiger.specs.Circuits.{AreValues, Circuit, StandBelow}
 use Rattle.aiger.specs.Wires.{Wire, plain, value_at}
 use Rattle.qbf_strategy.specs.declared.assembling.Assembly.{Assembly}
 use Rattle.qbf_strategy.specs.declared.conditions.Work.{Work}
@@ -21,13 +20,14 @@ use Rattle.qbf_strategy.specs.Assembling.{AllBelow, Tells}
 use Rattle.qbf_strategy.specs.Chains.{HaveChains, with_lists}
 use Rattle.qbf_strategy.specs.Chosen.{AddsInput, AddsOutput, AreAssembled, AreInputs, IsOutput, IsUnassembled, next_input, outputs_of}
 use Rattle.qbf_strategy.specs.Computing.{Computes}
-use Rattle.qbf_strategy.specs.Conditions.{AreConditions, IsCondition, fires, scene}
-use Rattle.qbf_strategy.specs.Decisions.{Decision, are_set, decided, decisions_by, wanted}
+use Rattle.qbf_strategy.specs.Conditions.{AreConditions, fires, scene}
+use Rattle.qbf_strategy.specs.Decisions.{Decision, are_set, decisions_by, wanted}
 use Rattle.qbf_strategy.specs.Winning.{input_literals, opponent, set_in_run, variables_of}
 use Rattle.qbf_strategy.proofs.AssembledWires.{inputs_after, next_after, outputs_mine, outputs_theirs, run_tells}
-use Rattle.qbf_strategy.proofs.ChainedEntries.{got_more, take_next}
+use Rattle.qbf_strategy.proofs.ChainedEntries.{got_more}
+use Rattle.aiger.proofs.TrimmedGates.{take_next}
 use Rattle.qbf_strategy.proofs.ChosenValues.{lists_say}
-use Rattle.qbf_strategy.proofs.ConditionGates.{below_grown, next_grows, values_before}
+use Rattle.qbf_strategy.proofs.ConditionGates.{below_grown, values_before}
 
 -- ---- one wire more
 

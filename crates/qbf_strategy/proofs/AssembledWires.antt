@@ -1,8 +1,6 @@
 -- The wires of a prefix, and what is set in a run of the whole circuit.
-use Rattle.std.proofs.Common.{arith, ◌≡◌, ◌<◌, ◌≤◌, ◌+◌, ◌-◌, ◌==◌, ℕ, zero, suc, Bool, true, false, not, cond, List, [], ◌∷◌, ◌++◌, Some}
-use Rattle.std.proofs.Common.{slice_get, refl, sym, ap, subst, ◌∙◌, length, map, inl, inr, ◌⊎◌, nat_eq, eq-eqb, ne_eqb, true≢false}
-use Rattle.std.proofs.lemmas.Grind.{common_steps}
-use Rattle.std.proofs.lemmas.List.{append-nil}
+use Rattle.std.proofs.Common.{◌≡◌, ℕ, zero, suc, Bool, true, false, not, cond, List, [], ◌∷◌, ◌++◌, Some}
+use Rattle.std.proofs.Common.{slice_get, refl, sym, ap, subst, ◌∙◌, length, map, inl, inr, nat_eq, eq-eqb, ne_eqb, true≢false}
 use Rattle.std.proofs.lemmas.Bool.{cases_Bool}
 use Rattle.std.specs.Bool.{beq}
 use Rattle.std.specs.List.{AllByRecursion, IsDistinct}
@@ -15,12 +13,12 @@ use Rattle.qbf_core.specs.declared.quantifier.Quantifier.TheVariants.{All, Exist
 use Rattle.qbf_core.specs.Literal.{Literal, literal_eq}
 use Rattle.qbf_completeness.specs.Strategies.{literal_of}
 use Rattle.aiger.specs.Wires.{Wire, plain, value_at}
-use Rattle.qbf_strategy.specs.Assembling.{IsAt, Tells, turned}
+use Rattle.qbf_strategy.specs.Assembling.{Tells}
 use Rattle.qbf_strategy.specs.Chosen.{AreInputs, next_input, number_after, outputs_of}
 use Rattle.qbf_strategy.specs.Decisions.{is_set}
 use Rattle.qbf_strategy.specs.Winning.{input_literals, opponent, variables_of}
 use Rattle.qbf_strategy.proofs.ChainedEntries.{at_in, not_self}
-use Rattle.qbf_strategy.proofs.ConditionGates.{turned_value}
+use Rattle.aiger.proofs.TrimmedGates.{turned_value}
 
 -- ---- one variable more
 

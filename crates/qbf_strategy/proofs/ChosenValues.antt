@@ -1,17 +1,16 @@
 -- The value that is chosen for a variable is the one that is decided.
-use Rattle.std.proofs.Common.{arith, ◌≡◌, ◌<◌, ◌≤◌, ◌+◌, ◌-◌, ℕ, zero, suc, Bool, true, false, not, cond, List, [], ◌∷◌, ◌++◌, Some}
-use Rattle.std.proofs.Common.{slice_get, refl, sym, ap, subst, ◌∙◌, length, map, inl, inr, ◌⊎◌, ◌==◌}
+use Rattle.std.proofs.Common.{arith, ◌≡◌, ◌<◌, ◌≤◌, ◌+◌, ◌-◌, ℕ, suc, Bool, true, false, not, cond, List, [], ◌∷◌, Some}
+use Rattle.std.proofs.Common.{slice_get, refl, sym, ap, subst, ◌∙◌, length, map, ◌==◌}
 use Rattle.qbf_core.specs.declared.quantifier.Quantifier.{Quantifier}
 use Rattle.qbf_core.specs.Literal.{Literal}
-use Rattle.aiger.specs.Building.{Built, Grows, HasValues, next_of}
+use Rattle.aiger.specs.Building.{Built, next_of}
 use Rattle.aiger.specs.Wires.{Wire, constant, value_at}
-use Rattle.aiger.proofs.KeptGates.{constant_value}
+use Rattle.aiger.proofs.Folds.{constant_value}
 use Rattle.qbf_strategy.specs.declared.entries.Entry.{Entry}
-use Rattle.qbf_strategy.specs.Assembling.{Tells}
 use Rattle.qbf_strategy.specs.Chains.{Chain, Sayings, evaluated, with_lists, with_literals}
-use Rattle.qbf_strategy.specs.Chosen.{IsChosen, IsChosenAfter, IsLeft}
+use Rattle.qbf_strategy.specs.Chosen.{IsChosen, IsChosenAfter}
 use Rattle.qbf_strategy.specs.Conditions.{AreConditions, IsDecided, Scene, fires}
-use Rattle.qbf_strategy.specs.Decisions.{Decision, are_set, decided, decisions_by, value_in, wanted}
+use Rattle.qbf_strategy.specs.Decisions.{are_set, decided, decisions_by, value_in, wanted}
 use Rattle.qbf_strategy.proofs.ChainedEntries.{chain_none, chain_some}
 use Rattle.qbf_strategy.proofs.ConditionGates.{grows_same, grows_then, values_before}
 

@@ -1,20 +1,22 @@
 -- Gates of conditions, and of what is decided under them.
 use Rattle.std.proofs.Common.{arith, ◌≡◌, ◌<◌, ◌≤◌, ◌+◌, ℕ, zero, suc, Bool, true, false, not, cond, List, [], ◌∷◌, ◌++◌, Some, slice_get}
-use Rattle.std.proofs.Common.{refl, sym, ap, subst, ◌∙◌, length, map, drop, inl, inr, ◌⊎◌}
+use Rattle.std.proofs.Common.{refl, sym, ap, subst, ◌∙◌, length, map, drop, inl, inr}
 use Rattle.std.proofs.lemmas.Option.{get_or_from_slice_get, slice_get_cases, slice_get_within}
 use Rattle.std.proofs.Common.{get_or}
 use Rattle.std.proofs.lemmas.Grind.{common_steps}
 use Rattle.std.proofs.lemmas.List.{length-append, append_assoc}
 use Rattle.std.proofs.Math.ListN.{drop_of_length-le}
-use Rattle.qbf_core.specs.declared.quantifier.Quantifier.{Quantifier}
 use Rattle.qbf_core.specs.Literal.{Literal}
 use Rattle.aiger.specs.Building.{Built, Grows, HasValues, IsBoth, next_of}
 use Rattle.aiger.specs.Circuits.{KeepsGates, both}
 use Rattle.aiger.specs.declared.circuit.Gate.{Gate}
 use Rattle.aiger.specs.Wires.{Wire, constant, opposite, value_at}
-use Rattle.aiger.proofs.KeptGates.{constant_value, keeps_left, opposite_value}
-use Rattle.qbf_strategy.specs.Decisions.{are_set, is_set, wanted}
-use Rattle.qbf_strategy.specs.Assembling.{AllBelow, ArePlaced, Tells, TellAll, all_true, turned, wires_of}
+use Rattle.aiger.proofs.TrimmedGates.{turned_value, turned_var}
+use Rattle.aiger.proofs.Folds.{constant_value, opposite_value}
+use Rattle.aiger.proofs.KeptGates.{keeps_left}
+use Rattle.qbf_strategy.specs.Decisions.{are_set, wanted}
+use Rattle.qbf_strategy.specs.Assembling.{AllBelow, ArePlaced, Tells, all_true, wires_of}
+use Rattle.aiger.specs.Wires.{turned}
 use Rattle.qbf_strategy.specs.Conditions.{AreConditions, GivesCondition, IsCondition, IsConjunction, IsConjunctionBefore, IsDecided}
 use Rattle.qbf_strategy.specs.Conditions.{IsEither, KeptFrom, Scene, fires}
 use Rattle.qbf_strategy.specs.declared.placed.Placed.{Placed}
@@ -103,15 +105,6 @@ conjunction_all old new placed i w past before =
     }
 
 -- ---- one of two values
-
-pub turned_value : (run : ℕ → Bool) (w : Wire) (negative : Bool)
-    → value_at run (turned w negative) ≡ cond negative (not (value_at run w)) (value_at run w)
-turned_value run w true = opposite_value run w
-turned_value run w false = refl
-
-pub turned_var : (w : Wire) (negative : Bool) → (turned w negative).var ≡ w.var
-turned_var w true = refl
-turned_var w false = refl
 
 choose : (value c a : Bool) → cond value (not (both (not c) (cond value (not a) a))) (both (not c) (cond value (not a) a)) ≡ cond c value a
 choose true true true = refl

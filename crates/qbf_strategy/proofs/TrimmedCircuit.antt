@@ -1,7 +1,7 @@
 -- A circuit with the same outputs computes the same decisions.
-use Rattle.std.proofs.Common.{arith, ◌≡◌, ◌<◌, ◌≤◌, ◌+◌, ℕ, zero, suc, Bool, true, false, not, cond, List, [], ◌∷◌, ◌++◌, Some, slice_get}
+use Rattle.std.proofs.Common.{arith, ◌≡◌, ◌<◌, ◌≤◌, ◌+◌, ℕ, suc, Bool, List, [], ◌∷◌, ◌++◌}
 use Rattle.std.proofs.Common.{refl}
-use Rattle.std.proofs.Common.{sym, ap, subst, ◌∙◌, length, map, inl, inr}
+use Rattle.std.proofs.Common.{sym, ap, ◌∙◌, length, map, inl, inr}
 use Rattle.qbf_core.specs.Literal.{Literal}
 use Rattle.qbf_core.specs.Members.{◌∈◌}
 use Rattle.qbf_core.specs.declared.quantifier.Quantifier.{Quantifier}

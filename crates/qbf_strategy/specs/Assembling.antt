@@ -1,23 +1,16 @@
 -- How a circuit is assembled from decisions: wires of variables, conditions, and what is decided on a variable.
-use Rattle.std.specs.Prelude.{◌≡◌, ℕ, suc, drop, ◌<◌, ◌-◌, ◌==◌, Bool, true, false, not, if◌then◌else◌, List, [], ◌∷◌, Some, slice_get, map}
-use Rattle.std.specs.Prelude.{◌⊎◌}
+use Rattle.std.specs.Prelude.{◌≡◌, ℕ, drop, ◌<◌, Bool, true, List, [], ◌∷◌, Some, slice_get, map}
 use Rattle.std.specs.List.{All}
 use Rattle.qbf_core.specs.declared.quantifier.Quantifier.{Quantifier}
-use Rattle.qbf_core.specs.Blocks.{is_quantifier}
 use Rattle.qbf_core.specs.Literal.{Literal}
-use Rattle.aiger.specs.Building.{Built, Grows, HasValues, next_of}
 use Rattle.aiger.specs.Circuits.{both}
-use Rattle.aiger.specs.Wires.{Wire, constant, opposite, plain, value_at}
+use Rattle.aiger.specs.Wires.{Wire, turned, value_at}
 use Rattle.qbf_strategy.specs.declared.placed.Placed.{Placed}
-use Rattle.qbf_strategy.specs.Decisions.{Decision, are_set, decided, is_set, wanted}
+use Rattle.qbf_strategy.specs.Decisions.{are_set, is_set, wanted}
 
 -- the variable v stands at the place i
 abbrev pub IsAt : List (Quantifier × ℕ) → ℕ → ℕ → Type 0
 IsAt ps i v = (q : Quantifier) × (slice_get ps i ≡ Some (q, v))
-
--- the wire, or the opposite one
-abbrev pub turned : Wire → Bool → Wire
-turned w negative = if negative then opposite w else w
 
 -- The wires of the first variables tell in a run which of their literals are among those of s. Each literal that can be made of these
 -- variables is meant.

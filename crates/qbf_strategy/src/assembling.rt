@@ -226,9 +226,10 @@ fn whole_circuit(
 /// is some constant of the output.
 ///
 /// # Errors
-/// `NoMemory` if an allocation fails; `TooLong` if AIGER has no numbers for the gates, or if the
-/// decisions set 4294967295 literals or more; `NoProof` if a decision sees a variable that does not
-/// stand before one that it sets, or has one that is not bound.
+/// `NoMemory` if an allocation fails. `TooLong` if AIGER has no numbers for the gates, or if the
+/// decisions set 4294967295 literals or more. `NoProof` if a decision sees a variable that does not
+/// stand before one that it sets, or has one that is not bound, or if there are more lists of
+/// removed literals than of kept ones.
 pub fn circuit_of(
     alloc: Global,
     prefix: &Prefix,

@@ -5,13 +5,13 @@ ghost use Rattle.std.specs.Prelude.{slice_get};
 ghost use Rattle.qbf_core.specs.Blocks.{pairs};
 ghost use Rattle.aiger.specs.Building.{next_of};
 ghost use Rattle.aiger.specs.Wires.{constant};
-ghost use Rattle.qbf_strategy.specs.Assembling.{AllBelow, turned, wires_of};
+ghost use Rattle.qbf_strategy.specs.Assembling.{AllBelow, wires_of};
 ghost use Rattle.qbf_strategy.specs.Conditions.{AreConditions, GivesCondition, IsConjunction};
 ghost use Rattle.qbf_strategy.specs.Conditions.{IsDecided, IsEither, IsUnused, KeptFrom, scene};
 
 use crate::entries::Entry;
 use crate::fault::CircuitFault;
-use crate::placed::{Here, Placed, place_literals, turned};
+use crate::placed::{Here, Placed, place_literals};
 use aiger::{Builder, GateFault, Wire};
 use std::alloc::{AllocError, Global};
 
@@ -44,8 +44,8 @@ fn either(gates: &mut Builder, condition: Wire, value: bool, after: Wire) -> Res
     requires after { after.var < next_of gates.old }
     ensures { IfOk result (IsEither gates.old gates.new condition value after) }
 {
-    let wire = gates.and(condition.opposite(), turned(after, value))?;
-    Ok(turned(wire, value))
+    let wire = gates.and(condition.opposite(), after.turned(value))?;
+    Ok(wire.turned(value))
 }
 
 impl Work {

@@ -1,4 +1,4 @@
-use Rattle.std.proofs.Common.{arith, rules}
+use Rattle.std.proofs.Common.{arith}
 use Rattle.qbf_strategy.proofs.ConditionGates.{condition_there}
 use Rattle.qbf_strategy.proofs.conditions.condition.Goals as goal
 
