@@ -266,14 +266,26 @@ def try_early(trial):
     del trial.environment["PYTHONPATH"]
 
 
+def end_by(process, number):
+    """What a process prints that a signal ends. Python sees a signal that comes just before a call of the system that waits only when that
+    returns: then it is sent once more."""
+    for _ in range(5):
+        process.send_signal(number)
+        try:
+            return process.communicate(timeout=12)
+        except subprocess.TimeoutExpired:
+            pass
+    process.kill()
+    return process.communicate()
+
+
 def try_signals_on(trial, name, words, begun):
     pid = trial.folder / "pid"
     for number in signal.SIGTERM, signal.SIGINT, signal.SIGHUP:
         pid.unlink(missing_ok=True)
         with subprocess.Popen(words, env=trial.environment, stdout=subprocess.PIPE, stderr=subprocess.PIPE, text=True) as process:
             ready = wait_for(begun)
-            process.send_signal(number)
-            out, err = process.communicate(timeout=60)
+            out, err = end_by(process, number)
         for log in trial.folder.glob("list*.log"):
             log.unlink()
         ended = subprocess.CompletedProcess(words, process.returncode, out, err)
