@@ -13,7 +13,8 @@ pub enum StrategyFault {
     Check(Fault),
     /// An allocation failed once the trace was verified.
     NoMemory,
-    /// The trace was verified, and its circuit was not made: AIGER has no numbers for so many gates.
+    /// The trace was verified, and its circuit was not made: AIGER has no numbers for so many
+    /// gates. It is not proved that there is no other reason.
     NoCircuit,
 }
 
