@@ -117,21 +117,21 @@ module _ (kept : List (List Literal)) where
       let z : k + 0 ≡ k = omega arith in
       let here : length (get_or kept k []) ≡ length ls = subst (λ (n : ℕ). length (get_or kept n []) ≡ length ls) z (are 0 ls refl) in
       let rest = cost_lists mine (suc k) keeps removed (with_literals mine k r said) (omega arith)
-          (λ i lits at. let e : k + suc i ≡ suc k + i = omega arith in
-          subst (λ (n : ℕ). length (get_or kept n []) ≡ length lits) e (are (suc i) lits at)) in
+      (λ i lits at. let e : k + suc i ≡ suc k + i = omega arith in
+      subst (λ (n : ℕ). length (get_or kept n []) ≡ length lits) e (are (suc i) lits at)) in
       let here_all = cost_literals mine k r said in
       let sets : length (map (wanted mine) r) ≡ length r = length-map r (wanted mine) in
       let when : length (map (wanted mine) ls) ≡ length ls = length-map ls (wanted mine) in
       let product : length (map (wanted mine) r) * suc (length (map (wanted mine) ls)) ≡ length r * cost kept k =
-          rw (sets, when, here) refl in
+      rw (sets, when, here) refl in
       omega (arith, rest, here_all, product)
 
 pub cost_is : (mine : Quantifier) (kept removed : List (List Literal)) → length removed ≤ length kept
     → cost_all kept (with_lists mine 0 removed []) ≤ size (decisions_by mine kept removed)
 cost_is mine kept removed few =
     let all = cost_lists kept mine 0 kept removed [] few
-        (λ i lits at. let z : 0 + i ≡ i = omega arith in
-        ap (λ (n : ℕ). length (get_or kept n [])) z ∙ ap length (get_or_from_slice_get kept i lits [] at)) in
+    (λ i lits at. let z : 0 + i ≡ i = omega arith in
+    ap (λ (n : ℕ). length (get_or kept n [])) z ∙ ap length (get_or_from_slice_get kept i lits [] at)) in
     omega (arith, all)
 
 pub count_is : (mine : Quantifier) (kept removed : List (List Literal)) → length removed ≤ length kept
@@ -143,7 +143,7 @@ count_is mine (ls ∷ kept) (r ∷ removed) few =
     let rest = count_is mine kept removed (omega arith) in
     let sets : length (map (wanted mine) r) ≡ length r = length-map r (wanted mine) in
     let product : length r ≤ length (map (wanted mine) r) * suc (length (map (wanted mine) ls)) =
-        rw sets (at_least (length r) (length (map (wanted mine) ls))) in
+    rw sets (at_least (length r) (length (map (wanted mine) ls))) in
     omega (arith, rest, product)
   where
     at_least : (n c : ℕ) → n ≤ n * suc c

@@ -54,24 +54,24 @@ module _ (mine : Quantifier) where
     | inl before ↦ elim (of_literals n k ls said l before) [
       | inl earlier ↦ inl earlier
       | inr (same, m, there, is) ↦ inr (record {
-          place = 0;
-          counted = omega (arith, same);
-          lits = ls;
-          at = refl;
-          lit = m;
-          there = there;
-          is = is;
-        })
+        place = 0;
+        counted = omega (arith, same);
+        lits = ls;
+        at = refl;
+        lit = m;
+        there = there;
+        is = is;
+      })
     ]
     | inr of ↦ inr (record {
-        place = suc of.place;
-        counted = let e = of.counted in omega (arith, e);
-        lits = of.lits;
-        at = of.at;
-        lit = of.lit;
-        there = of.there;
-        is = of.is;
-      })
+      place = suc of.place;
+      counted = let e = of.counted in omega (arith, e);
+      lits = of.lits;
+      at = of.at;
+      lit = of.lit;
+      there = of.there;
+      is = of.is;
+    })
   ]
 
   decision_in : (kept removed : List (List Literal)) (k : ℕ) (ks rs : List Literal) → slice_get kept k ≡ Some ks
@@ -105,11 +105,11 @@ module _ (mine : Quantifier) where
           among = λ lits at m in_lits.
               let at_k : slice_get kept of.place ≡ Some lits = subst (λ (n : ℕ). slice_get kept n ≡ Some lits) k_is at in
               let before : StandsBefore ps (wanted mine m).var (wanted mine of.lit).var =
-                  sees.before (decision_by mine lits of.lits) (decision_in kept removed of.place lits of.lits at_k of.at)
-                  (wanted mine of.lit) (in_map mine of.lits of.lit of.there) (wanted mine m) (in_map mine lits m in_lits) in
+              sees.before (decision_by mine lits of.lits) (decision_in kept removed of.place lits of.lits at_k of.at)
+              (wanted mine of.lit) (in_map mine of.lits of.lit of.there) (wanted mine m) (in_map mine lits m in_lits) in
               let v_is : (wanted mine of.lit).var ≡ v = sym (ap var_of of.is) ∙ var in
               let later : IsAt ps before.later v = subst (λ (n : ℕ). IsAt ps before.later n) v_is
-                  (at_place ps before.later (wanted mine of.lit).var before.there) in
+              (at_place ps before.later (wanted mine of.lit).var before.there) in
               let e = once ps before.later (length ws) v distinct later here in
               let less = before.before in
               let first = at_place ps before.place (wanted mine m).var before.here in

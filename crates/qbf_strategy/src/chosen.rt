@@ -27,12 +27,7 @@ fn value_of_last(entries: &Entries, last: u32) -> bool
 }
 
 /// The wire of what is decided by the entries from this one back to the first of its variable.
-pub fn chosen(
-    here: &Here,
-    work: &mut Work,
-    entries: &Entries,
-    last: u32,
-) -> Result<Wire, GateFault>
+pub fn chosen(here: &Here, work: &mut Work, entries: &Entries, last: u32) -> Result<Wire, GateFault>
     requires chain { HasChain (scene here.now.task.mine (pairs here.now.task.prefix.now)
         here.now.known.now here.now.task.decisions.now.kept.whole) entries.now.entries.items last }
     requires below { AllBelow (next_of work.old.gates) here.now.known.now }

@@ -129,12 +129,7 @@ fn condition(here: &Here, work: &mut Work, decision: usize) -> Result<Wire, Gate
 }
 
 /// What is decided by one entry: its value if its condition holds, and else that of another wire.
-pub fn decided(
-    here: &Here,
-    work: &mut Work,
-    entry: &Entry,
-    after: Wire,
-) -> Result<Wire, GateFault>
+pub fn decided(here: &Here, work: &mut Work, entry: &Entry, after: Wire) -> Result<Wire, GateFault>
     requires ready { IsReady (scene here.now.task.mine (pairs here.now.task.prefix.now)
         here.now.known.now here.now.task.decisions.now.kept.whole) entry.now.decision }
     requires below { AllBelow (next_of work.old.gates) here.now.known.now }

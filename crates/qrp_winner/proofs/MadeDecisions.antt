@@ -1,5 +1,5 @@
 -- The decisions that are made are those of the proof.
-use Rattle.qrp_check.proofs.Cited.{◌≡◌, ◌<◌, ◌+◌, ◌⊎◌, ◌↔◌, ◌∙◌, ◌++◌, ℕ, List, [], ◌∷◌, inl, inr, refl, sym, ap, subst, arith, suc, Option, Some, None}
+use Rattle.qrp_check.proofs.Cited.{◌≡◌, ◌<◌, ◌≤◌, ◌+◌, ◌⊎◌, ◌↔◌, ◌∙◌, ◌++◌, ℕ, List, [], ◌∷◌, inl, inr, refl, sym, ap, subst, arith, suc, Option, Some, None}
 use Rattle.qrp_check.proofs.Cited.{Literal, ◌∈◌, ◌⊆◌, Qbf, Side, Clauses, Cubes, Clashes, IsClean, bound_each, pairs, length, take, get_or, IsBound, AreBound}
 use Rattle.qrp_check.proofs.Cited.{Inference, IsAt, Rules, Derives, IsInCore, lits_of, take_more, resolvent, AllHold, antecedent_conditions, next}
 use Rattle.qrp_check.proofs.Cited.{append_left, append_right}
@@ -18,6 +18,7 @@ use Rattle.qrp_rules.specs.Seen.{Members}
 use Rattle.qrp_rules.specs.Walks.{IsThePivot, TakesOut}
 use Rattle.qrp_winner.specs.ProofDecisions.{IsFullyReduced, CoversParent, CoversBoth, CoversInitial, Covers, IsDecisionAt, AreDecisionsOf}
 use Rattle.qrp_winner.specs.Removing.{AddsDecision, ComesFrom, HasJust, IsInitialOf, IsLeft, IsPivotOf, MayLeave, Notes, Removes, RemovesAll}
+use Rattle.qrp_winner.specs.Sizes.{initial_literals, literals_before, longest}
 use Rattle.qrp_winner.specs.declared.origins.Origin.{Origin}
 use Rattle.qrp_winner.specs.declared.origins.Origin.TheVariants.{Initial, One, Two}
 use Rattle.qrp_winner.proofs.FullyReduced.{fewer, needed_or_reducible, sub_clean}
@@ -37,6 +38,11 @@ pivot_is : (a b : List Literal) (x : ℕ) (pivot : Option ℕ) → Clashes a b x
     → IsPivotOf a b pivot → IsThePivot pivot x
 pivot_is a b x None clash one found = absurd (found x clash)
 pivot_is a b x (Some y) clash one found = one x y clash found
+
+is_longest : (lists : List (List Literal)) (ls : List Literal) → ls ∈ lists → length ls ≤ longest lists
+is_longest [] ls h = absurd h
+is_longest (x ∷ lists) ls (inl e) = let count = ap (λ (l : List Literal). length l) e in omega (arith, count)
+is_longest (x ∷ lists) ls (inr h) = let rest = is_longest lists ls h in omega (arith, rest)
 
 -- ---- the literals of one step
 
@@ -63,6 +69,7 @@ module _ (side : Side) (f : Qbf) (apart : Distinct (variables (pairs f.blocks)))
       pub reducible : (l : Literal) → l ∈ removed → IsReducible side f.blocks lits l
       pub clean : IsClean removed
       pub covers : Covers side f before ants lits kept removed
+      pub few : length removed ≤ literals_before side f before ants lits
 
     -- a list each of whose literals is in the step or reducible there
     module _ (from : List Literal) (May : Literal → Type 0) (rem : Removes s t [] removed from May) (clean : IsClean from)
@@ -79,6 +86,7 @@ module _ (side : Side) (f : Qbf) (apart : Distinct (variables (pairs f.blocks)))
       reducible = list_reducible from (λ l. ⊥) rem (of_side side initial).0 (of_side side initial).1;
       clean = list_clean from (λ l. ⊥) rem (of_side side initial).0 (of_side side initial).1;
       covers = covers_side side initial;
+      few = few_side side initial;
     }
       where
         of_side : (side : Side) → IsInitialOf side f lits from
@@ -93,6 +101,11 @@ module _ (side : Side) (f : Qbf) (apart : Distinct (variables (pairs f.blocks)))
         covers_side : (side : Side) → IsInitialOf side f lits from → CoversInitial side f lits kept removed
         covers_side Clauses initial = (from, initial.0, covered)
         covers_side Cubes same = λ l h. covered l (subst (λ ls. l ∈ ls) (sym same) h)
+
+        few_side : (side : Side) → IsInitialOf side f lits from → length removed ≤ initial_literals side f lits
+        few_side Clauses initial =
+            let few = rem.few in let long = is_longest f.clauses from initial.0 in omega (arith, few, long)
+        few_side Cubes same = let few = rem.few in let count = ap (λ (ls : List Literal). length ls) same in omega (arith, few, count)
 
     -- the literals of an antecedent are covered, if those that are left aside may be
     parent_covered : (u v : Members) (old new newer parent : List Literal) (pivot : Option ℕ) (but : Literal → Type 0) → Notes kept old u
@@ -116,6 +129,7 @@ module _ (side : Side) (f : Qbf) (apart : Distinct (variables (pairs f.blocks)))
           reducible = list_reducible parent (MayLeave side f.blocks None parent) of_same of_parent.clean one;
           clean = list_clean parent (MayLeave side f.blocks None parent) of_same of_parent.clean one;
           covers = parent_covered s t [] removed removed parent None (λ l. ⊥) notes of_same (λ l h. h) (λ l none. none);
+          few = let few = of_same.few in omega (arith, few);
         }
 
     module _ (a b : List Literal) (x : ℕ) (clash : Clashes a b x) (one : (u v : ℕ) → Clashes a b u → Clashes a b v → u ≡ v)
@@ -180,6 +194,7 @@ module _ (side : Side) (f : Qbf) (apart : Distinct (variables (pairs f.blocks)))
           reducible = both_reducible a b x clash one (within x clash) (each x clash) of_m of_n pivot is u first rem_a rem_b;
           clean = both_clean a b x clash one (within x clash) (each x clash) of_m of_n pivot is u first rem_a rem_b;
           covers = both_covered a b x clash one (within x clash) (each x clash) of_m of_n pivot is u first rem_a rem_b;
+          few = let some = rem_a.few in let others = rem_b.few in omega (arith, some, others);
         }
 
     made : (ants : List ℕ) (origin : Origin) → AllHold (antecedent_conditions by side f before ants lits)
@@ -241,6 +256,8 @@ module _ (side : Side) (f : Qbf) (formed : IsWellFormed f) (steps : List Inferen
           reducible = is.reducible;
           clean = is.clean;
           covers = is.covers;
+          few_kept = here_left.few;
+          few_removed = is.few;
           when = refl;
           sets = refl;
         };

@@ -1,5 +1,5 @@
 -- How the literals that a step keeps and those that are removed are collected, one after the other.
-use Rattle.std.specs.Prelude.{◌≡◌, ◌↔◌, ℕ, Option, Some, None, List, [], ◌∷◌, ◌++◌, ◌⊎◌}
+use Rattle.std.specs.Prelude.{◌≡◌, ◌↔◌, ◌≤◌, ◌+◌, length, ℕ, Option, Some, None, List, [], ◌∷◌, ◌++◌, ◌⊎◌}
 use Rattle.qbf_core.specs.Blocks.{Block}
 use Rattle.qbf_core.specs.Literal.{Literal}
 use Rattle.qbf_core.specs.Members.{◌∈◌, ◌⊆◌}
@@ -20,6 +20,7 @@ pub record IsLeft (own : Reducible) (lits kept : List Literal) : Type 0 where
   pub within : kept ⊆ lits
   pub stays : (l : Literal) → l ∈ kept → TakesOut own l.var → ⊥
   pub each : (l : Literal) → l ∈ lits → (l ∈ kept) ⊎ TakesOut own l.var
+  pub few : length kept ≤ length lits
 
 -- the set has just these literals
 abbrev pub HasJust : List Literal → Members → Type 0
@@ -36,6 +37,7 @@ pub record Removes (seen new_seen : Members) (removed new_removed some : List Li
   pub within : (kept : List Literal) → Notes kept removed seen → (l : Literal) → l ∈ new_removed
       → (l ∈ removed) ⊎ ((l ∈ some) × (May l → ⊥) × (l ∈ kept → ⊥))
   pub covers : (kept : List Literal) → Notes kept removed seen → (l : Literal) → l ∈ some → May l ⊎ ((l ∈ kept) ⊎ (l ∈ new_removed))
+  pub few : length new_removed ≤ length removed + length some
 
 -- a variable in which two antecedents clash, or none
 abbrev pub IsPivotOf : List Literal → List Literal → Option ℕ → Type 0

@@ -1,6 +1,7 @@
 -- The headline, over the bytes of a formula and a trace: if they are verified, the circuit that is returned is a strategy of the winner, which
 -- is the existential player of a true formula, and the universal player of a false one. Else the refusal is that of the check.
 use Rattle.std.specs.Prelude.{◌≡◌, ◌⊎◌, ℕ, Bool, true, false, List, Result, Ok, Err, IfOk}
+use Rattle.std.specs.Result.{IsErrOf}
 use Rattle.qbf_core.specs.declared.quantifier.Quantifier.{Quantifier}
 use Rattle.qbf_core.specs.declared.quantifier.Quantifier.TheVariants.{All, Exists}
 use Rattle.qbf_core.specs.Qbf.{Qbf}
@@ -12,6 +13,7 @@ use Rattle.qrp_check.specs.Verdict.{is_sat}
 use Rattle.qrp_check.specs.declared.verdict.Fault.{Fault}
 use Rattle.qrp_check.specs.declared.verdict.Verified.{Verified}
 use Rattle.qrp_rules.specs.declared.rules.Rules.{Rules}
+use Rattle.qrp_winner.specs.Sizes.{IsTooLong}
 use Rattle.qrp_winner.specs.declared.fault.StrategyFault.{StrategyFault}
 use Rattle.qrp_winner.specs.declared.fault.StrategyFault.TheVariants.{Check, NoCircuit, NoMemory}
 use Rattle.qrp_winner.specs.declared.strategy.Strategy.{Strategy}
@@ -25,6 +27,10 @@ winner false = All
 abbrev pub IsOfWinner : List ℕ → List ℕ → Strategy → Type 0
 IsOfWinner formula trace s = (f : Qbf) × (d : Derivation) × Spell formula trace f d × (s.truth ≡ is_sat d.result)
     × IsWinningCircuit (winner s.truth) f s.circuit
+
+-- the bytes spell a formula and a trace, and AIGER may not have enough numbers for the gates
+abbrev pub AreTooLong : List ℕ → List ℕ → Type 0
+AreTooLong formula trace = (f : Qbf) × (d : Derivation) × Spell formula trace f d × IsTooLong f d
 
 -- The result that follows a verdict: its truth with a circuit, or no circuit is made; a refusal stays.
 abbrev pub Follows : Result Verified Fault → Result Strategy StrategyFault → Type 0
@@ -45,3 +51,4 @@ pub record IsStrategyOf (rules : Rules) (f : Qbf) (trace : SourceCall) (result :
   pub follows : Follows verdict result
   pub wins : IfOk result (λ s. (d : Derivation) × WasReadFrom trace.bytes d × (s.truth ≡ is_sat d.result)
       × IsWinningCircuit (winner s.truth) f s.circuit)
+  pub long : IsErrOf result NoCircuit → (d : Derivation) × WasReadFrom trace.bytes d × IsTooLong f d

@@ -27,7 +27,6 @@ struct Walk {
 }
 
 /// Adds the decision of the step at a position.
-
 fn decide<S: Side, T: KeptSteps>(
     formula: &Formula,
     trace: &T,
@@ -74,8 +73,9 @@ fn decisions_for<S: Side, T: KeptSteps>(
 ) -> Result<Decisions, AllocError>
     requires derives { (by : Rules) × Derives by S.side formula.now (T.steps trace.now) }
     requires core { (i : ℕ) → i ∈ core.now → IsInCore (T.steps trace.now) i }
-    ensures { IfOk result (λ d. AreDecisionsOf S.side formula.now (T.steps trace.now) core.now
+    ensures are { IfOk result (λ d. AreDecisionsOf S.side formula.now (T.steps trace.now) core.now
         (decisions_by (reduced_quantifier S.side) d.kept.whole d.removed.whole)) }
+    ensures same { IfOk result (λ d. length d.kept.whole ≡ length d.removed.whole) }
 {
     let mut walk = Walk {
         search: Search::new(alloc),
@@ -106,9 +106,10 @@ pub fn decisions_of<T: KeptSteps>(
 ) -> Result<Decisions, AllocError>
     requires derives { (by : Rules) × Derives by (side_of outcome) formula.now (T.steps trace.now) }
     requires core { ListsCore (T.steps trace.now) core.now }
-    ensures { IfOk result (λ d. AreDecisionsOf (side_of outcome) formula.now (T.steps trace.now)
+    ensures are { IfOk result (λ d. AreDecisionsOf (side_of outcome) formula.now (T.steps trace.now)
         core.now
         (decisions_by (reduced_quantifier (side_of outcome)) d.kept.whole d.removed.whole)) }
+    ensures same { IfOk result (λ d. length d.kept.whole ≡ length d.removed.whole) }
 {
     match outcome {
         Outcome::Unsat => decisions_for::<Clauses, T>(alloc, formula, trace, core),
