@@ -1,6 +1,6 @@
 -- The headline, over the bytes of a formula and a trace: if they are verified, the circuit that is returned is a strategy of the winner, which
 -- is the existential player of a true formula, and the universal player of a false one. Else the refusal is that of the check.
-use Rattle.std.specs.Prelude.{◌≡◌, ◌⊎◌, ℕ, Bool, true, false, List, Result, Ok, Err, IfOk}
+use Rattle.std.specs.Prelude.{◌≡◌, ◌⊎◌, ℕ, Bool, true, false, List, Option, Result, Ok, Err, IfOk, IfSome}
 use Rattle.std.specs.Result.{IsErrOf}
 use Rattle.qbf_core.specs.declared.quantifier.Quantifier.{Quantifier}
 use Rattle.qbf_core.specs.declared.quantifier.Quantifier.TheVariants.{All, Exists}
@@ -38,10 +38,14 @@ Follows (Ok v) (Ok s) = s.truth ≡ v.truth
 Follows (Ok v) (Err e) = (e ≡ NoMemory) ⊎ (e ≡ NoCircuit)
 Follows (Err fault) result = result ≡ Err (Check fault)
 
+-- a circuit that is not made has a reason, if the bytes of both texts are known
+abbrev pub HasReason : Option (List ℕ) → Option (List ℕ) → Result Strategy StrategyFault → Type 0
+HasReason formula trace result = IfSome formula (λ a. IfSome trace (λ b. IsErrOf result NoCircuit → AreTooLong a b))
+
 -- the result follows a verdict on both texts; once a trace was read, nothing is taken past its result word but what is held
 abbrev pub IsOfVerdict : Rules → SourceCall → SourceCall → Result Strategy StrategyFault → Type 0
 IsOfVerdict rules formula trace result = (verdict : Result Verified Fault) × IsChecked rules formula trace verdict
-    × StopsOnceRead trace.bytes trace.rest verdict × Follows verdict result
+    × StopsOnceRead trace.bytes trace.rest verdict × Follows verdict result × HasReason formula.bytes trace.bytes result
 
 -- the result for a formula that was read
 pub record IsStrategyOf (rules : Rules) (f : Qbf) (trace : SourceCall) (result : Result Strategy StrategyFault) : Type 0 where

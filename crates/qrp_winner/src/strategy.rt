@@ -10,7 +10,7 @@ ghost use Rattle.qrp_check.specs.Core.{ListsCore};
 ghost use Rattle.qrp_check.specs.Proof.{Proves, side_of};
 ghost use Rattle.qrp_rules.specs.declared.rules.Rules.{Rules};
 ghost use Rattle.qrp_winner.specs.Sizes.{core_size};
-ghost use Rattle.qrp_winner.specs.Strategies.{AreTooLong, IsOfVerdict, IsOfWinner, IsStrategyOf};
+ghost use Rattle.qrp_winner.specs.Strategies.{IsOfVerdict, IsOfWinner, IsStrategyOf};
 ghost use Rattle.qrp_winner.specs.declared.fault.StrategyFault.TheVariants.{NoCircuit, NoMemory};
 
 use crate::decisions::decisions_of;
@@ -118,8 +118,6 @@ pub fn find_strategy<A: Source, B: Source>(
         (λ a. IfSome (B.remaining trace.old) (λ b. IfOk result (IsOfWinner a b))) }
     ensures verdict { IsOfVerdict rules (call_of A.Source formula.old formula.new)
         (call_of B.Source trace.old trace.new) result }
-    ensures long { IfSome (A.remaining formula.old) (λ a. IfSome (B.remaining trace.old)
-        (λ b. IsErrOf result StrategyFault.NoCircuit → AreTooLong a b)) }
 {
     match read_formula(alloc, formula) {
         Ok(read) => strategy_of(alloc, &read, trace, rules),
