@@ -6,3 +6,4 @@ pub mod MadeDecisions
 pub mod WinningCircuits
 pub mod StrategyOfBytes
 pub mod DecisionSizes
+pub mod IdleDecisions

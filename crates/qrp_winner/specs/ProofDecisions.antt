@@ -64,9 +64,23 @@ pub record IsDecisionAt (side : Side) (f : Qbf) (steps : List Inference) (i : �
   pub here : IsAt steps i step
   pub decision : IsDecisionOf side f (take i steps) step d
 
+-- a decision in front of others, if it sets these literals and they are some
+abbrev pub unless_idle : Decision → List Literal → List Decision → List Decision
+unless_idle d [] ds = ds
+unless_idle d (l ∷ ls) ds = d ∷ ds
+
+-- decisions without those that set nothing
+abbrev pub without_idle : List Decision → List Decision
+without_idle [] = []
+without_idle (d ∷ ds) = unless_idle d d.sets (without_idle ds)
+
 -- the decisions of the steps at these positions
 abbrev pub AreDecisionsOf : Side → Qbf → List Inference → List ℕ → List Decision → Type 0
 AreDecisionsOf side f steps [] [] = Unit {0}
 AreDecisionsOf side f steps [] (d ∷ ds) = ⊥
 AreDecisionsOf side f steps (i ∷ core) [] = ⊥
 AreDecisionsOf side f steps (i ∷ core) (d ∷ ds) = IsDecisionAt side f steps i d × AreDecisionsOf side f steps core ds
+
+-- the decisions of the steps at these positions, without those that set nothing
+abbrev pub AreAllThatSet : Side → Qbf → List Inference → List ℕ → List Decision → Type 0
+AreAllThatSet side f steps core set = (ds : List Decision) × AreDecisionsOf side f steps core ds × (set ≡ without_idle ds)

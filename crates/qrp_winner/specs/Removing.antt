@@ -73,11 +73,20 @@ RemovesAll side blocks seen new_seen removed new_removed (Two a b pivot) = (betw
     × Removes seen between removed first a.now (MayLeave side blocks pivot a.now)
     × Removes between new_seen first new_removed b.now (MayLeave side blocks pivot b.now)
 
--- lists of what is kept and removed, with those of the step at i
+-- from one list of lists to the next: a list is added
+abbrev pub IsAdded : List (List Literal) → List Literal → List (List Literal) → Type 0
+IsAdded old list new = new ≡ old ++ list ∷ []
+
+-- lists of what is kept and removed, with one more of each if something is removed
+abbrev pub AddsUnlessIdle : (kept removed : List (List Literal)) → (keeps removes : List Literal) → (new_kept new_removed : List (List Literal))
+    → Type 0
+AddsUnlessIdle kept removed keeps [] new_kept new_removed = (new_kept ≡ kept) × (new_removed ≡ removed)
+AddsUnlessIdle kept removed keeps (l ∷ removes) new_kept new_removed = IsAdded kept keeps new_kept × IsAdded removed (l ∷ removes) new_removed
+
+-- lists of what is kept and removed, with those of the step at i, if it decides something
 pub record AddsDecision (side : Side) (f : Qbf) (steps : List Inference) (i : ℕ) (kept removed new_kept new_removed : List (List Literal))
     : Type 0 where
   pub keeps : List Literal
   pub removes : List Literal
-  pub kept_is : new_kept ≡ kept ++ keeps ∷ []
-  pub removed_is : new_removed ≡ removed ++ removes ∷ []
+  pub adds : AddsUnlessIdle kept removed keeps removes new_kept new_removed
   pub decision : IsDecisionAt side f steps i (decision_by (reduced_quantifier side) keeps removes)

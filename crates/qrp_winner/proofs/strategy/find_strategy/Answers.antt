@@ -13,9 +13,13 @@ returns-in-Ok-clause-headline g c =
 pub returns-in-Err-clause-verdict : goal.returns-in-Err-clause-verdict
 returns-in-Err-clause-verdict g c =
     let refused : IsChecked c.args.rules (call_of g.A.Source c.args.formula.now c.read_formula.new.source)
-    (call_of g.B.Source c.args.trace.now c.args.trace.now) (Err (fault.Formula c.in-Err.fault c.in-Err.line)) = search rules in
-    (Err (fault.Formula c.in-Err.fault c.in-Err.line), refused, (λ is. absurd is), refl,
-    not_too_long (g.A.Source.remaining c.args.formula.now) (g.B.Source.remaining c.args.trace.now) (fault.Formula c.in-Err.fault c.in-Err.line))
+    (call_of g.B.Source c.args.trace.now c.args.trace.now) (Err (fault.Formula c.in-Err.fault c.in-Err.line)) = search rules in (
+      Err (fault.Formula c.in-Err.fault c.in-Err.line),
+      refused,
+      (λ is. absurd is),
+      refl,
+      not_too_long (g.A.Source.remaining c.args.formula.now) (g.B.Source.remaining c.args.trace.now) (fault.Formula c.in-Err.fault c.in-Err.line),
+    )
 
 pub returns-in-Ok-clause-verdict : goal.returns-in-Ok-clause-verdict
 returns-in-Ok-clause-verdict g c =
