@@ -47,7 +47,7 @@ pub fn chosen(here: &Here, work: &mut Work, entries: &Entries, last: u32) -> Res
     while number > 0 {
         let entry = entries.entry(number);
         wire = decided(here, work, &entry, wire)?;
-        number = entry.before;
+        number = entry.before();
     }
     Ok(wire)
 }

@@ -1,4 +1,4 @@
-use Rattle.std.proofs.Common.{arith, refl}
+use Rattle.std.proofs.Common.{arith, ◌<◌, ℕ, subst, sym}
 use Rattle.qbf_strategy.proofs.ChainedEntries.{chain_within}
 use Rattle.qbf_strategy.proofs.ChosenValues.{chosen_all, chosen_first, chosen_next, goes_back, is_ready, number_within, too_long}
 use Rattle.qbf_strategy.proofs.ConditionGates.{same_fault}
@@ -12,10 +12,10 @@ loop-number-init c = record {
 
 pub loop-number-preserved : goal.loop-number-preserved
 loop-number-preserved c = record {
-  chosen = chosen_next _ c.args.entries.now.entries.items c.args.last c.loop-number.number c.entry-entry.result.before c.value_of_last-otherwise.result
+  chosen = chosen_next _ c.args.entries.now.entries.items c.args.last c.loop-number.number c.before-number.result c.value_of_last-otherwise.result
       c.args.work.now.gates c.loop-number.work.gates c.decided.new.work.gates c.loop-number.work.conditions.items
       c.decided.new.work.conditions.items c.loop-number.wire c.in_ok-wire.wire c.entry-entry.result (omega arith) c.entry-entry.ensures
-      refl c.in_ok-wire.ensures.value c.loop-number.invariant.chosen;
+      c.before-number.ensures c.in_ok-wire.ensures.value c.loop-number.invariant.chosen;
 }
 
 pub returns-clause-value : goal.returns-clause-value
@@ -40,4 +40,5 @@ returns-in_err-wire-clause-long c = λ is. too_long _ _ _ _ _ _ _ _ _ c.loop-num
 
 pub loop-number-smaller : goal.loop-number-smaller
 loop-number-smaller c =
-    goes_back _ _ _ _ _ _ _ _ _ c.loop-number.invariant.chosen c.entry-entry.result (omega arith) c.entry-entry.ensures c.requires.chain
+    subst (λ (n : ℕ). n < c.loop-number.number) (sym c.before-number.ensures)
+    (goes_back _ _ _ _ _ _ _ _ _ c.loop-number.invariant.chosen c.entry-entry.result (omega arith) c.entry-entry.ensures c.requires.chain)
