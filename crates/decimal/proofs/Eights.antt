@@ -5,7 +5,7 @@ use Rattle.std.specs.Char.{is_ascii_digit, digit_value}
 use Rattle.std.specs.Int.{w64, to_le_bytes}
 use Rattle.std.specs.Str.Parse.{digits_value, digits_value_after, AllDigits}
 use Rattle.std.proofs.lemmas.Int.Digits.{digits_value-lt}
-use Rattle.std.proofs.lemmas.List.{take-take, take_all, take-append-drop, drop-take, length-take-le, length-drop}
+use Rattle.std.proofs.lemmas.List.{take-take, take_all, take-append-drop, drop-take, drop-drop, length-take-le, length-drop}
 use native.Mathlib.Nat.{pow-zero, pow-succ', mul_assoc, add-mul}
 use Rattle.decimal.proofs.Chunks.{all_front}
 use Rattle.decimal.proofs.Lists.{bytes_fit}
@@ -110,3 +110,49 @@ module _ (bytes : List ℕ) (count len tail : ℕ) (within : count ≤ length by
       let same : digits_value_after 10 (digits_value 10 (take count bytes)) more ≡ digits_value_after 10 v more =
       ap (λ n. digits_value_after 10 n more) (sym e) in
       omega (arith, value, after, same, more_value)
+
+-- eight digits, and those before them
+module _ (bytes : List ℕ) (from end high low : ℕ) (after : from ≤ end - 8) (long : 8 ≤ end) (inside : end - 8 ≤ length bytes) where
+  abbrev mid : ℕ
+  mid = end - 8
+
+  abbrev rest : List ℕ
+  rest = take (length bytes - mid) (drop mid bytes)
+
+  abbrev highs : List ℕ
+  highs = take (mid - from) (drop from bytes)
+
+  last : take (8 - 0) (drop 0 rest) ≡ take 8 (drop mid bytes)
+  last = ap (λ l. take 8 l) (take_all (length bytes - mid) (drop mid bytes) (omega (arith, length-drop mid bytes)))
+
+  parts : take (end - from) (drop from bytes) ≡ highs ++ take 8 (drop mid bytes)
+  parts =
+      let sum : end - from ≡ mid - from + 8 = omega (arith, after, long) in
+      let place : from + (mid - from) ≡ mid = omega (arith, after) in
+      ap (λ k. take k (drop from bytes)) sum
+      ∙ sym (take-append-drop (mid - from) (take (mid - from + 8) (drop from bytes)))
+      ∙ ap (λ l. l ++ drop (mid - from) (take (mid - from + 8) (drop from bytes)))
+      (take-take (mid - from) (mid - from + 8) (drop from bytes) (omega arith))
+      ∙ ap (λ l. highs ++ l) (drop-take (mid - from) 8 (drop from bytes))
+      ∙ ap (λ l. highs ++ take 8 l) (drop-drop (mid - from) from bytes ∙ ap (λ k. drop k bytes) (omega (arith, place)))
+
+  module _ (enough : 8 ≤ length rest) where
+    eight : length (take 8 (drop mid bytes)) ≡ 8
+    eight = length-take-le 8 (drop mid bytes)
+        (subst (λ l. 8 ≤ length l) (take_all (length bytes - mid) (drop mid bytes) (omega (arith, length-drop mid bytes))) enough)
+
+    pub both_digits : AllDigits 10 highs → AllDigits 10 (take (8 - 0) (drop 0 rest)) → AllDigits 10 (take (end - from) (drop from bytes))
+    both_digits h l =
+        subst (AllDigits 10) (sym parts) (all_append highs (take 8 (drop mid bytes)) h (subst (AllDigits 10) last l))
+
+    pub both_value : high ≡ digits_value 10 highs → low ≡ digits_value 10 (take (8 - 0) (drop 0 rest))
+        → high * 100000000 + low ≡ digits_value 10 (take (end - from) (drop from bytes))
+    both_value h l =
+        let lows = take 8 (drop mid bytes) in
+        let value : digits_value 10 (take (end - from) (drop from bytes)) ≡ digits_value_after 10 (digits_value 10 highs) lows =
+        ap (digits_value 10) parts ∙ after_append 0 highs lows in
+        let same : digits_value_after 10 (digits_value 10 highs) lows ≡ digits_value_after 10 high lows =
+        ap (λ n. digits_value_after 10 n lows) (sym h) in
+        let more : digits_value_after 10 high lows ≡ high * 100000000 + digits_value 10 lows =
+        after_more high lows ∙ ap (λ n. high * 10 ^ n + digits_value 10 lows) eight in
+        omega (arith, value, same, more, l ∙ ap (digits_value 10) last)

@@ -173,11 +173,9 @@ fn without_sign(bytes: &[u8], from: usize) -> Option<u64>
 /// The number that is written before a place among the first eight bytes, from the first of them on
 /// or after a minus there. `None` if one of the bytes is not a decimal digit, or not all eight are
 /// there.
-///
-/// It looks at no byte after these, so that the next place does not wait for what stands here.
 #[inline(always)]
 #[tactic(auto, using(crate::proofs::Signs::digits_read, crate::proofs::Signs::value_read))]
-pub fn number_between(bytes: &[u8], from: usize, end: usize) -> Option<u64>
+fn short_between(bytes: &[u8], from: usize, end: usize) -> Option<u64>
     requires { (0 < end) × (end ≤ 8) }
     ensures within { IfSome result (λ _. 8 ≤ length bytes.now) }
     ensures digits { IfSome result (λ _. AllDigits 10 (take (end - from) (drop from bytes.now))) }
@@ -186,6 +184,47 @@ pub fn number_between(bytes: &[u8], from: usize, end: usize) -> Option<u64>
 {
     let word = without_sign(bytes, from)?;
     number_of_len(word, end as u32)
+}
+
+/// The number that is written before a place after the first eight bytes, as `number_between` finds
+/// it: the last eight digits are read as one word, and those before them as another.
+#[inline(always)]
+fn long_between(bytes: &[u8], from: usize, end: usize) -> Option<u64>
+    requires place { (8 < end) × (end ≤ 16) }
+    requires sign { from ≤ 1 }
+    ensures digits { IfSome result (λ _. AllDigits 10 (take (end - from) (drop from bytes.now))) }
+    ensures value { IfSome result
+        (λ v. v ≡ digits_value 10 (take (end - from) (drop from bytes.now))) }
+{
+    let mid = end - 8;
+    let high = short_between(bytes, from, mid)?;
+    if mid >= bytes.len() {
+        return None;
+    }
+    let low = short_between(&bytes[mid..], 0, 8)?;
+    let shifted = high.checked_mul(100_000_000)?;
+    let all = shifted.checked_add(low)?;
+    Some(all)
+}
+
+/// The number that is written before a place among the first sixteen bytes, from the first of them
+/// on or after a minus there. `None` if one of the bytes is not a decimal digit, or not all that are
+/// looked at are there: eight, or those before the place if they are more.
+///
+/// It looks at no byte after these, so that the next place does not wait for what stands here.
+#[inline(always)]
+pub fn number_between(bytes: &[u8], from: usize, end: usize) -> Option<u64>
+    requires place { (0 < end) × (end ≤ 16) }
+    requires sign { from ≤ 1 }
+    ensures digits { IfSome result (λ _. AllDigits 10 (take (end - from) (drop from bytes.now))) }
+    ensures value { IfSome result
+        (λ v. v ≡ digits_value 10 (take (end - from) (drop from bytes.now))) }
+{
+    if end <= 8 {
+        short_between(bytes, from, end)
+    } else {
+        long_between(bytes, from, end)
+    }
 }
 
 /// The value of the decimal digits from the place `from` on, at most 20 of them and as far as it

@@ -2,7 +2,7 @@
 
 ghost use Rattle.std.specs.Prelude.{◌≡◌, ℕ, ◌+◌, ◌<◌, ◌≤◌, List, [], ◌∷◌, length, IfSome, pos};
 ghost use Rattle.std.specs.Prelude.{unsigned_abs, int_lt, nat_eq, nat_le, slice_index};
-ghost use Rattle.std.specs.Prelude.{◌&&◌, ◌↔◌, IsTrue, false, true};
+ghost use Rattle.std.specs.Prelude.{◌&&◌, ◌↔◌, ◌^◌, IsTrue, false, true};
 ghost use Rattle.qbf_text.specs.Numbers.{AreHeld, AreSeparators, AreShort, BeginsWithValue};
 ghost use Rattle.qbf_text.specs.Numbers.{IsPart, IsPut, NumberStands, SeemToEnd, StandFrom};
 ghost use Rattle.qbf_text.specs.Numbers.{cursor_to, len_of, place};
@@ -37,7 +37,7 @@ fn marks_of(block: &[u8]) -> u64
 /// The number with this sign and magnitude.
 #[inline(always)]
 fn signed(negative: bool, magnitude: u64) -> i32
-    requires { magnitude ≤ 99999999 }
+    requires { magnitude < 2 ^ 31 }
     ensures magnitude { unsigned_abs result ≡ magnitude }
     ensures sign { (negative && nat_eq magnitude 0) ≡ false → int_lt result (pos 0) ≡ negative }
 {
@@ -45,22 +45,26 @@ fn signed(negative: bool, magnitude: u64) -> i32
     if negative { -value } else { value }
 }
 
-/// Whether digits and their sign write a number of at most eight digits if this byte follows them.
+/// Whether digits and their sign write a number that is below 2 to the power of 31, but for the
+/// sign, if this byte follows them.
 #[inline(always)]
 fn is_usual(negative: bool, magnitude: u64, next: u8) -> bool
     ensures { IsTrue result ↔ ((negative && nat_eq magnitude 0) ≡ false)
-        × (magnitude ≤ 99999999) × (is_separator next ≡ true) }
+        × (magnitude < 2 ^ 31) × (is_separator next ≡ true) }
 {
-    !is_minus_zero(negative, magnitude) && magnitude <= 99_999_999 && is_separator(next)
+    !is_minus_zero(negative, magnitude) && magnitude < 2_147_483_648 && is_separator(next)
 }
 
-/// The number that the bytes begin with, if it takes at most eight bytes and a separator follows it
-/// at the place `end`.
+/// How many bytes a usual number has at most: a minus and ten digits.
+const LONGEST: usize = 11;
+
+/// The number that the bytes begin with, if it is a usual one and a separator follows it at the
+/// place `end`.
 #[inline(always)]
 fn number_before(bytes: &[u8], end: usize) -> Option<i32>
     ensures { IfSome result (λ value. BeginsWithValue bytes.now (end + 1) value) }
 {
-    if bytes.len() <= 8 || end.wrapping_sub(1) > 7 {
+    if end >= bytes.len() || end.wrapping_sub(1) >= LONGEST {
         return None;
     }
     let negative = begins_with_minus(bytes);
@@ -351,7 +355,7 @@ impl Numbers {
         ensures stands { IfSome result (λ value. (k < runs)
             × NumberStands bytes.now self.now.places k value) }
     {
-        if k >= runs || self.end(k).wrapping_sub(at) > 8 {
+        if k >= runs || self.end(k).wrapping_sub(at) > LONGEST {
             return None;
         }
         self.one_at(bytes, k, at)
@@ -409,7 +413,7 @@ impl Numbers {
     }
 
     /// Makes the numbers known that stand from the place `start` on, as far as they are usual ones,
-    /// which have at most eight bytes.
+    /// which are below 2 to the power of 31, but for their signs.
     #[inline(never)]
     pub fn fill(&mut self, bytes: &[u8], start: usize)
         requires start { start ≤ length bytes.now }

@@ -9,9 +9,9 @@ one_at_most : (start : ℕ) (negative : Bool) → start ≡ bool_byte negative �
 one_at_most start true e = omega (arith, e)
 one_at_most start false e = omega (arith, e)
 
--- no more than seven bytes from the second one on
-inside_eight : (end : ℕ) → end < 2 ^ 64 → (end + (2 ^ 64 - 1)) % 2 ^ 64 ≤ 7 → (0 < end) × (end ≤ 8)
-inside_eight end fits few = (omega (arith, fits, few), omega (arith, fits, few))
+-- less than eleven bytes from the second one on
+inside_longest : (end : ℕ) → end < 2 ^ 64 → (end + (2 ^ 64 - 1)) % 2 ^ 64 < 11 → (0 < end) × (end ≤ 16)
+inside_longest end fits few = (omega (arith, fits, few), omega (arith, fits, few))
 
 no_digits : (bytes : List ℕ) (start end value : ℕ) → value ≡ digits_value 10 (take (end - start) (drop start bytes)) → end ≡ start → value ≡ 0
 no_digits bytes start end value is e =
@@ -31,7 +31,7 @@ returns c =
     let negative = c.begins_with_minus-negative.result in
     let bytes = c.args.bytes.now in
     let fits : c.in_ok-magnitude.magnitude < 2 ^ 64 = search in
-    let inside : (0 < c.args.end) × (c.args.end ≤ 8) = inside_eight _ c.ranges.end.fits c.if-end-gt7.false in
+    let inside : (0 < c.args.end) × (c.args.end ≤ 16) = inside_longest _ c.ranges.end.fits (omega (arith, c.if-end-ge-LONGEST.false)) in
     let one : c.from-start.result ≤ 1 = one_at_most _ _ c.from-start.ensures in
     let after : c.from-start.result ≤ c.args.end = omega (arith, inside.0, one) in
     let nonzero = (c.is_usual.ensures.0 c.if-not-is_usual.false).0 in
@@ -39,6 +39,6 @@ returns c =
     let sign = c.signed.ensures.sign nonzero in
     let stands = found bytes negative c.from-start.result c.in_ok-magnitude.magnitude c.args.end c.begins_with_minus-negative.ensures after fits
     d.digits d.value (some_digits negative bytes _ _ _ c.from-start.ensures inside.0 d.value nonzero)
-    (omega (arith, d.within, inside.1, c.if-bytes-le8.false)) nonzero sep c.from-start.ensures in
+    (omega (arith, c.if-end-bytes.false)) nonzero sep c.from-start.ensures in
     let fits_signed : SFits w32 c.signed.result = search in
     (nat_eq (get_or bytes c.args.end 0) 10, rw (to_z-of_z w32 c.signed.result fits_signed, sign, c.signed.ensures.magnitude) stands)
