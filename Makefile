@@ -63,7 +63,7 @@ $(STRATEGY): $(SOURCES)
 lib: $(LIBRARY)
 
 $(LIBRARY): $(SOURCES) packaging/build-library
-	@echo 'proves and builds the library: some minutes of processor time more than the program, from nothing'
+	@echo 'proves and builds the library, with the strategies: more processor time than the program, from nothing'
 	RT=$(RT) packaging/build-library lib
 
 static: $(STATIC)
@@ -125,7 +125,7 @@ test-examples:
 	examples/check-all $(PROGRAM)
 
 test-library:
-	tests/library/test-library $(PROGRAM) lib
+	tests/library/test-library $(PROGRAM) lib $(wildcard $(STRATEGY))
 
 test-dist:
 	$(if $(wildcard $(STATIC)),packaging/make-dist --check,@echo 'left out: test-dist')
