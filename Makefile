@@ -1,17 +1,16 @@
-# make          proves and builds the program at bin/qrp_cmd
-# make demo     the same, and runs it on real examples
-# make strategy proves and builds the program that writes the winner's strategy as a circuit: bin/qrp_strategy
+# make          proves and builds the programs: bin/qrp_cmd, and bin/qrp_strategy, which writes the winner's strategy as a circuit
+# make demo     the same, and runs the checker on real examples
 # make lib      proves and builds the library for C: lib/libqrp.a and lib/libqrp.so
 # make check    tests what is built
 # make test     proves what has changed, builds it, and runs all tests
 # make gate     the whole: every proof from nothing, the mutants, all tests
 # make bench    measures time and memory
-# make static   links the program once more, with the C library inside: bin/qrp_cmd.static
+# make static   links the programs once more, with the C library inside: bin/qrp_cmd.static and bin/qrp_strategy.static
 # make wheel    packs the Python module with the library inside, below dist/, for pip; and its source distribution
 # make dist     packs a release below dist/: the archive, and the same as `make wheel`
 # make deb      packs a package for Debian and Ubuntu below dist/
-# make image    packs an image for containers below dist/, with the static program alone
-# make install  copies what `make all lib` built below $(PREFIX): program, library, header, manual pages, tools, documents, examples
+# make image    packs an image for containers below dist/, with the static programs alone
+# make install  copies what `make all lib` built below $(PREFIX): programs, library, header, manual pages, tools, documents, examples
 # make uninstall  takes that away again
 # make help     prints these lines
 
@@ -23,14 +22,14 @@ STRATEGY = bin/qrp_strategy
 # only for the tests
 ECHO = bin/qrp_echo
 PROVED = bin/proved
-# what the program and the library are made of: not the mutants and the wrong definitions, which only the gate tries
+# what the programs and the library are made of: not the mutants and the wrong definitions, which only the gate tries
 SOURCES = $(shell find crates \( -name out -o -name must-fail -o -name wrong-definitions \) -prune -o -type f -print) crates.txt
 
 # for programs in C, C++ and Python
 LIBRARY = lib/libqrp.a
 
 # for any Linux
-STATIC = bin/qrp_cmd.static
+STATIC = $(PROGRAM).static $(STRATEGY).static
 
 # the tests of the libraries, as programs
 LIBRARY_TESTS = crates/formula_tests/out/formula_tests_tests crates/trace_tests/out/trace_tests_tests
@@ -39,37 +38,31 @@ LIBRARY_TESTS = crates/formula_tests/out/formula_tests_tests crates/trace_tests/
 LIBDIR ?= $(PREFIX)/lib
 MANDIR ?= $(PREFIX)/share/man
 
-.PHONY: all lib strategy static demo check test proved-before gate bench dist wheel deb image install uninstall help clean
+.PHONY: all lib static demo check test proved-before gate bench dist wheel deb image install uninstall help clean
 .PHONY: test-refusals test-program test-strategy test-derivations test-tools test-examples test-library test-dist test-install test-many
 .PHONY: test-proofs
 .PHONY: test-definitions test-checks test-pages
 
-all: $(PROGRAM)
+all: $(PROGRAM) $(STRATEGY)
 
-$(PROGRAM): $(SOURCES)
-	@echo 'proves and builds the program: 7 to 30 minutes on four processors from nothing, 4 GB of memory, and 2.8 GB of disk for what is kept'
-	RT=$(RT) gate/prove qrp_cmd
+# One call for both: they stand on the same crates.
+$(PROGRAM) $(STRATEGY) &: $(SOURCES)
+	@echo 'proves and builds the programs: from nothing 7 to 30 minutes on four processors for the checker, and some more for strategies; 4 GB of memory, and 4.4 GB of disk for what is kept'
+	RT=$(RT) gate/prove qrp_cmd qrp_strategy
 	mkdir -p bin
 	cp crates/qrp_cmd/out/qrp_cmd $(PROGRAM)
-
-strategy: $(STRATEGY)
-
-$(STRATEGY): $(SOURCES)
-	@echo 'proves and builds the program for strategies: some minutes more than the checker alone, from nothing'
-	RT=$(RT) gate/prove qrp_strategy
-	mkdir -p bin
 	cp crates/qrp_strategy/out/qrp_strategy $(STRATEGY)
 
 lib: $(LIBRARY)
 
 $(LIBRARY): $(SOURCES) packaging/build-library
-	@echo 'proves and builds the library, with the strategies: more processor time than the program, from nothing'
+	@echo 'proves and builds the library: some minutes of processor time more than the programs, from nothing'
 	RT=$(RT) packaging/build-library lib
 
 static: $(STATIC)
 
-$(STATIC): $(PROGRAM) packaging/build-static VERSION
-	RT=$(RT) packaging/build-static $(STATIC)
+$(STATIC) &: $(PROGRAM) $(STRATEGY) packaging/build-static VERSION
+	RT=$(RT) packaging/build-static bin
 
 demo: all
 	$(PROGRAM) check examples/blind-box/blind-box.qdimacs examples/blind-box/blind-box.qrp
@@ -78,7 +71,7 @@ demo: all
 
 # Every crate and its tests are proved, and all programs are built.
 $(PROVED): $(SOURCES)
-	@echo 'proves the crates and their tests: some minutes more than the program alone, from nothing'
+	@echo 'proves the crates and their tests: some minutes more than the programs alone, from nothing'
 	RT=$(RT) gate/prove --tests
 	$(MAKE) --no-print-directory proved-before
 
@@ -98,13 +91,13 @@ test: $(PROVED)
 	gate/describe-crates --check
 	$(MAKE) --no-print-directory check
 
-# What is built is tested, side by side: some four minutes. The static program is only linked. `make all lib` is enough to run this; what
+# What is built is tested, side by side: some four minutes. The static programs are only linked. `make all lib` is enough to run this; what
 # needs more is named at the end.
 check:
-	@for built in $(PROGRAM) $(LIBRARY); do [ -e $$built ] || { echo "make check: there is no $$built: run 'make all lib' first"; exit 2; }; done
-	@[ $(STATIC) -nt $(PROGRAM) ] || { rm -f $(STATIC) && RT=$(RT) packaging/build-static $(STATIC); } || true
+	@for built in $(PROGRAM) $(STRATEGY) $(LIBRARY); do [ -e $$built ] || { echo "make check: there is no $$built: run 'make all lib' first"; exit 2; }; done
+	@{ [ $(PROGRAM).static -nt $(PROGRAM) ] && [ $(STRATEGY).static -nt $(STRATEGY) ]; } || { rm -f $(STATIC) && RT=$(RT) packaging/build-static bin; } || true
 	$(MAKE) --jobs --output-sync=target test-refusals test-program test-strategy test-derivations test-tools test-examples test-library test-dist test-install test-many test-proofs test-definitions test-checks test-pages
-	@for built in $(ECHO) $(STRATEGY) $(LIBRARY_TESTS) $(STATIC); do [ -e $$built ] || echo "make check: there is no $$built, so what needs it was left out; 'make test' builds it"; done
+	@for built in $(ECHO) $(LIBRARY_TESTS) $(STATIC); do [ -e $$built ] || echo "make check: there is no $$built, so what needs it was left out; 'make test' builds it"; done
 
 test-refusals:
 	$(if $(wildcard $(LIBRARY_TESTS)),tests/library/test-refusals,@echo 'left out: test-refusals')
@@ -113,7 +106,7 @@ test-program:
 	tests/program/test-program $(PROGRAM) $(wildcard $(ECHO))
 
 test-strategy:
-	$(if $(wildcard $(STRATEGY)),tests/strategy/test-strategy $(STRATEGY) $(PROGRAM),@echo 'left out: test-strategy')
+	tests/strategy/test-strategy $(STRATEGY) $(PROGRAM)
 
 test-derivations:
 	tests/program/test-derivations $(PROGRAM)
@@ -128,7 +121,7 @@ test-library:
 	tests/library/test-library $(PROGRAM) lib $(wildcard $(STRATEGY))
 
 test-dist:
-	$(if $(wildcard $(STATIC)),packaging/make-dist --check,@echo 'left out: test-dist')
+	$(if $(and $(wildcard $(PROGRAM).static),$(wildcard $(STRATEGY).static)),packaging/make-dist --check,@echo 'left out: test-dist')
 
 test-proofs:
 	tests/gate/test-proofs

@@ -5,6 +5,11 @@
 version=$(cat VERSION)
 [[ $version =~ ^[0-9]+\.[0-9]+\.[0-9]+$ ]] || { echo "$0: no version in VERSION: '$version'" >&2 && exit 1; }
 
+# The programs. What is built of NAME is bin/NAME, and bin/NAME.static with the C library inside.
+programs() {
+    printf '%s\n' qrp_cmd qrp_strategy
+}
+
 # The tools are the executable files of tools/. The tool NAME is installed as the command qrp-NAME.
 tool_files() {
     find tools -maxdepth 1 -type f -executable | sort
@@ -40,9 +45,12 @@ library_calls() {
 
 # Where the shells look for completions: the name of a file of packaging/completion, and its place below share/.
 completions() {
-    echo 'qrp_cmd.bash bash-completion/completions/qrp_cmd'
-    echo '_qrp_cmd zsh/site-functions/_qrp_cmd'
-    echo 'qrp_cmd.fish fish/vendor_completions.d/qrp_cmd.fish'
+    local name
+    while read -r name; do
+        echo "$name.bash bash-completion/completions/$name"
+        echo "_$name zsh/site-functions/_$name"
+        echo "$name.fish fish/vendor_completions.d/$name.fish"
+    done < <(programs)
 }
 
 # mode FILE: 755 for a command, and 644 for any other file

@@ -175,6 +175,7 @@ impl Builder {
         requires left { left.var < next_of self.old }
         requires right { right.var < next_of self.old }
         ensures grows { Grows self.old self.new }
+        ensures one { next_of self.new ≤ next_of self.old + 1 }
         ensures below { IfOk result (λ w. w.var < next_of self.new) }
         ensures value { IfOk result (IsBoth self.new left right) }
         ensures err { OnErr result (self.new ≡ self.old) }
@@ -192,6 +193,7 @@ impl Builder {
         requires left { gate.now.left.var < next_of self.old }
         requires right { gate.now.right.var < next_of self.old }
         ensures grows { Grows self.old self.new }
+        ensures one { next_of self.new ≤ next_of self.old + 1 }
         ensures below { IfOk result (λ w. w.var < next_of self.new) }
         ensures value { IfOk result (IsGate self.new gate.now) }
         ensures err { OnErr result (self.new ≡ self.old) }
@@ -241,6 +243,7 @@ impl Builder {
         requires left { gate.now.left.var < next_of self.old }
         requires right { gate.now.right.var < next_of self.old }
         ensures grows { Grows self.old self.new }
+        ensures one { next_of self.new ≤ next_of self.old + 1 }
         ensures below { IfOk result (λ w. w.var < next_of self.new) }
         ensures value { IfOk result (IsGate self.new gate.now) }
         ensures err { OnErr result (self.new ≡ self.old) }

@@ -3,7 +3,8 @@ use Rattle.std.proofs.Common.{arith, ◌≡◌, ◌<◌, ◌≤◌, ◌+◌, ℕ
 use Rattle.std.proofs.Common.{refl, sym, ap, subst, ◌∙◌, length, map, inl, inr, ◌⊎◌, true≢false, nat_eq, take, Result, Ok, Err}
 use Rattle.std.specs.Prelude.{OnOk, ⊤}
 use Rattle.std.proofs.lemmas.List.Elements.{All-nil, All-push}
-use Rattle.std.proofs.lemmas.Option.{get_or_from_slice_get}
+use Rattle.std.proofs.lemmas.List.{length-append}
+use Rattle.std.proofs.lemmas.Option.{get_or_from_slice_get, slice_get_cases, slice_get_within}
 use Rattle.std.specs.List.{AllByRecursion, IsDistinct}
 use Rattle.qbf_core.specs.Blocks.{is_quantifier, variables}
 use Rattle.qbf_core.specs.Members.{◌∈◌}
@@ -17,13 +18,17 @@ use Rattle.qbf_strategy.specs.declared.assembling.Assembly.{Assembly}
 use Rattle.qbf_strategy.specs.declared.conditions.Work.{Work}
 use Rattle.qbf_strategy.specs.declared.entries.Entries.{Entries}
 use Rattle.qbf_strategy.specs.Assembling.{AllBelow, Tells}
-use Rattle.qbf_strategy.specs.Chains.{HaveChains, with_lists}
-use Rattle.qbf_strategy.specs.Chosen.{AddsInput, AddsOutput, AreAssembled, AreInputs, IsOutput, IsUnassembled, next_input, outputs_of}
+use Rattle.qbf_strategy.specs.Chains.{Chain, Sayings, with_lists}
+use Rattle.qbf_strategy.specs.Chosen.{AddsInput, AddsOutput, AreAssembled, AreEntriesOf, AreInputs, HasChain, IsOutput, IsUnassembled}
+use Rattle.qbf_strategy.specs.Chosen.{next_input, outputs_of}
+use Rattle.qbf_strategy.specs.Costs.{cost_all, cost_among}
 use Rattle.qbf_strategy.specs.Computing.{Computes}
 use Rattle.qbf_strategy.specs.Conditions.{AreConditions, fires, scene}
 use Rattle.qbf_strategy.specs.Decisions.{Decision, are_set, decisions_by, wanted}
 use Rattle.qbf_strategy.specs.Winning.{input_literals, opponent, set_in_run, variables_of}
-use Rattle.qbf_strategy.proofs.AssembledWires.{inputs_after, next_after, outputs_mine, outputs_theirs, run_tells}
+use Rattle.qbf_strategy.proofs.AssembledWires.{input_left, inputs_after, next_after, outputs_mine, outputs_theirs, run_tells}
+use Rattle.qbf_strategy.proofs.GateCosts.{cost_next, cost_within}
+use Rattle.qbf_strategy.proofs.ReadyDecisions.{are_ready}
 use Rattle.qbf_strategy.proofs.ChainedEntries.{got_more}
 use Rattle.aiger.proofs.TrimmedGates.{take_next}
 use Rattle.qbf_strategy.proofs.ChosenValues.{lists_say}
@@ -60,10 +65,56 @@ in_pushed (z ∷ xs) y x (inr h) = elim (in_pushed xs y x h) [
 ]
 
 module _ (mine : Quantifier) (ps : List (Quantifier × ℕ)) (kept removed : List (List Literal)) where
-  pub input_assembled : (a b : Assembly) (q : Quantifier) (v : ℕ) → AreAssembled mine ps kept removed a
+  -- the gates that one variable more may take
+  cost_known : (a b : Assembly) (q : Quantifier) (v : ℕ) (w : Wire) → IsDistinct nat_eq (variables ps)
+      → slice_get ps (length a.known.items) ≡ Some (q, v) → b.known.items ≡ a.known.items ++ w ∷ []
+      → cost_among kept (take (length a.known.items) (variables ps)) (with_lists mine 0 removed [])
+      + cost_among kept (v ∷ []) (with_lists mine 0 removed [])
+      ≤ cost_among kept (take (length b.known.items) (variables ps)) (with_lists mine 0 removed [])
+  cost_known a b q v w distinct at is =
+      let one : length b.known.items ≡ length a.known.items + 1 = ap length is ∙ length-append a.known.items (w ∷ []) in
+      subst (λ (n : ℕ). cost_among kept (take (length a.known.items) (variables ps)) (with_lists mine 0 removed [])
+      + cost_among kept (v ∷ []) (with_lists mine 0 removed [])
+      ≤ cost_among kept (take n (variables ps)) (with_lists mine 0 removed [])) (sym one)
+      (cost_next kept ps (length a.known.items) v (with_lists mine 0 removed []) distinct (q, at))
+
+  pub has_chain : (a : Assembly) (entries : Entries) (q : Quantifier) (v last : ℕ) → AreEntriesOf mine ps kept removed entries
+      → slice_get ps (length a.known.items) ≡ Some (q, v) → slice_get entries.heads.items (length a.known.items) ≡ Some last
+      → HasChain (scene mine ps a.known.items kept) entries.entries.items last
+  has_chain a entries q v last of at here = record {
+    variable = v;
+    said = with_lists mine 0 removed [];
+    chain = of.have.chains (length a.known.items) v last (q, at) here;
+    ready = are_ready mine ps a.known.items kept removed v of.distinct of.few of.sees (q, at);
+  }
+
+  pub output_too_long : (a : Assembly) (entries : Entries) (q : Quantifier) (v : ℕ) → AreEntriesOf mine ps kept removed entries
+      → AreAssembled mine ps kept removed a → slice_get ps (length a.known.items) ≡ Some (q, v)
+      → ((last u : ℕ) (said : Sayings) → slice_get entries.heads.items (length a.known.items) ≡ Some last
+      → Chain entries.entries.items u last said → 2147483648 ≤ next_of a.work.gates + cost_among kept (u ∷ []) said)
+      → 2147483648 ≤ a.first + cost_all kept (with_lists mine 0 removed [])
+  output_too_long a entries q v of are at long = elim (slice_get_cases entries.heads.items (length a.known.items)).1 [
+    | inl (last, _, here, _) ↦
+        let said : Sayings = with_lists mine 0 removed [] in
+        let gates = long last v said here (of.have.chains (length a.known.items) v last (q, at) here) in
+        let next = cost_next kept ps (length a.known.items) v said of.distinct (q, at) in
+        let all = cost_within kept (take (length a.known.items + 1) (variables ps)) said in
+        let few = are.few in omega (arith, gates, next, all, few)
+    | inr (past, _) ↦ absurd
+        (let places = of.places in
+        let within = slice_get_within ps (length a.known.items) (q, v) at in omega (arith, past, places, within))
+  ]
+
+  pub input_there : (a : Assembly) (q : Quantifier) (v : ℕ) → AreAssembled mine ps kept removed a
+      → slice_get ps (length a.known.items) ≡ Some (q, v) → is_quantifier q mine ≡ false
+      → a.first ≡ length (variables_of (opponent mine) ps) + 1 → a.input < a.first
+  input_there a q v are at theirs first =
+      let e = are.input_is in let less = input_left mine 1 ps a.known.items q v at theirs in omega (arith, e, less, first)
+
+  pub input_assembled : (a b : Assembly) (q : Quantifier) (v : ℕ) → IsDistinct nat_eq (variables ps) → AreAssembled mine ps kept removed a
       → slice_get ps (length a.known.items) ≡ Some (q, v) → is_quantifier q mine ≡ false → AddsInput a b
       → AreAssembled mine ps kept removed b
-  input_assembled a b q v are at theirs adds =
+  input_assembled a b q v distinct are at theirs adds =
       let gates_of : Work → Built = λ w. w.gates in
       let conditions_of : Work → List Wire = λ w. w.conditions.items in
       let g : b.work.gates ≡ a.work.gates = ap gates_of adds.work_is in
@@ -71,6 +122,7 @@ module _ (mine : Quantifier) (ps : List (Quantifier × ℕ)) (kept removed : Lis
       let less : a.input < next_of a.work.gates = (let f = are.first_is in let n = adds.number in omega arith) in
       record {
         first_is = ap (λ (x : Built). x.first) g ∙ (are.first_is ∙ sym adds.first_is);
+        room = (let room = are.room in let same = adds.first_is in omega (arith, room, same));
         below = subst (λ (x : Built). AllBelow (next_of x) b.known.items) (sym g)
             (subst (λ (ws : List Wire). AllBelow (next_of a.work.gates) ws) (sym adds.known_is)
             (All-push (λ w. w.var < next_of a.work.gates) a.known.items (plain a.input) are.below less));
@@ -94,20 +146,26 @@ module _ (mine : Quantifier) (ps : List (Quantifier × ℕ)) (kept removed : Lis
               otherwise = old.otherwise;
               value = λ run s has tells. old.value run s has (tells_less ps a.known.items (plain a.input ∷ []) run s tells);
             }));
+        few =
+            let same : next_of b.work.gates ≡ next_of a.work.gates = ap next_of g in
+            let more = cost_known a b q v (plain a.input) distinct at adds.known_is in
+            let few = are.few in
+            let first = adds.first_is in omega (arith, same, more, few, first);
       }
     where
       counted : (n : ℕ) → n + 1 ≡ cond (is_quantifier q mine) n (suc n)
       counted n = rw theirs (omega arith)
 
-  pub output_assembled : (a b : Assembly) (entries : Entries) (q : Quantifier) (v : ℕ) → AreAssembled mine ps kept removed a
-      → slice_get ps (length a.known.items) ≡ Some (q, v) → is_quantifier q mine ≡ true → length removed ≤ length kept
-      → HaveChains ps entries.heads.items entries.entries.items (with_lists mine 0 removed [])
+  pub output_assembled : (a b : Assembly) (entries : Entries) (q : Quantifier) (v : ℕ) → AreEntriesOf mine ps kept removed entries
+      → AreAssembled mine ps kept removed a → slice_get ps (length a.known.items) ≡ Some (q, v) → is_quantifier q mine ≡ true
       → AddsOutput mine ps kept entries v a b → AreAssembled mine ps kept removed b
-  output_assembled a b entries q v are at my few have adds =
+  output_assembled a b entries q v of are at my adds =
       let w = adds.wire in
       let is = adds.chosen in
+      let chain = of.have.chains (length a.known.items) v adds.last (q, at) adds.last_is in
       record {
         first_is = is.grows.same ∙ (are.first_is ∙ sym adds.first_is);
+        room = (let room = are.room in let same = adds.first_is in omega (arith, room, same));
         below = subst (λ (ws : List Wire). AllBelow (next_of b.work.gates) ws) (sym adds.known_is)
             (All-push (λ x. x.var < next_of b.work.gates) a.known.items w
             (below_grown a.work.gates b.work.gates a.known.items is.grows are.below) is.below);
@@ -130,16 +188,20 @@ module _ (mine : Quantifier) (ps : List (Quantifier × ℕ)) (kept removed : Lis
                   ++ w ∷ []) (decisions_by mine kept removed) b.work.gates x) (sym new) (record {
                     otherwise = is.otherwise;
                     value = λ run s has tells.
-                        is.value v (with_lists mine 0 removed [])
-                        (have.chains (length a.known.items) v adds.last (q, at) adds.last_is) run s has
+                        is.value v (with_lists mine 0 removed []) chain run s has
                         (tells_less ps a.known.items (w ∷ []) run s tells)
-                        ∙ lists_say mine (fires (scene mine ps a.known.items kept) s) s v 0 is.otherwise kept removed [] few
+                        ∙ lists_say mine (fires (scene mine ps a.known.items kept) s) s v 0 is.otherwise kept removed [] of.few
                         (λ i lits there.
                         let z : 0 + i ≡ i = omega arith in
                         ap (fires (scene mine ps a.known.items kept) s) z
                         ∙ ap (λ (ls : List Literal). are_set (map (wanted mine) ls) s) (get_or_from_slice_get kept i lits [] there));
                   })
             ]);
+        few =
+            let gates = is.few v (with_lists mine 0 removed []) chain in
+            let more = cost_known a b q v w of.distinct at adds.known_is in
+            let few = are.few in
+            let first = adds.first_is in omega (arith, gates, more, few, first);
       }
     where
       counted : (n : ℕ) → n ≡ cond (is_quantifier q mine) n (suc n)
@@ -151,12 +213,14 @@ module _ (mine : Quantifier) (ps : List (Quantifier × ℕ)) (kept removed : Lis
       let first : Built → ℕ = λ b. b.first in
       record {
         first_is = ap first is.unused.none;
+        room = is.room;
         below = subst (λ (ws : List Wire). AllBelow (next_of a.work.gates) ws) (sym none) (All-nil (λ w. w.var < next_of a.work.gates));
         known = λ k w lits here at. inl (is.unused.unbuilt k w here);
         inputs = subst (λ (ws : List Wire). AreInputs mine 1 ps ws) (sym none) (no_inputs 1 ps);
         input_is = is.input_is ∙ (sym (no_next 1 ps) ∙ ap (next_input mine 1 ps) (sym none));
         outputs_are = is.no_outputs ∙ (sym (no_outputs ps) ∙ ap (outputs_of mine ps) (sym none));
         decided = λ o h. absurd (subst (λ (os : List (ℕ × Wire)). o ∈ os) is.no_outputs h);
+        few = (let e : next_of a.work.gates ≡ a.first + 0 = ap next_of is.unused.none in omega (arith, e));
       }
     where
       no_inputs : (n : ℕ) (ps : List (Quantifier × ℕ)) → AreInputs mine n ps []

@@ -1,5 +1,5 @@
 -- The wires of a prefix, and what is set in a run of the whole circuit.
-use Rattle.std.proofs.Common.{◌≡◌, ℕ, zero, suc, Bool, true, false, not, cond, List, [], ◌∷◌, ◌++◌, Some}
+use Rattle.std.proofs.Common.{arith, ◌≡◌, ◌<◌, ◌+◌, ℕ, zero, suc, Bool, true, false, not, cond, List, [], ◌∷◌, ◌++◌, Some}
 use Rattle.std.proofs.Common.{slice_get, refl, sym, ap, subst, ◌∙◌, length, map, inl, inr, nat_eq, eq-eqb, ne_eqb, true≢false}
 use Rattle.std.proofs.lemmas.Bool.{cases_Bool}
 use Rattle.std.specs.Bool.{beq}
@@ -95,6 +95,24 @@ opponent_is All All = refl
 opponent_is All Exists = refl
 opponent_is Exists All = refl
 opponent_is Exists Exists = refl
+
+-- a variable of the other player has an input left
+pub input_left : (mine : Quantifier) (n : ℕ) (ps : List (Quantifier × ℕ)) (ws : List Wire) (q : Quantifier) (v : ℕ)
+    → slice_get ps (length ws) ≡ Some (q, v) → is_quantifier q mine ≡ false → next_input mine n ps ws < n + length (variables_of (opponent mine) ps)
+input_left mine n [] ws q v at theirs = absurd (cc at)
+input_left mine n ((p, u) ∷ ps) [] q v at theirs =
+    let e : (p, u) ≡ (q, v) = cc at in
+    let q_of : Quantifier × ℕ → Quantifier = λ x. x.0 in
+    let is : is_quantifier p (opponent mine) ≡ true = opponent_is p mine ∙ ap not (ap (λ (x : Quantifier). is_quantifier x mine) (ap q_of e) ∙ theirs) in
+    rw is (omega arith)
+input_left mine n ((p, u) ∷ ps) (w ∷ ws) q v at theirs = elim (cases_Bool (is_quantifier p mine)) [
+  | inl my ↦
+      let isnt : is_quantifier p (opponent mine) ≡ false = opponent_is p mine ∙ ap not my in
+      rw (my, isnt) (input_left mine n ps ws q v at theirs)
+  | inr other ↦
+      let is : is_quantifier p (opponent mine) ≡ true = opponent_is p mine ∙ ap not other in
+      rw (other, is) (let rest = input_left mine (suc n) ps ws q v at theirs in omega (arith, rest))
+]
 
 module _ (run : ℕ → Bool) (mine : Quantifier) (l : Literal) where
   abbrev outs : List (Quantifier × ℕ) → List Wire → List Literal

@@ -8,10 +8,11 @@ use Rattle.aiger.specs.Wires.{Wire, constant, value_at}
 use Rattle.aiger.proofs.Folds.{constant_value}
 use Rattle.qbf_strategy.specs.declared.entries.Entry.{Entry}
 use Rattle.qbf_strategy.specs.Chains.{Chain, Sayings, evaluated, with_lists, with_literals}
-use Rattle.qbf_strategy.specs.Chosen.{IsChosen, IsChosenAfter}
-use Rattle.qbf_strategy.specs.Conditions.{AreConditions, IsDecided, Scene, fires}
+use Rattle.qbf_strategy.specs.Chosen.{HasChain, IsChosen, IsChosenAfter}
+use Rattle.qbf_strategy.specs.Conditions.{AreConditions, IsDecided, IsReady, Scene, fires}
+use Rattle.qbf_strategy.specs.Costs.{cost, cost_among}
 use Rattle.qbf_strategy.specs.Decisions.{are_set, decided, decisions_by, value_in, wanted}
-use Rattle.qbf_strategy.proofs.ChainedEntries.{chain_none, chain_some}
+use Rattle.qbf_strategy.proofs.ChainedEntries.{chain_none, chain_some, chain_within}
 use Rattle.qbf_strategy.proofs.ConditionGates.{grows_same, grows_then, values_before}
 
 pub chosen_first : (at : Scene) (es : List Entry) (last : ℕ) (otherwise : Bool) (b : Built) (conditions : List Wire) (w : Wire)
@@ -25,6 +26,8 @@ chosen_first at es last otherwise b conditions w are is some = record {
     chain = chain;
     value = λ run s has tells.
         ap (λ (x : Bool). evaluated (fires at s) v x said) (ap (value_at run) is ∙ constant_value run otherwise has.constant);
+    ready = λ ready. ready;
+    few = omega arith;
   };
 }
 
@@ -45,6 +48,9 @@ chosen_next at es last number next otherwise old now new before after w more e s
         value = λ run s has tells.
             ap (λ (x : Bool). evaluated (fires at s) v x earlier.rest) (is.chooses run s has tells)
             ∙ (sym (earlier.value (fires at s) (value_at run w)) ∙ left.value run s (values_before now new run is.grows has) tells);
+        ready = λ ready k l h. left.ready ready k l (earlier.within (k, l) h);
+        few =
+            let one = is.few in let two = left.few in let three = earlier.costs at.kept in omega (arith, one, two, three);
       };
 }
 
@@ -58,7 +64,35 @@ chosen_all at es last number otherwise old new conditions w none chosen = record
   value = λ v said chain run s has tells.
       let left = chosen.rest v said chain in
       sym (chain_none (fires at s) v (value_at run w) es number left.left (omega arith) left.chain) ∙ left.value run s has tells;
+  few = λ v said chain. let left = chosen.rest v said chain in let few = left.few in omega (arith, few);
 }
+
+-- ---- the entry that is next
+
+module _ (at : Scene) (es : List Entry) (last number : ℕ) (otherwise : Bool) (old now : Built) (conditions : List Wire) (w : Wire)
+    (chosen : IsChosenAfter at es last number otherwise old now conditions w) where
+  pub number_within : HasChain at es last → number ≤ length es
+  number_within has =
+      let left = chosen.rest has.variable has.said has.chain in chain_within es has.variable number left.left left.chain
+
+  module _ (e : Entry) (some : 0 < number) (there : slice_get es (number - 1) ≡ Some e) where
+    pub is_ready : HasChain at es last → IsReady at e.decision
+    is_ready has =
+        let left = chosen.rest has.variable has.said has.chain in
+        let earlier = chain_some es has.variable number e left.left (omega (arith, some)) there left.chain in
+        left.ready has.ready e.decision earlier.lit earlier.there earlier.same
+
+    pub goes_back : HasChain at es last → e.before < number
+    goes_back has =
+        let left = chosen.rest has.variable has.said has.chain in
+        (chain_some es has.variable number e left.left (omega (arith, some)) there left.chain).back
+
+    pub too_long : 2147483648 ≤ next_of now + cost at.kept e.decision → (v : ℕ) (said : Sayings) → Chain es v last said
+        → 2147483648 ≤ next_of old + cost_among at.kept (v ∷ []) said
+    too_long long v said chain =
+        let left = chosen.rest v said chain in
+        let earlier = chain_some es v number e left.left (omega (arith, some)) there left.chain in
+        let one = earlier.costs at.kept in let two = left.few in omega (arith, long, one, two)
 
 -- ---- all entries together say what the decisions do
 

@@ -2,7 +2,8 @@
 use Rattle.std.proofs.Common.{arith, ◌≡◌, ◌<◌, ◌≤◌, ◌+◌, ℕ, zero, suc, Bool, true, false, not, cond, List, [], ◌∷◌, ◌++◌, Some, slice_get}
 use Rattle.std.proofs.Common.{refl, sym, ap, subst, ◌∙◌, length, map, drop, inl, inr}
 use Rattle.std.proofs.lemmas.Option.{get_or_from_slice_get, slice_get_cases, slice_get_within}
-use Rattle.std.proofs.Common.{get_or}
+use Rattle.std.proofs.Common.{get_or, IsErrAnd, IsErrOf, Result, Err}
+use Rattle.std.proofs.lemmas.Result.{err_from_is_err_and}
 use Rattle.std.proofs.lemmas.Grind.{common_steps}
 use Rattle.std.proofs.lemmas.List.{length-append, append_assoc}
 use Rattle.std.proofs.Math.ListN.{drop_of_length-le}
@@ -70,12 +71,14 @@ conjunction_first b ws w is some = subst (λ (x : Wire). IsConjunctionBefore b b
   grows = grows_same b;
   below = some;
   value = λ run has. ap (λ (v : Bool). both v (all_true run ws)) (constant_value run true has.constant);
+  count = omega arith;
+  few = omega arith;
 })
 
 pub conjunction_next : (old now new : Built) (placed : List Placed) (i : ℕ) (w more : Wire) (p : Placed) → slice_get placed i ≡ Some p
-    → Grows now new → more.var < next_of new → IsBoth new w p.wire more → IsConjunctionBefore old now (wires_of placed) i w
-    → IsConjunctionBefore old new (wires_of placed) (i + 1) more
-conjunction_next old now new placed i w more p at grows below is before = record {
+    → Grows now new → next_of new ≤ next_of now + 1 → more.var < next_of new → IsBoth new w p.wire more
+    → IsConjunctionBefore old now (wires_of placed) i w → IsConjunctionBefore old new (wires_of placed) (i + 1) more
+conjunction_next old now new placed i w more p at grows one below is before = record {
   grows = grows_then old now new before.grows grows;
   below = below;
   value = λ run has.
@@ -84,6 +87,10 @@ conjunction_next old now new placed i w more p at grows below is before = record
       ∙ (ap (λ (rest : List Wire). both (value_at run w) (all_true run rest))
       (sym (drop_at (wires_of placed) i p.wire (wire_at placed i p at)))
       ∙ before.value run (values_before now new run grows has)));
+  count = let count = before.count in omega (arith, one, count);
+  few =
+      let count = before.count in
+      let less = slice_get_within (wires_of placed) i p.wire (wire_at placed i p at) in omega (arith, one, count, less);
 }
 
 length_wires : (placed : List Placed) → length (wires_of placed) ≡ length placed
@@ -102,6 +109,7 @@ conjunction_all old new placed i w past before =
           sym (both_true (value_at run w))
           ∙ (ap (λ (rest : List Wire). both (value_at run w) (all_true run rest)) (sym (drop_of_length-le (wires_of placed) over))
           ∙ before.value run has);
+      few = before.few;
     }
 
 -- ---- one of two values
@@ -116,9 +124,9 @@ choose false true false = refl
 choose false false true = refl
 choose false false false = refl
 
-either_by : (old new : Built) (condition : Wire) (value : Bool) (after w : Wire) → Grows old new → w.var < next_of new
-    → IsBoth new (opposite condition) (turned after value) w → IsEither old new condition value after (turned w value)
-either_by old new condition value after w grows below is = record {
+either_by : (old new : Built) (condition : Wire) (value : Bool) (after w : Wire) → Grows old new → next_of new ≤ next_of old + 1
+    → w.var < next_of new → IsBoth new (opposite condition) (turned after value) w → IsEither old new condition value after (turned w value)
+either_by old new condition value after w grows one below is = record {
   grows = grows;
   below = let e = turned_var w value in subst (λ (n : ℕ). n < next_of new) (sym e) below;
   chooses = λ run has.
@@ -128,13 +136,15 @@ either_by old new condition value after w grows below is = record {
       ∙ (ap (λ (x : Bool). both x (value_at run (turned after value))) (opposite_value run condition)
       ∙ ap (λ (x : Bool). both (not (value_at run condition)) x) (turned_value run after value)))
       ∙ choose value (value_at run condition) (value_at run after));
+  few = one;
 }
 
 pub either_is : (old new : Built) (condition : Wire) (value : Bool) (after a b w r : Wire) → a ≡ opposite condition → b ≡ turned after value
-    → r ≡ turned w value → Grows old new → w.var < next_of new → IsBoth new a b w → IsEither old new condition value after r
-either_is old new condition value after a b w r ea eb er grows below is =
+    → r ≡ turned w value → Grows old new → next_of new ≤ next_of old + 1 → w.var < next_of new → IsBoth new a b w
+    → IsEither old new condition value after r
+either_is old new condition value after a b w r ea eb er grows one below is =
     subst (λ (x : Wire). IsEither old new condition value after x) (sym er)
-    (either_by old new condition value after w grows below
+    (either_by old new condition value after w grows one below
     (subst (λ (x : Wire). IsBoth new x (turned after value) w) ea (subst (λ (x : Wire). IsBoth new a x w) eb is)))
 
 -- ---- conditions that are kept
@@ -178,6 +188,10 @@ condition_built at old new k lits placed before after w here are conjoined known
         | inr there_before ↦ conditions_grown at old new before conjoined.grows known i x others there_before kept
       ];
       value = λ run s has tells. fires_at at k lits new w here is run s has tells;
+      few =
+          let seen : get_or at.kept k [] ≡ lits = get_or_from_slice_get at.kept k lits [] here in
+          let count : length (get_or at.kept k []) ≡ length lits = ap length seen in
+          let one = are.few in let two = conjoined.few in omega (arith, count, one, two);
     }
 
 pub condition_there : (at : Scene) (b : Built) (conditions : List Wire) (k : ℕ) (w : Wire) → k < length at.kept
@@ -189,11 +203,15 @@ condition_there at b conditions k w inside are some there = elim (slice_get_case
         | inl none ↦ absurd (some none)
         | inr is ↦ is
       ] in
-      record { grows = grows_same b; known = are; below = is.below; value = fires_at at k lits b w here is }
+      record { grows = grows_same b; known = are; below = is.below; value = fires_at at k lits b w here is; few = omega arith }
   | inr (past, _) ↦ absurd (omega arith)
 ]
 
 -- ---- what is decided under a condition
+
+-- what the exit of a `?` hands on
+pub same_fault : {T U E : Type 0} (r : Result T E) (x e : E) → IsErrAnd r (λ y. y ≡ x) → IsErrOf r e → IsErrOf {T = U} (Err x) e
+same_fault r x e handed is = let w = err_from_is_err_and r handed in let same : w.0 ≡ e = cc in cc
 
 pub decided_either : (at : Scene) (k : ℕ) (value : Bool) (after : Wire) (a b d : Built) (conditions : List Wire) (c w : Wire)
     → GivesCondition at k a b conditions c → IsEither b d c value after w → IsDecided at k value after a d conditions w
@@ -204,6 +222,7 @@ decided_either at k value after a b d conditions c w gives is = record {
   chooses = λ run s has tells.
       is.chooses run has ∙ ap (λ (x : Bool). cond x value (value_at run after))
       (gives.value run s (values_before b d run is.grows has) tells);
+  few = let one = gives.few in let two = is.few in omega (arith, one, two);
 }
 
 same_either : (c value : Bool) → value ≡ cond c value value
@@ -219,4 +238,5 @@ decided_same at k value after b conditions are below is = record {
   chooses = λ run s has tells.
       let e : value_at run after ≡ value = ap (value_at run) is ∙ constant_value run value has.constant in
       e ∙ (same_either (fires at s k) value ∙ ap (λ (x : Bool). cond (fires at s k) value x) (sym e));
+  few = omega arith;
 }

@@ -8,4 +8,7 @@ pub mod ChainedEntries
 pub mod ChosenValues
 pub mod AssembledWires
 pub mod AssembledCircuit
+pub mod FoundPlaces
+pub mod GateCosts
+pub mod ReadyDecisions
 pub mod TrimmedCircuit

@@ -1,8 +1,10 @@
 -- How a circuit is assembled from decisions: wires of variables, conditions, and what is decided on a variable.
-use Rattle.std.specs.Prelude.{◌≡◌, ℕ, drop, ◌<◌, Bool, true, List, [], ◌∷◌, Some, slice_get, map}
+use Rattle.std.specs.Prelude.{◌≡◌, ℕ, drop, ◌<◌, ◌≤◌, Bool, true, List, [], ◌∷◌, Some, slice_get, map, length}
 use Rattle.std.specs.List.{All}
 use Rattle.qbf_core.specs.declared.quantifier.Quantifier.{Quantifier}
+use Rattle.qbf_core.specs.Blocks.{variables}
 use Rattle.qbf_core.specs.Literal.{Literal}
+use Rattle.qbf_core.specs.Members.{◌∈◌}
 use Rattle.aiger.specs.Circuits.{both}
 use Rattle.aiger.specs.Wires.{Wire, turned, value_at}
 use Rattle.qbf_strategy.specs.declared.placed.Placed.{Placed}
@@ -11,6 +13,15 @@ use Rattle.qbf_strategy.specs.Decisions.{are_set, is_set, wanted}
 -- the variable v stands at the place i
 abbrev pub IsAt : List (Quantifier × ℕ) → ℕ → ℕ → Type 0
 IsAt ps i v = (q : Quantifier) × (slice_get ps i ≡ Some (q, v))
+
+-- the variable v is one of a prefix, and stands before the place n
+pub record StandsAmong (ps : List (Quantifier × ℕ)) (n v : ℕ) : Type 0 where
+  pub there : v ∈ variables ps
+  pub before : (i : ℕ) → IsAt ps i v → i < n
+
+-- the literals of a condition are of variables that stand before the place n
+abbrev pub AreAmong : List (Quantifier × ℕ) → ℕ → Quantifier → List Literal → Type 0
+AreAmong ps n mine lits = (l : Literal) → l ∈ lits → StandsAmong ps n (wanted mine l).var
 
 -- The wires of the first variables tell in a run which of their literals are among those of s. Each literal that can be made of these
 -- variables is meant.
@@ -44,15 +55,18 @@ TellWithRest ps ws mine lits i some = (run : ℕ → Bool) (s : List Literal) �
 abbrev pub wires_of : List Placed → List Wire
 wires_of placed = map (λ p. p.wire) placed
 
--- literals are placed, as the player wants them, but for those from place i on
+-- literals are placed, as the player wants them, but for those from place i on; no more than there are
 pub record ArePlacedBefore (ps : List (Quantifier
     × ℕ)) (ws : List Wire) (mine : Quantifier) (lits : List Literal) (i : ℕ) (placed : List Placed)
     : Type 0 where
   pub tell : TellWithRest ps ws mine lits i (wires_of placed)
   pub below : (n : ℕ) → AllBelow n ws → AllBelow n (wires_of placed)
+  pub count : length (wires_of placed) ≤ i
+  pub few : length (wires_of placed) ≤ length lits
 
 -- all literals are placed, as the player wants them
 pub record ArePlaced (ps : List (Quantifier
     × ℕ)) (ws : List Wire) (mine : Quantifier) (lits : List Literal) (placed : List Placed) : Type 0 where
   pub tell : TellAll ps ws (map (wanted mine) lits) (wires_of placed)
   pub below : (n : ℕ) → AllBelow n ws → AllBelow n (wires_of placed)
+  pub few : length (wires_of placed) ≤ length lits

@@ -1,5 +1,5 @@
 -- Circuits that compute decisions.
-use Rattle.std.specs.Prelude.{◌≡◌, ◌<◌, ℕ, Bool, List, Some, map, slice_get}
+use Rattle.std.specs.Prelude.{◌≡◌, ◌<◌, ◌+◌, ◌*◌, ℕ, suc, Bool, List, [], ◌∷◌, Some, length, map, slice_get}
 use Rattle.qbf_core.specs.declared.quantifier.Quantifier.{Quantifier}
 use Rattle.qbf_core.specs.Literal.{Literal}
 use Rattle.qbf_core.specs.Members.{◌∈◌}
@@ -29,3 +29,9 @@ pub record StandsBefore (ps : List (Quantifier × ℕ)) (u v : ℕ) : Type 0 whe
 pub record SeesBefore (ps : List (Quantifier × ℕ)) (ds : List Decision) : Type 0 where
   pub bound : (d : Decision) → d ∈ ds → (l : Literal) → l ∈ d.sets → l.var ∈ variables ps
   pub before : (d : Decision) → d ∈ ds → (l : Literal) → l ∈ d.sets → (k : Literal) → k ∈ d.when → StandsBefore ps k.var l.var
+
+-- The size of decisions: one for each, and for each literal that it sets, one more and one for each literal that it sees. The gates of a circuit
+-- are no more than these.
+abbrev pub size : List Decision → ℕ
+size [] = 0
+size (d ∷ ds) = suc (length d.sets * suc (length d.when)) + size ds

@@ -4,5 +4,6 @@ pub mod Computing
 pub mod Assembling
 pub mod Conditions
 pub mod Chains
+pub mod Costs
 pub mod Chosen
 pub mod Laws

@@ -2,13 +2,16 @@
 
 ghost use Rattle.std.specs.Prelude.{◌≡◌, ◌≤◌, ◌<◌, ◌+◌, ℕ, [], List, IfOk, OnOk, length, nat_eq};
 ghost use Rattle.std.specs.Prelude.{Some, slice_get, ◌++◌, ◌∷◌, if◌then◌else◌};
-ghost use Rattle.qbf_core.specs.Blocks.{IsPrefix, is_quantifier, pairs};
+ghost use Rattle.std.specs.Result.{IsErrOf};
+ghost use Rattle.qbf_core.specs.Blocks.{is_quantifier, pairs};
+ghost use Rattle.aiger.specs.Building.{next_of};
 ghost use Rattle.aiger.specs.Circuits.{first_gate};
-ghost use Rattle.qbf_strategy.specs.Assembling.{AllBelow};
-ghost use Rattle.qbf_strategy.specs.Chains.{HaveChains, with_lists};
-ghost use Rattle.qbf_strategy.specs.Chosen.{AddsInput, AddsOutput, AreAssembled, IsUnassembled};
-ghost use Rattle.qbf_strategy.specs.Computing.{Computes};
-ghost use Rattle.qbf_strategy.specs.Conditions.{AreConditions, scene};
+ghost use Rattle.qbf_strategy.specs.Chains.{Chain, Sayings, with_lists};
+ghost use Rattle.qbf_strategy.specs.Chosen.{AddsInput, AddsOutput, AreAssembled, AreEntriesOf};
+ghost use Rattle.qbf_strategy.specs.Chosen.{HasChain, IsUnassembled};
+ghost use Rattle.qbf_strategy.specs.Computing.{Computes, SeesBefore, size};
+ghost use Rattle.qbf_strategy.specs.Conditions.{scene};
+ghost use Rattle.qbf_strategy.specs.Costs.{cost_all, cost_among};
 ghost use Rattle.qbf_strategy.specs.Decisions.{decisions_by};
 ghost use Rattle.qbf_strategy.specs.Winning.{opponent, variables_of};
 
@@ -16,10 +19,9 @@ use crate::chosen::chosen;
 use crate::conditions::Work;
 use crate::decisions::Decisions;
 use crate::entries::Entries;
-use crate::fault::CircuitFault;
 use crate::placed::{Here, Task};
 use crate::places::Places;
-use aiger::{Circuit, Output, Wire, trimmed};
+use aiger::{Circuit, GateFault, Output, Wire, trimmed};
 use qbf_core::{Prefix, Quantifier, Var};
 use std::alloc::{AllocError, Global};
 
@@ -84,11 +86,12 @@ struct Assembly {
 
 impl Assembly {
     /// No wires yet, for so many inputs and decisions.
-    fn new(alloc: Global, inputs: usize, decisions: usize) -> Result<Assembly, CircuitFault>
-        ensures { IfOk result (IsUnassembled inputs) }
+    fn new(alloc: Global, inputs: usize, decisions: usize) -> Result<Assembly, GateFault>
+        ensures unassembled { IfOk result (IsUnassembled inputs) }
+        ensures long { IsErrOf result GateFault.TooLong → 2147483647 ≤ inputs }
     {
         if inputs >= 2147483647 {
-            return Err(CircuitFault::TooLong);
+            return Err(GateFault::TooLong);
         }
         let first = inputs as u32 + 1;
         Ok(Assembly {
@@ -101,26 +104,35 @@ impl Assembly {
     }
 
     /// Gives the next variable, one of the other player, its input.
-    fn add_input(&mut self) -> Result<(), CircuitFault>
+    fn add_input(&mut self) -> Result<(), AllocError>
+        requires number { self.old.input < self.old.first }
+        requires room { self.old.first ≤ 2147483648 }
         ensures { OnOk result (AddsInput self.old self.new) }
     {
-        if self.input >= self.first || self.input >= 2147483648 {
-            return Err(CircuitFault::NoProof);
-        }
         self.known.push(Wire::new(self.input, false))?;
         self.input += 1;
         Ok(())
     }
 
     /// Gives the next variable, one of the player, its output.
-    fn add_output(&mut self, task: &Task, entries: &Entries, name: Var) -> Result<(), CircuitFault>
-        requires { AreAssembled task.now.mine
+    fn add_output(&mut self, task: &Task, entries: &Entries, name: Var) -> Result<(), GateFault>
+        requires assembled { AreAssembled task.now.mine
             (pairs task.now.prefix.now) task.now.decisions.now.kept.whole
             task.now.decisions.now.removed.whole self.old }
-        ensures { OnOk result (AddsOutput task.now.mine (pairs task.now.prefix.now)
+        requires place { length self.old.known.items < length entries.now.heads.items }
+        requires chain { (last : ℕ)
+            → slice_get entries.now.heads.items (length self.old.known.items) ≡ Some last
+            → HasChain (scene task.now.mine (pairs task.now.prefix.now) self.old.known.items
+            task.now.decisions.now.kept.whole) entries.now.entries.items last }
+        ensures adds { OnOk result (AddsOutput task.now.mine (pairs task.now.prefix.now)
             task.now.decisions.now.kept.whole entries.now name self.old self.new) }
+        ensures long { IsErrOf result GateFault.TooLong → (last v : ℕ) (said : Sayings)
+            → slice_get entries.now.heads.items (length self.old.known.items) ≡ Some last
+            → Chain entries.now.entries.items v last said
+            → 2147483648 ≤ next_of self.old.work.gates
+            + cost_among task.now.decisions.now.kept.whole (v ∷ []) said }
     {
-        let last = entries.last(self.known.len())?;
+        let last = entries.last(self.known.len());
         let here = Here {
             task: *task,
             known: &self.known,
@@ -135,15 +147,14 @@ impl Assembly {
     }
 
     /// Gives the next variable its wire.
-    fn add_variable(&mut self, task: &Task, entries: &Entries) -> Result<(), CircuitFault>
+    fn add_variable(&mut self, task: &Task, entries: &Entries) -> Result<(), GateFault>
         requires assembled { AreAssembled task.now.mine
             (pairs task.now.prefix.now) task.now.decisions.now.kept.whole
             task.now.decisions.now.removed.whole self.old }
-        requires entries { HaveChains
-            (pairs task.now.prefix.now) entries.now.heads.items entries.now.entries.items
-            (with_lists task.now.mine 0 task.now.decisions.now.removed.whole []) }
-        requires few { length task.now.decisions.now.removed.whole ≤ length
-            task.now.decisions.now.kept.whole }
+        requires entries { AreEntriesOf task.now.mine (pairs task.now.prefix.now)
+            task.now.decisions.now.kept.whole task.now.decisions.now.removed.whole entries.now }
+        requires inputs { self.old.first
+            ≡ length (variables_of (opponent task.now.mine) (pairs task.now.prefix.now)) + 1 }
         requires place { length self.old.known.items < length (pairs task.now.prefix.now) }
         ensures assembled { OnOk result
             (AreAssembled task.now.mine
@@ -152,12 +163,16 @@ impl Assembly {
         ensures count { OnOk result (length self.new.known.items
             ≡ length self.old.known.items + 1) }
         ensures first { OnOk result (self.new.first ≡ self.old.first) }
+        ensures long { IsErrOf result GateFault.TooLong → 2147483648 ≤ self.old.first
+            + cost_all task.now.decisions.now.kept.whole
+            (with_lists task.now.mine 0 task.now.decisions.now.removed.whole []) }
     {
         let (quantifier, name) = task.prefix.pair(self.known.len());
         if is_quantifier(quantifier, task.mine) {
             self.add_output(task, entries, name)
         } else {
-            self.add_input()
+            self.add_input()?;
+            Ok(())
         }
     }
 }
@@ -168,18 +183,19 @@ fn assemble(
     task: &Task,
     entries: &Entries,
     inputs: usize,
-) -> Result<Assembly, CircuitFault>
-    requires entries { HaveChains
-        (pairs task.now.prefix.now) entries.now.heads.items entries.now.entries.items
-        (with_lists task.now.mine 0 task.now.decisions.now.removed.whole []) }
-    requires few { length task.now.decisions.now.removed.whole ≤ length
-        task.now.decisions.now.kept.whole }
+) -> Result<Assembly, GateFault>
+    requires entries { AreEntriesOf task.now.mine (pairs task.now.prefix.now)
+        task.now.decisions.now.kept.whole task.now.decisions.now.removed.whole entries.now }
+    requires inputs { inputs
+        ≡ length (variables_of (opponent task.now.mine) (pairs task.now.prefix.now)) }
     ensures assembled { IfOk result
         (AreAssembled task.now.mine (pairs task.now.prefix.now) task.now.decisions.now.kept.whole
         task.now.decisions.now.removed.whole) }
     ensures count { IfOk result (λ a. length a.known.items ≡ length (pairs task.now.prefix.now)) }
     ensures first { IfOk result (λ a. a.first ≡ inputs + 1) }
-    ensures sound { IfOk result (λ _. IsPrefix task.now.prefix.now) }
+    ensures long { IsErrOf result GateFault.TooLong → 2147483647 ≤ inputs
+        + cost_all task.now.decisions.now.kept.whole
+        (with_lists task.now.mine 0 task.now.decisions.now.removed.whole []) }
 {
     let mut assembly = Assembly::new(alloc, inputs, task.decisions.kept.whole_len())?;
     for _place in 0..task.prefix.len() {
@@ -194,14 +210,17 @@ fn whole_circuit(
     prefix: &Prefix,
     mine: Quantifier,
     decisions: &Decisions,
-) -> Result<Circuit, CircuitFault>
+) -> Result<Circuit, GateFault>
+    requires few { length decisions.now.removed.whole ≤ length decisions.now.kept.whole }
+    requires sees { SeesBefore (pairs prefix.now)
+        (decisions_by mine decisions.now.kept.whole decisions.now.removed.whole) }
     ensures computes { IfOk result (λ c. Computes mine (pairs prefix.now)
         (decisions_by mine decisions.now.kept.whole decisions.now.removed.whole) c) }
     ensures few { IfOk result (λ c. first_gate c + length c.gates ≤ 2147483648) }
+    ensures long { IsErrOf result GateFault.TooLong → 2147483647
+        ≤ length (variables_of (opponent mine) (pairs prefix.now))
+        + size (decisions_by mine decisions.now.kept.whole decisions.now.removed.whole) }
 {
-    if decisions.removed.whole_len() > decisions.kept.whole_len() {
-        return Err(CircuitFault::NoProof);
-    }
     let inputs = variables_of(alloc, prefix, opponent(mine))?;
     let places = Places::new(alloc, prefix)?;
     let task = Task {
@@ -221,23 +240,31 @@ fn whole_circuit(
 
 /// The circuit by which the player of a quantifier keeps to decisions: its inputs are the variables
 /// of the other player, and its outputs those of the player, in the order of the prefix. In each
-/// run
-/// an output has the value that is decided on its variable; if nothing is decided on it, the value
-/// is some constant of the output.
+/// run an output has the value that is decided on its variable; if nothing is decided on it, the
+/// value is some constant of the output.
+///
+/// Each decision sees only variables that stand before those that it sets, and all of them are
+/// bound.
 ///
 /// # Errors
-/// `NoMemory` if an allocation fails. `TooLong` if AIGER has no numbers for the gates, or if the
-/// decisions set 4294967295 literals or more. `NoProof` if a decision sees a variable that does not
-/// stand before one that it sets, or has one that is not bound, or if there are more lists of
-/// removed literals than of kept ones.
+/// `NoMemory` if an allocation fails. `TooLong` if AIGER has no numbers for the gates. This cannot
+/// be if the inputs and, for each decision, the literals that it sets, each counted once and once
+/// for each literal that the decision sees, are few: with one more for each decision, fewer than
+/// 2147483647.
 pub fn circuit_of(
     alloc: Global,
     prefix: &Prefix,
     mine: Quantifier,
     decisions: &Decisions,
-) -> Result<Circuit, CircuitFault>
-    ensures { IfOk result (λ c. Computes mine (pairs prefix.now)
+) -> Result<Circuit, GateFault>
+    requires few { length decisions.now.removed.whole ≤ length decisions.now.kept.whole }
+    requires sees { SeesBefore (pairs prefix.now)
+        (decisions_by mine decisions.now.kept.whole decisions.now.removed.whole) }
+    ensures computes { IfOk result (λ c. Computes mine (pairs prefix.now)
         (decisions_by mine decisions.now.kept.whole decisions.now.removed.whole) c) }
+    ensures long { IsErrOf result GateFault.TooLong → 2147483647
+        ≤ length (variables_of (opponent mine) (pairs prefix.now))
+        + size (decisions_by mine decisions.now.kept.whole decisions.now.removed.whole) }
 {
     let circuit = whole_circuit(alloc, prefix, mine, decisions)?;
     Ok(trimmed(alloc, circuit)?)

@@ -1,16 +1,17 @@
 //! Gates of conditions, each built once, and of what is decided under them.
 
-ghost use Rattle.std.specs.Prelude.{◌≡◌, ◌≢◌, ◌≤◌, ◌<◌, IfOk, IfSome, Some, false, length};
-ghost use Rattle.std.specs.Prelude.{slice_get};
+ghost use Rattle.std.specs.Prelude.{◌≡◌, ◌≢◌, ◌≤◌, ◌<◌, ◌+◌, [], IfOk, IfSome, Some, false, get_or};
+ghost use Rattle.std.specs.Prelude.{length, slice_get};
+ghost use Rattle.std.specs.Result.{IsErrOf};
 ghost use Rattle.qbf_core.specs.Blocks.{pairs};
 ghost use Rattle.aiger.specs.Building.{next_of};
 ghost use Rattle.aiger.specs.Wires.{constant};
 ghost use Rattle.qbf_strategy.specs.Assembling.{AllBelow, wires_of};
 ghost use Rattle.qbf_strategy.specs.Conditions.{AreConditions, GivesCondition, IsConjunction};
-ghost use Rattle.qbf_strategy.specs.Conditions.{IsDecided, IsEither, IsUnused, KeptFrom, scene};
+ghost use Rattle.qbf_strategy.specs.Conditions.{IsDecided, IsEither, IsReady, IsUnused, KeptFrom, scene};
+ghost use Rattle.qbf_strategy.specs.Costs.{cost};
 
 use crate::entries::Entry;
-use crate::fault::CircuitFault;
 use crate::placed::{Here, Placed, place_literals};
 use aiger::{Builder, GateFault, Wire};
 use std::alloc::{AllocError, Global};
@@ -29,7 +30,9 @@ pub struct Work {
 /// The wire of the conjunction of wires.
 fn conjunction(gates: &mut Builder, placed: &[Placed]) -> Result<Wire, GateFault>
     requires { AllBelow (next_of gates.old) (wires_of placed.now) }
-    ensures { IfOk result (IsConjunction gates.old gates.new (wires_of placed.now)) }
+    ensures value { IfOk result (IsConjunction gates.old gates.new (wires_of placed.now)) }
+    ensures long { IsErrOf result GateFault.TooLong
+        → 2147483648 ≤ next_of gates.old + length (wires_of placed.now) }
 {
     let mut wire = gates.constant(true);
     for literal in placed {
@@ -42,7 +45,8 @@ fn conjunction(gates: &mut Builder, placed: &[Placed]) -> Result<Wire, GateFault
 fn either(gates: &mut Builder, condition: Wire, value: bool, after: Wire) -> Result<Wire, GateFault>
     requires condition { condition.var < next_of gates.old }
     requires after { after.var < next_of gates.old }
-    ensures { IfOk result (IsEither gates.old gates.new condition value after) }
+    ensures value { IfOk result (IsEither gates.old gates.new condition value after) }
+    ensures long { IsErrOf result GateFault.TooLong → 2147483648 ≤ next_of gates.old }
 {
     let wire = gates.and(condition.opposite(), after.turned(value))?;
     Ok(wire.turned(value))
@@ -84,15 +88,18 @@ fn keep(conditions: &mut Vec<Wire>, decision: usize, wire: Wire)
 }
 
 /// Builds the condition of a decision.
-fn build(here: &Here, work: &mut Work, decision: usize) -> Result<Wire, CircuitFault>
-    requires place { decision < length here.now.task.decisions.now.kept.whole }
+fn build(here: &Here, work: &mut Work, decision: usize) -> Result<Wire, GateFault>
+    requires ready { IsReady (scene here.now.task.mine (pairs here.now.task.prefix.now)
+        here.now.known.now here.now.task.decisions.now.kept.whole) decision }
     requires below { AllBelow (next_of work.old.gates) here.now.known.now }
     requires known { AreConditions (scene here.now.task.mine (pairs here.now.task.prefix.now)
         here.now.known.now here.now.task.decisions.now.kept.whole) work.old.gates
         work.old.conditions.items }
-    ensures { IfOk result (GivesCondition (scene here.now.task.mine (pairs here.now.task.prefix.now)
+    ensures value { IfOk result (GivesCondition (scene here.now.task.mine (pairs here.now.task.prefix.now)
         here.now.known.now here.now.task.decisions.now.kept.whole)
         decision work.old.gates work.new.gates work.new.conditions.items) }
+    ensures long { IsErrOf result GateFault.TooLong → 2147483648 ≤ next_of work.old.gates
+        + length (get_or here.now.task.decisions.now.kept.whole decision []) }
 {
     let kept = here.task.decisions.kept.get(decision);
     place_literals(here, kept, &mut work.placed)?;
@@ -102,18 +109,19 @@ fn build(here: &Here, work: &mut Work, decision: usize) -> Result<Wire, CircuitF
 }
 
 /// The condition of a decision, which is built if it was not.
-fn condition(here: &Here, work: &mut Work, decision: usize) -> Result<Wire, CircuitFault>
+fn condition(here: &Here, work: &mut Work, decision: usize) -> Result<Wire, GateFault>
+    requires ready { IsReady (scene here.now.task.mine (pairs here.now.task.prefix.now)
+        here.now.known.now here.now.task.decisions.now.kept.whole) decision }
     requires below { AllBelow (next_of work.old.gates) here.now.known.now }
     requires known { AreConditions (scene here.now.task.mine (pairs here.now.task.prefix.now)
         here.now.known.now here.now.task.decisions.now.kept.whole) work.old.gates
         work.old.conditions.items }
-    ensures { IfOk result (GivesCondition (scene here.now.task.mine (pairs here.now.task.prefix.now)
+    ensures value { IfOk result (GivesCondition (scene here.now.task.mine (pairs here.now.task.prefix.now)
         here.now.known.now here.now.task.decisions.now.kept.whole)
         decision work.old.gates work.new.gates work.new.conditions.items) }
+    ensures long { IsErrOf result GateFault.TooLong → 2147483648 ≤ next_of work.old.gates
+        + length (get_or here.now.task.decisions.now.kept.whole decision []) }
 {
-    if decision >= here.task.decisions.kept.whole_len() {
-        return Err(CircuitFault::NoProof);
-    }
     match work.built(decision) {
         Some(wire) => Ok(wire),
         None => build(here, work, decision),
@@ -121,25 +129,24 @@ fn condition(here: &Here, work: &mut Work, decision: usize) -> Result<Wire, Circ
 }
 
 /// What is decided by one entry: its value if its condition holds, and else that of another wire.
-pub fn decided(
-    here: &Here,
-    work: &mut Work,
-    entry: &Entry,
-    after: Wire,
-) -> Result<Wire, CircuitFault>
+pub fn decided(here: &Here, work: &mut Work, entry: &Entry, after: Wire) -> Result<Wire, GateFault>
+    requires ready { IsReady (scene here.now.task.mine (pairs here.now.task.prefix.now)
+        here.now.known.now here.now.task.decisions.now.kept.whole) entry.now.decision }
     requires below { AllBelow (next_of work.old.gates) here.now.known.now }
     requires after { after.var < next_of work.old.gates }
     requires known { AreConditions (scene here.now.task.mine (pairs here.now.task.prefix.now)
         here.now.known.now here.now.task.decisions.now.kept.whole) work.old.gates
         work.old.conditions.items }
-    ensures { IfOk result (IsDecided (scene here.now.task.mine (pairs here.now.task.prefix.now)
+    ensures value { IfOk result (IsDecided (scene here.now.task.mine (pairs here.now.task.prefix.now)
         here.now.known.now here.now.task.decisions.now.kept.whole) entry.now.decision
         entry.now.value after
         work.old.gates work.new.gates work.new.conditions.items) }
+    ensures long { IsErrOf result GateFault.TooLong → 2147483648 ≤ next_of work.old.gates
+        + cost here.now.task.decisions.now.kept.whole entry.now.decision }
 {
     if after == Wire::constant(entry.value) {
         return Ok(after);
     }
     let condition = condition(here, work, entry.decision as usize)?;
-    Ok(either(&mut work.gates, condition, entry.value, after)?)
+    either(&mut work.gates, condition, entry.value, after)
 }

@@ -1,7 +1,8 @@
 //! Where the variables of a prefix stand.
 
-ghost use Rattle.std.specs.Prelude.{◌≡◌, ◌<◌, length, IfSome, IsTrue};
-ghost use Rattle.qbf_core.specs.Blocks.{pairs};
+ghost use Rattle.std.specs.Prelude.{◌≡◌, ◌<◌, ◌↔◌, ℕ, length, IfNone, IfSome, IsTrue};
+ghost use Rattle.qbf_core.specs.Blocks.{pairs, variables};
+ghost use Rattle.qbf_core.specs.Members.{◌∈◌};
 ghost use Rattle.qbf_strategy.specs.Assembling.{IsAt};
 
 use aiger::Slots;
@@ -23,13 +24,26 @@ fn hash(var: Var) -> usize {
 
 /// Whether a variable stands at a place.
 fn stands_at(prefix: &Prefix, place: usize, var: Var) -> bool
-    ensures { IsTrue result → IsAt (pairs prefix.now) place var }
+    ensures { IsTrue result ↔ IsAt (pairs prefix.now) place var }
 {
     if place >= prefix.len() {
         return false;
     }
     let (_, found) = prefix.pair(place);
     found == var
+}
+
+/// The place of a variable, by a look at each place.
+fn search(prefix: &Prefix, var: Var) -> Option<usize>
+    ensures found { IfSome result (λ place. IsAt (pairs prefix.now) place var) }
+    ensures none { IfNone result (var ∈ variables (pairs prefix.now) → ⊥) }
+{
+    for place in 0..prefix.len() {
+        if stands_at(prefix, place, var) {
+            return Some(place);
+        }
+    }
+    None
 }
 
 impl Places {
@@ -49,8 +63,8 @@ impl Places {
         Ok(Places { slots })
     }
 
-    /// The place of a variable of the prefix, or `None` if it is not found there.
-    pub fn place(&self, prefix: &Prefix, var: Var) -> Option<usize>
+    /// The place of a variable, if the table has it.
+    fn find(&self, prefix: &Prefix, var: Var) -> Option<usize>
         ensures { IfSome result (λ place. IsAt (pairs prefix.now) place var) }
     {
         let hash = hash(var);
@@ -61,5 +75,21 @@ impl Places {
             }
         }
         None
+    }
+
+    /// The place of a variable of the prefix. A variable that the table does not have, of which
+    /// none is known, is looked for at each place.
+    pub fn place(&self, prefix: &Prefix, var: Var) -> usize
+        requires { var ∈ variables (pairs prefix.now) }
+        ensures { IsAt (pairs prefix.now) result var }
+    {
+        if let Some(place) = self.find(prefix, var) {
+            return place;
+        }
+        match search(prefix, var) {
+            Some(place) => place,
+            // It is there.
+            None => 0,
+        }
     }
 }

@@ -9,7 +9,7 @@ use Rattle.qrp_check.specs.Checked.{IsChecked, IsTruthOf}
 use Rattle.qrp_check.specs.Verdict.{IsVerdictUnless, is_sat}
 use Rattle.qrp_check.specs.declared.verdict.Fault.{Fault}
 use Rattle.qrp_check.specs.declared.verdict.Verified.{Verified}
-use Rattle.qrp_winner.specs.Strategies.{Follows, IsOfWinner}
+use Rattle.qrp_winner.specs.Strategies.{Follows, HasReason, IsOfWinner}
 use Rattle.qrp_winner.specs.declared.fault.StrategyFault.{StrategyFault}
 use Rattle.qrp_winner.specs.declared.fault.StrategyFault.TheVariants.{Check, NoCircuit}
 use Rattle.qrp_winner.specs.declared.strategy.Strategy.{Strategy}
@@ -32,7 +32,14 @@ Returns rules formula trace truth found = (v : Verified) × IsFound rules formul
 pub strategy_found : (rules : Rules) (formula trace : List ℕ) (s : Strategy) → FollowsSome rules formula trace (Ok s) → IsOfWinner formula trace s
     → Returns rules formula trace s.truth (Ok s)
 strategy_found rules formula trace s (Ok v, checked, follows) wins =
-    (v, record { checked = checked; follows = follows; wins = wins; memory = λ is. absurd (cc is) }, follows)
+    let is : IsFound rules formula trace (Ok v) (Ok s) = record {
+      checked = checked;
+      follows = follows;
+      reason = λ is. absurd (cc is);
+      wins = wins;
+      memory = λ is. absurd (cc is);
+    } in
+    (v, is, follows)
 strategy_found rules formula trace s (Err e, checked, follows) wins = absurd (cc follows)
 
 -- the truth of a verdict is that which the bytes of the trace state
@@ -60,24 +67,24 @@ truth_checked rules formula trace truth (Err e, checked, is) = absurd (cc is)
 
 -- no circuit is made, and the trace is checked once more
 circuit_missing : (rules : Rules) (formula trace : List ℕ) (truth : Bool) → FollowsSome rules formula trace (Err NoCircuit)
-    → (w : Verified) → IsChecked rules (lent_bytes formula) (lent_bytes trace) (Ok w) → truth ≡ w.truth
+    → HasReason (Some formula) (Some trace) (Err NoCircuit) → (w : Verified) → IsChecked rules (lent_bytes formula) (lent_bytes trace) (Ok w) → truth ≡ w.truth
     → Returns rules formula trace truth (Err NoCircuit)
-circuit_missing rules formula trace truth (Ok v, checked, follows) w again is = (
+circuit_missing rules formula trace truth (Ok v, checked, follows) reason w again is = (
   v,
-  record { checked = checked; follows = follows; wins = tt; memory = λ is. absurd (cc is) },
+  record { checked = checked; follows = follows; reason = reason; wins = tt; memory = λ is. absurd (cc is) },
   is ∙ same_truth rules formula trace w v again checked,
 )
-circuit_missing rules formula trace truth (Err e, checked, follows) w again is = absurd (cc follows)
+circuit_missing rules formula trace truth (Err e, checked, follows) reason w again is = absurd (cc follows)
 
 pub truth_alone : (rules : Rules) (formula trace : List ℕ) (binary : Bool) (result : Result (Bool × Kept) Fault)
-    → FollowsSome rules formula trace (Err NoCircuit)
+    → FollowsSome rules formula trace (Err NoCircuit) → HasReason (Some formula) (Some trace) (Err NoCircuit)
     → IfOk result (λ r. (v : Verified) × IsChecked rules (lent_bytes formula) (lent_bytes trace) (Ok v) × (r.0 ≡ v.truth) × (r.1.bytes ≡ []))
     → IfOk result (λ r. (v : Verified) × (found : Result Strategy StrategyFault) × IsFound rules formula trace (Ok v) found × (r.0 ≡ v.truth)
     × (r.1.bytes ≡ strategy_text binary found))
-truth_alone rules formula trace binary (Ok r) follows (w, again, is, none) =
-    let found = circuit_missing rules formula trace r.0 follows w again is in
+truth_alone rules formula trace binary (Ok r) follows reason (w, again, is, none) =
+    let found = circuit_missing rules formula trace r.0 follows reason w again is in
     (found.0, Err NoCircuit, found.1, found.2, none)
-truth_alone rules formula trace binary (Err e) follows given = tt
+truth_alone rules formula trace binary (Err e) follows reason given = tt
 
 -- a strategy is returned with the truth, or an empty text
 pub strategy_returned : {rules : Rules} {binary : Bool} {formula trace old new : List ℕ} {out : QrpVerdict} {returned : ℕ} {truth : Bool}
@@ -94,7 +101,7 @@ pub strategy_refused : {rules : Rules} {binary : Bool} {formula trace old new : 
 strategy_refused e checked encoded named written = record {
   verdict = Err e;
   found = Err (Check e);
-  is = record { checked = checked; follows = refl; wins = tt; memory = λ is. absurd (cc is) };
+  is = record { checked = checked; follows = refl; reason = λ is. absurd (cc is); wins = tt; memory = λ is. absurd (cc is) };
   encoded = (encoded, named);
   written = written;
 }

@@ -1,11 +1,11 @@
 -- The results for a caller in C of the winner's strategy, which is written as the text of a circuit.
-use Rattle.std.specs.Prelude.{◌≡◌, ◌≢◌, ℕ, Bool, List, [], IfOk, Result, Ok, Err}
+use Rattle.std.specs.Prelude.{◌≡◌, ◌≢◌, ℕ, Bool, List, [], Some, IfOk, Result, Ok, Err}
 use Rattle.aiger.specs.Formats.{circuit_text}
 use Rattle.qrp_rules.specs.declared.rules.Rules.{Rules}
 use Rattle.qrp_check.specs.declared.verdict.Verified.{Verified}
 use Rattle.qrp_check.specs.declared.verdict.Fault.{Fault}
 use Rattle.qrp_check.specs.Checked.{IsChecked}
-use Rattle.qrp_winner.specs.Strategies.{Follows, IsOfWinner}
+use Rattle.qrp_winner.specs.Strategies.{Follows, HasReason, IsOfWinner}
 use Rattle.qrp_winner.specs.declared.fault.StrategyFault.{StrategyFault}
 use Rattle.qrp_winner.specs.declared.fault.StrategyFault.TheVariants.{NoMemory}
 use Rattle.qrp_winner.specs.declared.strategy.Strategy.{Strategy}
@@ -14,11 +14,13 @@ use Rattle.qrp_bytes.specs.Buffers.{IsWritten}
 use Rattle.qrp_bytes.specs.Encoding.{IsEncoded, encoded_truth}
 use Rattle.qrp_bytes.specs.Texts.{lent_bytes}
 
--- The verdict on the bytes, and the strategy that follows it, by which the winner wins. Out of memory is a fault of the check.
+-- The verdict on the bytes, and the strategy that follows it, by which the winner wins; a circuit that is not made has a reason. Out of memory
+-- is a fault of the check.
 pub record IsFound (rules : Rules) (formula trace : List ℕ) (verdict : Result Verified Fault) (found : Result Strategy StrategyFault)
     : Type 0 where
   pub checked : IsChecked rules (lent_bytes formula) (lent_bytes trace) verdict
   pub follows : Follows verdict found
+  pub reason : HasReason (Some formula) (Some trace) found
   pub wins : IfOk found (IsOfWinner formula trace)
   pub memory : found ≢ Err NoMemory
 

@@ -1,10 +1,10 @@
 //! The winner's strategy as the text of a circuit, from the bytes that a caller lends.
 
-ghost use Rattle.std.specs.Prelude.{◌≡◌, [], IfOk, IfErr, Ok, Err, Result};
+ghost use Rattle.std.specs.Prelude.{◌≡◌, [], Some, IfOk, IfErr, Ok, Err, Result};
 ghost use Rattle.aiger.specs.Formats.{circuit_text};
 ghost use Rattle.qrp_check.specs.Checked.{IsChecked};
 ghost use Rattle.qrp_check.specs.declared.verdict.Verified.{Verified};
-ghost use Rattle.qrp_winner.specs.Strategies.{Follows, IsOfWinner};
+ghost use Rattle.qrp_winner.specs.Strategies.{Follows, HasReason, IsOfWinner};
 ghost use Rattle.qrp_winner.specs.declared.fault.StrategyFault.{StrategyFault};
 ghost use Rattle.qrp_winner.specs.declared.strategy.Strategy.{Strategy};
 ghost use Rattle.qrp_bytes.specs.Texts.{lent_bytes};
@@ -31,6 +31,7 @@ fn lent_strategy(
     ensures follows { (verdict : Result Verified Fault)
         × IsChecked rules (lent_bytes formula.now) (lent_bytes trace.now) verdict
         × Follows verdict result }
+    ensures reason { HasReason (Some formula.now) (Some trace.now) result }
 {
     let mut formula_source = SliceSource::new(formula);
     let mut trace_source = SliceSource::new(trace);

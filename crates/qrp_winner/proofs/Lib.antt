@@ -5,3 +5,5 @@ pub mod FoundOrigins
 pub mod MadeDecisions
 pub mod WinningCircuits
 pub mod StrategyOfBytes
+pub mod DecisionSizes
+pub mod IdleDecisions

@@ -1,5 +1,5 @@
 -- The decisions that are made are those of the proof.
-use Rattle.qrp_check.proofs.Cited.{◌≡◌, ◌<◌, ◌+◌, ◌⊎◌, ◌↔◌, ◌∙◌, ◌++◌, ℕ, List, [], ◌∷◌, inl, inr, refl, sym, ap, subst, arith, suc, Option, Some, None}
+use Rattle.qrp_check.proofs.Cited.{◌≡◌, ◌<◌, ◌≤◌, ◌+◌, ◌⊎◌, ◌↔◌, ◌∙◌, ◌++◌, ℕ, List, [], ◌∷◌, inl, inr, refl, sym, ap, subst, arith, suc, Option, Some, None}
 use Rattle.qrp_check.proofs.Cited.{Literal, ◌∈◌, ◌⊆◌, Qbf, Side, Clauses, Cubes, Clashes, IsClean, bound_each, pairs, length, take, get_or, IsBound, AreBound}
 use Rattle.qrp_check.proofs.Cited.{Inference, IsAt, Rules, Derives, IsInCore, lits_of, take_more, resolvent, AllHold, antecedent_conditions, next}
 use Rattle.qrp_check.proofs.Cited.{append_left, append_right}
@@ -9,15 +9,18 @@ use Rattle.qbf_core.specs.Rules.{IsReducible, reduced_quantifier}
 use Rattle.qbf_core.specs.declared.quantifier.Quantifier.{Quantifier}
 use Rattle.qbf_core.proofs.Bound.{apart_of, Distinct}
 use Rattle.qbf_core.proofs.Inferences.{in_without, resolvent_clean}
+use Rattle.std.proofs.Common.{append-nil, map}
 use Rattle.std.proofs.lemmas.List.{length_push}
-use Rattle.qbf_strategy.specs.Decisions.{Decision, decision_by, decisions_by}
+use Rattle.qbf_strategy.specs.Decisions.{Decision, decision_by, decisions_by, wanted}
 use Rattle.qrp_check.proofs.StepFaults.{need_of}
 use Rattle.qrp_rules.specs.Conditions.{IsReducibleInParents}
 use Rattle.qrp_rules.specs.declared.blocks.Reducible.{Reducible}
 use Rattle.qrp_rules.specs.Seen.{Members}
 use Rattle.qrp_rules.specs.Walks.{IsThePivot, TakesOut}
 use Rattle.qrp_winner.specs.ProofDecisions.{IsFullyReduced, CoversParent, CoversBoth, CoversInitial, Covers, IsDecisionAt, AreDecisionsOf}
-use Rattle.qrp_winner.specs.Removing.{AddsDecision, ComesFrom, HasJust, IsInitialOf, IsLeft, IsPivotOf, MayLeave, Notes, Removes, RemovesAll}
+use Rattle.qrp_winner.specs.ProofDecisions.{AreAllThatSet, unless_idle, without_idle}
+use Rattle.qrp_winner.specs.Removing.{AddsDecision, AddsUnlessIdle, ComesFrom, HasJust, IsInitialOf, IsLeft, IsPivotOf, MayLeave, Notes, Removes, RemovesAll}
+use Rattle.qrp_winner.specs.Sizes.{initial_literals, literals_before, longest}
 use Rattle.qrp_winner.specs.declared.origins.Origin.{Origin}
 use Rattle.qrp_winner.specs.declared.origins.Origin.TheVariants.{Initial, One, Two}
 use Rattle.qrp_winner.proofs.FullyReduced.{fewer, needed_or_reducible, sub_clean}
@@ -37,6 +40,11 @@ pivot_is : (a b : List Literal) (x : ℕ) (pivot : Option ℕ) → Clashes a b x
     → IsPivotOf a b pivot → IsThePivot pivot x
 pivot_is a b x None clash one found = absurd (found x clash)
 pivot_is a b x (Some y) clash one found = one x y clash found
+
+is_longest : (lists : List (List Literal)) (ls : List Literal) → ls ∈ lists → length ls ≤ longest lists
+is_longest [] ls h = absurd h
+is_longest (x ∷ lists) ls (inl e) = let count = ap (λ (l : List Literal). length l) e in omega (arith, count)
+is_longest (x ∷ lists) ls (inr h) = let rest = is_longest lists ls h in omega (arith, rest)
 
 -- ---- the literals of one step
 
@@ -63,6 +71,7 @@ module _ (side : Side) (f : Qbf) (apart : Distinct (variables (pairs f.blocks)))
       pub reducible : (l : Literal) → l ∈ removed → IsReducible side f.blocks lits l
       pub clean : IsClean removed
       pub covers : Covers side f before ants lits kept removed
+      pub few : length removed ≤ literals_before side f before ants lits
 
     -- a list each of whose literals is in the step or reducible there
     module _ (from : List Literal) (May : Literal → Type 0) (rem : Removes s t [] removed from May) (clean : IsClean from)
@@ -79,6 +88,7 @@ module _ (side : Side) (f : Qbf) (apart : Distinct (variables (pairs f.blocks)))
       reducible = list_reducible from (λ l. ⊥) rem (of_side side initial).0 (of_side side initial).1;
       clean = list_clean from (λ l. ⊥) rem (of_side side initial).0 (of_side side initial).1;
       covers = covers_side side initial;
+      few = few_side side initial;
     }
       where
         of_side : (side : Side) → IsInitialOf side f lits from
@@ -93,6 +103,11 @@ module _ (side : Side) (f : Qbf) (apart : Distinct (variables (pairs f.blocks)))
         covers_side : (side : Side) → IsInitialOf side f lits from → CoversInitial side f lits kept removed
         covers_side Clauses initial = (from, initial.0, covered)
         covers_side Cubes same = λ l h. covered l (subst (λ ls. l ∈ ls) (sym same) h)
+
+        few_side : (side : Side) → IsInitialOf side f lits from → length removed ≤ initial_literals side f lits
+        few_side Clauses initial =
+            let few = rem.few in let long = is_longest f.clauses from initial.0 in omega (arith, few, long)
+        few_side Cubes same = let few = rem.few in let count = ap (λ (ls : List Literal). length ls) same in omega (arith, few, count)
 
     -- the literals of an antecedent are covered, if those that are left aside may be
     parent_covered : (u v : Members) (old new newer parent : List Literal) (pivot : Option ℕ) (but : Literal → Type 0) → Notes kept old u
@@ -116,6 +131,7 @@ module _ (side : Side) (f : Qbf) (apart : Distinct (variables (pairs f.blocks)))
           reducible = list_reducible parent (MayLeave side f.blocks None parent) of_same of_parent.clean one;
           clean = list_clean parent (MayLeave side f.blocks None parent) of_same of_parent.clean one;
           covers = parent_covered s t [] removed removed parent None (λ l. ⊥) notes of_same (λ l h. h) (λ l none. none);
+          few = let few = of_same.few in omega (arith, few);
         }
 
     module _ (a b : List Literal) (x : ℕ) (clash : Clashes a b x) (one : (u v : ℕ) → Clashes a b u → Clashes a b v → u ≡ v)
@@ -180,6 +196,7 @@ module _ (side : Side) (f : Qbf) (apart : Distinct (variables (pairs f.blocks)))
           reducible = both_reducible a b x clash one (within x clash) (each x clash) of_m of_n pivot is u first rem_a rem_b;
           clean = both_clean a b x clash one (within x clash) (each x clash) of_m of_n pivot is u first rem_a rem_b;
           covers = both_covered a b x clash one (within x clash) (each x clash) of_m of_n pivot is u first rem_a rem_b;
+          few = let some = rem_a.few in let others = rem_b.few in omega (arith, some, others);
         }
 
     made : (ants : List ℕ) (origin : Origin) → AllHold (antecedent_conditions by side f before ants lits)
@@ -241,6 +258,8 @@ module _ (side : Side) (f : Qbf) (formed : IsWellFormed f) (steps : List Inferen
           reducible = is.reducible;
           clean = is.clean;
           covers = is.covers;
+          few_kept = here_left.few;
+          few_removed = is.few;
           when = refl;
           sets = refl;
         };
@@ -265,20 +284,36 @@ module _ (side : Side) (f : Qbf) (steps : List Inference) where
   are_more (j ∷ core) [] i d are one = absurd are
   are_more (j ∷ core) (e ∷ ds) i d are one = (are.0, are_more core ds i d are.1 one)
 
-  pub decisions_more : (core : List ℕ) (n i : ℕ) (ks rs new_ks new_rs : List (List Literal)) → n < length core → i ≡ get_or core n i
-      → length ks ≡ length rs → AreDecisionsOf side f steps (take n core) (decisions_by (reduced_quantifier side) ks rs)
-      → AddsDecision side f steps i ks rs new_ks new_rs
-      → (length new_ks ≡ length new_rs) × AreDecisionsOf side f steps (take (n + 1) core) (decisions_by (reduced_quantifier side) new_ks new_rs)
-  decisions_more core n i ks rs new_ks new_rs less is same are adds =
-      let longer : take (n + 1) core ≡ take n core ++ i ∷ [] = take_more core n i less ∙ ap (λ (j : ℕ). take n core ++ j ∷ []) (sym is) in
-      let whole : decisions_by (reduced_quantifier side) new_ks new_rs ≡ decisions_by (reduced_quantifier side) ks rs ++ decision_by (reduced_quantifier side) adds.keeps adds.removes ∷ [] =
-      ap (λ (xs : List (List Literal)). decisions_by (reduced_quantifier side) xs new_rs) adds.kept_is
-      ∙ (ap (λ (xs : List (List Literal)). decisions_by (reduced_quantifier side) (ks ++ adds.keeps ∷ []) xs) adds.removed_is
-      ∙ by_more (reduced_quantifier side) ks rs adds.keeps adds.removes same) in (
-        long_same new_ks new_rs ks rs adds.keeps adds.removes adds.kept_is adds.removed_is same,
-        subst (λ c. AreDecisionsOf side f steps c (decisions_by (reduced_quantifier side) new_ks new_rs)) (sym longer)
-            (subst (λ ds. AreDecisionsOf side f steps (take n core ++ i ∷ []) ds) (sym whole)
-            (are_more (take n core) (decisions_by (reduced_quantifier side) ks rs) i (decision_by (reduced_quantifier side) adds.keeps adds.removes) are adds.decision)),
+  idle_more : (ds : List Decision) (d : Decision) → without_idle (ds ++ d ∷ []) ≡ without_idle ds ++ unless_idle d d.sets []
+  idle_more [] d = refl
+  idle_more (e ∷ ds) d = by e.sets (idle_more ds d)
+    where
+      by : (ls : List Literal) → without_idle (ds ++ d ∷ []) ≡ without_idle ds ++ unless_idle d d.sets []
+          → unless_idle e ls (without_idle (ds ++ d ∷ [])) ≡ unless_idle e ls (without_idle ds) ++ unless_idle d d.sets []
+      by [] rest = rest
+      by (l ∷ ls) rest = ap (λ (x : List Decision). e ∷ x) rest
+
+  -- the lists of what is kept and removed, after one step more
+  IsMore : (ks rs : List (List Literal)) (keeps removes : List Literal) (new_ks new_rs : List (List Literal)) → Type 0
+  IsMore ks rs keeps removes new_ks new_rs = (length new_ks ≡ length new_rs)
+      × (decisions_by (reduced_quantifier side) new_ks new_rs
+      ≡ decisions_by (reduced_quantifier side) ks rs
+      ++ unless_idle (decision_by (reduced_quantifier side) keeps removes) (map (wanted (reduced_quantifier side)) removes) [])
+
+  added : (ks rs : List (List Literal)) (keeps removes : List Literal) (new_ks new_rs : List (List Literal)) → length ks ≡ length rs
+      → AddsUnlessIdle ks rs keeps removes new_ks new_rs → IsMore ks rs keeps removes new_ks new_rs
+  unfolding IsMore
+  added ks rs keeps [] new_ks new_rs same (kept_is, removed_is) =
+      let q = reduced_quantifier side in (
+        ap (λ (xs : List (List Literal)). length xs) kept_is ∙ (same ∙ sym (ap (λ (xs : List (List Literal)). length xs) removed_is)),
+        ap (λ (xs : List (List Literal)). decisions_by q xs new_rs) kept_is
+            ∙ (ap (λ (xs : List (List Literal)). decisions_by q ks xs) removed_is ∙ sym (append-nil (decisions_by q ks rs))),
+      )
+  added ks rs keeps (l ∷ removes) new_ks new_rs same (kept_is, removed_is) =
+      let q = reduced_quantifier side in (
+        long_same new_ks new_rs ks rs keeps (l ∷ removes) kept_is removed_is same,
+        ap (λ (xs : List (List Literal)). decisions_by q xs new_rs) kept_is
+            ∙ (ap (λ (xs : List (List Literal)). decisions_by q (ks ++ keeps ∷ []) xs) removed_is ∙ by_more q ks rs keeps (l ∷ removes) same),
       )
     where
       long_same : (new_ks new_rs ks rs : List (List Literal)) (k r : List Literal) → new_ks ≡ ks ++ k ∷ [] → new_rs ≡ rs ++ r ∷ []
@@ -288,5 +323,23 @@ module _ (side : Side) (f : Qbf) (steps : List Inference) where
           let one : length new_ks ≡ length ks + 1 = ap count a ∙ length_push ks k in
           let two : length new_rs ≡ length rs + 1 = ap count b ∙ length_push rs r in omega (arith, one, two, e)
 
-  pub decisions_none : AreDecisionsOf side f steps [] (decisions_by (reduced_quantifier side) [] [])
-  decisions_none = tt
+  pub decisions_more : (core : List ℕ) (n i : ℕ) (ks rs new_ks new_rs : List (List Literal)) → n < length core → i ≡ get_or core n i
+      → length ks ≡ length rs → AreAllThatSet side f steps (take n core) (decisions_by (reduced_quantifier side) ks rs)
+      → AddsDecision side f steps i ks rs new_ks new_rs
+      → (length new_ks ≡ length new_rs) × AreAllThatSet side f steps (take (n + 1) core) (decisions_by (reduced_quantifier side) new_ks new_rs)
+  unfolding IsMore
+  decisions_more core n i ks rs new_ks new_rs less is same (ds, are, set) adds =
+      let q = reduced_quantifier side in
+      let d : Decision = decision_by q adds.keeps adds.removes in
+      let longer : take (n + 1) core ≡ take n core ++ i ∷ [] = take_more core n i less ∙ ap (λ (j : ℕ). take n core ++ j ∷ []) (sym is) in
+      let more = added ks rs adds.keeps adds.removes new_ks new_rs same adds.adds in (
+        more.0,
+        (
+          ds ++ d ∷ [],
+          subst (λ c. AreDecisionsOf side f steps c (ds ++ d ∷ [])) (sym longer) (are_more (take n core) ds i d are adds.decision),
+          more.1 ∙ (ap (λ (xs : List Decision). xs ++ unless_idle d d.sets []) set ∙ sym (idle_more ds d)),
+        ),
+      )
+
+  pub decisions_none : AreAllThatSet side f steps [] (decisions_by (reduced_quantifier side) [] [])
+  decisions_none = ([], tt, refl)

@@ -2,6 +2,8 @@
 use Rattle.qrp_rules.proofs.Cited.{◌≡◌, ◌<◌, ◌≤◌, ◌+◌, ◌⊎◌, ◌↔◌, ◌++◌, ℕ, List, [], ◌∷◌, Option, Some, inl, inr, refl, sym, subst}
 use Rattle.qrp_rules.proofs.Cited.{Literal, ◌∈◌, ◌⊆◌, Has, Members, MayOmit, TakesOut, length, take, IsReducible, Side, Block}
 use Rattle.qrp_rules.proofs.Cited.{get_or, in_take_all, in_take_more, take_more_in, take_within}
+use Rattle.std.proofs.Common.{add-one, arith, zero, suc}
+use Rattle.std.proofs.lemmas.List.{length_push}
 use Rattle.qbf_core.proofs.Members.{in_push, push_in}
 use Rattle.qrp_rules.specs.declared.blocks.Reducible.{Reducible}
 use Rattle.std.specs.Prelude.{⊤, Err, IsOk, Ok, OnOk, Result}
@@ -31,15 +33,30 @@ module _ {E : Type 0} (own : Reducible) (old new : Growing Literal) (x : Literal
   kept_here (Ok _) is = inl (subst (λ (g : Growing Literal). x ∈ g.unfinished) (sym is) (push_in old.unfinished x x (inr refl)))
   kept_here (Err _) is = tt
 
+-- one more literal is taken
+length_more : (lits : List Literal) (i : ℕ) → i < length lits → length (take (i + 1) lits) ≡ length (take i lits) + 1
+length_more lits i less = rw (add-one) (from lits i less)
+  where
+    from : (lits : List Literal) (i : ℕ) → i < length lits → length (take (suc i) lits) ≡ length (take i lits) + 1
+    from [] i less = absurd (omega (arith, less))
+    from (x ∷ lits) zero less = omega arith
+    from (x ∷ lits) (suc i) less = let rest = from lits i (omega (arith, less)) in omega (arith, rest)
+
+-- no more are taken than there are
+length_taken : (n : ℕ) (lits : List Literal) → length (take n lits) ≤ length lits
+length_taken zero lits = omega arith
+length_taken (suc n) [] = omega arith
+length_taken (suc n) (x ∷ lits) = let rest = length_taken n lits in omega (arith, rest)
+
 pub left_none : (own : Reducible) → IsLeft own [] []
-left_none own = record { within = λ l h. h; stays = λ l h. absurd h; each = λ l h. absurd h }
+left_none own = record { within = λ l h. h; stays = λ l h. absurd h; each = λ l h. absurd h; few = omega arith }
 
 pub left_more : (own : Reducible) (lits : List Literal) (i : ℕ) (x : Literal) (old new : List Literal) → i < length lits → x ≡ get_or lits i x
     → IsLeft own (take i lits) old
     → ((l : Literal) → l ∈ new → (l ∈ old) ⊎ ((l ≡ x) × (TakesOut own x.var → ⊥)))
-    → old ⊆ new → (x ∈ new) ⊎ TakesOut own x.var
+    → old ⊆ new → (x ∈ new) ⊎ TakesOut own x.var → length new ≤ length old + 1
     → IsLeft own (take (i + 1) lits) new
-left_more own lits i x old new less is left within grows here = record {
+left_more own lits i x old new less is left within grows here one = record {
   within = λ l h. take_more_in lits i x l less is (elim (within l h) [ inl k ↦ inl (left.within l k) | inr e ↦ inr e.0 ]);
   stays = λ l h. elim (within l h) [
     | inl k ↦ left.stays l k
@@ -49,6 +66,7 @@ left_more own lits i x old new less is left within grows here = record {
     | inl k ↦ elim (left.each l k) [ inl there ↦ inl (grows l there) | inr out ↦ inr out ]
     | inr e ↦ subst (λ (z : Literal). (z ∈ new) ⊎ TakesOut own z.var) (sym e) here
   ];
+  few = let count = length_more lits i less in let few = left.few in omega (arith, one, count, few);
 }
 
 pub left_all : (own : Reducible) (lits : List Literal) (n : ℕ) (kept : List Literal) → length lits ≤ n → IsLeft own (take n lits) kept → IsLeft own lits kept
@@ -56,6 +74,7 @@ left_all own lits n kept all left = record {
   within = λ l h. take_within lits n l (left.within l h);
   stays = left.stays;
   each = λ l h. left.each l (in_take_all lits n l all h);
+  few = let count = length_taken n lits in let few = left.few in omega (arith, count, few);
 }
 
 -- ---- a set of literals
@@ -93,6 +112,7 @@ removes_same s removed x has = record {
     | inl e ↦ inr ((notes l).0 (subst (λ (z : Literal). Has s z) (sym e) has))
     | inr h ↦ absurd h
   ];
+  few = omega arith;
 }
 
 module _ (s t : Members) (removed : List Literal) (x : Literal) (out : Has s x → ⊥) (put : (l : Literal) → Has t l ↔ (Has s l ⊎ (l ≡ x))) where
@@ -117,6 +137,7 @@ module _ (s t : Members) (removed : List Literal) (x : Literal) (out : Has s x �
       | inr e ↦ inr (inl e, (λ none. none), (λ k. out (subst (λ (z : Literal). Has s z) e ((notes l).1 (inl k)))))
     ];
     covers = λ kept notes l. elim [ inl e ↦ inr (inr (push_in removed x l (inr e))) | inr h ↦ absurd h ];
+    few = let count = length_push removed x in omega (arith, count);
   }
 
 pub removes_pushed : {E : Type 0} (s t : Members) (old new : Growing Literal) (x : Literal) (r : Result ⊤ E) → (Has s x → ⊥)
@@ -134,6 +155,7 @@ module _ (May : Literal → Type 0) where
     grows = λ l h. h;
     within = λ kept notes l h. inl h;
     covers = λ kept notes l. elim [ inl e ↦ inl (subst May (sym e) may) | inr h ↦ absurd h ];
+    few = omega arith;
   }
 
   pub removes_other : (s t : Members) (old new : List Literal) (x : Literal) → (May x → ⊥) → Removes s t old new (x ∷ []) (λ l. ⊥)
@@ -146,11 +168,12 @@ module _ (May : Literal → Type 0) where
       | inr w ↦ inr (w.0, elim w.0 [ inl e ↦ (λ may. out (subst May e may)) | inr none ↦ absurd none ], w.2)
     ];
     covers = λ kept notes l h. elim (by.covers kept notes l h) [ inl none ↦ absurd none | inr there ↦ inr there ];
+    few = by.few;
   }
 
   pub others_none : (s : Members) (removed : List Literal) → Removes s s removed removed [] May
   others_none s removed =
-      record { notes = λ kept notes. notes; grows = λ l h. h; within = λ kept notes l h. inl h; covers = λ kept notes l h. absurd h }
+      record { notes = λ kept notes. notes; grows = λ l h. h; within = λ kept notes l h. inl h; covers = λ kept notes l h. absurd h; few = omega arith }
 
   module _ (lits : List Literal) where
     pub others_more : (i : ℕ) (x : Literal) → i < length lits → x ≡ get_or lits i x → (s t u : Members) (old new newer : List Literal)
@@ -173,6 +196,7 @@ module _ (May : Literal → Type 0) where
         ]
         | inr e ↦ one.covers kept (before.notes kept notes) l (inl e)
       ];
+      few = let count = length_more lits i less in let few = before.few in let more = one.few in omega (arith, count, few, more);
     }
 
     pub others_all : (n : ℕ) (s t : Members) (old new : List Literal) → length lits ≤ n → Removes s t old new (take n lits) May
@@ -185,6 +209,7 @@ module _ (May : Literal → Type 0) where
         | inr w ↦ inr (take_within lits n l w.0, w.1, w.2)
       ];
       covers = λ kept notes l h. before.covers kept notes l (in_take_all lits n l all h);
+      few = let count = length_taken n lits in let few = before.few in omega (arith, count, few);
     }
 
 -- the same literals are left aside
@@ -195,6 +220,7 @@ removes_alike s t old new lits May Also same by = record {
   grows = by.grows;
   within = λ kept notes l h. elim (by.within kept notes l h) [ inl o ↦ inl o | inr w ↦ inr (w.0, (λ also. w.1 ((same l).1 also)), w.2) ];
   covers = λ kept notes l h. elim (by.covers kept notes l h) [ inl may ↦ inl ((same l).0 may) | inr there ↦ inr there ];
+  few = by.few;
 }
 
 pub removes_antecedent : {E : Type 0} (s t : Members) (old new lits : List Literal) (side : Side) (blocks : List Block) (within : Reducible)

@@ -5,8 +5,12 @@ use Rattle.qdimacs.specs.Reading as formulas
 use Rattle.qrp_check.proofs.HeadlineOfVerdict.{formula_spelled, trace_spelled}
 use Rattle.qrp_check.specs.Checked.{WasReadFrom}
 use Rattle.qrp_check.specs.Verdict.{is_sat}
-use Rattle.qrp_winner.specs.Strategies.{IsOfWinner, winner}
+use Rattle.qrp_check.specs.declared.verdict.Fault.{Fault}
+use Rattle.std.proofs.Common.{IsErrOf}
+use Rattle.qrp_winner.specs.Sizes.{IsTooLong}
+use Rattle.qrp_winner.specs.Strategies.{HasReason, IsOfWinner, winner}
 use Rattle.qrp_winner.specs.declared.fault.StrategyFault.{StrategyFault}
+use Rattle.qrp_winner.specs.declared.fault.StrategyFault.TheVariants.{Check, NoCircuit}
 use Rattle.qrp_winner.specs.declared.strategy.Strategy.{Strategy}
 
 pub of_winner : (formula trace : Option (List ℕ)) (f : Qbf) (result : Result Strategy StrategyFault)
@@ -18,3 +22,18 @@ of_winner (Some a) None f result reads wins = tt
 of_winner (Some a) (Some b) f (Err e) reads wins = tt
 of_winner (Some a) (Some b) f (Ok s) reads (d, (formed, read), claim, wins) =
     (f, d, record { formula_spelled = formula_spelled a f reads; trace_spelled = trace_spelled b d read }, claim, wins)
+
+pub are_too_long : (formula trace : Option (List ℕ)) (f : Qbf) (result : Result Strategy StrategyFault)
+    → IfSome (formulas.reads_bytes formula) (λ r. r ≡ Ok f)
+    → (IsErrOf result NoCircuit → (d : Derivation) × WasReadFrom trace d × IsTooLong f d)
+    → HasReason formula trace result
+are_too_long None trace f result reads long = tt
+are_too_long (Some a) None f result reads long = tt
+are_too_long (Some a) (Some b) f result reads long = λ is.
+    let (d, (formed, read), too_long) = long is in
+    (f, d, record { formula_spelled = formula_spelled a f reads; trace_spelled = trace_spelled b d read }, too_long)
+
+pub not_too_long : (formula trace : Option (List ℕ)) (e : Fault) → HasReason formula trace (Err (Check e))
+not_too_long None trace e = tt
+not_too_long (Some a) None e = tt
+not_too_long (Some a) (Some b) e = λ is. absurd (cc is)

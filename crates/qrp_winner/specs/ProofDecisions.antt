@@ -1,5 +1,5 @@
 -- The decisions of a proof: one for each step of its core, in order.
-use Rattle.std.specs.Prelude.{◌≡◌, ℕ, List, [], ◌∷◌, ◌⊎◌, map, take}
+use Rattle.std.specs.Prelude.{◌≡◌, ◌≤◌, length, ℕ, List, [], ◌∷◌, ◌⊎◌, map, take}
 use Rattle.qbf_core.specs.Literal.{Literal}
 use Rattle.qbf_core.specs.Members.{◌∈◌, ◌⊆◌}
 use Rattle.qbf_core.specs.Blocks.{Block, Binds}
@@ -9,6 +9,7 @@ use Rattle.qbf_strategy.specs.Decisions.{Decision, wanted}
 use Rattle.qrp.specs.Inferences.{Inference, IsAt}
 use Rattle.qrp_check.specs.Conditions.{lits_of}
 use Rattle.qrp_check.specs.Sets.{IsNotAfter}
+use Rattle.qrp_winner.specs.Sizes.{literals_before}
 
 -- some literal of the deciding quantifier among lits is in the block of k or further in; it may be k itself
 abbrev pub IsNeeded : Side → List Block → List Literal → Literal → Type 0
@@ -43,13 +44,16 @@ Covers side f before (m ∷ []) lits kept removed = CoversParent side f.blocks (
 Covers side f before (m ∷ n ∷ more) lits kept removed = CoversBoth side f.blocks (lits_of before m) (lits_of before n) kept removed
 
 -- The decision of a step: if the literals that are kept are set as the player wants them, so are those that are removed to be. These have
--- the player's quantifier, and every literal of the step with the deciding quantifier is in an earlier block.
+-- the player's quantifier, and every literal of the step with the deciding quantifier is in an earlier block. None is listed more often than
+-- in what the step comes from.
 pub record IsDecisionOf (side : Side) (f : Qbf) (before : List Inference) (step : Inference) (d : Decision) : Type 0 where
   pub kept : List Literal
   pub removed : List Literal
   pub reduced : IsFullyReduced side f.blocks step.lits kept
   pub reducible : (l : Literal) → l ∈ removed → IsReducible side f.blocks step.lits l
   pub clean : IsClean removed
+  pub few_kept : length kept ≤ length step.lits
+  pub few_removed : length removed ≤ literals_before side f before step.ants step.lits
   pub covers : Covers side f before step.ants step.lits kept removed
   pub when : d.when ≡ map (wanted (reduced_quantifier side)) kept
   pub sets : d.sets ≡ map (wanted (reduced_quantifier side)) removed
@@ -60,9 +64,23 @@ pub record IsDecisionAt (side : Side) (f : Qbf) (steps : List Inference) (i : �
   pub here : IsAt steps i step
   pub decision : IsDecisionOf side f (take i steps) step d
 
+-- a decision in front of others, if it sets these literals and they are some
+abbrev pub unless_idle : Decision → List Literal → List Decision → List Decision
+unless_idle d [] ds = ds
+unless_idle d (l ∷ ls) ds = d ∷ ds
+
+-- decisions without those that set nothing
+abbrev pub without_idle : List Decision → List Decision
+without_idle [] = []
+without_idle (d ∷ ds) = unless_idle d d.sets (without_idle ds)
+
 -- the decisions of the steps at these positions
 abbrev pub AreDecisionsOf : Side → Qbf → List Inference → List ℕ → List Decision → Type 0
 AreDecisionsOf side f steps [] [] = Unit {0}
 AreDecisionsOf side f steps [] (d ∷ ds) = ⊥
 AreDecisionsOf side f steps (i ∷ core) [] = ⊥
 AreDecisionsOf side f steps (i ∷ core) (d ∷ ds) = IsDecisionAt side f steps i d × AreDecisionsOf side f steps core ds
+
+-- the decisions of the steps at these positions, without those that set nothing
+abbrev pub AreAllThatSet : Side → Qbf → List Inference → List ℕ → List Decision → Type 0
+AreAllThatSet side f steps core set = (ds : List Decision) × AreDecisionsOf side f steps core ds × (set ≡ without_idle ds)

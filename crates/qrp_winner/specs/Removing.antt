@@ -1,5 +1,5 @@
 -- How the literals that a step keeps and those that are removed are collected, one after the other.
-use Rattle.std.specs.Prelude.{◌≡◌, ◌↔◌, ℕ, Option, Some, None, List, [], ◌∷◌, ◌++◌, ◌⊎◌}
+use Rattle.std.specs.Prelude.{◌≡◌, ◌↔◌, ◌≤◌, ◌+◌, length, ℕ, Option, Some, None, List, [], ◌∷◌, ◌++◌, ◌⊎◌}
 use Rattle.qbf_core.specs.Blocks.{Block}
 use Rattle.qbf_core.specs.Literal.{Literal}
 use Rattle.qbf_core.specs.Members.{◌∈◌, ◌⊆◌}
@@ -20,6 +20,7 @@ pub record IsLeft (own : Reducible) (lits kept : List Literal) : Type 0 where
   pub within : kept ⊆ lits
   pub stays : (l : Literal) → l ∈ kept → TakesOut own l.var → ⊥
   pub each : (l : Literal) → l ∈ lits → (l ∈ kept) ⊎ TakesOut own l.var
+  pub few : length kept ≤ length lits
 
 -- the set has just these literals
 abbrev pub HasJust : List Literal → Members → Type 0
@@ -36,6 +37,7 @@ pub record Removes (seen new_seen : Members) (removed new_removed some : List Li
   pub within : (kept : List Literal) → Notes kept removed seen → (l : Literal) → l ∈ new_removed
       → (l ∈ removed) ⊎ ((l ∈ some) × (May l → ⊥) × (l ∈ kept → ⊥))
   pub covers : (kept : List Literal) → Notes kept removed seen → (l : Literal) → l ∈ some → May l ⊎ ((l ∈ kept) ⊎ (l ∈ new_removed))
+  pub few : length new_removed ≤ length removed + length some
 
 -- a variable in which two antecedents clash, or none
 abbrev pub IsPivotOf : List Literal → List Literal → Option ℕ → Type 0
@@ -71,11 +73,20 @@ RemovesAll side blocks seen new_seen removed new_removed (Two a b pivot) = (betw
     × Removes seen between removed first a.now (MayLeave side blocks pivot a.now)
     × Removes between new_seen first new_removed b.now (MayLeave side blocks pivot b.now)
 
--- lists of what is kept and removed, with those of the step at i
+-- from one list of lists to the next: a list is added
+abbrev pub IsAdded : List (List Literal) → List Literal → List (List Literal) → Type 0
+IsAdded old list new = new ≡ old ++ list ∷ []
+
+-- lists of what is kept and removed, with one more of each if something is removed
+abbrev pub AddsUnlessIdle : (kept removed : List (List Literal)) → (keeps removes : List Literal) → (new_kept new_removed : List (List Literal))
+    → Type 0
+AddsUnlessIdle kept removed keeps [] new_kept new_removed = (new_kept ≡ kept) × (new_removed ≡ removed)
+AddsUnlessIdle kept removed keeps (l ∷ removes) new_kept new_removed = IsAdded kept keeps new_kept × IsAdded removed (l ∷ removes) new_removed
+
+-- lists of what is kept and removed, with those of the step at i, if it decides something
 pub record AddsDecision (side : Side) (f : Qbf) (steps : List Inference) (i : ℕ) (kept removed new_kept new_removed : List (List Literal))
     : Type 0 where
   pub keeps : List Literal
   pub removes : List Literal
-  pub kept_is : new_kept ≡ kept ++ keeps ∷ []
-  pub removed_is : new_removed ≡ removed ++ removes ∷ []
+  pub adds : AddsUnlessIdle kept removed keeps removes new_kept new_removed
   pub decision : IsDecisionAt side f steps i (decision_by (reduced_quantifier side) keeps removes)

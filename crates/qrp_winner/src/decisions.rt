@@ -1,4 +1,4 @@
-//! The decisions of a checked proof, one for each step of its core.
+//! The decisions of a checked proof, one for each step of its core that sets something.
 
 ghost use Rattle.std.specs.Prelude.{◌≡◌, ◌<◌, ℕ, Some, length, slice_get, IfOk, OnOk};
 ghost use Rattle.qbf_core.specs.Members.{◌∈◌};
@@ -7,8 +7,8 @@ ghost use Rattle.qbf_strategy.specs.Decisions.{decisions_by};
 ghost use Rattle.qrp_check.specs.Core.{IsInCore, ListsCore};
 ghost use Rattle.qrp_check.specs.Proof.{Derives, side_of};
 ghost use Rattle.qrp_rules.specs.declared.rules.Rules.{Rules};
-ghost use Rattle.qrp_winner.specs.ProofDecisions.{AreDecisionsOf};
-ghost use Rattle.qrp_winner.specs.Removing.{AddsDecision};
+ghost use Rattle.qrp_winner.specs.ProofDecisions.{AreAllThatSet};
+ghost use Rattle.qrp_winner.specs.Removing.{AddsDecision, AddsUnlessIdle};
 
 use crate::origins::{Search, origin_of};
 use crate::removing::{keep, remove_all, set_all};
@@ -26,8 +26,20 @@ struct Walk {
     decisions: Decisions,
 }
 
-/// Adds the decision of the step at a position.
+/// Makes a decision of what is kept and removed, unless nothing is removed.
+fn close_unless_idle(decisions: &mut Decisions) -> Result<(), AllocError>
+    ensures { OnOk result (AddsUnlessIdle decisions.old.kept.whole decisions.old.removed.whole
+        decisions.old.kept.unfinished decisions.old.removed.unfinished
+        decisions.new.kept.whole decisions.new.removed.whole) }
+{
+    if decisions.removed.unfinished_len() == 0 {
+        return Ok(());
+    }
+    decisions.kept.close()?;
+    decisions.removed.close()
+}
 
+/// Adds the decision of the step at a position, unless it sets nothing.
 fn decide<S: Side, T: KeptSteps>(
     formula: &Formula,
     trace: &T,
@@ -52,8 +64,7 @@ fn decide<S: Side, T: KeptSteps>(
         &mut walk.search.seen,
         &mut walk.decisions.removed,
     )?;
-    walk.decisions.kept.close()?;
-    walk.decisions.removed.close()
+    close_unless_idle(&mut walk.decisions)
 }
 
 /// The position at a place.
@@ -64,7 +75,7 @@ fn place_at(core: &[usize], i: usize) -> usize
     core[i]
 }
 
-/// The decisions of the steps at some positions, for one side.
+/// The decisions of the steps at some positions that set something, for one side.
 #[tactic(auto, using(crate::proofs::MadeDecisions::decisions_none))]
 fn decisions_for<S: Side, T: KeptSteps>(
     alloc: Global,
@@ -74,8 +85,9 @@ fn decisions_for<S: Side, T: KeptSteps>(
 ) -> Result<Decisions, AllocError>
     requires derives { (by : Rules) × Derives by S.side formula.now (T.steps trace.now) }
     requires core { (i : ℕ) → i ∈ core.now → IsInCore (T.steps trace.now) i }
-    ensures { IfOk result (λ d. AreDecisionsOf S.side formula.now (T.steps trace.now) core.now
+    ensures are { IfOk result (λ d. AreAllThatSet S.side formula.now (T.steps trace.now) core.now
         (decisions_by (reduced_quantifier S.side) d.kept.whole d.removed.whole)) }
+    ensures same { IfOk result (λ d. length d.kept.whole ≡ length d.removed.whole) }
 {
     let mut walk = Walk {
         search: Search::new(alloc),
@@ -92,8 +104,8 @@ fn decisions_for<S: Side, T: KeptSteps>(
     Ok(walk.decisions)
 }
 
-/// The decisions of a proof, one for each step of its core, in order. A player who keeps to them
-/// wins: the universal player if the result is `r unsat`, else the existential player.
+/// The decisions of a proof, in order: one for each step of its core that sets something. A player
+/// who keeps to them wins: the universal player if the result is `r unsat`, else the existential player.
 ///
 /// # Errors
 /// If an allocation fails.
@@ -106,9 +118,10 @@ pub fn decisions_of<T: KeptSteps>(
 ) -> Result<Decisions, AllocError>
     requires derives { (by : Rules) × Derives by (side_of outcome) formula.now (T.steps trace.now) }
     requires core { ListsCore (T.steps trace.now) core.now }
-    ensures { IfOk result (λ d. AreDecisionsOf (side_of outcome) formula.now (T.steps trace.now)
+    ensures are { IfOk result (λ d. AreAllThatSet (side_of outcome) formula.now (T.steps trace.now)
         core.now
         (decisions_by (reduced_quantifier (side_of outcome)) d.kept.whole d.removed.whole)) }
+    ensures same { IfOk result (λ d. length d.kept.whole ≡ length d.removed.whole) }
 {
     match outcome {
         Outcome::Unsat => decisions_for::<Clauses, T>(alloc, formula, trace, core),

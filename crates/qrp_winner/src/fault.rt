@@ -14,7 +14,7 @@ pub enum StrategyFault {
     /// An allocation failed once the trace was verified.
     NoMemory,
     /// The trace was verified, and its circuit was not made: AIGER has no numbers for so many
-    /// gates. It is not proved that there is no other reason.
+    /// gates.
     NoCircuit,
 }
 

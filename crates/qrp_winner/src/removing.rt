@@ -1,6 +1,6 @@
 //! The literals that a step keeps, and those that are removed of the lists that it comes from.
 
-ghost use Rattle.std.specs.Prelude.{◌≡◌, ◌↔◌, [], ◌∷◌, ◌⊎◌, OnOk};
+ghost use Rattle.std.specs.Prelude.{◌≡◌, ◌↔◌, ◌≤◌, ◌+◌, [], ◌∷◌, ◌⊎◌, OnOk, length};
 ghost use Rattle.qbf_core.specs.Literal.{Literal};
 ghost use Rattle.qbf_core.specs.Members.{◌∈◌, ◌⊆◌};
 ghost use Rattle.qrp_rules.specs.Seen.{Has};
@@ -19,6 +19,8 @@ fn put_kept(own: Reducible, lit: Lit, kept: &mut GrowingLists<Lit>) -> Result<()
     ensures within { OnOk result ((l : Literal) → l ∈ kept.new.unfinished
         → (l ∈ kept.old.unfinished) ⊎ ((l ≡ lit) × (TakesOut own.entry lit.var → ⊥))) }
     ensures grows { OnOk result (kept.old.unfinished ⊆ kept.new.unfinished) }
+    ensures one { OnOk result
+        (length kept.new.unfinished ≤ length kept.old.unfinished + 1) }
     ensures here { OnOk result ((lit ∈ kept.new.unfinished) ⊎ TakesOut own.entry lit.var) }
 {
     if own.has(lit.var()) {

@@ -1,21 +1,23 @@
 //! From a formula and a trace to the strategy of the winner.
 
-ghost use Rattle.std.specs.Prelude.{◌≡◌, ◌⊎◌, List, IfErr, IfOk, IfSome};
-ghost use Rattle.qbf_core.specs.Blocks.{Block};
+ghost use Rattle.std.specs.Prelude.{◌≡◌, ◌≤◌, ◌+◌, ◌⊎◌, List, IfErr, IfOk, IfSome, length};
+ghost use Rattle.std.specs.Result.{IsErrOf};
+ghost use Rattle.qbf_core.specs.Blocks.{Block, pairs, variables};
 ghost use Rattle.qbf_core.specs.Rules.{reduced_quantifier};
 ghost use Rattle.qbf_strategy.specs.Winning.{IsWinningCircuit};
 ghost use Rattle.qrp_check.specs.Checked.{call_of};
 ghost use Rattle.qrp_check.specs.Core.{ListsCore};
 ghost use Rattle.qrp_check.specs.Proof.{Proves, side_of};
 ghost use Rattle.qrp_rules.specs.declared.rules.Rules.{Rules};
+ghost use Rattle.qrp_winner.specs.Sizes.{core_size};
 ghost use Rattle.qrp_winner.specs.Strategies.{IsOfVerdict, IsOfWinner, IsStrategyOf};
 ghost use Rattle.qrp_winner.specs.declared.fault.StrategyFault.TheVariants.{NoCircuit, NoMemory};
 
 use crate::decisions::decisions_of;
 use crate::fault::StrategyFault;
-use aiger::Circuit;
+use aiger::{Circuit, GateFault};
 use qbf_core::{Formula, Quantifier};
-use qbf_strategy::{CircuitFault, circuit_of};
+use qbf_strategy::circuit_of;
 use qbf_text::Source;
 use qdimacs::read_formula;
 use qrp::{CompactTrace, Outcome};
@@ -56,13 +58,16 @@ fn circuit_for(
     ensures wins { IfOk result (λ c.
         IsWinningCircuit (reduced_quantifier (side_of whole.now.result)) formula.now c) }
     ensures refused { IfErr result (λ e. (e ≡ NoMemory) ⊎ (e ≡ NoCircuit)) }
+    ensures long { IsErrOf result StrategyFault.NoCircuit → 2147483647
+        ≤ length (variables (pairs formula.now.blocks))
+        + core_size (side_of whole.now.result) formula.now whole.now.steps verified.now.core.items }
 {
     let outcome = whole.result();
     let decisions = decisions_of(alloc, formula, whole, outcome, &verified.core)?;
     match circuit_of(alloc, formula.prefix(), winner(outcome), &decisions) {
         Ok(circuit) => Ok(circuit),
-        Err(CircuitFault::NoMemory) => Err(StrategyFault::NoMemory),
-        Err(_) => Err(StrategyFault::NoCircuit),
+        Err(GateFault::NoMemory) => Err(StrategyFault::NoMemory),
+        Err(GateFault::TooLong) => Err(StrategyFault::NoCircuit),
     }
 }
 
@@ -96,7 +101,12 @@ fn strategy_of<B: Source>(
 /// `r unsat`; and an output is the same in two runs that agree on the inputs of earlier blocks.
 ///
 /// # Errors
-/// That of `verify`, if nothing is verified; else as `StrategyFault` says.
+/// That of `verify`, if nothing is verified. `NoMemory` if an allocation fails after that.
+/// `NoCircuit` if AIGER has no numbers for the gates. This cannot be if the variables and the sizes
+/// of the steps that the proof needs come to less than 2147483647. The size of a step is one, and
+/// for each literal of its antecedents one and one for each of its own literals. For an initial
+/// clause the literals of the longest clause of the formula are counted in place of those of
+/// antecedents, and for an initial cube its own.
 pub fn find_strategy<A: Source, B: Source>(
     alloc: Global,
     formula: &mut A,

@@ -1,13 +1,29 @@
-use Rattle.std.proofs.Common.{rules, refl, ap, ◌∙◌}
+use Rattle.std.proofs.Common.{arith, rules, refl, ap, ◌∙◌, ◌≡◌, length}
 use Rattle.qbf_core.specs.Blocks.{pairs}
 use Rattle.qbf_core.specs.declared.quantifier.Quantifier.{Quantifier}
-use Rattle.qbf_strategy.specs.Winning.{variables_of}
+use Rattle.qbf_strategy.specs.Winning.{opponent, variables_of}
 use Rattle.qbf_strategy.proofs.AssembledCircuit.{assembled_computes}
+use Rattle.qbf_strategy.proofs.ConditionGates.{same_fault}
+use Rattle.qbf_strategy.proofs.GateCosts.{circuit_too_long, cost_is}
+use Rattle.qbf_strategy.proofs.ReadyDecisions.{are_bound}
 use Rattle.qbf_strategy.proofs.assembling.whole_circuit.Goals as goal
 
 pub returns-clause-computes : goal.returns-clause-computes
 returns-clause-computes c =
     assembled_computes c.args.mine _ c.args.decisions.now.kept.whole c.args.decisions.now.removed.whole c.in_ok-assembly.assembly _
-    c.in_ok-assembly.ensures.sound.distinct c.in_ok-assembly.ensures.count c.in_ok-assembly.ensures.assembled
+    c.in_ok-entries.ensures.sound.distinct c.in_ok-assembly.ensures.count c.in_ok-assembly.ensures.assembled
     (c.in_ok-inputs.ensures ∙ ap (λ (q : Quantifier). variables_of q (pairs c.args.prefix.now)) c.opponent.ensures) (search rules) refl
     c.into_gates.ensures.gates c.into_gates.ensures.below
+
+pub new-requires-2 : goal.new-requires-2
+new-requires-2 c = are_bound c.args.mine _ _ _ c.requires.few c.requires.sees
+
+pub returns-in_err-entries-clause-long : goal.returns-in_err-entries-clause-long
+returns-in_err-entries-clause-long c = λ is. circuit_too_long c.args.mine _ _ _ c.requires.few (c.in_err-entries.ensures.long
+    (same_fault _ _ _ c.from_residual-in_err-entries.ensures.1 is))
+
+pub returns-in_err-assembly-clause-long : goal.returns-in_err-assembly-clause-long
+returns-in_err-assembly-clause-long c = λ is.
+    let inputs : c.len.result ≡ length (variables_of (opponent c.args.mine) (pairs c.args.prefix.now)) =
+    search rules ∙ ap length (c.in_ok-inputs.ensures ∙ ap (λ (q : Quantifier). variables_of q (pairs c.args.prefix.now)) c.opponent.ensures) in
+    let long = c.in_err-assembly.ensures.long (same_fault _ _ _ c.from_residual-in_err-assembly.ensures.1 is) in let all = cost_is c.args.mine _ _ c.requires.few in omega (arith, inputs, long, all)

@@ -19,11 +19,11 @@ pub loop-literal-preserved : goal.loop-literal-preserved
 loop-literal-preserved c = record {
   joined = conjunction_next c.args.gates.now c.loop-literal.gates c.and.new.self c.args.placed.now c.loop-literal.literal-index
       c.loop-literal.wire
-      c.in_ok-wire.wire c.literal-item.result (search (rules, slice_get_read)) c.and.ensures.grows c.in_ok-wire.ensures.below
+      c.in_ok-wire.wire c.literal-item.result (search (rules, slice_get_read)) c.and.ensures.grows c.and.ensures.one c.in_ok-wire.ensures.below
       c.in_ok-wire.ensures.value c.loop-literal.invariant.joined;
 }
 
-pub returns : goal.returns
-returns c =
+pub returns-clause-value : goal.returns-clause-value
+returns-clause-value c =
     conjunction_all c.args.gates.now c.loop-literal.gates c.args.placed.now c.loop-literal.literal-index c.loop-literal.wire (omega arith)
     c.loop-literal.invariant.joined

@@ -10,4 +10,5 @@ returns-in-Ok-text_of-clause-ok c =
 
 pub returns-clause-ok : goal.returns-clause-ok
 returns-clause-ok c = truth_alone c.args.rules c.args.formula.now c.args.trace.now c.args.binary c.truth_alone.result
-    (rw c.in-Err-NoCircuit.field-0-is at c.in-Err-NoCircuit.ensures.follows) c.truth_alone.ensures.ok
+    (rw c.in-Err-NoCircuit.field-0-is at c.in-Err-NoCircuit.ensures.follows)
+    (rw c.in-Err-NoCircuit.field-0-is at c.in-Err-NoCircuit.ensures.reason) c.truth_alone.ensures.ok

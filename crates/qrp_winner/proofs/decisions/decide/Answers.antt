@@ -2,7 +2,7 @@ use Rattle.qrp_check.proofs.Cited.{◌↔◌, ◌++◌, ◌∙◌, ◌∷◌, []
 use Rattle.qbf_core.specs.Lists.{Growing}
 use Rattle.qbf_core.specs.Rules.{IsReducible}
 use Rattle.qrp_rules.specs.Walks.{TakesOut}
-use Rattle.qrp_winner.specs.Removing.{HasJust, RemovesAll}
+use Rattle.qrp_winner.specs.Removing.{AddsUnlessIdle, HasJust, RemovesAll}
 use Rattle.qrp_winner.proofs.MadeDecisions.{decision_made}
 use Rattle.qrp_winner.proofs.RemovedLiterals.{on_ok}
 use Rattle.qrp_winner.proofs.decisions.decide.Goals as goal
@@ -24,19 +24,19 @@ returns g c =
     c.prefix-2.ensures.value
     (subst (λ (x : Growing Literal). RemovesAll g.S.Side.side c.prefix-2.result.now c.set_all.new.seen c.remove_all.new.seen x.unfinished removes
     c.in_ok-origin.origin) c.begin.ensures c.in_ok-remove_all.ensures.removes) in
-    on_ok c.close-2.result
+    on_ok c.close_unless_idle.result
     (λ closed.
     record {
       keeps = keeps;
       removes = removes;
-      kept_is =
-          ap (λ (x : Growing Literal). x.whole) c.in_ok-close.ensures.closed
-          ∙ ap (λ (ws : List (List Literal)). ws ++ keeps ∷ []) c.keep.ensures.whole;
-      removed_is =
-          ap (λ (x : Growing Literal). x.whole) closed
-          ∙ ap (λ (ws : List (List Literal)). ws ++ removes ∷ []) (c.remove_all.ensures.whole ∙ ap (λ (x : Growing Literal). x.whole) c.begin.ensures);
+      adds =
+          subst (λ (ks : List (List Literal)). AddsUnlessIdle ks c.args.walk.now.decisions.removed.whole keeps removes
+          c.close_unless_idle.new.decisions.kept.whole c.close_unless_idle.new.decisions.removed.whole) c.keep.ensures.whole
+          (subst (λ (rs : List (List Literal)). AddsUnlessIdle c.keep.new.kept.whole rs keeps removes
+          c.close_unless_idle.new.decisions.kept.whole c.close_unless_idle.new.decisions.removed.whole)
+          (c.remove_all.ensures.whole ∙ ap (λ (x : Growing Literal). x.whole) c.begin.ensures) closed);
       decision = decision_made g.S.Side.side c.args.formula.now c.prefix.ensures.sound steps c.requires.derives c.args.position c.requires.core
           c.reducible_in-own.result lits keeps removes c.set_all.new.seen c.remove_all.new.seen c.in_ok-origin.origin c.lits-lits.ensures means
           c.in_ok-keep.ensures.left just c.in_ok-origin.ensures removed_all;
     })
-    c.close-2.ensures.closed
+    c.close_unless_idle.ensures

@@ -10,7 +10,7 @@ loop-lit-preserved c =
     record {
       whole = c.put_kept.ensures.whole ∙ c.loop-lit.invariant.whole;
       left = left_more c.args.own c.args.lits.now i x c.loop-lit.kept.unfinished c.put_kept.new.kept.unfinished c.loop-lit-test.true c.lit-item.is
-          c.loop-lit.invariant.left put.within put.grows put.here;
+          c.loop-lit.invariant.left put.within put.grows put.here put.one;
     }
 
 pub returns-clause-left : goal.returns-clause-left
