@@ -118,7 +118,7 @@ test-examples:
 	examples/check-all $(PROGRAM)
 
 test-library:
-	tests/library/test-library $(PROGRAM) lib
+	tests/library/test-library $(PROGRAM) lib $(wildcard $(STRATEGY))
 
 test-dist:
 	$(if $(and $(wildcard $(PROGRAM).static),$(wildcard $(STRATEGY).static)),packaging/make-dist --check,@echo 'left out: test-dist')

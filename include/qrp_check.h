@@ -7,6 +7,8 @@
  *     with it and in which the last empty step, and every step that it depends on, follows by the rules (QRP_NO_MEMORY aside);
  *     and then that formula is false if the trace says `r unsat`, and true if it says `r sat`, and `truth` says which.
  *
+ *     qrp_strategy writes a circuit only if the trace is verified, and each run of the circuit wins for the winner of the formula.
+ *
  * The proof relies on what this page asks of the caller, on the toolchain that proved and built the library, on the C compiler, `ar`,
  * `objcopy` and the linker that packed it, and on the C library: on its malloc, realloc and free, and on memcpy, memmove and
  * memset. Link with -lqrp, or with libqrp.a; nothing else is needed. The manual page is qrp_check(3).
@@ -120,6 +122,17 @@ size_t qrp_format(const void *formula, size_t formula_length, char *buffer, size
  * of `steps` is left as it was. */
 size_t qrp_core(const void *formula, size_t formula_length, const void *trace, size_t trace_length, bool any_pivot, uint64_t *steps,
                 size_t room, struct qrp_verdict *out) QRP_NONNULL(8);
+
+/* Checks as qrp_verify does and writes the same to *out. If the trace is verified, it writes the winner's whole strategy as a circuit, as
+ * the program `qrp_strategy` prints it: the existential player wins a true formula, and the universal player a false one. The inputs are the
+ * variables of the other player, and the outputs those of the winner, each with its number in the formula as its symbol; docs/STRATEGY.md
+ * says more. If *out has a fault, the text is empty, and its length 0. So it is too if the trace is verified and no circuit is made of it:
+ * AIGER has numbers for 2147483647 inputs and gates. If memory for the circuit is refused, *out has the fault C5.
+ *
+ * binary: whether the text is in AIGER's binary format; else it is in the ASCII format. A binary text may hold zeros. A room of
+ *   formula_length + trace_length has been enough for every solver's trace that was tried, but not for each formula with many variables. */
+size_t qrp_strategy(const void *formula, size_t formula_length, const void *trace, size_t trace_length, bool any_pivot, bool binary,
+                    char *buffer, size_t room, struct qrp_verdict *out) QRP_NONNULL(9);
 
 /* A formula and its proof that are handed over piece by piece, as a solver makes them, in place of two texts. The struct is the caller's, and
  * all of it is zero before the first call; from then on the library alone writes to it. It may be moved, but of two copies only one is used

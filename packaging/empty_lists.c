@@ -12,6 +12,7 @@ int32_t qrp_lent_verify(const void *, size_t, const void *, size_t, bool, struct
 size_t qrp_lent_verdict_line(const struct qrp_verdict *, char *, size_t);
 size_t qrp_lent_fault_text(const struct qrp_verdict *, char *, size_t);
 size_t qrp_lent_trim(const void *, size_t, const void *, size_t, bool, char *, size_t, struct qrp_verdict *);
+size_t qrp_lent_strategy(const void *, size_t, const void *, size_t, bool, bool, char *, size_t, struct qrp_verdict *);
 size_t qrp_lent_format(const void *, size_t, char *, size_t, struct qrp_verdict *);
 size_t qrp_lent_core(const void *, size_t, const void *, size_t, bool, uint64_t *, size_t, struct qrp_verdict *);
 int32_t qrp_lent_proof_clause(struct qrp_proof *, const int32_t *, size_t);
@@ -34,6 +35,12 @@ size_t qrp_trim(const void *formula, size_t formula_length, const void *trace, s
                 size_t room, struct qrp_verdict *out) {
     return qrp_lent_trim(LENT(formula, formula_length), formula_length, LENT(trace, trace_length), trace_length, any_pivot,
                          LENT(buffer, room), room, out);
+}
+
+size_t qrp_strategy(const void *formula, size_t formula_length, const void *trace, size_t trace_length, bool any_pivot, bool binary,
+                    char *buffer, size_t room, struct qrp_verdict *out) {
+    return qrp_lent_strategy(LENT(formula, formula_length), formula_length, LENT(trace, trace_length), trace_length, any_pivot, binary,
+                             LENT(buffer, room), room, out);
 }
 
 size_t qrp_format(const void *formula, size_t formula_length, char *buffer, size_t room, struct qrp_verdict *out) {

@@ -14,8 +14,16 @@ r"""The proved checker of QBF proofs, in process: a formula (QDIMACS 1.1) and a 
 A text is anything whose bytes lie together in memory (bytes, bytearray, memoryview, mmap); it is not copied, and must not change during
 the call. Other threads run meanwhile, and a Verdict or a Refused can be sent from a process to another.
 
-`verify_files`, `trim_files` and `core_files` take names of files. A file of up to 1 GB is read, so another process may write or cut it
-meanwhile. A larger one is mapped: if it is cut meanwhile, the system ends this process (SIGBUS).
+`strategy` gives the winner's whole strategy as a circuit in AIGER's ASCII or binary format. Each run of it is proved to win. Here the
+output is variable 2, and it has the value of the input, which is variable 1:
+
+    >>> formula = b"p cnf 2 2\na 1 0\ne 2 0\n-1 2 0\n1 -2 0\n"
+    >>> trace = b"p qrp 2 5\n1 1 2 0 0\n2 -1 -2 0 0\n3 1 0 1 0\n4 -1 0 2 0\n5 0 3 4 0\nr sat\n"
+    >>> qrp_check.strategy(formula, trace)
+    b'aag 1 1 0 1 0\n2\n2\ni0 1\no0 2\n'
+
+`verify_files`, `trim_files`, `core_files` and `strategy_files` take names of files. A file of up to 1 GB is read, so another process may
+write or cut it meanwhile. A larger one is mapped: if it is cut meanwhile, the system ends this process (SIGBUS).
 
 `python -m qrp_check [--qu] FORMULA TRACE` prints the line of 'qrp_cmd check' and ends with its status.
 
@@ -39,7 +47,7 @@ import os
 import pathlib
 import typing
 
-__all__ = ["Refused", "Verdict", "core", "core_files", "trim", "trim_files", "verify", "verify_files"]
+__all__ = ["Refused", "Verdict", "core", "core_files", "strategy", "strategy_files", "trim", "trim_files", "verify", "verify_files"]
 
 _LINE_ROOM = 48  # QRP_LINE_ROOM
 _FAULT_ROOM = 128  # QRP_FAULT_ROOM
@@ -141,6 +149,7 @@ def _load() -> ctypes.CDLL:
         ("qrp_verify", ctypes.c_int32, [*text, *text, ctypes.c_bool, verdict]),
         ("qrp_trim", ctypes.c_size_t, [*text, *text, ctypes.c_bool, *written, verdict]),
         ("qrp_core", ctypes.c_size_t, [*text, *text, ctypes.c_bool, *written, verdict]),
+        ("qrp_strategy", ctypes.c_size_t, [*text, *text, ctypes.c_bool, ctypes.c_bool, *written, verdict]),
         ("qrp_format", ctypes.c_size_t, [*text, *written, verdict]),
         ("qrp_verdict_line", ctypes.c_size_t, [verdict, *written]),
         ("qrp_fault_text", ctypes.c_size_t, [verdict, *written]),
@@ -174,7 +183,7 @@ class _Lent:
 
     def __enter__(self) -> "tuple[object, int]":
         if isinstance(self._text, (str, os.PathLike)):
-            files = "the names of files to verify_files, trim_files or core_files"
+            files = "the names of files to verify_files, trim_files, core_files or strategy_files"
             raise TypeError(f"the {self._name} is a {type(self._text).__name__}: pass its bytes (text.encode(), path.read_bytes()), or {files}")
         try:
             if _get_buffer is None:
@@ -238,11 +247,11 @@ def _verdict(found: _Verdict) -> Verdict:
     return Verdict(found.status, None, fault, position, _written(_library.qrp_fault_text, found, _FAULT_ROOM), line)
 
 
-def _flag(any_pivot: bool) -> bool:
-    """The flag, which chooses the calculus: so nothing but a bool is taken for it."""
-    if not isinstance(any_pivot, bool):
-        raise TypeError(f"any_pivot has to be True or False, not {any_pivot!r}")
-    return any_pivot
+def _check_flags(**flags: bool) -> None:
+    """Raises TypeError unless each flag is a bool: one chooses the calculus, so nothing else is taken for it."""
+    for name, flag in flags.items():
+        if not isinstance(flag, bool):
+            raise TypeError(f"{name} has to be True or False, not {flag!r}")
 
 
 def verify(formula: _Text, trace: _Text, *, any_pivot: bool = False) -> Verdict:
@@ -250,7 +259,7 @@ def verify(formula: _Text, trace: _Text, *, any_pivot: bool = False) -> Verdict:
 
     Raises MemoryError if it is out of memory, and TypeError if a text is no buffer or the flag is no bool.
     """
-    _flag(any_pivot)
+    _check_flags(any_pivot=any_pivot)
     found = _Verdict()
     with _Lent("formula", formula) as lent_formula, _Lent("trace", trace) as lent_trace:
         _library.qrp_verify(*lent_formula, *lent_trace, any_pivot, ctypes.byref(found))
@@ -262,13 +271,13 @@ def verify_files(formula: _Path, trace: _Path, *, any_pivot: bool = False) -> Ve
 
     Raises OSError as `open` does, and else as `verify` does.
     """
-    return _of_files(verify, formula, trace, any_pivot)
+    return _of_files(verify, formula, trace, any_pivot=any_pivot)
 
 
-def _of_files(call: "typing.Callable[..., _T]", formula: _Path, trace: _Path, any_pivot: bool) -> _T:
-    _flag(any_pivot)
+def _of_files(call: "typing.Callable[..., _T]", formula: _Path, trace: _Path, **flags: bool) -> _T:
+    _check_flags(**flags)
     with _File(formula) as formula_text, _File(trace) as trace_text:
-        return call(formula_text, trace_text, any_pivot=any_pivot)
+        return call(formula_text, trace_text, **flags)
 
 
 class _File:
@@ -296,12 +305,17 @@ class _File:
 
 def trim_files(formula: _Path, trace: _Path, *, any_pivot: bool = False) -> bytes:
     """The trace as `trim` gives it, with the files of these names. Raises as `trim` and `verify_files` do."""
-    return _of_files(trim, formula, trace, any_pivot)
+    return _of_files(trim, formula, trace, any_pivot=any_pivot)
 
 
 def core_files(formula: _Path, trace: _Path, *, any_pivot: bool = False) -> "list[int]":
     """The numbers as `core` gives them, with the files of these names. Raises as `core` and `verify_files` do."""
-    return _of_files(core, formula, trace, any_pivot)
+    return _of_files(core, formula, trace, any_pivot=any_pivot)
+
+
+def strategy_files(formula: _Path, trace: _Path, *, any_pivot: bool = False, binary: bool = False) -> bytes:
+    """The circuit as `strategy` gives it, with the files of these names. Raises as `strategy` and `verify_files` do."""
+    return _of_files(strategy, formula, trace, any_pivot=any_pivot, binary=binary)
 
 
 def trim(formula: _Text, trace: _Text, *, any_pivot: bool = False) -> bytes:
@@ -309,7 +323,7 @@ def trim(formula: _Text, trace: _Text, *, any_pivot: bool = False) -> bytes:
 
     Raises Refused if the trace does not prove its result, and else as `verify` does.
     """
-    _flag(any_pivot)
+    _check_flags(any_pivot=any_pivot)
     found = _Verdict()
     with _Lent("formula", formula) as lent_formula, _Lent("trace", trace) as lent_trace:
 
@@ -317,6 +331,23 @@ def trim(formula: _Text, trace: _Text, *, any_pivot: bool = False) -> bytes:
             return int(_library.qrp_trim(*lent_formula, *lent_trace, any_pivot, buffer, room, ctypes.byref(found)))
 
         return _text(call, found, lent_trace[1] + _MORE)
+
+
+def strategy(formula: _Text, trace: _Text, *, any_pivot: bool = False, binary: bool = False) -> bytes:
+    """The winner's whole strategy as a circuit, in AIGER's ASCII format; with `binary` in its binary format.
+
+    The existential player wins a true formula, and the universal player a false one. The inputs are the variables of the other player, and
+    the outputs those of the winner; docs/STRATEGY.md says more. Raises Refused if the trace does not prove its result, OverflowError if it
+    does and AIGER has no numbers for the gates, and else as `verify` does.
+    """
+    _check_flags(any_pivot=any_pivot, binary=binary)
+    found = _Verdict()
+    with _Lent("formula", formula) as lent_formula, _Lent("trace", trace) as lent_trace:
+
+        def call(buffer: "ctypes.Array[ctypes.c_char]", room: int) -> int:
+            return int(_library.qrp_strategy(*lent_formula, *lent_trace, any_pivot, binary, buffer, room, ctypes.byref(found)))
+
+        return _text(call, found, lent_formula[1] + lent_trace[1] + _MORE)
 
 
 def format(formula: _Text) -> bytes:
@@ -334,14 +365,17 @@ def format(formula: _Text) -> bytes:
 
 
 def _text(call: "typing.Callable[[ctypes.Array[ctypes.c_char], int], int]", found: _Verdict, room: int) -> bytes:
-    """The text that a call writes, in a second call if the first had no room for it."""
+    """The text that a call writes, in a second call if the first had no room for it. Raises Refused, or OverflowError if there is none."""
     buffer = ctypes.create_string_buffer(room)
     length = call(buffer, room)
     if length >= room:
         buffer = ctypes.create_string_buffer(length + 1)
         length = call(buffer, length + 1)
     if length == 0:
-        raise Refused(_verdict(found))
+        verdict = _verdict(found)
+        if verdict.verified:
+            raise OverflowError("the trace is verified, and no circuit is made of it: AIGER has numbers for 2147483647 inputs and gates")
+        raise Refused(verdict)
     return buffer.raw[:length]
 
 
@@ -350,7 +384,7 @@ def core(formula: _Text, trace: _Text, *, any_pivot: bool = False) -> "list[int]
 
     Raises Refused if the trace does not prove its result, and else as `verify` does.
     """
-    _flag(any_pivot)
+    _check_flags(any_pivot=any_pivot)
     found = _Verdict()
     with _Lent("formula", formula) as lent_formula, _Lent("trace", trace) as lent_trace:
         # A step takes at least six bytes: its number, two zeros, and what comes after each.

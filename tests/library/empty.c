@@ -28,6 +28,9 @@ int main(void) {
     with_null = qrp_trim(clause, sizeof clause - 1, refutation, sizeof refutation - 1, false, NULL, 0, &by_null);
     with_address = qrp_trim(clause, sizeof clause - 1, refutation, sizeof refutation - 1, false, no_text, 0, &by_address);
     settle(with_null == with_address && with_null > 0 && by_null.letter == 'V', "the buffer of qrp_trim");
+    with_null = qrp_strategy(clause, sizeof clause - 1, refutation, sizeof refutation - 1, false, true, NULL, 0, &by_null);
+    with_address = qrp_strategy(clause, sizeof clause - 1, refutation, sizeof refutation - 1, false, true, no_text, 0, &by_address);
+    settle(with_null == with_address && with_null > 0 && by_null.letter == 'V', "the buffer of qrp_strategy");
     settle(qrp_format(clause, sizeof clause - 1, NULL, 0, &by_null) == sizeof clause - 1, "the buffer of qrp_format");
     settle(qrp_format(NULL, 0, NULL, 0, &by_null) == 0 && by_null.letter == 'F', "the text of qrp_format");
     with_null = qrp_core(clause, sizeof clause - 1, refutation, sizeof refutation - 1, false, NULL, 0, &by_null);

@@ -161,6 +161,8 @@ static void try_case(char *row) {
     char *trace_name = strtok(NULL, "\t"), *formula_name;
     strtok(NULL, "\t");
     formula_name = strtok(NULL, "\t");
+    strtok(NULL, "\t");
+    strtok(NULL, "\t");
     char *line = strtok(NULL, "");
     if (status > 1 || !strncmp(line, "REFUSED set", 11)) return;
     char *formula = text_of(formula_name), *trace = text_of(trace_name);

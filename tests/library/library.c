@@ -3,9 +3,9 @@
                                   and by eight threads
           library times LIST      how long the cases of the list take, one after the other
 
-   A line of the list is the flag (0 or 1), the status, the files of the formula, of the trace, of what `trim` and of what `format` print
-   for them, and the line without its end, with tabs between them. The calls malloc, realloc and free go through the functions below (the
-   linker's --wrap). */
+   A line of the list is the flag (0 or 1), the status, the files of the formula, of the trace, of what `trim` and `format` print for them,
+   of what `qrp_strategy` prints in both formats (each a `-`, if that program is not there: then its call is left out), and the line without
+   its end, with tabs between them. The calls malloc, realloc and free go through the functions below (the linker's --wrap). */
 #include "qrp_check.h"
 #include <malloc.h>
 #include <pthread.h>
@@ -18,10 +18,18 @@
 #include <unistd.h>
 
 struct text { uint8_t *bytes; size_t length; };
-struct example { struct text formula, trace, trimmed, formatted; bool any_pivot; int status; char line[64]; uint64_t *core; size_t steps; };
+struct example {
+    struct text formula, trace, trimmed, formatted, circuit, binary;
+    bool any_pivot;
+    int status;
+    char line[64];
+    uint64_t *core;
+    size_t steps;
+};
 
-/* The calls that take a text, and where one of them writes. */
-enum call { VERIFY, TRIM, CORE, FORMAT, CALLS };
+/* The calls that take a text, the last of them in both formats, and where one of them writes. */
+enum call { VERIFY, TRIM, CORE, FORMAT, STRATEGY, BINARY, CALLS };
+static enum call calls = CALLS;
 struct written { char *text; uint64_t *steps; size_t room, returned; };
 
 static struct example examples[4096];
@@ -83,6 +91,8 @@ static int made(enum call call, const struct example *of, const uint8_t *formula
     case TRIM: w->returned = qrp_trim(formula, f, trace, t, of->any_pivot, w->text, w->room, v); return v->status;
     case CORE: w->returned = qrp_core(formula, f, trace, t, of->any_pivot, w->steps, w->room, v); return v->status;
     case FORMAT: w->returned = qrp_format(formula, f, w->text, w->room, v); return v->status;
+    case STRATEGY:
+    case BINARY: w->returned = qrp_strategy(formula, f, trace, t, of->any_pivot, call == BINARY, w->text, w->room, v); return v->status;
     default: return qrp_verify(formula, f, trace, t, of->any_pivot, v);
     }
 }
@@ -102,6 +112,16 @@ static bool is_answer(int status, const struct qrp_verdict *v, int wanted, const
         && !v->reserved[0] && !v->reserved[1] && !v->reserved[2];
 }
 
+/* The text that a call writes for a case. */
+static const struct text *text_of(enum call call, const struct example *of) {
+    switch (call) {
+    case TRIM: return &of->trimmed;
+    case FORMAT: return &of->formatted;
+    case STRATEGY: return &of->circuit;
+    default: return &of->binary;
+    }
+}
+
 /* Whether a text that a call wrote is this one, with a zero after it. */
 static bool is_text(const struct written *w, const struct text *wanted) {
     return w->returned == wanted->length && !memcmp(w->text, wanted->bytes, wanted->length) && !w->text[wanted->length];
@@ -115,8 +135,8 @@ static bool is_done(enum call call, int status, const struct example *of, const 
             && qrp_verdict_line(v, line, sizeof line) == 0 && !*line;
     if (call == FORMAT && of->status != QRP_TEXT_REFUSED) return false;
     if (!is_answer(status, v, of->status, of->line)) return false;
-    if (call == TRIM || call == FORMAT) return is_text(w, call == TRIM ? &of->trimmed : &of->formatted);
-    return call == VERIFY || (w->returned == of->steps && !memcmp(w->steps, of->core, of->steps * sizeof *of->core));
+    if (call == CORE) return w->returned == of->steps && !memcmp(w->steps, of->core, of->steps * sizeof *of->core);
+    return call == VERIFY || is_text(w, text_of(call, of));
 }
 
 /* Whether a call that got no memory says so and writes nothing. */
@@ -187,7 +207,7 @@ static void each_room(const struct example *of, const struct qrp_verdict *v) {
 
 /* The texts of the other calls in rooms around theirs, before a page that nobody can write. */
 static void rooms_around(enum call call, const struct example *of) {
-    const struct text *text = call == TRIM ? &of->trimmed : &of->formatted;
+    const struct text *text = text_of(call, of);
     struct text pages = fenced(text->length + 8, true, 0);
     struct qrp_verdict v;
     bool is = true;
@@ -225,7 +245,7 @@ static void each_alignment(const struct example *of, struct written *w) {
     for (size_t at = 0; at < 16; at++) {
         size_t skip = (at + 5) % 16;
         struct text formula = guarded(of->formula, false, at), trace = guarded(of->trace, false, skip);
-        for (enum call call = VERIFY; call < CALLS; call++)
+        for (enum call call = VERIFY; call < calls; call++)
             is &= is_done(call, made(call, of, formula.bytes, trace.bytes, &v, w), of, &v, w);
         is &= !memcmp(formula.bytes, of->formula.bytes, formula.length) && !memcmp(trace.bytes, of->trace.bytes, trace.length);
         unguard(formula, false, at);
@@ -257,7 +277,7 @@ static void *by_thread(void *wrong) {
     struct qrp_verdict v;
     struct written w = room_of(largest + 32);
     for (size_t i = 0; i < count; i++)
-        for (enum call call = VERIFY; call < CALLS; call++) {
+        for (enum call call = VERIFY; call < calls; call++) {
             const struct example *of = &examples[i];
             int status = made(call, of, of->formula.bytes, of->trace.bytes, &v, &w);
             *(unsigned long *)wrong += !is_done(call, status, of, &v, &w) || blocks != 0;
@@ -318,6 +338,13 @@ static struct text bytes_of(const char *name) {
     return copy;
 }
 
+/* The bytes of a file that `qrp_strategy` printed, if it is there. */
+static struct text printed(const char *name) {
+    if (strcmp(name, "-")) return bytes_of(name);
+    calls = STRATEGY;
+    return (struct text){NULL, 0};
+}
+
 /* The numbers of the steps in the text of a trimmed trace: the first words of its lines that begin with a digit. */
 static void read_core(struct example *of) {
     char *text = __real_malloc(of->trimmed.length + 1), *line, *next;
@@ -343,9 +370,11 @@ static void read_list(const char *name) {
         of->trace = bytes_of(strtok(NULL, "\t"));
         of->trimmed = bytes_of(strtok(NULL, "\t"));
         of->formatted = bytes_of(strtok(NULL, "\t"));
+        of->circuit = printed(strtok(NULL, "\t"));
+        of->binary = printed(strtok(NULL, "\t"));
         read_core(of);
-        if (of->formula.length > largest) largest = of->formula.length;
-        if (of->trace.length > largest) largest = of->trace.length;
+        size_t lengths[4] = {of->formula.length, of->trace.length, of->circuit.length, of->binary.length};
+        for (int k = 0; k < 4; k++) if (lengths[k] > largest) largest = lengths[k];
         /* What the header says of the room. */
         settle(of->trimmed.length < of->trace.length + 32 && of->formatted.length < of->formula.length + 32, "room for a text", of);
         snprintf(of->line, sizeof of->line, "%s", strtok(NULL, ""));
@@ -381,15 +410,15 @@ int main(int arguments, char **words) {
     for (size_t i = 0; i < count; i++) {
         struct qrp_verdict v;
         const struct example *of = &examples[i];
-        for (enum call call = VERIFY; call < CALLS; call++) {
+        for (enum call call = VERIFY; call < calls; call++) {
             int status = made(call, of, of->formula.bytes, of->trace.bytes, &v, &w);
             settle(is_done(call, status, of, &v, &w) && blocks == 0, "a call", of);
             each_refusal(call, of, &w);
         }
         verify(of, of->formula.bytes, of->trace.bytes, &v);
         each_room(of, &v);
-        rooms_around(TRIM, of);
-        rooms_around(FORMAT, of);
+        for (enum call call = TRIM; call < calls; call++)
+            if (call != CORE) rooms_around(call, of);
         core_rooms(of);
         each_alignment(of, &w);
     }

@@ -1,8 +1,9 @@
 """The tests of the module; tests/library/test-library runs them. usage: test_qrp_check.py LIST, or test_qrp_check.py times LIST
 
-A line of the list is the flag (0 or 1), the status, the files of the formula, of the trace, of what `trim` and of what `format` print for
-them, and the line, with tabs between them. The last line that is printed has two numbers, how many cases passed and failed; with `times`
-it is how many microseconds the cases of the list take, the best of twenty runs.
+A line of the list is the flag (0 or 1), the status, the files of the formula, of the trace, of what `trim` and `format` print for them, of
+what `qrp_strategy` prints in both formats (each a `-`, if that program is not there), and the line, with tabs between them. The last line
+that is printed has two numbers, how many cases passed and failed; with `times` it is how many microseconds the cases of the list take, the
+best of twenty runs.
 """
 
 import concurrent.futures
@@ -38,6 +39,8 @@ class Example:
     trace: bytes
     trimmed: bytes
     formatted: bytes
+    circuit: "bytes | None"
+    binary: "bytes | None"
     line: str
 
 
@@ -45,7 +48,7 @@ def examples(path):
     """The cases of the list."""
     for row in pathlib.Path(path).read_text().splitlines():
         flag, status, *files, line = row.split("\t")
-        texts = [pathlib.Path(file).read_bytes() for file in files]
+        texts = [None if file == "-" else pathlib.Path(file).read_bytes() for file in files]
         yield Example(flag == "1", int(status), tuple(files[:2]), *texts, line)
 
 
@@ -75,6 +78,15 @@ def numbers(trimmed):
     return [int(line.split()[0]) for line in lines if line[0].isdigit()]
 
 
+def is_circuit(example, binary, wanted):
+    """Whether the circuit in this format is that of the program, from bytes and from files, or is refused as the list says."""
+    flags = {"any_pivot": example.any_pivot, "binary": binary}
+    found = text_or_verdict(qrp_check.strategy, example.formula, example.trace, **flags)
+    if found != text_or_verdict(qrp_check.strategy_files, *example.files, **flags):
+        return False
+    return found == wanted if example.status == 0 else is_verdict(found, example)
+
+
 def is_answered(example):
     """Whether each call of the module answers this case as the list says."""
     texts, flag = (example.formula, example.trace), {"any_pivot": example.any_pivot}
@@ -86,6 +98,8 @@ def is_answered(example):
     if trimmed != text_or_verdict(qrp_check.trim_files, *example.files, **flag) or core != text_or_verdict(qrp_check.core_files, *example.files, **flag):
         return False
     formatted = text_or_verdict(qrp_check.format, example.formula)
+    if example.circuit is not None and not (is_circuit(example, False, example.circuit) and is_circuit(example, True, example.binary)):
+        return False
     if example.formatted != (formatted if isinstance(formatted, bytes) else b""):
         return False
     if example.status == 0:
@@ -129,6 +143,9 @@ def errors(example):
         says(TypeError, ["formula", "str", ".encode()", "verify_files"], lambda: qrp_check.verify("p cnf 0 0\n", b"")),
         says(TypeError, ["trace", "NoneType", "bytearray"], lambda: qrp_check.verify(b"", None)),
         says(TypeError, ["formula", "Path", "read_bytes", "trim_files"], lambda: qrp_check.trim(pathlib.Path("x"), b"")),
+        says(TypeError, ["trace", "str", "strategy_files"], lambda: qrp_check.strategy(b"", "p qrp 0 0\n")),
+        *(says(TypeError, ["binary", "True or False", "1"], lambda call=call: call(b"", b"", binary=1)) for call in (qrp_check.strategy, qrp_check.strategy_files)),
+        says(OverflowError, ["verified", "no circuit", "2147483647"], lambda: without_circuit(example)),
         *(says(TypeError, ["positional argument"], lambda call=call: call(b"", b"", True)) for call in with_flag()),
         *(says(TypeError, ["any_pivot", "True or False", repr(flag)], lambda call=call, flag=flag: call(b"", b"", any_pivot=flag)) for call in with_flag() for flag in ("no", 1, None)),
         says(TypeError, ["trace", "bytes(..)"], lambda: qrp_check.verify(b"", text)),
@@ -137,8 +154,31 @@ def errors(example):
         "ImportError" in imports("/none/libqrp.so") and "make lib" in imports("/none/libqrp.so"),
         "ImportError" in another and "QRP_LIBRARY" in another,
         qrp_check.__version__ == (ROOT / "VERSION").read_text().strip(),
-        doctest.testmod(qrp_check).attempted >= 5 and doctest.testmod(qrp_check).failed == 0,
+        doctest.testmod(qrp_check).attempted >= 9 and doctest.testmod(qrp_check).failed == 0,
     ]
+
+
+class NoCircuit:
+    """The library as it is if a trace is verified, and AIGER has no numbers for the gates of its circuit."""
+
+    def __init__(self, library):
+        self.library = library
+
+    def __getattr__(self, name):
+        return getattr(self.library, name)
+
+    def qrp_strategy(self, formula, formula_length, trace, trace_length, any_pivot, _binary, _buffer, _room, out):
+        self.library.qrp_verify(formula, formula_length, trace, trace_length, any_pivot, out)
+        return 0
+
+
+def without_circuit(example):
+    """What the module does if no circuit is made."""
+    library, qrp_check._library = qrp_check._library, NoCircuit(qrp_check._library)
+    try:
+        return qrp_check.strategy(example.formula, example.trace, any_pivot=example.any_pivot)
+    finally:
+        qrp_check._library = library
 
 
 def from_pipe(example):
@@ -183,7 +223,8 @@ def meanings():
 
 
 def with_flag():
-    return [qrp_check.verify, qrp_check.verify_files, qrp_check.trim, qrp_check.trim_files, qrp_check.core, qrp_check.core_files]
+    names = [name for name in qrp_check.__all__ if name not in ("Refused", "Verdict")]
+    return [getattr(qrp_check, name) for name in names]
 
 
 def trimmed_of(example):
@@ -217,7 +258,8 @@ def in_processes(verified, refused):
 
 def names():
     """Whether the names for users are all that is seen, and what they mean is told."""
-    wanted = {"Refused", "Verdict", "core", "core_files", "format", "trim", "trim_files", "verify", "verify_files"}
+    calls = {name + of for name in ("core", "strategy", "trim", "verify") for of in ("", "_files")}
+    wanted = {"Refused", "Verdict", "format", *calls}
     starred = {}
     exec("from qrp_check import *", starred)
     text = pydoc.plain(pydoc.render_doc(qrp_check.Verdict))
@@ -316,8 +358,8 @@ class Refusing:
 
 qrp_check._library = Refusing(qrp_check._library)
 texts = [open(name, "rb").read() for name in sys.argv[1:]]
-calls = [(qrp_check.verify, texts), (qrp_check.trim, texts), (qrp_check.core, texts), (qrp_check.format, texts[:1])]
-calls += [(getattr(qrp_check, name), sys.argv[1:]) for name in ("verify_files", "trim_files", "core_files")]
+calls = [(getattr(qrp_check, name), texts) for name in ("verify", "trim", "core", "strategy")] + [(qrp_check.format, texts[:1])]
+calls += [(getattr(qrp_check, name), sys.argv[1:]) for name in ("verify_files", "trim_files", "core_files", "strategy_files")]
 for call, words in calls:
     try:
         print(call(*words))
@@ -331,7 +373,7 @@ def without_memory(example):
     """Whether each call raises MemoryError if memory is refused, and `python -m qrp_check` says NO MEMORY."""
     environment = {**os.environ, "PYTHONPATH": str(ROOT / "python")}
     ended = subprocess.run([sys.executable, "-c", WITHOUT_MEMORY, *example.files], env=environment, capture_output=True, text=True, check=False)
-    wanted = ["out of memory, so nothing is known: check again with more"] * 7 + ["NO MEMORY"]
+    wanted = ["out of memory, so nothing is known: check again with more"] * 9 + ["NO MEMORY"]
     return [ended.stdout.splitlines() == wanted, ended.returncode == 4, ended.stderr == ""]
 
 

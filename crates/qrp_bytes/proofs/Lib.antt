@@ -1,3 +1,4 @@
+pub mod FoundStrategies
 pub mod GivenTexts
 pub mod HeadlineOfStruct
 pub mod LineRoom

@@ -2,3 +2,4 @@ pub mod Buffers
 pub mod Texts
 pub mod Encoding
 pub mod Verdicts
+pub mod Strategies

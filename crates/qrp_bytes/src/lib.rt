@@ -2,11 +2,12 @@
 //! and to buffers.
 //!
 //! - Owns: the jobs of the program on bytes in memory, with results in a struct and in buffers.
-//! - Offers: `verify_bytes`, `trim_bytes`, `list_core`, `format_bytes`, `line_of`, `meaning_of`,
-//!   `put_text`, `put_numbers`.
+//! - Offers: `verify_bytes`, `trim_bytes`, `list_core`, `strategy_bytes`, `format_bytes`, `line_of`,
+//!   `meaning_of`, `put_text`, `put_numbers`.
 //! - Proved: the headline over the bytes lent, each field of the struct, the line, the meaning, the
-//!   trimmed trace, the core and the canonical formula.
-//! - Read first: `verify_bytes`, `trim_bytes`, `list_core`, `format_bytes`, `line_of`.
+//!   trimmed trace, the core, the winner's strategy and the canonical formula.
+//! - Read first: `verify_bytes`, `trim_bytes`, `list_core`, `strategy_bytes`, `format_bytes`,
+//!   `line_of`.
 //! - Tested only: by the tests of `qrp_c`.
 //! - Trusted: nothing.
 //! - On the map: the jobs on bytes in memory, | results in a struct and buffers.
@@ -17,6 +18,7 @@ mod formatting;
 mod line;
 mod lines;
 mod proving;
+mod strategy;
 mod verdict;
 
 pub use buffer::{put_numbers, put_text};
@@ -24,4 +26,5 @@ pub use formatting::format_bytes;
 pub use line::Line;
 pub use lines::{line_of, meaning_of};
 pub use proving::{list_core, trim_bytes, verify_bytes};
+pub use strategy::strategy_bytes;
 pub use verdict::{QrpVerdict, encode_fault, encode_nothing, encode_truth};

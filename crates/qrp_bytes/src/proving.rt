@@ -22,7 +22,12 @@ use std::alloc::{AllocError, Global};
 ///
 /// # Errors
 /// The first fault.
-fn lent_truth(alloc: Global, formula: &[u8], trace: &[u8], rules: Rules) -> Result<bool, Fault>
+pub(crate) fn lent_truth(
+    alloc: Global,
+    formula: &[u8],
+    trace: &[u8],
+    rules: Rules,
+) -> Result<bool, Fault>
     ensures { IsTruthOf (λ v. IsChecked rules (lent_bytes formula.now) (lent_bytes trace.now) v)
         result }
 {

@@ -4,10 +4,11 @@
 //! - Owns: the exported functions of the library for C, C++ and Python.
 //! - Offers: the functions of `include/qrp_check.h`.
 //! - Proved: the headline over the bytes lent, each field of the struct, the line, the meaning, the
-//!   trimmed trace, the core and the canonical formula in the buffer; of a proof that is handed
-//!   over, what each call adds or refuses, and the verdict on what is held.
+//!   trimmed trace, the core, the text of a circuit by which the winner wins and the canonical
+//!   formula in the buffer; of a proof that is handed over, what each call adds or refuses, and the
+//!   verdict on what is held.
 //! - Read first: `qrp_verify`, `qrp_verdict_line`, `qrp_fault_text`, `qrp_trim`, `qrp_core`,
-//!   `qrp_format`, `qrp_proof_check`.
+//!   `qrp_strategy`, `qrp_format`, `qrp_proof_check`.
 //! - Tested only: over the built library: rows and real traces by each call from C and from Python,
 //!   each allocation made to fail, texts at each alignment and buffers of each size between pages
 //!   that cannot be read, eight threads, structs that no call wrote, the structs, names and version
@@ -18,19 +19,20 @@
 
 mod proof;
 
-ghost use Rattle.std.specs.Prelude.{◌≡◌, ◌≤◌, ◌+◌, [], pos, drop, Result};
+ghost use Rattle.std.specs.Prelude.{◌≡◌, ◌≢◌, ◌≤◌, ◌+◌, [], pos, drop, Result};
 ghost use Rattle.qrp_check.specs.declared.verdict.Verified.{Verified};
 ghost use Rattle.qrp_check.specs.declared.verdict.Fault.{Fault};
 ghost use Rattle.qrp_report.specs.Meanings.{fault_meaning};
 ghost use Rattle.qrp_report.specs.OfFaults.{NamesVariable};
 ghost use Rattle.qrp_bytes.specs.Buffers.{IsWritten};
 ghost use Rattle.qrp_bytes.specs.Encoding.{IsEncoded, EncodesSome, EncodesFault, encoded_fault, result_line};
+ghost use Rattle.qrp_bytes.specs.Strategies.{HoldsWinner, StrategyReturns};
 ghost use Rattle.qrp_bytes.specs.Texts.{TrimReturns, CoreReturns, FormatReturns};
 ghost use Rattle.qrp_bytes.specs.Verdicts.{StructHeadline, VerifyReturns};
 
 use qrp_bytes::{
     QrpVerdict, encode_fault, encode_nothing, encode_truth, format_bytes, line_of, list_core,
-    meaning_of, put_numbers, put_text, trim_bytes, verify_bytes,
+    meaning_of, put_numbers, put_text, strategy_bytes, trim_bytes, verify_bytes,
 };
 use qrp_check::{Fault, Rules};
 use std::alloc::Global;
@@ -158,6 +160,44 @@ pub extern "C" fn qrp_core(
         Err(fault) => {
             *out = encode_fault(&fault);
             0
+        }
+    }
+}
+
+/// The winner's whole strategy as a circuit, in AIGER's binary or ASCII format, with a zero after
+/// it, if the trace in these bytes proves its result of the formula.
+///
+/// In C: `size_t qrp_strategy(const void *formula, size_t formula_length, const void *trace, size_t
+/// trace_length, bool any_pivot, bool binary, char *buffer, size_t room, struct qrp_verdict *out)`.
+///
+/// Returns its length without the zero, and writes as `qrp_verdict_line` does. Writes to `out` what
+/// `qrp_verify` does. For all formula and trace bytes, if the length is not 0, `out` says that the
+/// formula is verified, and the text is that of a circuit by which the winner wins. If `out` has a
+/// fault, or if no circuit is made, the text is empty.
+#[unsafe(no_mangle)]
+pub extern "C" fn qrp_strategy(
+    alloc: Global,
+    formula: &[u8],
+    trace: &[u8],
+    any_pivot: bool,
+    binary: bool,
+    buffer: &mut [u8],
+    out: &mut QrpVerdict,
+) -> usize
+    ensures headline { result ≢ 0
+        → HoldsWinner binary formula.now trace.now buffer.old buffer.new out.new result }
+    ensures strategy { StrategyReturns (record { any_pivot = any_pivot }) binary formula.now
+        trace.now buffer.old buffer.new out.new result }
+    ensures kept { drop (1 + result) buffer.new ≡ drop (1 + result) buffer.old }
+{
+    match strategy_bytes(alloc, formula, trace, Rules { any_pivot }, binary) {
+        Ok((truth, text)) => {
+            *out = encode_truth(truth);
+            put_text(buffer, text.bytes())
+        }
+        Err(fault) => {
+            *out = encode_fault(&fault);
+            put_text(buffer, b"")
         }
     }
 }

@@ -330,7 +330,9 @@ impl InitialClauses {
         ensures found { IfOk result (λ found. IfSome found (IsReductAt formula.now lits.now)) }
         ensures only { IfOk result (λ found. IfNone found (HasNoReduct formula.now lits.now)) }
     {
-        if let Some(position) = self.find_again(formula, seen, lits)? {
+        let found = self.find_again(formula, seen, lits)?;
+        seen.had_memory()?;
+        if let Some(position) = found {
             return Ok(Some(position));
         }
         match LitSet::from_slice(self.kept.alloc, lits, formula.prefix()) {

@@ -1,9 +1,7 @@
 -- The report of a run: the text of a circuit, or a refusal.
-use Rattle.std.specs.Prelude.{◌≡◌, ℕ, Bool, true, false, List, Result, Ok, Err, codes}
+use Rattle.std.specs.Prelude.{◌≡◌, ℕ, Bool, List, Result, Ok, Err, codes}
 use Rattle.std.specs.Io.KnownBytes.{Appends}
-use Rattle.aiger.specs.Binary.{binary_text}
-use Rattle.aiger.specs.Circuits.{Circuit}
-use Rattle.aiger.specs.Texts.{ascii_text}
+use Rattle.aiger.specs.Formats.{circuit_text}
 use Rattle.qbf_text.specs.declared.sink.Sink.{Ghosts}
 use Rattle.qrp_check.specs.Checked.{SourceCall}
 use Rattle.qrp_check.specs.declared.fault.CheckFault.TheVariants.{C5}
@@ -21,11 +19,6 @@ use Rattle.qrp_winner.specs.declared.strategy.Strategy.{Strategy}
 -- a refusal of a text or of the proof, on the sink for errors
 abbrev pub refusal : Fault → Report
 refusal e = record { sink = Errors; text = fault_line e; status = fault_status e; failed = 3 }
-
--- the text of a circuit in AIGER's binary or ASCII format
-abbrev pub circuit_text : (binary : Bool) → Circuit → List ℕ
-circuit_text true c = binary_text c
-circuit_text false c = ascii_text c
 
 -- the text of the circuit, or why there is none; out of memory is reported as that of a check
 abbrev pub strategy_report : (binary : Bool) → Result Strategy StrategyFault → Report

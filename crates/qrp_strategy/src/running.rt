@@ -1,45 +1,25 @@
 //! From two sources to two sinks.
 
 ghost use Rattle.std.specs.Prelude.{◌≡◌, List, ℕ, Some, codes};
-ghost use Rattle.aiger.specs.Binary.{binary_text};
-ghost use Rattle.aiger.specs.Texts.{ascii_text};
+ghost use Rattle.aiger.specs.Formats.{circuit_text};
 ghost use Rattle.qrp_check.specs.Checked.{call_of};
 ghost use Rattle.qrp_cli.specs.Output.{IsReported, IsSent, Report};
 ghost use Rattle.qrp_report.specs.Lines.{line};
-ghost use Rattle.qrp_strategy.specs.Output.{IsOutput, WritesWinner, circuit_text, strategy_report};
+ghost use Rattle.qrp_strategy.specs.Output.{IsOutput, WritesWinner, strategy_report};
 
-use aiger::{Circuit, put_ascii, put_binary};
+use aiger::{Circuit, write_circuit};
 use qbf_text::{Sink, Source, put_bytes};
 use qrp_check::{CheckFault, Fault, Rules};
 use qrp_cli::{Status, finish_sent, send_fault};
 use qrp_winner::{Strategy, StrategyFault, find_strategy};
 use std::alloc::Global;
 
-/// Sends the text of a circuit in AIGER's ASCII format.
-fn send_ascii<S: Sink>(sink: &mut S, circuit: &Circuit) -> Status
-    ensures { IsSent S.Sink sink.old sink.new (ascii_text circuit.now) 0 3 result }
-{
-    let sent = put_ascii(circuit, sink);
-    finish_sent(sink, sent, 0)
-}
-
-/// Sends the text of a circuit in AIGER's binary format.
-fn send_binary<S: Sink>(sink: &mut S, circuit: &Circuit) -> Status
-    ensures { IsSent S.Sink sink.old sink.new (binary_text circuit.now) 0 3 result }
-{
-    let sent = put_binary(circuit, sink);
-    finish_sent(sink, sent, 0)
-}
-
 /// Sends the text of a circuit in one of the formats.
 fn send_circuit<S: Sink>(sink: &mut S, binary: bool, circuit: &Circuit) -> Status
     ensures { IsSent S.Sink sink.old sink.new (circuit_text binary circuit.now) 0 3 result }
 {
-    if binary {
-        send_binary(sink, circuit)
-    } else {
-        send_ascii(sink, circuit)
-    }
+    let sent = write_circuit(circuit, binary, sink);
+    finish_sent(sink, sent, 0)
 }
 
 /// Sends the line for a circuit that was not made.
