@@ -7,6 +7,7 @@ qrp_strategy is the one beside PROGRAM; DepQBF, yosys and berkeley-abc are used 
 """
 
 import itertools
+import json
 import os
 import random
 import re
@@ -467,7 +468,7 @@ def try_wrong_circuits(use):
         path = use.write("circuit", RIGHT[:cut])
         ended = use.run(TOOL, "--circuit", path, formula)
         use.expect(f"a text that is cut off after {cut} bytes", ended, 1, "", str(path))
-    for text, said in ("no formula\n", "the formula has F2 in line 1: "), ("p cnf 1 1\ne 1 0\n2 0\n", "the circuit has 1 inputs"):
+    for text, said in ("no formula\n", "the formula has F2 in line 1: "), ("p cnf 2 1\ne 1 2 0\n1 2 0\n", "the circuit has 1 inputs"):
         path = use.write("circuit", RIGHT)
         ended = use.run(TOOL, "--circuit", path, use.write("other", text))
         use.expect(f"the formula {text!r}", ended, 1, "", said)
@@ -528,13 +529,15 @@ def try_choices(use):
     found = use.shown("--circuit", path, formula).splitlines()[2:]
     expect("a large conjunction is cut", found == ["    g17 = 1 & 2 & 3 & 4 & 5 & 6 & 7 & 8", "    11 = 9 & 10 & g17"], found)
     use.expect("a table that is too large", use.run(TOOL, "--format", "table", "--circuit", path, formula), 1, "", "the outputs depend on 10 inputs, and a table has at most 8")
-    deep = "".join(f"{2 * it} {2 * it - 1} 3\n" for it in range(2, 50002))
-    path = use.write("circuit", f"aag 50001 1 0 1 50000\n2\n100002\n{deep}i0 1\no0 2\n")
-    formula = use.write("formula", "p cnf 2 0\na 1 0\ne 2 0\n")
+    deep = "".join(f"{2 * it} {2 * it - 1} {2 * (it % 20 + 1)}\n" for it in range(21, 20021))
+    symbols = "".join(f"i{place} {place + 1}\n" for place in range(20))
+    path = use.write("circuit", "aag 20020 20 0 1 20000\n" + "".join(f"{2 * it}\n" for it in range(1, 21)) + f"40040\n{deep}{symbols}o0 21\n")
+    formula = use.write("formula", f"p cnf 21 0\na {' '.join(map(str, range(1, 21)))} 0\ne 21 0\n")
     found = use.shown("--circuit", path, formula)
-    expect("a deep circuit", found.startswith("the existential player's strategy: 1 output, 1 input, 50000 gates\n") and found.count("\n") > 5000, found[:200])
+    expect("a deep circuit", found.startswith("the existential player's strategy: 1 output, 20 inputs, 20000 gates\n") and found.count("\n") > 2000, found[:200])
+    formula, path = use.write("formula", "p cnf 2 0\na 1 0\ne 2 0\n"), use.write("circuit", "aag 1 1 0 1 0\n2\n3\ni0 1\no0 2\n")
     names = use.write("names", "1 true\n2 false\n")
-    expect("names like constants", "    false_ = " in use.shown("--names", names, "--circuit", path, formula))
+    expect("names like constants", "    false_ = !true_\n" in use.shown("--names", names, "--circuit", path, formula))
 
 
 def try_words(use):
@@ -571,7 +574,77 @@ def try_words(use):
         expect(f"strategy: the output {redirection}", (done.returncode, f"the standard output cannot be written: {reason}" in done.stderr) == (2, True), done)
 
 
-PARTS = [try_examples, try_random_circuits, try_examples_verified, try_solvers, try_wrong_circuits, try_no_variables, try_choices, try_words]
+# ---- the tools that use strategies
+
+
+def try_play(use):
+    """Games by a circuit: the moves are those of the circuit, and the end is that of the matrix."""
+    for formula, trace in examples():
+        path = use.write("game.aig", made(use, formula, trace))
+        given = Given(formula.stem, formula, path)
+        winner = {True: "existential", False: "universal"}["\nr SAT" in trace.read_text()]
+        for seed in range(3):
+            ended = use.run(PLAY, "--json", "--random", seed, "--strategy", path, formula)
+            again = use.run(PLAY, "--json", "--random", seed, "--by-strategy", formula, trace)
+            expect(f"play, {formula.stem}, {seed}: by a file and by the proof", (ended.returncode, ended.stdout, ended.stderr) == (0, again.stdout, ""), (ended, again))
+            found = json.loads(ended.stdout)
+            values = {abs(literal): int(literal > 0) for move in found["moves"] for literal in move["values"]}
+            own = {abs(literal): int(literal > 0) for move in found["moves"] if move["by"] == "circuit" for literal in move["values"]}
+            wanted = given.run({symbol: values[int(symbol)] for symbol in given.runs[0]})
+            expect(f"play, {formula.stem}, {seed}: the moves", own == {int(symbol): value for symbol, value in wanted.items()}, (own, wanted))
+            end = found["winner"], found["matrix"], found["verified"], bool(found["failing"])
+            expect(f"play, {formula.stem}, {seed}: the end", end == (winner, winner == "existential", None, winner == "universal"), found)
+    box, path = f"{BOX}.qdimacs", use.write("box.aag", made(use, Path(f"{BOX}.qdimacs"), Path(f"{BOX}.qrp"), ()))
+    begun = "the universal player plays by the circuit\nblock 1 (universal), by the circuit: -a0 b0\n"
+    stop = 'block 2 (existential) is the other player\'s: box\n    give the values by --reply "..", with - before each variable that is false\n'
+    use.expect("play, a circuit", use.run(PLAY, "--names", f"{BOX}.names", "--strategy", path, box), 0, begun + stop)
+    lines = path.read_text().splitlines()
+    lost = use.write("lost.aag", "".join(line + "\n" for line in [*lines[:26], "1", *lines[27:]]))  # carry_in = true
+    ended = use.run(PLAY, "--names", f"{BOX}.names", "--reply", "box", "--random", "1", "--strategy", lost, box)
+    end = "no variable is left, and the matrix holds: the universal player has lost\n"
+    expect("strategy: play, a circuit that does not win", ended.returncode == 1 and ended.stdout.endswith(end) and not ended.stderr, ended)
+    for words in ([box], ["--strategy", path, box, f"{BOX}.qrp"], ["--by-strategy", box], ["--by-strategy", "--strategy", path, box], ["--qu", "--strategy", path, box],
+                  ["--write", use.folder / "states", "--strategy", path, box], ["--write", use.folder / "states", "--by-strategy", box, f"{BOX}.qrp"]):
+        use.expect(f"play, the words {words}", use.run(PLAY, *words), 2, "", "usage: ")
+    use.expect("play, not a circuit", use.run(PLAY, "--strategy", box, box), 1, "", f"{box}, line 1: the file is no circuit in AIGER")
+    use.expect("play, no file", use.run(PLAY, "--strategy", use.folder / "none", box), 2, "", "none cannot be read: No such file or directory")
+    use.expect("play, a formula with a fault", use.run(PLAY, "--strategy", path, path), 1, "", "the formula has F2 in line 1: ")
+
+
+def try_solve(use):
+    """The strategy that tools/solve writes, as a whole or not at all."""
+    solver = use.write("depqbf", f"#!/bin/sh\ncat '{BOX}.qrp'\nexit 20\n")
+    solver.chmod(0o755)
+    box, first = f"{BOX}.qdimacs", ["--solver", solver]
+    for name, flags in ("box.aag", ()), ("box", ()), ("box.aig", ("--binary",)):
+        kept = use.folder / name
+        use.expect(f"solve, {name}", use.run(SOLVE, *first, "--strategy", kept, box), 20, "s cnf 0 28 80\n")
+        expect(f"strategy: solve, {name}: the circuit", kept.read_bytes() == made(use, Path(box), Path(f"{BOX}.qrp"), flags), kept)
+    kept, before = use.folder / "box.aag", (use.folder / "box.aag").read_bytes()
+    ended = use.run(SOLVE, *first, "--play", "--keep", use.folder / "kept.qrp", "--strategy", kept, box)
+    use.expect("solve, with a game", ended, 20, "s cnf 0 28 80\nV -1 0\nV 2 0\n")
+    none = "s cnf -1 28 80\n"
+    wrong = use.write("wrong", f"#!/bin/sh\nhead -n 9 '{BOX}.qrp'\nexit 20\n")
+    failing = use.write("failing", "#!/bin/sh\nhead -c 1000 /dev/zero\nexit 3\n")
+    for path in wrong, failing:
+        path.chmod(0o755)
+    environment = {**use.environment, "QRP_STRATEGY": str(failing)}
+    for name, words, status, said, more in (
+        ("a proof that is refused", ["--solver", wrong, "--strategy", kept], 1, "the solver answers false, and qrp_cmd says REFUSED", {}),
+        ("a program that fails", [*first, "--strategy", kept], 2, "qrp_strategy ended with status 3", {"env": environment}),
+        ("a folder that is not there", [*first, "--strategy", use.folder / "none" / "x"], 2, "none/x cannot be written: No such file or directory", {}),
+        ("a folder", [*first, "--strategy", use.folder], 2, "is not a file: the strategy is not kept there", {}),
+        ("no qrp_strategy", [*first, "--strategy", kept], 2, "the program /none cannot be run: ", {"env": {**use.environment, "QRP_STRATEGY": "/none"}}),
+    ):
+        use.expect(f"solve, {name}", use.run(SOLVE, *words, box, **more), status, none, said)
+        expect(f"strategy: solve, {name}: the older circuit stays", kept.read_bytes() == before and not list(use.folder.glob("*.new")), list(use.folder.iterdir()))
+    own = use.write("own.qdimacs", Path(box).read_bytes())
+    use.expect("solve, the formula as strategy", use.run(SOLVE, *first, "--strategy", own, own), 2, none, "own.qdimacs is the formula: name another file for the strategy")
+    expect("strategy: solve, the formula stays", own.read_bytes() == Path(box).read_bytes())
+    use.expect("solve, one file for both", use.run(SOLVE, *first, "--keep", kept, "--strategy", kept, box), 2, "", "--keep and --strategy name one file")
+
+
+PARTS = [try_examples, try_random_circuits, try_examples_verified, try_solvers, try_wrong_circuits, try_no_variables, try_choices, try_words, try_play, try_solve]
 WITHOUT_PROGRAM = [try_random_circuits, try_wrong_circuits, try_no_variables, try_choices]
 LEAST = 0
 

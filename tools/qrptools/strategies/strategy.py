@@ -5,15 +5,25 @@ says whether the circuit wins.
 """
 
 from collections.abc import Iterable
-from typing import NamedTuple
+from typing import NamedTuple, Optional
 
 from qrptools.circuits.aiger import KINDS, Circuit, Reader
-from qrptools.command import finding, read_file
+from qrptools.command import called_as, finding, read_file
 from qrptools.formula import ADJECTIVES, EXISTS, FOR_ALL, Formula
 from qrptools.names import Names
+from qrptools.program import circuit_of, keep
+from qrptools.words import Fault
 
 OTHER = {EXISTS: FOR_ALL, FOR_ALL: EXISTS}
 NO_STRATEGY = {"L": "latches", "B": "bad states", "C": "constraints"}
+
+
+class Files(NamedTuple):
+    """A formula, and a circuit, or if there is none a trace that it is made of."""
+
+    formula: str
+    circuit: Optional[str]
+    trace: Optional[str]
 
 
 class Strategy(NamedTuple):
@@ -42,6 +52,27 @@ class Strategy(NamedTuple):
         for gate, (one, other) in self.gates.items():
             known[gate] = value(one) & value(other)
         return {variable: value(literal) for variable, literal in self.outputs.items()}
+
+
+def strategy_of(files: Files, flags: list[str], names: Names, folder: str) -> tuple[Formula, Strategy]:
+    """The formula and the strategy of some files. One that qrp_strategy makes has numbers as symbols, and the formula was checked by it."""
+    if files.circuit is not None:
+        formula = checked_formula(files.formula)
+        return formula, read_strategy(keep(files.circuit, folder), formula, names)
+    made = circuit_of(files.formula, files.trace, flags, folder)
+    formula = Formula(read_file(files.formula))
+    return formula, read_strategy(made, formula, Names())
+
+
+def checked_formula(path: str) -> Formula:
+    """The formula of a file that no program has checked. The command ends if it has a fault."""
+    try:
+        formula = Formula(read_file(path), 0)
+        for _ in formula.pieces():
+            pass
+        return formula
+    except Fault as fault:
+        raise finding(f"the formula has {fault}: '{called_as('explain')} FORMULA' says why") from fault
 
 
 def read_strategy(path: str, formula: Formula, names: Names) -> Strategy:
