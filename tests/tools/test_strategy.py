@@ -644,7 +644,26 @@ def try_solve(use):
     use.expect("solve, one file for both", use.run(SOLVE, *first, "--keep", kept, "--strategy", kept, box), 2, "", "--keep and --strategy name one file")
 
 
-PARTS = [try_examples, try_random_circuits, try_examples_verified, try_solvers, try_wrong_circuits, try_no_variables, try_choices, try_words, try_play, try_solve]
+def try_full_folder(use):
+    """A folder for temporary files that is full. It needs a file system of its own, which a user may make in a name space of its own."""
+    make = ["unshare", "--user", "--map-root-user", "--mount", "bash", "-c", 'mount -t tmpfs -o size=16k none "$TMPDIR" && exec "$@"', "bash"]
+    if not shutil.which("unshare") or subprocess.run([*make, "true"], env=use.environment, check=False, capture_output=True).returncode:
+        skip("strategies with a full TMPDIR", "no file system can be mounted here")
+        return
+    large = use.write("large", '#!/bin/sh\nhead -c 100000 /dev/zero 2>/dev/null || exit 3\n')
+    large.chmod(0o755)
+    path = use.write("box.aag", made(use, Path(f"{BOX}.qdimacs"), Path(f"{BOX}.qrp"), ()))
+    formula = use.write("formula.qdimacs", Path(f"{BOX}.qdimacs").read_text().replace("p cnf 28 80", "p cnf 28 4080") + "1 2 3 -1 0\n" * 4000)
+    for what, words, environment in (
+        ("the circuit", [f"{BOX}.qdimacs", f"{BOX}.qrp"], {"QRP_STRATEGY": str(large)}),
+        ("the formula of a lost run", ["--verify", "--circuit", path, formula], {}),
+    ):
+        words = [*make, sys.executable, str(TOOL), *map(str, words)]
+        ended = subprocess.run(words, env={**use.environment, **environment}, capture_output=True, text=True, check=False)
+        use.expect(f"{what} and a full TMPDIR", ended, 2, "", f"{what} cannot be written to TMPDIR={use.temporary}: No space left on device")
+
+
+PARTS = [try_examples, try_random_circuits, try_examples_verified, try_solvers, try_wrong_circuits, try_no_variables, try_choices, try_words, try_play, try_solve, try_full_folder]
 WITHOUT_PROGRAM = [try_random_circuits, try_wrong_circuits, try_no_variables, try_choices]
 LEAST = 0
 
