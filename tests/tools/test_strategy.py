@@ -20,7 +20,7 @@ from pathlib import Path
 ROOT = Path(__file__).resolve().parents[2]
 sys.path[:0] = [str(ROOT / "tests"), str(ROOT / "tests" / "strategy")]
 sys.dont_write_bytecode = True
-from circuits import Circuit, Lost, check_strategy, read_circuit, read_formula  # noqa: E402
+from circuits import Lost, check_strategy, read_circuit, read_formula  # noqa: E402
 from expect import expect, finish, skip  # noqa: E402
 
 TOOL, PLAY, SOLVE = (ROOT / "tools" / name for name in ("explain-strategy", "play", "solve"))
@@ -441,7 +441,7 @@ WRONG = [
     ("the players mixed", RIGHT.replace("o1 3", "o1 2").replace("i0 2", "i0 3"), "the output 2 is existential: the outputs are the variables of one player"),
     ("an input of the winner", RIGHT.replace("i0 2", "i0 3"), "the input 3 is universal: the outputs are the variables of one player"),
     ("a later input", RIGHT.replace("\n1\n", "\n2\n"), "the output 1, of block 1, depends on the input 2, of block 2, which does not come before it"),
-    ("a later input below a gate", "aag 2 1 0 2 1\n2\n5\n3\n4 3 3\ni0 2\no0 1\no1 3\n", "the output 1, of block 1, depends on the input 2, of block 2"),
+    ("a later input below a gate", "aag 2 1 0 2 1\n2\n5\n3\n4 3 1\ni0 2\no0 1\no1 3\n", "the output 1, of block 1, depends on the input 2, of block 2"),
     ("an output above the greatest", RIGHT.replace("\n1\n", "\n8\n"), "line 3: the literal 8 is above 3, the greatest by the header"),
     ("gates in a circle", "aag 3 1 0 2 2\n2\n1\n4\n4 6 1\n6 4 1\ni0 2\no0 1\no1 3\n", "a gate depends on itself"),
     ("a gate of itself", "aag 2 1 0 2 1\n2\n1\n4\n4 4 1\ni0 2\no0 1\no1 3\n", "a gate depends on itself"),
@@ -492,6 +492,39 @@ def try_no_variables(use):
             use.shown("--format", kind, *words)
         if shutil.which("depqbf"):
             use.expect(f"no variables: {formula!r}", use.run(TOOL, "--verify", *words), 0, WINS)
+
+
+def try_expressions(use):
+    """What follows from the other terms is left out, and gates are written out if that leaves them one place."""
+    for gates, outputs, wanted in (
+        ("8 4 2|10 9 2", [10], ["a = x & !y"]),
+        ("8 4 2|10 8 3", [10], ["a = false"]),
+        ("8 4 2|10 8 3", [11], ["a = true"]),
+        ("8 5 3|10 9 2", [10], ["a = x"]),
+        ("8 6 3|10 9 5|12 11 2", [12], ["a = x & y"]),
+        ("8 6 3|10 9 5|12 11 2", [13], ["a = !x | !y"]),
+        ("8 4 2|10 8 2", [8, 10], ["g4 = x & y", "a = g4", "b = g4"]),
+        ("8 4 2|10 9 2", [8, 10], ["a = x & y", "b = x & !y"]),
+        ("8 4 2|10 9 6", [8, 10], ["g4 = x & y", "a = g4", "b = z & !g4"]),
+        ("8 5 3|10 9 6|12 9 7", [10, 12], ["g4 = !x & !y", "a = z & !g4", "b = !z & !g4"]),
+        ("8 5 3|10 8 6|12 9 8", [10, 12], ["a = !x & !y & z", "b = false"]),
+        ("8 1 2|10 0 4", [8, 10], ["a = x", "b = false"]),
+    ):
+        rows, letters = gates.split("|"), "ab"[: len(outputs)]
+        formula = use.write("formula", f"p cnf 5 0\na 1 2 3 0\ne {' '.join('45'[: len(outputs)])} 0\n")
+        names = use.write("names", "1 x\n2 y\n3 z\n" + "".join(f"{variable} {letter}\n" for variable, letter in zip("45", letters)))
+        head = f"aag {3 + len(rows)} 3 0 {len(outputs)} {len(rows)}\n2\n4\n6\n" + "".join(f"{literal}\n" for literal in outputs)
+        path = use.write("circuit", head + "".join(f"{row}\n" for row in rows) + "i0 x\ni1 y\ni2 z\n" + "".join(f"o{at} {it}\n" for at, it in enumerate(letters)))
+        found = [line.strip() for line in use.shown("--names", names, "--circuit", path, formula).splitlines()[2:]]
+        expect(f"the expressions of {gates} {outputs}", found == wanted, found)
+    names = use.write("names", "1 g4\n2 v3\n")
+    formula = use.write("formula", "p cnf 5 0\na 1 2 3 0\ne 4 5 0\n")
+    path = use.write("circuit", "aag 4 3 0 2 1\n2\n4\n6\n8\n9\n8 6 2\ni0 1\ni1 2\ni2 3\no0 4\no1 5\n")
+    found = use.shown("--names", names, "--circuit", path, formula).splitlines()[2:]
+    expect("names like those of gates", found == ["    g_4 = g4 & 3", "    4 = g_4", "    5 = !g_4"], found)
+    found = use.shown("--format", "verilog", "--names", names, "--circuit", path, formula).splitlines()[1:]
+    ports = ["    input g4,", "    input v3,", "    input v_3,", "    output v_4,", "    output v_5", ");"]
+    expect("names like those of variables", found == [*ports, "    wire g_4 = g4 & v_3;", "    assign v_4 = g_4;", "    assign v_5 = ~g_4;", "endmodule"], found)
 
 
 def try_choices(use):
@@ -663,8 +696,8 @@ def try_full_folder(use):
         use.expect(f"{what} and a full TMPDIR", ended, 2, "", f"{what} cannot be written to TMPDIR={use.temporary}: No space left on device")
 
 
-PARTS = [try_examples, try_random_circuits, try_examples_verified, try_solvers, try_wrong_circuits, try_no_variables, try_choices, try_words, try_play, try_solve, try_full_folder]
-WITHOUT_PROGRAM = [try_random_circuits, try_wrong_circuits, try_no_variables, try_choices]
+PARTS = [try_examples, try_random_circuits, try_examples_verified, try_solvers, try_wrong_circuits, try_no_variables, try_expressions, try_choices, try_words, try_play, try_solve, try_full_folder]
+WITHOUT_PROGRAM = [try_random_circuits, try_wrong_circuits, try_no_variables, try_expressions, try_choices]
 LEAST = 0
 
 
