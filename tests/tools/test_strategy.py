@@ -11,6 +11,7 @@ import json
 import os
 import random
 import re
+import resource
 import shutil
 import subprocess
 import sys
@@ -582,6 +583,11 @@ def try_words(use):
     missing = use.folder / "missing"
     for words in ([missing, box[1]], [box[0], missing], ["--circuit", missing, box[0]], ["--names", missing, *box]):
         use.expect(f"no file {words}", use.run(TOOL, *words), 2, "", f"{missing} cannot be read: No such file or directory")
+    large, limit = use.folder / "large", 200000000
+    with open(large, "wb") as file:
+        file.truncate(300000000)
+    ended = use.run(TOOL, "--circuit", large, box[0], preexec_fn=lambda: resource.setrlimit(resource.RLIMIT_AS, (limit, limit)))
+    use.expect("no memory", ended, 2, "", "memory was refused: raise the limit")
     use.expect("a refused proof", use.run(TOOL, box[0], f"{MATCHES}.qrp"), 1, "", "qrp_strategy refuses the proof: REFUSED ")
     script = f'"$@" --circuit <(cat {path}) <(cat {use.write("formula", FORMULA)})'
     piped = use.run("-c", "import subprocess, sys; sys.exit(subprocess.call(sys.argv[1:]))", "bash", "-c", script, "bash", sys.executable, TOOL)
@@ -698,7 +704,7 @@ def try_full_folder(use):
 
 PARTS = [try_examples, try_random_circuits, try_examples_verified, try_solvers, try_wrong_circuits, try_no_variables, try_expressions, try_choices, try_words, try_play, try_solve, try_full_folder]
 WITHOUT_PROGRAM = [try_random_circuits, try_wrong_circuits, try_no_variables, try_expressions, try_choices]
-LEAST = 0
+LEAST = 1726
 
 
 def main():

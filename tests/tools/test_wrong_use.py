@@ -425,7 +425,7 @@ def main():
         trials = [try_files, try_outputs]
         if tool.name not in seen:
             trials += [try_arguments, try_signals]
-            trials += [try_memory] if tool.name in ("explain", "draw-proof", "check-many", "from-aiger", "explain-strategy") else []
+            trials += [try_memory] if tool.name in ("explain", "draw-proof", "check-many", "from-aiger") else []
             trials += [try_program] if tool.runs else []
             trials += [try_full_folder] if tool.runs and "TRACE" in tool.words and tool.name != "check" else []
         seen.add(tool.name)
@@ -434,7 +434,7 @@ def main():
                 trial(Trial(tool, program, folder))
     try_old_systems(program)
     try_types()
-    return finish(1151)
+    return finish(1276)
 
 
 if __name__ == "__main__":

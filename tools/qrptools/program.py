@@ -22,8 +22,8 @@ USAGE = 5  # the status of a program without arguments
 
 def find_program(name=CHECKER):
     """The program that QRP_CMD names, else bin/qrp_cmd above the tools, else the one beside this command, else the one on the PATH. If the
-    system is too old for that of a release, it is the static one beside it. Of qrp_strategy the same, but that after QRP_STRATEGY the one
-    comes that is beside the program of QRP_CMD."""
+    system is too old for that of a release, it is the static one beside it. qrp_strategy is looked for in the same way, by QRP_STRATEGY;
+    after that, and before the others, it is the one beside the program that QRP_CMD names."""
     if os.environ.get(name.upper()):
         return os.environ[name.upper()]
     checker = os.environ.get(CHECKER.upper())
