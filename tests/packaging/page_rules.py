@@ -12,6 +12,7 @@ BOTH = 'cut -c -17 "$block" | grep . > two.qdimacs; cut -c 18-34 "$block" | sed 
 IN_FOLDER = 'cp -r examples made; cd made/blind-box; sed s/NAME/blind-box/g "$block" | bash -e; diff -r . ../../examples/blind-box'
 TRACES = 'mkdir traces; cd traces; cp ../tests/traces/adder2.* .; sed s/NAME/adder2/g "$block" | bash -e || true; diff -r . ../tests/traces | grep -v "^Only in ../"; true'
 SLURM = '(echo "# a list"; echo; cat list) > longer; mv longer list; for task in 1 2 3 4 5 6 7; do SLURM_ARRAY_TASK_ID=$task bash "$block"; done; cat $(ls rows/* | sort -V)'
+EXPLAINED = 'for it in names qdimacs qrp; do cp examples/blind-box/blind-box.$it f.$it; done; bash -e "$block" | tail -n 3; grep -c "^module strategy" strategy.v'
 RUN = [
     Run("docs/CI.md", "curl ", "VERIFIED true\n"),
     Run("docs/CI.md", "- name:", "VERIFIED true\n", "sed '1,2d; s/^    //' \"$block\" | bash -e"),
@@ -43,6 +44,7 @@ RUN = [
     Run("man/qrp-from-aiger.1", "yosys ", "c as numbers: h_op1=0 h_op2=2\nV -1 0\nV -2 0\nV -3 0\nV 4 0\nV -5 0\n", 'cp examples/average/average.v .; bash -e "$block"; [ $? = 10 ] || true'),
     Run("man/qrp-draw-proof.1", "qrp-draw-proof", "1\n", 'bash -e "$block"; grep -c "<svg " proof.svg'),
     Run("man/qrp-explain.1", "qrp-explain", "p cnf 2 2\ne 1 2 0\n1 2 0\n-1 0\n", 'printf "p cnf 2 2\\n1 2 0\\n-1 0\\n" > f.dimacs; bash -e "$block" > /dev/null; cat f.qdimacs'),
+    Run("man/qrp-explain-strategy.1", "qrp-explain-strategy", "    carry_in = !box\n    a1 = true\n    b1 = false\n1\n", EXPLAINED),
     Run("man/qrp-play.1", "qrp-play", "no variable is left, and the matrix holds: the existential player has won\n", "sed 's/1 -2 3/17 -18 19/' \"$block\" | bash -e"),
     Run("man/qrp-used-clauses.1", "qrp-used-clauses", "VERIFIED false\n", 'cp examples/blind-box/blind-box.qrp f.qrp; cp examples/blind-box/blind-box.qdimacs f.qdimacs; bash -e "$block"; qrp_cmd check smaller.qdimacs f.qrp'),
 ]

@@ -192,6 +192,8 @@ WRONG = [
     ("a file that is cut", HALF[:20], "the file ends before gate 0"),
     ("an odd symbol", HALF.replace("i0 x", "x0 i"), "line 6: a symbol is wanted, such as 'i0 NAME'"),
     ("a symbol of nothing", HALF.replace("i1 y", "i2 y"), "line 7: there is no input 2"),
+    ("two symbols of an input", HALF + "i0 z\n", "line 9: input 0 has two symbols"),
+    ("a number of thousands of digits", HALF.replace("aag 3", f"aag {'3' * 5000}"), "line 1: the file is no circuit in AIGER"),
     ("a literal that is nothing", HALF.replace("aag 3 2", "aag 4 2").replace("6 4 2", "6 8 2"), "the literal 8 is used, and neither an input nor a latch nor a gate"),
     ("gates in a circle", "aag 2 0 0 1 2\n2\n2 4 1\n4 2 1\n", "a gate depends on itself"),
     ("a gate of itself", "aag 1 0 0 1 1\n2\n2 2 1\n", "a gate depends on itself"),
@@ -301,7 +303,7 @@ def main():
         try_text(folder)
         try_steps(folder)
         try_verilog(folder)
-    return finish(651)
+    return finish(653)
 
 
 if __name__ == "__main__":

@@ -28,8 +28,9 @@ FORMULA, TRACE = ROOT / "examples" / "two_clauses.qdimacs", ROOT / "examples" / 
 REFUSED = "p qrp 0 0\nr unsat\n"  # by C4
 
 CIRCUIT = "aag 3 2 0 1 1\n2\n4\n6\n6 4 2\n"
+STRATEGY = "aag 1 1 0 1 0\n2\n0\ni0 1\no0 2\n"  # of FORMULA
 
-# A tool: its words after the name, in which FORMULA, TRACE, LIST, CIRCUIT and SOLVER are files; the statuses of a file that cannot be read, of
+# A tool: its words after the name, in which FORMULA, TRACE, LIST, CIRCUIT, STRATEGY and SOLVER are files; the statuses of a file that cannot be read, of
 # a refused proof, and of the formula in the place of the trace; whether it runs the program, and keeps pipes; the status of right use, that
 # of a wrong command line, and that of an output that cannot be written.
 Tool = namedtuple("Tool", "name words unread refused mistaken runs keeps right usage output", defaults=[0, 2, 2])
@@ -49,6 +50,8 @@ TOOLS = [
     Tool("check", ["FORMULA", "TRACE"], 3, 1, 2, True, False, 0, 5, 3),
     Tool("check", ["--json", "FORMULA", "TRACE"], 3, 1, 2, True, False, 0, 5, 3),
     Tool("from-aiger", ["CIRCUIT"], 2, None, None, False, False),
+    Tool("explain-strategy", ["FORMULA", "TRACE"], 2, 1, 1, True, True),
+    Tool("explain-strategy", ["--circuit", "STRATEGY", "FORMULA"], 2, None, None, False, True),
     Tool("check-many", ["LIST"], 2, 1, 1, True, False),
     Tool("check-many", ["--json", "LIST"], 2, 1, 1, True, False),
 ]
@@ -61,19 +64,27 @@ class Trial:
         self.tool, self.program, self.folder = tool, program, Path(folder)
         self.temporary = self.folder / "temporary"
         self.temporary.mkdir()
-        self.environment = dict(os.environ, QRP_CMD=str(program), TMPDIR=str(self.temporary), PYTHONDONTWRITEBYTECODE="1")
+        self.environment = dict(os.environ, TMPDIR=str(self.temporary), PYTHONDONTWRITEBYTECODE="1")
+        self.take(program)
+
+    def take(self, program):
+        """Has the tool run this program: in place of both, unless it is the one that is tested."""
+        self.environment.update(QRP_CMD=str(program), QRP_STRATEGY=str(program))
+        if program == self.program:
+            del self.environment["QRP_STRATEGY"]  # which is beside it
 
     def words(self, formula=FORMULA, trace=TRACE, rows=None):
         """The command line, with these files. A circuit stands in the place of the formula."""
         if "LIST" in self.tool.words and rows is None:
             rows = self.folder / "list"
             rows.write_text(f"name\t{formula}\t{trace}\n")
-        files = {"FORMULA": formula, "CIRCUIT": self.circuit() if formula == FORMULA else formula, "TRACE": trace, "LIST": rows, "SOLVER": self.solver()}
+        circuit = self.write("circuit", CIRCUIT) if formula == FORMULA else formula
+        files = {"FORMULA": formula, "CIRCUIT": circuit, "TRACE": trace, "LIST": rows, "SOLVER": self.solver(), "STRATEGY": self.write("strategy", STRATEGY)}
         return [sys.executable, str(ROOT / "tools" / self.tool.name), *(str(files.get(word, word)) for word in self.tool.words)]
 
-    def circuit(self):
-        path = self.folder / "circuit"
-        path.write_text(CIRCUIT)
+    def write(self, name, text):
+        path = self.folder / name
+        path.write_text(text)
         return path
 
     def solver(self):
@@ -220,9 +231,9 @@ def wait_for(condition):
 def try_signals(trial):
     """A signal in the middle: while the program runs, or while a pipe is read into which nobody writes."""
     if trial.tool.runs:
-        trial.environment["QRP_CMD"] = str(sleeper(trial.folder))
+        trial.take(sleeper(trial.folder))
         try_signals_on(trial, "the program runs", trial.words(), (trial.folder / "pid").exists)
-        trial.environment["QRP_CMD"] = str(trial.program)
+        trial.take(trial.program)
     pipe = trial.folder / "pipe"
     os.mkfifo(pipe)
     words = trial.words(rows=pipe) if "LIST" in trial.tool.words else trial.words(formula=pipe)
@@ -300,10 +311,11 @@ def try_signals_on(trial, name, words, begun):
 
 def try_program(trial):
     """A program that is not there, is none, is killed, has no memory, or says what no program says."""
+    name_of_program = "qrp_strategy" if trial.tool.name == "explain-strategy" else "qrp_cmd"
     for name, text, status, said in (
         ("no program", None, 2, "cannot be run: "),
         ("a program that is none", "", 2, "cannot be run: "),
-        ("a program that is killed", "#!/bin/sh\nkill -KILL $$\n", 2, "signal 9 (SIGKILL), which the system sends if it is out of memory, ended qrp_cmd"),
+        ("a program that is killed", "#!/bin/sh\nkill -KILL $$\n", 2, f"signal 9 (SIGKILL), which the system sends if it is out of memory, ended {name_of_program}"),
         ("a program without memory", "#!/bin/sh\necho 'NO MEMORY' >&2\nexit 4\n", 2, "NO MEMORY: "),
         ("a program that says something else", "#!/bin/sh\necho 'hello' >&2\nexit 7\n", 2, "hello"),
     ):
@@ -312,7 +324,7 @@ def try_program(trial):
         if text is not None:
             other.write_text(text)
             other.chmod(0o755 if text else 0o644)
-        trial.environment["QRP_CMD"] = str(other)
+        trial.take(other)
         if trial.tool.name == "explain" and text:  # which explains it
             status, said = (1, "unknown line") if "hello" in text else (0, "")
         if trial.tool.name == "check-many" and text:  # which makes a row of it
@@ -321,7 +333,7 @@ def try_program(trial):
             status = {"cannot be run: ": 3, "NO MEMORY: ": 4, "hello": 7}.get(said, 137)
             said = said.rstrip(": ") if status != 4 and status != 7 else ""
         trial.expect(name, trial.run(trial.words()), status, [said])
-    trial.environment["QRP_CMD"] = str(trial.program)
+    trial.take(trial.program)
 
 
 def try_memory(trial):
@@ -346,7 +358,7 @@ def try_full_folder(trial):
         return
     full = f"cannot be written to TMPDIR={trial.temporary}: No space left on device ("
     ended = trial.run([*make, *trial.words(trace=trace)])
-    if trial.tool.name == "explain":
+    if trial.tool.name in ("explain", "explain-strategy"):
         trial.expect("a full TMPDIR that is not needed", ended, 0)
     else:
         trial.expect("a full TMPDIR", ended, 2, [f"{own(trial)}the trimmed trace {full}it needs up to the size of the trace)\n"])
@@ -384,7 +396,7 @@ def try_old_systems(program):
         expect("a program that is named is taken", ended.returncode == 1 and "unknown line" in ended.stderr, ended)
 
 
-TYPED = ["names.py", "many", "checking", "circuits", "games/gates.py", "games/play.py"]
+TYPED = ["names.py", "many", "checking", "circuits", "strategies", "games/gates.py", "games/play.py"]
 
 
 def try_types():
@@ -407,6 +419,9 @@ def main():
         if tool.name == "check-many" and not shutil.which("parallel"):
             skip(tool.name, "there is no parallel on this machine")
             continue
+        if tool.name == "explain-strategy" and tool.runs and not (Path(program).parent / "qrp_strategy").is_file():
+            skip(tool.name, "there is no qrp_strategy: 'make strategy' builds it")
+            continue
         trials = [try_files, try_outputs]
         if tool.name not in seen:
             trials += [try_arguments, try_signals]
@@ -419,7 +434,7 @@ def main():
                 trial(Trial(tool, program, folder))
     try_old_systems(program)
     try_types()
-    return finish(1151)
+    return finish(1276)
 
 
 if __name__ == "__main__":

@@ -245,6 +245,21 @@ def read_file(path, kind=""):
         raise unusable(not_read(f"{kind} {path}".strip(), fault)) from fault
 
 
+@contextmanager
+def replaced(path):
+    """The name of a new file beside this one, which it replaces if all goes well. An error is that this one cannot be written."""
+    target = os.path.realpath(path)
+    new = f"{target}.{os.urandom(4).hex()}.new"
+    try:
+        yield new
+        os.replace(new, target)
+    except OSError as fault:
+        raise unusable(f"{path} cannot be written: {fault.strerror}") from fault
+    finally:
+        if os.path.exists(new):
+            os.unlink(new)
+
+
 def not_read(path, fault):
     return f"{path} cannot be read: {fault.strerror}"
 

@@ -1,4 +1,4 @@
-"""Finds and runs qrp_cmd. A part of tools/explain and the tools beside it."""
+"""Finds and runs qrp_cmd and qrp_strategy. A part of tools/explain and the tools beside it."""
 
 import functools
 import os
@@ -14,19 +14,24 @@ from qrptools.command import PLACE, called_as, finding, not_read, not_written, s
 AS_THE_TRACE = "it needs up to the size of the trace"
 AS_THE_FORMULA = "it needs up to the size of the formula"
 
+CHECKER, STRATEGY = "qrp_cmd", "qrp_strategy"
+BUILT_BY = {CHECKER: "make", STRATEGY: "make strategy"}
+WRITTEN = {CHECKER: ("the trimmed trace", AS_THE_TRACE), STRATEGY: ("the circuit", "")}  # and the room that it needs
+USAGE = 5  # the status of a program without arguments
 
-USAGE = 5  # the status of the program without arguments
 
-
-def find_program():
+def find_program(name=CHECKER):
     """The program that QRP_CMD names, else bin/qrp_cmd above the tools, else the one beside this command, else the one on the PATH. If the
-    system is too old for that of a release, it is the static one beside it."""
-    if os.environ.get("QRP_CMD"):
-        return os.environ["QRP_CMD"]
-    beside = [PLACE / "bin" / "qrp_cmd", Path(sys.argv[0]).absolute().parent / "qrp_cmd"]
-    program = next((str(path) for path in beside if path.is_file()), None) or shutil.which("qrp_cmd")
+    system is too old for that of a release, it is the static one beside it. qrp_strategy is looked for in the same way, by QRP_STRATEGY;
+    after that, and before the others, it is the one beside the program that QRP_CMD names."""
+    if os.environ.get(name.upper()):
+        return os.environ[name.upper()]
+    checker = os.environ.get(CHECKER.upper())
+    beside = [Path(shutil.which(checker) or checker).absolute().parent] if checker else []
+    beside += [PLACE / "bin", Path(sys.argv[0]).absolute().parent]
+    program = next((str(folder / name) for folder in beside if (folder / name).is_file()), None) or shutil.which(name)
     if not program:
-        raise unusable("there is no bin/qrp_cmd: build it with make, or name it by QRP_CMD")
+        raise unusable(f"there is no bin/{name}: build it with {BUILT_BY[name]}, or name it by {name.upper()}")
     static = f"{program}.static"
     return static if os.path.isfile(static) and not can_run(program) and can_run(static) else program
 
@@ -41,9 +46,9 @@ def can_run(program):
         return False
 
 
-def run_program(words, out=subprocess.PIPE):
+def run_program(words, out=subprocess.PIPE, name=CHECKER):
     """What it prints as its one line, empty where it prints none, and its status."""
-    program = find_program()
+    program = find_program(name)
     try:
         with started([program, *words], stdout=out, stderr=subprocess.PIPE) as process:
             printed, complained = process.communicate()
@@ -67,29 +72,44 @@ def keep(path, folder):
 
 
 def trimmed(formula, trace, flags, folder):
-    """The file of the trimmed trace. The command ends where the program refuses the proof, or cannot do it."""
+    """The file of the trimmed trace, in this folder."""
     path = os.path.join(folder, "trimmed.qrp")
-    with writing("the trimmed trace", AS_THE_TRACE), open(path, "wb") as out:
-        line, status = run_program(["trim", *flags, formula, trace], out)
+    with writing(*WRITTEN[CHECKER]):
+        write_output(path, CHECKER, ["trim", *flags], formula, trace)
+    return path
+
+
+def circuit_of(formula, trace, flags, folder):
+    """The file of the circuit by which the winner wins, in this folder."""
+    path = os.path.join(folder, "strategy.aig")
+    with writing(*WRITTEN[STRATEGY]):
+        write_output(path, STRATEGY, ["--binary", *flags], formula, trace)
+    return path
+
+
+def write_output(path, name, words, formula, trace):
+    """Writes what the program makes of the proof to a file. The command ends where it refuses the proof, or cannot do it."""
+    with open(path, "wb") as out:
+        line, status = run_program([*words, formula, trace], out, name)
         if not line and status > 0:
             out.write(bytes(1 << 16))  # fails as the program's output did
     if line.startswith("REFUSED "):
-        raise finding(f"qrp_cmd refuses the proof: {line}; '{called_as('explain')} FORMULA TRACE' says why")
-    if status == 0:
-        return path
-    raise unusable(why_not(line, status, formula, trace))
+        raise finding(f"{name} refuses the proof: {line}; '{called_as('explain')} FORMULA TRACE' says why")
+    if status:
+        raise unusable(why_not(line, status, formula, trace, name))
 
 
-def why_not(line, status, formula, trace):
-    """Why the program wrote no trimmed trace, where it does not refuse the proof."""
+def why_not(line, status, formula, trace, name=CHECKER):
+    """Why the program wrote nothing, where it does not refuse the proof."""
     if line in ("DEVICE formula", "DEVICE trace"):
         path = formula if line == "DEVICE formula" else trace
         return f"{line}: {reason_not_read(path)}"
     if line == "NO MEMORY":
         return f"{line}: raise the limit (`ulimit -v`), or take a machine with more memory"
     if status < 0:
-        return f"{signal_of(status)} ended qrp_cmd"
-    return f"qrp_cmd says: {line}" if line else not_written("the trimmed trace", f"qrp_cmd ended with status {status}", AS_THE_TRACE)
+        return f"{signal_of(status)} ended {name}"
+    what, needs = WRITTEN[name]
+    return f"{name} says: {line}" if line else not_written(what, f"{name} ended with status {status}", needs)
 
 
 def signal_of(status):
@@ -105,4 +125,4 @@ def reason_not_read(path):
             file.read(1)
     except OSError as fault:
         return not_read(path, fault)
-    return f"qrp_cmd cannot read {path}"
+    return f"the program cannot read {path}"

@@ -1,4 +1,5 @@
-"""Reads circuits in AIGER, ASCII and binary (Biere 2007; version 1.9: Biere, Heljanko, Wieringa 2011). A part of tools/from-aiger.
+"""Reads circuits in AIGER, ASCII and binary (Biere 2007; version 1.9: Biere, Heljanko, Wieringa 2011). A part of tools/from-aiger and
+tools/explain-strategy.
 
 A literal is an even number for a variable and the next odd one for its negation; 0 is false and 1 is true.
 """
@@ -8,7 +9,7 @@ from typing import NamedTuple, Optional
 
 from qrptools.command import Ends, finding
 
-HEADER = re.compile(rb"(aag|aig)((?: [0-9]+){5,9})")
+HEADER = re.compile(rb"(aag|aig)((?: [0-9]{1,20}){5,9})")
 KINDS = {"i": "input", "l": "latch", "o": "output", "b": "bad state", "c": "constraint", "j": "justice property", "f": "fairness constraint"}
 GREATEST = 2**30  # variables of a circuit
 
@@ -111,8 +112,7 @@ class Reader:
         return literal
 
     def read(self) -> Circuit:
-        """The circuit."""
-        self.read_header()
+        """The circuit, after its header."""
         circuit = self.circuit
         circuit.inputs = [self.define(self.input_literal(place), f"input {place}") for place in range(self.counts["I"])]
         circuit.latches = [self.latch(place) for place in range(self.counts["L"])]
@@ -183,13 +183,15 @@ class Reader:
     def read_symbols(self) -> None:
         line = self.text()
         while line is not None and line != b"c":
-            found = re.fullmatch(rb"([ilobcjf])([0-9]+) (.+)", line)
+            found = re.fullmatch(rb"([ilobcjf])([0-9]{1,10}) (.+)", line)
             if not found and line:
                 raise self.refuse("a symbol is wanted, such as 'i0 NAME', or the line 'c' before comments")
             if found:
                 kind, place = found[1].decode(), int(found[2])
                 if place >= self.counts[kind.upper()]:
                     raise self.refuse(f"there is no {KINDS[kind]} {place}")
+                if (kind, place) in self.circuit.names:
+                    raise self.refuse(f"{KINDS[kind]} {place} has two symbols")
                 self.circuit.names[kind, place] = found[3].decode(errors="replace").strip()
             line = self.text()
 
@@ -205,4 +207,6 @@ class Reader:
 
 
 def read_circuit(path: str, data: bytes) -> Circuit:
-    return Reader(path, data).read()
+    reader = Reader(path, data)
+    reader.read_header()
+    return reader.read()

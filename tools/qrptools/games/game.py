@@ -46,6 +46,8 @@ def blocks_of(formula):
 class State:
     """What is left of a formula and of its proof after some blocks have their values."""
 
+    by = "proof"
+
     def __init__(self, formula, trimmed, any_pivot):
         """The beginning, of the files of the formula and of the trimmed trace."""
         self.formula = formula = Formula(read(formula))
@@ -99,6 +101,10 @@ class State:
         else:
             self.steps.take_out(Cut(out, gone))
         del self.blocks[0]
+
+    def holds(self):
+        """Whether the matrix holds, after all variables have their values."""
+        return count_lines(self.clauses) == 0
 
     def sets(self):
         return "".join(f"{LETTERS[block.quantifier]} {' '.join(map(str, block.variables))} 0\n" for block in self.blocks).encode()

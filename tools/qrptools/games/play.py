@@ -8,7 +8,6 @@ from collections.abc import Iterator
 from typing import NamedTuple, Optional
 
 from qrptools.formula import ADJECTIVES, EXISTS
-from qrptools.games.cut import count_lines
 from qrptools.games.game import LINES, Block, Checker, State
 from qrptools.games.gates import Gates
 from qrptools.games.replies import Replies, described
@@ -48,6 +47,7 @@ class Play:
         self.winner = ADJECTIVES[state.side.reduced]
         self.verified = LINES[state.result]
         self.true: set[int] = set()  # the literals that are true after the moves so far
+        self.is_lost = False  # whether the end is that of the other player, which can be if nothing is verified
 
     def to_the_end(self) -> None:
         """Plays while there are values."""
@@ -63,7 +63,8 @@ class Play:
                 self.stopped(block)
                 return
             self.make(block, given, [], gates)
-        holds = count_lines(self.state.clauses) == 0
+        holds = self.state.holds()
+        self.is_lost = holds != (self.state.result == "sat")
         self.ended(holds, [] if holds else self.failing())
 
     def other_values(self, block: Block) -> tuple[Optional[list[int]], list[int]]:
@@ -100,7 +101,7 @@ class Play:
 
     def lines_of_move(self, move: Move) -> Iterator[str]:
         """A move as text: who makes it, the literals, and the numbers of the buses."""
-        who = "by the proof" if move.is_winners else "the other player"
+        who = f"by the {self.state.by}" if move.is_winners else "the other player"
         gates, shown = set(move.gates), []
         literals = [literal for literal in move.values if abs(literal) not in gates]
         if literals:
@@ -116,7 +117,8 @@ class Play:
 
     def lines_of_end(self, holds: bool, failing: list[Failing]) -> Iterator[str]:
         """The end as text: who has won, and which clauses are false."""
-        yield f"no variable is left, and the matrix {'holds' if holds else 'does not hold'}: the {self.winner} player has won"
+        end = "has lost" if self.is_lost else "has won"
+        yield f"no variable is left, and the matrix {'holds' if holds else 'does not hold'}: the {self.winner} player {end}"
         for clause in failing[:SOME_CLAUSES]:
             literals = self.names.shown(clause.literals) or "it has no literal"
             yield f"    clause {clause.number}, in line {clause.line} of the formula, is false: {literals}"

@@ -1,0 +1,70 @@
+"""Runs DepQBF, and has qrp_cmd check the proof that it writes. A part of tools/solve and tools/explain-strategy."""
+
+import os
+import subprocess
+import tempfile
+
+from qrptools.command import Ends, finding, started, unusable
+from qrptools.program import run_program, signal_of, why_not
+
+OPTIONS = ["--trace=qrp", "--dep-man=simple", "--no-qbce-dynamic"]
+MODES = {"traditional": "--traditional-qcdcl", "lazy": "--no-lazy-qpup"}
+ANSWERS = {10: "VERIFIED true", 20: "VERIFIED false"}  # by the solver's status
+DEPQBF = "depqbf"
+
+
+class Solver:
+    """A solver by its command, with a mode and options of its own. It is given up after so many seconds, if there is a number; `limit` is the
+    status of this command if the solver reached a limit."""
+
+    def __init__(self, command=DEPQBF, mode="traditional", options=(), timeout=None, limit=2):
+        self.command, self.options = command, [*OPTIONS, MODES[mode], *options]
+        self.timeout, self.limit = timeout, limit
+
+    def solve(self, formula, trace, named):
+        """Writes the solver's proof to this file, which a message names so, and returns the line that it should be verified by."""
+        formula = os.path.join(".", formula) if formula.startswith("-") else formula
+        try:
+            with open(trace, "wb") as out, self.started(formula, out) as process:
+                _, complained = process.communicate(timeout=self.timeout)
+        except subprocess.TimeoutExpired as fault:
+            raise Ends(f"the solver was given up after {self.timeout:g} seconds", self.limit) from fault
+        except OSError as fault:
+            if fault.filename == trace:
+                raise unusable(f"{named} cannot be written: {fault.strerror}") from fault
+            advice = "install it (on Debian: apt-get install depqbf), or name it by --solver"
+            raise unusable(f"the solver {self.command} cannot be run ({fault.strerror}): {advice}") from fault
+        if process.returncode in ANSWERS:
+            return ANSWERS[process.returncode]
+        said = complained.decode(errors="replace").strip().split("\n")[-1]
+        line = f"the solver has no answer, but {ended_by(process.returncode)}" + (f": {said}" if said else "")
+        raise Ends(line, self.limit) if process.returncode == 0 else finding(line)
+
+    def started(self, formula, out):
+        return started([self.command, *self.options, formula], stdin=subprocess.DEVNULL, stdout=out, stderr=subprocess.PIPE)
+
+
+def ended_by(status):
+    """A status in words. A shell adds 128 to a signal."""
+    return f"was ended by {signal_of(status).rstrip(',')}" if status < 0 else f"status {status}"
+
+
+def verify(formula, trace, answer, named):
+    """Ends the command if the proof does not show the answer."""
+    line, status = run_program(["check", formula, trace])
+    if line == answer and status == 0:
+        return
+    if line.startswith("REFUSED trace "):
+        refuse_full(trace, named)
+    if line.startswith(("REFUSED ", "VERIFIED ")):
+        raise finding(f"the solver answers {answer.split()[-1]}, and qrp_cmd says {line} of its proof" + (f", with status {status}" if line == answer else ""))
+    raise unusable(why_not(line, status, formula, trace))
+
+
+def refuse_full(trace, named):
+    """Ends the command if nothing more can be written beside the proof: then it was cut off for that reason."""
+    try:
+        with tempfile.NamedTemporaryFile(dir=os.path.dirname(trace) or ".") as file:
+            file.write(bytes(1 << 16))
+    except OSError as fault:
+        raise unusable(f"the proof cannot be written to {named}: {fault.strerror}") from fault

@@ -1,0 +1,184 @@
+"""Writes a strategy for readers and for other programs. A part of tools/explain-strategy. Each format is a function that gives the lines."""
+
+import re
+from collections.abc import Iterator
+from typing import Callable
+
+from qrptools.circuits.encoding import counted
+from qrptools.command import finding
+from qrptools.formula import ADJECTIVES, Formula
+from qrptools.names import Names
+from qrptools.strategies.expressions import Expressions, Style
+from qrptools.strategies.labels import Labels
+from qrptools.strategies.strategy import Strategy
+
+COLUMNS = 8  # inputs of a table
+WIDTH = 100  # of a line of BLIF
+SIMPLE = re.compile("[A-Za-z_][A-Za-z0-9_]*", re.ASCII)
+MODULE = "strategy"
+# Words that are no names in Verilog without a backslash; those of SystemVerilog too.
+KEYWORDS = frozenset(
+    """always and assign automatic begin bit bool buf bufif0 bufif1 byte case casex casez cell checker class config const cover deassign default
+    defparam design disable do edge else end enum event expect export extends final for force forever fork function generate genvar global if iff
+    import in initial inout input inside instance int integer interface join large let liblist library local localparam logic longint
+    macromodule medium modport module nand negedge new nmos nor noshowcancelled not notif0 notif1 null or output package packed parameter
+    pmos posedge primitive priority program property protected pull0 pull1 pulldown pullup pure rand randc rcmos real realtime ref reg
+    release repeat restrict return rnmos rpmos rtran scalared sequence shortint shortreal showcancelled signed small solve specify specparam
+    static string strong0 strong1 struct super supply0 supply1 table tagged task this time tran tri tri0 tri1 triand trior trireg type
+    typedef union unique unsigned use uwire var vectored virtual void wait wand weak0 weak1 while wire with within wor xnor xor assert assume""".split()
+)
+
+
+def text(strategy: Strategy, names: Names, formula: Formula) -> Iterator[str]:
+    """Each output as an expression, block by block."""
+    labels, expressions = Labels(strategy, names, ""), Expressions(strategy)
+    style = Style(("!", "&", "|"), ("false", "true"), labels.wire)
+    sizes = [counted(len(strategy.outputs), "output"), counted(len(strategy.inputs), "input"), counted(len(strategy.gates), "gate")]
+    yield f"the {ADJECTIVES[strategy.winner]} player's strategy: {', '.join(sizes)}"
+    block = 0
+    constants: list[int] = []
+    for variable, new in expressions.definitions():
+        if formula.places[variable].block != block:
+            yield from numbers(constants, names)
+            block, constants = formula.places[variable].block, []
+            yield f"block {block} ({ADJECTIVES[strategy.winner]})"
+        yield from (f"    {labels.gate(gate)} = {expressions.text(expressions.nodes[gate], style)}" for gate in new)
+        literal = strategy.outputs[variable]
+        yield f"    {labels.variables[variable]} = {expressions.text(expressions.term(literal), style)}"
+        constants += [variable if literal else -variable] if literal < 2 else []
+    yield from numbers(constants, names)
+
+
+def numbers(constants: list[int], names: Names) -> Iterator[str]:
+    """The buses of which all bits are constants, as numbers."""
+    found = " ".join(f"{bus}={number}" for bus, number in names.values(constants))
+    if found:
+        yield f"    as numbers: {found}"
+
+
+def aag(strategy: Strategy, names: Names, _formula: Formula) -> Iterator[str]:
+    """The circuit in AIGER's ASCII format, with names as symbols."""
+    wires = {0: 0}
+    for place, literal in enumerate((*strategy.inputs, *strategy.gates), 1):
+        wires[literal] = 2 * place
+    wire = lambda literal: wires[literal & ~1] ^ (literal & 1)
+    yield f"aag {len(wires) - 1} {len(strategy.inputs)} 0 {len(strategy.outputs)} {len(strategy.gates)}"
+    yield from (str(wire(literal)) for literal in (*strategy.inputs, *strategy.outputs.values()))
+    for gate, both in strategy.gates.items():
+        yield " ".join(map(str, (wire(gate), *sorted(map(wire, both), reverse=True))))
+    for kind, variables in ("i", strategy.inputs.values()), ("o", strategy.outputs):
+        yield from (f"{kind}{place} {names.name(variable)}" for place, variable in enumerate(variables))
+
+
+def verilog(strategy: Strategy, names: Names, _formula: Formula) -> Iterator[str]:
+    """A module of Verilog with these inputs and outputs."""
+    labels, expressions = Labels(strategy, names, spelled=identifier), Expressions(strategy)
+    style = Style(("~", "&", "|"), ("1'b0", "1'b1"), labels.wire)
+    ports = [*(f"input {label}" for label in labels.inputs()), *(f"output {label}" for label in labels.outputs())]
+    yield f"module {MODULE} ("
+    yield from (f"    {port}{',' if place < len(ports) else ''}" for place, port in enumerate(ports, 1))
+    yield ");"
+    for variable, new in expressions.definitions():
+        yield from (f"    wire {labels.gate(gate)} = {expressions.text(expressions.nodes[gate], style)};" for gate in new)
+        yield f"    assign {labels.variables[variable]} = {expressions.text(expressions.term(strategy.outputs[variable]), style)};"
+    yield "endmodule"
+
+
+def identifier(name: str) -> str:
+    """A name as Verilog has it: if it is not a simple one, between a backslash and a blank."""
+    return name if SIMPLE.fullmatch(name) and name not in KEYWORDS else f"\\{name} "
+
+
+def blif(strategy: Strategy, names: Names, _formula: Formula) -> Iterator[str]:
+    """A model in Berkeley's format BLIF, with a table for each gate."""
+    labels = Labels(strategy, names, spelled=word)
+    yield f".model {MODULE}"
+    yield from wrapped([".inputs", *labels.inputs()])
+    yield from wrapped([".outputs", *labels.outputs()])
+    for gate, both in strategy.gates.items():
+        yield from function(both, labels.gate(gate), labels)
+    for variable, literal in strategy.outputs.items():
+        yield from function((literal,), labels.variables[variable], labels)
+    yield ".end"
+
+
+def function(given: tuple[int, ...], label: str, labels: Labels) -> Iterator[str]:
+    """The table of the conjunction of some literals. One that is false has no row."""
+    is_false = 0 in given or any(literal ^ 1 in given for literal in given)
+    literals = [] if is_false else list(dict.fromkeys(literal for literal in given if literal > 1))
+    yield " ".join([".names", *(labels.wire(literal & ~1) for literal in literals), label])
+    if not is_false:
+        yield " ".join(filter(None, ["".join("10"[literal & 1] for literal in literals), "1"]))
+
+
+def word(name: str) -> str:
+    """A name without what means something in BLIF."""
+    return re.sub(r'[^!-~]|[#\\"=]', "_", name)
+
+
+def wrapped(words: list[str]) -> Iterator[str]:
+    """A line of BLIF, with a backslash before each line end in it."""
+    line = words[0]
+    for it in words[1:]:
+        if len(line) + len(it) > WIDTH:
+            yield f"{line} \\"
+            line = "   "
+        line += f" {it}"
+    yield line
+
+
+def table(strategy: Strategy, names: Names, _formula: Formula) -> Iterator[str]:
+    """The values of the outputs for all values of the inputs that they depend on."""
+    strategy = strategy.part(strategy.outputs)
+    count = len(strategy.inputs)
+    if count > COLUMNS:
+        raise finding(f"the outputs depend on {count} inputs, and a table has at most {COLUMNS}: choose outputs by --only or --block")
+    rows = 1 << count
+    columns = {variable: alternating(rows, rows >> place) for place, variable in enumerate(strategy.inputs.values(), 1)}
+    values = {**columns, **strategy.run(columns, (1 << rows) - 1)}
+    labels = Labels(strategy, names, "")
+    shown = lambda texts: " | ".join(" ".join(part) for part in (texts[:count], texts[count:]) if part)
+    yield shown(list(map(labels.variables.__getitem__, values)))
+    for row in range(rows):
+        yield shown([str(bits >> row & 1).rjust(len(labels.variables[variable])) for variable, bits in values.items()])
+
+
+def alternating(rows: int, run: int) -> int:
+    """A bit for each row, the first the lowest: so many zeros, as many ones, and so on."""
+    return sum(1 << row for row in range(rows) if row & run)
+
+
+def dot(strategy: Strategy, names: Names, _formula: Formula) -> Iterator[str]:
+    """A graph for Graphviz with the inputs that are used: an edge with a circle at its end is a negation."""
+    strategy = strategy.part(strategy.outputs)
+    labels = Labels(strategy, names, "")
+    outputs = {f"o{variable}": [literal] for variable, literal in strategy.outputs.items()}
+    ends = {**{f"g{gate // 2}": [*both] for gate, both in strategy.gates.items()}, **outputs}
+    yield f"digraph {MODULE} {{"
+    yield "    rankdir=LR;"
+    if any(literal < 2 for literals in ends.values() for literal in literals):
+        yield "    false [shape=plaintext];"
+    yield from (node(f"i{literal // 2}", label, "box") for literal, label in zip(strategy.inputs, labels.inputs()))
+    yield from (node(f"g{gate // 2}", "&", "circle") for gate in strategy.gates)
+    yield from (node(end, label, "doubleoctagon") for end, label in zip(outputs, labels.outputs()))
+    for end, literals in ends.items():
+        for literal in literals:
+            kind = "i" if literal & ~1 in strategy.inputs else "g"
+            start = f"{kind}{literal // 2}" if literal > 1 else "false"
+            yield f"    {start} -> {end}{' [arrowhead=odot]' if literal & 1 else ''};"
+    yield "}"
+
+
+def node(name: str, label: str, shape: str) -> str:
+    quoted = label.replace("\\", "\\\\").replace('"', '\\"')
+    return f'    {name} [label="{quoted}", shape={shape}];'
+
+
+FORMATS: dict[str, Callable[[Strategy, Names, Formula], Iterator[str]]] = {
+    "text": text,
+    "aag": aag,
+    "verilog": verilog,
+    "blif": blif,
+    "table": table,
+    "dot": dot,
+}
