@@ -598,7 +598,7 @@ def try_words(use):
     environment = {**use.environment, "QRP_CMD": str(tools / "qrp_cmd"), "PATH": "/usr/bin:/bin"}
     own = tools / "tools" / "explain-strategy"
     ended = use.run(own, *box, env=environment)
-    use.expect("no qrp_strategy", ended, 2, "", "there is no bin/qrp_strategy: build it with make strategy, or name it by QRP_STRATEGY")
+    use.expect("no qrp_strategy", ended, 2, "", "there is no bin/qrp_strategy: build it with make, or name it by QRP_STRATEGY")
     wanted = use.shown(*box)
     ended = use.run(own, *box, env={**environment, "QRP_STRATEGY": str(use.strategy)})
     use.expect("qrp_strategy by its name", ended, 0, wanted)
@@ -711,7 +711,7 @@ def main():
     program = os.path.abspath(sys.argv[1])
     parts = PARTS
     if not (Path(program).parent / "qrp_strategy").is_file():
-        skip("the circuits of proofs", "there is no qrp_strategy beside the program: 'make strategy' builds it")
+        skip("the circuits of proofs", "there is no qrp_strategy beside the program: 'make' builds it")
         parts = WITHOUT_PROGRAM
     for part in parts:
         with tempfile.TemporaryDirectory() as folder:

@@ -420,7 +420,7 @@ def main():
             skip(tool.name, "there is no parallel on this machine")
             continue
         if tool.name == "explain-strategy" and tool.runs and not (Path(program).parent / "qrp_strategy").is_file():
-            skip(tool.name, "there is no qrp_strategy: 'make strategy' builds it")
+            skip(tool.name, "there is no qrp_strategy: 'make' builds it")
             continue
         trials = [try_files, try_outputs]
         if tool.name not in seen:

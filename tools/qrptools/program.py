@@ -15,7 +15,7 @@ AS_THE_TRACE = "it needs up to the size of the trace"
 AS_THE_FORMULA = "it needs up to the size of the formula"
 
 CHECKER, STRATEGY = "qrp_cmd", "qrp_strategy"
-BUILT_BY = {CHECKER: "make", STRATEGY: "make strategy"}
+BUILT_BY = {CHECKER: "make", STRATEGY: "make"}
 WRITTEN = {CHECKER: ("the trimmed trace", AS_THE_TRACE), STRATEGY: ("the circuit", "")}  # and the room that it needs
 USAGE = 5  # the status of a program without arguments
 
