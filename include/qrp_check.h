@@ -174,6 +174,12 @@ int32_t qrp_proof_step(struct qrp_proof *proof, uint64_t number, const int32_t *
  * are not a verdict, and returns QRP_NO_PROOF. What the struct holds stays, so that more can be added and checked. */
 int32_t qrp_proof_check(struct qrp_proof *proof, bool sat, bool any_pivot, struct qrp_verdict *out) QRP_NONNULL(1) QRP_NONNULL(4);
 
+/* Checks as qrp_proof_check does and writes the same to *out. If the proof is verified, it returns how many steps it needs, and if `room` is
+ * not less than that, writes their numbers to the front of `steps`, in the order in which they were added; else it returns 0. The rest of
+ * `steps` is left as it was. */
+size_t qrp_proof_core(struct qrp_proof *proof, bool sat, bool any_pivot, uint64_t *steps, size_t room, struct qrp_verdict *out)
+    QRP_NONNULL(1) QRP_NONNULL(6);
+
 /* Gives back what the struct holds; it holds nothing then. It may be called again. */
 void qrp_proof_free(struct qrp_proof *proof) QRP_NONNULL(1);
 

@@ -16,6 +16,7 @@ size_t qrp_lent_strategy(const void *, size_t, const void *, size_t, bool, bool,
 size_t qrp_lent_format(const void *, size_t, char *, size_t, struct qrp_verdict *);
 size_t qrp_lent_core(const void *, size_t, const void *, size_t, bool, uint64_t *, size_t, struct qrp_verdict *);
 int32_t qrp_lent_proof_clause(struct qrp_proof *, const int32_t *, size_t);
+size_t qrp_lent_proof_core(struct qrp_proof *, bool, bool, uint64_t *, size_t, struct qrp_verdict *);
 int32_t qrp_lent_proof_step(struct qrp_proof *, uint64_t, const int32_t *, size_t, const uint64_t *, size_t);
 
 int32_t qrp_verify(const void *formula, size_t formula_length, const void *trace, size_t trace_length, bool any_pivot,
@@ -60,4 +61,8 @@ int32_t qrp_proof_clause(struct qrp_proof *proof, const int32_t *literals, size_
 int32_t qrp_proof_step(struct qrp_proof *proof, uint64_t number, const int32_t *literals, size_t count, const uint64_t *antecedents,
                        size_t antecedent_count) {
     return qrp_lent_proof_step(proof, number, LENT(literals, count), count, LENT(antecedents, antecedent_count), antecedent_count);
+}
+
+size_t qrp_proof_core(struct qrp_proof *proof, bool sat, bool any_pivot, uint64_t *steps, size_t room, struct qrp_verdict *out) {
+    return qrp_lent_proof_core(proof, sat, any_pivot, LENT(steps, room), room, out);
 }

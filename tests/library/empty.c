@@ -43,6 +43,7 @@ int main(void) {
     settle(qrp_proof_new(&proof) == QRP_ADDED && qrp_proof_clause(&proof, NULL, 0) == QRP_ADDED, "the literals of a clause");
     settle(qrp_proof_step(&proof, 1, NULL, 0, NULL, 0) == QRP_ADDED, "the literals and the antecedents of a step");
     settle(qrp_proof_check(&proof, false, false, &by_null) == QRP_VERIFIED && by_null.letter == 'V' && !by_null.truth, "a proof");
+    settle(qrp_proof_core(&proof, false, false, NULL, 0, &by_null) == 1 && by_null.letter == 'V', "the list of qrp_proof_core");
     qrp_proof_free(&proof);
     printf("empty: %d passed, %d failed\n", passed, failed);
     return failed != 0;

@@ -23,7 +23,7 @@ static void settle(bool is, const char *what, const char *of) {
 
 /* Memory: how many blocks are in use, and which request is refused, counted from 1. */
 static long blocks, requests, refuse_at;
-static bool was_refused;
+static bool was_refused, core_is_right = true;
 
 void *__real_malloc(size_t size);
 void *__real_realloc(void *old, size_t size);
@@ -115,8 +115,34 @@ static int32_t add_trace(struct qrp_proof *proof, char *text, bool *sat) {
     return QRP_ADDED;
 }
 
+/* Whether the core of a proof, which was verified or not, is that of its texts; for each room, if it is small. */
+static bool has_core(struct qrp_proof *proof, const char *formula, const char *trace, bool sat, bool any_pivot) {
+    static uint64_t wanted[1 << 16], steps[1 << 16];
+    const size_t most = sizeof steps / sizeof *steps;
+    struct qrp_verdict of_texts, of_proof;
+    size_t count = qrp_core(formula, strlen(formula), trace, strlen(trace), any_pivot, wanted, most, &of_texts);
+    bool is = count <= most;
+    for (size_t room = count < 20 ? 0 : count - 1; room <= count + 1 && is; room++) {
+        memset(steps, 0xa5, sizeof steps);
+        is = qrp_proof_core(proof, sat, any_pivot, steps, room, &of_proof) == count && !memcmp(&of_proof, &of_texts, sizeof of_texts);
+        for (size_t i = 0; i < count + 2; i++) is &= steps[i] == (room >= count && i < count ? wanted[i] : 0xa5a5a5a5a5a5a5a5);
+    }
+    return is;
+}
+
+/* Asks for a core while a request may be refused: it is that of the verdict, or there is none for want of memory, and nothing is written. */
+static void core_if_memory(struct qrp_proof *proof, bool sat, bool any_pivot, const struct qrp_verdict *verdict) {
+    uint64_t steps[64];
+    struct qrp_verdict of_core;
+    bool before = was_refused;
+    memset(steps, 0xa5, sizeof steps);
+    size_t count = qrp_proof_core(proof, sat, any_pivot, steps, 64, &of_core);
+    bool refused_here = was_refused && !before, same = !memcmp(&of_core, verdict, sizeof of_core);
+    core_is_right &= refused_here ? of_core.status == QRP_NO_MEMORY && count == 0 && steps[0] == 0xa5a5a5a5a5a5a5a5 : same;
+}
+
 /* Hands a case over, and has it checked: the status, or one of enum qrp_added where a piece was not added. */
-static int32_t handed_over(const char *formula, const char *trace, bool any_pivot, struct qrp_verdict *verdict) {
+static int32_t handed_over(const char *formula, const char *trace, bool any_pivot, struct qrp_verdict *verdict, bool *core) {
     struct qrp_proof proof = {0};
     char *texts[2] = {__real_malloc(strlen(formula) + 1), __real_malloc(strlen(trace) + 1)};
     bool sat = false;
@@ -129,6 +155,8 @@ static int32_t handed_over(const char *formula, const char *trace, bool any_pivo
     if (status == QRP_ADDED) {
         status = qrp_proof_check(&proof, sat, any_pivot, verdict);
         if (status == QRP_NO_MEMORY && was_refused) was_refused = false, status = qrp_proof_check(&proof, sat, any_pivot, verdict);
+        if (core) *core = has_core(&proof, formula, trace, sat, any_pivot);
+        else core_if_memory(&proof, sat, any_pivot, verdict);
     }
     qrp_proof_free(&proof);
     __real_free(texts[0]);
@@ -168,18 +196,22 @@ static void try_case(char *row) {
     char *formula = text_of(formula_name), *trace = text_of(trace_name);
     struct qrp_verdict verdict;
     requests = refuse_at = 0;
-    int32_t got = handed_over(formula, trace, any_pivot, &verdict);
+    bool core = false;
+    int32_t got = handed_over(formula, trace, any_pivot, &verdict, &core);
     settle(is_answer(got, &verdict, status, line) && blocks == 0, "handed over", line);
+    settle(core, "the core of what is handed over", line);
+    requests = 0;
+    handed_over(formula, trace, any_pivot, &verdict, NULL);
     long all = strlen(trace) < 4000 ? requests : 0;
     bool is = true;
     for (long at = 1; at <= all; at++) {
         requests = 0, refuse_at = at, was_refused = false;
-        got = handed_over(formula, trace, any_pivot, &verdict);
+        got = handed_over(formula, trace, any_pivot, &verdict, NULL);
         refuse_at = 0;
         is &= is_answer(got, &verdict, status, line) && blocks == 0;
         refused++;
     }
-    settle(is, "each allocation refused, and the call made again", line);
+    settle(is && core_is_right, "each allocation refused, and the call made again", line);
     cases++;
     __real_free(formula);
     __real_free(trace);
@@ -196,6 +228,9 @@ static void try_refusals(void) {
                && qrp_proof_step(&proof, 1, clause, 2, three, 0) == QRP_NO_PROOF, "a struct that holds nothing", "adding");
     settle(qrp_proof_check(&proof, false, false, &verdict) == QRP_NO_PROOF && !memcmp(&verdict, &zeros, sizeof verdict),
            "a struct that holds nothing", "check");
+    uint64_t steps[4] = {7, 7, 7, 7};
+    settle(qrp_proof_core(&proof, false, false, steps, 4, &verdict) == 0 && !memcmp(&verdict, &zeros, sizeof verdict) && steps[0] == 7,
+           "a struct that holds nothing", "core");
     qrp_proof_free(&proof);
     settle(qrp_proof_new(&proof) == QRP_ADDED && qrp_proof_new(&proof) == QRP_ADDED, "new, twice", "");
     settle(qrp_proof_variable(&proof, false, 1) == QRP_ADDED && qrp_proof_variable(&proof, true, 2) == QRP_ADDED, "variables", "");
@@ -224,6 +259,7 @@ static void try_refusals(void) {
     settle(qrp_proof_step(&proof, 2, other, 2, three, 0) == QRP_ADDED && qrp_proof_step(&proof, 3, reduced, 1, of_other, 1) == QRP_ADDED
                && qrp_proof_step(&proof, 9, one, 0, both, 2) == QRP_ADDED, "steps", "");
     settle(qrp_proof_check(&proof, false, false, &verdict) == QRP_VERIFIED && verdict.letter == 'V' && !verdict.truth, "the proof", "");
+    settle(qrp_proof_core(&proof, false, false, steps, 4, &verdict) == 4 && verdict.letter == 'V' && steps[0] == 1 && steps[3] == 9, "the core", "");
     settle(qrp_proof_check(&proof, true, false, &verdict) == QRP_PROOF_REFUSED && verdict.letter == 'C' && verdict.number == 6,
            "as one of a true formula", "");
     qrp_proof_free(&proof);

@@ -25,6 +25,6 @@ pub use buffer::{put_numbers, put_text};
 pub use formatting::format_bytes;
 pub use line::Line;
 pub use lines::{line_of, meaning_of};
-pub use proving::{list_core, trim_bytes, verify_bytes};
+pub use proving::{list_core, numbers_at, trim_bytes, verify_bytes};
 pub use strategy::strategy_bytes;
 pub use verdict::{QrpVerdict, encode_fault, encode_nothing, encode_truth};

@@ -84,10 +84,17 @@ fn text_at(alloc: Global, trace: &CompactTrace, places: &[usize]) -> Result<VecS
 }
 
 /// The numbers of the steps at these places, in order.
+///
+/// # Errors
+/// If an allocation fails.
 #[tactic(auto, using(crate::proofs::GivenTexts::next_number))]
-fn numbers_at(alloc: Global, trace: &CompactTrace, places: &[usize]) -> Result<Vec<u64>, AllocError>
-    requires { AllByRecursion (λ i. i < length trace.now.steps) places.now }
-    ensures { IfOk result (λ v. v.items ≡ numbers (steps_at trace.now.steps places.now)) }
+pub fn numbers_at<T: KeptSteps>(
+    alloc: Global,
+    trace: &T,
+    places: &[usize],
+) -> Result<Vec<u64>, AllocError>
+    requires { AllByRecursion (λ i. i < length (T.steps trace.now)) places.now }
+    ensures { IfOk result (λ v. v.items ≡ numbers (steps_at (T.steps trace.now) places.now)) }
 {
     let mut numbers = Vec::new(alloc);
     for place in places {

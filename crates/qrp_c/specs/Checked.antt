@@ -1,13 +1,16 @@
 -- The result for a caller in C of the check of a proof that was handed over.
-use Rattle.std.specs.Prelude.{◌≡◌, ◌≢◌, ◌↔◌, ◌⊎◌, Bool, IsTrue, List, []}
+use Rattle.std.specs.Prelude.{◌≡◌, ◌≢◌, ◌↔◌, ◌⊎◌, ℕ, Bool, IsTrue, List, []}
 use Rattle.qbf_core.specs.Qbf.{Qbf}
 use Rattle.qbf_core.specs.Truth.{IsTrueFormula}
-use Rattle.qrp.specs.Inferences.{Inference}
+use Rattle.qrp.specs.Derivations.{steps_at}
+use Rattle.qrp.specs.Inferences.{Inference, numbers}
 use Rattle.qrp_rules.specs.declared.rules.Rules.{Rules}
 use Rattle.qrp_check.specs.declared.fault.CheckFault.{CheckFault}
 use Rattle.qrp_check.specs.declared.fault.CheckFault.TheVariants.{C5}
 use Rattle.qrp_check.specs.declared.verdict.Fault.TheVariants.{Check}
+use Rattle.qrp_check.specs.Core.{ListsCore}
 use Rattle.qrp_check.specs.Proof.{Proves, IsFirstFault}
+use Rattle.qrp_bytes.specs.Buffers.{IsListed}
 use Rattle.qrp_bytes.specs.declared.verdict.QrpVerdict.{QrpVerdict}
 use Rattle.qrp_bytes.specs.Encoding.{encoded_truth, encoded_fault}
 use Rattle.qrp_handle.specs.Checks.{outcome_of}
@@ -23,6 +26,19 @@ pub record IsRefused (rules : Rules) (f : Qbf) (steps : List Inference) (sat : B
   pub fault : CheckFault
   pub encoded : out ≡ encoded_fault (Check fault)
   pub stands : fault ≢ C5 → IsFirstFault rules f [] steps (outcome_of sat) fault
+
+-- the struct says that the proof is verified, and the list holds the numbers of the steps that it needs
+pub record IsCoreListed (rules : Rules) (f : Qbf) (steps : List Inference) (sat : Bool) (old new : List ℕ) (out : QrpVerdict) (count : ℕ)
+    : Type 0 where
+  pub verified : IsVerified rules f steps sat out
+  pub core : List ℕ
+  pub lists : ListsCore steps core
+  pub listed : IsListed (numbers (steps_at steps core)) old new count
+
+-- the struct says that the proof is verified, with the core; or that it is refused, and nothing is listed
+abbrev pub IsCoreOf : Rules → Qbf → List Inference → Bool → List ℕ → List ℕ → QrpVerdict → ℕ → Type 0
+IsCoreOf rules f steps sat old new out count =
+    IsCoreListed rules f steps sat old new out count ⊎ (IsRefused rules f steps sat out × IsListed [] old new count)
 
 -- the struct says that the proof is verified, or that it is refused
 abbrev pub IsVerdictOf : Rules → Qbf → List Inference → Bool → QrpVerdict → Type 0

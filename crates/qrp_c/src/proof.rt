@@ -1,17 +1,25 @@
 //! The exported functions over a proof that a caller in C hands over.
 
-ghost use Rattle.std.specs.Prelude.{◌≡◌, ◌≢◌, [], ◌∷◌, ◌++◌, map, None, IsSomeAnd, IfSome, IfNone, pos};
+ghost use Rattle.std.specs.Prelude.{◌≡◌, ◌≢◌, ◌↔◌, ◌⊎◌, [], ◌∷◌, ◌++◌, drop, map, None, IsSomeAnd};
+ghost use Rattle.std.specs.Prelude.{IfErr, IfNone, IfOk, IfSome, IsTrue, List, OnOk, pos, ℕ};
 ghost use Rattle.qbf_core.specs.Blocks.{pairs};
 ghost use Rattle.qrp_handle.specs.Adding.{IsVariableFault, IsClauseFault, IsStepFault};
 ghost use Rattle.qrp_bytes.specs.Texts.{encoded_nothing};
-ghost use Rattle.qrp_handle.specs.Checks.{AreWellFormed, quantifier_of};
+ghost use Rattle.qrp_handle.specs.Checks.{AreWellFormed, HasCore, outcome_of, quantifier_of};
 ghost use Rattle.qrp_handle.specs.Statuses.{CallReturns};
-ghost use Rattle.qrp_c.specs.Checked.{IsVerdictOf};
+ghost use Rattle.qrp_c.specs.Checked.{IsCoreOf, IsRefused, IsVerdictOf, IsVerified};
+ghost use Rattle.qbf_core.specs.Truth.{IsTrueFormula};
+ghost use Rattle.qrp.specs.Derivations.{steps_at};
+ghost use Rattle.qrp.specs.Inferences.{numbers};
+ghost use Rattle.qrp_check.specs.Core.{ListsCore};
+ghost use Rattle.qrp_check.specs.Proof.{IsFirstFault};
+ghost use Rattle.qrp_check.specs.declared.fault.CheckFault.TheVariants.{C5};
 ghost use Rattle.qbf_core.specs.WrittenLiterals.{literal_of};
 
 use qbf_core::Quantifier;
-use qrp_bytes::{QrpVerdict, encode_fault, encode_nothing, encode_truth};
-use qrp_check::Fault;
+use qrp::LentSteps;
+use qrp_bytes::{QrpVerdict, encode_fault, encode_nothing, encode_truth, numbers_at, put_numbers};
+use qrp_check::{CheckFault, Fault};
 use qrp_handle::{NOTHING, Proof, QrpProof, outcome_of, status_of};
 use qrp_rules::Rules;
 use std::alloc::Global;
@@ -166,6 +174,78 @@ pub extern "C" fn qrp_proof_check(
             *out = encode_nothing();
             NOTHING
         }
+    }
+}
+
+/// The numbers of the steps that the proof needs, in the order in which they were added, if the
+/// steps prove that the formula is true, or that it is false, as `sat` says.
+///
+/// In C: `size_t qrp_proof_core(struct qrp_proof *proof, bool sat, bool any_pivot, uint64_t *steps,
+/// size_t room, struct qrp_verdict *out)`.
+///
+/// Returns how many they are. If `steps` has room for all of them they stand at its front, and the
+/// rest stays as it was; else all of it stays. Writes to `out` what `qrp_proof_check` does; if that
+/// is not a result, there are none.
+#[unsafe(no_mangle)]
+pub extern "C" fn qrp_proof_core(
+    alloc: Global,
+    proof: &mut QrpProof,
+    sat: bool,
+    any_pivot: bool,
+    steps: &mut [u64],
+    out: &mut QrpVerdict,
+) -> usize
+    ensures core { IfSome proof.old.held.value (λ p. IsCoreOf (record { any_pivot = any_pivot })
+        p.formula p.trace.steps sat steps.old steps.new out.new result) }
+    ensures nothing { IfNone proof.old.held.value
+        ((out.new ≡ encoded_nothing) × (result ≡ 0)) }
+    ensures kept { proof.new.held.value ≡ proof.old.held.value }
+    ensures rest { drop result steps.new ≡ drop result steps.old }
+{
+    match proof.take(alloc) {
+        Some(held) => {
+            let (verdict, numbers) = core_of(alloc, &held, sat, Rules { any_pivot });
+            *proof = QrpProof::of(held);
+            *out = verdict;
+            put_numbers(steps, &numbers)
+        }
+        None => {
+            *out = encode_nothing();
+            0
+        }
+    }
+}
+
+/// The result of the check, with the numbers of the steps of the core.
+fn core_of(alloc: Global, proof: &Proof, sat: bool, rules: Rules) -> (QrpVerdict, Vec<u64>)
+    ensures { (IsVerified rules proof.now.formula proof.now.trace.steps sat result.0
+        × (core : List ℕ) × ListsCore proof.now.trace.steps core
+        × (result.1.items ≡ numbers (steps_at proof.now.trace.steps core)))
+        ⊎ (IsRefused rules proof.now.formula proof.now.trace.steps sat result.0
+        × (result.1.items ≡ [])) }
+{
+    match numbers_of(alloc, proof, sat, rules) {
+        Ok(numbers) => (encode_truth(sat), numbers),
+        Err(fault) => (encode_fault(&Fault::Check(fault)), Vec::new(alloc)),
+    }
+}
+
+/// The numbers of the steps of the core.
+///
+/// # Errors
+/// As of the check, or `C5` if an allocation fails.
+fn numbers_of(alloc: Global, proof: &Proof, sat: bool, rules: Rules) -> Result<Vec<u64>, CheckFault>
+    ensures core { IfOk result (λ v. (core : List ℕ) × HasCore rules proof.now.formula
+        proof.now.trace.steps (outcome_of sat) core
+        × (v.items ≡ numbers (steps_at proof.now.trace.steps core))) }
+    ensures truth { OnOk result (IsTrue sat ↔ IsTrueFormula proof.now.formula) }
+    ensures refused { IfErr result (λ e. e ≢ C5
+        → IsFirstFault rules proof.now.formula [] proof.now.trace.steps (outcome_of sat) e) }
+{
+    let core = proof.core(alloc, outcome_of(sat), rules)?;
+    match numbers_at(alloc, &LentSteps(&proof.trace), &core) {
+        Ok(numbers) => Ok(numbers),
+        Err(_) => Err(CheckFault::C5),
     }
 }
 

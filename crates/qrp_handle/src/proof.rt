@@ -1,6 +1,7 @@
 //! A formula and the steps of its proof, handed over one by one.
 
 ghost use Rattle.std.specs.Prelude.{◌≡◌, ◌≢◌, ◌≤◌, ◌<◌, ◌↔◌, [], ◌∷◌, ◌++◌, map, length, IsTrue, OnOk, OnErr, IfErr};
+ghost use Rattle.std.specs.Prelude.{IfOk};
 ghost use Rattle.std.specs.List.{AllByRecursion};
 ghost use Rattle.qbf_core.specs.Blocks.{pairs};
 ghost use Rattle.qbf_core.specs.Truth.{IsTrueFormula};
@@ -9,7 +10,7 @@ ghost use Rattle.step_index.specs.Numbers.{is_used};
 ghost use Rattle.qrp_check.specs.declared.fault.CheckFault.TheVariants.{C5};
 ghost use Rattle.qrp_check.specs.Proof.{Proves, IsFirstFault};
 ghost use Rattle.qrp_check.specs.Verdict.{is_sat};
-ghost use Rattle.qrp_handle.specs.Checks.{AreWellFormed};
+ghost use Rattle.qrp_handle.specs.Checks.{AreWellFormed, HasCore};
 ghost use Rattle.qrp_handle.specs.Adding.{IsVariableFault, IsClauseFault, IsStepFault};
 ghost use Rattle.qbf_core.specs.WrittenLiterals.{literal_of};
 
@@ -138,14 +139,19 @@ impl Proof {
         Ok(())
     }
 
-    /// Whether the steps prove this outcome of the formula, as `check` says it. There is no fault
-    /// then.
+    /// The positions of the steps that the proof of this outcome needs, in order, if the steps prove
+    /// it of the formula, as `check` of the checker says it.
     ///
     /// # Errors
-    /// As of `check`.
-    pub fn check(&self, alloc: Global, outcome: Outcome, rules: Rules) -> Result<(), CheckFault>
-        ensures proves { OnOk result
-            (Proves rules self.now.formula [] self.now.trace.steps outcome) }
+    /// As of that.
+    pub fn core(
+        &self,
+        alloc: Global,
+        outcome: Outcome,
+        rules: Rules,
+    ) -> Result<Vec<usize>, CheckFault>
+        ensures core { IfOk result
+            (λ v. HasCore rules self.now.formula self.now.trace.steps outcome v.items) }
         ensures truth { OnOk result (IsTrue (is_sat outcome) ↔ IsTrueFormula self.now.formula) }
         ensures refused { IfErr result (λ e. e ≢ C5
             → IsFirstFault rules self.now.formula [] self.now.trace.steps outcome e) }
@@ -154,7 +160,24 @@ impl Proof {
         // The proof reads here that the formula and the steps are well formed.
         let _greatest = self.formula.max_var();
         let _claim = self.trace.result();
-        check(alloc, &self.formula, &self.trace, &[], outcome, rules)?;
+        let verified = check(alloc, &self.formula, &self.trace, &[], outcome, rules)?;
+        Ok(verified.core)
+    }
+
+    /// Whether the steps prove this outcome of the formula, as `check` of the checker says it. There
+    /// is no fault then.
+    ///
+    /// # Errors
+    /// As of that.
+    pub fn check(&self, alloc: Global, outcome: Outcome, rules: Rules) -> Result<(), CheckFault>
+        ensures proves { OnOk result
+            (Proves rules self.now.formula [] self.now.trace.steps outcome) }
+        ensures truth { OnOk result (IsTrue (is_sat outcome) ↔ IsTrueFormula self.now.formula) }
+        ensures refused { IfErr result (λ e. e ≢ C5
+            → IsFirstFault rules self.now.formula [] self.now.trace.steps outcome e) }
+        ensures sound { AreWellFormed self.now.formula self.now.trace }
+    {
+        self.core(alloc, outcome, rules)?;
         Ok(())
     }
 }

@@ -4,4 +4,4 @@ use Rattle.qrp.specs.Inferences.{numbers}
 use Rattle.qrp_bytes.proofs.proving.numbers_at.Given as goal
 
 abbrev pub invariant-loop-place : goal.invariant-loop-place
-invariant-loop-place l = l.numbers.items ≡ numbers (steps_at l.trace.steps (take l.place-index l.places))
+invariant-loop-place g l = l.numbers.items ≡ numbers (steps_at (g.T.KeptSteps.steps l.trace) (take l.place-index l.places))
