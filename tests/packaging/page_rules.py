@@ -19,6 +19,8 @@ RUN = [
     Run("docs/DEPQBF.md", "status=0", "VERIFIED true\n"),
     Run("docs/DEPQBF.md", "depqbf ", "VERIFIED true\nVERIFIED true\nVERIFIED true\n", 'bash -e "$block" 2>&1 | grep -o "VERIFIED.*"'),
     Run("docs/INSTALL.md", "tar xf", "VERIFIED false\n"),
+    Run("docs/SOLVER.md", "/* pieces.c", "", 'cp "$block" pieces.c'),
+    Run("docs/SOLVER.md", "cc pieces.c", "VERIFIED false\n"),
     Run("docs/TUTORIAL.md", "yosys -q -p 'read_verilog examples/average/average.v; prep", "confirmed\n"),
     Run("docs/TUTORIAL.md", "yosys -q -p 'read_verilog -formal", "1\n", 'bash -e "$block"; grep -a -c "^i4 gb$" watched.aig'),
     Run("docs/TUTORIAL.md", "yosys -q -p 'read_verilog examples/average/average.v; synth", "1\n", 'bash -e "$block"; grep -a -c "^i14 h_minus$" average.aig'),
