@@ -11,7 +11,6 @@
 #include <map>
 #include <new>
 #include <qrp_check.h>
-#include <sstream>
 #include <stdexcept>
 #include <string>
 #include <vector>
@@ -36,7 +35,7 @@ public:
     void add_variable(bool universal, std::int32_t variable) {
         must_be_added(qrp_proof_variable(&held, universal, static_cast<std::uint32_t>(variable)));
         variables++;
-        text << (universal ? "a " : "e ") << variable << " 0\n";
+        text += (universal ? "a " : "e ") + std::to_string(variable) + " 0\n";
     }
 
     void add_clause(const Literals &clause) { must_be_added(qrp_proof_clause(&held, clause.data(), clause.size())); }
@@ -45,11 +44,11 @@ public:
     std::uint64_t add_step(const Literals &literals, const Steps &antecedents) {
         must_be_added(
             qrp_proof_step(&held, last + 1, literals.data(), literals.size(), antecedents.data(), antecedents.size()));
-        text << ++last << ' ';
-        for (std::int32_t literal : literals) text << literal << ' ';
-        text << "0 ";
-        for (std::uint64_t antecedent : antecedents) text << antecedent << ' ';
-        text << "0\n";
+        text += std::to_string(++last) + ' ';
+        for (std::int32_t literal : literals) text += std::to_string(literal) + ' ';
+        text += "0 ";
+        for (std::uint64_t antecedent : antecedents) text += std::to_string(antecedent) + ' ';
+        text += "0\n";
         return last;
     }
 
@@ -61,14 +60,14 @@ public:
 
     void write(const char *path, bool sat) const {
         std::ofstream file(path, std::ios::binary);
-        file << "p qrp " << variables << ' ' << last << '\n' << text.str() << (sat ? "r sat\n" : "r unsat\n");
+        file << "p qrp " << variables << ' ' << last << '\n' << text << (sat ? "r sat\n" : "r unsat\n");
         if (!file.flush()) throw std::runtime_error(path + std::string(": it cannot be written"));
     }
 
 private:
     qrp_proof held;
     std::uint64_t variables = 0, last = 0; // how many variables, and the number of the last step
-    std::ostringstream text;
+    std::string text;
     static void must_be_added(std::int32_t status) {
         if (status == QRP_NO_MEMORY) throw std::bad_alloc();
         if (status != QRP_ADDED) throw std::logic_error("a piece is refused: qrp_added " + std::to_string(status));
@@ -91,15 +90,17 @@ public:
     Proof proof;
     // The text is in canonical form: after the header each line is a set or a clause.
     explicit Solver(const std::string &formula) {
-        std::istringstream lines(formula);
-        std::string line;
-        std::getline(lines, line);
-        while (std::getline(lines, line)) {
-            const bool is_set = line[0] == 'a' || line[0] == 'e';
-            std::istringstream words(is_set ? line.substr(1) : line);
+        const char *at = formula.c_str() + formula.find('\n') + 1;
+        while (*at != '\0') {
+            const char first = *at;
+            const bool is_set = first == 'a' || first == 'e';
+            if (is_set) at++;
             Literals numbers;
-            for (std::int32_t number; words >> number && number != 0;) numbers.push_back(number);
-            if (is_set) add_block(line[0] == 'a', numbers);
+            char *end;
+            for (long number; (number = std::strtol(at, &end, 10)) != 0; at = end)
+                numbers.push_back(static_cast<std::int32_t>(number));
+            at = end + 1;
+            if (is_set) add_block(first == 'a', numbers);
             else add_clause(numbers);
         }
     }
@@ -219,12 +220,13 @@ static std::string canonical(const char *path) {
     const std::string text((std::istreambuf_iterator<char>(file)), std::istreambuf_iterator<char>());
     // With no room the call returns how much is needed.
     qrp_verdict verdict;
-    std::string formula(qrp_format(text.data(), text.size(), nullptr, 0, &verdict) + 1, ' ');
-    formula.resize(qrp_format(text.data(), text.size(), &formula[0], formula.size(), &verdict));
-    if (formula.empty()) {
+    const std::size_t length = qrp_format(text.data(), text.size(), nullptr, 0, &verdict);
+    std::string formula(length + 1, ' ');
+    if (length == 0 || qrp_format(text.data(), text.size(), &formula[0], formula.size(), &verdict) == 0) {
         print_line(verdict);
         std::exit(verdict.status);
     }
+    formula.resize(length);
     return formula;
 }
 
