@@ -434,7 +434,7 @@ def _whole(name: str, numbers: _Numbers) -> "list[int]":
     if isinstance(numbers, (str, bytes, bytearray)):
         raise TypeError(f"the {name} are a {type(numbers).__name__}: pass the numbers, for example as a list")
     try:
-        return [operator.index(number) for number in numbers]
+        return list(map(operator.index, numbers))
     except TypeError as error:
         raise TypeError(f"the {name} have to be whole numbers: {error}") from error
 
@@ -444,30 +444,45 @@ def _within(number: int, least: int, greatest: int) -> int:
     return number if least <= number <= greatest else 0
 
 
-# The types of C that are handed over, as `array` names them, with the least and the greatest number.
-_INT32 = ("i", -(2**31), 2**31 - 1)
-_UINT64 = ("Q", 0, 2**64 - 1)
+class _Type(typing.NamedTuple):
+    """A type of C whose numbers are handed over: how `array` and `memoryview` call it and those that may be alike, and its numbers."""
+
+    code: str
+    alike: "tuple[str, str]"
+    size: int
+    least: int
+    greatest: int
+
+
+_INT32 = _Type("i", ("i", "l"), 4, -(2**31), 2**31 - 1)
+_UINT64 = _Type("Q", ("Q", "L"), 8, 0, 2**64 - 1)
 
 
 class _LentNumbers(_Lent):
     """The address of numbers of one type of C and how many they are, in a `with`. Those that lie in memory in this way are not copied."""
 
-    def __init__(self, name: str, numbers: _Numbers, kind: "tuple[str, int, int]") -> None:
-        self._size = array.array(kind[0]).itemsize
-        super().__init__(name, typing.cast(_Text, numbers if self._is_of(numbers, kind[0]) else self._array(name, numbers, kind)))
+    def __init__(self, name: str, numbers: _Numbers, kind: _Type) -> None:
+        self._size = kind.size
+        super().__init__(name, typing.cast(_Text, numbers if self._is_of(numbers, kind) else self._array(name, numbers, kind)))
 
-    def _is_of(self, numbers: object, code: str) -> bool:
+    @staticmethod
+    def _is_of(numbers: object, kind: _Type) -> bool:
+        if isinstance(numbers, (list, tuple)):
+            return False
         try:
             with memoryview(typing.cast(_Text, numbers)) as view:
-                is_alike = view.format.lstrip("@=<") in (("i", "l") if code == "i" else ("L", "Q")) and view.itemsize == self._size
+                is_alike = view.format.lstrip("@=<") in kind.alike and view.itemsize == kind.size
                 return is_alike and view.ndim == 1 and view.c_contiguous
         except TypeError:
             return False
 
     @staticmethod
-    def _array(name: str, numbers: _Numbers, kind: "tuple[str, int, int]") -> "array.array[int]":
-        code, least, greatest = kind
-        return array.array(code, [_within(number, least, greatest) for number in _whole(name, numbers)])
+    def _array(name: str, numbers: _Numbers, kind: _Type) -> "array.array[int]":
+        whole = _whole(name, numbers)
+        try:
+            return array.array(kind.code, whole)
+        except OverflowError:
+            return array.array(kind.code, [_within(number, kind.least, kind.greatest) for number in whole])
 
     def __enter__(self) -> "tuple[object, int]":
         address, length = super().__enter__()
