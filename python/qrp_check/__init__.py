@@ -11,6 +11,17 @@ r"""The proved checker of QBF proofs, in process: a formula (QDIMACS 1.1) and a 
     >>> qrp_check.verify(formula, b"p qrp 1 0\nr unsat\n").meaning
     'The trace has no step without literals, so it proves nothing.'
 
+A solver need not write texts: a `Proof` takes its formula and its steps piece by piece, as they are made.
+
+    >>> with qrp_check.Proof() as proof:
+    ...     proof.add_variables([1], universal=False)
+    ...     for number, clause in enumerate([[1], [-1]], 1):
+    ...         proof.add_clause(clause)
+    ...         proof.add_step(number, clause)
+    ...     proof.add_step(3, [], [1, 2])
+    ...     str(proof.check(sat=False))
+    'VERIFIED false'
+
 A text is anything whose bytes lie together in memory (bytes, bytearray, memoryview, mmap); it is not copied, and must not change during
 the call. Other threads run meanwhile, and a Verdict or a Refused can be sent from a process to another.
 
@@ -40,23 +51,33 @@ or lib/libqrp.so.1 in a folder above this file (of the sources after `make lib`,
 installed), or the one that the system's loader finds.
 """
 
+import array
 import ctypes
 import dataclasses
 import mmap
+import operator
 import os
 import pathlib
+import threading
 import typing
+import warnings
 
-__all__ = ["Refused", "Verdict", "core", "core_files", "strategy", "strategy_files", "trim", "trim_files", "verify", "verify_files"]
+__all__ = [
+    *("PieceRefused", "Proof", "Refused", "Verdict", "core", "core_files", "strategy", "strategy_files", "trim", "trim_files"),
+    *("verify", "verify_files"),
+]
 
 _LINE_ROOM = 48  # QRP_LINE_ROOM
 _FAULT_ROOM = 128  # QRP_FAULT_ROOM
 _NO_MEMORY = 4  # QRP_NO_MEMORY
+_NO_PROOF = 11  # QRP_NO_PROOF
 _MORE = 32  # A canonical text is at most so much longer, since its header has the right numbers; if not, the call is made again.
 _READ_UP_TO = 1 << 30  # Larger files are mapped.
 
 # Anything with a buffer; `collections.abc.Buffer` names it from Python 3.12 on.
 _Text = typing.Union[bytes, bytearray, memoryview, mmap.mmap]
+# Numbers: a list, a set, a generator, an array, an array of NumPy; of the latter two those of the type of C are not copied.
+_Numbers = typing.Iterable[typing.SupportsIndex]
 _Path = typing.Union[str, "os.PathLike[str]"]
 _T = typing.TypeVar("_T")
 
@@ -85,6 +106,12 @@ class _Verdict(ctypes.Structure):
         ("rule", ctypes.c_uint8),
         ("reserved", ctypes.c_uint8 * 3),
     ]
+
+
+class _Held(ctypes.Structure):
+    """`struct qrp_proof` of qrp_check.h."""
+
+    _fields_ = [("held", ctypes.c_void_p), ("present", ctypes.c_uint32)]
 
 
 @dataclasses.dataclass(frozen=True)
@@ -130,6 +157,39 @@ class Refused(ValueError):
         return Refused, (self.verdict,)
 
 
+# The names of `enum qrp_added` without QRP_, by their numbers, and what each means.
+_PIECE_FAULTS = {
+    5: ("OUT_OF_RANGE", "A variable and the magnitude of a literal are 1 to 2147483647, and the numbers of steps 1 to 2^64 - 1."),
+    6: ("BOUND_TWICE", "The variable is bound already."),
+    7: ("NOT_BOUND", "A variable of the clause is not bound."),
+    8: ("TOO_MANY_CLAUSES", "There are 2147483647 clauses already."),
+    9: ("NUMBER_USED", "A step has this number already."),
+    10: ("TOO_MANY_ANTECEDENTS", "A step has at most two antecedents."),
+    _NO_PROOF: ("NO_PROOF", "The proof is closed."),
+}
+
+
+class PieceRefused(ValueError):
+    """A piece is refused, so the `Proof` holds what it held before.
+
+    piece     'variable', 'clause' or 'step', or 'proof' for a check of a closed one.
+    position  The variable, the place of the clause counted from 1, or the number of the step, as it was given; None for a check.
+    fault     The name of the fault in qrp_check.h without QRP_, for example 'NOT_BOUND'.
+    meaning   What the fault means, in one sentence.
+    """
+
+    def __init__(self, piece: str, position: typing.Optional[int], fault: str, meaning: str) -> None:
+        place = piece if position is None else f"{piece} {position}"
+        super().__init__(f"REFUSED {place} {fault}: {meaning}")
+        self.piece = piece
+        self.position = position
+        self.fault = fault
+        self.meaning = meaning
+
+    def __reduce__(self) -> "tuple[type[PieceRefused], tuple[str, typing.Optional[int], str, str]]":
+        return PieceRefused, (self.piece, self.position, self.fault, self.meaning)
+
+
 def _load() -> ctypes.CDLL:
     here = pathlib.Path(__file__).resolve()
     beside = [here.with_name("libqrp.so.1"), *(folder / "lib" / "libqrp.so.1" for folder in here.parents)]
@@ -145,6 +205,7 @@ def _load() -> ctypes.CDLL:
     text = [ctypes.c_void_p, ctypes.c_size_t]
     verdict = ctypes.POINTER(_Verdict)
     written = [ctypes.c_void_p, ctypes.c_size_t]
+    proof = ctypes.POINTER(_Held)
     for name, result, types in [
         ("qrp_verify", ctypes.c_int32, [*text, *text, ctypes.c_bool, verdict]),
         ("qrp_trim", ctypes.c_size_t, [*text, *text, ctypes.c_bool, *written, verdict]),
@@ -153,6 +214,13 @@ def _load() -> ctypes.CDLL:
         ("qrp_format", ctypes.c_size_t, [*text, *written, verdict]),
         ("qrp_verdict_line", ctypes.c_size_t, [verdict, *written]),
         ("qrp_fault_text", ctypes.c_size_t, [verdict, *written]),
+        ("qrp_proof_new", ctypes.c_int32, [proof]),
+        ("qrp_proof_variable", ctypes.c_int32, [proof, ctypes.c_bool, ctypes.c_uint32]),
+        ("qrp_proof_clause", ctypes.c_int32, [proof, *text]),
+        ("qrp_proof_step", ctypes.c_int32, [proof, ctypes.c_uint64, *text, *text]),
+        ("qrp_proof_check", ctypes.c_int32, [proof, ctypes.c_bool, ctypes.c_bool, verdict]),
+        ("qrp_proof_core", ctypes.c_size_t, [proof, ctypes.c_bool, ctypes.c_bool, *written, verdict]),
+        ("qrp_proof_free", None, [proof]),
     ]:
         call = getattr(library, name)
         call.argtypes = types
@@ -397,3 +465,179 @@ def core(formula: _Text, trace: _Text, *, any_pivot: bool = False) -> "list[int]
     if count == 0:
         raise Refused(_verdict(found))
     return list(steps[:count])
+
+
+def _whole(name: str, numbers: _Numbers) -> "list[int]":
+    """The numbers as a list. Raises TypeError if they are not whole numbers; bytes are a text, and not a list of numbers."""
+    if isinstance(numbers, (str, bytes, bytearray)):
+        raise TypeError(f"the {name} are a {type(numbers).__name__}: pass the numbers, for example as a list")
+    try:
+        return list(map(operator.index, numbers))
+    except TypeError as error:
+        raise TypeError(f"the {name} have to be whole numbers: {error}") from error
+
+
+def _within(number: int, least: int, greatest: int) -> int:
+    """The number if it is in this range, and else 0, which the library refuses as out of range."""
+    return number if least <= number <= greatest else 0
+
+
+class _Type(typing.NamedTuple):
+    """A type of C whose numbers are handed over: how `array` and `memoryview` call it and those that may be alike, and its numbers."""
+
+    code: str
+    alike: "tuple[str, str]"
+    size: int
+    least: int
+    greatest: int
+
+
+_INT32 = _Type("i", ("i", "l"), 4, -(2**31), 2**31 - 1)
+_UINT64 = _Type("Q", ("Q", "L"), 8, 0, 2**64 - 1)
+
+
+class _LentNumbers(_Lent):
+    """The address of numbers of one type of C and how many they are, in a `with`. Those that lie in memory in this way are not copied."""
+
+    def __init__(self, name: str, numbers: _Numbers, kind: _Type) -> None:
+        self._size = kind.size
+        super().__init__(name, typing.cast(_Text, numbers if self._is_of(numbers, kind) else self._array(name, numbers, kind)))
+
+    @staticmethod
+    def _is_of(numbers: object, kind: _Type) -> bool:
+        if isinstance(numbers, (list, tuple)):
+            return False
+        try:
+            with memoryview(typing.cast(_Text, numbers)) as view:
+                is_alike = view.format.lstrip("@=<") in kind.alike and view.itemsize == kind.size
+                return is_alike and view.ndim == 1 and view.c_contiguous
+        except TypeError:
+            return False
+
+    @staticmethod
+    def _array(name: str, numbers: _Numbers, kind: _Type) -> "array.array[int]":
+        whole = _whole(name, numbers)
+        try:
+            return array.array(kind.code, whole)
+        except OverflowError:
+            return array.array(kind.code, [_within(number, kind.least, kind.greatest) for number in whole])
+
+    def __enter__(self) -> "tuple[object, int]":
+        address, length = super().__enter__()
+        if length and isinstance(address, int) and address % self._size:
+            address, length = self._copied()
+        return address, length // self._size
+
+
+class Proof:
+    """A formula and its proof that are handed over piece by piece, as a solver makes them, in place of two texts.
+
+    It begins with no variable, no clause and no step. A literal is a variable, or its negative if it is negated. Literals and antecedents
+    are any iterables of whole numbers. An array, a memoryview or an array of NumPy with literals of 32 bits, or antecedents of 64 bits
+    without sign, is not copied.
+
+    A refused piece changes nothing and raises PieceRefused; so does each call on a closed proof but `close`. MemoryError says that memory
+    was refused, so nothing was done. A proof stays on the thread that made it: a call from another one raises RuntimeError. It cannot be
+    copied or pickled.
+
+    Close it, or use it in a `with`: it holds memory that Python does not see. It is also closed when it is collected on its thread; if it
+    is collected on another one, its memory stays taken, and a ResourceWarning says so.
+    """
+
+    def __init__(self) -> None:
+        self._thread = threading.get_ident()
+        self._clauses = 0
+        self._steps = 0
+        self._is_open = False
+        self._held = _Held()
+        self._settle(_library.qrp_proof_new(self._held), "proof", None)
+        self._is_open = True
+
+    def _own(self) -> _Held:
+        if threading.get_ident() != self._thread:
+            raise RuntimeError("a proof stays on the thread that made it: this is another one")
+        return self._held
+
+    def _opened(self) -> _Held:
+        held = self._own()
+        if not self._is_open:
+            self._settle(_NO_PROOF, "proof", None)
+        return held
+
+    @staticmethod
+    def _settle(status: int, piece: str, position: typing.Optional[int]) -> None:
+        if status == _NO_MEMORY:
+            raise MemoryError("out of memory, so nothing was done: the same call can be made again")
+        if status in _PIECE_FAULTS:
+            raise PieceRefused(piece, position, *_PIECE_FAULTS[status])
+
+    def add_variables(self, variables: _Numbers, *, universal: bool) -> None:
+        """Binds more variables, each inside of those that are bound: neighbours of one quantifier make a block.
+
+        If one is refused, those before it are bound.
+        """
+        held = self._opened()
+        _check_flags(universal=universal)
+        for variable in _whole("variables", variables):
+            self._settle(_library.qrp_proof_variable(held, universal, _within(variable, 0, 2**32 - 1)), "variable", variable)
+
+    def add_clause(self, literals: _Numbers) -> None:
+        """Adds a clause of the formula. Its variables are bound."""
+        held = self._opened()
+        with _LentNumbers("literals", literals, _INT32) as lent:
+            self._settle(_library.qrp_proof_clause(held, *lent), "clause", self._clauses + 1)
+        self._clauses += 1
+
+    def add_step(self, number: typing.SupportsIndex, literals: _Numbers, antecedents: _Numbers = ()) -> None:
+        """Adds a step: its number, its literals, and the numbers of its antecedents: none of an initial step, one of a reduction, two of a
+        resolution."""
+        held = self._opened()
+        (place,) = _whole("number of the step", [number])
+        with _LentNumbers("literals", literals, _INT32) as lent, _LentNumbers("antecedents", antecedents, _UINT64) as lent_antecedents:
+            self._settle(_library.qrp_proof_step(held, _within(place, 0, 2**64 - 1), *lent, *lent_antecedents), "step", place)
+        self._steps += 1
+
+    def check(self, *, sat: bool, any_pivot: bool = False) -> Verdict:
+        """Checks the steps so far as a proof that the formula is true, if `sat`, or false; `any_pivot` is as for `verify`.
+
+        The verdict is that of `verify` on the same formula and steps as texts. More can be added and checked afterwards.
+        """
+        _check_flags(sat=sat, any_pivot=any_pivot)
+        found = _Verdict()
+        _library.qrp_proof_check(self._opened(), sat, any_pivot, ctypes.byref(found))
+        return _verdict(found)
+
+    def core(self, *, sat: bool, any_pivot: bool = False) -> "list[int]":
+        """The numbers of the steps that the proof needs, in the order in which they were added; `sat` and `any_pivot` are as for `check`.
+
+        Raises Refused if the steps do not prove the result.
+        """
+        _check_flags(sat=sat, any_pivot=any_pivot)
+        found = _Verdict()
+        steps = (ctypes.c_uint64 * max(self._steps, 1))()
+        count = _library.qrp_proof_core(self._opened(), sat, any_pivot, steps, len(steps), ctypes.byref(found))
+        if count == 0:
+            raise Refused(_verdict(found))
+        return list(steps[:count])
+
+    def close(self) -> None:
+        """Gives back what the proof holds. It may be called again."""
+        _library.qrp_proof_free(self._own())
+        self._is_open = False
+
+    def __enter__(self) -> "Proof":
+        return self
+
+    def __exit__(self, *_: object) -> None:
+        self.close()
+
+    def __del__(self) -> None:
+        if not getattr(self, "_is_open", False):
+            return
+        if threading.get_ident() == self._thread:
+            self.close()
+        else:
+            warnings.warn("a qrp_check.Proof was collected on another thread without having been closed", ResourceWarning, source=self)
+
+    def __reduce__(self) -> typing.NoReturn:
+        raise TypeError("a proof cannot be copied or pickled")
