@@ -235,7 +235,7 @@ def meanings():
 
 
 def with_flag():
-    names = [name for name in qrp_check.__all__ if name not in ("Refused", "Verdict")]
+    names = [name for name in qrp_check.__all__ if name[0].islower()]
     return [getattr(qrp_check, name) for name in names]
 
 
