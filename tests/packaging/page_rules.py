@@ -61,6 +61,7 @@ LEFT = {
     ("README.md", "export PKG_CONFIG_PATH"): "tests/packaging/test-install runs it with this program",
     ("README.md", "import qrp_check"): "tests/packaging/test-install runs it",
     ("docs/ARCHITECTURE.md", "file "): "a picture",
+    ("docs/ARCHITECTURE.md", "check_marked "): "a picture",
     ("docs/BENCHMARKS.md", "bench/measure"): "it takes minutes",
     ("docs/BENCHMARKS.md", "(printf"): "it takes a minute and some memory",
     ("docs/CI.md", "podman load"): "tests/packaging/test-install runs it, if there is an engine",
