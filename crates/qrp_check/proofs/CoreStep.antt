@@ -11,7 +11,7 @@ use Rattle.std.proofs.Common.{◌+◌, below_more}
 use Rattle.qbf_core.specs.Sets.{HasMembersOf}
 use Rattle.qrp_rules.specs.declared.fault.RuleFault.TheVariants.{S1, S2, S3}
 use Rattle.qrp_rules.specs.Conditions.{AllHold, Condition}
-use Rattle.qrp_rules.specs.Accepted.{IsAcceptedBy, IsFit}
+use Rattle.written_steps.specs.Accepted.{IsAcceptedBy, IsFit}
 use Rattle.qbf_core.proofs.Bound.{bound_within}
 use Rattle.qbf_core.proofs.Order.{clean_within}
 use Rattle.qrp_check.specs.DistinctLits.{HasMembersAt}

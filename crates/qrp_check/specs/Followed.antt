@@ -3,7 +3,7 @@ use Rattle.std.specs.Prelude.{ℕ, ◌<◌, List}
 use Rattle.qbf_core.specs.Qbf.{Qbf}
 use Rattle.qbf_core.specs.Rules.{Side}
 use Rattle.qrp.specs.Inferences.{Inference}
-use Rattle.qrp_rules.specs.Initial.{AreKnown}
+use Rattle.written_steps.specs.Initial.{AreKnown}
 use Rattle.qrp_rules.specs.declared.rules.Rules.{Rules}
 use Rattle.qrp_check.specs.Conditions.{StepFollows}
 use Rattle.qrp_check.specs.Core.{IsInCore}

@@ -10,7 +10,7 @@ use Rattle.qrp.specs.Inferences.{Inference}
 use Rattle.qrp_rules.specs.declared.rules.Rules.{Rules}
 use Rattle.qrp_rules.specs.declared.fault.RuleFault.{RuleFault}
 use Rattle.qrp_rules.specs.declared.fault.RuleFault.TheVariants.{S1, S2, S3}
-use Rattle.qrp_rules.specs.Accepted.{IsFit}
+use Rattle.written_steps.specs.Accepted.{IsFit}
 use Rattle.qrp_rules.specs.Conditions.{Condition, initial_condition, reduct_conditions, resolvent_conditions}
 use Rattle.qrp_check.specs.Conditions.{IsNumberOf, lits_of}
 use Rattle.qrp_check.specs.declared.premises.Premises.{Premises}

@@ -6,8 +6,8 @@ ghost use Rattle.qrp_check.specs.DistinctLits.{AreKept, HasMembersAt, IsKeptAt};
 
 use qbf_core::{GrowingLists, Lit};
 use qrp::KeptSteps;
-use qrp_rules::{SeenLits, push_distinct};
 use std::alloc::{AllocError, Global};
+use written_steps::{SeenLits, push_distinct};
 
 /// The steps that were accepted and seen to repeat a literal, with each of their literals once. So
 /// the repetitions of a step do not take time again each time it is an antecedent.

@@ -12,7 +12,8 @@ use crate::hints::Hints;
 use crate::premises::find_premises;
 use crate::step::{CheckState, Context, step_fault};
 use qrp::KeptSteps;
-use qrp_rules::{InitialSteps, SeenLits, Side};
+use qrp_rules::Side;
+use written_steps::{InitialSteps, SeenLits};
 
 /// The state that is kept from one step to the next.
 #[derive(Drop)]

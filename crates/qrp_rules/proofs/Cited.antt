@@ -15,14 +15,9 @@ pub use Rattle.qbf_core.specs.declared.quantifier.Quantifier.{Quantifier}
 pub use Rattle.qbf_core.specs.declared.quantifier.Quantifier.TheVariants.{Exists}
 pub use Rattle.qrp_rules.specs.Conditions.{AllHold, AllowsPivot, Condition, IsFirstFailure, IsFaultOf, IsReducibleInParents}
 pub use Rattle.qrp_rules.specs.Conditions.{initial_condition, reduct_conditions, resolvent_conditions}
-pub use Rattle.qrp_rules.specs.Initial.{IsAcceptedIf}
-pub use Rattle.qrp_rules.specs.Seen.{AreAmong, AreUpTo, Has, Members, code}
-pub use Rattle.qrp_rules.specs.TwoLists.{IsApart, IsMergeSoFar, IsNext, IsPutBy}
 pub use Rattle.qrp_rules.specs.Walks.{Accounts, IsHeldBefore, IsInnermost, MayOmit, StandsAfter, TakesOut}
-pub use Rattle.qrp_rules.specs.Watches.{IsMet, IsWatchedBy}
 pub use Rattle.qrp_rules.specs.declared.fault.RuleFault.{RuleFault}
 pub use Rattle.qrp_rules.specs.declared.fault.RuleFault.TheVariants.{S10, S11, S12}
-pub use Rattle.qrp_rules.specs.declared.initial_cubes.Watch.{Watch}
 pub use Rattle.qrp_rules.specs.declared.rules.Rules.{Rules}
 pub use Rattle.std.proofs.Common.{Bool, Contains, Err, IfOk, IsTrue, List, None, Ok, Option, Result, Some, [], ap, arith, drop, false}
 pub use Rattle.std.proofs.Common.{get_or, inl, inr, length, refl, rules, slice_get, subst, suc, sym, take, tests, true, zero, ℕ, ◌&&◌, ◌++◌}

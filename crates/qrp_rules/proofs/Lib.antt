@@ -1,15 +1,10 @@
 pub mod FirstFailures
 pub mod UnreducedParents
 pub mod Cursors
-pub mod DistinctLists
 pub mod Clashing
 pub mod Reducing
 pub mod ResolventRows
 pub mod ReductsByMembers
 pub mod MembersDecide
 pub mod OrderedLists
-pub mod Merging
-pub mod WrittenSteps
-pub mod Stamps
-pub mod WatchedClauses
 pub mod Cited

@@ -1,9 +1,5 @@
 pub mod Conditions
-pub mod Accepted
 pub mod Unreduced
 pub mod Walks
-pub mod TwoLists
-pub mod Seen
-pub mod Watches
-pub mod Initial
 pub mod Normal
+pub mod Reducts

@@ -7,11 +7,10 @@ ghost use Rattle.qbf_core.specs.Blocks.{AreBound};
 ghost use Rattle.qbf_core.specs.Rules.{Clauses, Cubes, IsClean, IsReduct, IsTautology};
 ghost use Rattle.qbf_core.specs.Sets.{IsOrdered};
 ghost use Rattle.qrp_rules.specs.Conditions.{IsFaultOf, initial_condition};
-ghost use Rattle.qrp_rules.specs.Initial.{HasNoReduct, IsReductAt};
+ghost use Rattle.qrp_rules.specs.Reducts.{HasNoReduct, IsReductAt};
 
 use crate::fault::RuleFault;
 use crate::lists::{is_among, is_ordered};
-use crate::seen::{SeenLits, find_negated, surely_clean};
 use crate::walks::ordered_reduct_fault_by;
 use qbf_core::{Formula, Lit, LitSet, Prefix, Quantifier, SetFault, is_member};
 use std::alloc::{AllocError, Global};
@@ -56,7 +55,7 @@ fn has_reduct(
 }
 
 /// The position of the first clause that is clean and has the set as a reduct.
-pub(crate) fn reduced_clause(
+pub fn reduced_clause(
     alloc: Global,
     formula: &Formula,
     set: &[Lit],
@@ -75,7 +74,7 @@ pub(crate) fn reduced_clause(
 
 /// Why the set is not an initial clause, or `None` if it is one.
 #[tactic(auto, using(crate::proofs::ReductsByMembers::some_reduct, crate::proofs::ReductsByMembers::no_reduct))]
-pub(crate) fn initial_clause_fault(
+pub fn initial_clause_fault(
     alloc: Global,
     formula: &Formula,
     set: &[Lit],
@@ -91,7 +90,7 @@ pub(crate) fn initial_clause_fault(
 }
 
 /// Whether a clause as written has a literal of the set.
-fn has_common_literal(clause: &[Lit], set: &[Lit]) -> bool
+pub fn has_common_literal(clause: &[Lit], set: &[Lit]) -> bool
     requires { IsOrdered set.now }
     ensures { IsTrue result ↔ ((l : Literal) × (l ∈ clause.now) × (l ∈ set.now)) }
 {
@@ -101,36 +100,13 @@ fn has_common_literal(clause: &[Lit], set: &[Lit]) -> bool
 /// Whether a clause as written holds a variable with both signs: if it is not in order, all
 /// literals are compared with each other. It takes no memory.
 #[cold]
-fn has_clash(clause: &[Lit]) -> bool
+pub fn has_clash(clause: &[Lit]) -> bool
     ensures { IsTrue result ↔ IsTautology clause.now }
 {
     if is_ordered(clause) {
         return false;
     }
     clause.iter().any(|lit| is_among(clause, lit.negated()))
-}
-
-/// Whether a clause as written holds a variable with both signs, in linear time. The set is used
-/// for the clause, if this is not in order.
-///
-/// # Errors
-/// If an allocation fails.
-pub(crate) fn is_tautology(
-    seen: &mut SeenLits,
-    prefix: &Prefix,
-    clause: &[Lit],
-) -> Result<bool, AllocError>
-    ensures { IfOk result (λ t. IsTrue t ↔ IsTautology clause.now) }
-{
-    if surely_clean(seen, prefix, clause)? {
-        return Ok(false);
-    }
-    seen.set_each(clause);
-    seen.had_memory()?;
-    match find_negated(seen, clause) {
-        Some(_) => Ok(true),
-        None => Ok(has_clash(clause)),
-    }
 }
 
 /// Why the set is not an initial cube. It takes no memory.
@@ -148,29 +124,4 @@ pub(crate) fn initial_cube_fault(formula: &Formula, set: &[Lit]) -> Option<RuleF
         }
     }
     None
-}
-
-/// As `initial_cube_fault`, in time that is linear in the clauses.
-///
-/// # Errors
-/// If an allocation fails.
-pub(crate) fn find_cube_fault(
-    seen: &mut SeenLits,
-    formula: &Formula,
-    set: &[Lit],
-) -> Result<Option<RuleFault>, AllocError>
-    requires { IsOrdered set.now }
-    ensures { IfOk result
-        (λ fault. IsFaultOf (initial_condition Cubes formula.now set.now ∷ []) fault) }
-{
-    for place in 0..formula.clauses() {
-        let clause = formula.clause(place);
-        if has_common_literal(clause, set) {
-            continue;
-        }
-        if !is_tautology(seen, formula.prefix(), clause)? {
-            return Ok(Some(RuleFault::S5));
-        }
-    }
-    Ok(None)
 }

@@ -7,7 +7,7 @@ ghost use Rattle.qbf_core.specs.Sets.{IsOrdered};
 use qbf_core::Lit;
 
 /// Whether literals stand in the order of their variables, and no variable twice.
-pub(crate) fn is_ordered(lits: &[Lit]) -> bool
+pub fn is_ordered(lits: &[Lit]) -> bool
     ensures { IsTrue result ↔ IsOrdered lits.now }
 {
     let mut last = 0;
@@ -23,7 +23,7 @@ pub(crate) fn is_ordered(lits: &[Lit]) -> bool
 
 /// Whether a clause as written has this literal.
 #[tactic(auto, using(std::proofs::lemmas::List::Elements::contains_decides, qbf_core::proofs::Members::lit_decides, qbf_core::proofs::Order::contains_in, qbf_core::proofs::Order::in_contains))]
-pub(crate) fn is_among(clause: &[Lit], lit: Lit) -> bool
+pub fn is_among(clause: &[Lit], lit: Lit) -> bool
     ensures { IsTrue result ↔ lit ∈ clause.now }
 {
     clause.contains(&lit)

@@ -24,7 +24,7 @@ pub struct Resolution<'a> {
 }
 
 /// Whether a step may resolve on the variable.
-pub(crate) fn is_pivot<S: Side>(prefix: &Prefix, pivot: Var, rules: Rules) -> bool
+pub fn is_pivot<S: Side>(prefix: &Prefix, pivot: Var, rules: Rules) -> bool
     ensures { IsTrue result ↔ AllowsPivot rules S.side prefix.now pivot }
 {
     rules.any_pivot || is_bound_by(prefix, S::DECIDING, pivot)
@@ -36,7 +36,7 @@ pub(crate) fn is_pivot<S: Side>(prefix: &Prefix, pivot: Var, rules: Rules) -> bo
 /// Each has a block after the innermost block of the deciding quantifier in the resolvent, or after
 /// that in the antecedent: after the outer one of these. A literal that both hold is left out if it
 /// may be left out of both.
-pub(crate) fn reducible_in_parents<'a, S: Side>(
+pub fn reducible_in_parents<'a, S: Side>(
     prefix: &'a Prefix,
     a: &[Lit],
     b: &[Lit],

@@ -9,9 +9,9 @@ use Rattle.qbf_core.specs.Rules.{reduced_quantifier}
 use Rattle.qbf_core.specs.declared.quantifier.Quantifier.TheVariants.{All, Exists}
 use Rattle.qrp_check.proofs.StepFaults.{step_named}
 use Rattle.qrp_check.specs.Earlier.{StandsEarlier}
-use Rattle.qrp_rules.specs.Accepted.{IsFit}
-use Rattle.qrp_rules.specs.Initial.{IsReductAt}
-use Rattle.qrp_rules.specs.Seen.{Has, Members}
+use Rattle.written_steps.specs.Accepted.{IsFit}
+use Rattle.qrp_rules.specs.Reducts.{IsReductAt}
+use Rattle.written_steps.specs.Seen.{Has, Members}
 use Rattle.std.specs.Borrow.{Bor}
 use Rattle.std.specs.Prelude.{IfNone}
 use Rattle.qrp_winner.specs.Removing.{HasJust, IsClauseOf, IsInitialOf, IsPivotOf}

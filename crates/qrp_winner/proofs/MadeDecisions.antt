@@ -15,7 +15,7 @@ use Rattle.qbf_strategy.specs.Decisions.{Decision, decision_by, decisions_by, wa
 use Rattle.qrp_check.proofs.StepFaults.{need_of}
 use Rattle.qrp_rules.specs.Conditions.{IsReducibleInParents}
 use Rattle.qrp_rules.specs.declared.blocks.Reducible.{Reducible}
-use Rattle.qrp_rules.specs.Seen.{Members}
+use Rattle.written_steps.specs.Seen.{Members}
 use Rattle.qrp_rules.specs.Walks.{IsThePivot, TakesOut}
 use Rattle.qrp_winner.specs.ProofDecisions.{IsFullyReduced, CoversParent, CoversBoth, CoversInitial, Covers, IsDecisionAt, AreDecisionsOf}
 use Rattle.qrp_winner.specs.ProofDecisions.{AreAllThatSet, unless_idle, without_idle}

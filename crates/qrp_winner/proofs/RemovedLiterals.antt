@@ -1,6 +1,7 @@
 -- The literals that a step keeps, and those that are removed, one after the other.
 use Rattle.qrp_rules.proofs.Cited.{◌≡◌, ◌<◌, ◌≤◌, ◌+◌, ◌⊎◌, ◌↔◌, ◌++◌, ℕ, List, [], ◌∷◌, Option, Some, inl, inr, refl, sym, subst}
-use Rattle.qrp_rules.proofs.Cited.{Literal, ◌∈◌, ◌⊆◌, Has, Members, MayOmit, TakesOut, length, take, IsReducible, Side, Block}
+use Rattle.qrp_rules.proofs.Cited.{Literal, ◌∈◌, ◌⊆◌, MayOmit, TakesOut, length, take, IsReducible, Side, Block}
+use Rattle.written_steps.proofs.Cited.{Has, Members}
 use Rattle.qrp_rules.proofs.Cited.{get_or, in_take_all, in_take_more, take_more_in, take_within}
 use Rattle.std.proofs.Common.{add-one, arith, zero, suc}
 use Rattle.std.proofs.lemmas.List.{length_push}

@@ -8,7 +8,7 @@ use Rattle.qbf_core.specs.Rules.{Side, Clauses, Cubes, Clashes, IsClean, IsReduc
 use Rattle.qbf_strategy.specs.Decisions.{decision_by}
 use Rattle.qrp.specs.Inferences.{Inference}
 use Rattle.qrp_check.specs.Conditions.{lits_of}
-use Rattle.qrp_rules.specs.Seen.{Has, Members}
+use Rattle.written_steps.specs.Seen.{Has, Members}
 use Rattle.qrp_rules.specs.Walks.{IsThePivot, TakesOut}
 use Rattle.qrp_rules.specs.declared.blocks.Reducible.{Reducible}
 use Rattle.qrp_winner.specs.ProofDecisions.{IsDecisionAt}

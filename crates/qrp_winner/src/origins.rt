@@ -6,18 +6,19 @@ ghost use Rattle.qbf_core.specs.Members.{◌∈◌};
 ghost use Rattle.qrp.specs.Inferences.{Inference, IsAt};
 ghost use Rattle.qrp_check.specs.Conditions.{IsNumberOf, StepFollows};
 ghost use Rattle.qrp_check.specs.Earlier.{StandsEarlier};
-ghost use Rattle.qrp_rules.specs.Accepted.{IsFit};
+ghost use Rattle.written_steps.specs.Accepted.{IsFit};
 ghost use Rattle.qrp_rules.specs.Conditions.{AllHold, initial_condition};
-ghost use Rattle.qrp_rules.specs.Initial.{IsReductAt};
-ghost use Rattle.qrp_rules.specs.Seen.{Has};
+ghost use Rattle.qrp_rules.specs.Reducts.{IsReductAt};
+ghost use Rattle.written_steps.specs.Seen.{Has};
 ghost use Rattle.qrp_rules.specs.declared.rules.Rules.{Rules};
 ghost use Rattle.qrp_winner.specs.Removing.{ComesFrom, IsClauseOf, IsInitialOf, IsPivotOf};
 
 use crate::removing::set_all;
 use qbf_core::{Formula, Lit, Quantifier};
 use qrp::{Antecedents, KeptSteps};
-use qrp_rules::{InitialClauses, SeenLits, Side};
+use qrp_rules::Side;
 use std::alloc::{AllocError, Global};
+use written_steps::{InitialClauses, SeenLits};
 
 /// The lists of literals that a step comes from.
 #[derive(Clone, Copy)]

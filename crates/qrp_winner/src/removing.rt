@@ -3,14 +3,15 @@
 ghost use Rattle.std.specs.Prelude.{◌≡◌, ◌↔◌, ◌≤◌, ◌+◌, [], ◌∷◌, ◌⊎◌, OnOk, length};
 ghost use Rattle.qbf_core.specs.Literal.{Literal};
 ghost use Rattle.qbf_core.specs.Members.{◌∈◌, ◌⊆◌};
-ghost use Rattle.qrp_rules.specs.Seen.{Has};
+ghost use Rattle.written_steps.specs.Seen.{Has};
 ghost use Rattle.qrp_rules.specs.Walks.{MayOmit, TakesOut};
 ghost use Rattle.qrp_winner.specs.Removing.{HasJust, IsLeft, MayLeave, Removes, RemovesAll};
 
 use crate::origins::Origin;
 use qbf_core::{GrowingLists, Lit, Prefix};
-use qrp_rules::{Reducible, SeenLits, Side, may_omit, reducible_in};
+use qrp_rules::{Reducible, Side, may_omit, reducible_in};
 use std::alloc::AllocError;
+use written_steps::SeenLits;
 
 /// Puts a literal of a step into the list of those that it keeps, unless it may be taken out.
 #[tactic(auto, using(qbf_core::proofs::Members::in_push, qbf_core::proofs::Members::push_in))]

@@ -1,4 +1,5 @@
-use Rattle.qrp_rules.proofs.Cited.{◌∙◌, Has, Literal, each_more, false≢true, in_at, negated, subst, sym}
+use Rattle.qrp_rules.proofs.Cited.{◌∙◌, Literal, each_more, false≢true, in_at, negated, subst, sym}
+use Rattle.written_steps.proofs.Cited.{Has}
 use Rattle.qrp_winner.proofs.origins.find_clash.Goals as goal
 
 pub returns-then-contains-clause-found : goal.returns-then-contains-clause-found

@@ -1,7 +1,7 @@
 use Rattle.std.proofs.Common.{take}
 use Rattle.qbf_core.specs.Literal.{Literal, negated}
 use Rattle.qbf_core.specs.Members.{◌∈◌}
-use Rattle.qrp_rules.specs.Seen.{Has}
+use Rattle.written_steps.specs.Seen.{Has}
 use Rattle.qrp_winner.proofs.origins.find_clash.Given as goal
 
 abbrev pub invariant-loop-lit : goal.invariant-loop-lit

@@ -1,5 +1,0 @@
-use Rattle.qrp_rules.proofs.Cited.{ℕ, ◌<◌, IsMet}
-use Rattle.qrp_rules.proofs.initial_cubes.InitialCubes.watch_all.Given as goal
-
-abbrev pub invariant-loop-position : goal.invariant-loop-position
-invariant-loop-position l = (i : ℕ) → i < l.position → IsMet 0 l.formula l.seen l.self.lists.items i

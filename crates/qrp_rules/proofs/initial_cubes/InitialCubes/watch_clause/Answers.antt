@@ -1,6 +1,0 @@
-use Rattle.qrp_rules.proofs.Cited.{rules, in_at}
-use Rattle.qrp_rules.proofs.WatchedClauses.{met_by}
-use Rattle.qrp_rules.proofs.initial_cubes.InitialCubes.watch_clause.Goals as goal
-
-pub returns-then-contains-clause-met : goal.returns-then-contains-clause-met
-returns-then-contains-clause-met c = search (rules, met_by, in_at)

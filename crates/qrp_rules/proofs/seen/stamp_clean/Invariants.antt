@@ -1,9 +1,0 @@
-use Rattle.qrp_rules.proofs.Cited.{◌≡◌, ◌↔◌, ◌⊎◌, get_or, take, Literal, ◌∈◌, IsClean, AreUpTo, code}
-use Rattle.qrp_rules.proofs.seen.stamp_clean.Given as goal
-
-abbrev pub invariant-loop-position : goal.invariant-loop-position
-invariant-loop-position l = record {
-  clean : IsClean (take l.position l.lits);
-  stamped : (m : Literal) → get_or l.stamps (code m) 0 ≡ l.stamp ↔ ((get_or l.fn.stamps (code m) 0 ≡ l.stamp) ⊎ m ∈ take l.position l.lits);
-  upto : AreUpTo l.fn.stamps l.stamp → AreUpTo l.stamps l.stamp;
-}

@@ -1,0 +1,5 @@
+pub mod Accepted
+pub mod TwoLists
+pub mod Seen
+pub mod Watches
+pub mod Initial
