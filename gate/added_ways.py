@@ -16,12 +16,12 @@ WAYS = {*FORKS, "?"}
 BETWEEN = {"{", "}", ";", ","}
 
 
-def ways(text):
+def ways(text: str) -> list[str]:
     """The words of a body that make its ways, in order."""
     return [it for it in TOKEN.findall(without_comments(text)) if it in FORKS]
 
 
-def only_adds_ways(before, after):
+def only_adds_ways(before: str, after: str) -> bool:
     """Whether a body has all words of another one in their order, and beside these only whole statements, heads of blocks and cases, with a
     word among them that makes a way."""
     old, _ = words_of(before)
@@ -44,7 +44,7 @@ def only_adds_ways(before, after):
     return False
 
 
-def words_of(text):
+def words_of(text: str) -> tuple[list[str], list[bool]]:
     """The words of a body without the signs between its statements and cases, and for each place whether one of these stands before it."""
     words, begins = [], [True]
     for token in TOKEN.findall(without_comments(text)):

@@ -10,12 +10,16 @@ import signal
 import subprocess
 import threading
 import time
-from concurrent.futures import FIRST_COMPLETED, ThreadPoolExecutor, wait
+from collections.abc import Callable, Hashable, Iterable
+from concurrent.futures import FIRST_COMPLETED, Future, ThreadPoolExecutor, wait
 from pathlib import Path
+from typing import Any, Union
 
 PARTS = ("src", "specs", "proofs", "data", "args", "stdin", "stdout", "status")
 # What one run of `rt` may take beside others, in bytes.
 ROOM = 4_000_000_000
+# A task: its name, what it waits for, its work, and the most jobs that are of use to it.
+Task = tuple[Hashable, list[Hashable], Callable[[int], object], int]
 
 
 class Stopped(Exception):
@@ -25,9 +29,10 @@ class Stopped(Exception):
 class Crates:
     """The crates of a repository, each with the crates of the repository that it stands on, lowest first."""
 
-    def __init__(self, root):
+    def __init__(self, root: Union[str, Path]) -> None:
         self.root = Path(root)
-        self.on, self.lines = {}, {}
+        self.on: dict[str, list[str]] = {}
+        self.lines: dict[str, str] = {}
         for line in (self.root / "crates.txt").read_text(encoding="utf-8").splitlines():
             words, _, deps = line.partition("#")[0].partition(":")
             if words.split():
@@ -36,20 +41,20 @@ class Crates:
                 self.on[name] = deps.split()
         self.on = {name: [dep for dep in deps if dep in self.on] for name, deps in self.on.items()}
 
-    def folder(self, name):
+    def folder(self, name: str) -> Path:
         return self.root / "crates" / name
 
-    def below(self, name):
+    def below(self, name: str) -> list[str]:
         """The crates below one, each once, lowest first."""
-        found = []
+        found: list[str] = []
         for dep in self.on[name]:
             found += [it for it in [*self.below(dep), dep] if it not in found]
         return found
 
-    def is_program(self, name):
+    def is_program(self, name: str) -> bool:
         return (self.folder(name) / "src" / "main.rt").exists()
 
-    def lay_out(self, name, room, kept=True):
+    def lay_out(self, name: str, room: Union[str, Path], kept: bool = True) -> "Crates":
         """Makes the folder `room` a repository of one crate and those below it. What was kept of its proofs goes along, unless
         `kept` says otherwise; of those below it only the built libraries do."""
         room = Path(room)
@@ -66,13 +71,13 @@ class Crates:
         return Crates(room)
 
 
-def copy_crate(source, target):
+def copy_crate(source: Path, target: Path) -> None:
     target.mkdir()
     for part in PARTS:
         copy(source / part, target / part)
 
 
-def copy(source, target, linked=False):
+def copy(source: Path, target: Path, linked: bool = False) -> None:
     """Copies a file or folder, if it is there, with its times; or links its files, where the toolchain only reads or replaces them."""
     if source.exists():
         target.parent.mkdir(parents=True, exist_ok=True)
@@ -82,11 +87,11 @@ def copy(source, target, linked=False):
             raise Stopped(f"cannot copy {source.name}: {(done.stderr.strip() or 'the disk may be full').splitlines()[-1]}")
 
 
-def processors():
+def processors() -> int:
     return len(os.sched_getaffinity(0))
 
 
-def free_memory():
+def free_memory() -> int:
     with open("/proc/meminfo", encoding="ascii") as lines:
         return next(int(line.split()[1]) * 1024 for line in lines if line.startswith("MemAvailable"))
 
@@ -94,15 +99,16 @@ def free_memory():
 class Runs:
     """Commands that run at once, and all end when the first of them must not go on."""
 
-    def __init__(self):
-        self.running, self.lock, self.ended = set(), threading.Lock(), False
+    def __init__(self) -> None:
+        self.running: set[subprocess.Popen[str]] = set()
+        self.lock, self.ended = threading.Lock(), False
 
-    def run(self, words, folder, **more):
+    def run(self, words: list[str], folder: Path, **more: Any) -> tuple[int, str, str]:
         """Runs a command to its end; gives its status, and what it wrote to its two outputs, or else to both."""
         with self.lock:
             if self.ended:
                 raise Stopped("interrupted")
-            how = {"stdin": subprocess.DEVNULL, "stdout": subprocess.PIPE, "stderr": subprocess.STDOUT, "errors": "replace"}
+            how: dict[str, Any] = {"stdin": subprocess.DEVNULL, "stdout": subprocess.PIPE, "stderr": subprocess.STDOUT, "errors": "replace"}
             try:
                 # A group of its own, which can be ended as a whole, and no session: the system shares processors among sessions.
                 child = subprocess.Popen(words, cwd=folder, text=True, preexec_fn=os.setpgrp, **{**how, **more})
@@ -116,7 +122,7 @@ class Runs:
             raise Stopped("interrupted")
         return child.returncode, out, err or out
 
-    def end(self):
+    def end(self) -> None:
         """Ends every command that still runs."""
         with self.lock:
             self.ended = True
@@ -130,18 +136,20 @@ class Runs:
 class Lanes:
     """Tasks that wait for other tasks, on so many lanes; a task may add more. The first that fails ends all."""
 
-    def __init__(self, lanes, runs):
+    def __init__(self, lanes: int, runs: Runs) -> None:
         self.lanes, self.runs = lanes, runs
-        self.waiting, self.done, self.running = [], set(), {}
+        self.waiting: list[Task] = []
+        self.done: set[Hashable] = set()
+        self.running: dict[Future[object], tuple[Hashable, int]] = {}
 
-    def add(self, key, after, work, jobs=1):
+    def add(self, key: Hashable, after: Iterable[Hashable], work: Callable[[int], object], jobs: int = 1) -> None:
         """Adds a task: what it waits for, its work, which is given how many jobs it may use, and the most that are of use to it."""
         self.waiting.append((key, list(after), work, jobs))
 
-    def ready(self):
+    def ready(self) -> list[Task]:
         return [task for task in self.waiting if all(key in self.done for key in task[1])]
 
-    def start(self, pool):
+    def start(self, pool: ThreadPoolExecutor) -> None:
         ready = self.ready()
         for at, task in enumerate(ready):
             idle = self.lanes - sum(jobs for _, jobs in self.running.values())
@@ -153,7 +161,7 @@ class Lanes:
             if jobs > 1:
                 time.sleep(0.1)
 
-    def run(self):
+    def run(self) -> None:
         with ThreadPoolExecutor(self.lanes) as pool:
             try:
                 while self.waiting or self.running:
@@ -167,5 +175,5 @@ class Lanes:
                 raise
 
 
-def remove(folder):
+def remove(folder: Path) -> None:
     shutil.rmtree(folder, ignore_errors=True)

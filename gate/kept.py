@@ -10,7 +10,7 @@ import re
 import subprocess
 from pathlib import Path
 
-from crates import Stopped
+from crates import Crates, Stopped
 from rattle_source import one_line
 
 JUDGES = ("try-wrong-bodies", "wrong_bodies.py", "added_ways.py", "rattle_source.py", "crates.py", "kept.py", "needed-answers.tsv")
@@ -36,7 +36,7 @@ def checksum(*texts: bytes) -> str:
 class Kept:
     """The refusals that are kept of the wrong bodies of a repository."""
 
-    def __init__(self, repository, rt: str, judges: Path):
+    def __init__(self, repository: Crates, rt: str, judges: Path) -> None:
         self.repository = repository
         self.folder = Path(os.environ.get("XDG_CACHE_HOME") or Path.home() / ".cache") / "qrp_cmd" / "refused"
         try:

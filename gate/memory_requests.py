@@ -11,10 +11,14 @@ Which calls ask for memory is read off the signatures of the toolchain's librari
 import os
 import re
 import subprocess
+from collections.abc import Iterable, Iterator
 from functools import cache
 from pathlib import Path
+from typing import Optional
 
-from rattle_source import apart, end_of_group, find_outside
+from rattle_source import Function, Source, apart, end_of_group, find_outside
+
+Request = tuple[str, str, str]  # the file, the function, and what it asks for
 
 # The libraries of the toolchain that the sources use.
 LIBRARIES = ("std", "std_alloc", "std_collections", "std_heap", "std_io", "core", "indexmap", "itoa")
@@ -33,7 +37,7 @@ NUMBER = re.compile(r"(?:usize|isize|[ui](?:8|16|32|64|128))")
 
 
 @cache
-def allocating():
+def allocating() -> set[str]:
     """The names of the toolchain's functions and methods that may be refused memory."""
     page = subprocess.run([os.environ.get("RT", "rt"), "doc"], capture_output=True, text=True, check=True).stdout.strip()
     folder, found = Path(page).parent / "rattle", set()
@@ -46,16 +50,16 @@ def allocating():
     return found | OF_TRAITS
 
 
-def at_once():
+def at_once() -> str:
     """A pattern of the names that ask for an amount at once."""
     return "|".join(sorted(allocating() - ONE_MORE - COMMON))
 
 
-def words(text):
+def words(text: str) -> str:
     return " ".join(text.split())
 
 
-def names_in(text):
+def names_in(text: str) -> list[str]:
     """The names of values in an expression: no method, function, field, type or path."""
     return [it for it in dict.fromkeys(re.findall(r"(?<![\w:])(?:(?<!\.)|(?<=\.\.))([a-zA-Z_]\w*)\b(?!\s*(?:\(|::|!))", text)) if it not in ("as", "in", "mut", "self")]
 
@@ -63,9 +67,9 @@ def names_in(text):
 class Requests:
     """What the functions of some sources ask for."""
 
-    def __init__(self, sources, alone):
+    def __init__(self, sources: dict[str, Source], alone: Iterable[str]) -> None:
         self.functions = [(path, it, source.body(it)) for path, source in sources.items() for it in source.functions if not it.is_test]
-        self.constants = {}
+        self.constants: dict[str, dict[str, str]] = {}
         for path, source in sources.items():
             for it in source.items:
                 if it.kind in ("const", "static") and not it.is_test:
@@ -73,9 +77,10 @@ class Requests:
                     self.constants.setdefault(it.name, {})[path] = text
         # the functions and methods that fail only out of memory, by their bare names
         self.alone = {re.split(r"[.:]+", it)[-1] for it in alone} - {"new"}
-        self.found, self.followed = [], set()
+        self.found: list[Request] = []
+        self.followed: set[tuple[str, str]] = set()
 
-    def all(self):
+    def all(self) -> list[Request]:
         """Each request as (file, function, what it asks for), one for each place."""
         request = re.compile(rf"(?<!\w)(?:(?P<name>{at_once()}){PARAMETERS}\(|(?P<heap>{ON_THE_HEAP})\(|(?P<macro>vec|format)!\s*[\[(])")
         growing = re.compile(rf"(?<!\w)(?:{at_once()}|{'|'.join(sorted({*ONE_MORE, *self.alone}))}){PARAMETERS}\(|\bvec!\s*\[")
@@ -88,7 +93,7 @@ class Requests:
             self.found += [(path, "-", text) for path, text in of.items() if path in asking and is_number(text)]
         return sorted(self.found)
 
-    def ask(self, path, it, body, found):
+    def ask(self, path: str, it: Function, body: str, found: re.Match[str]) -> None:
         """Notes a request with the expression of its size."""
         name = found["name"] or found["heap"] or f"{found['macro']}!"
         what = words(body[found.end() : end_of_group(body, found.end() - 1) - 1])
@@ -96,14 +101,14 @@ class Requests:
         size = given[0] if name.removeprefix("try_").startswith(("reserve", "resize")) else given[-1]
         self.note(path, it, f"{name}({what})", size, body[: found.start()])
 
-    def note(self, path, it, what, size, before):
+    def note(self, path: str, it: Function, what: str, size: str, before: str) -> None:
         """Notes a request, or a call that passes its size on, and follows the numbers that the function is passed."""
         known = self.definitions(path, size, before)
         self.found.append((path, it.name, "; ".join([what, *known])))
         for name in dict.fromkeys(names_in(size) + [one for more in known for one in names_in(more)]):
             self.follow(it, name)
 
-    def definitions(self, path, size, before):
+    def definitions(self, path: str, size: str, before: str) -> list[str]:
         """How the names of an expression get their values, down to what the function is passed."""
         found, left, seen = [], names_in(size), set()
         while left:
@@ -115,11 +120,11 @@ class Requests:
                 left += [one for it in more for one in names_in(it)]
         return found
 
-    def constant(self, path, name):
+    def constant(self, path: str, name: str) -> list[str]:
         of = self.constants.get(name, {})
         return [of[path]] if path in of else sorted(set(of.values()))
 
-    def follow(self, it, name):
+    def follow(self, it: Function, name: str) -> None:
         """Notes what each call passes for a number that a function takes. Calls of methods that lists have too are not told apart."""
         at = passed_as(it, name)
         if at is None or (it.path, name) in self.followed:
@@ -133,20 +138,20 @@ class Requests:
                     size = words(given[at])
                     self.note(path, caller, f"{name} of {it.name}: {size}", size, body[: found.start()])
 
-    def ask_in_loops(self, path, it, body, growing):
+    def ask_in_loops(self, path: str, it: Function, body: str, growing: re.Pattern[str]) -> None:
         """Notes the requests and the calls that fail only out of memory that stand in a loop, each with the head of its innermost loop."""
         loops = list(loops_of(body))
         for found in growing.finditer(body) if loops else ():
             around = [(start, head) for start, end, head in loops if start < found.start() < end]
             if around:
-                start = re.search(r"[\w.:]*$", body[: found.start()]).start()
+                start = len(re.sub(r"[\w.:]*$", "", body[: found.start()]))
                 call = words(body[start : end_of_group(body, found.end() - 1)])
                 start, head = max(around)
                 times = head.partition(" in ")[2] if head.startswith("for ") else ""
                 self.note(path, it, f"{call} in `{head}`", times, body[:start])
 
 
-def values(before, name):
+def values(before: str, name: str) -> Iterator[str]:
     """The statements that give a name its value: `let`, assignments, and the heads of loops and matches that bind it."""
     for found in re.finditer(rf"(?P<if>\b(?:if|while)\s+)?\blet\b(?P<pattern>[^=;{{}}]*\b{name}\b[^=;{{}}]*)=(?!=)", before):
         end = find_outside(before, found.end(), len(before), "{;" if found["if"] else ";")
@@ -161,21 +166,21 @@ def values(before, name):
         yield words(f"{head_around(before, found.start())} {{ {found['pattern'].strip()} }}")
 
 
-def is_number(constant):
+def is_number(constant: str) -> bool:
     return NUMBER.fullmatch(re.sub(r"^[^:]*:\s*|\s*=.*$", "", constant)) is not None
 
 
-def head_around(body, place):
+def head_around(body: str, place: int) -> str:
     """The head of the block in which a place stands."""
     depth = 0
     for at in range(place - 1, -1, -1):
         depth += {"}": 1, "{": -1}.get(body[at], 0)
         if depth < 0:
-            return re.search(r"[^;{}]*$", body[:at])[0].strip()
+            return re.split("[;{}]", body[:at])[-1].strip()
     return ""
 
 
-def loops_of(body):
+def loops_of(body: str) -> Iterator[tuple[int, int, str]]:
     """The loops of a body: (where its braces begin and end, its head)."""
     for found in LOOP.finditer(body):
         at = found.end()
@@ -185,7 +190,7 @@ def loops_of(body):
             yield at, end_of_group(body, at), words(body[found.start() : at])
 
 
-def split_arguments(text, comma=","):
+def split_arguments(text: str, comma: str = ",") -> list[str]:
     parts, depth = [""], 0
     for letter in text:
         depth += {"(": 1, "[": 1, "{": 1, ")": -1, "]": -1, "}": -1}.get(letter, 0)
@@ -196,7 +201,7 @@ def split_arguments(text, comma=","):
     return [it for it in parts if it.strip()]
 
 
-def passed_as(it, name):
+def passed_as(it: Function, name: str) -> Optional[int]:
     """The position of a number among the arguments that calls of a function have, or None if it is not passed so."""
     start = it.signature.find("(", it.signature.find(f"fn {it.name}"))
     given = apart(it.signature[start + 1 : end_of_group(it.signature, start) - 1])
@@ -208,7 +213,7 @@ def passed_as(it, name):
     return None
 
 
-def may_be_call(it, body, place):
+def may_be_call(it: Function, body: str, place: int) -> bool:
     """Whether a call at a place may be one of a function: of a method by its dot, of one of a type by the type, of a free one by neither."""
     before = body[max(0, place - 80) : place].rstrip()
     of = it.within if it.within is not None and it.within.kind in ("impl", "trait") else None

@@ -7,8 +7,10 @@ a literal, is not looked at.
 
 import re
 import subprocess
+from collections.abc import Iterator
 from functools import cached_property
 from pathlib import Path
+from typing import Union
 
 PAGES = ("README.md", "CONTRIBUTING.md", "docs/*.md", "examples/README.md")
 # Pages that tell what was: their names need not be there any more.
@@ -23,11 +25,11 @@ MADE = re.compile(r"(^|/)(out|dist|bin|lib|build|work)(/|$)|FILE|FORMULA|TRACE|N
 class Names:
     """What the repository has names for."""
 
-    def __init__(self, root):
+    def __init__(self, root: Union[str, Path]) -> None:
         self.root = Path(root)
 
     @cached_property
-    def files(self):
+    def files(self) -> list[str]:
         """The files that git knows, and those that it would."""
         words = ["git", "ls-files", "--cached", "--others", "--exclude-standard"]
         done = subprocess.run(words, cwd=self.root, capture_output=True, text=True, check=False)
@@ -36,7 +38,7 @@ class Names:
         return [str(it.relative_to(self.root)) for it in self.root.rglob("*") if it.is_file() and "/out/" not in str(it)]
 
     @cached_property
-    def paths(self):
+    def paths(self) -> set[str]:
         """Each file and folder, by every way in which a page may name it: from the root on, from crates/ on, from a crate on."""
         found = set()
         for file in self.files:
@@ -47,7 +49,7 @@ class Names:
         return found | {str(Path(it).with_suffix("")) for it in found}
 
     @cached_property
-    def declared(self):
+    def declared(self) -> set[str]:
         """The words of all sources: what a page names must be one of them."""
         found = set()
         for file in self.files:
@@ -64,26 +66,26 @@ class Names:
             found.add(Path(file).stem)
         return found
 
-    def pages(self):
+    def pages(self) -> Iterator[Path]:
         for pattern in PAGES:
             for path in sorted(self.root.glob(pattern)):
                 if str(path.relative_to(self.root)) not in PAST:
                     yield path
 
-    def is_path(self, name):
-        return not MADE.search(name) and " " not in name and ("/" in name or name.endswith(ENDINGS)) and re.fullmatch(r"[\w./*-]+", name)
+    def is_path(self, name: str) -> bool:
+        return not MADE.search(name) and bool(re.fullmatch(r"[\w./*-]+", name)) and ("/" in name or name.endswith(ENDINGS))
 
-    def is_name(self, name):
+    def is_name(self, name: str) -> bool:
         """Whether it is a name of several words, or a path of names."""
         return bool(re.fullmatch(r"[A-Za-z]\w*(::[A-Za-z]\w*)+|[a-z]+(_[a-z0-9]+)+|([A-Z][a-z]+){2,}", name))
 
-    def is_there(self, name):
+    def is_there(self, name: str) -> bool:
         if "*" in name:
             pattern = re.compile(re.escape(name).replace(r"\*", "[^/]*") + "$")
             return any(pattern.match(it) for it in self.paths)
         return name.strip("/") in self.paths
 
-    def unknown(self):
+    def unknown(self) -> Iterator[str]:
         """A line for each name of a page that is not there."""
         for page in self.pages():
             inside = False

@@ -6,21 +6,24 @@ are left of a text, so that the places stay.
 
 import re
 from bisect import bisect_left
+from collections.abc import Collection, Iterable, Iterator
 from dataclasses import dataclass, field
 from pathlib import Path
+from typing import Optional, Union
 
 # What a comment or a text begins with, and the letters that may stand before the quote of a text.
 BEGINNINGS = re.compile(r"""//|/\*|["']""")
 PREFIX = re.compile(r"(?<!\w)(?:[bc]?(?P<raw>r)(?P<hashes>#*)|[bc])$")
 LETTER = re.compile(r"'(?:\\(?:u\{[^}']*\}|x[^']{2}|.)|[^'\\\n])'", re.S)
 STRING = re.compile(r'"(?:[^"\\]|\\.)*"?', re.S)
+BLANKS = re.compile(r"\s*")
 OPENING = "([{"
 
 
 # ---- comments and texts
 
 
-def marks(text):
+def marks(text: str) -> Iterator[tuple[bool, int, int]]:
     """Where each comment and each text stands: (is it a comment, place, place after it)."""
     at = 0
     while found := BEGINNINGS.search(text, at):
@@ -32,12 +35,12 @@ def marks(text):
             yield False, start - (len(before[0]) if before else 0), at
 
 
-def prefix(text, place):
+def prefix(text: str, place: int) -> Optional[re.Match[str]]:
     """The letters of a text that stand before its quote, or None."""
     return PREFIX.search(text[max(0, place - 20) : place])
 
 
-def end_of_mark(text, found):
+def end_of_mark(text: str, found: re.Match[str]) -> int:
     """The place after a comment or a text that begins at a place; after the quote of a lifetime, which is neither."""
     place = found.start()
     if found[0] == "//":
@@ -50,15 +53,21 @@ def end_of_mark(text, found):
     before = prefix(text, place)
     if before and before["raw"]:
         return end_at(text, '"' + before["hashes"], place + 1, 1 + len(before["hashes"]))
-    return STRING.match(text, place).end()
+    return end_of_match(STRING, text, place, len(text))
 
 
-def end_at(text, word, start, length):
+def end_of_match(pattern: re.Pattern[str], text: str, start: int, end: int) -> int:
+    """The place after what a pattern matches from a place on; that place if it matches nothing."""
+    found = pattern.match(text, start, end)
+    return found.end() if found else start
+
+
+def end_at(text: str, word: str, start: int, length: int) -> int:
     at = text.find(word, start)
     return len(text) if at < 0 else at + length
 
 
-def end_of_block_comment(text, start):
+def end_of_block_comment(text: str, start: int) -> int:
     """The place after a block comment, in which others may stand."""
     depth = 0
     for found in re.compile(r"/\*|\*/").finditer(text, start):
@@ -68,7 +77,7 @@ def end_of_block_comment(text, start):
     return len(text)
 
 
-def with_blanks(text, places):
+def with_blanks(text: str, places: Iterable[tuple[int, int]]) -> str:
     parts, last = [], 0
     for start, end in places:
         parts += [text[last:start], re.sub(r"[^\n]", " ", text[start:end])]
@@ -76,12 +85,12 @@ def with_blanks(text, places):
     return "".join([*parts, text[last:]])
 
 
-def blanked(text):
+def blanked(text: str) -> str:
     """The text with blanks in place of comments and within texts."""
     return with_blanks(quoted(text), [(start, end) if is_comment else (start + 1, end - 1) for is_comment, start, end in marks(text)])
 
 
-def quoted(text):
+def quoted(text: str) -> str:
     """The text with a quote as the first and the last letter of each text."""
     letters = list(text)
     for is_comment, start, end in marks(text):
@@ -90,12 +99,12 @@ def quoted(text):
     return "".join(letters)
 
 
-def without_comments(text):
+def without_comments(text: str) -> str:
     """The text with blanks in place of comments."""
     return with_blanks(text, [(start, end) for is_comment, start, end in marks(text) if is_comment])
 
 
-def one_line(text):
+def one_line(text: str) -> str:
     """The words of a text, comments left out, with one blank between them."""
     return " ".join(without_comments(text).split())
 
@@ -106,7 +115,7 @@ def one_line(text):
 BRACKETS = re.compile(r"[(\[{)\]}]")
 
 
-def end_of_group(plain, start):
+def end_of_group(plain: str, start: int) -> int:
     """The place after the bracket that closes the one at `start`."""
     depth = 0
     for found in BRACKETS.finditer(plain, start):
@@ -116,7 +125,7 @@ def end_of_group(plain, start):
     return len(plain)
 
 
-def find_outside(plain, start, end, letters):
+def find_outside(plain: str, start: int, end: int, letters: str) -> int:
     """The first place of one of some letters that stands in no bracket; `end` if there is none."""
     wanted = re.compile(f"[{re.escape(letters + OPENING)}]")
     while (found := wanted.search(plain, start, end)) and found[0] not in letters:
@@ -124,7 +133,7 @@ def find_outside(plain, start, end, letters):
     return found.start() if found else end
 
 
-def apart(words, comma=","):
+def apart(words: str, comma: str = ",") -> list[str]:
     """The parts of a text between commas that stand in no bracket."""
     parts, depth = [""], 0
     for at, letter in enumerate(words):
@@ -171,13 +180,13 @@ class Function(Item):
     word: int = 0  # where `fn` stands
     name_end: int = 0  # after its name
     signature: str = ""
-    clauses: list = field(default_factory=list)
+    clauses: list[Clause] = field(default_factory=list)
 
     @property
-    def is_of_trait(self):
+    def is_of_trait(self) -> bool:
         return self.within is not None and (self.within.kind == "trait" or trait_and_type(self.within.head)[0] != "")
 
-    def contract(self):
+    def contract(self) -> list[tuple[str, str, str]]:
         """The clauses as words, without comments and layout."""
         return [(it.kind, it.name, one_line(it.text)) for it in self.clauses]
 
@@ -195,7 +204,7 @@ CLAUSE = re.compile(r"\s*(requires|ensures|ghost)\b\s*(\w*)\s*(?=\{)")
 class Source:
     """A source file of a crate: its items, and its functions by the names that the prover gives them."""
 
-    def __init__(self, crate, file, text):
+    def __init__(self, crate: str, file: str, text: str) -> None:
         self.crate, self.file, self.text = crate, file, text  # the file is told from the crate on: src/..
         self.plain = blanked(text)
         self.ends = [found.start() for found in re.finditer("\n", text)]
@@ -203,10 +212,10 @@ class Source:
         self.functions = [it for it in self.items if isinstance(it, Function)]
         self.name_functions()
 
-    def read_items(self, start, end, within, is_test):
+    def read_items(self, start: int, end: int, within: Optional[Item], is_test: bool) -> Iterator[Item]:
         at = start
         while at < end:
-            found = re.compile(r"\s*").match(self.plain, at, end).end()
+            found = end_of_match(BLANKS, self.plain, at, end)
             if found >= end:
                 return
             item = self.read_item(found, end, within, is_test)
@@ -215,13 +224,13 @@ class Source:
                 yield from self.read_items(item.open + 1, item.end - 1, item, item.is_test)
             at = max(item.end, found + 1)
 
-    def read_item(self, first, end, within, is_test):
+    def read_item(self, first: int, end: int, within: Optional[Item], is_test: bool) -> Item:
         start = first
         while attribute := re.compile(r"#!?\s*(?=\[)").match(self.plain, start, end):
-            start = re.compile(r"\s*").match(self.plain, end_of_group(self.plain, attribute.end()), end).end()
+            start = end_of_match(BLANKS, self.plain, end_of_group(self.plain, attribute.end()), end)
         attributes = self.text[first:start]
         is_test = is_test or re.search(r"\bcfg\(test\)|#\[test\]", blanked(attributes)) is not None
-        word = WORDS.match(self.plain, start, end).end()
+        word = end_of_match(WORDS, self.plain, start, end)
         head = HEAD.match(self.plain, word, end)
         if head is None:
             stop = min(find_outside(self.plain, start, end, ";{") + 1, end)
@@ -239,7 +248,7 @@ class Source:
             open_ = stop = min(open_ + 1, end)
         return Item(kind, head["other"], attributes, first, start, open_, stop, self.plain[start:open_], is_test, within)
 
-    def read_function(self, head, attributes, first, start, end, is_test, within):
+    def read_function(self, head: re.Match[str], attributes: str, first: int, start: int, end: int, is_test: bool, within: Optional[Item]) -> Function:
         plain, at = self.plain, head.end()
         while found := BEFORE_BODY.search(plain, at, end):
             at = end_of_group(plain, found.start()) if found[0] in "([" else found.start()
@@ -250,19 +259,20 @@ class Source:
             stop = end_of_group(plain, clause.end())
             clauses.append(Clause(clause[1], clause[2], self.text[clause.end() + 1 : stop - 1]))
             at = stop
-        open_ = re.compile(r"\s*").match(plain, at, end).end()
+        open_ = end_of_match(BLANKS, plain, at, end)
         stop = end_of_group(plain, open_) if open_ < end and plain[open_] == "{" else min(open_ + 1, end)
         open_ = open_ if open_ < end and plain[open_] == "{" else stop
         item = ("fn", head["name"], attributes, first, start, open_, stop, plain[start:open_], is_test, within)
         return Function(*item, word=head.end("fn") - 2, name_end=head.end("name"), signature=signature, clauses=clauses)
 
-    def name_functions(self):
+    def name_functions(self) -> None:
         inside = self.file[len("src/") : -len(".rt")].split("/")
         here = [] if inside in (["lib"], ["main"]) else inside
         # The methods of a type stand, for the prover, in the module of the type.
         imported = {name: module.split("::") for module, name in re.findall(r"(?m)^use crate::([a-z_:]+)::([A-Z]\w*);", self.plain)}
         for it in self.functions:
-            modules, owner, of = [], None, it.within
+            modules: list[str] = []
+            owner, of = "", it.within
             while of is not None:
                 if of.kind == "mod":
                     modules.insert(0, of.name)
@@ -272,11 +282,11 @@ class Source:
             owners = [owner] if owner else []
             it.path = "::".join([self.crate, *(imported.get(owner, here) if owner else here), *modules, *owners, it.name])
 
-    def body(self, function):
+    def body(self, function: Function) -> str:
         """What stands in the braces of a function, with blanks for comments and texts."""
         return self.plain[function.open + 1 : function.end - 1] if function.open < function.end else ""
 
-    def line(self, place):
+    def line(self, place: int) -> int:
         """The number of the line of a place, from 1 on."""
         return bisect_left(self.ends, place) + 1
 
@@ -284,7 +294,7 @@ class Source:
 # ---- names of impls and traits, as the prover has them
 
 
-def arguments(words):
+def arguments(words: str) -> str:
     """The text between the first `<` and the `>` that closes it."""
     start = words.find("<")
     if start < 0:
@@ -297,13 +307,13 @@ def arguments(words):
     return ""
 
 
-def type_name(words):
+def type_name(words: str) -> str:
     """`a::Name<..>` without its path and its parameters."""
     name = re.sub(r"^(?:\w+\s*::\s*)*", "", words.strip())
-    return re.match(r"\w*", name)[0]
+    return re.split(r"\W", name, maxsplit=1)[0]
 
 
-def prover_name(words, generics=()):
+def prover_name(words: str, generics: Collection[str] = ()) -> str:
     """How the prover names a type: of a reference, a slice or a tuple with the types in it, as far as they are no parameters."""
     words = words.strip()
     if words.startswith("&"):
@@ -320,7 +330,7 @@ def prover_name(words, generics=()):
     return "" if name in generics else name[:1].upper() + name[1:]
 
 
-def trait_and_type(head):
+def trait_and_type(head: str) -> tuple[str, str, set[str]]:
     """The trait of the head of an `impl`, or nothing, its type, and its parameters."""
     rest = " ".join(head.split()).removeprefix("unsafe ").removeprefix("impl").strip()
     generics = set()
@@ -333,7 +343,7 @@ def trait_and_type(head):
     return of_trait, of_type, generics
 
 
-def owner_of(head):
+def owner_of(head: str) -> str:
     """How the prover names the `impl` or the trait with this head, which stands before its brace."""
     if trait := re.match(r"\s*(?:pub(?:\s*\([^)]*\))?\s+)?(?:unsafe\s+)?trait\s+(\w+)", head):
         return trait[1]
@@ -347,13 +357,13 @@ def owner_of(head):
 # ---- the sources of a repository
 
 
-def read_source(root, path):
+def read_source(root: Union[str, Path], path: str) -> Source:
     """The source file at a path below a repository: crates/NAME/src/.."""
     _, crate, *inside = Path(path).parts
     return Source(crate, "/".join(inside), (Path(root) / path).read_text(encoding="utf-8"))
 
 
-def sources(root):
+def sources(root: Union[str, Path]) -> dict[str, Source]:
     """The source files of all crates by their paths, but for those of modules that are read for tests alone."""
     root = Path(root)
     paths = sorted(str(it.relative_to(root)) for it in root.glob("crates/*/src/**/*.rt"))
