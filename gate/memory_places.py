@@ -16,7 +16,13 @@ that the pattern binds, or the status of out of memory; and no call that fails o
 """
 
 import re
+from collections.abc import Iterable, Iterator
 from dataclasses import dataclass
+from typing import Optional, TypeVar
+
+from rattle_source import Function, Item, Source
+
+AnyItem = TypeVar("AnyItem", bound=Item)
 
 WORDS = {"F9", "P9", "C5", "E3", "B2", "Memory", "NoMemory", "NO_MEMORY", "AllocError", "AllocFailed", "OutOfMemory"}
 # These are types, and stand in a pattern without a path.
@@ -30,20 +36,20 @@ OF_ALLOCATOR = {"Vec.push", "Vec.reserve", "IndexSet.insert", "IndexMap.insert",
 GIVES_BACK = {"Formula.push_clause", "Trace.push_set", "Trace.push_step"}
 
 
-def has_word(text):
+def has_word(text: str) -> bool:
     return any(it in WORDS for it in re.findall(r"\w+", text))
 
 
-def each_has_word(pattern):
+def each_has_word(pattern: str) -> bool:
     """Whether each alternative of a pattern has a word that is a type, or a variant by its path."""
     return all(set(re.findall(r"::(\w+)", it)) & WORDS or set(re.findall(r"\w+", it)) & TYPES for it in pattern.split("|"))
 
 
-def head_type(words):
-    return re.match(r"&?(?:mut )?(\w*)", words.strip())[1]
+def head_type(words: str) -> str:
+    return re.sub(r"^&?(?:mut )?(\w*).*", r"\1", words.strip(), flags=re.DOTALL)
 
 
-def indent(line):
+def indent(line: str) -> int:
     return len(line) - len(line.lstrip(" "))
 
 
@@ -55,7 +61,7 @@ class Place:
     why: str  # why it may not stand there, or nothing
 
 
-def call_before(line, end):
+def call_before(line: str, end: int) -> str:
     """The text of the call that ends at a place of a line, with what it is called on."""
     depth, at = 0, end
     while at > 0 and (depth or line[at - 1] not in " (=!&{"):
@@ -67,13 +73,13 @@ def call_before(line, end):
 class Code:
     """The lines of a source file without comments, texts, contracts, imports and inline tests."""
 
-    def __init__(self, path, source):
+    def __init__(self, path: str, source: Source) -> None:
         self.path, self.source = path, source
         plain = list(source.plain)
         for it in source.items:
             if it.is_test or it.kind in ("use", "ghost"):
                 self.blank(plain, it.first, it.end)
-            elif it.kind == "fn":
+            elif isinstance(it, Function):
                 self.blank(plain, it.name_end, it.open)
         self.lines = [it.rstrip() for it in "".join(plain).split("\n")]
         self.functions = [it for it in source.functions if not it.is_test]
@@ -81,25 +87,25 @@ class Code:
         self.constant_at = self.by_line([it for it in source.items if it.kind in ("const", "static") and not it.is_test])
 
     @staticmethod
-    def blank(plain, start, end):
+    def blank(plain: list[str], start: int, end: int) -> None:
         plain[start:end] = [it if it == "\n" else " " for it in plain[start:end]]
 
-    def by_line(self, items):
+    def by_line(self, items: Iterable[AnyItem]) -> list[Optional[AnyItem]]:
         """The item that each line is of, or None."""
-        found = [None] * len(self.lines)
+        found: list[Optional[AnyItem]] = [None] * len(self.lines)
         for it in items:
             for line in range(self.source.line(it.start) - 1, self.source.line(it.end - 1)):
                 found[line] = it
         return found
 
-    def holder(self, n):
+    def holder(self, n: int) -> int:
         """The line that holds a line: the last one before it that stands further left."""
         for m in range(n - 1, -1, -1):
             if self.lines[m] and indent(self.lines[m]) < indent(self.lines[n]):
                 return m
         return 0
 
-    def statement(self, n):
+    def statement(self, n: int) -> str:
         """The text of the statement that ends on a line with an opening brace."""
         text = self.lines[n].strip()
         m = n
@@ -115,21 +121,23 @@ class Code:
 class Memory:
     """All places of some sources, and what is needed to look at each."""
 
-    def __init__(self, sources):
+    def __init__(self, sources: dict[str, Source]) -> None:
         self.files = [Code(path, source) for path, source in sources.items()]
-        self.origin, self.fields = {}, {}
+        self.origin: dict[tuple[str, str], str] = {}  # the crate of a name, by the file that uses it
+        self.fields: dict[tuple[str, str], str] = {}  # the type of a field, by that of its struct
         # the names of tuples in which one part is out of memory
         self.pairs = {it for code in self.files for it in re.findall(r"\btype\s+(\w+)\s*=\s*\([^;]*AllocError[^;]*;", code.source.plain)}
-        self.alone, self.other = OF_ALLOCATOR | GIVES_BACK, set()
+        self.alone: set[str] = OF_ALLOCATOR | GIVES_BACK
+        self.other: set[str] = set()
         for code in self.files:
             self.read_names(code)
 
-    def read_names(self, code):
+    def read_names(self, code: Code) -> None:
         """Which crate each name of a `use` comes from, the types of fields, and which functions fail only out of memory."""
         for it in code.source.items:
             if it.kind == "use" and not it.is_test and "ghost" not in it.head.split():
                 words = " ".join(it.head.split()).partition("use ")[2]
-                crate = re.match(r"\w*", words)[0]
+                crate = re.split(r"\W", words, maxsplit=1)[0]
                 crate = code.source.crate if crate in ("crate", "super", "self") else crate
                 self.origin.update({(code.path, name): crate for name in re.findall(r"\w+", words)})
             elif it.kind == "struct" and not it.is_test:
@@ -144,7 +152,7 @@ class Memory:
                 self.other.add(name)
 
     @staticmethod
-    def type_within(it):
+    def type_within(it: Optional[Item]) -> str:
         """The type of the impl or the trait that a function is of."""
         if it is None or it.within is None or it.within.kind == "mod":
             return ""
@@ -156,7 +164,7 @@ class Memory:
             words = shorter
         return re.sub(r"\W.*", "", re.sub(r"^.* for ", "", re.sub(r"^(?:pub |pub\(crate\) )?(?:impl|trait) ?", "", words)))
 
-    def name_of(self, code, it):
+    def name_of(self, code: Code, it: Function) -> str:
         of = self.type_within(it)
         if not of:
             return f"{code.source.crate}:{it.name}"
@@ -165,7 +173,7 @@ class Memory:
 
     # ---- words that are not seen, or that come from elsewhere
 
-    def hidden(self):
+    def hidden(self) -> Iterator[tuple[str, int, str]]:
         """Words under another name, as a default, or from a macro: (file, line, why)."""
         for code in self.files:
             source = code.source
@@ -186,7 +194,7 @@ class Memory:
 
     # ---- failed allocations that are not handed on
 
-    def lost(self):
+    def lost(self) -> Iterator[tuple[str, int, str]]:
         """Arms and blocks for a failed allocation that do not hand it on: (file, line, why)."""
         for code in self.files:
             for n, line in enumerate(code.lines):
@@ -198,7 +206,7 @@ class Memory:
                     if self.why_call(code, n, call_before(line, found.start())) == "":
                         yield code.path, n + 1, f"a failed allocation may be lost: {line.strip()}"
 
-    def is_for_memory(self, code, n):
+    def is_for_memory(self, code: Code, n: int) -> bool:
         """Whether a line begins an arm or a block that is entered if an allocation failed."""
         line = code.lines[n].strip()
         if "=>" in line:
@@ -214,7 +222,7 @@ class Memory:
         found = re.fullmatch(r"(?:.* )?if (.*)\.is_err\(\) \{|let Ok\(.*?\) = (.*) else \{|(?:.* )?if let Err\([a-z_]+\) = (.*) \{", code.statement(n))
         return found is not None and self.why_call(code, n, found[1] or found[2] or found[3]) == ""
 
-    def hands_on(self, code, n):
+    def hands_on(self, code: Code, n: int) -> bool:
         """Whether an arm or a block has a word, the name that its pattern binds, or another way to tell it."""
         line = code.lines[n]
         body = line.partition("=>")[2] if "=>" in line else ""
@@ -224,18 +232,20 @@ class Memory:
                     break
                 body += "\n" + code.lines[m]
         bound = re.search(r"\bErr\(([a-z]\w*)\)", line.partition("=>")[0] if "=>" in line else code.statement(n))
-        gives_back = self.name_of(code, code.function_at[n]) in GIVES_BACK and "Err(" in body
-        return has_word(body) or gives_back or bound is not None and re.search(rf"\b{bound[1]}\b", body) or TELLS.search(body) is not None
+        it = code.function_at[n]
+        gives_back = it is not None and self.name_of(code, it) in GIVES_BACK and "Err(" in body
+        names_it = bound is not None and re.search(rf"\b{bound[1]}\b", body) is not None
+        return has_word(body) or gives_back or names_it or TELLS.search(body) is not None
 
     # ---- looking
 
-    def places(self):
+    def places(self) -> Iterator[Place]:
         for code in self.files:
             for n, line in enumerate(code.lines):
                 if self.is_place(code, n):
                     yield Place(code.path, n + 1, line.strip(), self.why(code, n))
 
-    def is_place(self, code, n):
+    def is_place(self, code: Code, n: int) -> bool:
         """Whether a line returns out of memory."""
         line, it, constant = code.lines[n], code.function_at[n], code.constant_at[n]
         if it is None and constant is None:
@@ -251,7 +261,7 @@ class Memory:
         is_alone = it is not None and (self.name_of(code, it) in self.alone or it.signature.rpartition(" ")[2] in self.pairs)
         return is_alone and re.search(r"\bErr\((?![a-z_]+\))", line) is not None
 
-    def why(self, code, n):
+    def why(self, code: Code, n: int) -> str:
         """Why out of memory may not be returned on a line, or nothing."""
         found = re.search(r"error\.fault\([A-Za-z0-9:]+, ", code.lines[n])
         if found and not has_word(found[0]):
@@ -275,7 +285,7 @@ class Memory:
             return ""
         return "below no failed allocation"
 
-    def why_on_arm(self, code, n):
+    def why_on_arm(self, code: Code, n: int) -> str:
         text = re.sub(r"\s*=>.*", "", code.lines[n].strip())
         m = n
         while re.match(r"[|] ", code.lines[m].strip()):
@@ -289,7 +299,7 @@ class Memory:
         found = re.fullmatch(r"(?:.* )?match (.*) \{", code.statement(n))
         return self.why_call(code, n, found[1]) if found else "on an arm of no match"
 
-    def why_call(self, code, n, text):
+    def why_call(self, code: Code, n: int, text: str) -> str:
         """Why an expression is not a call that fails only out of memory, or nothing."""
         start = text.find("(")
         if start < 0:
@@ -308,7 +318,7 @@ class Memory:
             return ""
         return "" if called in self.alone and called not in self.other else f"the call {called} may be refused for another reason"
 
-    def resolved(self, code, n, called):
+    def resolved(self, code: Code, n: int, called: str) -> str:
         """The name of a function with its crate, or of a method with its type."""
         if "::" in called:
             return called
@@ -317,7 +327,7 @@ class Memory:
         receiver, name = re.sub(r"\.[a-z_]+$", "", called), called.rpartition(".")[2]
         return f"{self.type_of(code, n, receiver)}.{name}"
 
-    def type_of(self, code, n, receiver):
+    def type_of(self, code: Code, n: int, receiver: str) -> str:
         """The type of self, of a parameter or of a local value, or of a field of these."""
         if "." in receiver:
             of, _, name = receiver.rpartition(".")
