@@ -456,6 +456,30 @@ class Pieces:
             attempt(proof.add_step, number, kind(literals), kind_of_antecedents(antecedents))
 
 
+    def add_at_once(self, proof, kind=list):
+        """Hands all pieces over, the clauses in one call, as a list of this kind; the last clause lacks its 0, if it is not empty."""
+        ended = [literal for clause in self.clauses for literal in (*clause, 0)]
+        for universal, variables in self.blocks:
+            proof.add_variables(variables, universal=universal)
+        proof.add_clauses(kind(ended[:-1] if self.clauses and self.clauses[-1] else ended))
+        for number, literals, antecedents in self.steps:
+            proof.add_step(number, literals, antecedents)
+
+    def texts(self):
+        """The two texts as a proof writes them: the formula with its greatest variable, and the trace without sets."""
+        bound = [variable for _, variables in self.blocks for variable in variables]
+        last = max(bound, default=0)
+
+        def line(*numbers):
+            return " ".join(map(str, numbers))
+
+        formula = [line("p cnf", last, len(self.clauses)), *(line("ea"[universal], *variables, 0) for universal, variables in self.blocks)]
+        formula += [line(*clause, 0) for clause in self.clauses]
+        trace = [line("p qrp", last, len(self.steps)), *(line(number, *literals, 0, *ants, 0) for number, literals, ants in self.steps)]
+        trace.append("r sat" if self.sat else "r unsat")
+        return tuple("\n".join([*lines, ""]).encode() for lines in (formula, trace))
+
+
 def up_to_zero(words):
     """The numbers before the next 0."""
     return [int(word) for word in iter(lambda: next(words), b"0")]
@@ -490,6 +514,59 @@ def is_handed_over(example):
     return all(is_verdict(verdict, example) for verdict in verdicts) and verdicts[0] == qrp_check.verify(
         example.formula, example.trace, any_pivot=example.any_pivot
     )
+
+
+def is_written(example):
+    """Whether the texts that a proof writes are those of its pieces, with the verdict and the trimmed trace of the example's texts.
+
+    The proof's clauses are handed over in one call.
+    """
+    pieces, flags = Pieces(example), {"any_pivot": example.any_pivot}
+    with qrp_check.Proof() as proof:
+        pieces.add_at_once(proof, functools.partial(array.array, "i"))
+        formula, trace = proof.formula_text(), proof.trace_text(sat=pieces.sat)
+        trimmed = core_of(proof.trimmed_text, sat=pieces.sat, **flags)
+        other = core_of(proof.trimmed_text, sat=not pieces.sat, **flags)
+        verdicts = [proof.check(sat=pieces.sat, **flags), qrp_check.verify(formula, trace, **flags)]
+        verdicts.append(qrp_check.verify(example.formula, example.trace, **flags))
+        is_right = (formula, trace) == pieces.texts() and proof.clauses == len(pieces.clauses)
+        is_right = is_right and other == core_of(qrp_check.trim, formula, proof.trace_text(sat=not pieces.sat), **flags)
+    is_right = is_right and trimmed == core_of(qrp_check.trim, formula, trace, **flags) and qrp_check.format(formula) == formula
+    return is_right and len(set(verdicts)) == 1 and is_verdict(verdicts[0], example)
+
+
+def many_clauses():
+    """Whether many clauses in one call are those of many calls, those before a refused one are added, and none out of range is an end."""
+    wide, answers = "OUT_OF_RANGE", []
+    rows = [([1, 2, 0, -1, 0], None, [[1, 2], [-1]]), ([1, 2, 0, -1], None, [[1, 2], [-1]]), ([0, 0, 1], None, [[], [], [1]]), ([], None, [])]
+    rows += [([1, 0, 3, 0, 2, 0], (2, "NOT_BOUND"), [[1]]), ([1, 0, -2, 0, 2**31, 0], (3, wide), [[1], [-2]])]
+    rows += [([-(2**31), 0, 1], (1, wide), []), ([1, 2**32 + 1, 0, 2], (1, wide), []), ([2, 0, 1, -(2**40)], (2, wide), [[2]])]
+    for literals, fault, clauses in rows:
+        for kind in (list, iter, tuple, functools.partial(array.array, "q")):
+            with qrp_check.Proof() as proof:
+                proof.add_variables([1, 2], universal=False)
+                if fault is None:
+                    answers.append(proof.add_clauses(kind(literals)) is None)
+                else:
+                    answers.append(refuses("clause", *fault, proof.add_clauses, kind(literals)))
+                lines = ["p cnf 2 %d" % len(clauses), "e 1 2 0", *(" ".join(map(str, [*clause, 0])) for clause in clauses), ""]
+                answers.append(proof.clauses == len(clauses) and proof.formula_text() == "\n".join(lines).encode())
+    literals = kinds_of_numbers("i")[0]
+    with unittest.mock.patch.multiple(qrp_check._LentNumbers, _array=no_copy, _copied=no_copy), qrp_check.Proof() as proof:
+        proof.add_variables([1], universal=False)
+        for count, kind in enumerate(literals, 1):
+            proof.add_clauses(kind([1, 0, -1]))
+            answers.append(proof.clauses == 2 * count)
+        proof.add_clauses([])
+        answers.append(proof.formula_text() == b"p cnf 1 %d\ne 1 0\n" % (2 * len(literals)) + b"1 0\n-1 0\n" * len(literals))
+    with qrp_check.Proof() as proof:
+        # More than the room of the first call.
+        proof.add_variables(range(1, 20001), universal=True)
+        proof.add_step(7, range(1, 20001))
+        numbers = " ".join(map(str, range(1, 20001))).encode()
+        answers.append(proof.formula_text() == b"p cnf 20000 0\na %b 0\n" % numbers)
+        answers.append(proof.trace_text(sat=True) == b"p qrp 20000 1\n7 %b 0 0\nr sat\n" % numbers)
+    return answers
 
 
 def unaligned(code):
@@ -577,7 +654,9 @@ def closed_proof():
     proof.close()
     proof.close()
     calls = [(proof.add_variables, [[]], {"universal": True}), (proof.add_clause, [[]], {}), (proof.add_step, [3, []], {})]
-    calls.append((proof.check, [], {"sat": False}))
+    calls.append((proof.add_clauses, [[1]], {}))
+    calls += [(call, [], {"sat": False}) for call in (proof.check, proof.core, proof.trace_text, proof.trimmed_text)]
+    calls.append((proof.formula_text, [], {}))
     answers = [refuses("proof", None, "NO_PROOF", call, *words, **flags) for call, words, flags in calls]
     added = (ROOT / "include" / "qrp_check.h").read_text().partition("enum qrp_added {")[2].partition("}")[0]
     faults = [(int(number), fault) for fault, number in re.findall(r"QRP_([A-Z_]+) = (\d+)[,\s]", added) if number != "0"]
@@ -599,6 +678,9 @@ def wrong_pieces():
             (["sat"], proof.check, [], {}),
             (["sat", "True or False", "None"], proof.check, [], {"sat": None}),
             (["any_pivot", "True or False", "'no'"], proof.check, [], {"sat": False, "any_pivot": "no"}),
+            (["any_pivot", "True or False", "0"], proof.trimmed_text, [], {"sat": False, "any_pivot": 0}),
+            *((["sat", "True or False", "1"], call, [], {"sat": 1}) for call in (proof.trace_text, proof.trimmed_text)),
+            *((["literals", "whole numbers"], proof.add_clauses, [one], {}) for one in (None, [1.0], [[1]])),
             *((["copied or pickled"], call, [proof], {}) for call in (copy.copy, copy.deepcopy, pickle.dumps)),
             (["argument"], qrp_check.Proof, [b"p cnf 0 0\n"], {}),
         ]
@@ -611,6 +693,8 @@ def on_its_thread():
     with qrp_check.Proof() as proof, concurrent.futures.ThreadPoolExecutor(1) as pool:
         variables, check = functools.partial(proof.add_variables, [1], universal=True), functools.partial(proof.check, sat=False)
         calls = [variables, functools.partial(proof.add_clause, []), functools.partial(proof.add_step, 1, []), check, proof.close]
+        calls += [functools.partial(proof.add_clauses, [0]), proof.formula_text, functools.partial(proof.trace_text, sat=True)]
+        calls += [functools.partial(proof.trimmed_text, sat=False)]
         answers = [pool.submit(says, RuntimeError, ["thread"], call).result(60) for call in calls]
         made_there = pool.submit(qrp_check.Proof)
         answers.append(says(RuntimeError, ["thread"], lambda: made_there.result(60).close()))
@@ -643,9 +727,11 @@ class Refusing:
         self.calls += 1
         if self.calls != self.refused:
             return getattr(self.library, name)(*words)
-        if name == "qrp_proof_check":
+        if name == "qrp_proof_clauses":
+            words[-1]._obj.value = 0
+        if name == "qrp_proof_check" or name.startswith("qrp_proof_write"):
             words[-1]._obj.status = 4
-        return 4
+        return 0 if name.startswith("qrp_proof_write") else 4
 
 def attempt(call, *words, **flags):
     try:
@@ -658,7 +744,396 @@ def verdict(pieces, refused):
     qrp_check._library.calls, qrp_check._library.refused = 0, refused
     proof = attempt(qrp_check.Proof)
     pieces.add_to(proof, attempt=attempt)
+    attempt(proof.add_clauses, [])
     print(attempt(proof.check, sat=pieces.sat))
+    texts = attempt(proof.formula_text), attempt(proof.trace_text, sat=pieces.sat)
+    print(texts == pieces.texts(), attempt(proof.trimmed_text, sat=pieces.sat) == qrp_check.trim(*texts))
+    return proof
+
+qrp_check._library = Refusing(qrp_check._library)
+pieces = tests.Pieces(next(tests.examples(sys.argv[2])))
+verdict(pieces, None)
+for at in range(1, qrp_check._library.calls + 1):
+    last = verdict(pieces, at)
+last.itself = last
+"""
+
+
+def refused_in_turn(example, row):
+    """Whether each call of the library on a proof that is refused memory raises MemoryError and can be made again, to the same verdict."""
+    environment = {**os.environ, "PYTHONPATH": str(ROOT / "python")}
+    with tempfile.NamedTemporaryFile("w") as file:
+        file.write(row)
+        file.flush()
+        words = [sys.executable, "-c", REFUSED_IN_TURN, str(pathlib.Path(__file__).parent), file.name]
+        ended = subprocess.run(words, env=environment, capture_output=True, text=True, check=False)
+    pieces = Pieces(example)
+    before_clauses = 1 + sum(len(variables) for _, variables in pieces.blocks) + len(pieces.clauses) + len(pieces.steps)
+    undone, unknown = "out of memory, so nothing was done: the same call can be made again", "out of memory, so nothing is known: check again with more"
+    many, end = "out of memory after 0 of the clauses, which are added: hand over the others again", [example.line, "True True"]
+    wanted = end + [undone, *end] * before_clauses + [many, *end] + [unknown, *end] + [example.line, unknown, "True True"] * 3
+    return [ended.stdout.splitlines() == wanted, ended.returncode == 4, ended.stderr == ""]
+
+
+# The module is imported as by a Python that has no calls of C for buffers, as PyPy has none.
+WITHOUT_C = """
+import array, ctypes, sys
+vars(ctypes).pop("pythonapi", None)
+import qrp_check
+formula, trace = (open(name, "rb").read() for name in sys.argv[1:])
+for kind in bytes, bytearray, memoryview:
+    print(qrp_check.verify(formula, kind(trace)), qrp_check.core(kind(formula), trace))
+print(qrp_check.verify_files(*sys.argv[1:]), qrp_check.trim(formula, trace) == qrp_check.trim_files(*sys.argv[1:]), len(qrp_check.format(formula)))
+with qrp_check.Proof() as proof:
+    proof.add_variables([1, 2], universal=False)
+    for number, clause in enumerate([[1, 2], [-1, 2], [-2]], 1):
+        proof.add_clause(array.array("i", clause))
+        proof.add_step(number, memoryview(b"x" + bytes(array.array("i", clause)))[1:].cast("i"))
+    proof.add_step(4, [2], array.array("Q", [1, 2]))
+    proof.add_step(5, [], (3, 4))
+    print(proof.check(sat=False))
+for text in memoryview(trace)[::2], None, "p":
+    try:
+        qrp_check.verify(formula, text)
+    except TypeError as error:
+        print(error)
+"""
+
+
+def without_c(example):
+    """Whether the module gives its answers without the calls of C for buffers."""
+    environment = {**os.environ, "PYTHONPATH": str(ROOT / "python")}
+    ended = subprocess.run([sys.executable, "-c", WITHOUT_C, *example.files], env=environment, capture_output=True, text=True, check=False)
+    wanted = [f"{example.line} {numbers(example.trimmed)}"] * 3 + [f"{example.line} True {len(example.formatted)}", "VERIFIED false"]
+    lines = ended.stdout.splitlines()
+    said = len(lines) == 8 and "bytes(..)" in lines[5] and "NoneType" in lines[6] and ".encode()" in lines[7]
+    return lines[:5] == wanted and said and not ended.stderr
+
+
+class Pieces:
+    """The pieces of a formula in canonical form and of a trace that is read: blocks, clauses, steps, and whether it ends in sat."""
+
+    def __init__(self, example):
+        words = iter(example.formatted.partition(b"\n")[2].split())
+        self.blocks, self.clauses, self.steps = [], [], []
+        for word in words:
+            if word in (b"a", b"e"):
+                self.blocks.append((word == b"a", up_to_zero(words)))
+            else:
+                self.clauses.append([] if word == b"0" else [int(word), *up_to_zero(words)])
+        words = iter(re.sub(rb"(^|(?<=[ \t\r\n]))[c#][^\n]*", b"", example.trace).split()[4:])
+        for word in words:
+            if word in (b"a", b"e"):
+                up_to_zero(words)
+            elif word == b"r":
+                self.sat = next(words).lower() == b"sat"
+                break
+            else:
+                self.steps.append((int(word), up_to_zero(words), up_to_zero(words)))
+
+    def add_to(self, proof, kind=list, kind_of_antecedents=list, attempt=lambda call, *words, **flags: call(*words, **flags)):
+        """Hands all pieces over, their numbers as these kinds of lists; `attempt` makes the calls."""
+        for universal, variables in self.blocks:
+            for variable in variables:
+                attempt(proof.add_variables, [variable], universal=universal)
+        for clause in self.clauses:
+            attempt(proof.add_clause, kind(clause))
+        for number, literals, antecedents in self.steps:
+            attempt(proof.add_step, number, kind(literals), kind_of_antecedents(antecedents))
+
+
+    def add_at_once(self, proof, kind=list):
+        """Hands all pieces over, the clauses in one call, as a list of this kind; the last clause lacks its 0, if it is not empty."""
+        ended = [literal for clause in self.clauses for literal in (*clause, 0)]
+        for universal, variables in self.blocks:
+            proof.add_variables(variables, universal=universal)
+        proof.add_clauses(kind(ended[:-1] if self.clauses and self.clauses[-1] else ended))
+        for number, literals, antecedents in self.steps:
+            proof.add_step(number, literals, antecedents)
+
+    def texts(self):
+        """The two texts as a proof writes them: the formula with its greatest variable, and the trace without sets."""
+        bound = [variable for _, variables in self.blocks for variable in variables]
+        last = max(bound, default=0)
+
+        def line(*numbers):
+            return " ".join(map(str, numbers))
+
+        formula = [line("p cnf", last, len(self.clauses)), *(line("ea"[universal], *variables, 0) for universal, variables in self.blocks)]
+        formula += [line(*clause, 0) for clause in self.clauses]
+        trace = [line("p qrp", last, len(self.steps)), *(line(number, *literals, 0, *ants, 0) for number, literals, ants in self.steps)]
+        trace.append("r sat" if self.sat else "r unsat")
+        return tuple("\n".join([*lines, ""]).encode() for lines in (formula, trace))
+
+
+def up_to_zero(words):
+    """The numbers before the next 0."""
+    return [int(word) for word in iter(lambda: next(words), b"0")]
+
+
+def has_pieces(example):
+    """Whether both texts are read, and the sets of the trace, which are not handed over, agree with the prefix."""
+    return example.status <= 1 and not example.line.startswith("REFUSED set")
+
+
+def core_of(call, *words, **flags):
+    """The core that a call gives, or the line of its refusal."""
+    try:
+        return call(*words, **flags)
+    except qrp_check.Refused as error:
+        return error.verdict.line
+
+
+def is_handed_over(example):
+    """Whether the pieces get the verdict and the core of the texts, a second time too, and with more steps that nothing needs."""
+    pieces = Pieces(example)
+    with qrp_check.Proof() as proof:
+        pieces.add_to(proof)
+        verdicts = [proof.check(sat=pieces.sat, any_pivot=example.any_pivot) for _ in range(2)]
+        cores = [core_of(proof.core, sat=pieces.sat, any_pivot=example.any_pivot)]
+        unused = next(number for number in range(1, len(pieces.steps) + 2) if number not in {step[0] for step in pieces.steps})
+        proof.add_step(unused, [2**31 - 1, -(2**31 - 1)], [2**64 - 1])
+        verdicts.append(proof.check(sat=pieces.sat, any_pivot=example.any_pivot))
+        cores.append(core_of(proof.core, sat=pieces.sat, any_pivot=example.any_pivot))
+    if any(core != core_of(qrp_check.core, example.formula, example.trace, any_pivot=example.any_pivot) for core in cores):
+        return False
+    return all(is_verdict(verdict, example) for verdict in verdicts) and verdicts[0] == qrp_check.verify(
+        example.formula, example.trace, any_pivot=example.any_pivot
+    )
+
+
+def is_written(example):
+    """Whether the texts that a proof writes are those of its pieces, with the verdict and the trimmed trace of the example's texts.
+
+    The proof's clauses are handed over in one call.
+    """
+    pieces, flags = Pieces(example), {"any_pivot": example.any_pivot}
+    with qrp_check.Proof() as proof:
+        pieces.add_at_once(proof, functools.partial(array.array, "i"))
+        formula, trace = proof.formula_text(), proof.trace_text(sat=pieces.sat)
+        trimmed = core_of(proof.trimmed_text, sat=pieces.sat, **flags)
+        other = core_of(proof.trimmed_text, sat=not pieces.sat, **flags)
+        verdicts = [proof.check(sat=pieces.sat, **flags), qrp_check.verify(formula, trace, **flags)]
+        verdicts.append(qrp_check.verify(example.formula, example.trace, **flags))
+        is_right = (formula, trace) == pieces.texts() and proof.clauses == len(pieces.clauses)
+        is_right = is_right and other == core_of(qrp_check.trim, formula, proof.trace_text(sat=not pieces.sat), **flags)
+    is_right = is_right and trimmed == core_of(qrp_check.trim, formula, trace, **flags) and qrp_check.format(formula) == formula
+    return is_right and len(set(verdicts)) == 1 and is_verdict(verdicts[0], example)
+
+
+def many_clauses():
+    """Whether many clauses in one call are those of many calls, those before a refused one are added, and none out of range is an end."""
+    wide, answers = "OUT_OF_RANGE", []
+    rows = [([1, 2, 0, -1, 0], None, [[1, 2], [-1]]), ([1, 2, 0, -1], None, [[1, 2], [-1]]), ([0, 0, 1], None, [[], [], [1]]), ([], None, [])]
+    rows += [([1, 0, 3, 0, 2, 0], (2, "NOT_BOUND"), [[1]]), ([1, 0, -2, 0, 2**31, 0], (3, wide), [[1], [-2]])]
+    rows += [([-(2**31), 0, 1], (1, wide), []), ([1, 2**32 + 1, 0, 2], (1, wide), []), ([2, 0, 1, -(2**40)], (2, wide), [[2]])]
+    for literals, fault, clauses in rows:
+        for kind in (list, iter, tuple, functools.partial(array.array, "q")):
+            with qrp_check.Proof() as proof:
+                proof.add_variables([1, 2], universal=False)
+                if fault is None:
+                    answers.append(proof.add_clauses(kind(literals)) is None)
+                else:
+                    answers.append(refuses("clause", *fault, proof.add_clauses, kind(literals)))
+                lines = ["p cnf 2 %d" % len(clauses), "e 1 2 0", *(" ".join(map(str, [*clause, 0])) for clause in clauses), ""]
+                answers.append(proof.clauses == len(clauses) and proof.formula_text() == "\n".join(lines).encode())
+    literals = kinds_of_numbers("i")[0]
+    with unittest.mock.patch.multiple(qrp_check._LentNumbers, _array=no_copy, _copied=no_copy), qrp_check.Proof() as proof:
+        proof.add_variables([1], universal=False)
+        for count, kind in enumerate(literals, 1):
+            proof.add_clauses(kind([1, 0, -1]))
+            answers.append(proof.clauses == 2 * count)
+        proof.add_clauses([])
+        answers.append(proof.formula_text() == b"p cnf 1 %d\ne 1 0\n" % (2 * len(literals)) + b"1 0\n-1 0\n" * len(literals))
+    with qrp_check.Proof() as proof:
+        # More than the room of the first call.
+        proof.add_variables(range(1, 20001), universal=True)
+        proof.add_step(7, range(1, 20001))
+        numbers = " ".join(map(str, range(1, 20001))).encode()
+        answers.append(proof.formula_text() == b"p cnf 20000 0\na %b 0\n" % numbers)
+        answers.append(proof.trace_text(sat=True) == b"p qrp 20000 1\n7 %b 0 0\nr sat\n" % numbers)
+    return answers
+
+
+def unaligned(code):
+    """A kind of buffers of numbers that do not lie at a multiple of their size."""
+    return lambda numbers: memoryview(b"x" + bytes(array.array(code, numbers)))[1:].cast(code)
+
+
+def kinds_of_numbers(code):
+    """The kinds of lists that are taken for numbers of a type of C, those first that are not copied, and how many these are."""
+    of_c = {"i": ctypes.c_int32, "Q": ctypes.c_uint64}[code]
+    arrays = [lambda numbers: array.array(code, numbers), lambda numbers: memoryview(array.array(code, numbers))]
+    arrays.append(lambda numbers: memoryview(bytes(array.array(code, numbers))).cast(code))
+    arrays.append(lambda numbers: (of_c * len(numbers))(*numbers))
+    others = [tuple, iter, set, lambda numbers: array.array("q", numbers), unaligned(code)]
+    others.append(lambda numbers: memoryview(array.array(code, [number for one in numbers for number in (one, 0)]))[::2])
+    if numpy:
+        arrays.append(lambda numbers: numpy.array(numbers, {"i": numpy.int32, "Q": numpy.uint64}[code]))
+        others.append(lambda numbers: numpy.array(numbers, numpy.int64))
+        others.append(lambda numbers: numpy.repeat(numpy.array(numbers, {"i": numpy.int32, "Q": numpy.uint64}[code]), 2)[::2])
+    return arrays, others
+
+
+def no_copy(_, name="", numbers=(0,), kind=None):
+    """Stands in for what copies numbers. Only an empty list may be: Python 3.9 gives an empty array of ctypes items of no size."""
+    if len(numbers):
+        raise AssertionError(f"{name} of the type of C are copied")
+    return array.array(kind.code)
+
+
+def numbers_lent(example):
+    """Whether each kind of list gives the verdict, and numbers of the type of C are not copied."""
+    pieces, answers = Pieces(example), []
+
+    def verdict(kind, kind_of_antecedents):
+        with qrp_check.Proof() as proof:
+            pieces.add_to(proof, kind, kind_of_antecedents)
+            return is_verdict(proof.check(sat=pieces.sat, any_pivot=example.any_pivot), example)
+
+    literals, antecedents = kinds_of_numbers("i"), kinds_of_numbers("Q")
+    with unittest.mock.patch.multiple(qrp_check._LentNumbers, _array=no_copy, _copied=no_copy):
+        answers += [verdict(*kinds) for kinds in zip(literals[0], antecedents[0])]
+    return [*answers, *(verdict(*kinds) for kinds in zip(literals[1], antecedents[1]))]
+
+
+def refuses(piece, position, fault, call, *words, **flags):
+    """Whether the call raises PieceRefused with these fields, which another process would get too."""
+    try:
+        call(*words, **flags)
+    except qrp_check.PieceRefused as error:
+        copied = pickle.loads(pickle.dumps(error))
+        place = piece if position is None else f"{piece} {position}"
+        told = str(error) == str(copied) == f"REFUSED {place} {fault}: {error.meaning}" and error.meaning.endswith(".")
+        return told and all((one.piece, one.position, one.fault) == (piece, position, fault) for one in (error, copied))
+    return False
+
+
+def pieces_refused():
+    """Whether each piece that the library refuses is told with its fault and its place, and changes nothing."""
+    least, most, wide = -(2**31), 2**64 - 1, "OUT_OF_RANGE"
+    with qrp_check.Proof() as proof:
+        proof.add_variables([1], universal=False)
+        answers = [refuses("variable", one, wide, proof.add_variables, [one], universal=True) for one in (0, -2, 2**31, 2**32 + 2)]
+        answers.append(refuses("variable", 1, "BOUND_TWICE", proof.add_variables, [2, 1, 3], universal=True))
+        answers.append(refuses("clause", 1, "NOT_BOUND", proof.add_clause, [1, 3]))
+        proof.add_clause([1])
+        answers += [refuses("clause", 2, wide, proof.add_clause, [1, wrong]) for wrong in (0, least, 2**31, 2**32 + 1)]
+        answers.append(refuses("clause", 2, wide, proof.add_clause, array.array("i", [0])))
+        proof.add_clause([-1, -2])
+        answers += [refuses("step", wrong, wide, proof.add_step, wrong, [1]) for wrong in (0, -1, most + 1)]
+        answers.append(refuses("step", 1, wide, proof.add_step, 1, [least]))
+        answers += [refuses("step", 1, wide, proof.add_step, 1, [1], [wrong]) for wrong in (0, -1, most + 1)]
+        answers.append(refuses("step", 0, "TOO_MANY_ANTECEDENTS", proof.add_step, 0, [0], [0, 1, 2]))
+        proof.add_step(1, [1])
+        answers.append(refuses("step", 1, "NUMBER_USED", proof.add_step, 1, [-1]))
+        proof.add_step(2, [-1], ())
+        answers.append(proof.check(sat=False).fault == "C4")
+        proof.add_step(most, [], (1, 2))
+        answers.append((proof.check(sat=False).line, proof.check(sat=True).fault) == ("VERIFIED false", "S5"))
+    return answers
+
+
+def closed_proof():
+    """Whether a closed proof refuses each call but `close`, and the faults are those of the header, by their numbers."""
+    proof = qrp_check.Proof()
+    proof.close()
+    proof.close()
+    calls = [(proof.add_variables, [[]], {"universal": True}), (proof.add_clause, [[]], {}), (proof.add_step, [3, []], {})]
+    calls.append((proof.add_clauses, [[1]], {}))
+    calls += [(call, [], {"sat": False}) for call in (proof.check, proof.core, proof.trace_text, proof.trimmed_text)]
+    calls.append((proof.formula_text, [], {}))
+    answers = [refuses("proof", None, "NO_PROOF", call, *words, **flags) for call, words, flags in calls]
+    added = (ROOT / "include" / "qrp_check.h").read_text().partition("enum qrp_added {")[2].partition("}")[0]
+    faults = [(int(number), fault) for fault, number in re.findall(r"QRP_([A-Z_]+) = (\d+)[,\s]", added) if number != "0"]
+    return [*answers, faults == [(number, fault) for number, (fault, _) in qrp_check._PIECE_FAULTS.items()]]
+
+
+def wrong_pieces():
+    """Whether the wrong use of a proof is refused with words that say what to do, and changes nothing."""
+    with qrp_check.Proof() as proof:
+        rows = [
+            (["universal", "True or False", "1"], proof.add_variables, [[1]], {"universal": 1}),
+            (["variables", "whole numbers"], proof.add_variables, [[1, "2"]], {"universal": True}),
+            (["variables", "not iterable"], proof.add_variables, [1], {"universal": True}),
+            *((["literals", type(one).__name__, "list"], proof.add_clause, [one], {}) for one in ("1", b"1", bytearray(b"1"))),
+            *((["literals", "whole numbers"], proof.add_clause, [one], {}) for one in (None, 1, [1.0], [[1]], array.array("d", [1]))),
+            (["antecedents", "whole numbers"], proof.add_step, [1, [], 1], {}),
+            (["number of the step", "whole numbers"], proof.add_step, ["1", []], {}),
+            (["positional argument"], proof.check, [False], {}),
+            (["sat"], proof.check, [], {}),
+            (["sat", "True or False", "None"], proof.check, [], {"sat": None}),
+            (["any_pivot", "True or False", "'no'"], proof.check, [], {"sat": False, "any_pivot": "no"}),
+            (["any_pivot", "True or False", "0"], proof.trimmed_text, [], {"sat": False, "any_pivot": 0}),
+            *((["sat", "True or False", "1"], call, [], {"sat": 1}) for call in (proof.trace_text, proof.trimmed_text)),
+            *((["literals", "whole numbers"], proof.add_clauses, [one], {}) for one in (None, [1.0], [[1]])),
+            *((["copied or pickled"], call, [proof], {}) for call in (copy.copy, copy.deepcopy, pickle.dumps)),
+            (["argument"], qrp_check.Proof, [b"p cnf 0 0\n"], {}),
+        ]
+        answers = [says(TypeError, said, functools.partial(call, *words, **flags)) for said, call, words, flags in rows]
+        return [*answers, proof.add_clause([]) is None and proof.check(sat=False).fault == "C4"]
+
+
+def on_its_thread():
+    """Whether a proof refuses each call from another thread, which changes nothing, and is not freed there."""
+    with qrp_check.Proof() as proof, concurrent.futures.ThreadPoolExecutor(1) as pool:
+        variables, check = functools.partial(proof.add_variables, [1], universal=True), functools.partial(proof.check, sat=False)
+        calls = [variables, functools.partial(proof.add_clause, []), functools.partial(proof.add_step, 1, []), check, proof.close]
+        calls += [functools.partial(proof.add_clauses, [0]), proof.formula_text, functools.partial(proof.trace_text, sat=True)]
+        calls += [functools.partial(proof.trimmed_text, sat=False)]
+        answers = [pool.submit(says, RuntimeError, ["thread"], call).result(60) for call in calls]
+        made_there = pool.submit(qrp_check.Proof)
+        answers.append(says(RuntimeError, ["thread"], lambda: made_there.result(60).close()))
+        with warnings.catch_warnings(record=True) as told:
+            warnings.simplefilter("always")
+            del made_there
+            gc.collect()
+        answers.append([warning.category for warning in told] == [ResourceWarning])
+        proof.add_clause([])
+        proof.add_step(1, [])
+        return [*answers, proof.check(sat=False).verified]
+
+
+# Each call on a proof is refused memory in turn, and made again. A proof that is not closed ends with the program, without a word.
+REFUSED_IN_TURN = """
+import sys
+sys.path.insert(0, sys.argv[1])
+import qrp_check
+import test_qrp_check as tests
+
+class Refusing:
+    def __init__(self, library):
+        self.library, self.calls, self.refused = library, 0, None
+
+    def __getattr__(self, name):
+        is_refused = name.startswith("qrp_proof") and name != "qrp_proof_free"
+        return (lambda *words: self.call(name, words)) if is_refused else getattr(self.library, name)
+
+    def call(self, name, words):
+        self.calls += 1
+        if self.calls != self.refused:
+            return getattr(self.library, name)(*words)
+        if name == "qrp_proof_clauses":
+            words[-1]._obj.value = 0
+        if name == "qrp_proof_check" or name.startswith("qrp_proof_write"):
+            words[-1]._obj.status = 4
+        return 0 if name.startswith("qrp_proof_write") else 4
+
+def attempt(call, *words, **flags):
+    try:
+        return call(*words, **flags)
+    except MemoryError as error:
+        print(error)
+        return call(*words, **flags)
+
+def verdict(pieces, refused):
+    qrp_check._library.calls, qrp_check._library.refused = 0, refused
+    proof = attempt(qrp_check.Proof)
+    pieces.add_to(proof, attempt=attempt)
+    attempt(proof.add_clauses, [])
+    print(attempt(proof.check, sat=pieces.sat))
+    texts = attempt(proof.formula_text), attempt(proof.trace_text, sat=pieces.sat)
+    print(texts == pieces.texts(), attempt(proof.trimmed_text, sat=pieces.sat) == qrp_check.trim(*texts))
     return proof
 
 qrp_check._library = Refusing(qrp_check._library)
@@ -703,7 +1178,7 @@ def main(words):
         print(best_time(cases))
         return
     results = [(bool(is_answered(case)), case) for case in cases]
-    results += [(bool(is_handed_over(case)), case) for case in cases if has_pieces(case)]
+    results += [(bool(call(case)), case) for call in (is_handed_over, is_written) for case in cases if has_pieces(case)]
     for is_right, case in results:
         if not is_right:
             print(f"FAILED: in Python: wanted {case.status} {case.line}")
@@ -713,7 +1188,7 @@ def main(words):
     rest = [*meanings(), *errors(verified), from_pipe(verified), all(is_lent(case) for case in cases if case.trace)]
     rest += [*in_processes(verified, refused), *names(), while_cut(verified), without_c(verified)]
     rest += without_memory(verified)
-    rest += [*pieces_refused(), *closed_proof(), *wrong_pieces(), *on_its_thread()]
+    rest += [*pieces_refused(), *many_clauses(), *closed_proof(), *wrong_pieces(), *on_its_thread()]
     rest += [answer for case in (verified, with_antecedents) for answer in numbers_lent(case)]
     rest += refused_in_turn(with_antecedents, pathlib.Path(words[0]).read_text().splitlines()[cases.index(with_antecedents)])
     rest += [typing.get_type_hints(qrp_check.Verdict.__bool__) == {"return": typing.NoReturn}]

@@ -18,6 +18,7 @@
 #![tactic(auto)]
 
 mod proof;
+mod texts;
 
 ghost use Rattle.std.specs.Prelude.{◌≡◌, ◌≢◌, ◌≤◌, ◌+◌, [], pos, drop, Result};
 ghost use Rattle.qrp_check.specs.declared.verdict.Verified.{Verified};

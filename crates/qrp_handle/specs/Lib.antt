@@ -1,4 +1,6 @@
 pub mod Adding
 pub mod Checks
+pub mod Many
 pub mod Owned
 pub mod Statuses
+pub mod Texts

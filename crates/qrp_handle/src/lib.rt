@@ -12,12 +12,14 @@
 #![tactic(auto)]
 
 mod claim;
+mod clauses;
 mod fault;
 mod handle;
 mod held;
 mod loose;
 mod proof;
 mod status;
+mod texts;
 mod written;
 
 pub use claim::outcome_of;
