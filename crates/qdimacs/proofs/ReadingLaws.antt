@@ -59,7 +59,7 @@ pub text_up_to_is_read : (f : Qbf) (max_var : ℕ) → IsWellFormed f → max_va
     → read_formula (text (record f { max_var = max_var })) ≡ Ok (record f { max_var = max_var })
 text_up_to_is_read f max_var w number top =
     text_is_read (record f { max_var = max_var })
-        (record { prefix = w.prefix; numbers = number; top = top; closed = w.closed; count = w.count })
+    (record { prefix = w.prefix; numbers = number; top = top; closed = w.closed; count = w.count })
 
 pub bytes_read : BytesRead Reads read Qdimacs
 bytes_read bytes = read_explained (tokens Qdimacs bytes) (tokens-EndsOnce Qdimacs bytes)

@@ -7,7 +7,7 @@ ghost use Rattle.qbf_text.specs.Canonical.{line_text};
 ghost use Rattle.qbf_text.specs.Written.{IsPut};
 ghost use Rattle.qrp.specs.Derivations.{steps_at, with_steps_at};
 ghost use Rattle.qrp.specs.Framed.{framed};
-ghost use Rattle.qrp.specs.Grammar.{result as result_line, text};
+ghost use Rattle.qrp.specs.Grammar.{header, result as result_line, text};
 ghost use Rattle.qrp.specs.Inferences.{Inference, IsAt};
 ghost use Rattle.qrp.specs.Reading.{read_trace};
 ghost use Rattle.dimacs_syntax.specs.Texts.{set_text};
@@ -137,6 +137,14 @@ pub struct Frame {
     pub result: Outcome,
 }
 
+/// The header of the text of a trace with this frame and so many steps.
+fn framed_header<'a>(frame: Frame, steps: usize) -> HeaderLine<'a>
+    ensures { ⟦<HeaderLine<'a> as Put>⟧.text result
+        ≡ line_text (header (record { vars = frame.vars; steps = steps })) }
+{
+    HeaderLine(b"p qrp", frame.vars, steps as u64)
+}
+
 /// Writes the canonical text of a trace with this frame, no sets, and the steps of this one, which
 /// the header counts, as `write_trace` does. It takes no memory.
 ///
@@ -153,7 +161,7 @@ pub fn write_framed<K: Sink>(trace: &Trace, frame: Frame, sink: &mut K) -> Resul
     // The result of a trace shows what holds of every trace.
     let _ = trace.result();
     let kept = LentSteps(trace);
-    let header = HeaderLine(b"p qrp", frame.vars, kept.len() as u64);
+    let header = framed_header(frame, kept.len());
     (header, (StepLines(&kept), frame.result)).put(sink)
 }
 
@@ -172,7 +180,7 @@ pub fn write_framed_at<K: Sink>(
         (text (with_steps_at (framed frame trace.now.steps) positions.now)) result }
 {
     let kept = LentSteps(trace);
-    let header = HeaderLine(b"p qrp", frame.vars, positions.len() as u64);
+    let header = framed_header(frame, positions.len());
     let lines = StepLinesAt {
         trace: &kept,
         positions,

@@ -41,11 +41,7 @@ impl Proof {
     ///
     /// # Errors
     /// As of `push_clause`. The clauses before it are added then.
-    pub fn push_clauses(
-        &mut self,
-        alloc: Global,
-        written: &[i32],
-    ) -> (usize, Result<(), AddFault>)
+    pub fn push_clauses(&mut self, alloc: Global, written: &[i32]) -> (usize, Result<(), AddFault>)
         ensures added { AreAdded result.0 written.now self.old self.new }
         ensures all { OnOk result.1 (result.0 ≡ length (clauses_of written.now)) }
         ensures refused { IfErr result.1

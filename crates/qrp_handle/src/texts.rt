@@ -44,11 +44,8 @@ impl Proof {
         ensures reads_back { read_formula (formulas.text (formula_written self.now.formula))
             ≡ Ok (formula_written self.now.formula) }
     {
-        write_formula_up_to(
-            &self.formula,
-            greatest_variable(self.formula.prefix()),
-            sink,
-        )
+        let greatest = greatest_variable(self.formula.prefix());
+        write_formula_up_to(&self.formula, greatest, sink)
     }
 
     /// What the text of a trace with this outcome has beside its steps.
@@ -73,8 +70,7 @@ impl Proof {
         ensures put { IsPut K.written K.failures K.failed_last sink.old sink.new (traces.text
             (trace_written self.now.formula self.now.trace.steps outcome)) result }
         // The text is read as this trace.
-        ensures reads_back {
-            read_trace (traces.text (trace_written self.now.formula self.now.trace.steps outcome))
+        ensures reads_back { read_trace (traces.text (trace_written self.now.formula self.now.trace.steps outcome))
             ≡ Ok (trace_written self.now.formula self.now.trace.steps outcome) }
     {
         write_framed(&self.trace, self.frame(outcome), sink)
