@@ -26,8 +26,7 @@ struct model {
 static unsigned long passed, failed, calls, verdicts, verified[2], of_step, refusals;
 
 static void settle(bool is, const char *what) {
-    if (is) { passed++; return; }
-    if (failed++ < 20) printf("FAILED: %s, after %lu calls\n", what, calls);
+    if (!is && failed++ < 20) printf("FAILED: %s, after %lu calls\n", what, calls);
 }
 
 /* Memory: how many blocks are in use, and whether every 20th request is refused. */
@@ -415,7 +414,7 @@ int main(int count, char **words) {
     unsigned long sequences = count > 1 ? strtoul(words[1], NULL, 10) : 0;
     unsigned long long seed = count > 2 ? strtoull(words[2], NULL, 10) : 1;
     state = seed * 0x9E3779B97F4A7C15 + 1;
-    for (unsigned long i = 0; i < sequences; i++) sequence(i % 4 == 3);
+    for (unsigned long i = 0, before; i < sequences; i++) before = failed, sequence(i % 4 == 3), passed += failed == before;
     /* Each kind of answer has come, if there were enough sequences to expect it. */
     if (sequences >= 1000) settle(verified[0] > 100 && verified[1] > 100 && of_step > 100 && refusals > 100, "answers of each kind");
     printf("orders of calls, seed %llu: %lu sequences with %lu calls and %lu verdicts, of which %lu false, %lu true and %lu of a step; %lu requests "
