@@ -47,6 +47,8 @@ impl Proof {
         ensures refused { IfErr result.1
             (IsClauseFault self.new.formula (clause_after result.0 written.now)) }
     {
+        // The length of the list shows that the count fits.
+        let _ = written.len();
         let mut count = 0;
         let mut rest = written;
         while !rest.is_empty() {
