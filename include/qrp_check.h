@@ -143,8 +143,8 @@ struct qrp_proof {
     uint32_t present;
 };
 
-/* What the calls on a struct qrp_proof return. After each but QRP_ADDED the struct holds what it held before; qrp_proof_clauses may have added
- * some of its clauses. */
+/* What the calls on a struct qrp_proof return. After each but QRP_ADDED the struct holds what it held before, and of qrp_proof_clauses those
+ * clauses that it added. */
 enum qrp_added {
     QRP_ADDED = 0,                 /* done; QRP_NO_MEMORY, 4, is: out of memory, so not done */
     QRP_OUT_OF_RANGE = 5,          /* a literal is 0 or -2^31, a variable 0 or above 2^31 - 1, or a step's number or antecedent 0 */
@@ -197,8 +197,8 @@ size_t qrp_proof_write_formula(struct qrp_proof *proof, char *buffer, size_t roo
 size_t qrp_proof_write_trace(struct qrp_proof *proof, bool sat, char *buffer, size_t room, struct qrp_verdict *out)
     QRP_NONNULL(1) QRP_NONNULL(5);
 
-/* Checks as qrp_proof_check does and writes the same to *out. If the proof is verified, it writes the same trace with only the steps that the
- * proof needs; else the text is empty, and its length 0. */
+/* Checks as qrp_proof_check does and writes the same to *out. If the proof is verified, it writes the same trace with only the steps that
+ * the proof needs; else the text is empty, and its length 0. */
 size_t qrp_proof_write_trimmed(struct qrp_proof *proof, bool sat, bool any_pivot, char *buffer, size_t room, struct qrp_verdict *out)
     QRP_NONNULL(1) QRP_NONNULL(6);
 

@@ -46,7 +46,8 @@ int main(void) {
     settle(qrp_proof_check(&proof, false, false, &by_null) == QRP_VERIFIED && by_null.letter == 'V' && !by_null.truth, "a proof");
     settle(qrp_proof_core(&proof, false, false, NULL, 0, &by_null) == 1 && by_null.letter == 'V', "the list of qrp_proof_core");
     settle(qrp_proof_write_formula(&proof, NULL, 0, &by_null) == strlen("p cnf 0 1\n0\n"), "the buffer of qrp_proof_write_formula");
-    settle(qrp_proof_write_trace(&proof, false, NULL, 0, &by_null) == strlen("p qrp 0 1\n1 0 0\nr unsat\n"), "the buffer of qrp_proof_write_trace");
+    settle(qrp_proof_write_trace(&proof, false, NULL, 0, &by_null) == strlen("p qrp 0 1\n1 0 0\nr unsat\n"),
+           "the buffer of qrp_proof_write_trace");
     settle(qrp_proof_write_trimmed(&proof, false, false, NULL, 0, &by_null) == strlen("p qrp 0 1\n1 0 0\nr unsat\n")
                && by_null.letter == 'V', "the buffer of qrp_proof_write_trimmed");
     qrp_proof_free(&proof);

@@ -163,7 +163,8 @@ static bool has_core(struct qrp_proof *proof, const char *formula, const char *t
         texts_are_right &= call(__VA_ARGS__, at, length + 1, out) == length && at[length] == 0 && at[length + 1] == 'x'; \
     } while (0)
 
-/* Whether the texts that are written of a proof are the formula, but for its header, and a trace with the proof's verdict and trimmed trace. */
+/* Whether the texts that are written of a proof are the formula, but for its header, and a trace with the proof's verdict and trimmed
+   trace. */
 static bool has_texts(struct qrp_proof *proof, const char *formula, bool sat, bool any_pivot, const struct qrp_verdict *verdict) {
     struct qrp_verdict of_formula, of_trace, of_trimmed, of_texts, zeros;
     char *own, *trace, *trimmed;

@@ -164,7 +164,7 @@ static void put_into(struct list *list, int32_t literal) {
 }
 static struct list random_list(const struct model *model, uint32_t most) {
     struct list list = {.count = 0};
-    for (uint32_t count = random_below(most + 1); count > 0 && list.count < LITERALS; count--) list.at[list.count++] = random_literal(model);
+    for (uint32_t count = random_below(most + 1); count > 0; count--) list.at[list.count++] = random_literal(model);
     return list;
 }
 static size_t place_of(const struct model *model, int32_t literal) {
@@ -326,13 +326,15 @@ static void write_trimmed(struct qrp_proof *proof, bool sat, bool any_pivot, con
     size_t room = random_room(trimmed.length), length = qrp_proof_write_trimmed(proof, sat, any_pivot, room ? buffer : NULL, room, &out);
     settle((is_text(buffer, room, length, &trimmed) && are_same(&out, wanted)) || was_no_memory(&out, room, length), "the trimmed trace");
 }
-static void list_core(struct qrp_proof *proof, bool sat, bool any_pivot, const uint64_t *core, size_t count, const struct qrp_verdict *wanted) {
+static void list_core(struct qrp_proof *proof, bool sat, bool any_pivot, const uint64_t *core, size_t count,
+                      const struct qrp_verdict *wanted) {
     uint64_t steps[STEPS + 4];
     struct qrp_verdict out;
     memset(steps, 0xa5, sizeof steps);
     size_t room = one_in(4) ? random_below(3) : count + random_below(3);
     size_t listed = qrp_proof_core(proof, sat, any_pivot, room ? steps : NULL, room, &out);
-    bool no_memory = was_refused && out.status == QRP_NO_MEMORY && listed == 0, is = no_memory || (listed == count && are_same(&out, wanted));
+    bool no_memory = was_refused && out.status == QRP_NO_MEMORY && listed == 0;
+    bool is = no_memory || (listed == count && are_same(&out, wanted));
     for (size_t i = 0; i < STEPS + 4; i++) is &= steps[i] == (!no_memory && room >= count && i < count ? core[i] : 0xa5a5a5a5a5a5a5a5);
     settle(is, "the core");
 }
@@ -417,8 +419,8 @@ int main(int count, char **words) {
     for (unsigned long i = 0, before; i < sequences; i++) before = failed, sequence(i % 4 == 3), passed += failed == before;
     /* Each kind of answer has come, if there were enough sequences to expect it. */
     if (sequences >= 1000) settle(verified[0] > 100 && verified[1] > 100 && of_step > 100 && refusals > 100, "answers of each kind");
-    printf("orders of calls, seed %llu: %lu sequences with %lu calls and %lu verdicts, of which %lu false, %lu true and %lu of a step; %lu requests "
-           "for memory refused\n", seed, sequences, calls, verdicts, verified[0], verified[1], of_step, refusals);
+    printf("orders of calls, seed %llu: %lu sequences with %lu calls and %lu verdicts, of which %lu false, %lu true and %lu of a step;"
+           " %lu requests for memory refused\n", seed, sequences, calls, verdicts, verified[0], verified[1], of_step, refusals);
     printf("%lu %lu\n", passed, failed);
     return failed != 0;
 }

@@ -538,8 +538,8 @@ def is_written(example):
 def many_clauses():
     """Whether many clauses in one call are those of many calls, those before a refused one are added, and none out of range is an end."""
     wide, answers = "OUT_OF_RANGE", []
-    rows = [([1, 2, 0, -1, 0], None, [[1, 2], [-1]]), ([1, 2, 0, -1], None, [[1, 2], [-1]]), ([0, 0, 1], None, [[], [], [1]]), ([], None, [])]
-    rows += [([1, 0, 3, 0, 2, 0], (2, "NOT_BOUND"), [[1]]), ([1, 0, -2, 0, 2**31, 0], (3, wide), [[1], [-2]])]
+    rows = [([1, 2, 0, -1, 0], None, [[1, 2], [-1]]), ([1, 2, 0, -1], None, [[1, 2], [-1]]), ([0, 0, 1], None, [[], [], [1]])]
+    rows += [([], None, []), ([1, 0, 3, 0, 2, 0], (2, "NOT_BOUND"), [[1]]), ([1, 0, -2, 0, 2**31, 0], (3, wide), [[1], [-2]])]
     rows += [([-(2**31), 0, 1], (1, wide), []), ([1, 2**32 + 1, 0, 2], (1, wide), []), ([2, 0, 1, -(2**40)], (2, wide), [[2]])]
     for literals, fault, clauses in rows:
         for kind in (list, iter, tuple, functools.partial(array.array, "q")):
@@ -769,7 +769,8 @@ def refused_in_turn(example, row):
         ended = subprocess.run(words, env=environment, capture_output=True, text=True, check=False)
     pieces = Pieces(example)
     before_clauses = 1 + sum(len(variables) for _, variables in pieces.blocks) + len(pieces.clauses) + len(pieces.steps)
-    undone, unknown = "out of memory, so nothing was done: the same call can be made again", "out of memory, so nothing is known: check again with more"
+    undone = "out of memory, so nothing was done: the same call can be made again"
+    unknown = "out of memory, so nothing is known: check again with more"
     many, end = "out of memory after 0 of the clauses, which are added: hand over the others again", [example.line, "True True"]
     wanted = end + [undone, *end] * before_clauses + [many, *end] + [unknown, *end] + [example.line, unknown, "True True"] * 3
     return [ended.stdout.splitlines() == wanted, ended.returncode == 4, ended.stderr == ""]
@@ -924,8 +925,8 @@ def is_written(example):
 def many_clauses():
     """Whether many clauses in one call are those of many calls, those before a refused one are added, and none out of range is an end."""
     wide, answers = "OUT_OF_RANGE", []
-    rows = [([1, 2, 0, -1, 0], None, [[1, 2], [-1]]), ([1, 2, 0, -1], None, [[1, 2], [-1]]), ([0, 0, 1], None, [[], [], [1]]), ([], None, [])]
-    rows += [([1, 0, 3, 0, 2, 0], (2, "NOT_BOUND"), [[1]]), ([1, 0, -2, 0, 2**31, 0], (3, wide), [[1], [-2]])]
+    rows = [([1, 2, 0, -1, 0], None, [[1, 2], [-1]]), ([1, 2, 0, -1], None, [[1, 2], [-1]]), ([0, 0, 1], None, [[], [], [1]])]
+    rows += [([], None, []), ([1, 0, 3, 0, 2, 0], (2, "NOT_BOUND"), [[1]]), ([1, 0, -2, 0, 2**31, 0], (3, wide), [[1], [-2]])]
     rows += [([-(2**31), 0, 1], (1, wide), []), ([1, 2**32 + 1, 0, 2], (1, wide), []), ([2, 0, 1, -(2**40)], (2, wide), [[2]])]
     for literals, fault, clauses in rows:
         for kind in (list, iter, tuple, functools.partial(array.array, "q")):
