@@ -4,8 +4,9 @@
 //! - Offers: `QrpProof`, `Proof`, `AddFault`, `status_of`, `outcome_of`, `literals_of`.
 //! - Proved: what each addition changes; that the fault which refuses one stands, and that nothing
 //!   is changed then; what the verdict says of the formula and the steps that were handed over;
-//!   that the struct owns what it holds.
-//! - Read first: `Proof::push_variable`, `Proof::push_clause`, `Proof::push_step`, `Proof::check`.
+//!   that their texts are read as them; that the struct owns what it holds.
+//! - Read first: `Proof::push_variable`, `Proof::push_clause`, `Proof::push_clauses`,
+//!   `Proof::push_step`, `Proof::check`, `Proof::write_formula`, `Proof::write_trace`.
 //! - Tested only: by the tests of `qrp_c`.
 //! - Trusted: nothing.
 //! - On the map: a proof handed over, | piece by piece.
