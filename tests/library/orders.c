@@ -418,7 +418,9 @@ int main(int count, char **words) {
     state = seed * 0x9E3779B97F4A7C15 + 1;
     for (unsigned long i = 0, before; i < sequences; i++) before = failed, sequence(i % 4 == 3), passed += failed == before;
     /* Each kind of answer has come, if there were enough sequences to expect it. */
-    if (sequences >= 1000) settle(verified[0] > 100 && verified[1] > 100 && of_step > 100 && refusals > 100, "answers of each kind");
+    if (sequences >= 1000)
+        settle(verified[0] > sequences / 20 && verified[1] > sequences / 50 && of_step > sequences && refusals > sequences,
+               "answers of each kind");
     printf("orders of calls, seed %llu: %lu sequences with %lu calls and %lu verdicts, of which %lu false, %lu true and %lu of a step;"
            " %lu requests for memory refused\n", seed, sequences, calls, verdicts, verified[0], verified[1], of_step, refusals);
     printf("%lu %lu\n", passed, failed);
