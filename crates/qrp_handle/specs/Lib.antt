@@ -4,3 +4,4 @@ pub mod Many
 pub mod Owned
 pub mod Statuses
 pub mod Texts
+pub mod Alike
