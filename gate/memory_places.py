@@ -313,8 +313,8 @@ class Memory:
             return "more than a call"
         called = self.resolved(code, n, re.sub(r"::<[A-Za-z0-9_<>]+>::", "::", text[:start]))
         # A text that is written to a VecSink.
-        written = re.search(r", &mut ([a-z_]+)\)$", text)
-        if re.search(r":write_[a-z_]+$", called) and written and self.type_of(code, n, written[1]) == "VecSink":
+        written = re.search(r"[ (]&mut ([a-z_]+)\)$", text)
+        if re.search(r"[:.]write_[a-z_]+$", called) and written and self.type_of(code, n, written[1]) == "VecSink":
             return ""
         return "" if called in self.alone and called not in self.other else f"the call {called} may be refused for another reason"
 

@@ -143,7 +143,8 @@ struct qrp_proof {
     uint32_t present;
 };
 
-/* What the calls on a struct qrp_proof return. After each but QRP_ADDED the struct holds what it held before. */
+/* What the calls on a struct qrp_proof return. After each but QRP_ADDED the struct holds what it held before, and of qrp_proof_clauses those
+ * clauses that it added. */
 enum qrp_added {
     QRP_ADDED = 0,                 /* done; QRP_NO_MEMORY, 4, is: out of memory, so not done */
     QRP_OUT_OF_RANGE = 5,          /* a literal is 0 or -2^31, a variable 0 or above 2^31 - 1, or a step's number or antecedent 0 */
@@ -164,6 +165,11 @@ int32_t qrp_proof_variable(struct qrp_proof *proof, bool universal, uint32_t var
 /* Adds a clause of so many literals, each a variable, or its negative if it is negated. Its variables are bound. */
 int32_t qrp_proof_clause(struct qrp_proof *proof, const int32_t *literals, size_t count) QRP_NONNULL(1);
 
+/* Adds many clauses at once. The list has the literals of one clause after the other, and a 0 ends each; the last clause may lack its 0.
+ * *added gets how many clauses were added, from the first on. If a clause is not added, neither are those after it, and the status is that
+ * of qrp_proof_clause for it. */
+int32_t qrp_proof_clauses(struct qrp_proof *proof, const int32_t *literals, size_t count, size_t *added) QRP_NONNULL(1) QRP_NONNULL(4);
+
 /* Adds a step: its number, which is not 0 and not that of another step, its literals, and the numbers of its antecedents: none of an initial
  * step, one of a reduction, two of a resolution. */
 int32_t qrp_proof_step(struct qrp_proof *proof, uint64_t number, const int32_t *literals, size_t count, const uint64_t *antecedents,
@@ -178,6 +184,22 @@ int32_t qrp_proof_check(struct qrp_proof *proof, bool sat, bool any_pivot, struc
  * not less than that, writes their numbers to the front of `steps`, in the order in which they were added; else it returns 0. The rest of
  * `steps` is left as it was. */
 size_t qrp_proof_core(struct qrp_proof *proof, bool sat, bool any_pivot, uint64_t *steps, size_t room, struct qrp_verdict *out)
+    QRP_NONNULL(1) QRP_NONNULL(6);
+
+/* Writes the formula that was handed over in canonical form, as a text for qrp_verify and the programs, and zeros to *out, which are not a
+ * verdict. Its header has the greatest variable that is bound. If memory is refused, *out has the fault C5, and the text is empty, and its
+ * length 0. The text is empty too, with zeros in *out, if the struct holds nothing. */
+size_t qrp_proof_write_formula(struct qrp_proof *proof, char *buffer, size_t room, struct qrp_verdict *out) QRP_NONNULL(1) QRP_NONNULL(4);
+
+/* Writes the steps that were handed over in canonical form, as a trace that says `r sat`, if `sat`, or `r unsat`; else as
+ * qrp_proof_write_formula. The trace has no sets, so that they agree with each prefix. Nothing is checked: the two texts have the verdict
+ * that qrp_proof_check writes, with the same step if one is refused, so `qrp-explain` explains it. */
+size_t qrp_proof_write_trace(struct qrp_proof *proof, bool sat, char *buffer, size_t room, struct qrp_verdict *out)
+    QRP_NONNULL(1) QRP_NONNULL(5);
+
+/* Checks as qrp_proof_check does and writes the same to *out. If the proof is verified, it writes the same trace with only the steps that
+ * the proof needs; else the text is empty, and its length 0. */
+size_t qrp_proof_write_trimmed(struct qrp_proof *proof, bool sat, bool any_pivot, char *buffer, size_t room, struct qrp_verdict *out)
     QRP_NONNULL(1) QRP_NONNULL(6);
 
 /* Gives back what the struct holds; it holds nothing then. It may be called again. */

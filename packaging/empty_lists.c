@@ -16,8 +16,12 @@ size_t qrp_lent_strategy(const void *, size_t, const void *, size_t, bool, bool,
 size_t qrp_lent_format(const void *, size_t, char *, size_t, struct qrp_verdict *);
 size_t qrp_lent_core(const void *, size_t, const void *, size_t, bool, uint64_t *, size_t, struct qrp_verdict *);
 int32_t qrp_lent_proof_clause(struct qrp_proof *, const int32_t *, size_t);
+int32_t qrp_lent_proof_clauses(struct qrp_proof *, const int32_t *, size_t, size_t *);
 size_t qrp_lent_proof_core(struct qrp_proof *, bool, bool, uint64_t *, size_t, struct qrp_verdict *);
 int32_t qrp_lent_proof_step(struct qrp_proof *, uint64_t, const int32_t *, size_t, const uint64_t *, size_t);
+size_t qrp_lent_proof_write_formula(struct qrp_proof *, char *, size_t, struct qrp_verdict *);
+size_t qrp_lent_proof_write_trace(struct qrp_proof *, bool, char *, size_t, struct qrp_verdict *);
+size_t qrp_lent_proof_write_trimmed(struct qrp_proof *, bool, bool, char *, size_t, struct qrp_verdict *);
 
 int32_t qrp_verify(const void *formula, size_t formula_length, const void *trace, size_t trace_length, bool any_pivot,
                    struct qrp_verdict *out) {
@@ -58,6 +62,10 @@ int32_t qrp_proof_clause(struct qrp_proof *proof, const int32_t *literals, size_
     return qrp_lent_proof_clause(proof, LENT(literals, count), count);
 }
 
+int32_t qrp_proof_clauses(struct qrp_proof *proof, const int32_t *literals, size_t count, size_t *added) {
+    return qrp_lent_proof_clauses(proof, LENT(literals, count), count, added);
+}
+
 int32_t qrp_proof_step(struct qrp_proof *proof, uint64_t number, const int32_t *literals, size_t count, const uint64_t *antecedents,
                        size_t antecedent_count) {
     return qrp_lent_proof_step(proof, number, LENT(literals, count), count, LENT(antecedents, antecedent_count), antecedent_count);
@@ -65,4 +73,16 @@ int32_t qrp_proof_step(struct qrp_proof *proof, uint64_t number, const int32_t *
 
 size_t qrp_proof_core(struct qrp_proof *proof, bool sat, bool any_pivot, uint64_t *steps, size_t room, struct qrp_verdict *out) {
     return qrp_lent_proof_core(proof, sat, any_pivot, LENT(steps, room), room, out);
+}
+
+size_t qrp_proof_write_formula(struct qrp_proof *proof, char *buffer, size_t room, struct qrp_verdict *out) {
+    return qrp_lent_proof_write_formula(proof, LENT(buffer, room), room, out);
+}
+
+size_t qrp_proof_write_trace(struct qrp_proof *proof, bool sat, char *buffer, size_t room, struct qrp_verdict *out) {
+    return qrp_lent_proof_write_trace(proof, sat, LENT(buffer, room), room, out);
+}
+
+size_t qrp_proof_write_trimmed(struct qrp_proof *proof, bool sat, bool any_pivot, char *buffer, size_t room, struct qrp_verdict *out) {
+    return qrp_lent_proof_write_trimmed(proof, sat, any_pivot, LENT(buffer, room), room, out);
 }

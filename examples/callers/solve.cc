@@ -24,7 +24,7 @@ static void print_line(const qrp_verdict &verdict) {
     std::cout << line;
 }
 
-// The formula and the steps so far, as the library holds them, and the proof as text.
+// The formula and the steps so far, as the library holds them.
 class Proof {
 public:
     Proof() : held() { must_be_added(qrp_proof_new(&held)); }
@@ -34,8 +34,6 @@ public:
 
     void add_variable(bool universal, std::int32_t variable) {
         must_be_added(qrp_proof_variable(&held, universal, static_cast<std::uint32_t>(variable)));
-        variables++;
-        text += (universal ? "a " : "e ") + std::to_string(variable) + " 0\n";
     }
 
     void add_clause(const Literals &clause) { must_be_added(qrp_proof_clause(&held, clause.data(), clause.size())); }
@@ -44,12 +42,7 @@ public:
     std::uint64_t add_step(const Literals &literals, const Steps &antecedents) {
         must_be_added(
             qrp_proof_step(&held, last + 1, literals.data(), literals.size(), antecedents.data(), antecedents.size()));
-        text += std::to_string(++last) + ' ';
-        for (std::int32_t literal : literals) text += std::to_string(literal) + ' ';
-        text += "0 ";
-        for (std::uint64_t antecedent : antecedents) text += std::to_string(antecedent) + ' ';
-        text += "0\n";
-        return last;
+        return ++last;
     }
 
     qrp_verdict check(bool sat) {
@@ -58,16 +51,21 @@ public:
         return verdict;
     }
 
-    void write(const char *path, bool sat) const {
+    // Writes the proof to a file, as text.
+    void write(const char *path, bool sat) {
+        // With no room the call returns how much is needed.
+        qrp_verdict verdict;
+        const std::size_t length = qrp_proof_write_trace(&held, sat, nullptr, 0, &verdict);
+        std::vector<char> text(length + 1);
+        if (length == 0 || qrp_proof_write_trace(&held, sat, text.data(), text.size(), &verdict) == 0) throw std::bad_alloc();
         std::ofstream file(path, std::ios::binary);
-        file << "p qrp " << variables << ' ' << last << '\n' << text << (sat ? "r sat\n" : "r unsat\n");
+        file.write(text.data(), static_cast<std::streamsize>(length));
         if (!file.flush()) throw std::runtime_error(path + std::string(": it cannot be written"));
     }
 
 private:
     qrp_proof held;
-    std::uint64_t variables = 0, last = 0; // how many variables, and the number of the last step
-    std::string text;
+    std::uint64_t last = 0; // the number of the last step
     static void must_be_added(std::int32_t status) {
         if (status == QRP_NO_MEMORY) throw std::bad_alloc();
         if (status != QRP_ADDED) throw std::logic_error("a piece is refused: qrp_added " + std::to_string(status));

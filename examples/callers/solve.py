@@ -34,7 +34,6 @@ class Solver:
         self.values = set()  # the literals that are set to true
         self.clauses = []  # those of the formula that are not tautologies
         self.constraints = []  # the same, reduced, and what was learned
-        self.lines = []  # of the proof as text
         self.last = 0  # the number of the last step
         for line in formula.decode().splitlines()[1:]:
             *words, _ = line.split()
@@ -49,7 +48,6 @@ class Solver:
         for variable in variables:
             self.universal[variable], self.block[variable] = universal, place
         self.order += variables
-        self.lines.append(" ".join(map(str, ["a" if universal else "e", *variables, 0])))
 
     def add_clause(self, literals):
         self.proof.add_clause(literals)
@@ -62,10 +60,6 @@ class Solver:
         """Whether the formula is true. The last step is then the empty cube, or else the empty clause."""
         return self.search(0).is_cube
 
-    def text(self, sat):
-        """The proof as text."""
-        return "\n".join([f"p qrp {len(self.order)} {self.last}", *self.lines, f"r {'sat' if sat else 'unsat'}", ""])
-
     def reduced(self, is_cube, literals):
         """The literals without those of the reduced quantifier that come after all others."""
         deciding = [self.block[abs(literal)] for literal in literals if self.universal[abs(literal)] == is_cube]
@@ -76,7 +70,6 @@ class Solver:
         """Hands a step over. Returns its number."""
         self.last += 1
         self.proof.add_step(self.last, literals, antecedents)
-        self.lines.append(" ".join(map(str, [self.last, *literals, 0, *antecedents, 0])))
         return self.last
 
     def learn(self, is_cube, literals, antecedents):
@@ -135,9 +128,9 @@ def run(formula, trace=None):
         solver = Solver(text, proof)
         sat = solver.solve()
         verdict = proof.check(sat=sat)
-    print(verdict, flush=True)
-    if trace is not None:
-        pathlib.Path(trace).write_text(solver.text(sat))
+        print(verdict, flush=True)
+        if trace is not None:
+            pathlib.Path(trace).write_bytes(proof.trace_text(sat=sat))
     return verdict.status
 
 

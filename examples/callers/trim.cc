@@ -19,6 +19,14 @@ static std::string bytes_of(const char *path) {
     return std::string(std::istreambuf_iterator<char>(file), std::istreambuf_iterator<char>());
 }
 
+// Prints the line of a verdict that is no result, and returns its status.
+static int refused(const qrp_verdict &verdict) {
+    char line[QRP_LINE_ROOM];
+    qrp_verdict_line(&verdict, line, sizeof line);
+    std::cerr << line;
+    return verdict.status;
+}
+
 int main(int count, char **words) {
     if (count != 3) {
         std::cerr << "usage: trim FORMULA TRACE\n";
@@ -33,18 +41,14 @@ int main(int count, char **words) {
         text.resize(length + 1);
         length = qrp_trim(formula.data(), formula.size(), trace.data(), trace.size(), false, text.data(), text.size(), &verdict);
     }
-    if (length == 0) {
-        char line[QRP_LINE_ROOM];
-        qrp_verdict_line(&verdict, line, sizeof line);
-        std::cerr << line;
-        return verdict.status;
-    }
+    if (length == 0) return refused(verdict);
     std::cout.write(text.data(), static_cast<std::streamsize>(length));
-    // With no room a call returns how much is needed; any address will do then.
-    std::uint64_t nowhere;
+    // With no room a call returns how much is needed, and takes NULL. It may be out of memory too: then there are no steps.
     std::vector<std::uint64_t> steps(
-        qrp_core(formula.data(), formula.size(), trace.data(), trace.size(), false, &nowhere, 0, &verdict));
-    qrp_core(formula.data(), formula.size(), trace.data(), trace.size(), false, steps.data(), steps.size(), &verdict);
+        qrp_core(formula.data(), formula.size(), trace.data(), trace.size(), false, nullptr, 0, &verdict));
+    if (!steps.empty())
+        qrp_core(formula.data(), formula.size(), trace.data(), trace.size(), false, steps.data(), steps.size(), &verdict);
+    if (verdict.status != QRP_VERIFIED) return refused(verdict);
     std::cerr << steps.size() << " steps, the last is " << steps.back() << '\n';
     return verdict.status;
 }

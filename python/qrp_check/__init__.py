@@ -71,6 +71,7 @@ _LINE_ROOM = 48  # QRP_LINE_ROOM
 _FAULT_ROOM = 128  # QRP_FAULT_ROOM
 _NO_MEMORY = 4  # QRP_NO_MEMORY
 _NO_PROOF = 11  # QRP_NO_PROOF
+_SOME = 1 << 16  # How much room the text of a proof gets at first; if it is not enough, the call is made again.
 _MORE = 32  # A canonical text is at most so much longer, since its header has the right numbers; if not, the call is made again.
 _READ_UP_TO = 1 << 30  # Larger files are mapped.
 
@@ -170,7 +171,7 @@ _PIECE_FAULTS = {
 
 
 class PieceRefused(ValueError):
-    """A piece is refused, so the `Proof` holds what it held before.
+    """A piece is refused, so the `Proof` holds what it held before, and what `add_variables` or `add_clauses` added before the piece.
 
     piece     'variable', 'clause' or 'step', or 'proof' for a check of a closed one.
     position  The variable, the place of the clause counted from 1, or the number of the step, as it was given; None for a check.
@@ -217,9 +218,13 @@ def _load() -> ctypes.CDLL:
         ("qrp_proof_new", ctypes.c_int32, [proof]),
         ("qrp_proof_variable", ctypes.c_int32, [proof, ctypes.c_bool, ctypes.c_uint32]),
         ("qrp_proof_clause", ctypes.c_int32, [proof, *text]),
+        ("qrp_proof_clauses", ctypes.c_int32, [proof, *text, ctypes.POINTER(ctypes.c_size_t)]),
         ("qrp_proof_step", ctypes.c_int32, [proof, ctypes.c_uint64, *text, *text]),
         ("qrp_proof_check", ctypes.c_int32, [proof, ctypes.c_bool, ctypes.c_bool, verdict]),
         ("qrp_proof_core", ctypes.c_size_t, [proof, ctypes.c_bool, ctypes.c_bool, *written, verdict]),
+        ("qrp_proof_write_formula", ctypes.c_size_t, [proof, *written, verdict]),
+        ("qrp_proof_write_trace", ctypes.c_size_t, [proof, ctypes.c_bool, *written, verdict]),
+        ("qrp_proof_write_trimmed", ctypes.c_size_t, [proof, ctypes.c_bool, ctypes.c_bool, *written, verdict]),
         ("qrp_proof_free", None, [proof]),
     ]:
         call = getattr(library, name)
@@ -520,7 +525,8 @@ class _LentNumbers(_Lent):
         try:
             return array.array(kind.code, whole)
         except OverflowError:
-            return array.array(kind.code, [_within(number, kind.least, kind.greatest) for number in whole])
+            # The least number of each type is refused as out of range.
+            return array.array(kind.code, [number if kind.least <= number <= kind.greatest else kind.least for number in whole])
 
     def __enter__(self) -> "tuple[object, int]":
         address, length = super().__enter__()
@@ -536,9 +542,10 @@ class Proof:
     are any iterables of whole numbers. An array, a memoryview or an array of NumPy with literals of 32 bits, or antecedents of 64 bits
     without sign, is not copied.
 
-    A refused piece changes nothing and raises PieceRefused; so does each call on a closed proof but `close`. MemoryError says that memory
-    was refused, so nothing was done. A proof stays on the thread that made it: a call from another one raises RuntimeError. It cannot be
-    copied or pickled.
+    A refused piece changes nothing and raises PieceRefused; so does each call on a closed proof but `close`. Only the pieces before it,
+    which `add_variables` or `add_clauses` took, are added. MemoryError says that memory was refused, so nothing was done, but for
+    `add_clauses`, which says how many clauses it added. A proof stays on the thread that made it: a call from another one raises
+    RuntimeError. It cannot be copied or pickled.
 
     Close it, or use it in a `with`: it holds memory that Python does not see. It is also closed when it is collected on its thread; if it
     is collected on another one, its memory stays taken, and a ResourceWarning says so.
@@ -588,6 +595,25 @@ class Proof:
             self._settle(_library.qrp_proof_clause(held, *lent), "clause", self._clauses + 1)
         self._clauses += 1
 
+    def add_clauses(self, literals: _Numbers) -> None:
+        """Adds many clauses at once: the literals of one after the other, and a 0 after each; the last may lack its 0.
+
+        If one is refused, or if memory is, those before it are added, and `clauses` says how many there are.
+        """
+        held = self._opened()
+        added = ctypes.c_size_t()
+        with _LentNumbers("literals", literals, _INT32) as lent:
+            status = _library.qrp_proof_clauses(held, *lent, ctypes.byref(added))
+        self._clauses += added.value
+        if status == _NO_MEMORY:
+            raise MemoryError(f"out of memory after {added.value} of the clauses, which are added: hand over the others again")
+        self._settle(status, "clause", self._clauses + 1)
+
+    @property
+    def clauses(self) -> int:
+        """How many clauses the formula has so far."""
+        return self._clauses
+
     def add_step(self, number: typing.SupportsIndex, literals: _Numbers, antecedents: _Numbers = ()) -> None:
         """Adds a step: its number, its literals, and the numbers of its antecedents: none of an initial step, one of a reduction, two of a
         resolution."""
@@ -619,6 +645,41 @@ class Proof:
         if count == 0:
             raise Refused(_verdict(found))
         return list(steps[:count])
+
+    def formula_text(self) -> bytes:
+        """The formula that was handed over, in canonical form. Its header has the greatest variable that is bound."""
+        held, found = self._opened(), _Verdict()
+
+        def call(buffer: "ctypes.Array[ctypes.c_char]", room: int) -> int:
+            return int(_library.qrp_proof_write_formula(held, buffer, room, ctypes.byref(found)))
+
+        return _text(call, found, _SOME)
+
+    def trace_text(self, *, sat: bool) -> bytes:
+        """The steps as a trace that says that the formula is true, if `sat`, or false, in canonical form. It has no sets.
+
+        Nothing is checked: `verify` of the two texts gives the verdict of `check`.
+        """
+        _check_flags(sat=sat)
+        held, found = self._opened(), _Verdict()
+
+        def call(buffer: "ctypes.Array[ctypes.c_char]", room: int) -> int:
+            return int(_library.qrp_proof_write_trace(held, sat, buffer, room, ctypes.byref(found)))
+
+        return _text(call, found, _SOME)
+
+    def trimmed_text(self, *, sat: bool, any_pivot: bool = False) -> bytes:
+        """The same trace with only the steps that the proof needs; `sat` and `any_pivot` are as for `check`.
+
+        Raises Refused if the steps do not prove the result.
+        """
+        _check_flags(sat=sat, any_pivot=any_pivot)
+        held, found = self._opened(), _Verdict()
+
+        def call(buffer: "ctypes.Array[ctypes.c_char]", room: int) -> int:
+            return int(_library.qrp_proof_write_trimmed(held, sat, any_pivot, buffer, room, ctypes.byref(found)))
+
+        return _text(call, found, _SOME)
 
     def close(self) -> None:
         """Gives back what the proof holds. It may be called again."""

@@ -19,7 +19,7 @@ int main(void) {
     char no_text[1];
     struct qrp_verdict by_null, by_address;
     struct qrp_proof proof;
-    size_t with_null, with_address;
+    size_t with_null, with_address, added = 7;
     memset(&proof, 0, sizeof proof);
 
     settle(qrp_verify(NULL, 0, NULL, 0, false, &by_null) == qrp_verify(none, 0, none, 0, false, &by_address)
@@ -41,9 +41,15 @@ int main(void) {
 
     settle(qrp_proof_clause(&proof, NULL, 0) == QRP_NO_PROOF, "a clause of no proof");
     settle(qrp_proof_new(&proof) == QRP_ADDED && qrp_proof_clause(&proof, NULL, 0) == QRP_ADDED, "the literals of a clause");
+    settle(qrp_proof_clauses(&proof, NULL, 0, &added) == QRP_ADDED && added == 0, "the literals of many clauses");
     settle(qrp_proof_step(&proof, 1, NULL, 0, NULL, 0) == QRP_ADDED, "the literals and the antecedents of a step");
     settle(qrp_proof_check(&proof, false, false, &by_null) == QRP_VERIFIED && by_null.letter == 'V' && !by_null.truth, "a proof");
     settle(qrp_proof_core(&proof, false, false, NULL, 0, &by_null) == 1 && by_null.letter == 'V', "the list of qrp_proof_core");
+    settle(qrp_proof_write_formula(&proof, NULL, 0, &by_null) == strlen("p cnf 0 1\n0\n"), "the buffer of qrp_proof_write_formula");
+    settle(qrp_proof_write_trace(&proof, false, NULL, 0, &by_null) == strlen("p qrp 0 1\n1 0 0\nr unsat\n"),
+           "the buffer of qrp_proof_write_trace");
+    settle(qrp_proof_write_trimmed(&proof, false, false, NULL, 0, &by_null) == strlen("p qrp 0 1\n1 0 0\nr unsat\n")
+               && by_null.letter == 'V', "the buffer of qrp_proof_write_trimmed");
     qrp_proof_free(&proof);
     printf("empty: %d passed, %d failed\n", passed, failed);
     return failed != 0;

@@ -23,7 +23,9 @@ static void settle(bool is, const char *what, const char *of) {
 
 /* Memory: how many blocks are in use, and which request is refused, counted from 1. */
 static long blocks, requests, refuse_at;
-static bool was_refused, core_is_right = true;
+static bool was_refused, core_is_right = true, texts_are_right = true;
+/* Whether the clauses of a formula are added in one call. */
+static bool at_once;
 
 void *__real_malloc(size_t size);
 void *__real_realloc(void *old, size_t size);
@@ -83,7 +85,21 @@ static void read_antecedents(struct words *words) {
         if (status != QRP_ADDED) return status; \
     } while (0)
 
+/* Adds clauses in one call, and if memory is refused those that it did not add in another. */
+static int32_t add_clauses(struct qrp_proof *proof, const int32_t *literals, size_t count) {
+    for (;;) {
+        size_t added = SIZE_MAX;
+        int32_t status = qrp_proof_clauses(proof, literals, count, &added);
+        if (status != QRP_NO_MEMORY || !was_refused) return status;
+        was_refused = false;
+        for (; added > 0; added--)
+            while (count--, *literals++) {}
+    }
+}
+
 static int32_t add_formula(struct qrp_proof *proof, char *text) {
+    static int32_t all[1 << 22];
+    size_t all_count = 0;
     struct words words = {text + strcspn(text, "\n")};
     for (char *word = next(&words); *word; word = next(&words)) {
         if (*word == 'a' || *word == 'e') {
@@ -94,9 +110,16 @@ static int32_t add_formula(struct qrp_proof *proof, char *text) {
         piece.literal_count = 0;
         for (long literal = strtol(word, NULL, 10); literal != 0; literal = strtol(next(&words), NULL, 10))
             piece.literals[piece.literal_count++] = (int32_t)literal;
-        ADD(qrp_proof_clause(proof, piece.literals, piece.literal_count));
+        if (!at_once) {
+            ADD(qrp_proof_clause(proof, piece.literals, piece.literal_count));
+            continue;
+        }
+        if (all_count + piece.literal_count >= sizeof all / sizeof *all) abort();
+        memcpy(all + all_count, piece.literals, piece.literal_count * sizeof *all);
+        all_count += piece.literal_count;
+        all[all_count++] = 0;
     }
-    return QRP_ADDED;
+    return add_clauses(proof, all, all_count);
 }
 
 static int32_t add_trace(struct qrp_proof *proof, char *text, bool *sat) {
@@ -130,6 +153,55 @@ static bool has_core(struct qrp_proof *proof, const char *formula, const char *t
     return is;
 }
 
+/* A text that a call writes, which is first asked for its length. */
+#define TEXT_OF(text, out, call, ...) \
+    do { \
+        size_t length = call(__VA_ARGS__, NULL, 0, out); \
+        char *at = text = __real_malloc(length + 2); \
+        memset(at, 'x', length + 2); \
+        texts_are_right &= call(__VA_ARGS__, at, length, out) == length && (length == 0 || at[0] == 'x'); \
+        texts_are_right &= call(__VA_ARGS__, at, length + 1, out) == length && at[length] == 0 && at[length + 1] == 'x'; \
+    } while (0)
+
+/* Whether the texts that are written of a proof are the formula, but for its header, and a trace with the proof's verdict and trimmed
+   trace. */
+static bool has_texts(struct qrp_proof *proof, const char *formula, bool sat, bool any_pivot, const struct qrp_verdict *verdict) {
+    struct qrp_verdict of_formula, of_trace, of_trimmed, of_texts, zeros;
+    char *own, *trace, *trimmed;
+    memset(&zeros, 0, sizeof zeros);
+    TEXT_OF(own, &of_formula, qrp_proof_write_formula, proof);
+    TEXT_OF(trace, &of_trace, qrp_proof_write_trace, proof, sat);
+    TEXT_OF(trimmed, &of_trimmed, qrp_proof_write_trimmed, proof, sat, any_pivot);
+    bool is = texts_are_right && !memcmp(&of_formula, &zeros, sizeof zeros) && !memcmp(&of_trace, &zeros, sizeof zeros);
+    is &= !memcmp(&of_trimmed, verdict, sizeof zeros) && !strcmp(strchr(own, '\n'), strchr(formula, '\n'));
+    qrp_verify(own, strlen(own), trace, strlen(trace), any_pivot, &of_texts);
+    is &= !memcmp(&of_texts, verdict, sizeof zeros);
+    char *wanted = __real_malloc(strlen(trace) + 33);
+    is &= qrp_trim(own, strlen(own), trace, strlen(trace), any_pivot, wanted, strlen(trace) + 33, &of_texts) == strlen(trimmed);
+    is &= !strcmp(wanted, trimmed) && (*trimmed != 0) == (verdict->letter == 'V');
+    __real_free(own);
+    __real_free(trace);
+    __real_free(trimmed);
+    __real_free(wanted);
+    return is;
+}
+
+/* Writes texts while a request may be refused: each is whole, or memory was refused, and it is empty. */
+static void texts_if_memory(struct qrp_proof *proof, bool sat, bool any_pivot, const struct qrp_verdict *verdict) {
+    static char text[1 << 13];
+    for (int i = 0; i < 3; i++) {
+        struct qrp_verdict out;
+        bool before = was_refused;
+        size_t length = i == 0   ? qrp_proof_write_formula(proof, text, sizeof text, &out)
+                        : i == 1 ? qrp_proof_write_trace(proof, sat, text, sizeof text, &out)
+                                 : qrp_proof_write_trimmed(proof, sat, any_pivot, text, sizeof text, &out);
+        bool refused_here = was_refused && !before, none = length == 0 && text[0] == 0;
+        if (refused_here) texts_are_right &= out.status == QRP_NO_MEMORY && none;
+        else if (i < 2) texts_are_right &= out.status == 0 && out.letter == 0 && !none;
+        else texts_are_right &= !memcmp(&out, verdict, sizeof out) && none == (verdict->letter != 'V');
+    }
+}
+
 /* Asks for a core while a request may be refused: it is that of the verdict, or there is none for want of memory, and nothing is written. */
 static void core_if_memory(struct qrp_proof *proof, bool sat, bool any_pivot, const struct qrp_verdict *verdict) {
     uint64_t steps[64];
@@ -155,8 +227,8 @@ static int32_t handed_over(const char *formula, const char *trace, bool any_pivo
     if (status == QRP_ADDED) {
         status = qrp_proof_check(&proof, sat, any_pivot, verdict);
         if (status == QRP_NO_MEMORY && was_refused) was_refused = false, status = qrp_proof_check(&proof, sat, any_pivot, verdict);
-        if (core) *core = has_core(&proof, formula, trace, sat, any_pivot);
-        else core_if_memory(&proof, sat, any_pivot, verdict);
+        if (core) *core = has_core(&proof, formula, trace, sat, any_pivot) && has_texts(&proof, formula, sat, any_pivot, verdict);
+        else core_if_memory(&proof, sat, any_pivot, verdict), texts_if_memory(&proof, sat, any_pivot, verdict);
     }
     qrp_proof_free(&proof);
     __real_free(texts[0]);
@@ -195,11 +267,11 @@ static void try_case(char *row) {
     if (status > 1 || !strncmp(line, "REFUSED set", 11)) return;
     char *formula = text_of(formula_name), *trace = text_of(trace_name);
     struct qrp_verdict verdict;
-    requests = refuse_at = 0;
+    requests = refuse_at = 0, at_once = cases % 2;
     bool core = false;
     int32_t got = handed_over(formula, trace, any_pivot, &verdict, &core);
     settle(is_answer(got, &verdict, status, line) && blocks == 0, "handed over", line);
-    settle(core, "the core of what is handed over", line);
+    settle(core, "the core and the texts of what is handed over", line);
     requests = 0;
     handed_over(formula, trace, any_pivot, &verdict, NULL);
     long all = strlen(trace) < 4000 ? requests : 0;
@@ -211,7 +283,7 @@ static void try_case(char *row) {
         is &= is_answer(got, &verdict, status, line) && blocks == 0;
         refused++;
     }
-    settle(is && core_is_right, "each allocation refused, and the call made again", line);
+    settle(is && core_is_right && texts_are_right, "each allocation refused, and the call made again", line);
     cases++;
     __real_free(formula);
     __real_free(trace);
@@ -231,6 +303,13 @@ static void try_refusals(void) {
     uint64_t steps[4] = {7, 7, 7, 7};
     settle(qrp_proof_core(&proof, false, false, steps, 4, &verdict) == 0 && !memcmp(&verdict, &zeros, sizeof verdict) && steps[0] == 7,
            "a struct that holds nothing", "core");
+    char text[] = "xx";
+    settle(qrp_proof_write_formula(&proof, text, 2, &verdict) == 0 && !memcmp(&verdict, &zeros, sizeof verdict) && !memcmp(text, "\0x", 3)
+               && qrp_proof_write_trace(&proof, true, text, 2, &verdict) == 0 && !memcmp(&verdict, &zeros, sizeof verdict)
+               && qrp_proof_write_trimmed(&proof, true, true, text, 2, &verdict) == 0 && !memcmp(&verdict, &zeros, sizeof verdict),
+           "a struct that holds nothing", "texts");
+    size_t added = 7;
+    settle(qrp_proof_clauses(&proof, clause, 2, &added) == QRP_NO_PROOF && added == 0, "a struct that holds nothing", "clauses");
     qrp_proof_free(&proof);
     settle(qrp_proof_new(&proof) == QRP_ADDED && qrp_proof_new(&proof) == QRP_ADDED, "new, twice", "");
     settle(qrp_proof_variable(&proof, false, 1) == QRP_ADDED && qrp_proof_variable(&proof, true, 2) == QRP_ADDED, "variables", "");

@@ -455,6 +455,29 @@ class Pieces:
         for number, literals, antecedents in self.steps:
             attempt(proof.add_step, number, kind(literals), kind_of_antecedents(antecedents))
 
+    def add_at_once(self, proof, kind=list):
+        """Hands all pieces over, the clauses in one call, as a list of this kind; the last clause lacks its 0, if it is not empty."""
+        ended = [literal for clause in self.clauses for literal in (*clause, 0)]
+        for universal, variables in self.blocks:
+            proof.add_variables(variables, universal=universal)
+        proof.add_clauses(kind(ended[:-1] if self.clauses and self.clauses[-1] else ended))
+        for number, literals, antecedents in self.steps:
+            proof.add_step(number, literals, antecedents)
+
+    def texts(self):
+        """The two texts as a proof writes them: the formula with its greatest variable, and the trace without sets."""
+        bound = [variable for _, variables in self.blocks for variable in variables]
+        last = max(bound, default=0)
+
+        def line(*numbers):
+            return " ".join(map(str, numbers))
+
+        formula = [line("p cnf", last, len(self.clauses)), *(line("ea"[universal], *variables, 0) for universal, variables in self.blocks)]
+        formula += [line(*clause, 0) for clause in self.clauses]
+        trace = [line("p qrp", last, len(self.steps)), *(line(number, *literals, 0, *ants, 0) for number, literals, ants in self.steps)]
+        trace.append("r sat" if self.sat else "r unsat")
+        return tuple("\n".join([*lines, ""]).encode() for lines in (formula, trace))
+
 
 def up_to_zero(words):
     """The numbers before the next 0."""
@@ -490,6 +513,59 @@ def is_handed_over(example):
     return all(is_verdict(verdict, example) for verdict in verdicts) and verdicts[0] == qrp_check.verify(
         example.formula, example.trace, any_pivot=example.any_pivot
     )
+
+
+def is_written(example):
+    """Whether the texts that a proof writes are those of its pieces, with the verdict and the trimmed trace of the example's texts.
+
+    The proof's clauses are handed over in one call.
+    """
+    pieces, flags = Pieces(example), {"any_pivot": example.any_pivot}
+    with qrp_check.Proof() as proof:
+        pieces.add_at_once(proof, functools.partial(array.array, "i"))
+        formula, trace = proof.formula_text(), proof.trace_text(sat=pieces.sat)
+        trimmed = core_of(proof.trimmed_text, sat=pieces.sat, **flags)
+        other = core_of(proof.trimmed_text, sat=not pieces.sat, **flags)
+        verdicts = [proof.check(sat=pieces.sat, **flags), qrp_check.verify(formula, trace, **flags)]
+        verdicts.append(qrp_check.verify(example.formula, example.trace, **flags))
+        is_right = (formula, trace) == pieces.texts() and proof.clauses == len(pieces.clauses)
+        is_right = is_right and other == core_of(qrp_check.trim, formula, proof.trace_text(sat=not pieces.sat), **flags)
+    is_right = is_right and trimmed == core_of(qrp_check.trim, formula, trace, **flags) and qrp_check.format(formula) == formula
+    return is_right and len(set(verdicts)) == 1 and is_verdict(verdicts[0], example)
+
+
+def many_clauses():
+    """Whether many clauses in one call are those of many calls, those before a refused one are added, and none out of range is an end."""
+    wide, answers = "OUT_OF_RANGE", []
+    rows = [([1, 2, 0, -1, 0], None, [[1, 2], [-1]]), ([1, 2, 0, -1], None, [[1, 2], [-1]]), ([0, 0, 1], None, [[], [], [1]])]
+    rows += [([], None, []), ([1, 0, 3, 0, 2, 0], (2, "NOT_BOUND"), [[1]]), ([1, 0, -2, 0, 2**31, 0], (3, wide), [[1], [-2]])]
+    rows += [([-(2**31), 0, 1], (1, wide), []), ([1, 2**32 + 1, 0, 2], (1, wide), []), ([2, 0, 1, -(2**40)], (2, wide), [[2]])]
+    for literals, fault, clauses in rows:
+        for kind in (list, iter, tuple, functools.partial(array.array, "q")):
+            with qrp_check.Proof() as proof:
+                proof.add_variables([1, 2], universal=False)
+                if fault is None:
+                    answers.append(proof.add_clauses(kind(literals)) is None)
+                else:
+                    answers.append(refuses("clause", *fault, proof.add_clauses, kind(literals)))
+                lines = ["p cnf 2 %d" % len(clauses), "e 1 2 0", *(" ".join(map(str, [*clause, 0])) for clause in clauses), ""]
+                answers.append(proof.clauses == len(clauses) and proof.formula_text() == "\n".join(lines).encode())
+    literals = kinds_of_numbers("i")[0]
+    with unittest.mock.patch.multiple(qrp_check._LentNumbers, _array=no_copy, _copied=no_copy), qrp_check.Proof() as proof:
+        proof.add_variables([1], universal=False)
+        for count, kind in enumerate(literals, 1):
+            proof.add_clauses(kind([1, 0, -1]))
+            answers.append(proof.clauses == 2 * count)
+        proof.add_clauses([])
+        answers.append(proof.formula_text() == b"p cnf 1 %d\ne 1 0\n" % (2 * len(literals)) + b"1 0\n-1 0\n" * len(literals))
+    with qrp_check.Proof() as proof:
+        # More than the room of the first call.
+        proof.add_variables(range(1, 20001), universal=True)
+        proof.add_step(7, range(1, 20001))
+        numbers = " ".join(map(str, range(1, 20001))).encode()
+        answers.append(proof.formula_text() == b"p cnf 20000 0\na %b 0\n" % numbers)
+        answers.append(proof.trace_text(sat=True) == b"p qrp 20000 1\n7 %b 0 0\nr sat\n" % numbers)
+    return answers
 
 
 def unaligned(code):
@@ -577,7 +653,9 @@ def closed_proof():
     proof.close()
     proof.close()
     calls = [(proof.add_variables, [[]], {"universal": True}), (proof.add_clause, [[]], {}), (proof.add_step, [3, []], {})]
-    calls.append((proof.check, [], {"sat": False}))
+    calls.append((proof.add_clauses, [[1]], {}))
+    calls += [(call, [], {"sat": False}) for call in (proof.check, proof.core, proof.trace_text, proof.trimmed_text)]
+    calls.append((proof.formula_text, [], {}))
     answers = [refuses("proof", None, "NO_PROOF", call, *words, **flags) for call, words, flags in calls]
     added = (ROOT / "include" / "qrp_check.h").read_text().partition("enum qrp_added {")[2].partition("}")[0]
     faults = [(int(number), fault) for fault, number in re.findall(r"QRP_([A-Z_]+) = (\d+)[,\s]", added) if number != "0"]
@@ -599,6 +677,9 @@ def wrong_pieces():
             (["sat"], proof.check, [], {}),
             (["sat", "True or False", "None"], proof.check, [], {"sat": None}),
             (["any_pivot", "True or False", "'no'"], proof.check, [], {"sat": False, "any_pivot": "no"}),
+            (["any_pivot", "True or False", "0"], proof.trimmed_text, [], {"sat": False, "any_pivot": 0}),
+            *((["sat", "True or False", "1"], call, [], {"sat": 1}) for call in (proof.trace_text, proof.trimmed_text)),
+            *((["literals", "whole numbers"], proof.add_clauses, [one], {}) for one in (None, [1.0], [[1]])),
             *((["copied or pickled"], call, [proof], {}) for call in (copy.copy, copy.deepcopy, pickle.dumps)),
             (["argument"], qrp_check.Proof, [b"p cnf 0 0\n"], {}),
         ]
@@ -611,6 +692,8 @@ def on_its_thread():
     with qrp_check.Proof() as proof, concurrent.futures.ThreadPoolExecutor(1) as pool:
         variables, check = functools.partial(proof.add_variables, [1], universal=True), functools.partial(proof.check, sat=False)
         calls = [variables, functools.partial(proof.add_clause, []), functools.partial(proof.add_step, 1, []), check, proof.close]
+        calls += [functools.partial(proof.add_clauses, [0]), proof.formula_text, functools.partial(proof.trace_text, sat=True)]
+        calls += [functools.partial(proof.trimmed_text, sat=False)]
         answers = [pool.submit(says, RuntimeError, ["thread"], call).result(60) for call in calls]
         made_there = pool.submit(qrp_check.Proof)
         answers.append(says(RuntimeError, ["thread"], lambda: made_there.result(60).close()))
@@ -643,9 +726,11 @@ class Refusing:
         self.calls += 1
         if self.calls != self.refused:
             return getattr(self.library, name)(*words)
-        if name == "qrp_proof_check":
+        if name == "qrp_proof_clauses":
+            words[-1]._obj.value = 0
+        if name == "qrp_proof_check" or name.startswith("qrp_proof_write"):
             words[-1]._obj.status = 4
-        return 4
+        return 0 if name.startswith("qrp_proof_write") else 4
 
 def attempt(call, *words, **flags):
     try:
@@ -658,7 +743,10 @@ def verdict(pieces, refused):
     qrp_check._library.calls, qrp_check._library.refused = 0, refused
     proof = attempt(qrp_check.Proof)
     pieces.add_to(proof, attempt=attempt)
+    attempt(proof.add_clauses, [])
     print(attempt(proof.check, sat=pieces.sat))
+    texts = attempt(proof.formula_text), attempt(proof.trace_text, sat=pieces.sat)
+    print(texts == pieces.texts(), attempt(proof.trimmed_text, sat=pieces.sat) == qrp_check.trim(*texts))
     return proof
 
 qrp_check._library = Refusing(qrp_check._library)
@@ -679,9 +767,11 @@ def refused_in_turn(example, row):
         words = [sys.executable, "-c", REFUSED_IN_TURN, str(pathlib.Path(__file__).parent), file.name]
         ended = subprocess.run(words, env=environment, capture_output=True, text=True, check=False)
     pieces = Pieces(example)
-    before_check = 1 + sum(len(variables) for _, variables in pieces.blocks) + len(pieces.clauses) + len(pieces.steps)
-    wanted = [example.line] + ["out of memory, so nothing was done: the same call can be made again", example.line] * before_check
-    wanted += ["out of memory, so nothing is known: check again with more", example.line]
+    before_clauses = 1 + sum(len(variables) for _, variables in pieces.blocks) + len(pieces.clauses) + len(pieces.steps)
+    undone = "out of memory, so nothing was done: the same call can be made again"
+    unknown = "out of memory, so nothing is known: check again with more"
+    many, end = "out of memory after 0 of the clauses, which are added: hand over the others again", [example.line, "True True"]
+    wanted = end + [undone, *end] * before_clauses + [many, *end] + [unknown, *end] + [example.line, unknown, "True True"] * 3
     return [ended.stdout.splitlines() == wanted, ended.stderr == "", ended.returncode == 0]
 
 
@@ -703,7 +793,7 @@ def main(words):
         print(best_time(cases))
         return
     results = [(bool(is_answered(case)), case) for case in cases]
-    results += [(bool(is_handed_over(case)), case) for case in cases if has_pieces(case)]
+    results += [(bool(call(case)), case) for call in (is_handed_over, is_written) for case in cases if has_pieces(case)]
     for is_right, case in results:
         if not is_right:
             print(f"FAILED: in Python: wanted {case.status} {case.line}")
@@ -713,7 +803,7 @@ def main(words):
     rest = [*meanings(), *errors(verified), from_pipe(verified), all(is_lent(case) for case in cases if case.trace)]
     rest += [*in_processes(verified, refused), *names(), while_cut(verified), without_c(verified)]
     rest += without_memory(verified)
-    rest += [*pieces_refused(), *closed_proof(), *wrong_pieces(), *on_its_thread()]
+    rest += [*pieces_refused(), *many_clauses(), *closed_proof(), *wrong_pieces(), *on_its_thread()]
     rest += [answer for case in (verified, with_antecedents) for answer in numbers_lent(case)]
     rest += refused_in_turn(with_antecedents, pathlib.Path(words[0]).read_text().splitlines()[cases.index(with_antecedents)])
     rest += [typing.get_type_hints(qrp_check.Verdict.__bool__) == {"return": typing.NoReturn}]

@@ -4,7 +4,7 @@ use Rattle.qdimacs.proofs.Cited.{flat_map-append, flat_map-map, AllByRecursion, 
 use Rattle.qdimacs.proofs.Cited.{IsVariable, Qbf, Qdimacs, tokens, literal, set, AreBound, IsWellFormed, IsPlain, IsLine, joined}
 use Rattle.qdimacs.proofs.Cited.{tokens-lines_text, all_appended, all_mapped, all_of, closed_plain, literals_plain, set_written, clause}
 use Rattle.qdimacs.proofs.Cited.{spelling, lines, text, IsFormula, ReadsText, Pairs, ReadResult, Gives, reads_bytes, is_outside, read}
-use Rattle.qdimacs.proofs.Cited.{bytes_read_as, tokens-EndsOnce, IsReadAs, IsFault, Reads, BytesRead}
+use Rattle.qdimacs.proofs.Cited.{bytes_read_as, tokens-EndsOnce, IsReadAs, IsFault, Reads, BytesRead, Ok, read_formula, ◌≤◌}
 use Rattle.dimacs_syntax.proofs.Cited.token
 use Rattle.qdimacs.proofs.SpelledIsRead.{bound_one, spelled_is_read, read_once}
 use Rattle.qdimacs.proofs.ReadIsSpelled.{read_explained}
@@ -52,6 +52,14 @@ text_is_read f w =
       bound = refl;
       well_formed = w;
     })
+
+-- So is one whose header has another greatest variable.
+pub text_up_to_is_read : (f : Qbf) (max_var : ℕ) → IsWellFormed f → max_var ≤ 2147483647
+    → AllByRecursion (λ v. v ≤ max_var) (variables (pairs f.blocks))
+    → read_formula (text (record f { max_var = max_var })) ≡ Ok (record f { max_var = max_var })
+text_up_to_is_read f max_var w number top =
+    text_is_read (record f { max_var = max_var })
+    (record { prefix = w.prefix; numbers = number; top = top; closed = w.closed; count = w.count })
 
 pub bytes_read : BytesRead Reads read Qdimacs
 bytes_read bytes = read_explained (tokens Qdimacs bytes) (tokens-EndsOnce Qdimacs bytes)

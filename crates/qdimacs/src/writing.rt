@@ -1,6 +1,8 @@
 //! The canonical text of a formula.
 
-ghost use Rattle.std.specs.Prelude.{Ok, ◌≡◌, ◌++◌, length};
+ghost use Rattle.std.specs.Prelude.{Ok, ◌≡◌, ◌≤◌, ◌++◌, length};
+ghost use Rattle.std.specs.List.{AllByRecursion};
+ghost use Rattle.qbf_core.specs.Blocks.{pairs, variables};
 ghost use Rattle.qbf_text.specs.Written.{IsPut};
 ghost use Rattle.qbf_text.specs.Canonical.{line_text, spaced_number};
 ghost use Rattle.qdimacs.specs.Grammar.{text, clause, header};
@@ -86,16 +88,12 @@ impl<'a> Put for BlockLines<'a> {
     }
 }
 
-/// The header of a formula's text.
-fn header_line<'a>(formula: &Formula) -> HeaderLine<'a>
+/// The header of a formula's text, with this greatest variable.
+fn header_line<'a>(formula: &Formula, max_var: u32) -> HeaderLine<'a>
     ensures { ⟦<HeaderLine<'a> as Put>⟧.text result
-        ≡ line_text (header formula.now.max_var (length formula.now.clauses)) }
+        ≡ line_text (header max_var (length formula.now.clauses)) }
 {
-    HeaderLine(
-        b"p cnf",
-        u64::from(formula.max_var()),
-        formula.clauses() as u64,
-    )
+    HeaderLine(b"p cnf", u64::from(max_var), formula.clauses() as u64)
 }
 
 /// Writes the canonical text of the formula in QDIMACS 1.1, and does not `finish` the sink.
@@ -106,13 +104,34 @@ fn header_line<'a>(formula: &Formula) -> HeaderLine<'a>
 ///
 /// # Errors
 /// A `SinkFault` if the sink failed. What went out is a beginning of the text then.
-#[tactic(auto, using(crate::proofs::ReadingLaws::text_is_read))]
 pub fn write_formula<K: Sink>(formula: &Formula, sink: &mut K) -> Result<(), SinkFault>
     ensures put { IsPut K.written K.failures K.failed_last
         sink.old sink.new (text formula.now) result }
     // The text is read as the formula.
     ensures reads_back { read_formula (text formula.now) ≡ Ok formula.now }
 {
-    let header = header_line(formula);
+    write_formula_up_to(formula, formula.max_var(), sink)
+}
+
+/// Writes the formula as `write_formula` does, with `max_var` in the header as the greatest
+/// variable. It is at most 2147483647, and no variable of the prefix is above it.
+///
+/// # Errors
+/// As of `write_formula`.
+#[tactic(auto, using(crate::proofs::ReadingLaws::text_up_to_is_read))]
+pub fn write_formula_up_to<K: Sink>(
+    formula: &Formula,
+    max_var: u32,
+    sink: &mut K,
+) -> Result<(), SinkFault>
+    requires number { max_var ≤ 2147483647 }
+    requires top { AllByRecursion (λ v. v ≤ max_var) (variables (pairs formula.now.blocks)) }
+    ensures put { IsPut K.written K.failures K.failed_last
+        sink.old sink.new (text (record formula.now { max_var = max_var })) result }
+    // The text is read as this formula.
+    ensures reads_back { read_formula (text (record formula.now { max_var = max_var }))
+        ≡ Ok (record formula.now { max_var = max_var }) }
+{
+    let header = header_line(formula, max_var);
     (header, (BlockLines(formula.prefix()), ClauseLines(formula))).put(sink)
 }

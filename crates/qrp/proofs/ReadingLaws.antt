@@ -4,11 +4,13 @@ use Rattle.qrp.proofs.Cited.{IfSome, Result, flat_map-append, map-append, flat_m
 use Rattle.qrp.proofs.Cited.{literal, set, IsPlain, IsLine, joined, tokens-lines_text, all_appended, all_mapped, closed_plain}
 use Rattle.qrp.proofs.Cited.{Inference, IsInference, numbers, Derivation, IsWellFormed, literals_plain, set_written, step, result, lists}
 use Rattle.qrp.proofs.Cited.{lines, text, IsTrace, ReadsText, ItemsOfTrace, bytes_read_as, tokens-EndsOnce, IsReadAs, Gives, reads_bytes}
-use Rattle.qrp.proofs.Cited.{is_outside, BytesRead}
+use Rattle.qrp.proofs.Cited.{is_outside, BytesRead, Ok}
 use Rattle.dimacs_syntax.proofs.Cited.token
 use Rattle.qrp.proofs.SpelledIsRead.{spelled_is_read, spelled_items, read_once, fault_items}
 use Rattle.qrp.specs.Faults.{IsFault, Reads}
-use Rattle.qrp.specs.Reading.{Fault, read}
+use Rattle.qrp.specs.Framed.{framed}
+use Rattle.qrp.specs.Reading.{Fault, read, read_trace}
+use Rattle.qrp.specs.declared.writing.Frame.{Frame}
 use Rattle.qrp.proofs.ReadIsSpelled.{read_explained}
 
 steps_lines : (steps : List Inference) → AllByRecursion IsInference steps → AllByRecursion (λ n. n < 2 ^ 64) (numbers steps)
@@ -47,6 +49,15 @@ text_is_read d w =
       rest = token.End ∷ [];
       spelled = tokens-lines_text Qrp (lines d) (lines_written d w) ∙ joined_lines d;
       grammatical = w.grammatical;
+    })
+
+-- So is one with other numbers in its header, another result and no sets.
+pub framed_is_read : (frame : Frame) (d : Derivation) → IsWellFormed d → frame.vars < 2 ^ 64
+    → read_trace (text (framed frame d.steps)) ≡ Ok (framed frame d.steps)
+framed_is_read frame d w small =
+    text_is_read (framed frame d.steps) (record {
+      grammatical = record { variables = tt; inferences = w.grammatical.inferences; distinct = w.grammatical.distinct };
+      fits = record { vars = small; steps = w.fits.count; numbers_fit = w.fits.numbers_fit; ants_fit = w.fits.ants_fit; count = w.fits.count };
     })
 
 -- The items of a trace are its parts in order.

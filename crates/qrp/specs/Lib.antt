@@ -9,6 +9,7 @@ pub mod NextItem
 pub mod Returns
 pub mod Texts
 pub mod Flat
+pub mod Framed
 pub mod States
 pub mod Items
 pub mod WholeTrace

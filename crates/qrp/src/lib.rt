@@ -3,7 +3,7 @@
 //!
 //! - Owns: texts of traces, steps.
 //! - Offers: `TraceReader`, `read_trace`, `read_flat`, `write_trace`, `write_steps_at`, `Steps`,
-//!   `Trace`; `read_compact`, `KeptSteps`, `CompactTrace`.
+//!   `Trace`; `read_compact`, `KeptSteps`, `CompactTrace`; `write_framed`, `write_framed_at`.
 //! - Proved: exactly the trace that the bytes spell, or exactly the first fault and its line, whole
 //!   and item by item; the canonical text; one contract for steps however they are kept.
 //! - Read first: `TraceReader::next_item`, `read_trace`, `write_trace`, `write_steps_at`,
@@ -42,4 +42,4 @@ pub use reader::TraceReader;
 pub use step_index::StepIndex;
 pub use steps::Steps;
 pub use trace::{FlatTrace, Trace, read_trace, read_trace as read_flat};
-pub use writing::{write_steps_at, write_trace};
+pub use writing::{Frame, write_framed, write_framed_at, write_steps_at, write_trace};

@@ -6,7 +6,8 @@ ghost use Rattle.std.specs.List.{AllByRecursion};
 ghost use Rattle.qbf_text.specs.Canonical.{line_text};
 ghost use Rattle.qbf_text.specs.Written.{IsPut};
 ghost use Rattle.qrp.specs.Derivations.{steps_at, with_steps_at};
-ghost use Rattle.qrp.specs.Grammar.{result as result_line, text};
+ghost use Rattle.qrp.specs.Framed.{framed};
+ghost use Rattle.qrp.specs.Grammar.{header, result as result_line, text};
 ghost use Rattle.qrp.specs.Inferences.{Inference, IsAt};
 ghost use Rattle.qrp.specs.Reading.{read_trace};
 ghost use Rattle.dimacs_syntax.specs.Texts.{set_text};
@@ -125,6 +126,66 @@ pub fn write_trace<K: Sink>(trace: &Trace, sink: &mut K) -> Result<(), SinkFault
     let header = HeaderLine(b"p qrp", vars, steps);
     let kept = LentSteps(trace);
     (header, (trace.sets(), (StepLines(&kept), trace.result()))).put(sink)
+}
+
+/// What the text of a trace with no sets has beside its steps.
+#[derive(Clone, Copy, Debug, PartialEq, Eq)]
+pub struct Frame {
+    /// The number of variables in its header.
+    pub vars: u64,
+    /// The claim about its formula.
+    pub result: Outcome,
+}
+
+/// The header of the text of a trace with this frame and so many steps.
+fn framed_header<'a>(frame: Frame, steps: usize) -> HeaderLine<'a>
+    ensures { ⟦<HeaderLine<'a> as Put>⟧.text result
+        ≡ line_text (header (record { vars = frame.vars; steps = steps })) }
+{
+    HeaderLine(b"p qrp", frame.vars, steps as u64)
+}
+
+/// Writes the canonical text of a trace with this frame, no sets, and the steps of this one, which
+/// the header counts, as `write_trace` does. It takes no memory.
+///
+/// # Errors
+/// As of `write_trace`.
+#[tactic(auto, using(crate::proofs::ReadingLaws::framed_is_read))]
+pub fn write_framed<K: Sink>(trace: &Trace, frame: Frame, sink: &mut K) -> Result<(), SinkFault>
+    ensures put { IsPut K.written K.failures K.failed_last
+        sink.old sink.new (text (framed frame trace.now.steps)) result }
+    // Reading the text gives this trace.
+    ensures reads_back { read_trace (text (framed frame trace.now.steps))
+        ≡ Ok (framed frame trace.now.steps) }
+{
+    // The result of a trace shows what holds of every trace.
+    let _ = trace.result();
+    let kept = LentSteps(trace);
+    let header = framed_header(frame, kept.len());
+    (header, (StepLines(&kept), frame.result)).put(sink)
+}
+
+/// Writes the same with only the steps at these positions, each below the number of steps.
+///
+/// # Errors
+/// As of `write_trace`.
+pub fn write_framed_at<K: Sink>(
+    trace: &Trace,
+    frame: Frame,
+    positions: &[usize],
+    sink: &mut K,
+) -> Result<(), SinkFault>
+    requires { AllByRecursion (λ i. i < length trace.now.steps) positions.now }
+    ensures { IsPut K.written K.failures K.failed_last sink.old sink.new
+        (text (with_steps_at (framed frame trace.now.steps) positions.now)) result }
+{
+    let kept = LentSteps(trace);
+    let header = framed_header(frame, positions.len());
+    let lines = StepLinesAt {
+        trace: &kept,
+        positions,
+    };
+    (header, (lines, frame.result)).put(sink)
 }
 
 /// The header with this number of steps in place of its own.

@@ -5,19 +5,21 @@
 //! - Offers: the functions of `include/qrp_check.h`.
 //! - Proved: the headline over the bytes lent, each field of the struct, the line, the meaning, the
 //!   trimmed trace, the core, the text of a circuit by which the winner wins and the canonical
-//!   formula in the buffer; of a proof that is handed over, what each call adds or refuses, and the
-//!   verdict on what is held.
+//!   formula in the buffer; of a proof that is handed over, what each call adds or refuses, the
+//!   verdict on what is held, and the texts of it in the buffer.
 //! - Read first: `qrp_verify`, `qrp_verdict_line`, `qrp_fault_text`, `qrp_trim`, `qrp_core`,
-//!   `qrp_strategy`, `qrp_format`, `qrp_proof_check`.
+//!   `qrp_strategy`, `qrp_format`, `qrp_proof_check`, `qrp_proof_write_formula`,
+//!   `qrp_proof_write_trace`.
 //! - Tested only: over the built library: rows and real traces by each call from C and from Python,
 //!   each allocation made to fail, texts at each alignment and buffers of each size between pages
 //!   that cannot be read, eight threads, structs that no call wrote, the structs, names and version
-//!   of the header; rows and real traces handed over piece by piece.
+//!   of the header; rows and real traces handed over piece by piece; random orders of these calls.
 //! - Trusted: the demands of `include/qrp_check.h` on the caller; malloc, realloc and free.
 //! - On the map: the library for C, C++ and Python.
 #![tactic(auto)]
 
 mod proof;
+mod texts;
 
 ghost use Rattle.std.specs.Prelude.{◌≡◌, ◌≢◌, ◌≤◌, ◌+◌, [], pos, drop, Result};
 ghost use Rattle.qrp_check.specs.declared.verdict.Verified.{Verified};

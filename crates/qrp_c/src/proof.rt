@@ -1,12 +1,14 @@
 //! The exported functions over a proof that a caller in C hands over.
 
 ghost use Rattle.std.specs.Prelude.{◌≡◌, ◌≢◌, ◌↔◌, ◌⊎◌, [], ◌∷◌, ◌++◌, drop, map, None, IsSomeAnd};
-ghost use Rattle.std.specs.Prelude.{IfErr, IfNone, IfOk, IfSome, IsTrue, List, OnOk, pos, ℕ};
+ghost use Rattle.std.specs.Prelude.{IfErr, IfNone, IfOk, IfSome, IsTrue, List, OnOk, length, pos, ℕ};
 ghost use Rattle.qbf_core.specs.Blocks.{pairs};
 ghost use Rattle.qrp_handle.specs.Adding.{IsVariableFault, IsClauseFault, IsStepFault};
 ghost use Rattle.qrp_bytes.specs.Texts.{encoded_nothing};
 ghost use Rattle.qrp_handle.specs.Checks.{AreWellFormed, HasCore, outcome_of, quantifier_of};
-ghost use Rattle.qrp_handle.specs.Statuses.{CallReturns};
+ghost use Rattle.qrp_handle.specs.Many.{AreAdded, clause_after, clauses_of};
+ghost use Rattle.qrp_handle.specs.Statuses.{CallReturns, code_of};
+ghost use Rattle.qrp_handle.specs.declared.fault.AddFault.{AddFault};
 ghost use Rattle.qrp_c.specs.Checked.{IsCoreOf, IsRefused, IsVerdictOf, IsVerified};
 ghost use Rattle.qbf_core.specs.Truth.{IsTrueFormula};
 ghost use Rattle.qrp.specs.Derivations.{steps_at};
@@ -103,6 +105,44 @@ pub extern "C" fn qrp_proof_clause(alloc: Global, proof: &mut QrpProof, literals
             status
         }
         None => NOTHING,
+    }
+}
+
+/// Adds the clauses that these numbers write: each ends with a 0, which the last may lack.
+///
+/// In C: `int32_t qrp_proof_clauses(struct qrp_proof *proof, const int32_t *literals, size_t count,
+/// size_t *added)`.
+///
+/// Writes to `added` how many of them were added, from the first on. If one was not, the status is
+/// that which `qrp_proof_clause` has for it.
+#[unsafe(no_mangle)]
+pub extern "C" fn qrp_proof_clauses(
+    alloc: Global,
+    proof: &mut QrpProof,
+    literals: &[i32],
+    added: &mut usize,
+) -> i32
+    ensures added { IfSome proof.old.held.value (λ p.
+        IsSomeAnd proof.new.held.value (AreAdded added.new literals.now p)) }
+    ensures all { result ≡ pos 0 → added.new ≡ length (clauses_of literals.now) }
+    ensures refused { (e : AddFault) → result ≡ pos (code_of e)
+        → IsSomeAnd proof.new.held.value (λ q.
+        IsClauseFault q.formula (clause_after added.new literals.now) e) }
+    ensures nothing { (result ≡ pos 11 → proof.old.held.value ≡ None)
+        × IfNone proof.old.held.value
+        ((result ≡ pos 11) × (added.new ≡ 0) × (proof.new.held.value ≡ None)) }
+{
+    match proof.take(alloc) {
+        Some(mut held) => {
+            let (count, outcome) = held.push_clauses(alloc, literals);
+            *proof = QrpProof::of(held);
+            *added = count;
+            status_of(outcome)
+        }
+        None => {
+            *added = 0;
+            NOTHING
+        }
     }
 }
 

@@ -21,6 +21,12 @@ next_read xs i d h lits e =
     ∙ sym (map-append literal_of (take i xs) (get_or xs i d ∷ []))
     ∙ ap (λ (zs : List ℤ). map literal_of zs) (sym (one_more xs i d h))
 
+-- what holds of the first numbers, and of the next one
+pub next_all : (P : ℤ → Type 0) (xs : List ℤ) (i : ℕ) (d : ℤ) → i < length xs → AllByRecursion P (take i xs) → P (get_or xs i d)
+    → AllByRecursion P (take (i + 1) xs)
+next_all P xs i d h all p =
+    subst (λ (zs : List ℤ). AllByRecursion P zs) (sym (one_more xs i d h)) (and_last P (take i xs) (get_or xs i d) all p)
+
 pub next_written : (xs : List ℤ) (i : ℕ) (d : ℤ) → i < length xs → AllByRecursion (IsWritten 2147483647) (take i xs) → IsWritten 2147483647 (get_or xs i d)
     → AllByRecursion (IsWritten 2147483647) (take (i + 1) xs)
-next_written xs i d h all p = subst (λ (zs : List ℤ). AllByRecursion (IsWritten 2147483647) zs) (sym (one_more xs i d h)) (and_last (IsWritten 2147483647) (take i xs) (get_or xs i d) all p)
+next_written = next_all (IsWritten 2147483647)
