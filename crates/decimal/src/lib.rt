@@ -17,6 +17,6 @@ mod number;
 mod word;
 mod writing;
 
-pub use four::{FourNumbers, four_numbers};
+pub use four::{FourNumbers, four_numbers, four_numbers_between};
 pub use number::{digits, number_between};
 pub use writing::put_digits;
