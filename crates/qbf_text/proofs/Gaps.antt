@@ -1,15 +1,16 @@
 -- Separators before a number.
 use Rattle.qbf_text.proofs.Cited.{◌≡◌, ℕ, zero, suc, ◌+◌, ◌-◌, ◌^◌, ◌<◌, ◌≤◌, Bool, true, false, cond, List, [], ◌∷◌, ◌++◌, length, take, drop}
-use Rattle.qbf_text.proofs.Cited.{refl, sym, ap, ◌∙◌, subst, arith, count_by, append-nil, drop-drop, eqb-true, get_or, common_steps, nat_tests}
-use Rattle.qbf_text.proofs.Cited.{Comments, is_line_end, is_blank, is_separator, line_number, tokens_left, Lined, AllByRecursion}
+use Rattle.qbf_text.proofs.Cited.{refl, sym, ap, ◌∙◌, subst, arith, count_by, append-nil, drop-drop, eqb-true, get_or}
+use Rattle.qbf_text.proofs.Cited.{Comments, is_line_end, is_blank, is_separator, line_number, tokens_left, Lined}
 use Rattle.std.specs.Prelude.{ℤ}
-use Rattle.std.proofs.Common.{length-drop, length-append, take-suc}
-use Rattle.std.proofs.lemmas.List.{take-append-drop, length-take, length-take-le}
+use Rattle.std.proofs.Common.{length-drop, length-append}
+use Rattle.std.proofs.lemmas.List.{take-append-drop, length-take-le}
 use Rattle.std.proofs.Math.Seq.{take-add, drop-append_seam}
 use Rattle.std.proofs.lemmas.List.Sums.{sum_by-cons}
 use Rattle.qbf_text.specs.declared.cursor.Cursor.{Cursor}
 use Rattle.qbf_text.specs.Numbers.{IsGap, IsGapTo, ComesNumber, BeginsWithValue}
 use Rattle.qbf_text.specs.Passing.{tokens_from_cursor, is_begun, Passes}
+use Rattle.qbf_text.proofs.BytesAhead.{all_append}
 use Rattle.qbf_text.proofs.ByteByByte.{left_line_end, left_blank, or_cases, tokens_left-counted}
 use Rattle.qbf_text.proofs.PassedNumbers.{passes_then}
 
@@ -18,12 +19,8 @@ use Rattle.qbf_text.proofs.PassedNumbers.{passes_then}
 pub no_gap : (bytes : List ℕ) (at : ℕ) → IsGapTo bytes at at
 no_gap bytes at = (omega arith, (let none : at - at ≡ 0 = omega arith in subst (λ k. IsGap (take k (drop at bytes))) (sym none) tt))
 
-gap_append : (xs ys : List ℕ) → IsGap xs → IsGap ys → IsGap (xs ++ ys)
-gap_append [] ys h k = k
-gap_append (x ∷ xs) ys h k = (h.0, gap_append xs ys h.1 k)
-
 pub gap_on : (bytes : List ℕ) (from mid to : ℕ) → IsGapTo bytes from mid → IsGapTo bytes mid to → IsGapTo bytes from to
-gap_on bytes from mid to g h = (omega (arith, g.0, h.0), subst IsGap (sym same) (gap_append _ _ g.1 h.1))
+gap_on bytes from mid to g h = (omega (arith, g.0, h.0), subst IsGap (sym same) (all_append _ _ _ g.1 h.1))
   where
     same : take (to - from) (drop from bytes) ≡ take (mid - from) (drop from bytes) ++ take (to - mid) (drop mid bytes)
     same =

@@ -1,4 +1,4 @@
-use Rattle.qbf_text.proofs.Cited.{◌≡◌, ◌+◌, [], ◌∷◌, refl, arith}
+use Rattle.qbf_text.proofs.Cited.{[], ◌∷◌, refl, arith}
 use Rattle.std.proofs.Common.{SFits, w32}
 use Rattle.std.proofs.lemmas.Int.{to_z-of_z}
 use Rattle.qbf_text.specs.Numbers.{place}

@@ -1,4 +1,4 @@
-use Rattle.qbf_text.proofs.Cited.{◌≡◌, ◌+◌, length, arith}
+use Rattle.qbf_text.proofs.Cited.{◌≡◌, length, arith}
 use Rattle.qbf_text.specs.Numbers.{place}
 use Rattle.qbf_text.proofs.HeldNumbers.{fills_on}
 use Rattle.qbf_text.proofs.PutNumbers.{lanes_are}

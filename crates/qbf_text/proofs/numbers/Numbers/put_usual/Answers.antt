@@ -1,4 +1,4 @@
-use Rattle.qbf_text.proofs.Cited.{◌≡◌, ◌+◌, length, subst, sym, arith}
+use Rattle.qbf_text.proofs.Cited.{◌≡◌, length, subst, sym, arith}
 use Rattle.qbf_text.specs.Numbers.{FillsTo}
 use Rattle.qbf_text.proofs.PutNumbers.{lanes_are}
 use Rattle.qbf_text.proofs.HeldNumbers.{fills_on}

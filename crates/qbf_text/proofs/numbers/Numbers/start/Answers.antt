@@ -1,4 +1,4 @@
-use Rattle.qbf_text.proofs.Cited.{◌≡◌, subst}
+use Rattle.qbf_text.proofs.Cited.{subst}
 use Rattle.qbf_text.specs.Numbers.{IsGapTo, place}
 use Rattle.qbf_text.proofs.Gaps.{gap_on}
 use Rattle.qbf_text.proofs.numbers.Numbers.start.Goals as goal
