@@ -208,6 +208,8 @@ pub struct Numbers {
     pub zero_count: usize,
     /// Whether the number after those that are known is not a usual one, or its end is not known.
     pub is_stuck: bool,
+    /// Whether a separator was found after another: then they are looked for.
+    pub is_spaced: bool,
 }
 
 impl Numbers {
@@ -225,6 +227,7 @@ impl Numbers {
             zero: 0,
             zero_count: 0,
             is_stuck: false,
+            is_spaced: false,
         }
     }
 
@@ -270,16 +273,31 @@ impl Numbers {
         runs
     }
 
-    /// Looks where the numbers of these bytes seem to end: at a separator after another byte. The
-    /// first `len` of them were pulled.
-    #[inline(never)]
-    pub fn look(&mut self, bytes: &[u8], len: usize)
+    /// Notes where the numbers of these bytes seem to end, if no separator follows another. The
+    /// first `len` of them were pulled. Returns how many are noted.
+    #[inline(always)]
+    fn note_all(&mut self, bytes: &[u8], len: usize) -> usize
         requires { length bytes.now ≤ ROOM }
-        ensures { self.new.known ≡ 0 }
+        ensures { result ≤ MOST }
     {
         let mut block = 0;
         let mut runs = 0;
-        // Whether the byte before the block is a separator: a number across two windows is none.
+        while block < len && block + BLOCK <= bytes.len() && runs + BLOCK <= MOST {
+            runs = self.note(marks_of(&bytes[block..]), block, runs);
+            block += BLOCK;
+        }
+        runs
+    }
+
+    /// Notes them where a separator follows another byte alone.
+    #[cold]
+    #[inline(never)]
+    fn note_spaced(&mut self, bytes: &[u8], len: usize) -> usize
+        requires { length bytes.now ≤ ROOM }
+        ensures { result ≤ MOST }
+    {
+        let mut block = 0;
+        let mut runs = 0;
         let mut before = 1;
         while block < len && block + BLOCK <= bytes.len() && runs + BLOCK <= MOST {
             let marks = marks_of(&bytes[block..]);
@@ -287,6 +305,20 @@ impl Numbers {
             before = marks >> 63;
             block += BLOCK;
         }
+        runs
+    }
+
+    /// Looks where the numbers of these bytes seem to end. The first `len` of them were pulled.
+    #[inline(never)]
+    pub fn look(&mut self, bytes: &[u8], len: usize)
+        requires { length bytes.now ≤ ROOM }
+        ensures { self.new.known ≡ 0 }
+    {
+        let runs = if self.is_spaced {
+            self.note_spaced(bytes, len)
+        } else {
+            self.note_all(bytes, len)
+        };
         self.first = 0;
         self.runs = runs;
         self.forget();
@@ -556,6 +588,14 @@ impl Numbers {
         }
     }
 
+    /// Whether the number `k` seems to have no bytes: a separator follows another.
+    #[inline(always)]
+    fn is_gap(&self, k: usize, runs: usize) -> bool
+        requires { runs ≤ MOST }
+    {
+        k < runs && self.end(k) == usize::from(self.places[k])
+    }
+
     /// Makes the numbers known that stand from the place `start` on, as far as they are usual ones,
     /// which are below 2 to the power of 31, but for their signs.
     #[inline(never)]
@@ -570,6 +610,7 @@ impl Numbers {
         self.zero = 0;
         self.zero_count = zeros;
         self.is_stuck = true;
+        self.is_spaced = self.is_spaced || self.is_gap(known, runs);
     }
 
     /// Whether none is buffered.
