@@ -588,12 +588,12 @@ impl Numbers {
         }
     }
 
-    /// Whether the number `k` seems to have no bytes: a separator follows another.
+    /// Whether the number `k` seems to have no bytes, after another: a separator follows one.
     #[inline(always)]
     fn is_gap(&self, k: usize, runs: usize) -> bool
         requires { runs ≤ MOST }
     {
-        k < runs && self.end(k) == usize::from(self.places[k])
+        self.first < k && k < runs && self.end(k) == usize::from(self.places[k])
     }
 
     /// Makes the numbers known that stand from the place `start` on, as far as they are usual ones,
