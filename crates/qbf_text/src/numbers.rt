@@ -588,12 +588,17 @@ impl Numbers {
         }
     }
 
-    /// Whether the number `k` seems to have no bytes, after another: a separator follows one.
+    /// Whether the number `k` seems to have no bytes, and a separator comes before its place: then
+    /// one separator follows another there.
     #[inline(always)]
-    fn is_gap(&self, k: usize, runs: usize) -> bool
+    fn is_gap(&self, bytes: &[u8], k: usize, runs: usize) -> bool
         requires { runs ≤ MOST }
     {
-        self.first < k && k < runs && self.end(k) == usize::from(self.places[k])
+        if k >= runs {
+            return false;
+        }
+        let place = usize::from(self.places[k]);
+        place != 0 && place <= bytes.len() && self.end(k) == place && is_separator(bytes[place - 1])
     }
 
     /// Makes the numbers known that stand from the place `start` on, as far as they are usual ones,
@@ -610,7 +615,7 @@ impl Numbers {
         self.zero = 0;
         self.zero_count = zeros;
         self.is_stuck = true;
-        self.is_spaced = self.is_spaced || self.is_gap(known, runs);
+        self.is_spaced = self.is_spaced || self.is_gap(bytes, known, runs);
     }
 
     /// Whether none is buffered.
