@@ -13,7 +13,7 @@ use Rattle.std.proofs.lemmas.List.{length-take, get_or-take, get_or-drop, drop-t
 use Rattle.std.proofs.lemmas.Simd.{bitmask_splat, pick_l_whole}
 use Rattle.std.proofs.Math.Nat.{pow-le-pow_right}
 use Rattle.decimal.specs.Lanes.{IsPlace, Writes, with_sign}
-use Rattle.decimal.specs.Numbers.{between, IsNumber, AreInARow, is_zero}
+use Rattle.decimal.specs.Numbers.{between, IsNumber, AreBetween, AreInARow, is_zero}
 
 -- a signed lane, as it is passed
 abbrev pub passed : ℤ → ℤ
@@ -80,36 +80,50 @@ halves a b = get_or a 0 0 % 4294967296 ∷ get_or a 1 0 % 4294967296 ∷ get_or 
 abbrev WritesAt : List ℕ → (from end value sign : ℕ) → Type 0
 WritesAt bytes from end value sign = IsPlace (length bytes) from end × Writes (between bytes from end) value sign
 
-module _ (bytes ends a s b t : List ℕ) (from : ℕ) (w0 : WritesAt bytes from (get_or ends 0 0) (get_or a 0 0) (get_or s 0 0))
-    (w1 : WritesAt bytes (get_or ends 0 0 + 1) (get_or ends 1 0) (get_or a 1 0) (get_or s 1 0))
-    (w2 : WritesAt bytes (get_or ends 1 0 + 1) (get_or ends 2 0) (get_or b 0 0) (get_or t 0 0))
-    (w3 : WritesAt bytes (get_or ends 2 0 + 1) (get_or ends 3 0) (get_or b 1 0) (get_or t 1 0)) where
+module _ (bytes starts ends a s b t : List ℕ) (w0 : WritesAt bytes (get_or starts 0 0) (get_or ends 0 0) (get_or a 0 0) (get_or s 0 0))
+    (w1 : WritesAt bytes (get_or starts 1 0) (get_or ends 1 0) (get_or a 1 0) (get_or s 1 0))
+    (w2 : WritesAt bytes (get_or starts 2 0) (get_or ends 2 0) (get_or b 0 0) (get_or t 0 0))
+    (w3 : WritesAt bytes (get_or starts 3 0) (get_or ends 3 0) (get_or b 1 0) (get_or t 1 0)) where
   below : (from end v s : ℕ) → WritesAt bytes from end v s → v % 4294967296 < 2 ^ 31
   below from end v s w = let same = value_is bytes from end v s w.0 w.1 in omega (arith, same, small bytes from end v s w.0 w.1)
 
   pub values_small : Each1 (λ v. v < 2 ^ 31) (halves a b)
   values_small = (below _ _ _ _ w0, (below _ _ _ _ w1, (below _ _ _ _ w2, (below _ _ _ _ w3, tt))))
 
-  in_a_row : length ends ≡ 4 → Unsigned (halves a b) (halves s t) → AreInARow bytes from ends (zip2 with_sign (halves a b) (halves s t))
-  in_a_row long right =
-      subst (λ l. AreInARow bytes from l (zip2 with_sign (halves a b) (halves s t))) (pick_l_whole 0 ends 4 long) (
-        number bytes _ _ _ _ w0.0 w0.1 (right 0 (omega arith)),
-        (
-          number bytes _ _ _ _ w1.0 w1.1 (right 1 (omega arith)),
-          (number bytes _ _ _ _ w2.0 w2.1 (right 2 (omega arith)), (number bytes _ _ _ _ w3.0 w3.1 (right 3 (omega arith)), tt)),
-        ),
-      )
+  are_between : length ends ≡ 4 → Unsigned (halves a b) (halves s t) → AreBetween bytes starts ends (zip2 with_sign (halves a b) (halves s t))
+  are_between long right zero few = number bytes _ _ _ _ w0.0 w0.1 (right 0 (omega arith))
+  are_between long right (suc zero) few = number bytes _ _ _ _ w1.0 w1.1 (right 1 (omega arith))
+  are_between long right (suc (suc zero)) few = number bytes _ _ _ _ w2.0 w2.1 (right 2 (omega arith))
+  are_between long right (suc (suc (suc zero))) few = number bytes _ _ _ _ w3.0 w3.1 (right 3 (omega arith))
+  are_between long right (suc (suc (suc (suc i)))) few = absurd (omega (arith, few, long))
 
   module _ (vs ss : List ℕ) (zs : List ℤ) (vs_are : vs ≡ halves a b) (ss_are : ss ≡ halves s t) (zs_are : zs ≡ zip2 with_sign vs ss) where
     zs_passed : map (cast_signed w32) (map (cast_unsigned w32) zs) ≡ zip2 with_sign (halves a b) (halves s t)
     zs_passed = grind (arith, common_steps, cast_signed, w32, cast_unsigned, ap₂, zip2, with_sign, same_lanes, values_small)
 
-    pub numbers_are : length ends ≡ 4 → Unsigned vs ss → AreInARow bytes from ends (map (cast_signed w32) (map (cast_unsigned w32) zs))
+    pub numbers_are : length ends ≡ 4 → Unsigned vs ss → AreBetween bytes starts ends (map (cast_signed w32) (map (cast_unsigned w32) zs))
     numbers_are long right =
-        subst (AreInARow bytes from ends) (sym zs_passed)
-        (in_a_row long (subst (λ l. Unsigned l (halves s t)) vs_are (subst (Unsigned vs) ss_are right)))
+        subst (AreBetween bytes starts ends) (sym zs_passed)
+        (are_between long (subst (λ l. Unsigned l (halves s t)) vs_are (subst (Unsigned vs) ss_are right)))
 
     pub zeros_are : mask_l (map (top 31) (are_zero vs)) % 2 ^ 64 ≡ mask_l (map is_zero (map (cast_signed w32) (map (cast_unsigned w32) zs)))
     zeros_are =
         ap (λ l. mask_l (map (top 31) (are_zero l)) % 2 ^ 64) vs_are ∙ bitmask_splat w32 eqb (halves a b) 4 0 refl (omega arith)
         ∙ ap mask_l (zero_lanes (halves a b) (halves s t) refl) ∙ ap (λ l. mask_l (map is_zero l)) (sym zs_passed)
+
+-- four numbers of which each but the first begins one byte after the end of the one before it
+pub in_a_row : (bytes : List ℕ) (from : ℕ) (ends : List ℕ) (values : List ℤ) → length ends ≡ 4 → length values ≡ 4
+    → AreBetween bytes (from ∷ (get_or ends 0 0 + 1) ∷ (get_or ends 1 0 + 1) ∷ (get_or ends 2 0 + 1) ∷ []) ends values → AreInARow bytes from ends values
+in_a_row bytes from ends values long four h =
+    subst (λ l. AreInARow bytes from l values) (pick_l_whole 0 ends 4 long) (each values four h)
+  where
+    each : (vs : List ℤ) → length vs ≡ 4
+        → AreBetween bytes (from ∷ (get_or ends 0 0 + 1) ∷ (get_or ends 1 0 + 1) ∷ (get_or ends 2 0 + 1) ∷ []) ends vs
+        → AreInARow bytes from (get_or ends 0 0 ∷ get_or ends 1 0 ∷ get_or ends 2 0 ∷ get_or ends 3 0 ∷ []) vs
+    each [] few g = absurd (omega (arith, few))
+    each (v ∷ []) few g = absurd (omega (arith, few))
+    each (v ∷ w ∷ []) few g = absurd (omega (arith, few))
+    each (v ∷ w ∷ x ∷ []) few g = absurd (omega (arith, few))
+    each (v ∷ w ∷ x ∷ y ∷ []) few g =
+        (g 0 (omega (arith, long)), (g 1 (omega (arith, long)), (g 2 (omega (arith, long)), (g 3 (omega (arith, long)), tt))))
+    each (v ∷ w ∷ x ∷ y ∷ z ∷ more) few g = absurd (omega (arith, few))

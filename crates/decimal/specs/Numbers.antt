@@ -1,5 +1,5 @@
 -- Signed decimal numbers among bytes.
-use Rattle.std.specs.Prelude.{ℕ, ◌≡◌, ◌<◌, ◌≤◌, ◌+◌, ◌-◌, ◌==◌, Bool, List, [], ◌∷◌, take, drop, slice_index, ⊤}
+use Rattle.std.specs.Prelude.{ℕ, ◌≡◌, ◌<◌, ◌≤◌, ◌+◌, ◌-◌, ◌==◌, Bool, List, [], ◌∷◌, take, drop, length, slice_index, slice_index_or, ⊤}
 use Rattle.std.specs.Prelude.{ℤ, pos, neg_ℤ, unsigned_abs}
 use Rattle.std.specs.Str.Parse.{digits_value, AllDigits}
 
@@ -22,6 +22,11 @@ AreInARow bytes from [] [] = ⊤
 AreInARow bytes from [] (value ∷ values) = ⊥
 AreInARow bytes from (end ∷ ends) [] = ⊥
 AreInARow bytes from (end ∷ ends) (value ∷ values) = IsNumber bytes from end value × AreInARow bytes (end + 1) ends values
+
+-- numbers between places: each begins at one of the first and ends before one of the others
+abbrev pub AreBetween : List ℕ → (starts ends : List ℕ) → List ℤ → Type 0
+AreBetween bytes starts ends values =
+    (i : ℕ) → i < length ends → IsNumber bytes (slice_index starts i) (slice_index ends i) (slice_index_or values i (pos 0))
 
 -- whether a number is zero
 abbrev pub is_zero : ℤ → Bool

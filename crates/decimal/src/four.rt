@@ -4,7 +4,7 @@ ghost use Rattle.std.specs.Prelude.{◌≡◌, ◌⊎◌, ◌<◌, ◌≤◌, �
 ghost use Rattle.std.specs.Prelude.{length, map, slice_index, IsTrue, ◌↔◌};
 ghost use Rattle.std.specs.Simd.Lanes.{Each1, mask_l};
 ghost use Rattle.decimal.specs.Lanes.{IsPlace, Writes};
-ghost use Rattle.decimal.specs.Numbers.{AreInARow, between, is_zero};
+ghost use Rattle.decimal.specs.Numbers.{AreBetween, AreInARow, between, is_zero};
 
 use crate::lanes::{
     all_below_ten, four_eights, four_fours, low_halves, signed, signs_of_zeros, two_masks,
@@ -85,6 +85,55 @@ fn surely_row(len: usize, from: usize, ends: [usize; 4]) -> bool
         & is_near(e2.wrapping_add(2), e3)
 }
 
+/// Whether a number may stand between two places: it has one to eight bytes, eight bytes come
+/// before its end, and one after it.
+#[inline(always)]
+fn is_place(len: usize, start: usize, end: usize) -> bool
+    requires { len < 2 ^ 63 }
+    ensures { result ≡ true → IsPlace len start end }
+{
+    end >= 8 && end < len && is_near(start.wrapping_add(1), end)
+}
+
+/// Whether numbers may stand between each of the first places and each of the others.
+#[inline(always)]
+fn are_places(len: usize, starts: [usize; 4], ends: [usize; 4]) -> bool
+    requires { len < 2 ^ 63 }
+    ensures { result ≡ true → IsPlace len (slice_index starts 0) (slice_index ends 0)
+        × IsPlace len (slice_index starts 1) (slice_index ends 1)
+        × IsPlace len (slice_index starts 2) (slice_index ends 2)
+        × IsPlace len (slice_index starts 3) (slice_index ends 3) }
+{
+    let [s0, s1, s2, s3] = starts;
+    let [e0, e1, e2, e3] = ends;
+    is_place(len, s0, e0) && is_place(len, s1, e1) && is_place(len, s2, e2) && is_place(len, s3, e3)
+}
+
+/// The four numbers between these places, where numbers may stand.
+#[inline(always)]
+fn read_four(bytes: &[u8], starts: [usize; 4], ends: [usize; 4]) -> Option<FourNumbers>
+    requires first { IsPlace (length bytes.now) (slice_index starts 0) (slice_index ends 0) }
+    requires second { IsPlace (length bytes.now) (slice_index starts 1) (slice_index ends 1) }
+    requires third { IsPlace (length bytes.now) (slice_index starts 2) (slice_index ends 2) }
+    requires fourth { IsPlace (length bytes.now) (slice_index starts 3) (slice_index ends 3) }
+    ensures numbers { IfSome result (λ r. AreBetween bytes.now starts ends r.values) }
+    ensures zeros { IfSome result (λ r. r.zeros ≡ mask_l (map is_zero r.values)) }
+{
+    let [s0, s1, s2, s3] = starts;
+    let [e0, e1, e2, e3] = ends;
+    let a = two_at(bytes, [s0, s1], [e0, e1]);
+    let b = two_at(bytes, [s2, s3], [e2, e3]);
+    let values = four_eights(a.fours, b.fours);
+    let signs = low_halves(a.signs, b.signs);
+    if !all_below_ten(a.digits, b.digits, signs_of_zeros(values, signs)) {
+        return None;
+    }
+    Some(FourNumbers {
+        values: signed(values, signs),
+        zeros: values.simd_eq(u32x4::splat(0)).to_bitmask(),
+    })
+}
+
 /// The four numbers in a row of which the first begins at a place, and each other one byte after
 /// the end of the last. Each is digits, or a minus and digits, of one to eight bytes in all.
 ///
@@ -100,18 +149,33 @@ pub fn four_numbers(bytes: &[u8], from: usize, ends: [usize; 4]) -> Option<FourN
     if !surely_row(bytes.len(), from, ends) {
         return None;
     }
-    let [e0, e1, e2, e3] = ends;
-    let a = two_at(bytes, [from, e0 + 1], [e0, e1]);
-    let b = two_at(bytes, [e1 + 1, e2 + 1], [e2, e3]);
-    let values = four_eights(a.fours, b.fours);
-    let signs = low_halves(a.signs, b.signs);
-    if !all_below_ten(a.digits, b.digits, signs_of_zeros(values, signs)) {
+    let [e0, e1, e2, _] = ends;
+    let four = read_four(bytes, [from, e0 + 1, e1 + 1, e2 + 1], ends)?;
+    Some(four)
+}
+
+/// The four numbers of which each begins at one of the first places and ends before one of the
+/// others. Each is digits, or a minus and digits, of one to eight bytes in all.
+///
+/// `None` if they are not so, for a 0 after a minus, and if fewer than eight bytes come before an
+/// end or none after it. No byte outside of them is looked at.
+#[inline(always)]
+pub fn four_numbers_between(
+    bytes: &[u8],
+    starts: [usize; 4],
+    ends: [usize; 4],
+) -> Option<FourNumbers>
+    ensures numbers { IfSome result (λ r. AreBetween bytes.now starts ends r.values) }
+    ensures within { IfSome result (λ r.
+        (slice_index ends 0 < length bytes.now) × (slice_index ends 1 < length bytes.now)
+        × (slice_index ends 2 < length bytes.now) × (slice_index ends 3 < length bytes.now)) }
+    ensures zeros { IfSome result (λ r. r.zeros ≡ mask_l (map is_zero r.values)) }
+{
+    if !are_places(bytes.len(), starts, ends) {
         return None;
     }
-    Some(FourNumbers {
-        values: signed(values, signs),
-        zeros: values.simd_eq(u32x4::splat(0)).to_bitmask(),
-    })
+    let four = read_four(bytes, starts, ends)?;
+    Some(four)
 }
 
 #[cfg(test)]

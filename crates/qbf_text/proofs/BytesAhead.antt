@@ -1,9 +1,15 @@
 -- Steps along the bytes ahead.
-use Rattle.qbf_text.proofs.Cited.{arith, ◌≡◌, ℕ, false, List, [], ◌∷◌, ◌++◌, Option, Some, drop, common_steps, AllByRecursion, Consumes}
-use Rattle.qbf_text.proofs.Cited.{ahead, first_of, IsUnbroken, IsWithinLine, is_line_end}
+use Rattle.qbf_text.proofs.Cited.{arith, ◌≡◌, ℕ, false, List, [], ◌∷◌, ◌++◌, Option, Some, None, take, drop, ap}
+use Rattle.qbf_text.proofs.Cited.{sym, ◌∙◌, append_assoc, common_steps, AllByRecursion, Consumes, ahead, first_of, IsUnbroken, IsWithinLine, is_line_end}
+use Rattle.std.proofs.KnownBytes.{Consumes-trans}
+use Rattle.std.proofs.lemmas.List.{take-append-drop}
 
 pub all_push : (P : ℕ → Type 0) (xs : List ℕ) (x : ℕ) → AllByRecursion P xs → P x → AllByRecursion P (xs ++ x ∷ [])
 all_push P xs x h p = grind (arith, common_steps)
+
+pub all_append : (P : ℕ → Type 0) (xs ys : List ℕ) → AllByRecursion P xs → AllByRecursion P ys → AllByRecursion P (xs ++ ys)
+all_append P [] ys h k = k
+all_append P (x ∷ xs) ys h k = (h.0, all_append P xs ys h.1 k)
 
 -- the bytes that were taken so far, and one more
 pub taken_more : (a b : Option (List ℕ)) (pending : List ℕ) (rem : Option (List ℕ)) (xs : List ℕ) (x : ℕ)
@@ -26,6 +32,19 @@ skip_more a b pending rem x s q h e =
       skipped = s.skipped ++ x ∷ [];
       within = all_push _ s.skipped x s.within e;
       taken = taken_more a b pending rem s.skipped x s.taken q h;
+    }
+
+part : (pending : List ℕ) (rem : Option (List ℕ)) (n : ℕ) → Consumes (ahead pending rem) (ahead (drop n pending) rem) (take n pending)
+part pending None n = tt
+part pending (Some r) n = ap (λ l. l ++ r) (sym (take-append-drop n pending)) ∙ append_assoc (take n pending) (drop n pending) r
+
+pub skip_part : (a : Option (List ℕ)) (pending : List ℕ) (rem : Option (List ℕ)) (n : ℕ) → IsSkipping a (ahead pending rem)
+    → IsWithinLine (take n pending) → IsSkipping a (ahead (drop n pending) rem)
+skip_part a pending rem n s h =
+    record {
+      skipped = s.skipped ++ take n pending;
+      within = all_append _ s.skipped (take n pending) s.within h;
+      taken = Consumes-trans a (ahead pending rem) (ahead (drop n pending) rem) s.skipped (take n pending) s.taken (part pending rem n);
     }
 
 -- ---- reading a run

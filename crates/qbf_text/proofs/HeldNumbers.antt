@@ -1,7 +1,7 @@
 -- Numbers that are held of a window, and the cursors between them.
 use Rattle.qbf_text.proofs.Cited.{◌≡◌, ℕ, zero, suc, ◌+◌, ◌-◌, ◌^◌, ◌<◌, ◌≤◌, Bool, true, false, not, cond, List, [], ◌∷◌, ◌++◌, length}
 use Rattle.qbf_text.proofs.Cited.{take, drop, refl, sym, count_by, is_line_end, ap, ◌∙◌, subst, arith, Option, Some, None, ◌⊎◌, inl, inr}
-use Rattle.qbf_text.proofs.Cited.{drop-drop, Token, Row, BeginsWithNumber, line_number, nat_tests}
+use Rattle.qbf_text.proofs.Cited.{append_assoc, drop-drop, Token, Row, BeginsWithNumber, line_number, nat_tests}
 use Rattle.std.specs.Prelude.{nat_lt, ℤ, pos, slice_index_or, unsigned_abs, int_lt, get_or}
 use Rattle.std.proofs.Common.{length-drop, length-append}
 use Rattle.std.proofs.lemmas.List.{get_or-append-add, get_or-drop, get_or-take, length-take}
@@ -9,15 +9,19 @@ use Rattle.qbf_text.specs.declared.cursor.Cursor.{Cursor}
 use Rattle.qbf_text.specs.declared.numbers.Numbers.{Numbers}
 use Rattle.qbf_text.specs.Passing.{cursor_after, LeadOn, Passes, PassesNumber, PassesAll}
 use Rattle.qbf_text.specs.Numbers.{one_if, token_at, LeadsBy, TakesOver, place, len_of, NumberStands, StandFrom, AreHeld, StandInFront}
-use Rattle.qbf_text.specs.Numbers.{cursor_to, IsPut}
-use Rattle.qbf_text.proofs.LineEnds.{more, one_after}
+use Rattle.qbf_text.specs.Numbers.{cursor_to, IsPut, FillsTo, ComesNumber}
+use Rattle.qbf_text.specs.Lined.{Lined}
+use Rattle.qbf_text.proofs.Gaps.{after_gap, gap_at, gap_line, line_on, rest_there, gap_within, passes_gap}
+use Rattle.qbf_text.proofs.LineEnds.{counted, more, one_after}
+use Rattle.std.proofs.Math.Seq.{take-append-add}
 use Rattle.qbf_text.proofs.PassedNumbers.{passes_number, passes_none, passes_on, number_takes}
 
 -- a number takes at least one byte, so that its place comes before the next one
 further : (whole places : List ℕ) (k : ℕ) (v : ℤ) → NumberStands whole places k v
     → slice_index_or places k 0 < slice_index_or places (k + 1) 0
 further whole places k v s =
-    let some : 0 < slice_index_or places (k + 1) 0 - slice_index_or places k 0 = number_takes _ _ _ _ _ s.1.1 in omega (arith, some)
+    let some : 0 < slice_index_or places (k + 1) 0 - slice_index_or places k 0 - length s.1.gap = number_takes _ _ _ _ _ s.1.number.1 in
+    omega (arith, some)
 
 module _ (n : Numbers) (whole : List ℕ) (start : ℕ) (h : AreHeld n whole start) where
   -- places go up
@@ -106,9 +110,18 @@ module _ (n : Numbers) (bytes : List ℕ) (f : StandInFront n bytes) (from : Cur
     s : NumberStands f.whole n.places (n.first + c) (slice_index_or n.values (n.first + c) (pos 0))
     s = h.stand (n.first + c) (omega arith) few
 
-    number : BeginsWithNumber (drop (place n (n.first + c)) f.whole) (int_lt (slice_index_or n.values (n.first + c) (pos 0)) (pos 0))
-        (unsigned_abs (slice_index_or n.values (n.first + c) (pos 0))) len s.1.0
-    number = s.1.1
+    abbrev t : ComesNumber (drop (place n (n.first + c)) f.whole) len (slice_index_or n.values (n.first + c) (pos 0))
+    t = s.1
+
+    number : BeginsWithNumber t.rest (int_lt (slice_index_or n.values (n.first + c) (pos 0)) (pos 0))
+        (unsigned_abs (slice_index_or n.values (n.first + c) (pos 0))) (len - length t.gap) t.number.0
+    number = t.number.1
+
+    some : 0 < len - length t.gap
+    some = number_takes _ _ _ _ _ number
+
+    here_is : drop (len_of n c) bytes ≡ t.gap ++ t.rest
+    here_is = bytes_at c few ∙ t.bytes_are
 
     reaches : len_of n (suc c) ≡ len_of n c + len
     reaches =
@@ -116,39 +129,74 @@ module _ (n : Numbers) (bytes : List ℕ) (f : StandInFront n bytes) (from : Cur
         let more_there = further f.whole n.places (n.first + c) (slice_index_or n.values (n.first + c) (pos 0)) s in
         let next : n.first + suc c ≡ n.first + c + 1 = omega arith in rw next (omega (arith, up, more_there))
 
-    front : take len (drop (len_of n c) bytes) ≡ number.run ++ number.separator ∷ []
-    front = ap (take len) (bytes_at c few) ∙ number.front
+    front : take len (drop (len_of n c) bytes) ≡ t.gap ++ (number.run ++ number.separator ∷ [])
+    front =
+        let sum : len ≡ length t.gap + (len - length t.gap) = omega (arith, some) in
+        ap (take len) here_is
+        ∙ ap (λ k. take k (t.gap ++ t.rest)) sum
+        ∙ take-append-add t.gap t.rest (len - length t.gap)
+        ∙ ap (λ l. t.gap ++ l) number.front
 
-    ends_more : ends_in (suc c) ≡ ends_in c + cond (is_line_end number.separator) 1 0
+    ends_more : ends_in (suc c) ≡ ends_in c + (count_by is_line_end t.gap + cond (is_line_end number.separator) 1 0)
     ends_more =
         ap (λ k. count_by is_line_end (take k bytes)) reaches
         ∙ more bytes (len_of n c) len
         ∙ ap (λ l. ends_in c + count_by is_line_end l) front
-        ∙ ap (λ k. ends_in c + k) (one_after number.run number.separator number.unbroken)
+        ∙ ap (λ k. ends_in c + k) (counted t.gap (number.run ++ number.separator ∷ []))
+        ∙ ap (λ k. ends_in c + (count_by is_line_end t.gap + k)) (one_after number.run number.separator number.unbroken)
 
     inside : len ≤ length (drop (len_of n c) bytes)
-    inside = subst (λ l. len ≤ length l) (sym (bytes_at c few)) number.within
+    inside =
+        let whole : length (drop (len_of n c) bytes) ≡ length t.gap + length t.rest = ap length here_is ∙ length-append t.gap t.rest in
+        omega (arith, whole, number.within, some)
 
     last : get_or bytes (len_of n (suc c) - 1) 0 ≡ number.separator
-    last = ap (λ k. get_or bytes (k - 1) 0) reaches ∙ last_is bytes number.run number.separator (len_of n c) len front inside
+    last = ap (λ k. get_or bytes (k - 1) 0) reaches
+        ∙ last_is bytes (t.gap ++ number.run) number.separator (len_of n c) len
+        (front ∙ sym (append_assoc t.gap number.run (number.separator ∷ []))) inside
+
+    abbrev here : Cursor
+    here = cursor_to n bytes from c
+
+    abbrev mid : Cursor
+    mid = after_gap here t.gap
+
+    line_fits : here.line < 2 ^ 64
+    line_fits = rw (line_of c) (omega arith)
+
+    mid_at : mid.at + (len - length t.gap) ≡ len_of n (suc c)
+    mid_at = omega (arith, gap_at t.gap here, at_of c, reaches, some)
+
+    mid_line : mid.line ≡ line_number (from.line + (ends_in c + count_by is_line_end t.gap))
+    mid_line =
+        gap_line t.gap here line_fits
+        ∙ ap (λ l. line_number (l + count_by is_line_end t.gap)) (line_of c)
+        ∙ line_on from.line (ends_in c) (count_by is_line_end t.gap)
+
+    mid_small : mid.line < 2 ^ 64
+    mid_small = rw mid_line (omega arith)
+
+    there : drop here.at bytes ≡ t.gap ++ t.rest
+    there = ap (λ a. drop a bytes) (at_of c) ∙ here_is
 
     next_as : (ends : Bool) → ends ≡ is_line_end number.separator
-        → cursor_after (cursor_to n bytes from c) len ends ≡ cursor_to n bytes from (suc c)
+        → cursor_after mid (len - length t.gap) ends ≡ cursor_to n bytes from (suc c)
     next_as true e =
-        same_cursor _ _ _ _ _ _
-        (ap (λ a. a + len) (at_of c) ∙ sym reaches)
-        (ap (λ l. line_number (l + 1)) (line_of c) ∙ line_more from.line (ends_in c)
-        ∙ ap (λ d. line_number (from.line + d)) (sym (ends_more ∙ ap (λ b. ends_in c + cond b 1 0) (sym e))))
+        same_cursor _ _ _ _ _ _ mid_at
+        (ap (λ l. line_number (l + 1)) mid_line ∙ line_more from.line (ends_in c + count_by is_line_end t.gap)
+        ∙ ap (λ d. line_number (from.line + d))
+        (let one : ends_in (suc c) ≡ ends_in c + (count_by is_line_end t.gap + 1) =
+        ends_more ∙ ap (λ b. ends_in c + (count_by is_line_end t.gap + cond b 1 0)) (sym e) in omega (arith, one)))
         (sym (ap (λ b. one_if (not (is_line_end b))) last ∙ ap (λ b. one_if (not b)) (sym e)))
     next_as false e =
-        same_cursor _ _ _ _ _ _
-        (ap (λ a. a + len) (at_of c) ∙ sym reaches)
-        (line_of c ∙ ap (λ d. line_number (from.line + d))
-        (let same : ends_in (suc c) ≡ ends_in c + 0 = ends_more ∙ ap (λ b. ends_in c + cond b 1 0) (sym e) in omega (arith, same)))
+        same_cursor _ _ _ _ _ _ mid_at
+        (mid_line ∙ ap (λ d. line_number (from.line + d))
+        (let same : ends_in (suc c) ≡ ends_in c + (count_by is_line_end t.gap + 0) =
+        ends_more ∙ ap (λ b. ends_in c + (count_by is_line_end t.gap + cond b 1 0)) (sym e) in omega (arith, same)))
         (sym (ap (λ b. one_if (not (is_line_end b))) last ∙ ap (λ b. one_if (not b)) (sym e)))
 
-    next_is : cursor_after (cursor_to n bytes from c) len s.1.0 ≡ cursor_to n bytes from (suc c)
-    next_is = next_as s.1.0 number.ends
+    next_is : cursor_after mid (len - length t.gap) t.number.0 ≡ cursor_to n bytes from (suc c)
+    next_is = next_as t.number.0 number.ends
 
   line_small : (c : ℕ) → (cursor_to n bytes from c).line < 2 ^ 64
   line_small c = rw (line_of c) (omega arith)
@@ -168,15 +216,23 @@ module _ (n : Numbers) (bytes : List ℕ) (f : StandInFront n bytes) (from : Cur
   cursor_within zero few = omega (arith, at_front)
   cursor_within (suc c) few = within (suc c) (few (omega arith))
 
-  -- one number stands between two cursors
-  step : (c : ℕ) → n.first + c < n.known
-      → PassesNumber bytes (cursor_to n bytes from c) (cursor_to n bytes from (suc c)) (token_at n.values (n.first + c))
+  -- one number stands between two cursors, after separators
+  step : (c : ℕ) (few : n.first + c < n.known)
+      → PassesNumber bytes (mid c few) (cursor_to n bytes from (suc c)) (token_at n.values (n.first + c))
   step c few =
       let v = slice_index_or n.values (n.first + c) (pos 0) in
-      let here = ap (λ a. drop a bytes) (at_of c) ∙ bytes_at c few in
-      let stands = subst (λ l. BeginsWithNumber l (int_lt v (pos 0)) (unsigned_abs v) (len c few) (s c few).1.0) (sym here) (s c few).1.1 in
-      subst (λ to. PassesNumber bytes (cursor_to n bytes from c) to (token_at n.values (n.first + c))) (next_is c few)
-      (passes_number bytes (cursor_to n bytes from c) _ _ _ (s c few).1.0 stands (line_small c) (within c (omega (arith, few))))
+      let g = t c few in
+      let from_there = rest_there bytes (here c few) g.gap g.rest (there c few) (within c (omega (arith, few))) in
+      let stands = subst (λ l. BeginsWithNumber l (int_lt v (pos 0)) (unsigned_abs v) (len c few - length g.gap) g.number.0)
+      (sym from_there) (number c few) in
+      subst (λ to. PassesNumber bytes (mid c few) to (token_at n.values (n.first + c))) (next_is c few)
+      (passes_number bytes (mid c few) _ _ _ g.number.0 stands (mid_small c few)
+      (gap_within bytes (here c few) g.gap g.rest (there c few) (within c (omega (arith, few)))))
+
+  -- those separators
+  gapped : (c : ℕ) (few : n.first + c < n.known) (Are : List Lined → Type 0) → Passes Are bytes from (cursor_to n bytes from c)
+      → Passes Are bytes from (mid c few)
+  gapped c few Are s = passes_gap Are bytes from (here c few) (t c few).gap (t c few).rest s (there c few) (t c few).is_gap
 
   module _ {P A F : Type 0} (row : P → Token → Row P A F) (first : P) where
     passes_by : (next : P) (count : ℕ) → (0 < count → n.first + count ≤ n.known) → LeadsBy row first next n.values n.first count
@@ -185,8 +241,9 @@ module _ (n : Numbers) (bytes : List ℕ) (f : StandInFront n bytes) (from : Cur
         subst (λ s. Passes (LeadOn row first s) bytes from from) e
         (passes_none bytes (LeadOn row first first) from (omega (arith, at_front)) (λ ts. refl))
     passes_by next (suc c) few l =
-        passes_on row first l.0 next bytes from (cursor_to n bytes from (suc c)) (cursor_to n bytes from c) (token_at n.values (n.first + c)) l.2
-        (passes_by l.0 c (λ some. omega (arith, few (omega arith))) l.1) (step c (omega (arith, few (omega arith))))
+        let less : n.first + c < n.known = omega (arith, few (omega arith)) in
+        passes_on row first l.0 next bytes from (cursor_to n bytes from (suc c)) (mid c less) (token_at n.values (n.first + c)) l.2
+        (gapped c less (LeadOn row first l.0) (passes_by l.0 c (λ some. omega (arith, less)) l.1)) (step c less)
 
     -- if a grammar took some of the numbers, it passed their bytes
     pub takes_passes : (next : P) (count : ℕ) (answer : Option A) → (0 < count → n.first + count ≤ n.known)
@@ -198,12 +255,13 @@ module _ (n : Numbers) (bytes : List ℕ) (f : StandInFront n bytes) (from : Cur
         (passes_by next l.count (λ some. omega (arith, few (omega (arith, same, some)), same)) l.leads)
     takes_passes next count (Some a) few t =
         let same : suc t.leads.count ≡ count = omega (arith, t.to_is, t.leads.counted) in
+        let less : n.first + t.leads.count < n.known = omega (arith, few (omega (arith, same)), same) in
         subst (λ k. PassesAll row first next bytes from (cursor_to n bytes from k) (Some a)) same (record {
           last = t.last;
           token = token_at n.values (n.first + t.leads.count);
-          here = cursor_to n bytes from t.leads.count;
-          leads = passes_by t.last t.leads.count (λ some. omega (arith, few (omega (arith, same)), same)) t.leads.leads;
-          passes = step t.leads.count (omega (arith, few (omega (arith, same)), same));
+          here = mid t.leads.count less;
+          leads = gapped t.leads.count less (LeadOn row first t.last) (passes_by t.last t.leads.count (λ some. omega (arith, less)) t.leads.leads);
+          passes = step t.leads.count less;
           ends = ap (λ k. row t.last (token_at n.values k)) (sym t.leads.counted) ∙ t.ends;
         })
 
@@ -217,17 +275,6 @@ len_within n bytes f c some few =
 
 -- ---- filling
 
--- the facts that hold while numbers are put one after the other
-pub record FillsTo (n : Numbers) (whole : List ℕ) (start runs k at : ℕ) : Type 0 where
-  pub values_len : length n.values ≡ 2048
-  pub few : runs ≤ 2048
-  pub first : n.first ≤ k
-  pub before : k ≤ runs
-  pub front : place n n.first ≡ start
-  pub at_is : place n k ≡ at
-  pub within : at ≤ length whole
-  pub stand : (j : ℕ) → n.first ≤ j → j < k → NumberStands whole n.places j (slice_index_or n.values j (pos 0))
-
 before_or_after : (j k : ℕ) → (j < k) ⊎ (k ≤ j)
 before_or_after j k = elim (split (nat_lt j k) refl) [
   | inl less ↦ inl (grind (arith, nat_tests, less))
@@ -238,7 +285,7 @@ before_or_after j k = elim (split (nat_lt j k) refl) [
     split true e = inl e
     split false e = inr e
 
-module _ (n m : Numbers) (whole : List ℕ) (start runs k at : ℕ) (values : List ℤ) (f : FillsTo n whole start runs k at)
+module _ (n m : Numbers) (whole : List ℕ) (start runs k : ℕ) (values : List ℤ) (f : FillsTo n whole start runs k)
     (some : 0 < length values) (room : k + length values ≤ runs) (stand : StandFrom whole n.places k values)
     (p : IsPut n.values m.values values k) where
   each : (j : ℕ) → n.first ≤ j → j < k + length values → NumberStands whole n.places j (slice_index_or m.values j (pos 0))
@@ -257,43 +304,42 @@ module _ (n m : Numbers) (whole : List ℕ) (start runs k at : ℕ) (values : Li
       let is : k + (length values - 1) + 1 ≡ k + length values = omega (arith, some) in
       subst (λ j. place n j ≤ length whole) is last.0
 
-  fills_with : FillsTo (record n { values = m.values }) whole start runs (k + length values) (place n (k + length values))
+  fills_with : FillsTo (record n { values = m.values }) whole start runs (k + length values)
   fills_with = record {
     values_len = p.same_len ∙ f.values_len;
     few = f.few;
     first = omega (arith, f.first);
     before = room;
     front = f.front;
-    at_is = refl;
     within = last_within;
     stand = each;
   }
 
 -- some numbers more
-pub fills_more : (n m : Numbers) (whole : List ℕ) (start runs k at l : ℕ) (values : List ℤ) → FillsTo n whole start runs k at
+fills_more : (n m : Numbers) (whole : List ℕ) (start runs k l : ℕ) (values : List ℤ) → FillsTo n whole start runs k
     → length values ≡ l → 0 < l → k + l ≤ runs → StandFrom whole n.places k values → IsPut n.values m.values values k
-    → m ≡ record n { values = m.values } → FillsTo m whole start runs (k + l) (place m (k + l))
-fills_more n m whole start runs k at l values f len some room stand put is =
-    let with_them = fills_with n m whole start runs k at values f (omega (arith, some, len)) (omega (arith, room, len)) stand put in
-    let there : place m (k + l) ≡ place n (k + l) = ap (λ (x : Numbers). place x (k + l)) is in
-    rw there (subst (λ (x : Numbers). FillsTo x whole start runs (k + l) (place n (k + l))) (sym is)
-    (subst (λ j. FillsTo (record n { values = m.values }) whole start runs (k + j) (place n (k + j))) len with_them))
+    → m ≡ record n { values = m.values } → FillsTo m whole start runs (k + l)
+fills_more n m whole start runs k l values f len some room stand put is =
+    let with_them = fills_with n m whole start runs k values f (omega (arith, some, len)) (omega (arith, room, len)) stand put in
+    subst (λ (x : Numbers). FillsTo x whole start runs (k + l)) (sym is)
+    (subst (λ j. FillsTo (record n { values = m.values }) whole start runs (k + j)) len with_them)
 
 -- none of these facts depends on the zeros
-pub fills_still : (n m : Numbers) (z : List ℕ) (whole : List ℕ) (start runs k at : ℕ) → m ≡ record n { zeros = z }
-    → FillsTo n whole start runs k at → FillsTo m whole start runs k at
-fills_still n m z whole start runs k at is f = rw is (record {
+fills_still : (n m : Numbers) (z : List ℕ) (whole : List ℕ) (start runs k : ℕ) → m ≡ record n { zeros = z }
+    → FillsTo n whole start runs k → FillsTo m whole start runs k
+fills_still n m z whole start runs k is f = rw is (record {
   values_len = f.values_len;
   few = f.few;
   first = f.first;
   before = f.before;
   front = f.front;
-  at_is = f.at_is;
   within = f.within;
   stand = f.stand;
 })
 
--- the place that was reached
-pub fills_at : (n : Numbers) (whole : List ℕ) (start runs k at : ℕ) → FillsTo n whole start runs k at
-    → FillsTo n whole start runs k (place n k)
-fills_at n whole start runs k at f = subst (λ p. FillsTo n whole start runs k p) (sym f.at_is) f
+-- some numbers are put, and then zeros are noted
+pub fills_on : (n p m : Numbers) (whole : List ℕ) (start runs k l : ℕ) (values : List ℤ) → FillsTo n whole start runs k
+    → length values ≡ l → 0 < l → k + l ≤ runs → StandFrom whole n.places k values → IsPut n.values p.values values k
+    → p ≡ record n { values = p.values } → m ≡ record p { zeros = m.zeros } → FillsTo m whole start runs (k + l)
+fills_on n p m whole start runs k l values f len some room stand put is still =
+    fills_still p m m.zeros whole start runs (k + l) still (fills_more n p whole start runs k l values f len some room stand put is)

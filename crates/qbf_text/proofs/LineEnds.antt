@@ -17,7 +17,8 @@ marks_are xs long =
     ap count_ones (bitmask_splat w8 eqb (take 16 xs) 16 10 (omega (arith, long, length-take 16 xs)) (omega arith))
     ∙ ones-mask_l is_line_end (take 16 xs)
 
-counted : (xs ys : List ℕ) → count_by is_line_end (xs ++ ys) ≡ count_by is_line_end xs + count_by is_line_end ys
+-- those of two lists
+pub counted : (xs ys : List ℕ) → count_by is_line_end (xs ++ ys) ≡ count_by is_line_end xs + count_by is_line_end ys
 counted xs ys = sum_by-append (λ b. cond (is_line_end b) 1 0) xs ys
 
 -- those of the next bytes

@@ -8,9 +8,10 @@ use Rattle.std.proofs.Common.{length-drop, eqb-true}
 use Rattle.std.proofs.lemmas.List.{get_or-drop, length-take}
 use Rattle.std.proofs.lemmas.Int.Digits.{digits_value-lt}
 use Rattle.std.proofs.Math.Nat.{pow-le-pow_right}
-use Rattle.decimal.specs.Numbers.{between, IsNumber, AreInARow}
+use Rattle.decimal.specs.Numbers.{between, IsNumber, AreBetween, AreInARow}
 use Rattle.qbf_text.specs.declared.numbers.Numbers.{Numbers}
-use Rattle.qbf_text.specs.Numbers.{AreSeparators, AreShort, NumberStands, SeemToEnd, StandFrom, place}
+use Rattle.qbf_text.specs.Numbers.{AreSeparators, AreShort, NumberStands, SeemToEnd, StandFrom, place, AreAfterGaps, IsGapTo}
+use Rattle.qbf_text.proofs.Gaps.{comes, no_gap}
 use Rattle.std.proofs.lemmas.Nat.{le_or_l, le_or_r}
 use Rattle.qbf_text.proofs.BufferedNumber.{found}
 
@@ -101,10 +102,15 @@ module _ (bytes : List ℕ) (from end : ℕ) (v : ℤ) (within : end < length by
 
 module _ (bytes places : List ℕ) where
   -- one that ends before the next place
-  pub one_stands : (k end : ℕ) (v : ℤ) → end < length bytes → get_or places (k + 1) 0 ≡ end + 1 → IsNumber bytes (get_or places k 0) end v
+  pub one_stands : (k from end : ℕ) (v : ℤ) → end < length bytes → get_or places (k + 1) 0 ≡ end + 1
+      → IsGapTo bytes (get_or places k 0) from → IsNumber bytes from end v
       → is_separator (get_or bytes end 0) ≡ true → NumberStands bytes places k v
-  one_stands k end v within there n sep =
-      rw there (omega (arith, within), (nat_eq (get_or bytes end 0) 10, usual bytes (get_or places k 0) end v within n sep))
+  one_stands k from end v within there gap n sep =
+      rw there (
+        omega (arith, within),
+        comes bytes (get_or places k 0) from (end + 1) v gap (omega (arith, within, n.some))
+            (nat_eq (get_or bytes end 0) 10, usual bytes from end v within n sep),
+      )
 
   -- one that was found from a place on
   pub alone : (k : ℕ) (v : ℤ) → NumberStands bytes places k v → StandFrom bytes places k (v ∷ [])
@@ -118,7 +124,7 @@ module _ (bytes places : List ℕ) where
     pub separates : is_separator (get_or bytes (get_or ends i 0) 0) ≡ true
 
   -- each of them stands at its place
-  pub row_stands : (ends : List ℕ) (values : List ℤ) (k from : ℕ) → get_or places k 0 ≡ from → AreInARow bytes from ends values
+  pub row_stands : (ends : List ℕ) (values : List ℤ) (k from : ℕ) → IsGapTo bytes (get_or places k 0) from → AreInARow bytes from ends values
       → ((i : ℕ) → i < length ends → EndsThere ends k i) → StandFrom bytes places k values
   row_stands [] [] k from here h e i few = absurd (omega (arith, few))
   row_stands [] (v ∷ vs) k from here h e i few = absurd h
@@ -127,13 +133,12 @@ module _ (bytes places : List ℕ) where
       let first = e 0 (omega arith) in
       let same : k + 0 ≡ k = omega arith in
       let next : k + 0 + 1 ≡ k + 1 = omega arith in
-      rw same (one_stands k x v first.within (subst (λ j. get_or places j 0 ≡ x + 1) next first.next)
-      (subst (λ f. IsNumber bytes f x v) (sym here) h.0) first.separates)
+      rw same (one_stands k from x v first.within (subst (λ j. get_or places j 0 ≡ x + 1) next first.next) here h.0 first.separates)
   row_stands (x ∷ xs) (v ∷ vs) k from here h e (suc i) few =
       let on : k + suc i ≡ k + 1 + i = omega arith in
       let next : k + 0 + 1 ≡ k + 1 = omega arith in
       let there = subst (λ j. get_or places j 0 ≡ x + 1) next (e 0 (omega arith)).next in
-      rw on (row_stands xs vs (k + 1) (x + 1) there h.1 (λ j short. later j (e (suc j) (omega (arith, short)))) i (omega (arith, few)))
+      rw on (row_stands xs vs (k + 1) (x + 1) (rw there (no_gap bytes (x + 1))) h.1 (λ j short. later j (e (suc j) (omega (arith, short)))) i (omega (arith, few)))
     where
       later : (j : ℕ) → EndsThere (x ∷ xs) k (suc j) → EndsThere xs (k + 1) j
       later j s = let same : k + suc j + 1 ≡ k + 1 + j + 1 = omega arith in record {
@@ -141,6 +146,16 @@ module _ (bytes places : List ℕ) where
         next = subst (λ m. get_or places m 0 ≡ get_or xs j 0 + 1) same s.next;
         separates = s.separates;
       }
+
+  -- numbers between places stand if each begins after separators alone
+  pub between_stand : (starts ends : List ℕ) (values : List ℤ) (k : ℕ) → length starts ≡ length ends → length values ≡ length ends
+      → ((i : ℕ) → i < length starts → IsGapTo bytes (get_or places (k + i) 0) (get_or starts i 0)) → AreBetween bytes starts ends values
+      → ((i : ℕ) → i < length ends → EndsThere ends k i) → StandFrom bytes places k values
+  between_stand starts ends values k as_many enough gap h e i few =
+      let less : i < length ends = omega (arith, few, enough) in
+      let there = e i less in
+      one_stands (k + i) (get_or starts i 0) (get_or ends i 0) (get_or values i (pos 0)) there.within there.next (gap i (omega (arith, less, as_many)))
+      (h i less) there.separates
 
 -- each of them has 32 bits
 short : (bytes : List ℕ) (from end : ℕ) (v : ℤ) → IsNumber bytes from end v → unsigned_abs v < 2 ^ 31
@@ -163,6 +178,15 @@ are_short bytes from [] [] h = tt
 are_short bytes from [] (v ∷ vs) h = absurd h
 are_short bytes from (x ∷ xs) [] h = absurd h
 are_short bytes from (x ∷ xs) (v ∷ vs) h = (short bytes from x v h.0, are_short bytes (x + 1) xs vs h.1)
+
+pub are_all_short : (bytes starts ends : List ℕ) (values : List ℤ) → length values ≡ length ends → AreBetween bytes starts ends values
+    → AreShort values
+are_all_short bytes starts ends values enough h =
+    each values (λ i less. short bytes (get_or starts i 0) (get_or ends i 0) (get_or values i (pos 0)) (h i (omega (arith, less, enough))))
+  where
+    each : (vs : List ℤ) → ((i : ℕ) → i < length vs → unsigned_abs (get_or vs i (pos 0)) < 2 ^ 31) → AreShort vs
+    each [] g = tt
+    each (v ∷ vs) g = (g 0 (omega arith), each vs (λ i less. g (suc i) (omega (arith, less))))
 
 -- the ends of four numbers in a row are all before the last
 pub record EndsGoUp (ends : List ℕ) (len : ℕ) : Type 0 where
@@ -214,6 +238,18 @@ four_seem n k a b c d ha hb hc hd = each
     each (suc (suc zero)) few less = at_place 2 (k + 2 + 1) c (omega arith) (hc less)
     each (suc (suc (suc zero))) few less = at_place 3 (k + 3 + 1) d (omega arith) (hd less)
     each (suc (suc (suc (suc i)))) few less = absurd (omega (arith, few))
+
+-- four places of which each is reached through separators
+pub four_after : (n : Numbers) (bytes : List ℕ) (k a b c d : ℕ) → IsGapTo bytes (place n k) a → IsGapTo bytes (place n (k + 1)) b
+    → IsGapTo bytes (place n (k + 2)) c → IsGapTo bytes (place n (k + 3)) d → AreAfterGaps n bytes k (a ∷ b ∷ c ∷ d ∷ [])
+four_after n bytes k a b c d ha hb hc hd = each
+  where
+    each : AreAfterGaps n bytes k (a ∷ b ∷ c ∷ d ∷ [])
+    each zero few = let same : k + 0 ≡ k = omega arith in rw same ha
+    each (suc zero) few = hb
+    each (suc (suc zero)) few = hc
+    each (suc (suc (suc zero))) few = hd
+    each (suc (suc (suc (suc i)))) few = absurd (omega (arith, few))
 
 -- if four numbers together have no bit, a separator stands at each of four places
 pub four_separate : (bytes places : List ℕ) (a b c d : ℕ) → length places ≡ 4

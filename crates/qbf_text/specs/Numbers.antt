@@ -2,6 +2,7 @@
 use Rattle.std.specs.Prelude.{◌≡◌, ℕ, zero, suc, ◌+◌, ◌-◌, ◌<◌, ◌≤◌, Bool, true, false, not, count_by, List, [], ◌∷◌, ◌++◌, length, take}
 use Rattle.std.specs.Prelude.{drop, Option, Some, None, ℤ, pos, unsigned_abs, int_lt, slice_index_or, ◌^◌}
 use Rattle.std.specs.Simd.Lanes.{Each1}
+use Rattle.std.specs.List.{AllByRecursion}
 use Rattle.qbf_text.specs.declared.cursor.Cursor.{Cursor}
 use Rattle.qbf_text.specs.declared.numbers.Numbers.{Numbers}
 use Rattle.qbf_text.specs.declared.token.Token.{Token}
@@ -65,6 +66,22 @@ pub record BeginsWithNumber (bytes : List ℕ) (negative : Bool) (value len : �
 abbrev pub BeginsWithValue : List ℕ → (len : ℕ) → ℤ → Type 0
 BeginsWithValue bytes len value = (ends_line : Bool) × BeginsWithNumber bytes (int_lt value (pos 0)) (unsigned_abs value) len ends_line
 
+-- each of these bytes separates tokens
+abbrev pub IsGap : List ℕ → Type 0
+IsGap gap = AllByRecursion (λ b. is_separator b ≡ true) gap
+
+-- the bytes between two places separate tokens
+abbrev pub IsGapTo : List ℕ → (from to : ℕ) → Type 0
+IsGapTo bytes from to = (from ≤ to) × IsGap (take (to - from) (drop from bytes))
+
+-- the first `len` bytes are separators, if any, a run that is this number, and the separator after it
+pub record ComesNumber (bytes : List ℕ) (len : ℕ) (value : ℤ) : Type 0 where
+  pub gap : List ℕ
+  pub rest : List ℕ
+  pub is_gap : IsGap gap
+  pub bytes_are : bytes ≡ gap ++ rest
+  pub number : BeginsWithValue rest (len - length gap) value
+
 -- separators stand at these places
 abbrev pub AreSeparators : List ℕ → List ℕ → Type 0
 AreSeparators bytes places = (i : ℕ) → i < length places → is_separator (slice_index_or bytes (slice_index_or places i 0) 0) ≡ true
@@ -74,10 +91,10 @@ abbrev pub one_if : Bool → ℕ
 one_if true = 1
 one_if false = 0
 
--- a number stands at its place among the bytes of the window, and the next place is after its separator
+-- a number stands at its place among the bytes of the window, after separators, if any, and the next place is after its separator
 abbrev pub NumberStands : (whole places : List ℕ) → (k : ℕ) → ℤ → Type 0
 NumberStands whole places k value = (slice_index_or places (k + 1) 0 ≤ length whole)
-    × BeginsWithValue (drop (slice_index_or places k 0) whole) (slice_index_or places (k + 1) 0 - slice_index_or places k 0) value
+    × ComesNumber (drop (slice_index_or places k 0) whole) (slice_index_or places (k + 1) 0 - slice_index_or places k 0) value
 
 -- numbers stand at their places, from one of them on
 abbrev pub StandFrom : (whole places : List ℕ) → (k : ℕ) → List ℤ → Type 0
@@ -101,6 +118,10 @@ place n k = slice_index_or n.places k 0
 abbrev pub SeemToEnd : Numbers → (k : ℕ) → List ℕ → Type 0
 SeemToEnd n k ends = (i : ℕ) → i < length ends → slice_index_or ends i 0 < 4096 → place n (k + i + 1) ≡ slice_index_or ends i 0 + 1
 
+-- each of these places is reached through separators alone, if any, from where a number begins, from one of the numbers on
+abbrev pub AreAfterGaps : Numbers → List ℕ → (k : ℕ) → List ℕ → Type 0
+AreAfterGaps n bytes k starts = (i : ℕ) → i < length starts → IsGapTo bytes (place n (k + i)) (slice_index_or starts i 0)
+
 -- the number of bytes of the first `count` numbers that are not passed, with the separator after each
 abbrev pub len_of : Numbers → ℕ → ℕ
 len_of n count = place n (n.first + count) - place n n.first
@@ -110,6 +131,16 @@ pub record AreHeld (n : Numbers) (whole : List ℕ) (start : ℕ) : Type 0 where
   pub few : n.known ≤ 2048
   pub front : n.first < n.known → place n n.first ≡ start
   pub stand : (k : ℕ) → n.first ≤ k → k < n.known → NumberStands whole n.places k (slice_index_or n.values k (pos 0))
+
+-- of the numbers that seem to end before the number `runs` those before the number `k` are put, and stand from a place of the window on
+pub record FillsTo (n : Numbers) (whole : List ℕ) (start runs k : ℕ) : Type 0 where
+  pub values_len : length n.values ≡ 2048
+  pub few : runs ≤ 2048
+  pub first : n.first ≤ k
+  pub before : k ≤ runs
+  pub front : place n n.first ≡ start
+  pub within : place n k ≤ length whole
+  pub stand : (j : ℕ) → n.first ≤ j → j < k → NumberStands whole n.places j (slice_index_or n.values j (pos 0))
 
 -- they stand at the front of these bytes
 pub record StandInFront (n : Numbers) (bytes : List ℕ) : Type 0 where

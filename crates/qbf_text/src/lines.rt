@@ -2,6 +2,7 @@
 
 ghost use Rattle.std.specs.Prelude.{◌≡◌, ◌≤◌, length, take, count_by};
 ghost use Rattle.std.specs.Int.RustNames.{count_ones};
+ghost use Rattle.qbf_text.specs.Left.{IsWithinLine};
 ghost use Rattle.qbf_text.specs.Tokens.{is_line_end};
 ghost use Rattle.qbf_text.specs.declared.lines.TheConstants.{BLOCK};
 
@@ -59,4 +60,17 @@ pub fn count_line_ends(bytes: &[u8]) -> u64
     }
     let rest = count_by_byte(&bytes[i..]);
     (count + rest) as u64
+}
+
+/// How many bytes come before the first line end, or how many there are if there is none.
+#[inline(always)]
+pub fn line_len(bytes: &[u8]) -> usize
+    ensures within { result ≤ length bytes.now }
+    ensures line { IsWithinLine (take result bytes.now) }
+{
+    let mut len = 0;
+    while len < bytes.len() && bytes[len] != b'\n' {
+        len += 1;
+    }
+    len
 }

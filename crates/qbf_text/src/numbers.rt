@@ -2,9 +2,10 @@
 
 ghost use Rattle.std.specs.Prelude.{◌≡◌, ℕ, ◌+◌, ◌<◌, ◌≤◌, List, [], ◌∷◌, length, IfSome, pos};
 ghost use Rattle.std.specs.Prelude.{unsigned_abs, int_lt, nat_eq, nat_le, slice_index};
-ghost use Rattle.std.specs.Prelude.{◌&&◌, ◌↔◌, ◌^◌, IsTrue, false, true};
-ghost use Rattle.qbf_text.specs.Numbers.{AreHeld, AreSeparators, AreShort, BeginsWithValue};
-ghost use Rattle.qbf_text.specs.Numbers.{IsPart, IsPut, NumberStands, SeemToEnd, StandFrom};
+ghost use Rattle.std.specs.Prelude.{◌&&◌, ◌↔◌, ◌^◌, ◌-◌, IsTrue, drop, false, true};
+ghost use Rattle.qbf_text.specs.Numbers.{AreAfterGaps, AreHeld, AreSeparators, AreShort};
+ghost use Rattle.qbf_text.specs.Numbers.{BeginsWithValue, FillsTo, IsGapTo, IsPart, IsPut};
+ghost use Rattle.qbf_text.specs.Numbers.{NumberStands, SeemToEnd, StandFrom};
 ghost use Rattle.qbf_text.specs.Numbers.{cursor_to, len_of, place};
 ghost use Rattle.qbf_text.specs.Left.{is_separator};
 ghost use Rattle.qbf_text.specs.declared.numbers.TheConstants.{BLOCK, MOST};
@@ -14,7 +15,7 @@ use crate::cursor::{Cursor, begins_with_minus, is_minus_zero};
 use crate::lines::count_line_ends;
 use crate::marks::ends_of;
 use crate::separators::is_separator;
-use decimal::{FourNumbers, four_numbers, number_between};
+use decimal::{FourNumbers, four_numbers, four_numbers_between, number_between};
 use std::simd::prelude::*;
 
 /// How many numbers are kept at most: a window has no more runs, unless some of them are empty.
@@ -120,6 +121,35 @@ fn all_separate(bytes: &[u8], places: [usize; 4]) -> bool
     (a | b | c | d) == 0
 }
 
+/// The place of the first byte from a place on that separates no tokens, or that of the end.
+#[inline(always)]
+fn after_separators(bytes: &[u8], from: usize) -> usize
+    requires { from ≤ length bytes.now }
+    ensures gap { IsGapTo bytes.now from result }
+    ensures within { result ≤ length bytes.now }
+{
+    let mut at = from;
+    while at < bytes.len() && is_separator(bytes[at]) {
+        at += 1;
+    }
+    at
+}
+
+/// The next place if a separator stands at this one, else this one.
+#[inline(always)]
+fn after_separator(bytes: &[u8], place: usize) -> usize
+    ensures { IsGapTo bytes.now place result }
+{
+    if place >= bytes.len() {
+        return place;
+    }
+    if other_at(bytes, place) == 0 {
+        place + 1
+    } else {
+        place
+    }
+}
+
 /// For each four bits, four numbers: first the places of those that are set, and then zeros.
 const PLACES: [u16; 64] = [
     0, 0, 0, 0, 0, 0, 0, 0, 1, 0, 0, 0, 0, 1, 0, 0, 2, 0, 0, 0, 0, 2, 0, 0, 1, 2, 0, 0, 0, 1, 2, 0,
@@ -161,7 +191,8 @@ impl<'a> Zeros<'a> {
 pub struct Numbers {
     /// The numbers.
     pub values: [i32; MOST],
-    /// Where each begins in the window; the next one begins after the separator.
+    /// Where each begins in the window, after the separator that ends the one before it: more
+    /// separators may come first.
     pub places: [u16; MOST + 9],
     /// Which of them are 0.
     pub zeros: [u16; MOST + 4],
@@ -177,6 +208,8 @@ pub struct Numbers {
     pub zero_count: usize,
     /// Whether the number after those that are known is not a usual one, or its end is not known.
     pub is_stuck: bool,
+    /// Whether a separator was found after another: then they are looked for.
+    pub is_spaced: bool,
 }
 
 impl Numbers {
@@ -194,6 +227,7 @@ impl Numbers {
             zero: 0,
             zero_count: 0,
             is_stuck: false,
+            is_spaced: false,
         }
     }
 
@@ -219,15 +253,15 @@ impl Numbers {
     }
 
     /// Notes where numbers seem to end among the 64 bytes from the place `block` of the window on,
-    /// after those that were noted. Returns how many are noted.
+    /// after those that were noted: a bit marks each. Returns how many are noted.
     #[inline(always)]
-    fn note(&mut self, bytes: &[u8], block: usize, runs: usize) -> usize
-        requires block { (block + BLOCK ≤ length bytes.now) × (length bytes.now ≤ ROOM) }
+    fn note(&mut self, ends: u64, block: usize, runs: usize) -> usize
+        requires block { block + BLOCK ≤ ROOM }
         requires room { runs + BLOCK ≤ MOST }
         ensures same { self.new ≡ record self.old { places = self.new.places } }
         ensures room { result ≤ runs + BLOCK }
     {
-        let marks = marks_of(&bytes[block..]).to_le_bytes();
+        let marks = ends.to_le_bytes();
         let mut first = u16x8::splat(block as u16);
         let mut runs = runs;
         let mut i = 0;
@@ -239,18 +273,52 @@ impl Numbers {
         runs
     }
 
+    /// Notes where the numbers of these bytes seem to end, if no separator follows another. The
+    /// first `len` of them were pulled. Returns how many are noted.
+    #[inline(always)]
+    fn note_all(&mut self, bytes: &[u8], len: usize) -> usize
+        requires { length bytes.now ≤ ROOM }
+        ensures { result ≤ MOST }
+    {
+        let mut block = 0;
+        let mut runs = 0;
+        while block < len && block + BLOCK <= bytes.len() && runs + BLOCK <= MOST {
+            runs = self.note(marks_of(&bytes[block..]), block, runs);
+            block += BLOCK;
+        }
+        runs
+    }
+
+    /// Notes them where a separator follows another byte alone.
+    #[cold]
+    #[inline(never)]
+    fn note_spaced(&mut self, bytes: &[u8], len: usize) -> usize
+        requires { length bytes.now ≤ ROOM }
+        ensures { result ≤ MOST }
+    {
+        let mut block = 0;
+        let mut runs = 0;
+        let mut before = 1;
+        while block < len && block + BLOCK <= bytes.len() && runs + BLOCK <= MOST {
+            let marks = marks_of(&bytes[block..]);
+            runs = self.note(marks & !(marks << 1 | before), block, runs);
+            before = marks >> 63;
+            block += BLOCK;
+        }
+        runs
+    }
+
     /// Looks where the numbers of these bytes seem to end. The first `len` of them were pulled.
     #[inline(never)]
     pub fn look(&mut self, bytes: &[u8], len: usize)
         requires { length bytes.now ≤ ROOM }
         ensures { self.new.known ≡ 0 }
     {
-        let mut block = 0;
-        let mut runs = 0;
-        while block < len && block + BLOCK <= bytes.len() && runs + BLOCK <= MOST {
-            runs = self.note(bytes, block, runs);
-            block += BLOCK;
-        }
+        let runs = if self.is_spaced {
+            self.note_spaced(bytes, len)
+        } else {
+            self.note_all(bytes, len)
+        };
         self.first = 0;
         self.runs = runs;
         self.forget();
@@ -332,33 +400,100 @@ impl Numbers {
         ]
     }
 
-    /// The number `k`, which begins at the place `at`, if it is a usual one.
-    #[cold]
-    #[inline(never)]
+    /// The place where the number `k` begins, as it seems: after up to two separators more.
+    #[inline(always)]
+    fn start(&self, bytes: &[u8], k: usize) -> usize
+        requires { k < MOST }
+        ensures { IsGapTo bytes.now (place self.now k) result }
+    {
+        let first = usize::from(self.places[k]);
+        let second = after_separator(bytes, first);
+        after_separator(bytes, second)
+    }
+
+    /// The places where four numbers from the number `k` on begin, as they seem.
+    #[inline(always)]
+    #[tactic(auto, using(crate::proofs::NumbersInARow::four_after))]
+    fn starts(&self, bytes: &[u8], k: usize) -> [usize; 4]
+        requires { k + 4 ≤ MOST }
+        ensures { AreAfterGaps self.now bytes.now k result }
+    {
+        [
+            self.start(bytes, k),
+            self.start(bytes, k + 1),
+            self.start(bytes, k + 2),
+            self.start(bytes, k + 3),
+        ]
+    }
+
+    /// Whether more separators come before one of four numbers from the number `k` on.
+    #[inline(always)]
+    fn are_spaced(&self, k: usize, starts: [usize; 4]) -> bool
+        requires { k + 4 ≤ MOST }
+    {
+        let [a, b, c, d] = starts;
+        usize::from(self.places[k]) != a
+            || usize::from(self.places[k + 1]) != b
+            || usize::from(self.places[k + 2]) != c
+            || usize::from(self.places[k + 3]) != d
+    }
+
+    /// The number that begins at the place `at`, before the next number after `k`, if it is a usual
+    /// one.
+    #[inline(always)]
     fn one_at(&self, bytes: &[u8], k: usize, at: usize) -> Option<i32>
         requires room { k < MOST }
-        requires here { (place self.now k ≡ at) × (at ≤ length bytes.now) }
+        requires here { at ≤ length bytes.now }
         requires small { length bytes.now ≤ ROOM }
-        ensures stands { IfSome result (λ value. NumberStands bytes.now self.now.places k value) }
+        ensures within { IfSome result (λ _. place self.now (k + 1) ≤ length bytes.now) }
+        ensures begins { IfSome result (λ value.
+            BeginsWithValue (drop at bytes.now) (place self.now (k + 1) - at) value) }
     {
         let end = self.end(k);
         number_before(&bytes[at..], end.wrapping_sub(at))
     }
 
-    /// The number `k`, which begins at the place `at`, if it comes before the number `runs` and is
-    /// a usual one: a longer one is not looked at.
+    /// The number `k`, if it comes before the number `runs` and is a usual one, after any separators
+    /// more.
     #[inline(always)]
-    fn one_before(&self, bytes: &[u8], k: usize, at: usize, runs: usize) -> Option<i32>
+    fn one_spaced_at(&self, bytes: &[u8], k: usize, runs: usize) -> Option<i32>
         requires room { (k ≤ runs) × (runs ≤ MOST) }
-        requires here { (place self.now k ≡ at) × (at ≤ length bytes.now) }
+        requires here { place self.now k ≤ length bytes.now }
         requires small { length bytes.now ≤ ROOM }
         ensures stands { IfSome result (λ value. (k < runs)
             × NumberStands bytes.now self.now.places k value) }
     {
-        if k >= runs || self.end(k).wrapping_sub(at) > LONGEST {
+        if k >= runs {
             return None;
         }
-        self.one_at(bytes, k, at)
+        let first = usize::from(self.places[k]);
+        let at = after_separators(bytes, first);
+        let value = self.one_at(bytes, k, at)?;
+        Some(value)
+    }
+
+    /// The four numbers from the number `k` on, if they come before the number `runs` and are usual
+    /// ones, and one or two separators more come before some of them.
+    #[inline(always)]
+    fn four_spaced_at(&self, bytes: &[u8], k: usize, runs: usize) -> Option<FourNumbers>
+        requires room { (k ≤ runs) × (runs ≤ MOST) }
+        requires small { length bytes.now ≤ ROOM }
+        ensures four { IfSome result (λ four. (k + 4 ≤ runs)
+            × StandFrom bytes.now self.now.places k four.values × AreShort four.values) }
+    {
+        if k + 4 > runs {
+            return None;
+        }
+        let starts = self.starts(bytes, k);
+        if !self.are_spaced(k, starts) {
+            return None;
+        }
+        let ends = self.ends(k);
+        let four = four_numbers_between(bytes, starts, ends)?;
+        if !all_separate(bytes, ends) {
+            return None;
+        }
+        Some(four)
     }
 
     /// The four numbers from the number `k` on, which begin at the place `at`, if they come before
@@ -382,6 +517,47 @@ impl Numbers {
         Some(four)
     }
 
+    /// Puts up to four numbers one by one from the number `k` on, as far as they are usual ones and
+    /// come before the number `runs`. Returns how far that is, and how many zeros are noted.
+    #[inline(always)]
+    fn put_ones(&mut self, bytes: &[u8], k: usize, runs: usize, zeros: usize) -> (usize, usize)
+        requires fills { FillsTo self.old bytes.now (place self.old self.old.first) runs k }
+        requires small { length bytes.now ≤ ROOM }
+        ensures fills { FillsTo self.new bytes.now (place self.old self.old.first) runs result.0 }
+        ensures further { k ≤ result.0 }
+    {
+        let most = k + 4;
+        let mut k = k;
+        let mut zeros = zeros;
+        'numbers: while k < most {
+            let Some(value) = self.one_spaced_at(bytes, k, runs) else {
+                return (k, zeros);
+            };
+            self.put(k, value);
+            zeros = self.note_zeros(k, u64::from(value == 0), zeros);
+            k += 1;
+        }
+        (k, zeros)
+    }
+
+    /// Puts four numbers from the number `k` on, if more separators come before some of them, or up
+    /// to four one by one, as `put_ones` does.
+    #[cold]
+    #[inline(never)]
+    fn put_spaced(&mut self, bytes: &[u8], k: usize, runs: usize, zeros: usize) -> (usize, usize)
+        requires fills { FillsTo self.old bytes.now (place self.old self.old.first) runs k }
+        requires small { length bytes.now ≤ ROOM }
+        ensures fills { FillsTo self.new bytes.now (place self.old self.old.first) runs result.0 }
+        ensures further { k ≤ result.0 }
+    {
+        let Some(four) = self.four_spaced_at(bytes, k, runs) else {
+            return self.put_ones(bytes, k, runs, zeros);
+        };
+        self.put_four(k, four.values);
+        let noted = self.note_zeros(k, four.zeros, zeros);
+        (k + 4, noted)
+    }
+
     /// Puts the numbers that stand from the place `start` on, as far as they are usual ones and
     /// come before the number `runs`. Returns how far that is, and how many zeros are among them.
     #[inline(always)]
@@ -401,15 +577,28 @@ impl Numbers {
                 zeros = self.note_zeros(k, four.zeros, zeros);
                 k += 4;
             } else {
-                let Some(value) = self.one_before(bytes, k, at, runs) else {
+                let (next, noted) = self.put_spaced(bytes, k, runs, zeros);
+                if next == k {
                     return (k, zeros);
-                };
-                self.put(k, value);
-                zeros = self.note_zeros(k, u64::from(value == 0), zeros);
-                k += 1;
+                }
+                k = next;
+                zeros = noted;
             }
             at = usize::from(self.places[k]);
         }
+    }
+
+    /// Whether the number `k` seems to have no bytes, and a separator comes before its place: then
+    /// one separator follows another there.
+    #[inline(always)]
+    fn is_gap(&self, bytes: &[u8], k: usize, runs: usize) -> bool
+        requires { runs ≤ MOST }
+    {
+        if k >= runs {
+            return false;
+        }
+        let place = usize::from(self.places[k]);
+        place != 0 && place <= bytes.len() && self.end(k) == place && is_separator(bytes[place - 1])
     }
 
     /// Makes the numbers known that stand from the place `start` on, as far as they are usual ones,
@@ -426,6 +615,7 @@ impl Numbers {
         self.zero = 0;
         self.zero_count = zeros;
         self.is_stuck = true;
+        self.is_spaced = self.is_spaced || self.is_gap(bytes, known, runs);
     }
 
     /// Whether none is buffered.

@@ -10,6 +10,7 @@ ghost use Rattle.qbf_text.specs.Left.{is_separator, IsWithinLine, EndsLine, is_e
 ghost use Rattle.qbf_text.specs.Numbers.{StandInFront};
 
 use crate::cursor::Cursor;
+use crate::lines::line_len;
 use crate::numbers::Numbers;
 use crate::run::{Numeral, Run, Spelling, begins_number};
 use crate::separators::is_separator;
@@ -32,6 +33,8 @@ fn skip_line<S: Source>(window: &mut Window, source: &mut S) -> Result<(), Sourc
             break;
         }
         window.advance();
+        let rest = line_len(window.bytes());
+        window.go_to(rest, 0);
     }
     Ok(())
 }
@@ -169,6 +172,25 @@ impl Place {
         }
     }
 
+    /// Goes past the separators that were pulled. Then the next token and its line, as `number`
+    /// finds them.
+    fn number_after_separators(&mut self) -> Option<(Token, u64)>
+        ensures found { IfSome result (λ token. (remaining : Option (List ℕ)) →
+            FindsToken self.old remaining self.new remaining token) }
+        ensures less { IfSome result (λ _. (length self.new.window < length self.old.window)
+            × (length self.new.window ≤ 4096)) }
+        ensures none { IfNone result ((remaining : Option (List ℕ))
+            → PlaceSkips self.old remaining self.new remaining) }
+        ensures no_more { length self.new.window ≤ length self.old.window }
+        ensures line { IfNone result (self.new.line < 2 ^ 64) }
+    {
+        self.skip_separators();
+        // The proof reads here that the number has 64 bits.
+        let _line = self.line;
+        let found = self.number()?;
+        Some(found)
+    }
+
     /// The next token and its line, or `None` at the end.
     #[cold]
     #[inline(never)]
@@ -184,18 +206,18 @@ impl Place {
         ensures pulled { HasPulled S.bound S.failures self.old.window self.new.window
             source.old source.new result }
     {
-        self.skip_separators();
-        if let Some(token) = self.number() {
+        if let Some(token) = self.number_after_separators() {
             return Ok(Some(token));
         }
-        // The proof reads here that the number has 64 bits.
-        let _line = self.line;
         while let Some(byte) = self.window.peek(source)? {
             if is_separator(byte) {
                 self.pass_separator(byte);
             } else if !self.begun && self.comments.begins_with(byte) {
                 self.window.advance();
                 skip_line(&mut self.window, source)?;
+                if let Some(token) = self.number_after_separators() {
+                    return Ok(Some(token));
+                }
             } else {
                 self.window.advance();
                 let token = read_run(byte, &mut self.window, source)?;

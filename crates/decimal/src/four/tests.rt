@@ -80,6 +80,42 @@ fn leaves_all_else(rt: HostRuntime) {
     );
 }
 
+/// The four numbers between these places, and which of them are zero.
+fn assert_reads_between(
+    rt: &impl Abort,
+    starts: [usize; 4],
+    ends: [usize; 4],
+    wanted: Option<([i32; 4], u64)>,
+) {
+    let bytes = b"        1  22\r\n333   -4444 00";
+    let found = match four_numbers_between(bytes, starts, ends) {
+        Some(four) => Some((four.values.to_array(), four.zeros)),
+        None => None,
+    };
+    assert_eq!(rt; found, wanted);
+}
+
+#[test]
+fn reads_between_places(rt: HostRuntime) {
+    let wanted = Some(([1, 22, 333, -4444], 0));
+    assert_reads_between(&rt, [8, 11, 15, 21], [9, 13, 18, 26], wanted);
+    let wanted = Some(([0, 333, 2, 33], 1));
+    assert_reads_between(&rt, [27, 15, 12, 15], [28, 18, 13, 17], wanted);
+}
+
+#[test]
+fn leaves_what_is_not_between_places(rt: HostRuntime) {
+    assert_reads_between(&rt, [8, 10, 15, 21], [9, 13, 18, 26], None);
+    assert_reads_between(&rt, [8, 11, 15, 21], [9, 13, 18, 27], None);
+    assert_reads_between(&rt, [8, 11, 15, 27], [9, 13, 18, 29], None);
+    assert_reads_between(&rt, [8, 11, 15, 21], [9, 13, 15, 26], None);
+    assert_reads_between(&rt, [9, 11, 15, 21], [8, 13, 18, 26], None);
+    assert_reads_between(&rt, [6, 11, 15, 21], [7, 13, 18, 26], None);
+    let far = 18446744073709551615;
+    assert_reads_between(&rt, [far, 11, 15, 21], [9, 13, 18, 26], None);
+    assert_reads_between(&rt, [8, 11, 15, 21], [9, 13, 18, far], None);
+}
+
 #[test]
 fn reads_digits_alone(rt: HostRuntime) {
     for lane in 0..4usize {

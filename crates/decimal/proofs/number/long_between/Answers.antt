@@ -1,4 +1,4 @@
-use Rattle.std.proofs.Common.{arith, ◌∙◌}
+use Rattle.std.proofs.Common.{arith}
 use Rattle.decimal.proofs.Eights.{both_digits, both_value}
 use Rattle.decimal.proofs.number.long_between.Goals as goal
 

@@ -1,4 +1,5 @@
 use Rattle.qbf_text.proofs.Cited.{◌≡◌, ◌+◌, ◌≤◌, length, rules, arith}
+use Rattle.qbf_text.proofs.Gaps.{no_gap}
 use Rattle.qbf_text.proofs.NumbersInARow.{row_stands, ends_go_up, are_short, four_ends}
 use Rattle.qbf_text.proofs.numbers.Numbers.four_at.Goals as goal
 
@@ -14,7 +15,7 @@ returns c =
     let up = ends_go_up bytes c.args.at c.ends-ends.result (length bytes) c.in_ok-four.four.values four
     c.in_ok-four.ensures.numbers c.in_ok-four.ensures.within in
     let room : k + 4 ≤ c.args.runs = omega (arith, c.if-k-runs.false) in
-    let stand = row_stands bytes n.places c.ends-ends.result c.in_ok-four.four.values k c.args.at c.requires.here
+    let stand = row_stands bytes n.places c.ends-ends.result c.in_ok-four.four.values k c.args.at (rw c.requires.here (no_gap bytes c.args.at))
     c.in_ok-four.ensures.numbers
     (four_ends n bytes c.ends-ends.result k four up (c.all_separate.ensures c.if-not-all_separate.false) c.requires.small
     c.ends-ends.ensures) in

@@ -1,5 +1,5 @@
 use Rattle.qbf_text.proofs.Cited.{◌-◌, ◌≤◌}
-use Rattle.qbf_text.proofs.numbers.Numbers.look.Given as goal
+use Rattle.qbf_text.proofs.numbers.Numbers.note_spaced.Given as goal
 
 abbrev pub invariant-loop-block : goal.invariant-loop-block
 invariant-loop-block l = record { block : l.block ≤ 4096; runs : l.runs ≤ 2048 }
