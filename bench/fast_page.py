@@ -13,11 +13,12 @@ from reached import Lines, Program
 PAGE = ROOT / "docs" / "FAST.md"
 ROWS = ROOT / "docs" / "fast.rows"
 WIDTH = 142
+SHORT = 0.01  # seconds: less than that says nothing of time
 # How a row names the program without all fast ways.
 PLAIN = "plain"
 HEAD = """# lines NAME LINES-OF-FUNCTIONS LINES-OF-THEIR-PROOFS LINES-OF-LEMMAS: what main does not reach without a fast way, or without all
 # run NAMES INPUT INSTRUCTIONS-WITHOUT INSTRUCTIONS SECONDS-WITHOUT SECONDS: by bench/without
-# machine WORDS: where the runs were
+# machine WORDS: where the last run was, and the load of that minute
 """
 
 
@@ -43,7 +44,7 @@ def store_run(row: list[str]) -> None:
     put_row("run", row, 2)
     with open("/proc/cpuinfo", encoding="utf-8") as lines:
         model = next((it.partition(":")[2].strip() for it in lines if it.startswith("model name")), "an unknown processor")
-    put_row("machine", [f"{len(os.sched_getaffinity(0))} processors: {model}"], 0)
+    put_row("machine", [f"{len(os.sched_getaffinity(0))} processors ({model}), and a load of {os.getloadavg()[0]:.0f}"], 0)
 
 
 def ratio(without: str, of_all: str) -> str:
@@ -125,8 +126,8 @@ def figures(way: FastWay, known: dict[str, FastWay]) -> dict[str, list[str]]:
 
 
 def ratios(row: list[str]) -> str:
-    """The instructions and the CPU time without a fast way, as those of the program."""
-    return f"{ratio(row[0], row[1])} ({ratio(row[2], row[3])})"
+    """The instructions and the CPU time without a fast way, as those of the program; no time if that is too short to tell."""
+    return ratio(row[0], row[1]) + (f" ({ratio(row[2], row[3])})" if float(row[3]) >= SHORT else "")
 
 
 def price(way: FastWay, known: dict[str, FastWay]) -> str:
@@ -180,17 +181,18 @@ def text(known: dict[str, FastWay]) -> str:
     machine = "; ".join(row[0] for row in rows("machine")) or "no machine yet"
     inputs = "\n".join(wrapped(f"- {name}: {it.says}", "  ") for name, it in INPUTS.items())
     parts = {"tree": [item(it, known) for it in fast], "linear": [item(it, known) for it in linear]}
-    return TEXT.format(
+    paragraphs = TEXT.format(
         tree="\n".join(parts["tree"]),
         linear="\n".join(parts["linear"]),
         prices=table(fast, known),
         linear_prices=table(linear, known),
-        plain=wrapped(plain_prices()),
+        plain=plain_prices(),
         plain_lines=counted(PLAIN),
         inputs=inputs,
         machine=machine,
-        left=wrapped(not_measured(known)),
-    ).replace("\n\n\n", "\n\n")
+        left=not_measured(known),
+    ).split("\n\n")
+    return "\n\n".join(it if it[:1] in "#-|" else wrapped(" ".join(it.split())) for it in paragraphs if it.strip())
 
 
 TEXT = """# What makes the checker fast
@@ -224,7 +226,8 @@ Without all of them `main` reaches less: {plain_lines}.
 
 ## What keeps a check linear
 
-These are no fast ways, and belong to the plain program: without one of them the time of a check grows with the square of some size.
+These are no fast ways, and belong to the plain program: without one of them the time of a check grows with the square of some size. Repetitions
+are seen only while a step is judged as it is written, so without that they take time again for each step that names them.
 
 {linear}
 
@@ -233,8 +236,9 @@ These are no fast ways, and belong to the plain program: without one of them the
 ## How it was measured
 
 Instructions are those that `valgrind --tool=callgrind` counts, which other work on the machine does not change; CPU time is the least of seven runs
-of both programs by turns, which it does. The inputs are small, so that a start of the program counts in them too. Several fast ways may be out of
+of both programs by turns, which it does, and is left out below a hundredth of a second. The inputs are small, so that a start of the program counts in them too. Several fast ways may be out of
 use in one run, if none of them counts on the inputs of another. The command is `bench/without --store NAME ..`. The machine had {machine}.
+So compare instructions first: times of a machine that has so much else to do differ by a tenth and more.
 
 {inputs}
 
