@@ -210,7 +210,8 @@ impl<S: Sink> Buffered<S> {
         Ok(self.buffer.append_some(bytes))
     }
 
-    /// Sends on what is held back, and then the bytes.
+    /// Sends on what is held back, and then holds the bytes back, or sends them if they are more than
+    /// there is room for.
     #[cold]
     #[inline(never)]
     fn flush_then_push_all(&mut self, bytes: &[u8]) -> Result<(), SinkFault>
@@ -220,6 +221,9 @@ impl<S: Sink> Buffered<S> {
     {
         self.flush_buffer()?;
         self.buffer.begin_again();
+        if self.buffer.append(bytes) {
+            return Ok(());
+        }
         self.sink.push_all(bytes)
     }
 

@@ -1,6 +1,6 @@
 //! Traces of which each item is kept as it is read.
 
-ghost use Rattle.std.specs.Prelude.{◌≡◌, ◌≤◌, ◌<◌, length, Ok, IfOk, IfSome, IfNone};
+ghost use Rattle.std.specs.Prelude.{◌≡◌, ◌≤◌, ◌<◌, length, Ok, IsTrue, IfOk, IfSome, IfNone};
 ghost use Rattle.qbf_text.specs.Numbers.{LeadsOver};
 ghost use Rattle.qrp.specs.Flat.{kept_of, trace_of, IsFlat};
 ghost use Rattle.qrp.specs.declared.states.State.TheVariants as at;
@@ -81,6 +81,15 @@ fn keep_whole<A: AntecedentLists>(
     Ok(Some(to + 1))
 }
 
+/// Whether a number stands at the place, so that a step may be taken whole. One that is not is taken
+/// number by number.
+#[inline(always)]
+fn surely_more(values: &[i32], from: usize) -> bool
+    ensures { IsTrue result → from < length values.now }
+{
+    from < values.len()
+}
+
 /// Keeps steps as long as all of the next one stands there. The place of the next number and the
 /// number of the next zero go in and out.
 ///
@@ -100,7 +109,7 @@ fn keep_steps<A: AntecedentLists>(
     ensures flat { IsFlat (kept_of A.lists parts.new) }
 {
     let (mut from, mut zero) = start;
-    'steps: while from < values.len() {
+    'steps: while surely_more(values, from) {
         let next = NextPlaces::new(from, zeros, zero);
         let Some(to) = keep_whole(parts, values, next)? else {
             break;

@@ -1,0 +1,266 @@
+"""The page docs/FAST.md, made from the files of bench/switches and from docs/fast.rows, which has what was measured."""
+
+import os
+import sys
+import tempfile
+from pathlib import Path
+
+from crates import Stopped
+from fast_ways import PROGRAM, ROOT, FastWay, lay_out, switched
+from inputs import INPUTS
+from reached import Lines, Program
+
+PAGE = ROOT / "docs" / "FAST.md"
+ROWS = ROOT / "docs" / "fast.rows"
+WIDTH = 142
+SHORT = 0.01  # seconds: less than that says nothing of time
+# How a row names the program without all fast ways.
+PLAIN = "plain"
+HEAD = """# lines NAME LINES-OF-FUNCTIONS LINES-OF-THEIR-PROOFS LINES-OF-LEMMAS: what main does not reach without a fast way, or without all
+# run NAMES INPUT INSTRUCTIONS-WITHOUT INSTRUCTIONS SECONDS-WITHOUT SECONDS: by bench/without
+# machine WORDS: where the last run was, and the load of that minute
+"""
+
+
+# ---- rows
+
+
+def rows(kind: str) -> list[list[str]]:
+    """The rows of a kind, without that word."""
+    lines = ROWS.read_text(encoding="utf-8").splitlines() if ROWS.exists() else []
+    return [it.split("\t")[1:] for it in lines if it.split("\t")[0] == kind]
+
+
+def put_row(kind: str, row: list[str], keys: int) -> None:
+    """Puts a row in place of that of the same first columns."""
+    text = ROWS.read_text(encoding="utf-8") if ROWS.exists() else HEAD
+    same = "\t".join([kind, *row[:keys]]) + "\t" * (keys > 0)
+    lines = [it for it in text.splitlines() if not it.startswith(same)]
+    ROWS.write_text("\n".join([*lines, "\t".join([kind, *row])]) + "\n", encoding="utf-8")
+
+
+def store_run(row: list[str]) -> None:
+    """Keeps the figures of a run, and the machine."""
+    put_row("run", row, 2)
+    with open("/proc/cpuinfo", encoding="utf-8") as lines:
+        model = next((it.partition(":")[2].strip() for it in lines if it.startswith("model name")), "an unknown processor")
+    put_row("machine", [f"{len(os.sched_getaffinity(0))} processors ({model}), and a load of {os.getloadavg()[0]:.0f}"], 0)
+
+
+def ratio(without: str, of_all: str) -> str:
+    """How many times, with three digits."""
+    value = float(without) / max(float(of_all), 0.001)
+    return f"{value:.2f}" if value < 9.995 else f"{value:.1f}" if value < 99.95 else f"{value:.0f}"
+
+
+# ---- lines that are not reached
+
+
+def lines_of(ways: list[FastWay]) -> Lines:
+    """The lines that `main` reaches in a tree without some fast ways."""
+    with tempfile.TemporaryDirectory() as folder:
+        lay_out(Path(folder) / "tree", ways, kept=False)
+        return Program(Path(folder) / "tree", PROGRAM, {name for way in ways for name in way.never}).lines
+
+
+def all_lines(known: dict[str, FastWay]) -> dict[str, Lines]:
+    """The lines that are not reached without each fast way, and without all."""
+    whole = lines_of([])
+    found = {name: whole - lines_of([way]) for name, way in known.items()}
+    return found | {PLAIN: whole - lines_of([it for it in known.values() if not it.keeps_linear])}
+
+
+def store_lines(known: dict[str, FastWay]) -> None:
+    """Counts the lines anew, and keeps them."""
+    for name, lines in all_lines(known).items():
+        put_row("lines", [name, str(lines.functions), str(lines.proofs), str(lines.lemmas)], 1)
+
+
+# ---- the page
+
+
+def wrapped(text: str, inset: str = "", front: str = "") -> str:
+    """The text in lines of the page's width, after `front`; the lines after the first are set in."""
+    lines, line = [], front
+    for word in text.split(" "):
+        if len(line) + 1 + len(word) > WIDTH:
+            lines.append(line)
+            line = f"{inset}{word}"
+        else:
+            line = f"{line} {word}" if line.strip() and line != front else f"{line}{word}"
+    return "\n".join([*lines, line])
+
+
+def depth(way: FastWay, known: dict[str, FastWay]) -> int:
+    """How many of its own kind carry a fast way."""
+    return 1 + depth(known[way.under], known) if way.under and known[way.under].keeps_linear == way.keeps_linear else 0
+
+
+def counted(name: str) -> str:
+    """The lines of a fast way in words."""
+    found = [row[1:] for row in rows("lines") if row[0] == name]
+    if not found:
+        return "lines not counted"
+    functions, proofs, lemmas = map(int, found[0])
+    parts = [f"{functions} lines of functions" if functions else "no function of its own"]
+    parts += [f"{count} of {what}" for count, what in ((proofs, "their proofs"), (lemmas, "lemmas")) if count]
+    return ", ".join(parts)
+
+
+def item(way: FastWay, known: dict[str, FastWay]) -> str:
+    """A point of the tree."""
+    front = "  " * depth(way, known)
+    places = ", ".join(f"`{it}`" for it in switched(way))
+    says = f"{way.says[:1].upper()}{way.says[1:]}. Switch `{way.name}`: {places} of `{way.crate}`. {counted(way.name).capitalize()}."
+    return wrapped(f"**{way.title[:1].upper()}{way.title[1:]}.** {says}", front + "  ", f"{front}- ")
+
+
+def figures(way: FastWay, known: dict[str, FastWay]) -> dict[str, list[str]]:
+    """The rows of the runs without a fast way, by input: those in which no other one counts that is out of use there too."""
+    found = {}
+    for names, name, *row in rows("run"):
+        others = [known[it] for it in names.split("+") if it in known and it != way.name]
+        if way.name in names.split("+") and name in way.inputs and not any(name in it.inputs + it.also for it in others):
+            found[name] = row
+    return found
+
+
+def ratios(row: list[str]) -> str:
+    """The instructions and the CPU time without a fast way, as those of the program; no time if that is too short to tell."""
+    return ratio(row[0], row[1]) + (f" ({ratio(row[2], row[3])})" if float(row[3]) >= SHORT else "")
+
+
+def price(way: FastWay, known: dict[str, FastWay]) -> str:
+    """A row of the prices."""
+    found = figures(way, known)
+    said = ", ".join(f"{name} {ratios(found[name])}" for name in INPUTS if name in found) or "not measured"
+    return f"| {'– ' * depth(way, known)}{way.title} | {said} |"
+
+
+def by_price(known: dict[str, FastWay]) -> dict[str, FastWay]:
+    """The fast ways in the order of the tree: of those that one carries the dearest first."""
+    most = lambda way: max([float(row[0]) / float(row[1]) for row in figures(way, known).values()], default=0)
+    found: dict[str, FastWay] = {}
+
+    def put(under: str) -> None:
+        for way in sorted((it for it in known.values() if it.under == under), key=most, reverse=True):
+            found[way.name] = way
+            put(way.name)
+
+    put("")
+    return found
+
+
+def table(ways: list[FastWay], known: dict[str, FastWay]) -> str:
+    head = "| Without | Instructions, and in brackets CPU time; of the program they are 1 |\n|---|---|\n"
+    return head + "\n".join(price(it, known) for it in ways)
+
+
+def plain_prices() -> str:
+    """The figures of the plain program."""
+    found = {name: row for names, name, *row in rows("run") if names == PLAIN}
+    said = ", ".join(f"{name} {ratios(found[name])}" for name in INPUTS if name in found)
+    return f"On these inputs it takes, in the same terms: {said}." if said else "It was not measured."
+
+
+def not_measured(known: dict[str, FastWay]) -> str:
+    """Which fast ways have no figures on some of their inputs."""
+    left = []
+    for way in known.values():
+        inputs = [it for it in way.inputs if it not in figures(way, known)]
+        left += [way.title + (f" ({', '.join(inputs)})" if len(inputs) < len(way.inputs) else "")] if inputs else []
+    return f"Not measured in these runs: {'; '.join(left)}." if left else ""
+
+
+def text(known: dict[str, FastWay]) -> str:
+    """The text of the page."""
+    known_rows(known)
+    known = by_price(known)
+    fast = [it for it in known.values() if not it.keeps_linear]
+    linear = [it for it in known.values() if it.keeps_linear]
+    machine = "; ".join(row[0] for row in rows("machine")) or "no machine yet"
+    inputs = "\n".join(wrapped(f"- {name}: {it.says}", "  ") for name, it in INPUTS.items())
+    parts = {"tree": [item(it, known) for it in fast], "linear": [item(it, known) for it in linear]}
+    paragraphs = TEXT.format(
+        tree="\n".join(parts["tree"]),
+        linear="\n".join(parts["linear"]),
+        prices=table(fast, known),
+        linear_prices=table(linear, known),
+        plain=plain_prices(),
+        plain_lines=counted(PLAIN),
+        inputs=inputs,
+        machine=machine,
+        left=not_measured(known),
+    ).split("\n\n")
+    return "\n\n".join(it if it[:1] in "#-|" else wrapped(" ".join(it.split())) for it in paragraphs if it.strip())
+
+
+TEXT = """# What makes the checker fast
+
+This page is made by `bench/without --page` from the files of bench/switches and from docs/fast.rows.
+
+The checker is a whole one without anything that is told here: bytes to tokens, a token to its row, a step judged by sets. Beside that stand fast
+ways. A fast way only takes, accepts or guesses: where it says no, the plain way goes on and comes to the same result. So its contract says
+something only for a yes, and one line puts it out of use: the body of a small function becomes `false`, or returns at once. No clause, definition,
+lemma or stored proof changes for that. Who reads the code for the first time may leave all fast ways closed, and open one for its price.
+
+`bench/without NAME` puts the fast way of that name out of use, in a copy of the tree, and `bench/without --all` all of them; both prove and build
+the program there, and measure it beside the one of the tree. `bench/check-plain-program` compares the answers of the program without any.
+
+## The fast ways
+
+They are a tree: one that is set in is of no use without the one above it. Prices of one branch do not multiply. The lines are those that `main`
+no longer reaches without it, by the names of functions: at least so many. Of a function that stays reached those count that stand behind a test
+that is known then.
+
+{tree}
+
+## What each buys
+
+{prices}
+
+## The plain program
+
+Without all of them `main` reaches less: {plain_lines}.
+{plain}
+
+## What keeps a check linear
+
+These are no fast ways, and belong to the plain program: without one of them the time of a check grows with the square of some size. Repetitions
+are seen only while a step is judged as it is written, so without that they take time again for each step that names them.
+
+{linear}
+
+{linear_prices}
+
+## How it was measured
+
+Instructions are those that `valgrind --tool=callgrind` counts, which other work on the machine does not change; CPU time is the least of seven runs
+of both programs by turns, which it does, and is left out below a hundredth of a second. The inputs are small, so that a start of the program counts in them too. Several fast ways may be out of
+use in one run, if none of them counts on the inputs of another. The command is `bench/without --store NAME ..`. The machine had {machine}.
+So compare instructions first: times of a machine that has so much else to do differ by a tenth and more.
+
+{inputs}
+
+{left}
+"""
+
+
+def write(known: dict[str, FastWay], check: bool) -> int:
+    """Writes the page, or says whether it is as it would be written; the status."""
+    wanted = text(known).rstrip() + "\n"
+    if not check:
+        PAGE.write_text(wanted, encoding="utf-8")
+        return 0
+    if PAGE.exists() and PAGE.read_text(encoding="utf-8") == wanted:
+        return 0
+    print(f"FAILED: docs/{PAGE.name} is not what bench/switches and docs/{ROWS.name} give: run bench/without --page", file=sys.stderr)
+    return 1
+
+
+def known_rows(known: dict[str, FastWay]) -> None:
+    """Raises Stopped if a row names what is not there."""
+    for names, name, *_ in rows("run"):
+        lost = [it for it in names.split("+") if it not in known and it != PLAIN]
+        if lost or name not in INPUTS:
+            raise Stopped(f"docs/{ROWS.name} has a run of {lost[0] if lost else name}, which is not there")
