@@ -201,8 +201,8 @@ This page is made by `bench/without --page` from the files of bench/switches and
 
 The checker is a whole one without anything that is told here: bytes to tokens, a token to its row, a step judged by sets. Beside that stand fast
 ways. A fast way only takes, accepts or guesses: where it says no, the plain way goes on and comes to the same result. So its contract says
-something only for a yes, and one line puts it out of use: the body of a small function becomes `false`, or returns at once. No clause, definition,
-lemma or stored proof changes for that. Who reads the code for the first time may leave all fast ways closed, and open one for its price.
+something only for a yes, and a switch of a few lines puts it out of use: the body of a small function becomes `false`, another one returns at once,
+or a method is left out that the trait has too. No clause, definition, lemma or stored proof changes for that. Who reads the code for the first time may leave all fast ways closed, and open one for its price.
 
 `bench/without NAME` puts the fast way of that name out of use, in a copy of the tree, and `bench/without --all` all of them; both prove and build
 the program there, and measure it beside the one of the tree. `bench/check-plain-program` compares the answers of the program without any.
