@@ -138,9 +138,12 @@ def price(way: FastWay, known: dict[str, FastWay]) -> str:
 
 
 def by_price(known: dict[str, FastWay]) -> dict[str, FastWay]:
-    """The fast ways in the order of the tree: of those that one carries the dearest first."""
-    most = lambda way: max([float(row[0]) / float(row[1]) for row in figures(way, known).values()], default=0)
+    """The fast ways in the order of the tree: of those that one carries the dearest first, with what it carries itself."""
     found: dict[str, FastWay] = {}
+
+    def most(way: FastWay) -> float:
+        own = [float(row[0]) / float(row[1]) for row in figures(way, known).values()]
+        return max([0, *own, *(most(it) for it in known.values() if it.under == way.name)])
 
     def put(under: str) -> None:
         for way in sorted((it for it in known.values() if it.under == under), key=most, reverse=True):
