@@ -138,9 +138,12 @@ def price(way: FastWay, known: dict[str, FastWay]) -> str:
 
 
 def by_price(known: dict[str, FastWay]) -> dict[str, FastWay]:
-    """The fast ways in the order of the tree: of those that one carries the dearest first."""
-    most = lambda way: max([float(row[0]) / float(row[1]) for row in figures(way, known).values()], default=0)
+    """The fast ways in the order of the tree: of those that one carries the dearest first, with what it carries itself."""
     found: dict[str, FastWay] = {}
+
+    def most(way: FastWay) -> float:
+        own = [float(row[0]) / float(row[1]) for row in figures(way, known).values()]
+        return max([0, *own, *(most(it) for it in known.values() if it.under == way.name)])
 
     def put(under: str) -> None:
         for way in sorted((it for it in known.values() if it.under == under), key=most, reverse=True):
@@ -201,8 +204,8 @@ This page is made by `bench/without --page` from the files of bench/switches and
 
 The checker is a whole one without anything that is told here: bytes to tokens, a token to its row, a step judged by sets. Beside that stand fast
 ways. A fast way only takes, accepts or guesses: where it says no, the plain way goes on and comes to the same result. So its contract says
-something only for a yes, and one line puts it out of use: the body of a small function becomes `false`, or returns at once. No clause, definition,
-lemma or stored proof changes for that. Who reads the code for the first time may leave all fast ways closed, and open one for its price.
+something only for a yes, and a switch of a few lines puts it out of use: the body of a small function becomes `false`, another one returns at once,
+or a method is left out that the trait has too. No clause, definition, lemma or stored proof changes for that. Who reads the code for the first time may leave all fast ways closed, and open one for its price.
 
 `bench/without NAME` puts the fast way of that name out of use, in a copy of the tree, and `bench/without --all` all of them; both prove and build
 the program there, and measure it beside the one of the tree. `bench/check-plain-program` compares the answers of the program without any.
