@@ -54,4 +54,3 @@ module _ {E : Type 0} (f : Qbf) (set lits : List Literal) (same : HasMembersOf s
   same_none (Ok None) none = λ p at. none p (same_reduct_at f lits set p (same.1, same.0) at)
   same_none (Ok (Some p)) none = tt
   same_none (Err e) none = tt
-
