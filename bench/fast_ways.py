@@ -1,6 +1,6 @@
 """The fast ways of the checker, and a tree in which some of them are out of use.
 
-Each has a switch, an edit of bench/switches in the form of those of must-fail (gate/wrong_bodies.py reads it): lines `file:`, `old:` and `new:`,
+Each has a switch, an edit of bench/switches in the form of those of must-fail (gate/mutants/edits.py reads it): lines `file:`, `old:` and `new:`,
 one line for one line. Lines before these name it in plain words (`title:`), say what it is (`is:`), which crate the file is of (`crate:`), which
 fast way it is of no use without (`under:`), that it is none but keeps a check linear (`keeps:`), which functions are then never called, though
 a body names them (`never:`), on which inputs it is measured (`inputs:`), and on which others it counts too (`also:`).
@@ -14,7 +14,7 @@ from dataclasses import dataclass
 from pathlib import Path
 
 from crates import PARTS, Crates, Stopped, copy, copy_crate
-from wrong_bodies import BadEdit, applied, functions_of, pairs_of, words_of
+from mutants.edits import BadEdit, applied, functions_of, pairs_of, words_of
 
 ROOT = Path(__file__).resolve().parent.parent
 SWITCHES = ROOT / "bench" / "switches"
@@ -45,7 +45,7 @@ def read_fast_way(path: Path) -> FastWay:
     missing = [word for word in ("title", "is", "crate", "inputs") if not said.get(word)]
     if missing:
         raise Stopped(f"{path.name} has no line {missing[0]}:")
-    changes = tuple((file, old, new) for file, old, new, _ in pairs_of(path))
+    changes = tuple((file, old, new) for file, old, new, _ in pairs_of(path.read_text(encoding="utf-8")))
     never, inputs, also = (tuple(said.get(word, "").split()) for word in ("never", "inputs", "also"))
     return FastWay(path.stem, said["title"], said["is"], said["crate"], said.get("under", ""), "keeps" in said, never, inputs, also, changes)
 

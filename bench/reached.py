@@ -13,7 +13,7 @@ from pathlib import Path
 from crates import Crates
 from folding import folded, value_of
 from rattle_source import Function, Source, blanked, owner_of, sources
-from wrong_bodies import first_line
+from mutants.bodies import first_line
 
 WORD = re.compile(r"\b[a-z_]\w*\b")
 BEFORE = re.compile(

@@ -23,8 +23,8 @@ sys.dont_write_bytecode = True
 from damaged_pairs import damaged_pairs  # noqa: E402
 from expect import expect, finish  # noqa: E402
 from pages import blocks  # noqa: E402
-from qrptools import explanation  # noqa: E402
-from qrptools.advice import ADVICE, KINDS, NEXT, ROWS, advice_for  # noqa: E402
+from qrptools.explaining import explanation  # noqa: E402
+from qrptools.explaining.advice import ADVICE, KINDS, NEXT, ROWS, advice_for  # noqa: E402
 from qrptools.step_rules import CONDITIONS  # noqa: E402
 from random_proofs import truth  # noqa: E402
 
@@ -342,7 +342,14 @@ def try_mending(program):
             file.write_bytes(text)
             ended = subprocess.run([sys.executable, EXPLAIN, "--mend", file], capture_output=True, check=False)
             expect(f"--mend of {text}", (ended.returncode, ended.stdout) == (0, wanted) and said in ended.stderr.decode(), ended)
-        for text, fault in (b"p cnf 2 2\ne 1 2 0\n1 2 0\n-1", "F7 in line 4"), (b"p cnf 2 1\ne 1 1 0\n1 0\n", "F5 in line 2"), (b"q", "F2 in line 1"), (b"p cnf 1 1\ne 1 0\n1 x 0\n", "F3 in line 3"):
+        for text, fault in (
+            (b"p cnf 2 2\ne 1 2 0\n1 2 0\n-1", "F7 in line 4"),
+            (b"p cnf 2 1\ne 1 1 0\n1 0\n", "F5 in line 2"),
+            (b"q", "F2 in line 1"),
+            (b"p cnf 1 1\ne 1 0\n1 x 0\n", "F3 in line 3"),
+            (b"", "F7 in line 1"),
+            (b"c only a comment\n", "F7 in line 2"),
+        ):
             file.write_bytes(text)
             ended = run("--mend", file, program="/nonexistent")
             expect(f"--mend of {text}", ended.returncode == 1 and not ended.stdout and f"the formula has {fault}: '{EXPLAIN} FORMULA' says why" in ended.stderr, ended)

@@ -18,9 +18,9 @@ sys.path[:0] = [str(ROOT / "tests"), str(ROOT / "tools")]
 sys.dont_write_bytecode = True
 from expect import expect, finish, skip  # noqa: E402
 from qrptools.core import Core, is_needed  # noqa: E402
-from qrptools.find_steps import find_near  # noqa: E402
+from qrptools.explaining.find_steps import find_near  # noqa: E402
 from qrptools.formula import Formula  # noqa: E402
-from qrptools.show import find_step  # noqa: E402
+from qrptools.explaining.show import find_step  # noqa: E402
 from qrptools.step_rules import SIDES, judge  # noqa: E402
 from qrptools.steps import Trace  # noqa: E402
 
@@ -326,6 +326,36 @@ def try_near(pairs):
     expect("many are found so", found > all_near / 2 > 50, (found, all_near))
 
 
+def long_traces(dice):
+    """Traces that are longer than what is looked through at once, each as a name, its text and some numbers of steps."""
+    up = range(1, 5001)
+    for name, numbers in (
+        ("going up", list(up)),
+        ("with gaps", [3 * number + number % 7 for number in up]),
+        ("falling", list(reversed(up))),
+        ("in no order", dice.sample(range(1, 50001), len(up))),
+    ):
+        named = [*numbers, *range(10**6, 10**6 + len(up) // 4)]  # the last of these are of no step
+        parents = ["".join(f"{number} " for number in dice.sample(named, place % 3)) for place in range(len(up))]
+        steps = [f"{number} {-8 - number % 2} {number % 900 + 1} 0 {names}0\n" for number, names in zip(numbers, parents)]
+        text, some = f"p qrp 9 9\n{''.join(steps)}r sat\n", [numbers[3 * dice.randrange(len(up) // 3) + 2] for _ in range(6)]
+        yield name, text, some
+        yield f"{name}, without signs", text.replace("-", ""), some
+        yield f"{name}, with some lines that go on", text.replace("5 0 ", "5\n0 "), some[:3]
+
+
+def try_long_traces():
+    """So is a step of a long trace, also one that names steps that are not there."""
+    found = missing = 0
+    for name, text, numbers in long_traces(random.Random(3)):
+        for number in numbers:
+            (near, result), (again, wanted) = near_and_read(text, number)
+            found += near is not None
+            missing += near is not None and not {*near.step.antecedents} <= {*near.before, *near.later}
+            expect(f"a long trace {name}: step {number}", near is None or (near, result) == (again, wanted), (near, result, again, wanted))
+    expect("many steps of long traces are found so, and some that name others that are missing", found > 40 and missing > 10, (found, missing))
+
+
 def try_odd_steps():
     """Lines that look like the step that is looked for, and are not it."""
     for name, text, number in (
@@ -340,6 +370,13 @@ def try_odd_steps():
         ("after the result", "p qrp 9 9\n1 -2 3 0 0\n2 3 -4 0 0\nr sat\n5 1 -2 0 0\n7 2 -3 0 0\nr sat\n", 7),
         ("a result in a comment", "p qrp 9 9\n1 -2 3 0 0\n2 3 -4 0 0\nc r unsat\n7 2 -3 0 1 0\nr sat\n", 2),
         ("itself", "p qrp 9 9\n1 -2 3 0 0\n2 3 -4 0 2 0\nr sat\n", 2),
+        ("a number that is nowhere", "p qrp 9 9\n1 -2 3 0 0\n2 3 -4 0 7 1 0\nr sat\n", 2),
+        ("a number with zeros", "p qrp 9 9\n1 -2 3 0 0\n007 5 0 0\n2 3 -4 0 7 1 0\nr sat\n", 2),
+        ("a number within a line", "p qrp 9 9\n1 -2 3 0 0\n4 -1 0 0 7 5 0 0\n2 3 -4 0 7 1 0\nr sat\n", 2),
+        ("a number that ends a line", "p qrp 9 9\n1 -2 3 0 0\n4 -1 0 0 7\n5 0 0\n2 3 -4 0 7 1 0\nr sat\n", 2),
+        ("a number after a set", "p qrp 9 9\ne 1 0 7 5 0 0\n1 -2 3 0 0\n2 3 -4 0 7 1 0\nr sat\n", 2),
+        ("a literal of another step", "p qrp 9 9\n1 -2 3 0 0\n4 -7 7 8 0 1 0\n2 3 -4 0 7 1 0\nr sat\n", 2),
+        ("digits of another step", "p qrp 9 9\n1 -2 3 0 0\n77 5 0 1 0\n2 3 -4 0 7 1 0\nr sat\n", 2),
         ("later", "p qrp 9 9\n1 -2 3 0 0\n2 3 -4 0 3 1 0\n3 1 2 4 0 0\nr sat\n", 2),
     ):
         (near, result), (again, wanted) = near_and_read(text, number)
@@ -379,12 +416,13 @@ def main():
     expect("seven proofs to damage", len(small + few) == 7, small + few)
     try_damages(program, small + few)
     try_near([pair for pair in real + trimmed if pair[1].stat().st_size < 2000])
+    try_long_traces()
     try_odd_steps()
     try_drawings(program)
     try_marks(program)
     try_blanks(program)
     try_words(program)
-    return finish(4097)
+    return finish(4165)
 
 
 if __name__ == "__main__":

@@ -396,16 +396,17 @@ def try_old_systems(program):
         expect("a program that is named is taken", ended.returncode == 1 and "unknown line" in ended.stderr, ended)
 
 
-TYPED = ["names.py", "many", "checking", "circuits", "strategies", "games/gates.py", "games/play.py"]
+# Each function says its types, and each body is looked at.
+MYPY = ["mypy", "--python-version", "3.9", "--disallow-untyped-defs", "--check-untyped-defs", "--scripts-are-modules"]
 
 
 def try_types():
-    """The modules with types agree with them."""
+    """The tools and their modules agree with their types."""
     if not shutil.which("mypy"):
         skip("the types of the modules", "there is no mypy")
         return
     with tempfile.TemporaryDirectory() as folder:
-        words = ["mypy", "--cache-dir", folder, "--python-version", "3.9", *(f"qrptools/{name}" for name in TYPED)]
+        words = [*MYPY, "--cache-dir", folder, "qrptools", *sorted({tool.name for tool in TOOLS})]
         ended = subprocess.run(words, cwd=ROOT / "tools", capture_output=True, text=True, check=False)
     expect("the types of the modules", ended.returncode == 0, ended.stdout)
 

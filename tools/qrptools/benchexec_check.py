@@ -3,8 +3,10 @@
 A task has two input files, the formula and the trace, in this order: its task-definition file lists both. docs/MANY.md shows one.
 """
 
-import benchexec.result as result
-import benchexec.tools.template
+from typing import Any
+
+import benchexec.result as result  # type: ignore
+import benchexec.tools.template  # type: ignore
 
 from qrptools.command import version
 
@@ -13,19 +15,19 @@ REFUSED = (1, 2)  # statuses of the program
 
 
 class Tool(benchexec.tools.template.BaseTool2):
-    def name(self):
+    def name(self) -> str:
         return "qrp_cmd"
 
-    def version(self, executable):
+    def version(self, executable: str) -> str:
         return version() or ""
 
-    def executable(self, tool_locator):
+    def executable(self, tool_locator: Any) -> Any:
         return tool_locator.find_executable("qrp_cmd", subdir="bin")
 
-    def cmdline(self, executable, options, task, rlimits):
+    def cmdline(self, executable: str, options: list[str], task: Any, rlimits: Any) -> list[str]:
         return [executable, "check", *options, *task.input_files]
 
-    def determine_result(self, run):
+    def determine_result(self, run: Any) -> Any:
         """The verdict by the program's line and its status. A refused proof says nothing of the formula."""
         line = run.output[0].strip() if run.output else ""
         status = run.exit_code.value

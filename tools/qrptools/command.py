@@ -11,7 +11,6 @@ SIGKILL the folder is left; the process gets SIGKILL too, but not what it has st
 """
 
 import argparse
-import ctypes
 import io
 import os
 import re
@@ -20,32 +19,40 @@ import signal
 import subprocess
 import sys
 import tempfile
+from collections.abc import Iterator
 from contextlib import contextmanager
 from pathlib import Path
+from typing import Any, Callable, Optional
 
-SIGNALS = (signal.SIGINT, signal.SIGTERM, signal.SIGHUP)
+from qrptools.signals import Signalled, end_with_parent, held_signals, kill_group, take_signals
+
 PLACE = Path(__file__).resolve().parents[2]  # of the tools: the sources, a release, or share/qrp_cmd of a prefix
 
 
 class Ends(Exception):
     """Ends the command: a line for the standard error, and the status."""
 
-    def __init__(self, line, status):
+    def __init__(self, line: str, status: int) -> None:
         super().__init__(line)
         self.status = status
 
 
-def finding(line):
+def finding(line: str) -> Ends:
     """Ends the command since what it was asked for is not so."""
     return Ends(line, 1)
 
 
-def unusable(line):
+def unusable(line: str) -> Ends:
     """Ends the command since a file, the program or the machine cannot be used."""
     return Ends(line, 2)
 
 
-def called_as(tool=None):
+def counted(count: int, word: str) -> str:
+    """So many of what the word says, in a message."""
+    return f"{count} {word}" + ("" if count == 1 else "s")
+
+
+def called_as(tool: Optional[str] = None) -> str:
     """This command, or another tool beside it, as a user types it: `tools/explain`, or `qrp-explain` where it is installed."""
     folder, own = os.path.split(sys.argv[0])
     prefix = "qrp-" if own.startswith("qrp-") else ""
@@ -57,7 +64,7 @@ def called_as(tool=None):
     return os.path.join(folder, name)
 
 
-def version():
+def version() -> Optional[str]:
     """The version of these tools and of the program that came with them; None if there is no file that says it."""
     try:
         return (PLACE / "VERSION").read_text().strip()
@@ -65,31 +72,31 @@ def version():
         return None
 
 
-def page(name):
+def page(name: str) -> str:
     """Where a page such as docs/DEPQBF.md is, as a user of this command finds it: beside the tools, or installed."""
     beside = os.path.join(os.path.dirname(os.path.dirname(called_as())), name)
-    installed = [PLACE.parent / "doc" / package / name for package in ("qrp_cmd", "qrp-cmd")]
-    return next((str(path) for path in (beside, *installed) if os.path.exists(path)), name)
+    installed = [str(PLACE.parent / "doc" / package / name) for package in ("qrp_cmd", "qrp-cmd")]
+    return next((path for path in (beside, *installed) if os.path.exists(path)), name)
 
 
-def as_called(text):
+def as_called(text: str) -> str:
     """A text with the names of tools and of pages as a user of this command types them."""
     text = re.sub(r"\btools/([a-z-]+)", lambda tool: called_as(tool[1]), text)
     return re.sub(r"\bdocs/[A-Z]+\.md", lambda named: page(named[0]), text)
 
 
-def parser_for(text, kind=argparse.ArgumentParser):
+def parser_for(text: Optional[str], kind: type[argparse.ArgumentParser] = argparse.ArgumentParser) -> argparse.ArgumentParser:
     """The start of a parser of arguments, with the text of a tool as its help: in rows that begin with the tool's name it is as called."""
     own = os.path.basename(sys.argv[0])
     own = own[len("qrp-") :] if own.startswith("qrp-") else own
-    summary, _, rest = text.replace(f"\n    {own} ", f"\n    {called_as()} ").partition("\n")
+    summary, _, rest = (text or "").replace(f"\n    {own} ", f"\n    {called_as()} ").partition("\n")
     form = argparse.RawDescriptionHelpFormatter
     parser = kind(prog=called_as(), description=summary, epilog=rest, formatter_class=form)
     parser.add_argument("--version", action="version", version=f"{called_as()} of qrp_cmd {version() or 'of an unknown version'}")
     return parser
 
 
-def joined(words, *options):
+def joined(words: list[str], *options: str) -> Iterator[str]:
     """The words of a command line; what follows one of these options, which may begin with -, is made a part of that word."""
     rest = iter(words)
     for word in rest:
@@ -99,84 +106,20 @@ def joined(words, *options):
             yield from rest
 
 
-# Signals
-
-
-class Signalled(BaseException):
-    """A signal that ends the command."""
-
-    def __init__(self, number):
-        super().__init__(number)
-        self.status = 128 + number
-
-
-class Waiting:
-    """The signals that came while they were held back."""
-
-    depth, came = 0, None
-
-
-def on_signal(number, _frame):
-    if Waiting.depth:
-        Waiting.came = number
-    else:
-        end_by(number)
-
-
-def end_by(number):
-    """Raises the end. Another signal does not disturb what is then cleaned up."""
-    for other in SIGNALS:
-        signal.signal(other, signal.SIG_IGN)
-    raise Signalled(number)
-
-
-def take_signals():
-    """Signals end the command from here on, but for those that it was started to ignore."""
-    for number in SIGNALS:
-        if signal.getsignal(number) != signal.SIG_IGN:
-            signal.signal(number, on_signal)
-
-
-@contextmanager
-def held_signals():
-    """A signal that comes meanwhile is seen at the end."""
-    Waiting.depth += 1
-    try:
-        yield
-    finally:
-        Waiting.depth -= 1
-    if Waiting.came and not Waiting.depth:
-        number, Waiting.came = Waiting.came, None
-        end_by(number)
-
-
 # What must not outlive the command
 
 
-PR_SET_PDEATHSIG = 1  # of prctl(2)
-SYSTEM = ctypes.CDLL(None)
-
-
-def end_with_parent(parent, number):
-    """Has this process, which was just made, get a signal if the one that made it ends."""
-    if hasattr(SYSTEM, "prctl"):
-        SYSTEM.prctl(PR_SET_PDEATHSIG, number)
-        if os.getppid() != parent:  # it has ended meanwhile
-            os.kill(os.getpid(), number)
-
-
 @contextmanager
-def started(words, before=None, grouped=True, **options):
+def started(words: list[str], grouped: bool = True, **options: Any) -> "Iterator[subprocess.Popen[bytes]]":
     """A process, with what it starts itself in a group of its own. What still runs of the group is killed at the end. Of one that is
-    not grouped, such as one that asks at the terminal, only the process is. `before` is called in the process before it runs the words."""
-    process, own = None, os.getpid()
+    not grouped, such as one that asks at the terminal, only the process is."""
+    process: "Optional[subprocess.Popen[bytes]]" = None
+    own = os.getpid()
 
-    def begin():
+    def begin() -> None:
         if grouped:
             os.setpgid(0, 0)
         end_with_parent(own, signal.SIGKILL if grouped else signal.SIGTERM)
-        if before:
-            before()
 
     try:
         with held_signals():
@@ -190,18 +133,15 @@ def started(words, before=None, grouped=True, **options):
             process.wait()
 
 
-def end(process, grouped):
+def end(process: "subprocess.Popen[bytes]", grouped: bool) -> None:
     """Kills a process, with its group. One that was waited for leaves its group behind, if others are in it."""
     process.kill()
     if grouped:
-        try:
-            os.killpg(process.pid, signal.SIGKILL)
-        except (ProcessLookupError, PermissionError):
-            pass
+        kill_group(process.pid)
 
 
 @contextmanager
-def temporary_folder():
+def temporary_folder() -> Iterator[str]:
     """A folder for files that are needed no longer than this."""
     path = None
     try:
@@ -214,7 +154,7 @@ def temporary_folder():
 
 
 @contextmanager
-def writing(what, needs=""):
+def writing(what: str, needs: str = "") -> Iterator[None]:
     """Says of an error that this cannot be written to the temporary folder, and which folder that is."""
     try:
         yield
@@ -222,11 +162,11 @@ def writing(what, needs=""):
         raise unusable(not_written(what, fault.strerror, needs)) from fault
 
 
-def not_written(what, why, needs=""):
+def not_written(what: str, why: Optional[str], needs: str = "") -> str:
     return f"{what} cannot be written to TMPDIR={temporary_place()}: {why}" + (f" ({needs})" if needs else "")
 
 
-def temporary_place():
+def temporary_place() -> str:
     """Where temporary folders are made, also if none can be."""
     try:
         return tempfile.gettempdir()
@@ -237,7 +177,7 @@ def temporary_place():
 # Files
 
 
-def read_file(path, kind=""):
+def read_file(path: str, kind: str = "") -> bytes:
     """The bytes of a file, of this kind."""
     try:
         return Path(path).read_bytes()
@@ -246,7 +186,7 @@ def read_file(path, kind=""):
 
 
 @contextmanager
-def replaced(path):
+def replaced(path: str) -> Iterator[str]:
     """The name of a new file beside this one, which it replaces if all goes well. An error is that this one cannot be written."""
     target = os.path.realpath(path)
     new = f"{target}.{os.urandom(4).hex()}.new"
@@ -260,7 +200,7 @@ def replaced(path):
             os.unlink(new)
 
 
-def not_read(path, fault):
+def not_read(path: str, fault: OSError) -> str:
     return f"{path} cannot be read: {fault.strerror}"
 
 
@@ -274,20 +214,20 @@ class NoOutput(Exception):
 class Output(io.FileIO):
     """The standard output. Its errors are told from those of other files."""
 
-    def write(self, data):
+    def write(self, data: Any) -> int:
         try:
             return super().write(data)
         except OSError as fault:
             raise NoOutput(f"the standard output cannot be written: {fault.strerror}") from fault
 
 
-def open_output():
+def open_output() -> io.TextIOWrapper:
     """Opens the standard output, for names of files with any bytes too."""
     raw = Output(1, "w", closefd=False)
     return io.TextIOWrapper(io.BufferedWriter(raw), sys.getfilesystemencoding(), "surrogateescape", line_buffering=raw.isatty())
 
 
-def fill_closed():
+def fill_closed() -> bool:
     """Opens what is closed of the three standard files, so that no other file takes its number; and whether the output was."""
     closed = []
     for number in range(3):
@@ -301,12 +241,12 @@ def fill_closed():
     return 1 in closed
 
 
-def drop_output():
+def drop_output() -> None:
     """What is still to be written goes nowhere."""
     os.dup2(os.open(os.devnull, os.O_WRONLY), 1)
 
 
-def complain(line):
+def complain(line: object) -> None:
     try:
         print(f"{called_as()}: {line}", file=sys.stderr, flush=True)
     except OSError:
@@ -316,7 +256,7 @@ def complain(line):
 # The entry
 
 
-def run(main, device=2, memory=2):
+def run(main: Callable[[], Optional[int]], device: int = 2, memory: int = 2) -> int:
     """The status of a command, whose main takes nothing and returns its status. Each way to end is caught here. The numbers are the statuses
     if a file or the output cannot be used, and if memory is refused."""
     is_closed = fill_closed()
@@ -335,17 +275,17 @@ def run(main, device=2, memory=2):
         return device
 
 
-def ended(main, device, memory):
+def ended(main: Callable[[], Optional[int]], device: int, memory: int) -> int:
     """The status of a command, after its line if it has one, with all of its output written."""
-    line = None
+    line: Optional[str] = None
     try:
         status = main() or 0
     except SystemExit as fault:  # of the parser of arguments, which has said what it has to say
-        status = fault.code or 0
+        status = int(fault.code or 0)
     except Ends as fault:
-        line, status = fault, fault.status
+        line, status = str(fault), fault.status
     except OSError as fault:
-        line, status = f"{fault.filename}: {fault.strerror}" if fault.filename else fault, device
+        line, status = f"{fault.filename}: {fault.strerror}" if fault.filename else str(fault), device
     except MemoryError:
         line, status = "memory was refused: raise the limit (`ulimit -v`), or take a machine with more memory", memory
     sys.stdout.flush()

@@ -3,13 +3,15 @@
 import operator
 from array import array
 from itertools import islice
+from typing import Callable, Optional
 
-from qrptools.steps import lists_of, numbers_of
+from qrptools.steps import Trace, lists_of, numbers_of
 
 
-def is_needed(trace, number):
+def is_needed(trace: Trace, number: int) -> bool:
     """Whether the proof needs the step with this number: the last step without literals is that step, or depends on it."""
-    wanted, dependent, needed = b"%d" % number, set(), False
+    wanted, needed = b"%d" % number, False
+    dependent: set[bytes] = set()
     for _, block in trace.blocks():
         if not dependent and b"\n%b " % wanted not in b"\n" + block:
             continue
@@ -31,16 +33,16 @@ def is_needed(trace, number):
 class Core:
     """The numbers and antecedents of all steps, and which steps the proof needs; `goal` is the place of the last empty one, or None."""
 
-    def __init__(self, trace):
+    def __init__(self, trace: Trace) -> None:
         self.numbers = array("Q")
         self.antecedents = array("Q"), array("Q")  # 0 where there is none
-        self.goal = None
+        self.goal: Optional[int] = None
         for _, block in trace.blocks():
             self.take(*lists_of(block))
         self.find = self.finder()
-        self.marks = None
+        self.marks: Optional[bytearray] = None
 
-    def take(self, heads, tails):
+    def take(self, heads: list[bytes], tails: list[bytes]) -> None:
         """Adds these steps."""
         begun = len(self.numbers)
         self.numbers.extend(numbers_of(heads))
@@ -51,7 +53,7 @@ class Core:
         if empty:
             self.goal = begun + empty[-1]
 
-    def finder(self):
+    def finder(self) -> Callable[[int], int]:
         """What gives the place of the step with a number: one that is none where there is no such step."""
         numbers, none = self.numbers, len(self.numbers)
         if numbers and numbers[-1] - numbers[0] == none - 1 and all(map(operator.lt, numbers, islice(numbers, 1, None))):
@@ -61,13 +63,13 @@ class Core:
         return lambda number: places.get(number, none)
 
     @property
-    def needed(self):
+    def needed(self) -> bytearray:
         """A byte for each step, which is 1 if the proof needs it."""
         if self.marks is None:
             self.marks = self.mark()
         return self.marks
 
-    def mark(self):
+    def mark(self) -> bytearray:
         needed, find = bytearray(len(self.numbers)), self.find
         if self.goal is None:
             return needed

@@ -3,10 +3,11 @@
 All faults of docs/FORMATS.md are found, in the lines that are not known to be right.
 """
 
-from collections import namedtuple
+from collections.abc import Iterator, Set
 from operator import neg
+from typing import NamedTuple, Optional
 
-from qrptools.words import ALL, GREATEST, GREATEST_VARIABLE, Fault, Words, are_whole, value
+from qrptools.words import ALL, GREATEST, GREATEST_VARIABLE, Data, Fault, Words, are_whole, value
 
 SET_BYTES = frozenset(b"ae")
 COMMENT_BYTES = b"c"
@@ -14,19 +15,33 @@ EXISTS, FOR_ALL = "exists", "for all"
 QUANTIFIERS = {b"e": EXISTS, b"a": FOR_ALL}
 ADJECTIVES = {EXISTS: "existential", FOR_ALL: "universal"}
 
-# Where a variable is bound. Blocks are counted from 1, the outermost.
-Place = namedtuple("Place", "quantifier block line")
-UNBOUND = Place(None, None, None)
 
-Clause = namedtuple("Clause", "number line literals clean")
+class Place(NamedTuple):
+    """Where a variable is bound. Blocks are counted from 1, the outermost."""
+
+    quantifier: str
+    block: int
+    line: int
 
 
-def is_clean(literals):
+UNBOUND = Place("", 0, 0)
+
+
+class Clause(NamedTuple):
+    """A clause: its number and its line, its literals, and whether it has no variable with both signs."""
+
+    number: int
+    line: int
+    literals: frozenset[int]
+    clean: bool
+
+
+def is_clean(literals: Set[int]) -> bool:
     """Whether no literal of the set has its negation in it."""
     return literals.isdisjoint(map(neg, literals))
 
 
-def are_clauses(block):
+def are_clauses(block: bytes) -> bool:
     """Whether each line of a block is a clause, with single blanks and without leading zeros."""
     return are_whole(block, COMMENT_BYTES, 0)
 
@@ -34,29 +49,31 @@ def are_clauses(block):
 class Formula:
     """A formula, of the bytes of its text: its header and its prefix are read at once, and its clauses each time that they are asked for."""
 
-    def __init__(self, data, good=ALL):
+    def __init__(self, data: Data, good: float = ALL) -> None:
         self.data = data
         words = Words(data, COMMENT_BYTES, good)
         self.variables, self.count = words.header(b"cnf", GREATEST_VARIABLE, "F2", "F7")
         self.header_line, self.header_end = words.line, words.place()
-        self.sets = []  # those that are not empty: the place of each, and its variables as text
-        self.placed, self.unplaced = {}, 0  # the places of the variables, and the first set of which they are not there
-        self.block, self.last = 0, None
+        self.sets: list[tuple[Place, bytes]] = []  # those that are not empty: the place of each, and its variables as text
+        self.placed: dict[int, Place] = {}  # the places of the variables
+        self.unplaced = 0  # the first set of which they are not there
+        self.block, self.last = 0, b""
         while self.read_set(words):
             pass
         self.words = words
-        self.prefix_end = words.place() if words.at else words.start
+        self.prefix_end = words.place() if words.taken else words.start
 
-    def read_set(self, words):
+    def read_set(self, words: Words) -> bool:
         """Reads a quantifier set, if there is one."""
         text = words.whole_line(SET_BYTES)
         if text:
             self.bind(text[:1], text[2:-2], words.line)
             return True
         word = words.next()
+        if word is None:
+            return False
         if word not in QUANTIFIERS:
-            if word is not None:
-                words.back()
+            words.back()
             return False
         begun = words.line
         while (number := value(words.next())) != 0:
@@ -71,7 +88,7 @@ class Formula:
             self.bind(word, b"%d" % number, words.line)
         return True
 
-    def bind(self, letter, variables, line):
+    def bind(self, letter: bytes, variables: bytes, line: int) -> None:
         """Takes a set, with the text of its variables."""
         if variables:
             # Neighbouring sets of one quantifier are one block, and empty sets are none.
@@ -79,7 +96,7 @@ class Formula:
             self.sets.append((Place(QUANTIFIERS[letter], self.block, line), variables))
 
     @property
-    def places(self):
+    def places(self) -> dict[int, Place]:
         """Where each bound variable is bound."""
         if self.unplaced < len(self.sets):
             for place, variables in self.sets[self.unplaced :]:
@@ -87,17 +104,17 @@ class Formula:
             self.unplaced = len(self.sets)
         return self.placed
 
-    def place(self, literal):
+    def place(self, literal: int) -> Place:
         return self.places.get(abs(literal), UNBOUND)
 
-    def clauses(self):
+    def clauses(self) -> Iterator[Clause]:
         """Each clause in file order."""
         for number, line, texts in self.pieces():
             for place, text in enumerate(texts):
                 literals = frozenset(map(int, text.split()))
                 yield Clause(number + place, line + place, literals, is_clean(literals))
 
-    def pieces(self):
+    def pieces(self) -> Iterator[tuple[int, int, list[bytes]]]:
         """The clauses in file order, some at a time: number and line of the first, and the texts of their literals, on lines of their own."""
         words, number = self.words.again(), 1
         while True:
@@ -115,7 +132,7 @@ class Formula:
             yield number, line, [b" ".join(b"%d" % literal for literal in self.literals(words, number))]
             number += 1
 
-    def refuse_start(self, words, word, number):
+    def refuse_start(self, words: Words, word: Optional[bytes], number: int) -> None:
         """The faults of a word between clauses, after number - 1 of them."""
         found = value(word)
         if found is None or isinstance(found, int) and number > self.count:
@@ -125,9 +142,10 @@ class Formula:
         if abs(found) > GREATEST:
             raise Fault("F4", words, number=found, variables=self.variables, header=self.header_line)
 
-    def literals(self, words, clause):
+    def literals(self, words: Words, clause: int) -> list[int]:
         """The literals of a clause up to the 0 that closes it."""
-        found, begun = [], None
+        found: list[int] = []
+        begun = 0
         while (literal := value(words.next())) != 0:
             begun = begun or words.line
             if literal is None:

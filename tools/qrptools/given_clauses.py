@@ -1,169 +1,137 @@
 """Which clauses of a formula give the initial steps of a trace. A part of tools/used-clauses.
 
-A step comes from a clause that has its existential literals, and from which it lacks only universal literals that are reducible in it.
-Literals are texts here. Most steps are written as their clauses are, and most clauses share their existential literals with no other: then it
-is enough to compare texts. The rest are looked at one by one.
+A clause gives a step if it has all of its literals, and what it has more is universal and reducible in it. Of each step the first such clause is
+wanted. Clauses and steps are texts here, such as `1 -2 3`. They are looked for in three ways, each for what the one before leaves:
+
+1. Most traces begin with the clauses in their order. So the first clause is compared with the first step, and so on.
+2. A step that is written as some clause is looked up by its text.
+3. Else the clause has other literals too. But its existential literals are those of the step, so both have the same key, a number made of these
+   literals. Only clauses and steps with the same key are compared literal by literal (reducts.py).
+
+If several clauses have the key of a step, the first one that gives it need not be the one that is written as it is. So these are compared literal
+by literal too.
 """
 
 from array import array
 from collections import Counter
-from functools import cached_property
-from itertools import chain, compress, islice, repeat
-from operator import and_, eq, itemgetter, not_, or_
+from collections.abc import Iterable, Iterator, Sequence
+from itertools import chain, compress, islice
+from operator import eq
+from typing import NamedTuple, Optional
 
-from qrptools.formula import EXISTS, FOR_ALL
+from qrptools.formula import FOR_ALL, Formula
+from qrptools.reducts import Keyed, Reducts, with_negations
+
+FEW = 8  # steps are few if the formula has more than so many times as many clauses
 
 
-def with_negations(texts):
-    """The literals of some variables."""
-    text = b"".join(b" " + text for text in texts)
-    return frozenset((text + text.replace(b" ", b" -")).split())
+class Clauses(NamedTuple):
+    """Some clauses in file order: their numbers, their lines, and the texts of their literals."""
+
+    numbers: Sequence[int]
+    lines: Sequence[int]
+    texts: list[bytes]
+
+    def chosen(self, marks: bytes) -> "Clauses":
+        """Those with a mark that is not 0."""
+        return Clauses(list(compress(self.numbers, marks)), list(compress(self.lines, marks)), list(compress(self.texts, marks)))
+
+
+class Candidates:
+    """The clauses that may give a step, some at a time. If the steps are few, each clause that has the first literal of one: these are kept.
+    Else all clauses, which are read anew each time."""
+
+    def __init__(self, formula: Formula, first_literals: Optional[set[bytes]]) -> None:
+        self.formula = formula
+        self.kept = None if first_literals is None else [clauses.chosen(having(first_literals, clauses.texts)) for clauses in self.read()]
+
+    def __iter__(self) -> Iterator[Clauses]:
+        return self.read() if self.kept is None else iter(self.kept)
+
+    def read(self) -> Iterator[Clauses]:
+        for number, line, texts in self.formula.pieces():
+            yield Clauses(range(number, number + len(texts)), range(line, line + len(texts)), texts)
+
+
+def having(literals: set[bytes], texts: list[bytes]) -> bytes:
+    """Of each text whether it has one of these literals."""
+    return bytes(not literals.isdisjoint(text.split()) for text in texts)
 
 
 class Given:
-    """The clauses that give the initial steps of a trace: of each step the first."""
+    """The clauses that give the initial steps of a trace, of the texts of the literals of these steps."""
 
-    def __init__(self, formula, steps):
+    def __init__(self, formula: Formula, steps: Iterator[bytes]) -> None:
         self.formula = formula
         self.universal = with_negations(text for place, text in formula.sets if place.quantifier == FOR_ALL)
-        some = list(islice(steps, formula.count // 8))
-        self.steps = chain(some, steps)  # the texts of the literals of the steps
-        self.begins = None
-        if len(some) < formula.count // 8 and b"" not in some:
-            self.begins = {text.split(b" ", 1)[0] for text in some}
-            self.few = list(self.read())
-        self.keys, self.are_steps = array("q"), bytearray()  # of each clause, and whether it is written as a step that is not taken
+        few = list(islice(steps, formula.count // FEW))
+        are_few = len(few) < formula.count // FEW and b"" not in few
+        self.steps = chain(few, steps)
+        self.candidates = Candidates(formula, {step.split(b" ", 1)[0] for step in few} if are_few else None)
+        self.keys = array("q")  # of each candidate
+        self.are_steps = bytearray()  # of each candidate whether it is written as a step
 
-    def read(self):
-        """The clauses in file order, some at a time: their numbers, lines and texts. If the steps are few, those that may give one."""
-        for number, line, texts in self.formula.pieces():
-            clauses = range(number, number + len(texts)), range(line, line + len(texts)), texts
-            if self.begins:
-                others = list(map(self.begins.isdisjoint, map(bytes.split, texts)))
-                clauses = [list(compress(items, map(not_, others))) for items in clauses]
-            yield clauses
-
-    def candidates(self):
-        return self.few if self.begins else self.read()
-
-    def keys_of(self, texts):
-        """A key for each text: they are equal where the existential literals are, and hardly else."""
-        sets = map(frozenset, map(bytes.split, texts))
-        return map(hash, map(frozenset.difference, sets, repeat(self.universal)) if self.universal else sets)
-
-    def clauses(self):
-        """Those that give steps, some at a time: their numbers, lines and texts."""
-        rest = self.compare_in_order()
-        if rest:
-            self.compare(rest)
-        left = list(zip(rest, self.keys_of(rest)))
-        doubtful = self.doubtful().union(map(itemgetter(1), left))
-        reducts = Reducts(self.formula, self.universal, [*left, *self.written(doubtful)])
-        for (numbers, lines, texts), keys, given in self.with_marks():
+    def clauses(self) -> Iterator[Clauses]:
+        """Those that give steps, some at a time."""
+        left = self.with_keys(self.compare())
+        doubtful = self.doubtful().union(key for _, key in left)
+        reducts = Reducts(self.formula, self.universal, [*left, *self.steps_with(doubtful)])
+        for clauses, keys, are_steps in self.with_marks():
             if not doubtful.isdisjoint(keys):
-                sure = map(not_, map(doubtful.__contains__, keys))
-                given = list(map(or_, map(and_, given, sure), reducts.take(texts, keys)))
-            yield tuple(list(compress(items, given)) for items in (numbers, lines, texts))
+                rows = zip(clauses.texts, keys, are_steps)
+                are_steps = bytes(reducts.take(text, key) if key in doubtful else is_step for text, key, is_step in rows)
+            yield clauses.chosen(are_steps)
 
-    def compare_in_order(self):
-        """Compares each clause with one step, in case that the steps come in the order of the clauses. The other steps are returned, with a 1."""
-        rest = {}
-        for _, _, texts in self.candidates():
-            steps = list(islice(self.steps, len(texts)))
-            are_same = bytes(map(eq, texts, steps))
-            self.keys.extend(self.keys_of(texts))
-            self.are_steps.extend(are_same.ljust(len(texts), b"\0"))
-            if 0 in are_same:
-                rest.update(zip(compress(steps, map(not_, are_same)), repeat(1)))
-        rest.update(zip(self.steps, repeat(1)))
-        return rest
+    def compare(self) -> Iterable[bytes]:
+        """Marks the candidates that are written as a step. Returns the steps that no candidate is written as."""
+        left = self.compare_in_order()
+        if left:
+            texts = chain.from_iterable(clauses.texts for clauses in self.candidates)
+            for place, text in enumerate(texts):
+                if left.pop(text, False):
+                    self.are_steps[place] = True
+        return left
 
-    def compare(self, rest):
-        """Finds those steps that a clause is written as, and takes them out."""
-        start = 0
-        for _, _, texts in self.candidates():
-            found, end = map(rest.pop, texts, repeat(0)), start + len(texts)
-            self.are_steps[start:end] = bytes(map(or_, self.are_steps[start:end], found))
-            start = end
+    def compare_in_order(self) -> dict[bytes, bool]:
+        """Gives each candidate a key, and marks it if the step in its place is written so. Returns the other steps, each with True."""
+        left: dict[bytes, bool] = {}
+        for clauses in self.candidates:
+            steps = list(islice(self.steps, len(clauses.texts)))
+            are_same = bytes(map(eq, clauses.texts, steps))
+            self.keys.extend(self.keys_of(clauses.texts))
+            self.are_steps.extend(are_same.ljust(len(clauses.texts), b"\0"))
+            if not all(are_same):
+                left.update((step, True) for step, is_same in zip(steps, are_same) if not is_same)
+        left.update((step, True) for step in self.steps)
+        return left
 
-    def with_marks(self):
-        """The clauses, each time with their keys, and whether they are written as steps."""
-        start = 0
-        for clauses in self.candidates():
-            end = start + len(clauses[2])
-            yield clauses, self.keys[start:end], self.are_steps[start:end]
-            start = end
+    def keys_of(self, texts: Iterable[bytes]) -> list[int]:
+        """The key of each text. Texts with other existential literals hardly ever have the same one."""
+        return [hash(frozenset(text.split()) - self.universal) for text in texts]
 
-    def doubtful(self):
-        """The keys that several clauses have, and a step that is written as one of them."""
-        several = {key for key, count in Counter(self.keys).items() if count > 1} if len(set(self.keys)) < len(self.keys) else set()
+    def with_keys(self, steps: Iterable[bytes]) -> list[Keyed]:
+        texts = list(steps)
+        return list(zip(texts, self.keys_of(texts)))
+
+    def doubtful(self) -> set[int]:
+        """The keys that several candidates have, one of which is written as a step."""
+        if len(set(self.keys)) == len(self.keys):
+            return set()
+        several = {key for key, count in Counter(self.keys).items() if count > 1}
         return several.intersection(compress(self.keys, self.are_steps))
 
-    def written(self, wanted):
-        """The steps that clauses with these keys are written as, with their keys."""
-        for (_, _, texts), keys, given in self.with_marks() if wanted else ():
+    def steps_with(self, wanted: set[int]) -> Iterator[Keyed]:
+        """The steps with these keys that a candidate is written as."""
+        if not wanted:
+            return
+        for clauses, keys, are_steps in self.with_marks():
             if not wanted.isdisjoint(keys):
-                yield from ((text, key) for text, key in compress(zip(texts, keys), given) if key in wanted)
+                yield from ((text, key) for text, key, is_step in zip(clauses.texts, keys, are_steps) if is_step and key in wanted)
 
-
-class Reducts:
-    """The steps with some keys. They are taken out when a clause gives them."""
-
-    def __init__(self, formula, universal, steps):
-        self.formula, self.universal = formula, universal
-        self.left = {text for text, _ in steps}
-        self.near = {}  # by each key the step, or of several steps those that have a universal literal, by the literal, and those that have none
-        several = {key for text, key in steps if self.near.setdefault(key, text) != text}
-        if several:
-            self.near.update((key, {}) for key in several)
-            self.share([(text, key) for text, key in steps if key in several])
-
-    def share(self, steps):
-        """Puts those steps whose keys several have where they are found by the rarest of their universal literals."""
-        universal = [self.universal.intersection(text.split()) for text, _ in steps]
-        counts = Counter(chain.from_iterable(universal))
-        for (text, key), literals in zip(steps, universal):
-            self.near[key].setdefault(min(literals, key=counts.__getitem__, default=b""), set()).add(text)
-
-    @cached_property
-    def blocks(self):
-        """The block of each literal."""
-        return {literal: place.block for place, text in self.formula.sets for literal in with_negations([text])}
-
-    @cached_property
-    def innermost(self):
-        """The universal literals after all existential ones."""
-        sets = self.formula.sets
-        last = max((place.block for place, _ in sets if place.quantifier == EXISTS), default=0)
-        are_all = all(place.block > last for place, _ in sets if place.quantifier == FOR_ALL)
-        return self.universal if are_all else with_negations(text for place, text in sets if place.block > last)
-
-    def take(self, texts, keys):
-        """Of each clause whether it gives steps, which are taken out."""
-        given = bytearray(len(texts))
-        for place, steps in enumerate(map(self.near.get, keys)):
-            if steps is not None:
-                for step in [steps] if isinstance(steps, bytes) else self.marked(steps, texts[place]):
-                    if step in self.left and self.is_given(texts[place], step):
-                        self.left.remove(step)
-                        given[place] = 1
-        return given
-
-    def marked(self, steps, text):
-        """Of several steps those that have no universal literal, or as the rarest one that of a clause."""
-        marks = self.universal.intersection(text.split())
-        return [step for mark in [b"", *marks] for step in steps.get(mark, ())]
-
-    def is_given(self, text, step):
-        """Whether a step is a clause or a reduct of it."""
-        clause, kept = frozenset(text.split()), step.split()
-        if not clause.issuperset(kept):
-            return False
-        out = clause.difference(kept)
-        is_clean = not out or len(set(text.replace(b"-", b"").split())) == len(clause)
-        return is_clean and (out <= self.innermost or self.are_reducible(clause, out))
-
-    def are_reducible(self, clause, out):
-        """Whether these literals of a clause are universal, and in blocks after those of all of its existential ones."""
-        last = max(map(self.blocks.__getitem__, clause - self.universal), default=0)
-        return out <= self.universal and min(map(self.blocks.__getitem__, out)) > last
+    def with_marks(self) -> Iterator[tuple[Clauses, Sequence[int], bytes]]:
+        """The candidates, each time with their keys, and whether they are written as steps."""
+        start = 0
+        for clauses in self.candidates:
+            end = start + len(clauses.texts)
+            yield clauses, self.keys[start:end], bytes(self.are_steps[start:end])
+            start = end

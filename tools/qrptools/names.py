@@ -72,7 +72,9 @@ class Names:
         variable = self.variable(name)
         if not equals or not NUMBER.fullmatch(number) or variable and number not in ("0", "1"):
             return None
-        return [variable if number == "1" else -variable] if variable else self.bits(name, number)
+        if not variable:
+            return self.bits(name, number)
+        return [variable if number == "1" else -variable]
 
     def variable(self, name: str) -> int:
         """The variable of this name or number, 0 if there is none."""
@@ -80,9 +82,11 @@ class Names:
 
     def bits(self, bus: str, number: str) -> Optional[list[int]]:
         """The literals of the bits of a bus that has this number, None if it has too few or there is no such bus."""
-        value = int(number, 10 if number.isdecimal() else 0) if len(number) < 1200 else -1
+        if len(number) >= 1200:
+            return None
+        value = int(number, 10 if number.isdecimal() else 0)
         bits = self.buses.get(bus, {})
-        if value < 0 or value >> (max(bits, default=-1) + 1) or any(value >> place & 1 and place not in bits for place in range(value.bit_length())):
+        if value >> (max(bits, default=-1) + 1) or any(value >> place & 1 and place not in bits for place in range(value.bit_length())):
             return None
         return [variable if value >> place & 1 else -variable for place, variable in bits.items()] or None
 

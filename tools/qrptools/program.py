@@ -8,6 +8,7 @@ import stat
 import subprocess
 import sys
 from pathlib import Path
+from typing import IO, Optional, Union
 
 from qrptools.command import PLACE, called_as, finding, not_read, not_written, started, unusable, writing
 
@@ -20,7 +21,7 @@ WRITTEN = {CHECKER: ("the trimmed trace", AS_THE_TRACE), STRATEGY: ("the circuit
 USAGE = 5  # the status of a program without arguments
 
 
-def find_program(name=CHECKER):
+def find_program(name: str = CHECKER) -> str:
     """The program that QRP_CMD names, else bin/qrp_cmd above the tools, else the one beside this command, else the one on the PATH. If the
     system is too old for that of a release, it is the static one beside it. qrp_strategy is looked for in the same way, by QRP_STRATEGY;
     after that, and before the others, it is the one beside the program that QRP_CMD names."""
@@ -37,7 +38,7 @@ def find_program(name=CHECKER):
 
 
 @functools.lru_cache(maxsize=None)
-def can_run(program):
+def can_run(program: str) -> bool:
     """Whether this system can load the program."""
     try:
         with started([program], stdin=subprocess.DEVNULL, stdout=subprocess.DEVNULL, stderr=subprocess.DEVNULL) as process:
@@ -46,7 +47,7 @@ def can_run(program):
         return False
 
 
-def run_program(words, out=subprocess.PIPE, name=CHECKER):
+def run_program(words: list[str], out: Union[int, IO[bytes]] = subprocess.PIPE, name: str = CHECKER) -> tuple[str, int]:
     """What it prints as its one line, empty where it prints none, and its status."""
     program = find_program(name)
     try:
@@ -57,9 +58,9 @@ def run_program(words, out=subprocess.PIPE, name=CHECKER):
     return ((printed or b"") + complained).decode(errors="replace").strip(), process.returncode
 
 
-def keep(path, folder):
+def keep(path: str, folder: str) -> str:
     """A file that is no regular one, such as a pipe, gives its bytes once: they are kept in the folder."""
-    if path is None or not os.path.exists(path) or stat.S_ISREG(os.stat(path).st_mode) or os.path.isdir(path):
+    if not os.path.exists(path) or stat.S_ISREG(os.stat(path).st_mode) or os.path.isdir(path):
         return path
     kept = os.path.join(folder, os.path.basename(path))
     try:
@@ -71,7 +72,7 @@ def keep(path, folder):
     return kept
 
 
-def trimmed(formula, trace, flags, folder):
+def trimmed(formula: str, trace: str, flags: list[str], folder: str) -> str:
     """The file of the trimmed trace, in this folder."""
     path = os.path.join(folder, "trimmed.qrp")
     with writing(*WRITTEN[CHECKER]):
@@ -79,7 +80,7 @@ def trimmed(formula, trace, flags, folder):
     return path
 
 
-def circuit_of(formula, trace, flags, folder):
+def circuit_of(formula: str, trace: str, flags: list[str], folder: str) -> str:
     """The file of the circuit by which the winner wins, in this folder."""
     path = os.path.join(folder, "strategy.aig")
     with writing(*WRITTEN[STRATEGY]):
@@ -87,7 +88,7 @@ def circuit_of(formula, trace, flags, folder):
     return path
 
 
-def write_output(path, name, words, formula, trace):
+def write_output(path: str, name: str, words: list[str], formula: str, trace: str) -> None:
     """Writes what the program makes of the proof to a file. The command ends where it refuses the proof, or cannot do it."""
     with open(path, "wb") as out:
         line, status = run_program([*words, formula, trace], out, name)
@@ -99,7 +100,7 @@ def write_output(path, name, words, formula, trace):
         raise unusable(why_not(line, status, formula, trace, name))
 
 
-def why_not(line, status, formula, trace, name=CHECKER):
+def why_not(line: str, status: int, formula: str, trace: str, name: str = CHECKER) -> str:
     """Why the program wrote nothing, where it does not refuse the proof."""
     if line in ("DEVICE formula", "DEVICE trace"):
         path = formula if line == "DEVICE formula" else trace
@@ -112,14 +113,14 @@ def why_not(line, status, formula, trace, name=CHECKER):
     return f"{name} says: {line}" if line else not_written(what, f"{name} ended with status {status}", needs)
 
 
-def signal_of(status):
+def signal_of(status: int) -> str:
     """The signal of a negative status, by number and name; of that by which a system ends what takes too much memory, that too."""
-    known = {it.value: it.name for it in signal.Signals}
+    known = {one.value: one.name for one in signal.Signals}
     named = f"signal {-status}" + (f" ({known[-status]})" if -status in known else "")
     return f"{named}, which the system sends if it is out of memory," if status == -signal.SIGKILL else named
 
 
-def reason_not_read(path):
+def reason_not_read(path: str) -> str:
     try:
         with open(path, "rb") as file:
             file.read(1)

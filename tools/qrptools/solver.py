@@ -3,6 +3,9 @@
 import os
 import subprocess
 import tempfile
+from collections.abc import Sequence
+from contextlib import AbstractContextManager
+from typing import IO, Optional
 
 from qrptools.command import Ends, finding, started, unusable
 from qrptools.program import run_program, signal_of, why_not
@@ -17,11 +20,13 @@ class Solver:
     """A solver by its command, with a mode and options of its own. It is given up after so many seconds, if there is a number; `limit` is the
     status of this command if the solver reached a limit."""
 
-    def __init__(self, command=DEPQBF, mode="traditional", options=(), timeout=None, limit=2):
+    def __init__(
+        self, command: str = DEPQBF, mode: str = "traditional", options: Sequence[str] = (), timeout: Optional[float] = None, limit: int = 2
+    ) -> None:
         self.command, self.options = command, [*OPTIONS, MODES[mode], *options]
         self.timeout, self.limit = timeout, limit
 
-    def solve(self, formula, trace, named):
+    def solve(self, formula: str, trace: str, named: str) -> str:
         """Writes the solver's proof to this file, which a message names so, and returns the line that it should be verified by."""
         formula = os.path.join(".", formula) if formula.startswith("-") else formula
         try:
@@ -40,16 +45,16 @@ class Solver:
         line = f"the solver has no answer, but {ended_by(process.returncode)}" + (f": {said}" if said else "")
         raise Ends(line, self.limit) if process.returncode == 0 else finding(line)
 
-    def started(self, formula, out):
+    def started(self, formula: str, out: IO[bytes]) -> "AbstractContextManager[subprocess.Popen[bytes]]":
         return started([self.command, *self.options, formula], stdin=subprocess.DEVNULL, stdout=out, stderr=subprocess.PIPE)
 
 
-def ended_by(status):
+def ended_by(status: int) -> str:
     """A status in words. A shell adds 128 to a signal."""
     return f"was ended by {signal_of(status).rstrip(',')}" if status < 0 else f"status {status}"
 
 
-def verify(formula, trace, answer, named):
+def verify(formula: str, trace: str, answer: str, named: str) -> None:
     """Ends the command if the proof does not show the answer."""
     line, status = run_program(["check", formula, trace])
     if line == answer and status == 0:
@@ -61,7 +66,7 @@ def verify(formula, trace, answer, named):
     raise unusable(why_not(line, status, formula, trace))
 
 
-def refuse_full(trace, named):
+def refuse_full(trace: str, named: str) -> None:
     """Ends the command if nothing more can be written beside the proof: then it was cut off for that reason."""
     try:
         with tempfile.NamedTemporaryFile(dir=os.path.dirname(trace) or ".") as file:

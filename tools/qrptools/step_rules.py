@@ -3,9 +3,11 @@
 Nothing here is proved: a verdict comes from qrp_cmd alone.
 """
 
-from collections import namedtuple
+from collections.abc import Collection, Iterable, Mapping, Set
+from typing import NamedTuple, Optional
 
-from qrptools.formula import ADJECTIVES, EXISTS, FOR_ALL, UNBOUND, is_clean
+from qrptools.formula import ADJECTIVES, EXISTS, FOR_ALL, UNBOUND, Clause, Formula, is_clean
+from qrptools.steps import Step
 
 # What has to hold of a step, as the table of docs/RULES.md says it.
 CONDITIONS = {
@@ -23,25 +25,33 @@ CONDITIONS = {
     "S12": "each literal of the resolvent is in the step, or reducible in the resolvent, or reducible in the parents",
 }
 
-Side = namedtuple("Side", "word deciding reduced")
+
+class Side(NamedTuple):
+    """Of what a trace has its steps: clauses or cubes, the quantifier of the pivots, and that of what is reduced."""
+
+    word: str
+    deciding: str
+    reduced: str
+
+
 SIDES = {"unsat": Side("clause", EXISTS, FOR_ALL), "sat": Side("cube", FOR_ALL, EXISTS)}
 
 
-def clashes(a, b):
+def clashes(a: Iterable[int], b: Collection[int]) -> list[int]:
     """The variables that stand with one sign in a and with the other in b, in the order of a."""
     return list(dict.fromkeys(abs(literal) for literal in a if -literal in b))
 
 
-def innermost(formula, side, literals):
+def innermost(formula: Formula, side: Side, literals: Iterable[int]) -> Optional[int]:
     """The literal with the deciding quantifier whose block comes last, None where there is none."""
     deciding = [l for l in literals if formula.place(l).quantifier == side.deciding]
-    return max(deciding, key=lambda l: (formula.place(l).block, -abs(l)), default=None)
+    return max(deciding, key=lambda l: (formula.place(l).block, -abs(l))) if deciding else None
 
 
-def what_keeps(formula, side, last, literal):
+def what_keeps(formula: Formula, side: Side, last: Optional[int], literal: int) -> Optional[str]:
     """Why the literal is not reducible among literals of which this one is innermost, None where it is reducible."""
     quantifier, block, _ = formula.place(literal)
-    if quantifier is None:
+    if not quantifier:
         return "it is not bound"
     if quantifier != side.reduced:
         return f"it is {ADJECTIVES[quantifier]}, and of {side.word}s only {ADJECTIVES[side.reduced]} literals are reduced"
@@ -50,24 +60,30 @@ def what_keeps(formula, side, last, literal):
     return None
 
 
-def all_kept(formula, side, literals, out):
+def all_kept(formula: Formula, side: Side, literals: Iterable[int], out: Iterable[int]) -> dict[int, str]:
     """Of the literals that are left out of these, those that are not reducible, with the reason."""
     last = innermost(formula, side, literals)
     return {l: reason for l in sorted(out, key=abs) if (reason := what_keeps(formula, side, last, l))}
 
 
-# What is found of a step: its fault, None where it follows; sentences on why; notes on literals; where the step has no antecedents,
-# the clause of the formula that shows it; and which of the causes of docs/REFUSED.md is likely, where there are several.
-Finding = namedtuple("Finding", "fault reasons notes clause cause", defaults=[None, None])
+class Finding(NamedTuple):
+    """What is found of a step: its fault, None if it follows; sentences on why; notes on literals; if the step has no antecedents, the clause
+    of the formula that shows it; and which of the causes of docs/REFUSED.md is likely, if there are several."""
+
+    fault: Optional[str]
+    reasons: list[str]
+    notes: dict[int, str]
+    clause: Optional[Clause] = None
+    cause: Optional[str] = None
 
 
-def judge(formula, side, any_pivot, step, before, later=()):
+def judge(formula: Formula, side: Side, any_pivot: bool, step: Step, before: Mapping[int, list[int]], later: Collection[int] = ()) -> Finding:
     """Judges a step. `before` gives the literals of the earlier steps that it names, by their numbers; `later` has those of later ones."""
     literals = set(step.literals)
     if not is_clean(literals):
         both = [literal for literal in dict.fromkeys(step.literals) if -literal in literals]
         reasons = [f"The step holds {literal} and {-literal}." for literal in both if literal > 0]
-        given = set().union(*(before.get(number, []) for number in step.antecedents))
+        given = {literal for number in step.antecedents for literal in before.get(number, [])}
         cause = "long" if all(literal in given for literal in both) else "damaged"
         return Finding("S1", reasons, dict.fromkeys(both, "both signs"), cause=cause)
     unbound = [literal for literal in dict.fromkeys(step.literals) if formula.place(literal) == UNBOUND]
@@ -79,8 +95,7 @@ def judge(formula, side, any_pivot, step, before, later=()):
         cause = "order" if all(number in later and number != step.number for number in missing) else "missing"
         return Finding("S3", [f"No step before this one has the number {number}." for number in missing], {}, cause=cause)
     if not step.antecedents:
-        initial = initial_clause if side.word == "clause" else initial_cube
-        return initial(formula, side, literals)
+        return initial_clause(formula, side, literals) if side.word == "clause" else initial_cube(formula, side, literals)
     if len(step.antecedents) == 1:
         name = f"step {step.antecedents[0]}"
         return reduct(formula, side, name, set(before[step.antecedents[0]]), literals)
@@ -89,8 +104,8 @@ def judge(formula, side, any_pivot, step, before, later=()):
     return resolvent(formula, side, any_pivot, parents, literals)
 
 
-def initial_clause(formula, side, literals, with_cause=True):
-    nearest = None
+def initial_clause(formula: Formula, side: Side, literals: Set[int], with_cause: bool = True) -> Finding:
+    nearest: Optional[tuple[tuple[int, bool, int, int], Clause]] = None
     for clause in formula.clauses():
         more, out = literals - clause.literals, clause.literals - literals
         if nearest and len(more) > nearest[0][0]:
@@ -102,21 +117,21 @@ def initial_clause(formula, side, literals, with_cause=True):
         distance = (len(more), not clause.clean, len(kept), len(out))
         if nearest is None or distance < nearest[0]:
             nearest = (distance, clause)
+    cause = of_the_other_side(formula, side, literals) if with_cause else None
     if nearest is None:
-        return Finding("S4", ["The formula has no clause."], {}, cause=with_cause and of_the_other_side(formula, side, literals))
+        return Finding("S4", ["The formula has no clause."], {}, cause=cause)
     clause = nearest[1]
-    more, out = sorted(literals - clause.literals, key=abs), clause.literals - literals
+    wrong, out = sorted(literals - clause.literals, key=abs), clause.literals - literals
     kept = all_kept(formula, side, clause.literals, out)
     reasons = [f"No clause of the formula gives this step. The nearest is clause {clause.number}:"]
-    reasons += [f"{l} is not in it." for l in more]
+    reasons += [f"{l} is not in it." for l in wrong]
     reasons += [f"{l} is left out, and not reducible in it: {kept[l]}." for l in kept]
     if not clause.clean:
         reasons.append("It holds a variable with both signs.")
-    cause = with_cause and of_the_other_side(formula, side, literals)
-    return Finding("S4", reasons, left_out(out, kept) | dict.fromkeys(more, "not in the clause"), clause, cause)
+    return Finding("S4", reasons, left_out(out, kept) | dict.fromkeys(wrong, "not in the clause"), clause, cause)
 
 
-def initial_cube(formula, side, literals):
+def initial_cube(formula: Formula, side: Side, literals: Set[int]) -> Finding:
     missed = [c for c in formula.clauses() if c.clean and literals.isdisjoint(c.literals)]
     if not missed:
         return Finding(None, ["Each clause of the formula shares a literal with it, or holds a variable with both signs."], {})
@@ -126,7 +141,7 @@ def initial_cube(formula, side, literals):
     return Finding("S5", reasons, {}, missed[0], of_the_other_side(formula, side, literals))
 
 
-def of_the_other_side(formula, side, literals):
+def of_the_other_side(formula: Formula, side: Side, literals: Set[int]) -> str:
     """Whether an initial step that fails would be one where the trace has the other result. The empty step would often be by chance."""
     if not literals:
         return "formula"
@@ -135,16 +150,16 @@ def of_the_other_side(formula, side, literals):
     return "side" if initial_clause(formula, SIDES["unsat"], literals, False).fault is None else "formula"
 
 
-def why_left_out(formula, side, kept):
+def why_left_out(formula: Formula, side: Side, kept: Iterable[int]) -> str:
     """A literal of the deciding quantifier is never reduced, so one that is gone was lost."""
     return "lost" if any(formula.place(l).quantifier == side.deciding for l in kept) else "scheme"
 
 
-def left_out(literals, kept):
+def left_out(literals: Iterable[int], kept: Collection[int]) -> dict[int, str]:
     return {l: "left out, not reducible" if l in kept else "left out, reducible" for l in literals}
 
 
-def reduct(formula, side, name, antecedent, literals):
+def reduct(formula: Formula, side: Side, name: str, antecedent: Set[int], literals: Set[int]) -> Finding:
     more = sorted(literals - antecedent, key=abs)
     if more:
         cause = "sign" if any(-l in antecedent for l in more) else "more"
@@ -158,7 +173,7 @@ def reduct(formula, side, name, antecedent, literals):
     return Finding(None, [f"It is a reduct of {name}, {text}."], left_out(out, {}))
 
 
-def resolvent(formula, side, any_pivot, parents, literals):
+def resolvent(formula: Formula, side: Side, any_pivot: bool, parents: list[tuple[str, set[int]]], literals: Set[int]) -> Finding:
     (a_name, a), (b_name, b) = parents
     variables = clashes(a, b)
     if not variables:
@@ -192,18 +207,18 @@ def resolvent(formula, side, any_pivot, parents, literals):
         else:
             notes[l] = f"left out, reducible in the {'parents' if l in in_resolvent else 'resolvent'}"
     if reasons:
-        kept = [l for l in out if notes.get(l) == "left out, not reducible"]
-        return Finding("S12", reasons, notes, cause=why_left_out(formula, side, kept))
+        lost = [l for l in out if notes.get(l) == "left out, not reducible"]
+        return Finding("S12", reasons, notes, cause=why_left_out(formula, side, lost))
     text = "nothing is left out of it" if whole <= literals else "what is left out of it may be reduced"
     return Finding(None, [f"It is the resolvent of {a_name} and {b_name} on {pivot}, and {text}."], notes)
 
 
-def not_resolved(whole, literals, pivot, notes):
+def not_resolved(whole: Set[int], literals: Set[int], pivot: int, notes: dict[int, str]) -> Finding:
     """What is found of a step with literals that its resolvent does not hold."""
-    more, reasons = sorted(literals - whole, key=abs), []
+    more = sorted(literals - whole, key=abs)
+    reasons = []
     for l in more:
         reasons.append(f"{l} is of the pivot, which the resolvent does not hold." if abs(l) == pivot else f"{l} is in neither antecedent.")
         notes[l] = "pivot, but in the step" if abs(l) == pivot else "not in the resolvent"
-    signs = [l for l in more if abs(l) != pivot and -l in whole]
-    cause = "pivot" if any(abs(l) == pivot for l in more) else "sign" if signs else "more"
-    return Finding("S11", reasons, notes, cause=cause)
+    cause = "sign" if any(-l in whole for l in more) else "more"
+    return Finding("S11", reasons, notes, cause="pivot" if any(abs(l) == pivot for l in more) else cause)

@@ -6,114 +6,133 @@ lines of text, and taken apart when they are looked at.
 
 import json
 import re
-from collections import namedtuple
+from collections.abc import Iterable, Iterator
+from typing import NamedTuple, Optional
 
 from qrptools.formula import QUANTIFIERS, SET_BYTES
-from qrptools.words import ALL, BLOCK, GREATEST, GREATEST_VARIABLE, Fault, Words, are_whole, value
+from qrptools.words import ALL, BLOCK, GREATEST, GREATEST_VARIABLE, Data, Fault, Words, are_whole, value
 
 HEAD = re.compile(rb"\n(\d+)")
 COMMENT_BYTES = b"c#"
 ODD_PARTS = (b"c", b"#", b"r", b"\t", b"\r", b"\n0")  # what makes the zeros of a block hard to count: comments, the result, other blanks
 COMMAS = bytes.maketrans(b" \n", b",,")
 
-# A variable that a quantifier set of the trace names.
-SetVariable = namedtuple("SetVariable", "variable quantifier line")
+
+class SetVariable(NamedTuple):
+    """A variable that a quantifier set of the trace names."""
+
+    variable: int
+    quantifier: str
+    line: int
 
 
-def are_steps(block):
+class Found(NamedTuple):
+    """A step with those that it names: the literals of earlier ones and the lines of later ones, by their numbers."""
+
+    step: "Step"
+    before: dict[int, list[int]]
+    later: dict[int, int]
+
+
+def are_steps(block: bytes) -> bool:
     """Whether each line of a block is a step, with single blanks and without leading zeros."""
     return are_whole(block, COMMENT_BYTES, 1)
 
 
-def words_of(block):
+def words_of(block: bytes) -> list[bytes]:
     """The words of some lines without those of comments."""
     lines = map(bytes.split, block.split(b"\n"))
     return [word for line in lines if line and line[0][0] not in COMMENT_BYTES for word in line]
 
 
-def lists_of(block):
+def lists_of(block: bytes) -> tuple[list[bytes], list[bytes]]:
     """The lists of the steps of such a block: the number and the literals of each after a line end, and its antecedents each after a blank."""
     lists = (b"\n" + block).split(b" 0")
     return lists[:-1:2], lists[1::2]
 
 
-def integers(text):
+def integers(text: bytes) -> list[int]:
     """The numbers of a text that has a blank or a line end between them."""
-    return json.loads(b"[%b]" % text.strip().translate(COMMAS))
+    found: list[int] = json.loads(b"[%b]" % text.strip().translate(COMMAS))
+    return found
 
 
-def numbers_of(heads):
+def numbers_of(heads: list[bytes]) -> Iterator[int]:
     """The numbers of steps, from their first lists."""
     return map(int, HEAD.findall(b"".join(heads)))
 
 
-class Step(namedtuple("Step", "line text")):
+class Step(NamedTuple):
     """A step: its line in the trace, and its text as one line with single zeros, without the line end."""
 
-    __slots__ = ()
+    line: int
+    text: bytes
 
     @property
-    def number(self):
+    def number(self) -> int:
         return int(self.text[: self.text.index(b" ")])
 
     @property
-    def literals(self):
+    def literals(self) -> list[int]:
         return list(map(int, self.text[: self.text.index(b" 0 ")].split()[1:]))
 
     @property
-    def antecedents(self):
+    def antecedents(self) -> list[int]:
         return list(map(int, self.text[self.text.index(b" 0 ") + 3 : -1].split()))
 
 
 class Trace:
-    """A trace, of the bytes of its text: its header and its sets are read at once, and its steps each time that they are asked for."""
+    """A trace, of the bytes of its text: its header and its sets are read at once, and its steps each time that they are asked for. `result`
+    is empty until the last step was asked for."""
 
-    def __init__(self, data, good=ALL):
-        self.data, self.result = data, None
+    def __init__(self, data: Data, good: float = ALL) -> None:
+        self.data, self.result = data, ""
         words = Words(data, COMMENT_BYTES, good)
         words.header(b"qrp", GREATEST, "P2", "P7")
-        self.sets = []
+        self.sets: list[SetVariable] = []
         while self.read_set(words):
             pass
         self.words = words
 
-    def read_set(self, words):
+    def read_set(self, words: Words) -> bool:
         """Reads a quantifier set, if there is one."""
         text = words.whole_line(SET_BYTES)
         if text:
             self.sets += [SetVariable(variable, QUANTIFIERS[text[:1]], words.line) for variable in map(int, text[1:-1].split())]
             return True
         word = words.next()
+        if word is None:
+            return False
         if word not in QUANTIFIERS:
-            if word is not None:
-                words.back()
+            words.back()
             return False
         for variable, line in numbers(words, "a quantifier set", 1, GREATEST_VARIABLE):
             self.sets.append(SetVariable(variable, QUANTIFIERS[word], line))
         return True
 
-    def steps(self):
+    def steps(self) -> Iterator[Step]:
         """Each step in file order. After the last one the result is known."""
         for line, texts in self.pieces():
             for place, text in enumerate(texts):
                 yield Step(line + place, text)
 
-    def with_numbers(self, numbers, last=ALL):
+    def with_numbers(self, numbers: Iterable[int], last: float = ALL) -> Iterator[Step]:
         """The steps with one of these numbers, in file order, up to this line."""
         starts = tuple(b"%d " % number for number in numbers)
         for line, block in self.blocks(last):
             if block.startswith(starts) or any(b"\n" + start in block for start in starts):
                 yield from (Step(line + place, text) for place, text in enumerate(block.split(b"\n")) if text.startswith(starts))
 
-    def pieces(self):
+    def pieces(self) -> Iterator[tuple[int, list[bytes]]]:
         """The steps in file order, some at a time: the line of the first, and the text of each, on lines of their own."""
         for line, block in self.blocks():
             yield line, block.split(b"\n")[:-1]
 
-    def blocks(self, last=ALL):
+    def blocks(self, last: float = ALL) -> Iterator[tuple[int, bytes]]:
         """The same up to this line, as one text: each step on a line, with single blanks and zeros."""
-        words, seen = self.words.again(), {}
-        while words.line < last or words.at < len(words.words):
+        words = self.words.again()
+        seen: dict[int, int] = {}
+        while words.line < last or words.taken < len(words.words):
             block = words.block(are_steps)
             if block:
                 yield words.line - block.count(b"\n") + 1, block
@@ -126,9 +145,9 @@ class Trace:
                 return
             yield line, self.read_step(words, word, seen) + b"\n"
 
-    def count_steps(self):
+    def count_steps(self) -> int:
         """How many steps there are, in a text that is right: 0 closes two lists of each."""
-        words, place, zeros = self.words.words[self.words.at :], self.words.start + len(self.words.text), 0
+        words, place, zeros = self.words.words[self.words.taken :], self.words.start + len(self.words.text), 0
         while b"r" not in words:
             zeros += sum(not word.strip(b"0") for word in words)
             block = self.data[place : self.data.find(b"\n", place + BLOCK) + 1 or len(self.data)]
@@ -140,7 +159,7 @@ class Trace:
                 words, zeros = [], zeros + count
         return (zeros + sum(not word.strip(b"0") for word in words[: words.index(b"r")])) // 2
 
-    def read_result(self, words):
+    def read_result(self, words: Words) -> None:
         word = words.next()
         if word is None:
             raise Fault("P7", words, inside="the result")
@@ -148,7 +167,8 @@ class Trace:
         if self.result not in ("sat", "unsat"):
             raise Fault("P8", words)
 
-    def read_step(self, words, word, seen):
+    def read_step(self, words: Words, word: Optional[bytes], seen: dict[int, int]) -> bytes:
+        """Reads the step that begins with this word; `seen` has the lines of those that were read so."""
         number, line = value(word), words.line
         if number is None:
             raise Fault("P7", words, inside="between steps")
@@ -166,7 +186,7 @@ class Trace:
         return b" ".join(b"%d" % n for n in [number, *literals, 0, *antecedents, 0])
 
 
-def numbers(words, inside, least, greatest, most=None):
+def numbers(words: Words, inside: str, least: int, greatest: int, most: Optional[int] = None) -> Iterator[tuple[int, int]]:
     """The numbers of a list up to the 0 that closes it, with their lines."""
     begun, read = words.line, 0
     while (number := value(words.next())) != 0:

@@ -4,6 +4,7 @@ and tools/used-clauses.
 Such a trace may be large: it is read in blocks of lines, and only one of them is in memory.
 """
 
+from collections.abc import Iterable, Iterator
 from itertools import compress, repeat
 from operator import itemgetter, not_
 
@@ -11,7 +12,7 @@ from qrptools.steps import lists_of
 from qrptools.words import BLOCK
 
 
-def trimmed_blocks(path):
+def trimmed_blocks(path: str) -> Iterator[bytes]:
     """The lines of the steps in file order, some at a time."""
     with open(path, "rb") as file:
         line = file.readline()
@@ -24,26 +25,27 @@ def trimmed_blocks(path):
             line = file.readline()
 
 
-def trimmed_steps(path):
+def trimmed_steps(path: str) -> Iterator[tuple[list[bytes], list[bytes]]]:
     """The lists of the steps in file order, some at a time, as steps.lists_of gives them."""
     return map(lists_of, trimmed_blocks(path))
 
 
-def literals_of_initial(heads, tails):
+def literals_of_initial(heads: list[bytes], tails: list[bytes]) -> Iterator[bytes]:
     """The literals of each of these steps that has no antecedents, as text."""
     return map(itemgetter(2), map(bytes.partition, compress(heads, map(not_, tails)), repeat(b" ")))
 
 
-def initial_steps(path):
+def initial_steps(path: str) -> Iterator[bytes]:
     """The literals of the initial steps in file order, as texts."""
     for block in trimmed_blocks(path):
-        steps = block.split(b" 0 0\n")[:-1]
-        if block.count(b"\n") > len(steps):
-            steps = map(itemgetter(2), map(bytes.rpartition, steps, repeat(b"\n")))  # each after others
+        initial = block.split(b" 0 0\n")[:-1]
+        steps: Iterable[bytes] = initial
+        if block.count(b"\n") > len(initial):
+            steps = map(itemgetter(2), map(bytes.rpartition, initial, repeat(b"\n")))  # each after others
         yield from map(itemgetter(2), map(bytes.partition, steps, repeat(b" ")))
 
 
-def result(path):
+def result(path: str) -> str:
     """The result word."""
     with open(path, "rb") as file:
         file.seek(-len(b"r unsat\n"), 2)

@@ -3,8 +3,8 @@
 ghost use Rattle.std.specs.Prelude.{◌≡◌, ℕ, ◌+◌, ◌-◌, ◌<◌, ◌≤◌, List, [], ◌++◌, length, take, drop};
 ghost use Rattle.std.specs.Prelude.{◌∷◌, true, false, decimal};
 ghost use Rattle.std.specs.Io.KnownBytes.{append_known, Keeps};
-ghost use Rattle.qbf_text.specs.Canonical.{token_text};
-ghost use Rattle.qbf_text.specs.declared.token.Token.TheVariants.{Number};
+ghost use Rattle.qbf_tokens.specs.Canonical.{token_text};
+ghost use Rattle.qbf_tokens.specs.declared.token.Token.TheVariants.{Number};
 ghost use Rattle.qbf_text.specs.Devices.{Finishes, Pushes};
 ghost use Rattle.qbf_text.specs.Written.{IsPut};
 

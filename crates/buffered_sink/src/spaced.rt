@@ -2,8 +2,8 @@
 
 ghost use Rattle.std.specs.Prelude.{◌+◌, ◌-◌, ◌≤◌, ◌∷◌, length, decimal};
 ghost use Rattle.decimal.specs.Digits.{IsPutFrom};
-ghost use Rattle.qbf_text.specs.Canonical.{token_text};
-ghost use Rattle.qbf_text.specs.declared.token.Token.TheVariants.{Number};
+ghost use Rattle.qbf_tokens.specs.Canonical.{token_text};
+ghost use Rattle.qbf_tokens.specs.declared.token.Token.TheVariants.{Number};
 
 use decimal::put_digits;
 

@@ -3,8 +3,8 @@ use Rattle.std.proofs.Common.{rules, List, map, arith}
 use Rattle.std.specs.List.{AllByRecursion}
 use Rattle.qbf_core.specs.Literal.{Literal}
 use Rattle.qbf_core.specs.Blocks.{Block, IsVariable}
-use Rattle.qbf_text.specs.Canonical.{IsPlain, IsLine}
-use Rattle.qbf_text.proofs.CanonicalTokens.{all_mapped, closed_plain}
+use Rattle.qbf_tokens.specs.Canonical.{IsPlain, IsLine}
+use Rattle.qbf_tokens.proofs.CanonicalTokens.{all_mapped, closed_plain}
 use Rattle.dimacs_syntax.specs.Spelling.{number, literal, set}
 
 -- literals of variables

@@ -13,14 +13,14 @@ pub use Rattle.dimacs_syntax.specs.Spelling.{letter, literal, number, set}
 pub use Rattle.qbf_text.proofs.OneToken.{read-one}
 pub use Rattle.qbf_text.proofs.SentParts.{sent_fails, sent_part}
 pub use Rattle.qbf_text.specs.Ahead.{ahead}
-pub use Rattle.qbf_text.specs.Lined.{Lined, without_lines}
+pub use Rattle.qbf_tokens.specs.Lined.{Lined, without_lines}
 pub use Rattle.qbf_text.specs.Reading.{left}
 pub use Rattle.qbf_text.specs.Rows.{Ends, Read}
 unfoldable pub use Rattle.qbf_text.specs.Rows.{read_from}
 pub use Rattle.qbf_text.specs.Stopping.{tokens_next}
-pub use Rattle.qbf_text.specs.Tokens.{tokens}
+pub use Rattle.qbf_tokens.specs.Tokens.{tokens}
 pub use Rattle.qbf_text.specs.Written.{IsSent}
-pub use Rattle.qbf_text.specs.declared.token.Comments.TheVariants.{Qdimacs, Qrp}
-pub use Rattle.qbf_text.specs.declared.token.Token.{Token}
-pub use Rattle.qbf_text.specs.declared.token.Token.TheVariants as token
-pub use Rattle.qbf_text.specs.declared.token.Word.TheVariants as word
+pub use Rattle.qbf_tokens.specs.declared.token.Comments.TheVariants.{Qdimacs, Qrp}
+pub use Rattle.qbf_tokens.specs.declared.token.Token.{Token}
+pub use Rattle.qbf_tokens.specs.declared.token.Token.TheVariants as token
+pub use Rattle.qbf_tokens.specs.declared.token.Word.TheVariants as word

@@ -5,7 +5,7 @@ use Rattle.qbf_core.specs.declared.quantifier.Quantifier.{Quantifier}
 use Rattle.qbf_core.specs.declared.quantifier.Quantifier.TheVariants.{All, Exists}
 use Rattle.qbf_core.specs.Literal.{Literal}
 use Rattle.qbf_core.specs.Blocks.{Block, letter_of}
-use Rattle.qbf_text.specs.Canonical.{spaced_number, token_text, line_rest, line_text}
+use Rattle.qbf_tokens.specs.Canonical.{spaced_number, token_text, line_rest, line_text}
 use Rattle.qbf_text.proofs.SentParts.{line_rest-map, zero_rest}
 use Rattle.dimacs_syntax.specs.Spelling.{number, literal, letter, set}
 use Rattle.dimacs_syntax.specs.Texts.{literal_text, closing, set_text}

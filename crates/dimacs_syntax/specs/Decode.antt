@@ -3,9 +3,9 @@ use Rattle.std.specs.Prelude.{ℕ, zero, suc, true, false, Option, Some, None, R
 use Rattle.qbf_core.specs.declared.quantifier.Quantifier.{Quantifier}
 use Rattle.qbf_core.specs.declared.quantifier.Quantifier.TheVariants.{All, Exists}
 use Rattle.qbf_core.specs.Literal.{Literal}
-use Rattle.qbf_text.specs.declared.token.Token.{Token}
-use Rattle.qbf_text.specs.declared.token.Token.TheVariants as token
-use Rattle.qbf_text.specs.declared.token.Word.TheVariants as word
+use Rattle.qbf_tokens.specs.declared.token.Token.{Token}
+use Rattle.qbf_tokens.specs.declared.token.Token.TheVariants as token
+use Rattle.qbf_tokens.specs.declared.token.Word.TheVariants as word
 use Rattle.dimacs_syntax.specs.declared.decode.Faults.{Faults}
 
 -- the quantifier that a letter names

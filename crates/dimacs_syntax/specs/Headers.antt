@@ -1,9 +1,9 @@
 -- The header of a text, token by token: two words, and two numbers.
 use Rattle.std.specs.Prelude.{◌≤◌, ℕ, Bool, true, false, Option, Some, None, Result, Ok, Err, List, [], ◌∷◌, nat_le, if◌then◌else◌, ⊤}
-use Rattle.qbf_text.specs.declared.token.Token.{Token}
-use Rattle.qbf_text.specs.declared.token.Token.TheVariants as token
-use Rattle.qbf_text.specs.declared.token.Word.{Word}
-use Rattle.qbf_text.specs.declared.token.Word.TheVariants as word
+use Rattle.qbf_tokens.specs.declared.token.Token.{Token}
+use Rattle.qbf_tokens.specs.declared.token.Token.TheVariants as token
+use Rattle.qbf_tokens.specs.declared.token.Word.{Word}
+use Rattle.qbf_tokens.specs.declared.token.Word.TheVariants as word
 use Rattle.dimacs_syntax.specs.declared.decode.Faults.{Faults}
 use Rattle.dimacs_syntax.specs.declared.header.HeaderForm.{HeaderForm}
 use Rattle.dimacs_syntax.specs.declared.header.HeaderAt.{HeaderAt}

@@ -4,10 +4,10 @@ use Rattle.qbf_core.specs.declared.quantifier.Quantifier.{Quantifier}
 use Rattle.qbf_core.specs.declared.quantifier.Quantifier.TheVariants.{All, Exists}
 use Rattle.qbf_core.specs.Literal.{Literal}
 use Rattle.qbf_core.specs.Blocks.{Block}
-use Rattle.qbf_text.specs.declared.token.Token.{Token}
-use Rattle.qbf_text.specs.declared.token.Token.TheVariants as token
-use Rattle.qbf_text.specs.declared.token.Word.{Word}
-use Rattle.qbf_text.specs.declared.token.Word.TheVariants as word
+use Rattle.qbf_tokens.specs.declared.token.Token.{Token}
+use Rattle.qbf_tokens.specs.declared.token.Token.TheVariants as token
+use Rattle.qbf_tokens.specs.declared.token.Word.{Word}
+use Rattle.qbf_tokens.specs.declared.token.Word.TheVariants as word
 
 -- a number without a minus
 abbrev pub number : ℕ → Token

@@ -3,7 +3,7 @@ use Rattle.std.specs.Prelude.{ℕ, List, [], ◌∷◌, ◌++◌}
 use Rattle.std.specs.List.{flat_map}
 use Rattle.qbf_core.specs.Literal.{Literal}
 use Rattle.qbf_core.specs.Blocks.{Block}
-use Rattle.qbf_text.specs.Canonical.{spaced_number, token_text}
+use Rattle.qbf_tokens.specs.Canonical.{spaced_number, token_text}
 use Rattle.dimacs_syntax.specs.Spelling.{literal, letter}
 
 -- a literal after a blank

@@ -6,7 +6,7 @@ ghost use Rattle.dimacs_syntax.specs.Decode.{decode_quantifier, decode_member, d
 ghost use Rattle.qbf_core.specs.declared.literal.TheConstants.{LAST_VARIABLE};
 
 use qbf_core::{Lit, Quantifier, Var};
-use qbf_text::{Token, Word};
+use qbf_tokens::{Token, Word};
 
 /// The faults of a format that a token can be.
 #[derive(Clone, Copy)]

@@ -5,7 +5,7 @@ ghost use Rattle.dimacs_syntax.specs.Headers.{header_fault, is_allowed, header_w
 ghost use Rattle.dimacs_syntax.specs.Headers.{header_number, header_move, IsUpTo, LeadsUpTo};
 
 use crate::decode::Faults;
-use qbf_text::{Token, Word};
+use qbf_tokens::{Token, Word};
 
 /// How the header of a format is spelled: `p`, its word and two numbers. With this come the faults
 /// of the format that a token can be.

@@ -2,9 +2,9 @@
 
 ghost use Rattle.std.specs.Prelude.{ℕ, List, [], ◌∷◌, ◌++◌};
 ghost use Rattle.std.specs.List.{flat_map};
-ghost use Rattle.qbf_text.specs.Canonical.{spaced_number, token_text};
+ghost use Rattle.qbf_tokens.specs.Canonical.{spaced_number, token_text};
 ghost use Rattle.qbf_text.specs.Written.{IsPut};
-ghost use Rattle.qbf_text.specs.declared.token.Token.TheVariants.{Number};
+ghost use Rattle.qbf_tokens.specs.declared.token.Token.TheVariants.{Number};
 ghost use Rattle.dimacs_syntax.specs.Spelling.{letter};
 ghost use Rattle.dimacs_syntax.specs.Texts.{literal_text};
 

@@ -3,6 +3,7 @@
 ghost use Rattle.std.specs.Prelude.{◌<◌};
 
 use qbf_text::*;
+use qbf_tokens::{Comments, Token, Word};
 use std::alloc::Global;
 use std::process::Abort;
 use std::test::Fail;

@@ -1,10 +1,11 @@
 -- Tokens that are accepted one after the other.
-use Rattle.qbf_text.proofs.Cited.{rules, ◌≡◌, ◌≢◌, ℕ, List, [], ◌∷◌, ◌++◌, ◌⊎◌, inl, inr, append_assoc, append-nil, refl, ap, ◌∙◌, flat_map}
-use Rattle.qbf_text.proofs.Cited.{Token, Lined, without_lines, EndsOnce, Row, Goes, read_from}
+use Rattle.qbf_tokens.proofs.Cited.{rules, ◌≡◌, ◌≢◌, ℕ, List, [], ◌∷◌, ◌++◌, append_assoc, append-nil, refl, ap, ◌∙◌, Lined, without_lines}
+use Rattle.qbf_tokens.proofs.Cited.{EndsOnce}
+use Rattle.qbf_text.proofs.Cited.{◌⊎◌, inl, inr, flat_map, Token, Row, Goes, read_from}
 use Rattle.std.proofs.lemmas.Grind.{flat_map-append}
 use Rattle.std.proofs.lemmas.List.{map-append}
 use Rattle.qbf_text.proofs.OneToken.{read-one, after}
-use Rattle.qbf_text.specs.declared.token.Token.TheVariants as token
+use Rattle.qbf_tokens.specs.declared.token.Token.TheVariants as token
 
 pub flat_map-push : {X Y : Type 0} (f : X → List Y) (xs : List X) (x : X) → flat_map f (xs ++ x ∷ []) ≡ flat_map f xs ++ f x
 flat_map-push f xs x = flat_map-append f xs (x ∷ []) ∙ ap (λ k. flat_map f xs ++ k) (append-nil (f x))

@@ -1,15 +1,13 @@
 -- Steps along the bytes ahead.
-use Rattle.qbf_text.proofs.Cited.{arith, ◌≡◌, ℕ, false, List, [], ◌∷◌, ◌++◌, Option, Some, None, take, drop, ap}
-use Rattle.qbf_text.proofs.Cited.{sym, ◌∙◌, append_assoc, common_steps, AllByRecursion, Consumes, ahead, first_of, IsUnbroken, IsWithinLine, is_line_end}
+use Rattle.qbf_tokens.proofs.Cited.{arith, ◌≡◌, ℕ, false, List, [], ◌∷◌, ◌++◌, Option, Some, None, ap, sym, ◌∙◌, append_assoc, common_steps}
+use Rattle.qbf_tokens.proofs.Cited.{AllByRecursion, IsUnbroken, IsWithinLine, is_line_end}
+use Rattle.qbf_text.proofs.Cited.{take, drop, Consumes, ahead, first_of}
+use Rattle.qbf_tokens.proofs.CanonicalTokens.{all_appended}
 use Rattle.std.proofs.KnownBytes.{Consumes-trans}
 use Rattle.std.proofs.lemmas.List.{take-append-drop}
 
 pub all_push : (P : ℕ → Type 0) (xs : List ℕ) (x : ℕ) → AllByRecursion P xs → P x → AllByRecursion P (xs ++ x ∷ [])
 all_push P xs x h p = grind (arith, common_steps)
-
-pub all_append : (P : ℕ → Type 0) (xs ys : List ℕ) → AllByRecursion P xs → AllByRecursion P ys → AllByRecursion P (xs ++ ys)
-all_append P [] ys h k = k
-all_append P (x ∷ xs) ys h k = (h.0, all_append P xs ys h.1 k)
 
 -- the bytes that were taken so far, and one more
 pub taken_more : (a b : Option (List ℕ)) (pending : List ℕ) (rem : Option (List ℕ)) (xs : List ℕ) (x : ℕ)
@@ -43,7 +41,7 @@ pub skip_part : (a : Option (List ℕ)) (pending : List ℕ) (rem : Option (List
 skip_part a pending rem n s h =
     record {
       skipped = s.skipped ++ take n pending;
-      within = all_append _ s.skipped (take n pending) s.within h;
+      within = all_appended _ s.skipped (take n pending) s.within h;
       taken = Consumes-trans a (ahead pending rem) (ahead (drop n pending) rem) s.skipped (take n pending) s.taken (part pending rem n);
     }
 

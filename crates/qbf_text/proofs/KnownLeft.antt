@@ -1,16 +1,12 @@
 -- The tokens that are left if the bytes ahead may be unknown.
-use Rattle.qbf_text.proofs.Cited.{rules, ◌≡◌, ℕ, Bool, true, false, List, [], ◌∷◌, Option, Some, IfSome, drop, arith, ⊤, Consumes}
-use Rattle.qbf_text.proofs.Cited.{Consumes-nil, nat_tests, Comments, ahead, first_of, is_line_end, is_comment_byte, kind, is_end}
-use Rattle.qbf_text.proofs.ByteByByte.{IsToken}
+use Rattle.qbf_tokens.proofs.Cited.{rules, ◌≡◌, ℕ, Bool, true, false, List, [], ◌∷◌, Option, Some, arith, ⊤, nat_tests, is_line_end}
+use Rattle.qbf_tokens.proofs.Cited.{is_comment_byte}
+use Rattle.qbf_text.proofs.Cited.{IfSome, drop, Consumes, Consumes-nil, Comments, ahead, first_of}
+use Rattle.qbf_tokens.proofs.ByteByByte.{IsToken}
 use Rattle.qbf_text.proofs.BytesAhead.{taken_more}
 
 pub always : (t : Option (List ℕ)) → IfSome t (λ _. ⊤)
 always t = search rules
-
--- ---- no run is End
-
-pub kind_no_end : (run : List ℕ) → is_end (kind run) ≡ false
-kind_no_end run = search rules
 
 -- ---- in the words of the loop
 

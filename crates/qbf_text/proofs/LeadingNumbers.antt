@@ -1,8 +1,9 @@
 -- Numbers that lead from one state to another.
-use Rattle.qbf_text.proofs.Cited.{◌≡◌, ℕ, zero, suc, ◌+◌, ◌<◌, List, refl, sym, ap, ◌∙◌, subst, arith, Option, Some, None, Result, Ok, Err}
-use Rattle.qbf_text.proofs.Cited.{Token, Row, Goes}
+use Rattle.qbf_tokens.proofs.Cited.{◌≡◌, ℕ, ◌+◌, ◌<◌, List, refl, sym, ap, ◌∙◌, arith, Option, Some, None}
+use Rattle.qbf_text.proofs.Cited.{zero, suc, subst, Result, Ok, Err, Token, Row, Goes}
 use Rattle.std.specs.Prelude.{ℤ, pos, slice_index_or, IfOk}
-use Rattle.qbf_text.specs.Numbers.{token_of, token_at, LeadsBy, LeadsOver, TakesOver}
+use Rattle.qbf_tokens.specs.NumberTokens.{token_of, token_at}
+use Rattle.qbf_text.specs.TakenNumbers.{LeadsBy, LeadsOver, TakesOver}
 
 module _ {P A F : Type 0} (row : P → Token → Row P A F) where
   pub leads_none : (first : P) (values : List ℤ) (i : ℕ) → LeadsOver row first first values i i

@@ -1,8 +1,8 @@
 -- The effect of one token on what is read.
-use Rattle.qbf_text.proofs.Cited.{arith, rules, ◌≡◌, ℕ, Bool, false, List, ◌∷◌, Option, Some, None, IfSome, sym, ◌∙◌, subst, common_steps}
-use Rattle.qbf_text.proofs.Cited.{Token, Lined, is_end, GivesNext, Reading, HasFailed, IsReady, Row, Goes, Ends, Fails, Read, Whole, Fault}
+use Rattle.qbf_tokens.proofs.Cited.{arith, rules, ◌≡◌, ℕ, Bool, false, List, ◌∷◌, Option, Some, None, sym, ◌∙◌, common_steps, Lined, is_end}
+use Rattle.qbf_text.proofs.Cited.{IfSome, subst, Token, GivesNext, Reading, HasFailed, IsReady, Row, Goes, Ends, Fails, Read, Whole, Fault}
 use Rattle.qbf_text.proofs.Cited.{reads_from}
-use Rattle.qbf_text.specs.Lined.{Known}
+use Rattle.qbf_tokens.specs.Lined.{Known}
 use Rattle.qbf_text.specs.Reading.{IsFirst, HasEnded}
 use Rattle.qbf_text.specs.Rows.{rest_after, read_from}
 use Rattle.qbf_text.specs.Taking.{Leaves}

@@ -1,9 +1,10 @@
 -- A text is read as what it spells, or as the fault that stands in it.
-use Rattle.qbf_text.proofs.Cited.{arith, rules, ◌≡◌, ℕ, Bool, List, [], ◌∷◌, Option, Some, IfSome, Result, Ok, Err, ap, sym, ◌∙◌}
-use Rattle.qbf_text.proofs.Cited.{common_steps, Comments, Token, Lined, without_lines, EndsOnce, Row, Read, Whole, Fault, read_from, tokens}
+use Rattle.qbf_tokens.proofs.Cited.{arith, rules, ◌≡◌, ℕ, Bool, List, [], ◌∷◌, Option, Some, ap, sym, ◌∙◌, common_steps, Lined}
+use Rattle.qbf_tokens.proofs.Cited.{without_lines, EndsOnce, tokens}
+use Rattle.qbf_text.proofs.Cited.{IfSome, Result, Ok, Err, Comments, Token, Row, Read, Whole, Fault, read_from}
 use Rattle.std.proofs.Common.{option_map}
 use Rattle.qbf_text.specs.WholeTexts.{Gives, ReadsAsRead, ReadsOnce}
-use Rattle.qbf_text.proofs.TokensEndOnce.{tokens-EndsOnce}
+use Rattle.qbf_tokens.proofs.TokensEndOnce.{tokens-EndsOnce}
 use Rattle.qbf_text.specs.WholeTexts as whole_texts
 use Rattle.qbf_text.specs.Taking as taking
 use Rattle.qbf_text.specs.Taking.{Follows}

@@ -1,7 +1,8 @@
 -- Texts that go out part by part.
-use Rattle.qbf_text.proofs.Cited.{arith, ◌≡◌, ℕ, ◌<◌, Ok, Err, List, [], ◌∷◌, ◌++◌, Option, take, drop, refl, sym, ap, subst, ◌∙◌}
-use Rattle.qbf_text.proofs.Cited.{append_assoc, ◌+◌, Some, zero, suc, inl, inr, AllByRecursion, get_or, length, flat_map, Result, decimal}
-use Rattle.qbf_text.proofs.Cited.{map, false, common_steps, err_from_is_err_and, Token, token_text, line_rest, IsSent}
+use Rattle.qbf_tokens.proofs.Cited.{arith, ◌≡◌, ℕ, ◌<◌, List, [], ◌∷◌, ◌++◌, Option, refl, sym, ap, ◌∙◌, append_assoc, ◌+◌, Some}
+use Rattle.qbf_tokens.proofs.Cited.{AllByRecursion, length, map, false, common_steps, token_text, line_rest}
+use Rattle.qbf_text.proofs.Cited.{Ok, Err, take, drop, subst, zero, suc, inl, inr, get_or, flat_map, Result, decimal, err_from_is_err_and}
+use Rattle.qbf_text.proofs.Cited.{Token, IsSent}
 use Rattle.std.proofs.Common.{slice_get, add-one, drop-cons, IsErrAnd, take-append-drop}
 use Rattle.std.proofs.lemmas.Option.{slice_get_within, get_or_from_slice_get, slice_get_cases}
 use Rattle.std.specs.List.{filter_map}
@@ -9,7 +10,7 @@ use Rattle.std.specs.Fmt.{digits}
 use Rattle.qbf_text.specs.Written.{IsPut}
 use Rattle.std.specs.Io.KnownBytes.{Appends}
 use Rattle.std.proofs.KnownBytes.{Appends-trans}
-use Rattle.qbf_text.specs.declared.token.Token.TheVariants as token
+use Rattle.qbf_tokens.specs.declared.token.Token.TheVariants as token
 
 pub zero_decimal : decimal 0 ≡ 48 ∷ []
 unfolding digits

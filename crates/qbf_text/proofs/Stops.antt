@@ -1,17 +1,17 @@
 -- The bytes that are taken end with a token and at most one separator.
-use Rattle.qbf_text.proofs.Cited.{common_steps, rules, ◌≡◌, ℕ, ◌+◌, ◌^◌, ◌<◌, Bool, true, false, List, [], ◌∷◌, ◌++◌, Option, Some, None}
-use Rattle.qbf_text.proofs.Cited.{IfSome, refl, sym, ap, ◌∙◌, arith, append_assoc, append-nil, ⊤, Consumes, Consumes-nil, Comments, Token, End}
-use Rattle.qbf_text.proofs.Cited.{is_separator, is_end, tokens_left, IsUnbroken, IsWithinLine, EndsRun, EndsLine, known_left, Lined, Row}
-use Rattle.qbf_text.proofs.Cited.{Goes, Ends, Whole, read_from, Fails, Fault, IfKnown, TakesToken, PlaceSkips, SoFar, kind, is_blank}
-use Rattle.qbf_text.proofs.Cited.{is_line_end, is_comment_byte, line_number, GivesNext}
+use Rattle.qbf_tokens.proofs.Cited.{common_steps, rules, ◌≡◌, ℕ, ◌+◌, ◌^◌, ◌<◌, Bool, true, false, List, [], ◌∷◌, ◌++◌, Option, Some, None}
+use Rattle.qbf_tokens.proofs.Cited.{refl, sym, ap, ◌∙◌, arith, append_assoc, append-nil, ⊤, is_separator, is_end, tokens_left, IsUnbroken}
+use Rattle.qbf_tokens.proofs.Cited.{IsWithinLine, EndsRun, EndsLine, Lined, kind, is_blank, is_line_end, is_comment_byte, line_number}
+use Rattle.qbf_text.proofs.Cited.{IfSome, Consumes, Consumes-nil, Comments, Token, End, known_left, Row, Goes, Ends, Whole, read_from}
+use Rattle.qbf_text.proofs.Cited.{Fails, Fault, IfKnown, TakesToken, PlaceSkips, SoFar, GivesNext}
 use Rattle.std.proofs.KnownBytes.{Consumes-trans}
 use Rattle.qbf_text.specs.declared.scanner.Place.{Place}
 use Rattle.qbf_text.specs.Stopping.{BeginsAs, Skips, PlaceTakes, FindsToken, StopsAfter}
 use Rattle.qbf_text.proofs.OneToken.{after, read-one}
 use Rattle.qbf_text.proofs.KnownLeft.{always, took_at}
-use Rattle.qbf_text.proofs.ByteByByte.{left_nothing, left_line_end, left_blank, left_comment, left_run, IsToken, tokens_left-counted}
+use Rattle.qbf_tokens.proofs.ByteByByte.{left_nothing, left_line_end, left_blank, left_comment, left_run, IsToken, tokens_left-counted}
 use Rattle.qbf_text.specs.Rows as rows
-use Rattle.qbf_text.specs.declared.token.Token.TheVariants as token
+use Rattle.qbf_tokens.specs.declared.token.Token.TheVariants as token
 
 -- ---- known bytes
 

@@ -1,25 +1,14 @@
 -- The buffered bytes that were passed: tokens that stand there whole, whatever bytes follow.
-use Rattle.std.specs.Prelude.{◌≡◌, ℕ, ◌+◌, ◌<◌, ◌≤◌, Bool, true, false, not, nat_eq, List, [], ◌∷◌, ◌++◌, drop, length, Option, Some, None}
+use Rattle.std.specs.Prelude.{◌≡◌, ℕ, ◌<◌, ◌≤◌, false, List, ◌++◌, drop, length, Option, Some, None}
+use Rattle.qbf_tokens.specs.declared.token.Token.{Token}
+use Rattle.qbf_tokens.specs.Left.{is_end}
+use Rattle.qbf_tokens.specs.Lined.{Lined}
+use Rattle.window_numbers.specs.Cursors.{is_begun, one_if, Passes, PassesNumber}
+use Rattle.window_numbers.specs.declared.cursor.Cursor.{Cursor}
 use Rattle.qbf_text.specs.Ahead.{ahead}
-use Rattle.qbf_text.specs.declared.cursor.Cursor.{Cursor}
-use Rattle.qbf_text.specs.declared.token.Comments.{Comments}
-use Rattle.qbf_text.specs.declared.token.Token.{Token}
-use Rattle.qbf_text.specs.Left.{tokens_left, is_end, is_separator, IsUnbroken}
-use Rattle.qbf_text.specs.Lined.{Lined}
-use Rattle.qbf_text.specs.Numbers.{one_if}
 use Rattle.qbf_text.specs.Reading.{Reading, GivesNext, left}
 use Rattle.qbf_text.specs.Rows.{Row, Ends, read_from, reads_from}
 use Rattle.qbf_text.specs.Stopping.{BeginsAs, IfKnown, ScannerTakes, tokens_next}
-use Rattle.qbf_text.specs.Tokens.{line_number}
-
--- whether a token stands before a cursor on its line
-abbrev pub is_begun : Cursor → Bool
-is_begun here = not (nat_eq here.tokens 0)
-
--- the cursor after a number and its separator, which take so many bytes
-abbrev pub cursor_after : Cursor → ℕ → Bool → Cursor
-cursor_after here len true = record { at = here.at + len; line = line_number (here.line + 1); tokens = 0 }
-cursor_after here len false = record { at = here.at + len; line = here.line; tokens = 1 }
 
 -- the cursor at the first of the buffered bytes
 abbrev pub cursor : Reading → Cursor
@@ -28,34 +17,6 @@ cursor r = record { at = 0; line = r.line; tokens = one_if r.begun }
 -- a scanner that went to a cursor
 abbrev pub scanner_at : Reading → Cursor → Reading
 scanner_at r here = record r { line = here.line; begun = is_begun here; pending = drop here.at r.pending }
-
--- the tokens of bytes that stand at a cursor
-abbrev pub tokens_from_cursor : Comments → Cursor → List ℕ → List Lined
-tokens_from_cursor format here = tokens_left format (is_begun here) here.line
-
--- one token stands between two cursors, whatever bytes follow
-pub record PassesNumber (bytes : List ℕ) (here next : Cursor) (token : Token) : Type 0 where
-  pub word : List ℕ
-  pub separator : ℕ
-  pub unbroken : IsUnbroken word
-  pub separates : is_separator separator ≡ true
-  pub no_end : is_end token ≡ false
-  pub further : here.at < next.at
-  pub within : next.at ≤ length bytes
-  pub taken : drop here.at bytes ≡ (word ++ separator ∷ []) ++ drop next.at bytes
-  pub spelled : (format : Comments) (rest : List ℕ) → tokens_from_cursor format here ((word ++ separator ∷ []) ++ rest)
-      ≡ (token, here.line) ∷ tokens_from_cursor format next rest
-
--- the tokens between two cursors are as this says, whatever bytes follow
-pub record Passes (Are : List Lined → Type 0) (bytes : List ℕ) (here next : Cursor) : Type 0 where
-  pub front : List ℕ
-  pub given : List Lined
-  pub forward : here.at ≤ next.at
-  pub within : next.at ≤ length bytes
-  pub taken : drop here.at bytes ≡ front ++ drop next.at bytes
-  pub spelled : (format : Comments) (rest : List ℕ) → tokens_from_cursor format here (front ++ rest)
-      ≡ given ++ tokens_from_cursor format next rest
-  pub are : Are given
 
 -- tokens lead from one state to another
 abbrev pub LeadOn : {P A F : Type 0} → (P → Token → Row P A F) → P → P → List Lined → Type 0

@@ -2,9 +2,9 @@
 use Rattle.std.specs.Prelude.{◌≡◌, ℕ, ◌+◌, ◌-◌, ◌^◌, ◌<◌, ◌≤◌, List, [], ◌∷◌, length, Option, IfSome, Result, OnOk, OnErr}
 use Rattle.std.specs.Io.KnownBytes.{Consumes, IsAtEnd}
 use Rattle.qbf_text.specs.Ahead.{ahead}
-use Rattle.qbf_text.specs.declared.token.Token.{Token}
-use Rattle.qbf_text.specs.Left.{IsUnbroken, EndsRun}
-use Rattle.qbf_text.specs.Tokens.{kind}
+use Rattle.qbf_tokens.specs.declared.token.Token.{Token}
+use Rattle.qbf_tokens.specs.Left.{IsUnbroken, EndsRun}
+use Rattle.qbf_tokens.specs.Tokens.{kind}
 
 -- With a result no more can come than before, and at most 4,096 bytes are held. The count of failures rose exactly if the source failed,
 -- unless it was at its top.

@@ -1,8 +1,8 @@
 -- Reading by rows: for each state in a text a row says which tokens go on, which end the reading, and which are a fault.
 use Rattle.std.specs.Prelude.{ℕ, Bool, true, false, List, [], ◌∷◌, Option, Some, None}
-use Rattle.qbf_text.specs.declared.token.Token.{Token}
-use Rattle.qbf_text.specs.Lined.{Lined, Known}
-use Rattle.qbf_text.specs.Left.{is_end}
+use Rattle.qbf_tokens.specs.declared.token.Token.{Token}
+use Rattle.qbf_tokens.specs.Lined.{Lined, Known}
+use Rattle.qbf_tokens.specs.Left.{is_end}
 
 -- A row: what a state makes of a token.
 pub data Row (P A F : Type 0) : Type 0 where

@@ -2,12 +2,12 @@
 use Rattle.std.specs.Prelude.{◌≡◌, ℕ, false, true, List, [], ◌∷◌, ◌++◌, Option, Some, None, IfSome, Result, Ok, Err, ⊤}
 use Rattle.qbf_text.specs.declared.grammar.ReadError.{ReadError}
 use Rattle.qbf_text.specs.declared.scanner.Place.{Place}
-use Rattle.qbf_text.specs.declared.token.Token.{Token}
-use Rattle.qbf_text.specs.declared.token.Token.TheVariants.{End}
+use Rattle.qbf_tokens.specs.declared.token.Token.{Token}
+use Rattle.qbf_tokens.specs.declared.token.Token.TheVariants.{End}
 use Rattle.qbf_text.specs.Ahead.{ahead}
 use Rattle.std.specs.Io.KnownBytes.{IsAtEnd}
-use Rattle.qbf_text.specs.Left.{is_separator, is_end, tokens_left, known_left, IsUnbroken}
-use Rattle.qbf_text.specs.Lined.{Lined}
+use Rattle.qbf_tokens.specs.Left.{is_separator, is_end, tokens_left, known_left, IsUnbroken}
+use Rattle.qbf_tokens.specs.Lined.{Lined}
 use Rattle.qbf_text.specs.Reading.{Reading}
 use Rattle.qbf_text.specs.Rows.{Row, Ends, Whole, read_from}
 

@@ -1,8 +1,8 @@
 -- The results of the calls that read by rows.
 use Rattle.std.specs.Prelude.{◌≡◌, ◌-◌, ◌^◌, ◌<◌, ℕ, List, true, false, Option, Some, None, IfSome, Result, Ok, Err, ⊤}
-use Rattle.qbf_text.specs.declared.token.Token.{Token}
-use Rattle.qbf_text.specs.Lined.{Lined, Known}
-use Rattle.qbf_text.specs.Left.{is_end}
+use Rattle.qbf_tokens.specs.declared.token.Token.{Token}
+use Rattle.qbf_tokens.specs.Lined.{Lined, Known}
+use Rattle.qbf_tokens.specs.Left.{is_end}
 use Rattle.qbf_text.specs.Rows.{Row, Goes, Ends, Fails, Read, Whole, Fault}
 use Rattle.qbf_text.specs.declared.grammar.Taken.{Taken}
 use Rattle.qbf_text.specs.declared.grammar.Taken.TheVariants as taken

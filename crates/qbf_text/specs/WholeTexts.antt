@@ -3,10 +3,10 @@
 use Rattle.std.specs.Prelude.{◌≡◌, ◌≢◌, ◌<◌, ◌-◌, ◌^◌, ℕ, Bool, true, false, List, ◌∷◌, ◌++◌, Option, IfSome, IfErr, OnOk, Result, Ok, Err}
 use Rattle.qbf_text.specs.declared.grammar.ReadError.{ReadError}
 use Rattle.qbf_text.specs.declared.grammar.ReadError.TheVariants as error
-use Rattle.qbf_text.specs.declared.token.Comments.{Comments}
-use Rattle.qbf_text.specs.declared.token.Token.{Token}
-use Rattle.qbf_text.specs.Lined.{Lined, without_lines, EndsOnce}
-use Rattle.qbf_text.specs.Tokens.{tokens}
+use Rattle.qbf_tokens.specs.declared.token.Comments.{Comments}
+use Rattle.qbf_tokens.specs.declared.token.Token.{Token}
+use Rattle.qbf_tokens.specs.Lined.{Lined, without_lines, EndsOnce}
+use Rattle.qbf_tokens.specs.Tokens.{tokens}
 
 -- The fault stands on this line: the tokens before it spell a state, and that state refuses this one.
 pub record IsFault {P F : Type 0} (Spells : List Token → P → Type 0) (Refuses : P → Token → F → Type 0) (ts : List Lined) (fault : F)

@@ -1,23 +1,23 @@
 //! One loop that reads by the rows of a grammar.
 
 ghost use Rattle.std.specs.Prelude.{◌≡◌, ℕ, ◌+◌, ◌<◌, ◌≤◌, length, List, Option, IfSome, IfOk, OnOk};
-ghost use Rattle.qbf_text.specs.declared.token.Token.{Token};
+ghost use Rattle.qbf_tokens.specs.declared.token.Token.{Token};
 ghost use Rattle.std.specs.Io.KnownBytes.{IsAtEnd};
 ghost use Rattle.qbf_text.specs.Reading.{left, HasFailed, IsReady};
 ghost use Rattle.qbf_text.specs.Rows.{Row, read_from, reads_from};
 ghost use Rattle.qbf_text.specs.Taking.{Takes, StaysOpen, Reads, ReadsKnown, Counts, Follows};
-ghost use Rattle.qbf_text.specs.Tokens.{tokens};
+ghost use Rattle.qbf_tokens.specs.Tokens.{tokens};
 ghost use Rattle.qbf_text.specs.Ahead.{ahead};
-ghost use Rattle.qbf_text.specs.Numbers.{TakesOver};
+ghost use Rattle.qbf_text.specs.TakenNumbers.{TakesOver};
 ghost use Rattle.qbf_text.specs.Passing.{ReadsBuffered};
 ghost use Rattle.qbf_text.specs.Stopping.{tokens_next, Stops};
-ghost use Rattle.qbf_text.specs.declared.numbers.TheConstants.{MOST};
+ghost use Rattle.window_numbers.specs.declared.numbers.TheConstants.{MOST};
 
-use crate::numbers::{Numbers, Zeros};
 use crate::scanner::{ScanFault, Scanner};
 use crate::source::Source;
-use crate::token::{Comments, Token};
+use qbf_tokens::{Comments, Token};
 use std::alloc::AllocError;
+use window_numbers::{Numbers, Zeros};
 
 /// The result of a grammar for a token that it took.
 #[derive(Drop)]

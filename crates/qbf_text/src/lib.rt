@@ -1,7 +1,7 @@
-//! Bytes in and out, and the tokens of QDIMACS and QRP texts.
+//! Bytes in and out, and the tokens of QDIMACS and QRP texts as they come.
 //!
-//! - Owns: bytes in and out, tokens, lines, numbers as they are written.
-//! - Offers: `Source`, `Sink`, `Scanner::next_token`, `Grammar`, `Token::number_at`, `read_by`,
+//! - Owns: bytes in and out, tokens one after the other, numbers as they are written.
+//! - Offers: `Source`, `Sink`, `Scanner::next_token`, `Grammar`, `read_by`,
 //!   `read_text`, `put_number`, `put_bytes`, `put_byte`, `put_spaced`, `put_signed`,
 //!   `put_spaced_signed`.
 //! - Proved: a scanner with a fixed buffer gives exactly the tokens, however its input is cut;
@@ -13,26 +13,18 @@
 //! - On the map: Source, Sink, Scanner | the tokens of bytes, however they are cut.
 #![tactic(auto)]
 
-mod cursor;
 mod grammar;
 mod lines;
-mod marks;
-mod numbers;
 mod pieces;
-mod run;
 mod scanner;
-mod separators;
 mod sink;
 mod source;
 mod spelling;
-mod token;
 mod window;
 
 pub use grammar::{Grammar, Progress, ReadError, Stop, Taken, read_by, read_text};
-pub use numbers::Zeros;
 pub use pieces::{PieceSink, PieceSource};
 pub use scanner::{ScanFault, Scanner};
 pub use sink::{Sink, SinkFault, ToWrite, VecSink, put_byte, put_bytes, put_number};
 pub use source::{FromRead, SliceSource, Source, SourceFault};
 pub use spelling::{put_signed, put_spaced, put_spaced_signed};
-pub use token::{Comments, Token, Word};

@@ -6,18 +6,15 @@ ghost use Rattle.std.specs.Prelude.{◌↔◌, IsTrue, OnOk, OnErr};
 ghost use Rattle.std.specs.Io.KnownBytes.{Consumes};
 ghost use Rattle.qbf_text.specs.Ahead.{ahead, first_of};
 ghost use Rattle.qbf_text.specs.Pulling.{HasPulled, ReadsRun};
-ghost use Rattle.qbf_text.specs.Left.{is_separator, IsWithinLine, EndsLine, is_end};
-ghost use Rattle.qbf_text.specs.Numbers.{StandInFront};
+ghost use Rattle.qbf_tokens.specs.Left.{is_separator, IsWithinLine, EndsLine, is_end};
+ghost use Rattle.window_numbers.specs.Numbers.{StandInFront};
 
-use crate::cursor::Cursor;
 use crate::lines::line_len;
-use crate::numbers::Numbers;
-use crate::run::{Numeral, Run, Spelling, begins_number};
-use crate::separators::is_separator;
 use crate::source::{Source, SourceFault};
-use crate::token::{Comments, Token};
 use crate::window::Window;
+use qbf_tokens::{Comments, Numeral, Run, Spelling, Token, begins_number, is_separator};
 use std::marker::Model;
+use window_numbers::{Cursor, Numbers};
 
 /// Goes to the end of the line.
 fn skip_line<S: Source>(window: &mut Window, source: &mut S) -> Result<(), SourceFault>
@@ -34,7 +31,7 @@ fn skip_line<S: Source>(window: &mut Window, source: &mut S) -> Result<(), Sourc
         }
         window.advance();
         let rest = line_len(window.bytes());
-        window.go_to(rest, 0);
+        window.go_to(rest);
     }
     Ok(())
 }
@@ -87,10 +84,10 @@ struct Place {
 }
 
 impl Place {
-    ghost use Rattle.qbf_text.specs.Passing.{is_begun};
-    ghost use Rattle.qbf_text.specs.Numbers.{one_if};
+    ghost use Rattle.window_numbers.specs.Cursors.{is_begun};
+    ghost use Rattle.window_numbers.specs.Cursors.{one_if};
     ghost use Rattle.qbf_text.specs.Stopping.{FindsToken, FindsEnd, PlaceSkips};
-    ghost use Rattle.qbf_text.specs.declared.token.Token.TheVariants.{End};
+    ghost use Rattle.qbf_tokens.specs.declared.token.Token.TheVariants.{End};
 
     /// The cursor at the first of the bytes that were pulled.
     #[inline(always)]
@@ -104,9 +101,9 @@ impl Place {
         Cursor::new(self.line, self.begun)
     }
 
-    /// Goes to a cursor among the bytes that were pulled, past so many of the buffered numbers.
+    /// Goes to a cursor among the bytes that were pulled.
     #[inline(always)]
-    fn go_to(&mut self, here: Cursor, numbers: usize)
+    fn go_to(&mut self, here: Cursor)
         requires { here.at ≤ length self.old.window }
         ensures to { self.new ≡ record self.old {
           line = here.line;
@@ -114,9 +111,9 @@ impl Place {
           window = drop here.at self.old.window;
         } }
         ensures shorter { length self.new.window + here.at ≡ length self.old.window }
-        ensures few { length self.new.window ≤ 4096 }
+        ensures few { length self.old.window ≤ 4096 }
     {
-        self.window.go_to(here.at, numbers);
+        self.window.go_to(here.at);
         self.line = here.line;
         self.begun = here.is_begun();
     }
@@ -127,15 +124,17 @@ impl Place {
     fn number(&mut self) -> Option<(Token, u64)>
         ensures found { IfSome result (λ token. (remaining : Option (List ℕ)) →
             FindsToken self.old remaining self.new remaining token) }
+        ensures rest { IfSome result (λ _. self.new.window
+            ≡ drop (length self.old.window - length self.new.window) self.old.window) }
         ensures less { IfSome result (λ _. (length self.new.window < length self.old.window)
-            × (length self.new.window ≤ 4096)) }
+            × (length self.old.window ≤ 4096)) }
         ensures none { IfNone result (self.new ≡ self.old) }
     {
         let line = self.line;
         let Some(passed) = self.cursor().any_number(self.window.bytes()) else {
             return None;
         };
-        self.go_to(passed.next, 1);
+        self.go_to(passed.next);
         Some((passed.token, line))
     }
 
@@ -253,10 +252,13 @@ enum Status {
 pub struct Scanner {
     place: Place,
     status: Status,
+    /// Numbers that stand at the front of the buffered bytes.
+    numbers: Numbers,
 }
 
 impl Model for Scanner {
     ghost use Rattle.qbf_text.specs.Reading.{Reading};
+    ghost use Rattle.window_numbers.specs.Numbers.{StandInFront};
 
     ghost Value = { Reading };
 
@@ -267,14 +269,16 @@ impl Model for Scanner {
       pending = s.place.window;
       status = s.status;
     } };
+
+    ghost invariant = { λ s. StandInFront s.numbers s.place.window };
 }
 
 impl Scanner {
-    ghost use Rattle.qbf_text.specs.Tokens.{tokens};
+    ghost use Rattle.qbf_tokens.specs.Tokens.{tokens};
     ghost use Rattle.qbf_text.specs.Reading.{left, GivesNext, HasEnded, HasFailed, IsOpen, IsReady};
     ghost use Rattle.qbf_text.specs.Passing.{cursor, scanner_at};
     ghost use Rattle.qbf_text.specs.Stopping.{tokens_next, ScannerTakes};
-    ghost use Rattle.qbf_text.specs.declared.token.Token.TheVariants.{End};
+    ghost use Rattle.qbf_tokens.specs.declared.token.Token.TheVariants.{End};
 
     /// A scanner at the beginning of a text of this format.
     #[tactic(auto, unfolding(crate::specs::Reading::left))]
@@ -292,6 +296,7 @@ impl Scanner {
                 window: Window::new(),
             },
             status: Status::Open,
+            numbers: Numbers::new(),
         }
     }
 
@@ -311,7 +316,7 @@ impl Scanner {
     pub fn prepare(&mut self)
         ensures { self.new ≡ self.old }
     {
-        self.place.window.prepare();
+        self.place.window.find_numbers(&mut self.numbers);
     }
 
     /// The numbers that are known at the front of the buffered bytes.
@@ -319,7 +324,7 @@ impl Scanner {
     pub fn numbers(&self) -> &Numbers
         ensures { StandInFront result.now self.now.pending }
     {
-        self.place.window.numbers()
+        &self.numbers
     }
 
     /// The buffered bytes.
@@ -345,7 +350,8 @@ impl Scanner {
         ensures to { self.new ≡ scanner_at self.old here }
         ensures few { length self.new.pending ≤ 4096 }
     {
-        self.place.go_to(here, numbers);
+        self.place.go_to(here);
+        self.numbers.pass(numbers, here.at);
     }
 
     /// The next token and its line.
@@ -396,9 +402,12 @@ impl Scanner {
             Status::Ended => return Ok((Token::End, self.place.line)),
             Status::Open => {}
         }
+        let before = self.place.window.len();
         if let Some(token) = self.place.number() {
+            self.numbers.pass(1, before - self.place.window.len());
             return Ok(token);
         }
+        self.numbers.forget();
         match self.place.scan(source) {
             Ok(Some(token)) => Ok(token),
             Ok(None) => {

@@ -1,9 +1,9 @@
 //! Numbers as texts have them, on their way to a sink.
 
 ghost use Rattle.std.specs.Prelude.{◌∷◌, decimal};
-ghost use Rattle.qbf_text.specs.Canonical.{spaced_number, token_text};
+ghost use Rattle.qbf_tokens.specs.Canonical.{spaced_number, token_text};
 ghost use Rattle.qbf_text.specs.Written.{IsPut};
-ghost use Rattle.qbf_text.specs.declared.token.Token.TheVariants.{Number};
+ghost use Rattle.qbf_tokens.specs.declared.token.Token.TheVariants.{Number};
 
 use crate::sink::{Sink, SinkFault, put_byte, put_number};
 

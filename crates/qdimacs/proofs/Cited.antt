@@ -14,14 +14,14 @@ pub use Rattle.dimacs_syntax.specs.Decode.{decode_member}
 pub use Rattle.dimacs_syntax.specs.Texts.{closing, literal_text}
 pub use Rattle.qbf_text.proofs.AcceptedTokens.{Leads, Stays, flat_map-push, leads_reads, leads_then, split_at}
 pub use Rattle.qbf_text.proofs.ReadTexts.{ResultsAreRead, bytes_read_as, explained, whole_given}
-pub use Rattle.qbf_text.proofs.CanonicalTokens.{all_appended, all_both, all_mapped, all_of, closed_plain, joined, tokens-lines_text}
+pub use Rattle.qbf_tokens.proofs.CanonicalTokens.{all_appended, all_both, all_mapped, all_of, closed_plain, joined, tokens-lines_text}
 pub use Rattle.qbf_text.proofs.OneToken.{after}
 pub use Rattle.qbf_text.proofs.LeadingNumbers.{leads_further, leads_more, leads_none}
 pub use Rattle.qbf_text.proofs.SentParts.{drop_at, sent_last, zero_decimal}
-pub use Rattle.qbf_text.proofs.TokensEndOnce.{tokens-EndsOnce}
+pub use Rattle.qbf_tokens.proofs.TokensEndOnce.{tokens-EndsOnce}
 pub use Rattle.qbf_text.specs.WholeTexts.{BytesRead, ReadsAsRead, ReadsOnce}
-pub use Rattle.qbf_text.specs.Canonical.{IsLine, IsPlain, line_text, spaced_number, token_text}
-pub use Rattle.qbf_text.specs.Left.{is_end}
+pub use Rattle.qbf_tokens.specs.Canonical.{IsLine, IsPlain, line_text, spaced_number, token_text}
+pub use Rattle.qbf_tokens.specs.Left.{is_end}
 pub use Rattle.qbf_text.specs.Rows.{Fails, Goes}
 pub use Rattle.qdimacs.specs.Faults.{IsReadAs, AreGood, IsFault, Reads, Spells}
 pub use Rattle.qdimacs.specs.Grammar.{IsFormula, clause, header, lines, spelling, text}

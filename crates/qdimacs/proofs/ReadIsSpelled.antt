@@ -7,7 +7,7 @@ use Rattle.qdimacs.proofs.Cited.{ResultsAreRead, Reads, Goes, Fails, Heading, St
 use Rattle.qdimacs.proofs.Cited.{set_row, Spells, read, IsWhole, result_of, Pairs, Clauses}
 use Rattle.dimacs_syntax.proofs.Cited.{IsDistinct}
 use Rattle.dimacs_syntax.proofs.Cited.token
-use Rattle.qbf_text.specs.Lined.{EndsOnce}
+use Rattle.qbf_tokens.specs.Lined.{EndsOnce}
 use Rattle.qdimacs.proofs.AllVariablesBound.{is_bound_variables}
 use Rattle.qbf_text.proofs.AcceptedTokens as accepted
 use Rattle.qdimacs.proofs.SpelledIsRead.{read_once}

@@ -7,8 +7,9 @@ use Rattle.std.proofs.lemmas.Bool.{lt-ltb}
 use Rattle.std.proofs.lemmas.List.{get_or-take, get_or-drop}
 use Rattle.qbf_core.specs.Blocks.{AreBound}
 use Rattle.qbf_core.specs.WrittenLiterals.{literal_of, IsWritten}
-use Rattle.qbf_text.specs.Numbers.{LeadsOver, token_of}
-use Rattle.qbf_text.specs.declared.token.Token.TheVariants.{Number}
+use Rattle.qbf_text.specs.TakenNumbers.{LeadsOver}
+use Rattle.qbf_tokens.specs.NumberTokens.{token_of}
+use Rattle.qbf_tokens.specs.declared.token.Token.TheVariants.{Number}
 use Rattle.qdimacs.specs.Reading.{Heading, Clauses, Between, InClause, decode_bound_literal, clause_row, has_more}
 
 module _ (h : Heading) (ps : Pairs) (cs : Clauses) (full : IsFull h.max_var ps) where

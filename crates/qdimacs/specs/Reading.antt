@@ -21,8 +21,8 @@ use Rattle.dimacs_syntax.specs.Headers.{header_move}
 use Rattle.dimacs_syntax.specs.Decode.{decode_quantifier, decode_member, decode_literal}
 use Rattle.qbf_text.specs.Rows.{Goes, Ends, Read}
 use Rattle.qbf_text.specs.Rows as rows
-use Rattle.qbf_text.specs.declared.token.Comments.TheVariants.{Qdimacs}
-use Rattle.qbf_text.specs.Tokens as text
+use Rattle.qbf_tokens.specs.declared.token.Comments.TheVariants.{Qdimacs}
+use Rattle.qbf_tokens.specs.Tokens as text
 
 -- variables, each with its quantifier
 abbrev pub Pairs : Type 0

@@ -4,7 +4,7 @@ ghost use Rattle.std.specs.Prelude.{◌≡◌, ◌≤◌, ◌<◌, ◌+◌, true
 ghost use Rattle.std.specs.Prelude.{pos, slice_index_or};
 ghost use Rattle.std.specs.List.{AllByRecursion};
 ghost use Rattle.qbf_core.specs.Blocks.{pairs, variables, IsPrefix};
-ghost use Rattle.qbf_text.specs.Numbers.{LeadsOver};
+ghost use Rattle.qbf_text.specs.TakenNumbers.{LeadsOver};
 ghost use Rattle.qdimacs.specs.declared.grammar.State.TheVariants as at;
 ghost use Rattle.qdimacs.specs.declared.grammar.Parts.{Parts};
 ghost use Rattle.qdimacs.specs.States.{state_at, Moves, Leads, IsSound};
@@ -14,9 +14,11 @@ use crate::fault::FormulaFault;
 use crate::tokens::{FAULTS, FORM, decode_bound_literal, decode_clause_or_end};
 use dimacs_syntax::{HeaderAt, HeaderMove, decode_member, decode_quantifier, header_move};
 use qbf_core::{Formula, GrowingLists, Lit, Prefix, PrefixFault, Quantifier, Var};
-use qbf_text::{Grammar, Progress, Stop, Taken, Token, Zeros};
+use qbf_text::{Grammar, Progress, Stop, Taken};
+use qbf_tokens::Token;
 use std::alloc::{AllocError, Global};
 use std::marker::Model;
+use window_numbers::Zeros;
 
 /// Where the next token stands.
 #[derive(Clone, Copy)]

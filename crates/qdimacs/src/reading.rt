@@ -3,16 +3,17 @@
 ghost use Rattle.std.specs.Prelude.{IfSome, OnOk};
 ghost use Rattle.qdimacs.specs.declared.fault.FormulaFault.TheVariants.{F1, F9};
 ghost use Rattle.std.specs.Io.KnownBytes.{IsAtEnd};
-ghost use Rattle.qbf_text.specs.Tokens.{tokens};
+ghost use Rattle.qbf_tokens.specs.Tokens.{tokens};
 ghost use Rattle.qbf_text.specs.WholeTexts.{TellsFailures};
-ghost use Rattle.qbf_text.specs.declared.token.Comments.TheVariants.{Qdimacs};
+ghost use Rattle.qbf_tokens.specs.declared.token.Comments.TheVariants.{Qdimacs};
 ghost use Rattle.qdimacs.specs.Faults.{IsReadAs};
 ghost use Rattle.qdimacs.specs.Reading.{reads_bytes, Gives};
 
 use crate::fault::FormulaFault;
 use crate::grammar::FormulaGrammar;
 use qbf_core::Formula;
-use qbf_text::{Comments, Source, read_text};
+use qbf_text::{Source, read_text};
+use qbf_tokens::Comments;
 use std::alloc::Global;
 
 /// Reads a formula in QDIMACS 1.1 to the end of its source: the formula that the bytes spell, or

@@ -8,7 +8,7 @@ ghost use Rattle.qbf_core.specs.declared.literal.TheConstants.{LAST_VARIABLE};
 use crate::fault::FormulaFault;
 use dimacs_syntax::{Faults, HeaderForm, decode_literal};
 use qbf_core::{LAST_VARIABLE, Lit, Prefix};
-use qbf_text::{Token, Word};
+use qbf_tokens::{Token, Word};
 
 /// The faults that tokens of a formula can be.
 pub(crate) const FAULTS: Faults<FormulaFault> = Faults {

@@ -4,7 +4,7 @@ ghost use Rattle.std.specs.Prelude.{Ok, ◌≡◌, ◌≤◌, ◌++◌, length};
 ghost use Rattle.std.specs.List.{AllByRecursion};
 ghost use Rattle.qbf_core.specs.Blocks.{pairs, variables};
 ghost use Rattle.qbf_text.specs.Written.{IsPut};
-ghost use Rattle.qbf_text.specs.Canonical.{line_text, spaced_number};
+ghost use Rattle.qbf_tokens.specs.Canonical.{line_text, spaced_number};
 ghost use Rattle.qdimacs.specs.Grammar.{text, clause, header};
 ghost use Rattle.qdimacs.specs.Reading.{read_formula};
 ghost use Rattle.qdimacs.specs.Texts.{opening, sets_text, clauses_text};

@@ -1,11 +1,12 @@
 -- Where buffered numbers lead to.
 use Rattle.qrp.proofs.Cited.{leads_none, leads_more, leads_further, arith, common_steps, ◌≡◌, ◌≤◌, ◌<◌, ℕ, suc, ◌+◌, ◌-◌, List, [], ◌∷◌}
-use Rattle.qrp.proofs.Cited.{◌++◌, Some, Ok, Err, Result, refl, ap, sym, ◌∙◌, append_assoc, append-nil, drop, length, map, Literal, IsLiteral}
-use Rattle.qrp.proofs.Cited.{AllByRecursion, Inference, all_appended}
+use Rattle.qrp.proofs.Cited.{◌++◌, Some, Ok, ap, ◌∙◌, append_assoc, length, map, Literal, IsLiteral}
+use Rattle.qrp.proofs.Cited.{AllByRecursion, all_appended}
 use Rattle.std.specs.Prelude.{ℤ, pos, unsigned_abs, int_lt, slice_index_or, slice_range, Bool}
 use Rattle.qbf_core.specs.WrittenLiterals.{literal_of, IsWritten}
-use Rattle.qbf_text.specs.Numbers.{LeadsOver, token_of, token_at}
-use Rattle.qbf_text.specs.declared.token.Token.TheVariants.{Number}
+use Rattle.qbf_text.specs.TakenNumbers.{LeadsOver}
+use Rattle.qbf_tokens.specs.NumberTokens.{token_of, token_at}
+use Rattle.qbf_tokens.specs.declared.token.Token.TheVariants.{Number}
 use Rattle.dimacs_syntax.specs.Decode.{decode_literal}
 use Rattle.qrp.specs.Reading.{State, row, faults, lits_row, ants_row, decode_antecedent, has_room, InLits, InAnts}
 

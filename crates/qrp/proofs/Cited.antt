@@ -9,13 +9,13 @@ pub use Rattle.dimacs_syntax.proofs.WrittenParts.{closed_numbers, set_line}
 pub use Rattle.dimacs_syntax.specs.Texts.{set_text}
 pub use Rattle.qbf_text.proofs.AcceptedTokens.{flat_map-push, split_at}
 pub use Rattle.qbf_text.proofs.ReadTexts.{bytes_read_as, explained}
-pub use Rattle.qbf_text.proofs.CanonicalTokens.{all_appended, all_mapped, closed_plain, joined, tokens-lines_text}
+pub use Rattle.qbf_tokens.proofs.CanonicalTokens.{all_appended, all_mapped, closed_plain, joined, tokens-lines_text}
 pub use Rattle.qbf_text.proofs.LeadingNumbers.{leads_further, leads_more, leads_none}
 pub use Rattle.qbf_text.proofs.SentParts.{line_rest-map, part_at_next, part_next, zero_rest}
-pub use Rattle.qbf_text.proofs.TokensEndOnce.{tokens-EndsOnce}
+pub use Rattle.qbf_tokens.proofs.TokensEndOnce.{tokens-EndsOnce}
 pub use Rattle.qbf_text.specs.WholeTexts.{BytesRead, ReadsAsRead, ReadsOnce, fault_of}
-pub use Rattle.qbf_text.specs.Canonical.{IsLine, IsPlain, line_text}
-pub use Rattle.qbf_text.specs.Lined.{EndsOnce, Known}
+pub use Rattle.qbf_tokens.specs.Canonical.{IsLine, IsPlain, line_text}
+pub use Rattle.qbf_tokens.specs.Lined.{EndsOnce, Known}
 pub use Rattle.qbf_text.specs.Reading.{Reading}
 pub use Rattle.qbf_text.specs.Rows.{Cut, reads_from}
 pub use Rattle.qbf_text.specs.Stopping.{IfKnown, Stops}

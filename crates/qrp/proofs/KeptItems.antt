@@ -7,7 +7,8 @@ use Rattle.std.specs.Prelude.{ℤ, pos, slice_index_or, IfOk}
 use Rattle.std.proofs.Common.{None}
 use Rattle.dimacs_syntax.proofs.Cited.{read_from}
 use Rattle.dimacs_syntax.proofs.Cited.token
-use Rattle.qbf_text.specs.Numbers.{LeadsBy, LeadsOver, token_of}
+use Rattle.qbf_text.specs.TakenNumbers.{LeadsBy, LeadsOver}
+use Rattle.qbf_tokens.specs.NumberTokens.{token_of}
 use Rattle.qbf_text.specs.Rows as rows
 use Rattle.qbf_text.specs.Stopping as text
 use Rattle.qbf_text.proofs.OneToken as going

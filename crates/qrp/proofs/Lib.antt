@@ -5,7 +5,6 @@ pub mod SpelledIsRead
 pub mod ReadIsSpelled
 pub mod WrittenParts
 pub mod FlatSteps
-pub mod AntecedentLists
 pub mod RowsReadTheItem
 pub mod ItemStops
 pub mod KeptItems

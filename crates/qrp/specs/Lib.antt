@@ -1,5 +1,4 @@
 pub mod Inferences
-pub mod Antecedents
 pub mod Derivations
 pub mod Grammar
 pub mod Reading

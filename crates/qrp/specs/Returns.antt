@@ -3,7 +3,7 @@ use Rattle.std.specs.Prelude.{◌≡◌, ◌≤◌, ℕ, List, ◌++◌, length,
 use Rattle.dimacs_syntax.specs.Cited.{Lined}
 use Rattle.qbf_text.specs.WholeTexts as whole_texts
 use Rattle.qbf_text.specs.WholeTexts.{TellsFailures}
-use Rattle.qbf_text.specs.Left.{IsUnbroken}
+use Rattle.qbf_tokens.specs.Left.{IsUnbroken}
 use Rattle.qrp.specs.declared.fault.TraceFault.{TraceFault}
 use Rattle.qbf_text.specs.Stopping.{IfKnown, IsAtMostASeparator}
 use Rattle.qrp.specs.declared.fault.TraceFault.TheVariants.{P1, P7, P9}

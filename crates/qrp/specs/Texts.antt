@@ -1,7 +1,7 @@
 -- The parts of a canonical text, as they are written one after the other.
 use Rattle.std.specs.Prelude.{ℕ, List, ◌∷◌, ◌++◌, decimal}
 use Rattle.dimacs_syntax.specs.Cited.{flat_map}
-use Rattle.qbf_text.specs.Canonical.{spaced_number}
+use Rattle.qbf_tokens.specs.Canonical.{spaced_number}
 use Rattle.qrp.specs.Inferences.{Inference}
 use Rattle.dimacs_syntax.specs.Texts.{literal_text, closing}
 

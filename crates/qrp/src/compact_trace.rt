@@ -4,8 +4,6 @@ ghost use Rattle.std.specs.Prelude.{◌≡◌};
 ghost use Rattle.qrp.specs.Derivations.{IsWellFormed};
 ghost use Rattle.qrp.specs.Returns.{ReadsTrace};
 
-use crate::antecedent_lists::AntecedentWords;
-use crate::antecedents::Antecedents;
 use crate::fault::TraceFault;
 use crate::item::{Header, Outcome, QuantSet};
 use crate::kept_steps::KeptSteps;
@@ -15,6 +13,7 @@ use qbf_core::Lit;
 use qbf_text::Source;
 use std::alloc::Global;
 use std::marker::Model;
+use step_antecedents::{AntecedentWords, Antecedents};
 
 /// A trace that was read as a whole. Its antecedents take four bytes each as long as all of them
 /// fit, so it gives them and cannot lend them.

@@ -12,10 +12,12 @@ use crate::states::{Lists, Part, State, take_at};
 use crate::step_numbers::{NextPlaces, completed, take_buffered};
 use dimacs_syntax::HeaderAt;
 use qbf_core::GrowingLists;
-use qbf_text::{Grammar, Progress, Stop, Taken, Token, Zeros};
+use qbf_text::{Grammar, Progress, Stop, Taken};
+use qbf_tokens::Token;
 use std::alloc::{AllocError, Global};
 use std::marker::Model;
 use std::mem;
+use window_numbers::Zeros;
 
 /// A trace whose parts are given one after the other.
 ///

@@ -2,12 +2,12 @@
 
 ghost use Rattle.std.specs.Prelude.{◌≡◌, ℕ, ◌<◌, List, Some, length, nat_eq, IfSome};
 ghost use Rattle.std.specs.List.{AllByRecursion, IsDistinct};
-ghost use Rattle.qrp.specs.Antecedents.{listed};
+ghost use Rattle.step_antecedents.specs.Antecedents.{listed};
 ghost use Rattle.qrp.specs.Inferences.{Inference, HasFewAntecedents, IsAt, IsOnlyAt, numbers};
 
-use crate::antecedents::Antecedents;
 use crate::steps::Steps;
 use qbf_core::Lit;
+use step_antecedents::Antecedents;
 
 /// Steps in the order of a file, whose antecedents are given and not lent: so they may be kept in
 /// any way.

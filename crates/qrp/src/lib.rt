@@ -14,8 +14,6 @@
 //! - On the map: read_trace, write_trace | the trace, or its first fault, P1 to P9.
 #![tactic(auto)]
 
-mod antecedent_lists;
-mod antecedents;
 mod compact_trace;
 mod fault;
 mod item;
@@ -32,13 +30,13 @@ mod trace;
 mod whole_trace;
 mod writing;
 
-pub use antecedents::Antecedents;
 pub use compact_trace::{CompactTrace, read_compact};
 pub use fault::TraceFault;
 pub use item::{Header, Item, Outcome, QuantSet, Step};
 pub use kept_steps::{KeptSteps, LentSteps};
 pub use laws::{item_laws, trace_laws};
 pub use reader::TraceReader;
+pub use step_antecedents::Antecedents;
 pub use step_index::StepIndex;
 pub use steps::Steps;
 pub use trace::{FlatTrace, Trace, read_trace, read_trace as read_flat};

@@ -1,18 +1,17 @@
 //! The parts of which a trace is made, whether it is read or pushed to.
 
 ghost use Rattle.std.specs.Prelude.{◌≡◌, false, [], ◌∷◌, ◌++◌, OnOk, OnErr};
-ghost use Rattle.qrp.specs.Antecedents.{list_of_pair};
+ghost use Rattle.step_antecedents.specs.Antecedents.{list_of_pair};
 ghost use Rattle.qrp.specs.Flat.{after_close, kept_of, nothing_kept, ClosesPart, IsFlat};
 ghost use Rattle.qrp.specs.States.{IsComplete, Stays};
 ghost use Rattle.step_index.specs.Numbers.{is_used, AreStepNumbers};
 
-use crate::antecedent_lists::AntecedentLists;
-use crate::antecedents::AntecedentPair;
 use crate::item::{Header, QuantSet};
 use crate::states::{Lists, Part};
 use qbf_core::GrowingLists;
 use std::alloc::{AllocError, Global};
 use std::mem;
+use step_antecedents::{AntecedentLists, AntecedentPair};
 use step_index::StepIndex;
 
 /// The parts of a trace. The antecedents of its whole steps are kept in an `A`.

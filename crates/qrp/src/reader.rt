@@ -2,9 +2,9 @@
 
 ghost use Rattle.std.specs.Prelude.{◌≡◌, ℕ, ◌<◌, ◌+◌, true, false, Some, Ok};
 ghost use Rattle.std.specs.Prelude.{List, [], length, IfOk, IfErr};
-ghost use Rattle.qbf_text.specs.Tokens.{tokens};
+ghost use Rattle.qbf_tokens.specs.Tokens.{tokens};
 ghost use Rattle.qbf_text.specs.WholeTexts.{TellsFailures};
-ghost use Rattle.qbf_text.specs.declared.token.Comments.TheVariants.{Qrp};
+ghost use Rattle.qbf_tokens.specs.declared.token.Comments.TheVariants.{Qrp};
 ghost use Rattle.qrp.specs.declared.fault.TraceFault.TheVariants.{P1, P9};
 ghost use Rattle.qbf_text.specs.Reading.{HasFailed};
 ghost use Rattle.qrp.specs.NextItem.{items_left, is_last, stage_after, numbers_with};
@@ -15,7 +15,8 @@ ghost use Rattle.qrp.specs.Reading.{items};
 use crate::fault::TraceFault;
 use crate::item::{Item, Outcome};
 use crate::items::ItemGrammar;
-use qbf_text::{Comments, Scanner, Source, read_by};
+use qbf_text::{Scanner, Source, read_by};
+use qbf_tokens::Comments;
 use std::alloc::Global;
 use std::marker::Model;
 use step_index::StepIndex;

@@ -6,7 +6,6 @@ ghost use Rattle.qrp.specs.declared.states.Lists.{Lists};
 ghost use Rattle.qrp.specs.States.{state_at, Moves, Leads, IsSound};
 ghost use Rattle.qrp.specs.Reading.{row};
 
-use crate::antecedents::AntecedentPair;
 use crate::fault::TraceFault;
 use crate::item::{Header, Outcome};
 use crate::tokens::{
@@ -14,7 +13,9 @@ use crate::tokens::{
 };
 use dimacs_syntax::{HeaderAt, HeaderMove, decode_literal, decode_member, header_move};
 use qbf_core::{GrowingLists, LAST_VARIABLE, Lit, Quantifier, Var};
-use qbf_text::{Stop, Token};
+use qbf_text::Stop;
+use qbf_tokens::Token;
+use step_antecedents::AntecedentPair;
 use step_index::StepIndex;
 
 /// The place of the next token. The lists so far are in `Lists`.

@@ -4,19 +4,20 @@ ghost use Rattle.std.specs.Prelude.{◌≡◌, ◌≤◌, ◌<◌, ◌+◌, ◌+
 ghost use Rattle.std.specs.Prelude.{◌↔◌, slice_index_or, slice_range, IfSome, IfOk, IsTrue, OnErr};
 ghost use Rattle.std.specs.List.{AllByRecursion};
 ghost use Rattle.qbf_core.specs.WrittenLiterals.{literal_of, IsWritten};
-ghost use Rattle.qbf_text.specs.Numbers.{LeadsOver};
+ghost use Rattle.qbf_text.specs.TakenNumbers.{LeadsOver};
 ghost use Rattle.qrp.specs.declared.states.State.TheVariants as at;
 ghost use Rattle.qrp.specs.States.{state_at, IsSound, Stays};
 ghost use Rattle.qrp.specs.Reading.{row};
 ghost use Rattle.qbf_core.specs.declared.literal.TheConstants.{LAST_VARIABLE};
 
-use crate::antecedents::AntecedentPair;
 use crate::states::{Lists, State, take_item_start};
 use crate::tokens::{FAULTS, decode_antecedent};
 use dimacs_syntax::decode_literal;
 use qbf_core::{GrowingLists, LAST_VARIABLE, Lit};
-use qbf_text::{Token, Zeros};
+use qbf_tokens::Token;
 use std::alloc::AllocError;
+use step_antecedents::AntecedentPair;
+use window_numbers::Zeros;
 
 /// Two places among the buffered numbers.
 #[derive(Clone, Copy)]

@@ -8,7 +8,7 @@ use crate::fault::TraceFault;
 use crate::item::Outcome;
 use dimacs_syntax::{Faults, HeaderForm};
 use qbf_core::Quantifier;
-use qbf_text::{Token, Word};
+use qbf_tokens::{Token, Word};
 
 /// The faults that tokens of a trace can be.
 pub const FAULTS: Faults<TraceFault> = Faults {

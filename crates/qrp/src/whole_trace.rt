@@ -1,23 +1,25 @@
 //! Traces of which each item is kept as it is read.
 
 ghost use Rattle.std.specs.Prelude.{◌≡◌, ◌≤◌, ◌<◌, length, Ok, IsTrue, IfOk, IfSome, IfNone};
-ghost use Rattle.qbf_text.specs.Numbers.{LeadsOver};
+ghost use Rattle.qbf_text.specs.TakenNumbers.{LeadsOver};
 ghost use Rattle.qrp.specs.Flat.{kept_of, trace_of, IsFlat};
 ghost use Rattle.qrp.specs.declared.states.State.TheVariants as at;
 ghost use Rattle.qrp.specs.Returns.{ReadsTrace};
 ghost use Rattle.qrp.specs.WholeTrace.{made_of, nothing_read, trace_at, trace_row, trace_with};
 ghost use Rattle.qrp.specs.WholeTrace.{AreSound, HasResult};
 
-use crate::antecedent_lists::AntecedentLists;
 use crate::fault::TraceFault;
 use crate::item::Outcome;
 use crate::parts::{Parts, close};
 use crate::states::{Part, State, take_at};
 use crate::step_numbers::{NextPlaces, Reached, completed, is_zero_at, take_buffered, take_whole};
 use dimacs_syntax::HeaderAt;
-use qbf_text::{Comments, Grammar, Progress, Scanner, Source, Stop, Taken, Token, Zeros, read_by};
+use qbf_text::{Grammar, Progress, Scanner, Source, Stop, Taken, read_by};
+use qbf_tokens::{Comments, Token};
 use std::alloc::{AllocError, Global};
 use std::marker::Model;
+use step_antecedents::AntecedentLists;
+use window_numbers::Zeros;
 
 /// Takes a step that begins here or has begun, as far as its numbers are buffered, and keeps it if
 /// it is complete. Returns where the next token stands, and the place of the next number.

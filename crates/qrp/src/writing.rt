@@ -3,7 +3,7 @@
 ghost use Rattle.std.specs.Prelude.{◌≡◌, ◌<◌, Ok, length};
 ghost use Rattle.std.proofs.Props.{props};
 ghost use Rattle.std.specs.List.{AllByRecursion};
-ghost use Rattle.qbf_text.specs.Canonical.{line_text};
+ghost use Rattle.qbf_tokens.specs.Canonical.{line_text};
 ghost use Rattle.qbf_text.specs.Written.{IsPut};
 ghost use Rattle.qrp.specs.Derivations.{steps_at, with_steps_at};
 ghost use Rattle.qrp.specs.Framed.{framed};
@@ -13,7 +13,6 @@ ghost use Rattle.qrp.specs.Reading.{read_trace};
 ghost use Rattle.dimacs_syntax.specs.Texts.{set_text};
 ghost use Rattle.qrp.specs.Texts.{step_text, steps_text};
 
-use crate::antecedents::Antecedents;
 use crate::compact_trace::CompactTrace;
 use crate::item::{Header, Outcome, QuantSet};
 use crate::kept_steps::{KeptSteps, LentSteps};
@@ -21,6 +20,7 @@ use crate::trace::Trace;
 use dimacs_syntax::{Bare, Bytes, HeaderLine, Put};
 use qbf_core::Lit;
 use qbf_text::{Sink, SinkFault, put_bytes};
+use step_antecedents::Antecedents;
 
 /// The line of a set.
 impl Put for QuantSet {

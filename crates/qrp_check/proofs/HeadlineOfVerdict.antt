@@ -2,10 +2,10 @@
 use Rattle.qrp_check.proofs.Cited.{common_steps, arith, ◌≡◌, ◌↔◌, ℕ, IsTrue, List, Option, Some, inl, inr, refl, subst, rules, Result}
 use Rattle.qrp_check.proofs.Cited.{Ok, Err, IfSome, Qbf, IsTrueFormula, Derivation, Rules, Verified, Fault, ListsCore, side_of, ResultHolds}
 use Rattle.qrp_check.proofs.Cited.{IsVerdict}
-use Rattle.qbf_text.specs.declared.token.Comments.TheVariants.{Qdimacs, Qrp}
-use Rattle.qbf_text.specs.Lined.{without_lines}
-use Rattle.qbf_text.specs.Tokens.{tokens}
-use Rattle.qbf_text.proofs.TokensEndOnce.{tokens-EndsOnce}
+use Rattle.qbf_tokens.specs.declared.token.Comments.TheVariants.{Qdimacs, Qrp}
+use Rattle.qbf_tokens.specs.Lined.{without_lines}
+use Rattle.qbf_tokens.specs.Tokens.{tokens}
+use Rattle.qbf_tokens.proofs.TokensEndOnce.{tokens-EndsOnce}
 use Rattle.qdimacs.specs.declared.fault.FormulaFault.{FormulaFault}
 use Rattle.qdimacs.specs.Grammar.{IsFormula}
 use Rattle.qdimacs.specs.Reading.{read_formula}

@@ -5,9 +5,9 @@
 use Rattle.std.specs.Prelude.{◌≡◌, ◌↔◌, ◌⊎◌, ℕ, IsTrue, List, IsOk, IfOk, Result}
 use Rattle.qbf_core.specs.Qbf.{Qbf}
 use Rattle.qbf_core.specs.Truth.{IsTrueFormula, ResultHolds}
-use Rattle.qbf_text.specs.declared.token.Comments.TheVariants.{Qdimacs, Qrp}
-use Rattle.qbf_text.specs.Lined.{without_lines}
-use Rattle.qbf_text.specs.Tokens.{tokens}
+use Rattle.qbf_tokens.specs.declared.token.Comments.TheVariants.{Qdimacs, Qrp}
+use Rattle.qbf_tokens.specs.Lined.{without_lines}
+use Rattle.qbf_tokens.specs.Tokens.{tokens}
 use Rattle.qdimacs.specs.Grammar.{IsFormula}
 use Rattle.qrp.specs.Derivations.{Derivation}
 use Rattle.qrp.specs.Grammar.{IsTrace}

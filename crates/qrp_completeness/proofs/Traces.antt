@@ -8,9 +8,9 @@ use Rattle.qbf_core.specs.Qbf.{IsWellFormed as IsWellFormedFormula}
 use Rattle.qbf_core.specs.Truth.{ResultHolds}
 use Rattle.qbf_core.proofs.Bound.{all_in, in_all, bound_in, pair_var}
 use Rattle.qbf_core.proofs.PushedItems.{pushed_new}
-use Rattle.qbf_text.specs.declared.token.Comments.TheVariants.{Qdimacs}
-use Rattle.qbf_text.specs.Lined.{without_lines}
-use Rattle.qbf_text.specs.Tokens.{tokens}
+use Rattle.qbf_tokens.specs.declared.token.Comments.TheVariants.{Qdimacs}
+use Rattle.qbf_tokens.specs.Lined.{without_lines}
+use Rattle.qbf_tokens.specs.Tokens.{tokens}
 use Rattle.qdimacs.specs.Grammar.{IsFormula}
 use Rattle.qdimacs.specs.Reading.{read_formula}
 use Rattle.qrp.specs.Derivations.{AreGrammatical, IsWellFormed}

@@ -14,7 +14,7 @@ from contextlib import contextmanager
 from typing import IO, BinaryIO, Callable, Optional
 
 from qrptools.command import not_read, read_file, started, unusable
-from qrptools.looks import MAGIC
+from qrptools.explaining.looks import MAGIC
 
 UNPACKERS = {"gzip": "gzip", "bzip2": "bzip2", "xz": "xz", "zstd": "zstd"}  # the program by what looks.py says
 PACKAGES = {"xz": "xz-utils"}  # of Debian, if it is not called as the program
@@ -56,10 +56,10 @@ class Source:
             self.file = open(self.path, "rb", buffering=0)
         except OSError as fault:
             raise unusable(not_read(self.path, fault)) from fault
-        pipes = {"stdout": subprocess.PIPE, "stderr": subprocess.PIPE}
-        with self.file, started([self.unpacker, "-dc"], stdin=self.file, **pipes) as process:
+        with self.file, started([self.unpacker, "-dc"], stdin=self.file, stdout=subprocess.PIPE, stderr=subprocess.PIPE) as process:
             self.process, self.pipe, self.errors = process, process.stdout, process.stderr
-            yield f"/dev/fd/{process.stdout.fileno()}", (process.stdout.fileno(),)
+            number = self.pipe.fileno() if self.pipe else -1  # there is a pipe, since one was asked for
+            yield f"/dev/fd/{number}", (number,)
 
     def close_pipe(self) -> None:
         """Lets the program be the only reader, so that what unpacks ends with it."""

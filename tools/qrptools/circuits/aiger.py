@@ -7,7 +7,7 @@ A literal is an even number for a variable and the next odd one for its negation
 import re
 from typing import NamedTuple, Optional
 
-from qrptools.command import Ends, finding
+from qrptools.command import Ends, counted, finding
 
 HEADER = re.compile(rb"(aag|aig)((?: [0-9]{1,20}){5,9})")
 KINDS = {"i": "input", "l": "latch", "o": "output", "b": "bad state", "c": "constraint", "j": "justice property", "f": "fairness constraint"}
@@ -63,23 +63,23 @@ class Reader:
     """Reads a file of this name, of these bytes. Each fault ends the command with a line that says where it is."""
 
     def __init__(self, path: str, data: bytes) -> None:
-        self.path, self.data, self.at, self.line = path, data, 0, 0
+        self.path, self.data, self.place, self.line = path, data, 0, 0
         self.circuit = Circuit()
         self.defined: dict[int, str] = {}
         self.is_binary, self.greatest = False, 0
         self.counts: dict[str, int] = {}
 
     def refuse(self, what: str) -> Ends:
-        where = f"line {self.line}" if self.line else f"byte {self.at}"
+        where = f"line {self.line}" if self.line else f"byte {self.place}"
         return finding(f"{self.path}, {where}: {what}")
 
     def text(self) -> Optional[bytes]:
         """The next line, None at the end."""
-        if self.at >= len(self.data):
+        if self.place >= len(self.data):
             return None
-        end = self.data.find(b"\n", self.at)
+        end = self.data.find(b"\n", self.place)
         end = len(self.data) if end < 0 else end
-        line, self.at, self.line = self.data[self.at : end], end + 1, self.line + 1
+        line, self.place, self.line = self.data[self.place : end], end + 1, self.line + 1
         return line.rstrip(b"\r")
 
     def numbers(self, what: str, least: int, most: int) -> list[int]:
@@ -89,7 +89,7 @@ class Reader:
             raise self.refuse(f"the file ends before {what}")
         words = line.split(b" ")
         if not least <= len(words) <= most or not all(word.isdigit() and len(word) < 11 for word in words):
-            wanted = f"{least} number{'s' if least > 1 else ''}" if least == most else f"{least} to {most} numbers"
+            wanted = f"{least} to {most} numbers" if least < most else counted(least, "number")
             raise self.refuse(f"{what} is wanted, {wanted}")
         return list(map(int, words))
 
@@ -171,14 +171,14 @@ class Reader:
         """A number of the binary form: seven bits in each byte, the lowest first, and a high bit in all but the last one."""
         number = shift = 0
         self.line = 0
-        while self.at < len(self.data) and shift < 35:
-            byte = self.data[self.at]
-            self.at += 1
+        while self.place < len(self.data) and shift < 35:
+            byte = self.data[self.place]
+            self.place += 1
             number |= (byte & 127) << shift
             shift += 7
             if byte < 128:
                 return number
-        raise self.refuse(f"the file ends before {what}" if self.at >= len(self.data) else f"{what} has a number that is too long")
+        raise self.refuse(f"the file ends before {what}" if self.place >= len(self.data) else f"{what} has a number that is too long")
 
     def read_symbols(self) -> None:
         line = self.text()

@@ -9,7 +9,7 @@ from fnmatch import fnmatchcase
 from itertools import islice
 
 from qrptools.circuits.unrolled import Input, Unrolled
-from qrptools.command import finding
+from qrptools.command import counted, finding
 from qrptools.formula import EXISTS, FOR_ALL
 from qrptools.names import BIT, NUMBER
 
@@ -26,7 +26,7 @@ def base_of(name: str) -> str:
 
 def is_meant(name: str, pattern: str) -> bool:
     """Whether a pattern of the shell means this input: by its name, or by that of its bus."""
-    return any(it == pattern or fnmatchcase(it, pattern) for it in (name, base_of(name)))
+    return any(called == pattern or fnmatchcase(called, pattern) for called in (name, base_of(name)))
 
 
 def refuse_idle(patterns: list[str], names: list[str]) -> None:
@@ -42,9 +42,9 @@ def blocks_of(inputs: dict[int, Input], wanted: list[tuple[str, str]]) -> list[B
     patterns in their order; inputs that no pattern means are universal and come last in their step."""
     rows = [*wanted, (FOR_ALL, "*")]
     found: dict[tuple[int, int], list[int]] = {}  # by the step and the place of the row; those of one value come before all
-    for literal, it in inputs.items():
-        place = next(place for place, (_, pattern) in enumerate(rows) if is_meant(it.name, pattern))
-        found.setdefault((-1, 0) if it.step is None else (it.step, place), []).append(literal)
+    for literal, own in inputs.items():
+        place = next(place for place, (_, pattern) in enumerate(rows) if is_meant(own.name, pattern))
+        found.setdefault((-1, 0) if own.step is None else (own.step, place), []).append(literal)
     return [(EXISTS if step < 0 else rows[place][0], literals) for (step, place), literals in sorted(found.items())]
 
 
@@ -54,9 +54,9 @@ class Encoding:
     def __init__(self, unrolled: Unrolled, wanted: list[tuple[str, str]], steps: int) -> None:
         self.unrolled, self.steps = unrolled, steps
         needed = unrolled.needed()
-        used = {it.name for literal, it in unrolled.inputs.items() if literal in needed}
-        self.unused = list(dict.fromkeys(it.name for it in unrolled.inputs.values() if it.name not in used))
-        self.inputs = {literal: it for literal, it in unrolled.inputs.items() if it.name in used}
+        used = {own.name for literal, own in unrolled.inputs.items() if literal in needed}
+        self.unused = list(dict.fromkeys(own.name for own in unrolled.inputs.values() if own.name not in used))
+        self.inputs = {literal: own for literal, own in unrolled.inputs.items() if own.name in used}
         self.blocks = blocks_of(self.inputs, wanted)
         self.gates = [gate for gate in unrolled.gates if gate in needed]  # each after its inputs
         order = [literal for _, literals in self.blocks for literal in literals] + self.gates
@@ -97,7 +97,7 @@ class Encoding:
         """The lines of the file of names: those of the inputs, in a step with its number before the bit of a bus, and of the gates that what
         has to hold is about alone, with not_ before the name if it is the negation of the gate."""
         seen: set[str] = set()
-        called = [(literal, named(it, self.steps)) for literal, it in self.inputs.items()]
+        called = [(literal, named(own, self.steps)) for literal, own in self.inputs.items()]
         outputs = {literals[0] & ~1: (literals[0] & 1, "_".join(about.split())) for about, literals in self.unrolled.clauses if len(literals) == 1}
         called += [(gate, plain(f"not_{name}" if negated else name)) for gate, (negated, name) in outputs.items() if gate in self.unrolled.gates]
         for literal, name in called:
@@ -120,10 +120,6 @@ class Encoding:
             yield quantifier, list(dict.fromkeys(base_of(named(self.inputs[literal], self.steps)) for literal in literals))
 
 
-def counted(count: int, word: str) -> str:
-    return f"{count} {word}" + ("" if count == 1 else "s")
-
-
 def shown(names: list[str]) -> str:
     return " ".join(names[:LISTED]) + (f" and {len(names) - LISTED} more" if len(names) > LISTED else "")
 
@@ -133,10 +129,10 @@ def plain(name: str) -> str:
     return f"_{name}" if name[0] in "-!~#" or NUMBER.fullmatch(name) else name
 
 
-def named(it: Input, steps: int) -> str:
+def named(own: Input, steps: int) -> str:
     """The name of an input as one word, that no other word of a reply can be."""
-    name = plain("_".join(it.name.split()))
-    if steps == 1 or it.step is None:
+    name = plain("_".join(own.name.split()))
+    if steps == 1 or own.step is None:
         return name
     bit = BIT.fullmatch(name)
-    return f"{bit[1]}@{it.step}[{bit[2]}]" if bit else f"{name}@{it.step}"
+    return f"{bit[1]}@{own.step}[{bit[2]}]" if bit else f"{name}@{own.step}"

@@ -56,7 +56,8 @@ class Unrolled:
     def first_latches(self) -> dict[int, int]:
         """The values of the latches at the beginning."""
         name = self.circuit.name
-        return {it.literal: it.reset if it.reset < 2 else self.input(name("l", place), 0) for place, it in enumerate(self.circuit.latches)}
+        rows = enumerate(self.circuit.latches)
+        return {latch.literal: latch.reset if latch.reset < 2 else self.input(name("l", place), 0) for place, latch in rows}
 
     def input(self, name: str, step: int) -> int:
         """The literal of an input in a step."""

@@ -37,7 +37,7 @@ class NoChecker(Checker):
     """Lets each state pass, without a line."""
 
     def __init__(self) -> None:
-        super().__init__(None, False, [])
+        super().__init__("", False, [])
 
     def check(self, _state: State) -> tuple[str, list[str]]:
         return "", []

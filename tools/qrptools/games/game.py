@@ -8,10 +8,11 @@ winner: they are made false in clauses, and true in cubes. Other variables of th
 import os
 import shutil
 import tempfile
+from collections.abc import Iterable, Iterator
 from itertools import chain
 
 from qrptools.command import Ends, unusable, writing
-from qrptools.formula import EXISTS, FOR_ALL, Formula, is_clean
+from qrptools.formula import EXISTS, FOR_ALL, Formula, Place, is_clean
 from qrptools.program import run_program, why_not
 from qrptools.games.restriction import Steps, antecedents
 from qrptools.games.cut import Cut, count_lines, literals, spelled
@@ -27,13 +28,13 @@ OWN_FAULT = 3  # the status if a state is not verified
 class Block:
     """A block of the prefix: its place, counted from 1, its quantifier and its variables."""
 
-    def __init__(self, place, variables):
+    def __init__(self, place: Place, variables: list[int]) -> None:
         self.number, self.quantifier, self.variables = place.block, place.quantifier, variables
 
 
-def blocks_of(formula):
+def blocks_of(formula: Formula) -> list[Block]:
     """The blocks of a formula, from the outermost to the innermost."""
-    blocks = []
+    blocks: list[Block] = []
     for place, text in formula.sets:
         variables = list(map(int, text.split()))
         if blocks and blocks[-1].number == place.block:
@@ -48,19 +49,19 @@ class State:
 
     by = "proof"
 
-    def __init__(self, formula, trimmed, any_pivot):
+    def __init__(self, path: str, trimmed: str, any_pivot: bool) -> None:
         """The beginning, of the files of the formula and of the trimmed trace."""
-        self.formula = formula = Formula(read(formula))
+        self.formula = formula = Formula(read(path))
         self.variables, self.blocks, self.any_pivot = formula.variables, blocks_of(formula), any_pivot
         self.result = result(trimmed)
         self.side = SIDES[self.result]
         self.clauses = [b"\n" + b"".join(map(line_of, some)) for _, _, some in formula.pieces()]  # texts as cut.py has them
         self.steps = Steps(trimmed)
 
-    def is_winners(self, block):
+    def is_winners(self, block: Block) -> bool:
         return block.quantifier == self.side.reduced
 
-    def move(self):
+    def move(self) -> tuple[list[int], list[int]]:
         """The winner's values of the outermost block, as literals, and those variables that may have any value."""
         given = self.binding_literals()
         values, are_open = [], []
@@ -68,10 +69,12 @@ class State:
             literal = next((literal for literal in (variable, -variable) if b"%d" % literal in given), None)
             if literal is None:
                 are_open.append(variable)
-            values.append(-variable if literal is None else literal if self.result == "sat" else -literal)
+                values.append(-variable)
+            else:
+                values.append(literal if self.result == "sat" else -literal)
         return values, are_open
 
-    def binding_literals(self):
+    def binding_literals(self) -> set[bytes]:
         """The literals of the first step that can be reduced to nothing. By any pivot the proof may go on after it: this is left out."""
         deciding, steps = self.deciding_literals(), self.steps
         line = steps.end(deciding, self.any_pivot)
@@ -82,16 +85,17 @@ class State:
             steps.end_with(line)
         return found
 
-    def deciding_literals(self):
+    def deciding_literals(self) -> frozenset[bytes]:
         variables = [variable for block in self.blocks if not self.is_winners(block) for variable in block.variables]
         return spelled(variables) | spelled(-variable for variable in variables)
 
-    def clause_with(self, found, deciding):
+    def clause_with(self, found: set[bytes], deciding: frozenset[bytes]) -> set[bytes]:
         """The literals of the clause that an initial step with these comes from. None of them is of the deciding quantifier."""
-        rows = map(set, map(literals, chain.from_iterable(text.split(b"\n")[1:-1] for text in self.clauses)))
+        lines = chain.from_iterable(text.split(b"\n")[1:-1] for text in self.clauses)
+        rows = (set(literals(line)) for line in lines)
         return next(row for row in rows if row >= found and row.isdisjoint(deciding) and is_clean(set(map(int, row))))
 
-    def put_in(self, values):
+    def put_in(self, values: list[int]) -> None:
         """Puts values of the outermost block in, as literals: by the proof if it is the winner's."""
         false = [-literal for literal in values]
         self.clauses = list(map(Cut(false, values).clauses, self.clauses))
@@ -102,26 +106,26 @@ class State:
             self.steps.take_out(Cut(out, gone))
         del self.blocks[0]
 
-    def holds(self):
+    def holds(self) -> bool:
         """Whether the matrix holds, after all variables have their values."""
         return count_lines(self.clauses) == 0
 
-    def sets(self):
+    def sets(self) -> bytes:
         return "".join(f"{LETTERS[block.quantifier]} {' '.join(map(str, block.variables))} 0\n" for block in self.blocks).encode()
 
-    def formula_text(self):
+    def formula_text(self) -> Iterator[bytes]:
         """The formula, some bytes at a time."""
         yield b"p cnf %d %d\n%b" % (self.variables, count_lines(self.clauses), self.sets())
         yield from (text.replace(b"\n ", b"\n")[1:] for text in self.clauses)
 
-    def trace_text(self):
+    def trace_text(self) -> Iterator[bytes]:
         """The trace, some bytes at a time."""
         yield b"p qrp %d %d\n%b" % (self.variables, count_lines(self.steps.texts), self.sets())
         yield from (text[1:] for text in self.steps.texts)
         yield b"r %b\n" % self.result.encode()
 
 
-def line_of(text):
+def line_of(text: bytes) -> bytes:
     """The line of a clause, of the text of its literals."""
     return b" %b 0\n" % text if text else b" 0\n"
 
@@ -129,10 +133,10 @@ def line_of(text):
 class Checker:
     """Has qrp_cmd check each state, of files in a folder."""
 
-    def __init__(self, folder, is_kept, flags):
+    def __init__(self, folder: str, is_kept: bool, flags: list[str]) -> None:
         self.folder, self.is_kept, self.flags, self.count = folder, is_kept, flags, 0
 
-    def check(self, state):
+    def check(self, state: State) -> tuple[str, list[str]]:
         """The line of a state that is verified, and its files. Else the command ends."""
         self.count += 1
         number = self.count if self.is_kept else 1
@@ -146,14 +150,14 @@ class Checker:
             raise self.own_fault(line, formula, trace)
         raise unusable(f"state {self.count} is not checked: {why_not(line, status, formula, trace)}")
 
-    def write(self, path, text):
+    def write(self, path: str, text: Iterable[bytes]) -> None:
         try:
             with open(path, "wb") as file:
                 file.writelines(text)
         except OSError as fault:
             raise unusable(f"{path} cannot be written: {fault.strerror}") from fault
 
-    def own_fault(self, line, *paths):
+    def own_fault(self, line: str, *paths: str) -> Ends:
         folder = self.folder
         if not self.is_kept:
             with writing("the state that is not verified"):

@@ -67,7 +67,7 @@ def inputs_of(variable: int, clauses: list[Literals]) -> list[Literals]:
     inputs = {frozenset(abs(literal) for literal in clause) - {variable} for clause in clauses}
     if len(inputs) <= FEW:
         inputs |= {one | other for one, other in combinations(inputs, 2) if len(one | other) <= TABLE}
-    return sorted(inputs, key=lambda it: (-len(it), sorted(it)))
+    return sorted(inputs, key=lambda some: (-len(some), sorted(some)))
 
 
 def conjunction(variable: int, clauses: list[Literals]) -> list[Literals]:

@@ -2,25 +2,30 @@
 
 import random
 import sys
+from collections.abc import Collection
+from typing import Callable, Optional
 
 from qrptools.command import Ends, unusable
 from qrptools.formula import ADJECTIVES
-from qrptools.names import FORMS
+from qrptools.games.game import Block
+from qrptools.names import FORMS, Names
+
+Values = dict[int, int]  # the literals that are true, by their variables
 
 
 class Replies:
     """The other player's values: texts for blocks of this player in order, and what else is asked for or taken at random. Outputs of gates
     that no text has get the values that their gates give them."""
 
-    def __init__(self, replies, blocks, names, seed):
+    def __init__(self, replies: list[str], blocks: list[Block], names: Names, seed: Optional[str]) -> None:
         if len(replies) > len(blocks):
             raise unusable(f"there are {len(replies)} replies, and only {len(blocks)} blocks of the other player")
         self.names, self.random = names, random.Random(seed) if seed is not None else None
         self.given = {block.number: self.read(text, block, {}) for block, text in zip(blocks, replies)}
         self.is_terminal = bool(sys.stdin and sys.stdin.isatty())
-        self.before_asking = lambda: None  # what has to be done before a question
+        self.before_asking: Callable[[], None] = lambda: None  # what has to be done before a question
 
-    def read(self, text, block, values):
+    def read(self, text: str, block: Block, values: Values) -> Values:
         """Adds the values of a text to those that are known of a block."""
         variables = frozenset(block.variables)
         for word in text.replace(",", " ").split():
@@ -32,21 +37,21 @@ class Replies:
                     raise unusable(f"the reply for {described(block)} has {self.names.name(abs(literal))} with both values")
         return values
 
-    def values(self, block, gates):
+    def values(self, block: Block, gates: Collection[int]) -> Optional[Values]:
         """The values of a block by variable, but for those of gates that nobody gives; None if some are not given."""
-        values = dict(self.given.get(block.number, {}))
+        values: Values = dict(self.given.get(block.number, {}))
         missing = [variable for variable in block.variables if variable not in values and variable not in gates]
         if missing and self.random:
             values.update((variable, self.random.choice((variable, -variable))) for variable in missing)
         elif missing and self.is_terminal:
-            values = self.asked(block, values, missing)
+            return self.asked(block, values, missing)
         elif missing and block.number in self.given:
             raise unusable(f"the reply for {described(block)} has no value of {self.names.listed(missing)}")
         elif missing:
             return None
         return values
 
-    def asked(self, block, values, wanted):
+    def asked(self, block: Block, values: Values, wanted: list[int]) -> Optional[Values]:
         """The values after the user was asked for those that are wanted, None if the user ends the play."""
         self.before_asking()
         while missing := [variable for variable in wanted if variable not in values]:
@@ -62,5 +67,5 @@ class Replies:
         return values
 
 
-def described(block):
+def described(block: Block) -> str:
     return f"block {block.number} ({ADJECTIVES[block.quantifier]})"

@@ -6,10 +6,12 @@ is left by the proof that is left.
 """
 
 from array import array
+from collections.abc import Iterable, Iterator, Sequence
 from itertools import chain, compress, repeat
 from operator import contains, itemgetter
+from typing import Callable
 
-from qrptools.games.cut import literals
+from qrptools.games.cut import Cut, literals
 from qrptools.steps import integers, lists_of
 from qrptools.trimmed import trimmed_blocks
 
@@ -22,18 +24,18 @@ ABSENT = -2  # as the place of an antecedent: nothing is left of it
 class Steps:
     """The steps of a proof in file order, in texts as cut.py has them. The last one is the goal, and all others are needed."""
 
-    def __init__(self, path):
+    def __init__(self, path: str) -> None:
         self.texts = [b"\n" + block for block in trimmed_blocks(path)]
 
-    def lines(self):
+    def lines(self) -> Iterator[bytes]:
         """The line of each step."""
         return chain.from_iterable(text.split(b"\n")[1:-1] for text in self.texts)
 
-    def last_line(self):
+    def last_line(self) -> bytes:
         text = self.texts[-1]
         return text[text.rfind(b"\n", 0, -1) + 1 : -1]
 
-    def with_number(self, number):
+    def with_number(self, number: bytes) -> bytes:
         """The line of the step with this number, which is looked for from the end on."""
         for text in reversed(self.texts):
             start = text.rfind(b"\n%b " % number) + 1
@@ -41,7 +43,7 @@ class Steps:
                 return text[start : text.find(b"\n", start)]
         raise ValueError(number)
 
-    def end(self, deciding, any_pivot):
+    def end(self, deciding: frozenset[bytes], any_pivot: bool) -> bytes:
         """The line of the first step without literals of the deciding quantifier."""
         if any_pivot:
             return next(line for line in self.lines() if deciding.isdisjoint(literals(line)))
@@ -51,11 +53,12 @@ class Steps:
             line = self.with_number(*below)
         return line
 
-    def literals_before(self, line):
+    def literals_before(self, line: bytes) -> set[bytes]:
         """The literals of the antecedents of a step, or its own if it has none."""
-        return set().union(*map(literals, map(self.with_number, antecedents(line)))) if antecedents(line) else set(literals(line))
+        below = list(map(self.with_number, antecedents(line))) or [line]
+        return set(chain.from_iterable(map(literals, below)))
 
-    def end_with(self, line):
+    def end_with(self, line: bytes) -> None:
         """Leaves out all that comes after this step, and lets the goal be a reduct of it."""
         goal, wanted = self.last_line(), b"\n" + line.partition(b" 0 ")[0]
         if line != goal:
@@ -65,23 +68,23 @@ class Steps:
             lists.lines.append(b"\n" + goal.partition(b" ")[0])
             self.texts = list(lists.texts())
 
-    def leave_out(self, cut):
+    def leave_out(self, cut: Cut) -> None:
         """Takes literals out of all steps."""
         self.texts = list(map(cut.steps, self.texts))
 
-    def take_out(self, cut):
+    def take_out(self, cut: Cut) -> None:
         """Takes values of the outermost block out of the proof."""
         lists = Lists(map(cut.steps, self.texts), first_empty)
         lists.keep(Restriction(lists).follow())
         self.texts = list(lists.texts())
 
 
-def antecedents(line):
+def antecedents(line: bytes) -> list[bytes]:
     """The numbers of the antecedents of a step, as text."""
     return line.partition(b" 0 ")[2].split(b" ")[:-1]
 
 
-def first_empty(lines):
+def first_empty(lines: list[bytes]) -> int:
     """The place of the first step without literals, or -1."""
     return bytes(map(contains, lines, repeat(b" "))).find(0)
 
@@ -89,9 +92,11 @@ def first_empty(lines):
 class Lists:
     """Steps as lists: of each its number and literals after a line end, and its antecedents, each after a blank. The last one is the goal."""
 
-    def __init__(self, texts, find_goal):
+    def __init__(self, texts: Iterator[bytes], find_goal: Callable[[list[bytes]], int]) -> None:
         """Takes the steps of these texts up to the first one that `find_goal` finds among the lines of a text."""
-        self.lines, self.tails, place = [], [], -1
+        self.lines: list[bytes] = []
+        self.tails: list[bytes] = []
+        place = -1
         while place < 0:
             lines, tails = lists_of(next(texts)[1:])
             place = find_goal(lines)
@@ -108,33 +113,33 @@ class Lists:
                 places.extend(map(self.places.get, named, repeat(ABSENT)))
 
     @property
-    def goal(self):
+    def goal(self) -> int:
         return len(self.lines) - 1
 
-    def number(self, place):
+    def number(self, place: int) -> bytes:
         return self.lines[place].partition(b" ")[0][1:]
 
-    def keep(self, marks):
+    def keep(self, marks: bytes) -> None:
         """Keeps the steps with a mark."""
         self.lines, self.tails = list(compress(self.lines, marks)), list(compress(self.tails, marks))
 
-    def texts(self):
+    def texts(self) -> Iterator[bytes]:
         """The steps as texts."""
         for start in range(0, len(self.lines), SOME):
             lists = chain.from_iterable(zip(self.lines[start : start + SOME], self.tails[start : start + SOME]))
             yield b" 0".join(lists) + b" 0\n"
 
 
-def antecedents_of(tails):
+def antecedents_of(tails: list[bytes]) -> Iterator[Iterator[int]]:
     """The numbers of the first antecedents, and of the second ones: 0 where there is none."""
     counts = bytes(map(bytes.count, tails, repeat(b" ")))
     one, two = (integers(b"".join(compress(tails, map(count.__eq__, counts)))) for count in (1, 2))
-    none = repeat(0)
+    none: Iterator[int] = repeat(0)
     for sources in [none, iter(one), iter(two[0::2])], [none, none, iter(two[1::2])]:
         yield map(next, map(sources.__getitem__, counts))
 
 
-def needed(first, second, goal):
+def needed(first: Sequence[int], second: Sequence[int], goal: int) -> bytearray:
     """Marks the steps that the goal needs."""
     marks = bytearray(goal + 1)
     marks[goal] = 1
@@ -156,14 +161,15 @@ class Restriction:
     left as a whole.
     """
 
-    def __init__(self, steps):
+    def __init__(self, steps: Lists) -> None:
         self.steps, self.lines = steps, steps.lines
         self.goal = steps.goal
         self.left = bytearray(repeat(WHOLE, len(self.lines)))
         self.left += bytes([GONE, WHOLE])  # of the places that are ABSENT and NONE
-        self.rest, self.stand = {}, {}  # lines of which less is left, and the places of steps that are as another one
+        self.rest: dict[int, bytes] = {}  # lines of which less is left
+        self.stand: dict[int, int] = {}  # the places of steps that are as another one
 
-    def follow(self):
+    def follow(self) -> bytearray:
         """Goes through the steps in file order up to the first one of which no literal is left; it and those that it needs are marked."""
         steps, left = self.steps, self.left
         marks = needed(steps.first, steps.second, self.goal)
@@ -178,15 +184,15 @@ class Restriction:
             self.lines[place] = line
         return needed(steps.first, steps.second, self.goal)
 
-    def line(self, place):
+    def line(self, place: int) -> bytes:
         return self.rest.get(place, self.lines[place])
 
-    def derive(self, place, antecedents):
+    def derive(self, place: int, antecedents: list[int]) -> None:
         """Finds what is left of a step, of whose antecedents something is left."""
         if len(antecedents) == 2:
             antecedents = self.with_pivot(*antecedents)
         antecedents = [self.stand.get(below, below) for below in antecedents]
-        given = set().union(*(words(self.line(below)) for below in antecedents))
+        given = {word for below in antecedents for word in words(self.line(below))}
         number, *wanted = self.lines[place].split(b" ")
         kept = list(filter(given.__contains__, wanted))
         if len(antecedents) == 1 and given.issubset(kept):
@@ -196,12 +202,12 @@ class Restriction:
             self.rest[place], self.left[place] = b" ".join([number, *kept]), LESS
         self.set_antecedents(place, antecedents)
 
-    def set_antecedents(self, place, antecedents):
+    def set_antecedents(self, place: int, antecedents: list[int]) -> None:
         steps = self.steps
         steps.first[place], steps.second[place] = (*antecedents, NONE)[:2]
         steps.tails[place] = b"".join(b" " + steps.number(below) for below in antecedents)
 
-    def with_pivot(self, one, other):
+    def with_pivot(self, one: int, other: int) -> list[int]:
         """Those of two antecedents that a step can come from: both if they still clash, else one that has lost the literal of the pivot."""
         first, second = (self.line(self.stand.get(place, place)) for place in (one, other))
         if not set(words(first)).isdisjoint(words(negated(second))):
@@ -210,11 +216,11 @@ class Restriction:
         return [one] if pivot.isdisjoint(words(first)) else [other]
 
 
-def words(line):
+def words(line: bytes) -> list[bytes]:
     """The literals of a number and literals."""
     return line.split(b" ")[1:]
 
 
-def negated(line):
+def negated(line: bytes) -> bytes:
     """A number and literals, with each literal negated."""
     return line.replace(b" ", b" -").replace(b"--", b"")

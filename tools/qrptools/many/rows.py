@@ -102,10 +102,14 @@ def summary(pairs: list[Pair], results: list[Result]) -> str:
     seconds, peak = sum(float(result.cpu_seconds) for result in known), max((int(result.kilobytes) for result in known), default=0)
     line += f"; {seconds:.1f} s of CPU time, at most {peak / 1000:.0f} MB"
     wrong = [pair.name for pair, result in zip(pairs, results) if is_verified(result) and not is_as_expected(pair, result)]
-    return line + (f"; {len(wrong)} not of the truth that the list expects: {', '.join(wrong[:5])}" + (" .." if len(wrong) > 5 else "") if wrong else "")
+    if wrong:
+        line += f"; {len(wrong)} not of the truth that the list expects: {', '.join(wrong[:5])}" + (" .." if len(wrong) > 5 else "")
+    return line
 
 
 def kind_of(line: str) -> str:
     """The first word of a line, or the two of NO MEMORY. A verdict that has another status than it is none."""
+    if line == "NO MEMORY":
+        return line
     first = (line.split() or ["nothing"])[0]
-    return line if line == "NO MEMORY" else "with another status" if first == "VERIFIED" else first
+    return "with another status" if first == "VERIFIED" else first

@@ -40,8 +40,8 @@ def size(term: Term) -> int:
 def literals(term: Term) -> Iterator[int]:
     """The literals of a term, in their order."""
     if isinstance(term, Node):
-        for it in term.terms:
-            yield from literals(it)
+        for part in term.terms:
+            yield from literals(part)
     else:
         yield term
 
@@ -76,13 +76,15 @@ def joined(terms: Iterable[Term], is_and: bool = True) -> Term:
 def given(term: Term, known: set[int]) -> Term:
     """What is left of a term if these literals are true."""
     if not isinstance(term, Node):
-        return TRUE if term in known else FALSE if term ^ 1 in known else term
-    left = [given(it, known) for it in term.terms]
+        if term in known:
+            return TRUE
+        return FALSE if term ^ 1 in known else term
+    left = [given(part, known) for part in term.terms]
     if all(new is old for new, old in zip(left, term.terms)):
         return term
     if int(not term.is_and) in left:
         return int(not term.is_and)
-    return joined((part for it in left if it != int(term.is_and) for part in parts(it, term.is_and)), term.is_and)
+    return joined((part for new in left if new != int(term.is_and) for part in parts(new, term.is_and)), term.is_and)
 
 
 class Expressions:
@@ -114,14 +116,14 @@ class Expressions:
         """The conjunction of some terms, without what follows from the others."""
         before: Optional[list[Term]] = None
         while terms != before:
-            before, known = terms, {TRUE, *(it for it in terms if not isinstance(it, Node))}
-            implied = {it for literal in known for it in self.implied(literal)} - known
-            known = {self.unit(it, known | implied) for it in known}
-            nodes = [given(it, known | implied) for it in terms if isinstance(it, Node)]
-            if FALSE in known or FALSE in nodes or any(it ^ 1 in known | implied for it in known | implied):
+            before, known = terms, {TRUE, *(term for term in terms if not isinstance(term, Node))}
+            implied = {other for literal in known for other in self.implied(literal)} - known
+            known = {self.unit(literal, known | implied) for literal in known}
+            nodes = [given(term, known | implied) for term in terms if isinstance(term, Node)]
+            if FALSE in known or FALSE in nodes or any(literal ^ 1 in known | implied for literal in known | implied):
                 return FALSE
-            nodes = [part for it in nodes if it != TRUE for part in parts(it)]
-            follows = {it for literal in known for it in self.implied(literal)}
+            nodes = [part for node in nodes if node != TRUE for part in parts(node)]
+            follows = {other for literal in known for other in self.implied(literal)}
             terms = list(dict.fromkeys([*sorted(known - follows - {TRUE}), *nodes]))
         return joined(terms)
 
@@ -132,7 +134,7 @@ class Expressions:
 
     def implied(self, literal: int) -> list[int]:
         """The literals that are true if that of a gate with a name is."""
-        return [it for it in parts(self.meant(literal)) if it != literal and not isinstance(it, Node)]
+        return [part for part in parts(self.meant(literal)) if part != literal and not isinstance(part, Node)]
 
     def is_conjunction(self, literal: int) -> bool:
         meant = self.meant(literal)
@@ -175,6 +177,8 @@ class Expressions:
         """A term in a style. An expression in another one stands between parentheses."""
         negation, conjunction, disjunction = style.signs
         if isinstance(term, Node):
-            parts = [f"({self.text(it, style)})" if isinstance(it, Node) else self.text(it, style) for it in term.terms]
+            parts = [f"({self.text(part, style)})" if isinstance(part, Node) else self.text(part, style) for part in term.terms]
             return f" {conjunction if term.is_and else disjunction} ".join(parts)
-        return style.constants[term] if term < 2 else (negation if term & 1 else "") + style.name(term & ~1)
+        if term < 2:
+            return style.constants[term]
+        return (negation if term & 1 else "") + style.name(term & ~1)

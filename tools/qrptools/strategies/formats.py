@@ -4,8 +4,7 @@ import re
 from collections.abc import Iterator
 from typing import Callable
 
-from qrptools.circuits.encoding import counted
-from qrptools.command import finding
+from qrptools.command import counted, finding
 from qrptools.formula import ADJECTIVES, Formula
 from qrptools.names import Names
 from qrptools.strategies.expressions import Expressions, Style
@@ -45,7 +44,8 @@ def text(strategy: Strategy, names: Names, formula: Formula) -> Iterator[str]:
         yield from (f"    {labels.gate(gate)} = {expressions.text(expressions.nodes[gate], style)}" for gate in new)
         literal = strategy.outputs[variable]
         yield f"    {labels.variables[variable]} = {expressions.text(expressions.term(literal), style)}"
-        constants += [variable if literal else -variable] if literal < 2 else []
+        if literal < 2:
+            constants.append(variable if literal else -variable)
     yield from numbers(constants, names)
 
 
@@ -119,11 +119,11 @@ def word(name: str) -> str:
 def wrapped(words: list[str]) -> Iterator[str]:
     """A line of BLIF, with a backslash before each line end in it."""
     line = words[0]
-    for it in words[1:]:
-        if len(line) + len(it) > WIDTH:
+    for more in words[1:]:
+        if len(line) + len(more) > WIDTH:
             yield f"{line} \\"
             line = "   "
-        line += f" {it}"
+        line += f" {more}"
     yield line
 
 

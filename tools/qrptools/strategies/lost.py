@@ -47,7 +47,7 @@ class LostRun:
     def matrix(self) -> Iterator[list[int]]:
         """The clauses of the formula with its variables here."""
         for clause in self.formula.clauses():
-            yield [self.variables[it] if it > 0 else -self.variables[-it] for it in sorted(clause.literals, key=abs)]
+            yield [self.variables[literal] if literal > 0 else -self.variables[-literal] for literal in sorted(clause.literals, key=abs)]
 
     def lost(self) -> Iterator[list[int]]:
         """The clauses that say that the run is lost."""

@@ -19,11 +19,11 @@ NO_STRATEGY = {"L": "latches", "B": "bad states", "C": "constraints"}
 
 
 class Files(NamedTuple):
-    """A formula, and a circuit, or if there is none a trace that it is made of."""
+    """A formula, and a circuit, or if there is none a trace that it is made of, which is else empty."""
 
     formula: str
     circuit: Optional[str]
-    trace: Optional[str]
+    trace: str
 
 
 class Strategy(NamedTuple):
@@ -85,7 +85,7 @@ def read_strategy(path: str, formula: Formula, names: Names) -> Strategy:
     outputs = variables_of(path, circuit, "o", len(circuit.outputs), formula, names)
     winner = winner_of(formula, inputs, outputs)
     for kind, variables, quantifier in ("o", outputs, winner), ("i", inputs, OTHER[winner]):
-        refuse_mixed(path, kind, [it for it in variables if formula.places[it].quantifier != quantifier], formula, names)
+        refuse_mixed(path, kind, [variable for variable in variables if formula.places[variable].quantifier != quantifier], formula, names)
     order = {variable: place for place, variable in enumerate(map(int, b" ".join(text for _, text in formula.sets).split()))}
     by_prefix = lambda variables: sorted(range(len(variables)), key=lambda place: order[variables[place]])
     found = Strategy(
@@ -149,6 +149,6 @@ def refuse_late(path: str, strategy: Strategy, formula: Formula, names: Names) -
     for variable, literal in strategy.outputs.items():
         block = formula.places[variable].block
         if last[literal & ~1] >= block:
-            late = next(it for it in strategy.part([variable]).inputs.values() if formula.places[it].block >= block)
+            late = next(other for other in strategy.part([variable]).inputs.values() if formula.places[other].block >= block)
             wrong = f"of block {formula.places[late].block}, which does not come before it"
             raise finding(f"{path}: the output {names.name(variable)}, of block {block}, depends on the input {names.name(late)}, {wrong}")

@@ -1,4 +1,5 @@
-use Rattle.qbf_text.proofs.Cited.{common_steps, ◌≡◌, true, false, arith, sym, ◌∙◌, left, reads_from}
+use Rattle.qbf_tokens.proofs.Cited.{common_steps, ◌≡◌, true, false, arith, sym, ◌∙◌}
+use Rattle.qbf_text.proofs.Cited.{left, reads_from}
 use Rattle.qbf_text.proofs.OneToken.{leads_same, leads_then, goes, ends, stops, same_status, ready_still, unfailed}
 use Rattle.qbf_text.proofs.Stops.{so_far_none, known_so_far, so_far_goes, stops_after}
 use Rattle.qbf_text.proofs.grammar.read_by.Goals as goal

@@ -1,4 +1,5 @@
-use Rattle.qbf_text.proofs.Cited.{◌≡◌, ◌+◌, ◌≤◌, length, left, HasFailed, IsReady, ahead, reads_from, IfKnown, tokens_next, SoFar}
+use Rattle.qbf_tokens.proofs.Cited.{◌≡◌, ◌+◌, ◌≤◌, length}
+use Rattle.qbf_text.proofs.Cited.{left, HasFailed, IsReady, ahead, reads_from, IfKnown, tokens_next, SoFar}
 use Rattle.qbf_text.proofs.OneToken.{Leads}
 use Rattle.qbf_text.proofs.grammar.read_by.Given as goal
 

@@ -1,4 +1,4 @@
-use Rattle.qbf_text.proofs.Cited.{ap, arith, length}
+use Rattle.qbf_tokens.proofs.Cited.{ap, arith, length}
 use Rattle.qbf_text.proofs.ReadTexts.{follows_then}
 use Rattle.qbf_text.proofs.grammar.read_text.Goals as goal
 

@@ -1,8 +1,10 @@
-use Rattle.qbf_text.proofs.Cited.{◌≡◌, ◌<◌, ◌^◌, refl, sym, ap, subst, arith, ahead, tokens_next}
+use Rattle.qbf_tokens.proofs.Cited.{◌≡◌, ◌<◌, ◌^◌, refl, sym, ap, arith}
+use Rattle.qbf_text.proofs.Cited.{subst, ahead, tokens_next}
 use Rattle.qbf_text.specs.Passing.{PassesAll}
 use Rattle.qbf_text.specs.Reading.{IsOpen}
-use Rattle.qbf_text.proofs.PassedNumbers.{handed}
-use Rattle.qbf_text.proofs.HeldNumbers.{rises, takes_passes, cursor_within, len_within}
+use Rattle.qbf_text.proofs.HandedNumbers.{handed}
+use Rattle.window_numbers.proofs.HeldNumbers.{rises, cursor_within, len_within}
+use Rattle.qbf_text.proofs.HandedNumbers.{takes_passes}
 use Rattle.qbf_text.proofs.Stops.{so_far_none}
 use Rattle.qbf_text.proofs.grammar.take_buffered.Goals as goal
 

@@ -1,4 +1,4 @@
-use Rattle.qbf_text.proofs.Cited.{◌+◌, ◌<◌, length, arith}
+use Rattle.qbf_tokens.proofs.Cited.{◌+◌, ◌<◌, length, arith}
 use Rattle.qbf_text.proofs.LeadingNumbers.{part_taken}
 use Rattle.qbf_text.proofs.grammar.take_known.Goals as goal
 

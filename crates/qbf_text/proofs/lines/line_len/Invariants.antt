@@ -1,4 +1,5 @@
-use Rattle.qbf_text.proofs.Cited.{◌-◌, ◌≤◌, length, take, IsWithinLine}
+use Rattle.qbf_tokens.proofs.Cited.{◌-◌, ◌≤◌, length, IsWithinLine}
+use Rattle.qbf_text.proofs.Cited.{take}
 use Rattle.qbf_text.proofs.lines.line_len.Given as goal
 
 abbrev pub invariant-loop-len : goal.invariant-loop-len

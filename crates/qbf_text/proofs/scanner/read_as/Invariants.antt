@@ -1,4 +1,5 @@
-use Rattle.qbf_text.proofs.Cited.{◌≡◌, ◌+◌, ◌≤◌, length, ahead}
+use Rattle.qbf_tokens.proofs.Cited.{◌≡◌, ◌+◌, ◌≤◌, length}
+use Rattle.qbf_text.proofs.Cited.{ahead}
 use Rattle.qbf_text.proofs.BytesAhead.{IsReading}
 use Rattle.qbf_text.proofs.scanner.read_as.Given as goal
 

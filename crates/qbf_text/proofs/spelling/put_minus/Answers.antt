@@ -1,4 +1,5 @@
-use Rattle.qbf_text.proofs.Cited.{rules, refl, decimal}
+use Rattle.qbf_tokens.proofs.Cited.{rules, refl}
+use Rattle.qbf_text.proofs.Cited.{decimal}
 use Rattle.qbf_text.proofs.SentParts.{put_then}
 use Rattle.qbf_text.proofs.spelling.put_minus.Goals as goal
 

@@ -1,7 +1,7 @@
 use Rattle.qdimacs.proofs.Cited.{arith, heading, pairs, map}
 use Rattle.std.specs.Prelude.{slice_range}
 use Rattle.qbf_core.specs.WrittenLiterals.{literal_of}
-use Rattle.qbf_text.proofs.CanonicalTokens.{all_appended}
+use Rattle.qbf_tokens.proofs.CanonicalTokens.{all_appended}
 use Rattle.qdimacs.proofs.WholeClauses.{clause_bound, literals_lead}
 use Rattle.qdimacs.proofs.grammar.put_literals.Goals as goal
 

@@ -1,5 +1,5 @@
 use Rattle.qdimacs.proofs.Cited.{◌≡◌, ◌+◌, subst, refl, arith, leads_more, leads_further, state_at, row, row_to}
-use Rattle.qbf_text.specs.Numbers.{LeadsOver}
+use Rattle.qbf_text.specs.TakenNumbers.{LeadsOver}
 use Rattle.qdimacs.proofs.FormulaParts.{leads_on}
 use Rattle.qdimacs.proofs.grammar.take_rest.Goals as goal
 

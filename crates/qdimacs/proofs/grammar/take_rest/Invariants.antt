@@ -1,5 +1,5 @@
 use Rattle.qdimacs.proofs.Cited.{◌-◌, ◌≤◌, length, state_at, IsSound, row}
-use Rattle.qbf_text.specs.Numbers.{LeadsOver}
+use Rattle.qbf_text.specs.TakenNumbers.{LeadsOver}
 use Rattle.qdimacs.proofs.grammar.take_rest.Given as goal
 
 abbrev pub invariant-numbers : goal.invariant-numbers

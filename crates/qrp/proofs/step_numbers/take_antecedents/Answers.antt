@@ -1,6 +1,6 @@
 use Rattle.qrp.proofs.Cited.{arith, common_steps, length-append}
 use Rattle.qrp.proofs.BufferedNumbers.{antecedent_more}
-use Rattle.qrp.specs.Antecedents.{listed}
+use Rattle.step_antecedents.specs.Antecedents.{listed}
 use Rattle.qrp.proofs.step_numbers.take_antecedents.Goals as goal
 
 pub antecedents-init : goal.antecedents-init

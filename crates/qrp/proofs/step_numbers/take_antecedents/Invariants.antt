@@ -1,6 +1,6 @@
 use Rattle.qrp.proofs.Cited.{◌-◌, ◌≤◌, length, state_at}
-use Rattle.qbf_text.specs.Numbers.{LeadsOver}
-use Rattle.qrp.specs.Antecedents.{listed}
+use Rattle.qbf_text.specs.TakenNumbers.{LeadsOver}
+use Rattle.step_antecedents.specs.Antecedents.{listed}
 use Rattle.qrp.specs.Reading as reading
 use Rattle.qrp.specs.Reading.{row}
 use Rattle.qrp.specs.States.{AreAntecedents}

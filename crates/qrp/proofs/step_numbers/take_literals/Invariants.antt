@@ -1,5 +1,5 @@
 use Rattle.qrp.proofs.Cited.{◌-◌, ◌≤◌, length, state_at, IsSound, Stays}
-use Rattle.qbf_text.specs.Numbers.{LeadsOver}
+use Rattle.qbf_text.specs.TakenNumbers.{LeadsOver}
 use Rattle.qrp.specs.Reading.{row}
 use Rattle.qrp.specs.declared.states.State.TheVariants.{InLits}
 use Rattle.qrp.proofs.step_numbers.take_literals.Given as goal

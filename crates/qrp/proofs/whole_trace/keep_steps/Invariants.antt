@@ -1,5 +1,5 @@
 use Rattle.qrp.proofs.Cited.{◌-◌, ◌≤◌, length, IsFlat, kept_of}
-use Rattle.qbf_text.specs.Numbers.{LeadsOver}
+use Rattle.qbf_text.specs.TakenNumbers.{LeadsOver}
 use Rattle.qrp.specs.WholeTrace.{trace_at, trace_row}
 use Rattle.qrp.specs.declared.states.State.TheVariants.{Between}
 use Rattle.qrp.proofs.whole_trace.keep_steps.Given as goal

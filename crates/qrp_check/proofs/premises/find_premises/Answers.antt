@@ -1,5 +1,5 @@
 use Rattle.qrp_check.proofs.Cited.{ap, sym, ◌∙◌, inl, inr, refl}
-use Rattle.qrp.specs.Antecedents.{listed}
+use Rattle.step_antecedents.specs.Antecedents.{listed}
 use Rattle.qrp_check.proofs.CoreStep.{not_earlier, premise_of}
 use Rattle.qrp_check.proofs.premises.find_premises.Goals as goal
 

@@ -1,6 +1,6 @@
 use Rattle.std.proofs.Common.{◌∙◌, ◌≤◌, ◌∷◌, ◌++◌, List, ℕ, length, ap, arith}
-use Rattle.qbf_text.specs.Canonical.{token_text}
-use Rattle.qbf_text.specs.declared.token.Token.TheVariants.{Number}
+use Rattle.qbf_tokens.specs.Canonical.{token_text}
+use Rattle.qbf_tokens.specs.declared.token.Token.TheVariants.{Number}
 use Rattle.buffered_sink.proofs.BufferPart.{part, part_put}
 use Rattle.buffered_sink.proofs.buffered.Buffer.append_spaced.Goals as goal
 

@@ -1,4 +1,5 @@
-use Rattle.qbf_text.proofs.PassedNumbers.{begun_counted, taken_number}
+use Rattle.window_numbers.proofs.PassedNumbers.{begun_counted}
+use Rattle.qbf_text.proofs.HandedNumbers.{taken_number}
 use Rattle.qbf_text.proofs.scanner.Place.number.Goals as goal
 
 pub returns-clause-found : goal.returns-clause-found

@@ -1,6 +1,7 @@
-use Rattle.qbf_text.proofs.Cited.{Consumes-nil, ahead, is_blank, is_line_end}
+use Rattle.qbf_tokens.proofs.Cited.{is_blank, is_line_end}
+use Rattle.qbf_text.proofs.Cited.{Consumes-nil, ahead}
 use Rattle.qbf_text.proofs.KnownLeft.{took_at, no_line_end_at}
-use Rattle.qbf_text.proofs.ByteByByte.{or_cases}
+use Rattle.qbf_tokens.proofs.ByteByByte.{or_cases}
 use Rattle.qbf_text.proofs.Stops.{skips_blank}
 use Rattle.qbf_text.proofs.scanner.Place.pass_separator.Goals as goal
 

@@ -1,4 +1,5 @@
-use Rattle.qbf_text.proofs.Cited.{ℕ, ◌≤◌, List, Option, length, PlaceSkips}
+use Rattle.qbf_tokens.proofs.Cited.{ℕ, ◌≤◌, List, Option, length}
+use Rattle.qbf_text.proofs.Cited.{PlaceSkips}
 use Rattle.qbf_text.proofs.scanner.Place.skip_separators.Given as goal
 
 abbrev pub invariant-loop-byte : goal.invariant-loop-byte

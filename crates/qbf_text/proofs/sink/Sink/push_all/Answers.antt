@@ -1,4 +1,4 @@
-use Rattle.qbf_text.proofs.Cited.{arith, common_steps}
+use Rattle.qbf_tokens.proofs.Cited.{arith, common_steps}
 use Rattle.qbf_text.proofs.SentParts.{sent_more}
 use Rattle.qbf_text.proofs.sink.Sink.push_all.Goals as goal
 

@@ -1,4 +1,5 @@
-use Rattle.qbf_text.proofs.Cited.{◌≡◌, ◌≤◌, length, IsSent}
+use Rattle.qbf_tokens.proofs.Cited.{◌≡◌, ◌≤◌, length}
+use Rattle.qbf_text.proofs.Cited.{IsSent}
 use Rattle.qbf_text.proofs.sink.Sink.push_all.Given as goal
 
 -- the bytes before the rest went out, no push failed, and without bytes there was no push

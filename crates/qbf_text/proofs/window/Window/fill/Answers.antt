@@ -1,4 +1,4 @@
-use Rattle.qbf_text.proofs.Cited.{arith}
+use Rattle.qbf_tokens.proofs.Cited.{arith}
 use Rattle.qbf_text.proofs.Windows.{keeps_some}
 use Rattle.qbf_text.proofs.window.Window.fill.Goals as goal
 

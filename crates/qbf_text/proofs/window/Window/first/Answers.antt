@@ -1,4 +1,5 @@
-use Rattle.qbf_text.proofs.Cited.{◌∙◌, ap, first_of, arith}
+use Rattle.qbf_tokens.proofs.Cited.{◌∙◌, ap, arith}
+use Rattle.qbf_text.proofs.Cited.{first_of}
 use Rattle.qbf_text.proofs.Windows.{first_of_part}
 use Rattle.qbf_text.proofs.window.Window.first.Goals as goal
 

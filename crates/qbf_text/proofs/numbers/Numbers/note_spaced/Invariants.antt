@@ -1,8 +1,0 @@
-use Rattle.qbf_text.proofs.Cited.{◌-◌, ◌≤◌}
-use Rattle.qbf_text.proofs.numbers.Numbers.note_spaced.Given as goal
-
-abbrev pub invariant-loop-block : goal.invariant-loop-block
-invariant-loop-block l = record { block : l.block ≤ 4096; runs : l.runs ≤ 2048 }
-
-abbrev pub decreases-loop-block : goal.decreases-loop-block
-decreases-loop-block l = l.len - l.block

@@ -1,9 +1,0 @@
-use Rattle.qbf_text.proofs.Cited.{◌-◌, ◌≤◌}
-use Rattle.qbf_text.specs.Numbers.{FillsTo, place}
-use Rattle.qbf_text.proofs.numbers.Numbers.put_ones.Given as goal
-
-abbrev pub invariant-numbers : goal.invariant-numbers
-invariant-numbers l = record { fills : FillsTo l.self l.bytes (place l.fn.self l.fn.self.first) l.runs l.k; further : l.fn.k ≤ l.k }
-
-abbrev pub decreases-numbers : goal.decreases-numbers
-decreases-numbers l = l.most - l.k

@@ -1,9 +1,0 @@
-use Rattle.qbf_text.proofs.Cited.{◌≡◌, ◌-◌}
-use Rattle.qbf_text.specs.Numbers.{FillsTo, place}
-use Rattle.qbf_text.proofs.numbers.Numbers.put_usual.Given as goal
-
-abbrev pub invariant-numbers : goal.invariant-numbers
-invariant-numbers l = record { fills : FillsTo l.self l.bytes l.fn.start l.runs l.k; at_is : place l.self l.k ≡ l.at }
-
-abbrev pub decreases-numbers : goal.decreases-numbers
-decreases-numbers l = l.runs - l.k

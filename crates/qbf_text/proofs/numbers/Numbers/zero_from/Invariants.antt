@@ -1,8 +1,0 @@
-use Rattle.qbf_text.proofs.Cited.{◌-◌, ◌≤◌}
-use Rattle.qbf_text.proofs.numbers.Numbers.zero_from.Given as goal
-
-abbrev pub invariant-loop-zero : goal.invariant-loop-zero
-invariant-loop-zero l = l.count ≤ 2048
-
-abbrev pub decreases-loop-zero : goal.decreases-loop-zero
-decreases-loop-zero l = l.count - l.zero

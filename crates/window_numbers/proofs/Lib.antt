@@ -1,0 +1,10 @@
+mod LineEnds
+pub mod BufferedNumber
+pub mod LeftAfterNumber
+pub mod PassedNumbers
+pub mod SeparatorTable
+pub mod NumbersInARow
+pub mod PutNumbers
+pub mod Gaps
+pub mod HeldNumbers
+pub mod Cited

@@ -1,0 +1,715 @@
+//! Numbers of a window, many at a time: first where they seem to end, then their values.
+
+ghost use Rattle.std.specs.Prelude.{◌≡◌, ℕ, ◌+◌, ◌<◌, ◌≤◌, List, [], ◌∷◌, length, IfSome, pos};
+ghost use Rattle.std.specs.Prelude.{unsigned_abs, int_lt, nat_eq, nat_le, slice_index};
+ghost use Rattle.std.specs.Prelude.{◌&&◌, ◌↔◌, ◌^◌, ◌-◌, IsTrue, drop, false, true};
+ghost use Rattle.window_numbers.specs.Numbers.{AreAfterGaps, AreHeld, AreSeparators, AreShort};
+ghost use Rattle.window_numbers.specs.Numbers.{BeginsWithValue, FillsTo, IsGapTo, IsPart, IsPut};
+ghost use Rattle.window_numbers.specs.Numbers.{NumberStands, SeemToEnd, StandFrom, StandInFront};
+ghost use Rattle.window_numbers.specs.Numbers.{cursor_to, len_of, place};
+ghost use Rattle.qbf_tokens.specs.Left.{is_separator};
+ghost use Rattle.window_numbers.specs.declared.numbers.TheConstants.{BLOCK, MOST, ROOM};
+
+use crate::cursor::{Cursor, begins_with_minus, is_minus_zero};
+use crate::lines::count_line_ends;
+use crate::marks::ends_of;
+use decimal::{FourNumbers, four_numbers, four_numbers_between, number_between};
+use qbf_tokens::is_separator;
+use std::simd::prelude::*;
+
+/// How many bytes a window has at most.
+pub const ROOM: usize = 4096;
+
+/// How many numbers are kept at most: a window has no more runs, unless some of them are empty.
+pub const MOST: usize = 2048;
+
+/// How many bytes are looked at together to find where numbers end.
+const BLOCK: usize = 64;
+
+/// A bit for each of the first 64 bytes, the lowest for the first: whether it is at most a blank,
+/// as separators are.
+#[inline(always)]
+fn marks_of(block: &[u8]) -> u64
+    requires { BLOCK ≤ length block.now }
+{
+    u8x64::from_slice(block)
+        .simd_le(u8x64::splat(b' '))
+        .to_bitmask()
+}
+
+/// The number with this sign and magnitude.
+#[inline(always)]
+fn signed(negative: bool, magnitude: u64) -> i32
+    requires { magnitude < 2 ^ 31 }
+    ensures magnitude { unsigned_abs result ≡ magnitude }
+    ensures sign { (negative && nat_eq magnitude 0) ≡ false → int_lt result (pos 0) ≡ negative }
+{
+    let value = magnitude as i32;
+    if negative { -value } else { value }
+}
+
+/// Whether digits and their sign write a number that is below 2 to the power of 31, but for the
+/// sign, if this byte follows them.
+#[inline(always)]
+fn is_usual(negative: bool, magnitude: u64, next: u8) -> bool
+    ensures { IsTrue result ↔ ((negative && nat_eq magnitude 0) ≡ false)
+        × (magnitude < 2 ^ 31) × (is_separator next ≡ true) }
+{
+    !is_minus_zero(negative, magnitude) && magnitude < 2_147_483_648 && is_separator(next)
+}
+
+/// How many bytes a usual number has at most: a minus and ten digits.
+const LONGEST: usize = 11;
+
+/// The number that the bytes begin with, if it is a usual one and a separator follows it at the
+/// place `end`.
+#[inline(always)]
+fn number_before(bytes: &[u8], end: usize) -> Option<i32>
+    ensures { IfSome result (λ value. BeginsWithValue bytes.now (end + 1) value) }
+{
+    if end >= bytes.len() || end.wrapping_sub(1) >= LONGEST {
+        return None;
+    }
+    let negative = begins_with_minus(bytes);
+    let start = usize::from(negative);
+    let magnitude = number_between(bytes, start, end)?;
+    if !is_usual(negative, magnitude, bytes[end]) {
+        return None;
+    }
+    Some(signed(negative, magnitude))
+}
+
+/// For each byte, 0 if it separates tokens, else 1.
+const OTHERS: [u8; 256] = [
+    1, 1, 1, 1, 1, 1, 1, 1, 1, 0, 0, 1, 1, 0, 1, 1, 1, 1, 1, 1, 1, 1, 1, 1, 1, 1, 1, 1, 1, 1, 1, 1,
+    0, 1, 1, 1, 1, 1, 1, 1, 1, 1, 1, 1, 1, 1, 1, 1, 1, 1, 1, 1, 1, 1, 1, 1, 1, 1, 1, 1, 1, 1, 1, 1,
+    1, 1, 1, 1, 1, 1, 1, 1, 1, 1, 1, 1, 1, 1, 1, 1, 1, 1, 1, 1, 1, 1, 1, 1, 1, 1, 1, 1, 1, 1, 1, 1,
+    1, 1, 1, 1, 1, 1, 1, 1, 1, 1, 1, 1, 1, 1, 1, 1, 1, 1, 1, 1, 1, 1, 1, 1, 1, 1, 1, 1, 1, 1, 1, 1,
+    1, 1, 1, 1, 1, 1, 1, 1, 1, 1, 1, 1, 1, 1, 1, 1, 1, 1, 1, 1, 1, 1, 1, 1, 1, 1, 1, 1, 1, 1, 1, 1,
+    1, 1, 1, 1, 1, 1, 1, 1, 1, 1, 1, 1, 1, 1, 1, 1, 1, 1, 1, 1, 1, 1, 1, 1, 1, 1, 1, 1, 1, 1, 1, 1,
+    1, 1, 1, 1, 1, 1, 1, 1, 1, 1, 1, 1, 1, 1, 1, 1, 1, 1, 1, 1, 1, 1, 1, 1, 1, 1, 1, 1, 1, 1, 1, 1,
+    1, 1, 1, 1, 1, 1, 1, 1, 1, 1, 1, 1, 1, 1, 1, 1, 1, 1, 1, 1, 1, 1, 1, 1, 1, 1, 1, 1, 1, 1, 1, 1,
+];
+
+/// The entry of a table for a byte.
+#[inline(always)]
+fn entry(table: &[u8], byte: u8) -> u8
+    requires { byte < length table.now }
+    ensures { result ≡ slice_index table.now byte }
+{
+    table[usize::from(byte)]
+}
+
+/// 0 if the byte at a place separates tokens.
+#[inline(always)]
+fn other_at(bytes: &[u8], place: usize) -> u8
+    requires { place < length bytes.now }
+    ensures { nat_eq result 0 ≡ is_separator (slice_index bytes.now place) }
+{
+    entry(&OTHERS, bytes[place])
+}
+
+/// Whether a separator stands at each of four places.
+#[inline(always)]
+#[tactic(auto, using(crate::proofs::NumbersInARow::four_separate))]
+fn all_separate(bytes: &[u8], places: [usize; 4]) -> bool
+    requires { (slice_index places 0 < length bytes.now) × (slice_index places 1 < length bytes.now)
+        × (slice_index places 2 < length bytes.now) × (slice_index places 3 < length bytes.now) }
+    ensures { result ≡ true → AreSeparators bytes.now places }
+{
+    let [a, b, c, d] = places;
+    let [a, b] = [other_at(bytes, a), other_at(bytes, b)];
+    let [c, d] = [other_at(bytes, c), other_at(bytes, d)];
+    (a | b | c | d) == 0
+}
+
+/// The place of the first byte from a place on that separates no tokens, or that of the end.
+#[inline(always)]
+fn after_separators(bytes: &[u8], from: usize) -> usize
+    requires { from ≤ length bytes.now }
+    ensures gap { IsGapTo bytes.now from result }
+    ensures within { result ≤ length bytes.now }
+{
+    let mut at = from;
+    while at < bytes.len() && is_separator(bytes[at]) {
+        at += 1;
+    }
+    at
+}
+
+/// The next place if a separator stands at this one, else this one.
+#[inline(always)]
+fn after_separator(bytes: &[u8], place: usize) -> usize
+    ensures { IsGapTo bytes.now place result }
+{
+    if place >= bytes.len() {
+        return place;
+    }
+    if other_at(bytes, place) == 0 {
+        place + 1
+    } else {
+        place
+    }
+}
+
+/// For each four bits, four numbers: first the places of those that are set, and then zeros.
+const PLACES: [u16; 64] = [
+    0, 0, 0, 0, 0, 0, 0, 0, 1, 0, 0, 0, 0, 1, 0, 0, 2, 0, 0, 0, 0, 2, 0, 0, 1, 2, 0, 0, 0, 1, 2, 0,
+    3, 0, 0, 0, 0, 3, 0, 0, 1, 3, 0, 0, 0, 1, 3, 0, 2, 3, 0, 0, 0, 2, 3, 0, 1, 2, 3, 0, 0, 1, 2, 3,
+];
+
+/// The part of a table for the lowest four of these bits.
+#[inline(always)]
+fn four_of(table: &[u16], bits: u64) -> u16x4
+    requires { 64 ≤ length table.now }
+{
+    u16x4::from_slice(&table[4 * (bits % 16) as usize..])
+}
+
+/// Where zeros seem to stand among numbers: no contract says that they do.
+#[derive(Clone, Copy)]
+pub struct Zeros<'a> {
+    /// Their places, each with `first` added.
+    places: &'a [u16],
+    /// How many numbers were passed before.
+    first: usize,
+}
+
+impl<'a> Zeros<'a> {
+    /// The place of the zero with this number, counted from 0, as it seems. If there is none, a
+    /// great number.
+    #[inline(always)]
+    pub fn place(self, zero: usize) -> usize {
+        if zero < self.places.len() {
+            usize::from(self.places[zero]).wrapping_sub(self.first)
+        } else {
+            usize::MAX
+        }
+    }
+}
+
+/// Numbers that stand one after the other at the front of the buffered bytes.
+#[derive(Drop)]
+pub struct Numbers {
+    /// The numbers.
+    pub values: [i32; MOST],
+    /// Where each begins in the window, after the separator that ends the one before it: more
+    /// separators may come first.
+    pub places: [u16; MOST + 9],
+    /// Which of them are 0.
+    pub zeros: [u16; MOST + 4],
+    /// The first that was not passed.
+    pub first: usize,
+    /// The end of those that are known.
+    pub known: usize,
+    /// The end of those whose place seems to be known.
+    pub runs: usize,
+    /// The first zero that was not passed.
+    pub zero: usize,
+    /// The end of the zeros.
+    pub zero_count: usize,
+    /// Whether the number after those that are known is not a usual one, or its end is not known.
+    pub is_stuck: bool,
+    /// Whether a separator was found after another: then they are looked for.
+    pub is_spaced: bool,
+}
+
+impl Numbers {
+    /// No numbers.
+    #[tactic(auto, using(crate::proofs::HeldNumbers::none_stand))]
+    pub fn new() -> Numbers
+        ensures { (bytes : List ℕ) → StandInFront result bytes }
+    {
+        Numbers {
+            values: [0; MOST],
+            places: [0; MOST + 9],
+            zeros: [0; MOST + 4],
+            first: 0,
+            known: 0,
+            runs: 0,
+            zero: 0,
+            zero_count: 0,
+            is_stuck: false,
+            is_spaced: false,
+        }
+    }
+
+    /// No numbers are known any more.
+    #[inline(always)]
+    #[tactic(auto, using(crate::proofs::HeldNumbers::none_stand))]
+    pub fn forget(&mut self)
+        ensures { (bytes : List ℕ) → StandInFront self.new bytes }
+    {
+        self.known = 0;
+        self.is_stuck = false;
+    }
+
+    /// Notes where numbers seem to end among eight bytes, after those that were noted: a bit marks
+    /// each, and `first` is the place of the first byte. Returns how many are noted.
+    #[inline(always)]
+    fn note_eight(&mut self, marks: u8, first: u16x8, runs: usize) -> usize
+        requires room { runs ≤ MOST }
+        ensures same { self.new ≡ record self.old { places = self.new.places } }
+        ensures room { result ≤ runs + 8 }
+    {
+        (first + ends_of(marks)).copy_to_slice(&mut self.places[runs + 1..]);
+        runs + marks.count_ones() as usize
+    }
+
+    /// Notes where numbers seem to end among the 64 bytes from the place `block` of the window on,
+    /// after those that were noted: a bit marks each. Returns how many are noted.
+    #[inline(always)]
+    fn note(&mut self, ends: u64, block: usize, runs: usize) -> usize
+        requires block { block + BLOCK ≤ ROOM }
+        requires room { runs + BLOCK ≤ MOST }
+        ensures same { self.new ≡ record self.old { places = self.new.places } }
+        ensures room { result ≤ runs + BLOCK }
+    {
+        let marks = ends.to_le_bytes();
+        let mut first = u16x8::splat(block as u16);
+        let mut runs = runs;
+        let mut i = 0;
+        while i < 8 {
+            runs = self.note_eight(marks[i], first, runs);
+            first += u16x8::splat(8);
+            i += 1;
+        }
+        runs
+    }
+
+    /// Notes where the numbers of these bytes seem to end, if no separator follows another. The
+    /// first `len` of them were pulled. Returns how many are noted.
+    #[inline(always)]
+    fn note_all(&mut self, bytes: &[u8], len: usize) -> usize
+        requires { length bytes.now ≤ ROOM }
+        ensures { result ≤ MOST }
+    {
+        let mut block = 0;
+        let mut runs = 0;
+        while block < len && block + BLOCK <= bytes.len() && runs + BLOCK <= MOST {
+            runs = self.note(marks_of(&bytes[block..]), block, runs);
+            block += BLOCK;
+        }
+        runs
+    }
+
+    /// Notes them where a separator follows another byte alone.
+    #[cold]
+    #[inline(never)]
+    fn note_spaced(&mut self, bytes: &[u8], len: usize) -> usize
+        requires { length bytes.now ≤ ROOM }
+        ensures { result ≤ MOST }
+    {
+        let mut block = 0;
+        let mut runs = 0;
+        let mut before = 1;
+        while block < len && block + BLOCK <= bytes.len() && runs + BLOCK <= MOST {
+            let marks = marks_of(&bytes[block..]);
+            runs = self.note(marks & !(marks << 1 | before), block, runs);
+            before = marks >> 63;
+            block += BLOCK;
+        }
+        runs
+    }
+
+    /// Looks where the numbers of these bytes seem to end. The first `len` of them were pulled.
+    #[inline(never)]
+    pub fn look(&mut self, bytes: &[u8], len: usize)
+        requires { length bytes.now ≤ ROOM }
+        ensures { (bytes : List ℕ) → StandInFront self.new bytes }
+    {
+        let runs = if self.is_spaced {
+            self.note_spaced(bytes, len)
+        } else {
+            self.note_all(bytes, len)
+        };
+        self.first = 0;
+        self.runs = runs;
+        self.forget();
+    }
+
+    /// Goes to the first run that seems to end after the place `start` of the window. Returns the
+    /// end of those whose place seems to be known.
+    #[inline(always)]
+    fn seek(&mut self, start: usize) -> usize
+        requires { start ≤ ROOM }
+        ensures front { place self.new self.new.first ≡ start }
+        ensures within { (self.new.first ≤ result) × (result ≤ MOST) }
+        ensures values { length self.new.values ≡ MOST }
+    {
+        let runs = self.runs.min(MOST);
+        let mut first = self.first.min(runs);
+        while first < runs && self.places[first + 1] as usize <= start {
+            first += 1;
+        }
+        self.places[first] = start as u16;
+        self.first = first;
+        runs
+    }
+
+    /// Puts a number at the place `k`.
+    #[inline(always)]
+    fn put(&mut self, k: usize, value: i32)
+        requires room { k < MOST }
+        ensures same { self.new ≡ record self.old { values = self.new.values } }
+        ensures put { IsPut self.old.values self.new.values (value ∷ []) k }
+    {
+        self.values[k] = value;
+    }
+
+    /// Puts four numbers from the place `k` on.
+    #[inline(always)]
+    fn put_four(&mut self, k: usize, values: i32x4)
+        requires room { k + 4 ≤ MOST }
+        requires short { AreShort values }
+        ensures same { self.new ≡ record self.old { values = self.new.values } }
+        ensures put { IsPut self.old.values self.new.values values k }
+    {
+        values.copy_to_slice(&mut self.values[k..]);
+    }
+
+    /// Notes which of four numbers from the place `k` on are zero, after so many zeros: `marks` has
+    /// a bit for each. Returns how many are noted.
+    #[inline(always)]
+    fn note_zeros(&mut self, k: usize, marks: u64, zeros: usize) -> usize
+        requires { k ≤ MOST }
+        ensures same { self.new ≡ record self.old { zeros = self.new.zeros } }
+    {
+        let places = four_of(&PLACES, marks) + u16x4::splat(k as u16);
+        places.copy_to_slice(&mut self.zeros[zeros % MOST..]);
+        zeros.wrapping_add(marks.count_ones() as usize)
+    }
+
+    /// The place of the separator after the number `k`, as it seems.
+    #[inline(always)]
+    fn end(&self, k: usize) -> usize
+        requires { k < MOST }
+        ensures { result < ROOM → place self.now (k + 1) ≡ result + 1 }
+    {
+        usize::from(self.places[k + 1]).wrapping_sub(1)
+    }
+
+    /// The places of the separators after four numbers from the number `k` on, as they seem.
+    #[inline(always)]
+    #[tactic(auto, using(crate::proofs::NumbersInARow::four_seem))]
+    fn ends(&self, k: usize) -> [usize; 4]
+        requires { k + 4 ≤ MOST }
+        ensures { SeemToEnd self.now k result }
+    {
+        [
+            self.end(k),
+            self.end(k + 1),
+            self.end(k + 2),
+            self.end(k + 3),
+        ]
+    }
+
+    /// The place where the number `k` begins, as it seems: after up to two separators more.
+    #[inline(always)]
+    fn start(&self, bytes: &[u8], k: usize) -> usize
+        requires { k < MOST }
+        ensures { IsGapTo bytes.now (place self.now k) result }
+    {
+        let first = usize::from(self.places[k]);
+        let second = after_separator(bytes, first);
+        after_separator(bytes, second)
+    }
+
+    /// The places where four numbers from the number `k` on begin, as they seem.
+    #[inline(always)]
+    #[tactic(auto, using(crate::proofs::NumbersInARow::four_after))]
+    fn starts(&self, bytes: &[u8], k: usize) -> [usize; 4]
+        requires { k + 4 ≤ MOST }
+        ensures { AreAfterGaps self.now bytes.now k result }
+    {
+        [
+            self.start(bytes, k),
+            self.start(bytes, k + 1),
+            self.start(bytes, k + 2),
+            self.start(bytes, k + 3),
+        ]
+    }
+
+    /// Whether more separators come before one of four numbers from the number `k` on.
+    #[inline(always)]
+    fn are_spaced(&self, k: usize, starts: [usize; 4]) -> bool
+        requires { k + 4 ≤ MOST }
+    {
+        let [a, b, c, d] = starts;
+        usize::from(self.places[k]) != a
+            || usize::from(self.places[k + 1]) != b
+            || usize::from(self.places[k + 2]) != c
+            || usize::from(self.places[k + 3]) != d
+    }
+
+    /// The number that begins at the place `at`, before the next number after `k`, if it is a usual
+    /// one.
+    #[inline(always)]
+    fn one_at(&self, bytes: &[u8], k: usize, at: usize) -> Option<i32>
+        requires room { k < MOST }
+        requires here { at ≤ length bytes.now }
+        requires small { length bytes.now ≤ ROOM }
+        ensures within { IfSome result (λ _. place self.now (k + 1) ≤ length bytes.now) }
+        ensures begins { IfSome result (λ value.
+            BeginsWithValue (drop at bytes.now) (place self.now (k + 1) - at) value) }
+    {
+        let end = self.end(k);
+        number_before(&bytes[at..], end.wrapping_sub(at))
+    }
+
+    /// The number `k`, if it comes before the number `runs` and is a usual one, after any separators
+    /// more.
+    #[inline(always)]
+    fn one_spaced_at(&self, bytes: &[u8], k: usize, runs: usize) -> Option<i32>
+        requires room { (k ≤ runs) × (runs ≤ MOST) }
+        requires here { place self.now k ≤ length bytes.now }
+        requires small { length bytes.now ≤ ROOM }
+        ensures stands { IfSome result (λ value. (k < runs)
+            × NumberStands bytes.now self.now.places k value) }
+    {
+        if k >= runs {
+            return None;
+        }
+        let first = usize::from(self.places[k]);
+        let at = after_separators(bytes, first);
+        let value = self.one_at(bytes, k, at)?;
+        Some(value)
+    }
+
+    /// The four numbers from the number `k` on, if they come before the number `runs` and are usual
+    /// ones, and one or two separators more come before some of them.
+    #[inline(always)]
+    fn four_spaced_at(&self, bytes: &[u8], k: usize, runs: usize) -> Option<FourNumbers>
+        requires room { (k ≤ runs) × (runs ≤ MOST) }
+        requires small { length bytes.now ≤ ROOM }
+        ensures four { IfSome result (λ four. (k + 4 ≤ runs)
+            × StandFrom bytes.now self.now.places k four.values × AreShort four.values) }
+    {
+        if k + 4 > runs {
+            return None;
+        }
+        let starts = self.starts(bytes, k);
+        if !self.are_spaced(k, starts) {
+            return None;
+        }
+        let ends = self.ends(k);
+        let four = four_numbers_between(bytes, starts, ends)?;
+        if !all_separate(bytes, ends) {
+            return None;
+        }
+        Some(four)
+    }
+
+    /// The four numbers from the number `k` on, which begin at the place `at`, if they come before
+    /// the number `runs` and are usual ones.
+    #[inline(always)]
+    fn four_at(&self, bytes: &[u8], k: usize, at: usize, runs: usize) -> Option<FourNumbers>
+        requires room { (k ≤ runs) × (runs ≤ MOST) }
+        requires here { place self.now k ≡ at }
+        requires small { length bytes.now ≤ ROOM }
+        ensures four { IfSome result (λ four. (k + 4 ≤ runs)
+            × StandFrom bytes.now self.now.places k four.values × AreShort four.values) }
+    {
+        if k + 4 > runs {
+            return None;
+        }
+        let ends = self.ends(k);
+        let four = four_numbers(bytes, at, ends)?;
+        if !all_separate(bytes, ends) {
+            return None;
+        }
+        Some(four)
+    }
+
+    /// Puts up to four numbers one by one from the number `k` on, as far as they are usual ones and
+    /// come before the number `runs`. Returns how far that is, and how many zeros are noted.
+    #[inline(always)]
+    fn put_ones(&mut self, bytes: &[u8], k: usize, runs: usize, zeros: usize) -> (usize, usize)
+        requires fills { FillsTo self.old bytes.now (place self.old self.old.first) runs k }
+        requires small { length bytes.now ≤ ROOM }
+        ensures fills { FillsTo self.new bytes.now (place self.old self.old.first) runs result.0 }
+        ensures further { k ≤ result.0 }
+    {
+        let most = k + 4;
+        let mut k = k;
+        let mut zeros = zeros;
+        'numbers: while k < most {
+            let Some(value) = self.one_spaced_at(bytes, k, runs) else {
+                return (k, zeros);
+            };
+            self.put(k, value);
+            zeros = self.note_zeros(k, u64::from(value == 0), zeros);
+            k += 1;
+        }
+        (k, zeros)
+    }
+
+    /// Puts four numbers from the number `k` on, if more separators come before some of them, or up
+    /// to four one by one, as `put_ones` does.
+    #[cold]
+    #[inline(never)]
+    fn put_spaced(&mut self, bytes: &[u8], k: usize, runs: usize, zeros: usize) -> (usize, usize)
+        requires fills { FillsTo self.old bytes.now (place self.old self.old.first) runs k }
+        requires small { length bytes.now ≤ ROOM }
+        ensures fills { FillsTo self.new bytes.now (place self.old self.old.first) runs result.0 }
+        ensures further { k ≤ result.0 }
+    {
+        let Some(four) = self.four_spaced_at(bytes, k, runs) else {
+            return self.put_ones(bytes, k, runs, zeros);
+        };
+        self.put_four(k, four.values);
+        let noted = self.note_zeros(k, four.zeros, zeros);
+        (k + 4, noted)
+    }
+
+    /// Puts the numbers that stand from the place `start` on, as far as they are usual ones and
+    /// come before the number `runs`. Returns how far that is, and how many zeros are among them.
+    #[inline(always)]
+    fn put_usual(&mut self, bytes: &[u8], start: usize, runs: usize) -> (usize, usize)
+        requires start { (start ≤ length bytes.now) × (place self.old self.old.first ≡ start) }
+        requires small { length bytes.now ≤ ROOM }
+        requires room { (self.old.first ≤ runs) × (runs ≤ MOST)
+            × (length self.old.values ≡ MOST) }
+        ensures { AreHeld (record self.new { known = result.0 }) bytes.now start }
+    {
+        let mut k = self.first;
+        let mut at = start;
+        let mut zeros = 0;
+        'numbers: loop {
+            if let Some(four) = self.four_at(bytes, k, at, runs) {
+                self.put_four(k, four.values);
+                zeros = self.note_zeros(k, four.zeros, zeros);
+                k += 4;
+            } else {
+                let (next, noted) = self.put_spaced(bytes, k, runs, zeros);
+                if next == k {
+                    return (k, zeros);
+                }
+                k = next;
+                zeros = noted;
+            }
+            at = usize::from(self.places[k]);
+        }
+    }
+
+    /// Whether the number `k` seems to have no bytes, and a separator comes before its place: then
+    /// one separator follows another there.
+    #[inline(always)]
+    fn is_gap(&self, bytes: &[u8], k: usize, runs: usize) -> bool
+        requires { runs ≤ MOST }
+    {
+        if k >= runs {
+            return false;
+        }
+        let place = usize::from(self.places[k]);
+        place != 0 && place <= bytes.len() && self.end(k) == place && is_separator(bytes[place - 1])
+    }
+
+    /// Makes the numbers known that stand from the place `start` on, as far as they are usual ones,
+    /// which are below 2 to the power of 31, but for their signs.
+    #[inline(never)]
+    pub fn fill(&mut self, bytes: &[u8], start: usize)
+        requires start { start ≤ length bytes.now }
+        requires small { length bytes.now ≤ ROOM }
+        ensures { AreHeld self.new bytes.now start }
+    {
+        let runs = self.seek(start);
+        let (known, zeros) = self.put_usual(bytes, start, runs);
+        self.known = known;
+        self.zero = 0;
+        self.zero_count = zeros;
+        self.is_stuck = true;
+        self.is_spaced = self.is_spaced || self.is_gap(bytes, known, runs);
+    }
+
+    /// Whether none is buffered.
+    #[inline(always)]
+    pub fn is_empty(&self) -> bool
+        ensures { result ≡ nat_le self.now.known self.now.first }
+    {
+        self.known <= self.first
+    }
+
+    /// Whether none is buffered and more may be made known.
+    #[inline(always)]
+    pub fn wants_more(&self) -> bool {
+        self.is_empty() && !self.is_stuck
+    }
+
+    /// The numbers that are known.
+    #[inline(always)]
+    pub fn values(&self) -> &[i32]
+        requires some { self.now.first ≤ self.now.known }
+        requires few { self.now.known ≤ MOST }
+        ensures part { IsPart result.now self.now.values self.now.first }
+        ensures within { self.now.first + length result.now ≤ self.now.known }
+    {
+        &self.values[self.first..self.known]
+    }
+
+    /// Where zeros seem to stand among the numbers that are known.
+    #[inline(always)]
+    pub fn zeros(&self) -> Zeros {
+        let count = self.zero_count.min(MOST);
+        Zeros {
+            places: &self.zeros[self.zero.min(count)..count],
+            first: self.first,
+        }
+    }
+
+    /// The cursor after so many numbers, of which the first stands at `from` and at the front of
+    /// these bytes.
+    #[inline(always)]
+    pub fn cursor_after(&self, bytes: &[u8], from: Cursor, count: usize) -> Cursor
+        requires few { 0 < count → self.now.first + count ≤ MOST }
+        requires further { 0 < count
+            → place self.now self.now.first < place self.now (self.now.first + count) }
+        requires within { 0 < count → len_of self.now count ≤ length bytes.now }
+        ensures { result ≡ cursor_to self.now bytes.now from count }
+    {
+        if count == 0 {
+            return from;
+        }
+        let len = usize::from(self.places[self.first + count] - self.places[self.first]);
+        Cursor {
+            at: len,
+            line: from.line.saturating_add(count_line_ends(&bytes[..len])),
+            tokens: u64::from(bytes[len - 1] != b'\n'),
+        }
+    }
+
+    /// The number of the first zero that stands from a place on.
+    #[inline(always)]
+    fn zero_from(&self, there: usize) -> usize {
+        let count = self.zero_count.min(MOST);
+        if there >= self.known {
+            return count;
+        }
+        let mut zero = self.zero;
+        while zero < count && usize::from(self.zeros[zero]) < there {
+            zero += 1;
+        }
+        zero
+    }
+
+    /// Goes past so many numbers, which take so many bytes. If they do not, it forgets all.
+    #[inline(always)]
+    pub fn pass(&mut self, count: usize, bytes: usize)
+        requires few { self.old.known ≤ MOST }
+        requires small { bytes ≤ ROOM }
+        ensures held { (front : List ℕ) → StandInFront self.old front
+            → StandInFront self.new (drop bytes front) }
+    {
+        let here = self.first;
+        let there = here.wrapping_add(count);
+        if here <= there
+            && there <= self.known
+            && usize::from(self.places[here]) + bytes == usize::from(self.places[there])
+        {
+            self.first = there;
+            self.zero = self.zero_from(there);
+        } else {
+            self.forget();
+        }
+    }
+}

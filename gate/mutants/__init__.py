@@ -1,0 +1,1 @@
+"""Mutants: wrong bodies of functions that their contracts must refuse."""

@@ -1,0 +1,191 @@
+"""Bodies that are tried: those of mutants, and right ones that these are compared with.
+
+A body stands as a function of its own after the one that it is a body of, with its contract and its stored answers, and nothing calls it: so
+that many go together in one check. It stands in the place of the crate's own if it is of a method of a trait, of `main`, or of a function that
+calls itself, or if it changes more than one function.
+"""
+
+import re
+import shutil
+from dataclasses import dataclass, field, replace
+from pathlib import Path
+from typing import Optional
+
+from rattle_source import Function, blanked
+
+from .edits import Mutant, functions_of, read_file
+
+
+@dataclass
+class Copy:
+    """A function of its own with the body of another one."""
+
+    of: str
+    path: str
+    file: str
+    place: int
+    text: str
+
+
+@dataclass
+class Body:
+    """A body, or several, to be tried in a crate."""
+
+    name: str
+    # the changed files by their paths in the crate: none, if it is the crate's own body
+    files: dict[str, str]
+    functions: frozenset[str]
+    # whether the prover is given the stored answers of the changed functions
+    is_answered: bool
+    adds_functions: bool = False
+    copy: Optional[Copy] = None
+
+    def paths(self) -> frozenset[str]:
+        """The functions that a check looks at for it."""
+        return frozenset({self.copy.path}) if self.copy else self.functions
+
+    def of(self, path: str) -> str:
+        """The function that a body is of, by the one that a check looks at."""
+        return self.copy.of if self.copy else path
+
+    def in_place(self) -> "Body":
+        return replace(self, copy=None)
+
+
+@dataclass
+class Bodies:
+    """What makes the bodies of one crate."""
+
+    crate_name: str
+    crate: Path
+    made: int = field(default=0)
+
+    def wrong(self, mutant: Mutant, is_answered: bool) -> Body:
+        return self.body(mutant.name, mutant.files, mutant, is_answered)
+
+    def right(self, mutant: Mutant, is_answered: bool) -> Body:
+        """The right body of a mutant: one of its own, if it has right texts, or else that of the crate, which mutants share."""
+        return self.body(right_name(mutant), mutant.rights, mutant, is_answered)
+
+    def body(self, name: str, files: dict[str, str], mutant: Mutant, is_answered: bool) -> Body:
+        self.made += 1
+        body = Body(name, files, frozenset(mutant.functions), is_answered, mutant.adds_functions and files != {})
+        if len(mutant.functions) == 1 and not mutant.adds_functions and len(mutant.files) == 1:
+            (path,), (file,) = mutant.functions, mutant.files
+            body.copy = self.copy(path, file, files.get(file), mutant.files[file])
+        return body
+
+    def copy(self, path: str, file: str, text: Optional[str], wrong: str) -> Optional[Copy]:
+        """A copy of a function with the body that it has in a text, or with its own; None if the mutant's has to stand in its place."""
+        before = read_file(self.crate, file)
+        find = lambda text: functions_of(self.crate_name, file, text).get(path)
+        old, new, changed = find(before), find(before if text is None else text), find(wrong)
+        if not old or not new or not changed or old.name == "main" or old.is_of_trait:
+            return None
+        # A right text may call the function: in a copy that is a call of the crate's own.
+        is_right = text is not None and text != wrong
+        if calls_itself(wrong, changed) or not is_changed_alone(before, wrong, old, changed) or is_right and not is_changed_alone(before, str(text), old, new):
+            return None
+        name = f"{path}_tried_{self.made}"
+        return Copy(path, name, file, old.end, "\n\n" + named(before if text is None else text, new, name.rsplit("::", 1)[1]))
+
+
+def right_name(mutant: Mutant) -> str:
+    """The name of the right body of a mutant: the same for all that are compared with the crate's own."""
+    return f"right body of {mutant.name if mutant.rights else ' '.join(sorted(mutant.functions))}"
+
+
+def is_changed_alone(before: str, text: str, old: Function, new: Function) -> bool:
+    """Whether two texts of a file differ in one function alone."""
+    start, first = first_line(old, before), first_line(new, text)
+    return before[:start] == text[:first] and before[old.end :] == text[new.end :]
+
+
+def calls_itself(text: str, function: Function) -> bool:
+    """Whether a function of a text calls itself, so that a copy of it would call another one."""
+    call = rf"(?<![.:\w]){function.name}\(|\b[Ss]elf(?:\.|::){function.name}\(|#\[cycle"
+    words = text[first_line(function, text) : function.name_end - len(function.name)] + text[function.name_end : function.end]
+    return re.search(call, blanked(words)) is not None
+
+
+def first_line(function: Function, text: str) -> int:
+    """Where the lines of a function begin, with its attributes and the comments above them."""
+    line = text.rfind("\n", 0, function.first) + 1
+    found = re.search(r"(?:^ *///.*\n)*\Z", text[:line], re.M)
+    return found.start() if found else line
+
+
+def named(text: str, function: Function, name: str) -> str:
+    """The text of a function under another name."""
+    place = function.name_end - len(function.name)
+    return text[first_line(function, text) : place] + name + text[function.name_end : function.end]
+
+
+# ---- in a folder of the crate
+
+
+def put(bodies: list[Body], crate_name: str, crate: Path) -> None:
+    """Puts bodies, which change no place twice, into the crate's folder, with their stored answers or without."""
+    for file, text in together(bodies, crate).items():
+        (crate / file).write_text(text, encoding="utf-8")
+    for body in bodies:
+        if body.copy:
+            copy_proofs(body.copy, crate_name, crate)
+        for path in body.paths():
+            put_answers(path, body.is_answered, crate)
+
+
+def together(bodies: list[Body], crate: Path) -> dict[str, str]:
+    """The files of the crate with all of these bodies."""
+    changes: dict[str, list[tuple[int, int, str]]] = {}
+    for body in bodies:
+        if body.copy:
+            changes.setdefault(body.copy.file, []).append((body.copy.place, body.copy.place, body.copy.text))
+            continue
+        for file, text in body.files.items():
+            changes.setdefault(file, []).append(change(read_file(crate, file), text))
+    files = {}
+    for file, places in changes.items():
+        files[file] = read_file(crate, file)
+        for start, end, new in sorted(places, reverse=True):
+            files[file] = files[file][:start] + new + files[file][end:]
+    return files
+
+
+def change(before: str, after: str) -> tuple[int, int, str]:
+    """The place of a text that is changed, from its first to after its last difference, and what then stands there."""
+    same = 0
+    while same < min(len(before), len(after)) and before[same] == after[same]:
+        same += 1
+    tail = 0
+    while tail < min(len(before), len(after)) - same and before[-1 - tail] == after[-1 - tail]:
+        tail += 1
+    return same, len(before) - tail, after[same : len(after) - tail]
+
+
+def copy_proofs(copy: Copy, crate_name: str, crate: Path) -> None:
+    """Gives the copy of a function the stored proofs of that function."""
+    source, target = proofs_of(copy.of, crate), proofs_of(copy.path, crate)
+    if source.is_dir():
+        shutil.copytree(source, target)
+        old, new = (path.split("::", 1)[1].replace("::", ".") for path in (copy.of, copy.path))
+        own = rf"(\bRattle\.{crate_name}\.(?:proofs|specs\.contracts)\.){re.escape(old)}(?![\w-])"
+        for file in sorted(target.rglob("*.antt")):
+            file.write_text(re.sub(own, rf"\g<1>{new}", file.read_text(encoding="utf-8")), encoding="utf-8")
+
+
+def proofs_of(path: str, crate: Path) -> Path:
+    return crate / "proofs" / Path(*path.split("::")[1:])
+
+
+# A check that cannot prove a function runs once more, to print the goals and a file for their answers: that takes a third of its time.
+# If it refuses a stored answer, as this one, it only names the goals that are open.
+NO_ANSWER = "no_answer : Type 0\nno_answer = Type 0\n"
+
+
+def put_answers(path: str, is_answered: bool, crate: Path) -> None:
+    """Leaves a function its stored answers, or takes all out; and has a check name it in any case, with the goals that are open."""
+    file = proofs_of(path, crate) / "Answers.antt"
+    file.parent.mkdir(parents=True, exist_ok=True)
+    before = file.read_text(encoding="utf-8") + "\n" if file.exists() and is_answered else ""
+    file.write_text(before + NO_ANSWER, encoding="utf-8")

@@ -1,0 +1,62 @@
+"""gate/wrong-bodies.tsv: each mutant, and which of the promised ones it is, if it is one. Above them lines of comment say what is promised.
+
+A third column names those that are without evidence: of which the rule does not show that they are wrong, and which are let pass.
+"""
+
+from collections.abc import Iterator
+from pathlib import Path
+
+from crates import Crates, Stopped
+
+
+WITHOUT = "without evidence"
+
+
+class Table:
+    """The mutants that are written down, by CRATE/EDIT, each with the promised one that it is, or '-'."""
+
+    def __init__(self, file: Path) -> None:
+        self.file = file
+        if not file.exists():
+            raise Stopped(f"there is no gate/{file.name}")
+        lines = file.read_text(encoding="utf-8").splitlines()
+        self.comments = [line for line in lines if line.startswith("#")]
+        self.promised = [line.removeprefix("#   ") for line in self.comments if line.startswith("#   ")]
+        rows = [line.split("\t") for line in lines if line and not line.startswith("#")]
+        for row in rows:
+            if len(row) < 2 or row[2:] not in ([], [WITHOUT]):
+                raise Stopped(f"gate/{file.name}: this line has other columns than it must: {' | '.join(row)}")
+        self.kinds: dict[str, str] = {row[0]: row[1] for row in rows}
+        self.without = {row[0] for row in rows if row[2:]}
+
+    def store(self, repository: Crates, tried: dict[str, bool]) -> None:
+        """Writes down the mutants that there are, and which of those that were tried have no evidence."""
+        found, _ = there(repository)
+        is_without = lambda name: not tried.get(name, name not in self.without)
+        lines = ["\t".join([name, self.kinds.get(name, "-"), *([WITHOUT] if is_without(name) else [])]) for name in sorted(found)]
+        self.file.write_text("\n".join([*self.comments, *lines]) + "\n", encoding="utf-8")
+
+    def lost(self, repository: Crates, crates: list[str]) -> Iterator[str]:
+        """What differs between the mutants of some crates and those that are written down."""
+        found, others = there(repository)
+        is_asked = lambda name: name.split("/")[0] in crates
+        table = f"gate/{self.file.name}"
+        yield from (f"{name} is written down in {table}, and there is no such file" for name in self.kinds if is_asked(name) and name not in found)
+        yield from (f"{name} is not written down in {table} (gate/try-wrong-bodies --store)" for name in found if is_asked(name) and name not in self.kinds)
+        yield from (f"{name} is not a mutant: its name does not end in .edit" for name in others if is_asked(name))
+        kinds = set(self.kinds.values()) - {"-"}
+        yield from (f"{table}: there is no mutant of the promised kind: {kind}" for kind in self.promised if kind not in kinds)
+        yield from (f"{table}: it is not a promised kind: {kind}" for kind in sorted(kinds) if kind not in self.promised)
+
+
+def there(repository: Crates) -> tuple[list[str], list[str]]:
+    """The mutants that there are, and files beside them that are none."""
+    found, others = [], []
+    for name in repository.on:
+        folder = repository.folder(name) / "must-fail"
+        for path in sorted(folder.iterdir()) if folder.is_dir() else ():
+            if path.suffix == ".edit":
+                found.append(f"{name}/{path.stem}")
+            else:
+                others.append(f"{name}/{path.name}")
+    return found, others

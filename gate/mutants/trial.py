@@ -1,0 +1,219 @@
+"""The rule by which mutants are refused, and the tasks that find what it asks for.
+
+A mutant is refused if the contract of a function that it changes is open with it, and closes whole with the right body under the same
+conditions. First both are tried with the function's stored answers. If one of these does not fit either of them, or is asked for by no goal, all
+answers of the function are taken out, of both. If the right body needs its answers, the mutant needs a witness: a test in its file, which must
+pass with the right body and fail with the mutant.
+"""
+
+import time
+from collections.abc import Callable, Hashable
+from dataclasses import dataclass
+from functools import cache, partial
+from pathlib import Path
+from typing import Optional
+
+from crates import Crates, Lanes, Runs, processors
+
+from .bodies import Bodies, Body, right_name
+from .edits import BadEdit, Mutant, read_file, read_mutant
+from .prover import Prover
+from .rounds import Graph, calls, reached, rounds
+from .said import Said
+
+# How a mutant was refused.
+FALSE, NOT_SHOWN, WITNESS = "false for the contract", "not shown, and the right body is proved", "not shown, and wrong by a witness"
+# What becomes of the others.
+PROVED = "it is proved with this body"
+NOT_LOOKED_AT = "was not looked at: what it calls is not proved"
+NOT_OF_CONTRACT = "no goal of its contract is open"
+
+
+@dataclass
+class Verdict:
+    """What was found of a mutant: how it was refused and where, or why not."""
+
+    how: str
+    function: str = ""
+    goal: str = ""
+    why: str = ""
+    # whether a goal of its contract is open, though that does not refuse it
+    is_open: bool = False
+
+
+class Outcome:
+    """What a check says of a body: of each function that it looks at, or the fault that hides it."""
+
+    def __init__(self, body: Body, functions: dict[str, Said], faults: list[str]) -> None:
+        self.fault = faults[0] if faults else ""
+        self.said = {body.of(path): functions[path] for path in body.paths() if path in functions}
+        self.is_whole = len(self.said) == len(body.paths()) and not faults
+
+    def is_known(self) -> bool:
+        """Whether the check looked at the body: at each of its functions, or at one that is open, on which the others rest."""
+        waits = any(said.waits for said in self.said.values())
+        return self.is_whole and (not waits or any(said.goals for said in self.said.values() if not said.waits))
+
+    def misfits(self) -> list[str]:
+        return [misfit for said in self.said.values() for misfit in said.misfits]
+
+    def is_proved(self) -> bool:
+        return self.is_whole and all(said.is_proved() for said in self.said.values())
+
+    def goals(self, of_contract: bool) -> list[tuple[str, str, bool]]:
+        """The goals that are open, those that are false first: the function, the goal, and whether it is false."""
+        found = [
+            (function, goal, goal in said.false)
+            for function, said in sorted(self.said.items())
+            for goal in (said.of_contract() if of_contract else said.goals)
+        ]
+        return sorted(found, key=lambda one: (not one[2], not one[1].startswith("returns")))
+
+
+class CrateTrial:
+    """The mutants of one crate, and what came of them."""
+
+    def __init__(self, name: str, crate: Path, mutants: list[Mutant], reach: Graph) -> None:
+        self.name, self.crate, self.mutants, self.reach = name, crate, mutants, reach
+        self.bodies = Bodies(name, crate)
+        # By whether the stored answers are there, and the name of the body.
+        self.outcomes: dict[tuple[bool, str], Outcome] = {}
+        self.verdicts: dict[str, Verdict] = {}
+
+    def answered(self) -> list[Body]:
+        """The bodies that are tried with stored answers: the mutants, and those right bodies that are not the crate's own."""
+        right = [self.bodies.right(mutant, True) for mutant in self.mutants if mutant.rights]
+        return [*(self.bodies.wrong(mutant, True) for mutant in self.mutants), *right]
+
+    def unanswered(self) -> list[Body]:
+        """The bodies that are tried without: those of mutants with which an answer does not fit, or with their right bodies."""
+        left = [mutant for mutant in self.mutants if not self.fits(mutant)]
+        right = {body.name: body for body in (self.bodies.right(mutant, False) for mutant in left)}
+        return [*(self.bodies.wrong(mutant, False) for mutant in left), *right.values()]
+
+    def fits(self, mutant: Mutant) -> bool:
+        return not any(outcome and outcome.misfits() for outcome in self.pair(mutant, True))
+
+    def pair(self, mutant: Mutant, is_answered: bool) -> tuple[Optional[Outcome], Optional[Outcome]]:
+        """What was said of a mutant and of its right body; of the crate's own with its answers nothing, since that is proved."""
+        return self.outcomes.get((is_answered, mutant.name)), self.outcomes.get((is_answered, right_name(mutant)))
+
+    def judge(self, mutant: Mutant) -> Verdict:
+        """The verdict on a mutant as far as proofs give it: with the how of a witness, if it needs one."""
+        is_answered = self.fits(mutant)
+        wrong, right = self.pair(mutant, is_answered)
+        if wrong is None or wrong.fault:
+            return Verdict("", why=f"no check reads it: {wrong.fault if wrong else 'it was not tried'}")
+        if not wrong.is_known():
+            return Verdict("", why=NOT_LOOKED_AT)
+        goals, others = wrong.goals(True), wrong.goals(False)
+        if not goals:
+            why = f"{others[0][0]}: {others[0][1]}: {NOT_OF_CONTRACT}" if others else PROVED if wrong.is_proved() else wrong.misfits()[0]
+            return Verdict("", why=why)
+        function, goal, is_false = goals[0]
+        is_own = is_answered and not mutant.rights
+        if is_own or right is not None and right.is_proved():
+            return Verdict(FALSE if is_false else NOT_SHOWN, function, goal)
+        return Verdict(WITNESS, function, goal, why_not(right))
+
+
+def why_not(right: Optional[Outcome]) -> str:
+    """Why a right body is not proved whole."""
+    goals = right.goals(False) if right else []
+    misfits = right.misfits() if right else []
+    open_goal = goals[0][1] if goals else misfits[0] if misfits else "it could not be checked"
+    return f"the right body is not proved without its stored answers ({open_goal})"
+
+
+class Trial:
+    """The mutants of all crates."""
+
+    def __init__(self, repository: Crates, rt: str, jobs: int, folder: Path) -> None:
+        self.repository = repository
+        self.runs = Runs()
+        self.lanes = Lanes(jobs, self.runs)
+        self.prover = Prover(repository, rt, self.runs, folder)
+        self.tell: Callable[[str, Mutant, Verdict], None] = lambda crate, mutant, verdict: None
+
+    def run(self, mutants: dict[str, list[Mutant]]) -> None:
+        """Tries the mutants of each crate, and tells the verdict on each."""
+        names = [name for name in mutants if mutants[name]]
+        for name in self.repository.on:
+            if any(name == above or name in self.repository.below(above) for above in names):
+                after = [("proved", below) for below in self.repository.below(name)]
+                self.lanes.add(("proved", name), after, partial(self.prover.prove, name), processors())
+        # The crates above take longest, so they come first wherever they are proved by then.
+        for name in reversed(names):
+            folder = self.repository.folder(name)
+            trial = CrateTrial(name, folder, mutants[name], reached(calls(name, folder)))
+            self.add(trial, trial.answered(), "", [("proved", name)], partial(self.go_on, trial))
+        self.lanes.run()
+
+    def go_on(self, trial: CrateTrial) -> None:
+        """What follows once all bodies of a crate were tried with their stored answers."""
+        left = [mutant.name for mutant in trial.mutants if not trial.fits(mutant)]
+        self.judge(trial, [mutant for mutant in trial.mutants if mutant.name not in left])
+        rest = [mutant for mutant in trial.mutants if mutant.name in left]
+        self.add(trial, trial.unanswered(), "without answers ", [], partial(self.judge, trial, rest))
+
+    def add(self, trial: CrateTrial, bodies: list[Body], label: str, after: list[Hashable], then: Callable[[], None]) -> None:
+        """Adds the rounds of some bodies; after them those that a round did not decide, alone and in their places; and what then follows."""
+        keys = self.add_rounds(trial, rounds(bodies, trial.reach), label, after)
+
+        def try_left(_: int) -> None:
+            left = [body.in_place() for body in bodies if not trial.outcomes[body.is_answered, body.name].is_known()]
+            alone = self.add_rounds(trial, [[body] for body in left], f"{label}alone ", [])
+            self.lanes.add((trial.name, label, "end"), alone, lambda _: then())
+
+        self.lanes.add((trial.name, label, "left"), keys, try_left)
+
+    def add_rounds(self, trial: CrateTrial, groups: list[list[Body]], label: str, after: list[Hashable]) -> list[Hashable]:
+        keys: list[Hashable] = []
+        for number, group in enumerate(groups, 1):
+            keys.append((trial.name, label, number))
+            self.lanes.add(keys[-1], after, partial(self.try_round, trial, f"{label}{number}", group))
+        return keys
+
+    def try_round(self, trial: CrateTrial, label: str, bodies: list[Body], _: int) -> None:
+        begun = time.monotonic()
+        found = self.prover.check(trial.name, label, bodies)
+        for body in bodies:
+            trial.outcomes[body.is_answered, body.name] = Outcome(body, found.functions, found.faults)
+        count = f"{len(bodies)} bodies" if len(bodies) > 1 else bodies[0].name
+        print(f"{trial.name} {label}: {count}, {time.monotonic() - begun:.0f} s", flush=True)
+
+    def judge(self, trial: CrateTrial, mutants: list[Mutant]) -> None:
+        """Tells the verdicts on mutants of a crate, and adds the tasks that run the witnesses of those that need one."""
+        needy = []
+        for mutant in mutants:
+            verdict = trial.judge(mutant)
+            if verdict.how == WITNESS and mutant.witness:
+                needy.append((mutant, verdict))
+            else:
+                left = Verdict("", verdict.function, verdict.goal, f"it has no witness, and {verdict.why}", is_open=True)
+                self.tell(trial.name, mutant, left if verdict.how == WITNESS else verdict)
+        for mutant, verdict in needy:
+            self.lanes.add((trial.name, "witness", mutant.name), [], partial(self.ask_witness, trial, mutant, verdict))
+
+    def ask_witness(self, trial: CrateTrial, mutant: Mutant, verdict: Verdict, _: int) -> None:
+        """Runs the test of a mutant with the right body and with the wrong one."""
+        right = mutant.rights or {file: read_file(trial.crate, file) for file in mutant.files}
+        with_right = self.prover.passes(trial.name, f"{mutant.name} right", right, mutant.witness)
+        with_wrong = self.prover.passes(trial.name, f"{mutant.name} wrong", mutant.files, mutant.witness)
+        if with_right is None or with_wrong is None:
+            verdict = Verdict("", why="its witness could not be run")
+        elif not with_right or with_wrong:
+            verdict = Verdict("", why=f"its witness {'passes with it too' if with_right else 'fails with the right body too'}")
+        self.tell(trial.name, mutant, verdict)
+
+
+@cache
+def mutants_of(name: str, crate: Path) -> tuple[list[Mutant], list[tuple[str, str]]]:
+    """The mutants of a crate, and those that cannot be applied, each with the reason."""
+    found, bad = [], []
+    for path in sorted((crate / "must-fail").glob("*.edit")):
+        try:
+            found.append(read_mutant(path, name, crate))
+        except BadEdit as why:
+            bad.append((path.stem, str(why)))
+    return found, bad
