@@ -248,7 +248,9 @@ class Source:
             open_ = stop = min(open_ + 1, end)
         return Item(kind, head["other"], attributes, first, start, open_, stop, self.plain[start:open_], is_test, within)
 
-    def read_function(self, head: re.Match[str], attributes: str, first: int, start: int, end: int, is_test: bool, within: Optional[Item]) -> Function:
+    def read_function(
+        self, head: re.Match[str], attributes: str, first: int, start: int, end: int, is_test: bool, within: Optional[Item]
+    ) -> Function:
         plain, at = self.plain, head.end()
         while found := BEFORE_BODY.search(plain, at, end):
             at = end_of_group(plain, found.start()) if found[0] in "([" else found.start()

@@ -82,9 +82,11 @@ class Bodies:
         old, new, changed = find(before), find(before if text is None else text), find(wrong)
         if not old or not new or not changed or old.name == "main" or old.is_of_trait:
             return None
+        is_alone = is_changed_alone(before, wrong, old, changed)
         # A right text may call the function: in a copy that is a call of the crate's own.
-        is_right = text is not None and text != wrong
-        if calls_itself(wrong, changed) or not is_changed_alone(before, wrong, old, changed) or is_right and not is_changed_alone(before, str(text), old, new):
+        if text is not None and text != wrong:
+            is_alone = is_alone and is_changed_alone(before, text, old, new)
+        if calls_itself(wrong, changed) or not is_alone:
             return None
         name = f"{path}_tried_{self.made}"
         return Copy(path, name, file, old.end, "\n\n" + named(before if text is None else text, new, name.rsplit("::", 1)[1]))

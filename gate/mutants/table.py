@@ -42,7 +42,8 @@ class Table:
         is_asked = lambda name: name.split("/")[0] in crates
         table = f"gate/{self.file.name}"
         yield from (f"{name} is written down in {table}, and there is no such file" for name in self.kinds if is_asked(name) and name not in found)
-        yield from (f"{name} is not written down in {table} (gate/try-wrong-bodies --store)" for name in found if is_asked(name) and name not in self.kinds)
+        more = (name for name in found if is_asked(name) and name not in self.kinds)
+        yield from (f"{name} is not written down in {table} (gate/try-wrong-bodies --store)" for name in more)
         yield from (f"{name} is not a mutant: its name does not end in .edit" for name in others if is_asked(name))
         kinds = set(self.kinds.values()) - {"-"}
         yield from (f"{table}: there is no mutant of the promised kind: {kind}" for kind in self.promised if kind not in kinds)
