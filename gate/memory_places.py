@@ -72,6 +72,9 @@ class Place:
     text: str
     why: str  # why it may not stand there, or nothing
 
+    def __str__(self) -> str:
+        return f"{self.file}:{self.line}: {self.why}" + (f": {self.text}" if self.text else "")
+
 
 def call_before(line: str, end: int) -> str:
     """The text of the call that ends at a place of a line, with what it is called on."""
