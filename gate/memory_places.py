@@ -92,10 +92,10 @@ class Code:
         self.path, self.source = path, source
         plain = source.plain
         for item in source.items:
-            is_left_out = item.is_test or item.kind in ("use", "ghost")
-            if is_left_out or isinstance(item, Function):
-                start, end = (item.first, item.end) if is_left_out else (item.name_end, item.open)
-                plain = plain[:start] + re.sub(r"[^\n]", " ", plain[start:end]) + plain[end:]
+            start, end = item.first, item.end
+            if not (item.is_test or item.kind in ("use", "ghost")):
+                start, end = (item.name_end, item.open) if isinstance(item, Function) else (end, end)
+            plain = plain[:start] + re.sub(r"[^\n]", " ", plain[start:end]) + plain[end:]
         self.lines = [line.rstrip() for line in plain.split("\n")]
         self.functions = [function for function in source.functions if not function.is_test]
         self.function_at = self.by_line(self.functions)
