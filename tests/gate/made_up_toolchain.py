@@ -110,7 +110,8 @@ class Repository:
 
     def __init__(self, edits, source=SOURCE):
         self.root = Path(tempfile.mkdtemp(prefix="test-proofs-"))
-        self.crate = self.root / "crates" / "one"
+        self.crate = self.root / "crates/one"
+        self.must_fail = self.crate / "must-fail"
         for folder in ("src", "must-fail", "proofs/sum", "proofs/most", "out"):
             (self.crate / folder).mkdir(parents=True)
         (self.crate / "src/lib.rt").write_text(source)
@@ -118,7 +119,7 @@ class Repository:
         for name in ("sum", "most"):
             (self.crate / f"proofs/{name}/Answers.antt").write_text("use Rattle.std.{refl}\n\npub returns : goal.returns\nreturns c = fits\n")
         for name, text in edits.items():
-            (self.crate / "must-fail" / f"{name}.edit").write_text(text)
+            (self.must_fail / f"{name}.edit").write_text(text)
         (self.root / "crates.txt").write_text("# NAME: what it stands on\none: indexmap\n")
         shutil.copytree(GATE, self.root / "gate")
         self.table = self.root / "gate/wrong-bodies.tsv"
@@ -133,9 +134,18 @@ class Repository:
         kept = {"XDG_CACHE_HOME": str(self.root / "kept")}
         return {**os.environ, "RT": str(self.rt), "TMPDIR": str(self.temporary), "PYTHONDONTWRITEBYTECODE": "1", **kept, **more}
 
-    def run(self, *words, script="try-wrong-bodies", **more):
-        environment = self.environment(**more)
-        return subprocess.run([str(self.root / "gate" / script), *words], capture_output=True, text=True, env=environment, check=False)
+    def script(self, name="try-wrong-bodies"):
+        return str(self.root / "gate" / name)
+
+    def run(self, *words, script="try-wrong-bodies", before=None, **more):
+        """Runs a command of the gate, with something done before in its process, and more in its environment."""
+        how = {"env": self.environment(**more), "preexec_fn": before}
+        return subprocess.run([self.script(script), *words], capture_output=True, text=True, check=False, **how)
+
+    def log(self):
+        """The calls of the toolchain."""
+        log = self.root / "log"
+        return log.read_text().splitlines() if log.exists() else []
 
     def left(self):
         """What is left in the folder of temporary files."""
