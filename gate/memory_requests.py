@@ -17,7 +17,8 @@ from pathlib import Path
 from typing import Optional
 
 from memory_places import SELF
-from rattle_source import Function, Source, apart, end_of_group, find_outside
+from mutants.edits import parts_of
+from rattle_source import Function, Source, end_of_group, find_outside
 
 Request = tuple[str, str, str]  # the file, the function, and what it asks for
 
@@ -113,14 +114,11 @@ class Requests:
     def definitions(self, path: str, size: str, before: str) -> list[str]:
         """How the names of an expression get their values, down to what the function is passed."""
         found: list[str] = []
-        left, seen = names_in(size), set()
-        while left:
-            name = left.pop(0)
-            if name not in seen:
-                seen.add(name)
-                more = [text for text in [*values(before, name), *self.constant(path, name)] if text not in found]
-                found += more
-                left += names_in(*more)
+        names = names_in(size)
+        for name in names:
+            more = [text for text in [*values(before, name), *self.constant(path, name)] if text not in found]
+            found += more
+            names += [one for one in dict.fromkeys(names_in(*more)) if one not in names]
         return found
 
     def constant(self, path: str, name: str) -> list[str]:
@@ -206,10 +204,7 @@ def split_arguments(text: str, comma: str = ",") -> list[str]:
 
 def passed_as(function: Function, name: str) -> Optional[int]:
     """The position of a number among the arguments that calls of a function have, or None if it is not passed so."""
-    signature = function.signature
-    given = apart(inside(signature, signature.find("(", signature.find(f"fn {function.name}"))))
-    if given and re.fullmatch(r"\s*(?:&(?:'\w+ )?)?(?:mut )?self\s*", given[0]):
-        del given[0]
+    given = [one for one in parts_of(function.signature)[0] if not re.fullmatch(r"(?:&(?:'\w+ )?)?(?:mut )?self", one)]
     for position, one in enumerate(given):
         called, _, kind = one.partition(":")
         if called.strip().removeprefix("mut ") == name and NUMBER.fullmatch(kind.strip()):
@@ -225,7 +220,6 @@ def may_be_call(function: Function, body: str, place: int) -> bool:
         return SELF.search(function.signature) is not None and function.name not in OF_LISTS
     if found := re.search(r"(\w+)(?:<[^<>]*>)?\s*::$", before):
         name = found[1]
-        if owner is None:
-            return name[0].islower()
-        return name[0].isupper() and (name == "Self" or re.search(rf"\b{name}\b", owner.head) is not None)
+        is_of_owner = owner is not None and (name == "Self" or re.search(rf"\b{name}\b", owner.head) is not None)
+        return is_of_owner if name[0].isupper() else owner is None and name[0].islower()
     return owner is None
