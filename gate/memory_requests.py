@@ -36,6 +36,7 @@ OF_LISTS = {"push", "insert", "get", "pop", "extend", "contains", "position"}
 PARAMETERS = r"\s*(?:::\s*<[^()]*?>\s*)?"
 LOOP = re.compile(r"\b(?:loop|while|for)\b(?!\s*<)")
 NUMBER = re.compile(r"(?:usize|isize|[ui](?:8|16|32|64|128))")
+CONSTANT = re.compile(rf"[^:]*:\s*{NUMBER.pattern}\s*=.*")
 # A name of a value in an expression: of no method, function, field, type or path.
 NAME = re.compile(r"(?<![\w:])(?:(?<!\.)|(?<=\.\.))(?!(?:as|in|mut|self)\b)([a-zA-Z_]\w*)\b(?!\s*(?:\(|::|!))")
 
@@ -51,11 +52,6 @@ def allocating() -> set[str]:
                 found.add(name)
     assert {"push", "reserve", "resize_with", "to_vec"} <= found, f"no sources of the toolchain's libraries below {folder}"
     return found | OF_TRAITS
-
-
-def at_once() -> str:
-    """A pattern of the names that ask for an amount at once."""
-    return "|".join(sorted(allocating() - ONE_MORE - COMMON))
 
 
 def words(text: str) -> str:
@@ -85,15 +81,16 @@ class Requests:
 
     def all(self) -> list[Request]:
         """Each request as (file, function, what it asks for), one for each place."""
-        request = re.compile(rf"(?<!\w)(?:(?P<name>{at_once()}){PARAMETERS}\(|(?P<heap>{ON_THE_HEAP})\(|(?P<macro>vec|format)!\s*[\[(])")
-        growing = re.compile(rf"(?<!\w)(?:{at_once()}|{'|'.join(sorted({*ONE_MORE, *self.alone}))}){PARAMETERS}\(|\bvec!\s*\[")
+        at_once = "|".join(sorted(allocating() - ONE_MORE - COMMON))  # the names that ask for an amount
+        request = re.compile(rf"(?<!\w)(?:(?P<name>{at_once}){PARAMETERS}\(|(?P<heap>{ON_THE_HEAP})\(|(?P<macro>vec|format)!\s*[\[(])")
+        growing = re.compile(rf"(?<!\w)(?:{at_once}|{'|'.join(sorted({*ONE_MORE, *self.alone}))}){PARAMETERS}\(|\bvec!\s*\[")
         for path, function, body in self.functions:
             for found in request.finditer(body):
                 self.ask(path, function, body, found)
             self.ask_in_loops(path, function, body, growing)
         asking = {path for path, _, _ in self.found}
         constants = ((path, text) for texts in self.constants.values() for path, text in texts.items())
-        self.found += [(path, "-", text) for path, text in constants if path in asking and is_number(text)]
+        self.found += [(path, "-", text) for path, text in constants if path in asking and CONSTANT.fullmatch(text)]
         return sorted(self.found)
 
     def ask(self, path: str, function: Function, body: str, found: re.Match[str]) -> None:
@@ -164,10 +161,6 @@ def values(before: str, name: str) -> Iterator[str]:
         yield until(found, "{;")
     for found in re.finditer(rf"(?<=[{{,}}])(?P<pattern>[^,{{}};]*\b{name}\b[^,{{}};]*)=>", before):
         yield words(f"{head_around(before, found.start())} {{ {found['pattern'].strip()} }}")
-
-
-def is_number(constant: str) -> bool:
-    return NUMBER.fullmatch(re.sub(r"^[^:]*:\s*|\s*=.*$", "", constant)) is not None
 
 
 def head_around(body: str, place: int) -> str:
