@@ -254,8 +254,8 @@ class Memory:
         found = re.search(r"error\.fault\([A-Za-z0-9:]+, ", code.lines[n])
         if found and not has_word(found[0]):
             return ""
-        m = n
-        while "=>" not in code.lines[m] and (m == n or code.lines[m].endswith("(")):
+        m = n if "=>" in code.lines[n] else code.holder(n)
+        while "=>" not in code.lines[m] and code.lines[m].endswith("("):
             m = code.holder(m)
         if "=>" in code.lines[m] and (m == n or code.lines[m].endswith(("(", "=> {"))):
             return self.why_on_arm(code, m)
