@@ -88,7 +88,7 @@ test: $(PROVED)
 	gate/check-promises
 	gate/check-memory-faults
 	gate/check-adapters
-	gate/describe-crates --check
+	docs/describe-crates --check
 	$(MAKE) --no-print-directory check
 
 # What is built is tested, side by side: some four minutes. The static programs are only linked. `make all lib` is enough to run this; what
@@ -133,10 +133,10 @@ test-checks:
 	tests/gate/test-checks
 
 test-pages:
-	tests/gate/test-pages
+	tests/documents/test-pages
 
 test-switches:
-	tests/gate/test-switches
+	tests/bench/test-switches
 
 gate:
 	RT=$(RT) gate/run

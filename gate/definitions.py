@@ -28,18 +28,13 @@ def without_comments(text: str) -> str:
 def use_of(line: str) -> Optional[Use]:
     """A `use` line in parts, or None."""
     use = USE.match(line.strip())
-    return (bool(use[1]), use[2], [it.strip() for it in (use[3] or "").split(",") if it.strip()], use[4]) if use else None
+    return (bool(use[1]), use[2], [name.strip() for name in (use[3] or "").split(",") if name.strip()], use[4]) if use else None
 
 
-def parts_of(name: str) -> list[str]:
-    """The words of a name with places for its arguments, such as ◌∈◌."""
-    return [it for it in name.split("◌") if it]
-
-
-def first_name(line: str) -> str:
-    """The name that a line at the margin begins with, after the words that say what it is."""
-    head = HEAD.match(line)
-    return head[1].rstrip(":") if head else ""
+def renamed(name: str) -> tuple[str, str]:
+    """A name of a `use` line, and the one by which it is called there."""
+    given, _, called = name.partition(" as ")
+    return given, called or given
 
 
 class Module:
@@ -55,33 +50,38 @@ class Module:
         name: Optional[str] = None
         for line in without_comments(text).split("\n"):
             if use := use_of(line) if not line.startswith(" ") else None:
-                self.imports += line + "\n"
                 self.uses.append(use)
                 name = None
-            elif line.startswith("infix"):
+            if use or line.startswith("infix"):
                 self.imports += line + "\n"
-            elif line[:1] not in ("", " "):
-                first = first_name(line)
-                # An equation begins with the name, or with an argument of an infix one.
-                if line != "}" and not BEGINS.match(line) and first != name and "◌" not in (name or ""):
-                    self.strays.append(line)
-                name = first if BEGINS.match(line) or name is None else name
+                continue
+            if line[:1] not in ("", " "):
+                name = self.begun(line, name)
+            if name is not None:
                 self.own[name] = self.own.get(name, "") + line + "\n"
-                if " data " in f" {line}":
-                    self.constructors[name] = []
-            elif name is not None:
-                self.own[name] += line + "\n"
                 if name in self.constructors and (found := re.match(r"\s+(?:pub )?([^:]+) :", line)):
                     self.constructors[name] += found[1].split()
+
+    def begun(self, line: str, name: Optional[str]) -> str:
+        """The name of the definition that a line at the margin is of, after one of another name or none."""
+        head = HEAD.match(line)
+        first = head[1].rstrip(":") if head else ""
+        # An equation begins with the name, or with an argument of an infix one.
+        if line != "}" and not BEGINS.match(line) and first != name and "◌" not in (name or ""):
+            self.strays.append(line)
+        name = first if BEGINS.match(line) or name is None else name
+        if " data " in f" {line}":
+            self.constructors[name] = []
+        return name
 
 
 class Definitions:
     def __init__(self, root: Union[str, Path]) -> None:
-        root = Path(root)
+        crates = Path(root) / "crates"
         self.modules: dict[str, Module] = {}
-        for path in sorted(root.glob("crates/*/specs/**/*.antt")):
-            crate, inside = path.relative_to(root / "crates").parts[0], path.relative_to(root / "crates").with_suffix("").parts[1:]
-            self.modules[".".join(["Rattle", crate, *inside])] = Module("/".join([crate, *inside]), path.read_text(encoding="utf-8"))
+        for path in sorted(crates.glob("*/specs/**/*.antt")):
+            parts = path.relative_to(crates).with_suffix("").parts
+            self.modules[".".join(["Rattle", *parts])] = Module("/".join(parts), path.read_text(encoding="utf-8"))
 
     def find(self, module: str, name: str) -> Optional[Named]:
         """The definition that a module has or passes on under a name: (its module, its name), or None if it is none of ours.
@@ -89,17 +89,16 @@ class Definitions:
         A constant of the code, which the module `TheConstants` of its file has, is found so too."""
         if module.endswith(CONSTANTS):
             return module, name
-        it = self.modules.get(module)
-        if it is None:
+        if module not in self.modules:
             return None
-        for own in it.own:
-            if own == name or name in it.constructors.get(own, ()):
+        known = self.modules[module]
+        for own in known.own:
+            if own == name or name in known.constructors.get(own, ()):
                 return module, own
-        for passes_on, of, names, _ in it.uses:
-            for one in names if passes_on else ():
-                given, _, called = one.partition(" as ")
-                if (called or given) == name:
-                    return self.find(of, given)
+        for passes_on, other, names, _ in known.uses:
+            for given, called in map(renamed, names if passes_on else ()):
+                if called == name:
+                    return self.find(other, given)
         return None
 
     def known_in(self, module: str) -> tuple[dict[str, Named], dict[str, str]]:
@@ -111,15 +110,14 @@ class Definitions:
         """The definitions that `use` lines bring by their names, and the modules."""
         names: dict[str, Named] = {}
         modules: dict[str, str] = {}
-        for _, of, given, alias in uses:
-            first, _, rest = of.partition(".")
-            of = ".".join(filter(None, [modules.get(first, first), rest]))
+        for _, module, given, alias in uses:
+            first, dot, rest = module.partition(".")
+            module = modules.get(first, first) + dot + rest
             if not given:
-                modules[alias or of.rpartition(".")[2]] = of
-            for one in given:
-                name, _, called = one.partition(" as ")
-                if found := self.find(of, name):
-                    names[called or name] = found
+                modules[alias or module.rpartition(".")[2]] = module
+            for name, called in map(renamed, given):
+                if found := self.find(module, name):
+                    names[called] = found
         return names, modules
 
     def used_by(self, module: str, name: str) -> set[Named]:
@@ -130,15 +128,12 @@ class Definitions:
 
     def used_in(self, text: str, names: dict[str, Named], modules: dict[str, str]) -> set[Named]:
         """The definitions that a text names, under the names and modules that are known there, or by the whole name."""
-        by_word = {word: found for it, found in names.items() for word in parts_of(it)}
-        found = {by_word[it] for it in NAME.findall(re.sub(r"(?<=[\w)])\.[^\s(){}\[\],;]+", " ", text)) if it in by_word}
-        for alias, more in re.findall(r"\b(\w+)\.(\w+)", text):
-            if alias in modules and (it := self.find(modules[alias], more)):
-                found.add(it)
-        for of, more in re.findall(r"\b(Rattle\.[\w.]+)\.(\w+)", text):
-            if it := self.find(of, more):
-                found.add(it)
-        return found
+        # a name with places for its arguments, such as ◌∈◌, by each of its words
+        by_word = {word: found for name, found in names.items() for word in name.split("◌") if word}
+        used = {by_word[word] for word in NAME.findall(re.sub(r"(?<=[\w)])\.[^\s(){}\[\],;]+", " ", text)) if word in by_word}
+        dotted = [(modules[alias], name) for alias, name in re.findall(r"\b(\w+)\.(\w+)", text) if alias in modules]
+        dotted += re.findall(r"\b(Rattle\.[\w.]+)\.(\w+)", text)
+        return used | {found for module, name in dotted if (found := self.find(module, name))}
 
     def closure(self, module: str, name: str, without: Collection[str] = ()) -> set[Named]:
         """All definitions that one is made of, and itself; none that only the left-out ones need."""

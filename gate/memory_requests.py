@@ -16,7 +16,9 @@ from functools import cache
 from pathlib import Path
 from typing import Optional
 
-from rattle_source import Function, Source, apart, end_of_group, find_outside
+from memory_places import SELF
+from mutants.edits import parts_of
+from rattle_source import Function, Source, end_of_group, find_outside
 
 Request = tuple[str, str, str]  # the file, the function, and what it asks for
 
@@ -34,6 +36,9 @@ OF_LISTS = {"push", "insert", "get", "pop", "extend", "contains", "position"}
 PARAMETERS = r"\s*(?:::\s*<[^()]*?>\s*)?"
 LOOP = re.compile(r"\b(?:loop|while|for)\b(?!\s*<)")
 NUMBER = re.compile(r"(?:usize|isize|[ui](?:8|16|32|64|128))")
+CONSTANT = re.compile(rf"[^:]*:\s*{NUMBER.pattern}\s*=.*")
+# A name of a value in an expression: of no method, function, field, type or path.
+NAME = re.compile(r"(?<![\w:])(?:(?<!\.)|(?<=\.\.))(?!(?:as|in|mut|self)\b)([a-zA-Z_]\w*)\b(?!\s*(?:\(|::|!))")
 
 
 @cache
@@ -41,188 +46,173 @@ def allocating() -> set[str]:
     """The names of the toolchain's functions and methods that may be refused memory."""
     page = subprocess.run([os.environ.get("RT", "rt"), "doc"], capture_output=True, text=True, check=True).stdout.strip()
     folder, found = Path(page).parent / "rattle", set()
-    for library in LIBRARIES:
-        for path in (folder / library / "src").rglob("*.rt"):
-            for name, signature in SIGNATURE.findall(path.read_text(encoding="utf-8")):
-                if re.search(r"->.*\bAlloc(?:Error|Failed)\b", " ".join(signature.split())):
-                    found.add(name)
+    for path in (path for library in LIBRARIES for path in (folder / library / "src").rglob("*.rt")):
+        for name, signature in SIGNATURE.findall(path.read_text(encoding="utf-8")):
+            if re.search(r"->.*\bAlloc(?:Error|Failed)\b", words(signature)):
+                found.add(name)
     assert {"push", "reserve", "resize_with", "to_vec"} <= found, f"no sources of the toolchain's libraries below {folder}"
     return found | OF_TRAITS
-
-
-def at_once() -> str:
-    """A pattern of the names that ask for an amount at once."""
-    return "|".join(sorted(allocating() - ONE_MORE - COMMON))
 
 
 def words(text: str) -> str:
     return " ".join(text.split())
 
 
-def names_in(text: str) -> list[str]:
-    """The names of values in an expression: no method, function, field, type or path."""
-    return [it for it in dict.fromkeys(re.findall(r"(?<![\w:])(?:(?<!\.)|(?<=\.\.))([a-zA-Z_]\w*)\b(?!\s*(?:\(|::|!))", text)) if it not in ("as", "in", "mut", "self")]
+def names_in(*texts: str) -> list[str]:
+    """The names of values in some expressions, each once in each."""
+    return [name for text in texts for name in dict.fromkeys(NAME.findall(text))]
 
 
 class Requests:
     """What the functions of some sources ask for."""
 
     def __init__(self, sources: dict[str, Source], alone: Iterable[str]) -> None:
-        self.functions = [(path, it, source.body(it)) for path, source in sources.items() for it in source.functions if not it.is_test]
+        self.functions = [(path, one, source.body(one)) for path, source in sources.items() for one in source.functions if not one.is_test]
         self.constants: dict[str, dict[str, str]] = {}
         for path, source in sources.items():
-            for it in source.items:
-                if it.kind in ("const", "static") and not it.is_test:
-                    text = words(source.text[it.start : it.end]).rstrip(";").removeprefix("pub ")
-                    self.constants.setdefault(it.name, {})[path] = text
+            for item in source.items:
+                if item.kind in ("const", "static") and not item.is_test:
+                    text = words(source.text[item.start : item.end]).rstrip(";").removeprefix("pub ")
+                    self.constants.setdefault(item.name, {})[path] = text
         # the functions and methods that fail only out of memory, by their bare names
-        self.alone = {re.split(r"[.:]+", it)[-1] for it in alone} - {"new"}
+        self.alone = {re.split(r"[.:]+", name)[-1] for name in alone} - {"new"}
         self.found: list[Request] = []
         self.followed: set[tuple[str, str]] = set()
 
     def all(self) -> list[Request]:
         """Each request as (file, function, what it asks for), one for each place."""
-        request = re.compile(rf"(?<!\w)(?:(?P<name>{at_once()}){PARAMETERS}\(|(?P<heap>{ON_THE_HEAP})\(|(?P<macro>vec|format)!\s*[\[(])")
-        growing = re.compile(rf"(?<!\w)(?:{at_once()}|{'|'.join(sorted({*ONE_MORE, *self.alone}))}){PARAMETERS}\(|\bvec!\s*\[")
-        for path, it, body in self.functions:
+        at_once = "|".join(sorted(allocating() - ONE_MORE - COMMON))  # the names that ask for an amount
+        request = re.compile(rf"(?<!\w)(?:(?P<name>{at_once}){PARAMETERS}\(|(?P<heap>{ON_THE_HEAP})\(|(?P<macro>vec|format)!\s*[\[(])")
+        growing = re.compile(rf"(?<!\w)(?:{at_once}|{'|'.join(sorted({*ONE_MORE, *self.alone}))}){PARAMETERS}\(|\bvec!\s*\[")
+        for path, function, body in self.functions:
             for found in request.finditer(body):
-                self.ask(path, it, body, found)
-            self.ask_in_loops(path, it, body, growing)
+                self.ask(path, function, body, found)
+            self.ask_in_loops(path, function, body, growing)
         asking = {path for path, _, _ in self.found}
-        for of in self.constants.values():
-            self.found += [(path, "-", text) for path, text in of.items() if path in asking and is_number(text)]
+        constants = ((path, text) for texts in self.constants.values() for path, text in texts.items())
+        self.found += [(path, "-", text) for path, text in constants if path in asking and CONSTANT.fullmatch(text)]
         return sorted(self.found)
 
-    def ask(self, path: str, it: Function, body: str, found: re.Match[str]) -> None:
+    def ask(self, path: str, function: Function, body: str, found: re.Match[str]) -> None:
         """Notes a request with the expression of its size."""
         name = found["name"] or found["heap"] or f"{found['macro']}!"
-        what = words(body[found.end() : end_of_group(body, found.end() - 1) - 1])
+        what = words(inside(body, found.end() - 1))
         given = split_arguments(what, ";" if name == "vec!" else ",") or [""]
         size = given[0] if name.removeprefix("try_").startswith(("reserve", "resize")) else given[-1]
-        self.note(path, it, f"{name}({what})", size, body[: found.start()])
+        self.note(path, function, f"{name}({what})", size, body[: found.start()])
 
-    def note(self, path: str, it: Function, what: str, size: str, before: str) -> None:
+    def note(self, path: str, function: Function, what: str, size: str, before: str) -> None:
         """Notes a request, or a call that passes its size on, and follows the numbers that the function is passed."""
         known = self.definitions(path, size, before)
-        self.found.append((path, it.name, "; ".join([what, *known])))
-        for name in dict.fromkeys(names_in(size) + [one for more in known for one in names_in(more)]):
-            self.follow(it, name)
+        self.found.append((path, function.name, "; ".join([what, *known])))
+        for name in dict.fromkeys(names_in(size, *known)):
+            self.follow(function, name)
 
     def definitions(self, path: str, size: str, before: str) -> list[str]:
         """How the names of an expression get their values, down to what the function is passed."""
-        found, left, seen = [], names_in(size), set()
-        while left:
-            name = left.pop(0)
-            if name not in seen:
-                seen.add(name)
-                more = [it for it in [*values(before, name), *self.constant(path, name)] if it not in found]
-                found += more
-                left += [one for it in more for one in names_in(it)]
+        found: list[str] = []
+        names = names_in(size)
+        for name in names:
+            more = [text for text in [*values(before, name), *self.constant(path, name)] if text not in found]
+            found += more
+            names += [one for one in dict.fromkeys(names_in(*more)) if one not in names]
         return found
 
     def constant(self, path: str, name: str) -> list[str]:
-        of = self.constants.get(name, {})
-        return [of[path]] if path in of else sorted(set(of.values()))
+        texts = self.constants.get(name, {})
+        return [texts[path]] if path in texts else sorted(set(texts.values()))
 
-    def follow(self, it: Function, name: str) -> None:
+    def follow(self, function: Function, name: str) -> None:
         """Notes what each call passes for a number that a function takes. Calls of methods that lists have too are not told apart."""
-        at = passed_as(it, name)
-        if at is None or (it.path, name) in self.followed:
+        position = passed_as(function, name)
+        if position is None or (function.path, name) in self.followed:
             return
-        self.followed.add((it.path, name))
-        called = re.compile(rf"(?<!\w){it.name}{PARAMETERS}\(")
+        self.followed.add((function.path, name))
+        called = re.compile(rf"(?<!\w){function.name}{PARAMETERS}\(")
         for path, caller, body in self.functions:
             for found in called.finditer(body):
-                given = split_arguments(body[found.end() : end_of_group(body, found.end() - 1) - 1])
-                if may_be_call(it, body, found.start()) and at < len(given):
-                    size = words(given[at])
-                    self.note(path, caller, f"{name} of {it.name}: {size}", size, body[: found.start()])
+                given = split_arguments(inside(body, found.end() - 1))
+                if may_be_call(function, body, found.start()) and position < len(given):
+                    size = words(given[position])
+                    self.note(path, caller, f"{name} of {function.name}: {size}", size, body[: found.start()])
 
-    def ask_in_loops(self, path: str, it: Function, body: str, growing: re.Pattern[str]) -> None:
+    def ask_in_loops(self, path: str, function: Function, body: str, growing: re.Pattern[str]) -> None:
         """Notes the requests and the calls that fail only out of memory that stand in a loop, each with the head of its innermost loop."""
         loops = list(loops_of(body))
         for found in growing.finditer(body) if loops else ():
             around = [(start, head) for start, end, head in loops if start < found.start() < end]
             if around:
                 start = len(re.sub(r"[\w.:]*$", "", body[: found.start()]))
-                call = words(body[start : end_of_group(body, found.end() - 1)])
-                start, head = max(around)
+                head = max(around)[1]
                 times = head.partition(" in ")[2] if head.startswith("for ") else ""
-                self.note(path, it, f"{call} in `{head}`", times, body[:start])
+                self.note(path, function, f"{words(body[start : end_of_group(body, found.end() - 1)])} in `{head}`", times, body[:start])
 
 
 def values(before: str, name: str) -> Iterator[str]:
     """The statements that give a name its value: `let`, assignments, and the heads of loops and matches that bind it."""
+    until = lambda found, letters: words(before[found.start() : find_outside(before, found.end(), len(before), letters)])
     for found in re.finditer(rf"(?P<if>\b(?:if|while)\s+)?\blet\b(?P<pattern>[^=;{{}}]*\b{name}\b[^=;{{}}]*)=(?!=)", before):
-        end = find_outside(before, found.end(), len(before), "{;" if found["if"] else ";")
-        text = words(before[found.start() : end])
+        text = until(found, "{;" if found["if"] else ";")
         yield text.partition(" else {")[0] if "(" in found["pattern"] else text
     for found in re.finditer(rf"(?<![\w.]){name}(?:\[[^\]]*\])?\s*(?:[-+*/%|&^]|<<|>>)?=(?![=>])", before):
         if not re.search(r"\blet\b[^;{}]*$", before[: found.start()]):
-            yield words(before[found.start() : find_outside(before, found.end(), len(before), ";")])
+            yield until(found, ";")
     for found in re.finditer(rf"\bfor\b[^;{{}}]*\b{name}\b[^;{{}}]*\bin\b", before):
-        yield words(before[found.start() : find_outside(before, found.end(), len(before), "{;")])
+        yield until(found, "{;")
     for found in re.finditer(rf"(?<=[{{,}}])(?P<pattern>[^,{{}};]*\b{name}\b[^,{{}};]*)=>", before):
         yield words(f"{head_around(before, found.start())} {{ {found['pattern'].strip()} }}")
-
-
-def is_number(constant: str) -> bool:
-    return NUMBER.fullmatch(re.sub(r"^[^:]*:\s*|\s*=.*$", "", constant)) is not None
 
 
 def head_around(body: str, place: int) -> str:
     """The head of the block in which a place stands."""
     depth = 0
-    for at in range(place - 1, -1, -1):
-        depth += {"}": 1, "{": -1}.get(body[at], 0)
+    for start in range(place - 1, -1, -1):
+        depth += {"}": 1, "{": -1}.get(body[start], 0)
         if depth < 0:
-            return re.split("[;{}]", body[:at])[-1].strip()
+            return re.split("[;{}]", body[:start])[-1].strip()
     return ""
 
 
 def loops_of(body: str) -> Iterator[tuple[int, int, str]]:
     """The loops of a body: (where its braces begin and end, its head)."""
     for found in LOOP.finditer(body):
-        at = found.end()
-        while at < len(body) and body[at] not in "{;":
-            at = end_of_group(body, at) if body[at] in "([" else at + 1
-        if at < len(body) and body[at] == "{":
-            yield at, end_of_group(body, at), words(body[found.start() : at])
+        start = find_outside(body, found.end(), len(body), "{;")
+        if body[start : start + 1] == "{":
+            yield start, end_of_group(body, start), words(body[found.start() : start])
+
+
+def inside(text: str, start: int) -> str:
+    """What stands in the bracket that begins at a place."""
+    return text[start + 1 : end_of_group(text, start) - 1]
 
 
 def split_arguments(text: str, comma: str = ",") -> list[str]:
-    parts, depth = [""], 0
-    for letter in text:
-        depth += {"(": 1, "[": 1, "{": 1, ")": -1, "]": -1, "}": -1}.get(letter, 0)
-        if letter == comma and depth == 0:
-            parts.append("")
-        else:
-            parts[-1] += letter
-    return [it for it in parts if it.strip()]
+    parts, start = [], 0
+    while start < len(text):
+        end = find_outside(text, start, len(text), comma)
+        parts.append(text[start:end])
+        start = end + 1
+    return [part for part in parts if part.strip()]
 
 
-def passed_as(it: Function, name: str) -> Optional[int]:
+def passed_as(function: Function, name: str) -> Optional[int]:
     """The position of a number among the arguments that calls of a function have, or None if it is not passed so."""
-    start = it.signature.find("(", it.signature.find(f"fn {it.name}"))
-    given = apart(it.signature[start + 1 : end_of_group(it.signature, start) - 1])
-    has_self = bool(given) and re.fullmatch(r"\s*(?:&(?:'\w+ )?)?(?:mut )?self\s*", given[0]) is not None
-    for at, one in enumerate(given[1:] if has_self else given):
-        of, _, kind = one.partition(":")
-        if of.strip().removeprefix("mut ") == name and NUMBER.fullmatch(kind.strip()):
-            return at
+    given = [one for one in parts_of(function.signature)[0] if not re.fullmatch(r"(?:&(?:'\w+ )?)?(?:mut )?self", one)]
+    for position, one in enumerate(given):
+        called, _, kind = one.partition(":")
+        if called.strip().removeprefix("mut ") == name and NUMBER.fullmatch(kind.strip()):
+            return position
     return None
 
 
-def may_be_call(it: Function, body: str, place: int) -> bool:
+def may_be_call(function: Function, body: str, place: int) -> bool:
     """Whether a call at a place may be one of a function: of a method by its dot, of one of a type by the type, of a free one by neither."""
     before = body[max(0, place - 80) : place].rstrip()
-    of = it.within if it.within is not None and it.within.kind in ("impl", "trait") else None
-    is_method = re.search(r"\((?:&(?:'\w+ )?|&?(?:'\w+ )?mut )?self\b", it.signature) is not None
+    owner = function.within if function.within is not None and function.within.kind in ("impl", "trait") else None
     if before.endswith("."):
-        return is_method and it.name not in OF_LISTS
+        return SELF.search(function.signature) is not None and function.name not in OF_LISTS
     if found := re.search(r"(\w+)(?:<[^<>]*>)?\s*::$", before):
         name = found[1]
-        if of is None:
-            return name[0].islower()
-        return name[0].isupper() and (name == "Self" or re.search(rf"\b{name}\b", of.head) is not None)
-    return of is None
+        is_of_owner = owner is not None and (name == "Self" or re.search(rf"\b{name}\b", owner.head) is not None)
+        return is_of_owner if name[0].isupper() else owner is None and name[0].islower()
+    return owner is None

@@ -1,4 +1,5 @@
-"""A toolchain that is made up, and a repository of one crate for it, so that tests of the gate prove nothing and take no time.
+"""A toolchain that is made up, and a repository of one crate for it, so that tests of the gate prove nothing and take no time; and repositories
+of other files with another toolchain.
 
 What a check says of a function is told by its body: `a - b` does not close `returns`; with `a * b` no stored answer fits, and without one
 `returns` is open; `a / b` is false for some values; `most` is proved with its stored answer alone. `b + a` waits for what is not proved, and
@@ -105,37 +106,35 @@ EDITS = {
 }
 
 
-class Repository:
-    """A repository of one crate with mutants, in a folder of its own, with the commands of the gate and the toolchain."""
+class Gate:
+    """A repository of some files in a folder of its own, with the commands of the gate and a toolchain."""
 
-    def __init__(self, edits, source=SOURCE):
-        self.root = Path(tempfile.mkdtemp(prefix="test-proofs-"))
-        self.crate = self.root / "crates" / "one"
-        for folder in ("src", "must-fail", "proofs/sum", "proofs/most", "out"):
-            (self.crate / folder).mkdir(parents=True)
-        (self.crate / "src/lib.rt").write_text(source)
-        (self.crate / "src/low.rt").write_text(LOW)
-        for name in ("sum", "most"):
-            (self.crate / f"proofs/{name}/Answers.antt").write_text("use Rattle.std.{refl}\n\npub returns : goal.returns\nreturns c = fits\n")
-        for name, text in edits.items():
-            (self.crate / "must-fail" / f"{name}.edit").write_text(text)
-        (self.root / "crates.txt").write_text("# NAME: what it stands on\none: indexmap\n")
+    def __init__(self, rt, texts):
+        self.root = Path(tempfile.mkdtemp(prefix="test-gate-"))
+        self.rt, self.temporary = self.root / "rt", self.root / "temporary"
         shutil.copytree(GATE, self.root / "gate")
-        self.table = self.root / "gate/wrong-bodies.tsv"
-        self.table.write_text("# made up\n" + "".join(f"one/{name}\t-\n" for name in edits))
-        self.rt = self.root / "rt"
-        self.rt.write_text(RT)
+        for name, text in {"rt": rt, **texts}.items():
+            (self.root / name).parent.mkdir(parents=True, exist_ok=True)
+            (self.root / name).write_text(text)
         self.rt.chmod(0o755)
-        self.temporary = self.root / "temporary"
         self.temporary.mkdir()
 
     def environment(self, **more):
         kept = {"XDG_CACHE_HOME": str(self.root / "kept")}
         return {**os.environ, "RT": str(self.rt), "TMPDIR": str(self.temporary), "PYTHONDONTWRITEBYTECODE": "1", **kept, **more}
 
-    def run(self, *words, script="try-wrong-bodies", **more):
-        environment = self.environment(**more)
-        return subprocess.run([str(self.root / "gate" / script), *words], capture_output=True, text=True, env=environment, check=False)
+    def script(self, name="try-wrong-bodies"):
+        return str(self.root / "gate" / name)
+
+    def run(self, *words, script="try-wrong-bodies", before=None, **more):
+        """Runs a command of the gate, with something done before in its process, and more in its environment."""
+        how = {"env": self.environment(**more), "preexec_fn": before}
+        return subprocess.run([self.script(script), *words], capture_output=True, text=True, check=False, **how)
+
+    def log(self):
+        """The calls of the toolchain."""
+        log = self.root / "log"
+        return log.read_text().splitlines() if log.exists() else []
 
     def left(self):
         """What is left in the folder of temporary files."""
@@ -146,3 +145,17 @@ class Repository:
 
     def __exit__(self, *_):
         shutil.rmtree(self.root)
+
+
+class Repository(Gate):
+    """A repository of one crate with mutants."""
+
+    def __init__(self, edits, source=SOURCE):
+        answers = "use Rattle.std.{refl}\n\npub returns : goal.returns\nreturns c = fits\n"
+        crate = {"src/lib.rt": source, "src/low.rt": LOW, "proofs/sum/Answers.antt": answers, "proofs/most/Answers.antt": answers}
+        crate |= {f"must-fail/{name}.edit": text for name, text in edits.items()}
+        texts = {"crates.txt": "# NAME: what it stands on\none: indexmap\n", **{f"crates/one/{name}": text for name, text in crate.items()}}
+        super().__init__(RT, {**texts, "gate/wrong-bodies.tsv": "# made up\n" + "".join(f"one/{name}\t-\n" for name in edits)})
+        self.crate, self.table = self.root / "crates/one", self.root / "gate/wrong-bodies.tsv"
+        self.must_fail = self.crate / "must-fail"
+        (self.crate / "out").mkdir()

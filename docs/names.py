@@ -16,6 +16,8 @@ PAGES = ("README.md", "CONTRIBUTING.md", "docs/*.md", "examples/README.md")
 # Pages that tell what was: their names need not be there any more.
 PAST = ("CHANGELOG.md", "docs/DECISIONS.md")
 ENDINGS = (".rt", ".antt", ".py", ".c", ".h", ".rows", ".md", ".svg", ".tsv", ".edit", ".txt")
+# These tests have names that are wrong on purpose.
+WRONG = ("tests/gate/", "tests/documents/", "tests/bench/")
 QUOTED = re.compile(r"`([^`\n]+)`")
 WORD = re.compile(r"[A-Za-z_][\w-]*")
 # Names of files that a user makes, or that the toolchain makes.
@@ -53,8 +55,7 @@ class Names:
         """The words of all sources: what a page names must be one of them."""
         found = set()
         for file in self.files:
-            # the tests of the gate have names that are wrong on purpose
-            if file.endswith((".md", ".svg", ".qrp", ".qdimacs", ".rows")) or file.startswith("tests/gate/"):
+            if file.endswith((".md", ".svg", ".qrp", ".qdimacs", ".rows")) or file.startswith(WRONG):
                 continue
             try:
                 text = (self.root / file).read_text(encoding="utf-8")
