@@ -55,6 +55,8 @@ INPUTS = {
     "long": Input("as `read`, with step numbers of nineteen digits", made("check", "long", 4)),
     "linked": Input("`check` of a chain of 20,000 resolutions whose step numbers have gaps", slow(gaps, 20_000)),
     "cubes": Input("`check` of initial cubes over as many clauses, and the resolutions over them", made("check", "cubes", 1)),
-    "alike": Input("`check` of 2,000 clauses that differ in reducible literals alone, with their initial steps in the reverse order", slow(alike_clauses, 2_000)),
+    "alike": Input(
+        "`check` of 2,000 clauses that differ in reducible literals alone, with their initial steps in the reverse order", slow(alike_clauses, 2_000)
+    ),
     "repeated": Input("`check` of a step that writes a literal 1,000 times, with which 1,000 steps are resolved", slow(repeated_literal, 1_000)),
 }

@@ -115,7 +115,11 @@ class Program:
             return [it for it in nodes if not it.owner]
         if before["owner"] and before["owner"] != "Self":
             return [it for it in nodes if it.owner.startswith(before["owner"]) or it.function.is_of_trait]
-        kinds = {caller.owner} if before["alone"] else self.fields.get((caller.owner if before["own"] else "", before["own"] or before["field"] or ""), set())
+        kinds = (
+            {caller.owner}
+            if before["alone"]
+            else self.fields.get((caller.owner if before["own"] else "", before["own"] or before["field"] or ""), set())
+        )
         of_kind = [it for it in nodes if it.owner in kinds or it.function.is_of_trait]
         is_known = kinds and (kinds <= OF_STD or any(it.owner in kinds for it in nodes))
         return of_kind if is_known else [it for it in nodes if it.owner]

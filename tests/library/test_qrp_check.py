@@ -107,7 +107,9 @@ def is_answered(example):
         return False
     trimmed = text_or_verdict(qrp_check.trim, *texts, **flag)
     core = text_or_verdict(qrp_check.core, *texts, **flag)
-    if trimmed != text_or_verdict(qrp_check.trim_files, *example.files, **flag) or core != text_or_verdict(qrp_check.core_files, *example.files, **flag):
+    if trimmed != text_or_verdict(qrp_check.trim_files, *example.files, **flag) or core != text_or_verdict(
+        qrp_check.core_files, *example.files, **flag
+    ):
         return False
     formatted = text_or_verdict(qrp_check.format, example.formula)
     if example.circuit is not None and not (is_circuit(example, False, example.circuit) and is_circuit(example, True, example.binary)):
@@ -156,10 +158,17 @@ def errors(example):
         says(TypeError, ["trace", "NoneType", "bytearray"], lambda: qrp_check.verify(b"", None)),
         says(TypeError, ["formula", "Path", "read_bytes", "trim_files"], lambda: qrp_check.trim(pathlib.Path("x"), b"")),
         says(TypeError, ["trace", "str", "strategy_files"], lambda: qrp_check.strategy(b"", "p qrp 0 0\n")),
-        *(says(TypeError, ["binary", "True or False", "1"], lambda call=call: call(b"", b"", binary=1)) for call in (qrp_check.strategy, qrp_check.strategy_files)),
+        *(
+            says(TypeError, ["binary", "True or False", "1"], lambda call=call: call(b"", b"", binary=1))
+            for call in (qrp_check.strategy, qrp_check.strategy_files)
+        ),
         says(OverflowError, ["verified", "no circuit", "2147483647"], lambda: without_circuit(example)),
         *(says(TypeError, ["positional argument"], lambda call=call: call(b"", b"", True)) for call in with_flag()),
-        *(says(TypeError, ["any_pivot", "True or False", repr(flag)], lambda call=call, flag=flag: call(b"", b"", any_pivot=flag)) for call in with_flag() for flag in ("no", 1, None)),
+        *(
+            says(TypeError, ["any_pivot", "True or False", repr(flag)], lambda call=call, flag=flag: call(b"", b"", any_pivot=flag))
+            for call in with_flag()
+            for flag in ("no", 1, None)
+        ),
         says(TypeError, ["trace", "bytes(..)"], lambda: qrp_check.verify(b"", text)),
         says(TypeError, ["verdict.verified"], lambda: bool(verdict)),
         says(FileNotFoundError, ["none.qdimacs"], lambda: qrp_check.verify_files("none.qdimacs", "none.qrp")),
@@ -231,7 +240,11 @@ def meanings():
     wrong = [f"{fault}: {sentence_of(fault)}" for fault, wanted in rows[1:] if sentence_of(fault) != wanted]
     for line in wrong:
         print(f"FAILED: the sentence of {line}")
-    return [rows[0] == ["fault", "sentence"] and [fault for fault, _ in rows[1:]] == names, *[True] * (len(rows) - 1 - len(wrong)), *[False] * len(wrong)]
+    return [
+        rows[0] == ["fault", "sentence"] and [fault for fault, _ in rows[1:]] == names,
+        *[True] * (len(rows) - 1 - len(wrong)),
+        *[False] * len(wrong),
+    ]
 
 
 def with_flag():

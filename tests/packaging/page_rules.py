@@ -25,9 +25,19 @@ RUN = [
     Run("docs/STRATEGY.md", "echo 'module repaired", "confirmed\n"),
     Run("docs/TUTORIAL.md", "yosys -q -p 'read_verilog examples/average/average.v; prep", "confirmed\n"),
     Run("docs/TUTORIAL.md", "yosys -q -p 'read_verilog -formal", "1\n", 'bash -e "$block"; grep -a -c "^i4 gb$" watched.aig'),
-    Run("docs/TUTORIAL.md", "yosys -q -p 'read_verilog examples/average/average.v; synth", "1\n", 'bash -e "$block"; grep -a -c "^i14 h_minus$" average.aig'),
+    Run(
+        "docs/TUTORIAL.md",
+        "yosys -q -p 'read_verilog examples/average/average.v; synth",
+        "1\n",
+        'bash -e "$block"; grep -a -c "^i14 h_minus$" average.aig',
+    ),
     Run("docs/MANY.md", "for formula in", ROWS, 'bash -e "$block"; cut -f 1-3 table'),
-    Run("docs/MANY.md", "blind-box\t", "", 'diff <(cut -f 1-3 "$block") <(grep ^blind-box table | cut -f 1-3); cut -f 4 "$block" table | grep -v "^[0-9.]*$" || true'),
+    Run(
+        "docs/MANY.md",
+        "blind-box\t",
+        "",
+        'diff <(cut -f 1-3 "$block") <(grep ^blind-box table | cut -f 1-3); cut -f 4 "$block" table | grep -v "^[0-9.]*$" || true',
+    ),
     Run("docs/MANY.md", "tools/check-many --resume", ROWS, 'bash -e "$block"; cut -f 1-3 table'),
     Run("docs/MANY.md", "#!/bin/bash", ROWS, SLURM),
     Run("docs/RULES.md", "p cnf 2 2        p qrp 2 5\ne 1 0", "VERIFIED false\n", BOTH),
@@ -45,12 +55,32 @@ RUN = [
     Run("man/qrp_cmd.1", "depqbf ", "VERIFIED true\n", 'bash "$block"; cmp f.trimmed.qrp examples/carry-from-tables/carry-from-tables.trimmed.qrp'),
     Run("man/qrp_strategy.1", "qrp_strategy ", "aag 34 3 0 20 31\naig 34 3 0 20 31\n", 'bash -e "$block"; head -q -n 1 strategy.aag strategy.aig'),
     Run("man/qrp-check.1", "qrp-check", "VERIFIED true\n"),
-    Run("man/qrp-from-aiger.1", "yosys ", "c as numbers: h_op1=0 h_op2=2\nV -1 0\nV -2 0\nV -3 0\nV 4 0\nV -5 0\n", 'cp examples/average/average.v .; bash -e "$block"; [ $? = 10 ] || true'),
+    Run(
+        "man/qrp-from-aiger.1",
+        "yosys ",
+        "c as numbers: h_op1=0 h_op2=2\nV -1 0\nV -2 0\nV -3 0\nV 4 0\nV -5 0\n",
+        'cp examples/average/average.v .; bash -e "$block"; [ $? = 10 ] || true',
+    ),
     Run("man/qrp-draw-proof.1", "qrp-draw-proof", "1\n", 'bash -e "$block"; grep -c "<svg " proof.svg'),
-    Run("man/qrp-explain.1", "qrp-explain", "p cnf 2 2\ne 1 2 0\n1 2 0\n-1 0\n", 'printf "p cnf 2 2\\n1 2 0\\n-1 0\\n" > f.dimacs; bash -e "$block" > /dev/null; cat f.qdimacs'),
+    Run(
+        "man/qrp-explain.1",
+        "qrp-explain",
+        "p cnf 2 2\ne 1 2 0\n1 2 0\n-1 0\n",
+        'printf "p cnf 2 2\\n1 2 0\\n-1 0\\n" > f.dimacs; bash -e "$block" > /dev/null; cat f.qdimacs',
+    ),
     Run("man/qrp-explain-strategy.1", "qrp-explain-strategy", "    carry_in = !box\n    a1 = true\n    b1 = false\n1\n", EXPLAINED),
-    Run("man/qrp-play.1", "qrp-play", "no variable is left, and the matrix holds: the existential player has won\n", "sed 's/1 -2 3/17 -18 19/' \"$block\" | bash -e"),
-    Run("man/qrp-used-clauses.1", "qrp-used-clauses", "VERIFIED false\n", 'cp examples/blind-box/blind-box.qrp f.qrp; cp examples/blind-box/blind-box.qdimacs f.qdimacs; bash -e "$block"; qrp_cmd check smaller.qdimacs f.qrp'),
+    Run(
+        "man/qrp-play.1",
+        "qrp-play",
+        "no variable is left, and the matrix holds: the existential player has won\n",
+        "sed 's/1 -2 3/17 -18 19/' \"$block\" | bash -e",
+    ),
+    Run(
+        "man/qrp-used-clauses.1",
+        "qrp-used-clauses",
+        "VERIFIED false\n",
+        'cp examples/blind-box/blind-box.qrp f.qrp; cp examples/blind-box/blind-box.qdimacs f.qdimacs; bash -e "$block"; qrp_cmd check smaller.qdimacs f.qrp',
+    ),
 ]
 
 TOOLCHAIN = "it needs the toolchain: .ci/run builds, and tests/packaging/test-install installs"

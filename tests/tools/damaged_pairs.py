@@ -65,7 +65,26 @@ def cut(formula, trace):
     yield "trace without its result", formula, b"".join(lines_of(trace)[:-1])
 
 
-WORDS = [b"x", b"-0", b"+1", b"%", b"p", b"r", b"a", b"e", b"d", b"s", b"-", b"99999999999", b"2147483648", b"-2147483648", b"1" * 30, b"0", b"\xff\xfe", b"1.5"]
+WORDS = [
+    b"x",
+    b"-0",
+    b"+1",
+    b"%",
+    b"p",
+    b"r",
+    b"a",
+    b"e",
+    b"d",
+    b"s",
+    b"-",
+    b"99999999999",
+    b"2147483648",
+    b"-2147483648",
+    b"1" * 30,
+    b"0",
+    b"\xff\xfe",
+    b"1.5",
+]
 
 
 def words(formula, trace):
@@ -103,7 +122,9 @@ def header_and_sets(formula, trace):
         yield f"clause {nth} without its 0", replaced(formula, rb"^(-?\d.*) 0$", rb"\1", nth), trace
         yield f"clause {nth} taken out", replaced(formula, rb"^-?\d.* 0\n", b"", nth), trace
         yield f"clause {nth} twice", replaced(formula, rb"^(-?\d.* 0\n)", rb"\1\1", nth), trace
-        yield f"clause {nth} with a free variable", replaced(replaced(formula, rb"^(-?\d)", b"%d \\1" % (variables + 1), nth), rb"cnf \d+", b"cnf %d" % (variables + 2)), trace
+        yield f"clause {nth} with a free variable", replaced(
+            replaced(formula, rb"^(-?\d)", b"%d \\1" % (variables + 1), nth), rb"cnf \d+", b"cnf %d" % (variables + 2)
+        ), trace
         yield f"clause {nth} with a sign flipped", replaced(formula, rb"^(\d)", rb"-\1", nth), trace
     yield "no quantifier set", re.sub(rb"^[ae] .*\n", b"", formula, flags=re.MULTILINE), trace
     yield "CRLF", formula.replace(b"\n", b"\r\n"), trace.replace(b"\n", b"\r\n")
@@ -144,7 +165,9 @@ def steps(formula, trace):
     yield "the result of --qdo", formula, b"".join([*texts[:-1], b"r s cnf 0 12 13\n"])
     yield "no empty step", formula, b"".join(text for text in texts if not re.match(rb"\d+ 0 ", text))
     yield "no step", formula, b"".join([*texts[:first], texts[-1]])
-    yield "the sets of the trace with other quantifiers", formula, re.sub(rb"^[ae] ", lambda m: b"e " if m[0] == b"a " else b"a ", trace, flags=re.MULTILINE)
+    yield "the sets of the trace with other quantifiers", formula, re.sub(
+        rb"^[ae] ", lambda m: b"e " if m[0] == b"a " else b"a ", trace, flags=re.MULTILINE
+    )
     yield "a set of the trace names one more", formula, replaced(trace, rb"^([ae]) ", rb"\1 999 ", 1)
     yield "a formula after the sets, as of --pretty-print", formula, b"".join([*texts[:first], formula, *texts[first:]])
 

@@ -42,7 +42,9 @@ class Use:
         options = {"stdin": subprocess.DEVNULL, "env": self.environment, **options}
         if "input" in options:
             del options["stdin"]
-        ended = subprocess.run([sys.executable, CHECK, *map(str, words)], stdout=subprocess.PIPE, stderr=subprocess.PIPE, check=False, timeout=60, **options)
+        ended = subprocess.run(
+            [sys.executable, CHECK, *map(str, words)], stdout=subprocess.PIPE, stderr=subprocess.PIPE, check=False, timeout=60, **options
+        )
         said = ended.stdout.decode(errors="replace"), ended.stderr.decode(errors="replace")
         expect(f"check {words}: no traceback, and nothing is left", "Traceback" not in said[1] and not list(self.temporary.iterdir()), said)
         return ended.returncode, *said
@@ -69,7 +71,11 @@ def try_lines(use):
         wanted = "" if out.startswith("VERIFIED") else explained.partition("\n\n")[2].replace(str(EXPLAIN.parent), str(CHECK.parent))
         expect(f"{name}: what is explained", said == wanted, (said, wanted))
         _, found, _ = use.run("--json", *flags, *files)
-        as_json = json.loads(subprocess.run([sys.executable, EXPLAIN, "--json", *flags, *files], capture_output=True, text=True, env=use.environment, check=False).stdout)
+        as_json = json.loads(
+            subprocess.run(
+                [sys.executable, EXPLAIN, "--json", *flags, *files], capture_output=True, text=True, env=use.environment, check=False
+            ).stdout
+        )
         expect(f"{name}: JSON", json.loads(found) == {**as_json, "expected": None}, (found, as_json))
 
 
@@ -92,12 +98,20 @@ def try_compressed(use):
         bad = use.file(f"bad.qrp.{ending}", pack(refused))
         status, out, said = use.run(formula, bad)
         plain_bad = use.run(FORMULA, use.file("bad.qrp", refused))
-        expect(f"{ending}: a refused proof is explained", (status, out, said) == plain_bad and status == 1 and "does not follow" in said, (status, out, said))
+        expect(
+            f"{ending}: a refused proof is explained",
+            (status, out, said) == plain_bad and status == 1 and "does not follow" in said,
+            (status, out, said),
+        )
         packed = pack(TRACE.read_bytes())
         for name, data in ("cut", packed[: len(packed) // 2]), ("damaged", packed[:40] + bytes(byte ^ 0x55 for byte in packed[40:60]) + packed[60:]):
             status, out, said = use.run(FORMULA, use.file(f"{name}.{ending}", data))
             wanted = f"{use.folder}/{name}.{ending} cannot be unpacked: "
-            expect(f"{ending}: a file that is {name}", status == 3 and not out and wanted in said and "ended with status" not in said, (status, out, said))
+            expect(
+                f"{ending}: a file that is {name}",
+                status == 3 and not out and wanted in said and "ended with status" not in said,
+                (status, out, said),
+            )
         more = use.file(f"more.{ending}", pack(TRACE.read_bytes() + b"c a word that comes later\n" * 100000))
         expect(f"{ending}: more than the program reads", use.run(FORMULA, more)[:2] == (0, "VERIFIED false\n"), use.run(FORMULA, more))
         status, _, said = use.run(FORMULA, odd, env={**use.environment, "PATH": str(use.folder)})
@@ -112,14 +126,22 @@ def try_input(use):
     ):
         expect(f"{name} by a pipe", use.run(*words, input=data) == (0, "VERIFIED false\n", ""))
         status, out, said = use.run(*words, input=b"p cnf 1 1\n")
-        expect(f"{name} by a pipe, refused", status in (1, 2) and out.startswith("REFUSED ") and "/dev/stdin is no file that can be read again" in said, (status, out, said))
+        expect(
+            f"{name} by a pipe, refused",
+            status in (1, 2) and out.startswith("REFUSED ") and "/dev/stdin is no file that can be read again" in said,
+            (status, out, said),
+        )
     with open(TRACE, "rb") as file:
         expect("a file as standard input", use.run(FORMULA, "-", stdin=file) == (0, "VERIFIED false\n", ""))
     with open(use.file("t.gz", gzip.compress(TRACE.read_bytes())), "rb") as file:
         expect("a compressed file as standard input", use.run(FORMULA, "-", stdin=file) == (0, "VERIFIED false\n", ""))
     with open(FORMULA, "rb") as file:
         status, out, said = use.run(FORMULA, "-", stdin=file)
-        expect("a refused file as standard input", status == 2 and out.startswith("REFUSED trace P2") and "was the same one given twice?" in said, (status, out, said))
+        expect(
+            "a refused file as standard input",
+            status == 2 and out.startswith("REFUSED trace P2") and "was the same one given twice?" in said,
+            (status, out, said),
+        )
     status, out, said = use.run("-", "-")
     expect("twice the standard input", (status, out) == (5, "") and "one of the two files alone" in said, said)
     words = f'"$@" <(cat {FORMULA}) <(cat {TRACE})'

@@ -113,7 +113,9 @@ def note_topics():
 def ends_with_advice(out, fault):
     """Whether a text ends with an advice for this fault, or for a kind of file; or if nothing is refused, for what is next."""
     texts = [advice for (named, _), advice in ADVICE.items() if named in ((fault, "kind") if fault else ("VERIFIED",))]
-    patterns = (re.sub(r"\bN\b", r"\\d+", re.escape(text.replace("tools/", f"{EXPLAIN.parent}/").replace("docs/", f"{ROOT}/docs/"))) for text in texts)
+    patterns = (
+        re.sub(r"\bN\b", r"\\d+", re.escape(text.replace("tools/", f"{EXPLAIN.parent}/").replace("docs/", f"{ROOT}/docs/"))) for text in texts
+    )
     return any(re.search(f"What you can do:\n  {pattern}\\.\n\\Z", out) for pattern in patterns)
 
 
@@ -262,8 +264,22 @@ def try_disagreement(program):
 def try_words(program):
     """Command lines that are wrong end with status 2, and a step that is not there with 1."""
     formula, trace = ROOT / "examples" / "two_clauses.qdimacs", ROOT / "examples" / "two_clauses.qrp"
-    wrong = [[], [formula, trace, "1", "2"], ["--other", formula, trace], [formula, trace, "one"], [formula, trace, "-1"], ["--close", formula, trace]]
-    wrong += [["--mend", formula, trace], ["--mend", "--json", formula], ["--close", "--mend", formula], ["--close"], ["--close", "innermost"], ["--mend", "/nonexistent"]]
+    wrong = [
+        [],
+        [formula, trace, "1", "2"],
+        ["--other", formula, trace],
+        [formula, trace, "one"],
+        [formula, trace, "-1"],
+        ["--close", formula, trace],
+    ]
+    wrong += [
+        ["--mend", formula, trace],
+        ["--mend", "--json", formula],
+        ["--close", "--mend", formula],
+        ["--close"],
+        ["--close", "innermost"],
+        ["--mend", "/nonexistent"],
+    ]
     wrong += [[formula, "/nonexistent", "1"], ["/nonexistent", trace, "1"], ["--close", "/nonexistent"]]
     for words in wrong:
         ended = run(*words, program=program)
@@ -307,9 +323,19 @@ def try_innermost(program):
     with tempfile.TemporaryDirectory() as folder:
         file, closed = Path(folder) / "gate", Path(folder) / "closed"
         for data, place, wanted, said in (
-            (text, [], "p cnf 3 3\ne 3 0\na 1 2 0\n", "variable 3 is bound outermost by e, as solvers read the formula; if they are outputs of gates, "),
+            (
+                text,
+                [],
+                "p cnf 3 3\ne 3 0\na 1 2 0\n",
+                "variable 3 is bound outermost by e, as solvers read the formula; if they are outputs of gates, ",
+            ),
             (text, ["outermost"], "p cnf 3 3\ne 3 0\na 1 2 0\n", "variable 3 is bound outermost by e"),
-            (text, ["innermost"], "p cnf 3 3\na 1 2 0\ne 3 0\n", "variable 3 is bound in the last set, by e: solvers read them as bound outermost, so this is another formula"),
+            (
+                text,
+                ["innermost"],
+                "p cnf 3 3\na 1 2 0\ne 3 0\n",
+                "variable 3 is bound in the last set, by e: solvers read them as bound outermost, so this is another formula",
+            ),
             (more, ["innermost"], "p cnf 4 3\na 1 0\ne 2 3 4 0\n", "variables 3, 4 are bound in the last set"),
             (b"p cnf 2 1\n1 2 0\n", ["innermost"], "p cnf 2 1\ne 1 2 0\n", "variables 1, 2 are bound outermost by e, as solvers read the formula\n"),
             (b"p cnf 1 1\na 1 0\n1 0\n", ["innermost"], "p cnf 1 1\na 1 0\n", "no variable is free: the formula is written as it is\n"),
@@ -334,7 +360,11 @@ def try_mending(program):
     with tempfile.TemporaryDirectory() as folder:
         file = Path(folder) / "f"
         for text, wanted, said in (
-            (b"c p cnf 9 9\np cnf 1 1\ne 1 2 0\n1 2 0\n-1 -2 0\n", b"c p cnf 9 9\np cnf 2 2\ne 1 2 0\n1 2 0\n-1 -2 0\n", "the formula has 2 variables (1 in its header) and 2 clauses (1 in its header)\n"),
+            (
+                b"c p cnf 9 9\np cnf 1 1\ne 1 2 0\n1 2 0\n-1 -2 0\n",
+                b"c p cnf 9 9\np cnf 2 2\ne 1 2 0\n1 2 0\n-1 -2 0\n",
+                "the formula has 2 variables (1 in its header) and 2 clauses (1 in its header)\n",
+            ),
             (b"p  cnf\t2 7\ne 1 2 0\n1 2 0 -1\n0", b"p cnf 2 2\ne 1 2 0\n1 2 0 -1\n0", "the formula has 2 clauses (7 in its header)\n"),
             (b"p cnf 5 1\ne 1 0 1 0\n", b"p cnf 5 1\ne 1 0 1 0\n", "the header fits: the formula is written as it is\n"),
             (b"p cnf 1 0\n1 3 0\n", b"p cnf 3 1\n1 3 0\n", "3 variables (1 in its header) and 1 clause (0 in its header)\n"),
@@ -352,7 +382,11 @@ def try_mending(program):
         ):
             file.write_bytes(text)
             ended = run("--mend", file, program="/nonexistent")
-            expect(f"--mend of {text}", ended.returncode == 1 and not ended.stdout and f"the formula has {fault}: '{EXPLAIN} FORMULA' says why" in ended.stderr, ended)
+            expect(
+                f"--mend of {text}",
+                ended.returncode == 1 and not ended.stdout and f"the formula has {fault}: '{EXPLAIN} FORMULA' says why" in ended.stderr,
+                ended,
+            )
 
 
 def try_needed(program):
@@ -381,7 +415,11 @@ def try_step_names(program):
     box = ROOT / "examples" / "blind-box" / "blind-box"
     ended = run("--names", f"{box}.names", f"{box}.qdimacs", f"{box}.qrp", "124", program=program)
     rows = [line.split() for line in ended.stdout.splitlines() if line.startswith("  ")]
-    expect("a step with names", ["-4", "-carry_in", "for", "all", "3"] in [row[:5] for row in rows] and rows[0][:3] == ["literal", "name", "quantifier"], rows)
+    expect(
+        "a step with names",
+        ["-4", "-carry_in", "for", "all", "3"] in [row[:5] for row in rows] and rows[0][:3] == ["literal", "name", "quantifier"],
+        rows,
+    )
     ended = run("--names", "/nonexistent", f"{box}.qdimacs", program=program)
     expect("no names", ended.returncode == 2 and "/nonexistent cannot be read" in ended.stderr, ended)
 
@@ -422,7 +460,13 @@ LONG = b"p cnf 3 2\ne 1 3 0\na 2 0\n1 2 0\n-1 -2 0\n"
 LONG_STEPS = b"p qrp 3 4\n1 1 2 0 0\n2 -1 -2 0 0\n%b\n4 0 3 0\nr unsat\n"
 GIVE = ["give a formula in QDIMACS", "give a trace in the text form of QRP"]
 MISTAKES = [
-    ("the solver's default options", GOOD, b"", ["DepQBF writes a trace only with `--trace=qrp --dep-man=simple --no-qbce-dynamic`", "docs/DEPQBF.md"], GIVE),
+    (
+        "the solver's default options",
+        GOOD,
+        b"",
+        ["DepQBF writes a trace only with `--trace=qrp --dep-man=simple --no-qbce-dynamic`", "docs/DEPQBF.md"],
+        GIVE,
+    ),
     (
         "messages before the header",
         GOOD,
@@ -452,8 +496,20 @@ MISTAKES = [
         [f"It has no byte 10, and {FORMULA.count(10)} bytes 13 that end no line here.", "turn the line ends: `tr '\\r' '\\n' < FILE > NEW`"],
         ["give the whole file"],
     ),
-    ("such line ends of a trace", GOOD, b"c one\r" + TRACE.replace(b"\n", b"\r"), ["It has no byte 10, and 7 bytes 13", "turn the line ends"], ["the trace was cut"]),
-    ("a trace appended to one that is cut", GOOD, TRACE[:-9] + TRACE, ["'0p' is not allowed", "two traces are in one file, and the first was cut", "`>>`"], ["messages"]),
+    (
+        "such line ends of a trace",
+        GOOD,
+        b"c one\r" + TRACE.replace(b"\n", b"\r"),
+        ["It has no byte 10, and 7 bytes 13", "turn the line ends"],
+        ["the trace was cut"],
+    ),
+    (
+        "a trace appended to one that is cut",
+        GOOD,
+        TRACE[:-9] + TRACE,
+        ["'0p' is not allowed", "two traces are in one file, and the first was cut", "`>>`"],
+        ["messages"],
+    ),
     ("a trace appended to one without its result", GOOD, TRACE[:-8] + TRACE, ["two traces are in one file"], ["messages"]),
     ("a trace appended to a part of the result", GOOD, TRACE[:-3] + TRACE, ["here it is 'unsp qrp", "two traces are in one file"], ["damaged"]),
     ("a list of clauses as trace", GOOD, b"1 2 0\n0\n", ["It looks like a list of clauses", "`--trace=qrp`"], GIVE),
@@ -463,26 +519,116 @@ MISTAKES = [
     ("a byte order mark", b"\xef\xbb\xbf" + GOOD, TRACE, ["It begins with a byte order mark", "take out the first three bytes"], GIVE),
     ("exchanged", TRACE, GOOD, ["Were the two files exchanged?", "give the formula first, and then the trace"], GIVE),
     ("the formula twice", GOOD, GOOD, ["was the same one given twice?", "give the solver's trace as the second file"], ["exchanged", *GIVE]),
-    ("a formula with a trace after it", GOOD, b"c one\n" + GOOD + TRACE, ["whose header is in line 6.", "take out what comes before line 6:"], ["exchanged", *GIVE]),
-    ("a set without its 0", GOOD.replace(b"e 1 0", b"a 1\ne 1 0"), TRACE, ["is a 0 missing?", "close the quantifier set, or the clause, before it by 0"], ["take the word out", *GIVE]),
-    ("a set without its 0 before a clause", b"p cnf 2 1\ne 1 2\n-1 2 0\n", TRACE, ["is the 0 missing that closes the set before it?", "close the quantifier set before it by 0"], ["correct"]),
-    ("a quantifier in a capital letter", GOOD.replace(b"e", b"E"), TRACE, ["The quantifiers are small letters.", "write `a` and `e` as small letters"], ["take the word out"]),
-    ("DQDIMACS", b"p cnf 2 1\na 1 0\nd 2 1 0\n1 2 0\n", TRACE, ["Lines of this letter belong to other formats", "the formula is a DQBF, which qrp_cmd does not check"], ["take the word out"]),
+    (
+        "a formula with a trace after it",
+        GOOD,
+        b"c one\n" + GOOD + TRACE,
+        ["whose header is in line 6.", "take out what comes before line 6:"],
+        ["exchanged", *GIVE],
+    ),
+    (
+        "a set without its 0",
+        GOOD.replace(b"e 1 0", b"a 1\ne 1 0"),
+        TRACE,
+        ["is a 0 missing?", "close the quantifier set, or the clause, before it by 0"],
+        ["take the word out", *GIVE],
+    ),
+    (
+        "a set without its 0 before a clause",
+        b"p cnf 2 1\ne 1 2\n-1 2 0\n",
+        TRACE,
+        ["is the 0 missing that closes the set before it?", "close the quantifier set before it by 0"],
+        ["correct"],
+    ),
+    (
+        "a quantifier in a capital letter",
+        GOOD.replace(b"e", b"E"),
+        TRACE,
+        ["The quantifiers are small letters.", "write `a` and `e` as small letters"],
+        ["take the word out"],
+    ),
+    (
+        "DQDIMACS",
+        b"p cnf 2 1\na 1 0\nd 2 1 0\n1 2 0\n",
+        TRACE,
+        ["Lines of this letter belong to other formats", "the formula is a DQBF, which qrp_cmd does not check"],
+        ["take the word out"],
+    ),
     ("a deleted clause", b"p cnf 2 2\ne 1 2 0\n1 2 0\nd 1 2 0\n", TRACE, ["take the word out, or give a formula in QDIMACS"], ["DQBF"]),
-    ("a forgotten gate", LONG.replace(b"1 3 0", b"1 0", 1).replace(b"-1 -2 0", b"-1 -3 0"), TRACE, ["--close innermost FORMULA > CLOSED`", "with a forgotten gate that is another question"], ["keeps the meaning"]),
-    ("a 0 in the middle of a set", b"p cnf 2 1\ne 1 0 2 0\n1 2 0\n", TRACE, ["is that 0 one too many?", "take the 0 out that stands in the middle of the set"], ["--close"]),
-    ("a step without a 0", GOOD, TRACE.replace(b"2 -1 0 0", b"2 -1 0"), ["Line 4 has 1 zero where a step has 2: is a 0 missing?", "correct the zeros of that line"], ["as several"]),
-    ("a 0 in a set of the trace", GOOD, TRACE.replace(b"e 1 0", b"e 1 0 0"), ["Line 2 has 2 zeros where a set has 1", "correct the zeros of that line"], []),
+    (
+        "a forgotten gate",
+        LONG.replace(b"1 3 0", b"1 0", 1).replace(b"-1 -2 0", b"-1 -3 0"),
+        TRACE,
+        ["--close innermost FORMULA > CLOSED`", "with a forgotten gate that is another question"],
+        ["keeps the meaning"],
+    ),
+    (
+        "a 0 in the middle of a set",
+        b"p cnf 2 1\ne 1 0 2 0\n1 2 0\n",
+        TRACE,
+        ["is that 0 one too many?", "take the 0 out that stands in the middle of the set"],
+        ["--close"],
+    ),
+    (
+        "a step without a 0",
+        GOOD,
+        TRACE.replace(b"2 -1 0 0", b"2 -1 0"),
+        ["Line 4 has 1 zero where a step has 2: is a 0 missing?", "correct the zeros of that line"],
+        ["as several"],
+    ),
+    (
+        "a 0 in a set of the trace",
+        GOOD,
+        TRACE.replace(b"e 1 0", b"e 1 0 0"),
+        ["Line 2 has 2 zeros where a set has 1", "correct the zeros of that line"],
+        [],
+    ),
     ("a set of the trace without its 0", GOOD, TRACE.replace(b"e 1 0", b"e 1"), ["is a 0 missing?", "correct the zeros of that line"], ["messages"]),
-    ("a first step without a 0", GOOD, TRACE.replace(b"1 1 0 0", b"1 1 0"), ["Line 3 has 1 zero where", "correct the zeros of that line"], ["have the solver"]),
+    (
+        "a first step without a 0",
+        GOOD,
+        TRACE.replace(b"1 1 0 0", b"1 1 0"),
+        ["Line 3 has 1 zero where", "correct the zeros of that line"],
+        ["have the solver"],
+    ),
     ("a number twice by a 0", GOOD, TRACE.replace(b"1 1 0 0", b"2 0 0 1 0"), ["zeros"], []),
-    ("UTF-16 without a mark", GOOD.decode().encode("utf-16-le"), TRACE, ["It is in UTF-16, without the mark", "`iconv -f UTF-16LE -t ASCII FILE > NEW`"], ["DRAT", *GIVE]),
-    ("zero bytes as formula", b"\1\0\0\7\0\3\2\1" * 9, TRACE, ["It is not a text: it has zero bytes.", "give a formula in QDIMACS, which is plain ASCII"], ["DRAT"]),
-    ("constants written as literals", b"p cnf 2 2\ne 1 2 0\n1 2 0\n-1 0 0\n2 0\n0\n", TRACE, ["2 of them are empty, the first in line 4: is a 0 one too many there?", "take the 0 out that is one too many"], []),
-    ("an empty clause that fits", b"p cnf 2 3\ne 1 2 0\n1 2 0\n-1 0 0\n", b"p qrp 0 0\n1 0 0\nr unsat\n", ["The formula has an empty clause, in line 4, and is false by it alone"], []),
+    (
+        "UTF-16 without a mark",
+        GOOD.decode().encode("utf-16-le"),
+        TRACE,
+        ["It is in UTF-16, without the mark", "`iconv -f UTF-16LE -t ASCII FILE > NEW`"],
+        ["DRAT", *GIVE],
+    ),
+    (
+        "zero bytes as formula",
+        b"\1\0\0\7\0\3\2\1" * 9,
+        TRACE,
+        ["It is not a text: it has zero bytes.", "give a formula in QDIMACS, which is plain ASCII"],
+        ["DRAT"],
+    ),
+    (
+        "constants written as literals",
+        b"p cnf 2 2\ne 1 2 0\n1 2 0\n-1 0 0\n2 0\n0\n",
+        TRACE,
+        ["2 of them are empty, the first in line 4: is a 0 one too many there?", "take the 0 out that is one too many"],
+        [],
+    ),
+    (
+        "an empty clause that fits",
+        b"p cnf 2 3\ne 1 2 0\n1 2 0\n-1 0 0\n",
+        b"p qrp 0 0\n1 0 0\nr unsat\n",
+        ["The formula has an empty clause, in line 4, and is false by it alone"],
+        [],
+    ),
     ("long-distance resolution", LONG, LONG_STEPS % b"3 2 -2 0 1 2 0", ["It does not follow: S1", "(`--long-dist-res`)"], []),
     ("a literal too many in a reduct", LONG, LONG_STEPS % b"3 1 2 3 0 1 0", ["It does not follow: S6", "weakening is not a rule here"], []),
-    ("a pivot that stays", GOOD, b"p qrp 1 4\n1 1 0 0\n2 -1 0 0\n3 1 0 1 2 0\n4 0 3 2 0\nr unsat\n", ["It does not follow: S11", "the resolvent does not hold the pivot"], []),
+    (
+        "a pivot that stays",
+        GOOD,
+        b"p qrp 1 4\n1 1 0 0\n2 -1 0 0\n3 1 0 1 2 0\n4 0 3 2 0\nr unsat\n",
+        ["It does not follow: S11", "the resolvent does not hold the pivot"],
+        [],
+    ),
     ("nothing is refused", GOOD, TRACE, ["is false", "`qrp_cmd trim`", "/proof-stats`", "/used-clauses`", "/play`"], ["nothing to explain"]),
 ]
 
@@ -524,12 +670,23 @@ def try_names(program):
         ):
             expect(f"{words}: the advice", f"`{wanted} --close FORMULA > CLOSED`" in ask(*words, "free").stdout, ask(*words, "free"))
             expect(f"{words}: the usage", f"\n    {wanted} --close FORMULA  " in ask(*words, "--help").stdout, ask(*words, "--help"))
-            expect(f"{words}: the message", ask(*words, "--close", "none").stderr.startswith(f"{wanted}: none cannot be read"), ask(*words, "--close", "none"))
-        for words, wanted in (["qrp-used-clauses"], "'qrp-explain FORMULA TRACE' says why"), (["tools/used-clauses"], "'tools/explain FORMULA TRACE' says why"):
+            expect(
+                f"{words}: the message",
+                ask(*words, "--close", "none").stderr.startswith(f"{wanted}: none cannot be read"),
+                ask(*words, "--close", "none"),
+            )
+        for words, wanted in (["qrp-used-clauses"], "'qrp-explain FORMULA TRACE' says why"), (
+            ["tools/used-clauses"],
+            "'tools/explain FORMULA TRACE' says why",
+        ):
             expect(f"{words}: another tool", wanted in ask(*words, "free", "free").stderr, ask(*words, "free", "free"))
         (folder / "bad").write_bytes(b"p cnf 1 1\ne 2 0\n1 0\n")
         ended = ask("qrp-explain", "--close", "bad")
-        expect("--close of a fault", (ended.returncode, ended.stderr) == (1, "qrp-explain: the formula has F4 in line 2: 'qrp-explain FORMULA' says why\n"), ended)
+        expect(
+            "--close of a fault",
+            (ended.returncode, ended.stderr) == (1, "qrp-explain: the formula has F4 in line 2: 'qrp-explain FORMULA' says why\n"),
+            ended,
+        )
 
 
 def main():

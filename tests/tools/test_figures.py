@@ -172,7 +172,11 @@ def stats_of(program, formula, trace):
 def try_stats(program, formula, trace):
     wanted = stats_of(program, formula, trace)
     wrote = run("proof-stats", "--json", formula, trace, program=program)
-    expect(f"proof-stats --json {trace.name}", wrote.returncode == 0 and wrote.stdout.count("\n") == 1 and json.loads(wrote.stdout) == wanted, (wrote, wanted))
+    expect(
+        f"proof-stats --json {trace.name}",
+        wrote.returncode == 0 and wrote.stdout.count("\n") == 1 and json.loads(wrote.stdout) == wanted,
+        (wrote, wanted),
+    )
     wrote = run("proof-stats", formula, trace, program=program)
     figures = [line.split()[-1] for line in wrote.stdout.splitlines()]
     expect(f"proof-stats {trace.name}", wrote.returncode == 0 and figures == [str(figure) for figure in wanted.values()], wrote)

@@ -165,7 +165,11 @@ def try_circuits(program, folder):
         prefix = [it for it in whole if it[1] in used]  # an input is left out of all steps, or of none
         dropped |= len(prefix) < len(whole)
         found = [(quantifier, named.get(str(variable))) for quantifier, variable in pairs[: len(prefix)]]
-        expect(f"circuit {seed}: the prefix {words}", found == [(quantifier, shown(name, step, steps)) for quantifier, name, step in prefix], (found, prefix))
+        expect(
+            f"circuit {seed}: the prefix {words}",
+            found == [(quantifier, shown(name, step, steps)) for quantifier, name, step in prefix],
+            (found, prefix),
+        )
         expect(f"circuit {seed}: the rest are gates", all(quantifier == "e" for quantifier, _ in pairs[len(prefix) :]), pairs)
         answer = is_true(sample, steps, whole)
         answers.add(answer)
@@ -194,7 +198,11 @@ WRONG = [
     ("a symbol of nothing", HALF.replace("i1 y", "i2 y"), "line 7: there is no input 2"),
     ("two symbols of an input", HALF + "i0 z\n", "line 9: input 0 has two symbols"),
     ("a number of thousands of digits", HALF.replace("aag 3", f"aag {'3' * 5000}"), "line 1: the file is no circuit in AIGER"),
-    ("a literal that is nothing", HALF.replace("aag 3 2", "aag 4 2").replace("6 4 2", "6 8 2"), "the literal 8 is used, and neither an input nor a latch nor a gate"),
+    (
+        "a literal that is nothing",
+        HALF.replace("aag 3 2", "aag 4 2").replace("6 4 2", "6 8 2"),
+        "the literal 8 is used, and neither an input nor a latch nor a gate",
+    ),
     ("gates in a circle", "aag 2 0 0 1 2\n2\n2 4 1\n4 2 1\n", "a gate depends on itself"),
     ("a gate of itself", "aag 1 0 0 1 1\n2\n2 2 1\n", "a gate depends on itself"),
     ("an odd beginning of a latch", LATCH.replace("4 2\n", "4 2 3\n"), "latch 0 begins with 3, which is not 0, 1 or its literal 4"),
@@ -245,7 +253,11 @@ def try_text(folder):
     wanted = "c 'half': the outputs are true\nc exists x, for all y, exists 1 gate: 1 clause of what has to hold\nc clause 4: both holds\n"
     wanted += "p cnf 3 4\ne 1 0\na 2 0\ne 3 0\n-3 1 0\n-3 2 0\n3 -1 -2 0\n3 0\n"
     expect("the formula of a gate", ended.stdout.decode() == wanted, ended)
-    expect("what is said of it", ended.stderr.decode() == f"{TOOL}: exists x, for all y, exists 1 gate: 1 clause of what has to hold; 3 variables\n", ended)
+    expect(
+        "what is said of it",
+        ended.stderr.decode() == f"{TOOL}: exists x, for all y, exists 1 gate: 1 clause of what has to hold; 3 variables\n",
+        ended,
+    )
     for text, wanted, said in (
         ("aag 1 1 0 1 0\n2\n1\n", "p cnf 0 0\n", "no variable: 0 clauses of what has to hold; 0 variables\n"),
         ("aag 1 1 0 1 0\n2\n0\n", "p cnf 0 1\n0\n", "o0 cannot hold, whatever the inputs are\n"),

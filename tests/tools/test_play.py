@@ -310,7 +310,11 @@ def try_text():
         for text in "1\n", "1 a b\n", "x a\n", "0 a\n", "1 a\n1 b\n", "1 a\n2 a\n", "1 2\n", "1 -a\n", "1 !a\n", "1 ~a\n", "1 #a\n", "1 0x2\n":
             names.write_text(text)
             refused = play("--names", names, *MATCHES)
-            expect(f"names {text!r}", refused.returncode == 2 and not refused.stdout and f"{names}, line {text.count(chr(10))}" in refused.stderr, refused)
+            expect(
+                f"names {text!r}",
+                refused.returncode == 2 and not refused.stdout and f"{names}, line {text.count(chr(10))}" in refused.stderr,
+                refused,
+            )
 
 
 def try_replies():
@@ -439,7 +443,9 @@ def try_gates():
             clauses = gate.split(" 0\n")
             formula = Formula(f"p cnf 3 {len(clauses) + 1}\na 1 2 0\ne 3 0\n{asked} 0\n{gate} 0\n".encode())
             found = Gates(formula, [3]).definitions.get(3, [])
-            expect(f"the gate {clauses} of which '{asked}' is asked", set(found) == {frozenset(map(int, clause.split())) for clause in clauses}, found)
+            expect(
+                f"the gate {clauses} of which '{asked}' is asked", set(found) == {frozenset(map(int, clause.split())) for clause in clauses}, found
+            )
 
 
 def try_end():
@@ -447,12 +453,23 @@ def try_end():
     names = ROOT / "examples" / "blind-box" / "blind-box.names"
     told = play("--names", names, "--reply", "box=0", *BOX)
     end = told.stdout.splitlines()[-5:]
-    expect("blind-box to its end", told.returncode == 0 and not told.stderr and end[0] == "block 4 (existential), the other player: 22 gates as defined", told)
+    expect(
+        "blind-box to its end",
+        told.returncode == 0 and not told.stderr and end[0] == "block 4 (existential), the other player: 22 gates as defined",
+        told,
+    )
     expect("blind-box: who wins", end[2] == "no variable is left, and the matrix does not hold: the universal player has won", end)
-    clauses = ["    clause 77, in line 84 of the formula, is false: -sum1 wanted1", "    clause 80, in line 87 of the formula, is false: sum2 -carry2"]
+    clauses = [
+        "    clause 77, in line 84 of the formula, is false: -sum1 wanted1",
+        "    clause 80, in line 87 of the formula, is false: sum2 -carry2",
+    ]
     expect("blind-box: the clauses", end[3:] == clauses, end)
     found = json.loads(play("--json", "--names", names, "--reply", "!box", *BOX).stdout)
-    holds = len(found["moves"][3]["gates"]) == 22 and found["matrix"] is False and [it["names"] for it in found["failing"]] == [["-sum1", "wanted1"], ["sum2", "-carry2"]]
+    holds = (
+        len(found["moves"][3]["gates"]) == 22
+        and found["matrix"] is False
+        and [it["names"] for it in found["failing"]] == [["-sum1", "wanted1"], ["sum2", "-carry2"]]
+    )
     expect("blind-box: JSON", holds, found["failing"])
     given = play("--names", names, "--reply", "box", "--reply", "half0 sum2", *BOX)
     expect("blind-box: gates that are given", "the other player: half0 sum2, and 20 gates as defined\n" in given.stdout, given)
@@ -466,10 +483,18 @@ def try_small():
     cases = (
         ("p cnf 3 1\na 1 3 0\n1 -3 0\n", "p qrp 0 0\n7 0 0\nr unsat\n", "block 1 (universal), by the proof: -1 3\n"),
         ("p cnf 3 1\na 1 3 0\n1 -3 0\n", "p qrp 0 0\n7 1 0 0\n9 0 7 0\nr unsat\n", "block 1 (universal), by the proof: -1 3\n"),
-        ("p cnf 2 3\na 1 2 0\n1 -1 0\n2 -2 1 0\n-2 0\n", "p qrp 0 0\n1 0 0\nr unsat\n", "block 1 (universal), by the proof: -1 2\n    left open by the proof: 1\n"),
+        (
+            "p cnf 2 3\na 1 2 0\n1 -1 0\n2 -2 1 0\n-2 0\n",
+            "p qrp 0 0\n1 0 0\nr unsat\n",
+            "block 1 (universal), by the proof: -1 2\n    left open by the proof: 1\n",
+        ),
         ("p cnf 0 1\n0\n", "p qrp 0 0\n1 0 0\nr unsat\n", "no variable is left, and the matrix does not hold"),
         ("p cnf 0 0\n", "p qrp 0 0\n18446744073709551615 0 0\nr sat\n", "no variable is left, and the matrix holds"),
-        ("p cnf 2 1\na 0\ne 1 0\na 0\ne 2 0\n1 2 0\n", "p qrp 0 0\n2 1 0 0\n1 0 2 0\nr sat\n", "block 1 (existential), by the proof: 1 -2\n    left open by the proof: 2\n"),
+        (
+            "p cnf 2 1\na 0\ne 1 0\na 0\ne 2 0\n1 2 0\n",
+            "p qrp 0 0\n2 1 0 0\n1 0 2 0\nr sat\n",
+            "block 1 (existential), by the proof: 1 -2\n    left open by the proof: 2\n",
+        ),
     )
     with tempfile.TemporaryDirectory() as folder:
         formula, trace = Path(folder) / "f", Path(folder) / "t"
@@ -502,21 +527,39 @@ def try_files():
         states = Path(folder) / "new" / "states"
         told = play("--write", states, *REPLIES, *MATCHES)
         names = sorted(path.name for path in states.iterdir())
-        expect("the files of the states", told.stdout == TOLD and names == sorted(f"state{n}.{kind}" for n in range(1, 5) for kind in ("qdimacs", "qrp")), names)
+        expect(
+            "the files of the states",
+            told.stdout == TOLD and names == sorted(f"state{n}.{kind}" for n in range(1, 5) for kind in ("qdimacs", "qrp")),
+            names,
+        )
         again = play("--write", states, *MATCHES)
         expect("a folder that is not empty", again.returncode == 2 and "is not empty" in again.stderr and not again.stdout, again)
         full = play("--write", "/dev/null/x", *MATCHES)
         expect("a folder that cannot be made", full.returncode == 2 and "/dev/null/x cannot be used" in full.stderr, full)
     piped = subprocess.run(["bash", "-c", f"{sys.executable} {PLAY} <(cat {BOX[0]}) <(cat {BOX[1]})"], capture_output=True, text=True, check=False)
     expect("pipes", piped.stdout.startswith("VERIFIED false: the universal player wins\nblock 1 (universal), by the proof: -1 2\n"), piped)
-    for words in [], [BOX[0]], [*BOX, "x"], ["--other", *BOX], ["--names"], ["/nonexistent", BOX[1]], [BOX[0], "/nonexistent"], [ROOT, BOX[1]], ["--names", "/nonexistent", *BOX]:
+    for words in (
+        [],
+        [BOX[0]],
+        [*BOX, "x"],
+        ["--other", *BOX],
+        ["--names"],
+        ["/nonexistent", BOX[1]],
+        [BOX[0], "/nonexistent"],
+        [ROOT, BOX[1]],
+        ["--names", "/nonexistent", *BOX],
+    ):
         ended = play(*words)
         expect(f"usage: play {words}", ended.returncode == 2 and not ended.stdout and ended.stderr and "Traceback" not in ended.stderr, ended)
     refused = play(MATCHES[0], BOX[1])
     expect("a refused proof", refused.returncode == 1 and not refused.stdout and "refuses the proof: REFUSED" in refused.stderr, refused)
     for redirection, status in (">/dev/full", 2), (">&-", 2):
-        ended = subprocess.run(["bash", "-c", f"{sys.executable} {PLAY} {BOX[0]} {BOX[1]} {redirection}"], capture_output=True, text=True, check=False)
-        expect(f"play .. {redirection}", ended.returncode == status and "cannot be written" in ended.stderr and "Traceback" not in ended.stderr, ended)
+        ended = subprocess.run(
+            ["bash", "-c", f"{sys.executable} {PLAY} {BOX[0]} {BOX[1]} {redirection}"], capture_output=True, text=True, check=False
+        )
+        expect(
+            f"play .. {redirection}", ended.returncode == status and "cannot be written" in ended.stderr and "Traceback" not in ended.stderr, ended
+        )
 
 
 def try_terminal():
@@ -528,8 +571,14 @@ def try_terminal():
             os.write(master, lines.encode())
             out, said = process.communicate(timeout=60)
         os.close(master)
-        expect(f"typed {lines!r}", process.returncode == 0 and out.count("\n") in (shown + 2, shown + 1, shown + 3) and "block 1 (existential): 1 2 (with" in said, (out, said))
-        expect(f"typed {lines!r}: what is missing", ("block 1 (existential): 2 (with" in said and "'x' is not a literal" in said) == ("x" in lines), said)
+        expect(
+            f"typed {lines!r}",
+            process.returncode == 0 and out.count("\n") in (shown + 2, shown + 1, shown + 3) and "block 1 (existential): 1 2 (with" in said,
+            (out, said),
+        )
+        expect(
+            f"typed {lines!r}: what is missing", ("block 1 (existential): 2 (with" in said and "'x' is not a literal" in said) == ("x" in lines), said
+        )
 
 
 FAKE = """#!/bin/sh
@@ -559,7 +608,12 @@ def fake(folder, what, number):
 def try_own_fault():
     """A state that is not verified is never told as a move; its files are kept."""
     cases = (("echo REFUSED step 1 S4; exit 1", 3, "(REFUSED step 1 S4)"), ("echo VERIFIED true; exit 0", 3, "(VERIFIED true)"))
-    others = (("echo NO MEMORY; exit 4", 2, "NO MEMORY"), ("kill -9 $$", 2, "SIGKILL"), ("echo VERIFIED false; exit 1", 3, "(VERIFIED false)"), ("exit 0", 2, "state 2"))
+    others = (
+        ("echo NO MEMORY; exit 4", 2, "NO MEMORY"),
+        ("kill -9 $$", 2, "SIGKILL"),
+        ("echo VERIFIED false; exit 1", 3, "(VERIFIED false)"),
+        ("exit 0", 2, "state 2"),
+    )
     for what, status, said in cases + others:
         with tempfile.TemporaryDirectory() as folder:
             environment, temporary = fake(folder, what, 2)
@@ -580,14 +634,20 @@ def try_signals():
     for number in signal.SIGINT, signal.SIGTERM:
         with tempfile.TemporaryDirectory() as folder:
             environment, temporary = fake(folder, 'echo $$ > "$COUNTS.pid"; exec sleep 50', 2)
-            with subprocess.Popen([sys.executable, PLAY, *REPLIES, *MATCHES], stdout=subprocess.PIPE, stderr=subprocess.PIPE, env=environment) as process:
+            with subprocess.Popen(
+                [sys.executable, PLAY, *REPLIES, *MATCHES], stdout=subprocess.PIPE, stderr=subprocess.PIPE, env=environment
+            ) as process:
                 marker = Path(folder) / "counts.pid"
                 waited = time.monotonic()
                 while not (marker.exists() and marker.read_text()) and time.monotonic() < waited + 30:
                     time.sleep(0.02)
                 process.send_signal(number)
                 _, said = process.communicate(timeout=30)
-            expect(f"{number.name}: status, no word, no file", (process.returncode, said, list(temporary.iterdir())) == (128 + number, b"", []), (process.returncode, said))
+            expect(
+                f"{number.name}: status, no word, no file",
+                (process.returncode, said, list(temporary.iterdir())) == (128 + number, b"", []),
+                (process.returncode, said),
+            )
             ended = not Path(f"/proc/{marker.read_text().strip()}").exists()
             expect(f"{number.name}: the program has ended", ended)
 

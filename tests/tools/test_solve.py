@@ -102,7 +102,10 @@ def try_moves(use):
     ended = use.run(use.words("depqbf", "--play", MATCHES))
     advice = f"c give the values by --reply, or keep the proof by --keep TRACE and go on by '{ROOT}/tools/play FORMULA TRACE'\n"
     use.expect("the other player's block", ended, 20, f"s cnf 0 46 76\nc block 1 (existential) is the other player's: 1 2\n{advice}")
-    game = "s cnf 0 46 76\nc block 1 (existential), the other player: -1 -2\nV 3 0\nV -4 0\nc block 3 (existential) is the other player's: 5 6\n" + advice
+    game = (
+        "s cnf 0 46 76\nc block 1 (existential), the other player: -1 -2\nV 3 0\nV -4 0\nc block 3 (existential) is the other player's: 5 6\n"
+        + advice
+    )
     use.expect("the game goes on", use.run(use.words("depqbf", "--play", "--reply", "-1 -2", MATCHES)), 20, game)
     names = MATCHES.with_suffix(".names")
     ended = use.run(use.words("depqbf", "--play", "--names", names, "--reply", "-three1 -two1", MATCHES))
@@ -133,13 +136,21 @@ def try_files(use):
     ended = use.run(use.words("depqbf", "--keep", use.folder / "none" / "x", FALSE))
     try_keeping(use, kept)
     use.expect("a proof that cannot be kept", ended, 2, "s cnf -1 12 13\n", "none/x cannot be written: No such file or directory")
-    use.expect("a device", use.run(use.words("depqbf", "--keep", "/dev/full", FALSE)), 2, "s cnf -1 12 13\n", "/dev/full is not a file: the proof is not kept there")
+    use.expect(
+        "a device",
+        use.run(use.words("depqbf", "--keep", "/dev/full", FALSE)),
+        2,
+        "s cnf -1 12 13\n",
+        "/dev/full is not a file: the proof is not kept there",
+    )
     missing = use.folder / "none.qdimacs"
     use.expect("no file", use.run(use.words("depqbf", missing)), 2, "", f"{missing} cannot be read: No such file or directory")
     use.expect("a folder", use.run(use.words("depqbf", use.folder)), 2, "", f"{use.folder} cannot be read: Is a directory")
     formula = use.folder / "formula"
     formula.write_text("p cnf 2 1\ne 1 0\n1 2 0\n")
-    use.expect("a free variable", use.run(use.words("depqbf", formula)), 1, "s cnf -1 2 1\n", "qrp_cmd refuses the formula: REFUSED formula F6 line 3; ")
+    use.expect(
+        "a free variable", use.run(use.words("depqbf", formula)), 1, "s cnf -1 2 1\n", "qrp_cmd refuses the formula: REFUSED formula F6 line 3; "
+    )
     formula.write_text("no formula\n")
     use.expect("no formula", use.run(use.words("depqbf", formula)), 1, "", "REFUSED formula F2 line 1")
     piped = use.run(["bash", "-c", f'"$@" <(cat {FALSE})', "bash", *use.words("silent")])
@@ -169,7 +180,9 @@ def try_keeping(use, kept):
     (use.folder / "-f.qdimacs").write_bytes(FALSE.read_bytes())
     use.run(use.words("told", "--solver-option=-v", "--solver-option", "--max-dec=3", "--", "-f.qdimacs"), cwd=use.folder)
     told = (use.folder / "words").read_text()
-    expect("solve, options of the solver, and a formula that looks like one", told.endswith("--traditional-qcdcl -v --max-dec=3 ./-f.qdimacs\n"), told)
+    expect(
+        "solve, options of the solver, and a formula that looks like one", told.endswith("--traditional-qcdcl -v --max-dec=3 ./-f.qdimacs\n"), told
+    )
 
 
 def try_status(use):
@@ -218,7 +231,15 @@ def try_full_folder(use):
 
 
 def try_words(use):
-    for words in [], ["--mode", "other", FALSE], ["--timeout", "-1", FALSE], ["--timeout", "inf", FALSE], ["--timeout", "x", FALSE], [FALSE, TRUE], ["--other", FALSE]:
+    for words in (
+        [],
+        ["--mode", "other", FALSE],
+        ["--timeout", "-1", FALSE],
+        ["--timeout", "inf", FALSE],
+        ["--timeout", "x", FALSE],
+        [FALSE, TRUE],
+        ["--other", FALSE],
+    ):
         ended = use.run(use.words("depqbf", *words))
         use.expect(f"usage {words}", ended, 2, "", "usage: ")
     for word in "0", "-1", "x", "nan", "1e9":

@@ -213,8 +213,12 @@ def try_marks(program):
         steps = [line.split() for line in trace.read_text().splitlines() if line[0].isdigit()]
         texts, labels = marks_of(formula, steps)
         drawn = run(DRAW, formula, trace, program=program)
-        found = {line[1]: [it for it in re.split(r"&#160;| |<BR/>", line[2]) if it] for line in map(TEXT.fullmatch, drawn.stdout.splitlines()) if line}
-        wanted = {number: text or (["empty", "clause"] if trace.read_text().endswith("unsat\n") else ["empty", "cube"]) for number, text in texts.items()}
+        found = {
+            line[1]: [it for it in re.split(r"&#160;| |<BR/>", line[2]) if it] for line in map(TEXT.fullmatch, drawn.stdout.splitlines()) if line
+        }
+        wanted = {
+            number: text or (["empty", "clause"] if trace.read_text().endswith("unsat\n") else ["empty", "cube"]) for number, text in texts.items()
+        }
         expect(f"{trace.name}: the literals, universal ones underlined", found == wanted, [it for it in found.items() if it[1] != wanted[it[0]]][:3])
         found = {(line[1], line[2]): line[3] for line in map(LABEL.fullmatch, drawn.stdout.splitlines()) if line}
         wanted = {edge: ", ".join(label) for edge, label in labels.items()}
@@ -226,11 +230,13 @@ def try_marks(program):
         formula = ROOT / "examples" / "two_clauses.qdimacs"
         for count in 300, 301:
             steps = "".join(f"{n} 1 0 {n - 1} 0\n" for n in range(4, count - 1))
-            chain.write_text(f"p qrp 2 5\n1 1 2 0 0\n2 -1 2 0 0\n3 1 0 1 0\n{steps}{count - 1} -1 0 2 0\n{count} 0 {count - 2} {count - 1} 0\nr unsat\n")
+            chain.write_text(
+                f"p qrp 2 5\n1 1 2 0 0\n2 -1 2 0 0\n3 1 0 1 0\n{steps}{count - 1} -1 0 2 0\n{count} 0 {count - 2} {count - 1} 0\nr unsat\n"
+            )
             expect(f"{count} steps: the warning", (f"these are {count} steps" in run(DRAW, formula, chain, program=program).stderr) == (count > 300))
         names.write_text('1 a<&\n2 "b"\\\n')
         drawn = run(DRAW, "--names", names, formula, formula.with_suffix(".qrp"), program=program)
-        wanted = ['    1 [shape=box, label=<<B>1</B><BR/>a&lt;&amp;&#160;<U>&quot;b&quot;\\</U>>];', '    3 -> 5 [label="a<&"];']
+        wanted = ["    1 [shape=box, label=<<B>1</B><BR/>a&lt;&amp;&#160;<U>&quot;b&quot;\\</U>>];", '    3 -> 5 [label="a<&"];']
         expect("names in a graph", all(line in drawn.stdout.splitlines() for line in wanted), drawn)
         dot = shutil.which("dot")
         if dot:
@@ -284,7 +290,11 @@ def try_blanks(program):
     with tempfile.TemporaryDirectory() as folder:
         trace, other = Path(folder) / "trace", Path(folder) / "other"
         trace.write_text(text)
-        for name, changed in ("blanks", text.replace(" ", "  ")), ("zeros", re.sub(r" (-?)([1-9])", r" \g<1>00\2", text)), ("lines", text.replace(" 0 ", "\n0 ")):
+        for name, changed in (
+            ("blanks", text.replace(" ", "  ")),
+            ("zeros", re.sub(r" (-?)([1-9])", r" \g<1>00\2", text)),
+            ("lines", text.replace(" 0 ", "\n0 ")),
+        ):
             other.write_text(changed)
             for words in [DRAW], [EXPLAIN]:
                 wanted, found = (run(*words, formula, path, program=program) for path in (trace, other))
@@ -394,7 +404,15 @@ def near_and_read(text, number):
 def try_words(program):
     """Command lines that are wrong end with status 2, and a text that is no trace with 1."""
     formula, trace = ROOT / "examples" / "two_clauses.qdimacs", ROOT / "examples" / "two_clauses.qrp"
-    for words in [], [formula], [formula, trace, "1"], ["--other", formula, trace], [formula, "/nonexistent"], ["/nonexistent", trace], ["--last", "0", formula, trace]:
+    for words in (
+        [],
+        [formula],
+        [formula, trace, "1"],
+        ["--other", formula, trace],
+        [formula, "/nonexistent"],
+        ["/nonexistent", trace],
+        ["--last", "0", formula, trace],
+    ):
         ended = run(DRAW, *words, program=program)
         expect(f"usage: draw-proof {words}", ended.returncode == 2 and not ended.stdout and ended.stderr, ended)
     ended = run(DRAW, formula, formula, program=program)

@@ -215,7 +215,11 @@ def try_formats(use, given):
             given.expect_same(kind, read(use, f"{given.name}, {kind}", written))
     if shutil.which("dot") and len(given.circuit.gates) <= DRAWN:
         done = subprocess.run(["dot", "-Tsvg"], input=graph, capture_output=True, text=True, check=False)
-        expect(f"{given.name}, dot: it is drawn", (done.returncode, done.stdout.count('class="edge"')) == (0, graph.count("->")) and not done.stderr, done)
+        expect(
+            f"{given.name}, dot: it is drawn",
+            (done.returncode, done.stdout.count('class="edge"')) == (0, graph.count("->")) and not done.stderr,
+            done,
+        )
 
 
 def try_table(use, given, outputs):
@@ -424,7 +428,11 @@ WRONG = [
     ("an empty file", "", "byte 0: the file is no circuit in AIGER"),
     ("a huge number", "aag 99999999999 1 0 2 0\n", "line 1: the header has a number above 1073741824"),
     ("a number of thousands of digits", f"aag {'9' * 5000} 1 0 2 0\n", "line 1: the file is no circuit in AIGER"),
-    ("many inputs", "aig 1073741824 1073741824 0 0 0\n", "the circuit has 1073741824 inputs and 0 outputs, and the formula 1 existential and 2 universal variables"),
+    (
+        "many inputs",
+        "aig 1073741824 1073741824 0 0 0\n",
+        "the circuit has 1073741824 inputs and 0 outputs, and the formula 1 existential and 2 universal variables",
+    ),
     ("many gates", "aig 1073741824 1 0 2 1073741823\n2\n2\n", "the file ends before gate 0"),
     ("latches", RIGHT.replace("aag 1 1 0", "aag 2 1 1"), "the circuit has latches, and that of a strategy has none"),
     ("bad states", RIGHT.replace("2 0\n", "2 0 1\n", 1), "the circuit has bad states, and that of a strategy has none"),
@@ -439,14 +447,26 @@ WRONG = [
     ("a number of no variable", RIGHT.replace("o1 3", "o1 4"), "output 1 is called '4', which is not a variable of the formula"),
     ("a name of no variable", RIGHT.replace("o1 3", "o1 x"), "output 1 is called 'x', which is not a variable of the formula"),
     ("a variable twice", RIGHT.replace("o1 3", "o1 1"), "output 1 is called '1', and another output is this variable too"),
-    ("the players mixed", RIGHT.replace("o1 3", "o1 2").replace("i0 2", "i0 3"), "the output 2 is existential: the outputs are the variables of one player"),
+    (
+        "the players mixed",
+        RIGHT.replace("o1 3", "o1 2").replace("i0 2", "i0 3"),
+        "the output 2 is existential: the outputs are the variables of one player",
+    ),
     ("an input of the winner", RIGHT.replace("i0 2", "i0 3"), "the input 3 is universal: the outputs are the variables of one player"),
     ("a later input", RIGHT.replace("\n1\n", "\n2\n"), "the output 1, of block 1, depends on the input 2, of block 2, which does not come before it"),
-    ("a later input below a gate", "aag 2 1 0 2 1\n2\n5\n3\n4 3 1\ni0 2\no0 1\no1 3\n", "the output 1, of block 1, depends on the input 2, of block 2"),
+    (
+        "a later input below a gate",
+        "aag 2 1 0 2 1\n2\n5\n3\n4 3 1\ni0 2\no0 1\no1 3\n",
+        "the output 1, of block 1, depends on the input 2, of block 2",
+    ),
     ("an output above the greatest", RIGHT.replace("\n1\n", "\n8\n"), "line 3: the literal 8 is above 3, the greatest by the header"),
     ("gates in a circle", "aag 3 1 0 2 2\n2\n1\n4\n4 6 1\n6 4 1\ni0 2\no0 1\no1 3\n", "a gate depends on itself"),
     ("a gate of itself", "aag 2 1 0 2 1\n2\n1\n4\n4 4 1\ni0 2\no0 1\no1 3\n", "a gate depends on itself"),
-    ("a literal that is nothing", "aag 3 1 0 2 1\n2\n1\n4\n4 6 1\ni0 2\no0 1\no1 3\n", "the literal 6 is used, and neither an input nor a latch nor a gate"),
+    (
+        "a literal that is nothing",
+        "aag 3 1 0 2 1\n2\n1\n4\n4 6 1\ni0 2\no0 1\no1 3\n",
+        "the literal 6 is used, and neither an input nor a latch nor a gate",
+    ),
     ("a text that is cut off", RIGHT[:18], "line 3: the file ends before output 1"),
     ("a binary text that is cut off", b"aig 2 1 0 2 1\n1\n3\n\x02", "the file ends before gate 0"),
     ("a binary gate of a later one", b"aig 2 1 0 2 1\n1\n3\n\x00\x7f", "gate 0 has an input that comes after it"),
@@ -458,7 +478,12 @@ WRONG = [
 def try_wrong_circuits(use):
     """What is not a circuit for the formula is refused, with the file and the reason."""
     formula, path = use.write("formula.qdimacs", FORMULA), use.write("circuit", RIGHT)
-    use.expect("a right circuit", use.run(TOOL, "--circuit", path, formula), 0, "the universal player's strategy: 2 outputs, 1 input, 0 gates\nblock 1 (universal)\n    1 = true\nblock 3 (universal)\n    3 = !2\n")
+    use.expect(
+        "a right circuit",
+        use.run(TOOL, "--circuit", path, formula),
+        0,
+        "the universal player's strategy: 2 outputs, 1 input, 0 gates\nblock 1 (universal)\n    1 = true\nblock 3 (universal)\n    3 = !2\n",
+    )
     for name, data, said in WRONG:
         path = use.write("circuit", data)
         for more in [], ["--verify"], ["--format", "blif"]:
@@ -515,7 +540,9 @@ def try_expressions(use):
         formula = use.write("formula", f"p cnf 5 0\na 1 2 3 0\ne {' '.join('45'[: len(outputs)])} 0\n")
         names = use.write("names", "1 x\n2 y\n3 z\n" + "".join(f"{variable} {letter}\n" for variable, letter in zip("45", letters)))
         head = f"aag {3 + len(rows)} 3 0 {len(outputs)} {len(rows)}\n2\n4\n6\n" + "".join(f"{literal}\n" for literal in outputs)
-        path = use.write("circuit", head + "".join(f"{row}\n" for row in rows) + "i0 x\ni1 y\ni2 z\n" + "".join(f"o{at} {it}\n" for at, it in enumerate(letters)))
+        path = use.write(
+            "circuit", head + "".join(f"{row}\n" for row in rows) + "i0 x\ni1 y\ni2 z\n" + "".join(f"o{at} {it}\n" for at, it in enumerate(letters))
+        )
         found = [line.strip() for line in use.shown("--names", names, "--circuit", path, formula).splitlines()[2:]]
         expect(f"the expressions of {gates} {outputs}", found == wanted, found)
     names = use.write("names", "1 g4\n2 v3\n")
@@ -525,7 +552,11 @@ def try_expressions(use):
     expect("names like those of gates", found == ["    g_4 = g4 & 3", "    4 = g_4", "    5 = !g_4"], found)
     found = use.shown("--format", "verilog", "--names", names, "--circuit", path, formula).splitlines()[1:]
     ports = ["    input g4,", "    input v3,", "    input v_3,", "    output v_4,", "    output v_5", ");"]
-    expect("names like those of variables", found == [*ports, "    wire g_4 = g4 & v_3;", "    assign v_4 = g_4;", "    assign v_5 = ~g_4;", "endmodule"], found)
+    expect(
+        "names like those of variables",
+        found == [*ports, "    wire g_4 = g4 & v_3;", "    assign v_4 = g_4;", "    assign v_5 = ~g_4;", "endmodule"],
+        found,
+    )
 
 
 def try_choices(use):
@@ -535,7 +566,10 @@ def try_choices(use):
     path = use.write("circuit", gates + "i0 1\ni1 2\ni2 6\no0 3\no1 4\no2 5\n")
     names = use.write("names", "1 x[0]\n2 x[1]\n3 y[0]\n4 y[1]\n5 z\n")
     head = "the existential player's strategy: {}\nblock 2 (existential)\n"
-    y, z = "    y[0] = !x[0] | !x[1]\n    y[1] = x[0] | x[1]\n", "    g4 = x[0] & x[1]\n    y[0] = !g4\n    g5 = !x[0] & !x[1]\n    y[1] = !g5\n    z = g4 | g5\n"
+    y, z = (
+        "    y[0] = !x[0] | !x[1]\n    y[1] = x[0] | x[1]\n",
+        "    g4 = x[0] & x[1]\n    y[0] = !g4\n    g5 = !x[0] & !x[1]\n    y[1] = !g5\n    z = g4 | g5\n",
+    )
     for words, wanted in (
         ([], head.format("3 outputs, 3 inputs, 3 gates") + z),
         (["--block", "2"], head.format("3 outputs, 2 inputs, 3 gates") + z),
@@ -559,16 +593,33 @@ def try_choices(use):
     wide = [f"{place}" for place in range(1, 11)]
     formula = use.write("formula", f"p cnf 11 0\na {' '.join(wide)} 0\ne 11 0\n")
     gates = "".join(f"{2 * place + 20} {2 * place + 18 if place > 1 else 2} {2 * place + 2}\n" for place in range(1, 10))
-    path = use.write("circuit", "aag 19 10 0 1 9\n" + "".join(f"{2 * it}\n" for it in range(1, 11)) + f"38\n{gates}" + "".join(f"i{it - 1} {it}\n" for it in range(1, 11)) + "o0 11\n")
+    path = use.write(
+        "circuit",
+        "aag 19 10 0 1 9\n"
+        + "".join(f"{2 * it}\n" for it in range(1, 11))
+        + f"38\n{gates}"
+        + "".join(f"i{it - 1} {it}\n" for it in range(1, 11))
+        + "o0 11\n",
+    )
     found = use.shown("--circuit", path, formula).splitlines()[2:]
     expect("a large conjunction is cut", found == ["    g17 = 1 & 2 & 3 & 4 & 5 & 6 & 7 & 8", "    11 = 9 & 10 & g17"], found)
-    use.expect("a table that is too large", use.run(TOOL, "--format", "table", "--circuit", path, formula), 1, "", "the outputs depend on 10 inputs, and a table has at most 8")
+    use.expect(
+        "a table that is too large",
+        use.run(TOOL, "--format", "table", "--circuit", path, formula),
+        1,
+        "",
+        "the outputs depend on 10 inputs, and a table has at most 8",
+    )
     deep = "".join(f"{2 * it} {2 * it - 1} {2 * (it % 20 + 1)}\n" for it in range(21, 20021))
     symbols = "".join(f"i{place} {place + 1}\n" for place in range(20))
     path = use.write("circuit", "aag 20020 20 0 1 20000\n" + "".join(f"{2 * it}\n" for it in range(1, 21)) + f"40040\n{deep}{symbols}o0 21\n")
     formula = use.write("formula", f"p cnf 21 0\na {' '.join(map(str, range(1, 21)))} 0\ne 21 0\n")
     found = use.shown("--circuit", path, formula)
-    expect("a deep circuit", found.startswith("the existential player's strategy: 1 output, 20 inputs, 20000 gates\n") and found.count("\n") > 2000, found[:200])
+    expect(
+        "a deep circuit",
+        found.startswith("the existential player's strategy: 1 output, 20 inputs, 20000 gates\n") and found.count("\n") > 2000,
+        found[:200],
+    )
     formula, path = use.write("formula", "p cnf 2 0\na 1 0\ne 2 0\n"), use.write("circuit", "aag 1 1 0 1 0\n2\n3\ni0 1\no0 2\n")
     names = use.write("names", "1 true\n2 false\n")
     expect("names like constants", "    false_ = !true_\n" in use.shown("--names", names, "--circuit", path, formula))
@@ -577,8 +628,19 @@ def try_choices(use):
 def try_words(use):
     """Wrong command lines, files that are not there, and programs that are not there."""
     box, path = (f"{BOX}.qdimacs", f"{BOX}.qrp"), use.write("circuit", RIGHT)
-    for words in ([], box[:1], ["--circuit", path], ["--circuit", path, *box], ["--format", "xml", *box], ["--block", "x", *box], ["--verify", "--only", "1", *box],
-                  ["--verify", "--format", "aag", *box], ["--verify", "--block", "1", *box], ["--solver", "x", *box], ["--qu", "--circuit", path, box[0]]):
+    for words in (
+        [],
+        box[:1],
+        ["--circuit", path],
+        ["--circuit", path, *box],
+        ["--format", "xml", *box],
+        ["--block", "x", *box],
+        ["--verify", "--only", "1", *box],
+        ["--verify", "--format", "aag", *box],
+        ["--verify", "--block", "1", *box],
+        ["--solver", "x", *box],
+        ["--qu", "--circuit", path, box[0]],
+    ):
         use.expect(f"the words {words}", use.run(TOOL, *words), 2, "", "usage: ")
     missing = use.folder / "missing"
     for words in ([missing, box[1]], [box[0], missing], ["--circuit", missing, box[0]], ["--names", missing, *box]):
@@ -604,13 +666,29 @@ def try_words(use):
     use.expect("qrp_strategy by its name", ended, 0, wanted)
     (tools / "qrp_strategy").symlink_to(use.strategy)
     use.expect("qrp_strategy beside qrp_cmd", use.run(own, *box, env=environment), 0, wanted)
-    use.expect("a wrong name of qrp_strategy", use.run(own, *box, env={**environment, "QRP_STRATEGY": str(missing)}), 2, "", f"the program {missing} cannot be run: ")
+    use.expect(
+        "a wrong name of qrp_strategy",
+        use.run(own, *box, env={**environment, "QRP_STRATEGY": str(missing)}),
+        2,
+        "",
+        f"the program {missing} cannot be run: ",
+    )
     no_circuit = use.write("no_circuit", "#!/bin/sh\necho 'NO CIRCUIT' >&2\nexit 4\n")
     no_circuit.chmod(0o755)
     use.expect("no circuit", use.run(own, *box, env={**environment, "QRP_STRATEGY": str(no_circuit)}), 2, "", "qrp_strategy says: NO CIRCUIT")
     for redirection, reason in (">&-", "it is closed"), (">/dev/full", "No space left on device"):
-        done = subprocess.run(["bash", "-c", f'"$@" {redirection}', "bash", sys.executable, str(TOOL), *box], capture_output=True, text=True, check=False, env=use.environment)
-        expect(f"strategy: the output {redirection}", (done.returncode, f"the standard output cannot be written: {reason}" in done.stderr) == (2, True), done)
+        done = subprocess.run(
+            ["bash", "-c", f'"$@" {redirection}', "bash", sys.executable, str(TOOL), *box],
+            capture_output=True,
+            text=True,
+            check=False,
+            env=use.environment,
+        )
+        expect(
+            f"strategy: the output {redirection}",
+            (done.returncode, f"the standard output cannot be written: {reason}" in done.stderr) == (2, True),
+            done,
+        )
 
 
 # ---- the tools that use strategies
@@ -625,7 +703,11 @@ def try_play(use):
         for seed in range(3):
             ended = use.run(PLAY, "--json", "--random", seed, "--strategy", path, formula)
             again = use.run(PLAY, "--json", "--random", seed, "--by-strategy", formula, trace)
-            expect(f"play, {formula.stem}, {seed}: by a file and by the proof", (ended.returncode, ended.stdout, ended.stderr) == (0, again.stdout, ""), (ended, again))
+            expect(
+                f"play, {formula.stem}, {seed}: by a file and by the proof",
+                (ended.returncode, ended.stdout, ended.stderr) == (0, again.stdout, ""),
+                (ended, again),
+            )
             found = json.loads(ended.stdout)
             values = {abs(literal): int(literal > 0) for move in found["moves"] for literal in move["values"]}
             own = {abs(literal): int(literal > 0) for move in found["moves"] if move["by"] == "circuit" for literal in move["values"]}
@@ -642,8 +724,15 @@ def try_play(use):
     ended = use.run(PLAY, "--names", f"{BOX}.names", "--reply", "box", "--random", "1", "--strategy", lost, box)
     end = "no variable is left, and the matrix holds: the universal player has lost\n"
     expect("strategy: play, a circuit that does not win", ended.returncode == 1 and ended.stdout.endswith(end) and not ended.stderr, ended)
-    for words in ([box], ["--strategy", path, box, f"{BOX}.qrp"], ["--by-strategy", box], ["--by-strategy", "--strategy", path, box], ["--qu", "--strategy", path, box],
-                  ["--write", use.folder / "states", "--strategy", path, box], ["--write", use.folder / "states", "--by-strategy", box, f"{BOX}.qrp"]):
+    for words in (
+        [box],
+        ["--strategy", path, box, f"{BOX}.qrp"],
+        ["--by-strategy", box],
+        ["--by-strategy", "--strategy", path, box],
+        ["--qu", "--strategy", path, box],
+        ["--write", use.folder / "states", "--strategy", path, box],
+        ["--write", use.folder / "states", "--by-strategy", box, f"{BOX}.qrp"],
+    ):
         use.expect(f"play, the words {words}", use.run(PLAY, *words), 2, "", "usage: ")
     use.expect("play, not a circuit", use.run(PLAY, "--strategy", box, box), 1, "", f"{box}, line 1: the file is no circuit in AIGER")
     use.expect("play, no file", use.run(PLAY, "--strategy", use.folder / "none", box), 2, "", "none cannot be read: No such file or directory")
@@ -671,16 +760,40 @@ def try_solve(use):
     for name, words, status, said, more in (
         ("a proof that is refused", ["--solver", wrong, "--strategy", kept], 1, "the solver answers false, and qrp_cmd says REFUSED", {}),
         ("a program that fails", [*first, "--strategy", kept], 2, "qrp_strategy ended with status 3", {"env": environment}),
-        ("a folder that is not there", [*first, "--strategy", use.folder / "none" / "x"], 2, "none/x cannot be written: No such file or directory", {}),
+        (
+            "a folder that is not there",
+            [*first, "--strategy", use.folder / "none" / "x"],
+            2,
+            "none/x cannot be written: No such file or directory",
+            {},
+        ),
         ("a folder", [*first, "--strategy", use.folder], 2, "is not a file: the strategy is not kept there", {}),
-        ("no qrp_strategy", [*first, "--strategy", kept], 2, "the program /none cannot be run: ", {"env": {**use.environment, "QRP_STRATEGY": "/none"}}),
+        (
+            "no qrp_strategy",
+            [*first, "--strategy", kept],
+            2,
+            "the program /none cannot be run: ",
+            {"env": {**use.environment, "QRP_STRATEGY": "/none"}},
+        ),
     ):
         use.expect(f"solve, {name}", use.run(SOLVE, *words, box, **more), status, none, said)
-        expect(f"strategy: solve, {name}: the older circuit stays", kept.read_bytes() == before and not list(use.folder.glob("*.new")), list(use.folder.iterdir()))
+        expect(
+            f"strategy: solve, {name}: the older circuit stays",
+            kept.read_bytes() == before and not list(use.folder.glob("*.new")),
+            list(use.folder.iterdir()),
+        )
     own = use.write("own.qdimacs", Path(box).read_bytes())
-    use.expect("solve, the formula as strategy", use.run(SOLVE, *first, "--strategy", own, own), 2, none, "own.qdimacs is the formula: name another file for the strategy")
+    use.expect(
+        "solve, the formula as strategy",
+        use.run(SOLVE, *first, "--strategy", own, own),
+        2,
+        none,
+        "own.qdimacs is the formula: name another file for the strategy",
+    )
     expect("strategy: solve, the formula stays", own.read_bytes() == Path(box).read_bytes())
-    use.expect("solve, one file for both", use.run(SOLVE, *first, "--keep", kept, "--strategy", kept, box), 2, "", "--keep and --strategy name one file")
+    use.expect(
+        "solve, one file for both", use.run(SOLVE, *first, "--keep", kept, "--strategy", kept, box), 2, "", "--keep and --strategy name one file"
+    )
 
 
 def try_full_folder(use):
@@ -689,7 +802,7 @@ def try_full_folder(use):
     if not shutil.which("unshare") or subprocess.run([*make, "true"], env=use.environment, check=False, capture_output=True).returncode:
         skip("strategies with a full TMPDIR", "no file system can be mounted here")
         return
-    large = use.write("large", '#!/bin/sh\nhead -c 100000 /dev/zero 2>/dev/null || exit 3\n')
+    large = use.write("large", "#!/bin/sh\nhead -c 100000 /dev/zero 2>/dev/null || exit 3\n")
     large.chmod(0o755)
     path = use.write("box.aag", made(use, Path(f"{BOX}.qdimacs"), Path(f"{BOX}.qrp"), ()))
     formula = use.write("formula.qdimacs", Path(f"{BOX}.qdimacs").read_text().replace("p cnf 28 80", "p cnf 28 4080") + "1 2 3 -1 0\n" * 4000)
@@ -702,7 +815,20 @@ def try_full_folder(use):
         use.expect(f"{what} and a full TMPDIR", ended, 2, "", f"{what} cannot be written to TMPDIR={use.temporary}: No space left on device")
 
 
-PARTS = [try_examples, try_random_circuits, try_examples_verified, try_solvers, try_wrong_circuits, try_no_variables, try_expressions, try_choices, try_words, try_play, try_solve, try_full_folder]
+PARTS = [
+    try_examples,
+    try_random_circuits,
+    try_examples_verified,
+    try_solvers,
+    try_wrong_circuits,
+    try_no_variables,
+    try_expressions,
+    try_choices,
+    try_words,
+    try_play,
+    try_solve,
+    try_full_folder,
+]
 WITHOUT_PROGRAM = [try_random_circuits, try_wrong_circuits, try_no_variables, try_expressions, try_choices]
 LEAST = 1726
 

@@ -79,7 +79,14 @@ class Trial:
             rows = self.folder / "list"
             rows.write_text(f"name\t{formula}\t{trace}\n")
         circuit = self.write("circuit", CIRCUIT) if formula == FORMULA else formula
-        files = {"FORMULA": formula, "CIRCUIT": circuit, "TRACE": trace, "LIST": rows, "SOLVER": self.solver(), "STRATEGY": self.write("strategy", STRATEGY)}
+        files = {
+            "FORMULA": formula,
+            "CIRCUIT": circuit,
+            "TRACE": trace,
+            "LIST": rows,
+            "SOLVER": self.solver(),
+            "STRATEGY": self.write("strategy", STRATEGY),
+        }
         return [sys.executable, str(ROOT / "tools" / self.tool.name), *(str(files.get(word, word)) for word in self.tool.words)]
 
     def write(self, name, text):
@@ -132,7 +139,6 @@ def try_arguments(trial):
     said = ["usage: " + words[1], "Exit status: 0 if", "2 if", "the output cannot be written", "130, 143 after an interrupt and after SIGTERM"]
     text = " ".join(ended.stdout.split())
     expect(f"{trial.tool.name}: --help has the statuses", all(word in text for word in said) and not ended.stderr, ended)
-
 
     version = (ROOT / "VERSION").read_text().strip() if (ROOT / "VERSION").exists() else None
     ended = trial.run([*words[:2], "--version"])
@@ -193,7 +199,9 @@ def try_outputs(trial):
     wrong = trial.tool.output
     trial.expect("a closed output", trial.in_shell(">&-"), wrong, [cannot + "it is closed\n"])
     trial.expect("a full output", trial.in_shell(">/dev/full"), wrong, [cannot + "No space left on device\n"])
-    trial.expect("a pipe that nobody reads", trial.in_shell('> >(exec <&-; sleep 0.1) ; status=$?; wait; exit $status'), wrong, [cannot + "Broken pipe\n"])
+    trial.expect(
+        "a pipe that nobody reads", trial.in_shell("> >(exec <&-; sleep 0.1) ; status=$?; wait; exit $status"), wrong, [cannot + "Broken pipe\n"]
+    )
     trial.expect("a closed input", trial.in_shell("<&- >/dev/null"), trial.tool.right)
     trial.expect("a closed standard error", trial.in_shell("2>&-"), trial.tool.right)
     ended = trial.run(["bash", "-c", '"$@" 2>&-', "bash", *trial.words(), "--other"])
@@ -315,7 +323,12 @@ def try_program(trial):
     for name, text, status, said in (
         ("no program", None, 2, "cannot be run: "),
         ("a program that is none", "", 2, "cannot be run: "),
-        ("a program that is killed", "#!/bin/sh\nkill -KILL $$\n", 2, f"signal 9 (SIGKILL), which the system sends if it is out of memory, ended {name_of_program}"),
+        (
+            "a program that is killed",
+            "#!/bin/sh\nkill -KILL $$\n",
+            2,
+            f"signal 9 (SIGKILL), which the system sends if it is out of memory, ended {name_of_program}",
+        ),
         ("a program without memory", "#!/bin/sh\necho 'NO MEMORY' >&2\nexit 4\n", 2, "NO MEMORY: "),
         ("a program that says something else", "#!/bin/sh\necho 'hello' >&2\nexit 7\n", 2, "hello"),
     ):
@@ -350,7 +363,9 @@ def try_memory(trial):
 def try_full_folder(trial):
     """A folder for temporary files that is full. It needs a file system of its own, which a user may make in a name space of its own."""
     trace = trial.folder / "large"
-    trace.write_text("p qrp 0 0\n1 1 2 0 0\n2 1 0 1 0\n3 -1 0 0\n" + "".join(f"{n} -1 0 {n - 1} 0\n" for n in range(4, 3000)) + "3000 0 2 2999 0\nr unsat\n")
+    trace.write_text(
+        "p qrp 0 0\n1 1 2 0 0\n2 1 0 1 0\n3 -1 0 0\n" + "".join(f"{n} -1 0 {n - 1} 0\n" for n in range(4, 3000)) + "3000 0 2 2999 0\nr unsat\n"
+    )
     mount = 'mount -t tmpfs -o size=16k none "$TMPDIR" && exec "$@"'
     make = ["unshare", "--user", "--map-root-user", "--mount", "bash", "-c", mount, "bash"]
     if not shutil.which("unshare") or subprocess.run([*make, "true"], env=trial.environment, check=False, capture_output=True).returncode:
@@ -397,18 +412,41 @@ def try_old_systems(program):
 
 
 # Each function says its types, and each body is looked at.
-MYPY = ["mypy", "--python-version", "3.9", "--disallow-untyped-defs", "--check-untyped-defs", "--scripts-are-modules"]
+MYPY = ["mypy", "--disallow-untyped-defs", "--check-untyped-defs", "--scripts-are-modules"]
 
 
 def try_types():
-    """The tools and their modules agree with their types."""
+    """The tools, the commands of the gate and their modules agree with their types."""
     if not shutil.which("mypy"):
         skip("the types of the modules", "there is no mypy")
         return
-    with tempfile.TemporaryDirectory() as folder:
-        words = [*MYPY, "--cache-dir", folder, "qrptools", *sorted({tool.name for tool in TOOLS})]
-        ended = subprocess.run(words, cwd=ROOT / "tools", capture_output=True, text=True, check=False)
-    expect("the types of the modules", ended.returncode == 0, ended.stdout)
+    commands = ["check-adapters", "check-memory-faults", "check-promises", "prove", "try-wrong-bodies", "try-wrong-definitions"]
+    tools = ["qrptools", *sorted({tool.name for tool in TOOLS})]
+    for name, version, modules in (("tools", "3.9", tools), ("gate", "3.10", commands)):
+        with tempfile.TemporaryDirectory() as folder:
+            words = [*MYPY, "--python-version", version, "--cache-dir", folder, *modules]
+            ended = subprocess.run(words, cwd=ROOT / name, capture_output=True, text=True, check=False)
+        expect(f"the types of the modules of {name}", ended.returncode == 0, ended.stdout)
+
+
+def is_python(path):
+    """Whether a file is a module or a script of Python."""
+    if path.suffix == ".py":
+        return True
+    with path.open("rb") as file:
+        return b"python3" in file.readline(60)
+
+
+def try_layout():
+    """All of Python is laid out by black, of the version that Debian 12 has: another one may differ in small things."""
+    version = subprocess.run(["black", "--version"], capture_output=True, text=True, check=False).stdout if shutil.which("black") else ""
+    if not version.startswith("black, 23.1"):
+        skip("the layout of Python", "there is no black 23.1")
+        return
+    folders = ("bench", "docs", "examples", "gate", "packaging", "python", "tests", "tools")
+    files = [path for folder in folders for path in sorted((ROOT / folder).rglob("*")) if path.is_file() and is_python(path)]
+    ended = subprocess.run(["black", "--check", "-l", "150", *files], capture_output=True, text=True, check=False)
+    expect("the layout of Python", ended.returncode == 0, ended.stderr)
 
 
 def main():
@@ -435,7 +473,8 @@ def main():
                 trial(Trial(tool, program, folder))
     try_old_systems(program)
     try_types()
-    return finish(1276)
+    try_layout()
+    return finish(1278)
 
 
 if __name__ == "__main__":

@@ -62,7 +62,9 @@ def verify(formula: str, trace: str, answer: str, named: str) -> None:
     if line.startswith("REFUSED trace "):
         refuse_full(trace, named)
     if line.startswith(("REFUSED ", "VERIFIED ")):
-        raise finding(f"the solver answers {answer.split()[-1]}, and qrp_cmd says {line} of its proof" + (f", with status {status}" if line == answer else ""))
+        raise finding(
+            f"the solver answers {answer.split()[-1]}, and qrp_cmd says {line} of its proof" + (f", with status {status}" if line == answer else "")
+        )
     raise unusable(why_not(line, status, formula, trace))
 
 

@@ -13,6 +13,7 @@ HEADER = re.compile(rb"(aag|aig)((?: [0-9]{1,20}){5,9})")
 KINDS = {"i": "input", "l": "latch", "o": "output", "b": "bad state", "c": "constraint", "j": "justice property", "f": "fairness constraint"}
 GREATEST = 2**30  # variables of a circuit
 
+
 class Latch(NamedTuple):
     """A latch: its literal, that of its next value, and its value at the beginning: 0, 1, or its own literal if that is any."""
 

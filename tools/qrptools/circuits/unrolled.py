@@ -8,6 +8,7 @@ from typing import Callable, NamedTuple, Optional
 
 from qrptools.circuits.aiger import Circuit
 
+
 class Input(NamedTuple):
     """An input in a step, None if it has one value for all steps; or a latch whose value at the beginning is free, in step 0."""
 

@@ -23,7 +23,12 @@ ROWS: list[tuple[str, Optional[str], str, str]] = [
         "a line of DQDIMACS, which says what a variable depends on",
         "the formula is a DQBF, which qrp_cmd does not check; without that line it is another question",
     ),
-    ("F4", None, "a number is out of range", "correct the number, or the number of variables in the header: `tools/explain --mend FORMULA > MENDED` does the second"),
+    (
+        "F4",
+        None,
+        "a number is out of range",
+        "correct the number, or the number of variables in the header: `tools/explain --mend FORMULA > MENDED` does the second",
+    ),
     ("F4", "open", "a clause comes after a set that lacks its 0", "close the quantifier set before it by 0"),
     ("F5", None, "a variable is bound twice", "leave one of its places out of the quantifier sets"),
     (
@@ -108,7 +113,12 @@ ROWS: list[tuple[str, Optional[str], str, str]] = [
         "let the solver finish, and leave out `--no-cdcl` and `--no-sdcl`: it has to learn clauses and cubes. Or the last step was lost",
     ),
     ("S1", "long", "both signs of a variable, from the antecedents", "leave out the solver's long-distance resolution (`--long-dist-res`)"),
-    ("S1", "damaged", "both signs of a variable, not from the antecedents", "the step has a literal too many, so the trace is damaged: have the solver write it again"),
+    (
+        "S1",
+        "damaged",
+        "both signs of a variable, not from the antecedents",
+        "the step has a literal too many, so the trace is damaged: have the solver write it again",
+    ),
     ("S2", None, "a variable that the formula does not bind", "give the formula that the solver read"),
     ("S3", "order", "the antecedent comes later", "put the steps in an order in which each comes after those that it names, as DepQBF does"),
     ("S3", "missing", "no step has this number", "a step is missing, or a number is wrong: have the solver write the trace again, whole"),
@@ -128,7 +138,12 @@ ROWS: list[tuple[str, Optional[str], str, str]] = [
     ),
     ("S5", "side", "the step is a clause of the formula", "the trace says `sat` over clauses: its result is wrong"),
     ("S6", "more", "a literal too many", "weakening is not a rule here: leave the literal out"),
-    ("S6", "sign", "a literal whose negation is in the antecedent", "a sign was flipped, here or there, so the trace is damaged: have the solver write it again"),
+    (
+        "S6",
+        "sign",
+        "a literal whose negation is in the antecedent",
+        "a sign was flipped, here or there, so the trace is damaged: have the solver write it again",
+    ),
     ("S7", "scheme", "a reducible quantifier, too far out", "the prefix is another one, or a dependency scheme was used: `--dep-man=simple`"),
     (
         "S7",
@@ -151,7 +166,12 @@ ROWS: list[tuple[str, Optional[str], str, str]] = [
         "use `--qu`, which allows a pivot of either quantifier (QU-resolution and its dual)",
     ),
     ("S11", "more", "a literal too many", "weakening is not a rule here: leave the literal out"),
-    ("S11", "sign", "a literal whose negation is in the resolvent", "a sign was flipped, here or in an antecedent, so the trace is damaged: have the solver write it again"),
+    (
+        "S11",
+        "sign",
+        "a literal whose negation is in the resolvent",
+        "a sign was flipped, here or in an antecedent, so the trace is damaged: have the solver write it again",
+    ),
     ("S11", "pivot", "a literal of the pivot", "leave the literal out: the resolvent does not hold the pivot"),
     ("S12", "scheme", "a reducible quantifier, too far out", "the prefix is another one, or a dependency scheme was used: `--dep-man=simple`"),
     (
@@ -161,13 +181,21 @@ ROWS: list[tuple[str, Optional[str], str, str]] = [
         "an antecedent or a literal was lost, and no prefix explains that, so the trace is damaged: have the solver write it again",
     ),
     ("DEVICE", None, "a file cannot be opened or read", "give the file's name, and the right to read it"),
-    ("DEVICE", "minus", "the name is `-`", "`-` is a name like any other here: give `/dev/stdin` for the standard input, or use `tools/check`, where `-` is that"),
+    (
+        "DEVICE",
+        "minus",
+        "the name is `-`",
+        "`-` is a name like any other here: give `/dev/stdin` for the standard input, or use `tools/check`, where `-` is that",
+    ),
     ("NO MEMORY", None, "memory was refused", "raise the limit (`ulimit -v`), or take a machine with more memory"),
     ("USAGE", None, "wrong arguments", "give the arguments as in the usage; names of files have to be valid UTF-8"),
 ]
 
 NEXT = [
-    ("VERIFIED true", "`qrp_cmd trim` writes the steps that the proof needs, `tools/proof-stats` says how large it is, and `tools/play` the winner's moves"),
+    (
+        "VERIFIED true",
+        "`qrp_cmd trim` writes the steps that the proof needs, `tools/proof-stats` says how large it is, and `tools/play` the winner's moves",
+    ),
     (
         "VERIFIED false",
         "`qrp_cmd trim` writes the steps that the proof needs, `tools/proof-stats` says how large it is, `tools/used-clauses` which clauses it "
@@ -199,7 +227,11 @@ KINDS = [
     ("zeros", "It is not a text: it has zero bytes, as a proof in the binary form of DRAT", SAY_TRACE),
     ("no text", "It is not a text: it has zero bytes", "give a formula in QDIMACS, which is plain ASCII"),
     ("formula", "It is a formula, and so is the first file: was the same one given twice?", "give the solver's trace as the second file"),
-    ("joined", "It is a formula with a trace after it, whose header is in line N", "take out what comes before line N: the formula is the first file alone"),
+    (
+        "joined",
+        "It is a formula with a trace after it, whose header is in line N",
+        "take out what comes before line N: the formula is the first file alone",
+    ),
     ("trace", "It is a trace, not a formula. Were the two files exchanged?", "give the formula first, and then the trace"),
     (
         "late",

@@ -149,7 +149,9 @@ class Explainer:
         found = [f"The program had up to {resource.getrusage(resource.RUSAGE_CHILDREN).ru_maxrss // 1024} MB when a request for more was refused."]
         paths = [path for path in (self.arguments.formula, self.arguments.trace) if path]
         size = sum(os.path.getsize(path) for path in paths) / 1000000
-        found.append(f"The files have {size:.1f} MB. In docs/BENCHMARKS.md a check took 0.7 to 2 times that: here it would be {0.7 * size:.0f} to {2 * size:.0f} MB.")
+        found.append(
+            f"The files have {size:.1f} MB. In docs/BENCHMARKS.md a check took 0.7 to 2 times that: here it would be {0.7 * size:.0f} to {2 * size:.0f} MB."
+        )
         limit = resource.getrlimit(resource.RLIMIT_AS)[0]
         if limit != resource.RLIM_INFINITY:
             found.append(f"The limit of this shell (ulimit -v) is {limit // 1024} KB.")

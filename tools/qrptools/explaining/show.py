@@ -77,7 +77,10 @@ def judged_step(formula: Formula, trace: Trace, any_pivot: bool, number: int, is
 def reasons(judged: Judged) -> list[str]:
     """Sentences on why the step follows or not."""
     own = judged.step.number
-    return [*judged.finding.reasons, *(f"Step {n} " + ("is this step." if n == own else f"comes later, in line {line}.") for n, line in judged.later.items())]
+    return [
+        *judged.finding.reasons,
+        *(f"Step {n} " + ("is this step." if n == own else f"comes later, in line {line}.") for n, line in judged.later.items()),
+    ]
 
 
 def lines_of(formula: Formula, side: Side, judged: Judged, names: Optional[Names] = None) -> Iterator[str]:

@@ -13,6 +13,7 @@ from qrptools.games.gates import Gates
 from qrptools.games.replies import Replies, described
 from qrptools.names import Names
 
+
 class Move(NamedTuple):
     """A move: the block, whether the winner makes it, the literals that are then true, the variables that the proof leaves open, those that
     are set as their gates give them, the program's line, and the files of the state."""

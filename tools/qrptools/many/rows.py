@@ -10,6 +10,7 @@ from qrptools.command import read_file, unusable, version
 FLAG, TRUTHS = "--qu", ("true", "false")
 LOST = 255  # the status of what is not known
 
+
 class Pair(NamedTuple):
     """A line of the list. The files are as they are written there; the flag is a minus if there is none, and so is the expected truth."""
 

@@ -137,7 +137,9 @@ def winner_of(formula: Formula, inputs: list[int], outputs: list[int]) -> str:
 def refuse_mixed(path: str, kind: str, wrong: list[int], formula: Formula, names: Names) -> None:
     if wrong:
         adjective = ADJECTIVES[formula.places[wrong[0]].quantifier]
-        raise finding(f"{path}: the {KINDS[kind]} {names.name(wrong[0])} is {adjective}: the outputs are the variables of one player, and the inputs the others")
+        raise finding(
+            f"{path}: the {KINDS[kind]} {names.name(wrong[0])} is {adjective}: the outputs are the variables of one player, and the inputs the others"
+        )
 
 
 def refuse_late(path: str, strategy: Strategy, formula: Formula, names: Names) -> None:
