@@ -711,7 +711,7 @@ def main():
     try_needed(program)
     try_step_names(program)
     try_pages(program)
-    return finish(5803)
+    return finish(5941)
 
 
 if __name__ == "__main__":

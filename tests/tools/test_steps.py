@@ -440,7 +440,7 @@ def main():
     try_marks(program)
     try_blanks(program)
     try_words(program)
-    return finish(4165)
+    return finish(4235)
 
 
 if __name__ == "__main__":

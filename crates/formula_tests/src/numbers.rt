@@ -107,23 +107,3 @@ fn pieces_of_each_size(rt: HostRuntime) -> Result<(), Fail> {
     }
     Ok(())
 }
-
-/// Clauses with a fault in the last of their literals, or after it.
-const FAULTY: [&[u8]; 6] = [
-    b"p cnf 9 2\ne 1 2 0\n1 2 -1 -2 0\n1 2 1 2 -0 0\n",
-    b"p cnf 9 2\ne 1 2 0\n1 2 -1 -2 0\n1 2 1 2 10 0\n",
-    b"p cnf 9 2\ne 1 2 0\n1 2 -1 -2 0\n1 2 1\n2 3 0\n",
-    b"p cnf 9 2\ne 1 2 0\n1 2 -1 -2 0\n1 2 1 2 1- 0\n",
-    b"p cnf 9 2\ne 1 2 0\n1 2 -1 -2 0\n1 2 1 2 - 0\n",
-    b"p cnf 9 2\ne 1 2 0\n1 2 -1 -2 0\n1 2 1 2 0 1 0\n",
-];
-
-#[test]
-fn faults_among_numbers(rt: HostRuntime) -> Result<(), Fail> {
-    for text in FAULTY {
-        for piece in [2, 7, 64, 4096] {
-            assert_read_alike(&rt, text, piece)?;
-        }
-    }
-    Ok(())
-}

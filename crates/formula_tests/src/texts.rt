@@ -11,9 +11,6 @@ use std::test::Fail;
 /// The end on the first line.
 const END: (Token, u64) = (Token::End, 1);
 
-/// A bad token, on the first line.
-const BAD: (Token, u64) = (Token::Bad, 1);
-
 /// A number without `-` on the first line.
 fn number(value: u64) -> (Token, u64) {
     on_line(value, 1)
@@ -29,11 +26,11 @@ fn on_line(value: u64, line: u64) -> (Token, u64) {
 }
 
 /// Scans texts in pieces of several sizes, and compares each token and its line.
-fn assert_scanned(rt: &impl Abort, comments: Comments, rows: &[(&[u8], &[(Token, u64)])]) {
+fn assert_scanned(rt: &impl Abort, rows: &[(&[u8], &[(Token, u64)])]) {
     for (text, wanted) in rows {
         for piece in [1, 2, 3, 4096] {
             let mut source = PieceSource::new(text, piece, 0);
-            let mut scanner = Scanner::new(comments);
+            let mut scanner = Scanner::new(Comments::Qdimacs);
             for token in *wanted {
                 let returned = scanner.next_token(&mut source);
                 assert_eq!(rt; returned, Ok(*token), "in pieces of {piece}");
@@ -68,52 +65,18 @@ fn zeros_between(alloc: Global, front: &[u8], back: &[u8]) -> Result<Vec<u8>, Fa
 }
 
 #[test]
-fn scans_formulas(rt: HostRuntime) {
-    let minus_two = Token::Number {
-        negative: true,
-        value: 2,
-    };
-    let (cnf, big) = ((Token::Word(Word::Cnf), 1), (Token::Big, 1));
-    let last = number(18446744073709551615);
-    let rows: [(&[u8], &[(Token, u64)]); 9] = [
-        (b"", &[END]),
-        (b"\n", &[(Token::End, 2)]),
-        (b"1 -2 0", &[number(1), (minus_two, 1), number(0), END]),
-        (
-            b"18446744073709551615 18446744073709551616",
-            &[last, big, END],
-        ),
-        (b"-0 0 +3 007", &[BAD, number(0), BAD, number(7), END]),
-        (b"1\r\nc 2\n3", &[number(1), on_line(3, 3), (Token::End, 3)]),
-        (b"# x\n4", &[BAD, BAD, on_line(4, 2), (Token::End, 2)]),
-        (b"cnfcnf cnf", &[END]),
-        (b" 1 cnfcnf cnf", &[number(1), BAD, cnf, END]),
-    ];
-    assert_scanned(&rt, Comments::Qdimacs, &rows);
-}
-
-#[test]
-fn scans_traces(rt: HostRuntime) {
-    let unsat = Token::Word(Word::Unsat);
-    let rows: [(&[u8], &[(Token, u64)]); 2] = [
-        (b"# x\n4", &[on_line(4, 2), (Token::End, 2)]),
-        (b"r UnSat", &[(Token::Word(Word::R), 1), (unsat, 1), END]),
-    ];
-    assert_scanned(&rt, Comments::Qrp, &rows);
-}
-
-#[test]
-fn scans_long_tokens(rt: HostRuntime) -> Result<(), Fail> {
+fn scans_worked_and_long_texts(rt: HostRuntime) -> Result<(), Fail> {
     let alloc = rt.alloc();
     let seven = zeros_between(alloc, b"", b"7")?;
     let minus = zeros_between(alloc, b"-", b"")?;
     let one = zeros_between(alloc, b"1", b"")?;
-    let rows: [(&[u8], &[(Token, u64)]); 3] = [
+    let rows: [(&[u8], &[(Token, u64)]); 4] = [
+        (b"1\r\nc 2\n3", &[number(1), on_line(3, 3), (Token::End, 3)]),
         (&seven, &[number(7), END]),
-        (&minus, &[BAD, END]),
+        (&minus, &[(Token::Bad, 1), END]),
         (&one, &[(Token::Big, 1), END]),
     ];
-    assert_scanned(&rt, Comments::Qdimacs, &rows);
+    assert_scanned(&rt, &rows);
     Ok(())
 }
 

@@ -29,12 +29,6 @@ const TRUE: Texts<'static> = (
     b"p qrp 2 5\n1 1 2 0 0\n2 -1 -2 0 0\n3 1 0 1 0\n4 -1 0 2 0\n5 0 3 4 0\nr sat\n",
 );
 
-/// A formula without a clause, and a proof by its universal variable.
-const RESOLVED: Texts<'static> = (
-    b"p cnf 1 0\na 1 0\n",
-    b"p qrp 1 3\n1 1 0 0\n2 -1 0 0\n3 0 1 2 0\nr sat\n",
-);
-
 /// A clause without literals.
 const EMPTY_CLAUSE: &[u8] = b"p cnf 0 1\n0\n";
 
@@ -90,8 +84,7 @@ fn assert_verified(
 #[test]
 fn verifies_proofs(rt: HostRuntime) -> Result<(), Fail> {
     assert_verified(&rt, FALSE, false, &[0, 1, 2, 3, 4])?;
-    assert_verified(&rt, TRUE, true, &[0, 1, 2, 3, 4])?;
-    assert_verified(&rt, RESOLVED, true, &[0, 1, 2])
+    assert_verified(&rt, TRUE, true, &[0, 1, 2, 3, 4])
 }
 
 /// Sends a step without literals that follows from an earlier one.

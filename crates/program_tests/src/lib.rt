@@ -5,8 +5,6 @@
 #[cfg(test)]
 mod checks;
 #[cfg(test)]
-mod command_lines;
-#[cfg(test)]
 mod programs;
 #[cfg(test)]
 mod runs;

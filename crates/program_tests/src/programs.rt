@@ -1,13 +1,14 @@
-//! The program on files in memory.
+//! A command line, and the program on files in memory, one of which is not opened for want of
+//! memory. Other command lines are words of tests/program/parts/words.
 
 ghost use Rattle.std.specs.Prelude.{◌≡◌, ◌≢◌, ◌⊎◌, Some, Ok, Err, codes};
 ghost use Rattle.qrp_cli.specs.declared.open_fault.OpenFault.{OpenFault};
 
-use crate::command_lines::given;
-use crate::runs::{assert_same, sinks};
+use crate::runs::{REFUTATION, TWO_CLAUSES, VERIFIED, assert_same, sinks};
 use qbf_text::{FromRead, PieceSink, VecSink};
-use qrp_cli::{LIMIT, Open, OpenFault, Start, Status, program};
-use std::alloc::Global;
+use qrp_check::Rules;
+use qrp_cli::{Job, LIMIT, Open, OpenFault, Start, Status, program, request};
+use std::alloc::{AllocError, Global};
 use std::test::Fail;
 
 /// Two files in memory: `f` is a formula and `t` a trace. An allocation fails for `m`, and no other
@@ -40,16 +41,27 @@ impl<'a> Open for Shelf<'a> {
     }
 }
 
-/// A false formula, canonical, and its refutation, whose step 4 has a universal pivot.
-const FORMULA: &[u8] = b"p cnf 2 3\na 1 0\ne 2 0\n1 2 0\n-1 2 0\n-2 0\n";
-
-const TRACE: &[u8] =
-    b"p qrp 2 5\n1 1 2 0 0\n2 -1 2 0 0\n3 -2 0 0\n4 2 0 1 2 0\n5 0 4 3 0\nr unsat\n";
-
 const FILES: Shelf<'static> = Shelf {
-    formula: FORMULA,
-    trace: TRACE,
+    formula: TWO_CLAUSES,
+    trace: REFUTATION,
 };
+
+/// The arguments as a list of texts.
+fn given(alloc: Global, words: &[&str]) -> Result<Vec<String>, AllocError> {
+    let mut list = Vec::new(alloc);
+    for word in words {
+        list.push(String::from_str(alloc, word)?)?;
+    }
+    Ok(list)
+}
+
+#[test]
+fn asks_for_a_job(rt: HostRuntime) -> Result<(), Fail> {
+    let words = given(rt.alloc(), &["check", "f", "t", "--qu"])?;
+    let wanted = Some((Job::Check(Rules::any_pivot()), 1, Some(2)));
+    assert_eq!(rt; request(&words), wanted);
+    Ok(())
+}
 
 /// The bytes that the program writes on these arguments, and its status.
 fn run_on_words(alloc: Global, words: &[&str]) -> Result<(VecSink, VecSink, Status), Fail> {
@@ -67,31 +79,16 @@ type Answer = (
     Status,
 );
 
-const REFUSED: &[u8] = b"REFUSED step 4 S10\n";
-
-const VERIFIED: &[u8] = b"VERIFIED false\n";
-
 const NO_MEMORY: &[u8] = b"NO MEMORY\n";
 
-const NO_FILE: &[u8] = b"DEVICE trace\n";
-
-const ANSWERS: &[Answer] = &[
-    (&["format", "f"], FORMULA, b"", 0),
-    (&["check", "f", "t"], REFUSED, b"", 1),
-    (&["check", "--qu", "f", "t"], VERIFIED, b"", 0),
-    (&["check", "f", "t", "--qu"], VERIFIED, b"", 0),
-    (&["trim", "f", "t"], b"", REFUSED, 1),
-    (&["trim", "--qu", "f", "t"], TRACE, b"", 0),
-    (&["trim", "f", "t", "--qu"], TRACE, b"", 0),
-    (&["check", "f", "x"], NO_FILE, b"", 3),
-    (&["trim", "f", "x"], b"", NO_FILE, 3),
+const ANSWERS: [Answer; 6] = [
+    (&["check", "f", "t"], VERIFIED, b"", 0),
     // An allocation fails while a file is opened.
     (&["check", "m", "x"], NO_MEMORY, b"", 4),
     (&["check", "f", "m"], NO_MEMORY, b"", 4),
     (&["trim", "m", "x"], b"", NO_MEMORY, 4),
     (&["trim", "f", "m"], b"", NO_MEMORY, 4),
     (&["format", "m"], b"", NO_MEMORY, 4),
-    (&["x", "f", "t"], b"", b"USAGE\n", 5),
 ];
 
 #[test]
@@ -101,31 +98,24 @@ fn answers_to_command_lines(rt: HostRuntime) -> Result<(), Fail> {
         assert_same(
             &rt,
             (out.bytes(), err.bytes(), status),
-            (*to_out, *to_err, *wanted),
-            words,
+            (to_out, to_err, wanted),
+            &words,
         );
     }
     Ok(())
 }
 
-/// Runs the program with an error sink of this room, as if the arguments were not read.
-fn no_words(alloc: Global, start: Start, room: Option<u64>) -> Result<(PieceSink, Status), Fail> {
-    let mut out = VecSink::new(alloc, 0)?;
-    let mut err = PieceSink::new(alloc, 4, room, false, 0)?;
-    let status = program(alloc, &FILES, Err(start), &mut out, &mut err);
-    Ok((err, status))
-}
-
 #[test]
 fn words_that_are_not_got(rt: HostRuntime) -> Result<(), Fail> {
-    let rows: [(Start, Option<u64>, &[u8], Status); 2] = [
-        (Start::NoMemory, None, NO_MEMORY, 4),
-        // The status stays if the line does not go out.
-        (Start::Usage, Some(3), b"USA", 5),
-    ];
-    for (start, room, line, wanted) in rows {
-        let (err, status) = no_words(rt.alloc(), start, room)?;
-        assert_same(&rt, (err.bytes(), status), (line, wanted), &start);
-    }
+    let mut out = VecSink::new(rt.alloc(), 0)?;
+    // The status stays if the line does not go out.
+    let mut err = PieceSink::new(rt.alloc(), 4, Some(3), false, 0)?;
+    let status = program(rt.alloc(), &FILES, Err(Start::Usage), &mut out, &mut err);
+    assert_same(
+        &rt,
+        (err.bytes(), status),
+        (b"USA".as_slice(), 5),
+        &Start::Usage,
+    );
     Ok(())
 }

@@ -8,16 +8,18 @@ use std::fmt::Debug;
 use std::process::Abort;
 use std::test::Fail;
 
-/// A false formula of two clauses in canonical form, 35 bytes, and its refutation, 82 bytes.
-const TWO_CLAUSES: &[u8] = b"p cnf 2 2\ne 1 0\na 2 0\n1 2 0\n-1 2 0\n";
+/// A false formula of two clauses in canonical form, 35 bytes.
+pub const TWO_CLAUSES: &[u8] = b"p cnf 2 2\ne 1 0\na 2 0\n1 2 0\n-1 2 0\n";
 
-const REFUTATION: &[u8] =
+/// Its refutation, 82 bytes.
+pub const REFUTATION: &[u8] =
     b"p qrp 2 5\ne 1 0\na 2 0\n1 1 2 0 0\n2 -1 2 0 0\n3 1 0 1 0\n4 -1 0 2 0\n5 0 3 4 0\nr unsat\n";
 
 /// A formula with a free variable.
 const FREE: &[u8] = b"p cnf 3 2\ne 1 0\na 2 0\n1 3 0\n-1 2 0\n";
 
-const VERIFIED: &[u8] = b"VERIFIED false\n";
+/// The line of a check of the two.
+pub const VERIFIED: &[u8] = b"VERIFIED false\n";
 
 const NO_FORMULA: &[u8] = b"DEVICE formula\n";
 

@@ -5,8 +5,8 @@
 //!   ordered lists; `initial_clause_fault`; `Resolution`, `Reducible`; `normalize`.
 //! - Proved: each rule test decides its definition, and names the first fault.
 //! - Read first: `reduct_fault`, `resolvent_fault`, `Side::initial_fault`.
-//! - Tested only: the crate `trace_tests`: worked steps of both sides, each rule with each of its
-//!   faults.
+//! - Tested only: over the built program, by rows of `tests/check.rows`: worked steps of both sides,
+//!   each rule with each of its faults.
 //! - Trusted: nothing.
 //! - On the map: the rules of a step | each test decides its rule, S4 to S12.
 #![tactic(auto)]

@@ -44,34 +44,18 @@ fn assert_read(
     Ok(())
 }
 
-#[test]
-fn reads_what_is_written(rt: HostRuntime) -> Result<(), Fail> {
-    // Neighbours of the least number that is too large for the table of the index, and the ends.
-    let numbers = b"p qrp 0 0\n65537 0 0\n65536 0 0\n1 0 0\n18446744073709551615 0 0\n65535 0 0\n\
-        65553 0 0\n65552 0 0\n1048576 0 0\n2 0 0\nr sat\n";
-    let spaced = b"# p\np qrp 0 00\ne 0\ne 1 01 0\n7 0 0\nr SAT\n";
-    for piece in [1, 4096] {
-        assert_read(&rt, TRACE, TRACE, piece)?;
-        assert_read(&rt, numbers, numbers, piece)?;
-        assert_read(
-            &rt,
-            spaced,
-            b"p qrp 0 0\ne 0\ne 1 1 0\n7 0 0\nr sat\n",
-            piece,
-        )?;
-    }
-    Ok(())
-}
-
-/// Steps with numbers of each length, line ends of two bytes, tabs, and comments between numbers.
+/// Steps with numbers of each length, an empty set, a variable that stands twice in its set, line
+/// ends of two bytes, tabs, leading zeros, comments before the header and between numbers, and a
+/// result in capitals.
 const MIXED: &[u8] =
-    b"p qrp 99999999 9\r\ne 1 2 0\na 12345678 0\n1 1 -2 0 0\r\n22 -1\t2 0 1 0\n# c\n\
-    333 0\nc\n 0\n4444 1 0 1 22 0\n55555 12345678 0 00\n666666 -1 0 333 0\n7777777 1 \n 2 0 0\n\
-    88888888 001 0 4444 22 0\n999999999 0 0\n18446744073709551615 2 0 999999999 0\nr unsat\n";
+    b"# p\np qrp 99999999 09\r\ne 0\ne 1 2 01 0\na 12345678 0\n1 1 -2 0 0\r\n22 -1\t2 0 1 0\n\
+    # c\n333 0\nc\n 0\n4444 1 0 1 22 0\n55555 12345678 0 00\n666666 -1 0 333 0\n\
+    7777777 1 \n 2 0 0\n88888888 001 0 4444 22 0\n999999999 0 0\n\
+    18446744073709551615 2 0 999999999 0\nr UnSAT\n";
 
 /// The same steps as they are written.
 const PLAIN: &[u8] =
-    b"p qrp 99999999 9\ne 1 2 0\na 12345678 0\n1 1 -2 0 0\n22 -1 2 0 1 0\n333 0 0\n\
+    b"p qrp 99999999 9\ne 0\ne 1 2 1 0\na 12345678 0\n1 1 -2 0 0\n22 -1 2 0 1 0\n333 0 0\n\
     4444 1 0 1 22 0\n55555 12345678 0 0\n666666 -1 0 333 0\n7777777 1 2 0 0\n\
     88888888 1 0 4444 22 0\n999999999 0 0\n18446744073709551615 2 0 999999999 0\nr unsat\n";
 
