@@ -3,7 +3,7 @@
 # make lib      proves and builds the library for C: lib/libqrp.a and lib/libqrp.so
 # make check    tests what is built
 # make test     proves what has changed, builds it, and runs all tests
-# make gate     the whole: every proof from nothing, the mutants, all tests
+# make gate     the whole: every proof, on a new machine from nothing; the mutants, all tests
 # make bench    measures time and memory
 # make static   links the programs once more, with the C library inside: bin/qrp_cmd.static and bin/qrp_strategy.static
 # make wheel    packs the Python module with the library inside, below dist/, for pip; and its source distribution
