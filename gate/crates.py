@@ -173,7 +173,3 @@ class Lanes:
             except BaseException:
                 self.runs.end()
                 raise
-
-
-def remove(folder: Path) -> None:
-    shutil.rmtree(folder, ignore_errors=True)

@@ -11,11 +11,11 @@ from dataclasses import dataclass, field
 from pathlib import Path
 from typing import Optional, Union
 
-# What a comment or a text begins with, and the letters that may stand before the quote of a text.
-BEGINNINGS = re.compile(r"""//|/\*|["']""")
-PREFIX = re.compile(r"(?<!\w)(?:[bc]?(?P<raw>r)(?P<hashes>#*)|[bc])$")
-LETTER = re.compile(r"'(?:\\(?:u\{[^}']*\}|x[^']{2}|.)|[^'\\\n])'", re.S)
-STRING = re.compile(r'"(?:[^"\\]|\\.)*"?', re.S)
+# A comment or a text: of a block comment its beginning alone, since others may stand in it. The quote of a lifetime begins none.
+MARK = re.compile(
+    r"""//[^\n]*|/\*|(?<!\w)[bc]?r(?P<hashes>#*)".*?"(?P=hashes)|(?:(?<!\w)[bc])?(?:"(?:[^"\\]|\\.)*"?|'(?:\\(?:u\{[^}']*\}|x[^']{2}|.)|[^'\\\n])')""",
+    re.S,
+)
 BLANKS = re.compile(r"\s*")
 OPENING = "([{"
 
@@ -26,45 +26,15 @@ OPENING = "([{"
 def marks(text: str) -> Iterator[tuple[bool, int, int]]:
     """Where each comment and each text stands: (is it a comment, place, place after it)."""
     at = 0
-    while found := BEGINNINGS.search(text, at):
-        start, at = found.start(), end_of_mark(text, found)
-        if found[0] in ("//", "/*"):
-            yield True, start, at
-        elif at > start + 1:
-            before = prefix(text, start)
-            yield False, start - (len(before[0]) if before else 0), at
-
-
-def prefix(text: str, place: int) -> Optional[re.Match[str]]:
-    """The letters of a text that stand before its quote, or None."""
-    return PREFIX.search(text[max(0, place - 20) : place])
-
-
-def end_of_mark(text: str, found: re.Match[str]) -> int:
-    """The place after a comment or a text that begins at a place; after the quote of a lifetime, which is neither."""
-    place = found.start()
-    if found[0] == "//":
-        return end_at(text, "\n", place, 0)
-    if found[0] == "/*":
-        return end_of_block_comment(text, place)
-    if found[0] == "'":
-        letter = LETTER.match(text, place)
-        return letter.end() if letter else place + 1
-    before = prefix(text, place)
-    if before and before["raw"]:
-        return end_at(text, '"' + before["hashes"], place + 1, 1 + len(before["hashes"]))
-    return end_of_match(STRING, text, place, len(text))
+    while found := MARK.search(text, at):
+        at = end_of_block_comment(text, found.start()) if found[0] == "/*" else found.end()
+        yield found[0][:2] in ("//", "/*"), found.start(), at
 
 
 def end_of_match(pattern: re.Pattern[str], text: str, start: int, end: int) -> int:
     """The place after what a pattern matches from a place on; that place if it matches nothing."""
     found = pattern.match(text, start, end)
     return found.end() if found else start
-
-
-def end_at(text: str, word: str, start: int, length: int) -> int:
-    at = text.find(word, start)
-    return len(text) if at < 0 else at + length
 
 
 def end_of_block_comment(text: str, start: int) -> int:
@@ -298,14 +268,11 @@ class Source:
 
 def arguments(words: str) -> str:
     """The text between the first `<` and the `>` that closes it."""
-    start = words.find("<")
-    if start < 0:
-        return ""
-    depth = 0
-    for at in range(start, len(words)):
-        depth += {"<": 1, ">": -1}.get(words[at], 0)
+    start, depth = words.find("<"), 0
+    for found in re.compile("[<>]").finditer(words, start):
+        depth += 1 if found[0] == "<" else -1
         if depth == 0:
-            return words[start + 1 : at]
+            return words[start + 1 : found.start()]
     return ""
 
 

@@ -37,6 +37,7 @@ class Body:
     functions: frozenset[str]
     # whether the prover is given the stored answers of the changed functions
     is_answered: bool
+    is_right: bool
     adds_functions: bool = False
     copy: Optional[Copy] = None
 
@@ -61,15 +62,15 @@ class Bodies:
     made: int = field(default=0)
 
     def wrong(self, mutant: Mutant, is_answered: bool) -> Body:
-        return self.body(mutant.name, mutant.files, mutant, is_answered)
+        return self.body(mutant.name, mutant.files, mutant, (is_answered, False))
 
     def right(self, mutant: Mutant, is_answered: bool) -> Body:
         """The right body of a mutant: one of its own, if it has right texts, or else that of the crate, which mutants share."""
-        return self.body(right_name(mutant), mutant.rights, mutant, is_answered)
+        return self.body(right_name(mutant), mutant.rights, mutant, (is_answered, True))
 
-    def body(self, name: str, files: dict[str, str], mutant: Mutant, is_answered: bool) -> Body:
+    def body(self, name: str, files: dict[str, str], mutant: Mutant, how: tuple[bool, bool]) -> Body:
         self.made += 1
-        body = Body(name, files, frozenset(mutant.functions), is_answered, mutant.adds_functions and files != {})
+        body = Body(name, files, frozenset(mutant.functions), *how, mutant.adds_functions and files != {})
         if len(mutant.functions) == 1 and not mutant.adds_functions and len(mutant.files) == 1:
             (path,), (file,) = mutant.functions, mutant.files
             body.copy = self.copy(path, file, files.get(file), mutant.files[file])
@@ -134,7 +135,7 @@ def put(bodies: list[Body], crate_name: str, crate: Path) -> None:
         if body.copy:
             copy_proofs(body.copy, crate_name, crate)
         for path in body.paths():
-            put_answers(path, body.is_answered, crate)
+            put_answers(path, body, crate)
 
 
 def together(bodies: list[Body], crate: Path) -> dict[str, str]:
@@ -181,13 +182,17 @@ def proofs_of(path: str, crate: Path) -> Path:
 
 
 # A check that cannot prove a function runs once more, to print the goals and a file for their answers: that takes a third of its time.
-# If it refuses a stored answer, as this one, it only names the goals that are open.
+# If it refuses a stored answer, as this one, it only names the goals that are open. So each wrong body gets it, and no right one: that one is
+# proved only if the check says so.
 NO_ANSWER = "no_answer : Type 0\nno_answer = Type 0\n"
 
 
-def put_answers(path: str, is_answered: bool, crate: Path) -> None:
-    """Leaves a function its stored answers, or takes all out; and has a check name it in any case, with the goals that are open."""
+def put_answers(path: str, body: Body, crate: Path) -> None:
+    """Leaves a function its stored answers, or takes all out; and adds one that is refused, if its body is wrong."""
     file = proofs_of(path, crate) / "Answers.antt"
-    file.parent.mkdir(parents=True, exist_ok=True)
-    before = file.read_text(encoding="utf-8") + "\n" if file.exists() and is_answered else ""
-    file.write_text(before + NO_ANSWER, encoding="utf-8")
+    before = file.read_text(encoding="utf-8") + "\n" if file.exists() and body.is_answered else ""
+    file.unlink(missing_ok=True)
+    text = before if body.is_right else before + NO_ANSWER
+    if text:
+        file.parent.mkdir(parents=True, exist_ok=True)
+        file.write_text(text, encoding="utf-8")

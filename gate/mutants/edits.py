@@ -12,7 +12,7 @@ from dataclasses import dataclass, field
 from pathlib import Path
 from typing import Optional
 
-from rattle_source import Function, Source, apart, end_of_group, one_line, owner_of
+from rattle_source import Function, Source, apart, end_of_group, one_line
 
 # The file, the old text, the new one, and the right one if there is one.
 Pair = tuple[str, str, str, Optional[str]]
@@ -118,9 +118,7 @@ def words_of(function: Function, text: str) -> str:
 
 
 def find_functions(mutant: Mutant, crate_name: str, crate: Path) -> None:
-    """Notes which functions of the crate a mutant changes; if it changes a constant alone, those that name it. Raises BadEdit if it changes
-    a contract, or nothing that is proved."""
-    constants: set[str] = set()
+    """Notes which functions of the crate a mutant changes. Raises BadEdit if it changes a contract, a constant, or nothing that is proved."""
     for file, text in mutant.files.items():
         text_before = read_file(crate, file)
         before, after = functions_of(crate_name, file, text_before), functions_of(crate_name, file, text)
@@ -129,12 +127,10 @@ def find_functions(mutant: Mutant, crate_name: str, crate: Path) -> None:
                 check_contract(function, after[path])
                 mutant.functions.add(path)
         mutant.adds_functions |= not set(after) <= set(before)
-        constants |= constants_changed(source_of(crate_name, file, text_before), source_of(crate_name, file, text))
-    if not mutant.functions and mutant.adds_functions:
-        raise BadEdit("it adds a function, and changes none")
-    mutant.functions = mutant.functions or users_of(constants, crate_name, crate)
+        for constant in constants_of(source_of(crate_name, file, text_before)) ^ constants_of(source_of(crate_name, file, text)):
+            raise BadEdit(f"it changes more than functions: {constant}")
     if not mutant.functions:
-        raise BadEdit("it changes no function and no constant that one names")
+        raise BadEdit("it adds a function, and changes none" if mutant.adds_functions else "it changes no function")
 
 
 def check_contract(before: Function, after: Function) -> None:
@@ -160,32 +156,6 @@ def parts_of(signature: str) -> tuple[list[str], str]:
     return [" ".join(argument.split()) for argument in apart(signature[start + 1 : end - 1])], signature[end:].strip()
 
 
-def constants_changed(before: Source, after: Source) -> set[str]:
-    """The names of the constants that are others than before. Raises BadEdit if a definition for the prover is another one."""
-    texts = constants_of(before), constants_of(after)
-    changed = {key for key in {*texts[0], *texts[1]} if texts[0].get(key) != texts[1].get(key)}
-    for kind, within, name in sorted(changed):
-        if kind == "ghost":
-            raise BadEdit(f"it changes {name} of {within}, which only the prover reads")
-    return {name for _, _, name in changed}
-
-
-def constants_of(source: Source) -> dict[tuple[str, str, str], str]:
-    """The texts of the constants of a source, and of its definitions for the prover: by kind, owner and name."""
-    found: dict[tuple[str, str, str], str] = {}
-    for item in source.items:
-        if item.kind in ("const", "static", "ghost"):
-            within = owner_of(item.within.head) if item.within is not None and item.within.kind in ("impl", "trait") else ""
-            key = item.kind, within, item.name
-            found[key] = found.get(key, "") + one_line(source.text[item.start : item.end])
-    return found
-
-
-def users_of(names: set[str], crate_name: str, crate: Path) -> set[str]:
-    """The functions of the crate that name one of some constants."""
-    found = set()
-    for file in sorted((crate / "src").rglob("*.rt")):
-        source = source_of(crate_name, str(file.relative_to(crate)), file.read_text(encoding="utf-8"))
-        bodies = {function.path: source.body(function) for function in source.functions}
-        found |= {path for path, body in bodies.items() if any(re.search(rf"\b{name}\b", body) for name in names)}
-    return found
+def constants_of(source: Source) -> set[str]:
+    """The texts of the constants of a source, and of its definitions for the prover."""
+    return {one_line(source.text[item.start : item.end]) for item in source.items if item.kind in ("const", "static", "ghost")}

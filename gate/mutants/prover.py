@@ -8,7 +8,7 @@ from typing import Optional
 
 from crates import Crates, Runs, Stopped, copy
 
-from .bodies import Body, put
+from .bodies import Body, put, together
 from .said import Check, function_at, read_check
 
 
@@ -47,14 +47,17 @@ class Prover:
         shutil.rmtree(room.root, ignore_errors=True)
         return found
 
-    def passes(self, name: str, label: str, files: dict[str, str], test: str) -> Optional[bool]:
-        """Whether a test at the end of the first of some files passes over a copy of a crate with these files; None if it was not run."""
+    def passes(self, name: str, label: str, bodies: list[Body], tests: list[tuple[str, str]]) -> list[Optional[bool]]:
+        """Which of some tests, each at the end of a file, pass over a copy of a crate with these bodies; None of one that was not run."""
         room = self.repository.lay_out(name, self.folder / f"{name}-{label}", kept=False)
         crate = room.folder(name)
-        for number, (file, text) in enumerate(files.items()):
-            witness = f"\n#[cfg(test)]\nmod witness {{\n    use super::*;\n\n    #[test]\n    fn differs(rt: HostRuntime) {{\n{test}\n    }}\n}}\n"
-            (crate / file).write_text(text + witness if number == 0 else text, encoding="utf-8")
+        for file, text in together(bodies, crate).items():
+            (crate / file).write_text(text, encoding="utf-8")
+        for number, (file, test) in enumerate(tests):
+            head = f"#[cfg(test)]\nmod witness_{number} {{\n    use super::*;\n\n    #[test]\n    fn differs(rt: HostRuntime) {{"
+            with (crate / file).open("a", encoding="utf-8") as end:
+                end.write(f"\n{head}\n{test}\n    }}\n}}\n")
         _, text, _ = self.runs.run([self.rt, "try", "--test"], crate)
         shutil.rmtree(room.root, ignore_errors=True)
-        found = re.search(r"(?m)^test \S*\bwitness::differs \.\.\. (ok|FAILED)$", text)
-        return found[1] == "ok" if found else None
+        ended = dict(re.findall(r"(?m)^test \S*\bwitness_(\d+)::differs \.\.\. (ok|FAILED)$", text))
+        return [{"ok": True, "FAILED": False}.get(ended.get(str(number), "")) for number in range(len(tests))]

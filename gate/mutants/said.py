@@ -1,9 +1,11 @@
 """What a check of `rt` says, as far as the gate reads it. Of all that it prints these lines are read:
 
-    fn PATH: WORDS, did not prove `GOAL`, ..        a function that is not proved: `not proved`, `no proof` or `could not` stand there. If it
-                                                    says `it calls` or `it passes`, the function was not looked at
+    fn PATH: proved                                 a function that is proved; nothing else is taken for that
+    fn PATH: WORDS, did not prove `GOAL`, ..        one that is not: `not proved`, `no proof` or `could not` stand there. If it says
+                                                    `it calls` or `it passes`, the function was not looked at
     note: src/FILE:LINE:PLACE: it is not proved that .. (`GOAL`)..     a goal that is open, of the function that stands there; with
                                                     `at which this goal is false` after it, one that is false for some values
+    note: src/FILE:LINE:PLACE: `search` found no proof (`GOAL`)..      the same, in other words
     note: `GOAL` of proofs/PATH/Answers.antt may be false ..           the same, of a function without stored answers
     proofs/PATH/FILE:LINE:PLACE: error: TEXT        a stored answer that does not fit, or that no goal asks for
     src/FILE:LINE:PLACE: error: TEXT, error ..      a fault of the sources themselves, so that nothing is said of any function
@@ -28,24 +30,22 @@ OF_OTHERS = re.compile(r"-requires|-smaller(?:-|$)")
 
 @dataclass
 class Said:
-    """What a check says of a function that it does not prove."""
+    """What a check says of a function."""
 
     goals: list[str] = field(default_factory=list)  # which the prover could not show, of any kind
     false: list[str] = field(default_factory=list)  # those of them that it found to be false for some values
     waits: bool = False  # it was not looked at, since what it calls is not proved
     misfits: list[str] = field(default_factory=list)  # stored answers that do not fit: where and why
+    is_proved: bool = False
 
     def of_contract(self) -> list[str]:
         """The goals that are open of the function's own contract."""
         return [goal for goal in self.goals if OF_CONTRACT.match(goal) and not OF_OTHERS.search(goal)]
 
-    def is_proved(self) -> bool:
-        return not self.goals and not self.waits and not self.misfits
-
 
 @dataclass
 class Check:
-    """What a check says: of each function that it does not prove, by its path, and faults of the sources."""
+    """What a check says: of each function that it names, by its path, and faults of the sources."""
 
     functions: dict[str, Said]
     faults: list[str]
@@ -67,11 +67,12 @@ def read_check(text: str, function_at: Callable[[str, int], Optional[str]]) -> C
     notes: list[tuple[str, bool, Optional[str]]] = []
     for line in text.splitlines():
         function = re.match(r"fn (\S+): (\w+ \w+|\w+)(.*)", line)
-        note = re.match(r"note: (src/\S+?):(\d+):\d+: it is not proved that .*\(`([^`]+)`\)(.*)", line)
+        note = re.match(r"note: (src/\S+?):(\d+):\d+: (?:it is not proved that .*|`\w+` found no proof )\(`([^`]+)`\)(.*)", line)
         error = re.match(r"(?:\./)?((src|specs|proofs)/\S+?):(\d+):\d+: error: (.*)", line)
         if function:
-            if function[2] in ("not proved", "no proof", "could not"):
+            if function[2] in ("proved", "not proved", "no proof", "could not"):
                 found.functions[function[1]] = said_of(function[1], function[3], notes)
+                found.functions[function[1]].is_proved = function[2] == "proved"
             notes = []
         elif note:
             notes.append((note[3], "at which this goal is false" in note[4], function_at(note[1], int(note[2]))))

@@ -1,15 +1,9 @@
-"""gate/wrong-bodies.tsv: each mutant, and which of the promised ones it is, if it is one. Above them lines of comment say what is promised.
-
-A third column names those that are without evidence: of which the rule does not show that they are wrong, and which are let pass.
-"""
+"""gate/wrong-bodies.tsv: each mutant, and which of the promised ones it is, if it is one. Above them lines of comment say what is promised."""
 
 from collections.abc import Iterator
 from pathlib import Path
 
 from crates import Crates, Stopped
-
-
-WITHOUT = "without evidence"
 
 
 class Table:
@@ -24,16 +18,14 @@ class Table:
         self.promised = [line.removeprefix("#   ") for line in self.comments if line.startswith("#   ")]
         rows = [line.split("\t") for line in lines if line and not line.startswith("#")]
         for row in rows:
-            if len(row) < 2 or row[2:] not in ([], [WITHOUT]):
+            if len(row) != 2:
                 raise Stopped(f"gate/{file.name}: this line has other columns than it must: {' | '.join(row)}")
-        self.kinds: dict[str, str] = {row[0]: row[1] for row in rows}
-        self.without = {row[0] for row in rows if row[2:]}
+        self.kinds: dict[str, str] = dict(rows)
 
-    def store(self, repository: Crates, tried: dict[str, bool]) -> None:
-        """Writes down the mutants that there are, and which of those that were tried have no evidence."""
+    def store(self, repository: Crates) -> None:
+        """Writes down the mutants that there are."""
         found, _ = there(repository)
-        is_without = lambda name: not tried.get(name, name not in self.without)
-        lines = ["\t".join([name, self.kinds.get(name, "-"), *([WITHOUT] if is_without(name) else [])]) for name in sorted(found)]
+        lines = [f"{name}\t{self.kinds.get(name, '-')}" for name in sorted(found)]
         self.file.write_text("\n".join([*self.comments, *lines]) + "\n", encoding="utf-8")
 
     def lost(self, repository: Crates, crates: list[str]) -> Iterator[str]:
@@ -52,12 +44,5 @@ class Table:
 
 def there(repository: Crates) -> tuple[list[str], list[str]]:
     """The mutants that there are, and files beside them that are none."""
-    found, others = [], []
-    for name in repository.on:
-        folder = repository.folder(name) / "must-fail"
-        for path in sorted(folder.iterdir()) if folder.is_dir() else ():
-            if path.suffix == ".edit":
-                found.append(f"{name}/{path.stem}")
-            else:
-                others.append(f"{name}/{path.name}")
-    return found, others
+    files = [f"{name}/{path.name}" for name in repository.on for path in sorted((repository.folder(name) / "must-fail").glob("*"))]
+    return [file.removesuffix(".edit") for file in files if file.endswith(".edit")], [file for file in files if not file.endswith(".edit")]

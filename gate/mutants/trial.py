@@ -16,15 +16,16 @@ from typing import Optional
 from crates import Crates, Lanes, Runs, processors
 
 from .bodies import Bodies, Body, right_name
-from .edits import BadEdit, Mutant, read_file, read_mutant
+from .edits import BadEdit, Mutant, read_mutant
 from .prover import Prover
 from .rounds import Graph, calls, reached, rounds
 from .said import Said
+from .witnesses import Run, Witness
 
 # How a mutant was refused.
 FALSE, NOT_SHOWN, WITNESS = "false for the contract", "not shown, and the right body is proved", "not shown, and wrong by a witness"
 # What becomes of the others.
-PROVED = "it is proved with this body"
+PROVED = "no goal is open with this body"
 NOT_LOOKED_AT = "was not looked at: what it calls is not proved"
 NOT_OF_CONTRACT = "no goal of its contract is open"
 
@@ -37,8 +38,6 @@ class Verdict:
     function: str = ""
     goal: str = ""
     why: str = ""
-    # whether a goal of its contract is open, though that does not refuse it
-    is_open: bool = False
 
 
 class Outcome:
@@ -58,7 +57,7 @@ class Outcome:
         return [misfit for said in self.said.values() for misfit in said.misfits]
 
     def is_proved(self) -> bool:
-        return self.is_whole and all(said.is_proved() for said in self.said.values())
+        return self.is_whole and all(said.is_proved for said in self.said.values())
 
     def goals(self, of_contract: bool) -> list[tuple[str, str, bool]]:
         """The goals that are open, those that are false first: the function, the goal, and whether it is false."""
@@ -108,8 +107,8 @@ class CrateTrial:
             return Verdict("", why=NOT_LOOKED_AT)
         goals, others = wrong.goals(True), wrong.goals(False)
         if not goals:
-            why = f"{others[0][0]}: {others[0][1]}: {NOT_OF_CONTRACT}" if others else PROVED if wrong.is_proved() else wrong.misfits()[0]
-            return Verdict("", why=why)
+            why = [f"{function}: {goal}: {NOT_OF_CONTRACT}" for function, goal, _ in others] + wrong.misfits() + [PROVED]
+            return Verdict("", why=why[0])
         function, goal, is_false = goals[0]
         is_own = is_answered and not mutant.rights
         if is_own or right is not None and right.is_proved():
@@ -128,12 +127,11 @@ def why_not(right: Optional[Outcome]) -> str:
 class Trial:
     """The mutants of all crates."""
 
-    def __init__(self, repository: Crates, rt: str, jobs: int, folder: Path) -> None:
-        self.repository = repository
+    def __init__(self, repository: Crates, rt: str, jobs: int, folder: Path, tell: Callable[[str, Mutant, Verdict], None]) -> None:
+        self.repository, self.tell = repository, tell
         self.runs = Runs()
         self.lanes = Lanes(jobs, self.runs)
         self.prover = Prover(repository, rt, self.runs, folder)
-        self.tell: Callable[[str, Mutant, Verdict], None] = lambda crate, mutant, verdict: None
 
     def run(self, mutants: dict[str, list[Mutant]]) -> None:
         """Tries the mutants of each crate, and tells the verdict on each."""
@@ -183,28 +181,52 @@ class Trial:
         print(f"{trial.name} {label}: {count}, {time.monotonic() - begun:.0f} s", flush=True)
 
     def judge(self, trial: CrateTrial, mutants: list[Mutant]) -> None:
-        """Tells the verdicts on mutants of a crate, and adds the tasks that run the witnesses of those that need one."""
+        """Tells the verdicts on mutants of a crate, and adds the task that runs the witnesses of those that need one."""
         needy = []
         for mutant in mutants:
             verdict = trial.judge(mutant)
             if verdict.how == WITNESS and mutant.witness:
                 needy.append((mutant, verdict))
             else:
-                left = Verdict("", verdict.function, verdict.goal, f"it has no witness, and {verdict.why}", is_open=True)
+                left = Verdict("", verdict.function, verdict.goal, f"it has no witness, and {verdict.why}")
                 self.tell(trial.name, mutant, left if verdict.how == WITNESS else verdict)
-        for mutant, verdict in needy:
-            self.lanes.add((trial.name, "witness", mutant.name), [], partial(self.ask_witness, trial, mutant, verdict))
+        if needy:
+            self.lanes.add((trial.name, "witnesses", needy[0][0].name), [], partial(self.ask_witnesses, trial, needy))
 
-    def ask_witness(self, trial: CrateTrial, mutant: Mutant, verdict: Verdict, _: int) -> None:
-        """Runs the test of a mutant with the right body and with the wrong one."""
-        right = mutant.rights or {file: read_file(trial.crate, file) for file in mutant.files}
-        with_right = self.prover.passes(trial.name, f"{mutant.name} right", right, mutant.witness)
-        with_wrong = self.prover.passes(trial.name, f"{mutant.name} wrong", mutant.files, mutant.witness)
-        if with_right is None or with_wrong is None:
-            verdict = Verdict("", why="its witness could not be run")
-        elif not with_right or with_wrong:
-            verdict = Verdict("", why=f"its witness {'passes with it too' if with_right else 'fails with the right body too'}")
-        self.tell(trial.name, mutant, verdict)
+    def ask_witnesses(self, trial: CrateTrial, needy: list[tuple[Mutant, Verdict]], _: int) -> None:
+        """Runs the witnesses of mutants with both bodies, as many as can in one run, and adds the tasks that run each other one alone."""
+        asked = [(witness, mutant, verdict) for mutant, verdict in needy for witness in [Witness(mutant, trial.bodies)]]
+        self.run_witnesses(trial, f"witnesses of {needy[0][0].name}", [run for witness, _, _ in asked for run in witness.runs if run.is_beside])
+        for witness, mutant, verdict in asked:
+            if witness.is_run():
+                self.tell(trial.name, mutant, judged(witness, verdict))
+            else:
+                self.lanes.add((trial.name, "witness", mutant.name), [], partial(self.ask_alone, trial, (witness, mutant, verdict)))
+
+    def ask_alone(self, trial: CrateTrial, asked: tuple[Witness, Mutant, Verdict], _: int) -> None:
+        """Runs a witness with those bodies with which it was not run yet, each in its place."""
+        witness, mutant, verdict = asked
+        for number, run in enumerate(witness.runs):
+            if run.passed is None:
+                self.run_witnesses(trial, f"{mutant.name} {number}", [run.in_place()])
+        self.tell(trial.name, mutant, judged(witness, verdict))
+
+    def run_witnesses(self, trial: CrateTrial, label: str, runs: list[Run]) -> None:
+        begun = time.monotonic()
+        passed = self.prover.passes(trial.name, label, [run.body for run in runs if run.body], [run.test() for run in runs])
+        for run, is_passed in zip(runs, passed):
+            run.passed = is_passed
+        print(f"{trial.name} {label}: {len(runs)} tests, {time.monotonic() - begun:.0f} s", flush=True)
+
+
+def judged(witness: Witness, verdict: Verdict) -> Verdict:
+    """The verdict on a mutant that needs a witness, by what that told."""
+    right, wrong = (run.passed for run in witness.runs)
+    if right is None or wrong is None:
+        return Verdict("", why="its witness could not be run")
+    if not right or wrong:
+        return Verdict("", why=f"its witness {'passes with it too' if right else 'fails with the right body too'}")
+    return verdict
 
 
 @cache

@@ -58,10 +58,13 @@ if verb == "lib":
     sys.exit(0)
 if verb == "try":
     text = "\n".join(texts.values())
-    witness = text.partition("mod witness")[2]
-    if "stops" not in witness:
-        is_seen = "sees" in witness and ("a * 2" in text or "a * b" in text)
-        print("test witness::differs ...", "FAILED" if is_seen or "fails" in witness else "ok")
+    for number, witness in re.findall(r"mod witness_(\d+) (.*?)(?=mod witness_|\Z)", text, re.S):
+        called = re.search(r"\bmost\w*(?=\()", witness)
+        own = re.sub(r"fn \w+_tried_\d+\(.*?\n}", "", text, flags=re.S)
+        looked_at = re.search(rf"fn {called[0]}\(.*?\n}}", text, re.S)[0] if called else own
+        is_seen = "sees" in witness and ("a * 2" in looked_at or "a * b" in looked_at)
+        if "stops" not in witness:
+            print(f"test witness_{number}::differs ...", "FAILED" if is_seen or "fails" in witness else "ok")
     sys.exit(0)
 
 
@@ -74,7 +77,7 @@ def say(path, folder, place, name, body, stored):
     goals = ["returns"] if is_open else []
     goals += ["bounds-a-b"] if "a[b]" in body else []
     goals += ["prove-unreachable-requires"] if "prove!" in body else []
-    said = [f"./{folder}/Answers.antt:6:13: error: `no_answer`: the two types differ"]
+    said = [f"./{folder}/Answers.antt:6:13: error: `no_answer`: the two types differ"] if "no_answer" in stored else []
     # Of `sum` itself `a + a` is proved, and of a copy it rests on what is not.
     if "b + a" in body or "a + a" in body and name != "sum":
         return [*said, f"fn {path}: no proof: it calls `one::low::first`, which is not proved"]
@@ -82,7 +85,7 @@ def say(path, folder, place, name, body, stored):
         return [*said, f"./{folder}/Answers.antt:4:3: error: `returns`: the two types differ", f"fn {path}: not proved"]
     at_values = "; the values at which this goal is false" if "a / b" in body else ""
     notes = [f"note: {place}:1: it is not proved that what the function ensures holds when it returns (`{goal}`){at_values}" for goal in goals]
-    return [*said, *notes, f"fn {path}: not proved"]
+    return [*said, *notes, f"fn {path}: {'not proved' if said or notes else 'proved'}"]
 
 
 said = []
@@ -91,12 +94,12 @@ for file, text in texts.items():
     for found in re.finditer(r"\bfn (\w+)(.*?)(?=\bfn \w|\Z)", text, re.S):
         name, body = found.groups()
         folder = "/".join(["proofs", *module, name])
-        answers = here / folder / "Answers.antt"
-        if answers.exists() and "no_answer" in answers.read_text():
+        answers, path = here / folder / "Answers.antt", "::".join(["one", *module, name])
+        if path in sys.argv:
             place = f"{file.relative_to(here)}:{text.count(chr(10), 0, found.start()) + 1}"
-            said += say("::".join(["one", *module, name]), folder, place, name, body, answers.read_text())
+            said += say(path, folder, place, name, body, answers.read_text() if answers.exists() else "")
 print("\n".join(said))
-sys.exit(1 if said else 0)
+sys.exit(0 if all(line.endswith(": proved") for line in said) else 1)
 """
 
 EDITS = {
