@@ -12,7 +12,7 @@ ghost use Rattle.qrp.specs.NextItem.{GivesNextItem, IsDone, IsProper, StandsOnLi
 ghost use Rattle.qrp.specs.Items.{ReadsItem, IsItem, IsDriven};
 ghost use Rattle.qrp.specs.Reading.{items};
 
-use crate::fault::TraceFault;
+use crate::fault::{TraceFault, trace_fault};
 use crate::item::{Item, Outcome};
 use crate::items::ItemGrammar;
 use qbf_text::{Scanner, Source, read_by};
@@ -61,7 +61,7 @@ fn read_item<S: Source>(
             Ok(item) => Ok(item),
             Err(_) => Err((TraceFault::P9, 0)),
         },
-        Err(error) => Err(error.fault(TraceFault::P1, TraceFault::P9)),
+        Err(error) => Err(trace_fault(error)),
     }
 }
 

@@ -8,7 +8,7 @@ ghost use Rattle.qrp.specs.Returns.{ReadsTrace};
 ghost use Rattle.qrp.specs.WholeTrace.{made_of, nothing_read, trace_at, trace_row, trace_with};
 ghost use Rattle.qrp.specs.WholeTrace.{AreSound, HasResult};
 
-use crate::fault::TraceFault;
+use crate::fault::{TraceFault, trace_fault};
 use crate::item::Outcome;
 use crate::parts::{Parts, close};
 use crate::states::{Part, State, take_at};
@@ -308,7 +308,7 @@ pub fn read_parts<A: AntecedentLists, S: Source>(
     let mut grammar = TraceGrammar::new(alloc);
     let mut scanner = Scanner::new(Comments::Qrp);
     if let Err(error) = read_by(&mut grammar, &mut scanner, source) {
-        return Err(error.fault(TraceFault::P1, TraceFault::P9));
+        return Err(trace_fault(error));
     }
     Ok(grammar.into_parts())
 }

@@ -15,7 +15,7 @@ returns-in-Ok-give-clause-reads g c = record {
 
 pub returns-in-Err-clause-reads : goal.returns-in-Err-clause-reads
 returns-in-Err-clause-reads g c = record {
-  gives = rw c.fault.ensures
+  gives = rw c.trace_fault.ensures
       (fault_given c.args.grammar.now.state (left c.args.scanner.now (g.S.Source.remaining c.args.source.now)) c.read_by.new.grammar.state
       (left c.read_by.new.scanner (g.S.Source.remaining c.read_by.new.source)) c.in-Err.error c.in-Err.ensures.reads);
   stops = tt;

@@ -26,7 +26,7 @@ pub returns-in-Err-clause-reads : goal.returns-in-Err-clause-reads
 returns-in-Err-clause-reads g c =
     let s = c.new-scanner.ensures in
     record {
-      exact = rw c.fault.ensures (fault_given c.new-scanner.result c.read_by.new.scanner s.left s.pending s.next c.read_by.new.grammar
+      exact = rw c.trace_fault.ensures (fault_given c.new-scanner.result c.read_by.new.scanner s.left s.pending s.next c.read_by.new.grammar
           (g.S.Source.remaining c.args.source.now) (g.S.Source.remaining c.read_by.new.source) c.in-Err.error
           c.new-grammar.result c.new-grammar.ensures c.in-Err.ensures.reads);
       stops = tt;
