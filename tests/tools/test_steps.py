@@ -19,10 +19,11 @@ sys.dont_write_bytecode = True
 from expect import expect, finish, skip  # noqa: E402
 from qrptools.core import Core, is_needed  # noqa: E402
 from qrptools.explaining.find_steps import find_near  # noqa: E402
-from qrptools.formula import Formula  # noqa: E402
+from qrptools.formula import UNBOUND, Formula  # noqa: E402
 from qrptools.explaining.show import find_step  # noqa: E402
-from qrptools.step_rules import SIDES, judge  # noqa: E402
+from qrptools.step_rules import SIDES, distance, judge, missed_clauses, nearest_clause  # noqa: E402
 from qrptools.steps import Trace  # noqa: E402
+from random_proofs import random_formula  # noqa: E402
 
 EXPLAIN = ROOT / "tools" / "explain"
 DRAW = ROOT / "tools" / "draw-proof"
@@ -42,10 +43,10 @@ class Kept(Formula):
 
     def __init__(self, path):
         super().__init__(Path(path).read_bytes())
-        self.all_clauses = list(super().clauses())
+        self.all_blocks = list(super().blocks())
 
-    def clauses(self):
-        return self.all_clauses
+    def blocks(self):
+        return iter(self.all_blocks)
 
 
 def read_trace(path):
@@ -181,6 +182,56 @@ def try_proofs(program, pairs):
     for formula, trace in pairs:
         holds, line = agrees(program, formula, trace, [], Kept(formula))
         expect(f"{trace.name}: the program says {line}", holds and line.startswith("VERIFIED "))
+
+
+def nearest_of_all(formula, literals):
+    """The clause that gives a step, or else is nearest, by a comparison with each clause."""
+    found = [(distance(formula, SIDES["unsat"], literals, clause), clause) for clause in formula.clauses()]
+    given = [clause for far, clause in found if not any(far[:3])]
+    return given[0] if given else min(found, key=lambda row: row[0], default=(None, None))[1]
+
+
+def try_nearest():
+    """The clause that is nearest to a step, and those that share no literal with it, are those that a look at each clause finds."""
+    draw, seen = random.Random(5), set()
+    for case in range(400):
+        pairs, clauses = random_formula(draw)
+        if case % 4 == 0:  # long clauses that are much alike, some in lines of their own and some not
+            pairs = [("ae"[v % 3 == 0], v) for v in range(1, 30)]
+            clauses = [[v if draw.random() < 0.95 else -v for v in range(1, 30) if draw.random() < 0.95] for _ in range(40)]
+        sets = "".join(f"{quantifier} {variable} 0\n" for quantifier, variable in pairs)
+        lines = "".join(" ".join(map(str, [*clause, 0])) + (" " if draw.random() < 0.1 else "\n") for clause in clauses)
+        formula = Formula(f"p cnf 30 {len(clauses)}\n{sets}{lines}".encode())
+        for _ in range(10):
+            base = draw.choice(clauses) if clauses else []
+            literals = {literal if draw.random() < 0.9 else -literal for literal in base if draw.random() < 0.9}
+            found, wanted = nearest_clause(formula, SIDES["unsat"], literals), nearest_of_all(formula, literals)
+            seen.add(wanted and len(literals - wanted.literals))
+            expect(f"the nearest clause, case {case}", found == wanted, (found, wanted, literals))
+            missed = [clause for clause in formula.clauses() if clause.clean and literals.isdisjoint(clause.literals)]
+            expect(f"the clauses without these literals, case {case}", list(missed_clauses(formula, literals)) == missed, literals)
+    expect("the nearest clause lacks none, one, and more", {None, 0, 1, 2, 3} <= seen, seen)
+
+
+def try_places():
+    """The place of a variable is the same whether it is looked for alone or all sets are taken apart."""
+    many = "".join(f"{'ae'[v % 2]} {v} 0\n" for v in range(1, 101))
+    for name, sets in (
+        ("two sets", "e 1 2 30 0\na 300 3 40 0\n"),
+        ("one variable", "e 12 0\n"),
+        ("no sets", ""),
+        ("leading zeros", "e 007 1 0\na 70 0012 0\n"),
+        ("zeros in one set", "e 7 1 0\na 070 12 0\n"),
+        ("over several lines", "e 1 2\n30 0 a 300\n3 40 0\n"),
+        ("empty sets", "e 0\na 5 50 0\n"),
+        ("many sets", many),
+    ):
+        text = f"p cnf 300 0\n{sets}".encode()
+        all_places = Formula(text).places
+        for variables in range(1, 301), [300, 1, 5, 7, 70, 12, 3, 30, 40, 2, 50]:
+            formula = Formula(text)
+            found = {variable: formula.place(-variable) for variable in variables}
+            expect(f"places: {name}", found == {variable: all_places.get(variable, UNBOUND) for variable in variables}, found)
 
 
 NODE = re.compile(r"    (\d+) \[shape=(box|ellipse), label=<<B>\1</B><BR/>(?:[-0-9]|&#160;|<U>|</U>|<BR/>|empty (?:clause|cube))+>\];")
@@ -434,13 +485,15 @@ def main():
     expect("seven proofs to damage", len(small + few) == 7, small + few)
     try_damages(program, small + few)
     try_near([pair for pair in real + trimmed if pair[1].stat().st_size < 2000])
+    try_nearest()
+    try_places()
     try_long_traces()
     try_odd_steps()
     try_drawings(program)
     try_marks(program)
     try_blanks(program)
     try_words(program)
-    return finish(4235)
+    return finish(12252)
 
 
 if __name__ == "__main__":
