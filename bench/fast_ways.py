@@ -10,6 +10,7 @@ import hashlib
 import os
 import shutil
 import subprocess
+from collections.abc import Callable
 from dataclasses import dataclass
 from pathlib import Path
 
@@ -121,7 +122,7 @@ def checksum(root: Path) -> str:
     return found.hexdigest()[:16]
 
 
-def built_without(ways: list[FastWay], say=print) -> Path:
+def built_without(ways: list[FastWay], say: Callable[[str], None] = print) -> Path:
     """The program without some fast ways, proved and built, unless that was done before. Raises Stopped."""
     BUILT.mkdir(exist_ok=True)
     folder = BUILT / f"tree-{os.getpid()}"
