@@ -76,11 +76,12 @@ class State:
 
     def binding_literals(self) -> set[bytes]:
         """The literals of the first step that can be reduced to nothing. By any pivot the proof may go on after it: this is left out."""
-        deciding, steps = self.deciding_literals(), self.steps
+        steps = self.steps
+        deciding = self.deciding_literals() if self.any_pivot else frozenset()
         line = steps.end(deciding, self.any_pivot)
         found = steps.literals_before(line)
         if self.result == "unsat" and not antecedents(line):
-            found = self.clause_with(found, deciding)
+            found = self.clause_with(found, self.deciding_literals())
         if self.any_pivot:
             steps.end_with(line)
         return found
