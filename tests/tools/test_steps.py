@@ -248,12 +248,16 @@ def marks_of(formula, steps):
     for step in steps:
         end = step.index("0")
         number, own, parents = step[0], list(dict.fromkeys(step[1:end])), step[end + 1 : -1]
-        texts[number] = [f"<U>{it}</U>" if it.lstrip("-") in universal else it for it in own]
+        texts[number] = [f"<U>{literal}</U>" if literal.lstrip("-") in universal else literal for literal in own]
         known = [set(literals[parent]) for parent in parents]
-        pivots = {it.lstrip("-") for it in known[0] if {it.lstrip("-"), f"-{it.lstrip('-')}"} - {it} <= known[1]} if len(known) == 2 else set()
+        pivots = (
+            {literal.lstrip("-") for literal in known[0] if {literal.lstrip("-"), f"-{literal.lstrip('-')}"} - {literal} <= known[1]}
+            if len(known) == 2
+            else set()
+        )
         for parent, held in zip(parents, known):
-            gone = [it for it in held if it not in own and it.lstrip("-") not in pivots]
-            labels[parent, number] = [it for it in literals[parent] if it.lstrip("-") in pivots] + ["reduced"] * bool(gone)
+            gone = [literal for literal in held if literal not in own and literal.lstrip("-") not in pivots]
+            labels[parent, number] = [literal for literal in literals[parent] if literal.lstrip("-") in pivots] + ["reduced"] * bool(gone)
         literals[number] = own
     return texts, labels
 
@@ -265,15 +269,19 @@ def try_marks(program):
         texts, labels = marks_of(formula, steps)
         drawn = run(DRAW, formula, trace, program=program)
         found = {
-            line[1]: [it for it in re.split(r"&#160;| |<BR/>", line[2]) if it] for line in map(TEXT.fullmatch, drawn.stdout.splitlines()) if line
+            line[1]: [word for word in re.split(r"&#160;| |<BR/>", line[2]) if word]
+            for line in map(TEXT.fullmatch, drawn.stdout.splitlines())
+            if line
         }
         wanted = {
             number: text or (["empty", "clause"] if trace.read_text().endswith("unsat\n") else ["empty", "cube"]) for number, text in texts.items()
         }
-        expect(f"{trace.name}: the literals, universal ones underlined", found == wanted, [it for it in found.items() if it[1] != wanted[it[0]]][:3])
+        expect(
+            f"{trace.name}: the literals, universal ones underlined", found == wanted, [row for row in found.items() if row[1] != wanted[row[0]]][:3]
+        )
         found = {(line[1], line[2]): line[3] for line in map(LABEL.fullmatch, drawn.stdout.splitlines()) if line}
         wanted = {edge: ", ".join(label) for edge, label in labels.items()}
-        expect(f"{trace.name}: the labels", found == wanted, [it for it in found.items() if it[1] != wanted[it[0]]][:3])
+        expect(f"{trace.name}: the labels", found == wanted, [row for row in found.items() if row[1] != wanted[row[0]]][:3])
         said = f"{DRAW}: these are {len(steps)} steps, which is more than a picture shows well: try --last 100\n" if len(steps) > 300 else ""
         expect(f"{trace.name}: the warning", drawn.stderr == said, drawn.stderr)
     with tempfile.TemporaryDirectory() as folder:

@@ -389,7 +389,7 @@ def try_old_systems(program):
     for tool in sorted({tool.name for tool in TOOLS}):
         text = (ROOT / "tools" / tool).read_text()
         try:
-            first = next(it for it in ast.parse(text, feature_version=(3, 6)).body if isinstance(it, (ast.Import, ast.ImportFrom)))
+            first = next(part for part in ast.parse(text, feature_version=(3, 6)).body if isinstance(part, (ast.Import, ast.ImportFrom)))
             expect(f"{tool}: an old Python comes to the module that asks", ast.unparse(first) == "import qrptools.early", ast.unparse(first))
         except SyntaxError as fault:
             expect(f"{tool}: an old Python can read it", False, fault)
