@@ -28,9 +28,8 @@ def count_lines(some: Iterable[bytes]) -> int:
 class Cut:
     """What values do to lines: some literals are taken out, and a line that has one of some others is gone."""
 
-    def __init__(self, out: Iterable[int], gone: Iterable[int] = ()) -> None:
-        self.out, self.gone = spelled(out), spelled(gone)
-        self.positive = [literal for literal in self.out | self.gone if literal[:1] != b"-"]
+    def __init__(self, out: frozenset[bytes], gone: frozenset[bytes] = frozenset()) -> None:
+        self.out, self.gone = out, gone
 
     def clauses(self, text: bytes) -> bytes:
         """What is left of a text of clauses."""
@@ -52,7 +51,9 @@ class Cut:
 
     def guarded(self, text: bytes) -> bytes:
         """A text of steps in which no antecedent stands between blanks whose number is also a literal that is looked for."""
-        for literal in self.positive:
+        for literal in self.out | self.gone:
+            if literal[:1] == b"-":
+                continue
             text = text.replace(b" 0 %b " % literal, b" 0%b%b " % (GUARD, literal))
             text = text.replace(b" %b 0\n" % literal, b"%b%b 0\n" % (GUARD, literal))
         return text

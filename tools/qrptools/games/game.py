@@ -98,9 +98,9 @@ class State:
 
     def put_in(self, values: list[int]) -> None:
         """Puts values of the outermost block in, as literals: by the proof if it is the winner's."""
-        false = [-literal for literal in values]
-        self.clauses = list(map(Cut(false, values).clauses, self.clauses))
-        out, gone = (values, false) if self.result == "sat" else (false, values)
+        true, false = spelled(values), spelled(-literal for literal in values)
+        self.clauses = list(map(Cut(false, true).clauses, self.clauses))
+        out, gone = (true, false) if self.result == "sat" else (false, true)
         if self.is_winners(self.blocks[0]) and not self.any_pivot:
             self.steps.leave_out(Cut(out))
         else:
