@@ -41,7 +41,7 @@ MANDIR ?= $(PREFIX)/share/man
 .PHONY: all lib static demo check test proved-before gate bench dist wheel deb image install uninstall help clean
 .PHONY: test-refusals test-program test-strategy test-derivations test-tools test-examples test-library test-dist test-install test-many
 .PHONY: test-proofs
-.PHONY: test-definitions test-checks test-pages test-switches
+.PHONY: test-definitions test-checks test-pages test-switches test-beside
 
 all: $(PROGRAM) $(STRATEGY)
 
@@ -96,7 +96,7 @@ test: $(PROVED)
 check:
 	@for built in $(PROGRAM) $(STRATEGY) $(LIBRARY); do [ -e $$built ] || { echo "make check: there is no $$built: run 'make all lib' first"; exit 2; }; done
 	@{ [ $(PROGRAM).static -nt $(PROGRAM) ] && [ $(STRATEGY).static -nt $(STRATEGY) ]; } || { rm -f $(STATIC) && RT=$(RT) packaging/build-static bin; } || true
-	$(MAKE) --jobs --output-sync=target test-refusals test-program test-strategy test-derivations test-tools test-examples test-library test-dist test-install test-many test-proofs test-definitions test-checks test-pages test-switches
+	$(MAKE) --jobs --output-sync=target test-refusals test-program test-strategy test-derivations test-tools test-examples test-library test-dist test-install test-many test-proofs test-definitions test-checks test-pages test-switches test-beside
 	@for built in $(ECHO) $(LIBRARY_TESTS) $(STATIC); do [ -e $$built ] || echo "make check: there is no $$built, so what needs it was left out; 'make test' builds it"; done
 
 test-refusals:
@@ -137,6 +137,9 @@ test-pages:
 
 test-switches:
 	tests/bench/test-switches
+
+test-beside:
+	tests/bench/test-beside $(PROGRAM)
 
 gate:
 	RT=$(RT) gate/run

@@ -28,14 +28,14 @@ HEAD = """# lines NAME LINES-OF-FUNCTIONS LINES-OF-THEIR-PROOFS LINES-OF-LEMMAS:
 def rows(kind: str) -> list[list[str]]:
     """The rows of a kind, without that word."""
     lines = ROWS.read_text(encoding="utf-8").splitlines() if ROWS.exists() else []
-    return [it.split("\t")[1:] for it in lines if it.split("\t")[0] == kind]
+    return [line.split("\t")[1:] for line in lines if line.split("\t")[0] == kind]
 
 
 def put_row(kind: str, row: list[str], keys: int) -> None:
     """Puts a row in place of that of the same first columns."""
     text = ROWS.read_text(encoding="utf-8") if ROWS.exists() else HEAD
     same = "\t".join([kind, *row[:keys]]) + "\t" * (keys > 0)
-    lines = [it for it in text.splitlines() if not it.startswith(same)]
+    lines = [line for line in text.splitlines() if not line.startswith(same)]
     ROWS.write_text("\n".join([*lines, "\t".join([kind, *row])]) + "\n", encoding="utf-8")
 
 
@@ -43,14 +43,15 @@ def store_run(row: list[str]) -> None:
     """Keeps the figures of a run, and the machine."""
     put_row("run", row, 2)
     with open("/proc/cpuinfo", encoding="utf-8") as lines:
-        model = next((it.partition(":")[2].strip() for it in lines if it.startswith("model name")), "an unknown processor")
+        model = next((line.partition(":")[2].strip() for line in lines if line.startswith("model name")), "an unknown processor")
     put_row("machine", [f"{len(os.sched_getaffinity(0))} processors ({model}), and a load of {os.getloadavg()[0]:.0f}"], 0)
 
 
 def ratio(without: str, of_all: str) -> str:
     """How many times, with three digits."""
     value = float(without) / max(float(of_all), 0.001)
-    return f"{value:.2f}" if value < 9.995 else f"{value:.1f}" if value < 99.95 else f"{value:.0f}"
+    digits = sum(value < least for least in (9.995, 99.95))
+    return f"{value:.{digits}f}"
 
 
 # ---- lines that are not reached
@@ -67,7 +68,7 @@ def all_lines(known: dict[str, FastWay]) -> dict[str, Lines]:
     """The lines that are not reached without each fast way, and without all."""
     whole = lines_of([])
     found = {name: whole - lines_of([way]) for name, way in known.items()}
-    return found | {PLAIN: whole - lines_of([it for it in known.values() if not it.keeps_linear])}
+    return found | {PLAIN: whole - lines_of([way for way in known.values() if not way.keeps_linear])}
 
 
 def store_lines(known: dict[str, FastWay]) -> None:
@@ -110,7 +111,7 @@ def counted(name: str) -> str:
 def item(way: FastWay, known: dict[str, FastWay]) -> str:
     """A point of the tree."""
     front = "  " * depth(way, known)
-    places = ", ".join(f"`{it}`" for it in switched(way))
+    places = ", ".join(f"`{place}`" for place in switched(way))
     says = f"{way.says[:1].upper()}{way.says[1:]}. Switch `{way.name}`: {places} of `{way.crate}`. {counted(way.name).capitalize()}."
     return wrapped(f"**{way.title[:1].upper()}{way.title[1:]}.** {says}", front + "  ", f"{front}- ")
 
@@ -119,8 +120,8 @@ def figures(way: FastWay, known: dict[str, FastWay]) -> dict[str, list[str]]:
     """The rows of the runs without a fast way, by input: those in which no other one counts that is out of use there too."""
     found = {}
     for names, name, *row in rows("run"):
-        others = [known[it] for it in names.split("+") if it in known and it != way.name]
-        if way.name in names.split("+") and name in way.inputs and not any(name in it.inputs + it.also for it in others):
+        others = [known[other] for other in names.split("+") if other in known and other != way.name]
+        if way.name in names.split("+") and name in way.inputs and not any(name in other.inputs + other.also for other in others):
             found[name] = row
     return found
 
@@ -143,10 +144,10 @@ def by_price(known: dict[str, FastWay]) -> dict[str, FastWay]:
 
     def most(way: FastWay) -> float:
         own = [float(row[0]) / float(row[1]) for row in figures(way, known).values()]
-        return max([0, *own, *(most(it) for it in known.values() if it.under == way.name)])
+        return max([0, *own, *(most(below) for below in known.values() if below.under == way.name)])
 
     def put(under: str) -> None:
-        for way in sorted((it for it in known.values() if it.under == under), key=most, reverse=True):
+        for way in sorted((below for below in known.values() if below.under == under), key=most, reverse=True):
             found[way.name] = way
             put(way.name)
 
@@ -156,7 +157,7 @@ def by_price(known: dict[str, FastWay]) -> dict[str, FastWay]:
 
 def table(ways: list[FastWay], known: dict[str, FastWay]) -> str:
     head = "| Without | Instructions, and in brackets CPU time; of the program they are 1 |\n|---|---|\n"
-    return head + "\n".join(price(it, known) for it in ways)
+    return head + "\n".join(price(way, known) for way in ways)
 
 
 def plain_prices() -> str:
@@ -170,8 +171,9 @@ def not_measured(known: dict[str, FastWay]) -> str:
     """Which fast ways have no figures on some of their inputs."""
     left = []
     for way in known.values():
-        inputs = [it for it in way.inputs if it not in figures(way, known)]
-        left += [way.title + (f" ({', '.join(inputs)})" if len(inputs) < len(way.inputs) else "")] if inputs else []
+        inputs = [name for name in way.inputs if name not in figures(way, known)]
+        if inputs:
+            left.append(way.title + (f" ({', '.join(inputs)})" if len(inputs) < len(way.inputs) else ""))
     return f"Not measured in these runs: {'; '.join(left)}." if left else ""
 
 
@@ -179,11 +181,11 @@ def text(known: dict[str, FastWay]) -> str:
     """The text of the page."""
     known_rows(known)
     known = by_price(known)
-    fast = [it for it in known.values() if not it.keeps_linear]
-    linear = [it for it in known.values() if it.keeps_linear]
+    fast = [way for way in known.values() if not way.keeps_linear]
+    linear = [way for way in known.values() if way.keeps_linear]
     machine = "; ".join(row[0] for row in rows("machine")) or "no machine yet"
-    inputs = "\n".join(wrapped(f"- {name}: {it.says}", "  ") for name, it in INPUTS.items())
-    parts = {"tree": [item(it, known) for it in fast], "linear": [item(it, known) for it in linear]}
+    inputs = "\n".join(wrapped(f"- {name}: {one.says}", "  ") for name, one in INPUTS.items())
+    parts = {"tree": [item(way, known) for way in fast], "linear": [item(way, known) for way in linear]}
     paragraphs = TEXT.format(
         tree="\n".join(parts["tree"]),
         linear="\n".join(parts["linear"]),
@@ -195,7 +197,7 @@ def text(known: dict[str, FastWay]) -> str:
         machine=machine,
         left=not_measured(known),
     ).split("\n\n")
-    return "\n\n".join(it if it[:1] in "#-|" else wrapped(" ".join(it.split())) for it in paragraphs if it.strip())
+    return "\n\n".join(text if text[:1] in "#-|" else wrapped(" ".join(text.split())) for text in paragraphs if text.strip())
 
 
 TEXT = """# What makes the checker fast
@@ -265,6 +267,6 @@ def write(known: dict[str, FastWay], check: bool) -> int:
 def known_rows(known: dict[str, FastWay]) -> None:
     """Raises Stopped if a row names what is not there."""
     for names, name, *_ in rows("run"):
-        lost = [it for it in names.split("+") if it not in known and it != PLAIN]
+        lost = [name for name in names.split("+") if name not in known and name != PLAIN]
         if lost or name not in INPUTS:
             raise Stopped(f"docs/{ROWS.name} has a run of {lost[0] if lost else name}, which is not there")

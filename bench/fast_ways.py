@@ -10,6 +10,7 @@ import hashlib
 import os
 import shutil
 import subprocess
+from collections.abc import Callable
 from dataclasses import dataclass
 from pathlib import Path
 
@@ -74,7 +75,7 @@ def lay_out(folder: Path, ways: list[FastWay], kept: bool = True) -> None:
     repository = Crates(ROOT)
     names = [*repository.below(PROGRAM), PROGRAM]
     (folder / "crates").mkdir(parents=True)
-    (folder / "crates.txt").write_text("".join(f"{repository.lines[it]}\n" for it in names), encoding="utf-8")
+    (folder / "crates.txt").write_text("".join(f"{repository.lines[name]}\n" for name in names), encoding="utf-8")
     shutil.copytree(ROOT / "gate", folder / "gate", ignore=shutil.ignore_patterns("__pycache__"))
     for name in names:
         copy_crate(repository.folder(name), folder / "crates" / name)
@@ -114,14 +115,14 @@ def switched(way: FastWay) -> list[str]:
 
 def checksum(root: Path) -> str:
     """A checksum of all that the program of a tree is made of."""
-    files = sorted(it for part in PARTS for it in root.glob(f"crates/*/{part}/**/*") if it.is_file())
+    files = sorted(file for part in PARTS for file in root.glob(f"crates/*/{part}/**/*") if file.is_file())
     found = hashlib.sha256()
     for file in files:
         found.update(str(file.relative_to(root)).encode() + b"\0" + hashlib.sha256(file.read_bytes()).digest())
     return found.hexdigest()[:16]
 
 
-def built_without(ways: list[FastWay], say=print) -> Path:
+def built_without(ways: list[FastWay], say: Callable[[str], None] = print) -> Path:
     """The program without some fast ways, proved and built, unless that was done before. Raises Stopped."""
     BUILT.mkdir(exist_ok=True)
     folder = BUILT / f"tree-{os.getpid()}"
@@ -129,7 +130,7 @@ def built_without(ways: list[FastWay], say=print) -> Path:
         lay_out(folder, ways)
         program = BUILT / f"{PROGRAM}-{checksum(folder)}"
         if not program.exists():
-            say(f"proves and builds the program without {', '.join(it.name for it in ways) or 'nothing'}: ten minutes or more")
+            say(f"proves and builds the program without {', '.join(way.name for way in ways) or 'nothing'}: ten minutes or more")
             done = subprocess.run(["nice", folder / "gate" / "prove", PROGRAM], check=False)
             if done.returncode:
                 raise Stopped("it is not proved")

@@ -29,7 +29,7 @@ def value_of(body: str) -> str | None:
     """The one value that a folded body gives, if it is seen to give only one."""
     arm = re.fullmatch(r"\s*match\b[^{;]*\{(.*)\}\s*", body, re.S)
     if arm and "{" not in arm[1]:
-        found = {it.split("=>")[1].strip() for it in re.split(r",\s*\n", arm[1]) if "=>" in it}
+        found = {case.split("=>")[1].strip() for case in re.split(r",\s*\n", arm[1]) if "=>" in case}
         return found.pop() if len(found) == 1 and found <= set(VALUES) else None
     last = re.search(r"(?:\breturn\s+|\A)(\w+(?:\(\w+\))?)\s*;?\s*\Z", body.strip())
     ways = set(re.findall(r"\breturn\s+([^;]*);", body))
@@ -42,10 +42,10 @@ def value_of(body: str) -> str | None:
 def with_values(body: str, known: dict[str, str]) -> str:
     """The text with the values of known functions in place of their calls; `Ok(false)?` is `false`."""
     for name, value in known.items():
-        call, at = re.compile(rf"(?:\b\w+\s*(?:\.|::)\s*)*(?<!fn )\b{name}\s*(?:::<[^()]*>)?\("), 0
-        while found := call.search(body, at):
+        call, start = re.compile(rf"(?:\b\w+\s*(?:\.|::)\s*)*(?<!fn )\b{name}\s*(?:::<[^()]*>)?\("), 0
+        while found := call.search(body, start):
             end = end_of_group(body, found.end() - 1)
-            body, at = body[: found.start()] + value + body[end:], found.start() + len(value)
+            body, start = body[: found.start()] + value + body[end:], found.start() + len(value)
     return body.replace("Ok(false)?", "false")
 
 
@@ -57,7 +57,7 @@ def known_test(test: str) -> bool | None:
     for operator, deciding in (("||", True), ("&&", False)):
         parts = parted(test, operator)
         if len(parts) > 1:
-            values = [known_test(it) for it in parts]
+            values = [known_test(part) for part in parts]
             if deciding in values:
                 return deciding
             return not deciding if None not in values else None
@@ -69,13 +69,13 @@ def known_test(test: str) -> bool | None:
 
 def parted(test: str, operator: str) -> list[str]:
     """The parts of a test between operators that stand in no bracket."""
-    parts, start, at = [], 0, 0
-    while (at := find_outside(test, at, len(test), operator[0])) < len(test):
-        if test.startswith(operator, at):
-            parts.append(test[start:at])
-            start = at = at + len(operator)
+    parts, start, place = [], 0, 0
+    while (place := find_outside(test, place, len(test), operator[0])) < len(test):
+        if test.startswith(operator, place):
+            parts.append(test[start:place])
+            start = place = place + len(operator)
         else:
-            at += 1
+            place += 1
     return [*parts, test[start:]]
 
 
@@ -96,11 +96,11 @@ def branches(body: str, brace: int) -> tuple[str, str, int]:
 
 def fold_tests(body: str) -> str:
     """The text with the one branch in place of each `if` whose test is known, and without loops that do not begin."""
-    at = 0
-    while found := re.compile(r"(?:'\w+:\s*)?\b(if|while)\b\s*").search(body, at):
+    start = 0
+    while found := re.compile(r"(?:'\w+:\s*)?\b(if|while)\b\s*").search(body, start):
         brace = find_outside(body, found.end(), len(body), "{")
         value = known_test(body[found.end() : brace])
-        at = found.end()
+        start = found.end()
         if value is None or found[1] == "while" and value:
             continue
         taken, other, end = branches(body, brace)
@@ -125,7 +125,7 @@ def cut_after_ways_out(body: str) -> str:
     """The text without what comes in a block after a statement that leaves it in any case."""
     for found in WAY_OUT.finditer(body):
         if found[0].startswith("None"):
-            begin = max(body.rfind(it, 0, found.start()) for it in ";{}")
+            begin = max(body.rfind(sign, 0, found.start()) for sign in ";{}")
             if re.search(r"[({\[]|=>|\|", body[begin + 1 : found.start()].replace("let Some(", "let Some ")):
                 continue
         elif not re.search(r"(?:\A|[;{}])\s*\Z", body[: found.start()]):
@@ -140,8 +140,8 @@ def cut_after_ways_out(body: str) -> str:
 def end_of_block(body: str, place: int) -> int:
     """The place of the brace that closes the block around a place; the end if there is none."""
     depth = 0
-    for at in range(place, len(body)):
-        depth += {"{": 1, "}": -1}.get(body[at], 0)
+    for here in range(place, len(body)):
+        depth += {"{": 1, "}": -1}.get(body[here], 0)
         if depth < 0:
-            return at
+            return here
     return len(body)

@@ -40,8 +40,8 @@ def slow(function: Callable, size: int) -> Callable[[Path], list[list[str]]]:
 
 def real(_: Path) -> list[list[str]]:
     """Checks of the largest real traces."""
-    largest = sorted(TRACES.glob("*.qrp"), key=lambda it: (-it.stat().st_size, it.name))[:MOST_TRACES]
-    return [["check", str(TRACES / f"{it.name.split('.')[0]}.qdimacs"), str(it)] for it in largest]
+    largest = sorted(TRACES.glob("*.qrp"), key=lambda path: (-path.stat().st_size, path.name))[:MOST_TRACES]
+    return [["check", str(TRACES / f"{path.name.split('.')[0]}.qdimacs"), str(path)] for path in largest]
 
 
 INPUTS = {

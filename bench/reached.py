@@ -78,9 +78,9 @@ class Program:
     def __post_init__(self) -> None:
         repository = Crates(self.root)
         self.crates = [*repository.below(self.program), self.program]
-        self.sources = [it for it in sources(self.root).values() if it.crate in self.crates]
+        self.sources = [source for source in sources(self.root).values() if source.crate in self.crates]
         for source in self.sources:
-            self.nodes += [Node(source, it, source.body(it)) for it in source.functions if not is_left_out(it)]
+            self.nodes += [Node(source, function, source.body(function)) for function in source.functions if not is_left_out(function)]
         self.by_name: dict[str, list[Node]] = {}
         for node in self.nodes:
             self.by_name.setdefault(node.name, []).append(node)
@@ -94,14 +94,14 @@ class Program:
             known = found
             for node in self.nodes:
                 node.body = folded(node.body, known)
-            values = {name: {value_of(it.body) for it in nodes} for name, nodes in self.by_name.items()}
+            values = {name: {value_of(node.body) for node in nodes} for name, nodes in self.by_name.items()}
             found = {name: value for name, (value, *more) in values.items() if value is not None and not more}
 
     @cached_property
     def fields(self) -> dict[tuple[str, str], set[str]]:
         """The types of each field, by the type that has it, or by none, and its name."""
         found: dict[tuple[str, str], set[str]] = {}
-        structs = [(it.name, source.plain[it.open : it.end]) for source in self.sources for it in source.items if it.kind == "struct"]
+        structs = [(item.name, source.plain[item.open : item.end]) for source in self.sources for item in source.items if item.kind == "struct"]
         for owner, text in structs:
             for name, kind in FIELD.findall(text):
                 found.setdefault((owner, name), set()).add(kind)
@@ -112,17 +112,17 @@ class Program:
         """The functions that a use of a name can mean, by what stands before it."""
         nodes = self.by_name[name]
         if before is None:
-            return [it for it in nodes if not it.owner]
+            return [node for node in nodes if not node.owner]
         if before["owner"] and before["owner"] != "Self":
-            return [it for it in nodes if it.owner.startswith(before["owner"]) or it.function.is_of_trait]
+            return [node for node in nodes if node.owner.startswith(before["owner"]) or node.function.is_of_trait]
         kinds = (
             {caller.owner}
             if before["alone"]
             else self.fields.get((caller.owner if before["own"] else "", before["own"] or before["field"] or ""), set())
         )
-        of_kind = [it for it in nodes if it.owner in kinds or it.function.is_of_trait]
-        is_known = kinds and (kinds <= OF_STD or any(it.owner in kinds for it in nodes))
-        return of_kind if is_known else [it for it in nodes if it.owner]
+        of_kind = [node for node in nodes if node.owner in kinds or node.function.is_of_trait]
+        is_known = kinds and (kinds <= OF_STD or any(node.owner in kinds for node in nodes))
+        return of_kind if is_known else [node for node in nodes if node.owner]
 
     def used(self, caller: Node) -> dict[int, Node]:
         """The functions that a function can use, by what they are."""
@@ -136,11 +136,11 @@ class Program:
     @cached_property
     def reached(self) -> set[int]:
         """The places in `nodes` of the functions that are reached."""
-        place = {id(node): at for at, node in enumerate(self.nodes)}
-        found = {at for at, node in enumerate(self.nodes) if is_always_used(node)}
+        place = {id(node): index for index, node in enumerate(self.nodes)}
+        found = {index for index, node in enumerate(self.nodes) if is_always_used(node)}
         left = list(found)
         while left:
-            new = {place[it] for it in self.used(self.nodes[left.pop()])} - found
+            new = {place[node] for node in self.used(self.nodes[left.pop()])} - found
             found |= new
             left += new
         return found
@@ -148,26 +148,26 @@ class Program:
     @cached_property
     def lines(self) -> Lines:
         """The lines of all that is reached."""
-        nodes = [self.nodes[at] for at in self.reached]
+        nodes = [self.nodes[index] for index in self.reached]
         proofs = [file for node in nodes for file in self.own_proofs(node)]
-        return Lines(sum(it.lines for it in nodes), sum(map(count, set(proofs))), sum(map(count, self.lemmas(nodes, proofs))))
+        return Lines(sum(node.lines for node in nodes), sum(map(count, set(proofs))), sum(map(count, self.lemmas(nodes, proofs))))
 
     def own_proofs(self, node: Node) -> list[Path]:
         """The files that stand beside a function for its proof."""
         folder = self.root / "crates" / node.source.crate / "proofs" / Path(*node.function.path.split("::")[1:])
-        return sorted(it for it in folder.glob("*.antt")) if folder.is_dir() else []
+        return sorted(path for path in folder.glob("*.antt")) if folder.is_dir() else []
 
     def lemmas(self, nodes: list[Node], proofs: list[Path]) -> set[Path]:
         """The files of lemmas that some functions and their proofs name, and those that these name."""
         found: set[Path] = set()
-        left = [self.lemma_file(it.source.crate, name) for it in nodes for name in LEMMA.findall(it.function.attributes)]
+        left = [self.lemma_file(node.source.crate, name) for node in nodes for name in LEMMA.findall(node.function.attributes)]
         left += [file for proof in proofs for file in self.imported(proof)]
         while left:
             file = left.pop()
             if file.is_file() and file not in found:
                 found.add(file)
                 left += self.imported(file)
-        return {it for it in found if it.stem != "Cited"}
+        return {path for path in found if path.stem != "Cited"}
 
     def lemma_file(self, crate: str, module: str) -> Path:
         return self.root / "crates" / crate / "proofs" / f"{module.replace('.', '/')}.antt"
@@ -179,13 +179,13 @@ class Program:
             target = self.lemma_file(crate, module)
             if module.split(".")[-1] in ("Goals", "Given"):
                 continue
-            found += [self.origin(target, it.split(" as ")[0].strip()) for it in names.split(",")]
+            found += [self.origin(target, name.split(" as ")[0].strip()) for name in names.split(",")]
         return found
 
     def origin(self, file: Path, name: str) -> Path:
         """The file that a name comes from which another one passes on."""
         for crate, module, names in IMPORT.findall(text_of(file)) if file.stem == "Cited" else ():
-            if name in [it.split(" as ")[-1].strip() for it in names.split(",")]:
+            if name in [name.split(" as ")[-1].strip() for name in names.split(",")]:
                 return self.origin(self.lemma_file(crate, module), name)
         return file
 

@@ -1,12 +1,12 @@
 """Inputs that are made to be slow: each function gives the lines of a formula, and then those of a trace, of some size."""
 
 import random
-from collections.abc import Callable, Iterator, Sequence
+from collections.abc import Callable, Iterable, Iterator, Sequence
 from itertools import product
 from pathlib import Path
 
 Lines = list[str]
-Make = Callable[[int], Iterator[Lines]]
+Make = Callable[[int], Iterator[Iterable[str]]]
 
 
 def line(*parts: int | str | Sequence[int]) -> str:
@@ -58,7 +58,7 @@ def empty_sets(n: int) -> Iterator[Lines]:
 # Numbers of steps
 
 
-def chain(n: int, number: Callable[[int], int]) -> Iterator[Lines]:
+def numbered_chain(n: int, number: Callable[[int], int]) -> Iterator[Lines]:
     """A chain of n resolutions, of which this function gives the numbers of the steps from their places."""
     yield [line("p cnf", n, n + 1), line("e", range(1, n + 1), 0), "1 0\n", *(line(-i, i + 1, 0) for i in range(1, n)), line(-n, 0)]
     links = (line(number(2 * i), -i, i + 1, 0, 0) + line(number(2 * i + 1), i + 1, 0, number(2 * i - 1), number(2 * i), 0) for i in range(1, n))
@@ -68,44 +68,44 @@ def chain(n: int, number: Callable[[int], int]) -> Iterator[Lines]:
 
 def gaps(n: int) -> Iterator[Lines]:
     """A chain of n resolutions whose step numbers lie near each other, with gaps."""
-    return chain(n, lambda place: 3 * place + place * place % 3)
+    return numbered_chain(n, lambda place: 3 * place + place * place % 3)
 
 
 def falling_numbers(n: int) -> Iterator[Lines]:
     """A chain of n resolutions whose step numbers fall."""
-    return chain(n, lambda place: 4 * n - place)
+    return numbered_chain(n, lambda place: 4 * n - place)
 
 
 def sparse_numbers(n: int) -> Iterator[Lines]:
     """A chain of n resolutions whose step numbers are just within a table: sixteen times their place."""
-    return chain(n, lambda place: 16 * place + 1)
+    return numbered_chain(n, lambda place: 16 * place + 1)
 
 
 def long_numbers(n: int) -> Iterator[Lines]:
     """A chain of n resolutions whose step numbers have nine digits and follow each other."""
-    return chain(n, lambda place: 10**8 + place)
+    return numbered_chain(n, lambda place: 10**8 + place)
 
 
 def random_numbers(n: int) -> Iterator[Lines]:
     """A chain of n resolutions whose step numbers go up to 2^40, in no order."""
     numbers = random.Random(3).sample(range(1, 2**40), 2 * n + 2)
-    return chain(n, numbers.__getitem__)
+    return numbered_chain(n, numbers.__getitem__)
 
 
 def multiples_of_32_bits(n: int) -> Iterator[Lines]:
     """A chain of n resolutions whose step numbers are multiples of 2^32, with the same low half."""
-    return chain(n, lambda place: place << 32)
+    return numbered_chain(n, lambda place: place << 32)
 
 
 def multiples_of_40_bits(n: int) -> Iterator[Lines]:
     """A chain of n resolutions whose step numbers are multiples of 2^40."""
-    return chain(n, lambda place: place << 40)
+    return numbered_chain(n, lambda place: place << 40)
 
 
 def golden_numbers(n: int) -> Iterator[Lines]:
     """A chain of n resolutions whose step numbers become small by a product with 2^64 over the golden ratio, which hash tables take."""
     inverse = pow(0x9E3779B97F4A7C15, -1, 2**64)
-    return chain(n, lambda place: inverse * place % 2**64)
+    return numbered_chain(n, lambda place: inverse * place % 2**64)
 
 
 # Steps

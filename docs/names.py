@@ -36,8 +36,8 @@ class Names:
         words = ["git", "ls-files", "--cached", "--others", "--exclude-standard"]
         done = subprocess.run(words, cwd=self.root, capture_output=True, text=True, check=False)
         if done.returncode == 0 and done.stdout:
-            return [it for it in done.stdout.splitlines() if (self.root / it).exists()]
-        return [str(it.relative_to(self.root)) for it in self.root.rglob("*") if it.is_file() and "/out/" not in str(it)]
+            return [path for path in done.stdout.splitlines() if (self.root / path).exists()]
+        return [str(path.relative_to(self.root)) for path in self.root.rglob("*") if path.is_file() and "/out/" not in str(path)]
 
     @cached_property
     def paths(self) -> set[str]:
@@ -48,7 +48,7 @@ class Names:
             for end in range(1, len(parts) + 1):
                 for begin in range(0, end):
                     found.add("/".join(parts[begin:end]))
-        return found | {str(Path(it).with_suffix("")) for it in found}
+        return found | {str(Path(path).with_suffix("")) for path in found}
 
     @cached_property
     def declared(self) -> set[str]:
@@ -83,19 +83,19 @@ class Names:
     def is_there(self, name: str) -> bool:
         if "*" in name:
             pattern = re.compile(re.escape(name).replace(r"\*", "[^/]*") + "$")
-            return any(pattern.match(it) for it in self.paths)
+            return any(pattern.match(path) for path in self.paths)
         return name.strip("/") in self.paths
 
     def unknown(self) -> Iterator[str]:
         """A line for each name of a page that is not there."""
         for page in self.pages():
             inside = False
-            for at, line in enumerate(page.read_text(encoding="utf-8").splitlines(), 1):
+            for number, line in enumerate(page.read_text(encoding="utf-8").splitlines(), 1):
                 if line.startswith("```"):
                     inside = not inside
                 for name in () if inside else QUOTED.findall(line):
                     if self.is_path(name):
                         if not self.is_there(name):
-                            yield f"{page.relative_to(self.root)}:{at}: there is no file `{name}`"
-                    elif self.is_name(name) and not all(it in self.declared for it in name.split("::")):
-                        yield f"{page.relative_to(self.root)}:{at}: no source has the name `{name}`"
+                            yield f"{page.relative_to(self.root)}:{number}: there is no file `{name}`"
+                    elif self.is_name(name) and not all(part in self.declared for part in name.split("::")):
+                        yield f"{page.relative_to(self.root)}:{number}: no source has the name `{name}`"

@@ -18,14 +18,14 @@ def blocks(page):
     text = Path(page).read_text(encoding="utf-8")
     if Path(page).suffix != ".md":
         examples = EXAMPLE.findall(text.partition("\n.SH EXAMPLE")[2])
-        return [it.replace("\\-", "-").replace("\\e", "\\") for it in examples]
+        return [example.replace("\\-", "-").replace("\\e", "\\") for example in examples]
     found = BLOCK.finditer(text)
-    return [it[1] if it[1] is not None else re.sub("^ {4}", "", it[2], flags=re.MULTILINE) for it in found]
+    return [groups[1] if groups[1] is not None else re.sub("^ {4}", "", groups[2], flags=re.MULTILINE) for groups in found]
 
 
 def block(page, words):
     """The one block that begins with these words."""
-    found = [it for it in blocks(page) if it.startswith(words)]
+    found = [block for block in blocks(page) if block.startswith(words)]
     if len(found) != 1:
         sys.exit(f"{page} has {len(found)} blocks that begin with '{words}'")
     return found[0]

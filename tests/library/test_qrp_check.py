@@ -221,8 +221,14 @@ def struct_of(fault):
     device = letter in "FP" and number == 1
     memory = (letter, number) in (("F", 9), ("P", 9), ("C", 5))
     position = 0 if device or memory or (letter, number) == ("C", 4) else 1
-    status = 3 if device else 4 if memory else 1 if letter == "C" else 2
-    return qrp_check._Verdict(position=position, status=status, truth=0, letter=ord(letter), number=number, rule=rule)
+    return qrp_check._Verdict(position=position, status=status_of(letter, device, memory), truth=0, letter=ord(letter), number=number, rule=rule)
+
+
+def status_of(letter, device, memory):
+    """The status of a fault."""
+    if device or memory:
+        return 3 if device else 4
+    return 1 if letter == "C" else 2
 
 
 def sentence_of(fault):

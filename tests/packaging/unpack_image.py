@@ -41,9 +41,9 @@ def main(path, folder):
     same("the layers", config["rootfs"]["diff_ids"], [f"sha256:{hashlib.sha256(layer).hexdigest()}" for layer in layers])
     same("what is run", config["config"]["Entrypoint"], ["/qrp_cmd"])
     (legacy,) = image.json("manifest.json")
-    path = lambda it: "blobs/" + it["digest"].replace(":", "/")
-    same("manifest.json", (legacy["Config"], legacy["Layers"]), (path(manifest["config"]), [path(it) for it in manifest["layers"]]))
-    used = [path(it) for it in (described, manifest["config"], *manifest["layers"])]
+    path = lambda part: "blobs/" + part["digest"].replace(":", "/")
+    same("manifest.json", (legacy["Config"], legacy["Layers"]), (path(manifest["config"]), [path(layer) for layer in manifest["layers"]]))
+    used = [path(part) for part in (described, manifest["config"], *manifest["layers"])]
     same("the blobs", sorted(name for name in image.files if name.startswith("blobs/")), sorted(used))
     for layer in layers:
         with tarfile.open(fileobj=io.BytesIO(layer)) as archive:

@@ -61,7 +61,7 @@ class Use:
 
 def try_lines(use):
     """The line and the status of the program, and the words of explain on the standard error if it is not VERIFIED."""
-    pairs = [it for it in damaged_pairs(FORMULA.read_bytes(), TRACE.read_bytes()) if it[0].split()[0] not in ("gzip", "bzip2", "xz", "zstd")]
+    pairs = [pair for pair in damaged_pairs(FORMULA.read_bytes(), TRACE.read_bytes()) if pair[0].split()[0] not in ("gzip", "bzip2", "xz", "zstd")]
     for number, (name, formula, trace) in enumerate([("whole", FORMULA.read_bytes(), TRACE.read_bytes()), *pairs[:: max(1, len(pairs) // 30)]]):
         files = use.file("formula", formula), use.file("trace", trace)
         flags = ["--qu"] if number % 3 == 2 else []

@@ -162,7 +162,7 @@ def try_circuits(program, folder):
         named = dict(line.split() for line in texts[0][2].splitlines())
         whole = prefix_of(sample, steps, wanted, once)
         used = {name for _, name, step in whole if shown(name, step, steps) in named.values()}
-        prefix = [it for it in whole if it[1] in used]  # an input is left out of all steps, or of none
+        prefix = [row for row in whole if row[1] in used]  # an input is left out of all steps, or of none
         dropped |= len(prefix) < len(whole)
         found = [(quantifier, named.get(str(variable))) for quantifier, variable in pairs[: len(prefix)]]
         expect(

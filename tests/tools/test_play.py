@@ -149,9 +149,13 @@ def try_failing(found, formula, is_true):
     true = {literal for move in found["moves"] for literal in move["values"]}
     _, clauses = read_formula(Path(formula).read_text())
     false = [(number, list(dict.fromkeys(clause))) for number, clause in enumerate(clauses, 1) if true.isdisjoint(clause)]
-    require([(it["clause"], it["literals"]) for it in found["failing"]] == false and bool(false) is not is_true, "the clauses that are false")
+    require(
+        [(clause["clause"], clause["literals"]) for clause in found["failing"]] == false and bool(false) is not is_true, "the clauses that are false"
+    )
     lines = Path(formula).read_text().split("\n")
-    require(all(set(it["literals"]) <= set(map(int, lines[it["line"] - 1].split())) for it in found["failing"]), "the lines of these clauses")
+    require(
+        all(set(clause["literals"]) <= set(map(int, lines[clause["line"] - 1].split())) for clause in found["failing"]), "the lines of these clauses"
+    )
 
 
 def try_state(blocks, clauses, move, is_true):
@@ -468,7 +472,7 @@ def try_end():
     holds = (
         len(found["moves"][3]["gates"]) == 22
         and found["matrix"] is False
-        and [it["names"] for it in found["failing"]] == [["-sum1", "wanted1"], ["sum2", "-carry2"]]
+        and [clause["names"] for clause in found["failing"]] == [["-sum1", "wanted1"], ["sum2", "-carry2"]]
     )
     expect("blind-box: JSON", holds, found["failing"])
     given = play("--names", names, "--reply", "box", "--reply", "half0 sum2", *BOX)

@@ -19,10 +19,11 @@ sys.dont_write_bytecode = True
 from expect import expect, finish, skip  # noqa: E402
 from qrptools.core import Core, is_needed  # noqa: E402
 from qrptools.explaining.find_steps import find_near  # noqa: E402
-from qrptools.formula import Formula  # noqa: E402
+from qrptools.formula import UNBOUND, Formula  # noqa: E402
 from qrptools.explaining.show import find_step  # noqa: E402
-from qrptools.step_rules import SIDES, judge  # noqa: E402
+from qrptools.step_rules import SIDES, distance, judge, missed_clauses, nearest_clause  # noqa: E402
 from qrptools.steps import Trace  # noqa: E402
+from random_proofs import random_formula  # noqa: E402
 
 EXPLAIN = ROOT / "tools" / "explain"
 DRAW = ROOT / "tools" / "draw-proof"
@@ -42,10 +43,10 @@ class Kept(Formula):
 
     def __init__(self, path):
         super().__init__(Path(path).read_bytes())
-        self.all_clauses = list(super().clauses())
+        self.all_blocks = list(super().blocks())
 
-    def clauses(self):
-        return self.all_clauses
+    def blocks(self):
+        return iter(self.all_blocks)
 
 
 def read_trace(path):
@@ -183,6 +184,56 @@ def try_proofs(program, pairs):
         expect(f"{trace.name}: the program says {line}", holds and line.startswith("VERIFIED "))
 
 
+def nearest_of_all(formula, literals):
+    """The clause that gives a step, or else is nearest, by a comparison with each clause."""
+    found = [(distance(formula, SIDES["unsat"], literals, clause), clause) for clause in formula.clauses()]
+    given = [clause for far, clause in found if not any(far[:3])]
+    return given[0] if given else min(found, key=lambda row: row[0], default=(None, None))[1]
+
+
+def try_nearest():
+    """The clause that is nearest to a step, and those that share no literal with it, are those that a look at each clause finds."""
+    draw, seen = random.Random(5), set()
+    for case in range(400):
+        pairs, clauses = random_formula(draw)
+        if case % 4 == 0:  # long clauses that are much alike, some in lines of their own and some not
+            pairs = [("ae"[v % 3 == 0], v) for v in range(1, 30)]
+            clauses = [[v if draw.random() < 0.95 else -v for v in range(1, 30) if draw.random() < 0.95] for _ in range(40)]
+        sets = "".join(f"{quantifier} {variable} 0\n" for quantifier, variable in pairs)
+        lines = "".join(" ".join(map(str, [*clause, 0])) + (" " if draw.random() < 0.1 else "\n") for clause in clauses)
+        formula = Formula(f"p cnf 30 {len(clauses)}\n{sets}{lines}".encode())
+        for _ in range(10):
+            base = draw.choice(clauses) if clauses else []
+            literals = {literal if draw.random() < 0.9 else -literal for literal in base if draw.random() < 0.9}
+            found, wanted = nearest_clause(formula, SIDES["unsat"], literals), nearest_of_all(formula, literals)
+            seen.add(wanted and len(literals - wanted.literals))
+            expect(f"the nearest clause, case {case}", found == wanted, (found, wanted, literals))
+            missed = [clause for clause in formula.clauses() if clause.clean and literals.isdisjoint(clause.literals)]
+            expect(f"the clauses without these literals, case {case}", list(missed_clauses(formula, literals)) == missed, literals)
+    expect("the nearest clause lacks none, one, and more", {None, 0, 1, 2, 3} <= seen, seen)
+
+
+def try_places():
+    """The place of a variable is the same whether it is looked for alone or all sets are taken apart."""
+    many = "".join(f"{'ae'[v % 2]} {v} 0\n" for v in range(1, 101))
+    for name, sets in (
+        ("two sets", "e 1 2 30 0\na 300 3 40 0\n"),
+        ("one variable", "e 12 0\n"),
+        ("no sets", ""),
+        ("leading zeros", "e 007 1 0\na 70 0012 0\n"),
+        ("zeros in one set", "e 7 1 0\na 070 12 0\n"),
+        ("over several lines", "e 1 2\n30 0 a 300\n3 40 0\n"),
+        ("empty sets", "e 0\na 5 50 0\n"),
+        ("many sets", many),
+    ):
+        text = f"p cnf 300 0\n{sets}".encode()
+        all_places = Formula(text).places
+        for variables in range(1, 301), [300, 1, 5, 7, 70, 12, 3, 30, 40, 2, 50]:
+            formula = Formula(text)
+            found = {variable: formula.place(-variable) for variable in variables}
+            expect(f"places: {name}", found == {variable: all_places.get(variable, UNBOUND) for variable in variables}, found)
+
+
 NODE = re.compile(r"    (\d+) \[shape=(box|ellipse), label=<<B>\1</B><BR/>(?:[-0-9]|&#160;|<U>|</U>|<BR/>|empty (?:clause|cube))+>\];")
 EDGE = re.compile(r'    (\d+) -> (\d+) \[label="(?:-?\d+)?(?:, )?(?:reduced)?"\];')
 TEXT = re.compile(r"    (\d+) \[shape=\w+, label=<<B>\d+</B><BR/>(.*)>\];")
@@ -197,12 +248,16 @@ def marks_of(formula, steps):
     for step in steps:
         end = step.index("0")
         number, own, parents = step[0], list(dict.fromkeys(step[1:end])), step[end + 1 : -1]
-        texts[number] = [f"<U>{it}</U>" if it.lstrip("-") in universal else it for it in own]
+        texts[number] = [f"<U>{literal}</U>" if literal.lstrip("-") in universal else literal for literal in own]
         known = [set(literals[parent]) for parent in parents]
-        pivots = {it.lstrip("-") for it in known[0] if {it.lstrip("-"), f"-{it.lstrip('-')}"} - {it} <= known[1]} if len(known) == 2 else set()
+        pivots = (
+            {literal.lstrip("-") for literal in known[0] if {literal.lstrip("-"), f"-{literal.lstrip('-')}"} - {literal} <= known[1]}
+            if len(known) == 2
+            else set()
+        )
         for parent, held in zip(parents, known):
-            gone = [it for it in held if it not in own and it.lstrip("-") not in pivots]
-            labels[parent, number] = [it for it in literals[parent] if it.lstrip("-") in pivots] + ["reduced"] * bool(gone)
+            gone = [literal for literal in held if literal not in own and literal.lstrip("-") not in pivots]
+            labels[parent, number] = [literal for literal in literals[parent] if literal.lstrip("-") in pivots] + ["reduced"] * bool(gone)
         literals[number] = own
     return texts, labels
 
@@ -214,15 +269,19 @@ def try_marks(program):
         texts, labels = marks_of(formula, steps)
         drawn = run(DRAW, formula, trace, program=program)
         found = {
-            line[1]: [it for it in re.split(r"&#160;| |<BR/>", line[2]) if it] for line in map(TEXT.fullmatch, drawn.stdout.splitlines()) if line
+            line[1]: [word for word in re.split(r"&#160;| |<BR/>", line[2]) if word]
+            for line in map(TEXT.fullmatch, drawn.stdout.splitlines())
+            if line
         }
         wanted = {
             number: text or (["empty", "clause"] if trace.read_text().endswith("unsat\n") else ["empty", "cube"]) for number, text in texts.items()
         }
-        expect(f"{trace.name}: the literals, universal ones underlined", found == wanted, [it for it in found.items() if it[1] != wanted[it[0]]][:3])
+        expect(
+            f"{trace.name}: the literals, universal ones underlined", found == wanted, [row for row in found.items() if row[1] != wanted[row[0]]][:3]
+        )
         found = {(line[1], line[2]): line[3] for line in map(LABEL.fullmatch, drawn.stdout.splitlines()) if line}
         wanted = {edge: ", ".join(label) for edge, label in labels.items()}
-        expect(f"{trace.name}: the labels", found == wanted, [it for it in found.items() if it[1] != wanted[it[0]]][:3])
+        expect(f"{trace.name}: the labels", found == wanted, [row for row in found.items() if row[1] != wanted[row[0]]][:3])
         said = f"{DRAW}: these are {len(steps)} steps, which is more than a picture shows well: try --last 100\n" if len(steps) > 300 else ""
         expect(f"{trace.name}: the warning", drawn.stderr == said, drawn.stderr)
     with tempfile.TemporaryDirectory() as folder:
@@ -434,13 +493,15 @@ def main():
     expect("seven proofs to damage", len(small + few) == 7, small + few)
     try_damages(program, small + few)
     try_near([pair for pair in real + trimmed if pair[1].stat().st_size < 2000])
+    try_nearest()
+    try_places()
     try_long_traces()
     try_odd_steps()
     try_drawings(program)
     try_marks(program)
     try_blanks(program)
     try_words(program)
-    return finish(4235)
+    return finish(12252)
 
 
 if __name__ == "__main__":

@@ -91,7 +91,7 @@ def of_text(text, labels):
     rows = [line[4:].partition(" = ") for line in text.splitlines() if line.startswith("    ") and not line.startswith("    as numbers")]
     known = {label: place for place, label in enumerate([*labels, *(left for left, _, _ in rows)])}
     signs = {"!": "1 - ", "&": "*", "|": "|", "(": "(", ")": ")", "true": "1", "false": "0"}
-    words = lambda right: (signs[it] if it in signs else f"values[{known[it]}]" for it in re.findall("[!&|()]|[^!&|() ]+", right))
+    words = lambda right: (signs[word] if word in signs else f"values[{known[word]}]" for word in re.findall("[!&|()]|[^!&|() ]+", right))
     python = lambda right: re.sub(r"1 - (values\[\d+\])", r"(1 - \1)", "".join(words(right)))
     code = [(left, compile(python(right), left, "eval")) for left, _, right in rows]
 
@@ -198,8 +198,8 @@ def try_formats(use, given):
     inputs, outputs = list(given.runs[0]), list(given.run(given.runs[0]))
     text = use.shown(*given.words())
     _, results, run = of_text(text, called(given, inputs))
-    gates = [it for it in results if it not in called(given, outputs)]
-    given.expect_same("text", (called(given, inputs), [it for it in results if it not in gates], run))
+    gates = [label for label in results if label not in called(given, outputs)]
+    given.expect_same("text", (called(given, inputs), [label for label in results if label not in gates], run))
     circuit = read_circuit(use.shown(*given.words("--format", "aag")).encode())
     found = of_circuit(circuit)
     expect(f"{given.name}, aag: the symbols", list(found[:2]) == [called(given, inputs), called(given, outputs)], found)
@@ -224,7 +224,7 @@ def try_formats(use, given):
 
 def try_table(use, given, outputs):
     """The table of all outputs, or of some: a row for all values of the inputs that they depend on."""
-    for some in [outputs, *([it] for it in random.Random(given.name).sample(outputs, min(3, len(outputs))))]:
+    for some in [outputs, *([output] for output in random.Random(given.name).sample(outputs, min(3, len(outputs))))]:
         ended = use.run(TOOL, *given.words("--format", "table", "--only", ",".join(some)))
         if not ended.returncode:
             expect(f"{given.name}: the table of {some}", is_table(given, some, ended.stdout), ended.stdout)
@@ -242,7 +242,7 @@ def is_table(given, some, text):
         own = {symbol[label]: value for label, value in left.items()}
         for other in 0, 1:
             found = given.run({**dict.fromkeys(given.runs[0], other), **own})
-            if [found[it] for it in some] != list(right.values()):
+            if [found[output] for output in some] != list(right.values()):
                 return False
     return True
 
@@ -293,7 +293,7 @@ class Sample:
         literal = lambda: pick.choice(self.variables) * pick.choice((1, -1))
         self.clauses = [[literal() for _ in range(pick.randint(1, 4))] for _ in range(pick.choice((0, 1, 2, 3, 6)))]
         self.winner = pick.choice("ae")
-        self.inputs = [it for letter, some in self.blocks if letter != self.winner for it in some]
+        self.inputs = [variable for letter, some in self.blocks if letter != self.winner for variable in some]
         self.gates, self.outputs = [], []
         wires, literals = [0], iter(range(2, 2 * len(self.inputs) + 1, 2))
         for letter, some in self.blocks:
@@ -596,9 +596,9 @@ def try_choices(use):
     path = use.write(
         "circuit",
         "aag 19 10 0 1 9\n"
-        + "".join(f"{2 * it}\n" for it in range(1, 11))
+        + "".join(f"{2 * number}\n" for number in range(1, 11))
         + f"38\n{gates}"
-        + "".join(f"i{it - 1} {it}\n" for it in range(1, 11))
+        + "".join(f"i{number - 1} {number}\n" for number in range(1, 11))
         + "o0 11\n",
     )
     found = use.shown("--circuit", path, formula).splitlines()[2:]
@@ -610,9 +610,9 @@ def try_choices(use):
         "",
         "the outputs depend on 10 inputs, and a table has at most 8",
     )
-    deep = "".join(f"{2 * it} {2 * it - 1} {2 * (it % 20 + 1)}\n" for it in range(21, 20021))
+    deep = "".join(f"{2 * number} {2 * number - 1} {2 * (number % 20 + 1)}\n" for number in range(21, 20021))
     symbols = "".join(f"i{place} {place + 1}\n" for place in range(20))
-    path = use.write("circuit", "aag 20020 20 0 1 20000\n" + "".join(f"{2 * it}\n" for it in range(1, 21)) + f"40040\n{deep}{symbols}o0 21\n")
+    path = use.write("circuit", "aag 20020 20 0 1 20000\n" + "".join(f"{2 * number}\n" for number in range(1, 21)) + f"40040\n{deep}{symbols}o0 21\n")
     formula = use.write("formula", f"p cnf 21 0\na {' '.join(map(str, range(1, 21)))} 0\ne 21 0\n")
     found = use.shown("--circuit", path, formula)
     expect(

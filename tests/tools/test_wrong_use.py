@@ -389,7 +389,7 @@ def try_old_systems(program):
     for tool in sorted({tool.name for tool in TOOLS}):
         text = (ROOT / "tools" / tool).read_text()
         try:
-            first = next(it for it in ast.parse(text, feature_version=(3, 6)).body if isinstance(it, (ast.Import, ast.ImportFrom)))
+            first = next(part for part in ast.parse(text, feature_version=(3, 6)).body if isinstance(part, (ast.Import, ast.ImportFrom)))
             expect(f"{tool}: an old Python comes to the module that asks", ast.unparse(first) == "import qrptools.early", ast.unparse(first))
         except SyntaxError as fault:
             expect(f"{tool}: an old Python can read it", False, fault)
@@ -416,16 +416,28 @@ MYPY = ["mypy", "--disallow-untyped-defs", "--check-untyped-defs", "--scripts-ar
 
 
 def try_types():
-    """The tools, the commands of the gate and their modules agree with their types."""
+    """The tools, the commands of the gate and of bench and their modules agree with their types."""
     if not shutil.which("mypy"):
         skip("the types of the modules", "there is no mypy")
         return
     commands = ["check-adapters", "check-memory-faults", "check-promises", "prove", "try-wrong-bodies", "try-wrong-definitions"]
     tools = ["qrptools", *sorted({tool.name for tool in TOOLS})]
-    for name, version, modules in (("tools", "3.9", tools), ("gate", "3.10", commands)):
+    measurements = sorted(path.name for path in (ROOT / "bench").iterdir() if path.is_file() and is_python(path))
+    others = os.pathsep.join(str(ROOT / name) for name in ("gate", "tests", "tests/tools"))  # whose modules those of bench use
+    for name, version, modules in (("tools", "3.9", tools), ("gate", "3.10", commands), ("bench", "3.10", measurements)):
         with tempfile.TemporaryDirectory() as folder:
-            words = [*MYPY, "--python-version", version, "--cache-dir", folder, *modules]
-            ended = subprocess.run(words, cwd=ROOT / name, capture_output=True, text=True, check=False)
+            words = [
+                *MYPY,
+                "--follow-imports",
+                "silent" if name == "bench" else "normal",
+                "--python-version",
+                version,
+                "--cache-dir",
+                folder,
+                *modules,
+            ]
+            environment = {**os.environ, "MYPYPATH": others} if name == "bench" else None
+            ended = subprocess.run(words, cwd=ROOT / name, env=environment, capture_output=True, text=True, check=False)
         expect(f"the types of the modules of {name}", ended.returncode == 0, ended.stdout)
 
 
@@ -474,7 +486,7 @@ def main():
     try_old_systems(program)
     try_types()
     try_layout()
-    return finish(1278)
+    return finish(1279)
 
 
 if __name__ == "__main__":

@@ -3,11 +3,11 @@
 All faults of docs/FORMATS.md are found, in the lines that are not known to be right.
 """
 
-from collections.abc import Iterator, Set
+from collections.abc import Collection, Iterator, Set
 from operator import neg
 from typing import NamedTuple, Optional
 
-from qrptools.words import ALL, GREATEST, GREATEST_VARIABLE, Data, Fault, Words, are_whole, value
+from qrptools.words import ALL, BLANKS, GREATEST, GREATEST_VARIABLE, Data, Fault, Words, are_whole, value
 
 SET_BYTES = frozenset(b"ae")
 COMMENT_BYTES = b"c"
@@ -25,6 +25,7 @@ class Place(NamedTuple):
 
 
 UNBOUND = Place("", 0, 0)
+FEW = 32  # variables that are looked for, and sets that they are looked for in: to take all sets apart takes as long as to look for a hundred
 
 
 class Clause(NamedTuple):
@@ -39,6 +40,17 @@ class Clause(NamedTuple):
 def is_clean(literals: Set[int]) -> bool:
     """Whether no literal of the set has its negation in it."""
     return literals.isdisjoint(map(neg, literals))
+
+
+def holds(text: bytes, word: bytes) -> bool:
+    """Whether a text with single blanks between its words has this one."""
+    return b" %b " % word in text or text.startswith(word + b" ") or text.endswith(b" " + word) or text == word
+
+
+def clause_of(number: int, line: int, text: bytes) -> Clause:
+    """A clause, of the text of its literals."""
+    literals = frozenset(map(int, text.split()))
+    return Clause(number, line, literals, is_clean(literals))
 
 
 def are_clauses(block: bytes) -> bool:
@@ -56,6 +68,8 @@ class Formula:
         self.header_line, self.header_end = words.line, words.place()
         self.sets: list[tuple[Place, bytes]] = []  # those that are not empty: the place of each, and its variables as text
         self.placed: dict[int, Place] = {}  # the places of the variables
+        self.sought: dict[int, Place] = {}  # those of the variables that were looked for alone
+        self.has_zeros = False  # before the number of a variable
         self.unplaced = 0  # the first set of which they are not there
         self.block, self.last = 0, b""
         while self.read_set(words):
@@ -94,6 +108,7 @@ class Formula:
             # Neighbouring sets of one quantifier are one block, and empty sets are none.
             self.block, self.last = self.block + (letter != self.last), letter
             self.sets.append((Place(QUANTIFIERS[letter], self.block, line), variables))
+            self.has_zeros = self.has_zeros or variables[:1] == b"0" or b" 0" in variables
 
     @property
     def places(self) -> dict[int, Place]:
@@ -105,23 +120,54 @@ class Formula:
         return self.placed
 
     def place(self, literal: int) -> Place:
-        return self.places.get(abs(literal), UNBOUND)
+        """Where the variable of a literal is bound. The first few are looked for in the texts of the sets, which may be large."""
+        variable = abs(literal)
+        if self.unplaced == len(self.sets) or variable not in self.sought and not self.seek(variable):
+            return self.places.get(variable, UNBOUND)
+        return self.sought[variable]
+
+    def seek(self, variable: int) -> bool:
+        """Looks for the place of a variable, unless there are too many sets, too many were looked for, or a number has leading zeros."""
+        if max(len(self.sets), len(self.sought) + 1) > FEW or self.has_zeros:
+            return False
+        self.sought[variable] = next((place for place, text in self.sets if holds(text, b"%d" % variable)), UNBOUND)
+        return True
 
     def clauses(self) -> Iterator[Clause]:
         """Each clause in file order."""
         for number, line, texts in self.pieces():
             for place, text in enumerate(texts):
-                literals = frozenset(map(int, text.split()))
-                yield Clause(number + place, line + place, literals, is_clean(literals))
+                yield clause_of(number + place, line + place, text)
 
     def pieces(self) -> Iterator[tuple[int, int, list[bytes]]]:
         """The clauses in file order, some at a time: number and line of the first, and the texts of their literals, on lines of their own."""
+        for number, line, block in self.blocks():
+            yield number, line, block.split(b" 0\n")[:-1]
+
+    def clauses_with(self, literals: Collection[int]) -> Iterator[tuple[int, int, bytes]]:
+        """The clauses that have one of these literals, in file order: number, line, and the text of the literals."""
+        wanted = [b" %d " % literal for literal in literals]
+        for number, line, block in self.blocks():
+            text, lines, counted, passed = (b" " + block).translate(BLANKS), set(), 0, 0
+            for word in wanted:
+                place = text.find(word)
+                while place >= 0:
+                    end = block.index(b"\n", place)
+                    lines.add((block.rfind(b"\n", 0, place) + 1, end))
+                    place = text.find(word, end + 1)
+            for start, end in sorted(lines):
+                counted, passed = counted + block.count(b"\n", passed, start), start
+                yield number + counted, line + counted, block[start : end - 2]
+
+    def blocks(self) -> Iterator[tuple[int, int, bytes]]:
+        """The clauses in file order, some at a time: number and line of the first, and their text, each on a line that ends with ` 0`."""
         words, number = self.words.again(), 1
         while True:
-            texts = words.block(are_clauses).split(b" 0\n")[:-1]
-            if texts:
-                yield number, words.line - len(texts) + 1, texts
-                number += len(texts)
+            block = words.block(are_clauses)
+            if block:
+                count = block.count(b"\n")
+                yield number, words.line - count + 1, block
+                number += count
                 continue
             word = words.next()
             if word is None and number > self.count:
@@ -129,7 +175,7 @@ class Formula:
             self.refuse_start(words, word, number)
             words.back()
             line = words.line
-            yield number, line, [b" ".join(b"%d" % literal for literal in self.literals(words, number))]
+            yield number, line, b" ".join(b"%d" % literal for literal in self.literals(words, number)) + b" 0\n"
             number += 1
 
     def refuse_start(self, words: Words, word: Optional[bytes], number: int) -> None:

@@ -48,6 +48,8 @@ class Names:
 
     def shown(self, literals: Iterable[int]) -> str:
         """Literals as text."""
+        if not self.names:
+            return " ".join(map(str, literals))
         return " ".join(("-" if literal < 0 else "") + self.name(abs(literal)) for literal in literals)
 
     def listed(self, variables: list[int]) -> str:
@@ -57,7 +59,7 @@ class Names:
 
     def values(self, literals: Iterable[int]) -> Iterator[tuple[str, int]]:
         """The values of a bus as a number, for each bus of two bits or more of which all bits are among the literals."""
-        given = {abs(literal): literal > 0 for literal in literals}
+        given = {abs(literal): literal > 0 for literal in literals} if self.buses else {}
         for bus, bits in self.buses.items():
             if len(bits) > 1 and all(variable in given for variable in bits.values()):
                 yield bus, sum(given[variable] << place for place, variable in bits.items())

@@ -11,7 +11,7 @@ from contextlib import contextmanager
 from types import FrameType
 
 SIGNALS = (signal.SIGINT, signal.SIGTERM, signal.SIGHUP)
-PR_SET_PDEATHSIG = 1  # of prctl(2)
+PR_SET_PDEATHSIG, PR_SET_CHILD_SUBREAPER = 1, 36  # of prctl(2)
 SYSTEM = ctypes.CDLL(None)
 
 
@@ -70,6 +70,12 @@ def end_with_parent(parent: int, number: int) -> None:
         SYSTEM.prctl(PR_SET_PDEATHSIG, number)
         if os.getppid() != parent:  # it has ended meanwhile
             os.kill(os.getpid(), number)
+
+
+def adopt_orphans() -> None:
+    """Makes this process the parent of what a process that it started leaves behind."""
+    if hasattr(SYSTEM, "prctl"):
+        SYSTEM.prctl(PR_SET_CHILD_SUBREAPER, 1, 0, 0, 0)
 
 
 def kill_group(process: int) -> None:

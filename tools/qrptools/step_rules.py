@@ -3,11 +3,14 @@
 Nothing here is proved: a verdict comes from qrp_cmd alone.
 """
 
-from collections.abc import Collection, Iterable, Mapping, Set
+from collections import Counter
+from collections.abc import Collection, Iterable, Iterator, Mapping, Set
 from typing import NamedTuple, Optional
 
-from qrptools.formula import ADJECTIVES, EXISTS, FOR_ALL, UNBOUND, Clause, Formula, is_clean
+from qrptools.formula import ADJECTIVES, EXISTS, FOR_ALL, UNBOUND, Clause, Formula, clause_of, is_clean
 from qrptools.steps import Step
+
+FEW = 8  # literals that are looked for before all clauses are compared
 
 # What has to hold of a step, as the table of docs/RULES.md says it.
 CONDITIONS = {
@@ -105,22 +108,14 @@ def judge(formula: Formula, side: Side, any_pivot: bool, step: Step, before: Map
 
 
 def initial_clause(formula: Formula, side: Side, literals: Set[int], with_cause: bool = True) -> Finding:
-    nearest: Optional[tuple[tuple[int, bool, int, int], Clause]] = None
-    for clause in formula.clauses():
-        more, out = literals - clause.literals, clause.literals - literals
-        if nearest and len(more) > nearest[0][0]:
-            continue
-        kept = {} if more else all_kept(formula, side, clause.literals, out)
-        if clause.clean and not more and not kept:
-            text = ", and what is left out of it is reducible in it" if out else ""
-            return Finding(None, [f"It is clause {clause.number} of the formula{text}."], left_out(out, {}), clause)
-        distance = (len(more), not clause.clean, len(kept), len(out))
-        if nearest is None or distance < nearest[0]:
-            nearest = (distance, clause)
+    clause = nearest_clause(formula, side, literals)
+    if clause and not any(distance(formula, side, literals, clause)[:3]):
+        out = clause.literals - literals
+        text = ", and what is left out of it is reducible in it" if out else ""
+        return Finding(None, [f"It is clause {clause.number} of the formula{text}."], left_out(out, {}), clause)
     cause = of_the_other_side(formula, side, literals) if with_cause else None
-    if nearest is None:
+    if clause is None:
         return Finding("S4", ["The formula has no clause."], {}, cause=cause)
-    clause = nearest[1]
     wrong, out = sorted(literals - clause.literals, key=abs), clause.literals - literals
     kept = all_kept(formula, side, clause.literals, out)
     reasons = [f"No clause of the formula gives this step. The nearest is clause {clause.number}:"]
@@ -131,8 +126,70 @@ def initial_clause(formula: Formula, side: Side, literals: Set[int], with_cause:
     return Finding("S4", reasons, left_out(out, kept) | dict.fromkeys(wrong, "not in the clause"), clause, cause)
 
 
+Distance = tuple[int, bool, int, int]
+
+
+def distance(formula: Formula, side: Side, literals: Set[int], clause: Clause) -> Distance:
+    """How far a clause is from giving an initial step: the literals that it lacks, whether it has a variable with both signs, the literals
+    that are left out of it and not reducible, which are looked at if it lacks none, and all that are left out."""
+    more, out = literals - clause.literals, clause.literals - literals
+    kept = {} if more else all_kept(formula, side, clause.literals, out)
+    return (len(more), not clause.clean, len(kept), len(out))
+
+
+def nearest_clause(formula: Formula, side: Side, literals: Set[int]) -> Optional[Clause]:
+    """The first clause that gives an initial step, or else the first of the nearest ones; None if there is no clause.
+
+    A clause that lacks at most some literals of the step has one of any that are one more. So the clauses with the rarest two are looked
+    at, and more only if each of them lacks more than one."""
+    few = 2
+    while few <= min(len(literals), FEW):
+        found = nearest_of(formula, side, literals, formula.clauses_with(rarest(formula, literals)[:few]))
+        lacks = len(literals - found.literals) if found else FEW
+        if lacks < few:
+            return found
+        few = lacks + 1
+    texts = ((number + place, line + place, text) for number, line, some in formula.pieces() for place, text in enumerate(some))
+    return nearest_of(formula, side, literals, texts)
+
+
+def nearest_of(formula: Formula, side: Side, literals: Set[int], texts: Iterable[tuple[int, int, bytes]]) -> Optional[Clause]:
+    """The nearest of some clauses, by their numbers, lines and texts. One that gives the step is the last that is looked at."""
+    words = {b"%d" % literal for literal in literals}
+    nearest: Optional[tuple[Distance, Clause]] = None
+    for number, line, text in texts:
+        if nearest and len(words.difference(text.split())) > nearest[0][0]:
+            continue
+        clause = clause_of(number, line, text)
+        found = distance(formula, side, literals, clause)
+        if nearest is None or found < nearest[0] or not any(found[:3]):
+            nearest = (found, clause)
+        if not any(found[:3]):
+            break
+    return nearest[1] if nearest else None
+
+
+def rarest(formula: Formula, literals: Set[int]) -> list[int]:
+    """These literals by how often the first clauses have them."""
+    _, _, block = next(formula.blocks(), (1, 1, b""))
+    counts = Counter(block.split())
+    return sorted(literals, key=lambda literal: (counts[b"%d" % literal], literal))
+
+
+def missed_clauses(formula: Formula, literals: Set[int]) -> Iterator[Clause]:
+    """The clauses that have no variable with both signs, and share no literal with these."""
+    words = {b"%d" % literal for literal in literals}
+    for number, line, texts in formula.pieces():
+        for place, text in enumerate(texts):
+            first = text.split(b" ", FEW)  # and the rest of a long clause, most of which share one of the first
+            if words.isdisjoint(first) and words.isdisjoint(first[-1].split()):
+                clause = clause_of(number + place, line + place, text)
+                if clause.clean:
+                    yield clause
+
+
 def initial_cube(formula: Formula, side: Side, literals: Set[int]) -> Finding:
-    missed = [c for c in formula.clauses() if c.clean and literals.isdisjoint(c.literals)]
+    missed = list(missed_clauses(formula, literals))
     if not missed:
         return Finding(None, ["Each clause of the formula shares a literal with it, or holds a variable with both signs."], {})
     reasons = [f"Clause {missed[0].number} of the formula shares no literal with the step."]
@@ -146,7 +203,7 @@ def of_the_other_side(formula: Formula, side: Side, literals: Set[int]) -> str:
     if not literals:
         return "formula"
     if side.word == "clause":
-        return "formula" if any(c.clean and literals.isdisjoint(c.literals) for c in formula.clauses()) else "side"
+        return "formula" if next(missed_clauses(formula, literals), None) else "side"
     return "side" if initial_clause(formula, SIDES["unsat"], literals, False).fault is None else "formula"
 
 

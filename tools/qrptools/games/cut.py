@@ -5,7 +5,7 @@ of a clause is the same without a number and antecedents: a blank, and a blank a
 """
 
 from collections.abc import Iterable
-from itertools import dropwhile, filterfalse, takewhile
+from itertools import chain, compress, dropwhile, filterfalse, repeat, takewhile
 
 FEW = 12  # literals: they are looked for one after the other in a whole text
 GUARD = b"!"
@@ -28,24 +28,32 @@ def count_lines(some: Iterable[bytes]) -> int:
 class Cut:
     """What values do to lines: some literals are taken out, and a line that has one of some others is gone."""
 
-    def __init__(self, out: Iterable[int], gone: Iterable[int] = ()) -> None:
-        self.out, self.gone = spelled(out), spelled(gone)
-        self.positive = [literal for literal in self.out | self.gone if literal[:1] != b"-"]
+    def __init__(self, out: frozenset[bytes], gone: frozenset[bytes] = frozenset()) -> None:
+        self.out, self.gone = out, gone
 
     def clauses(self, text: bytes) -> bytes:
         """What is left of a text of clauses."""
-        return self.few(text) if self.are_few() else self.many(text)
+        if self.are_few():
+            return self.few(text)
+        rest, _ = self.many(text.split(b" 0")[:-1])
+        return b" 0".join([*rest, b"\n"])
 
     def steps(self, text: bytes) -> bytes:
         """What is left of a text of steps, whose antecedents stay."""
-        return self.few(self.guarded(text)).replace(GUARD, b" ") if self.are_few() else self.many(text)
+        if self.are_few():
+            return self.few(self.guarded(text)).replace(GUARD, b" ")
+        lists = text.split(b" 0")
+        rest, stay = self.many(lists[:-1:2])
+        return b" 0".join([*chain.from_iterable(zip(rest, compress(lists[1::2], stay))), b"\n"])
 
     def are_few(self) -> bool:
         return len(self.out) + len(self.gone) <= FEW
 
     def guarded(self, text: bytes) -> bytes:
         """A text of steps in which no antecedent stands between blanks whose number is also a literal that is looked for."""
-        for literal in self.positive:
+        for literal in self.out | self.gone:
+            if literal[:1] == b"-":
+                continue
             text = text.replace(b" 0 %b " % literal, b" 0%b%b " % (GUARD, literal))
             text = text.replace(b" %b 0\n" % literal, b"%b%b 0\n" % (GUARD, literal))
         return text
@@ -68,15 +76,10 @@ class Cut:
         goes = self.out.__contains__
         return list(takewhile(goes, dropwhile(lambda word: not goes(word), literals(text[start : text.find(b"\n", start)]))))
 
-    def many(self, text: bytes) -> bytes:
-        """The same line by line."""
-        lines = text.split(b"\n")
-        rows = list(map(literals, lines))
-        stay, same = map(self.gone.isdisjoint, rows), map(self.out.isdisjoint, rows)
-        return b"\n".join([line if is_same else self.rest(line, row) for line, row, stays, is_same in zip(lines, rows, stay, same) if stays])
-
-    def rest(self, line: bytes, row: list[bytes]) -> bytes:
-        """What is left of a line with these literals."""
-        number = line.partition(b" ")[0]
-        end = len(number) + sum(map(len, row)) + len(row)
-        return b" ".join([number, *filterfalse(self.out.__contains__, row)]) + line[end:]
+    def many(self, lists: list[bytes]) -> tuple[list[bytes], bytes]:
+        """What is left of lists of literals, each with its number after a line end, and which of them stay. No word that begins with a line end
+        is a literal."""
+        rows = list(map(bytes.split, lists, repeat(b" ")))
+        stay = bytes(map(self.gone.isdisjoint, rows))
+        left = compress(zip(lists, rows), stay)
+        return [some if self.out.isdisjoint(row) else b" ".join(filterfalse(self.out.__contains__, row)) for some, row in left], stay

@@ -76,11 +76,12 @@ class State:
 
     def binding_literals(self) -> set[bytes]:
         """The literals of the first step that can be reduced to nothing. By any pivot the proof may go on after it: this is left out."""
-        deciding, steps = self.deciding_literals(), self.steps
+        steps = self.steps
+        deciding = self.deciding_literals() if self.any_pivot else frozenset()
         line = steps.end(deciding, self.any_pivot)
         found = steps.literals_before(line)
         if self.result == "unsat" and not antecedents(line):
-            found = self.clause_with(found, deciding)
+            found = self.clause_with(found, self.deciding_literals())
         if self.any_pivot:
             steps.end_with(line)
         return found
@@ -97,9 +98,9 @@ class State:
 
     def put_in(self, values: list[int]) -> None:
         """Puts values of the outermost block in, as literals: by the proof if it is the winner's."""
-        false = [-literal for literal in values]
-        self.clauses = list(map(Cut(false, values).clauses, self.clauses))
-        out, gone = (values, false) if self.result == "sat" else (false, values)
+        true, false = spelled(values), spelled(-literal for literal in values)
+        self.clauses = list(map(Cut(false, true).clauses, self.clauses))
+        out, gone = (true, false) if self.result == "sat" else (false, true)
         if self.is_winners(self.blocks[0]) and not self.any_pivot:
             self.steps.leave_out(Cut(out))
         else:

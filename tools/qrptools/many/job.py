@@ -1,6 +1,7 @@
-"""What a job does, on this machine or on another: some checks. A part of tools/check-many, which is then called with --job.
+"""What a job does, on this machine or on another: some checks. A part of tools/check-many, whose jobs read this and not the command.
 
-A small check takes less time than Python takes to begin. So a job reads few modules, and one process makes all its checks.
+A small check takes less time than Python takes to begin. So a job reads few modules, and one process makes all its checks. That one is not
+copied for each check, which would take longer than the check: the program is started by posix_spawn.
 """
 
 from __future__ import annotations
@@ -12,15 +13,18 @@ import signal
 import sys
 import time
 
-from qrptools.signals import end_with_parent, held_signals, kill_group, take_signals
+from qrptools.signals import adopt_orphans, end_with_parent, held_signals, kill_group, take_signals
 
 TIMEOUT = 124
 NEVER = float("inf")
+LIMITED = ["/bin/sh", "-c", 'ulimit -v "$0" && exec "$@"']  # a limit of kilobytes, and the program in the place of the shell
+IGNORED = [signal.SIGPIPE, signal.SIGXFSZ]  # by Python
 
 
 def job(seconds: str, kilobytes: str, program: str, *fields: str) -> int:
     """Checks the proofs of some lines one after the other: an index, a formula, a trace and a flag each, separated by tabs. A process of
     this one does it. If that one is killed, the check that it made is lost, and another process goes on."""
+    adopt_orphans()
     checker = Checker(seconds, kilobytes, program)
     words = "\t".join(fields).split("\t")
     lines = list(zip(*[iter(words)] * 4))
@@ -30,7 +34,8 @@ def job(seconds: str, kilobytes: str, program: str, *fields: str) -> int:
 
 
 def checked_apart(checker: Checker, lines: list[tuple[str, ...]]) -> int:
-    """Checks the proofs of these lines in a process of its own, and says of how many there is a row."""
+    """Checks the proofs of these lines in a process of its own, and says of how many there is a row. What it tells is looked at when it has
+    ended, since each word would wake this process; the pipe has room for all."""
     own, (reading, writing) = os.getpid(), os.pipe()
     child = os.fork()
     if not child:
@@ -38,32 +43,46 @@ def checked_apart(checker: Checker, lines: list[tuple[str, ...]]) -> int:
             end_with_parent(own, signal.SIGTERM)
             take_signals()
             for line in lines:
-                checker.check(*line)
+                checker.check(line, writing)
                 os.write(writing, b".")
         finally:
             os._exit(0)
     os.close(writing)
-    count = len(read_until(reading, NEVER) or b"")
-    os.close(reading)
     os.waitpid(child, 0)
-    return count
+    told = read_until(reading, NEVER) or b""
+    os.close(reading)
+    end_orphan(told.rpartition(b".")[2])
+    return told.count(b".")
+
+
+def end_orphan(process: bytes) -> None:
+    """Ends the process with this number, if it is one that a killed process has left to this one."""
+    try:
+        if process and os.waitid(os.P_PID, int(process), os.WEXITED | os.WNOWAIT | os.WNOHANG) is None:
+            end(int(process))
+    except ChildProcessError:
+        pass
 
 
 class Checker:
     """A program with the limits of each of its runs, 0 if there is none."""
 
     def __init__(self, seconds: str, kilobytes: str, program: str) -> None:
-        self.seconds, self.bytes, self.program = float(seconds), int(kilobytes) * 1024, program
+        self.seconds = float(seconds)
+        self.words = [*([] if kilobytes == "0" else [*LIMITED, kilobytes]), program, "check"]
 
-    def check(self, index: str, formula: str, trace: str, flag: str) -> None:
-        """Runs the program once and prints the row: index, line, status, seconds, those of the processor, and peak memory."""
-        words = ["check", *([] if flag == "-" else [flag]), at_hand(formula), at_hand(trace)]
+    def check(self, fields: tuple[str, ...], told: int) -> None:
+        """Runs the program once and prints the row: index, line, status, seconds, those of the processor, and peak memory. The number of its
+        process is told as soon as there is one."""
+        index, formula, trace, flag = fields
+        words = [*self.words, *([] if flag == "-" else [flag]), at_hand(formula), at_hand(trace)]
         began = time.monotonic()
         until = began + self.seconds if self.seconds else NEVER
         process, (reading, writing) = 0, os.pipe()
         try:
             with held_signals():
-                process = self.started(words, writing)
+                process = started(words, writing)
+            os.write(told, b"%d" % process)
             os.close(writing)
             printed = read_until(reading, until)
             in_time = printed is not None and is_over(process, until)
@@ -77,36 +96,18 @@ class Checker:
         sys.stdout.buffer.write("\t".join(row).encode() + b"\n")
         sys.stdout.buffer.flush()
 
-    def started(self, words: list[str], output: int) -> int:
-        """A process that runs the program, in a group of its own."""
-        own, process = os.getpid(), os.fork()
-        if not process:
-            try:
-                self.become(own, output, words)
-            finally:
-                # There is no row of a program that cannot be run.
-                os.kill(own, signal.SIGKILL)
-                os._exit(1)
-        return process
 
-    def become(self, parent: int, output: int, words: list[str]) -> None:
-        """Makes the program of this process, which was just made."""
-        os.setpgid(0, 0)
-        end_with_parent(parent, signal.SIGKILL)
-        for number in signal.SIGPIPE, signal.SIGXFSZ:  # which Python ignores
-            signal.signal(number, signal.SIG_DFL)
-        if self.bytes:
-            resource.setrlimit(resource.RLIMIT_AS, (self.bytes, self.bytes))
-        os.dup2(output, 1)
-        os.dup2(output, 2)
-        os.execv(self.program, [self.program, *words])
+def started(words: list[str], output: int) -> int:
+    """A process that runs this command, in a group of its own."""
+    outputs = [(os.POSIX_SPAWN_DUP2, output, number) for number in (1, 2)]
+    return os.posix_spawn(words[0], words, os.environ, file_actions=outputs, setpgroup=0, setsigdef=IGNORED)
 
 
 def read_until(source: int, until: float) -> bytes | None:
     """All bytes of a pipe, None if it is still open at this time."""
     parts, poll = [], select.poll()
     poll.register(source)
-    while poll.poll(None if until == NEVER else max(0, until - time.monotonic()) * 1000):
+    while until == NEVER or poll.poll(max(0, until - time.monotonic()) * 1000):
         parts.append(os.read(source, 1 << 16))
         if not parts[-1]:
             return b"".join(parts)
