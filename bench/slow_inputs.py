@@ -155,15 +155,15 @@ def unbound_literals(n: int) -> Iterator[Lines]:
 # One long clause, and many short steps
 
 
-def walk(first: int, rounds: int, parent: Callable[[int], Sequence[int]]) -> Lines:
-    """Steps from this number on that lead from a clause 1 to 2, and then to 3 and to 2 by turns, an even number of times. Each time the clause 1
-    is a new step with the antecedents that the function gives for the round."""
+def walk(first: int, rounds: int, parent: Callable[[int], Sequence[int]], more: Sequence[int] = ()) -> Lines:
+    """Steps from this number on that lead from a clause 1 to 2, and then to 3 and to 2 by turns, an even number of times. Each time the clause 1,
+    with some more literals, is a new step with the antecedents that the function gives for the round."""
     steps = [line(first, -1, 2, 0, 0), line(first + 1, -2, -1, 3, 0, 0), line(first + 2, -3, -1, 2, 0, 0), line(first + 3, -2, 0, 0)]
-    steps += [line(first + 4, 1, 0, parent(0), 0), line(first + 5, 2, 0, first + 4, first, 0)]
+    steps += [line(first + 4, 1, more, 0, parent(0), 0), line(first + 5, 2, 0, first + 4, first, 0)]
     last = first + 5
     for turn in range(1, rounds + 1):
         new, literal, other = last + 1, 2 + turn % 2, first + 2 - turn % 2
-        steps += [line(new, 1, 0, parent(turn), 0), line(new + 1, -1, literal, 0, last, other, 0), line(new + 2, literal, 0, new + 1, new, 0)]
+        steps += [line(new, 1, more, 0, parent(turn), 0), line(new + 1, -1, literal, 0, last, other, 0), line(new + 2, literal, 0, new + 1, new, 0)]
         last = new + 2
     return [*steps, line(last + 1, 0, last, first + 3, 0), "r unsat\n"]
 
@@ -176,6 +176,20 @@ def reducts_of_one(n: int) -> Iterator[Lines]:
     universal = range(4, n + 4)
     yield [line("p cnf", n + 3, 5), "e 1 2 3 0\n", line("a", universal, 0), line(1, universal, 0), WALK]
     yield ["p qrp 0 0\n", line(1, 1, universal, 0, 0), *walk(2, n // 2 * 2, lambda turn: [1])]
+
+
+def reducts_with_one_more(n: int) -> Iterator[Lines]:
+    """n reducts, each of one literal and of one that is reducible, of one clause with n universal literals."""
+    universal = range(4, n + 4)
+    yield [line("p cnf", n + 3, 5), "e 1 2 3 0\n", line("a", universal, 0), line(1, universal, 0), WALK]
+    yield ["p qrp 0 0\n", line(1, 1, universal, 0, 0), *walk(2, n // 2 * 2, lambda turn: [1], [n + 3])]
+
+
+def reduced_after(n: int) -> Iterator[Lines]:
+    """n resolvents, each of one literal, of one clause with n universal literals that are reducible only after it is resolved."""
+    inner, universal = n + 4, range(4, n + 4)
+    yield [line("p cnf", n + 4, 6), "e 1 2 3 0\n", line("a", universal, 0), line("e", inner, 0), line(1, universal, inner, 0), line(-inner, 0), WALK]
+    yield ["p qrp 0 0\n", line(1, 1, universal, inner, 0, 0), line(2, -inner, 0, 0), *walk(3, n // 2 * 2, lambda turn: [1, 2])]
 
 
 def resolvents_of_one(n: int) -> Iterator[Lines]:

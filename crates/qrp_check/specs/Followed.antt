@@ -12,11 +12,13 @@ use Rattle.qrp_check.specs.declared.fault.CheckFault.{CheckFault}
 use Rattle.qrp_check.specs.declared.fault.CheckFault.TheVariants.{C1, C2, C3, C4, C5, C6}
 use Rattle.qrp_check.specs.declared.following.WalkState.{WalkState}
 use Rattle.qrp_check.specs.DistinctLits.{AreKept}
+use Rattle.qrp_check.specs.Uneven.{ArePartsOf}
 
 -- the steps of the core before position i follow, so they are clean and bound; and what is kept is of this formula and of these steps
 pub record IsFollowed (rules : Rules) (side : Side) (f : Qbf) (steps : List Inference) (i : ℕ) (state : WalkState) : Type 0 where
   pub follows : (j : ℕ) → j < i → IsInCore steps j → StepFollows rules side f steps j
-  pub known : AreKnown f state.tests.initial
+  pub known : AreKnown f state.judged.tests.initial
+  pub parts : ArePartsOf side f.blocks steps state.judged.parts
   pub kept : AreKept steps state.distinct
 
 -- the fault of a core: that of its first step that does not follow, or a failed allocation

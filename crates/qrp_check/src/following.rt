@@ -10,17 +10,18 @@ use crate::distinct_lits::DistinctLits;
 use crate::fault::CheckFault;
 use crate::hints::Hints;
 use crate::premises::find_premises;
-use crate::step::{CheckState, Context, step_fault};
+use crate::step::{CheckState, Context};
+use crate::uneven::{FoundStep, JudgeState, judge};
 use qrp::KeptSteps;
 use qrp_rules::Side;
-use written_steps::{InitialSteps, SeenLits};
+use written_steps::{InitialSteps, Parts, SeenLits};
 
 /// The state that is kept from one step to the next.
 #[derive(Drop)]
 pub(crate) struct WalkState {
     hints: Hints,
     distinct: DistinctLits,
-    tests: CheckState,
+    judged: JudgeState,
 }
 
 /// Follows the step of the core at a position, after those before it.
@@ -40,8 +41,17 @@ fn follow_step<S: Side, T: KeptSteps>(
 {
     let found = find_premises(trace, &state.distinct, position, &mut state.hints);
     let lits = trace.lits(position);
-    match step_fault::<S>(context, found, &mut state.tests, lits)? {
-        None => Ok(state.distinct.keep(&mut state.tests.seen, position, lits)?),
+    let step = FoundStep {
+        position,
+        premises: found,
+        lits,
+    };
+    match judge::<S, T>(context, trace, &mut state.judged, step)? {
+        None => Ok(
+            state
+                .distinct
+                .keep(&mut state.judged.tests.seen, position, lits)?,
+        ),
         Some(fault) => Err(CheckFault::C6(trace.number(position), fault)),
     }
 }
@@ -67,9 +77,12 @@ pub(crate) fn follow_core<S: Side, T: KeptSteps>(
     let mut state = WalkState {
         hints,
         distinct: DistinctLits::new(context.alloc),
-        tests: CheckState {
-            seen: SeenLits::new(context.alloc),
-            initial: InitialSteps::new(context.alloc),
+        judged: JudgeState {
+            tests: CheckState {
+                seen: SeenLits::new(context.alloc),
+                initial: InitialSteps::new(context.alloc),
+            },
+            parts: Parts::new(context.alloc),
         },
     };
     for position in 0..trace.len() {

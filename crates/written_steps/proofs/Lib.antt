@@ -4,4 +4,5 @@ pub mod WrittenSteps
 pub mod Stamps
 pub mod WatchedClauses
 pub mod AcceptedClauses
+pub mod PartsFollow
 pub mod Cited

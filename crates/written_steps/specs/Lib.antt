@@ -3,3 +3,4 @@ pub mod TwoLists
 pub mod Seen
 pub mod Watches
 pub mod Initial
+pub mod Parts

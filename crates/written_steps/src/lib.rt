@@ -3,7 +3,7 @@
 //!
 //! - Owns: tests that accept a step as it is written, and what is kept from one step to the next.
 //! - Offers: `accepts_reduct`, `accepts_resolvent`; `InitialSteps`, `InitialClauses`,
-//!   `ordered_initial_fault`; `SeenLits`; `push_distinct`.
+//!   `ordered_initial_fault`; `SeenLits`; `push_distinct`; `Parts`.
 //! - Proved: what a test accepts follows by the rule, and is clean and bound as it is written.
 //! - Read first: `accepts_reduct`, `accepts_resolvent`, `InitialSteps::accepts_initial`,
 //!   `ordered_initial_fault`.
@@ -17,6 +17,7 @@ mod cube_fault;
 mod distinct;
 mod initial_cubes;
 mod initial_steps;
+mod parts;
 mod seen;
 mod two_lists;
 mod written_reduct;
@@ -25,6 +26,7 @@ mod written_resolvent;
 pub use clause_index::InitialClauses;
 pub use distinct::push_distinct;
 pub use initial_steps::{InitialSteps, ordered_initial_fault};
+pub use parts::{Part, Parts, ShortStep};
 pub use seen::SeenLits;
 pub use written_reduct::accepts_reduct;
 pub use written_resolvent::accepts_resolvent;

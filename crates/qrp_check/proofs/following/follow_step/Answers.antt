@@ -4,8 +4,8 @@ use Rattle.qrp_check.proofs.DistinctLits.{written_members}
 use Rattle.qrp_check.proofs.Marking.{core_within}
 use Rattle.qrp_check.proofs.following.follow_step.Goals as goal
 
-pub step_fault-requires-clause-fit : goal.step_fault-requires-clause-fit
-step_fault-requires-clause-fit g c =
+pub judge-requires-clause-fit : goal.judge-requires-clause-fit
+judge-requires-clause-fit g c =
     let steps : List Inference = g.T.KeptSteps.steps c.args.trace.now in
     let s = at_place steps c.args.position (core_within steps c.args.position c.requires.core) in
     premises_fit c.args.context.rules g.S.Side.side c.args.context.formula.now steps c.args.position c.requires.core
@@ -18,8 +18,9 @@ pub returns-in_ok-keep-in-None-clause-follows : goal.returns-in_ok-keep-in-None-
 returns-in_ok-keep-in-None-clause-follows g c = record {
   follows = followed_here c.args.context.rules g.S.Side.side c.args.context.formula.now (g.T.KeptSteps.steps c.args.trace.now) c.args.position
       c.find_premises-found.result c.lits-lits.result.now c.requires.before.follows c.lits-lits.ensures c.find_premises-found.ensures
-      (rw c.in-None.is at c.in_ok-step_fault.ensures.fault);
-  known = c.in_ok-step_fault.ensures.known;
+      (rw c.in-None.is at c.in_ok-judge.ensures.fault);
+  known = c.in_ok-judge.ensures.known;
+  parts = c.in_ok-judge.ensures.parts;
   kept = c.in_ok-keep-in-None.ensures (g.T.KeptSteps.steps c.args.trace.now)
       (written_members (g.T.KeptSteps.steps c.args.trace.now) c.args.position c.lits-lits.result.now c.lits-lits.ensures)
       c.requires.before.kept;
@@ -31,7 +32,7 @@ returns-in-Some-clause-refused g c =
     let steps : List Inference = g.T.KeptSteps.steps c.args.trace.now in
     let i : ℕ = c.args.position in
     let s = at_place steps i (core_within steps i c.requires.core) in
-    let answer = rw c.in-Some.is at c.in_ok-step_fault.ensures.fault in
+    let answer = rw c.in-Some.is at c.in_ok-judge.ensures.fault in
     record {
       position = i;
       needed = c.requires.core;
