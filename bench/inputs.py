@@ -5,7 +5,7 @@ from collections.abc import Callable
 from dataclasses import dataclass
 from pathlib import Path
 
-from slow_inputs import alike_clauses, gaps, repeated_literal, write_pair
+from slow_inputs import alike_clauses, gaps, reducts_of_one, repeated_literal, write_pair
 
 ROOT = Path(__file__).resolve().parent.parent
 MAKERS = ROOT / "bench" / "makers"
@@ -58,5 +58,6 @@ INPUTS = {
     "alike": Input(
         "`check` of 2,000 clauses that differ in reducible literals alone, with their initial steps in the reverse order", slow(alike_clauses, 2_000)
     ),
+    "short": Input("`check` of 2,000 reducts, each of one literal, of a clause with 2,000 universal literals", slow(reducts_of_one, 2_000)),
     "repeated": Input("`check` of a step that writes a literal 1,000 times, with which 1,000 steps are resolved", slow(repeated_literal, 1_000)),
 }

@@ -260,12 +260,22 @@ def depth_for(n: int) -> int:
     return max(n - 1, 1).bit_length()
 
 
+def by_turns(n: int, order: Callable[[range], Sequence[int]]) -> Iterator[Lines]:
+    """A clause of n literals, in an order, that n initial cubes meet by its first and its last literal by turns."""
+    depth = depth_for(n)
+    clause = order(range(depth + 1, depth + n + 1))
+    yield [line("p cnf", depth + n, 1), line("a", range(1, depth + 1), 0), line("e", range(depth + 1, depth + n + 1), 0), line(clause, 0)]
+    yield cube_tree(depth, lambda place: clause[-(place % 2)])
+
+
 def met_by_turns(n: int) -> Iterator[Lines]:
     """A clause of n literals that n initial cubes meet by its first and its last literal by turns."""
-    depth = depth_for(n)
-    clause = range(depth + 1, depth + n + 1)
-    yield [line("p cnf", depth + n, 1), line("a", range(1, depth + 1), 0), line("e", clause, 0), line(clause, 0)]
-    yield cube_tree(depth, lambda place: clause[-(place % 2)])
+    return by_turns(n, lambda variables: variables)
+
+
+def met_in_no_order(n: int) -> Iterator[Lines]:
+    """A clause of n literals in no order that n initial cubes meet by its first and its last literal by turns."""
+    return by_turns(n, lambda variables: random.Random(1).sample(variables, len(variables)))
 
 
 def all_watched(n: int) -> Iterator[Lines]:

@@ -171,3 +171,21 @@ pub accepted_cube : {E : Type 0} (side : Side) (f : Qbf) (lits : List Literal) (
     → IfOk r (IsAcceptedBy (initial_condition Cubes f lits ∷ []) f.blocks lits)
     → IfOk r (IsAcceptedBy (initial_condition side f lits ∷ []) f.blocks lits)
 accepted_cube side f lits r e h = search rules
+
+-- the list at position n is of a literal that was seen, so its clauses are met
+pub seen_met : (n : ℕ) (f : Qbf) (seen : Members) (lists : List Watch) (w : Watch) → slice_get lists n ≡ Some w → Has seen w.lit
+    → (i : ℕ) → IsMet (n + 1) f seen lists i → IsMet n f seen lists i
+seen_met n f seen lists w at has i met = λ clause here. elim (met clause here) [
+  | inl tautology ↦ inl tautology
+  | inr (l, h, k, by, inr known) ↦ inr (l, h, k, by, inr known)
+  | inr (l, h, k, by, inl less) ↦ inr (l, h, k, by, before l k by less)
+]
+  where
+    before : (l : Literal) (k : ℕ) → IsWatchedBy lists k l i → k < n + 1 → (k < n) ⊎ Has seen l
+    before l k by less = elim (cases_eq k n) [
+      | inl e ↦
+          let both : Some by.watch ≡ Some w = sym by.here ∙ subst (λ (m : ℕ). slice_get lists m ≡ Some w) (sym e) at in
+          let same : by.watch ≡ w = cc both in
+          inr (subst (λ (z : Literal). Has seen z) (sym (ap (λ (z : Watch). z.lit) same) ∙ by.by) has)
+      | inr ne ↦ inl (omega arith)
+    ]

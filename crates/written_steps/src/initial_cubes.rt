@@ -27,6 +27,43 @@ struct Watch {
     clauses: Vec<usize>,
 }
 
+/// A cube: its literals as they are written, and as a set.
+#[derive(Clone, Copy)]
+struct Cube<'a> {
+    lits: &'a [Lit],
+    seen: &'a SeenLits,
+}
+
+/// Whether a clause is seen to have a literal, if it is in order.
+fn surely_among(clause: &[Lit], lit: Lit) -> bool
+    ensures { IsTrue result → lit ∈ clause.now }
+{
+    let number = lit.var().number();
+    let place = clause.partition_point(|other| other.var().number() < number);
+    match clause.get(place) {
+        Some(other) => *other == lit,
+        None => false,
+    }
+}
+
+/// A clause is long for a cube if it has more than so many times its literals.
+const TIMES: usize = 32;
+
+/// A literal of the cube that a clause has: of one that is long for it and in order.
+fn find_in_long(clause: &[Lit], cube: Cube) -> Option<Lit>
+    ensures { IfSome result (λ lit. (lit ∈ clause.now) × Has cube.entry.seen.now lit) }
+{
+    if clause.len() / TIMES <= cube.lits.len() {
+        return None;
+    }
+    for lit in cube.lits {
+        if cube.seen.contains(*lit) && surely_among(clause, *lit) {
+            return Some(*lit);
+        }
+    }
+    None
+}
+
 /// Adds a clause to those of a literal.
 fn add(watch: &mut Watch, clause: usize) -> Result<(), AllocError>
     ensures lit { watch.new.lit ≡ watch.old.lit }
@@ -158,19 +195,23 @@ impl InitialCubes {
     fn watch_clause(
         &mut self,
         formula: &Formula,
-        seen: &SeenLits,
+        cube: Cube,
         clause: usize,
     ) -> Result<bool, AllocError>
         ensures kept { KeepsWatches self.old.lists.items self.new.lists.items }
         ensures met { IfOk result
-            (λ is. IsTrue is → IsMet 0 formula.now seen.now self.new.lists.items clause) }
+            (λ is. IsTrue is → IsMet 0 formula.now cube.entry.seen.now self.new.lists.items clause) }
     {
         if clause >= formula.clauses() {
             return Ok(false);
         }
         let lits = formula.clause(clause);
+        if let Some(lit) = find_in_long(lits, cube) {
+            self.watch_by(lit, clause)?;
+            return Ok(true);
+        }
         for lit in lits {
-            if seen.contains(*lit) {
+            if cube.seen.contains(*lit) {
                 self.watch_by(*lit, clause)?;
                 return Ok(true);
             }
@@ -179,12 +220,12 @@ impl InitialCubes {
     }
 
     /// Watches each clause of the formula.
-    fn watch_all(&mut self, formula: &Formula, seen: &SeenLits) -> Result<bool, AllocError>
+    fn watch_all(&mut self, formula: &Formula, cube: Cube) -> Result<bool, AllocError>
         ensures { IfOk result (λ is. IsTrue is
-            → (i : ℕ) → IsMet 0 formula.now seen.now self.new.lists.items i) }
+            → (i : ℕ) → IsMet 0 formula.now cube.entry.seen.now self.new.lists.items i) }
     {
         for position in 0..formula.clauses() {
-            if !self.watch_clause(formula, seen, position)? {
+            if !self.watch_clause(formula, cube, position)? {
                 return Ok(false);
             }
         }
@@ -195,18 +236,18 @@ impl InitialCubes {
     fn move_clauses(
         &mut self,
         formula: &Formula,
-        seen: &SeenLits,
+        cube: Cube,
         position: usize,
     ) -> Result<bool, AllocError>
         requires { position < length self.old.lists.items }
         ensures met { IfOk result (λ is. IsTrue is → (i : ℕ)
-            → IsMet (position + 1) formula.now seen.now self.old.lists.items i
-            → IsMet position formula.now seen.now self.new.lists.items i) }
+            → IsMet (position + 1) formula.now cube.entry.seen.now self.old.lists.items i
+            → IsMet position formula.now cube.entry.seen.now self.new.lists.items i) }
         ensures len { IfOk result (λ _. position ≤ length self.new.lists.items) }
     {
         let mut clauses = self.take_list(position);
         while let Some(clause) = clauses.pop() {
-            if !self.watch_clause(formula, seen, clause)? {
+            if !self.watch_clause(formula, cube, clause)? {
                 return Ok(false);
             }
         }
@@ -216,16 +257,16 @@ impl InitialCubes {
 
     /// Watches each clause by a literal that was seen. Before this, each is watched by any of its
     /// literals.
-    fn renew(&mut self, formula: &Formula, seen: &SeenLits) -> Result<bool, AllocError>
+    fn renew(&mut self, formula: &Formula, cube: Cube) -> Result<bool, AllocError>
         requires { (i : ℕ) → IsWatched formula.now self.old.lists.items i }
         ensures { IfOk result (λ is. IsTrue is
-            → (i : ℕ) → IsMet 0 formula.now seen.now self.new.lists.items i) }
+            → (i : ℕ) → IsMet 0 formula.now cube.entry.seen.now self.new.lists.items i) }
     {
         for position in (0..self.lists.len()).rev() {
-            if seen.contains(self.literal(position)) {
+            if cube.seen.contains(self.literal(position)) {
                 continue;
             }
-            if !self.move_clauses(formula, seen, position)? {
+            if !self.move_clauses(formula, cube, position)? {
                 return Ok(false);
             }
         }
@@ -233,18 +274,18 @@ impl InitialCubes {
     }
 
     /// Watches each clause by a literal that was seen. `false` says that one has none.
-    fn watch(&mut self, formula: &Formula, seen: &SeenLits) -> Result<bool, AllocError>
+    fn watch(&mut self, formula: &Formula, cube: Cube) -> Result<bool, AllocError>
         requires { IsWatching formula.now self.old }
         ensures { IfOk result (λ is. IsTrue is
-            → (i : ℕ) → IsMet 0 formula.now seen.now self.new.lists.items i) }
+            → (i : ℕ) → IsMet 0 formula.now cube.entry.seen.now self.new.lists.items i) }
     {
         if self.is_watching {
-            return self.renew(formula, seen);
+            return self.renew(formula, cube);
         }
         if self.positions.is_empty() {
-            self.positions = vec![in self.alloc; 0; seen.room()]?;
+            self.positions = vec![in self.alloc; 0; cube.seen.room()]?;
         }
-        self.watch_all(formula, seen)
+        self.watch_all(formula, cube)
     }
 
     /// Accepts literals that are an initial cube, clean and bound.
@@ -266,7 +307,7 @@ impl InitialCubes {
         if !set_if_clean(seen, lits) {
             return Ok(false);
         }
-        self.is_watching = self.watch(formula, seen)?;
+        self.is_watching = self.watch(formula, Cube { lits, seen })?;
         Ok(self.is_watching)
     }
 }

@@ -7,8 +7,8 @@ use Rattle.written_steps.proofs.initial_cubes.InitialCubes.move_clauses.Given as
 abbrev pub invariant-loop-clause : goal.invariant-loop-clause
 invariant-loop-clause l = record {
   len : l.position ≤ length l.self.lists.items;
-  pending : (i : ℕ) → IsMet (l.position + 1) l.formula l.seen l.fn.self.lists.items i
-      → IsPending l.position l.formula l.seen l.clauses.items l.self.lists.items i;
+  pending : (i : ℕ) → IsMet (l.position + 1) l.formula l.cube.seen.now l.fn.self.lists.items i
+      → IsPending l.position l.formula l.cube.seen.now l.clauses.items l.self.lists.items i;
 }
 
 abbrev pub decreases-loop-clause : goal.decreases-loop-clause

@@ -4,7 +4,7 @@ use Rattle.written_steps.proofs.initial_cubes.InitialCubes.watch_all.Goals as go
 
 pub loop-position-preserved : goal.loop-position-preserved
 loop-position-preserved c =
-    met_next c.args.formula.now c.args.seen.now c.loop-position.self.lists.items c.watch_clause.new.self.lists.items
+    met_next c.args.formula.now c.args.cube.seen.now c.loop-position.self.lists.items c.watch_clause.new.self.lists.items
     c.loop-position.position c.watch_clause.ensures.kept (c.in_ok-watch_clause.ensures.met c.if-not-branch.false) c.loop-position.invariant
 
 pub returns : goal.returns
