@@ -69,6 +69,18 @@ pub beyond_noted : (reached : ℕ) (far es : List (ℕ × Place)) (v : ℕ) (p :
     → IsBeyond reached far es → IsBeyond reached far (es ++ (v, p) ∷ [])
 beyond_noted reached far es v p less index n long = grind (arith, common_steps, lookup_other)
 
+-- a new variable of the number at which the table ends
+pub index_appended : (table : List (Option Place)) (far es : List (ℕ × Place)) (v : ℕ) (p : Place) → v ≡ length table
+    → lookup (nat_eq v) es ≡ None → IsIndexOf table far es → IsIndexOf (table ++ Some p ∷ []) far (es ++ (v, p) ∷ [])
+index_appended table far es v p here none index =
+    let more : length (table ++ Some p ∷ []) ≡ suc (length table) = grind (arith, common_steps) in
+    let last : lookup (nat_eq (length table)) (es ++ (v, p) ∷ []) ≡ Some p =
+    subst (λ (n : ℕ). lookup (nat_eq n) (es ++ (v, p) ∷ []) ≡ Some p) here (lookup_new v p es none) in (
+      table_pushed table (es ++ (v, p) ∷ []) (table_short table es index.0 v p (omega (arith, here))) (Some p) (sym last),
+      beyond_noted (length (table ++ Some p ∷ [])) far es v p (omega (arith, here, more))
+          (λ n long. index.1 n (omega (arith, long, more))),
+    )
+
 pub beyond_added : (reached : ℕ) (far es : List (ℕ × Place)) (v : ℕ) (p : Place) → lookup (nat_eq v) far ≡ None
     → lookup (nat_eq v) es ≡ None
     → IsBeyond reached far es → IsBeyond reached (far ++ (v, p) ∷ []) (es ++ (v, p) ∷ [])

@@ -5,7 +5,7 @@ use Rattle.qbf_text.proofs.Cited.{drop, subst, zero, suc, Comments, Token, ahead
 use Rattle.qbf_text.proofs.Cited.{known_left, SoFar, Reading, GivesNext, Row, Goes, read_from, reads_from, IfKnown, TakesToken, tokens_next}
 use Rattle.std.proofs.Common.{length-drop}
 use Rattle.window_numbers.specs.declared.cursor.Cursor.{Cursor}
-use Rattle.window_numbers.specs.Cursors.{tokens_from_cursor, is_begun, Passes, PassesNumber}
+use Rattle.window_numbers.specs.Cursors.{tokens_from_cursor, is_begun, Passes, PassesToken}
 use Rattle.window_numbers.specs.Numbers.{StandInFront, cursor_to}
 use Rattle.window_numbers.specs.declared.numbers.Numbers.{Numbers}
 use Rattle.window_numbers.proofs.HeldNumbers.{next_number}
@@ -31,7 +31,7 @@ module _ {P A F : Type 0} (row : P → Token → Row P A F) (first mid last : P)
   module _ (bytes : List ℕ) (here there : Cursor) where
     -- one number more leads on
     pub passes_on : (between : Cursor) (token : Token) → row mid token ≡ Goes last → Passes (LeadOn row first mid) bytes here between
-        → PassesNumber bytes between there token → Passes (LeadOn row first last) bytes here there
+        → PassesToken bytes between there token → Passes (LeadOn row first last) bytes here there
     passes_on between token e =
         passes_one bytes (LeadOn row first mid) (LeadOn row first last) here between there token
         (λ ts on. lead_on_more ts (token, between.line) on e)
@@ -118,7 +118,7 @@ module _ {P A F : Type 0} (row : P → Token → Row P A F) (first state : P) (r
 
 -- ---- a number in the buffered bytes
 
-pub taken_number : (format : Comments) (bytes : List ℕ) (here to : Cursor) (token : Token) → PassesNumber bytes here to token
+pub taken_number : (format : Comments) (bytes : List ℕ) (here to : Cursor) (token : Token) → PassesToken bytes here to token
     → (remaining : Option (List ℕ))
     → IfKnown (TakesToken (tokens_from_cursor format here) (tokens_from_cursor format to) (token, here.line))
     (ahead (drop here.at bytes) remaining) (ahead (drop to.at bytes) remaining)
@@ -135,7 +135,7 @@ taken_number format bytes here to token p (Some rest) = record {
   spelled = λ more _. p.spelled format more;
 }
 
-given_buffered : (r : Reading) (here to : Cursor) (token : Token) → PassesNumber r.pending here to token → IsOpen r
+given_buffered : (r : Reading) (here to : Cursor) (token : Token) → PassesToken r.pending here to token → IsOpen r
     → (remaining : Option (List ℕ)) → GivesNext (left (scanner_at r here) remaining) (left (scanner_at r to) remaining) (token, here.line)
 unfolding left
 given_buffered r here to token p open_ None = rw open_ tt

@@ -3,7 +3,7 @@ use Rattle.std.specs.Prelude.{◌≡◌, ℕ, ◌<◌, ◌≤◌, false, List, �
 use Rattle.qbf_tokens.specs.declared.token.Token.{Token}
 use Rattle.qbf_tokens.specs.Left.{is_end}
 use Rattle.qbf_tokens.specs.Lined.{Lined}
-use Rattle.window_numbers.specs.Cursors.{is_begun, one_if, Passes, PassesNumber}
+use Rattle.window_numbers.specs.Cursors.{is_begun, one_if, Passes, PassesToken}
 use Rattle.window_numbers.specs.declared.cursor.Cursor.{Cursor}
 use Rattle.qbf_text.specs.Ahead.{ahead}
 use Rattle.qbf_text.specs.Reading.{Reading, GivesNext, left}
@@ -29,7 +29,7 @@ pub record PassesLast {P A F : Type 0} (row : P → Token → Row P A F) (first 
   pub token : Token
   pub here : Cursor
   pub leads : Passes (LeadOn row first last) bytes from here
-  pub passes : PassesNumber bytes here to token
+  pub passes : PassesToken bytes here to token
   pub ends : row last token ≡ Ends result next
 
 -- a grammar took tokens from the buffered bytes: they lead to the next state, or the last of them ends what is read, with a result

@@ -166,15 +166,13 @@ fn take_known<G: Grammar>(
     grammar: &mut G,
     numbers: &Numbers,
 ) -> Result<Progress<G::Output>, AllocError>
+    requires some { numbers.now.first < numbers.now.known }
     requires few { numbers.now.known ≤ MOST }
     ensures takes { IfOk result (λ r. TakesOver G.row_of (G.state grammar.old) (G.state grammar.new)
         numbers.now.values numbers.now.first (numbers.now.first + r.0) r.1) }
     ensures within { IfOk result (λ r. 0 < r.0 → numbers.now.first + r.0 ≤ numbers.now.known) }
     ensures kept { G.kept grammar.new ≡ G.kept grammar.old }
 {
-    if numbers.is_empty() {
-        return Ok((0, None));
-    }
     let values = numbers.values();
     // The proof names the two parts.
     let (count, answer) = grammar.take_numbers(values, numbers.zeros())?;
@@ -198,6 +196,9 @@ fn take_buffered<G: Grammar>(
     }
     scanner.prepare();
     let numbers = scanner.numbers();
+    if numbers.is_empty() {
+        return Ok(None);
+    }
     let (count, answer) = take_known(grammar, numbers)?;
     let here = numbers.cursor_after(scanner.bytes(), scanner.cursor(), count);
     scanner.go_to(here, count);

@@ -118,10 +118,10 @@ impl Place {
         self.begun = here.is_begun();
     }
 
-    /// The next token and its line, if it is a number that was pulled whole with the separator
-    /// after it. Both are taken then. Otherwise nothing is taken.
+    /// The next token and its line, if it is a number or the letter of a set that was pulled whole
+    /// with the separator after it. Both are taken then. Otherwise nothing is taken.
     #[inline(always)]
-    fn number(&mut self) -> Option<(Token, u64)>
+    fn pulled_token(&mut self) -> Option<(Token, u64)>
         ensures found { IfSome result (λ token. (remaining : Option (List ℕ)) →
             FindsToken self.old remaining self.new remaining token) }
         ensures rest { IfSome result (λ _. self.new.window
@@ -131,7 +131,7 @@ impl Place {
         ensures none { IfNone result (self.new ≡ self.old) }
     {
         let line = self.line;
-        let Some(passed) = self.cursor().any_number(self.window.bytes()) else {
+        let Some(passed) = self.cursor().token(self.window.bytes()) else {
             return None;
         };
         self.go_to(passed.next);
@@ -171,9 +171,9 @@ impl Place {
         }
     }
 
-    /// Goes past the separators that were pulled. Then the next token and its line, as `number`
-    /// finds them.
-    fn number_after_separators(&mut self) -> Option<(Token, u64)>
+    /// Goes past the separators that were pulled. Then the next token and its line, as
+    /// `pulled_token` finds them.
+    fn pulled_token_after_separators(&mut self) -> Option<(Token, u64)>
         ensures found { IfSome result (λ token. (remaining : Option (List ℕ)) →
             FindsToken self.old remaining self.new remaining token) }
         ensures less { IfSome result (λ _. (length self.new.window < length self.old.window)
@@ -186,7 +186,7 @@ impl Place {
         self.skip_separators();
         // The proof reads here that the number has 64 bits.
         let _line = self.line;
-        let found = self.number()?;
+        let found = self.pulled_token()?;
         Some(found)
     }
 
@@ -205,7 +205,7 @@ impl Place {
         ensures pulled { HasPulled S.bound S.failures self.old.window self.new.window
             source.old source.new result }
     {
-        if let Some(token) = self.number_after_separators() {
+        if let Some(token) = self.pulled_token_after_separators() {
             return Ok(Some(token));
         }
         while let Some(byte) = self.window.peek(source)? {
@@ -214,7 +214,7 @@ impl Place {
             } else if !self.begun && self.comments.begins_with(byte) {
                 self.window.advance();
                 skip_line(&mut self.window, source)?;
-                if let Some(token) = self.number_after_separators() {
+                if let Some(token) = self.pulled_token_after_separators() {
                     return Ok(Some(token));
                 }
             } else {
@@ -403,8 +403,9 @@ impl Scanner {
             Status::Open => {}
         }
         let before = self.place.window.len();
-        if let Some(token) = self.place.number() {
-            self.numbers.pass(1, before - self.place.window.len());
+        if let Some(token) = self.place.pulled_token() {
+            let len = before - self.place.window.len();
+            self.numbers.pass_token(token.0, len);
             return Ok(token);
         }
         self.numbers.forget();

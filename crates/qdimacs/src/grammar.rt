@@ -237,7 +237,41 @@ fn take_clause(parts: &mut Parts, values: &[i32], from: usize, zero: usize) -> R
     }
 }
 
-/// Takes the rest of an unfinished clause, if there is one.
+/// Takes numbers of a set from the place `from` on, as far as they are not a fault, and its zero.
+///
+/// # Errors
+/// Out of memory.
+#[inline(always)]
+#[tactic(auto, using(crate::proofs::FormulaParts::numbers_lead_on))]
+fn take_members(
+    parts: &mut Parts,
+    quantifier: Quantifier,
+    values: &[i32],
+    from: usize,
+) -> Reached
+    requires here { (from ≤ length values.now) × IsSound (at.InSet quantifier) parts.old }
+    ensures leads { IfOk result.1 (λ to. LeadsOver row (state_at parts.old (at.InSet quantifier))
+        (state_at parts.new result.0) values.now from to) }
+    ensures within { IfOk result.1 (λ to. to ≤ length values.now) }
+    ensures sound { IsSound result.0 parts.new }
+{
+    let mut open = quantifier;
+    let mut i = from;
+    'members: while i < values.len() {
+        match take_member(parts, open, Token::number_at(values, i)) {
+            Ok(State::InSet(next)) => {
+                open = next;
+                i += 1;
+            }
+            Ok(next) => return (next, Ok(i + 1)),
+            Err(Stop::Memory) => return (State::InSet(open), Err(AllocError)),
+            Err(Stop::Text(_)) => break,
+        }
+    }
+    (State::InSet(open), Ok(i))
+}
+
+/// Takes the rest of an unfinished set or clause, if there is one.
 ///
 /// # Errors
 /// Out of memory.
@@ -252,6 +286,7 @@ fn take_unfinished(here: State, parts: &mut Parts, values: &[i32], zeros: Zeros)
 {
     match here {
         State::InClause => take_clause(parts, values, 0, zeros.place(0)),
+        State::InSet(quantifier) => take_members(parts, quantifier, values, 0),
         _ => (here, Ok(0)),
     }
 }

@@ -7,8 +7,9 @@ use Rattle.qbf_core.specs.WrittenLiterals.{literal_of, IsWritten}
 use Rattle.qbf_text.specs.TakenNumbers.{LeadsOver}
 use Rattle.qbf_tokens.specs.NumberTokens.{token_of, token_at}
 use Rattle.qbf_tokens.specs.declared.token.Token.TheVariants.{Number}
-use Rattle.dimacs_syntax.specs.Decode.{decode_literal}
-use Rattle.qrp.specs.Reading.{State, row, faults, lits_row, ants_row, decode_antecedent, has_room, InLits, InAnts}
+use Rattle.dimacs_syntax.specs.Decode.{decode_literal, decode_member}
+use Rattle.qbf_core.specs.declared.quantifier.Quantifier.{Quantifier}
+use Rattle.qrp.specs.Reading.{State, row, faults, set_row, lits_row, ants_row, decode_antecedent, has_room, InSet, InLits, InAnts}
 
 module _ (first : State) (values : List ℤ) (from i : ℕ) (ns : List ℕ) (n : ℕ) (ls : List Literal) where
   -- a literal more
@@ -20,6 +21,12 @@ module _ (first : State) (values : List ℤ) (from i : ℕ) (ns : List ℕ) (n :
   pub antecedent_more : (ants : List ℕ) (a : ℕ) → Ok (Some a) ≡ decode_antecedent (has_room ants) (token_at values i)
       → LeadsOver row first (InAnts ns n ls ants) values from i → LeadsOver row first (InAnts ns n ls (ants ++ a ∷ [])) values from (i + 1)
   antecedent_more ants a says = grind (arith, common_steps, leads_more, row, ants_row)
+
+-- a variable of a set more
+pub member_more : (first : State) (values : List ℤ) (from i : ℕ) (q : Quantifier) (vs : List ℕ) (v : ℕ)
+    → Ok (Some v) ≡ decode_member faults 2147483647 (token_at values i)
+    → LeadsOver row first (InSet q vs) values from i → LeadsOver row first (InSet q (vs ++ v ∷ [])) values from (i + 1)
+member_more first values from i q vs v says = grind (arith, common_steps, leads_more, row, set_row)
 
 -- ---- many literals
 

@@ -12,8 +12,8 @@ ghost use Rattle.qbf_core.specs.declared.literal.TheConstants.{LAST_VARIABLE};
 
 use crate::states::{Lists, State, take_item_start};
 use crate::tokens::{FAULTS, decode_antecedent};
-use dimacs_syntax::decode_literal;
-use qbf_core::{GrowingLists, LAST_VARIABLE, Lit};
+use dimacs_syntax::{decode_literal, decode_member};
+use qbf_core::{GrowingLists, LAST_VARIABLE, Lit, Quantifier};
 use qbf_tokens::Token;
 use std::alloc::AllocError;
 use step_antecedents::AntecedentPair;
@@ -105,7 +105,34 @@ fn take_literals(lists: &mut Lists, number: u64, values: &[i32], from: usize) ->
     (State::InLits(number), Ok(i))
 }
 
-/// Takes literals of a step, if they stand next, and the zero after them.
+/// Takes variables of a set from the place `from` on, but not the zero after them. Returns where the
+/// next token stands, and the place of the next number.
+///
+/// # Errors
+/// Out of memory.
+#[inline(always)]
+#[tactic(auto, using(crate::proofs::BufferedNumbers::numbers_lead_on))]
+fn take_members(lists: &mut Lists, quantifier: Quantifier, values: &[i32], from: usize) -> Reached
+    requires here { (from ≤ length values.now) × IsSound (at.InSet quantifier) lists.old }
+    ensures leads { IfOk result.1 (λ to. LeadsOver row (state_at lists.old (at.InSet quantifier))
+        (state_at lists.new result.0) values.now from to) }
+    ensures within { IfOk result.1 (λ to. to ≤ length values.now) }
+    ensures sound { Stays lists.old lists.new × IsSound result.0 lists.new }
+{
+    let mut i = from;
+    'members: while i < values.len() {
+        match decode_member(FAULTS, LAST_VARIABLE, Token::number_at(values, i)) {
+            Ok(Some(var)) => match lists.vars.push(var) {
+                Ok(()) => i += 1,
+                Err(_) => return (State::InSet(quantifier), Err(AllocError)),
+            },
+            _ => break,
+        }
+    }
+    (State::InSet(quantifier), Ok(i))
+}
+
+/// Takes literals of a step, if they stand next, and the zero after them, or variables of a set.
 ///
 /// # Errors
 /// Out of memory.
@@ -118,8 +145,10 @@ fn take_list(here: State, lists: &mut Lists, values: &[i32], next: NextPlaces) -
     ensures within { IfOk result.1 (λ to. to ≤ length values.now) }
     ensures sound { Stays lists.old lists.new × IsSound result.0 lists.new }
 {
-    let State::InLits(number) = here else {
-        return (here, Ok(next.from));
+    let number = match here {
+        State::InLits(number) => number,
+        State::InSet(quantifier) => return take_members(lists, quantifier, values, next.from),
+        _ => return (here, Ok(next.from)),
     };
     match put_literals(&mut lists.lits, values, next) {
         Ok(to) => take_literals(lists, number, values, to),
@@ -193,7 +222,7 @@ fn take_number(here: State, lists: &mut Lists, values: &[i32], from: usize) -> (
 }
 
 /// Takes a step that begins here or has begun, as far as its numbers are buffered, but not its last
-/// zero.
+/// zero; or a set that has begun, in the same way.
 ///
 /// # Errors
 /// Out of memory.

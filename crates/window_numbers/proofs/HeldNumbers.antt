@@ -7,7 +7,7 @@ use Rattle.std.proofs.Common.{length-drop, length-append}
 use Rattle.std.proofs.lemmas.List.{get_or-append-add, get_or-drop, get_or-take, length-take}
 use Rattle.window_numbers.specs.declared.cursor.Cursor.{Cursor}
 use Rattle.window_numbers.specs.declared.numbers.Numbers.{Numbers}
-use Rattle.window_numbers.specs.Cursors.{cursor_after, one_if, PassesNumber}
+use Rattle.window_numbers.specs.Cursors.{cursor_after, one_if, PassesToken}
 use Rattle.qbf_tokens.specs.NumberTokens.{token_at}
 use Rattle.window_numbers.specs.Numbers.{place, len_of, NumberStands, StandFrom, AreHeld, StandInFront}
 use Rattle.window_numbers.specs.Numbers.{cursor_to, IsPut, FillsTo, ComesNumber}
@@ -252,7 +252,7 @@ module _ (n : Numbers) (bytes : List ℕ) (f : StandInFront n bytes) (from : Cur
       record {
         mid = mid c few;
         gap = gap_passed bytes (here c few) g.gap g.rest (there c few) there_to g.is_gap;
-        number = subst (λ to. PassesNumber bytes (mid c few) to (token_at n.values (n.first + c))) (next_is c few)
+        number = subst (λ to. PassesToken bytes (mid c few) to (token_at n.values (n.first + c))) (next_is c few)
             (passes_number bytes (mid c few) _ _ _ g.number.0 stands (mid_small c few)
             (gap_within bytes (here c few) g.gap g.rest (there c few) there_to));
       }

@@ -1,6 +1,9 @@
--- The tokens that are left after a number that stands whole among the buffered bytes.
+-- The tokens that are left after a number or a letter that stands whole among the buffered bytes.
 use Rattle.qbf_tokens.proofs.Cited.{rules, ◌≡◌, ℕ, ◌+◌, ◌^◌, ◌<◌, Bool, true, false, List, [], ◌∷◌, ◌++◌, sym, ap, ◌∙◌, arith, append_assoc}
 use Rattle.qbf_tokens.proofs.Cited.{common_steps, kind, line_number, begins_number, is_separator, IsUnbroken, tokens_left}
+use Rattle.qbf_tokens.proofs.Cited.{refl, is_comment_byte}
+use Rattle.qbf_tokens.specs.declared.token.Token.TheVariants.{Word as ThisWord}
+use Rattle.qbf_tokens.specs.declared.token.Word.{Word}
 use Rattle.window_numbers.proofs.Cited.{eqb-true, Comments, Number, BeginsWithNumber}
 use Rattle.qbf_tokens.proofs.ByteByByte.{left_run, left_line_end, left_blank, or_cases, IsToken, tokens_left-counted}
 
@@ -34,3 +37,20 @@ module _ (f : Comments) (begun : Bool) (n : ℕ) (pending : List ℕ) (negative 
   pub spelled_blanked : ends ≡ false → (rest : List ℕ)
       → tokens_left f begun n ((h.run ++ h.separator ∷ []) ++ rest) ≡ (Number negative value, n) ∷ tokens_left f true n rest
   spelled_blanked e rest = grind (arith, common_steps, or_cases, left_number, same, left_blank)
+
+-- a letter and a blank
+pub spelled_letter : (f : Comments) (begun : Bool) (n l : ℕ) (word : Word) (rest : List ℕ) → n < 2 ^ 64 → is_separator l ≡ false
+    → kind (l ∷ []) ≡ ThisWord word → is_comment_byte f l ≡ false
+    → tokens_left f begun n (l ∷ 32 ∷ rest) ≡ (ThisWord word, n) ∷ tokens_left f true n rest
+spelled_letter f begun n l word rest small unbroken is other =
+    left_run f begun n (l ∷ []) (32 ∷ rest) (unbroken, tt) refl (token begun)
+    ∙ ap (λ k. (k, line_number n) ∷ tokens_left f true n (32 ∷ rest)) is
+    ∙ ap (λ m. (ThisWord word, m) ∷ tokens_left f true n (32 ∷ rest)) same
+    ∙ ap (λ ts. (ThisWord word, n) ∷ ts) (left_blank f true n 32 rest refl)
+  where
+    same : line_number n ≡ n
+    same = omega (arith, small)
+
+    token : (b : Bool) → IsToken f b (l ∷ [])
+    token true = tt
+    token false = other

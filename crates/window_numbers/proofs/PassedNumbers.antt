@@ -1,13 +1,16 @@
--- Numbers that are passed among the buffered bytes.
+-- Numbers and letters that are passed among the buffered bytes.
 use Rattle.qbf_tokens.proofs.Cited.{◌≡◌, ℕ, ◌+◌, ◌^◌, ◌<◌, ◌≤◌, Bool, true, false, not, List, [], ◌∷◌, ◌++◌, length, refl, sym, ap, ◌∙◌}
 use Rattle.qbf_tokens.proofs.Cited.{◌-◌, append-nil, append_assoc, arith, Lined}
 use Rattle.window_numbers.proofs.Cited.{nat_eq, drop, subst, take, zero, suc, ◌⊎◌, inl, inr, drop-drop, Comments, Token, Number}
 use Rattle.window_numbers.proofs.Cited.{BeginsWithNumber}
+use Rattle.window_numbers.specs.Numbers.{BeginsWithLetter}
+use Rattle.qbf_tokens.specs.declared.token.Token.TheVariants.{Word as ThisWord}
+use Rattle.qbf_tokens.specs.declared.token.Word.{Word}
 use Rattle.std.proofs.Common.{length-drop, length-append}
 use Rattle.std.proofs.lemmas.List.{take-append-drop, take_all}
 use Rattle.window_numbers.specs.declared.cursor.Cursor.{Cursor}
-use Rattle.window_numbers.specs.Cursors.{one_if, tokens_from_cursor, cursor_after, is_begun, Passes, PassesNumber}
-use Rattle.window_numbers.proofs.LeftAfterNumber.{spelled_ending, spelled_blanked}
+use Rattle.window_numbers.specs.Cursors.{one_if, tokens_from_cursor, cursor_after, is_begun, Passes, PassesToken}
+use Rattle.window_numbers.proofs.LeftAfterNumber.{spelled_ending, spelled_blanked, spelled_letter}
 
 -- all bytes from a place on
 pub all_after : (at : ℕ) (bytes : List ℕ) → take (length bytes - at) (drop at bytes) ≡ drop at bytes
@@ -51,7 +54,7 @@ module _ (bytes : List ℕ) (here : Cursor) (negative : Bool) (value len : ℕ) 
   some = number_takes (drop here.at bytes) negative value len ends h
 
   -- a number in front of the bytes from the cursor on is passed
-  pub passes_number : here.at ≤ length bytes → PassesNumber bytes here (cursor_after here len ends) (Number negative value)
+  pub passes_number : here.at ≤ length bytes → PassesToken bytes here (cursor_after here len ends) (Number negative value)
   passes_number within = record {
     word = h.run;
     separator = h.separator;
@@ -63,6 +66,24 @@ module _ (bytes : List ℕ) (here : Cursor) (negative : Bool) (value len : ℕ) 
     taken = rw (at_after ends) (split bytes here.at len (h.run ++ h.separator ∷ []) h.front);
     spelled = spelled ends refl;
   }
+
+-- a letter in front of the bytes from the cursor on is passed
+pub passes_letter : (bytes : List ℕ) (here : Cursor) (word : Word) → BeginsWithLetter (drop here.at bytes) word → here.line < 2 ^ 64
+    → here.at ≤ length bytes
+    → PassesToken bytes here (record { at = here.at + 2; line = here.line; tokens = 1 }) (ThisWord word)
+passes_letter bytes here word h small within =
+    let two : length (drop here.at bytes) ≡ suc (suc (length h.rest)) = ap length h.bytes_are in record {
+      word = h.letter ∷ [];
+      separator = 32;
+      unbroken = (h.unbroken, tt);
+      separates = refl;
+      no_end = refl;
+      further = omega arith;
+      within = omega (arith, within, two, length-drop here.at bytes);
+      taken = split bytes here.at 2 (h.letter ∷ 32 ∷ []) (ap (take 2) h.bytes_are);
+      spelled = λ format rest.
+          spelled_letter format (is_begun here) here.line h.letter word rest small h.unbroken h.is (h.no_comment format);
+    }
 
 -- ---- number after number
 
@@ -102,9 +123,9 @@ module _ (bytes : List ℕ) where
       passes_then Are (λ ts. ts ≡ []) Are here mid there
       (λ ts us are none. subst (λ l. Are (ts ++ l)) (sym none) (subst Are (sym (append-nil ts)) are)) s t
 
-  one_number : (mid there : Cursor) (token : Token) → PassesNumber bytes mid there token
+  one_token : (mid there : Cursor) (token : Token) → PassesToken bytes mid there token
       → Passes (λ ts. ts ≡ (token, mid.line) ∷ []) bytes mid there
-  one_number mid there token t = record {
+  one_token mid there token t = record {
     front = t.word ++ t.separator ∷ [];
     given = (token, mid.line) ∷ [];
     forward = omega (arith, t.further);
@@ -117,16 +138,16 @@ module _ (bytes : List ℕ) where
   -- one number more
   pub passes_one : (Are Both : List Lined → Type 0) (here mid there : Cursor) (token : Token)
       → ((ts : List Lined) → Are ts → Both (ts ++ (token, mid.line) ∷ []))
-      → Passes Are bytes here mid → PassesNumber bytes mid there token → Passes Both bytes here there
+      → Passes Are bytes here mid → PassesToken bytes mid there token → Passes Both bytes here there
   passes_one Are Both here mid there token both s t =
       passes_then Are (λ us. us ≡ (token, mid.line) ∷ []) Both here mid there
-      (λ ts us are is. subst (λ l. Both (ts ++ l)) (sym is) (both ts are)) s (one_number mid there token t)
+      (λ ts us are is. subst (λ l. Both (ts ++ l)) (sym is) (both ts are)) s (one_token mid there token t)
 
 -- separators, if any, and then one number stand between two cursors, whatever bytes follow
 pub record ComesNext (bytes : List ℕ) (here next : Cursor) (token : Token) : Type 0 where
   pub mid : Cursor
   pub gap : Passes (λ ts. ts ≡ []) bytes here mid
-  pub number : PassesNumber bytes mid next token
+  pub number : PassesToken bytes mid next token
 
 -- ---- cursors
 

@@ -26,7 +26,7 @@ abbrev pub tokens_from_cursor : Comments → Cursor → List ℕ → List Lined
 tokens_from_cursor format here = tokens_left format (is_begun here) here.line
 
 -- one token stands between two cursors, whatever bytes follow
-pub record PassesNumber (bytes : List ℕ) (here next : Cursor) (token : Token) : Type 0 where
+pub record PassesToken (bytes : List ℕ) (here next : Cursor) (token : Token) : Type 0 where
   pub word : List ℕ
   pub separator : ℕ
   pub unbroken : IsUnbroken word

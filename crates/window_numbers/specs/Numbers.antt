@@ -1,12 +1,14 @@
 -- Numbers that are held of a window: where each stands among its bytes.
-use Rattle.std.specs.Prelude.{◌≡◌, ℕ, zero, suc, ◌+◌, ◌-◌, ◌<◌, ◌≤◌, Bool, true, not, count_by, List, [], ◌∷◌, ◌++◌, length, take}
+use Rattle.std.specs.Prelude.{◌≡◌, ℕ, zero, suc, ◌+◌, ◌-◌, ◌<◌, ◌≤◌, Bool, true, false, not, count_by, List, [], ◌∷◌, ◌++◌, length, take}
 use Rattle.std.specs.Prelude.{drop, ℤ, pos, unsigned_abs, int_lt, slice_index_or, ◌^◌}
 use Rattle.std.specs.Simd.Lanes.{Each1}
 use Rattle.std.specs.List.{AllByRecursion}
-use Rattle.qbf_tokens.specs.declared.token.Token.TheVariants.{Number}
+use Rattle.qbf_tokens.specs.declared.token.Comments.{Comments}
+use Rattle.qbf_tokens.specs.declared.token.Token.TheVariants.{Number, Word as ThisWord}
+use Rattle.qbf_tokens.specs.declared.token.Word.{Word}
 use Rattle.qbf_tokens.specs.Left.{is_separator, IsUnbroken}
 use Rattle.qbf_tokens.specs.Runs.{begins_number}
-use Rattle.qbf_tokens.specs.Tokens.{line_number, kind, is_line_end}
+use Rattle.qbf_tokens.specs.Tokens.{line_number, kind, is_comment_byte, is_line_end}
 use Rattle.window_numbers.specs.Cursors.{one_if}
 use Rattle.window_numbers.specs.declared.cursor.Cursor.{Cursor}
 use Rattle.window_numbers.specs.declared.numbers.Numbers.{Numbers}
@@ -26,6 +28,15 @@ pub record BeginsWithNumber (bytes : List ℕ) (negative : Bool) (value len : �
 -- the first `len` bytes are a run that is this number, and the separator after it
 abbrev pub BeginsWithValue : List ℕ → (len : ℕ) → ℤ → Type 0
 BeginsWithValue bytes len value = (ends_line : Bool) × BeginsWithNumber bytes (int_lt value (pos 0)) (unsigned_abs value) len ends_line
+
+-- the first byte is a run that is this word and begins no comment, and a blank follows it
+pub record BeginsWithLetter (bytes : List ℕ) (word : Word) : Type 0 where
+  pub letter : ℕ
+  pub rest : List ℕ
+  pub bytes_are : bytes ≡ letter ∷ 32 ∷ rest
+  pub unbroken : is_separator letter ≡ false
+  pub is : kind (letter ∷ []) ≡ ThisWord word
+  pub no_comment : (format : Comments) → is_comment_byte format letter ≡ false
 
 -- each of these bytes separates tokens
 abbrev pub IsGap : List ℕ → Type 0

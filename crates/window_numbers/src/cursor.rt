@@ -2,11 +2,11 @@
 
 ghost use Rattle.std.specs.Prelude.{◌≡◌, ◌+◌, ◌^◌, ◌<◌, ◌≤◌, ◌&&◌, false, nat_eq, length, IfSome};
 ghost use Rattle.qbf_tokens.specs.Runs.{begins_with_minus};
-ghost use Rattle.window_numbers.specs.Cursors.{PassesNumber};
-ghost use Rattle.window_numbers.specs.Numbers.{BeginsWithNumber};
+ghost use Rattle.window_numbers.specs.Cursors.{PassesToken};
+ghost use Rattle.window_numbers.specs.Numbers.{BeginsWithLetter, BeginsWithNumber};
 
 use decimal::digits;
-use qbf_tokens::{Token, is_separator};
+use qbf_tokens::{Token, Word, is_separator};
 
 /// A number, and the separator after it.
 #[derive(Clone, Copy)]
@@ -89,6 +89,18 @@ pub fn number_in_front(bytes: &[u8]) -> Option<SeparatedNumber>
     }
 }
 
+/// The letter that begins a set, if the bytes begin with it and a blank.
+#[inline(always)]
+fn letter_in_front(bytes: &[u8]) -> Option<Word>
+    ensures { IfSome result (λ word. BeginsWithLetter bytes.now word) }
+{
+    match bytes {
+        [b'a', b' ', ..] => Some(Word::A),
+        [b'e', b' ', ..] => Some(Word::E),
+        _ => None,
+    }
+}
+
 /// A place among the buffered bytes, held by value.
 #[derive(Clone, Copy)]
 pub struct Cursor {
@@ -101,10 +113,10 @@ pub struct Cursor {
     pub tokens: u64,
 }
 
-/// A number that was passed, and where the next token stands.
+/// A token that was passed, and where the next one stands.
 #[derive(Clone, Copy)]
 pub struct Passed {
-    /// The number.
+    /// The token.
     pub token: Token,
     /// The cursor after the separator that follows it.
     pub next: Cursor,
@@ -160,15 +172,47 @@ impl Cursor {
         }
     }
 
+    /// The letter of a set, if it comes next, and the position after it.
+    #[inline(always)]
+    fn letter(self, bytes: &[u8]) -> Option<Passed>
+        requires { self.at ≤ length bytes.now }
+        ensures { IfSome result (λ p. PassesToken bytes.now self p.next p.token) }
+    {
+        let Some(word) = letter_in_front(&bytes[self.at..]) else {
+            return None;
+        };
+        Some(Passed {
+            token: Token::Word(word),
+            next: Cursor {
+                at: self.at + 2,
+                line: self.line,
+                tokens: 1,
+            },
+        })
+    }
+
     /// The next number, with up to 20 digits if it has 64 bits, and the position after it.
     #[inline(always)]
-    pub fn any_number(self, bytes: &[u8]) -> Option<Passed>
+    fn any_number(self, bytes: &[u8]) -> Option<Passed>
         requires { self.at ≤ length bytes.now }
-        ensures { IfSome result (λ p. PassesNumber bytes.now self p.next p.token) }
+        ensures { IfSome result (λ p. PassesToken bytes.now self p.next p.token) }
     {
         let Some(found) = number_in_front(&bytes[self.at..]) else {
             return None;
         };
         Some(self.pass(found))
+    }
+
+    /// The next token, if it is the letter of a set and a blank follows it, or a number and a
+    /// separator follows it, and the position after them.
+    #[inline(always)]
+    pub fn token(self, bytes: &[u8]) -> Option<Passed>
+        requires { self.at ≤ length bytes.now }
+        ensures { IfSome result (λ p. PassesToken bytes.now self p.next p.token) }
+    {
+        match self.letter(bytes) {
+            Some(passed) => Some(passed),
+            None => self.any_number(bytes),
+        }
     }
 }

@@ -4,7 +4,7 @@
 //! - Offers: `Numbers`, `Zeros`, `Cursor`.
 //! - Proved: a number that is held stands at its place among the bytes of the window, with its
 //!   separator, whatever bytes follow; a cursor counts bytes and lines.
-//! - Read first: `Numbers::fill`, `Numbers::pass`, `Numbers::cursor_after`; `Cursor::any_number`.
+//! - Read first: `Numbers::fill`, `Numbers::pass`, `Numbers::cursor_after`; `Cursor::token`.
 //! - Tested only: that usual numbers are found, which only the time of a check shows.
 //! - Trusted: nothing.
 //! - On the map: numbers of a window | each stands at its place.

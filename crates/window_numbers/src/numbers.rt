@@ -14,7 +14,7 @@ use crate::cursor::{Cursor, begins_with_minus, is_minus_zero};
 use crate::lines::count_line_ends;
 use crate::marks::ends_of;
 use decimal::{FourNumbers, four_numbers, four_numbers_between, number_between};
-use qbf_tokens::is_separator;
+use qbf_tokens::{Token, is_separator};
 use std::simd::prelude::*;
 
 /// How many bytes a window has at most.
@@ -22,6 +22,9 @@ pub const ROOM: usize = 4096;
 
 /// How many numbers are kept at most: a window has no more runs, unless some of them are empty.
 pub const MOST: usize = 2048;
+
+/// How many tokens are read one by one after a word.
+const FEW: u32 = 8;
 
 /// How many bytes are looked at together to find where numbers end.
 const BLOCK: usize = 64;
@@ -208,8 +211,9 @@ pub struct Numbers {
     pub zero: usize,
     /// The end of the zeros.
     pub zero_count: usize,
-    /// Whether the number after those that are known is not a usual one, or its end is not known.
-    pub is_stuck: bool,
+    /// How many tokens are read one by one before numbers are looked for again. At least one, if the
+    /// number after those that are known is not a usual one, or its end is not known.
+    pub alone: u32,
     /// Whether a separator was found after another: then they are looked for.
     pub is_spaced: bool,
 }
@@ -229,19 +233,30 @@ impl Numbers {
             runs: 0,
             zero: 0,
             zero_count: 0,
-            is_stuck: false,
+            alone: 0,
             is_spaced: false,
         }
     }
 
-    /// No numbers are known any more.
+    /// No numbers are known any more, and a token was read.
     #[inline(always)]
     #[tactic(auto, using(crate::proofs::HeldNumbers::none_stand))]
     pub fn forget(&mut self)
         ensures { (bytes : List ℕ) → StandInFront self.new bytes }
     {
         self.known = 0;
-        self.is_stuck = false;
+        self.alone = self.alone.saturating_sub(1);
+    }
+
+    /// No numbers are known any more, and a word was read: most sets have few variables, so the next
+    /// tokens are read one by one.
+    #[inline(always)]
+    #[tactic(auto, using(crate::proofs::HeldNumbers::none_stand))]
+    fn wait(&mut self)
+        ensures { (bytes : List ℕ) → StandInFront self.new bytes }
+    {
+        self.known = 0;
+        self.alone = FEW;
     }
 
     /// Notes where numbers seem to end among eight bytes, after those that were noted: a bit marks
@@ -618,7 +633,7 @@ impl Numbers {
         self.known = known;
         self.zero = 0;
         self.zero_count = zeros;
-        self.is_stuck = true;
+        self.alone = 1;
         self.is_spaced = self.is_spaced || self.is_gap(bytes, known, runs);
     }
 
@@ -633,7 +648,7 @@ impl Numbers {
     /// Whether none is buffered and more may be made known.
     #[inline(always)]
     pub fn wants_more(&self) -> bool {
-        self.is_empty() && !self.is_stuck
+        self.is_empty() && self.alone == 0
     }
 
     /// The numbers that are known.
@@ -710,6 +725,20 @@ impl Numbers {
             self.zero = self.zero_from(there);
         } else {
             self.forget();
+        }
+    }
+
+    /// Goes past a token, which takes so many bytes with the separator after it.
+    #[inline(always)]
+    pub fn pass_token(&mut self, token: Token, bytes: usize)
+        requires few { self.old.known ≤ MOST }
+        requires small { bytes ≤ ROOM }
+        ensures held { (front : List ℕ) → StandInFront self.old front
+            → StandInFront self.new (drop bytes front) }
+    {
+        match token {
+            Token::Word(_) => self.wait(),
+            _ => self.pass(1, bytes),
         }
     }
 }

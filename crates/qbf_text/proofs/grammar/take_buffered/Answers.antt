@@ -15,6 +15,13 @@ returns-then-not-is_open-clause-reads g c = λ remaining. (
   refl,
 )
 
+pub returns-then-is_empty-clause-reads : goal.returns-then-is_empty-clause-reads
+returns-then-is_empty-clause-reads g c = λ remaining. rw c.prepare.ensures (
+  so_far_none g.G.Grammar.row_of (g.G.Grammar.state c.args.grammar.now) (tokens_next c.args.scanner.now)
+      (ahead c.args.scanner.now.pending remaining),
+  refl,
+)
+
 pub cursor_after-here-requires-clause-few : goal.cursor_after-here-requires-clause-few
 cursor_after-here-requires-clause-few g c = λ some. omega (arith, c.in_ok-count.ensures.within some, c.numbers-numbers.ensures.held.few)
 

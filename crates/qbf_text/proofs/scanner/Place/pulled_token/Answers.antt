@@ -1,6 +1,6 @@
 use Rattle.window_numbers.proofs.PassedNumbers.{begun_counted}
 use Rattle.qbf_text.proofs.HandedNumbers.{taken_number}
-use Rattle.qbf_text.proofs.scanner.Place.number.Goals as goal
+use Rattle.qbf_text.proofs.scanner.Place.pulled_token.Goals as goal
 
 pub returns-clause-found : goal.returns-clause-found
 returns-clause-found c remaining =

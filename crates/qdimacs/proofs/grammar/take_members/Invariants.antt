@@ -1,0 +1,14 @@
+use Rattle.qdimacs.proofs.Cited.{◌-◌, ◌≤◌, length, state_at, IsSound, row}
+use Rattle.qbf_text.specs.TakenNumbers.{LeadsOver}
+use Rattle.qdimacs.specs.declared.grammar.State.TheVariants.{InSet}
+use Rattle.qdimacs.proofs.grammar.take_members.Given as goal
+
+abbrev pub invariant-members : goal.invariant-members
+invariant-members l = record {
+  leads : LeadsOver row (state_at l.fn.parts (InSet l.fn.quantifier)) (state_at l.parts (InSet l.open)) l.values l.fn.from l.i;
+  sound : IsSound (InSet l.open) l.parts;
+  within : l.i ≤ length l.values;
+}
+
+abbrev pub decreases-members : goal.decreases-members
+decreases-members l = length l.values - l.i
