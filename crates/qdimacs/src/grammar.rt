@@ -243,12 +243,7 @@ fn take_clause(parts: &mut Parts, values: &[i32], from: usize, zero: usize) -> R
 /// Out of memory.
 #[inline(always)]
 #[tactic(auto, using(crate::proofs::FormulaParts::numbers_lead_on))]
-fn take_members(
-    parts: &mut Parts,
-    quantifier: Quantifier,
-    values: &[i32],
-    from: usize,
-) -> Reached
+fn take_members(parts: &mut Parts, quantifier: Quantifier, values: &[i32], from: usize) -> Reached
     requires here { (from ≤ length values.now) × IsSound (at.InSet quantifier) parts.old }
     ensures leads { IfOk result.1 (λ to. LeadsOver row (state_at parts.old (at.InSet quantifier))
         (state_at parts.new result.0) values.now from to) }
