@@ -234,6 +234,7 @@ fn follows_by_rests<S: Side>(
 ///
 /// # Errors
 /// If an allocation fails.
+#[inline(always)]
 pub fn accepts_resolvent<S: Side>(
     seen: &mut SeenLits,
     prefix: &Prefix,
