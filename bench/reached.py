@@ -46,8 +46,8 @@ class Node:
     @property
     def lines(self) -> int:
         """Its lines with the comments above it, but for those of its body that are out of reach."""
-        text, of = self.source.text, self.function
-        return text.count("\n", first_line(of, text), of.end) + 1 - self.source.body(of).count("\n") + self.body.count("\n")
+        text, function = self.source.text, self.function
+        return text.count("\n", first_line(function, text), function.end) + 1 - self.source.body(function).count("\n") + self.body.count("\n")
 
 
 @dataclass

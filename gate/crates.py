@@ -18,8 +18,8 @@ from typing import Any, Union
 PARTS = ("src", "specs", "proofs", "data", "args", "stdin", "stdout", "status")
 # What one run of `rt` may take beside others, in bytes.
 ROOM = 4_000_000_000
-# A task: its name, what it waits for, its work, and the most jobs that are of use to it.
-Task = tuple[Hashable, list[Hashable], Callable[[int], object], int]
+# A task: its name, what it waits for, its work, the most jobs that are of use to it, and its rank.
+Task = tuple[Hashable, list[Hashable], Callable[[int], object], int, int]
 
 
 class Stopped(Exception):
@@ -48,7 +48,7 @@ class Crates:
         """The crates below one, each once, lowest first."""
         found: list[str] = []
         for dep in self.on[name]:
-            found += [it for it in [*self.below(dep), dep] if it not in found]
+            found += [below for below in [*self.below(dep), dep] if below not in found]
         return found
 
     def is_program(self, name: str) -> bool:
@@ -60,11 +60,11 @@ class Crates:
         room = Path(room)
         (room / "crates").mkdir(parents=True)
         names = [*self.below(name), name]
-        (room / "crates.txt").write_text("".join(f"{self.lines[it]}\n" for it in names), encoding="utf-8")
-        for it in names:
-            copy_crate(self.folder(it), room / "crates" / it)
-        for it in self.below(name):
-            copy(self.folder(it) / "out" / "rlib", room / "crates" / it / "out" / "rlib", linked=True)
+        (room / "crates.txt").write_text("".join(f"{self.lines[one]}\n" for one in names), encoding="utf-8")
+        for one in names:
+            copy_crate(self.folder(one), room / "crates" / one)
+        for below in self.below(name):
+            copy(self.folder(below) / "out" / "rlib", room / "crates" / below / "out" / "rlib", linked=True)
         if kept:
             copy(self.folder(name) / "out" / "rlib", room / "crates" / name / "out" / "rlib", linked=True)
             copy(self.folder(name) / "out" / "incremental", room / "crates" / name / "out" / "incremental", linked=True)
@@ -134,7 +134,7 @@ class Runs:
 
 
 class Lanes:
-    """Tasks that wait for other tasks, on so many lanes; a task may add more. The first that fails ends all."""
+    """Tasks that wait for others, on so many lanes, those of the lowest rank first; a task may add more. The first that fails ends all."""
 
     def __init__(self, lanes: int, runs: Runs) -> None:
         self.lanes, self.runs = lanes, runs
@@ -142,20 +142,20 @@ class Lanes:
         self.done: set[Hashable] = set()
         self.running: dict[Future[object], tuple[Hashable, int]] = {}
 
-    def add(self, key: Hashable, after: Iterable[Hashable], work: Callable[[int], object], jobs: int = 1) -> None:
-        """Adds a task: what it waits for, its work, which is given how many jobs it may use, and the most that are of use to it."""
-        self.waiting.append((key, list(after), work, jobs))
+    def add(self, key: Hashable, after: Iterable[Hashable], work: Callable[[int], object], jobs: int = 1, rank: int = 0) -> None:
+        """Adds a task: what it waits for, its work, which is given how many jobs it may use, the most that are of use to it, and its rank."""
+        self.waiting.append((key, list(after), work, jobs, rank))
 
     def ready(self) -> list[Task]:
-        return [task for task in self.waiting if all(key in self.done for key in task[1])]
+        return sorted((task for task in self.waiting if all(key in self.done for key in task[1])), key=lambda task: task[4])
 
     def start(self, pool: ThreadPoolExecutor) -> None:
         ready = self.ready()
-        for at, task in enumerate(ready):
+        for number, task in enumerate(ready):
             idle = self.lanes - sum(jobs for _, jobs in self.running.values())
             if idle < 1 or (self.running and free_memory() < ROOM):
                 return
-            jobs = max(1, min(task[3], idle // (len(ready) - at)))
+            jobs = max(1, min(task[3], idle // (len(ready) - number)))
             self.waiting.remove(task)
             self.running[pool.submit(task[2], jobs)] = task[0], jobs
             if jobs > 1:

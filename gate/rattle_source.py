@@ -25,10 +25,10 @@ OPENING = "([{"
 
 def marks(text: str) -> Iterator[tuple[bool, int, int]]:
     """Where each comment and each text stands: (is it a comment, place, place after it)."""
-    at = 0
-    while found := MARK.search(text, at):
-        at = end_of_block_comment(text, found.start()) if found[0] == "/*" else found.end()
-        yield found[0][:2] in ("//", "/*"), found.start(), at
+    end = 0
+    while found := MARK.search(text, end):
+        end = end_of_block_comment(text, found.start()) if found[0] == "/*" else found.end()
+        yield found[0][:2] in ("//", "/*"), found.start(), end
 
 
 def end_of_match(pattern: re.Pattern[str], text: str, start: int, end: int) -> int:
@@ -158,7 +158,7 @@ class Function(Item):
 
     def contract(self) -> list[tuple[str, str, str]]:
         """The clauses as words, without comments and layout."""
-        return [(it.kind, it.name, one_line(it.text)) for it in self.clauses]
+        return [(clause.kind, clause.name, one_line(clause.text)) for clause in self.clauses]
 
 
 WORDS = re.compile(r"(?:pub(?:\s*\([^)]*\))?\s+|unsafe\s+|default\s+)*")
@@ -179,20 +179,20 @@ class Source:
         self.plain = blanked(text)
         self.ends = [found.start() for found in re.finditer("\n", text)]
         self.items = list(self.read_items(0, len(text), None, False))
-        self.functions = [it for it in self.items if isinstance(it, Function)]
+        self.functions = [item for item in self.items if isinstance(item, Function)]
         self.name_functions()
 
     def read_items(self, start: int, end: int, within: Optional[Item], is_test: bool) -> Iterator[Item]:
-        at = start
-        while at < end:
-            found = end_of_match(BLANKS, self.plain, at, end)
+        place = start
+        while place < end:
+            found = end_of_match(BLANKS, self.plain, place, end)
             if found >= end:
                 return
             item = self.read_item(found, end, within, is_test)
             yield item
             if item.kind in ("impl", "trait", "mod") and item.open < item.end:
                 yield from self.read_items(item.open + 1, item.end - 1, item, item.is_test)
-            at = max(item.end, found + 1)
+            place = max(item.end, found + 1)
 
     def read_item(self, first: int, end: int, within: Optional[Item], is_test: bool) -> Item:
         start = first
@@ -221,17 +221,17 @@ class Source:
     def read_function(
         self, head: re.Match[str], attributes: str, first: int, start: int, end: int, is_test: bool, within: Optional[Item]
     ) -> Function:
-        plain, at = self.plain, head.end()
-        while found := BEFORE_BODY.search(plain, at, end):
-            at = end_of_group(plain, found.start()) if found[0] in "([" else found.start()
+        plain, place = self.plain, head.end()
+        while found := BEFORE_BODY.search(plain, place, end):
+            place = end_of_group(plain, found.start()) if found[0] in "([" else found.start()
             if found[0] not in "([":
                 break
-        signature, clauses = " ".join(plain[start:at].split()), []
-        while clause := CLAUSE.match(plain, at, end):
+        signature, clauses = " ".join(plain[start:place].split()), []
+        while clause := CLAUSE.match(plain, place, end):
             stop = end_of_group(plain, clause.end())
             clauses.append(Clause(clause[1], clause[2], self.text[clause.end() + 1 : stop - 1]))
-            at = stop
-        open_ = end_of_match(BLANKS, plain, at, end)
+            place = stop
+        open_ = end_of_match(BLANKS, plain, place, end)
         stop = end_of_group(plain, open_) if open_ < end and plain[open_] == "{" else min(open_ + 1, end)
         open_ = open_ if open_ < end and plain[open_] == "{" else stop
         item = ("fn", head["name"], attributes, first, start, open_, stop, plain[start:open_], is_test, within)
@@ -242,17 +242,17 @@ class Source:
         here = [] if inside in (["lib"], ["main"]) else inside
         # The methods of a type stand, for the prover, in the module of the type.
         imported = {name: module.split("::") for module, name in re.findall(r"(?m)^use crate::([a-z_:]+)::([A-Z]\w*);", self.plain)}
-        for it in self.functions:
+        for function in self.functions:
             modules: list[str] = []
-            owner, of = "", it.within
-            while of is not None:
-                if of.kind == "mod":
-                    modules.insert(0, of.name)
+            owner, outer = "", function.within
+            while outer is not None:
+                if outer.kind == "mod":
+                    modules.insert(0, outer.name)
                 else:
-                    owner = owner_of(of.head)
-                of = of.within
+                    owner = owner_of(outer.head)
+                outer = outer.within
             owners = [owner] if owner else []
-            it.path = "::".join([self.crate, *(imported.get(owner, here) if owner else here), *modules, *owners, it.name])
+            function.path = "::".join([self.crate, *(imported.get(owner, here) if owner else here), *modules, *owners, function.name])
 
     def body(self, function: Function) -> str:
         """What stands in the braces of a function, with blanks for comments and texts."""
@@ -293,7 +293,7 @@ def prover_name(words: str, generics: Collection[str] = ()) -> str:
         return "Slice" + prover_name(words[1:-1], generics)
     if words.startswith("("):
         parts = apart(words[1 : words.rindex(")")])
-        return f"Tuple{len(parts)}" + "".join(prover_name(it, generics) for it in parts)
+        return f"Tuple{len(parts)}" + "".join(prover_name(part, generics) for part in parts)
     name = type_name(words)
     # a primitive type, too, is written with a capital
     return "" if name in generics else name[:1].upper() + name[1:]
@@ -305,7 +305,7 @@ def trait_and_type(head: str) -> tuple[str, str, set[str]]:
     generics = set()
     if rest.startswith("<"):
         inner = arguments(rest)
-        generics = {type_name(it.split(":")[0]) for it in apart(inner)}
+        generics = {type_name(one.split(":")[0]) for one in apart(inner)}
         rest = rest[len(inner) + 2 :].strip()
     rest = rest.split(" where ")[0]
     of_trait, _, of_type = rest.rpartition(" for ")
@@ -319,8 +319,8 @@ def owner_of(head: str) -> str:
     of_trait, of_type, generics = trait_and_type(head)
     if not of_trait:
         return type_name(of_type)
-    given = [it for it in apart(arguments(of_trait)) if type_name(it) not in generics and not it.strip().startswith("'")]
-    return prover_name(of_type, generics) + type_name(of_trait) + "".join(prover_name(it, generics) for it in given)
+    given = [one for one in apart(arguments(of_trait)) if type_name(one) not in generics and not one.strip().startswith("'")]
+    return prover_name(of_type, generics) + type_name(of_trait) + "".join(prover_name(one, generics) for one in given)
 
 
 # ---- the sources of a repository
@@ -335,12 +335,12 @@ def read_source(root: Union[str, Path], path: str) -> Source:
 def sources(root: Union[str, Path]) -> dict[str, Source]:
     """The source files of all crates by their paths, but for those of modules that are read for tests alone."""
     root = Path(root)
-    paths = sorted(str(it.relative_to(root)) for it in root.glob("crates/*/src/**/*.rt"))
+    paths = sorted(str(path.relative_to(root)) for path in root.glob("crates/*/src/**/*.rt"))
     found = {path: read_source(root, path) for path in paths}
     tests = set()
     for path, source in found.items():
         folder = path[: -len(".rt")]
         folder = folder.rpartition("/")[0] if folder.endswith(("/src/lib", "/src/main")) else folder
-        tests |= {f"{folder}/{it.name}" for it in source.items if it.kind == "mod" and it.is_test and it.open == it.end}
-    is_test = lambda path: any(path == f"{it}.rt" or path.startswith(f"{it}/") for it in tests)
+        tests |= {f"{folder}/{item.name}" for item in source.items if item.kind == "mod" and item.is_test and item.open == item.end}
+    is_test = lambda path: any(path == f"{test}.rt" or path.startswith(f"{test}/") for test in tests)
     return {path: source for path, source in found.items() if not is_test(path)}

@@ -44,16 +44,16 @@ class Kept:
         except FileNotFoundError:
             raise Stopped(f"there is no {rt} on this machine: the Rattle toolchain has it (README, 'Getting it')") from None
         files = sorted(path for pattern in JUDGES for path in judges.glob(pattern))
-        self.judged_by = checksum(version, *(it.read_bytes() for it in files if it.exists()))
+        self.judged_by = checksum(version, *(file.read_bytes() for file in files if file.exists()))
         self.crates: dict[str, str] = {}
 
     def of_crate(self, name: str) -> str:
         """The checksum of a crate's files, and of those below it."""
         if name not in self.crates:
             folder = self.repository.folder(name)
-            files = sorted(it for part in PARTS for it in (folder / part).rglob("*") if it.is_file())
-            texts = [text for it in files for text in (str(it.relative_to(folder)).encode(), without_comments(it))]
-            below = [self.of_crate(it).encode() for it in self.repository.on[name]]
+            files = sorted(file for part in PARTS for file in (folder / part).rglob("*") if file.is_file())
+            texts = [text for file in files for text in (str(file.relative_to(folder)).encode(), without_comments(file))]
+            below = [self.of_crate(dep).encode() for dep in self.repository.on[name]]
             self.crates[name] = checksum(self.repository.lines[name].encode(), *below, *texts)
         return self.crates[name]
 

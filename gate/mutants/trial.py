@@ -166,10 +166,12 @@ class Trial:
         self.lanes.add((trial.name, label, "left"), keys, try_left)
 
     def add_rounds(self, trial: CrateTrial, groups: list[list[Body]], label: str, after: list[Hashable]) -> list[Hashable]:
+        # The first rounds come last, so that what was begun of a crate is told, and kept, before the next one is.
+        rank = 0 if label else 1
         keys: list[Hashable] = []
         for number, group in enumerate(groups, 1):
             keys.append((trial.name, label, number))
-            self.lanes.add(keys[-1], after, partial(self.try_round, trial, f"{label}{number}", group))
+            self.lanes.add(keys[-1], after, partial(self.try_round, trial, f"{label}{number}", group), rank=rank)
         return keys
 
     def try_round(self, trial: CrateTrial, label: str, bodies: list[Body], _: int) -> None:
