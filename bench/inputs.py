@@ -5,7 +5,7 @@ from collections.abc import Callable
 from dataclasses import dataclass
 from pathlib import Path
 
-from slow_inputs import alike_clauses, gaps, reducts_of_one, repeated_literal, write_pair
+from slow_inputs import alike_clauses, chain, gaps, random_numbers, reducts_of_one, repeated_literal, with_comments, write_pair
 
 ROOT = Path(__file__).resolve().parent.parent
 MAKERS = ROOT / "bench" / "makers"
@@ -38,6 +38,14 @@ def slow(function: Callable, size: int) -> Callable[[Path], list[list[str]]]:
     return lambda folder: [["check", *map(str, write_pair(function, size, folder))]]
 
 
+def commented(folder: Path) -> list[list[str]]:
+    """A chain of resolutions with a comment line after each line."""
+    pair = write_pair(chain, 20_000, folder)
+    for path, mark in zip(pair, (b"c", b"#")):
+        path.write_bytes(with_comments(path.read_bytes(), mark))
+    return [["check", *map(str, pair)]]
+
+
 def real(_: Path) -> list[list[str]]:
     """Checks of the largest real traces."""
     largest = sorted(TRACES.glob("*.qrp"), key=lambda path: (-path.stat().st_size, path.name))[:MOST_TRACES]
@@ -54,6 +62,8 @@ INPUTS = {
     "gaps": Input("as `read`, with gaps between the numbers of the steps", made("check", "gaps", 4)),
     "long": Input("as `read`, with step numbers of nineteen digits", made("check", "long", 4)),
     "linked": Input("`check` of a chain of 20,000 resolutions whose step numbers have gaps", slow(gaps, 20_000)),
+    "scattered": Input("`check` of 300,000 steps whose numbers are random", slow(random_numbers, 300_000)),
+    "commented": Input("`check` of a chain of 20,000 resolutions with a comment line after each line", commented),
     "cubes": Input("`check` of initial cubes over as many clauses, and the resolutions over them", made("check", "cubes", 1)),
     "alike": Input(
         "`check` of 2,000 clauses that differ in reducible literals alone, with their initial steps in the reverse order", slow(alike_clauses, 2_000)

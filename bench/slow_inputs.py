@@ -86,6 +86,11 @@ def long_numbers(n: int) -> Iterator[Lines]:
     return numbered_chain(n, lambda place: 10**8 + place)
 
 
+def chain(n: int) -> Iterator[Lines]:
+    """A chain of n resolutions whose steps are numbered from 1."""
+    return numbered_chain(n, lambda place: place)
+
+
 def random_numbers(n: int) -> Iterator[Lines]:
     """A chain of n resolutions whose step numbers go up to 2^40, in no order."""
     numbers = random.Random(3).sample(range(1, 2**40), 2 * n + 2)
@@ -283,6 +288,11 @@ def all_watched(n: int) -> Iterator[Lines]:
     depth = depth_for(n)
     yield [line("p cnf", depth + 2, n), line("a", range(1, depth + 1), 0), line("e", depth + 1, depth + 2, 0), *[line(depth + 1, depth + 2, 0)] * n]
     yield cube_tree(depth, lambda place: depth + 1 + place % 2)
+
+
+def with_comments(text: bytes, mark: bytes) -> bytes:
+    """A text with a comment line after each line."""
+    return text.replace(b"\n", b"\n" + mark + b" a comment of some words\n")
 
 
 def write_pair(make: Make, size: int, folder: Path) -> list[Path]:

@@ -32,7 +32,8 @@ skip_more a b pending rem x s q h e =
       taken = taken_more a b pending rem s.skipped x s.taken q h;
     }
 
-part : (pending : List ℕ) (rem : Option (List ℕ)) (n : ℕ) → Consumes (ahead pending rem) (ahead (drop n pending) rem) (take n pending)
+-- the first bytes of those ahead are taken
+pub part : (pending : List ℕ) (rem : Option (List ℕ)) (n : ℕ) → Consumes (ahead pending rem) (ahead (drop n pending) rem) (take n pending)
 part pending None n = tt
 part pending (Some r) n = ap (λ l. l ++ r) (sym (take-append-drop n pending)) ∙ append_assoc (take n pending) (drop n pending) r
 

@@ -79,6 +79,10 @@ pub record FindsEnd (p : Place) (before : Option (List ℕ)) (q : Place) (after 
   pub left : IfSome (left_at q after) (λ left. left ≡ (End, q.line) ∷ [])
   pub at_end : IsAtEnd after
 
+-- from one reading to another no token was taken
+abbrev pub ScannerSkips : Reading → Option (List ℕ) → Reading → Option (List ℕ) → Type 0
+ScannerSkips r before s after = IfKnown (Skips (tokens_next r) (tokens_next s)) (ahead r.pending before) (ahead s.pending after)
+
 -- `Takes` of a scanner's text: of the reading before and after, and of the bytes that remain in the source
 abbrev pub ScannerTakes : Reading → Option (List ℕ) → Reading → Option (List ℕ) → Lined → Type 0
 ScannerTakes r before s after token =

@@ -179,9 +179,10 @@ fn take_known<G: Grammar>(
     Ok((count, answer))
 }
 
-/// Lets a grammar take numbers from the buffered bytes. Returns what was read, if it is complete.
+/// Lets a grammar take numbers from the front of the buffered bytes. Returns what was read, if it is
+/// complete.
 #[inline(always)]
-fn take_buffered<G: Grammar>(
+fn take_front<G: Grammar>(
     grammar: &mut G,
     scanner: &mut Scanner,
 ) -> Result<Option<G::Output>, AllocError>
@@ -203,6 +204,30 @@ fn take_buffered<G: Grammar>(
     let here = numbers.cursor_after(scanner.bytes(), scanner.cursor(), count);
     scanner.go_to(here, count);
     Ok(answer)
+}
+
+/// Lets a grammar take numbers from the buffered bytes, with comment lines between them. Returns
+/// what was read, if it is complete.
+#[inline(always)]
+fn take_buffered<G: Grammar>(
+    grammar: &mut G,
+    scanner: &mut Scanner,
+) -> Result<Option<G::Output>, AllocError>
+    ensures reads { IfOk result (λ answer. (remaining : Option (List ℕ)) → ReadsBuffered G.row_of
+        (G.state grammar.old) (G.state grammar.new) scanner.old scanner.new remaining answer) }
+    ensures status { scanner.new.status ≡ scanner.old.status }
+    ensures no_more { length scanner.new.pending ≤ length scanner.old.pending }
+    ensures kept { G.kept grammar.new ≡ G.kept grammar.old }
+{
+    'lines: loop {
+        match take_front(grammar, scanner)? {
+            Some(output) => return Ok(Some(output)),
+            None => {}
+        }
+        if !scanner.pass_comment() {
+            return Ok(None);
+        }
+    }
 }
 
 /// Hands on token after token until the grammar is complete.

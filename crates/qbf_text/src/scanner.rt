@@ -190,6 +190,29 @@ impl Place {
         Some(found)
     }
 
+    /// Goes past a comment line, if one stands next that was pulled whole. Returns whether it does.
+    #[inline(never)]
+    fn pass_comment(&mut self) -> bool
+        ensures none { (remaining : Option (List ℕ))
+            → PlaceSkips self.old remaining self.new remaining }
+        ensures less { IsTrue result → length self.new.window < length self.old.window }
+        ensures same { result ≡ false → self.new ≡ self.old }
+    {
+        let Some(byte) = self.window.first() else {
+            return false;
+        };
+        if self.begun || is_separator(byte) || !self.comments.begins_with(byte) {
+            return false;
+        }
+        let end = line_len(self.window.bytes());
+        if end >= self.window.len() {
+            return false;
+        }
+        self.window.go_to(end);
+        self.pass_separator(b'\n');
+        true
+    }
+
     /// The next token and its line, or `None` at the end.
     #[cold]
     #[inline(never)]
@@ -277,7 +300,7 @@ impl Scanner {
     ghost use Rattle.qbf_tokens.specs.Tokens.{tokens};
     ghost use Rattle.qbf_text.specs.Reading.{left, GivesNext, HasEnded, HasFailed, IsOpen, IsReady};
     ghost use Rattle.qbf_text.specs.Passing.{cursor, scanner_at};
-    ghost use Rattle.qbf_text.specs.Stopping.{tokens_next, ScannerTakes};
+    ghost use Rattle.qbf_text.specs.Stopping.{tokens_next, ScannerSkips, ScannerTakes};
     ghost use Rattle.qbf_tokens.specs.declared.token.Token.TheVariants.{End};
 
     /// A scanner at the beginning of a text of this format.
@@ -352,6 +375,24 @@ impl Scanner {
     {
         self.place.go_to(here);
         self.numbers.pass(numbers, here.at);
+    }
+
+    /// Goes past a comment line, if one stands next that was pulled whole. Returns whether it does.
+    #[inline(always)]
+    pub fn pass_comment(&mut self) -> bool
+        ensures skips { (remaining : Option (List ℕ))
+            → ScannerSkips self.old remaining self.new remaining }
+        ensures status { self.new.status ≡ self.old.status }
+        ensures less { IsTrue result → length self.new.pending < length self.old.pending }
+        ensures open { IsTrue result → IsOpen self.old }
+        ensures same { result ≡ false → self.new ≡ self.old }
+    {
+        let is_passed = self.is_open() && self.place.pass_comment();
+        let numbers = &mut self.numbers;
+        if is_passed {
+            numbers.forget();
+        }
+        is_passed
     }
 
     /// The next token and its line.

@@ -500,7 +500,7 @@ impl Numbers {
         ensures four { IfSome result (λ four. (k + 4 ≤ runs)
             × StandFrom bytes.now self.now.places k four.values × AreShort four.values) }
     {
-        if k + 4 > runs {
+        if !self.is_spaced || k + 4 > runs {
             return None;
         }
         let starts = self.starts(bytes, k);
@@ -560,7 +560,7 @@ impl Numbers {
     }
 
     /// Puts four numbers from the number `k` on, if more separators come before some of them, or up
-    /// to four one by one, as `put_ones` does.
+    /// to four one by one, as `put_ones` does. Four are tried only if such separators were found.
     #[cold]
     #[inline(never)]
     fn put_spaced(&mut self, bytes: &[u8], k: usize, runs: usize, zeros: usize) -> (usize, usize)
@@ -597,8 +597,8 @@ impl Numbers {
                 k += 4;
             } else {
                 let (next, noted) = self.put_spaced(bytes, k, runs, zeros);
-                if next == k {
-                    return (k, zeros);
+                if next < k + 4 {
+                    return (next, noted);
                 }
                 k = next;
                 zeros = noted;
