@@ -43,12 +43,12 @@ const TIMES: usize = 8;
 
 /// Whether a long antecedent of a step has much more literals than all else.
 #[inline(always)]
-fn is_uneven(step: FoundStep) -> bool {
-    match step.premises {
-        Some(Premises::One(from)) => from.len() >= LONG && from.len() / TIMES > step.lits.len(),
+fn is_uneven(premises: Option<Premises>, lits: &[Lit]) -> bool {
+    match premises {
+        Some(Premises::One(from)) => from.len() >= LONG && from.len() / TIMES > lits.len(),
         Some(Premises::Two(a, b)) => {
             let longer = a.len().max(b.len());
-            longer >= LONG && longer / TIMES > a.len().min(b.len()).max(step.lits.len())
+            longer >= LONG && longer / TIMES > a.len().min(b.len()).max(lits.len())
         }
         _ => false,
     }
@@ -211,8 +211,18 @@ pub(crate) fn judge<S: Side, T: KeptSteps>(
     ensures parts { OnOk result (ArePartsOf S.side context.entry.formula.now.blocks
         (T.steps trace.now) state.new.parts) }
 {
-    if is_uneven(step) {
+    let FoundStep {
+        position,
+        premises,
+        lits,
+    } = step;
+    if is_uneven(premises, lits) {
+        let step = FoundStep {
+            position,
+            premises,
+            lits,
+        };
         return judge_uneven::<S, T>(context, trace, state, step);
     }
-    step_fault::<S>(context, step.premises, &mut state.tests, step.lits)
+    step_fault::<S>(context, premises, &mut state.tests, lits)
 }
